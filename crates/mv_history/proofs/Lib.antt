@@ -1,0 +1,7 @@
+pub mod Writing
+pub mod Histories
+pub mod Drifting
+pub mod Steps
+pub mod Snapshots
+pub mod Holding
+pub mod PlainLemmas

@@ -1,0 +1,13 @@
+pub mod State
+pub mod Legal
+pub mod Drift
+pub mod Trail
+pub mod Meaning
+pub mod Calls
+pub mod Answer
+pub mod Laws
+pub mod WordsLaws
+pub mod CallLaws
+pub mod Plain
+pub mod PlainMeaning
+pub mod PlainLaws

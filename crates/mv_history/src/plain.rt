@@ -1,0 +1,187 @@
+// The plain store: one seat, and the history as a list.
+ghost use Rattle.std.specs.Prelude.{◌≡◌, ◌+◌, ◌*◌, ◌<◌, ◌≤◌, [], ◌∷◌, ◌++◌, length, map, take, vec_capacity, vec_len, IfOk};
+ghost use Rattle.mv_history.specs.declared.plain_commit.TheConstants.{WRITE_MAX};
+ghost use Rattle.mv_history.specs.State.{Change, state_after};
+ghost use Rattle.mv_history.specs.Legal.{AreWords};
+ghost use Rattle.mv_history.specs.Laws.{IsSeat-prop};
+ghost use Rattle.mv_history.specs.Meaning.{IsSeat, IsSection, words_at};
+ghost use Rattle.mv_history.specs.Plain.{total_of, commits_from, plain_seat, plain_section};
+
+use crate::answers::Room;
+use crate::history::{LAST, Tag, Words};
+use crate::plain_commit::{PlainCommit, WRITE_MAX};
+use crate::plain_section::PlainSection;
+use crate::rules::Protocol;
+use crate::store::Store;
+use std::alloc::{AllocError, Global};
+use std::marker::PhantomData;
+use std::snapshot::Snapshot;
+
+/// The slow store: one seat, of number 0, that keeps the state and the list of its commits.
+///
+/// Nobody else commits, so it never answers `Busy`, `Stale`, `LogFull`, `Again` or `Short`, and it
+/// makes no rests. `write_max` is 16, and its trail is empty. It may be let go.
+///
+/// The commits stand in two lists, both reserved by `new`, since no other call takes memory: a tag
+/// and a count, of 40 bytes, for each commit, and the writes of all of them, one after another, of
+/// 56 bytes each. Room for a commit reserves 16 writes, so room for 65,536 commits reserves 61 MB
+/// of addresses; memory is used only for commits that are made, and for the writes that they have.
+pub struct PlainStore<P: Protocol> {
+    // Only clauses read the opening state.
+    pub(crate) start: Snapshot<Vec<Words>>,
+    pub(crate) words: Vec<Words>,
+    pub(crate) commits: Vec<PlainCommit>,
+    pub(crate) writes: Vec<(u32, Words)>,
+    pub(crate) base: u64,
+    pub(crate) last: u64,
+    pub(crate) rules: PhantomData<P>,
+    ghost current: { words.items ≡ state_after start.value.items (map (λ c. Change c) (commits_from 0 commits.items writes.items)) },
+    ghost few: { vec_len words ≤ 65535 },
+    ghost total: { total_of commits.items ≡ length writes.items },
+    ghost small: { length writes.items ≤ WRITE_MAX * length commits.items },
+    ghost room: { last ≤ base + vec_capacity commits },
+    ghost wide: { WRITE_MAX * last ≤ WRITE_MAX * base + vec_capacity writes },
+    ghost lawful: { IsSeat P.start P.allowed (plain_seat start.value.items (commits_from 0 commits.items writes.items) base last WRITE_MAX) } by { IsSeat-prop P.start P.allowed P.one_start P.one_allowed (plain_seat start.value.items (commits_from 0 commits.items writes.items) base last WRITE_MAX) },
+}
+
+impl<P: Protocol> Drop for PlainStore<P> {
+    fn drop(self) {
+        let PlainStore {
+            start: _,
+            words: _,
+            commits: _,
+            writes: _,
+            base: _,
+            last: _,
+            rules: _,
+        } = self;
+    }
+}
+
+// What the type of a slice of words says, as a fact.
+fn have_width(words: &[Words])
+    ensures { AreWords words.now }
+{}
+
+#[tactic(auto, using(crate::proofs::PlainLemmas::plain))]
+impl<P: Protocol> Store for PlainStore<P> {
+    ghost use Rattle.std.specs.Prelude.{refl, ◌≡◌, length};
+    ghost use Rattle.mv_history.specs.PlainMeaning.{seat_of as seat_of_plain};
+
+    type Rules = P;
+
+    type Open = PlainSection<P>;
+
+    ghost seat_of = { λ s. seat_of_plain s };
+
+    // Nobody else commits, so the snapshot is what was seen.
+    ghost took = { λ old new. new.at ≡ length old.seen };
+
+    // Nothing ever does.
+    ghost holds_back = { λ old new holder. ⊥ };
+
+    ghost same_seat = { λ s. refl };
+
+    ghost lawful = { λ s. s.lawful };
+
+    fn seat(&self) -> u32 {
+        0
+    }
+
+    fn write_max(&self) -> u32 {
+        WRITE_MAX as u32
+    }
+
+    fn prepare(&mut self) -> Room {
+        Room::Enough
+    }
+
+    fn enter(self) -> PlainSection<P> {
+        PlainSection {
+            store: self,
+            own: [(0, [0; 6]); WRITE_MAX],
+            held: 0,
+        }
+    }
+}
+
+#[tactic(auto, using(crate::proofs::PlainLemmas::plain))]
+impl<P: Protocol> PlainStore<P> {
+    ghost use Rattle.mv_history.specs.Calls.{commit_by};
+    ghost use Rattle.mv_history.specs.PlainMeaning.{commits_in};
+
+    /// Opens a store with these objects, its history empty, at the printed time `base`, with room
+    /// for `room` commits. Its `last` is `base + room`. It refuses only for want of memory.
+    pub fn new(
+        alloc: Global,
+        start: &[Words],
+        base: u64,
+        room: u32,
+    ) -> Result<PlainStore<P>, AllocError>
+        requires some { 0 < length start.now }
+        requires few { length start.now ≤ 65535 }
+        requires lawful { P.start start.now }
+        requires time { base + room ≤ LAST }
+        ensures { IfOk result (λ s. ⟦<PlainStore<P> as Store>⟧.seat_of s ≡ plain_seat start.now [] base (base + room) 16) }
+    {
+        have_width(start);
+        let words = Vec::from_slice(alloc, start)?;
+        let commits = Vec::with_capacity(alloc, room as usize)?;
+        let writes = Vec::with_capacity(alloc, room as usize * WRITE_MAX)?;
+        Ok(PlainStore {
+            start: Snapshot::of(&words),
+            words,
+            commits,
+            writes,
+            base,
+            last: base + room as u64,
+            rules: PhantomData,
+        })
+    }
+
+    /// The words of an object after all the commits.
+    pub fn state(&self, object: u32) -> Words
+        requires { object < length (⟦<PlainStore<P> as Store>⟧.seat_of self.now).start }
+        ensures { let here = ⟦<PlainStore<P> as Store>⟧.seat_of self.now in result ≡ words_at (state_after here.start here.seen) object }
+    {
+        self.words[object as usize]
+    }
+
+    // Adds the commit of a section.
+    pub(crate) fn add(self, tag: Tag, own: [(u32, Words); WRITE_MAX], held: usize) -> PlainStore<P>
+        requires some { 0 < held }
+        requires whole { length own ≡ WRITE_MAX }
+        requires few { held ≤ WRITE_MAX }
+        requires lawful { IsSection P.start P.allowed (plain_section self.start.value.items (commits_in self) self.base self.last (take held own)) }
+        requires time { self.base + vec_len self.commits < self.last }
+        requires allowed { P.allowed tag self.words.items (take held own) }
+        ensures start { result.start.value.items ≡ self.start.value.items }
+        ensures base { result.base ≡ self.base }
+        ensures last { result.last ≡ self.last }
+        ensures commits { commits_in result ≡ commits_in self ++ commit_by (plain_section self.start.value.items (commits_in self) self.base self.last (take held own)) tag ∷ [] }
+    {
+        let PlainStore {
+            start,
+            mut words,
+            mut commits,
+            mut writes,
+            base,
+            last,
+            rules,
+        } = self;
+        for i in 0..held {
+            words[own[i].0 as usize] = own[i].1;
+            writes.push_reserved(own[i]);
+        }
+        commits.push_reserved(PlainCommit { tag, count: held });
+        PlainStore {
+            start,
+            words,
+            commits,
+            writes,
+            base,
+            last,
+            rules,
+        }
+    }
+}

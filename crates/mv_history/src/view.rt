@@ -1,0 +1,35 @@
+// A value that is read as one state.
+ghost use Rattle.std.specs.Prelude.{◌≡◌, ◌<◌, length};
+ghost use Rattle.mv_history.specs.State.{State};
+ghost use Rattle.mv_history.specs.Legal.{AreWords};
+ghost use Rattle.mv_history.specs.Meaning.{words_at};
+
+use crate::history::Words;
+
+/// A value that stands for one state, a list of words for each object.
+///
+/// `as_before` relates a value to a later one that means the same: `read`, and each call that takes
+/// a `&mut V` of a `View` and locks nothing, ensures it.
+pub trait View {
+    ghost state: { Self → State };
+
+    ghost as_before: { Self → Self → Type 0 };
+
+    /// The number of objects.
+    fn objects(&self) -> u32
+        ensures { result ≡ length (state self.now) };
+
+    /// The words of an object. It never refuses, and takes no memory.
+    fn read(&mut self, object: u32) -> Words
+        requires { object < length (state self.old) }
+        ensures words { result ≡ words_at (state self.old) object }
+        ensures as_before { as_before self.old self.new };
+
+    ghost as_itself: { (v : Self) → as_before v v };
+
+    ghost as_long_before: { (u v w : Self) → as_before u v → as_before v w → as_before u w };
+
+    ghost same_state: { (v w : Self) → as_before v w → state w ≡ state v };
+
+    ghost are_words: { (v : Self) → AreWords (state v) };
+}

@@ -1,0 +1,199 @@
+// The packed words and the limits, against values worked out by hand.
+use crate::{
+    Config, ConfigFault, clock_seat, clock_slot, clock_time, clock_word, head_place, is_unset,
+    link_position, link_seat, link_word, mark_low, mark_place, mark_word, master_place, slot_place,
+    total_words, unset_position, unset_stamp,
+};
+use std::test::Fail;
+
+#[test]
+fn packed_clock_words(rt: HostRuntime) -> Result<(), Fail> {
+    let rows = [
+        (0, 0, 8191, 0x1fff, 8191),
+        (1, 1, 0, 0x8_2000, 532_480),
+        (2, 0, 0, 0x10_0000, 1_048_576),
+        (5, 2, 3, 0x28_4003, 2_637_827),
+        (
+            35_184_372_088_831,
+            0,
+            8191,
+            0xffff_ffff_fff8_1fff,
+            18_446_744_073_709_035_519,
+        ),
+    ];
+    for (time, seat, slot, hexadecimal, decimal) in rows {
+        let word = clock_word(time, seat, slot);
+        assert_eq!(rt; word, hexadecimal, "time {time}");
+        assert_eq!(rt; word, decimal, "time {time}");
+        assert_eq!(rt; clock_time(word), time, "time {time}");
+        assert_eq!(rt; clock_seat(word), seat, "time {time}");
+        assert_eq!(rt; clock_slot(word), slot, "time {time}");
+    }
+    Ok(())
+}
+
+#[test]
+fn packed_links_and_stamps(rt: HostRuntime) -> Result<(), Fail> {
+    let rows = [
+        (0, 0, 0x0200_0000_0000_0000, 144_115_188_075_855_872),
+        (1, 70, 0x0400_0000_0000_0046, 288_230_376_151_711_814),
+        (
+            63,
+            144_115_188_075_855_871,
+            0x81ff_ffff_ffff_ffff,
+            9_367_487_224_930_631_679,
+        ),
+    ];
+    for (seat, position, hexadecimal, decimal) in rows {
+        let word = link_word(seat, position);
+        assert_eq!(rt; word, hexadecimal, "seat {seat}");
+        assert_eq!(rt; word, decimal, "seat {seat}");
+        assert_eq!(rt; link_seat(word), seat, "seat {seat}");
+        assert_eq!(rt; link_position(word), position, "seat {seat}");
+    }
+    assert_eq!(rt; 70 % 64, 6, "the slot of position 70 among 64");
+    let unset = unset_stamp(7);
+    assert_eq!(rt; unset, 0x8000_0000_0000_0007);
+    assert_eq!(rt; unset_position(unset), 7);
+    assert!(rt; is_unset(unset));
+    assert!(rt; !is_unset(35_184_372_088_831));
+    assert_eq!(rt; mark_word(0), 1);
+    assert_eq!(rt; mark_low(mark_word(5)), 5);
+    Ok(())
+}
+
+const FIT: Config = Config {
+    seats: 2,
+    objects: 3,
+    slots: 64,
+    write_max: 16,
+    low: 1,
+    high: 48,
+    base: 0,
+};
+
+#[test]
+fn set_full_and_config(rt: HostRuntime) -> Result<(), Fail> {
+    let rows = [
+        (Config { seats: 0, ..FIT }, Err(ConfigFault::Seats)),
+        (Config { seats: 1, ..FIT }, Ok(())),
+        (Config { seats: 64, ..FIT }, Ok(())),
+        (Config { seats: 65, ..FIT }, Err(ConfigFault::Seats)),
+        (
+            Config {
+                seats: 65,
+                slots: 1,
+                ..FIT
+            },
+            Err(ConfigFault::Seats),
+        ),
+        (Config { objects: 0, ..FIT }, Err(ConfigFault::Objects)),
+        (Config { objects: 1, ..FIT }, Ok(())),
+        (
+            Config {
+                objects: 65_535,
+                ..FIT
+            },
+            Ok(()),
+        ),
+        (
+            Config {
+                objects: 65_536,
+                ..FIT
+            },
+            Err(ConfigFault::Objects),
+        ),
+        (Config { slots: 63, ..FIT }, Err(ConfigFault::Slots)),
+        (
+            Config {
+                slots: 4_096,
+                ..FIT
+            },
+            Ok(()),
+        ),
+        (
+            Config {
+                slots: 4_097,
+                ..FIT
+            },
+            Err(ConfigFault::Slots),
+        ),
+        (
+            Config {
+                write_max: 0,
+                ..FIT
+            },
+            Err(ConfigFault::WriteMax),
+        ),
+        (
+            Config {
+                write_max: 1,
+                ..FIT
+            },
+            Ok(()),
+        ),
+        (
+            Config {
+                write_max: 64,
+                slots: 128,
+                ..FIT
+            },
+            Ok(()),
+        ),
+        (
+            Config {
+                write_max: 65,
+                slots: 128,
+                ..FIT
+            },
+            Err(ConfigFault::WriteMax),
+        ),
+        (Config { low: 0, ..FIT }, Err(ConfigFault::Marks)),
+        (Config { low: 48, ..FIT }, Ok(())),
+        (Config { low: 49, ..FIT }, Err(ConfigFault::Marks)),
+        (Config { high: 49, ..FIT }, Err(ConfigFault::Marks)),
+        (
+            Config {
+                base: 35_184_372_088_831,
+                ..FIT
+            },
+            Ok(()),
+        ),
+        (
+            Config {
+                base: 35_184_372_088_832,
+                ..FIT
+            },
+            Err(ConfigFault::Base),
+        ),
+    ];
+    for (row, (config, answer)) in rows.into_iter().enumerate() {
+        assert_eq!(rt; config.check(), answer, "row {row}");
+    }
+    Ok(())
+}
+
+#[test]
+fn places_of_a_domain(rt: HostRuntime) -> Result<(), Fail> {
+    assert_eq!(rt; total_words(&FIT), 2 + 2 + 21 + 1_280);
+    assert_eq!(rt; mark_place(&FIT, 1), 3);
+    assert_eq!(rt; head_place(&FIT, 2), 18);
+    assert_eq!(rt; master_place(&FIT, 2, 5), 24);
+    assert_eq!(rt; slot_place(&FIT, 0, 0), 25);
+    assert_eq!(rt; slot_place(&FIT, 1, 63), 25 + 1_270);
+    let widest = Config {
+        seats: 64,
+        objects: 65_535,
+        slots: 4_096,
+        ..FIT
+    };
+    assert_eq!(rt; total_words(&widest), 3_080_251);
+    let wide = Config {
+        seats: 8,
+        objects: 65_535,
+        slots: 4_096,
+        ..FIT
+    };
+    assert_eq!(rt; total_words(&wide), 786_435);
+    Ok(())
+}

@@ -1,0 +1,98 @@
+-- store MARK. The form of a step that writes a word and changes parts of its view: what changes is named in `settle`, and of the facts below only those that read it aren't that of before.
+use Rattle.std.proofs.Common.{◌≡◌, ◌≢◌, ℕ, ◌+◌, ◌≤◌, cond, List, sym, refl, ap, ◌∙◌, subst, eq-eqb, ne_eqb, Some}
+use mathlib.Core.Logic.{dite}
+use native.Mathlib.Decide.{ℕ_discrete}
+use Rattle.mv_history.specs.State.{State, Writes}
+use Rattle.mv_layout.specs.declared.Config.{Config}
+use Rattle.mv_layout.specs.declared.Place.TheVariants.{Clock, Mark}
+use Rattle.mv_layout.specs.Words.{clock_time_of}
+use Rattle.mv_layout.specs.Places.{Memory, put}
+use Rattle.mv_core.specs.declared.view.View.{View}
+use Rattle.mv_core.specs.declared.view.Phase.{Phase}
+use Rattle.mv_core.specs.declared.view.Phase.TheVariants.{Outside, Lowered, Marked, Inside}
+use Rattle.mv_core.specs.declared.view.Section.{Section}
+use Rattle.mv_core.specs.declared.view.Scan.{Scan}
+use Rattle.mv_core.specs.Views.{section_of, time_of, become}
+use Rattle.mv_core.specs.SectionFacts.{MarkedAs, Marks}
+use Rattle.mv_core.specs.EnterSteps.{MayStoreMark, mark_stored}
+use Rattle.mv_core.specs.Known.{RunsOn}
+use Rattle.mv_core.specs.Rule.{Stores, IsKept}
+use Rattle.mv_core.proofs.Frames.{become_here, become_else, become_all, unchanged, settle}
+
+-- the mark of a seat after a store into one
+pub put_mark : (m : Memory) (a n : ℕ) (P : ℕ → ℕ → Type 0) → P a n → ((b : ℕ) → b ≢ a → P b (m (Mark b))) → (b : ℕ) → P b (put m (Mark a) n (Mark b))
+put_mark m a n P here rest b =
+    dite (ℕ_discrete b a)
+    (λ e. subst (λ (t : ℕ). P t (put m (Mark a) n (Mark t))) (sym e) (subst (P a) (sym (ap (λ t. cond t n (m (Mark a))) (eq-eqb a a refl))) here))
+    (λ ne. subst (P b) (sym (ap (λ t. cond t n (m (Mark b))) (ne_eqb a b (λ e. ne (sym e))))) (rest b ne))
+
+-- the marks after a seat stores its own and changes its phase to fit
+pub marks_after : (m : Memory) (a n : ℕ) (phase : ℕ → Phase) (p : Phase) → Marks (m Clock) (λ s. m (Mark s)) phase → MarkedAs (m Clock) n p → Marks (m Clock) (λ s. put m (Mark a) n (Mark s)) (become phase a p)
+marks_after m a n phase p old here =
+    put_mark m a n (λ s x. MarkedAs (m Clock) x (become phase a p s))
+    (subst (MarkedAs (m Clock) n) (sym (become_here phase a p)) here)
+    (λ s ne. subst (MarkedAs (m Clock) (m (Mark s))) (sym (become_else phase a p s ne)) (old s))
+
+-- a seat outside a section keeps what its pass has at run time
+pub runs_outside : (v w : View) → ((s : Section) → w.phase ≢ Inside s) → RunsOn v w
+runs_outside v w out time first a b = ((λ s e. absurd (out s e)), (λ s e o l. absurd (out s e)))
+
+module _ (starts : State → Type 0) (allows : List ℕ → State → Writes → Type 0) (c : Config) (start : State) (v : View) where
+  mark_stores_low : (low : ℕ) → MayStoreMark v low → Stores starts allows c start v (Mark v.number) (1 + low) (λ w. ((w ≡ mark_stored c v low) × RunsOn v w) × IsKept v w)
+  mark_stores_low low may m h seats k is own begins =
+      let w = mark_stored c v low in
+      let n = v.number in
+      let phase_is : (seats n).phase ≡ Lowered low = ap (λ (u : View). u.phase) is ∙ may in
+      let low_now : low ≤ clock_time_of (m Clock) = (subst (MarkedAs (m Clock) (m (Mark n))) phase_is (k.marks n)).1 in
+      let scanning : (s : ℕ) (running : Scan) → (seats s).scan ≡ Some running → become (λ t. (seats t).phase) n (Marked low) s ≡ Outside =
+      become_all (λ s p. (running : Scan) → (seats s).scan ≡ Some running → p ≡ Outside) (λ t. (seats t).phase) n (Marked low)
+      (λ running e. let out : Lowered low ≡ Outside = sym phase_is ∙ k.phases_and_scan.scanning n running e in absurd (cc))
+      (λ s ne. k.phases_and_scan.scanning s) in (
+        w,
+        h,
+        settle starts allows c start (put m (Mark n) (1 + low)) h seats n v w is (record unchanged { phase = Some (Marked low) }) (refl, refl, ap section_of (sym may), ap time_of (sym may), refl, refl, refl, refl, refl, refl, refl) (record {
+          checked = k.checked;
+          history = k.history;
+          slot_words = k.slot_words;
+          stamps = k.stamps;
+          write_sets = k.write_sets;
+          helped_words = k.helped_words;
+          marks = marks_after m n (1 + low) (λ s. (seats s).phase) (Marked low) k.marks (refl, low_now);
+          stamped_past_help = k.stamped_past_help;
+          grace = k.grace;
+          lock_freshness = k.lock_freshness;
+          successors = k.successors;
+          deaths = k.deaths;
+          positions = k.positions;
+          head_is_top = k.head_is_top;
+          held_link = k.held_link;
+          commit_link = k.commit_link;
+          aborted_link = k.aborted_link;
+          present_master = k.present_master;
+          chain_foot = k.chain_foot;
+          walker_place = k.walker_place;
+          walker_before_death = k.walker_before_death;
+          walker_knowledge = k.walker_knowledge;
+          below_is_stamped = k.below_is_stamped;
+          walker_falls = k.walker_falls;
+          walker_late = k.walker_late;
+          found_stamp = k.found_stamp;
+          unstamped_is_unfinished = k.unstamped_is_unfinished;
+          named_commit = k.named_commit;
+          open_section = k.open_section;
+          successor_flag = k.successor_flag;
+          succeeded_has_super = k.succeeded_has_super;
+          loaded_words = k.loaded_words;
+          freed_is_old = k.freed_is_old;
+          cut_is_old = k.cut_is_old;
+          death_after_write = k.death_after_write;
+          write_back = k.write_back;
+          positions_and_grace = k.positions_and_grace;
+          phases_and_scan = record { scanning = scanning; outside = k.phases_and_scan.outside; seen = k.phases_and_scan.seen };
+        }),
+        ((refl, runs_outside v w (λ s e. let f : Marked low ≡ Inside s = e in absurd (cc))), (refl, refl, refl, refl, refl, refl)),
+      )
+
+  pub mark_stores : (low new : ℕ) → new ≡ 1 + low → MayStoreMark v low → Stores starts allows c start v (Mark v.number) new (λ w. ((w ≡ mark_stored c v low) × RunsOn v w) × IsKept v w)
+  mark_stores low new e may =
+      subst (λ (x : ℕ). Stores starts allows c start v (Mark v.number) x (λ w. ((w ≡ mark_stored c v low) × RunsOn v w) × IsKept v w)) (sym e) (mark_stores_low low may)

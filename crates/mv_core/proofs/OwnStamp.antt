@@ -1,0 +1,224 @@
+-- A section that has named a commit notes that its own exchange of the stamp was made, over all facts, where the commit is stamped.
+use Rattle.std.proofs.Common.{◌≡◌, ◌≢◌, ℕ, ◌≤◌, true, List, sym, refl, ap, ◌∙◌, subst, Option, Some}
+use Rattle.std.specs.Prelude.{Contains}
+use mathlib.Core.Logic.{dite}
+use native.Mathlib.Decide.{ℕ_discrete}
+use Rattle.mv_history.specs.declared.Entry.{Entry}
+use Rattle.mv_history.specs.State.{State, Writes}
+use Rattle.mv_layout.specs.declared.Config.{Config}
+use Rattle.mv_layout.specs.declared.Place.TheVariants.{Clock, Mark, Master, Stamp, Super}
+use Rattle.mv_layout.specs.Places.{Memory}
+use Rattle.mv_core.specs.declared.ring.Status.TheVariants.{Committed}
+use Rattle.mv_core.specs.declared.view.Phase.TheVariants.{Outside, Inside}
+use Rattle.mv_core.specs.declared.view.Section.{Section}
+use Rattle.mv_core.specs.declared.view.Mode.{Mode}
+use Rattle.mv_core.specs.declared.view.Mode.TheVariants.{Open, Named}
+use Rattle.mv_core.specs.declared.view.Naming.{Naming}
+use Rattle.mv_core.specs.declared.view.Walk.TheVariants.{Nowhere}
+use Rattle.mv_core.specs.declared.view.Scan.{Scan}
+use Rattle.mv_core.specs.Rings.{index_of, Lives}
+use Rattle.mv_core.specs.Times.{last_own}
+use Rattle.mv_core.specs.Views.{time_in, IsUnnamed, Faces}
+use Rattle.mv_core.specs.SetFacts.{IsNaming, UnstampedIsUnfinished}
+use Rattle.mv_core.specs.SectionFacts.{MarkedAs, Marks, IsPastHelp, WasClock, LoadedWords, NamedIs, NamedCommit, OpenSection}
+use Rattle.mv_core.specs.ReclaimFacts.{SuccessorFlag, WriteBacks}
+use Rattle.mv_core.specs.Rule.{Facts}
+use Rattle.mv_core.proofs.Frames.{become_here, become_else, become_all, unchanged, changed}
+use Rattle.mv_core.proofs.Hearing.{clock_small, past_help}
+
+module _ (starts : State → Type 0) (allows : List ℕ → State → Writes → Type 0) (c : Config) (start : State) (m : Memory) (h : List Entry) (f : Faces) (k : Facts starts allows c start m h f)
+    (n : ℕ) (inside : Section) (naming : Naming) (phase_is : f.phase n ≡ Inside inside) (section_is : f.section n ≡ Some inside) (mode_is : inside.mode ≡ Named naming) (made : m (Stamp n (index_of c naming.first)) ≡ naming.time) where
+  abbrev stamp : ℕ → ℕ → ℕ
+  stamp s i = m (Stamp s i)
+
+  abbrev naming' : Naming
+  naming' = record naming { stamped = true }
+
+  abbrev inside' : Section
+  inside' = record inside { mode = Named naming' }
+
+  abbrev t : Faces
+  t = changed f n (record unchanged { phase = Some (Inside inside'); section = Some (Some inside') })
+
+  -- what holds of the section that names the commit holds after the step of it as it is then
+  sections : (P : ℕ → Option Section → Type 0) → P n (Some inside') → ((s : ℕ) → s ≢ n → P s (f.section s)) → (s : ℕ) → P s (t.section s)
+  sections P = become_all P f.section n (Some inside')
+
+  -- the sections that are as they seem, afterwards
+  same_section : {i : Section} → Some inside' ≡ Some i → inside' ≡ i
+  same_section {i = i} e = let whole : Some inside' ≡ Some i = e in cc
+
+  same_naming : {i : Section} {d : Naming} → Some inside' ≡ Some i → i.mode ≡ Named d → naming' ≡ d
+  same_naming {i = i} {d = d} e mode = let one : Named naming' ≡ Named d = ap (λ (j : Section). j.mode) (same_section e) ∙ mode in cc
+
+  -- no other mode was there
+  only_named : {i : Section} {d : Mode} → f.section n ≡ Some i → i.mode ≡ d → Named naming ≡ d
+  only_named {i = i} {d = d} at mode = let one : Some inside ≡ Some i = sym section_is ∙ at in let same : inside ≡ i = cc in sym mode_is ∙ ap (λ (j : Section). j.mode) same ∙ mode
+
+  named : NamedIs c h stamp f.ring n inside naming
+  named = k.named_commit n inside naming section_is mode_is
+
+  marks_after : Marks (m Clock) (λ s. m (Mark s)) t.phase
+  marks_after =
+      become_all (λ s p. MarkedAs (m Clock) (m (Mark s)) p) f.phase n (Inside inside')
+      (let old : MarkedAs (m Clock) (m (Mark n)) (Inside inside) = subst (MarkedAs (m Clock) (m (Mark n))) phase_is (k.marks n) in old)
+      (λ s ne. k.marks s)
+
+  words_after : LoadedWords c (m Clock) t.section f.heard
+  words_after =
+      let old = k.loaded_words in record {
+        clock_is = old.clock_is;
+        loaded = old.loaded;
+        helped = old.helped;
+        found = old.found;
+        inside = sections (λ s o. (i : Section) → o ≡ Some i → WasClock c (m Clock) i.word)
+            (λ i e. subst (λ (j : Section). WasClock c (m Clock) j.word) (same_section e) (old.inside n inside section_is))
+            (λ s ne. old.inside s);
+      }
+
+  -- the seat of an unfinished commit is still in the section that named it
+  naming_after : (time : ℕ) → IsNaming f.section time (λ _. Unit {0}) → IsNaming t.section time (λ _. Unit {0})
+  naming_after time r =
+      dite (ℕ_discrete r.seat n)
+      (λ e.
+      let at : f.section n ≡ Some r.inside = subst (λ (s : ℕ). f.section s ≡ Some r.inside) e r.in_section in
+      let one : Named naming ≡ Named r.naming = only_named at r.mode in
+      let same : naming ≡ r.naming = cc in
+      record { seat = n; inside = inside'; naming = naming'; in_section = become_here f.section n (Some inside'); mode = refl; time_is = ap (λ (d : Naming). d.time) same ∙ r.time_is; known = tt })
+      (λ ne. record { seat = r.seat; inside = r.inside; naming = r.naming; in_section = become_else f.section n (Some inside') r.seat ne ∙ r.in_section; mode = r.mode; time_is = r.time_is; known = tt })
+
+  -- no commit of this seat is unstamped
+  unfinished_after : UnstampedIsUnfinished c stamp t.section f.ring
+  unfinished_after s j x note lives ne =
+      let r = k.unstamped_is_unfinished s j x note lives ne in
+      dite (ℕ_discrete s n)
+      (λ e.
+      let at : f.section n ≡ Some r.0 = subst (λ (u : ℕ). f.section u ≡ Some r.0) e r.2 in
+      let one : Named naming ≡ Named r.1 = only_named at r.3 in
+      let same : naming ≡ r.1 = cc in
+      let here : Lives f.ring n j x (Committed note) = subst (λ (u : ℕ). Lives f.ring u j x (Committed note)) e lives in
+      let time : note.time ≡ naming.time = sym r.4 ∙ ap (λ (d : Naming). d.time) (sym same) in
+      let first : x.first ≡ naming.first = k.write_sets.once n j (index_of c naming.first) x named.version note named.note here named.lives (time ∙ sym named.time_is) ∙ named.first_is in
+      absurd (ne ((λ i. stamp (e i) (index_of c (first i))) ∙ made ∙ sym time)))
+      (λ other. (r.0, r.1, become_else f.section n (Some inside') s other ∙ r.2, r.3, r.4, r.5))
+
+  named_after : NamedCommit c h stamp t.section f.ring
+  named_after =
+      sections (λ s o. (i : Section) (d : Naming) → o ≡ Some i → i.mode ≡ Named d → NamedIs c h stamp f.ring s i d)
+      (λ i d e mode.
+      let old = named in
+      let new : NamedIs c h stamp f.ring n inside' naming' = record {
+        later = old.later;
+        last = old.last;
+        nothing = old.nothing;
+        version = old.version;
+        note = old.note;
+        lives = old.lives;
+        position_is = old.position_is;
+        first_is = old.first_is;
+        time_is = old.time_is;
+        stamped = λ _. made;
+      } in
+      subst (λ (p : Section × Naming). NamedIs c h stamp f.ring n p.0 p.1) (λ z. (same_section e z, same_naming e mode z)) new)
+      (λ s ne. k.named_commit s)
+
+  open_after : OpenSection c h t.section f.ring
+  open_after = record {
+    own = sections (λ s o. (i : Section) → o ≡ Some i → IsUnnamed i.mode → last_own c.base h s ≤ time_in i)
+        (λ i e free. let none : IsUnnamed (Named naming') = subst (λ (j : Section). IsUnnamed j.mode) (sym (same_section e)) free in absurd none)
+        (λ s ne. k.open_section.own s);
+    held = λ s j x lives.
+        let r = k.open_section.held s j x lives in
+        dite (ℕ_discrete s n)
+        (λ e.
+        let at : f.section n ≡ Some r.0 = subst (λ (u : ℕ). f.section u ≡ Some r.0) e r.1 in
+        let none : IsUnnamed (Named naming) = subst IsUnnamed (sym (only_named at refl)) r.2 in absurd none)
+        (λ other. (r.0, become_else f.section n (Some inside') s other ∙ r.1, r.2));
+    one_set = k.open_section.one_set;
+    whole = λ s j x i lives at mode.
+        dite (ℕ_discrete s n)
+        (λ e.
+        let here : Some inside' ≡ Some i = sym (become_here f.section n (Some inside')) ∙ subst (λ (u : ℕ). t.section u ≡ Some i) e at in
+        let none : Named naming' ≡ Open = ap (λ (j : Section). j.mode) (same_section here) ∙ mode in absurd (cc))
+        (λ other. k.open_section.whole s j x i lives (sym (become_else f.section n (Some inside') s other) ∙ at) mode);
+  }
+
+  flag_after : SuccessorFlag (λ s j. m (Super s j)) t.section f.ring
+  flag_after s j i d x note at mode lives time =
+      dite (ℕ_discrete s n)
+      (λ e.
+      let here : Some inside' ≡ Some i = sym (become_here f.section n (Some inside')) ∙ subst (λ (u : ℕ). t.section u ≡ Some i) e at in
+      let one : naming' ≡ d = same_naming here mode in
+      let time_is : naming.time ≡ d.time = ap (λ (y : Naming). y.time) one in
+      let old = k.successor_flag s j inside naming x note (ap f.section e ∙ section_is) mode_is lives (time ∙ sym time_is) in
+      (old.0, λ y other below. let r = old.1 y other below in ((λ l. r.0 l ∙ time_is), r.1)))
+      (λ other. k.successor_flag s j i d x note (sym (become_else f.section n (Some inside') s other) ∙ at) mode lives time)
+
+  backs_after : WriteBacks c h (λ o w. m (Master o w)) t.section f.time f.heard f.grace f.back f.ring
+  backs_after s b at =
+      let r = k.write_back s b at in
+      dite (ℕ_discrete s n)
+      (λ e.
+      let here : f.section n ≡ Some r.0 = subst (λ (u : ℕ). f.section u ≡ Some r.0) e r.1 in
+      let none : Named naming ≡ Open = only_named here r.2.mode in absurd (cc))
+      (λ other. (r.0, become_else f.section n (Some inside') s other ∙ r.1, r.2))
+
+  scanning_after : (s : ℕ) (running : Scan) → f.scan s ≡ Some running → t.phase s ≡ Outside
+  scanning_after =
+      become_all (λ s p. (running : Scan) → f.scan s ≡ Some running → p ≡ Outside) f.phase n (Inside inside')
+      (λ running e. let out : Inside inside ≡ Outside = sym phase_is ∙ k.phases_and_scan.scanning n running e in absurd (cc))
+      (λ s ne. k.phases_and_scan.scanning s)
+
+  knows_after : (s : ℕ) (i : Section) → t.section s ≡ Some i → f.walk s ≢ Nowhere → IsPastHelp (f.heard s) i
+  knows_after =
+      sections (λ s o. (i : Section) → o ≡ Some i → f.walk s ≢ Nowhere → IsPastHelp (f.heard s) i)
+      (λ i e walks. subst (λ (j : Section). IsPastHelp (f.heard n) j) (same_section e) (let old : Contains (f.heard n).helped inside.word = k.walker_knowledge.helped n inside section_is walks in old))
+      (λ s ne. k.walker_knowledge.helped s)
+
+  pub own_stamped : Facts starts allows c start m h t
+  own_stamped = record {
+    checked = k.checked;
+    history = k.history;
+    slot_words = k.slot_words;
+    stamps = k.stamps;
+    write_sets = k.write_sets;
+    helped_words = k.helped_words;
+    marks = marks_after;
+    stamped_past_help = past_help c (m Clock) stamp h f.ring k.checked (clock_small starts allows c start m h f k) k.stamps k.positions t.section f.heard words_after k.helped_words;
+    grace = k.grace;
+    lock_freshness = k.lock_freshness;
+    successors = record {
+      held = k.successors.held;
+      next = k.successors.next;
+      stamped = k.successors.stamped;
+      unfinished = λ s j x note lives uncut none next is_next. naming_after next (k.successors.unfinished s j x note lives uncut none next is_next);
+      built = k.successors.built;
+    };
+    deaths = k.deaths;
+    positions = k.positions;
+    head_is_top = k.head_is_top;
+    held_link = k.held_link;
+    commit_link = k.commit_link;
+    aborted_link = k.aborted_link;
+    present_master = k.present_master;
+    chain_foot = k.chain_foot;
+    walker_place = k.walker_place;
+    walker_before_death = k.walker_before_death;
+    walker_knowledge = record { helped = knows_after; first = k.walker_knowledge.first; stamp = k.walker_knowledge.stamp; unset = k.walker_knowledge.unset };
+    below_is_stamped = k.below_is_stamped;
+    walker_falls = k.walker_falls;
+    walker_late = k.walker_late;
+    found_stamp = k.found_stamp;
+    unstamped_is_unfinished = unfinished_after;
+    named_commit = named_after;
+    open_section = open_after;
+    successor_flag = flag_after;
+    succeeded_has_super = k.succeeded_has_super;
+    loaded_words = words_after;
+    freed_is_old = k.freed_is_old;
+    cut_is_old = k.cut_is_old;
+    death_after_write = k.death_after_write;
+    write_back = backs_after;
+    positions_and_grace = k.positions_and_grace;
+    phases_and_scan = record { scanning = scanning_after; outside = k.phases_and_scan.outside; seen = k.phases_and_scan.seen };
+  }

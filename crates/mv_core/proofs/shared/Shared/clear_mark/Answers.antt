@@ -1,0 +1,6 @@
+use Rattle.mv_core.specs.Passes.{view}
+use Rattle.mv_core.proofs.Clearing.{mark_clears}
+use Rattle.mv_core.proofs.shared.Shared.clear_mark.Goals as goal
+
+pub store_as-requires-clause-rule : goal.store_as-requires-clause-rule
+store_as-requires-clause-rule g c = mark_clears _ _ _ _ (view c.args.pass.now) c.requires.may

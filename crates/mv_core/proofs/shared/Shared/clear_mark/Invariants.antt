@@ -1,0 +1,11 @@
+use Rattle.std.proofs.Common.{◌≡◌}
+use Rattle.mv_layout.specs.declared.Place.TheVariants.{Mark}
+use Rattle.mv_core.specs.Passes.{view, config_of}
+use Rattle.mv_core.specs.EnterSteps.{mark_cleared}
+use Rattle.mv_core.proofs.shared.Shared.clear_mark.Given as goal
+
+abbrev pub ghosts-store_as : goal.ghosts-store_as
+ghosts-store_as g a = record {
+  place = Mark (view a.pass.now).number;
+  tells = λ n w. w ≡ mark_cleared (config_of a.shared.now) (view a.pass.now);
+}

@@ -1,0 +1,6 @@
+use Rattle.mv_core.specs.Passes.{view}
+use Rattle.mv_core.proofs.CheckedClock.{check_loads}
+use Rattle.mv_core.proofs.shared.Shared.load_check.Goals as goal
+
+pub load_as-requires-clause-rule : goal.load_as-requires-clause-rule
+load_as-requires-clause-rule g c = check_loads _ _ _ _ (view c.args.pass.now)

@@ -1,0 +1,5 @@
+use Rattle.mv_core.proofs.DataLoads.{data_loads}
+use Rattle.mv_core.proofs.shared.Shared.load_data.Goals as goal
+
+pub load_as-requires-clause-rule : goal.load_as-requires-clause-rule
+load_as-requires-clause-rule g c = data_loads _ _ _ _ _ c.args.link c.args.word g.at.0 g.at.1 c.requires.1.1.1.1

@@ -1,0 +1,5 @@
+use Rattle.mv_core.proofs.HeadLoads.{head_loads}
+use Rattle.mv_core.proofs.shared.Shared.load_head.Goals as goal
+
+pub load_as-requires-clause-rule : goal.load_as-requires-clause-rule
+load_as-requires-clause-rule g c = head_loads _ _ _ _ _ c.args.object g.inside c.requires.1.1.1.1

@@ -1,0 +1,5 @@
+use Rattle.mv_core.proofs.Looking.{master_loads}
+use Rattle.mv_core.proofs.shared.Shared.load_master.Goals as goal
+
+pub load_as-requires-clause-rule : goal.load_as-requires-clause-rule
+load_as-requires-clause-rule g c = master_loads _ _ _ _ _ c.args.object c.args.word g.inside c.requires.1.1.1.0 c.requires.1.1.1.1

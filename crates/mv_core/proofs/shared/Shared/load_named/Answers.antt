@@ -1,0 +1,6 @@
+use Rattle.mv_core.specs.Passes.{view}
+use Rattle.mv_core.proofs.NamedStamp.{named_loads}
+use Rattle.mv_core.proofs.shared.Shared.load_named.Goals as goal
+
+pub load_as-requires-clause-rule : goal.load_as-requires-clause-rule
+load_as-requires-clause-rule g c = named_loads _ _ _ _ (view c.args.pass.now) c.args.word c.requires.may

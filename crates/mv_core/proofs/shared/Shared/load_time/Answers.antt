@@ -1,0 +1,14 @@
+use Rattle.std.proofs.Common.{sym, ◌∙◌}
+use Rattle.mv_core.specs.Passes.{view, config_of}
+use Rattle.mv_core.proofs.Taking.{time_loads, time_runs}
+use Rattle.mv_core.proofs.shared.Shared.load_time.Goals as goal
+
+pub load_alone-word-requires-clause-rule : goal.load_alone-word-requires-clause-rule
+load_alone-word-requires-clause-rule g c = time_loads _ _ _ _ (view c.args.pass.now) c.requires.may
+
+pub invariant_of-pass : goal.invariant_of-pass
+invariant_of-pass g c =
+    let l = c.load_alone-word.ensures in
+    let t = l.tells in
+    let r = time_runs (config_of c.args.self.now) (view c.args.pass.now) _ _ _ c.args.pass.now.first t.0.0 t.0.2 t.2 c.clock_time-pass.ensures in
+    record { numbered = c.args.pass.now.numbered ∙ sym l.same.1.0; timed = r.0; begun = r.1; known = l.known }

@@ -1,0 +1,14 @@
+use Rattle.std.proofs.Common.{◌≡◌, List}
+use Rattle.mv_history.specs.declared.Entry.{Entry}
+use Rattle.mv_layout.specs.declared.Place.TheVariants.{Clock}
+use Rattle.mv_core.specs.Rings.{HoldsNothing}
+use Rattle.mv_core.specs.Passes.{config_of}
+use Rattle.mv_core.specs.SectionFacts.{IsWord}
+use Rattle.mv_core.specs.EnterSteps.{IsWhole, time_loaded}
+use Rattle.mv_core.proofs.shared.Shared.load_time.Given as goal
+
+abbrev pub ghosts-load_alone : goal.ghosts-load_alone
+ghosts-load_alone g a = record {
+  place = Clock;
+  tells = λ n w. ((h : List Entry) × IsWhole (config_of a.shared.now) a.seat.now.me.0 n h × (w ≡ time_loaded (config_of a.shared.now) a.seat.now.me.0 n h)) × IsWord (config_of a.shared.now) n × HoldsNothing w.ring;
+}

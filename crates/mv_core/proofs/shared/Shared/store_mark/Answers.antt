@@ -1,0 +1,6 @@
+use Rattle.mv_core.specs.Passes.{view}
+use Rattle.mv_core.proofs.Marking.{mark_stores}
+use Rattle.mv_core.proofs.shared.Shared.store_mark.Goals as goal
+
+pub store_as-requires-clause-rule : goal.store_as-requires-clause-rule
+store_as-requires-clause-rule g c = mark_stores _ _ _ _ (view c.args.pass.now) c.args.low _ c.mark_word.ensures c.requires.may

@@ -1,0 +1,192 @@
+-- Locking, writing and aborting: what each kind of step asks of its own view, and what it makes of it.
+use Rattle.std.specs.Prelude.{◌≡◌, ◌≢◌, ◌⊎◌, ℕ, zero, suc, ◌+◌, ◌<◌, ◌≤◌, true, cond, List, map, replicate, Option, Some, None, slice_set}
+use Rattle.mv_history.specs.declared.Entry.{Entry}
+use Rattle.mv_history.specs.declared.StepKind.TheVariants.{StoreBuilt, StoreData, LockHead, UnlockHead, LoadDeath}
+use Rattle.mv_layout.specs.declared.Config.{Config}
+use Rattle.mv_layout.specs.declared.Place.{Place}
+use Rattle.mv_layout.specs.declared.Place.TheVariants.{Clock, Head, First, Stamp, Prev, Super, Data}
+use Rattle.mv_layout.specs.Words.{clock_time_of, link_of, unset_of}
+use Rattle.mv_core.specs.declared.ring.Slot.{Slot}
+use Rattle.mv_core.specs.declared.ring.Slot.TheVariants.{Free, Built, Live, Freeing}
+use Rattle.mv_core.specs.declared.ring.Build.{Build}
+use Rattle.mv_core.specs.declared.ring.Version.{Version}
+use Rattle.mv_core.specs.declared.ring.Status.{Status}
+use Rattle.mv_core.specs.declared.ring.Status.TheVariants.{Held, Aborted, Committed}
+use Rattle.mv_core.specs.declared.view.View.{View}
+use Rattle.mv_core.specs.declared.view.Phase.TheVariants.{Inside}
+use Rattle.mv_core.specs.declared.view.Section.{Section}
+use Rattle.mv_core.specs.declared.view.Mode.TheVariants.{Open, Aborting}
+use Rattle.mv_core.specs.declared.view.Walk.TheVariants as walk
+use Rattle.mv_core.specs.declared.view.Stand.{Stand}
+use Rattle.mv_core.specs.declared.view.Passed.TheVariants.{Nothing}
+use Rattle.mv_core.specs.Rings.{slot_at, index_of, put_slot, held_count, set_first}
+use Rattle.mv_core.specs.Times.{words_of}
+use Rattle.mv_core.specs.Views.{time_in, IsUnnamed, told}
+use Rattle.mv_core.specs.WalkSteps.{IsWalking, stand_at}
+
+-- the word of a slot by its offset: FIRST 0, STAMP 1, PREV 2, SUPER 3, DATA word w 4 + w
+abbrev pub field_place : ℕ → ℕ → ℕ → Place
+field_place seat k zero = First seat k
+field_place seat k (suc zero) = Stamp seat k
+field_place seat k (suc (suc zero)) = Prev seat k
+field_place seat k (suc (suc (suc zero))) = Super seat k
+field_place seat k (suc (suc (suc (suc w)))) = Data seat k w
+
+-- a slot of which nothing was stored yet
+abbrev pub nothing_built : Build
+nothing_built = record { first = None; stamp = None; previous = None; successor = None; words = replicate 6 None }
+
+-- the build with this word stored too
+abbrev pub built_too : Build → ℕ → ℕ → Build
+built_too b zero x = record b { first = Some x }
+built_too b (suc zero) x = record b { stamp = Some x }
+built_too b (suc (suc zero)) x = record b { previous = Some x }
+built_too b (suc (suc (suc zero))) x = record b { successor = Some x }
+built_too b (suc (suc (suc (suc w)))) x = record b { words = slice_set b.words w (Some x) }
+
+-- what of a slot was stored so far, where it may be built
+abbrev pub build_in : Slot → Option Build
+build_in Free = Some nothing_built
+build_in (Built b) = Some b
+build_in (Live x st) = None
+build_in (Freeing p first) = None
+
+-- the number that may be stored into this field of the version at a position whose set begins at `first`
+abbrev pub FitsField : ℕ → ℕ → ℕ → ℕ → Type 0
+FitsField first position zero x = x ≡ first
+FitsField first position (suc zero) x = (first ≡ position) × (x ≡ unset_of position)
+FitsField first position (suc (suc zero)) x = Unit {0}
+FitsField first position (suc (suc (suc zero))) x = x ≡ 0
+FitsField first position (suc (suc (suc (suc w)))) x = w < 6
+
+-- store into a built slot: in an open section, at the next position, whose slot is free or being built
+pub record MayStoreBuilt (c : Config) (v : View) (position field x : ℕ) (b : Build) : Type 0 where
+  pub inside : Section
+  pub phase : v.phase ≡ Inside inside
+  pub open_is : inside.mode ≡ Open
+  pub next : position ≡ v.ring.next
+  pub build : build_in (slot_at v.ring (index_of c position)) ≡ Some b
+  pub fits : FitsField (set_first v.ring) position field x
+
+-- the word is stored, and noted
+abbrev pub built_stored : Config → View → ℕ → ℕ → ℕ → Build → View
+built_stored c v position field x b = record v {
+  ring = put_slot v.ring (index_of c position) (Built (built_too b field x));
+  trail = told c v StoreBuilt (field_place v.number (index_of c position) field) None (Some x);
+}
+
+-- store DATA of a held slot: in an open section, of a position that is held
+pub record MayStoreData (c : Config) (v : View) (position word : ℕ) (x : Version) : Type 0 where
+  pub inside : Section
+  pub phase : v.phase ≡ Inside inside
+  pub open_is : inside.mode ≡ Open
+  pub held : slot_at v.ring (index_of c position) ≡ Live x Held
+  pub position_is : x.position ≡ position
+  pub in_range : word < 6
+
+-- the version has this word now
+abbrev pub data_stored : Config → View → ℕ → ℕ → ℕ → Version → View
+data_stored c v position word value x = record v {
+  ring = put_slot v.ring (index_of c position) (Live (record x { words = slice_set x.words word value }) Held);
+  trail = told c v StoreData (Data v.number (index_of c position) word) None (Some value);
+}
+
+-- the walk stands where a lock may be put: at the master, or at a version whose time, which it found, is not above the section's
+abbrev pub StandsToLock : View → Section → ℕ → ℕ → Type 0
+StandsToLock v inside object previous =
+    ((v.walk ≡ walk.Master object) × (previous ≡ 0))
+    ⊎ ((stand : Stand) × (found : ℕ) × (v.walk ≡ walk.At stand) × (stand.object ≡ object) × (stand.link ≡ previous) × (stand.stamp ≡ Some found) × (found ≤ time_in inside))
+
+-- compare_exchange HEAD (lock): an open section past its help stands there, doesn't hold the object, has room in its write set, and built the slot whole
+pub record MayLock (c : Config) (write_max : ℕ) (v : View) (object previous position : ℕ) (b : Build) (inside : Section) : Type 0 where
+  pub walking : IsWalking v inside
+  pub in_range : object < c.objects
+  pub stands : StandsToLock v inside object previous
+  pub unheld : (k : ℕ) (x : Version) → slot_at v.ring k ≡ Live x Held → x.object ≢ object
+  pub room : held_count v.ring < write_max
+  pub next : position ≡ v.ring.next
+  pub build : slot_at v.ring (index_of c position) ≡ Built b
+  pub first : b.first ≡ Some (set_first v.ring)
+  pub stamp : set_first v.ring ≡ position → b.stamp ≡ Some (unset_of position)
+  pub previous_is : b.previous ≡ Some previous
+  pub successor : b.successor ≡ Some 0
+  pub words : b.words ≡ map Some (words_of c v.start v.past.seen (time_in inside) object)
+
+-- the version that a won lock holds
+abbrev pub locked_version : Config → View → Section → ℕ → ℕ → ℕ → Version
+locked_version c v inside object previous position = record {
+  position = position;
+  first = set_first v.ring;
+  object = object;
+  previous = previous;
+  words = words_of c v.start v.past.seen (time_in inside) object;
+}
+
+-- won: the version is held, and the next position is used
+abbrev pub head_locked : Config → View → Section → ℕ → ℕ → ℕ → View
+head_locked c v inside object previous position = record v {
+  ring = record (put_slot v.ring (index_of c position) (Live (locked_version c v inside object previous position) Held)) { next = position + 1 };
+  trail = told c v LockHead (Head object) (Some previous) (Some (link_of v.number position));
+}
+
+-- lost: the walk stands at the link found
+abbrev pub lock_lost : Config → View → ℕ → ℕ → View
+lock_lost c v object link =
+    record v { walk = stand_at object link Nothing true; trail = told c v LockHead (Head object) (Some link) None }
+
+-- what the exchange tells
+abbrev pub LockTold : Config → View → Section → ℕ → ℕ → ℕ → ℕ → View → Type 0
+LockTold c v inside object previous position found w =
+    (found ≡ previous → w ≡ head_locked c v inside object previous position) × (found ≢ previous → w ≡ lock_lost c v object found)
+
+-- store HEAD (abort): in a section that named nothing and holds the object with this previous link
+pub record MayUnlock (v : View) (object previous : ℕ) (k : ℕ) (x : Version) (inside : Section) : Type 0 where
+  pub phase : v.phase ≡ Inside inside
+  pub unnamed : IsUnnamed inside.mode
+  pub held : slot_at v.ring k ≡ Live x Held
+  pub object_is : x.object ≡ object
+  pub previous_is : x.previous ≡ previous
+
+-- the version is aborted, and so is the section from now on
+abbrev pub head_unlocked : Config → View → ℕ → ℕ → ℕ → Version → Section → View
+head_unlocked c v object previous k x inside = record v {
+  phase = Inside (record inside { mode = Aborting });
+  ring = put_slot v.ring k (Live x (Aborted None));
+  trail = told c v UnlockHead (Head object) None (Some previous);
+}
+
+-- the time of death where none was noted of an aborted or cut version
+abbrev pub dead_if : Option ℕ → ℕ → Option ℕ
+dead_if None t = Some t
+dead_if (Some dead) t = Some dead
+
+-- the status with that time of death
+abbrev pub timed_status : ℕ → Status → Status
+timed_status t Held = Held
+timed_status t (Aborted dead) = Aborted (dead_if dead t)
+timed_status t (Committed note) = Committed (cond note.cut (record note { dead = dead_if note.dead t }) note)
+
+-- the slot with that time of death
+abbrev pub timed : ℕ → Slot → Slot
+timed t Free = Free
+timed t (Built b) = Built b
+timed t (Live x st) = Live x (timed_status t st)
+timed t (Freeing p first) = Freeing p first
+
+-- a version that waits for its time of death
+abbrev pub WaitsForDeath : Status → Type 0
+WaitsForDeath Held = ⊥
+WaitsForDeath (Aborted dead) = dead ≡ None
+WaitsForDeath (Committed note) = (note.cut ≡ true) × (note.dead ≡ None)
+
+-- load CLOCK (time a dead version): an own aborted or cut version has no time of death yet
+abbrev pub MayLoadDeath : View → Type 0
+MayLoadDeath v = (k : ℕ) × (x : Version) × (st : Status) × (slot_at v.ring k ≡ Live x st) × WaitsForDeath st
+
+-- they are dead from the time after the clock's, and the whole history h is seen
+abbrev pub death_loaded : Config → View → ℕ → List Entry → View
+death_loaded c v word h = record v {
+  past = record v.past { seen = h };
+  ring = record v.ring { slots = map (timed (clock_time_of word + 1)) v.ring.slots };
+  trail = told c v LoadDeath Clock (Some word) None;
+}

@@ -1,0 +1,131 @@
+-- Naming the next entry of the history: what each kind of step asks of its own view, and what it makes of it.
+use Rattle.std.specs.Prelude.{◌≡◌, ◌≢◌, ℕ, ◌+◌, ◌-◌, ◌<◌, ◌==◌, true, false, List, [], ◌∷◌, ◌++◌, length, map, Contains, Some, None}
+use Rattle.mv_history.specs.declared.Commit.{Commit}
+use Rattle.mv_history.specs.declared.Entry.{Entry}
+use Rattle.mv_history.specs.declared.Entry.TheVariants.{Rest, Change}
+use Rattle.mv_history.specs.State.{State, Writes, state_at}
+use Rattle.mv_history.specs.Drift.{IsFit}
+use Rattle.mv_history.specs.declared.StepKind.TheVariants.{NameCommit, StoreSuper, NameRest}
+use Rattle.mv_layout.specs.declared.Config.{Config}
+use Rattle.mv_layout.specs.declared.Place.TheVariants.{Clock, Super}
+use Rattle.mv_layout.specs.Words.{clock_of, clock_time_of, link_seat_of}
+use Rattle.mv_core.specs.declared.ring.Slot.{Slot}
+use Rattle.mv_core.specs.declared.ring.Slot.TheVariants.{Live}
+use Rattle.mv_core.specs.declared.ring.Version.{Version}
+use Rattle.mv_core.specs.declared.ring.Status.TheVariants.{Held, Committed}
+use Rattle.mv_core.specs.declared.ring.CommitNote.{CommitNote}
+use Rattle.mv_core.specs.declared.view.View.{View}
+use Rattle.mv_core.specs.declared.view.Phase.TheVariants.{Outside, Inside}
+use Rattle.mv_core.specs.declared.view.Section.{Section}
+use Rattle.mv_core.specs.declared.view.Mode.TheVariants.{Open, Named}
+use Rattle.mv_core.specs.declared.view.Naming.{Naming}
+use Rattle.mv_core.specs.Rings.{slot_at, index_of, put_slot, held_count, set_first, own_of}
+use Rattle.mv_core.specs.Views.{time_in, told}
+use Rattle.mv_core.specs.SectionFacts.{IsPastHelp}
+use Rattle.mv_core.specs.EnterSteps.{IsWhole, if_none}
+use Rattle.mv_core.specs.WalkSteps.{slot_named}
+
+-- the commit of what the section holds
+abbrev pub commit_of : Config → View → Section → List ℕ → Commit
+commit_of c v inside tag = record {
+  seat = v.number;
+  number = length v.past.mine + 1;
+  snapshot = time_in inside - c.base;
+  tag = tag;
+  writes = own_of c v.ring;
+}
+
+-- the clock word of that commit, after this one
+abbrev pub commit_word : Config → View → ℕ → ℕ
+commit_word c v word = clock_of (clock_time_of word + 1) v.number (index_of c (set_first v.ring))
+
+-- compare_exchange CLOCK (commit): an open section past its help holds something, the word was loaded and helped, a time is left, and the drift condition holds of the tag
+pub record MayNameCommit (allows : List ℕ → State → Writes → Type 0) (c : Config) (v : View) (word : ℕ) (tag : List ℕ) (inside : Section) : Type 0 where
+  pub phase : v.phase ≡ Inside inside
+  pub open_is : inside.mode ≡ Open
+  pub past_help : IsPastHelp v.heard inside
+  pub some_held : 0 < held_count v.ring
+  pub loaded : Contains v.heard.loaded word
+  pub helped : Contains v.heard.helped word
+  pub room : clock_time_of word < 35184372088831
+  pub fit : IsFit allows (state_at v.start v.past.seen (time_in inside - c.base)) tag (own_of c v.ring)
+
+-- a held version is committed at this time
+abbrev pub committed_slot : ℕ → Slot → Slot
+committed_slot t (Live x Held) = Live x (Committed (record { time = t; dead = None; cut = false; linked = x.previous == 0 }))
+committed_slot t slot = slot
+
+-- won, over the whole history h that was there
+abbrev pub commit_named : Config → View → Section → List ℕ → ℕ → List Entry → View
+commit_named c v inside tag word h = record v {
+  past = record v.past { seen = h ++ Change (commit_of c v inside tag) ∷ []; mine = v.past.mine ++ commit_of c v inside tag ∷ [] };
+  phase = Inside (record inside { mode = Named (record { time = clock_time_of word + 1; first = set_first v.ring; stamped = false }) });
+  ring = record v.ring { slots = map (committed_slot (clock_time_of word + 1)) v.ring.slots };
+  trail = told c v NameCommit Clock (Some word) (Some (commit_word c v word));
+}
+
+-- lost to the word found, which is loaded, as the whole history h is seen
+abbrev pub commit_lost : Config → View → ℕ → List Entry → View
+commit_lost c v found h = record v {
+  past = record v.past { seen = h };
+  heard = record v.heard { loaded = v.heard.loaded ++ found ∷ []; helped = v.heard.helped ++ if_none found };
+  trail = told c v NameCommit Clock (Some found) None;
+}
+
+-- what the exchange tells
+abbrev pub CommitTold : Config → View → Section → List ℕ → ℕ → ℕ → View → Type 0
+CommitTold c v inside tag word found w =
+    (found ≡ word → (h : List Entry) × IsWhole c v word h × (w ≡ commit_named c v inside tag word h))
+    × (found ≢ word → (h : List Entry) × IsWhole c v found h × (w ≡ commit_lost c v found h))
+
+-- store SUPER: of the version that an own version of the stamped commit links to, not stored yet
+pub record MayStoreSuper (v : View) (link time k : ℕ) (x : Version) (note : CommitNote) : Type 0 where
+  pub inside : Section
+  pub naming : Naming
+  pub phase : v.phase ≡ Inside inside
+  pub mode : inside.mode ≡ Named naming
+  pub time_is : naming.time ≡ time
+  pub stamped : naming.stamped ≡ true
+  pub own : slot_at v.ring k ≡ Live x (Committed note)
+  pub of_commit : note.time ≡ time
+  pub link_is : x.previous ≡ link
+  pub not_yet : note.linked ≡ false
+
+-- that SUPER was stored is noted
+abbrev pub super_stored : Config → View → ℕ → ℕ → ℕ → Version → CommitNote → View
+super_stored c v link time k x note = record v {
+  ring = put_slot v.ring k (Live x (Committed (record note { linked = true })));
+  trail = told c v StoreSuper (Super (link_seat_of link) (slot_named c link)) None (Some time);
+}
+
+-- the clock word of a rest, after this one
+abbrev pub rest_word : View → ℕ → ℕ
+rest_word v word = clock_of (clock_time_of word + 1) v.number 8191
+
+-- compare_exchange CLOCK (rest): outside, the word was loaded and helped, and a time is left
+pub record MayNameRest (v : View) (word : ℕ) : Type 0 where
+  pub outside : v.phase ≡ Outside
+  pub loaded : Contains v.heard.loaded word
+  pub helped : Contains v.heard.helped word
+  pub room : clock_time_of word < 35184372088831
+
+-- won, over the whole history h that was there
+abbrev pub rest_named : Config → View → ℕ → List Entry → View
+rest_named c v word h = record v {
+  past = record v.past { seen = h ++ Rest v.number ∷ []; rests = v.past.rests + 1 };
+  trail = told c v NameRest Clock (Some word) (Some (rest_word v word));
+}
+
+-- lost to the word found, which is loaded, as the whole history h is seen
+abbrev pub rest_lost : Config → View → ℕ → List Entry → View
+rest_lost c v found h = record v {
+  past = record v.past { seen = h };
+  heard = record v.heard { loaded = v.heard.loaded ++ found ∷ []; helped = v.heard.helped ++ if_none found };
+  trail = told c v NameRest Clock (Some found) None;
+}
+
+-- what the exchange tells
+abbrev pub RestTold : Config → View → ℕ → ℕ → View → Type 0
+RestTold c v word found w =
+    (found ≡ word → (h : List Entry) × IsWhole c v word h × (w ≡ rest_named c v word h))
+    × (found ≢ word → (h : List Entry) × IsWhole c v found h × (w ≡ rest_lost c v found h))

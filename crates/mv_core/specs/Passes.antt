@@ -1,0 +1,70 @@
+-- What clauses say of a pass and of its domain.
+use Rattle.std.specs.Prelude.{◌≡◌, ◌<◌, ℕ, List, ◌∷◌}
+use mathlib.Core.Option.{some}
+use lib.ListN.{get_elem?}
+use Rattle.atomic_table.specs.Seated.{TableId}
+use Rattle.atomic_table.specs.declared.shared.Seat as table_seat
+use Rattle.mv_history.specs.State.{State, Writes}
+use Rattle.mv_history.specs.Meaning.{Seat}
+use Rattle.mv_history.specs.declared.Protocol.{Ghosts}
+use Rattle.mv_layout.specs.declared.Config.{Config}
+use Rattle.mv_core.specs.declared.view.View.{View}
+use Rattle.mv_core.specs.declared.shared.Shared.{Shared}
+use Rattle.mv_core.specs.declared.shared.Pass.{Pass}
+use Rattle.mv_core.specs.Known.{Known}
+use Rattle.mv_core.specs.Rings.{spare_count}
+use Rattle.mv_core.specs.Start.{starting_view}
+
+module _ {P : Type 0} where
+  -- the numbers of the domain
+  abbrev pub config_of : Shared P → Config
+  config_of s = s.table.shared.key.config
+
+  -- its opening state
+  abbrev pub start_of : Shared P → State
+  start_of s = s.table.shared.key.start.value.items
+
+-- the seat of a pass of this domain
+abbrev pub IsSeatOf : {P : Type 0} → (State → Type 0) → (List ℕ → State → Writes → Type 0) → Shared P → table_seat.Seat (List ℕ) View → Type 0
+IsSeatOf starts allows s seat = (seat.table_id ≡ s.table.shared.table_id) × (seat.me.0.start ≡ start_of s) × (seat.me.0.base ≡ (config_of s).base) × ∥ Known starts allows seat.me.0 ∥₁
+
+-- the name of a domain, which no other domain has
+abbrev pub home_of : TableId → List ℕ
+home_of t = t.words ∷ t.slots ∷ t.views_name ∷ t.atom ∷ t.block ∷ t.offset ∷ t.slot_names
+
+-- the seat that a view means, of this domain and with this limit of a write set
+abbrev pub seat_meant : List ℕ → ℕ → View → Seat
+seat_meant home write_max v = record {
+  number = v.number;
+  home = home;
+  write_max = write_max;
+  start = v.start;
+  base = v.base;
+  last = 35184372088831;
+  seen = v.past.seen;
+  mine = v.past.mine;
+  rests = v.past.rests;
+  spare = spare_count v.ring;
+  trail = v.trail;
+}
+
+module _ {P : Type 0} {g : Ghosts P} where
+  -- what the pass knows
+  abbrev pub view : Pass P g → View
+  view p = p.seat.me.0
+
+  -- the seat that the pass means
+  abbrev pub seat_of : Pass P g → Seat
+  seat_of p = seat_meant (home_of p.seat.table_id) p.write_max (view p)
+
+  -- the pass is of this domain
+  abbrev pub IsOf : Shared P → Pass P g → Type 0
+  IsOf s p = (p.seat.table_id ≡ s.table.shared.table_id) × (p.number < s.table.shared.key.config.seats) × ((view p).base ≡ s.table.shared.key.config.base) × ((view p).start ≡ s.table.shared.key.start.value.items) × (p.write_max ≡ s.table.shared.key.config.write_max)
+
+  -- a step leaves these as they are
+  abbrev pub IsSame : Pass P g → Pass P g → Type 0
+  IsSame p q = (q.seat.table_id ≡ p.seat.table_id) × (q.number ≡ p.number) × (q.write_max ≡ p.write_max) × ((view q).base ≡ (view p).base) × ((view q).start ≡ (view p).start) × ((view q).notes ≡ (view p).notes)
+
+  -- the passes of a new domain: in order of number, each with the view with which that seat begins
+  abbrev pub AreNew : Shared P → List (Pass P g) → Type 0
+  AreNew s ps = (k : ℕ) (p : Pass P g) → get_elem? ps k ≡ some p → IsOf s p × (p.number ≡ k) × (view p ≡ starting_view (config_of s) (start_of s) k)

@@ -1,0 +1,127 @@
+-- The rule of the table, and what a step asks of its kind.
+use Rattle.std.specs.Prelude.{◌≡◌, ◌≢◌, ℕ, ◌≤◌, ◌<◌, ◌^◌, false, List, length, max, Contains, None, All}
+use mathlib.Core.Option.{some}
+use lib.ListN.{get_elem?}
+use Rattle.atomic_table.specs.Table as table
+use Rattle.mv_history.specs.declared.Entry.{Entry}
+use Rattle.mv_history.specs.State.{State, Writes}
+use Rattle.mv_layout.specs.declared.Config.{Config}
+use Rattle.mv_layout.specs.declared.Place.{Place}
+use Rattle.mv_layout.specs.declared.Place.TheVariants.{Clock, Grace, Mark, Head, Master, First, Stamp, Prev, Super, Data}
+use Rattle.mv_layout.specs.Limits.{Checked}
+use Rattle.mv_layout.specs.Places.{Memory, put, Shows}
+use Rattle.mv_core.specs.declared.view.View.{View}
+use Rattle.mv_core.specs.declared.view.Note.{Note}
+use Rattle.mv_core.specs.declared.view.Phase.TheVariants.{Outside}
+use Rattle.mv_core.specs.declared.shared.Opening.{Opening}
+use Rattle.mv_core.specs.Views.{new_view, Faces, faces_of, become}
+use Rattle.mv_core.specs.HistoryFacts.{History}
+use Rattle.mv_core.specs.SetFacts.{SlotWords, Stamps, WriteSets, Successors, BelowIsStamped, UnstampedIsUnfinished, Positions}
+use Rattle.mv_core.specs.SectionFacts.{Marks, StampedPastHelp, LoadedWords, HelpedWords, FoundStamps, LockFreshness, NamedCommit, OpenSection, PhasesAndScan}
+use Rattle.mv_core.specs.SectionFacts as section
+use Rattle.mv_core.specs.ChainFacts.{HeadIsTop, HeldLink, CommitLink, AbortedLink, PresentMaster, ChainFoot}
+use Rattle.mv_core.specs.WalkFacts.{WalkerPlace, WalkerBeforeDeath, WalkerKnowledge, WalkerFalls, WalkerLate, SucceededHasSuper}
+use Rattle.mv_core.specs.ReclaimFacts.{Deaths, DeathAfterWrite, FreedIsOld, CutIsOld, SuccessorFlag, WriteBacks, PositionsAndGrace}
+
+-- the view of the first seat, which makes the others
+abbrev pub first_view : Config → State → View
+first_view c start = new_view c start 0 1
+
+-- a joined seat is as its note says, outside, with no scan
+pub record IsNoted (seats : ℕ → View) (n : Note) : Type 0 where
+  pub number : (seats n.number).number ≡ n.number
+  pub past : (seats n.number).past ≡ n.past
+  pub ring : (seats n.number).ring ≡ n.ring
+  pub outside : (seats n.number).phase ≡ Outside
+  pub no_scan : (seats n.number).scan ≡ None
+
+-- The views of the table are those of the seats: each unspent one is that of its number, each note is of a joined seat, no number is twice, and a seat that isn't made yet is new.
+pub record Seated (c : Config) (start : State) (vs : List View) (seats : ℕ → View) : Type 0 where
+  pub own : (s : ℕ) → ((seats s).number ≡ s) × ((seats s).start ≡ start) × ((seats s).base ≡ c.base)
+  pub there : (id : ℕ) (v : View) → get_elem? vs id ≡ some v → v.spent ≡ false → (seats v.number ≡ v) × (v.number < c.seats)
+  pub apart : (i j : ℕ) (v w : View) → get_elem? vs i ≡ some v → get_elem? vs j ≡ some w → v.spent ≡ false → w.spent ≡ false → v.number ≡ w.number → i ≡ j
+  pub noted : (id : ℕ) (v : View) (n : Note) → get_elem? vs id ≡ some v → v.spent ≡ false → Contains v.notes n → IsNoted seats n
+  pub gone : (i j : ℕ) (v w : View) (n : Note) → get_elem? vs i ≡ some v → get_elem? vs j ≡ some w → v.spent ≡ false → w.spent ≡ false → Contains v.notes n → w.number ≢ n.number
+  pub once : (i j a b : ℕ) (v w : View) (m n : Note) → get_elem? vs i ≡ some v → get_elem? vs j ≡ some w → v.spent ≡ false → w.spent ≡ false → get_elem? v.notes a ≡ some m → get_elem? w.notes b ≡ some n → m.number ≡ n.number → (i ≡ j) × (a ≡ b)
+  pub maker : (id : ℕ) (v : View) → get_elem? vs id ≡ some v → v.spent ≡ false → 0 < v.made → (v.number ≡ 0) × ((s : ℕ) → v.made ≤ s → seats s ≡ new_view c start s 0)
+  pub made : (i j : ℕ) (v w : View) → get_elem? vs i ≡ some v → get_elem? vs j ≡ some w → v.spent ≡ false → w.spent ≡ false → 0 < v.made → (w.number < v.made) × All (λ n. n.number < v.made) w.notes
+
+-- what a step keeps of its seat's view besides
+abbrev pub IsKept : View → View → Type 0
+IsKept v w = (w.number ≡ v.number) × (w.start ≡ v.start) × (w.base ≡ v.base) × (w.made ≡ v.made) × (w.notes ≡ v.notes) × (w.spent ≡ v.spent)
+
+module _ (starts : State → Type 0) (allows : List ℕ → State → Writes → Type 0) where
+  -- every fact, over the words by name, a history, and the views of the seats by number
+  pub record Facts (c : Config) (start : State) (m : Memory) (h : List Entry) (f : Faces) : Type 0 where
+    pub checked : Checked c
+    pub history : History starts allows c start (m Clock) h f.past
+    pub slot_words : SlotWords (λ s k. m (First s k)) (λ s k. m (Prev s k)) (λ s k w. m (Data s k w)) f.ring
+    pub stamps : Stamps c (m Clock) (λ s k. m (Stamp s k)) f.ring
+    pub write_sets : WriteSets c h f.ring
+    pub helped_words : HelpedWords (m Clock) (λ s k. m (Stamp s k)) f.heard
+    pub marks : Marks (m Clock) (λ s. m (Mark s)) f.phase
+    pub stamped_past_help : StampedPastHelp c (λ s k. m (Stamp s k)) f.section f.heard f.ring
+    pub grace : section.Grace (m Clock) (m Grace) f.time f.grace f.scan
+    pub lock_freshness : LockFreshness c h f.time f.ring
+    pub successors : Successors c h (λ s k. m (Stamp s k)) (λ s k. m (Super s k)) f.section f.ring
+    pub deaths : Deaths c h f.ring
+    pub positions : Positions c h f.ring
+    pub head_is_top : HeadIsTop c h (λ o. m (Head o)) f.ring
+    pub held_link : HeldLink c h f.ring
+    pub commit_link : CommitLink c h f.ring
+    pub aborted_link : AbortedLink f.ring
+    pub present_master : PresentMaster c start h (λ o w. m (Master o w)) f.time f.ring
+    pub chain_foot : ChainFoot c start h (λ o w. m (Master o w)) f.time f.ring
+    pub walker_place : WalkerPlace c start h (λ o w. m (Master o w)) f.time f.walk f.ring
+    pub walker_before_death : WalkerBeforeDeath f.time f.walk f.ring
+    pub walker_knowledge : WalkerKnowledge f.section f.time f.heard f.walk f.ring
+    pub below_is_stamped : BelowIsStamped c (λ s k. m (Stamp s k)) f.ring
+    pub walker_falls : WalkerFalls c (λ s k. m (Stamp s k)) f.walk f.ring
+    pub walker_late : WalkerLate f.time f.walk f.ring
+    pub found_stamp : FoundStamps c (m Clock) (λ s k. m (Stamp s k)) f.heard f.ring
+    pub unstamped_is_unfinished : UnstampedIsUnfinished c (λ s k. m (Stamp s k)) f.section f.ring
+    pub named_commit : NamedCommit c h (λ s k. m (Stamp s k)) f.section f.ring
+    pub open_section : OpenSection c h f.section f.ring
+    pub successor_flag : SuccessorFlag (λ s k. m (Super s k)) f.section f.ring
+    pub succeeded_has_super : SucceededHasSuper (λ s k. m (Super s k)) f.empty f.ring
+    pub loaded_words : LoadedWords c (m Clock) f.section f.heard
+    pub freed_is_old : FreedIsOld c (m Clock) h f.time f.ring
+    pub cut_is_old : CutIsOld f.time f.ring
+    pub death_after_write : DeathAfterWrite f.ring
+    pub write_back : WriteBacks c h (λ o w. m (Master o w)) f.section f.time f.heard f.grace f.back f.ring
+    pub positions_and_grace : PositionsAndGrace c f.grace f.ring
+    pub phases_and_scan : PhasesAndScan c f.past f.phase f.time f.walk f.back f.scan
+
+  -- the rule: there are words by name, a history and views of which all this holds
+  pub record Ruled (key : Opening) (s : table.State (List ℕ) View) : Type 0 where
+    pub memory : Memory
+    pub history : List Entry
+    pub seats : ℕ → View
+    pub shows : Shows key.config s.words memory
+    pub slotless : length s.homes ≡ 0
+    pub seated : Seated key.config key.start.value.items s.views seats
+    pub facts : Facts key.config key.start.value.items memory history (faces_of seats)
+
+  module _ (c : Config) (start : State) (v : View) (p : Place) where
+    -- What a load of p shows: whatever the words, the history and the other views are, the seat has a new view that keeps all facts.
+    abbrev pub Loads : (ℕ → View → Type 0) → Type 0
+    Loads tells = (m : Memory) (h : List Entry) (seats : ℕ → View) → Facts c start m h (faces_of seats) → seats v.number ≡ v → v.number < c.seats → v.start ≡ start → m p < 2 ^ 64
+        → (w : View) × Facts c start m h (faces_of (become seats v.number w)) × tells (m p) w
+
+    -- the same of a store of n into p, which may lengthen the history
+    abbrev pub Stores : ℕ → (View → Type 0) → Type 0
+    Stores n tells = (m : Memory) (h : List Entry) (seats : ℕ → View) → Facts c start m h (faces_of seats) → seats v.number ≡ v → v.number < c.seats → v.start ≡ start
+        → (w : View) × (longer : List Entry) × Facts c start (put m p n) longer (faces_of (become seats v.number w)) × tells w
+
+    -- the same of an exchange of p from `old` to `new`, which is won where p is `old`
+    abbrev pub Swaps : ℕ → ℕ → (ℕ → View → Type 0) → Type 0
+    Swaps old new tells =
+        ((m : Memory) (h : List Entry) (seats : ℕ → View) → Facts c start m h (faces_of seats) → seats v.number ≡ v → v.number < c.seats → v.start ≡ start → m p ≡ old
+        → (w : View) × (longer : List Entry) × Facts c start (put m p new) longer (faces_of (become seats v.number w)) × tells old w)
+        × ((m : Memory) (h : List Entry) (seats : ℕ → View) → Facts c start m h (faces_of seats) → seats v.number ≡ v → v.number < c.seats → v.start ≡ start → m p ≢ old → m p < 2 ^ 64
+        → (w : View) × Facts c start m h (faces_of (become seats v.number w)) × tells (m p) w)
+
+    -- the same of a fetch_max of p by n
+    abbrev pub Raises : ℕ → (ℕ → View → Type 0) → Type 0
+    Raises n tells = (m : Memory) (h : List Entry) (seats : ℕ → View) → Facts c start m h (faces_of seats) → seats v.number ≡ v → v.number < c.seats → v.start ≡ start → m p < 2 ^ 64
+        → (w : View) × Facts c start (put m p (max (m p) n)) h (faces_of (become seats v.number w)) × tells (m p) w

@@ -1,0 +1,68 @@
+-- Making and joining seats, and the shared watermark: what each kind of step asks of its own view, and what it makes of it.
+use Rattle.std.specs.Prelude.{◌≡◌, ◌≢◌, ℕ, ◌+◌, ◌≤◌, nat_lt, max, if◌then◌else◌, List, [], ◌∷◌, ◌++◌, length, Some, None}
+use Rattle.mv_history.specs.declared.Entry.{Entry}
+use Rattle.mv_history.specs.declared.StepKind.TheVariants.{MakeSeat, JoinSeat, LoadJoined, LoadGrace, RaiseGrace}
+use Rattle.mv_layout.specs.declared.Config.{Config}
+use Rattle.mv_layout.specs.declared.Place.TheVariants.{Clock, Grace}
+use Rattle.mv_core.specs.declared.view.View.{View}
+use Rattle.mv_core.specs.declared.view.Note.{Note}
+use Rattle.mv_core.specs.declared.view.Phase.TheVariants.{Outside}
+use Rattle.mv_core.specs.Views.{new_view, told}
+use Rattle.mv_core.specs.EnterSteps.{if_none}
+
+-- making a seat: the maker has made one more
+abbrev pub made_one : Config → View → View
+made_one c v = record v { made = v.made + 1; trail = told c v MakeSeat Clock None None }
+
+-- and the seat that is made has made no step
+abbrev pub newly_made : Config → View → View
+newly_made c v = new_view c v.start v.made 0
+
+-- joining a seat: both are outside, with no scan
+pub record MayJoin (v other : View) : Type 0 where
+  pub outside : v.phase ≡ Outside
+  pub no_scan : v.scan ≡ None
+  pub other_outside : other.phase ≡ Outside
+  pub other_no_scan : other.scan ≡ None
+
+-- what is kept of the joined seat
+abbrev pub note_of : View → Note
+note_of v = record { number = v.number; past = v.past; ring = v.ring }
+
+-- the longer of two histories seen
+abbrev pub longer_seen : List Entry → List Entry → List Entry
+longer_seen seen other = if nat_lt (length seen) (length other) then other else seen
+
+-- what was seen and the notes of both are one
+abbrev pub joined : Config → View → View → View
+joined c v other = record v {
+  past = record v.past { seen = longer_seen v.past.seen other.past.seen };
+  notes = v.notes ++ note_of other ∷ other.notes;
+  trail = told c v JoinSeat Clock None None;
+}
+
+-- load CLOCK after a join
+abbrev pub MayLoadJoined : View → Type 0
+MayLoadJoined v = v.notes ≢ []
+
+-- the whole history h is seen, and the word is loaded
+abbrev pub joined_loaded : Config → View → ℕ → List Entry → View
+joined_loaded c v word h = record v {
+  past = record v.past { seen = h };
+  heard = record v.heard { loaded = v.heard.loaded ++ word ∷ []; helped = v.heard.helped ++ if_none word };
+  trail = told c v LoadJoined Clock (Some word) None;
+}
+
+-- load GRACE: what it found is known
+abbrev pub grace_loaded : Config → View → ℕ → View
+grace_loaded c v found =
+    record v { grace = max v.grace found; trail = told c v LoadGrace Grace (Some found) None }
+
+-- fetch_max GRACE: by a time not above the watermark
+abbrev pub MayRaiseGrace : View → ℕ → Type 0
+MayRaiseGrace v time = time ≤ v.grace
+
+-- what it found is known, and the greater of the two is stored
+abbrev pub grace_raised : Config → View → ℕ → ℕ → View
+grace_raised c v time found =
+    record v { grace = max v.grace found; trail = told c v RaiseGrace Grace (Some found) (Some (max found time)) }

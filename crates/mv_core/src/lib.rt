@@ -1,0 +1,62 @@
+//! The atomic steps of a multi-version domain, and the rule that all of them keep.
+//!
+//! All shared words of a domain stand in one table, and each access to one of them is an atomic
+//! step: a load, a store, a compare_exchange or a fetch_max. This crate alone holds that table. One
+//! call here is one step, and has the meaning of it. Which step a thread makes next is for the
+//! crates above; whatever they choose, and however the steps of the threads interleave, the rule
+//! holds between any two of them. The algorithm is MV-RLU (Kim, Mathew, Kashyap, Ramanathan and Min,
+//! ASPLOS 2019, sections 3 and 4), with one clock word for all.
+//!
+//! **The model.** `Shared` is the words of a domain, and a `Pass` is a thread's seat in it. Each pass
+//! has a view, which says what its seat knows: the prefix of the history that it has seen, its phase,
+//! the clock words that it loaded and helped, where its walk stands, what is in the slots of its log,
+//! its write-back, its scan, and the trail of its own steps. A view is plain data for the proof
+//! alone (as the auxiliary variables of Owicki and Gries, 1976); no running code makes one, and
+//! only the seat's own steps change it. The rule is a relation between the words, a history and the
+//! views of all seats, so that each word has a meaning: a head is the link of the object's newest
+//! version, a stamp that is a time is that of a commit of the history, a mark holds a time not
+//! above its section's. It is a list of facts, of which none follows a version chain: each looks at one
+//! link. `Facts` in specs/Rule.antt has them all, and docs/RULE.md says each in plain words.
+//!
+//! **The contract.** Each step names its condition, which speaks of the own view alone (`may`);
+//! the exact view afterwards (`view`), with one more record in the trail; and one more count in
+//! `Steps`. An exchange is won exactly where the word was the expected one. Where the rule tells
+//! something of the word found, the contract says it: CLOCK has a packed clock word, HEAD and PREV
+//! have 0 or a packed link, a stamp that is a time is that of a write of the object, and a data or
+//! master word is that of the object in the state that the section reads. No step waits, repeats or
+//! takes memory; `Shared::new` alone does take memory, and refuses for want of it only.
+//!
+//! | Steps | Kinds |
+//! |---|---|
+//! | entering and leaving | load CLOCK (low bound), store MARK, load CLOCK (take time), store MARK 0 |
+//! | helping | load STAMP named, load CLOCK (check), compare_exchange STAMP |
+//! | walking | load HEAD, load FIRST, load STAMP, load PREV, load DATA, load MASTER |
+//! | opening | the words of a domain, and the making of its seats |
+//!
+//! **How it is proved.** A step writes one word at most and changes its own view alone, so it keeps
+//! each fact that reads neither. proofs/Frames.antt says this once; a kind of step is one lemma that
+//! answers for the facts left. turns.rt has the step over the table itself, once for all kinds.
+//!
+//! The crate stands on `atomic_table`, which keeps words and views under one rule; on `mv_history`,
+//! which has histories, the client's rules and trails; and on `mv_layout`, which has the places and
+//! the packing of the words.
+#![tactic(auto)]
+
+mod entering;
+mod helping;
+mod opening;
+pub mod ring;
+pub mod shared;
+mod steps;
+mod swap;
+mod turns;
+pub mod view;
+mod walking;
+
+pub use helping::helped_are_stamped;
+pub use shared::{Pass, Shared};
+pub use steps::Steps;
+pub use swap::Swap;
+
+// The greatest time is one and the same for histories and for words.
+const _: () = prove!(mv_history::LAST == mv_layout::LAST);

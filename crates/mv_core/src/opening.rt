@@ -1,0 +1,205 @@
+//! How a domain is opened, and its seats are made.
+ghost use Rattle.std.specs.Prelude.{◌≡◌, ◌+◌, ◌<◌, length, IfOk, vec_len};
+ghost use Rattle.mv_history.specs.Legal.{AreWords};
+ghost use Rattle.mv_layout.specs.Limits.{Checked};
+ghost use Rattle.mv_layout.specs.Places.{Shows};
+ghost use Rattle.mv_core.specs.SeatSteps.{made_one, newly_made};
+ghost use Rattle.mv_core.specs.Start.{opening_memory, Laid, maker_view};
+ghost use Rattle.mv_core.specs.Known.{IsTimed};
+ghost use Rattle.mv_core.specs.Passes.{view, IsOf, IsSeatOf, config_of, start_of, AreNew};
+ghost use Rattle.mv_core.specs.Views.{new_view};
+
+use crate::shared::{Opening, Pass, Shared};
+use crate::view::View;
+use atomic_table::{Seat, Split, Table};
+use mv_history::{Protocol, Tag, Words};
+use mv_layout::{Config, NO_SLOT, WIDTH, clock_word, master_place, total_words};
+use std::alloc::{AllocError, Global};
+use std::marker::{Brand, PhantomData};
+use std::snapshot::Snapshot;
+
+/// The numbers of the domain in which a seat is made.
+pub(crate) trait Domain {
+    ghost use Rattle.mv_layout.specs.declared.Config.{Config};
+
+    ghost config: { Config };
+}
+
+impl Domain for Brand {
+    ghost config = { record { seats = 0; objects = 0; slots = 0; write_max = 0; low = 0; high = 0; base = 0 } };
+}
+
+/// How a view is cut in two where a seat is made.
+pub(crate) struct Making<D> {
+    domain: PhantomData<D>,
+}
+
+impl<D: Domain> Split<View> for Making<D> {
+    ghost use Rattle.mv_core.specs.SeatSteps.{made_one, newly_made};
+
+    ghost left = { made_one D.config };
+
+    ghost right = { newly_made D.config };
+}
+
+/// What the type of a slice of words says, as a fact.
+fn have_width(words: &[Words])
+    ensures { AreWords words.now }
+{}
+
+/// Lays the words of an object's master.
+fn lay_object(config: &Config, words: &mut [u64], start: &[Words], object: u32)
+    requires checked { Checked config.now }
+    requires range { object < config.now.objects }
+    requires there { object < length start.now }
+    requires laid { Laid config.now start.now words.old object 0 }
+    ensures { Laid config.now start.now words.new (object + 1) 0 }
+{
+    for word in 0..WIDTH {
+        words[master_place(config, object, word) as usize] = start[object as usize][word as usize];
+    }
+}
+
+/// The words of a domain before any step.
+fn opening_words(alloc: Global, config: &Config, start: &[Words]) -> Result<Vec<u64>, AllocError>
+    requires checked { Checked config.now }
+    requires sized { length start.now ≡ config.now.objects }
+    ensures { IfOk result (λ words. Shows config.now words.items (opening_memory config.now start.now)) }
+{
+    let mut words = Vec::from_elem(alloc, 0u64, total_words(config) as usize)?;
+    words[0] = clock_word(config.base, 0, NO_SLOT);
+    words[1] = config.base;
+    for object in 0..config.objects {
+        lay_object(config, words.as_mut_slice(), start, object);
+    }
+    Ok(words)
+}
+
+/// Cuts the seat that comes next from the first one, in the domain whose numbers are `D`'s.
+fn split_as<P: Protocol, D: Domain>(
+    shared: &Shared<P>,
+    seat: &mut Seat<Tag, View>,
+) -> Seat<Tag, View>
+    requires config { D.config ≡ config_of shared.now }
+    requires of { IsSeatOf P.start P.allowed shared.now seat.old }
+    requires maker { (0 < seat.old.me.0.made) × (seat.old.me.0.made < (config_of shared.now).seats) }
+    ensures maker { (seat.new.table_id ≡ seat.old.table_id) × (seat.new.me.0 ≡ made_one (config_of shared.now) seat.old.me.0) }
+    ensures made { (result.table_id ≡ seat.old.table_id) × (result.me.0 ≡ newly_made (config_of shared.now) seat.old.me.0) }
+{
+    shared.table.shared.split_seat::<Making<D>>(seat)
+}
+
+impl<P: Protocol> Shared<P> {
+    /// The numbers of the domain.
+    pub fn config(&self) -> &Config
+        ensures { result.now ≡ config_of self.now }
+    {
+        &self.config
+    }
+
+    /// Makes the seat of this number, of which the first one has made all before.
+    fn make_seat(&self, first: &mut Pass<P>, number: u32) -> Pass<P>
+        requires of { IsOf self.now first.old }
+        requires maker { view first.old ≡ maker_view (config_of self.now) (start_of self.now) number }
+        requires range { (0 < number) × (number < (config_of self.now).seats) }
+        ensures of { IsOf self.now first.new × IsOf self.now result }
+        ensures maker { view first.new ≡ maker_view (config_of self.now) (start_of self.now) (number + 1) }
+        ensures made { view result ≡ new_view (config_of self.now) (start_of self.now) number 0 }
+    {
+        let seat = split_as::<P, Brand>(self, &mut first.seat);
+        Pass {
+            number,
+            write_max: self.config.write_max,
+            time: 0,
+            first: 0,
+            seat,
+            rules: PhantomData,
+        }
+    }
+
+    /// The domain, with its first seat alone.
+    fn open(
+        alloc: Global,
+        config: &Config,
+        start: &[Words],
+    ) -> Result<(Shared<P>, Pass<P>), AllocError>
+        requires checked { Checked config.now }
+        requires sized { length start.now ≡ config.now.objects }
+        requires lawful { P.start start.now }
+        ensures about { IfOk result (λ r. (config_of r.0 ≡ config.now) × (start_of r.0 ≡ start.now)) }
+        ensures first { IfOk result (λ r. IsOf r.0 r.1 × (view r.1 ≡ maker_view config.now start.now 1)) }
+    {
+        have_width(start);
+        let words = opening_words(alloc, config, start)?;
+        let state = Vec::from_slice(alloc, start)?;
+        let about = Opening {
+            config: *config,
+            start: Snapshot::of(&state),
+        };
+        let (table, seat) = Table::of_words(alloc, words.as_slice(), &about)?;
+        let shared = Shared {
+            config: *config,
+            table,
+        };
+        let first = Pass {
+            number: 0,
+            write_max: config.write_max,
+            time: 0,
+            first: 0,
+            seat,
+            rules: PhantomData,
+        };
+        Ok((shared, first))
+    }
+
+    /// Makes all seats but the first, and puts that one before them.
+    fn make_all(&self, alloc: Global, mut first: Pass<P>) -> Result<Vec<Pass<P>>, AllocError>
+        requires of { IsOf self.now first }
+        requires first { view first ≡ maker_view (config_of self.now) (start_of self.now) 1 }
+        ensures count { IfOk result (λ passes. vec_len passes ≡ (config_of self.now).seats) }
+        ensures each { IfOk result (λ passes. AreNew self.now passes.items) }
+    {
+        let mut others = Vec::new(alloc);
+        for number in 1..self.config.seats {
+            others.push(self.make_seat(&mut first, number))?;
+        }
+        others.insert(0, first)?;
+        Ok(others)
+    }
+
+    /// Opens a domain of these numbers with this opening state, of which each object has its words,
+    /// and gives one pass for each seat, in order of number. No seat has made or seen an entry, and
+    /// all are outside a section. It refuses only for want of memory, and then keeps nothing.
+    pub fn new(
+        alloc: Global,
+        config: &Config,
+        start: &[Words],
+    ) -> Result<(Shared<P>, Vec<Pass<P>>), AllocError>
+        requires checked { Checked config.now }
+        requires sized { length start.now ≡ config.now.objects }
+        requires lawful { P.start start.now }
+        ensures about { IfOk result (λ r. (config_of r.0 ≡ config.now) × (start_of r.0 ≡ start.now)) }
+        ensures count { IfOk result (λ r. vec_len r.1 ≡ config.now.seats) }
+        ensures each { IfOk result (λ r. AreNew r.0 r.1.items) }
+    {
+        let (shared, first) = Shared::open(alloc, config, start)?;
+        let passes = shared.make_all(alloc, first)?;
+        Ok((shared, passes))
+    }
+}
+
+impl<P: Protocol> Pass<P> {
+    /// The number of the seat, below `seats`.
+    pub fn seat(&self) -> u32
+        ensures { result ≡ (view self.now).number }
+    {
+        self.number
+    }
+
+    /// The printed time of the section, where the seat is in one.
+    pub fn time(&self) -> u64
+        ensures { IsTimed result (view self.now) }
+    {
+        self.time
+    }
+}

@@ -1,0 +1,59 @@
+//! The shared words of a domain, and what a thread steps with.
+ghost use Rattle.std.specs.Prelude.{◌≡◌, ◌<◌};
+ghost use Rattle.mv_layout.specs.Limits.{Checked};
+ghost use Rattle.mv_layout.specs.Places.{total};
+ghost use Rattle.mv_core.specs.Known.{Known, IsTimed, IsBegun};
+
+use crate::view::View;
+use atomic_table::{Seat, Table, TableRule};
+use mv_history::{Protocol, Tag, Words};
+use mv_layout::Config;
+use std::alloc::Global;
+use std::marker::PhantomData;
+use std::snapshot::Snapshot;
+
+/// What the rule is told once: the numbers of the domain, and the opening state.
+#[derive(Drop)]
+pub struct Opening {
+    pub config: Config,
+    pub start: Snapshot<Vec<Words>>,
+}
+
+/// The rule of the table of a domain under these client rules.
+pub struct Core<P> {
+    protocol: PhantomData<P>,
+}
+
+impl<P: Protocol> TableRule<Tag, View, Opening> for Core<P> {
+    ghost use Rattle.mv_core.specs.Rule.{Ruled, first_view};
+
+    ghost holds = { λ key s. Ruled P.start P.allowed key s };
+
+    ghost first = { λ key. first_view key.config key.start.value.items };
+}
+
+/// The shared words of a domain. It owns its memory.
+#[derive(Drop)]
+pub struct Shared<P: Protocol> {
+    pub(crate) config: Config,
+    pub(crate) table: Table<Tag, View, Opening, Core<P>, Global>,
+    pub ghost checked: { Checked config },
+    pub ghost sized: { (table.shared.table_id.words ≡ total config) × (table.shared.table_id.slots ≡ 0) },
+    pub ghost about: { table.shared.key.config ≡ config },
+}
+
+/// A seat of a domain with its view. At run time it has its number, the limit of its write sets, its
+/// section's time, and the position of its write set's first version.
+#[derive(Drop)]
+pub struct Pass<P: Protocol> {
+    pub(crate) number: u32,
+    pub(crate) write_max: u32,
+    pub(crate) time: u64,
+    pub(crate) first: u64,
+    pub(crate) seat: Seat<Tag, View>,
+    pub(crate) rules: PhantomData<P>,
+    pub ghost numbered: { number ≡ seat.me.0.number },
+    pub ghost timed: { IsTimed time seat.me.0 },
+    pub ghost begun: { IsBegun first seat.me.0 },
+    pub ghost known: { ∥ Known P.start P.allowed seat.me.0 ∥₁ },
+}

@@ -1,0 +1,203 @@
+//! Each step over the table, once for all kinds. What a step is of and what it tells is picked where
+//! it is called, by a `Turn` for `Brand`; it may speak of `about`, which is for the proof alone.
+ghost use Rattle.std.specs.Prelude.{◌≡◌, ℕ, ◌+◌, ◌<◌};
+ghost use Rattle.mv_core.specs.Known.{Known, RunsOn};
+ghost use Rattle.mv_core.specs.Passes.{view, IsOf, IsSame, IsSeatOf, config_of, start_of};
+ghost use Rattle.mv_core.specs.Rule.{Loads, Stores, Swaps, Raises, IsKept};
+ghost use Rattle.mv_layout.specs.Places.{IsPlace, place_of};
+
+use crate::shared::{Pass, Shared};
+use crate::steps::Steps;
+use crate::view::View;
+use atomic_table::{Play, Seat};
+use mv_history::{Protocol, Tag};
+use std::marker::{Brand, PhantomData};
+use std::sync::ledger::Ledger;
+
+/// The word that a step is of, and what it tells of the number found and of the view after.
+pub(crate) trait Turn {
+    ghost use Rattle.mv_core.specs.declared.view.View.{View};
+    ghost use Rattle.mv_layout.specs.declared.Place.{Place};
+
+    ghost place: { Place };
+
+    ghost tells: { ℕ → View → Type 0 };
+}
+
+impl Turn for Brand {
+    ghost use Rattle.mv_layout.specs.declared.Place.TheVariants.{Clock};
+
+    ghost place = { Clock };
+
+    ghost tells = { λ _ _. Unit {0} };
+}
+
+/// A step that leaves what the pass has at run time.
+pub(crate) struct Told<P, J> {
+    turn: PhantomData<(P, J)>,
+}
+
+impl<P: Protocol, J: Turn> Play<Tag, View> for Told<P, J> {
+    ghost use Rattle.mv_core.specs.Known.{Known, RunsOn};
+    ghost use Rattle.mv_core.specs.Rule.{IsKept};
+
+    ghost then = { λ _ m n w. (J.tells n w.0 × RunsOn m.0 w.0) × IsKept m.0 w.0 × Known P.start P.allowed w.0 };
+}
+
+/// A step after which its caller sets what the pass has at run time.
+pub(crate) struct ToldAlone<P, J> {
+    turn: PhantomData<(P, J)>,
+}
+
+impl<P: Protocol, J: Turn> Play<Tag, View> for ToldAlone<P, J> {
+    ghost use Rattle.mv_core.specs.Known.{Known};
+    ghost use Rattle.mv_core.specs.Rule.{IsKept};
+
+    ghost then = { λ _ m n w. J.tells n w.0 × IsKept m.0 w.0 × Known P.start P.allowed w.0 };
+}
+
+/// A load, in a pass.
+pub(crate) fn load_as<P: Protocol, J: Turn, L: Ledger, T>(
+    shared: &Shared<P>,
+    pass: &mut Pass<P>,
+    index: u32,
+    about: &T,
+    steps: &mut Steps<L>,
+) -> u64
+    requires of { IsOf shared.now pass.old }
+    requires place { IsPlace (config_of shared.now) J.place × (index ≡ place_of (config_of shared.now) J.place) }
+    requires rule { Loads P.start P.allowed (config_of shared.now) (start_of shared.now) (view pass.old) J.place (λ n w. (J.tells n w × RunsOn (view pass.old) w) × IsKept (view pass.old) w) }
+    ensures same { IsSame pass.old pass.new }
+    ensures tells { J.tells result (view pass.new) }
+    ensures step { steps.new ≡ steps.old + 1 }
+{
+    let _ = about;
+    steps.tick();
+    shared
+        .table
+        .shared
+        .load::<Told<P, J>>(&mut pass.seat, index as usize)
+}
+
+/// A store of `new`, in a pass.
+pub(crate) fn store_as<P: Protocol, J: Turn, L: Ledger, T>(
+    shared: &Shared<P>,
+    pass: &mut Pass<P>,
+    index: u32,
+    new: u64,
+    about: &T,
+    steps: &mut Steps<L>,
+)
+    requires of { IsOf shared.now pass.old }
+    requires place { IsPlace (config_of shared.now) J.place × (index ≡ place_of (config_of shared.now) J.place) }
+    requires rule { Stores P.start P.allowed (config_of shared.now) (start_of shared.now) (view pass.old) J.place new (λ w. (J.tells new w × RunsOn (view pass.old) w) × IsKept (view pass.old) w) }
+    ensures same { IsSame pass.old pass.new }
+    ensures tells { J.tells new (view pass.new) }
+    ensures step { steps.new ≡ steps.old + 1 }
+{
+    let _ = about;
+    steps.tick();
+    shared
+        .table
+        .shared
+        .store::<Told<P, J>>(&mut pass.seat, index as usize, new)
+}
+
+/// An exchange of `old` for `new`, in a pass. It answers what it found.
+pub(crate) fn swap_as<P: Protocol, J: Turn, L: Ledger, T>(
+    shared: &Shared<P>,
+    pass: &mut Pass<P>,
+    index: u32,
+    old: u64,
+    new: u64,
+    about: &T,
+    steps: &mut Steps<L>,
+) -> u64
+    requires of { IsOf shared.now pass.old }
+    requires place { IsPlace (config_of shared.now) J.place × (index ≡ place_of (config_of shared.now) J.place) }
+    requires rule { Swaps P.start P.allowed (config_of shared.now) (start_of shared.now) (view pass.old) J.place old new (λ n w. (J.tells n w × RunsOn (view pass.old) w) × IsKept (view pass.old) w) }
+    ensures same { IsSame pass.old pass.new }
+    ensures tells { J.tells result (view pass.new) }
+    ensures step { steps.new ≡ steps.old + 1 }
+{
+    let _ = about;
+    steps.tick();
+    shared
+        .table
+        .shared
+        .compare_exchange::<Told<P, J>>(&mut pass.seat, index as usize, old, new)
+}
+
+/// A fetch_max by `by`, in a pass. It answers what it found.
+pub(crate) fn raise_as<P: Protocol, J: Turn, L: Ledger, T>(
+    shared: &Shared<P>,
+    pass: &mut Pass<P>,
+    index: u32,
+    by: u64,
+    about: &T,
+    steps: &mut Steps<L>,
+) -> u64
+    requires of { IsOf shared.now pass.old }
+    requires place { IsPlace (config_of shared.now) J.place × (index ≡ place_of (config_of shared.now) J.place) }
+    requires rule { Raises P.start P.allowed (config_of shared.now) (start_of shared.now) (view pass.old) J.place by (λ n w. (J.tells n w × RunsOn (view pass.old) w) × IsKept (view pass.old) w) }
+    ensures same { IsSame pass.old pass.new }
+    ensures tells { J.tells result (view pass.new) }
+    ensures step { steps.new ≡ steps.old + 1 }
+{
+    let _ = about;
+    steps.tick();
+    shared
+        .table
+        .shared
+        .fetch_max::<Told<P, J>>(&mut pass.seat, index as usize, by)
+}
+
+/// A load, whose caller sets afterwards what the pass has at run time.
+pub(crate) fn load_alone<P: Protocol, J: Turn, L: Ledger, T>(
+    shared: &Shared<P>,
+    seat: &mut Seat<Tag, View>,
+    index: u32,
+    about: &T,
+    steps: &mut Steps<L>,
+) -> u64
+    requires of { IsSeatOf P.start P.allowed shared.now seat.old }
+    requires place { IsPlace (config_of shared.now) J.place × (index ≡ place_of (config_of shared.now) J.place) }
+    requires rule { Loads P.start P.allowed (config_of shared.now) (start_of shared.now) seat.old.me.0 J.place (λ n w. J.tells n w × IsKept seat.old.me.0 w) }
+    ensures same { (seat.new.table_id ≡ seat.old.table_id) × IsKept seat.old.me.0 seat.new.me.0 }
+    ensures known { ∥ Known P.start P.allowed seat.new.me.0 ∥₁ }
+    ensures tells { J.tells result seat.new.me.0 }
+    ensures step { steps.new ≡ steps.old + 1 }
+{
+    let _ = about;
+    steps.tick();
+    shared
+        .table
+        .shared
+        .load::<ToldAlone<P, J>>(seat, index as usize)
+}
+
+/// An exchange, whose caller sets afterwards what the pass has at run time.
+pub(crate) fn swap_alone<P: Protocol, J: Turn, L: Ledger, T>(
+    shared: &Shared<P>,
+    seat: &mut Seat<Tag, View>,
+    index: u32,
+    old: u64,
+    new: u64,
+    about: &T,
+    steps: &mut Steps<L>,
+) -> u64
+    requires of { IsSeatOf P.start P.allowed shared.now seat.old }
+    requires place { IsPlace (config_of shared.now) J.place × (index ≡ place_of (config_of shared.now) J.place) }
+    requires rule { Swaps P.start P.allowed (config_of shared.now) (start_of shared.now) seat.old.me.0 J.place old new (λ n w. J.tells n w × IsKept seat.old.me.0 w) }
+    ensures same { (seat.new.table_id ≡ seat.old.table_id) × IsKept seat.old.me.0 seat.new.me.0 }
+    ensures known { ∥ Known P.start P.allowed seat.new.me.0 ∥₁ }
+    ensures tells { J.tells result seat.new.me.0 }
+    ensures step { steps.new ≡ steps.old + 1 }
+{
+    let _ = about;
+    steps.tick();
+    shared
+        .table
+        .shared
+        .compare_exchange::<ToldAlone<P, J>>(seat, index as usize, old, new)
+}

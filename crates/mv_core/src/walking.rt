@@ -1,0 +1,147 @@
+//! The steps of a walk down a version chain.
+ghost use Rattle.std.specs.Prelude.{◌≡◌, ◌+◌, ◌<◌, length};
+ghost use Rattle.mv_core.specs.declared.view.Section.{Section};
+ghost use Rattle.mv_core.specs.declared.view.Stand.{Stand};
+ghost use Rattle.mv_core.specs.Passes.{view, IsOf, IsSame, config_of};
+ghost use Rattle.mv_core.specs.WalkSteps.{IsPackedOf, IsLinkOf, slot_named, MayLoadHead, head_loaded, MayLoadFirst, first_loaded, MayLoadStamp, StampSays, stamp_loaded, MayLoadPrev, prev_loaded, MayLoadData, data_loaded, MayLoadMaster, master_loaded, words_read, word_read};
+ghost use Rattle.mv_layout.specs.Places.{place_of};
+ghost use Rattle.mv_layout.specs.Words.{link_seat_of};
+ghost use Rattle.mv_layout.specs.declared.Place.TheVariants.{First};
+
+use crate::shared::{Pass, Shared};
+use crate::steps::Steps;
+use crate::turns::load_as;
+use mv_history::Protocol;
+use mv_layout::{head_place, link_position, link_seat, master_place, slot_place};
+use std::marker::Brand;
+use std::sync::ledger::Ledger;
+
+impl<P: Protocol> Shared<P> {
+    /// Where the slot that a link names begins.
+    fn slot_linked(&self, link: u64) -> u32
+        requires { IsPackedOf (config_of self.now) link }
+        ensures { result ≡ place_of (config_of self.now) (First (link_seat_of link) (slot_named (config_of self.now) link)) }
+    {
+        let slot = (link_position(link) % self.config.slots as u64) as u32;
+        slot_place(&self.config, link_seat(link), slot)
+    }
+
+    /// Loads HEAD of an object, in an open section that is past its help and has no write-back under
+    /// way, and so begins a walk over that object. The word is 0, where the walk then stands at the
+    /// master, or the link of the version on top, where it then stands.
+    pub fn load_head<L: Ledger>(&self, pass: &mut Pass<P>, object: u32, steps: &mut Steps<L>) -> u64
+        ghost inside: { Section }
+        requires of { IsOf self.now pass.old }
+        requires range { object < (config_of self.now).objects }
+        requires may { MayLoadHead (view pass.old) inside }
+        ensures same { IsSame pass.old pass.new }
+        ensures view { view pass.new ≡ head_loaded (config_of self.now) (view pass.old) inside object result }
+        ensures link { IsLinkOf (config_of self.now) result }
+        ensures step { steps.new ≡ steps.old + 1 }
+    {
+        let place = head_place(&self.config, object);
+        load_as::<P, Brand, L, _>(self, pass, place, &object, steps)
+    }
+
+    /// Loads FIRST of the version that the walk stands at: the first position of its write set.
+    pub fn load_first<L: Ledger>(&self, pass: &mut Pass<P>, link: u64, steps: &mut Steps<L>) -> u64
+        ghost stand: { Stand }
+        requires of { IsOf self.now pass.old }
+        requires range { IsPackedOf (config_of self.now) link }
+        requires may { MayLoadFirst (view pass.old) link stand }
+        ensures same { IsSame pass.old pass.new }
+        ensures view { view pass.new ≡ first_loaded (config_of self.now) (view pass.old) stand result }
+        ensures step { steps.new ≡ steps.old + 1 }
+    {
+        let place = self.slot_linked(link);
+        load_as::<P, Brand, L, _>(self, pass, place, &link, steps)
+    }
+
+    /// Loads STAMP of the write set of the version that the walk stands at, whose first position
+    /// `first` it found. A word from `2^63` on is unset; else it is the time of the commit, a write of
+    /// the object, and the pass has then seen the history at least up to that time. Below a version
+    /// that the walk has passed it is a time, and a lesser one than that version's.
+    pub fn load_stamp<L: Ledger>(
+        &self,
+        pass: &mut Pass<P>,
+        link: u64,
+        first: u64,
+        steps: &mut Steps<L>,
+    ) -> u64
+        ghost stand: { Stand }
+        requires of { IsOf self.now pass.old }
+        requires range { IsPackedOf (config_of self.now) link }
+        requires may { MayLoadStamp (view pass.old) link first stand }
+        ensures same { IsSame pass.old pass.new }
+        ensures view { view pass.new ≡ stamp_loaded (config_of self.now) (view pass.old) stand first result (view pass.new).past.seen }
+        ensures says { StampSays (config_of self.now) (view pass.old) stand result (view pass.new).past.seen }
+        ensures step { steps.new ≡ steps.old + 1 }
+    {
+        let slot = (first % self.config.slots as u64) as u32;
+        let place = slot_place(&self.config, link_seat(link), slot) + 1;
+        load_as::<P, Brand, L, _>(self, pass, place, &(link, first), steps)
+    }
+
+    /// Loads PREV of the version that the walk stands at, whose stamp it found to be unset or a time
+    /// above the section's. The word is 0, where the walk then stands at the master, or the link of
+    /// the next older version, where it then stands.
+    pub fn load_prev<L: Ledger>(&self, pass: &mut Pass<P>, link: u64, steps: &mut Steps<L>) -> u64
+        ghost stand: { Stand }
+        requires of { IsOf self.now pass.old }
+        requires range { IsPackedOf (config_of self.now) link }
+        requires may { MayLoadPrev (view pass.old) link stand }
+        ensures same { IsSame pass.old pass.new }
+        ensures view { view pass.new ≡ prev_loaded (config_of self.now) (view pass.old) stand result }
+        ensures link { IsLinkOf (config_of self.now) result }
+        ensures step { steps.new ≡ steps.old + 1 }
+    {
+        let place = self.slot_linked(link) + 2;
+        load_as::<P, Brand, L, _>(self, pass, place, &link, steps)
+    }
+
+    /// Loads a data word of the version that the walk stands at, whose stamp it found to be a time not
+    /// above the section's. The word found is the object's in the state that the section reads.
+    pub fn load_data<L: Ledger>(
+        &self,
+        pass: &mut Pass<P>,
+        link: u64,
+        word: u32,
+        steps: &mut Steps<L>,
+    ) -> u64
+        ghost at: { Stand × Section }
+        requires of { IsOf self.now pass.old }
+        requires range { IsPackedOf (config_of self.now) link }
+        requires may { MayLoadData (view pass.old) link word at.0 at.1 }
+        ensures same { IsSame pass.old pass.new }
+        ensures view { view pass.new ≡ data_loaded (config_of self.now) (view pass.old) at.0 word result }
+        ensures word { result ≡ word_read (config_of self.now) (view pass.old) at.1 at.0.object word }
+        ensures wide { length (words_read (config_of self.now) (view pass.old) at.1 at.0.object) ≡ 6 }
+        ensures step { steps.new ≡ steps.old + 1 }
+    {
+        let place = self.slot_linked(link) + 4 + word;
+        load_as::<P, Brand, L, _>(self, pass, place, &(link, word), steps)
+    }
+
+    /// Loads a master word of an object, where the walk stands at its master. The word found is the
+    /// object's in the state that the section reads.
+    pub fn load_master<L: Ledger>(
+        &self,
+        pass: &mut Pass<P>,
+        object: u32,
+        word: u32,
+        steps: &mut Steps<L>,
+    ) -> u64
+        ghost inside: { Section }
+        requires of { IsOf self.now pass.old }
+        requires range { object < (config_of self.now).objects }
+        requires may { MayLoadMaster (view pass.old) object word inside }
+        ensures same { IsSame pass.old pass.new }
+        ensures view { view pass.new ≡ master_loaded (config_of self.now) (view pass.old) object word result }
+        ensures word { result ≡ word_read (config_of self.now) (view pass.old) inside object word }
+        ensures wide { length (words_read (config_of self.now) (view pass.old) inside object) ≡ 6 }
+        ensures step { steps.new ≡ steps.old + 1 }
+    {
+        let place = master_place(&self.config, object, word);
+        load_as::<P, Brand, L, _>(self, pass, place, &(object, word), steps)
+    }
+}

@@ -1,0 +1,54 @@
+-- What a help of a clock word needs of a view, and what it leaves.
+use Rattle.std.specs.Prelude.{◌≡◌, ◌⊎◌, ℕ, ◌≤◌, true, List, ◌++◌, length, Contains, All, Option, Some, None}
+use Rattle.mv_history.specs.declared.Entry.{Entry}
+use Rattle.mv_history.specs.declared.Step.{Step}
+use Rattle.mv_history.specs.declared.StepKind.{StepKind}
+use Rattle.mv_history.specs.declared.StepKind.TheVariants.{LoadNamed, LoadCheck, SwapStamp}
+use Rattle.mv_layout.specs.declared.Config.{Config}
+use Rattle.mv_layout.specs.Words.{clock_of, clock_slot_of}
+use Rattle.mv_core.specs.declared.view.View.{View}
+use Rattle.mv_core.specs.declared.view.Phase.TheVariants.{Inside}
+use Rattle.mv_core.specs.declared.view.Section.{Section}
+use Rattle.mv_core.specs.declared.view.Mode.TheVariants.{Named}
+use Rattle.mv_core.specs.declared.view.Naming.{Naming}
+use Rattle.mv_core.specs.Rings.{index_of}
+use Rattle.mv_core.specs.HistoryFacts.{BeginsWith}
+use Rattle.mv_core.specs.SectionFacts.{IsWord}
+use Rattle.mv_core.specs.EnterSteps.{IsWhole}
+
+-- the pass has loaded the word; it is a packed clock word, and counts as helped where it names no commit
+pub record HasLoaded (c : Config) (v : View) (word : ℕ) : Type 0 where
+  pub loaded : Contains v.heard.loaded word
+  pub is_word : IsWord c word
+  pub none : clock_slot_of word ≡ 8191 → Contains v.heard.helped word
+
+-- a step of a help
+abbrev pub IsHelpStep : StepKind → Type 0
+IsHelpStep LoadNamed = Unit {0}
+IsHelpStep LoadCheck = Unit {0}
+IsHelpStep SwapStamp = Unit {0}
+IsHelpStep _ = ⊥
+
+-- the word is of the commit that the own section has named, and the own exchange of its stamp counts as made afterwards
+pub record StampsOwn (c : Config) (v w : View) (word : ℕ) : Type 0 where
+  pub inside : Section
+  pub naming : Naming
+  pub phase : v.phase ≡ Inside inside
+  pub mode : inside.mode ≡ Named naming
+  pub word_is : word ≡ clock_of naming.time v.number (index_of c naming.first)
+  pub after : w.phase ≡ Inside (record inside { mode = Named (record naming { stamped = true }) })
+
+-- A help of a word leaves of a view: the word is helped, no loaded or helped word is forgotten, the phase stays but in a section that has named this very commit, the trail has at most three steps more, more may have been seen, and nothing else changes.
+pub record Helps (c : Config) (v w : View) (word : ℕ) : Type 0 where
+  pub helped : Contains w.heard.helped word
+  pub still_helped : (x : ℕ) → Contains v.heard.helped x → Contains w.heard.helped x
+  pub still_loaded : (x : ℕ) → Contains v.heard.loaded x → Contains w.heard.loaded x
+  pub phase : (w.phase ≡ v.phase) ⊎ StampsOwn c v w word
+  pub past : (h : List Entry) × BeginsWith h v.past.seen × (w.past ≡ record v.past { seen = h })
+  pub trail : (steps : List Step) × (w.trail ≡ v.trail ++ steps) × (length steps ≤ 3) × All (λ s. IsHelpStep s.kind) steps
+  pub rest : w ≡ record v { past = w.past; phase = w.phase; heard = w.heard; trail = w.trail }
+
+-- the whole history is seen of the step that found this word in CLOCK, and what was seen stays where none did
+abbrev pub FindsClock : Config → View → View → Option ℕ → Type 0
+FindsClock c v w None = w.past ≡ v.past
+FindsClock c v w (Some word) = (h : List Entry) × IsWhole c v word h × (w.past ≡ record v.past { seen = h })

@@ -1,0 +1,32 @@
+//! The commit clock: what the next time is given to, and how everybody finishes what was named.
+//!
+//! CLOCK holds the time of the last entry of the history, and the seat and slot of the commit that
+//! was named with it. A commit counts from the exchange on CLOCK that named it, but the versions
+//! of its write set carry an unset stamp until somebody exchanges that for the commit's time. So
+//! whoever loads a clock word first helps the commit that it names, and only then reads, or names
+//! the next entry: a commit whose maker stopped is stamped by the next to come. Helping is that of
+//! Barnes (A Method for Implementing Lock-Free Shared Data Structures, SPAA 1993). In MV-RLU (Kim,
+//! Mathew, Kashyap, Ramanathan and Min, ASPLOS 2019), from which logs and version chains are taken,
+//! times come from the hardware's clock; here they come from one word, which orders all entries.
+//!
+//! **The model.** A pass knows which clock words it has loaded, and which of these it has helped.
+//! `mv_core::helped_are_stamped` gives this its meaning: the stamp of each live commit up to the
+//! time of a helped word is that commit's time, between any two steps of any seats.
+//!
+//! **The contract.** `now` answers the word of CLOCK at one step, and takes what the pass has seen
+//! to the whole history of that step. `help` makes at most three steps; after it the word is among
+//! those that the pass has helped. Neither takes memory, and neither waits.
+//!
+//! A help loads CLOCK a second time before it exchanges a stamp. Between the load of a word and
+//! the load of the stamp the commit may have been stamped, died and been freed, and its slot built
+//! anew for a later write set, whose unset stamp must stay. While CLOCK has the word the commit is
+//! live; and where CLOCK has another, whoever moved it on had helped first.
+//!
+//! The crate stands on `mv_core` for its steps and `mv_layout` for the packing of clock words.
+#![tactic(auto)]
+
+mod helping;
+#[cfg(test)]
+mod tests;
+
+pub use helping::{help, help_clock, now};

@@ -1,0 +1,28 @@
+//! Sections and their marks: how a seat enters a section, and how it leaves it.
+//!
+//! A section reads the state of one time, so nobody may reclaim what that state needs while the
+//! section lasts. Each seat has a MARK, which is 0 outside a section, and else says a time not above
+//! the section's. Entering takes a low bound first, stores it as the mark, and only then takes the
+//! time of the section: whoever reads the mark meanwhile finds a bound that the section keeps. The
+//! marks are the `local clock` words of RLU (Matveev, Shavit, Felber and Marlier, SOSP 2015, section
+//! 3), which MV-RLU (Kim, Mathew, Kashyap, Ramanathan and Min, ASPLOS 2019, section 3.6) reads for
+//! its watermark of reclamation.
+//!
+//! **The model.** A pass is outside a section or in one, with its time, and knows the prefix of the
+//! history that it has seen. A section that has helped the commit of its clock word is past its
+//! help: every live commit up to its time is stamped.
+//!
+//! **The contract.** `enter` makes at most six steps, one of which loads the time of the section
+//! that it begins from CLOCK; all that the seat had seen is in the section's snapshot, nothing is
+//! held, and the section is past its help. `leave` makes one step, and adds no entry. Neither takes
+//! memory, and neither waits.
+//!
+//! The crate stands on `mv_core` for its steps, `commit_clock` for the help, and `mv_layout` for
+//! the packing of clock words.
+#![tactic(auto)]
+
+mod sections;
+#[cfg(test)]
+mod tests;
+
+pub use sections::{enter, enter_clock, leave};

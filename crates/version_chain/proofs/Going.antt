@@ -1,0 +1,69 @@
+-- One walk after another leaves what a walk leaves.
+use Rattle.std.proofs.Common.{◌≡◌, ℕ, List, ◌++◌, sym, ap, ◌∙◌, subst, append_assoc, length-append, arith}
+use Rattle.std.proofs.lemmas.List.Elements.{All-append}
+use Rattle.mv_history.specs.declared.Entry.{Entry}
+use Rattle.mv_history.specs.declared.Step.{Step}
+use Rattle.mv_layout.specs.declared.Config.{Config}
+use Rattle.mv_history.specs.declared.StepKind.{StepKind}
+use Rattle.mv_core.specs.declared.view.View.{View}
+use Rattle.mv_core.specs.declared.view.Phase.TheVariants.{Inside}
+use Rattle.mv_core.specs.declared.view.Section.{Section}
+use Rattle.mv_core.specs.declared.view.Heard.{Heard}
+use Rattle.mv_core.specs.WalkSteps.{head_loaded, first_loaded, stamp_loaded, prev_loaded}
+use Rattle.mv_core.specs.SectionFacts.{IsPastHelp}
+use Rattle.version_chain.specs.Reads.{Reads}
+use Rattle.version_chain.specs.Walks.{inside_of, section_in, stand_in, MayWalk, IsWalkStep, Walks, snapshot_length}
+
+pub walks_on : (u v w : View) (first second third : ℕ) → Walks u v first second → Walks v w second third → Walks u w first third
+walks_on u v w first second third a b = record {
+  seen = (a.seen.0 ++ b.seen.0, b.seen.1 ∙ ap (λ (l : List Entry). l ++ b.seen.0) a.seen.1 ∙ append_assoc u.past.seen a.seen.0 b.seen.0);
+  trail =
+      let s = a.trail in
+      let t = b.trail in
+      let long = length-append s.0 t.0 in
+      let one = s.2 in
+      let two = t.2 in
+      (s.0 ++ t.0, t.1 ∙ ap (λ (l : List Step). l ++ t.0) s.1 ∙ append_assoc u.trail s.0 t.0, (omega arith), All-append (λ x. IsWalkStep x.kind) s.0 t.0 s.3 t.3);
+  rest = b.rest ∙ ap (λ (x : View). record x { past = record x.past { seen = w.past.seen }; walk = w.walk; empty = w.empty; trail = w.trail }) a.rest;
+}
+
+-- a section may walk on where its phase, the clock words it heard and its write-back stay
+may_still : (v w : View) → w.phase ≡ v.phase → w.heard ≡ v.heard → w.back ≡ v.back → MayWalk v → MayWalk w
+may_still v w phase heard back may =
+    let inside : section_in w ≡ section_in v = ap inside_of phase in record {
+      phase = phase ∙ may.phase ∙ sym (ap Inside inside);
+      open_is = ap (λ (s : Section). s.mode) inside ∙ may.open_is;
+      helped = subst (λ (s : Section). IsPastHelp w.heard s) (sym inside) (subst (λ (h : Heard). IsPastHelp h (section_in v)) (sym heard) may.helped);
+      no_back = back ∙ may.no_back;
+    }
+
+-- so it may after a walk
+pub may_walk_on : (v w : View) (before after : ℕ) → Walks v w before after → MayWalk v → MayWalk w
+may_walk_on v w before after walks may =
+    may_still v w (ap (λ (u : View). u.phase) walks.rest) (ap (λ (u : View). u.heard) walks.rest) (ap (λ (u : View). u.back) walks.rest) may
+
+-- and after a reader
+pub may_read_on : (kind : StepKind) (v w : View) → Reads kind v w → MayWalk v → MayWalk w
+may_read_on kind v w reads may =
+    may_still v w (ap (λ (u : View). u.phase) reads.rest) (ap (λ (u : View). u.heard) reads.rest) (ap (λ (u : View). u.back) reads.rest) may
+
+-- after FIRST and STAMP of a version were loaded
+pub may_looked : (c : Config) (v w x : View) (first found : ℕ) (seen : List Entry) → w ≡ first_loaded c v (stand_in v) first → x ≡ stamp_loaded c w (stand_in w) first found seen → MayWalk v → MayWalk x
+may_looked c v w x first found seen firsts stamps may =
+    may_still v x
+    (ap (λ (u : View). u.phase) stamps ∙ ap (λ (u : View). u.phase) firsts)
+    (ap (λ (u : View). u.heard) stamps ∙ ap (λ (u : View). u.heard) firsts)
+    (ap (λ (u : View). u.back) stamps ∙ ap (λ (u : View). u.back) firsts)
+    may
+
+-- and after PREV was
+pub may_passed : (c : Config) (v w : View) (link : ℕ) → w ≡ prev_loaded c v (stand_in v) link → MayWalk v → MayWalk w
+may_passed c v w link is may = may_still v w (ap (λ (u : View). u.phase) is) (ap (λ (u : View). u.heard) is) (ap (λ (u : View). u.back) is) may
+
+-- after HEAD was loaded
+pub may_started : (c : Config) (v w : View) (object link : ℕ) → w ≡ head_loaded c v (section_in v) object link → MayWalk v → MayWalk w
+may_started c v w object link is may = may_still v w (ap (λ (u : View). u.phase) is) (ap (λ (u : View). u.heard) is) (ap (λ (u : View). u.back) is) may
+
+-- a walk leaves the length of the snapshot
+pub same_snapshot : (c : Config) (v w : View) (before after : ℕ) → Walks v w before after → snapshot_length c w ≡ snapshot_length c v
+same_snapshot c v w before after walks = ap (λ (x : View). snapshot_length c x) walks.rest

@@ -1,0 +1,5 @@
+pub mod Trails
+pub mod SoFar
+pub mod Standing
+pub mod Bounds
+pub mod Going

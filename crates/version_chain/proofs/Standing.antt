@@ -1,0 +1,54 @@
+-- Where a walk stands, and what its loads leave.
+use Rattle.std.proofs.Common.{◌≡◌, ◌≢◌, ℕ, ◌<◌, ◌≤◌, ◌^◌, Bool, false, if◌then◌else◌, List, sym, ap, ◌∙◌, subst, ne_eqb, Some, None}
+use Rattle.mv_history.specs.declared.Entry.{Entry}
+use Rattle.mv_layout.specs.declared.Config.{Config}
+use Rattle.mv_layout.specs.Words.{link_of, link_seat_of, link_position_of}
+use Rattle.mv_layout.proofs.Unpacking as unpacking
+use Rattle.mv_core.specs.declared.view.View.{View}
+use Rattle.mv_core.specs.declared.view.Walk.TheVariants as place
+use Rattle.mv_core.specs.declared.view.Stand.{Stand}
+use Rattle.mv_core.specs.declared.view.Passed.{Passed}
+use Rattle.mv_core.specs.WalkSteps.{IsPackedOf, IsLinkOf, stand_at, first_loaded, stamp_loaded}
+use Rattle.version_chain.specs.declared.walking.Found.TheVariants.{Version}
+use Rattle.version_chain.specs.Walks.{time_at, stand_of, stand_in, with_first, with_stamp, HasFound}
+
+-- a walk at a link that isn't 0 stands at the version of that link
+pub stands_here : (v : View) (object link : ℕ) (passed : Passed) → link ≢ 0 → v.walk ≡ stand_at object link passed false
+    → v.walk ≡ place.At (record { object = object; link = link; first = None; stamp = None; passed = passed; late = false })
+stands_here v object link passed ne is =
+    subst (λ (b : Bool). v.walk ≡ (if b then place.Master object else place.At (record { object = object; link = link; first = None; stamp = None; passed = passed; late = false }))) (ne_eqb link 0 ne) is
+
+-- a walk that stands at a version does so at the one that the view says
+pub stand_is : (v : View) (stand : Stand) → v.walk ≡ place.At stand → v.walk ≡ place.At (stand_in v)
+stand_is v stand is = is ∙ ap place.At (sym (ap stand_of is))
+
+module _ (c : Config) (v w x : View) (object link first found seat position : ℕ) (seen : List Entry) (ne : link ≢ 0) (packed : IsLinkOf c link) (stands : v.walk ≡ stand_at object link (stand_in v).passed false) where
+  -- where a walk stands once FIRST and STAMP of a version were loaded
+  abbrev looked : Stand
+  looked = record { object = object; link = link; first = Some first; stamp = Some found; passed = (stand_in v).passed; late = false }
+
+  looked_is : w ≡ first_loaded c v (stand_in v) first → x ≡ stamp_loaded c w (stand_in w) first found seen → x.walk ≡ place.At looked
+  looked_is firsts stamps =
+      let here = ap stand_of (stands_here v object link (stand_in v).passed ne stands) in
+      let at : stand_in w ≡ with_first (stand_in v) first = ap stand_in firsts in
+      ap (λ (u : View). u.walk) stamps ∙ ap (λ (s : Stand). place.At (record s { stamp = Some found })) at ∙ ap (λ (s : Stand). place.At (with_stamp s first found)) here
+
+  -- a walk that ends at a version stands at it
+  pub found_here : w ≡ first_loaded c v (stand_in v) first → x ≡ stamp_loaded c w (stand_in w) first found seen → (time : ℕ) → time ≡ time_at x → found ≤ time → seat ≡ link_seat_of link → position ≡ link_position_of link → HasFound c x object (Version seat position)
+  found_here firsts stamps time time_is not_above seat_is position_is =
+      let is = looked_is firsts stamps in
+      let stand : stand_in x ≡ looked = ap stand_of is in
+      let link_is = ap (λ (s : Stand). s.link) stand in
+      let p = packed ne in (
+        record {
+          stands = stand_is x looked is;
+          link_is = link_is ∙ unpacking.link_is link p.0 ∙ ap (λ s. link_of s (link_position_of link)) (sym seat_is) ∙ ap (link_of seat) (sym position_is);
+          packed = subst (IsPackedOf c) (sym link_is) p;
+          seat_small = subst (λ s. s < 64) (sym seat_is) (unpacking.link_seat_small link p.0);
+          position_small = subst (λ s. s < 2 ^ 57) (sym position_is) (unpacking.link_position_small link);
+          time = found;
+          stamp_is = ap (λ (s : Stand). s.stamp) stand;
+          not_above = subst (λ t. found ≤ t) time_is not_above;
+        },
+        ap (λ (s : Stand). s.object) stand,
+      )

@@ -1,0 +1,64 @@
+// Reading the words of what a walk has found.
+ghost use Rattle.std.specs.Prelude.{◌≡◌, ◌+◌, ◌<◌};
+ghost use Rattle.mv_history.specs.declared.StepKind.TheVariants.{LoadData, LoadMaster};
+ghost use Rattle.mv_core.specs.declared.view.Walk.TheVariants as place;
+ghost use Rattle.mv_core.specs.Passes.{view, IsOf, IsSame, config_of};
+ghost use Rattle.version_chain.specs.Walks.{MayWalk, StandsAtVersion, stand_in};
+ghost use Rattle.version_chain.specs.Reads.{Reads, words_in};
+
+use mv_core::{Pass, Shared, Steps};
+use mv_history::{Protocol, WORDS, Words};
+use mv_layout::{WIDTH, link_word};
+use std::sync::ledger::Ledger;
+
+/// Reads the six words of the version at this position of this seat's log, where the pass stands and
+/// found a stamp that is a time not above the section's. They are the object's words in the state of
+/// the section's time. It makes six steps; the pass stands there still.
+pub fn read_version<P: Protocol, L: Ledger>(
+    shared: &Shared<P>,
+    pass: &mut Pass<P>,
+    seat: u32,
+    position: u64,
+    steps: &mut Steps<L>,
+) -> Words
+    requires of { IsOf shared.now pass.old }
+    requires may { MayWalk (view pass.old) }
+    requires stands { StandsAtVersion (config_of shared.now) (view pass.old) seat position }
+    ensures same { IsSame pass.old pass.new }
+    ensures may { MayWalk (view pass.new) }
+    ensures words { result ≡ words_in (config_of shared.now) (view pass.old) (stand_in (view pass.old)).object }
+    ensures reads { Reads LoadData (view pass.old) (view pass.new) }
+    ensures cost { steps.new ≡ steps.old + 6 }
+{
+    let link = link_word(seat, position);
+    let mut words = [0; WORDS];
+    for word in 0..WIDTH {
+        words[word as usize] = shared.load_data(pass, link, word, steps);
+    }
+    words
+}
+
+/// Reads the six master words of an object, at whose master the pass stands. They are its words in
+/// the state of the section's time. It makes six steps; the pass stands there still.
+pub fn read_master<P: Protocol, L: Ledger>(
+    shared: &Shared<P>,
+    pass: &mut Pass<P>,
+    object: u32,
+    steps: &mut Steps<L>,
+) -> Words
+    requires of { IsOf shared.now pass.old }
+    requires may { MayWalk (view pass.old) }
+    requires range { object < (config_of shared.now).objects }
+    requires stands { (view pass.old).walk ≡ place.Master object }
+    ensures same { IsSame pass.old pass.new }
+    ensures may { MayWalk (view pass.new) }
+    ensures words { result ≡ words_in (config_of shared.now) (view pass.old) object }
+    ensures reads { Reads LoadMaster (view pass.old) (view pass.new) }
+    ensures cost { steps.new ≡ steps.old + 6 }
+{
+    let mut words = [0; WORDS];
+    for word in 0..WIDTH {
+        words[word as usize] = shared.load_master(pass, object, word, steps);
+    }
+    words
+}

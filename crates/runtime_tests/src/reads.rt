@@ -1,0 +1,190 @@
+// Reading the opening words, in a domain in which nobody has committed.
+ghost use Rattle.std.specs.Prelude.{◌≡◌, ◌+◌, ◌<◌, ◌≤◌, IfOk, OnSome};
+ghost use Rattle.mv_core.specs.EnterSteps.{MayLoadLow};
+ghost use Rattle.mv_core.specs.Passes.{view, IsOf, IsSame, config_of};
+ghost use Rattle.version_chain.specs.Walks.{MayWalk};
+ghost use Rattle.runtime_tests.specs.Reads.{Keeps, ReadsMaster, IsFirstRead};
+
+use mv_core::{Pass, Shared, Steps};
+use mv_history::{AnyRules, Words};
+use mv_layout::{Config, LAST};
+use reader_marks::{enter, leave};
+use std::alloc::{AllocError, Global};
+use std::marker::Brand;
+use std::sync::ledger::{Blank, Ledger};
+use std::test::Fail;
+use version_chain::{Found, find, read_master, walk_start, walk_step};
+
+// The time of a section, and the words of object 0 that it read in the master, if it found it there.
+type Reading = (u64, Option<Words>);
+
+// Finds object 0, and reads its master if it is found there.
+fn read_by_find<L: Ledger>(
+    shared: &Shared<AnyRules>,
+    pass: &mut Pass<AnyRules>,
+    steps: &mut Steps<L>,
+) -> Option<Words>
+    requires of { IsOf shared.now pass.old }
+    requires may { MayWalk (view pass.old) }
+    requires range { 0 < (config_of shared.now).objects }
+    ensures same { IsSame pass.old pass.new }
+    ensures keeps { Keeps (view pass.old) (view pass.new) }
+{
+    match find(shared, pass, 0, steps) {
+        Found::Master => Some(read_master(shared, pass, 0, steps)),
+        Found::Version { .. } => None,
+    }
+}
+
+// The same by one look of the walk, which shows each step.
+fn read_at_once<L: Ledger>(
+    shared: &Shared<AnyRules>,
+    pass: &mut Pass<AnyRules>,
+    steps: &mut Steps<L>,
+) -> Option<Words>
+    requires of { IsOf shared.now pass.old }
+    requires may { MayWalk (view pass.old) }
+    requires range { 0 < (config_of shared.now).objects }
+    ensures same { IsSame pass.old pass.new }
+    ensures keeps { Keeps (view pass.old) (view pass.new) }
+    ensures steps { OnSome result (steps.new ≡ steps.old + 7) }
+    ensures trail { OnSome result (ReadsMaster (view pass.old).trail (view pass.new).trail) }
+{
+    let walk = walk_start(shared, pass, 0, steps);
+    match walk_step(shared, pass, walk, steps) {
+        Ok(Found::Master) => Some(read_master(shared, pass, 0, steps)),
+        _ => None,
+    }
+}
+
+// A section of a seat over object 0.
+fn section<L: Ledger>(
+    shared: &Shared<AnyRules>,
+    pass: &mut Pass<AnyRules>,
+    steps: &mut Steps<L>,
+) -> Reading
+    requires of { IsOf shared.now pass.old }
+    requires may { MayLoadLow (view pass.old) }
+    requires range { 0 < (config_of shared.now).objects }
+    ensures same { IsSame pass.old pass.new }
+    ensures may { MayLoadLow (view pass.new) }
+{
+    let time = enter(shared, pass, steps);
+    let words = read_by_find(shared, pass, steps);
+    leave(shared, pass, steps);
+    (time, words)
+}
+
+// The same by one look of the walk: how many steps it takes to enter, find, read and leave.
+fn first_section<L: Ledger>(
+    shared: &Shared<AnyRules>,
+    pass: &mut Pass<AnyRules>,
+    steps: &mut Steps<L>,
+) -> Reading
+    requires of { IsOf shared.now pass.old }
+    requires may { MayLoadLow (view pass.old) }
+    requires range { 0 < (config_of shared.now).objects }
+    ensures same { IsSame pass.old pass.new }
+    ensures may { MayLoadLow (view pass.new) }
+    ensures trail { OnSome result.1 (IsFirstRead (view pass.old).trail (view pass.new).trail) }
+{
+    let time = enter(shared, pass, steps);
+    let words = read_at_once(shared, pass, steps);
+    leave(shared, pass, steps);
+    (time, words)
+}
+
+// Sections of two seats, one after another: two of the first seat, and then two of the other.
+fn in_turn<L: Ledger>(
+    shared: &Shared<AnyRules>,
+    one: &mut Pass<AnyRules>,
+    other: &mut Pass<AnyRules>,
+    steps: &mut Steps<L>,
+) -> [Reading; 4]
+    requires one { IsOf shared.now one.old × MayLoadLow (view one.old) }
+    requires other { IsOf shared.now other.old × MayLoadLow (view other.old) }
+    requires range { 0 < (config_of shared.now).objects }
+{
+    let first = first_section(shared, one, steps);
+    let again = section(shared, one, steps);
+    [
+        first,
+        again,
+        first_section(shared, other, steps),
+        section(shared, other, steps),
+    ]
+}
+
+// A section of the one seat, in which a whole section of the other one passes before it reads.
+fn overlapping<L: Ledger>(
+    shared: &Shared<AnyRules>,
+    one: &mut Pass<AnyRules>,
+    other: &mut Pass<AnyRules>,
+    steps: &mut Steps<L>,
+) -> [Reading; 2]
+    requires one { IsOf shared.now one.old × MayLoadLow (view one.old) }
+    requires other { IsOf shared.now other.old × MayLoadLow (view other.old) }
+    requires range { 0 < (config_of shared.now).objects }
+{
+    let time = enter(shared, one, steps);
+    let inner = section(shared, other, steps);
+    let words = read_by_find(shared, one, steps);
+    leave(shared, one, steps);
+    [(time, words), inner]
+}
+
+// A new domain of two seats and one object with these words.
+fn two_seats(
+    alloc: Global,
+    base: u64,
+    words: Words,
+) -> Result<(Shared<AnyRules>, Pass<AnyRules>, Pass<AnyRules>), AllocError>
+    requires base { base ≤ LAST }
+    ensures one { IfOk result (λ r. IsOf r.0 r.1 × MayLoadLow (view r.1)) }
+    ensures other { IfOk result (λ r. IsOf r.0 r.2 × MayLoadLow (view r.2)) }
+    ensures objects { IfOk result (λ r. (config_of r.0).objects ≡ 1) }
+{
+    let config = Config {
+        seats: 2,
+        objects: 1,
+        slots: 64,
+        write_max: 1,
+        low: 1,
+        high: 1,
+        base,
+    };
+    let (shared, mut passes) = Shared::<AnyRules>::new(alloc, &config, &[words])?;
+    let other = passes.swap_remove(1);
+    let one = passes.swap_remove(0);
+    Ok((shared, one, other))
+}
+
+const OPENING: Words = [9, 8, 7, 6, 5, 0];
+
+// Both, each in a new domain.
+fn reads<L: Ledger>(
+    alloc: Global,
+    base: u64,
+    blank: Blank,
+) -> Result<([Reading; 4], [Reading; 2]), AllocError>
+    requires base { base ≤ LAST }
+    requires name { blank.name ≡ L.name }
+    requires parts { (blank.parts ≡ L.parts) × (0 < L.parts) }
+{
+    let mut steps = Steps::<L>::open(blank);
+    let (shared, mut one, mut other) = two_seats(alloc, base, OPENING)?;
+    let turns = in_turn(&shared, &mut one, &mut other, &mut steps);
+    let (shared, mut one, mut other) = two_seats(alloc, base, OPENING)?;
+    let overlap = overlapping(&shared, &mut one, &mut other, &mut steps);
+    Ok((turns, overlap))
+}
+
+#[test]
+fn sections_read_the_opening_words(rt: HostRuntime) -> Result<(), Fail> {
+    for base in [0, 3, LAST] {
+        let (turns, overlap) = reads::<Brand>(rt.alloc(), base, Blank::new(1))?;
+        assert_eq!(rt; turns, [(base, Some(OPENING)); 4], "base {base}");
+        assert_eq!(rt; overlap, [(base, Some(OPENING)); 2], "base {base}");
+    }
+    Ok(())
+}

@@ -1,0 +1,15 @@
+pub mod Words
+pub mod Numerals
+pub mod Lines
+pub mod MapLaws
+pub mod KeyMaps
+pub mod ObjectWords
+pub mod Chains
+pub mod Frames
+pub mod MapLemmas
+pub mod Mapped
+pub mod ListMaps
+pub mod Opening
+pub mod Cost
+pub mod Scripts
+pub mod Texts

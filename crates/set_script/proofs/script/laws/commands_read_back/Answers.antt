@@ -1,0 +1,5 @@
+use Rattle.set_script.proofs.Texts.{commands_back}
+use Rattle.set_script.proofs.script.laws.commands_read_back.Goals as goal
+
+pub returns : goal.returns
+returns c = commands_back

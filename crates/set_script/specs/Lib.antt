@@ -1,0 +1,9 @@
+pub mod Catalogue
+pub mod Replies
+pub mod Objects
+pub mod Lists
+pub mod Lawful
+pub mod CatalogueOf
+pub mod LawfulLaws
+pub mod Grammar
+pub mod GrammarLaws

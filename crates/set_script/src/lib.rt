@@ -1,0 +1,28 @@
+//! Scripts of set commands, what their replies mean, and the states that stand for a catalogue.
+//!
+//! **Model.** A catalogue is 30 maps, one for each name, from keys to values; a map is the list of
+//! its keys, rising, each with its value (`specs/Catalogue.antt`). A command has a reply on a
+//! catalogue, and leaves one (`specs/Replies.antt`). A state of six-word objects is lawful where
+//! its heads lead through lists of nodes with rising keys and every other node is vacant
+//! (`specs/Lawful.antt`); then it stands for the catalogue of its nodes (`specs/CatalogueOf.antt`).
+//! It does so in one way at most. A script is text, and its grammar a function on bytes
+//! (`specs/Grammar.antt`).
+//!
+//! **Contract.** `parse` answers exactly the commands of a script, or its first faulty line and
+//! what is wrong with it first; want of memory is the one free answer. `Catalogue` is such a
+//! catalogue in memory, and each call says which maps it leaves.
+//!
+//! **Place.** It stands on `mv_history` alone, whose states it speaks of. `list_set` changes lawful
+//! states, `run_report` replays commands over catalogues, and the program parses its file here.
+//! The lemmas in `proofs/` on lists, maps and states are for the crates above.
+#![tactic(auto)]
+
+mod catalogue;
+mod commands;
+mod script;
+#[cfg(test)]
+mod tests;
+
+pub use catalogue::Catalogue;
+pub use commands::{Command, FaultKind, Name, Place, Reply, ScriptFault};
+pub use script::{MOST_COMMANDS, commands_read_back, parse, parse_is_exact, parse_line};

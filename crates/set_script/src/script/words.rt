@@ -1,0 +1,58 @@
+//! The words of a line: what stands between its blanks, up to a comment.
+ghost use Rattle.std.specs.Prelude.{◌≡◌, ◌≤◌, [], ◌∷◌, MatchOption, length, drop};
+ghost use Rattle.std.specs.List.{position_or_len, prefix_len};
+ghost use Rattle.std.specs.Str.Lines.{strip_carriage_return};
+ghost use Rattle.set_script.specs.Grammar.{is_blank, words_in};
+
+// Whether the byte separates words: a space or a tab.
+fn is_blank(byte: u8) -> bool
+    ensures { result ≡ is_blank byte }
+{
+    byte == b' ' || byte == b'\t'
+}
+
+// How many bytes stand before the first blank.
+fn word_length(bytes: &[u8]) -> usize
+    ensures is { result ≡ position_or_len is_blank bytes.now }
+    ensures within { result ≤ length bytes.now }
+{
+    bytes.iter().take_while(|byte| !is_blank(**byte)).count()
+}
+
+// How many blanks stand in front.
+fn blank_length(bytes: &[u8]) -> usize
+    ensures is { result ≡ prefix_len is_blank bytes.now }
+    ensures within { result ≤ length bytes.now }
+{
+    bytes.iter().take_while(|byte| is_blank(**byte)).count()
+}
+
+// The bytes from the first that is no blank.
+fn skip_blanks(bytes: &[u8]) -> &[u8]
+    ensures { result.now ≡ drop (prefix_len is_blank bytes.now) bytes.now }
+{
+    &bytes[blank_length(bytes)..]
+}
+
+/// The line without the one CR at its end, where there is one.
+pub fn strip_carriage_return(line: &[u8]) -> &[u8]
+    ensures { result.now ≡ strip_carriage_return line.now }
+{
+    match line {
+        [front @ .., b'\r'] => front,
+        _ => line,
+    }
+}
+
+/// The first word and the bytes behind it. `None` where the bytes end, or a comment begins,
+/// before any word.
+pub fn first_word(bytes: &[u8]) -> Option<(&[u8], &[u8])>
+    ensures { MatchOption result (words_in bytes.now ≡ []) (λ found. words_in bytes.now ≡ found.0.now ∷ words_in found.1.now) }
+{
+    let rest = skip_blanks(bytes);
+    let first = *rest.first()?;
+    if first == b'#' {
+        return None;
+    }
+    Some(rest.split_at(word_length(rest)))
+}

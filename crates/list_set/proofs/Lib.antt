@@ -1,0 +1,10 @@
+pub mod Changes
+pub mod Parts
+pub mod Adding
+pub mod Removing
+pub mod Walking
+pub mod OwnWrites
+pub mod Holding
+pub mod Spots
+pub mod Clients
+pub mod Filling

@@ -1,0 +1,5 @@
+pub mod Places
+pub mod Held
+pub mod Calls
+pub mod Walks
+pub mod Filling

@@ -1,0 +1,36 @@
+//! The outside of the program: files by name, sinks of bytes and gates, as traits, with forms of them in memory
+//! and over the system.
+//!
+//! # Model
+//!
+//! [`Files`] stands for texts by name, for what is left of the text that is open, and for a count of faults.
+//! [`Sink`] stands for the bytes written to it and a count of faults. Texts and bytes are optional in the model:
+//! memory tells them, and a system's files and streams don't. A count of faults never falls, and a call fails only
+//! where it rose. It ends at `2^64 - 1`, and where it stands there it counts as risen. Files are steady where no
+//! call fails that asks for a text that is there; what is steady tells its texts, and no call changes either.
+//!
+//! # Contract
+//!
+//! A read puts the next bytes of the open text into the buffer, and a write takes the first bytes of the piece, at
+//! least one, or fails and takes none. [`MemFiles`] and [`MemSink`] fail exactly where they are told to, where no text
+//! has the name, or where the room is spent. They are exact in all else, so a program can be tried against every
+//! failure in turn.
+//!
+//! # Place
+//!
+//! The program is generic over these traits, and its contract speaks of their models. Only `main` makes [`RealFiles`],
+//! [`RealOut`] and [`RealErr`]. These are proved against the traits, but they tell no content: that they move the
+//! bytes they were given is trusted.
+#![tactic(auto)]
+
+mod gate;
+mod memory;
+mod outside;
+mod real;
+#[cfg(test)]
+mod tests;
+
+pub use gate::{Gate, OpenGate};
+pub use memory::{MemFiles, MemSink, MemText};
+pub use outside::{Failed, Files, Sink};
+pub use real::{RealErr, RealFiles, RealOut};

@@ -1,0 +1,135 @@
+// The files of the system, standard output and standard error. They tell no content.
+ghost use Rattle.std.specs.Prelude.{◌≡◌, None, false, is_some};
+ghost use Rattle.std.proofs.Common.{rules};
+
+use crate::{Failed, Files, Sink};
+use std::io::Read;
+use std::{fs, rt};
+
+/// The files of the system, through the runtime. A name is a path. They tell no texts and aren't steady. Each error of
+/// the system is a fault, and stands for no more than that.
+#[derive(Drop)]
+pub struct RealFiles<'r, R: rt::Files> {
+    rt: &'r R,
+    opened: Option<R::File>,
+    faults: u64,
+}
+
+impl<'r, R: rt::Files> RealFiles<'r, R> {
+    /// Files with no text open and no fault.
+    pub fn new(rt: &'r R) -> RealFiles<'r, R>
+        ensures { ⟦<RealFiles<'r, R> as Files>⟧.faults result ≡ 0 }
+    {
+        RealFiles {
+            rt,
+            opened: None,
+            faults: 0,
+        }
+    }
+}
+
+impl<'r, R: rt::Files> Files for RealFiles<'r, R> {
+    ghost texts = { λ s. None };
+
+    ghost left = { λ s. None };
+
+    ghost is_open = { λ s. is_some s.opened };
+
+    ghost faults = { λ s. s.faults };
+
+    ghost steady = { λ s. false };
+
+    ghost tells = { λ s h. Prim.search rules };
+
+    fn open(&mut self, name: &str) -> Result<(), Failed> {
+        match fs::open(self.rt, name) {
+            Ok(file) => {
+                self.opened = Some(file);
+                Ok(())
+            }
+            Err(_) => {
+                self.faults = self.faults.saturating_add(1);
+                Err(Failed)
+            }
+        }
+    }
+
+    fn read(&mut self, into: &mut [u8]) -> Result<usize, Failed> {
+        let Some(file) = &mut self.opened else {
+            unreachable!()
+        };
+        match file.read(into) {
+            Ok(count) => Ok(count),
+            Err(_) => {
+                self.faults = self.faults.saturating_add(1);
+                Err(Failed)
+            }
+        }
+    }
+}
+
+/// Standard output, through the runtime. It tells no bytes. An error of the system is a fault, and so is a write that
+/// takes nothing.
+#[derive(Drop)]
+pub struct RealOut<'r, R: Print> {
+    rt: &'r R,
+    faults: u64,
+}
+
+impl<'r, R: Print> RealOut<'r, R> {
+    /// Standard output with no fault.
+    pub fn new(rt: &'r R) -> RealOut<'r, R>
+        ensures { ⟦<RealOut<'r, R> as Sink>⟧.faults result ≡ 0 }
+    {
+        RealOut { rt, faults: 0 }
+    }
+}
+
+impl<'r, R: Print> Sink for RealOut<'r, R> {
+    ghost written = { λ s. None };
+
+    ghost faults = { λ s. s.faults };
+
+    fn write(&mut self, piece: &[u8]) -> Result<usize, Failed> {
+        match self.rt.write_some(piece) {
+            Ok(count) if count > 0 => Ok(count),
+            _ => {
+                self.faults = self.faults.saturating_add(1);
+                Err(Failed)
+            }
+        }
+    }
+}
+
+/// Standard error, through the runtime. It tells no bytes. An error of the system is a fault, and so is a piece that
+/// isn't UTF-8, since the runtime prints text alone.
+#[derive(Drop)]
+pub struct RealErr<'r, R: Eprint> {
+    rt: &'r R,
+    faults: u64,
+}
+
+impl<'r, R: Eprint> RealErr<'r, R> {
+    /// Standard error with no fault.
+    pub fn new(rt: &'r R) -> RealErr<'r, R>
+        ensures { ⟦<RealErr<'r, R> as Sink>⟧.faults result ≡ 0 }
+    {
+        RealErr { rt, faults: 0 }
+    }
+}
+
+impl<'r, R: Eprint> Sink for RealErr<'r, R> {
+    ghost written = { λ s. None };
+
+    ghost faults = { λ s. s.faults };
+
+    fn write(&mut self, piece: &[u8]) -> Result<usize, Failed> {
+        if let Ok(text) = str::from_utf8(piece) {
+            if self.rt.eprint(text).is_ok() {
+                return Ok(piece.len());
+            }
+        }
+        self.faults = self.faults.saturating_add(1);
+        Err(Failed)
+    }
+}

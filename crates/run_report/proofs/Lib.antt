@@ -1,0 +1,5 @@
+pub mod Texts
+pub mod Pairs
+pub mod Ordering
+pub mod Replaying
+pub mod Runs

@@ -1,0 +1,7 @@
+use Rattle.std.proofs.Common.{rules}
+use Rattle.run_report.proofs.Texts.{set_told}
+use Rattle.run_report.proofs.text.write_set.Goals as goal
+
+pub returns-clause-text : goal.returns-clause-text
+returns-clause-text c =
+    set_told c.args.name _ _ _ _ _ _ _ _ c.keys-keys.ensures.keys c.values.ensures.values (search rules) c.in_ok-write_name.ensures c.in_ok-write_keys.ensures c.push_str.ensures.bytes

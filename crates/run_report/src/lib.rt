@@ -1,0 +1,32 @@
+//! The report of a run: its lines and their order, what makes them a legal run, and their text.
+//!
+//! A run gives each command of each script one [`Line`]: the seat and the number of the command, the place where it took
+//! effect, and its reply. A place is a commit or a read of the one history, with its printed time. Lines are ordered by
+//! time, commits before reads, then by seat, then by number; [`order`] puts them so.
+//!
+//! **Legal runs.** `LegalRun scripts lines capacity end` (specs/Legal.antt) says of lines in any order:
+//!
+//! 1. each command of each script has exactly one line, and there are no others;
+//! 2. along a script the times never fall;
+//! 3. no two commit lines have the same time;
+//! 4. the replay of the ordered lines, from 30 empty maps, gives each line's reply and ends in `end`. A commit makes its
+//!    command's change. A read makes none, and its command has nothing to change there.
+//!
+//! Point 4 is what a reader of the text can check with the scripts alone: one catalogue, changed by one commit after
+//! another, gives every reply.
+//!
+//! **The text.** [`render`] writes exactly `text_of_run lines end tables` (specs/Text.antt): the lines as they stand, the
+//! sets that aren't empty, and the table of each seat's log.
+//!
+//! The crate stands between the run, which makes lines, and the program, which writes the text. It knows commands,
+//! replies and catalogues (`set_script`) and the tables of logs (`mv_history`), and neither stores nor seats.
+#![tactic(auto)]
+
+mod line;
+mod text;
+
+pub use line::{Line, order};
+pub use text::render;
+
+#[cfg(test)]
+mod tests;

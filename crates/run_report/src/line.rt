@@ -1,0 +1,45 @@
+// The lines of a run, and their order.
+ghost use Rattle.std.specs.Prelude.{◌≡◌, ℕ, List};
+ghost use Rattle.std.specs.List.Sorted.{IsPermutation};
+ghost use Rattle.set_script.specs.Catalogue.{Maps};
+ghost use Rattle.set_script.specs.declared.commands.Command.{Command};
+ghost use Rattle.run_report.specs.Legal.{LegalRun};
+ghost use Rattle.run_report.specs.Order.{order_key, IsOrdered};
+
+use set_script::{Place, Reply};
+
+/// What one command of a run replied, and where it took place.
+#[derive(Clone, Copy, Debug, Drop, PartialEq, Eq)]
+pub struct Line {
+    /// The seat that ran the command, which is the number of its script, from 0.
+    pub seat: u32,
+    /// The command's number in its script, from 1.
+    pub number: u32,
+    /// Where it took place, with the printed time.
+    pub place: Place,
+    /// What it replied there.
+    pub reply: Reply,
+}
+
+/// Puts lines in their order: by time, commits before reads, then by seat, then by number. It takes no memory.
+/// The lines of a legal run stay those of a legal run.
+pub fn order(lines: &mut Vec<Line>)
+    ensures permutation { IsPermutation lines.old.items lines.new.items }
+    ensures ordered { IsOrdered lines.new.items }
+    ensures legal { (scripts : List (List Command)) (capacity : ℕ) (end : Maps) → LegalRun scripts lines.old.items capacity end → LegalRun scripts lines.new.items capacity end }
+{
+    lines.sort_unstable_by_key(Line::order_key);
+}
+
+impl Line {
+    // What lines are ordered by.
+    fn order_key(&self) -> (u64, u8, u32, u32)
+        ensures { result ≡ order_key self.now }
+    {
+        let (time, rank) = match self.place {
+            Place::Commit(time) => (time, 0),
+            Place::Read(time) => (time, 1),
+        };
+        (time, rank, self.seat, self.number)
+    }
+}

@@ -1,0 +1,105 @@
+// The order and the text of runs.
+use crate::{Line, order, render};
+use mv_history::LogTable;
+use set_script::{Catalogue, Place, Reply};
+use std::test::Fail;
+
+const NO_TABLE: LogTable = LogTable {
+    live: 0,
+    freed: 0,
+    back: 0,
+    commits: 0,
+    aborts: 0,
+    rests: 0,
+};
+
+fn line(seat: u32, number: u32, place: Place, reply: Reply) -> Line {
+    Line {
+        seat,
+        number,
+        place,
+        reply,
+    }
+}
+
+#[test]
+fn add_then_has(rt: HostRuntime) -> Result<(), Fail> {
+    let lines = [
+        line(0, 1, Place::Commit(1), Reply::Yes),
+        line(0, 2, Place::Read(1), Reply::Yes),
+    ];
+    let mut end = Catalogue::new(rt.alloc())?;
+    end.insert(0, 5, 0)?;
+    let table = LogTable {
+        live: 2,
+        commits: 1,
+        ..NO_TABLE
+    };
+    let without_log = render(rt.alloc(), &lines, &end, &[])?;
+    assert_eq!(rt;
+        without_log.as_slice(),
+        b"0.1 c1 yes\n0.2 r1 yes\nl0 5\n".as_slice()
+    );
+    let text = render(rt.alloc(), &lines, &end, &[table])?;
+    assert_eq!(rt;
+        text.as_slice(),
+        b"0.1 c1 yes\n0.2 r1 yes\nl0 5\nlog 0 live 2 freed 0 back 0 commits 1 aborts 0 rests 0\n".as_slice()
+    );
+    Ok(())
+}
+
+#[test]
+fn empty_file(rt: HostRuntime) -> Result<(), Fail> {
+    let end = Catalogue::new(rt.alloc())?;
+    let text = render(rt.alloc(), &[], &end, &[NO_TABLE])?;
+    assert_eq!(rt;
+        text.as_slice(),
+        b"log 0 live 0 freed 0 back 0 commits 0 aborts 0 rests 0\n".as_slice()
+    );
+    Ok(())
+}
+
+#[test]
+fn sets_stand_in_the_order_of_their_names(rt: HostRuntime) -> Result<(), Fail> {
+    let mut end = Catalogue::new(rt.alloc())?;
+    for (name, key, value) in [
+        (29, 4294967295, 18446744073709551615),
+        (20, 7, 0),
+        (19, 1, 1),
+        (9, 3, 0),
+        (9, 2, 10),
+    ] {
+        end.insert(name, key, value)?;
+    }
+    let lines = [
+        line(63, 65536, Place::Read(35184372088831), Reply::Worn),
+        line(0, 1, Place::Read(0), Reply::Full),
+        line(0, 2, Place::Read(0), Reply::No),
+    ];
+    let text = render(rt.alloc(), &lines, &end, &[])?;
+    assert_eq!(rt;
+        text.as_slice(),
+        b"63.65536 r35184372088831 worn\n0.1 r0 full\n0.2 r0 no\nl9 2=10 3\nh9 1=1\nt0 7\nt9 4294967295=18446744073709551615\n".as_slice()
+    );
+    Ok(())
+}
+
+#[test]
+fn lines_stand_by_time_and_commits_before_reads(rt: HostRuntime) -> Result<(), Fail> {
+    let expected = [
+        line(1, 1, Place::Read(0), Reply::No),
+        line(1, 2, Place::Commit(1), Reply::Yes),
+        line(0, 1, Place::Read(1), Reply::Yes),
+        line(0, 2, Place::Read(1), Reply::No),
+        line(2, 1, Place::Read(1), Reply::No),
+        line(0, 3, Place::Commit(2), Reply::Yes),
+    ];
+    let mut lines = Vec::from_slice(rt.alloc(), &expected)?;
+    lines.swap(0, 5);
+    lines.swap(1, 4);
+    lines.swap(2, 3);
+    lines.swap(1, 3);
+    order(&mut lines);
+    assert_eq!(rt; lines.as_slice(), expected.as_slice());
+    Ok(())
+}

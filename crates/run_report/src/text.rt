@@ -1,0 +1,150 @@
+// The text of a run.
+ghost use Rattle.std.specs.Prelude.{◌≡◌, ◌++◌, ◌<◌, IfOk, OnOk, length, string_bytes};
+ghost use Rattle.std.specs.List.{flat_map, zip};
+ghost use Rattle.set_script.specs.Catalogue.{map_of, IsCatalogue};
+ghost use Rattle.run_report.specs.Text.{text_of_line, text_of_place, text_of_reply, text_of_name, text_of_key, text_of_set, text_of_sets, text_of_table, text_of_tables, text_of_run};
+
+use crate::line::Line;
+use mv_history::LogTable;
+use set_script::{Catalogue, Place, Reply};
+use std::alloc::{AllocError, Global};
+use std::fmt::Write;
+
+// How many sets there are.
+const NAMES: u32 = 30;
+
+/// The text of a run: the lines as they stand, each set of the catalogue that isn't empty, and the log tables of the seats, from seat 0 on.
+///
+/// A line is `S.N cT R` for a commit and `S.N rT R` for a read: the seat, the number, the printed time and the reply.
+/// A set is its name and its rising keys; a key whose value is not 0 is followed by `=` and the value.
+/// A table is `log S live A freed B back C commits D aborts E rests F`. Each line ends with LF.
+/// The error is want of memory.
+pub fn render(
+    alloc: Global,
+    lines: &[Line],
+    end: &Catalogue,
+    tables: &[LogTable],
+) -> Result<Vec<u8>, AllocError>
+    ensures { IfOk result (λ text. text.items ≡ text_of_run lines.now end.now tables.now) }
+{
+    let mut text = String::new(alloc);
+    write_lines(&mut text, lines)?;
+    write_sets(&mut text, end)?;
+    write_tables(&mut text, tables)?;
+    Ok(text.into_bytes())
+}
+
+fn write_lines(text: &mut String, lines: &[Line]) -> Result<(), AllocError>
+    ensures { OnOk result (string_bytes text.new ≡ string_bytes text.old ++ flat_map text_of_line lines.now) }
+{
+    for line in lines {
+        write_line(text, line)?;
+    }
+    Ok(())
+}
+
+fn write_line(text: &mut String, line: &Line) -> Result<(), AllocError>
+    ensures { OnOk result (string_bytes text.new ≡ string_bytes text.old ++ text_of_line line.now) }
+{
+    write!(text, "{}.{} ", line.seat, line.number)?;
+    write_place(text, &line.place)?;
+    text.push_str(" ")?;
+    write_reply(text, line.reply)?;
+    text.push_str("\n")
+}
+
+fn write_place(text: &mut String, place: &Place) -> Result<(), AllocError>
+    ensures { OnOk result (string_bytes text.new ≡ string_bytes text.old ++ text_of_place place.now) }
+{
+    match place {
+        Place::Commit(time) => write!(text, "c{time}"),
+        Place::Read(time) => write!(text, "r{time}"),
+    }
+}
+
+fn write_reply(text: &mut String, reply: Reply) -> Result<(), AllocError>
+    ensures { OnOk result (string_bytes text.new ≡ string_bytes text.old ++ text_of_reply reply) }
+{
+    text.push_str(match reply {
+        Reply::Yes => "yes",
+        Reply::No => "no",
+        Reply::Full => "full",
+        Reply::Worn => "worn",
+    })
+}
+
+fn write_sets(text: &mut String, end: &Catalogue) -> Result<(), AllocError>
+    ensures { OnOk result (string_bytes text.new ≡ string_bytes text.old ++ text_of_sets 0 end.now) }
+{
+    for name in 0..NAMES {
+        write_set(text, name, end)?;
+    }
+    Ok(())
+}
+
+// Writes a set, and nothing where it is empty.
+fn write_set(text: &mut String, name: u32, end: &Catalogue) -> Result<(), AllocError>
+    requires { name < 30 }
+    ensures text { OnOk result (string_bytes text.new ≡ string_bytes text.old ++ text_of_set name (map_of name end.now)) }
+    ensures lawful { IsCatalogue end.now }
+{
+    let keys = end.keys(name);
+    if keys.is_empty() {
+        return Ok(());
+    }
+    write_name(text, name)?;
+    write_keys(text, keys, end.values(name))?;
+    text.push_str("\n")
+}
+
+fn write_name(text: &mut String, name: u32) -> Result<(), AllocError>
+    ensures { OnOk result (string_bytes text.new ≡ string_bytes text.old ++ text_of_name name) }
+{
+    let kind = match name {
+        0..10 => "l",
+        10..20 => "h",
+        _ => "t",
+    };
+    write!(text, "{kind}{}", name % 10)
+}
+
+fn write_keys(text: &mut String, keys: &[u32], values: &[u64]) -> Result<(), AllocError>
+    requires { length values.now ≡ length keys.now }
+    ensures { OnOk result (string_bytes text.new ≡ string_bytes text.old ++ flat_map text_of_key (zip keys.now values.now)) }
+{
+    for (i, key) in keys.iter().enumerate() {
+        write_key(text, *key, values[i])?;
+    }
+    Ok(())
+}
+
+fn write_key(text: &mut String, key: u32, value: u64) -> Result<(), AllocError>
+    ensures { OnOk result (string_bytes text.new ≡ string_bytes text.old ++ text_of_key (key, value)) }
+{
+    if value == 0 {
+        write!(text, " {key}")
+    } else {
+        write!(text, " {key}={value}")
+    }
+}
+
+fn write_tables(text: &mut String, tables: &[LogTable]) -> Result<(), AllocError>
+    ensures { OnOk result (string_bytes text.new ≡ string_bytes text.old ++ text_of_tables 0 tables.now) }
+{
+    for (seat, table) in tables.iter().enumerate() {
+        write_table(text, seat, table)?;
+    }
+    Ok(())
+}
+
+fn write_table(text: &mut String, seat: usize, table: &LogTable) -> Result<(), AllocError>
+    ensures { OnOk result (string_bytes text.new ≡ string_bytes text.old ++ text_of_table seat table.now) }
+{
+    write!(text, "log {seat}")?;
+    write!(text, " live {}", table.live)?;
+    write!(text, " freed {}", table.freed)?;
+    write!(text, " back {}", table.back)?;
+    write!(text, " commits {}", table.commits)?;
+    write!(text, " aborts {}", table.aborts)?;
+    writeln!(text, " rests {}", table.rests)
+}

@@ -1,0 +1,41 @@
+//! The program: it makes the real outside, runs the words of the command line, and ends with the status.
+//!
+//! `run FILE` is `run_program` of `mvrlu_run` over the system's files, standard output and standard error. A word
+//! that isn't UTF-8 is out of form, as every word but `run FILE` is; want of memory for the words ends with 7.
+#![tactic(auto)]
+
+use mvrlu_run::run_program;
+use run_outside::{OpenGate, RealErr, RealFiles, RealOut};
+use std::io::ErrorKind;
+use std::process::ExitCode;
+use std::{env, io};
+
+fn main(rt: HostRuntime) -> ExitCode {
+    let words = match read_words(&rt) {
+        Ok(words) => words,
+        Err(error) if error.kind() == ErrorKind::OutOfMemory => return ExitCode::from(7),
+        // A word that isn't text is out of form, as no words are.
+        Err(_) => Vec::new(rt.alloc()),
+    };
+    let mut files = RealFiles::new(&rt);
+    let mut out = RealOut::new(&rt);
+    let mut err = RealErr::new(&rt);
+    ExitCode::from(run_program(
+        &rt,
+        rt.alloc(),
+        &words,
+        &mut files,
+        &mut out,
+        &mut err,
+        &OpenGate,
+    ))
+}
+
+// The words after the program's name.
+fn read_words(rt: &HostRuntime) -> io::Result<Vec<String>> {
+    let mut words = Vec::new(rt.alloc());
+    for word in env::args(rt)?.skip(1) {
+        words.push(word)?;
+    }
+    Ok(words)
+}

@@ -1,0 +1,16 @@
+use Rattle.std.proofs.Common.{◌≡◌, ◌≤◌, length, vec_capacity}
+use Rattle.mv_history.specs.PlainMeaning.{seat_of}
+use Rattle.set_script.specs.CatalogueOf.{catalogue_of}
+use Rattle.run_report.proofs.Runs.{IsTold}
+use Rattle.mvrlu_run.specs.Run.{capacity}
+use Rattle.mvrlu_run.specs.Ready.{state_now, IsReady}
+use Rattle.mvrlu_run.proofs.running.run_commands.Given as goal
+
+abbrev pub invariant-loop-command : goal.invariant-loop-command
+invariant-loop-command g l = record {
+  done : l.run.done ≡ l.command-index;
+  ready : IsReady (seat_of l.run.store) l.run.vacant l.run.done;
+  told : IsTold l.commands capacity l.run.done l.lines.items (length (seat_of l.run.store).seen) (catalogue_of (state_now (seat_of l.run.store)));
+  lines : length l.lines.items ≡ l.run.done;
+  room : length l.commands ≤ vec_capacity l.lines;
+}

@@ -1,0 +1,80 @@
+// The line on standard error. Making it takes no memory.
+ghost use Rattle.std.specs.Prelude.{◌≡◌, ◌≤◌, ◌+◌, ◌++◌, length, take, decimal};
+ghost use Rattle.mvrlu_run.specs.Sent.{Sent};
+ghost use Rattle.mvrlu_run.specs.Status.{fault_end, fault_start, line_of};
+
+use crate::finish::Finish;
+use crate::sending::send;
+use itoa::Buffer;
+use run_outside::Sink;
+use set_script::FaultKind;
+
+// The room of the longest line.
+const ROOM: usize = 64;
+
+// Writes the line of an end, as far as the sink takes it.
+pub fn report<E: Sink>(err: &mut E, finish: Finish)
+    ensures { Sent (E.written err.old) (E.written err.new) (E.faults err.old) (E.faults err.new) (line_of finish) }
+{
+    let mut buffer = [0u8; ROOM];
+    let count = make_line(&mut buffer, finish);
+    let _ = send(err, &buffer[..count]);
+}
+
+// Makes the line of an end at the front of a buffer, and gives its length.
+fn make_line(buffer: &mut [u8], finish: Finish) -> usize
+    requires { ROOM ≤ length buffer.old }
+    ensures within { result ≤ length buffer.new }
+    ensures line { take result buffer.new ≡ line_of finish }
+{
+    match finish {
+        Finish::Done => 0,
+        Finish::Usage => put(buffer, 0, b"usage: run FILE\n"),
+        Finish::Script { line, kind } => {
+            let (start, end) = fault_words(kind);
+            let at = put(buffer, 0, start);
+            let at = put_number(buffer, at, line);
+            put(buffer, at, end)
+        }
+        Finish::Bytes => put(buffer, 0, b"limit: script 0 bytes\n"),
+        Finish::Read => put(buffer, 0, b"read fault: script 0\n"),
+        Finish::Write => put(buffer, 0, b"write fault\n"),
+        Finish::Memory => put(buffer, 0, b"out of memory\n"),
+    }
+}
+
+// What stands before and behind the number of a faulty line.
+fn fault_words(kind: FaultKind) -> (&'static [u8], &'static [u8])
+    ensures start { result.0.now ≡ fault_start kind }
+    ensures end { result.1.now ≡ fault_end kind }
+    ensures room { length result.0.now + 10 + length result.1.now ≤ ROOM }
+{
+    let end = match kind {
+        FaultKind::Word => b": unknown command\n".as_slice(),
+        FaultKind::Count => b": wrong number of words\n",
+        FaultKind::Name => b": unknown name\n",
+        FaultKind::Key => b": bad key\n",
+        FaultKind::Many => return (b"limit: script 0 line ", b" commands\n"),
+    };
+    (b"script 0 line ", end)
+}
+
+// Puts a number in decimal digits at a place, and gives the place behind it.
+fn put_number(buffer: &mut [u8], at: usize, number: u32) -> usize
+    requires { at + 10 ≤ length buffer.old }
+    ensures within { result ≤ at + 10 }
+    ensures front { take result buffer.new ≡ take at buffer.old ++ decimal number }
+{
+    let mut digits = Buffer::new();
+    put(buffer, at, digits.format(number).as_bytes())
+}
+
+// Puts a piece at a place, and gives the place behind it.
+fn put(buffer: &mut [u8], at: usize, piece: &[u8]) -> usize
+    requires { at + length piece.now ≤ length buffer.old }
+    ensures count { result ≡ at + length piece.now }
+    ensures front { take result buffer.new ≡ take at buffer.old ++ piece.now }
+{
+    buffer[at..at + piece.len()].copy_from_slice(piece);
+    at + piece.len()
+}

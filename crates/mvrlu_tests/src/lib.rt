@@ -1,0 +1,18 @@
+//! Tests of the whole program over files, output and standard error in memory.
+//!
+//! They stand in a crate of their own, at the top, since they cross the crates below it. What they
+//! show beside the contract of `run_program`: the printed text, byte by byte, and that the program
+//! does its work where memory is ample, so that a body that always answers want of memory, or that
+//! never returns, fails them; and that the gate is called around each command.
+#![tactic(auto)]
+
+#[cfg(test)]
+mod faults;
+#[cfg(test)]
+mod gates;
+#[cfg(test)]
+mod limits;
+#[cfg(test)]
+mod row;
+#[cfg(test)]
+mod scripts;

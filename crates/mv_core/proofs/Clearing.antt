@@ -1,5 +1,5 @@
 -- store MARK 0: the section ends, and what it named is finished.
-use Rattle.std.proofs.Common.{◌≡◌, ◌≢◌, ℕ, ◌+◌, ◌-◌, ◌≤◌, true, false, cond, List, length, refl, sym, ap, ◌∙◌, subst, arith, Option, Some, None}
+use Rattle.std.proofs.Common.{◌≡◌, ◌<◌, ◌≢◌, ℕ, ◌+◌, ◌-◌, ◌≤◌, true, false, cond, List, length, refl, sym, ap, ◌∙◌, subst, arith, Option, Some, None}
 use mathlib.Core.Logic.{dite}
 use native.Mathlib.Decide.{ℕ_discrete}
 use Rattle.mv_history.specs.State.{State, Writes}
@@ -166,6 +166,7 @@ module _ (starts : State → Type 0) (allows : List ℕ → State → Writes →
                 scanning = become_all (λ s p. (running : Scan) → (seats s).scan ≡ Some running → p ≡ Outside) (λ s. (seats s).phase) n Outside (λ running e. refl) (λ s ne. k.phases_and_scan.scanning s);
                 outside = λ s. by_seat s n (λ b. cond b None (time s) ≡ None → (cond b Nowhere (walk s) ≡ Nowhere) × (cond b None ((seats s).back) ≡ None)) (λ _ _. (refl, refl)) (λ _. k.phases_and_scan.outside s);
                 seen = λ s u. by_seat s n (λ b. cond b None (time s) ≡ Some u → u ≤ c.base + length (seats s).past.seen) (λ _ e. absurd (cc)) (λ _. k.phases_and_scan.seen s u);
+                within = λ s u. by_seat s n (λ b. cond b None (time s) ≡ Some u → s < c.seats) (λ _ e. absurd (cc)) (λ _. k.phases_and_scan.within s u);
               };
             }),
         ((refl, runs_outside v w (λ s e. let g : Outside ≡ Inside s = e in absurd (cc))), (refl, refl, refl, refl, refl, refl)),

@@ -31,7 +31,7 @@ repacked w =
     omega arith
 
 -- the entry at the last index is the last
-last_is : (h : List Entry) (i : ℕ) (e : Entry) → slice_get h i ≡ Some e → length h ≡ suc i → (before : List Entry) × (h ≡ before ++ e ∷ [])
+pub last_is : (h : List Entry) (i : ℕ) (e : Entry) → slice_get h i ≡ Some e → length h ≡ suc i → (before : List Entry) × (h ≡ before ++ e ∷ [])
 last_is [] i e at wide = absurd (omega arith)
 last_is (a ∷ []) i e at wide =
     let first : i ≡ 0 = omega arith in

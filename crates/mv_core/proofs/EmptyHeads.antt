@@ -1,5 +1,5 @@
 -- Where HEAD of an object is 0, SUPER of each live version of it that wasn't cut isn't 0.
-use Rattle.std.proofs.Common.{◌≡◌, ◌≢◌, ℕ, ◌≤◌, ◌==◌, Bool, true, false, List, [], ◌∷◌, ◌++◌, Some, slice_index_or, sym, refl, ap, ◌∙◌, ⊎_elim, arith, eqb-true, if◌then◌else◌}
+use Rattle.std.proofs.Common.{◌≡◌, ◌≢◌, ℕ, ◌+◌, ◌≤◌, ◌==◌, Bool, true, false, List, [], ◌∷◌, ◌++◌, length, Some, slice_index_or, sym, refl, ap, ◌∙◌, subst, ⊎_elim, arith, eqb-true, if◌then◌else◌}
 use Rattle.std.specs.Prelude.{Contains}
 use Rattle.std.proofs.lemmas.List.Elements.{Contains-append_cases}
 use mathlib.Core.Logic.{dite}
@@ -79,9 +79,11 @@ module _ (starts : State → Type 0) (allows : List ℕ → State → Writes →
       let time = not_above (latest c.base h o) u.seat (time_in u.inside) (λ s. time_of (seats s).phase) old (time_of_section (seats u.seat).phase u.inside u.in_section) in
       absurd (omega arith))
 
-module _ (starts : State → Type 0) (allows : List ℕ → State → Writes → Type 0) (c : Config) (start : State) (m : Memory) (h : List Entry) (seats : ℕ → View) (k : Facts starts allows c start m h (faces_of seats)) (n o time : ℕ) where
+module _ (starts : State → Type 0) (allows : List ℕ → State → Writes → Type 0) (c : Config) (start : State) (m : Memory) (h : List Entry) (seats : ℕ → View) (k : Facts starts allows c start m h (faces_of seats)) (n o time : ℕ) (past : time ≤ c.base + length h) where
   Succeeded : ℕ → List EmptyHead → Type 0
-  Succeeded s empty = (e : EmptyHead) → Contains empty e → (i : ℕ) (x : Version) (note : CommitNote) → Lives (λ s. (seats s).ring) s i x (Committed note) → x.object ≡ e.object → note.time ≤ e.time → note.cut ≡ false → m (Super s i) ≢ 0
+  Succeeded s empty =
+      (e : EmptyHead) → Contains empty e
+      → (e.time ≤ c.base + length h) × ((i : ℕ) (x : Version) (note : CommitNote) → Lives (λ s. (seats s).ring) s i x (Committed note) → x.object ≡ e.object → note.time ≤ e.time → note.cut ≡ false → m (Super s i) ≢ 0)
 
   succeeds : (b : Bool) → (m (Head o) == 0) ≡ b → Succeeded n (if b then (seats n).empty ++ record { object = o; time = time } ∷ [] else (seats n).empty)
   unfolding Succeeded
@@ -89,10 +91,14 @@ module _ (starts : State → Type 0) (allows : List ℕ → State → Writes →
   succeeds true is e has =
       ⊎_elim
       (λ old. k.succeeded_has_super n e old)
-      (λ new i x note lives object_is le uncut. has_super starts allows c start m h seats k o (eqb-true (m (Head o)) 0 is) n i x note lives (object_is ∙ ap (λ (y : EmptyHead). y.object) (the_one (record { object = o; time = time }) e new)) uncut)
+      (λ new.
+      let one = the_one (record { object = o; time = time }) e new in (
+        subst (λ (y : EmptyHead). y.time ≤ c.base + length h) (sym one) past,
+        λ i x note lives object_is le uncut. has_super starts allows c start m h seats k o (eqb-true (m (Head o)) 0 is) n i x note lives (object_is ∙ ap (λ (y : EmptyHead). y.object) one) uncut,
+      ))
       (Contains-append_cases (seats n).empty (record { object = o; time = time } ∷ []) e has)
 
   -- load HEAD keeps an empty HEAD in mind
-  pub succeeded_after : SucceededHasSuper (λ s i. m (Super s i)) (become (λ s. (seats s).empty) n (empty_too (seats n).empty o time (m (Head o)))) (λ s. (seats s).ring)
+  pub succeeded_after : SucceededHasSuper c h (λ s i. m (Super s i)) (become (λ s. (seats s).empty) n (empty_too (seats n).empty o time (m (Head o)))) (λ s. (seats s).ring)
   unfolding Succeeded
   succeeded_after = become_all (λ s empty. Succeeded s empty) (λ s. (seats s).empty) n (empty_too (seats n).empty o time (m (Head o))) (succeeds (m (Head o) == 0) refl) (λ s ne. k.succeeded_has_super s)

@@ -1,35 +1,38 @@
 -- load HEAD: the walk stands at the held version of the object or at its top, or at a master that serves it.
-use Rattle.std.proofs.Common.{◌≡◌, ℕ, false, List, Some, None, refl, subst}
+use Rattle.std.proofs.Common.{◌≡◌, ℕ, ◌+◌, ◌≤◌, false, List, length, Some, None, refl, ap, ◌∙◌, subst, arith}
 use Rattle.mv_history.specs.State.{State, Writes}
 use Rattle.mv_layout.specs.declared.Config.{Config}
-use Rattle.mv_layout.specs.declared.Place.TheVariants.{Head, Super}
+use Rattle.mv_layout.specs.declared.Place.TheVariants.{Clock, Mark, Head, Super}
 use Rattle.mv_core.specs.declared.view.View.{View}
 use Rattle.mv_core.specs.declared.view.Section.{Section}
 use Rattle.mv_core.specs.declared.view.EmptyHead.{EmptyHead}
 use Rattle.mv_core.specs.declared.view.Passed.TheVariants.{Nothing}
 use Rattle.mv_core.specs.Views.{faces_of, time_in, become}
+use Rattle.mv_core.specs.SectionFacts.{MarkedAs}
 use Rattle.mv_core.specs.WalkFacts.{SucceededHasSuper}
-use Rattle.mv_core.specs.WalkSteps.{IsWalking, IsLinkOf, stand_at, empty_too, head_loaded}
+use Rattle.mv_core.specs.WalkSteps.{IsWalking, IsLinkOf, IsOwnTop, stand_at, empty_too, head_loaded}
 use Rattle.mv_core.specs.Known.{RunsOn}
 use Rattle.mv_core.specs.Rule.{Loads, IsKept}
 use Rattle.mv_core.proofs.Seeing.{time_is}
 use Rattle.mv_core.proofs.Walks.{walked}
 use Rattle.mv_core.proofs.WalkOn.{head_right, head_link}
+use Rattle.mv_core.proofs.OwnTops.{own_top}
 use Rattle.mv_core.proofs.EmptyHeads.{succeeded_after}
 
 module _ (starts : State → Type 0) (allows : List ℕ → State → Writes → Type 0) (c : Config) (start : State) (v : View) where
   pub head_loads : (object : ℕ) (inside : Section) → IsWalking v inside
-      → Loads starts allows c start v (Head object) (λ n w. (((w ≡ head_loaded c v inside object n) × IsLinkOf c n) × RunsOn v w) × IsKept v w)
+      → Loads starts allows c start v (Head object) (λ n w. (((w ≡ head_loaded c v inside object n) × IsLinkOf c n × IsOwnTop c v object n) × RunsOn v w) × IsKept v w)
   head_loads object inside may m h seats k is own begins small =
       let n : ℕ = m (Head object) in
       let w : View = head_loaded c v inside object n in
       let timed = time_is starts allows c start m h seats v inside k is may.phase in
+      let past : time_in inside ≤ c.base + length h = (let marked = subst (MarkedAs (m Clock) (m (Mark v.number))) (ap (λ (u : View). u.phase) is ∙ may.phase) (k.marks v.number) in let long = k.history.long in let late = marked.2 in omega arith) in
       let empty : List EmptyHead = empty_too v.empty object (time_in inside) n in
-      let succeeded : SucceededHasSuper (λ s i. m (Super s i)) (become (λ s. (seats s).empty) v.number empty) (λ s. (seats s).ring) =
-      subst (λ (u : View). SucceededHasSuper (λ s i. m (Super s i)) (become (λ s. (seats s).empty) v.number (empty_too u.empty object (time_in inside) n)) (λ s. (seats s).ring)) is
-      (succeeded_after starts allows c start m h seats k v.number object (time_in inside)) in (
+      let succeeded : SucceededHasSuper c h (λ s i. m (Super s i)) (become (λ s. (seats s).empty) v.number empty) (λ s. (seats s).ring) =
+      subst (λ (u : View). SucceededHasSuper c h (λ s i. m (Super s i)) (become (λ s. (seats s).empty) v.number (empty_too u.empty object (time_in inside) n)) (λ s. (seats s).ring)) is
+      (succeeded_after starts allows c start m h seats k v.number object (time_in inside) past) in (
         w,
         walked starts allows c start m h seats v k is inside may.phase (stand_at object n Nothing false) (head_right starts allows c start m h (faces_of seats) k v.number v.heard inside timed may.helped object)
             w None (Some empty) (refl, refl, refl, refl, refl, refl, refl, refl, refl, refl, refl) k.history k.phases_and_scan.seen succeeded,
-        (((refl, head_link starts allows c start m h (faces_of seats) k v.number v.heard inside timed may.helped object), (λ t f a b. (a, b))), (refl, refl, refl, refl, refl, refl)),
+        (((refl, head_link starts allows c start m h (faces_of seats) k v.number v.heard inside timed may.helped object, own_top starts allows c start m h seats k v is object), (λ t f a b. (a, b))), (refl, refl, refl, refl, refl, refl)),
       )

@@ -48,7 +48,7 @@ module _ (c : Config) (h : List Entry) (rings : ℕ → Ring) (checked : Checked
   position_small s k x st lives = let p = (positions.live s k x st lives).1 in let n = next_small s in omega arith
 
   -- a link is of one seat and one position
-  link_once : (s t p q : ℕ) → p < 2 ^ 57 → q < 2 ^ 57 → link_of s p ≡ link_of t q → (s ≡ t) × (p ≡ q)
+  pub link_once : (s t p q : ℕ) → p < 2 ^ 57 → q < 2 ^ 57 → link_of s p ≡ link_of t q → (s ≡ t) × (p ≡ q)
   link_once s t p q a b e =
       (sym (link_seat_back s p a) ∙ ap link_seat_of e ∙ link_seat_back t q b, sym (link_position_back s p a) ∙ ap link_position_of e ∙ link_position_back t q b)
 

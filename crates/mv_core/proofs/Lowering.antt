@@ -92,6 +92,7 @@ module _ (starts : State → Type 0) (allows : List ℕ → State → Writes →
                     (λ s ne. k.phases_and_scan.scanning s);
                 outside = k.phases_and_scan.outside;
                 seen = k.phases_and_scan.seen;
+                within = k.phases_and_scan.within;
               };
             }),
         (((refl, k.loaded_words.clock_is), runs_outside v w (λ s e. let f : Lowered low ≡ Inside s = e in absurd (cc))), (refl, refl, refl, refl, refl, refl)),

@@ -88,7 +88,7 @@ module _ (starts : State → Type 0) (allows : List ℕ → State → Writes →
           death_after_write = k.death_after_write;
           write_back = k.write_back;
           positions_and_grace = k.positions_and_grace;
-          phases_and_scan = record { scanning = scanning; outside = k.phases_and_scan.outside; seen = k.phases_and_scan.seen };
+          phases_and_scan = record { scanning = scanning; outside = k.phases_and_scan.outside; seen = k.phases_and_scan.seen; within = k.phases_and_scan.within };
         }),
         ((refl, runs_outside v w (λ s e. let f : Marked low ≡ Inside s = e in absurd (cc))), (refl, refl, refl, refl, refl, refl)),
       )

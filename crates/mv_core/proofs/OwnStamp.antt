@@ -220,5 +220,5 @@ module _ (starts : State → Type 0) (allows : List ℕ → State → Writes →
     death_after_write = k.death_after_write;
     write_back = backs_after;
     positions_and_grace = k.positions_and_grace;
-    phases_and_scan = record { scanning = scanning_after; outside = k.phases_and_scan.outside; seen = k.phases_and_scan.seen };
+    phases_and_scan = record { scanning = scanning_after; outside = k.phases_and_scan.outside; seen = k.phases_and_scan.seen; within = k.phases_and_scan.within };
   }

@@ -248,11 +248,12 @@ module _ (starts : State → Type 0) (allows : List ℕ → State → Writes →
     allowed = λ front back e is. absurd (no_split front back (Change e) is);
     mine = refl;
     rests = refl;
-    in_time = let b = k.base in omega arith;
+    in_time = (let b = k.base in omega arith);
+    section = λ inside e. absurd (cc);
   }
 
   maker_known : (v : View) → Known starts allows v → Known starts allows (made_one c v)
-  maker_known v k = record { unspent = k.unspent; opening = k.opening; words = k.words; legal = k.legal; allowed = k.allowed; mine = k.mine; rests = k.rests; in_time = k.in_time }
+  maker_known v k = record { unspent = k.unspent; opening = k.opening; words = k.words; legal = k.legal; allowed = k.allowed; mine = k.mine; rests = k.rests; in_time = k.in_time; section = λ inside e. let s = k.section inside e in record { seen = s.seen; own = s.own; held = λ j x there. let a = s.held j x there in record { in_range = a.in_range; wide = a.wide; unwritten = a.unwritten }; apart = s.apart } }
 
   -- the pass of the maker is as it was
   pub maker_stays : (v w : View) → w ≡ made_one c v → (w.number ≡ v.number) × RunsOn v w × (∥ Known starts allows v ∥₁ → ∥ Known starts allows w ∥₁)

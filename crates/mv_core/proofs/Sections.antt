@@ -56,7 +56,7 @@ module _ (c : Config) (start : State) (h : List Entry) (rings : ℕ → Ring) (s
 
   pub freshness_more : HoldsNothing (rings n) → LockFreshness c h time rings → LockFreshness c h (become time n t) rings
   freshness_more nothing k s j x lives =
-      by_seat s n (λ b. (u : ℕ) × (cond b t (time s) ≡ Some u) × (latest c.base h x.object ≤ u))
+      by_seat s n (λ b. (u : ℕ) × (cond b t (time s) ≡ Some u) × (latest c.base h x.object ≤ u) × (x.object < c.objects))
       (λ e. absurd (nothing j x (subst (λ (r : ℕ). Lives rings r j x Held) e lives)))
       (λ ne. k s j x lives)
 

@@ -13,7 +13,7 @@ use Rattle.mv_core.specs.Views.{become}
 use Rattle.mv_core.specs.HistoryFacts.{BeginsWith, KnowsPast, History}
 use Rattle.mv_core.proofs.Frames.{become_here, become_else, become_all}
 
-rests_of-append : (seat : ℕ) (xs ys : List Entry) → rests_of seat (xs ++ ys) ≡ rests_of seat xs + rests_of seat ys
+pub rests_of-append : (seat : ℕ) (xs ys : List Entry) → rests_of seat (xs ++ ys) ≡ rests_of seat xs + rests_of seat ys
 rests_of-append seat [] ys = omega arith
 rests_of-append seat (Rest by ∷ es) ys = let e = rests_of-append seat es ys in let b : ℕ = if eqb by seat then 1 else 0 in let f : b + rests_of seat (es ++ ys) ≡ b + rests_of seat es + rests_of seat ys = omega arith in f
 rests_of-append seat (Change c ∷ es) ys = rests_of-append seat es ys

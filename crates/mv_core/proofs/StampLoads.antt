@@ -28,10 +28,15 @@ use Rattle.mv_core.specs.SectionFacts.{IsPastHelp}
 use Rattle.mv_core.proofs.Written.{version_writes, commit_within}
 use Rattle.mv_core.specs.HistoryFacts.{BeginsWith}
 use Rattle.mv_core.specs.SetFacts.{StampedAs, stamp_of}
-use Rattle.mv_core.specs.WalkSteps.{MayLoadStamp, SeesStamp, StampSays, stamp_loaded, slot_named}
+use Rattle.mv_core.specs.WalkSteps.{MayLoadStamp, SeesStamp, StampSays, IsOwnTime, stamp_loaded, slot_named}
+use Rattle.mv_core.specs.Views.{section_of}
+use Rattle.mv_core.specs.Rings.{slot_at}
+use Rattle.mv_core.specs.declared.view.Mode.TheVariants.{Open, Named}
+use Rattle.mv_core.specs.declared.ring.Slot.TheVariants.{Live}
 use Rattle.mv_core.specs.Known.{RunsOn}
 use Rattle.mv_core.specs.Rule.{Facts, Loads, IsKept}
 use Rattle.mv_core.proofs.Frames.{become_all}
+use Rattle.mv_core.proofs.Links.{live_once}
 use Rattle.mv_core.proofs.Seeing.{section_is}
 use Rattle.mv_core.proofs.Walks.{lives_named, Standing, section_there, standing_of, walked}
 use Rattle.mv_core.proofs.SeenMore.{sees_more}
@@ -64,7 +69,7 @@ seen_to c v h found front within =
     (take n h, (drop n h, sym (take-append-drop n h)), record { more = begins_take h old n front (omega arith); time = λ l. omega arith; least = inr (omega arith) })))
     (λ high. (old, front, record { more = ([], sym (append-nil old)); time = λ l. absurd (high l); least = inl refl }))
 
-slice_get-front : (xs ys : List Entry) (i : ℕ) → i < length xs → slice_get (xs ++ ys) i ≡ slice_get xs i
+pub slice_get-front : (xs ys : List Entry) (i : ℕ) → i < length xs → slice_get (xs ++ ys) i ≡ slice_get xs i
 slice_get-front [] ys i lt = absurd (omega arith)
 slice_get-front (x ∷ xs) ys zero lt = refl
 slice_get-front (x ∷ xs) ys (suc i) lt = slice_get-front xs ys i (omega arith)
@@ -77,7 +82,7 @@ entry_seen base h seen t e front le is =
 
 module _ (starts : State → Type 0) (allows : List ℕ → State → Writes → Type 0) (c : Config) (start : State) (m : Memory) (h : List Entry) (seats : ℕ → View) (k : Facts starts allows c start m h (faces_of seats)) (v : View) (is : seats v.number ≡ v) where
   -- a seat that sees more has seen its section's time still
-  seen_by_all : (seen : List Entry) → BeginsWith seen v.past.seen → (u t : ℕ) → time_of (seats u).phase ≡ Some t → t ≤ c.base + length (become (λ q. (seats q).past) v.number (record v.past { seen = seen }) u).seen
+  pub seen_by_all : (seen : List Entry) → BeginsWith seen v.past.seen → (u t : ℕ) → time_of (seats u).phase ≡ Some t → t ≤ c.base + length (become (λ q. (seats q).past) v.number (record v.past { seen = seen }) u).seen
   seen_by_all seen more u t =
       become_all (λ u (p : Past). time_of (seats u).phase ≡ Some t → t ≤ c.base + length p.seen) (λ q. (seats q).past) v.number (record v.past { seen = seen })
       (λ e.
@@ -115,6 +120,21 @@ module _ (starts : State → Type 0) (allows : List ℕ → State → Writes →
         let e : n ≡ f.0.time = found_is ∙ f.2 in
         let w = (within f.0 f.1).1 in
         (omega arith, subst (λ (t : ℕ). IsBelowPassed t stand.passed) (sym e) f.3)
+
+    -- a commit of the own log is stamped while the section is open
+    own_time : IsOwnTime c v stand.link n
+    own_time at x note there in_it phase_is open_is =
+        let there_too : slot_at v.ring (slot_named c stand.link) ≡ Live r.version r.status =
+        ap (λ (u : View). slot_at u.ring (slot_named c stand.link)) (sym is) ∙ ap (λ (s : ℕ). slot_at (seats s).ring (slot_named c stand.link)) (sym at) ∙ lives in
+        let st = (live_once (slot_at v.ring (slot_named c stand.link)) r.version x r.status (Committed note) there_too there).1 in
+        dite (dec_lt n (2 ^ 63)) (λ low. low)
+        (λ high.
+        let w = (within note st).1 in
+        let u = k.unstamped_is_unfinished seat (slot_named c stand.link) r.version note (committed note st) (λ made. let e = found_is in omega arith) in
+        let here : section_of v.phase ≡ Some u.0 = ap (λ (q : View). section_of q.phase) (sym is) ∙ ap (λ (s : ℕ). section_of (seats s).phase) (sym at) ∙ u.2 in
+        let same : Some in_it ≡ Some u.0 = ap section_of (sym phase_is) ∙ here in
+        let one : in_it ≡ u.0 = cc in
+        let clash : Open ≡ Named u.1 = sym open_is ∙ ap (λ (q : Section). q.mode) one ∙ u.3 in absurd (cc))
 
     -- past its help a section finds each commit up to its time stamped
     unset_late : (note : CommitNote) → IsUnset n → r.status ≡ Committed note → time_in inside < note.time
@@ -171,7 +191,7 @@ module _ (starts : State → Type 0) (allows : List ℕ → State → Writes →
 
 module _ (starts : State → Type 0) (allows : List ℕ → State → Writes → Type 0) (c : Config) (start : State) (v : View) (first : ℕ) (stand : Stand) where
   stamp_loads_there : MayLoadStamp v stand.link first stand
-      → Loads starts allows c start v (Stamp (link_seat_of stand.link) (index_of c first)) (λ n w. (((w ≡ stamp_loaded c v stand first n w.past.seen) × StampSays c v stand n w.past.seen) × RunsOn v w) × IsKept v w)
+      → Loads starts allows c start v (Stamp (link_seat_of stand.link) (index_of c first)) (λ n w. (((w ≡ stamp_loaded c v stand first n w.past.seen) × StampSays c v stand n w.past.seen × IsOwnTime c v stand.link n) × RunsOn v w) × IsKept v w)
   stamp_loads_there may m h seats k is own begins small =
       let n : ℕ = m (Stamp (link_seat_of stand.link) (index_of c first)) in
       let there = section_there starts allows c start m h seats v k is stand may.stands in
@@ -183,13 +203,13 @@ module _ (starts : State → Type 0) (allows : List ℕ → State → Writes →
         w,
         stamp_rule starts allows c start m h seats k v is there.0 there.1 stand r n found_is first to.0 to.1 to.2,
         (
-          ((refl {a = w}, stamp_says starts allows c start m h seats k v is there.0 there.1 stand r n found_is to.0 to.1 to.2), (λ t f a b. (a, b))),
+          ((refl {a = w}, stamp_says starts allows c start m h seats k v is there.0 there.1 stand r n found_is to.0 to.1 to.2, own_time starts allows c start m h seats k v is there.0 there.1 stand r n found_is), (λ t f a b. (a, b))),
           (refl {a = v.number}, refl {a = v.start}, refl {a = v.base}, refl {a = v.made}, refl {a = v.notes}, refl {a = v.spent}),
         ),
       )
 
   pub stamp_loads : (link : ℕ) → MayLoadStamp v link first stand
-      → Loads starts allows c start v (Stamp (link_seat_of link) (index_of c first)) (λ n w. (((w ≡ stamp_loaded c v stand first n w.past.seen) × StampSays c v stand n w.past.seen) × RunsOn v w) × IsKept v w)
+      → Loads starts allows c start v (Stamp (link_seat_of link) (index_of c first)) (λ n w. (((w ≡ stamp_loaded c v stand first n w.past.seen) × StampSays c v stand n w.past.seen × IsOwnTime c v link n) × RunsOn v w) × IsKept v w)
   stamp_loads link may =
-      subst (λ (l : ℕ). Loads starts allows c start v (Stamp (link_seat_of l) (index_of c first)) (λ n w. (((w ≡ stamp_loaded c v stand first n w.past.seen) × StampSays c v stand n w.past.seen) × RunsOn v w) × IsKept v w))
+      subst (λ (l : ℕ). Loads starts allows c start v (Stamp (link_seat_of l) (index_of c first)) (λ n w. (((w ≡ stamp_loaded c v stand first n w.past.seen) × StampSays c v stand n w.past.seen × IsOwnTime c v l n) × RunsOn v w) × IsKept v w))
       may.link_is (stamp_loads_there (record { stands = may.stands; link_is = refl; first_is = may.first_is }))

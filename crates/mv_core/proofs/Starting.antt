@@ -170,7 +170,7 @@ module _ (starts : State → Type 0) (allows : List ℕ → State → Writes →
       whole = λ s j x inside lives. no_live j x Held lives;
     };
     successor_flag = λ s j inside n x note e. absurd (cc);
-    succeeded_has_super = λ s e has j x note lives. no_live j x (Committed note) lives;
+    succeeded_has_super = λ s e has. none_in e has;
     loaded_words = record {
       clock_is = λ ne. names_none ne;
       loaded = λ s word has. none_in word has;
@@ -195,5 +195,6 @@ module _ (starts : State → Type 0) (allows : List ℕ → State → Writes →
       scanning = λ s running e. absurd (cc);
       outside = λ s e. (refl, refl);
       seen = λ s t e. absurd (cc);
+      within = λ s t e. absurd (cc);
     };
   }

@@ -1,5 +1,5 @@
 -- load CLOCK (take time): a section begins, whose time is the clock's, and its seat sees the whole history. Nothing that bounds the times of all sections is above the clock.
-use Rattle.std.proofs.Common.{◌≡◌, ◌≢◌, ℕ, suc, ◌+◌, ◌≤◌, cond, count_by, List, [], ◌∷◌, length, refl, sym, ap, ◌∙◌, subst, inl, inr, le_refl, arith, Some, None}
+use Rattle.std.proofs.Common.{◌≡◌, ◌<◌, ◌≢◌, ℕ, suc, ◌+◌, ◌≤◌, cond, count_by, List, [], ◌∷◌, length, refl, sym, ap, ◌∙◌, subst, inl, inr, le_refl, arith, Some, None}
 use Rattle.std.specs.Prelude.{Contains, slice_index_or}
 use Rattle.mv_history.specs.declared.Entry.{Entry}
 use Rattle.mv_history.specs.State.{State, Writes}
@@ -144,6 +144,7 @@ module _ (starts : State → Type 0) (allows : List ℕ → State → Writes →
                 seen = λ s u. by_seat s n (λ b. cond b (Some now) (f.time s) ≡ Some u → u ≤ c.base + length (cond b p (f.past s)).seen)
                     (λ _ e. let same : now ≡ u = cc in let l = k.history.long in omega arith)
                     (λ ne e. old.phases_and_scan.seen s u e);
+                within = λ s u. by_seat s n (λ b. cond b (Some now) (f.time s) ≡ Some u → s < c.seats) (λ same e. subst (λ (x : ℕ). x < c.seats) (sym same) own) (λ ne e. k.phases_and_scan.within s u e);
               };
             }),
         (((h, (front, k.history.long), refl), k.loaded_words.clock_is, subst (λ (u : View). HoldsNothing u.ring) is nothing), (refl, refl, refl, refl, refl, refl)),

@@ -1,5 +1,5 @@
 -- A step over the table, from what its kind shows of the facts: `Loads`, `Stores`, `Swaps` or `Raises` of its place. Once for all kinds; a kind's own lemmas never speak of the table.
-use Rattle.std.proofs.Common.{◌≡◌, ℕ, ◌+◌, ◌<◌, ◌^◌, max, eqb, false, List, ◌++◌, length, set, slice_index, sym, ap, ◌∙◌, subst, arith, length-append}
+use Rattle.std.proofs.Common.{◌≡◌, ℕ, ◌+◌, ◌<◌, ◌^◌, max, eqb, false, List, ◌++◌, length, set, slice_index, refl, sym, ap, ◌∙◌, subst, arith, length-append}
 use Rattle.std.proofs.lemmas.List.{set-get_or}
 use Rattle.std.proofs.Math.Logic.{∥∥₁_elim}
 use Rattle.std.proofs.Math.Bool.{Bool-set}
@@ -7,7 +7,7 @@ use mathlib.Core.Option.{some}
 use lib.ListN.{get_elem?}
 use prog.Atomic.{either}
 use Rattle.atomic_table.specs.Table as table
-use Rattle.atomic_table.specs.Table.{Me, Act, keeps, Valid, stepped, Allows}
+use Rattle.atomic_table.specs.Table.{Me, Act, keeps, Valid, stepped, Allows, carried_after}
 use Rattle.atomic_table.proofs.Lists.{exchanged}
 use Rattle.mv_history.specs.declared.Entry.{Entry}
 use Rattle.mv_history.specs.State.{State, Writes}
@@ -24,6 +24,7 @@ use Rattle.mv_core.specs.HistoryFacts.{KnowsPast}
 use Rattle.mv_core.specs.Known.{Known}
 use Rattle.mv_core.specs.Rule.{Facts, Ruled, Loads, Stores, Swaps, Raises, IsKept}
 use Rattle.mv_core.proofs.Frames.{become_here}
+use Rattle.mv_core.proofs.KnownSections.{known_section}
 use Rattle.mv_core.proofs.Seating.{seated_after}
 
 module _ (starts : State → Type 0) (allows : List ℕ → State → Writes → Type 0) where
@@ -47,6 +48,7 @@ module _ (starts : State → Type 0) (allows : List ℕ → State → Writes →
         mine = p.seen_mine;
         rests = p.seen_rests;
         in_time = (let t = k.history.in_time in omega arith);
+        section = known_section starts allows c start m h seats w k is begins from;
       }
 
   module _ (key : Opening) (slots id : ℕ) (me : Me (List ℕ) View) (p : Place) (i : ℕ) (hp : IsPlace key.config p) (is : i ≡ place_of key.config p)
@@ -80,7 +82,7 @@ module _ (starts : State → Type 0) (allows : List ℕ → State → Writes →
     still_shows s r = subst (λ (ws : List ℕ). Shows key.config ws r.memory) (sym (set-get_or s.words i 0)) r.shows
 
     pub load_allows : (tells : ℕ → View → Type 0) → Loads starts allows key.config key.start.value.items me.0 p (λ n w. tells n w × IsKept me.0 w)
-        → Allows (Ruled starts allows key) slots id me i (λ n. n) (λ n m. tells n m.0 × IsKept me.0 m.0 × Known starts allows m.0)
+        → Allows (Ruled starts allows key) slots id me i (λ n. n) (λ n m. tells n m.0 × IsKept me.0 m.0 × Known starts allows m.0 × (m.1 ≡ me.1))
     load_allows tells law s r wide at small =
         let found = found_is s r in
         let there = r.seated.there id me.0 at unspent in
@@ -89,11 +91,11 @@ module _ (starts : State → Type 0) (allows : List ℕ → State → Writes →
           keeps,
           tt,
           ruled_after s r at (slice_index s.words i) r.memory r.history t.0 (still_shows s r) t.2.1 t.1,
-          (subst (λ (n : ℕ). tells n t.0) (sym found) t.2.0, t.2.1, known_after r.memory r.history r.seats t.0 t.1 t.2.1),
+          (subst (λ (n : ℕ). tells n t.0) (sym found) t.2.0, t.2.1, known_after r.memory r.history r.seats t.0 t.1 t.2.1, refl),
         )
 
     pub store_allows : (n : ℕ) (tells : View → Type 0) → Stores starts allows key.config key.start.value.items me.0 p n (λ w. tells w × IsKept me.0 w)
-        → Allows (Ruled starts allows key) slots id me i (λ _. n) (λ _ m. tells m.0 × IsKept me.0 m.0 × Known starts allows m.0)
+        → Allows (Ruled starts allows key) slots id me i (λ _. n) (λ _ m. tells m.0 × IsKept me.0 m.0 × Known starts allows m.0 × (m.1 ≡ me.1))
     store_allows n tells law s r wide at small =
         let there = r.seated.there id me.0 at unspent in
         let t = law r.memory r.history r.seats r.facts there.0 there.1 begins in (
@@ -101,11 +103,11 @@ module _ (starts : State → Type 0) (allows : List ℕ → State → Writes →
           keeps,
           tt,
           ruled_after s r at n (put r.memory p n) t.1 t.0 (shows_as s r n) t.3.1 t.2,
-          (t.3.0, t.3.1, known_after (put r.memory p n) t.1 r.seats t.0 t.2 t.3.1),
+          (t.3.0, t.3.1, known_after (put r.memory p n) t.1 r.seats t.0 t.2 t.3.1, refl),
         )
 
     pub raise_allows : (n : ℕ) (tells : ℕ → View → Type 0) → Raises starts allows key.config key.start.value.items me.0 p n (λ x w. tells x w × IsKept me.0 w)
-        → Allows (Ruled starts allows key) slots id me i (λ x. max x n) (λ x m. tells x m.0 × IsKept me.0 m.0 × Known starts allows m.0)
+        → Allows (Ruled starts allows key) slots id me i (λ x. max x n) (λ x m. tells x m.0 × IsKept me.0 m.0 × Known starts allows m.0 × (m.1 ≡ me.1))
     raise_allows n tells law s r wide at small =
         let found = found_is s r in
         let there = r.seated.there id me.0 at unspent in
@@ -116,14 +118,14 @@ module _ (starts : State → Type 0) (allows : List ℕ → State → Writes →
           keeps,
           tt,
           ruled_after s r at x (put r.memory p (max (r.memory p) n)) r.history t.0 shows t.2.1 t.1,
-          (subst (λ (y : ℕ). tells y t.0) (sym found) t.2.0, t.2.1, known_after (put r.memory p (max (r.memory p) n)) r.history r.seats t.0 t.1 t.2.1),
+          (subst (λ (y : ℕ). tells y t.0) (sym found) t.2.0, t.2.1, known_after (put r.memory p (max (r.memory p) n)) r.history r.seats t.0 t.1 t.2.1, refl),
         )
 
     Goes : (s : table.State (List ℕ) View) → (ℕ → View → Type 0) → ℕ → Type 0
-    Goes s tells x = (w : View) × (a : Act (List ℕ)) × Valid s.homes me.1 a × Ruled starts allows key (stepped s i x id me.1 w a) × (tells (slice_index s.words i) w × IsKept me.0 w × Known starts allows w)
+    Goes s tells x = (w : View) × (a : Act (List ℕ)) × Valid s.homes me.1 a × Ruled starts allows key (stepped s i x id me.1 w a) × (tells (slice_index s.words i) w × IsKept me.0 w × Known starts allows w × (carried_after me.1 a ≡ me.1))
 
     pub swap_allows : (old new : ℕ) (tells : ℕ → View → Type 0) → Swaps starts allows key.config key.start.value.items me.0 p old new (λ n w. tells n w × IsKept me.0 w)
-        → Allows (Ruled starts allows key) slots id me i (λ n. either (eqb n old) new n) (λ n m. tells n m.0 × IsKept me.0 m.0 × Known starts allows m.0)
+        → Allows (Ruled starts allows key) slots id me i (λ n. either (eqb n old) new n) (λ n m. tells n m.0 × IsKept me.0 m.0 × Known starts allows m.0 × (m.1 ≡ me.1))
     unfolding Goes
     swap_allows old new tells law s r wide at small =
         let found = found_is s r in
@@ -134,12 +136,12 @@ module _ (starts : State → Type 0) (allows : List ℕ → State → Writes →
           keeps,
           tt,
           ruled_after s r at new (put r.memory p new) t.1 t.0 (shows_as s r new) t.3.1 t.2,
-          (subst (λ (n : ℕ). tells n t.0) (sym hit) t.3.0, t.3.1, known_after (put r.memory p new) t.1 r.seats t.0 t.2 t.3.1),
+          (subst (λ (n : ℕ). tells n t.0) (sym hit) t.3.0, t.3.1, known_after (put r.memory p new) t.1 r.seats t.0 t.2 t.3.1, refl),
         ))
         (λ miss. let t = law.1 r.memory r.history r.seats r.facts there.0 there.1 begins (λ e. miss (found ∙ e)) (subst (λ (n : ℕ). n < 2 ^ 64) found small) in (
           t.0,
           keeps,
           tt,
           ruled_after s r at (slice_index s.words i) r.memory r.history t.0 (still_shows s r) t.2.1 t.1,
-          (subst (λ (n : ℕ). tells n t.0) (sym found) t.2.0, t.2.1, known_after r.memory r.history r.seats t.0 t.1 t.2.1),
+          (subst (λ (n : ℕ). tells n t.0) (sym found) t.2.0, t.2.1, known_after r.memory r.history r.seats t.0 t.1 t.2.1, refl),
         ))

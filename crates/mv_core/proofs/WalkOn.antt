@@ -41,13 +41,14 @@ passed_too-below : (u found : ℕ) (passed : Passed) → (found < 2 ^ 63 → u <
 passed_too-below u found passed timed none true e = passed_unset-below u passed (none (leb-true 9223372036854775808 found e))
 passed_too-below u found passed timed none false e = timed (leb-false 9223372036854775808 found e)
 
+-- where a walk over the object stands that found this link
+pub at_zero : (o link : ℕ) (passed : Passed) (late : Bool) → link ≡ 0 → walk.Master o ≡ stand_at o link passed late
+at_zero o link passed late e = ap (λ (b : Bool). if b then walk.Master o else walk.At (record { object = o; link = link; first = None; stamp = None; passed = passed; late = late })) (sym (eq-eqb link 0 e))
+
+pub at_some : (o link : ℕ) (passed : Passed) (late : Bool) → link ≢ 0 → walk.At (record { object = o; link = link; first = None; stamp = None; passed = passed; late = late }) ≡ stand_at o link passed late
+at_some o link passed late ne = ap (λ (b : Bool). if b then walk.Master o else walk.At (record { object = o; link = link; first = None; stamp = None; passed = passed; late = late })) (sym (ne_eqb link 0 ne))
+
 module _ (c : Config) (start : State) (m : Memory) (h : List Entry) (f : Faces) (heard : Heard) (inside : Section) where
-  at_zero : (o link : ℕ) (passed : Passed) (late : Bool) → link ≡ 0 → walk.Master o ≡ stand_at o link passed late
-  at_zero o link passed late e = ap (λ (b : Bool). if b then walk.Master o else walk.At (record { object = o; link = link; first = None; stamp = None; passed = passed; late = late })) (sym (eq-eqb link 0 e))
-
-  at_some : (o link : ℕ) (passed : Passed) (late : Bool) → link ≢ 0 → walk.At (record { object = o; link = link; first = None; stamp = None; passed = passed; late = late }) ≡ stand_at o link passed late
-  at_some o link passed late ne = ap (λ (b : Bool). if b then walk.Master o else walk.At (record { object = o; link = link; first = None; stamp = None; passed = passed; late = late })) (sym (ne_eqb link 0 ne))
-
   -- a walk that found 0 stands at the master, and is right if that serves
   pub zero_right : (o link : ℕ) (passed : Passed) (late : Bool) → link ≡ 0 → MasterServes c start h (λ p i. m (Master p i)) f.ring (time_in inside) o → IsPastHelp heard inside → WalksRight c start m h f.ring heard inside (stand_at o link passed late)
   zero_right o link passed late e serves helped = subst (WalksRight c start m h f.ring heard inside) (at_zero o link passed late e) (serves, helped)

@@ -250,7 +250,7 @@ module _ (starts : State → Type 0) (allows : List ℕ → State → Writes →
       pub walked : (w : View) (p : Option Past) (e : Option (List EmptyHead)) → Fits v w (record unchanged { past = p; walk = Some y; empty = e })
           → History starts allows c start (m Clock) h (after (λ s. (seats s).past) v.number p)
           → ((s t : ℕ) → time_of (seats s).phase ≡ Some t → t ≤ c.base + length (after (λ s. (seats s).past) v.number p s).seen)
-          → SucceededHasSuper (λ s k. m (Super s k)) (after (λ s. (seats s).empty) v.number e) rings
+          → SucceededHasSuper c h (λ s k. m (Super s k)) (after (λ s. (seats s).empty) v.number e) rings
           → Facts starts allows c start m h (faces_of (become seats v.number w))
       walked w p e fits history seen succeeded =
           settle starts allows c start m h seats v.number v w is (record unchanged { past = p; walk = Some y; empty = e }) fits (record {
@@ -291,5 +291,5 @@ module _ (starts : State → Type 0) (allows : List ℕ → State → Writes →
             death_after_write = k.death_after_write;
             write_back = k.write_back;
             positions_and_grace = k.positions_and_grace;
-            phases_and_scan = record { scanning = k.phases_and_scan.scanning; outside = outside; seen = seen };
+            phases_and_scan = record { scanning = k.phases_and_scan.scanning; outside = outside; seen = seen; within = k.phases_and_scan.within };
           })

@@ -72,5 +72,5 @@ module _ (starts : State → Type 0) (allows : List ℕ → State → Writes →
     death_after_write = k.death_after_write;
     write_back = k.write_back;
     positions_and_grace = k.positions_and_grace;
-    phases_and_scan = record { scanning = k.phases_and_scan.scanning; outside = k.phases_and_scan.outside; seen = seen_after };
+    phases_and_scan = record { scanning = k.phases_and_scan.scanning; outside = k.phases_and_scan.outside; seen = seen_after; within = k.phases_and_scan.within };
   }

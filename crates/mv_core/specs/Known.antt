@@ -2,14 +2,31 @@
 use Rattle.std.specs.Prelude.{◌≡◌, ℕ, ◌+◌, ◌<◌, ◌≤◌, List, length, false}
 use Rattle.mv_history.specs.State.{State, Writes, commits_of, rests_of}
 use Rattle.mv_history.specs.Legal.{AreWords, IsLegal, IsAllowed}
+use Rattle.mv_core.specs.declared.ring.Slot.TheVariants.{Live}
+use Rattle.mv_core.specs.declared.ring.Version.{Version}
+use Rattle.mv_core.specs.declared.ring.Status.TheVariants.{Held}
 use Rattle.mv_core.specs.declared.view.View.{View}
 use Rattle.mv_core.specs.declared.view.Phase.TheVariants.{Inside}
 use Rattle.mv_core.specs.declared.view.Section.{Section}
 use Rattle.mv_core.specs.declared.view.Mode.TheVariants.{Open}
-use Rattle.mv_core.specs.Rings.{held_count, set_first}
-use Rattle.mv_core.specs.Views.{time_in}
+use Rattle.mv_core.specs.Rings.{slot_at, held_count, set_first}
+use Rattle.mv_core.specs.Times.{latest, last_own}
+use Rattle.mv_core.specs.Views.{time_in, IsUnnamed}
 
--- the opening state is lawful, what was seen is legal and allowed and has all its own commits and rests, and its time is in range
+-- what a pass knows of a version that it holds: its object is one of the domain and wasn't written after the section's time, and it has six words
+pub record KnownHeld (v : View) (inside : Section) (x : Version) : Type 0 where
+  pub in_range : x.object < length v.start
+  pub wide : length x.words ≡ 6
+  pub unwritten : latest v.base v.past.seen x.object ≤ time_in inside
+
+-- what a pass knows of its section: its time was seen, while it has named nothing no entry of the seat is later, and the versions held are of distinct objects
+pub record KnownSection (v : View) (inside : Section) : Type 0 where
+  pub seen : time_in inside ≤ v.base + length v.past.seen
+  pub own : IsUnnamed inside.mode → last_own v.base v.past.seen v.number ≤ time_in inside
+  pub held : (k : ℕ) (x : Version) → slot_at v.ring k ≡ Live x Held → KnownHeld v inside x
+  pub apart : (k l : ℕ) (x y : Version) → slot_at v.ring k ≡ Live x Held → slot_at v.ring l ≡ Live y Held → x.object ≡ y.object → k ≡ l
+
+-- the opening state is lawful, what was seen is legal and allowed and has all its own commits and rests, its time is in range, and of its section it knows this
 pub record Known (starts : State → Type 0) (allows : List ℕ → State → Writes → Type 0) (v : View) : Type 0 where
   pub unspent : v.spent ≡ false
   pub opening : starts v.start
@@ -19,6 +36,7 @@ pub record Known (starts : State → Type 0) (allows : List ℕ → State → Wr
   pub mine : v.past.mine ≡ commits_of v.number v.past.seen
   pub rests : v.past.rests ≡ rests_of v.number v.past.seen
   pub in_time : v.base + length v.past.seen ≤ 35184372088831
+  pub section : (inside : Section) → v.phase ≡ Inside inside → KnownSection v inside
 
 -- in a section this is its time
 abbrev pub IsTimed : ℕ → View → Type 0

@@ -19,3 +19,5 @@ pub mod Rule
 pub mod Known
 pub mod Passes
 pub mod Laws
+pub mod Chains
+pub mod Points

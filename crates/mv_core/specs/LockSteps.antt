@@ -1,5 +1,5 @@
 -- Locking, writing and aborting: what each kind of step asks of its own view, and what it makes of it.
-use Rattle.std.specs.Prelude.{◌≡◌, ◌≢◌, ◌⊎◌, ℕ, zero, suc, ◌+◌, ◌<◌, ◌≤◌, true, cond, List, map, replicate, Option, Some, None, slice_set}
+use Rattle.std.specs.Prelude.{◌≡◌, ◌≢◌, ◌⊎◌, ℕ, zero, suc, ◌+◌, ◌<◌, ◌≤◌, true, cond, List, [], ◌∷◌, ◌++◌, map, replicate, Option, Some, None, slice_set}
 use Rattle.mv_history.specs.declared.Entry.{Entry}
 use Rattle.mv_history.specs.declared.StepKind.TheVariants.{StoreBuilt, StoreData, LockHead, UnlockHead, LoadDeath}
 use Rattle.mv_layout.specs.declared.Config.{Config}
@@ -19,7 +19,7 @@ use Rattle.mv_core.specs.declared.view.Mode.TheVariants.{Open, Aborting}
 use Rattle.mv_core.specs.declared.view.Walk.TheVariants as walk
 use Rattle.mv_core.specs.declared.view.Stand.{Stand}
 use Rattle.mv_core.specs.declared.view.Passed.TheVariants.{Nothing}
-use Rattle.mv_core.specs.Rings.{slot_at, index_of, put_slot, held_count, set_first}
+use Rattle.mv_core.specs.Rings.{slot_at, index_of, put_slot, held_count, spare_count, set_first, own_of}
 use Rattle.mv_core.specs.Times.{words_of}
 use Rattle.mv_core.specs.Views.{time_in, IsUnnamed, told}
 use Rattle.mv_core.specs.WalkSteps.{IsWalking, stand_at}
@@ -138,6 +138,11 @@ lock_lost c v object link =
 abbrev pub LockTold : Config → View → Section → ℕ → ℕ → ℕ → ℕ → View → Type 0
 LockTold c v inside object previous position found w =
     (found ≡ previous → w ≡ head_locked c v inside object previous position) × (found ≢ previous → w ≡ lock_lost c v object found)
+
+-- a lock adds one write to those that the section holds, of the words that it reads, and takes a spare slot
+abbrev pub OneMoreWrite : Config → View → Section → ℕ → View → Type 0
+OneMoreWrite c v inside object w =
+    (own_of c w.ring ≡ own_of c v.ring ++ (object, words_of c v.start v.past.seen (time_in inside) object) ∷ []) × (spare_count w.ring + 1 ≡ spare_count v.ring)
 
 -- store HEAD (abort): in a section that named nothing and holds the object with this previous link
 pub record MayUnlock (v : View) (object previous : ℕ) (k : ℕ) (x : Version) (inside : Section) : Type 0 where

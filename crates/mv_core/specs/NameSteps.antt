@@ -1,14 +1,14 @@
 -- Naming the next entry of the history: what each kind of step asks of its own view, and what it makes of it.
-use Rattle.std.specs.Prelude.{◌≡◌, ◌≢◌, ℕ, ◌+◌, ◌-◌, ◌<◌, ◌==◌, true, false, List, [], ◌∷◌, ◌++◌, length, map, Contains, Some, None}
+use Rattle.std.specs.Prelude.{◌≡◌, ◌≢◌, ℕ, ◌+◌, ◌-◌, ◌<◌, ◌≤◌, ◌==◌, true, false, List, [], ◌∷◌, ◌++◌, length, map, Contains, Some, None}
 use Rattle.mv_history.specs.declared.Commit.{Commit}
 use Rattle.mv_history.specs.declared.Entry.{Entry}
 use Rattle.mv_history.specs.declared.Entry.TheVariants.{Rest, Change}
-use Rattle.mv_history.specs.State.{State, Writes, state_at}
+use Rattle.mv_history.specs.State.{State, Writes, maker_of, state_at}
 use Rattle.mv_history.specs.Drift.{IsFit}
 use Rattle.mv_history.specs.declared.StepKind.TheVariants.{NameCommit, StoreSuper, NameRest}
 use Rattle.mv_layout.specs.declared.Config.{Config}
 use Rattle.mv_layout.specs.declared.Place.TheVariants.{Clock, Super}
-use Rattle.mv_layout.specs.Words.{clock_of, clock_time_of, link_seat_of}
+use Rattle.mv_layout.specs.Words.{clock_of, clock_time_of, clock_seat_of, link_seat_of}
 use Rattle.mv_core.specs.declared.ring.Slot.{Slot}
 use Rattle.mv_core.specs.declared.ring.Slot.TheVariants.{Live}
 use Rattle.mv_core.specs.declared.ring.Version.{Version}
@@ -20,10 +20,11 @@ use Rattle.mv_core.specs.declared.view.Section.{Section}
 use Rattle.mv_core.specs.declared.view.Mode.TheVariants.{Open, Named}
 use Rattle.mv_core.specs.declared.view.Naming.{Naming}
 use Rattle.mv_core.specs.Rings.{slot_at, index_of, put_slot, held_count, set_first, own_of}
+use Rattle.mv_core.specs.Times.{IsEntry}
 use Rattle.mv_core.specs.Views.{time_in, told}
 use Rattle.mv_core.specs.SectionFacts.{IsPastHelp}
 use Rattle.mv_core.specs.EnterSteps.{IsWhole, if_none}
-use Rattle.mv_core.specs.WalkSteps.{slot_named}
+use Rattle.mv_core.specs.WalkSteps.{IsLinkOf, slot_named}
 
 -- the commit of what the section holds
 abbrev pub commit_of : Config → View → Section → List ℕ → Commit
@@ -34,6 +35,11 @@ commit_of c v inside tag = record {
   tag = tag;
   writes = own_of c v.ring;
 }
+
+-- what the exchange tells of the own log before it: the links of what is held are packed ones, or 0, and no commit there is later than the word found
+pub record LogTold (c : Config) (v : View) (found : ℕ) : Type 0 where
+  pub links : (k : ℕ) (x : Version) → slot_at v.ring k ≡ Live x Held → IsLinkOf c x.previous
+  pub old : (k : ℕ) (x : Version) (note : CommitNote) → slot_at v.ring k ≡ Live x (Committed note) → note.time ≤ clock_time_of found
 
 -- the clock word of that commit, after this one
 abbrev pub commit_word : Config → View → ℕ → ℕ
@@ -72,11 +78,16 @@ commit_lost c v found h = record v {
   trail = told c v NameCommit Clock (Some found) None;
 }
 
+-- an exchange that expected this word found that of a later entry, which ends the history, and is by the seat that the word found names
+pub record IsOvertaken (c : Config) (word found : ℕ) (h : List Entry) : Type 0 where
+  pub later : clock_time_of word < clock_time_of found
+  pub made : c.base ≤ clock_time_of word → (e : Entry) × IsEntry c.base h (clock_time_of found) e × (maker_of e ≡ clock_seat_of found)
+
 -- what the exchange tells
 abbrev pub CommitTold : Config → View → Section → List ℕ → ℕ → ℕ → View → Type 0
 CommitTold c v inside tag word found w =
     (found ≡ word → (h : List Entry) × IsWhole c v word h × (w ≡ commit_named c v inside tag word h))
-    × (found ≢ word → (h : List Entry) × IsWhole c v found h × (w ≡ commit_lost c v found h))
+    × (found ≢ word → (h : List Entry) × IsWhole c v found h × (w ≡ commit_lost c v found h) × IsOvertaken c word found h)
 
 -- store SUPER: of the version that an own version of the stamped commit links to, not stored yet
 pub record MayStoreSuper (v : View) (link time k : ℕ) (x : Version) (note : CommitNote) : Type 0 where
@@ -128,4 +139,4 @@ rest_lost c v found h = record v {
 abbrev pub RestTold : Config → View → ℕ → ℕ → View → Type 0
 RestTold c v word found w =
     (found ≡ word → (h : List Entry) × IsWhole c v word h × (w ≡ rest_named c v word h))
-    × (found ≢ word → (h : List Entry) × IsWhole c v found h × (w ≡ rest_lost c v found h))
+    × (found ≢ word → (h : List Entry) × IsWhole c v found h × (w ≡ rest_lost c v found h) × IsOvertaken c word found h)

@@ -128,11 +128,11 @@ pub record MayCutHead (c : Config) (v : View) (object position : ℕ) (x : Versi
   pub back : v.back ≡ Some (record { object = object; position = position; stored = 6; tried = false })
   pub own : slot_at v.ring (index_of c position) ≡ Live x (Committed note)
 
--- won: the version was cut
+-- the write-back once its exchange was tried
 abbrev pub cut_tried : ℕ → ℕ → Option WriteBack
 cut_tried object position = Some (record { object = object; position = position; stored = 6; tried = true })
 
--- the version has no place in its chain any more
+-- won: the version is cut
 abbrev pub head_cut : Config → View → ℕ → ℕ → Version → CommitNote → View
 head_cut c v object position x note = record v {
   back = cut_tried object position;

@@ -83,7 +83,7 @@ module _ (starts : State → Type 0) (allows : List ℕ → State → Writes →
     pub named_commit : NamedCommit c h (λ s k. m (Stamp s k)) f.section f.ring
     pub open_section : OpenSection c h f.section f.ring
     pub successor_flag : SuccessorFlag (λ s k. m (Super s k)) f.section f.ring
-    pub succeeded_has_super : SucceededHasSuper (λ s k. m (Super s k)) f.empty f.ring
+    pub succeeded_has_super : SucceededHasSuper c h (λ s k. m (Super s k)) f.empty f.ring
     pub loaded_words : LoadedWords c (m Clock) f.section f.heard
     pub freed_is_old : FreedIsOld c (m Clock) h f.time f.ring
     pub cut_is_old : CutIsOld f.time f.ring

@@ -1,5 +1,5 @@
 -- Making and joining seats, and the shared watermark: what each kind of step asks of its own view, and what it makes of it.
-use Rattle.std.specs.Prelude.{◌≡◌, ◌≢◌, ℕ, ◌+◌, ◌≤◌, nat_lt, max, if◌then◌else◌, List, [], ◌∷◌, ◌++◌, length, Some, None}
+use Rattle.std.specs.Prelude.{◌≡◌, ◌≢◌, ℕ, ◌+◌, ◌≤◌, max, List, [], ◌∷◌, ◌++◌, Some, None}
 use Rattle.mv_history.specs.declared.Entry.{Entry}
 use Rattle.mv_history.specs.declared.StepKind.TheVariants.{MakeSeat, JoinSeat, LoadJoined, LoadGrace, RaiseGrace}
 use Rattle.mv_layout.specs.declared.Config.{Config}
@@ -29,14 +29,9 @@ pub record MayJoin (v other : View) : Type 0 where
 abbrev pub note_of : View → Note
 note_of v = record { number = v.number; past = v.past; ring = v.ring }
 
--- the longer of two histories seen
-abbrev pub longer_seen : List Entry → List Entry → List Entry
-longer_seen seen other = if nat_lt (length seen) (length other) then other else seen
-
--- what was seen and the notes of both are one
+-- the notes of both are one, with a note of the joined seat; what it had seen stands in that note
 abbrev pub joined : Config → View → View → View
 joined c v other = record v {
-  past = record v.past { seen = longer_seen v.past.seen other.past.seen };
   notes = v.notes ++ note_of other ∷ other.notes;
   trail = told c v JoinSeat Clock None None;
 }

@@ -108,10 +108,10 @@ pub record Grace (clock word : ℕ) (time : ℕ → Option ℕ) (grace : ℕ →
   pub shared : (word ≤ clock_time_of clock) × NotAboveAny word time
   pub scans : (s : ℕ) → ScanIs clock time (scan s)
 
--- lock-freshness: a held version is of a seat in a section, and its object was last written at or before that section's time
+-- lock-freshness: a held version is of a seat in a section and of an object of the domain, which was last written at or before that section's time
 abbrev pub LockFreshness : Config → List Entry → (ℕ → Option ℕ) → (ℕ → Ring) → Type 0
 LockFreshness c h time rings =
-    (s k : ℕ) (x : Version) → Lives rings s k x Held → (t : ℕ) × (time s ≡ Some t) × (latest c.base h x.object ≤ t)
+    (s k : ℕ) (x : Version) → Lives rings s k x Held → (t : ℕ) × (time s ≡ Some t) × (latest c.base h x.object ≤ t) × (x.object < c.objects)
 
 -- what holds of a section whose commit was named
 pub record NamedIs (c : Config) (h : List Entry) (stamp : ℕ → ℕ → ℕ) (rings : ℕ → Ring) (s : ℕ) (inside : Section) (n : Naming) : Type 0 where
@@ -138,8 +138,9 @@ pub record OpenSection (c : Config) (h : List Entry) (section : ℕ → Option S
   pub one_set : (s k l : ℕ) (x y : Version) → Lives rings s k x Held → Lives rings s l y Held → x.first ≡ y.first
   pub whole : (s k : ℕ) (x : Version) (inside : Section) → Lives rings s k x Held → section s ≡ Some inside → inside.mode ≡ Open → (p : ℕ) → x.first ≤ p → p < (rings s).next → InHeldSet c rings s x.first p (λ st. st ≡ Held)
 
--- phases-and-scan: a scan runs only outside; outside a section there is no walk and no write-back; a section's time was seen
+-- phases-and-scan: a scan runs only outside; outside a section there is no walk and no write-back; a section's time was seen; sections are of the domain's seats
 pub record PhasesAndScan (c : Config) (past : ℕ → Past) (phase : ℕ → Phase) (time : ℕ → Option ℕ) (walk : ℕ → Walk) (back : ℕ → Option WriteBack) (scan : ℕ → Option Scan) : Type 0 where
   pub scanning : (s : ℕ) (running : Scan) → scan s ≡ Some running → phase s ≡ Outside
   pub outside : (s : ℕ) → time s ≡ None → (walk s ≡ Nowhere) × (back s ≡ None)
   pub seen : (s t : ℕ) → time s ≡ Some t → t ≤ c.base + length (past s).seen
+  pub within : (s t : ℕ) → time s ≡ Some t → s < c.seats

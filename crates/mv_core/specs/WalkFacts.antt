@@ -1,5 +1,5 @@
 -- Where the walks of sections stand, and what they know.
-use Rattle.std.specs.Prelude.{◌≡◌, ◌≢◌, ◌⊎◌, ℕ, ◌<◌, ◌≤◌, ◌^◌, true, false, List, Option, Some, None, Contains}
+use Rattle.std.specs.Prelude.{◌≡◌, ◌≢◌, ◌⊎◌, ℕ, ◌+◌, ◌<◌, ◌≤◌, ◌^◌, true, false, List, length, Option, Some, None, Contains}
 use Rattle.mv_history.specs.declared.Entry.{Entry}
 use Rattle.mv_history.specs.State.{State}
 use Rattle.mv_layout.specs.declared.Config.{Config}
@@ -92,7 +92,8 @@ abbrev pub WalkerLate : (ℕ → Option ℕ) → (ℕ → Walk) → (ℕ → Rin
 WalkerLate time walk rings =
     (s t : ℕ) (stand : Stand) (x : Version) (note : CommitNote) → time s ≡ Some t → walk s ≡ At stand → stand.late ≡ true → Names rings stand.link x (Committed note) → t < note.time
 
--- succeeded-has-super: where a section found an object's HEAD empty, SUPER of each own live version of it up to that section's time that wasn't cut isn't 0
-abbrev pub SucceededHasSuper : (ℕ → ℕ → ℕ) → (ℕ → List EmptyHead) → (ℕ → Ring) → Type 0
-SucceededHasSuper super empty rings =
-    (s : ℕ) (e : EmptyHead) → Contains (empty s) e → (k : ℕ) (x : Version) (note : CommitNote) → Lives rings s k x (Committed note) → x.object ≡ e.object → note.time ≤ e.time → note.cut ≡ false → super s k ≢ 0
+-- succeeded-has-super: a section that found an object's HEAD empty had a time of the history, and SUPER of each own live version of the object up to that time that wasn't cut isn't 0
+abbrev pub SucceededHasSuper : Config → List Entry → (ℕ → ℕ → ℕ) → (ℕ → List EmptyHead) → (ℕ → Ring) → Type 0
+SucceededHasSuper c h super empty rings =
+    (s : ℕ) (e : EmptyHead) → Contains (empty s) e
+    → (e.time ≤ c.base + length h) × ((k : ℕ) (x : Version) (note : CommitNote) → Lives rings s k x (Committed note) → x.object ≡ e.object → note.time ≤ e.time → note.cut ≡ false → super s k ≢ 0)

@@ -5,6 +5,11 @@ use Rattle.mv_history.specs.declared.StepKind.TheVariants.{LoadHead, LoadFirst, 
 use Rattle.mv_layout.specs.declared.Config.{Config}
 use Rattle.mv_layout.specs.declared.Place.TheVariants.{Head, Master, First, Stamp, Prev, Data}
 use Rattle.mv_layout.specs.Words.{link_seat_of, link_position_of, IsLink, IsUnset}
+use Rattle.mv_core.specs.declared.ring.Slot.TheVariants.{Live}
+use Rattle.mv_core.specs.declared.ring.Version.{Version}
+use Rattle.mv_core.specs.declared.ring.Status.{Status}
+use Rattle.mv_core.specs.declared.ring.Status.TheVariants.{Held, Committed}
+use Rattle.mv_core.specs.declared.ring.CommitNote.{CommitNote}
 use Rattle.mv_core.specs.declared.view.View.{View}
 use Rattle.mv_core.specs.declared.view.Phase.TheVariants.{Inside}
 use Rattle.mv_core.specs.declared.view.Section.{Section}
@@ -15,7 +20,7 @@ use Rattle.mv_core.specs.declared.view.Stand.{Stand}
 use Rattle.mv_core.specs.declared.view.Passed.{Passed}
 use Rattle.mv_core.specs.declared.view.Passed.TheVariants.{Nothing, Unset, Time}
 use Rattle.mv_core.specs.declared.view.EmptyHead.{EmptyHead}
-use Rattle.mv_core.specs.Rings.{index_of}
+use Rattle.mv_core.specs.Rings.{slot_at, index_of}
 use Rattle.mv_core.specs.Times.{words_of, writes_to, IsEntry}
 use Rattle.mv_core.specs.Views.{time_in, told}
 use Rattle.mv_core.specs.HistoryFacts.{BeginsWith}
@@ -33,6 +38,16 @@ IsLinkOf c link = link ≢ 0 → IsPackedOf c link
 -- the slot that a link names
 abbrev pub slot_named : Config → ℕ → ℕ
 slot_named c link = index_of c (link_position_of link)
+
+-- the link isn't to the own log, or names a version of the object there that is held, or is committed and wasn't cut
+abbrev pub IsOwnTop : Config → View → ℕ → ℕ → Type 0
+IsOwnTop c v object link =
+    link ≢ 0 → link_seat_of link ≡ v.number → (x : Version) × (st : Status) × (slot_at v.ring (slot_named c link) ≡ Live x st) × (x.object ≡ object) × ((st ≡ Held) ⊎ ((note : CommitNote) × (st ≡ Committed note) × (note.cut ≡ false)))
+
+-- a stamp of the own log that was found is a time, where the version there is committed
+abbrev pub IsOwnTime : Config → View → ℕ → ℕ → Type 0
+IsOwnTime c v link found =
+    link_seat_of link ≡ v.number → (x : Version) (note : CommitNote) → slot_at v.ring (slot_named c link) ≡ Live x (Committed note) → (inside : Section) → v.phase ≡ Inside inside → inside.mode ≡ Open → found < 2 ^ 63
 
 -- an open section past its help, with no write-back under way
 pub record IsWalking (v : View) (inside : Section) : Type 0 where

@@ -31,6 +31,12 @@
 //! | entering and leaving | load CLOCK (low bound), store MARK, load CLOCK (take time), store MARK 0 |
 //! | helping | load STAMP named, load CLOCK (check), compare_exchange STAMP |
 //! | walking | load HEAD, load FIRST, load STAMP, load PREV, load DATA, load MASTER |
+//! | building and timing | store into a built slot, store DATA of a held slot, load CLOCK (time a dead version) |
+//! | locking and aborting | compare_exchange HEAD (lock), store HEAD (abort) |
+//! | naming | compare_exchange CLOCK (commit), store SUPER, compare_exchange CLOCK (rest) |
+//! | finding a watermark | load CLOCK (scan), load MARK, load GRACE, fetch_max GRACE |
+//! | writing back and freeing | load SUPER, store MASTER, compare_exchange HEAD (cut), store STAMP 0 (free) |
+//! | joining | joining a seat, load CLOCK after a join |
 //! | opening | the words of a domain, and the making of its seats |
 //!
 //! **How it is proved.** A step writes one word at most and changes its own view alone, so it keeps
@@ -42,9 +48,17 @@
 //! the packing of the words.
 #![tactic(auto)]
 
+mod building;
 mod entering;
+mod grace;
 mod helping;
+mod joining;
+mod laws;
+mod locking;
+mod marks;
+mod naming;
 mod opening;
+mod reclaiming;
 pub mod ring;
 pub mod shared;
 mod steps;
@@ -54,6 +68,13 @@ pub mod view;
 mod walking;
 
 pub use helping::helped_are_stamped;
+pub use laws::{
+    chains_are_latest_writes, deaths_are_after_readers, deaths_are_next,
+    earlier_commits_are_stamped, grace_is_below_sections, history_is_one, locks_are_fresh,
+    marks_are_low, masters_are_read_whole, one_seat_writes_back, positions_are_bounded,
+    positions_run_on, reached_links_are_live, reached_slots_are_kept, successors_are_next,
+    walks_stand_right, write_backs_are_last, write_sets_are_whole,
+};
 pub use shared::{Pass, Shared};
 pub use steps::Steps;
 pub use swap::Swap;

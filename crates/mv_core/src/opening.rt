@@ -1,5 +1,5 @@
 //! How a domain is opened, and its seats are made.
-ghost use Rattle.std.specs.Prelude.{◌≡◌, ◌+◌, ◌<◌, length, IfOk, vec_len};
+ghost use Rattle.std.specs.Prelude.{◌≡◌, ◌+◌, ◌<◌, [], length, IfOk, vec_len};
 ghost use Rattle.mv_history.specs.Legal.{AreWords};
 ghost use Rattle.mv_layout.specs.Limits.{Checked};
 ghost use Rattle.mv_layout.specs.Places.{Shows};
@@ -83,8 +83,8 @@ fn split_as<P: Protocol, D: Domain>(
     requires config { D.config ≡ config_of shared.now }
     requires of { IsSeatOf P.start P.allowed shared.now seat.old }
     requires maker { (0 < seat.old.me.0.made) × (seat.old.me.0.made < (config_of shared.now).seats) }
-    ensures maker { (seat.new.table_id ≡ seat.old.table_id) × (seat.new.me.0 ≡ made_one (config_of shared.now) seat.old.me.0) }
-    ensures made { (result.table_id ≡ seat.old.table_id) × (result.me.0 ≡ newly_made (config_of shared.now) seat.old.me.0) }
+    ensures maker { (seat.new.table_id ≡ seat.old.table_id) × (seat.new.me.0 ≡ made_one (config_of shared.now) seat.old.me.0) × (seat.new.me.1 ≡ seat.old.me.1) }
+    ensures made { (result.table_id ≡ seat.old.table_id) × (result.me.0 ≡ newly_made (config_of shared.now) seat.old.me.0) × (result.me.1 ≡ []) }
 {
     shared.table.shared.split_seat::<Making<D>>(seat)
 }

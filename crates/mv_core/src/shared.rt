@@ -1,5 +1,5 @@
 //! The shared words of a domain, and what a thread steps with.
-ghost use Rattle.std.specs.Prelude.{◌≡◌, ◌<◌};
+ghost use Rattle.std.specs.Prelude.{◌≡◌, ◌<◌, [], length};
 ghost use Rattle.mv_layout.specs.Limits.{Checked};
 ghost use Rattle.mv_layout.specs.Places.{total};
 ghost use Rattle.mv_core.specs.Known.{Known, IsTimed, IsBegun};
@@ -40,6 +40,7 @@ pub struct Shared<P: Protocol> {
     pub ghost checked: { Checked config },
     pub ghost sized: { (table.shared.table_id.words ≡ total config) × (table.shared.table_id.slots ≡ 0) },
     pub ghost about: { table.shared.key.config ≡ config },
+    pub ghost opening: { length table.shared.key.start.value.items ≡ config.objects },
 }
 
 /// A seat of a domain with its view. At run time it has its number, the limit of its write sets, its
@@ -56,4 +57,6 @@ pub struct Pass<P: Protocol> {
     pub ghost timed: { IsTimed time seat.me.0 },
     pub ghost begun: { IsBegun first seat.me.0 },
     pub ghost known: { ∥ Known P.start P.allowed seat.me.0 ∥₁ },
+    // The table has no slots of its own, so no seat has one.
+    pub ghost taken: { seat.me.1 ≡ [] },
 }

@@ -38,10 +38,11 @@ pub(crate) struct Told<P, J> {
 }
 
 impl<P: Protocol, J: Turn> Play<Tag, View> for Told<P, J> {
+    ghost use Rattle.std.specs.Prelude.{◌≡◌};
     ghost use Rattle.mv_core.specs.Known.{Known, RunsOn};
     ghost use Rattle.mv_core.specs.Rule.{IsKept};
 
-    ghost then = { λ _ m n w. (J.tells n w.0 × RunsOn m.0 w.0) × IsKept m.0 w.0 × Known P.start P.allowed w.0 };
+    ghost then = { λ _ m n w. (J.tells n w.0 × RunsOn m.0 w.0) × IsKept m.0 w.0 × Known P.start P.allowed w.0 × (w.1 ≡ m.1) };
 }
 
 /// A step after which its caller sets what the pass has at run time.
@@ -53,7 +54,7 @@ impl<P: Protocol, J: Turn> Play<Tag, View> for ToldAlone<P, J> {
     ghost use Rattle.mv_core.specs.Known.{Known};
     ghost use Rattle.mv_core.specs.Rule.{IsKept};
 
-    ghost then = { λ _ m n w. J.tells n w.0 × IsKept m.0 w.0 × Known P.start P.allowed w.0 };
+    ghost then = { λ _ m n w. J.tells n w.0 × IsKept m.0 w.0 × Known P.start P.allowed w.0 × (w.1 ≡ m.1) };
 }
 
 /// A load, in a pass.
@@ -165,6 +166,7 @@ pub(crate) fn load_alone<P: Protocol, J: Turn, L: Ledger, T>(
     requires rule { Loads P.start P.allowed (config_of shared.now) (start_of shared.now) seat.old.me.0 J.place (λ n w. J.tells n w × IsKept seat.old.me.0 w) }
     ensures same { (seat.new.table_id ≡ seat.old.table_id) × IsKept seat.old.me.0 seat.new.me.0 }
     ensures known { ∥ Known P.start P.allowed seat.new.me.0 ∥₁ }
+    ensures taken { seat.new.me.1 ≡ seat.old.me.1 }
     ensures tells { J.tells result seat.new.me.0 }
     ensures step { steps.new ≡ steps.old + 1 }
 {
@@ -191,6 +193,7 @@ pub(crate) fn swap_alone<P: Protocol, J: Turn, L: Ledger, T>(
     requires rule { Swaps P.start P.allowed (config_of shared.now) (start_of shared.now) seat.old.me.0 J.place old new (λ n w. J.tells n w × IsKept seat.old.me.0 w) }
     ensures same { (seat.new.table_id ≡ seat.old.table_id) × IsKept seat.old.me.0 seat.new.me.0 }
     ensures known { ∥ Known P.start P.allowed seat.new.me.0 ∥₁ }
+    ensures taken { seat.new.me.1 ≡ seat.old.me.1 }
     ensures tells { J.tells result seat.new.me.0 }
     ensures step { steps.new ≡ steps.old + 1 }
 {

@@ -3,7 +3,7 @@ ghost use Rattle.std.specs.Prelude.{◌≡◌, ◌+◌, ◌<◌, length};
 ghost use Rattle.mv_core.specs.declared.view.Section.{Section};
 ghost use Rattle.mv_core.specs.declared.view.Stand.{Stand};
 ghost use Rattle.mv_core.specs.Passes.{view, IsOf, IsSame, config_of};
-ghost use Rattle.mv_core.specs.WalkSteps.{IsPackedOf, IsLinkOf, slot_named, MayLoadHead, head_loaded, MayLoadFirst, first_loaded, MayLoadStamp, StampSays, stamp_loaded, MayLoadPrev, prev_loaded, MayLoadData, data_loaded, MayLoadMaster, master_loaded, words_read, word_read};
+ghost use Rattle.mv_core.specs.WalkSteps.{IsPackedOf, IsLinkOf, IsOwnTop, IsOwnTime, slot_named, MayLoadHead, head_loaded, MayLoadFirst, first_loaded, MayLoadStamp, StampSays, stamp_loaded, MayLoadPrev, prev_loaded, MayLoadData, data_loaded, MayLoadMaster, master_loaded, words_read, word_read};
 ghost use Rattle.mv_layout.specs.Places.{place_of};
 ghost use Rattle.mv_layout.specs.Words.{link_seat_of};
 ghost use Rattle.mv_layout.specs.declared.Place.TheVariants.{First};
@@ -17,8 +17,8 @@ use std::marker::Brand;
 use std::sync::ledger::Ledger;
 
 impl<P: Protocol> Shared<P> {
-    /// Where the slot that a link names begins.
-    fn slot_linked(&self, link: u64) -> u32
+    // Where the slot that a link names begins.
+    pub(crate) fn slot_linked(&self, link: u64) -> u32
         requires { IsPackedOf (config_of self.now) link }
         ensures { result ≡ place_of (config_of self.now) (First (link_seat_of link) (slot_named (config_of self.now) link)) }
     {
@@ -28,7 +28,8 @@ impl<P: Protocol> Shared<P> {
 
     /// Loads HEAD of an object, in an open section that is past its help and has no write-back under
     /// way, and so begins a walk over that object. The word is 0, where the walk then stands at the
-    /// master, or the link of the version on top, where it then stands.
+    /// master, or the link of the version on top, where it then stands. A version of the own log on top
+    /// is held, or is committed and wasn't cut.
     pub fn load_head<L: Ledger>(&self, pass: &mut Pass<P>, object: u32, steps: &mut Steps<L>) -> u64
         ghost inside: { Section }
         requires of { IsOf self.now pass.old }
@@ -37,6 +38,7 @@ impl<P: Protocol> Shared<P> {
         ensures same { IsSame pass.old pass.new }
         ensures view { view pass.new ≡ head_loaded (config_of self.now) (view pass.old) inside object result }
         ensures link { IsLinkOf (config_of self.now) result }
+        ensures own { IsOwnTop (config_of self.now) (view pass.old) object result }
         ensures step { steps.new ≡ steps.old + 1 }
     {
         let place = head_place(&self.config, object);
@@ -60,7 +62,8 @@ impl<P: Protocol> Shared<P> {
     /// Loads STAMP of the write set of the version that the walk stands at, whose first position
     /// `first` it found. A word from `2^63` on is unset; else it is the time of the commit, a write of
     /// the object, and the pass has then seen the history at least up to that time. Below a version
-    /// that the walk has passed it is a time, and a lesser one than that version's.
+    /// that the walk has passed it is a time, and a lesser one than that version's. Of a version that
+    /// the own log has as committed it is a time.
     pub fn load_stamp<L: Ledger>(
         &self,
         pass: &mut Pass<P>,
@@ -75,6 +78,7 @@ impl<P: Protocol> Shared<P> {
         ensures same { IsSame pass.old pass.new }
         ensures view { view pass.new ≡ stamp_loaded (config_of self.now) (view pass.old) stand first result (view pass.new).past.seen }
         ensures says { StampSays (config_of self.now) (view pass.old) stand result (view pass.new).past.seen }
+        ensures own { IsOwnTime (config_of self.now) (view pass.old) link result }
         ensures step { steps.new ≡ steps.old + 1 }
     {
         let slot = (first % self.config.slots as u64) as u32;

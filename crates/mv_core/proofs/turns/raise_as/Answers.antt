@@ -13,4 +13,4 @@ pub invariant_of-pass : goal.invariant_of-pass
 invariant_of-pass g c =
     let t = c.fetch_max.ensures.2 in
     let r = t.0.1 _ _ c.args.pass.now.timed c.args.pass.now.begun in
-    record { numbered = c.args.pass.now.numbered ∙ sym t.1.0; timed = r.0; begun = r.1; known = ∣ t.2 ∣₁ }
+    record { numbered = c.args.pass.now.numbered ∙ sym t.1.0; timed = r.0; begun = r.1; known = ∣ t.2 ∣₁; taken = t.3 ∙ c.args.pass.now.taken }

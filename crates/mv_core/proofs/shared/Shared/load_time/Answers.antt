@@ -11,4 +11,4 @@ invariant_of-pass g c =
     let l = c.load_alone-word.ensures in
     let t = l.tells in
     let r = time_runs (config_of c.args.self.now) (view c.args.pass.now) _ _ _ c.args.pass.now.first t.0.0 t.0.2 t.2 c.clock_time-pass.ensures in
-    record { numbered = c.args.pass.now.numbered ∙ sym l.same.1.0; timed = r.0; begun = r.1; known = l.known }
+    record { numbered = c.args.pass.now.numbered ∙ sym l.same.1.0; timed = r.0; begun = r.1; known = l.known; taken = l.taken ∙ c.args.pass.now.taken }

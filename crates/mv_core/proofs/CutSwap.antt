@@ -1,0 +1,200 @@
+-- compare_exchange HEAD (cut), won and lost: it ends the writing of words, and is tried once.
+use Rattle.std.proofs.Common.{◌≡◌, ◌≢◌, ℕ, ◌-◌, ◌<◌, true, false, List, refl, sym, ap, ◌∙◌, subst, slice_index, Option, Some, None}
+use Rattle.mv_history.specs.declared.Entry.{Entry}
+use Rattle.mv_history.specs.State.{State, Writes}
+use Rattle.mv_layout.specs.declared.Config.{Config}
+use Rattle.mv_layout.specs.declared.Place.TheVariants.{Head, Master}
+use Rattle.mv_layout.specs.Words.{link_of}
+use Rattle.mv_layout.specs.Places.{Memory, put}
+use Rattle.mv_core.specs.declared.ring.Ring.{Ring}
+use Rattle.mv_core.specs.declared.ring.Slot.TheVariants.{Live}
+use Rattle.mv_core.specs.declared.ring.Version.{Version}
+use Rattle.mv_core.specs.declared.ring.Status.TheVariants.{Committed}
+use Rattle.mv_core.specs.declared.ring.CommitNote.{CommitNote}
+use Rattle.mv_core.specs.declared.view.View.{View}
+use Rattle.mv_core.specs.declared.view.Section.{Section}
+use Rattle.mv_core.specs.declared.view.WriteBack.{WriteBack}
+use Rattle.mv_core.specs.declared.view.Walk.TheVariants.{Nowhere}
+use Rattle.mv_core.specs.Rings.{slot_at, index_of, put_slot, is_held, held_count, Lives}
+use Rattle.mv_core.specs.Views.{Faces, faces_of, become}
+use Rattle.mv_core.specs.Times.{NotAboveAny}
+use Rattle.mv_core.specs.WalkSteps.{IsLinkOf}
+use Rattle.mv_core.specs.ReclaimFacts.{IsWrittenBack, WriteBacks}
+use Rattle.mv_core.specs.ReclaimSteps.{MayCutHead, head_cut, cut_lost, CutTold}
+use Rattle.mv_core.specs.Known.{RunsOn}
+use Rattle.mv_core.specs.Rule.{Facts, Swaps, IsKept}
+use Rattle.mv_core.proofs.Frames.{become_here, become_all, unchanged, changed, settle}
+use Rattle.mv_core.proofs.Links.{live_once, note_once}
+use Rattle.mv_core.proofs.Slots.{live_within}
+use Rattle.mv_core.proofs.Counts.{held_same}
+use Rattle.mv_core.proofs.EmptyHeads.{time_of_section}
+use Rattle.mv_core.proofs.WalkOn.{head_link}
+use Rattle.mv_core.proofs.CutWon.{cut_facts}
+
+module _ (starts : State → Type 0) (allows : List ℕ → State → Writes → Type 0) (c : Config) (start : State) (m : Memory) (h : List Entry) (f : Faces) (k : Facts starts allows c start m h f)
+    (n : ℕ) (b : WriteBack) (at : f.back n ≡ Some b) where
+  abbrev pub tried : WriteBack
+  tried = record b { tried = true }
+
+  abbrev BackIs : ℕ → Option WriteBack → Type 0
+  BackIs s u = (d : WriteBack) → u ≡ Some d → (i : Section) × (f.section s ≡ Some i) × IsWrittenBack c h (λ o i. m (Master o i)) f.time f.ring s (f.heard s) (f.grace s) d i
+
+  own_tried : (i : Section) × (f.section n ≡ Some i) × IsWrittenBack c h (λ o i. m (Master o i)) f.time f.ring n (f.heard n) (f.grace n) tried i
+  own_tried =
+      let r = k.write_back n b at in
+      let w = r.2 in (
+        r.0,
+        r.1,
+        record {
+          mode = w.mode;
+          helped = w.helped;
+          nothing = w.nothing;
+          version = w.version;
+          note = w.note;
+          lives = w.lives;
+          position_is = w.position_is;
+          object_is = w.object_is;
+          old = w.old;
+          known = w.known;
+          last = w.last;
+          some_stored = w.some_stored;
+          uncut = λ (e : true ≡ false). absurd (cc);
+          words = λ (e : true ≡ false). absurd (cc);
+        },
+      )
+
+  backs : WriteBacks c h (λ o i. m (Master o i)) f.section f.time f.heard f.grace (become f.back n (Some tried)) f.ring
+  backs =
+      become_all BackIs f.back n (Some tried)
+      (λ d e. let same : tried ≡ d = cc in subst (λ (u : WriteBack). (i : Section) × (f.section n ≡ Some i) × IsWrittenBack c h (λ o i. m (Master o i)) f.time f.ring n (f.heard n) (f.grace n) u i) same own_tried)
+      (λ s ne. k.write_back s)
+
+  -- all facts once the exchange was tried
+  pub tried_facts : Facts starts allows c start m h (changed f n (record unchanged { back = Some (Some tried) }))
+  tried_facts = record {
+    checked = k.checked;
+    history = k.history;
+    slot_words = k.slot_words;
+    stamps = k.stamps;
+    write_sets = k.write_sets;
+    helped_words = k.helped_words;
+    marks = k.marks;
+    stamped_past_help = k.stamped_past_help;
+    grace = k.grace;
+    lock_freshness = k.lock_freshness;
+    successors = k.successors;
+    deaths = k.deaths;
+    positions = k.positions;
+    head_is_top = k.head_is_top;
+    held_link = k.held_link;
+    commit_link = k.commit_link;
+    aborted_link = k.aborted_link;
+    present_master = k.present_master;
+    chain_foot = k.chain_foot;
+    walker_place = k.walker_place;
+    walker_before_death = k.walker_before_death;
+    walker_knowledge = k.walker_knowledge;
+    below_is_stamped = k.below_is_stamped;
+    walker_falls = k.walker_falls;
+    walker_late = k.walker_late;
+    found_stamp = k.found_stamp;
+    unstamped_is_unfinished = k.unstamped_is_unfinished;
+    named_commit = k.named_commit;
+    open_section = k.open_section;
+    successor_flag = k.successor_flag;
+    succeeded_has_super = k.succeeded_has_super;
+    loaded_words = k.loaded_words;
+    freed_is_old = k.freed_is_old;
+    cut_is_old = k.cut_is_old;
+    death_after_write = k.death_after_write;
+    write_back = backs;
+    positions_and_grace = k.positions_and_grace;
+    phases_and_scan = record {
+      scanning = k.phases_and_scan.scanning;
+      outside = become_all (λ s d. f.time s ≡ None → (f.walk s ≡ Nowhere) × (d ≡ None)) f.back n (Some tried)
+          (λ none. let clash : Some b ≡ None = sym at ∙ (k.phases_and_scan.outside n none).1 in absurd (cc))
+          (λ s ne. k.phases_and_scan.outside s);
+      seen = k.phases_and_scan.seen;
+      within = k.phases_and_scan.within;
+    };
+  }
+
+module _ (starts : State → Type 0) (allows : List ℕ → State → Writes → Type 0) (c : Config) (start : State) (v : View) (object position : ℕ) (x : Version) (note : CommitNote) (may : MayCutHead c v object position x note) where
+  abbrev back : WriteBack
+  back = record { object = object; position = position; stored = 6; tried = false }
+
+  abbrev slot : ℕ
+  slot = index_of c position
+
+  module _ (m : Memory) (h : List Entry) (seats : ℕ → View) (k : Facts starts allows c start m h (faces_of seats)) (is : seats v.number ≡ v) where
+    abbrev n : ℕ
+    n = v.number
+
+    abbrev f : Faces
+    f = faces_of seats
+
+    at : f.back n ≡ Some back
+    at = ap (λ (u : View). u.back) is ∙ may.back
+
+    lives : Lives f.ring n slot x (Committed note)
+    lives = ap (λ (u : View). slot_at u.ring slot) is ∙ may.own
+
+    abbrev more : Faces
+    more = changed f n (record unchanged { back = Some (Some (tried starts allows c start m h f k n back at)) })
+
+    -- what is written back is that version
+    written : (i : Section) × (f.section n ≡ Some i) × (w : IsWrittenBack c h (λ o i. m (Master o i)) f.time f.ring n (f.heard n) (f.grace n) back i) × (w.version ≡ x) × (w.note ≡ note)
+    written =
+        let r = k.write_back n back at in
+        let one = live_once (slot_at (f.ring n) slot) r.2.version x (Committed r.2.note) (Committed note) r.2.lives lives in
+        (r.0, r.1, r.2, one.0, note_once r.2.note note one.1)
+
+    pub cut_stored : m (Head object) ≡ link_of n position → Facts starts allows c start (put m (Head object) 0) h (faces_of (become seats n (head_cut c v object position x note)))
+    cut_stored won =
+        let r = written in
+        let w = r.2 in
+        let place : x.position ≡ position = ap (λ (y : Version). y.position) (sym r.3) ∙ w.position_is in
+        let object_is : x.object ≡ object = ap (λ (y : Version). y.object) (sym r.3) ∙ w.object_is in
+        let all = cut_facts starts allows c start m h more (tried_facts starts allows c start m h f k n back at) n slot x note lives
+        (ap (λ (o : ℕ). m (Head o)) object_is ∙ won ∙ ap (link_of n) (sym place))
+        (subst (λ (o : CommitNote). NotAboveAny o.time f.time) r.4 w.old)
+        (λ i lt. ap (λ (o : ℕ). m (Master o i)) object_is ∙ w.words refl i lt ∙ ap (λ (y : Version). slice_index y.words i) r.3)
+        (λ b e. let same : Some (tried starts allows c start m h f k n back at) ≡ Some b = sym (become_here f.back n (Some (tried starts allows c start m h f k n back at))) ∙ e in let one : tried starts allows c start m h f k n back at ≡ b = cc in ap (λ (d : WriteBack). d.tried) (sym one)) in
+        let ring : (seats n).ring ≡ v.ring = ap (λ (y : View). y.ring) is in
+        settle starts allows c start (put m (Head object) 0) h seats n v (head_cut c v object position x note) is
+        (record unchanged { back = Some (Some (tried starts allows c start m h f k n back at)); ring = Some (put_slot (seats n).ring slot (Live x (Committed (record note { cut = true })))) })
+        (refl, refl, refl, refl, refl, refl, refl, ap (λ (r : Ring). put_slot r slot (Live x (Committed (record note { cut = true })))) (sym ring), refl, refl, refl)
+        (subst (λ (o : ℕ). Facts starts allows c start (put m (Head o) 0) h (changed more n (record unchanged { ring = Some (put_slot (seats n).ring slot (Live x (Committed (record note { cut = true })))) }))) object_is all)
+
+    pub lost_stored : Facts starts allows c start m h (faces_of (become seats n (cut_lost c v object position (m (Head object)))))
+    lost_stored =
+        settle starts allows c start m h seats n v (cut_lost c v object position (m (Head object))) is (record unchanged { back = Some (Some (tried starts allows c start m h f k n back at)) }) (refl, refl, refl, refl, refl, refl, refl, refl, refl, refl, refl)
+        (tried_facts starts allows c start m h f k n back at)
+
+    found_link : IsLinkOf c (m (Head object))
+    found_link = let r = written in head_link starts allows c start m h f k n (f.heard n) r.0 (time_of_section (seats n).phase r.0 r.1) r.2.helped object
+
+  -- what the pass has at run time stays
+  cut_runs : RunsOn v (head_cut c v object position x note)
+  cut_runs time first a begun =
+      let cut = Live x (Committed (record note { cut = true })) in
+      let held : held_count (put_slot v.ring slot cut) ≡ held_count v.ring = held_same v.ring slot cut (live_within v.ring slot x (Committed note) may.own) (sym (ap is_held may.own)) in
+      (a, λ i e mode some_held. begun i e mode (subst (λ (y : ℕ). 0 < y) held some_held) ∙ ap (λ (y : ℕ). v.ring.next - y) (sym held))
+
+  cut_swaps_from : Swaps starts allows c start v (Head object) (link_of v.number position) 0 (λ found w. ((CutTold c v object position x note found w × (found ≢ link_of v.number position → IsLinkOf c found)) × RunsOn v w) × IsKept v w)
+  cut_swaps_from = (
+    (λ m h seats k is own begins won. (
+      head_cut c v object position x note,
+      h,
+      cut_stored m h seats k is won,
+      (((((λ _. refl), (λ ne. absurd (ne refl))), (λ ne. absurd (ne refl))), cut_runs), (refl, refl, refl, refl, refl, refl)),
+    )),
+    (λ m h seats k is own begins lost wide. (
+      cut_lost c v object position (m (Head object)),
+      lost_stored m h seats k is,
+      (((((λ e. absurd (lost e)), (λ _. refl)), (λ _. found_link m h seats k is)), (λ t i a b. (a, b))), (refl, refl, refl, refl, refl, refl)),
+    )),
+  )
+
+  pub cut_swaps : (link : ℕ) → link ≡ link_of v.number position → Swaps starts allows c start v (Head object) link 0 (λ found w. ((CutTold c v object position x note found w × (found ≢ link_of v.number position → IsLinkOf c found)) × RunsOn v w) × IsKept v w)
+  cut_swaps link e = subst (λ (g : ℕ). Swaps starts allows c start v (Head object) g 0 (λ found w. ((CutTold c v object position x note found w × (found ≢ link_of v.number position → IsLinkOf c found)) × RunsOn v w) × IsKept v w)) (sym e) cut_swaps_from

@@ -1,0 +1,311 @@
+-- compare_exchange HEAD (cut), won: the version was on top of its object's chain and alone is cut, and the master has the present state.
+use Rattle.std.proofs.Common.{◌≡◌, ◌≢◌, ◌⊎◌, ℕ, ◌+◌, ◌-◌, ◌<◌, ◌≤◌, true, false, List, length, refl, sym, ap, ◌∙◌, subst, inl, inr, ⊎_elim, arith, slice_index, Some}
+use mathlib.Core.Logic.{dite}
+use native.Mathlib.Decide.{ℕ_discrete}
+use Rattle.mv_history.specs.declared.Entry.{Entry}
+use Rattle.mv_history.specs.State.{State, Writes}
+use Rattle.mv_layout.specs.declared.Config.{Config}
+use Rattle.mv_layout.specs.declared.Place.TheVariants.{Clock, Head, Master, First, Stamp, Prev, Super, Data}
+use Rattle.mv_layout.specs.Words.{link_of}
+use Rattle.mv_layout.specs.Places.{Memory, put}
+use Rattle.mv_core.specs.declared.ring.Ring.{Ring}
+use Rattle.mv_core.specs.declared.ring.Slot.{Slot}
+use Rattle.mv_core.specs.declared.ring.Slot.TheVariants.{Free, Built, Live, Freeing}
+use Rattle.mv_core.specs.declared.ring.Build.{Build}
+use Rattle.mv_core.specs.declared.ring.Version.{Version}
+use Rattle.mv_core.specs.declared.ring.Status.{Status}
+use Rattle.mv_core.specs.declared.ring.Status.TheVariants.{Held, Committed}
+use Rattle.mv_core.specs.declared.ring.CommitNote.{CommitNote}
+use Rattle.mv_core.specs.declared.view.WriteBack.{WriteBack}
+use Rattle.mv_core.specs.Rings.{slot_at, put_slot, index_of, Lives, Names, NoneHolds, NoneUncut, IsTop}
+use Rattle.mv_core.specs.Times.{writes_to, latest, latest_at, words_of, AreThe, NotAboveAny}
+use Rattle.mv_core.specs.Views.{Faces, become}
+use Rattle.mv_core.specs.SetFacts.{HoldsSlot, SlotWords}
+use Rattle.mv_core.specs.ChainFacts.{HeadIsTop, HeldLink, LinksBelow, CommitLink, PresentMaster}
+use Rattle.mv_core.specs.ReclaimFacts.{CutIsOld, WriteBacks}
+use Rattle.mv_core.specs.Rule.{Facts}
+use Rattle.mv_core.proofs.Frames.{unchanged, changed}
+use Rattle.mv_core.proofs.Latest.{latest-le, latest_at-end, latest-reaches, latest_at-le}
+use Rattle.mv_core.proofs.Links.{live_once, note_once, link_some, names_once, position_once}
+use Rattle.mv_core.proofs.Slots.{Matches, match_put, slots_after, at_here, wide_after, lives_back, lives_else, live_within, here_or_else}
+use Rattle.mv_core.proofs.Matching.{gone_forth}
+use Rattle.mv_core.proofs.Versions.{write_once}
+use Rattle.mv_core.proofs.Written.{version_writes, commit_within}
+use Rattle.mv_core.proofs.WordsAt.{words_of-same, version-words}
+use Rattle.mv_core.proofs.LockWon.{put_head}
+use Rattle.mv_core.proofs.Cuts as cuts
+use Rattle.mv_core.proofs.Cuts.{IsCutOf, Cuts, cuts_self}
+use Rattle.mv_core.proofs.CutKept as kept
+
+module _ (starts : State → Type 0) (allows : List ℕ → State → Writes → Type 0) (c : Config) (start : State) (m : Memory) (h : List Entry) (f : Faces) (k : Facts starts allows c start m h f)
+    (n slot : ℕ) (x : Version) (note : CommitNote) (lives : Lives f.ring n slot x (Committed note)) (won : m (Head x.object) ≡ link_of n x.position)
+    (old : NotAboveAny note.time f.time) (words : (i : ℕ) → i < 6 → m (Master x.object i) ≡ slice_index x.words i) (tried : (b : WriteBack) → f.back n ≡ Some b → b.tried ≡ true) where
+  abbrev new : CommitNote
+  new = record note { cut = true }
+
+  abbrev cut_ring : Ring
+  cut_ring = put_slot (f.ring n) slot (Live x (Committed new))
+
+  abbrev rings : ℕ → Ring
+  rings = become f.ring n cut_ring
+
+  abbrev head : ℕ → ℕ
+  head o = put m (Head x.object) 0 (Head o)
+
+  abbrev master : ℕ → ℕ → ℕ
+  master o i = m (Master o i)
+
+  abbrev last : ℕ
+  last = latest c.base h x.object
+
+  within : slot < length (f.ring n).slots
+  within = live_within (f.ring n) slot x (Committed note) lives
+
+  matches : Matches Cuts f.ring rings
+  matches = match_put Cuts cuts_self f.ring n slot (Live x (Committed new)) cut_ring refl within refl x (Committed note) x (Committed new) lives refl (refl, record { time = refl; dead = refl; linked = refl; cut = λ _. refl })
+
+  all_slots : (P : ℕ → ℕ → Slot → Type 0) → P n slot (Live x (Committed new)) → ((s j : ℕ) → ¬ ((s ≡ n) × (j ≡ slot)) → P s j (slot_at (f.ring s) j)) → (s j : ℕ) → P s j (slot_at (rings s) j)
+  all_slots = slots_after f.ring n slot (Live x (Committed new)) cut_ring refl within
+
+  abbrev mine : Names f.ring (link_of n x.position) x (Committed note)
+  mine = record { seat = n; slot = slot; lives = lives; is = refl }
+
+  -- a committed version afterwards is the one that was cut, or it is as it was
+  committed_was : (s j : ℕ) (y : Version) (o : CommitNote) → Lives rings s j y (Committed o) → ((s ≡ n) × (j ≡ slot) × (y ≡ x) × (o ≡ new)) ⊎ Lives f.ring s j y (Committed o)
+  committed_was s j y o there =
+      ⊎_elim
+      (λ a. let one = live_once (Live x (Committed new)) x y (Committed new) (Committed o) refl a.2 in inl (a.0, a.1, sym one.0, sym (note_once new o one.1)))
+      (λ b. inr b.1)
+      (lives_back f.ring n slot (Live x (Committed new)) cut_ring refl within s j y (Committed o) there)
+
+  -- a version of another object is as it was
+  other_still : (s j : ℕ) (y : Version) (st : Status) → Lives f.ring s j y st → y.object ≢ x.object → Lives rings s j y st
+  other_still s j y st there ne =
+      ⊎_elim
+      (λ at.
+      let here : Lives f.ring n slot y st = subst (λ (p : ℕ × ℕ). Lives f.ring p.0 p.1 y st) (λ i. (at.0 i, at.1 i)) there in
+      let one = live_once (slot_at (f.ring n) slot) x y (Committed note) st lives here in
+      absurd (ne (ap (λ (v : Version). v.object) (sym one.0))))
+      (λ apart. lives_else f.ring n slot (Live x (Committed new)) cut_ring refl within s j y st apart there)
+      (here_or_else s n j slot)
+
+  -- no seat holds the object
+  none_holds : NoneHolds f.ring x.object
+  none_holds s j y there same =
+      let other : Names f.ring (link_of n x.position) y Held = record { seat = s; slot = j; lives = there; is = sym won ∙ ap (λ (o : ℕ). m (Head o)) (sym same) ∙ k.head_is_top.held s j y there } in
+      let one = names_once c h f.ring k.checked k.history.in_time k.positions (link_of n x.position) x y (Committed note) Held mine other in
+      let clash : Committed note ≡ Held = one.3 in cc
+
+  -- it is the object's last write
+  is_last : note.time ≡ last
+  is_last =
+      ⊎_elim
+      (λ a.
+      let names : Names f.ring (link_of n x.position) a.0 (Committed a.1) = subst (λ (l : ℕ). Names f.ring l a.0 (Committed a.1)) won a.2.names in
+      let one = names_once c h f.ring k.checked k.history.in_time k.positions (link_of n x.position) x a.0 (Committed note) (Committed a.1) mine names in
+      ap (λ (o : CommitNote). o.time) (note_once note a.1 one.3) ∙ a.2.time_is)
+      (λ z. absurd (link_some n x.position (sym won ∙ z.0)))
+      (k.head_is_top.top x.object none_holds)
+
+  cut_here : Lives rings n slot x (Committed new)
+  cut_here = at_here f.ring n slot (Live x (Committed new)) cut_ring refl within
+
+  -- the version of that write is cut now
+  none_uncut : NoneUncut rings x.object last
+  none_uncut link y o v =
+      ⊎_elim
+      (λ a. ap (λ (q : CommitNote). q.cut) a.3)
+      (λ was.
+      let one = write_once c start h f.ring k.checked k.history.in_time k.history.legal k.positions k.write_sets v.names.seat n v.names.slot slot y x o note was lives v.object_is (v.time_is ∙ sym is_last) in
+      let at : Lives f.ring n v.names.slot y (Committed o) = subst (λ (s : ℕ). Lives f.ring s v.names.slot y (Committed o)) one.0 was in
+      let place = position_once c h f.ring k.checked k.history.in_time k.positions n v.names.slot slot y x (Committed o) (Committed note) at lives (ap (λ (z : Version). z.position) one.1) in
+      let here : Lives rings n slot y (Committed o) = subst (λ (p : ℕ × ℕ). Lives rings p.0 p.1 y (Committed o)) (λ i. (one.0 i, place.0 i)) v.names.lives in
+      let same = live_once (slot_at (rings n) slot) x y (Committed new) (Committed o) cut_here here in
+      ap (λ (q : CommitNote). q.cut) (sym (note_once new o same.1)))
+      (committed_was v.names.seat v.names.slot y o v.names.lives)
+
+  -- the top of another object is as it was
+  top_still : (o t link : ℕ) → o ≢ x.object → IsTop f.ring o t link → IsTop rings o t link
+  top_still o t link ne =
+      ⊎_elim
+      (λ a.
+      let v = a.2 in
+      inl (
+        a.0,
+        a.1,
+        record {
+          names = record { seat = v.names.seat; slot = v.names.slot; lives = other_still v.names.seat v.names.slot a.0 (Committed a.1) v.names.lives (λ e. ne (sym v.object_is ∙ e)); is = v.names.is };
+          object_is = v.object_is;
+          time_is = v.time_is;
+        },
+        a.3,
+      ))
+      (λ z. inr (z.0, cuts.none_uncut_forth f.ring rings matches o t z.1))
+
+  heads : HeadIsTop c h head rings
+  heads = record {
+    held = λ s j y there.
+        let was = cuts.held_back f.ring rings matches s j y there in
+        put_head m x.object 0 (λ o w. o ≡ y.object → w ≡ link_of s y.position)
+        (λ e. absurd (none_holds s j y was (sym e)))
+        (λ o ne e. ap (λ (p : ℕ). m (Head p)) e ∙ k.head_is_top.held s j y was)
+        y.object refl;
+    top = put_head m x.object 0 (λ o w. NoneHolds rings o → IsTop rings o (latest c.base h o) w)
+        (λ none. inr (refl, none_uncut))
+        (λ o ne none. top_still o (latest c.base h o) (m (Head o)) ne (k.head_is_top.top o (cuts.none_holds_back f.ring rings matches o none)));
+  }
+
+  links : HeldLink c h rings
+  links s j y there =
+      let was = cuts.held_back f.ring rings matches s j y there in
+      top_still y.object (latest c.base h y.object) y.previous (none_holds s j y was) (k.held_link s j y was)
+
+  -- no later write of the object lies above it
+  none_above : (s j : ℕ) (y : Version) (o : CommitNote) → Lives f.ring s j y (Committed o) → y.object ≡ x.object → latest_at c.base h y.object (o.time - 1) ≡ note.time → ⊥
+  none_above s j y o there same at =
+      let w = version_writes c h f.ring k.write_sets s j y o there in
+      let top : o.time ≤ last = latest-reaches c.base h x.object o.time w.0 w.1 (ap (λ (p : ℕ). writes_to p w.0) (sym same) ∙ w.2) in
+      let low = (commit_within c h f.ring k.write_sets s j y o there).0 in
+      let below = latest_at-le c.base h y.object (o.time - 1) (omega arith) in
+      let is = is_last in
+      omega arith
+
+  commit_links : CommitLink c h rings
+  commit_links s j y o there =
+      let b = cuts.committed_back f.ring rings matches s j y o there in
+      let r = subst (λ (t : ℕ). LinksBelow f.ring y (latest_at c.base h y.object (t - 1))) (sym b.2.time) (k.commit_link s j y b.0 b.1) in
+      let t : ℕ = latest_at c.base h y.object (o.time - 1) in record {
+        uncut = λ link z q v uncut. let w = cuts.version_back f.ring rings matches y.object t link z q v in r.uncut link z w.0 w.1 (cuts.uncut_back w.0 q w.2 uncut);
+        cut = λ link z q v cut.
+            ⊎_elim
+            (λ a.
+            let at : t ≡ note.time = sym v.time_is ∙ ap (λ (p : CommitNote). p.time) a.3 in
+            let same : y.object ≡ x.object = sym v.object_is ∙ ap (λ (p : Version). p.object) a.2 in
+            absurd (none_above s j y b.0 b.1 same (subst (λ (u : ℕ). latest_at c.base h y.object (u - 1) ≡ note.time) b.2.time at)))
+            (λ was. r.cut link z q (record { names = record { seat = v.names.seat; slot = v.names.slot; lives = was; is = v.names.is }; object_is = v.object_is; time_is = v.time_is }) cut)
+            (committed_was v.names.seat v.names.slot z q v.names.lives);
+        none = λ none.
+            ⊎_elim (λ a. inl a) (λ g. inr (gone_forth Cuts cuts.cuts_place f.ring rings matches y.previous g))
+            (r.none (λ link z q v. let w = cuts.version_forth f.ring rings matches y.object t link z q v in none link z w.0 w.1));
+      }
+
+  -- the master has the present state
+  is_present : AreThe (master x.object) (words_of c start h (c.base + length h) x.object)
+  is_present i lt =
+      let co = k.write_sets.commit n slot x note lives in
+      let ended : latest_at c.base h x.object (c.base + length h) ≡ last = latest_at-end c.base h x.object (c.base + length h) (omega arith) in
+      let is = is_last in
+      let same : words_of c start h (c.base + length h) x.object ≡ x.words =
+      words_of-same c start h note.time (c.base + length h) x.object (let le = latest-le c.base h x.object in omega arith) (omega arith) ∙ version-words c start h k.history.legal f.ring n x note co in
+      words i lt ∙ ap (λ (l : List ℕ). slice_index l i) (sym same)
+
+  masters : PresentMaster c start h master f.time rings
+  masters o none =
+      dite (ℕ_discrete o x.object)
+      (λ e. subst (λ (p : ℕ). AreThe (master p) (words_of c start h (c.base + length h) p) × NotAboveAny (latest c.base h p) f.time) (sym e) (is_present, subst (λ (t : ℕ). NotAboveAny t f.time) is_last old))
+      (λ ne. k.present_master o (λ link y q v. none link y q (record {
+        names = record { seat = v.names.seat; slot = v.names.slot; lives = other_still v.names.seat v.names.slot y (Committed q) v.names.lives (λ e. ne (sym v.object_is ∙ e)); is = v.names.is };
+        object_is = v.object_is;
+        time_is = v.time_is;
+      })))
+
+  cut_old : CutIsOld f.time rings
+  cut_old s j y o there cut =
+      ⊎_elim
+      (λ a. subst (λ (q : CommitNote). NotAboveAny q.time f.time) (sym a.3) old)
+      (λ was. k.cut_is_old s j y o was cut)
+      (committed_was s j y o there)
+
+  backs : WriteBacks c h master f.section f.time f.heard f.grace f.back rings
+  backs s b e =
+      let r = k.write_back s b e in
+      let w = r.2 in
+      let i : ℕ = index_of c b.position in
+      let q = cuts.committed_forth f.ring rings matches s i w.version w.note w.lives in (
+        r.0,
+        r.1,
+        record {
+          mode = w.mode;
+          helped = w.helped;
+          nothing = cuts.nothing_still f.ring rings matches s w.nothing;
+          version = w.version;
+          note = q.0;
+          lives = q.1;
+          position_is = w.position_is;
+          object_is = w.object_is;
+          old = subst (λ (t : ℕ). NotAboveAny t f.time) (sym q.2.time) w.old;
+          known = subst (λ (t : ℕ). t ≤ f.grace s) (sym q.2.time) w.known;
+          last = w.last ∙ sym q.2.time;
+          some_stored = w.some_stored;
+          uncut = λ untried.
+              ⊎_elim
+              (λ a. let all = tried b (ap f.back (sym a.0) ∙ e) in let clash : true ≡ false = sym all ∙ untried in absurd (cc))
+              (λ was.
+              let one = live_once (slot_at (f.ring s) i) w.version w.version (Committed w.note) (Committed q.0) w.lives was in
+              ap (λ (p : CommitNote). p.cut) (sym (note_once w.note q.0 one.1)) ∙ w.uncut untried)
+              (committed_was s i w.version q.0 q.1);
+          words = w.words;
+        },
+      )
+
+  built_back : (s j : ℕ) (b : Build) → slot_at (rings s) j ≡ Built b → slot_at (f.ring s) j ≡ Built b
+  built_back = all_slots (λ s j z. (b : Build) → z ≡ Built b → slot_at (f.ring s) j ≡ Built b) (λ b e. absurd (cc)) (λ s j other b e. e)
+
+  freeing_back : (s j p first : ℕ) → slot_at (rings s) j ≡ Freeing p first → slot_at (f.ring s) j ≡ Freeing p first
+  freeing_back = all_slots (λ s j z. (p first : ℕ) → z ≡ Freeing p first → slot_at (f.ring s) j ≡ Freeing p first) (λ p first e. absurd (cc)) (λ s j other p first e. e)
+
+  freeing_forth : (s j p first : ℕ) → slot_at (f.ring s) j ≡ Freeing p first → slot_at (rings s) j ≡ Freeing p first
+  freeing_forth = all_slots (λ s j z. (p first : ℕ) → slot_at (f.ring s) j ≡ Freeing p first → z ≡ Freeing p first)
+      (λ p first e. let g : Live x (Committed note) ≡ Freeing p first = sym lives ∙ e in absurd (cc))
+      (λ s j other p first e. e)
+
+  free_back : (s j : ℕ) → slot_at (rings s) j ≡ Free → slot_at (f.ring s) j ≡ Free
+  free_back = all_slots (λ s j z. z ≡ Free → slot_at (f.ring s) j ≡ Free) (λ e. absurd (cc)) (λ s j other e. e)
+
+  words_after : SlotWords (λ s j. m (First s j)) (λ s j. m (Prev s j)) (λ s j i. m (Data s j i)) rings
+  words_after = all_slots (λ s j z. HoldsSlot (m (First s j)) (m (Prev s j)) (λ i. m (Data s j i)) z)
+      (subst (HoldsSlot (m (First n slot)) (m (Prev n slot)) (λ i. m (Data n slot i))) lives (k.slot_words n slot))
+      (λ s j other. k.slot_words s j)
+
+  -- all facts after the exchange
+  pub cut_facts : Facts starts allows c start (put m (Head x.object) 0) h (changed f n (record unchanged { ring = Some cut_ring }))
+  cut_facts = record {
+    checked = k.checked;
+    history = k.history;
+    slot_words = words_after;
+    stamps = kept.stamps_kept c h f.ring rings matches (m Clock) (λ s j. m (Stamp s j)) built_back k.stamps;
+    write_sets = kept.sets_kept c h f.ring rings matches k.write_sets;
+    helped_words = k.helped_words;
+    marks = k.marks;
+    stamped_past_help = kept.past_help_kept c h f.ring rings matches (λ s j. m (Stamp s j)) f.section f.heard k.stamped_past_help;
+    grace = k.grace;
+    lock_freshness = kept.freshness_kept c h f.ring rings matches f.time k.lock_freshness;
+    successors = kept.successors_kept c h f.ring rings matches (λ s j. m (Stamp s j)) (λ s j. m (Super s j)) f.section built_back k.successors;
+    deaths = kept.deaths_kept c h f.ring rings matches k.deaths;
+    positions = kept.positions_kept c h f.ring rings matches (wide_after f.ring n slot (Live x (Committed new)) cut_ring refl within) freeing_back freeing_forth built_back k.positions;
+    head_is_top = heads;
+    held_link = links;
+    commit_link = commit_links;
+    aborted_link = kept.aborted_link_kept c h f.ring rings matches k.aborted_link;
+    present_master = masters;
+    chain_foot = kept.foot_kept c h f.ring rings matches start master f.time k.chain_foot;
+    walker_place = kept.place_kept c h f.ring rings matches start master f.time f.walk k.walker_place;
+    walker_before_death = kept.before_death_kept c h f.ring rings matches f.time f.walk k.walker_before_death;
+    walker_knowledge = kept.knowledge_kept c h f.ring rings matches f.section f.time f.heard f.walk k.walker_knowledge;
+    below_is_stamped = kept.below_kept c h f.ring rings matches (λ s j. m (Stamp s j)) k.below_is_stamped;
+    walker_falls = kept.falls_kept c h f.ring rings matches (λ s j. m (Stamp s j)) f.walk k.walker_falls;
+    walker_late = kept.late_kept c h f.ring rings matches f.time f.walk k.walker_late;
+    found_stamp = kept.found_kept c h f.ring rings matches (λ s j. m (Stamp s j)) (m Clock) f.heard k.found_stamp;
+    unstamped_is_unfinished = kept.unfinished_kept c h f.ring rings matches (λ s j. m (Stamp s j)) f.section k.unstamped_is_unfinished;
+    named_commit = kept.named_kept c h f.ring rings matches (λ s j. m (Stamp s j)) f.section k.named_commit;
+    open_section = kept.open_kept c h f.ring rings matches f.section k.open_section;
+    successor_flag = kept.flag_kept c h f.ring rings matches (λ s j. m (Super s j)) f.section k.successor_flag;
+    succeeded_has_super = kept.succeeded_kept c h f.ring rings matches (λ s j. m (Super s j)) f.empty k.succeeded_has_super;
+    loaded_words = k.loaded_words;
+    freed_is_old = kept.freed_kept c h f.ring rings matches (m Clock) f.time k.freed_is_old;
+    cut_is_old = cut_old;
+    death_after_write = kept.death_after_kept c h f.ring rings matches k.death_after_write;
+    write_back = backs;
+    positions_and_grace = kept.grace_kept c h f.ring rings matches f.grace free_back freeing_back built_back k.positions_and_grace;
+    phases_and_scan = k.phases_and_scan;
+  }

@@ -1,0 +1,340 @@
+-- load CLOCK (time a dead version): the own aborted and cut versions that wait for it are dead from the time after the clock's, and their seat sees the whole history.
+use Rattle.std.proofs.Common.{◌≡◌, ◌≢◌, ◌⊎◌, ℕ, ◌+◌, ◌-◌, ◌/◌, ◌%◌, ◌<◌, ◌≤◌, Bool, true, false, List, ◌++◌, length, map, length-append, refl, sym, ap, ◌∙◌, subst, inl, inr, ⊎_elim, arith, Option, Some}
+use Rattle.mv_history.specs.declared.Entry.{Entry}
+use Rattle.mv_history.specs.State.{State, Writes}
+use Rattle.mv_layout.specs.declared.Config.{Config}
+use Rattle.mv_layout.specs.declared.Place.TheVariants.{Clock, Head, Master, First, Stamp, Prev, Super, Data}
+use Rattle.mv_layout.specs.Places.{Memory}
+use Rattle.mv_layout.specs.Words.{clock_time_of}
+use Rattle.mv_core.specs.declared.ring.Ring.{Ring}
+use Rattle.mv_core.specs.declared.ring.Slot.{Slot}
+use Rattle.mv_core.specs.declared.ring.Slot.TheVariants.{Free, Built, Live, Freeing}
+use Rattle.mv_core.specs.declared.ring.Build.{Build}
+use Rattle.mv_core.specs.declared.ring.Version.{Version}
+use Rattle.mv_core.specs.declared.ring.Status.{Status}
+use Rattle.mv_core.specs.declared.ring.Status.TheVariants.{Held, Aborted, Committed}
+use Rattle.mv_core.specs.declared.ring.CommitNote.{CommitNote}
+use Rattle.mv_core.specs.declared.view.View.{View}
+use Rattle.mv_core.specs.declared.view.Past.{Past}
+use Rattle.mv_core.specs.Rings.{slot_at, is_held, held_count, Lives, Names, IsVersion}
+use Rattle.mv_core.specs.Times.{latest_at}
+use Rattle.mv_core.specs.Views.{Faces, faces_of}
+use Rattle.mv_core.specs.SetFacts.{HoldsSlot, SlotWords}
+use Rattle.mv_core.specs.SectionFacts.{IsWord}
+use Rattle.mv_core.specs.WalkFacts.{IsBeforeDeath, WalkerBeforeDeath}
+use Rattle.mv_core.specs.ReclaimFacts.{Deaths, DeathAfterWrite, SuccessorFlag, PositionsAndGrace}
+use Rattle.mv_core.specs.EnterSteps.{IsWhole}
+use Rattle.mv_core.specs.LockSteps.{timed_status, timed, death_loaded}
+use Rattle.mv_core.specs.Known.{RunsOn}
+use Rattle.mv_core.specs.Rule.{Facts, Loads, IsKept}
+use Rattle.mv_core.proofs.Frames.{unchanged, changed, settle}
+use Rattle.mv_core.proofs.Links.{note_once, names_once, none_names_zero, gone_names_none}
+use Rattle.mv_core.proofs.Finding.{find_write}
+use Rattle.mv_core.proofs.Written.{commit_within}
+use Rattle.mv_core.proofs.WholeSeen.{whole_seen}
+use Rattle.mv_core.proofs.Counts.{held_mapped}
+use Rattle.mv_core.proofs.Slots.{Matches, match_weaker, match_map, mapped, slots_mapped, wide_mapped, next_mapped}
+use Rattle.mv_core.proofs.Matching.{Alike, names_back}
+use Rattle.mv_core.proofs.DeathNotes.{timed_back, aborted_was, timed_note, committed_was, note_time, note_cut, note_linked, note_uncut, dead_is, note_dead, before_timed, Timed, timed_self, timed_place, timed_alike}
+use Rattle.mv_core.proofs.MatchedSets as set
+use Rattle.mv_core.proofs.MatchedStamps as stamped
+use Rattle.mv_core.proofs.MatchedWalks as walked
+
+module _ (starts : State → Type 0) (allows : List ℕ → State → Writes → Type 0) (c : Config) (start : State) (m : Memory) (h : List Entry) (f : Faces) (k : Facts starts allows c start m h f) where
+  -- the version below a committed one wasn't cut
+  below_uncut : (s j : ℕ) (x y : Version) (note other : CommitNote) → Lives f.ring s j x (Committed note) → Names f.ring x.previous y (Committed other) → other.cut ≡ false
+  below_uncut s j x y note other lives below =
+      let t : ℕ = latest_at c.base h x.object (note.time - 1) in
+      let links = k.commit_link s j x note lives in
+      let unlinked : x.previous ≡ 0 → ⊥ = λ zero_is. none_names_zero f.ring x.previous zero_is y (Committed other) below in
+      ⊎_elim
+      (λ v.
+      let link : ℕ = v.0 in
+      let z : Version = v.1 in
+      let n : CommitNote = v.2 in
+      let is : IsVersion f.ring x.object t link z n = v.3 in
+      by_cut n.cut (λ cut. absurd (unlinked (links.cut link z n is cut)))
+      (λ uncut.
+      let named : Names f.ring x.previous z (Committed n) = subst (λ (l : ℕ). Names f.ring l z (Committed n)) (sym (links.uncut link z n is uncut)) is.names in
+      let one = names_once c h f.ring k.checked k.history.in_time k.positions x.previous y z (Committed other) (Committed n) below named in
+      ap (λ (o : CommitNote). o.cut) (note_once other n one.3) ∙ uncut))
+      (λ none. absurd (⊎_elim unlinked (λ gone. gone_names_none c h f.ring k.checked k.history.in_time k.positions x.previous gone y (Committed other) below) (links.none none)))
+      (find_write c h f.ring k.checked k.history.in_time k.positions x.object t)
+    where
+      by_cut : (b : Bool) → {P : Type 0} → (b ≡ true → P) → (b ≡ false → P) → P
+      by_cut true yes_case no_case = yes_case refl
+      by_cut false yes_case no_case = no_case refl
+
+  module _ (n : ℕ) where
+    abbrev d : ℕ
+    d = clock_time_of (m Clock) + 1
+
+    abbrev rings : ℕ → Ring
+    rings = mapped f.ring n (timed d) refl
+
+    matches : Matches (Timed d) f.ring rings
+    matches = match_map (Timed d) (timed_self d) f.ring n (timed d) refl
+        (λ z y st e. (y, timed_status d st, ap (timed d) e, (refl, inr refl)))
+        (λ z x su e. let b = timed_back d z x su e in (x, b.0, b.1, (refl, inr (sym b.2))))
+
+    alike : Matches Alike f.ring rings
+    alike = match_weaker (Timed d) Alike f.ring rings (timed_alike d) matches
+
+    -- what holds of each slot of the log, and of each other, holds of all
+    all_slots : (P : ℕ → ℕ → Slot → Type 0) → ((j : ℕ) → P n j (timed d (slot_at (f.ring n) j))) → ((s j : ℕ) → s ≢ n → P s j (slot_at (f.ring s) j)) → (s j : ℕ) → P s j (slot_at (rings s) j)
+    all_slots = slots_mapped f.ring n (timed d) refl
+
+    now_is : clock_time_of (m Clock) ≡ c.base + length h
+    now_is = k.history.long
+
+    -- the time of a section isn't above the clock's
+    section_time : (s t : ℕ) → f.time s ≡ Some t → t < d
+    section_time s t e =
+        let front = (k.history.seats s).seen in
+        let long : length h ≡ length (f.past s).seen + length front.0 = ap length front.1 ∙ length-append (f.past s).seen front.0 in
+        let le = k.phases_and_scan.seen s t e in
+        let now = now_is in
+        omega arith
+
+    -- a commit's time isn't either
+    commit_time : (s j : ℕ) (x : Version) (note : CommitNote) → Lives f.ring s j x (Committed note) → note.time < d
+    commit_time s j x note lives = let t = (commit_within c h f.ring k.write_sets s j x note lives).1 in let now = now_is in omega arith
+
+    -- nor is the time of the round that a position is of
+    round_time : (s j : ℕ) (x : Version) (st : Status) → Lives f.ring s j x st → c.base + x.position / c.slots < d
+    round_time s j x st lives = let low = k.positions_and_grace.live s j x st lives in let known = (k.grace.views s).0 in omega arith
+
+    -- an aborted version had its death before, or has the new one
+    aborted_back : (s j dead : ℕ) (x : Version) → Lives rings s j x (Aborted (Some dead)) → (o : Option ℕ) × Lives f.ring s j x (Aborted o) × ((o ≡ Some dead) ⊎ (dead ≡ d))
+    aborted_back s j dead x = all_slots (λ t i z. z ≡ Live x (Aborted (Some dead)) → (o : Option ℕ) × (slot_at (f.ring t) i ≡ Live x (Aborted o)) × ((o ≡ Some dead) ⊎ (dead ≡ d)))
+        (λ i e.
+        let b = timed_back d (slot_at (f.ring n) i) x (Aborted (Some dead)) e in
+        let w = aborted_was d b.0 (Some dead) b.2 in
+        (w.0, b.1 ∙ ap (Live x) w.1, dead_is d w.0 dead w.2))
+        (λ t i ne e. (Some dead, e, inl refl)) s j
+
+    -- and so had a committed one, if it was cut; else its note is as before
+    committed_back : (s j : ℕ) (x : Version) (note : CommitNote) → Lives rings s j x (Committed note) → (was : CommitNote) × Lives f.ring s j x (Committed was) × ((note ≡ was) ⊎ (note ≡ timed_note d was))
+    committed_back s j x note = all_slots (λ t i z. z ≡ Live x (Committed note) → (was : CommitNote) × (slot_at (f.ring t) i ≡ Live x (Committed was)) × ((note ≡ was) ⊎ (note ≡ timed_note d was)))
+        (λ i e.
+        let b = timed_back d (slot_at (f.ring n) i) x (Committed note) e in
+        let w = committed_was d b.0 note b.2 in
+        (w.0, b.1 ∙ ap (Live x) w.1, inr (sym w.2)))
+        (λ t i ne e. (note, e, inl refl)) s j
+
+    -- a note by what it was: the same time, cut where it was, and a death that was noted before or is the new one, and this of a cut version alone
+    record IsTimed (was note : CommitNote) : Type 0 where
+      time_is : note.time ≡ was.time
+      cut_is : note.cut ≡ was.cut
+      linked_is : note.linked ≡ was.linked
+      dead_was : (t : ℕ) → note.dead ≡ Some t → (was.dead ≡ Some t) ⊎ (t ≡ d)
+      uncut_same : was.cut ≡ false → note ≡ was
+
+    is_timed : (was note : CommitNote) → (note ≡ was) ⊎ (note ≡ timed_note d was) → IsTimed was note
+    is_timed was note a =
+        ⊎_elim
+        (λ e. record { time_is = ap (λ (o : CommitNote). o.time) e; cut_is = ap (λ (o : CommitNote). o.cut) e; linked_is = ap (λ (o : CommitNote). o.linked) e; dead_was = λ t is. inl (ap (λ (o : CommitNote). o.dead) (sym e) ∙ is); uncut_same = λ _. e })
+        (λ e. record {
+          time_is = ap (λ (o : CommitNote). o.time) e ∙ note_time d was;
+          cut_is = ap (λ (o : CommitNote). o.cut) e ∙ note_cut d was;
+          linked_is = ap (λ (o : CommitNote). o.linked) e ∙ note_linked d was;
+          dead_was = λ t is. note_dead d was t (ap (λ (o : CommitNote). o.dead) (sym e) ∙ is);
+          uncut_same = λ uncut. e ∙ note_uncut d was uncut;
+        })
+        a
+
+    deaths_after : Deaths c h rings
+    deaths_after = record {
+      aborted = λ s j dead x lives.
+          let b = aborted_back s j dead x lives in
+          let now = now_is in
+          ⊎_elim (λ e. k.deaths.aborted s j dead x (subst (λ (o : Option ℕ). Lives f.ring s j x (Aborted o)) e b.1)) (λ e. let le : dead ≤ c.base + length h + 1 = omega arith in le) b.2;
+      cut = λ s j dead x note lives cut e.
+          let b = committed_back s j x note lives in
+          let i = is_timed b.0 note b.2 in
+          let now = now_is in
+          ⊎_elim (λ was. k.deaths.cut s j dead x b.0 b.1 (sym i.cut_is ∙ cut) was) (λ is. let le : dead ≤ c.base + length h + 1 = omega arith in le) (i.dead_was dead e);
+      superseded = λ s j dead x note lives uncut e.
+          let b = committed_back s j x note lives in
+          let i = is_timed b.0 note b.2 in
+          let same : note ≡ b.0 = i.uncut_same (sym i.cut_is ∙ uncut) in
+          k.deaths.superseded s j dead x note (subst (λ (o : CommitNote). Lives f.ring s j x (Committed o)) (sym same) b.1) uncut e;
+    }
+
+    death_after : DeathAfterWrite rings
+    death_after s j dead x note lives e =
+        let b = committed_back s j x note lives in
+        let i = is_timed b.0 note b.2 in
+        let now = commit_time s j x b.0 b.1 in
+        let time = i.time_is in
+        ⊎_elim (λ was. let lt = k.death_after_write s j dead x b.0 b.1 was in let r : note.time < dead = omega arith in r) (λ is. let r : note.time < dead = omega arith in r) (i.dead_was dead e)
+
+    before_death_after : WalkerBeforeDeath f.time f.walk rings
+    before_death_after = record {
+      here = λ s t stand y su e w names.
+          let b = names_back (Timed d) (timed_place d) f.ring rings matches stand.link y su names in
+          before_either t b.1 su (section_time s t e) (k.walker_before_death.here s t stand b.0 b.1 e w b.2) b.3.1;
+      below = λ s t stand y z dead su e w names below.
+          let a = aborted_any names.seat names.slot y dead names.lives in
+          let g = names_back (Timed d) (timed_place d) f.ring rings matches y.previous z su below in
+          before_either t g.1 su (section_time s t e) (k.walker_before_death.below s t stand y g.0 a.0 g.1 e w (record { seat = names.seat; slot = names.slot; lives = a.1; is = names.is }) g.2) g.3.1;
+    }
+      where
+        before_either : (t : ℕ) (st su : Status) → t < d → IsBeforeDeath t st → (su ≡ st) ⊎ (su ≡ timed_status d st) → IsBeforeDeath t su
+        before_either t st su lt a b = ⊎_elim (λ e. subst (IsBeforeDeath t) (sym e) a) (λ e. subst (IsBeforeDeath t) (sym e) (before_timed t d st lt a)) b
+
+        aborted_any : (s j : ℕ) (x : Version) (e : Option ℕ) → Lives rings s j x (Aborted e) → (o : Option ℕ) × Lives f.ring s j x (Aborted o)
+        aborted_any s j x e = all_slots (λ t i z. z ≡ Live x (Aborted e) → (o : Option ℕ) × (slot_at (f.ring t) i ≡ Live x (Aborted o)))
+            (λ i is. let b = timed_back d (slot_at (f.ring n) i) x (Aborted e) is in let w = aborted_was d b.0 e b.2 in (w.0, b.1 ∙ ap (Live x) w.1))
+            (λ t i ne is. (e, is)) s j
+
+    flag_after : SuccessorFlag (λ s j. m (Super s j)) f.section rings
+    flag_after s j inside naming x note in_section mode lives time =
+        let b = committed_back s j x note lives in
+        let i = is_timed b.0 note b.2 in
+        let r = k.successor_flag s j inside naming x b.0 in_section mode b.1 (sym i.time_is ∙ time) in (
+          λ zero_is. i.linked_is ∙ r.0 zero_is,
+          λ y other below.
+              let a = committed_back below.seat below.slot y other below.lives in
+              let o = is_timed a.0 other a.2 in
+              let named : Names f.ring x.previous y (Committed a.0) = record { seat = below.seat; slot = below.slot; lives = a.1; is = below.is } in
+              let same : other ≡ a.0 = o.uncut_same (below_uncut s j x y b.0 a.0 b.1 named) in
+              let q = r.1 y a.0 named in
+              (λ linked. q.0 (sym i.linked_is ∙ linked), λ unlinked. let z = q.1 (sym i.linked_is ∙ unlinked) in (z.0, ap (λ (p : CommitNote). p.dead) same ∙ z.1)),
+        )
+
+    built_back : (s j : ℕ) (b : Build) → slot_at (rings s) j ≡ Built b → slot_at (f.ring s) j ≡ Built b
+    built_back s j b = all_slots (λ t i z. z ≡ Built b → slot_at (f.ring t) i ≡ Built b) (λ i. go (slot_at (f.ring n) i)) (λ t i ne e. e) s j
+      where
+        go : (z : Slot) → timed d z ≡ Built b → z ≡ Built b
+        go Free e = absurd (cc)
+        go (Built a) e = e
+        go (Live x st) e = absurd (cc)
+        go (Freeing p q) e = absurd (cc)
+
+    free_back : (s j : ℕ) → slot_at (rings s) j ≡ Free → slot_at (f.ring s) j ≡ Free
+    free_back s j = all_slots (λ t i z. z ≡ Free → slot_at (f.ring t) i ≡ Free) (λ i. go (slot_at (f.ring n) i)) (λ t i ne e. e) s j
+      where
+        go : (z : Slot) → timed d z ≡ Free → z ≡ Free
+        go Free e = refl
+        go (Built a) e = absurd (cc)
+        go (Live x st) e = absurd (cc)
+        go (Freeing p q) e = absurd (cc)
+
+    freeing_back : (s j p first : ℕ) → slot_at (rings s) j ≡ Freeing p first → slot_at (f.ring s) j ≡ Freeing p first
+    freeing_back s j p first = all_slots (λ t i z. z ≡ Freeing p first → slot_at (f.ring t) i ≡ Freeing p first) (λ i. go (slot_at (f.ring n) i)) (λ t i ne e. e) s j
+      where
+        go : (z : Slot) → timed d z ≡ Freeing p first → z ≡ Freeing p first
+        go Free e = absurd (cc)
+        go (Built a) e = absurd (cc)
+        go (Live x st) e = absurd (cc)
+        go (Freeing a b) e = e
+
+    freeing_forth : (s j p first : ℕ) → slot_at (f.ring s) j ≡ Freeing p first → slot_at (rings s) j ≡ Freeing p first
+    freeing_forth s j p first = all_slots (λ t i z. slot_at (f.ring t) i ≡ Freeing p first → z ≡ Freeing p first) (λ i e. ap (timed d) e) (λ t i ne e. e) s j
+
+    slot_words_after : SlotWords (λ s j. m (First s j)) (λ s j. m (Prev s j)) (λ s j i. m (Data s j i)) rings
+    slot_words_after = all_slots (λ s j z. HoldsSlot (m (First s j)) (m (Prev s j)) (λ i. m (Data s j i)) z) (λ j. go j (slot_at (f.ring n) j) (k.slot_words n j)) (λ s j ne. k.slot_words s j)
+      where
+        go : (j : ℕ) (z : Slot) → HoldsSlot (m (First n j)) (m (Prev n j)) (λ i. m (Data n j i)) z → HoldsSlot (m (First n j)) (m (Prev n j)) (λ i. m (Data n j i)) (timed d z)
+        go j Free a = a
+        go j (Built b) a = a
+        go j (Live x st) a = a
+        go j (Freeing p q) a = a
+
+    next_is : (s : ℕ) → (rings s).next ≡ (f.ring s).next
+    next_is = next_mapped f.ring n (timed d) refl
+
+    grace_after : PositionsAndGrace c f.grace rings
+    grace_after = record {
+      live = λ s j x su lives. let b = matches.back s j x su lives in subst (λ (v : Version). c.base + v.position / c.slots ≤ f.grace s) (sym b.3.0) (k.positions_and_grace.live s j b.0 b.1 b.2);
+      free = λ s j low e. subst (λ (p : ℕ). c.base + (p + (j + c.slots - p % c.slots) % c.slots) / c.slots ≤ f.grace s) (sym (next_is s)) (k.positions_and_grace.free s j low (free_back s j e));
+      built = λ s j b e. subst (λ (p : ℕ). c.base + p / c.slots ≤ f.grace s) (sym (next_is s)) (k.positions_and_grace.built s j b (built_back s j b e));
+      freeing = λ s j p first e. k.positions_and_grace.freeing s j p first (freeing_back s j p first e);
+      commit = λ s j x note lives.
+          let b = committed_back s j x note lives in
+          let time = (is_timed b.0 note b.2).time_is in
+          let lt = k.positions_and_grace.commit s j x b.0 b.1 in
+          omega arith;
+      dead = λ s j t x note lives e.
+          let b = committed_back s j x note lives in
+          let low = round_time s j x (Committed b.0) b.1 in
+          ⊎_elim (λ was. k.positions_and_grace.dead s j t x b.0 b.1 was) (λ is. subst (λ (u : ℕ). c.base + x.position / c.slots < u) (sym is) low) ((is_timed b.0 note b.2).dead_was t e);
+      aborted = λ s j t x lives.
+          let b = aborted_back s j t x lives in
+          let low = round_time s j x (Aborted b.0) b.1 in
+          ⊎_elim (λ e. k.positions_and_grace.aborted s j t x (subst (λ (o : Option ℕ). Lives f.ring s j x (Aborted o)) e b.1)) (λ is. subst (λ (u : ℕ). c.base + x.position / c.slots < u) (sym is) low) b.2;
+    }
+
+    -- all facts after the load, but for what its seat has seen
+    death_facts : Facts starts allows c start m h (changed f n (record unchanged { ring = Some (record (f.ring n) { slots = map (timed d) (f.ring n).slots }) }))
+    death_facts = record {
+      checked = k.checked;
+      history = k.history;
+      slot_words = slot_words_after;
+      stamps = stamped.stamps_match c h f.ring rings alike (λ s j. m (Stamp s j)) (λ s j. m (Stamp s j)) (λ s j y st l. refl) (m Clock) (λ s j b e. k.stamps.built s j b (built_back s j b e)) k.stamps;
+      write_sets = set.sets_match c h f.ring rings alike k.write_sets;
+      helped_words = k.helped_words;
+      marks = k.marks;
+      stamped_past_help = stamped.past_help_match c h f.ring rings alike (λ s j. m (Stamp s j)) (λ s j. m (Stamp s j)) (λ s j y st l. refl) f.section f.heard k.stamped_past_help;
+      grace = k.grace;
+      lock_freshness = set.freshness_match c h f.ring rings alike f.time k.lock_freshness;
+      successors = stamped.successors_match c h f.ring rings alike (λ s j. m (Super s j)) (λ s j. m (Super s j)) (λ s j y st l. refl) (λ s j. m (Stamp s j)) (λ s j. m (Stamp s j)) (λ s j y st l. refl) f.section
+          (λ s j b e. k.successors.built s j b (built_back s j b e)) k.successors;
+      deaths = deaths_after;
+      positions = set.positions_match c h f.ring rings alike (wide_mapped f.ring n (timed d) refl) freeing_back freeing_forth (λ s j b e. k.positions.built s j b (built_back s j b e)) k.positions;
+      head_is_top = set.top_match c h f.ring rings alike (λ o. m (Head o)) k.head_is_top;
+      held_link = set.held_link_match c h f.ring rings alike k.held_link;
+      commit_link = set.commit_link_match c h f.ring rings alike k.commit_link;
+      aborted_link = set.aborted_link_match c h f.ring rings alike k.aborted_link;
+      present_master = set.master_match c h f.ring rings alike start (λ o i. m (Master o i)) f.time k.present_master;
+      chain_foot = set.foot_match c h f.ring rings alike start (λ o i. m (Master o i)) f.time k.chain_foot;
+      walker_place = walked.place_match c h f.ring rings alike start (λ o i. m (Master o i)) f.time f.walk k.walker_place;
+      walker_before_death = before_death_after;
+      walker_knowledge = walked.knowledge_match c h f.ring rings alike f.section f.time f.heard f.walk k.walker_knowledge;
+      below_is_stamped = stamped.below_match c h f.ring rings alike (λ s j. m (Stamp s j)) (λ s j. m (Stamp s j)) (λ s j y st l. refl) k.below_is_stamped;
+      walker_falls = walked.falls_match c h f.ring rings alike (λ s j. m (Stamp s j)) (λ s j. m (Stamp s j)) (λ s j y st l. refl) f.walk k.walker_falls;
+      walker_late = walked.late_match c h f.ring rings alike f.time f.walk k.walker_late;
+      found_stamp = stamped.found_match c h f.ring rings alike (λ s j. m (Stamp s j)) (λ s j. m (Stamp s j)) (λ s j y st l. refl) (m Clock) f.heard (λ s j p used apart. apart) k.found_stamp;
+      unstamped_is_unfinished = stamped.unfinished_match c h f.ring rings alike (λ s j. m (Stamp s j)) (λ s j. m (Stamp s j)) (λ s j y st l. refl) f.section k.unstamped_is_unfinished;
+      named_commit = stamped.named_match c h f.ring rings alike (λ s j. m (Stamp s j)) (λ s j. m (Stamp s j)) (λ s j y st l. refl) f.section k.named_commit;
+      open_section = set.open_match c h f.ring rings alike f.section k.open_section;
+      successor_flag = flag_after;
+      succeeded_has_super = stamped.succeeded_match c h f.ring rings alike (λ s j. m (Super s j)) (λ s j. m (Super s j)) (λ s j y st l. refl) f.empty k.succeeded_has_super;
+      loaded_words = k.loaded_words;
+      freed_is_old = set.freed_match c h f.ring rings alike (m Clock) f.time k.freed_is_old;
+      cut_is_old = set.cut_match c h f.ring rings alike f.time k.cut_is_old;
+      death_after_write = death_after;
+      write_back = stamped.back_match c h f.ring rings alike (λ o i. m (Master o i)) f.section f.time f.heard f.grace f.back k.write_back;
+      positions_and_grace = grace_after;
+      phases_and_scan = k.phases_and_scan;
+    }
+
+-- the timed slot is held where it was
+held_timed : (d : ℕ) (z : Slot) → is_held (timed d z) ≡ is_held z
+held_timed d Free = refl
+held_timed d (Built b) = refl
+held_timed d (Freeing p q) = refl
+held_timed d (Live x Held) = refl
+held_timed d (Live x (Aborted e)) = refl
+held_timed d (Live x (Committed note)) = refl
+
+module _ (starts : State → Type 0) (allows : List ℕ → State → Writes → Type 0) (c : Config) (start : State) (v : View) where
+  pub death_loads : Loads starts allows c start v Clock (λ n w. ((((h : List Entry) × IsWhole c v n h × (w ≡ death_loaded c v n h)) × IsWord c n) × RunsOn v w) × IsKept v w)
+  death_loads m h seats k is own begins wide =
+      let clock = m Clock in
+      let d : ℕ = clock_time_of clock + 1 in
+      let n = v.number in
+      let f : Faces = faces_of seats in
+      let w : View = death_loaded c v clock h in
+      let p : Past = record (seats n).past { seen = h } in
+      let r : Ring = record (seats n).ring { slots = map (timed d) (seats n).ring.slots } in
+      let seen = whole_seen starts allows c start m h f k n in
+      let held : held_count w.ring ≡ held_count v.ring = held_mapped (timed d) (held_timed d) v.ring in
+      let front : (rest : List Entry) × (h ≡ v.past.seen ++ rest) = subst (λ (u : View). (rest : List Entry) × (h ≡ u.past.seen ++ rest)) is (k.history.seats n).seen in (
+        w,
+        settle starts allows c start m h seats n v w is (record unchanged { past = Some p; ring = Some r })
+            (ap (λ (u : View). record u.past { seen = h }) (sym is), refl, refl, refl, refl, refl, refl, ap (λ (u : View). record u.ring { slots = map (timed d) u.ring.slots }) (sym is), refl, refl, refl)
+            (death_facts starts allows c start m h (changed f n (record unchanged { past = Some p })) seen n),
+        ((((h, (front, k.history.long), refl), k.loaded_words.clock_is), (λ time first a begun. (a, λ i e mode some_held. begun i e mode (subst (λ (u : ℕ). 0 < u) held some_held) ∙ ap (λ (u : ℕ). v.ring.next - u) (sym held)))), (refl, refl, refl, refl, refl, refl)),
+      )

@@ -1,0 +1,49 @@
+-- load GRACE and fetch_max GRACE: what was found there is a time that no section is below.
+use Rattle.std.proofs.Common.{◌≡◌, ℕ, ◌≤◌, max, List, refl, sym, ap, subst, arith, Some}
+use Rattle.mv_history.specs.declared.Entry.{Entry}
+use Rattle.mv_history.specs.State.{State, Writes}
+use Rattle.mv_layout.specs.declared.Config.{Config}
+use Rattle.mv_layout.specs.declared.Place.TheVariants.{Clock, Grace}
+use Rattle.mv_layout.specs.Words.{clock_time_of}
+use Rattle.mv_layout.specs.Places.{Memory, put}
+use Rattle.mv_core.specs.declared.view.View.{View}
+use Rattle.mv_core.specs.Times.{NotAboveAny}
+use Rattle.mv_core.specs.Views.{faces_of}
+use Rattle.mv_core.specs.SeatSteps.{MayRaiseGrace, grace_loaded, grace_raised}
+use Rattle.mv_core.specs.Known.{RunsOn}
+use Rattle.mv_core.specs.Rule.{Facts, Loads, Raises, IsKept}
+use Rattle.mv_core.proofs.Frames.{unchanged, settle}
+use Rattle.mv_core.proofs.Watermarks.{max_not_above, lower_not_above, watermark_rises, shared_rises}
+
+module _ (starts : State → Type 0) (allows : List ℕ → State → Writes → Type 0) (c : Config) (start : State) (v : View) where
+  -- the watermark of the seat after it found what is in GRACE
+  known_below : (m : Memory) (h : List Entry) (seats : ℕ → View) → Facts starts allows c start m h (faces_of seats) → seats v.number ≡ v → (max v.grace (m Grace) ≤ clock_time_of (m Clock)) × NotAboveAny (max v.grace (m Grace)) (faces_of seats).time
+  known_below m h seats k is =
+      let own = subst (λ (x : ℕ). (x ≤ clock_time_of (m Clock)) × NotAboveAny x (faces_of seats).time) (ap (λ (u : View). u.grace) is) (k.grace.views v.number) in
+      let le = own.0 in let shared = k.grace.shared.0 in (omega arith, λ s. max_not_above v.grace (m Grace) ((faces_of seats).time s) (own.1 s) (k.grace.shared.1 s))
+
+  up : (seats : ℕ → View) (x : ℕ) → seats v.number ≡ v → (seats v.number).grace ≤ max v.grace x
+  up seats x is = subst (λ (y : ℕ). y ≤ max v.grace x) (sym (ap (λ (u : View). u.grace) is)) (omega arith)
+
+  pub grace_loads : Loads starts allows c start v Grace (λ n w. ((w ≡ grace_loaded c v n) × RunsOn v w) × IsKept v w)
+  grace_loads m h seats k is own begins small =
+      let w = grace_loaded c v (m Grace) in
+      let g = max v.grace (m Grace) in (
+        w,
+        settle starts allows c start m h seats v.number v w is (record unchanged { grace = Some g }) (refl, refl, refl, refl, refl, refl, refl, refl, refl, refl, refl)
+            (watermark_rises starts allows c start m h (faces_of seats) k v.number g (up seats (m Grace) is) (known_below m h seats k is)),
+        ((refl, (λ t i a b. (a, b))), (refl, refl, refl, refl, refl, refl)),
+      )
+
+  pub grace_raises : (time : ℕ) → MayRaiseGrace v time → Raises starts allows c start v Grace time (λ n w. ((w ≡ grace_raised c v time n) × RunsOn v w) × IsKept v w)
+  grace_raises time may m h seats k is own begins small =
+      let w = grace_raised c v time (m Grace) in
+      let g = max v.grace (m Grace) in
+      let mine = subst (λ (x : ℕ). (x ≤ clock_time_of (m Clock)) × NotAboveAny x (faces_of seats).time) (ap (λ (u : View). u.grace) is) (k.grace.views v.number) in
+      let fits : (max (m Grace) time ≤ clock_time_of (m Clock)) × NotAboveAny (max (m Grace) time) (faces_of seats).time =
+      let own_le = mine.0 in let shared_le = k.grace.shared.0 in let le : time ≤ v.grace = may in (omega arith, λ s. max_not_above (m Grace) time ((faces_of seats).time s) (k.grace.shared.1 s) (lower_not_above v.grace time ((faces_of seats).time s) may (mine.1 s))) in (
+        w,
+        settle starts allows c start (put m Grace (max (m Grace) time)) h seats v.number v w is (record unchanged { grace = Some g }) (refl, refl, refl, refl, refl, refl, refl, refl, refl, refl, refl)
+            (shared_rises starts allows c start m h (faces_of seats) k v.number g (up seats (m Grace) is) (known_below m h seats k is) (max (m Grace) time) fits),
+        ((refl, (λ t i a b. (a, b))), (refl, refl, refl, refl, refl, refl)),
+      )

@@ -1,0 +1,243 @@
+-- Links, first versions and tops where the live versions of the logs before and after a step match; and the relation in which the versions stay what they are to other seats.
+use Rattle.std.proofs.Common.{◌≡◌, ℕ, ◌<◌, refl, sym, ap, ◌∙◌, subst, inl, inr, ⊎_elim, Option}
+use Rattle.mv_layout.specs.declared.Config.{Config}
+use Rattle.mv_layout.specs.Words.{link_of}
+use Rattle.mv_core.specs.declared.ring.Ring.{Ring}
+use Rattle.mv_core.specs.declared.ring.Slot.TheVariants.{Freeing}
+use Rattle.mv_core.specs.declared.ring.Version.{Version}
+use Rattle.mv_core.specs.declared.ring.Status.{Status}
+use Rattle.mv_core.specs.declared.ring.Status.TheVariants.{Held, Aborted, Committed}
+use Rattle.mv_core.specs.declared.ring.CommitNote.{CommitNote}
+use Rattle.mv_core.specs.Rings.{slot_at, index_of, Lives, Names, IsGone, IsVersion, NoneHolds, NoneUncut, IsTop, InUse, HasFirst}
+use Rattle.mv_core.specs.SetFacts.{IsHeldOrAborted, InHeldSet}
+use Rattle.mv_core.proofs.Slots.{Becomes, Matches}
+
+-- the two versions are of one place, object and link
+pub record IsSamePlace (x y : Version) : Type 0 where
+  pub position : y.position ≡ x.position
+  pub first : y.first ≡ x.first
+  pub object : y.object ≡ x.object
+  pub previous : y.previous ≡ x.previous
+
+pub same_place : (x y : Version) → y ≡ x → IsSamePlace x y
+same_place x y e = record { position = ap (λ (v : Version). v.position) e; first = ap (λ (v : Version). v.first) e; object = ap (λ (v : Version). v.object) e; previous = ap (λ (v : Version). v.previous) e }
+
+-- the relation keeps the place of each version
+abbrev pub KeepsPlace : Becomes → Type 0
+KeepsPlace R = (x : Version) (st : Status) (y : Version) (su : Status) → R x st y su → IsSamePlace x y
+
+module _ (R : Becomes) (places : KeepsPlace R) (before after : ℕ → Ring) (k : Matches R before after) where
+  -- what a link names
+  pub names_forth : (link : ℕ) (x : Version) (st : Status) → Names before link x st → (y : Version) × (su : Status) × Names after link y su × R x st y su
+  names_forth link x st n =
+      let f = k.forth n.seat n.slot x st n.lives in
+      (f.0, f.1, record { seat = n.seat; slot = n.slot; lives = f.2; is = n.is ∙ ap (link_of n.seat) (sym (places x st f.0 f.1 f.3).position) }, f.3)
+
+  pub names_back : (link : ℕ) (y : Version) (su : Status) → Names after link y su → (x : Version) × (st : Status) × Names before link x st × R x st y su
+  names_back link y su n =
+      let b = k.back n.seat n.slot y su n.lives in
+      (b.0, b.1, record { seat = n.seat; slot = n.slot; lives = b.2; is = n.is ∙ ap (link_of n.seat) (places b.0 b.1 y su b.3).position }, b.3)
+
+  -- a link that names no version
+  pub unnamed_forth : (link : ℕ) → ((x : Version) (st : Status) → ¬ (Names before link x st)) → (y : Version) (su : Status) → ¬ (Names after link y su)
+  unnamed_forth link none y su n = let b = names_back link y su n in none b.0 b.1 b.2
+
+  pub unnamed_back : (link : ℕ) → ((y : Version) (su : Status) → ¬ (Names after link y su)) → (x : Version) (st : Status) → ¬ (Names before link x st)
+  unnamed_back link none x st n = let f = names_forth link x st n in none f.0 f.1 f.2
+
+  -- a link to a position that isn't live any more
+  pub gone_forth : (link : ℕ) → IsGone before link → IsGone after link
+  gone_forth link g = record {
+    seat = g.seat;
+    position = g.position;
+    is = g.is;
+    used = subst (λ (n : ℕ). g.position < n) (sym (k.next g.seat)) g.used;
+    gone = λ j y su lives e. let b = k.back g.seat j y su lives in g.gone j b.0 b.1 b.2 (sym (places b.0 b.1 y su b.3).position ∙ e);
+  }
+
+  -- the first version of a write set
+  pub first_forth : (c : Config) (s : ℕ) (x y : Version) → y.first ≡ x.first → HasFirst before c s x → HasFirst after c s y
+  first_forth c s x y e h =
+      let f = k.forth s (index_of c x.first) h.version h.status h.lives in
+      let p = places h.version h.status f.0 f.1 f.3 in record {
+        version = f.0;
+        status = f.1;
+        lives = subst (λ (i : ℕ). Lives after s (index_of c i) f.0 f.1) (sym e) f.2;
+        position_is = p.position ∙ h.position_is ∙ sym e;
+        first_is = p.first ∙ h.first_is ∙ sym e;
+      }
+
+  -- a position in use, where freeing slots stay
+  pub use_forth : ((s j p first : ℕ) → slot_at (before s) j ≡ Freeing p first → slot_at (after s) j ≡ Freeing p first) → (c : Config) (s p : ℕ) → InUse before c s p → InUse after c s p
+  use_forth freeing c s p u =
+      ⊎_elim
+      (λ a. let f = k.forth s (index_of c p) a.0 a.1 a.2 in inl (f.0, f.1, f.2, (places a.0 a.1 f.0 f.1 f.3).position ∙ a.3))
+      (λ b. inr (b.0, freeing s (index_of c p) p b.0 b.1))
+      u
+
+  pub use_back : ((s j p first : ℕ) → slot_at (after s) j ≡ Freeing p first → slot_at (before s) j ≡ Freeing p first) → (c : Config) (s p : ℕ) → InUse after c s p → InUse before c s p
+  use_back freeing c s p u =
+      ⊎_elim
+      (λ a. let b = k.back s (index_of c p) a.0 a.1 a.2 in inl (b.0, b.1, b.2, sym (places b.0 b.1 a.0 a.1 b.3).position ∙ a.3))
+      (λ b. inr (b.0, freeing s (index_of c p) p b.0 b.1))
+      u
+
+  -- a position of a write set, where what is known of its version goes on
+  pub set_forth : (P Q : Status → Type 0) → ((x : Version) (st : Status) (y : Version) (su : Status) → R x st y su → P st → Q su) → (c : Config) (s first p : ℕ) → InHeldSet c before s first p P → InHeldSet c after s first p Q
+  set_forth P Q goes_on c s first p r =
+      let f = k.forth s (index_of c p) r.version r.status r.lives in
+      let at = places r.version r.status f.0 f.1 f.3 in
+      record { version = f.0; status = f.1; lives = f.2; position_is = at.position ∙ r.position_is; first_is = at.first ∙ r.first_is; known = goes_on r.version r.status f.0 f.1 f.3 r.known }
+
+-- A version stays what it is to the other seats: a held one in its place, and of a committed one its time and whether it was cut; its words, while it is held, and what its owner noted besides may change.
+abbrev pub Alike : Becomes
+Alike x Held y Held = IsSamePlace x y
+Alike x (Aborted d) y (Aborted e) = y ≡ x
+Alike x (Committed m) y (Committed n) = (y ≡ x) × (n.time ≡ m.time) × (n.cut ≡ m.cut)
+Alike x _ y _ = ⊥
+
+pub alike_self : (x : Version) (st : Status) → Alike x st x st
+alike_self x Held = same_place x x refl
+alike_self x (Aborted d) = refl
+alike_self x (Committed m) = (refl, refl, refl)
+
+pub alike_place : KeepsPlace Alike
+alike_place x Held y Held a = a
+alike_place x (Aborted d) y (Aborted e) a = same_place x y a
+alike_place x (Committed m) y (Committed n) a = same_place x y a.0
+alike_place x Held y (Aborted e) a = absurd a
+alike_place x Held y (Committed n) a = absurd a
+alike_place x (Aborted d) y Held a = absurd a
+alike_place x (Aborted d) y (Committed n) a = absurd a
+alike_place x (Committed m) y Held a = absurd a
+alike_place x (Committed m) y (Aborted e) a = absurd a
+
+-- what a version was that is held, aborted or committed
+was_held : (x y : Version) (st : Status) → Alike x st y Held → (st ≡ Held) × IsSamePlace x y
+was_held x y Held a = (refl, a)
+was_held x y (Aborted d) a = absurd a
+was_held x y (Committed m) a = absurd a
+
+was_aborted : (x y : Version) (st : Status) (e : Option ℕ) → Alike x st y (Aborted e) → (d : Option ℕ) × (st ≡ Aborted d) × (y ≡ x)
+was_aborted x y Held e a = absurd a
+was_aborted x y (Aborted d) e a = (d, refl, a)
+was_aborted x y (Committed m) e a = absurd a
+
+was_committed : (x y : Version) (st : Status) (n : CommitNote) → Alike x st y (Committed n) → (m : CommitNote) × (st ≡ Committed m) × (y ≡ x) × (n.time ≡ m.time) × (n.cut ≡ m.cut)
+was_committed x y Held n a = absurd a
+was_committed x y (Aborted d) n a = absurd a
+was_committed x y (Committed m) n a = (m, refl, a.0, a.1, a.2)
+
+-- and what it is then
+is_held_still : (x y : Version) (su : Status) → Alike x Held y su → (su ≡ Held) × IsSamePlace x y
+is_held_still x y Held a = (refl, a)
+is_held_still x y (Aborted d) a = absurd a
+is_held_still x y (Committed m) a = absurd a
+
+is_aborted_still : (x y : Version) (su : Status) (d : Option ℕ) → Alike x (Aborted d) y su → (e : Option ℕ) × (su ≡ Aborted e) × (y ≡ x)
+is_aborted_still x y Held d a = absurd a
+is_aborted_still x y (Aborted e) d a = (e, refl, a)
+is_aborted_still x y (Committed m) d a = absurd a
+
+is_committed_still : (x y : Version) (su : Status) (m : CommitNote) → Alike x (Committed m) y su → (n : CommitNote) × (su ≡ Committed n) × (y ≡ x) × (n.time ≡ m.time) × (n.cut ≡ m.cut)
+is_committed_still x y Held m a = absurd a
+is_committed_still x y (Aborted d) m a = absurd a
+is_committed_still x y (Committed n) m a = (n, refl, a.0, a.1, a.2)
+
+-- held is held still, and not committed not committed
+pub still_held : (x : Version) (st : Status) (y : Version) (su : Status) → Alike x st y su → st ≡ Held → su ≡ Held
+still_held x st y su a e = (is_held_still x y su (subst (λ (s : Status). Alike x s y su) e a)).0
+
+pub is_committed_so : (x : Version) (st : Status) (y : Version) (su : Status) (m : CommitNote) → Alike x st y su → st ≡ Committed m → (n : CommitNote) × (su ≡ Committed n) × (y ≡ x) × (n.time ≡ m.time) × (n.cut ≡ m.cut)
+is_committed_so x st y su m a e = is_committed_still x y su m (subst (λ (s : Status). Alike x s y su) e a)
+
+pub uncommitted_forth : (x : Version) (st : Status) (y : Version) (su : Status) → Alike x st y su → IsHeldOrAborted st → IsHeldOrAborted su
+uncommitted_forth x st y Held a p = tt
+uncommitted_forth x st y (Aborted e) a p = tt
+uncommitted_forth x Held y (Committed n) a p = absurd a
+uncommitted_forth x (Aborted d) y (Committed n) a p = absurd a
+uncommitted_forth x (Committed m) y (Committed n) a p = p
+
+pub uncommitted_back : (x : Version) (st : Status) (y : Version) (su : Status) → Alike x st y su → IsHeldOrAborted su → IsHeldOrAborted st
+uncommitted_back x Held y su a p = tt
+uncommitted_back x (Aborted d) y su a p = tt
+uncommitted_back x (Committed m) y Held a p = absurd a
+uncommitted_back x (Committed m) y (Aborted e) a p = absurd a
+uncommitted_back x (Committed m) y (Committed n) a p = p
+
+module _ (before after : ℕ → Ring) (k : Matches Alike before after) where
+  pub held_back : (s j : ℕ) (y : Version) → Lives after s j y Held → (x : Version) × Lives before s j x Held × IsSamePlace x y
+  held_back s j y lives =
+      let b = k.back s j y Held lives in
+      let w = was_held b.0 y b.1 b.3 in
+      (b.0, subst (Lives before s j b.0) w.0 b.2, w.1)
+
+  pub held_forth : (s j : ℕ) (x : Version) → Lives before s j x Held → (y : Version) × Lives after s j y Held × IsSamePlace x y
+  held_forth s j x lives =
+      let f = k.forth s j x Held lives in
+      let w = is_held_still x f.0 f.1 f.3 in
+      (f.0, subst (Lives after s j f.0) w.0 f.2, w.1)
+
+  pub aborted_back : (s j : ℕ) (y : Version) (e : Option ℕ) → Lives after s j y (Aborted e) → (d : Option ℕ) × Lives before s j y (Aborted d)
+  aborted_back s j y e lives =
+      let b = k.back s j y (Aborted e) lives in
+      let w = was_aborted b.0 y b.1 e b.3 in
+      (w.0, subst (λ (v : Version). Lives before s j v (Aborted w.0)) (sym w.2) (subst (Lives before s j b.0) w.1 b.2))
+
+  pub aborted_forth : (s j : ℕ) (x : Version) (d : Option ℕ) → Lives before s j x (Aborted d) → (e : Option ℕ) × Lives after s j x (Aborted e)
+  aborted_forth s j x d lives =
+      let f = k.forth s j x (Aborted d) lives in
+      let w = is_aborted_still x f.0 f.1 d f.3 in
+      (w.0, subst (λ (v : Version). Lives after s j v (Aborted w.0)) w.2 (subst (Lives after s j f.0) w.1 f.2))
+
+  pub committed_back : (s j : ℕ) (y : Version) (n : CommitNote) → Lives after s j y (Committed n) → (m : CommitNote) × Lives before s j y (Committed m) × (n.time ≡ m.time) × (n.cut ≡ m.cut)
+  committed_back s j y n lives =
+      let b = k.back s j y (Committed n) lives in
+      let w = was_committed b.0 y b.1 n b.3 in
+      (w.0, subst (λ (v : Version). Lives before s j v (Committed w.0)) (sym w.2) (subst (Lives before s j b.0) w.1 b.2), w.3, w.4)
+
+  pub committed_forth : (s j : ℕ) (x : Version) (m : CommitNote) → Lives before s j x (Committed m) → (n : CommitNote) × Lives after s j x (Committed n) × (n.time ≡ m.time) × (n.cut ≡ m.cut)
+  committed_forth s j x m lives =
+      let f = k.forth s j x (Committed m) lives in
+      let w = is_committed_still x f.0 f.1 m f.3 in
+      (w.0, subst (λ (v : Version). Lives after s j v (Committed w.0)) w.2 (subst (Lives after s j f.0) w.1 f.2), w.3, w.4)
+
+  -- the version of a link that names a committed one
+  pub names_committed_back : (link : ℕ) (y : Version) (n : CommitNote) → (names : Names after link y (Committed n)) → (m : CommitNote) × Lives before names.seat names.slot y (Committed m) × (n.time ≡ m.time) × (n.cut ≡ m.cut)
+  names_committed_back link y n names = committed_back names.seat names.slot y n names.lives
+
+  pub names_committed_forth : (link : ℕ) (x : Version) (m : CommitNote) → Names before link x (Committed m) → (n : CommitNote) × Names after link x (Committed n) × (n.time ≡ m.time) × (n.cut ≡ m.cut)
+  names_committed_forth link x m names =
+      let f = committed_forth names.seat names.slot x m names.lives in
+      (f.0, record { seat = names.seat; slot = names.slot; lives = f.1; is = names.is }, f.2, f.3)
+
+  -- the version of a write
+  pub version_back : (o t link : ℕ) (x : Version) (n : CommitNote) → IsVersion after o t link x n → (m : CommitNote) × IsVersion before o t link x m × (n.cut ≡ m.cut)
+  version_back o t link x n v =
+      let b = committed_back v.names.seat v.names.slot x n v.names.lives in
+      (b.0, record { names = record { seat = v.names.seat; slot = v.names.slot; lives = b.1; is = v.names.is }; object_is = v.object_is; time_is = sym b.2 ∙ v.time_is }, b.3)
+
+  pub version_forth : (o t link : ℕ) (x : Version) (m : CommitNote) → IsVersion before o t link x m → (n : CommitNote) × IsVersion after o t link x n × (n.cut ≡ m.cut)
+  version_forth o t link x m v =
+      let f = committed_forth v.names.seat v.names.slot x m v.names.lives in
+      (f.0, record { names = record { seat = v.names.seat; slot = v.names.slot; lives = f.1; is = v.names.is }; object_is = v.object_is; time_is = f.2 ∙ v.time_is }, f.3)
+
+  -- who holds an object, and what its top is
+  pub none_holds_back : (o : ℕ) → NoneHolds after o → NoneHolds before o
+  none_holds_back o none s j x lives e = let f = held_forth s j x lives in none s j f.0 f.1 (f.2.object ∙ e)
+
+  pub none_holds_forth : (o : ℕ) → NoneHolds before o → NoneHolds after o
+  none_holds_forth o none s j y lives e = let b = held_back s j y lives in none s j b.0 b.1 (sym b.2.object ∙ e)
+
+  pub none_uncut_back : (o t : ℕ) → NoneUncut after o t → NoneUncut before o t
+  none_uncut_back o t none link x m v = let f = version_forth o t link x m v in sym f.2 ∙ none link x f.0 f.1
+
+  pub none_uncut_forth : (o t : ℕ) → NoneUncut before o t → NoneUncut after o t
+  none_uncut_forth o t none link x n v = let b = version_back o t link x n v in b.2 ∙ none link x b.0 b.1
+
+  pub top_forth : (o t link : ℕ) → IsTop before o t link → IsTop after o t link
+  top_forth o t link top =
+      ⊎_elim
+      (λ a. let f = version_forth o t link a.0 a.1 a.2 in inl (a.0, f.0, f.1, f.2 ∙ a.3))
+      (λ b. inr (b.0, none_uncut_forth o t b.1))
+      top

@@ -1,0 +1,95 @@
+-- One more entry, of what its seat holds: all facts.
+use Rattle.std.proofs.Common.{◌≡◌, ℕ, ◌≤◌, List, [], ◌∷◌, ◌++◌, length, subst, arith, Option, Some}
+use Rattle.std.specs.Prelude.{Contains}
+use Rattle.mv_history.specs.declared.Entry.{Entry}
+use Rattle.mv_history.specs.State.{State, Writes}
+use Rattle.mv_layout.specs.declared.Config.{Config}
+use Rattle.mv_layout.specs.declared.Place.TheVariants.{Clock, Grace, Mark, Stamp}
+use Rattle.mv_layout.specs.Places.{Memory, put}
+use Rattle.mv_layout.specs.Words.{clock_of, clock_time_of}
+use Rattle.mv_core.specs.declared.ring.Version.{Version}
+use Rattle.mv_core.specs.declared.ring.Status.TheVariants.{Held, Committed}
+use Rattle.mv_core.specs.declared.ring.CommitNote.{CommitNote}
+use Rattle.mv_core.specs.declared.view.Past.{Past}
+use Rattle.mv_core.specs.declared.view.Phase.{Phase}
+use Rattle.mv_core.specs.declared.view.Phase.TheVariants.{Outside}
+use Rattle.mv_core.specs.declared.view.Section.{Section}
+use Rattle.mv_core.specs.declared.view.Scan.{Scan}
+use Rattle.mv_core.specs.Rings.{index_of, Lives}
+use Rattle.mv_core.specs.Views.{Faces}
+use Rattle.mv_core.specs.SetFacts.{stamp_of}
+use Rattle.mv_core.specs.SectionFacts.{Marks}
+use Rattle.mv_core.specs.HistoryFacts.{History}
+use Rattle.mv_core.specs.Rule.{Facts}
+use Rattle.mv_core.proofs.Hearing.{clock_small, past_help, stamped_by_done}
+use Rattle.mv_core.proofs.Written.{commit_within}
+use Rattle.mv_core.proofs.Longer.{new_time}
+use Rattle.mv_core.proofs.Commits as logs
+use Rattle.mv_core.proofs.NewEntry.{Makes}
+use Rattle.mv_core.proofs.NewSets as sets
+use Rattle.mv_core.proofs.NewChains as chains
+use Rattle.mv_core.proofs.NewWalks as walks
+use Rattle.mv_core.proofs.NewSections as turned
+
+module _ (starts : State → Type 0) (allows : List ℕ → State → Writes → Type 0) (c : Config) (start : State) (m : Memory) (h : List Entry) (f : Faces) (k : Facts starts allows c start m h f) where
+  -- where the clock's word was helped, each commit is stamped
+  pub all_stamped : (s j : ℕ) (x : Version) (note : CommitNote) → (u : ℕ) → Contains (f.heard u).helped (m Clock) → Lives f.ring s j x (Committed note) → stamp_of c (λ s j. m (Stamp s j)) s x ≡ note.time
+  all_stamped s j x note u helped lives =
+      let le = (commit_within c h f.ring k.write_sets s j x note lives).1 in
+      let long = k.history.long in
+      stamped_by_done c (m Clock) (λ s j. m (Stamp s j)) h f.ring k.checked (clock_small starts allows c start m h f k) k.stamps k.positions (m Clock) (k.loaded_words.helped u (m Clock) helped) (k.helped_words u (m Clock) helped) s j x note lives (omega arith)
+
+  module _ (n : ℕ) (e : Entry) (helped : Contains (f.heard n).helped (m Clock)) (makes : Makes f.ring n e) (set : sets.NewSet starts allows c start m h f k n e)
+      (clock : ℕ) (clock_is : (j : ℕ) (x : Version) → Lives f.ring n j x Held → clock ≡ clock_of (new_time c.base h e) n (index_of c x.first)) (sections : ℕ → Option Section) (turns : turned.Turns starts allows c start m h f k n e clock sections)
+      (past : ℕ → Past) (history : History starts allows c start clock (h ++ e ∷ []) past) (seen : (s : ℕ) → length (f.past s).seen ≤ length (past s).seen)
+      (phase : ℕ → Phase) (marks : Marks (m Clock) (λ s. m (Mark s)) phase) (scanning : (s : ℕ) (running : Scan) → f.scan s ≡ Some running → phase s ≡ Outside) where
+    later : clock_time_of (m Clock) ≤ clock_time_of clock
+    later = let lt = turned.rises starts allows c start m h f k n e makes clock sections turns in omega arith
+
+    pub facts_after : Facts starts allows c start (put m Clock clock) (h ++ e ∷ []) (record f { past = past; phase = phase; section = sections; ring = logs.after f.ring n (new_time c.base h e) })
+    facts_after =
+        let stamps = sets.stamps_after starts allows c start m h f k n e clock (λ s j x note lives. all_stamped s j x note n helped lives) clock_is in
+        let positions = sets.positions_after starts allows c start m h f k n e in
+        let words = turned.words_after starts allows c start m h f k n e makes clock sections turns in
+        let helped_words = turned.helped_after starts allows c start m h f k n e makes clock sections turns in
+        record {
+          checked = k.checked;
+          history = history;
+          slot_words = sets.words_after starts allows c start m h f k n e;
+          stamps = stamps;
+          write_sets = sets.sets_after starts allows c start m h f k n e set;
+          helped_words = helped_words;
+          marks = turned.marks_later (m Clock) clock (λ s. m (Mark s)) phase later marks;
+          stamped_past_help = past_help c clock (λ s j. m (Stamp s j)) (h ++ e ∷ []) (logs.after f.ring n (new_time c.base h e)) k.checked (let long = history.long in let low = history.in_time in omega arith) stamps positions sections f.heard words helped_words;
+          grace = turned.grace_later (m Clock) clock (m Grace) f.time f.grace f.scan later k.grace;
+          lock_freshness = turned.freshness_after starts allows c start m h f k n e makes clock sections turns;
+          successors = turned.successors_after starts allows c start m h f k n e makes clock sections turns;
+          deaths = sets.deaths_after starts allows c start m h f k n e;
+          positions = positions;
+          head_is_top = chains.heads_after starts allows c start m h f k n e makes;
+          held_link = chains.held_links starts allows c start m h f k n e makes;
+          commit_link = chains.commit_links starts allows c start m h f k n e makes;
+          aborted_link = chains.aborted_links starts allows c start m h f k n e makes;
+          present_master = chains.masters_present starts allows c start m h f k n e makes;
+          chain_foot = chains.feet_after starts allows c start m h f k n e makes;
+          walker_place = walks.places_after starts allows c start m h f k n e;
+          walker_before_death = walks.deaths_after starts allows c start m h f k n e;
+          walker_knowledge = walks.knowledge_after starts allows c start m h f k n e sections
+              (λ s i is stands. let w = turned.past_help_words starts allows c start m h f k n e makes clock sections turns s i is in subst (λ (word : ℕ). Contains (f.heard s).helped word) w.2 (k.walker_knowledge.helped s w.0 w.1 stands));
+          below_is_stamped = walks.below_after starts allows c start m h f k n e;
+          walker_falls = walks.falls_after starts allows c start m h f k n e;
+          walker_late = walks.lates_after starts allows c start m h f k n e;
+          found_stamp = turned.found_after starts allows c start m h f k n e makes clock sections turns;
+          unstamped_is_unfinished = turned.unfinished_after starts allows c start m h f k n e makes clock sections turns;
+          named_commit = turned.named_after starts allows c start m h f k n e makes clock sections turns;
+          open_section = turned.open_after starts allows c start m h f k n e makes clock sections turns;
+          successor_flag = turned.flags_after starts allows c start m h f k n e makes clock sections turns;
+          succeeded_has_super = turned.succeeded_after starts allows c start m h f k n e makes clock sections turns;
+          loaded_words = words;
+          freed_is_old = turned.freed_after starts allows c start m h f k n e makes clock sections turns;
+          cut_is_old = sets.cut_after starts allows c start m h f k n e;
+          death_after_write = sets.death_after_write starts allows c start m h f k n e;
+          write_back = turned.backs_after starts allows c start m h f k n e makes clock sections turns;
+          positions_and_grace = sets.grace_after starts allows c start m h f k n e;
+          phases_and_scan = record { scanning = scanning; outside = k.phases_and_scan.outside; seen = λ s u at. let old = k.phases_and_scan.seen s u at in let more = seen s in omega arith; within = k.phases_and_scan.within };
+        }

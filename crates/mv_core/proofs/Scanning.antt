@@ -1,0 +1,94 @@
+-- A scan goes on: what keeps all facts where a seat outside a section begins a scan, goes on with it or ends it.
+use Rattle.std.proofs.Common.{◌≡◌, ℕ, ◌≤◌, ◌<◌, nat_lt, max, Bool, true, false, cond, List, refl, subst, le_refl, arith, Option, Some, None}
+use Rattle.std.proofs.lemmas.Bool.Decides.{nat_tests}
+use Rattle.mv_history.specs.declared.Entry.{Entry}
+use Rattle.mv_history.specs.State.{State, Writes}
+use Rattle.mv_layout.specs.declared.Config.{Config}
+use Rattle.mv_layout.specs.declared.Place.TheVariants.{Clock}
+use Rattle.mv_layout.specs.Words.{clock_time_of}
+use Rattle.mv_layout.specs.Places.{Memory}
+use Rattle.mv_core.specs.declared.view.Phase.TheVariants.{Outside}
+use Rattle.mv_core.specs.declared.view.Scan.{Scan}
+use Rattle.mv_core.specs.Times.{NotAbove, NotAboveAny}
+use Rattle.mv_core.specs.Views.{Faces}
+use Rattle.mv_core.specs.SectionFacts.{ScanIs}
+use Rattle.mv_core.specs.ReclaimSteps.{scan_on, grace_on}
+use Rattle.mv_core.specs.Rule.{Facts}
+use Rattle.mv_core.proofs.Frames.{become_all, unchanged, changed}
+use Rattle.mv_core.proofs.Watermarks.{max_not_above, watermark_rises}
+
+module _ (starts : State → Type 0) (allows : List ℕ → State → Writes → Type 0) (c : Config) (start : State) (m : Memory) (h : List Entry) (f : Faces) (k : Facts starts allows c start m h f) (n : ℕ) (out : f.phase n ≡ Outside) where
+  -- the scan of a seat that is outside becomes one whose least time is no section's that it has scanned
+  scan_is : (o : Option Scan) → ScanIs (m Clock) f.time o → Facts starts allows c start m h (changed f n (record unchanged { scan = Some o }))
+  scan_is o fits = record {
+    checked = k.checked;
+    history = k.history;
+    slot_words = k.slot_words;
+    stamps = k.stamps;
+    write_sets = k.write_sets;
+    helped_words = k.helped_words;
+    marks = k.marks;
+    stamped_past_help = k.stamped_past_help;
+    grace = record { views = k.grace.views; shared = k.grace.shared; scans = become_all (λ s x. ScanIs (m Clock) f.time x) f.scan n o fits (λ s ne. k.grace.scans s) };
+    lock_freshness = k.lock_freshness;
+    successors = k.successors;
+    deaths = k.deaths;
+    positions = k.positions;
+    head_is_top = k.head_is_top;
+    held_link = k.held_link;
+    commit_link = k.commit_link;
+    aborted_link = k.aborted_link;
+    present_master = k.present_master;
+    chain_foot = k.chain_foot;
+    walker_place = k.walker_place;
+    walker_before_death = k.walker_before_death;
+    walker_knowledge = k.walker_knowledge;
+    below_is_stamped = k.below_is_stamped;
+    walker_falls = k.walker_falls;
+    walker_late = k.walker_late;
+    found_stamp = k.found_stamp;
+    unstamped_is_unfinished = k.unstamped_is_unfinished;
+    named_commit = k.named_commit;
+    open_section = k.open_section;
+    successor_flag = k.successor_flag;
+    succeeded_has_super = k.succeeded_has_super;
+    loaded_words = k.loaded_words;
+    freed_is_old = k.freed_is_old;
+    cut_is_old = k.cut_is_old;
+    death_after_write = k.death_after_write;
+    write_back = k.write_back;
+    positions_and_grace = k.positions_and_grace;
+    phases_and_scan = record {
+      scanning = become_all (λ s x. (running : Scan) → x ≡ Some running → f.phase s ≡ Outside) f.scan n o (λ running e. out) (λ s ne. k.phases_and_scan.scanning s);
+      outside = k.phases_and_scan.outside;
+      seen = k.phases_and_scan.seen;
+      within = k.phases_and_scan.within;
+    };
+  }
+
+  module _ (clock least next : ℕ) (low : least ≤ clock) (now : clock ≤ clock_time_of (m Clock)) (scanned : (s : ℕ) → s < next → NotAbove least (f.time s)) where
+    scan_fits : (b : Bool) → nat_lt next c.seats ≡ b → ScanIs (m Clock) f.time (cond b (Some (record { clock = clock; least = least; next = next })) None)
+    scan_fits true e = (low, now, scanned)
+    scan_fits false e = tt
+
+    -- all seats are scanned
+    all_scanned : nat_lt next c.seats ≡ false → (s : ℕ) → NotAbove least (f.time s)
+    all_scanned e s = go (f.time s) refl
+      where
+        go : (o : Option ℕ) → f.time s ≡ o → NotAbove least o
+        go None at = tt
+        go (Some u) at = let ge : c.seats ≤ next = grind (arith, nat_tests, e) in let lt = k.phases_and_scan.within s u at in subst (NotAbove least) at (scanned s (omega arith))
+
+    grace_fits : (g : ℕ) (b : Bool) → nat_lt next c.seats ≡ b → (g ≤ clock_time_of (m Clock)) × NotAboveAny g f.time → (cond b g (max g least) ≤ clock_time_of (m Clock)) × NotAboveAny (cond b g (max g least)) f.time
+    grace_fits g true e old = old
+    grace_fits g false e old = let le = old.0 in (omega arith, λ s. max_not_above g least (f.time s) (old.1 s) (all_scanned e s))
+
+    grace_up : (g : ℕ) (b : Bool) → g ≤ cond b g (max g least)
+    grace_up g true = le_refl g
+    grace_up g false = omega arith
+
+    pub scan_goes_on : Facts starts allows c start m h (changed f n (record unchanged { scan = Some (scan_on c clock least next); grace = Some (grace_on c (f.grace n) least next) }))
+    scan_goes_on =
+        let b = nat_lt next c.seats in
+        watermark_rises starts allows c start m h (changed f n (record unchanged { scan = Some (scan_on c clock least next) })) (scan_is (scan_on c clock least next) (scan_fits b refl)) n (grace_on c (f.grace n) least next)
+        (grace_up (f.grace n) b) (grace_fits (f.grace n) b refl (k.grace.views n))

@@ -1,0 +1,156 @@
+-- A watermark rises: what keeps all facts where one seat's watermark becomes a greater one that no section is below.
+use Rattle.std.proofs.Common.{ℕ, ◌≤◌, max, List, le_refl, le_trans, arith, Option, Some, None}
+use Rattle.mv_history.specs.declared.Entry.{Entry}
+use Rattle.mv_history.specs.State.{State, Writes}
+use Rattle.mv_layout.specs.declared.Config.{Config}
+use Rattle.mv_layout.specs.declared.Place.TheVariants.{Clock, Grace, Master}
+use Rattle.mv_layout.specs.Words.{clock_time_of}
+use Rattle.mv_layout.specs.Places.{Memory, put}
+use Rattle.mv_core.specs.Times.{NotAbove, NotAboveAny}
+use Rattle.mv_core.specs.Views.{Faces}
+use Rattle.mv_core.specs.ReclaimFacts.{WriteBacks, PositionsAndGrace}
+use Rattle.mv_core.specs.Rule.{Facts}
+use Rattle.mv_core.proofs.Frames.{become_all, unchanged, changed}
+
+-- the greater of two times that a section isn't below is such a time
+pub max_not_above : (a b : ℕ) (t : Option ℕ) → NotAbove a t → NotAbove b t → NotAbove (max a b) t
+max_not_above a b None x y = tt
+max_not_above a b (Some u) x y = let l : a ≤ u = x in let r : b ≤ u = y in omega arith
+
+-- and so is a lower one
+pub lower_not_above : (a b : ℕ) (t : Option ℕ) → b ≤ a → NotAbove a t → NotAbove b t
+lower_not_above a b None le x = tt
+lower_not_above a b (Some u) le x = let l : a ≤ u = x in omega arith
+
+module _ (starts : State → Type 0) (allows : List ℕ → State → Writes → Type 0) (c : Config) (start : State) (m : Memory) (h : List Entry) (f : Faces) (k : Facts starts allows c start m h f) (n g : ℕ) (up : f.grace n ≤ g) (below : (g ≤ clock_time_of (m Clock)) × NotAboveAny g f.time) where
+  abbrev t : Faces
+  t = changed f n (record unchanged { grace = Some g })
+
+  -- no watermark falls
+  rises : (s : ℕ) → f.grace s ≤ t.grace s
+  rises = become_all (λ s x. f.grace s ≤ x) f.grace n g up (λ s ne. le_refl (f.grace s))
+
+  written_back : WriteBacks c h (λ o w. m (Master o w)) t.section t.time t.heard t.grace t.back t.ring
+  written_back s b e =
+      let old = k.write_back s b e in
+      let is = old.2 in (
+        old.0,
+        old.1,
+        record {
+          mode = is.mode;
+          helped = is.helped;
+          nothing = is.nothing;
+          version = is.version;
+          note = is.note;
+          lives = is.lives;
+          position_is = is.position_is;
+          object_is = is.object_is;
+          old = is.old;
+          known = le_trans is.known (rises s);
+          last = is.last;
+          some_stored = is.some_stored;
+          uncut = is.uncut;
+          words = is.words;
+        },
+      )
+
+  positions : PositionsAndGrace c t.grace t.ring
+  positions = record {
+    live = λ s j x st lives. le_trans (k.positions_and_grace.live s j x st lives) (rises s);
+    free = λ s j lt e. le_trans (k.positions_and_grace.free s j lt e) (rises s);
+    built = λ s j b e. le_trans (k.positions_and_grace.built s j b e) (rises s);
+    freeing = λ s j p first e. le_trans (k.positions_and_grace.freeing s j p first e) (rises s);
+    commit = k.positions_and_grace.commit;
+    dead = k.positions_and_grace.dead;
+    aborted = k.positions_and_grace.aborted;
+  }
+
+  pub watermark_rises : Facts starts allows c start m h t
+  watermark_rises = record {
+    checked = k.checked;
+    history = k.history;
+    slot_words = k.slot_words;
+    stamps = k.stamps;
+    write_sets = k.write_sets;
+    helped_words = k.helped_words;
+    marks = k.marks;
+    stamped_past_help = k.stamped_past_help;
+    grace = record {
+      views = become_all (λ s x. (x ≤ clock_time_of (m Clock)) × NotAboveAny x f.time) f.grace n g below (λ s ne. k.grace.views s);
+      shared = k.grace.shared;
+      scans = k.grace.scans;
+    };
+    lock_freshness = k.lock_freshness;
+    successors = k.successors;
+    deaths = k.deaths;
+    positions = k.positions;
+    head_is_top = k.head_is_top;
+    held_link = k.held_link;
+    commit_link = k.commit_link;
+    aborted_link = k.aborted_link;
+    present_master = k.present_master;
+    chain_foot = k.chain_foot;
+    walker_place = k.walker_place;
+    walker_before_death = k.walker_before_death;
+    walker_knowledge = k.walker_knowledge;
+    below_is_stamped = k.below_is_stamped;
+    walker_falls = k.walker_falls;
+    walker_late = k.walker_late;
+    found_stamp = k.found_stamp;
+    unstamped_is_unfinished = k.unstamped_is_unfinished;
+    named_commit = k.named_commit;
+    open_section = k.open_section;
+    successor_flag = k.successor_flag;
+    succeeded_has_super = k.succeeded_has_super;
+    loaded_words = k.loaded_words;
+    freed_is_old = k.freed_is_old;
+    cut_is_old = k.cut_is_old;
+    death_after_write = k.death_after_write;
+    write_back = written_back;
+    positions_and_grace = positions;
+    phases_and_scan = k.phases_and_scan;
+  }
+
+  -- and the shared watermark too
+  pub shared_rises : (x : ℕ) → (x ≤ clock_time_of (m Clock)) × NotAboveAny x f.time → Facts starts allows c start (put m Grace x) h t
+  shared_rises x fits =
+      let w = watermark_rises in record {
+        checked = w.checked;
+        history = w.history;
+        slot_words = w.slot_words;
+        stamps = w.stamps;
+        write_sets = w.write_sets;
+        helped_words = w.helped_words;
+        marks = w.marks;
+        stamped_past_help = w.stamped_past_help;
+        grace = record { views = w.grace.views; shared = fits; scans = w.grace.scans };
+        lock_freshness = w.lock_freshness;
+        successors = w.successors;
+        deaths = w.deaths;
+        positions = w.positions;
+        head_is_top = w.head_is_top;
+        held_link = w.held_link;
+        commit_link = w.commit_link;
+        aborted_link = w.aborted_link;
+        present_master = w.present_master;
+        chain_foot = w.chain_foot;
+        walker_place = w.walker_place;
+        walker_before_death = w.walker_before_death;
+        walker_knowledge = w.walker_knowledge;
+        below_is_stamped = w.below_is_stamped;
+        walker_falls = w.walker_falls;
+        walker_late = w.walker_late;
+        found_stamp = w.found_stamp;
+        unstamped_is_unfinished = w.unstamped_is_unfinished;
+        named_commit = w.named_commit;
+        open_section = w.open_section;
+        successor_flag = w.successor_flag;
+        succeeded_has_super = w.succeeded_has_super;
+        loaded_words = w.loaded_words;
+        freed_is_old = w.freed_is_old;
+        cut_is_old = w.cut_is_old;
+        death_after_write = w.death_after_write;
+        write_back = w.write_back;
+        positions_and_grace = w.positions_and_grace;
+        phases_and_scan = w.phases_and_scan;
+      }

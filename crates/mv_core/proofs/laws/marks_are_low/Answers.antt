@@ -1,0 +1,5 @@
+use Rattle.mv_core.proofs.PointsHold.{marks_law}
+use Rattle.mv_core.proofs.laws.marks_are_low.Goals as goal
+
+pub returns : goal.returns
+returns g c = marks_law _ _

@@ -1,0 +1,5 @@
+use Rattle.mv_core.proofs.PointsHold.{positions_bounded_law}
+use Rattle.mv_core.proofs.laws.positions_are_bounded.Goals as goal
+
+pub returns : goal.returns
+returns g c = positions_bounded_law _ _

@@ -1,0 +1,11 @@
+use Rattle.std.proofs.Common.{◌≡◌}
+use Rattle.mv_layout.specs.declared.Place.TheVariants.{Grace}
+use Rattle.mv_core.specs.Passes.{view, config_of}
+use Rattle.mv_core.specs.SeatSteps.{grace_loaded}
+use Rattle.mv_core.proofs.shared.Shared.load_grace.Given as goal
+
+abbrev pub ghosts-load_as : goal.ghosts-load_as
+ghosts-load_as g a = record {
+  place = Grace;
+  tells = λ n w. w ≡ grace_loaded (config_of a.shared.now) (view a.pass.now) n;
+}

@@ -1,0 +1,12 @@
+use Rattle.std.proofs.Common.{◌≡◌, Some}
+use Rattle.mv_layout.specs.declared.Place.TheVariants.{Mark}
+use Rattle.mv_core.specs.declared.view.Scan.{Scan}
+use Rattle.mv_core.specs.Passes.{view, config_of}
+use Rattle.mv_core.specs.ReclaimSteps.{mark_loaded}
+use Rattle.mv_core.proofs.shared.Shared.load_mark.Given as goal
+
+abbrev pub ghosts-load_as : goal.ghosts-load_as
+ghosts-load_as g a = record {
+  place = Mark a.about.now;
+  tells = λ n w. (scan : Scan) × ((view a.pass.now).scan ≡ Some scan) × (w ≡ mark_loaded (config_of a.shared.now) (view a.pass.now) a.about.now scan n);
+}

@@ -1,0 +1,6 @@
+use Rattle.mv_core.specs.Passes.{view}
+use Rattle.mv_core.proofs.FreeStores.{free_stores}
+use Rattle.mv_core.proofs.shared.Shared.store_free.Goals as goal
+
+pub store_as-requires-clause-rule : goal.store_as-requires-clause-rule
+store_as-requires-clause-rule g c = free_stores _ _ _ _ (view c.args.pass.now) c.args.position c.requires.may

@@ -1,0 +1,11 @@
+use Rattle.std.proofs.Common.{◌≡◌}
+use Rattle.mv_layout.specs.declared.Place.TheVariants.{Master}
+use Rattle.mv_core.specs.Passes.{view, config_of}
+use Rattle.mv_core.specs.ReclaimSteps.{master_stored}
+use Rattle.mv_core.proofs.shared.Shared.store_master.Given as goal
+
+abbrev pub ghosts-store_as : goal.ghosts-store_as
+ghosts-store_as g a = record {
+  place = Master a.about.now.0 a.about.now.1;
+  tells = λ n w. w ≡ master_stored (config_of a.shared.now) (view a.pass.now) a.about.now.0 a.about.now.1 n g.back.0;
+}

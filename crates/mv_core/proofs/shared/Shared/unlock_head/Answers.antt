@@ -1,0 +1,6 @@
+use Rattle.mv_core.specs.Passes.{view}
+use Rattle.mv_core.proofs.UnlockStored.{unlock_stores}
+use Rattle.mv_core.proofs.shared.Shared.unlock_head.Goals as goal
+
+pub store_as-requires-clause-rule : goal.store_as-requires-clause-rule
+store_as-requires-clause-rule g c = unlock_stores _ _ _ _ (view c.args.pass.now) c.args.object c.args.previous g.held.0 g.held.1 g.held.2 c.requires.1.1.1.1

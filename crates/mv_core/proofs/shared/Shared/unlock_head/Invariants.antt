@@ -1,0 +1,11 @@
+use Rattle.std.proofs.Common.{◌≡◌}
+use Rattle.mv_layout.specs.declared.Place.TheVariants.{Head}
+use Rattle.mv_core.specs.Passes.{view, config_of}
+use Rattle.mv_core.specs.LockSteps.{head_unlocked}
+use Rattle.mv_core.proofs.shared.Shared.unlock_head.Given as goal
+
+abbrev pub ghosts-store_as : goal.ghosts-store_as
+ghosts-store_as g a = record {
+  place = Head a.about.now;
+  tells = λ n w. w ≡ head_unlocked (config_of a.shared.now) (view a.pass.now) a.about.now n g.held.0 g.held.1 g.held.2;
+}

@@ -1,0 +1,83 @@
+//! The steps that build a version in the own log, write one that is held, and time dead ones.
+ghost use Rattle.std.specs.Prelude.{◌≡◌, ◌+◌, ◌<◌, ◌^◌, List};
+ghost use Rattle.mv_history.specs.declared.Entry.{Entry};
+ghost use Rattle.mv_core.specs.declared.ring.Build.{Build};
+ghost use Rattle.mv_core.specs.declared.ring.Version.{Version};
+ghost use Rattle.mv_core.specs.Passes.{view, IsOf, IsSame, config_of};
+ghost use Rattle.mv_core.specs.SectionFacts.{IsWord};
+ghost use Rattle.mv_core.specs.EnterSteps.{IsWhole};
+ghost use Rattle.mv_core.specs.LockSteps.{MayStoreBuilt, built_stored, MayStoreData, data_stored, MayLoadDeath, death_loaded};
+
+use crate::entering::CLOCK;
+use crate::shared::{Pass, Shared};
+use crate::steps::Steps;
+use crate::turns::{load_as, store_as};
+use mv_history::Protocol;
+use mv_layout::slot_place;
+use std::marker::Brand;
+use std::sync::ledger::Ledger;
+
+impl<P: Protocol> Shared<P> {
+    /// Stores a word into a slot of the own log, which is free or being built, for the pass's next
+    /// position, in an open section. `field` is the word's offset in its slot: 0 is FIRST, 1 STAMP,
+    /// 2 PREV, 3 SUPER and `4 + w` the data word `w`. FIRST takes the first position of the write
+    /// set, STAMP the unset stamp of that position where this slot is its first, and SUPER takes 0.
+    /// The slot is then being built, and the view has what was stored. A position that may be built
+    /// fits a link.
+    pub fn store_built<L: Ledger>(
+        &self,
+        pass: &mut Pass<P>,
+        position: u64,
+        field: u32,
+        value: u64,
+        steps: &mut Steps<L>,
+    )
+        ghost build: { Build }
+        requires of { IsOf self.now pass.old }
+        requires may { MayStoreBuilt (config_of self.now) (view pass.old) position field value build }
+        ensures same { IsSame pass.old pass.new }
+        ensures view { view pass.new ≡ built_stored (config_of self.now) (view pass.old) position field value build }
+        ensures range { position < 2 ^ 57 }
+        ensures step { steps.new ≡ steps.old + 1 }
+    {
+        let slot = (position % self.config.slots as u64) as u32;
+        let place = slot_place(&self.config, pass.number, slot) + field;
+        store_as::<P, Brand, L, _>(self, pass, place, value, &(position, field), steps)
+    }
+
+    /// Stores a data word into the own slot of a version that is held, in an open section. No other
+    /// seat reads that word before the commit that the version is of.
+    pub fn store_data<L: Ledger>(
+        &self,
+        pass: &mut Pass<P>,
+        position: u64,
+        word: u32,
+        value: u64,
+        steps: &mut Steps<L>,
+    )
+        ghost version: { Version }
+        requires of { IsOf self.now pass.old }
+        requires may { MayStoreData (config_of self.now) (view pass.old) position word version }
+        ensures same { IsSame pass.old pass.new }
+        ensures view { view pass.new ≡ data_stored (config_of self.now) (view pass.old) position word value version }
+        ensures step { steps.new ≡ steps.old + 1 }
+    {
+        let slot = (position % self.config.slots as u64) as u32;
+        let place = slot_place(&self.config, pass.number, slot) + 4 + word;
+        store_as::<P, Brand, L, _>(self, pass, place, value, &(position, word), steps)
+    }
+
+    /// Loads CLOCK after an abort or a cut. The own aborted and cut versions that have no time of
+    /// death yet are dead from the time after the clock's, and the pass has then seen the whole
+    /// history.
+    pub fn load_death<L: Ledger>(&self, pass: &mut Pass<P>, steps: &mut Steps<L>) -> u64
+        requires of { IsOf self.now pass.old }
+        requires may { MayLoadDeath (view pass.old) }
+        ensures same { IsSame pass.old pass.new }
+        ensures view { (h : List Entry) × IsWhole (config_of self.now) (view pass.old) result h × (view pass.new ≡ death_loaded (config_of self.now) (view pass.old) result h) }
+        ensures word { IsWord (config_of self.now) result }
+        ensures step { steps.new ≡ steps.old + 1 }
+    {
+        load_as::<P, Brand, L, _>(self, pass, CLOCK, &(), steps)
+    }
+}

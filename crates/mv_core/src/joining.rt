@@ -1,0 +1,79 @@
+//! The steps of joining seats, of which one seat is left that knows all history.
+ghost use Rattle.std.specs.Prelude.{◌≡◌, ◌+◌, List, []};
+ghost use Rattle.mv_history.specs.declared.Entry.{Entry};
+ghost use Rattle.mv_core.specs.Passes.{view, IsOf, IsSame, IsSeatOf, config_of};
+ghost use Rattle.mv_core.specs.SectionFacts.{IsWord};
+ghost use Rattle.mv_core.specs.EnterSteps.{IsWhole};
+ghost use Rattle.mv_core.specs.SeatSteps.{MayJoin, joined, MayLoadJoined, joined_loaded};
+
+use crate::entering::CLOCK;
+use crate::opening::Domain;
+use crate::shared::{Pass, Shared};
+use crate::steps::Steps;
+use crate::turns::load_as;
+use crate::view::View;
+use atomic_table::{Join, Seat};
+use mv_history::{Protocol, Tag};
+use std::marker::{Brand, PhantomData};
+use std::sync::ledger::Ledger;
+
+// How two views are made one, in the domain whose numbers are `D`'s.
+struct Joining<D> {
+    domain: PhantomData<D>,
+}
+
+impl<D: Domain> Join<View> for Joining<D> {
+    ghost use Rattle.mv_core.specs.Views.{spent_view};
+    ghost use Rattle.mv_core.specs.SeatSteps.{joined};
+
+    ghost both = { joined D.config };
+
+    ghost spent = { spent_view };
+}
+
+/// Joins a seat into another, in the domain whose numbers are `D`'s.
+fn join_as<P: Protocol, D: Domain>(
+    shared: &Shared<P>,
+    seat: &mut Seat<Tag, View>,
+    other: Seat<Tag, View>,
+)
+    requires config { D.config ≡ config_of shared.now }
+    requires of { IsSeatOf P.start P.allowed shared.now seat.old }
+    requires other { IsSeatOf P.start P.allowed shared.now other }
+    requires taken { other.me.1 ≡ [] }
+    requires may { MayJoin seat.old.me.0 other.me.0 }
+    ensures same { seat.new.table_id ≡ seat.old.table_id }
+    ensures joined { seat.new.me.0 ≡ joined (config_of shared.now) seat.old.me.0 other.me.0 }
+    ensures taken { seat.new.me.1 ≡ seat.old.me.1 }
+{
+    shared.table.shared.join_seat::<Joining<D>>(seat, other)
+}
+
+impl<P: Protocol> Shared<P> {
+    /// Joins another seat into that of the pass, which keeps a note of it: its number, what it has
+    /// seen, its commits and rests, and what is in its log. Both are outside, with no scan running.
+    /// The other seat makes no step any more.
+    pub fn join<L: Ledger>(&self, pass: &mut Pass<P>, other: Pass<P>, steps: &mut Steps<L>)
+        requires of { IsOf self.now pass.old }
+        requires other { IsOf self.now other }
+        requires may { MayJoin (view pass.old) (view other) }
+        ensures of { IsOf self.now pass.new }
+        ensures view { view pass.new ≡ joined (config_of self.now) (view pass.old) (view other) }
+        ensures step { steps.new ≡ steps.old + 1 }
+    {
+        steps.tick();
+        join_as::<P, Brand>(self, &mut pass.seat, other.seat);
+    }
+
+    /// Loads CLOCK after a join. The pass then has seen the whole history, and has loaded this word.
+    pub fn load_joined<L: Ledger>(&self, pass: &mut Pass<P>, steps: &mut Steps<L>) -> u64
+        requires of { IsOf self.now pass.old }
+        requires may { MayLoadJoined (view pass.old) }
+        ensures same { IsSame pass.old pass.new }
+        ensures view { (h : List Entry) × IsWhole (config_of self.now) (view pass.old) result h × (view pass.new ≡ joined_loaded (config_of self.now) (view pass.old) result h) }
+        ensures word { IsWord (config_of self.now) result }
+        ensures step { steps.new ≡ steps.old + 1 }
+    {
+        load_as::<P, Brand, L, _>(self, pass, CLOCK, &(), steps)
+    }
+}

@@ -1,0 +1,121 @@
+//! The steps that write a version back into its master and give its slot free.
+ghost use Rattle.std.specs.Prelude.{◌≡◌, ◌≢◌, ℕ, ◌+◌, ◌<◌, ◌^◌};
+ghost use Rattle.mv_core.specs.declared.ring.Version.{Version};
+ghost use Rattle.mv_core.specs.declared.ring.CommitNote.{CommitNote};
+ghost use Rattle.mv_core.specs.declared.view.Section.{Section};
+ghost use Rattle.mv_core.specs.Passes.{view, IsOf, IsSame, config_of};
+ghost use Rattle.mv_core.specs.ReclaimSteps.{MayLoadSuper, super_loaded, SeesSuper, MayStoreMaster, master_stored, MayCutHead, CutTold, MayStoreFree, free_stored};
+ghost use Rattle.mv_core.specs.Swaps.{found_by, IsSwap};
+ghost use Rattle.mv_core.specs.WalkSteps.{IsLinkOf};
+ghost use Rattle.mv_layout.specs.Words.{link_of};
+
+use crate::shared::{Pass, Shared};
+use crate::steps::Steps;
+use crate::swap::{Swap, swap_of};
+use crate::turns::{load_as, store_as, swap_as};
+use mv_history::Protocol;
+use mv_layout::{head_place, link_word, master_place, slot_place};
+use std::marker::Brand;
+use std::sync::ledger::Ledger;
+
+impl<P: Protocol> Shared<P> {
+    /// Loads SUPER of an own committed version that wasn't cut and has no time of death. A time found
+    /// is the printed time of the next write of the object, from which on the version is dead; the
+    /// pass then has seen that write. Where 0 is found, no write of the object that the pass has
+    /// seen comes after the version's and up to the pass's watermark.
+    pub fn load_super<L: Ledger>(
+        &self,
+        pass: &mut Pass<P>,
+        position: u64,
+        steps: &mut Steps<L>,
+    ) -> u64
+        ghost own: { Version × CommitNote }
+        requires of { IsOf self.now pass.old }
+        requires may { MayLoadSuper (config_of self.now) (view pass.old) position own.0 own.1 }
+        ensures same { IsSame pass.old pass.new }
+        ensures view { view pass.new ≡ super_loaded (config_of self.now) (view pass.old) position own.0 own.1 result (view pass.new).past.seen }
+        ensures sees { SeesSuper (config_of self.now) (view pass.old) own.0 own.1 result (view pass.new).past.seen }
+        ensures step { steps.new ≡ steps.old + 1 }
+    {
+        let slot = (position % self.config.slots as u64) as u32;
+        let place = slot_place(&self.config, pass.number, slot) + 3;
+        load_as::<P, Brand, L, _>(self, pass, place, &position, steps)
+    }
+
+    /// Stores a data word of an own version into the object's master, in an open section past its
+    /// help that holds nothing. Word 0 begins a write-back, of the version that the walk stands at,
+    /// where its chain wasn't cut and its time is not above the pass's watermark; each word after it
+    /// goes on with that write-back, in their order. No section reads the master meanwhile, since
+    /// the version serves all of them.
+    pub fn store_master<L: Ledger>(
+        &self,
+        pass: &mut Pass<P>,
+        object: u32,
+        word: u32,
+        value: u64,
+        steps: &mut Steps<L>,
+    )
+        ghost back: { ℕ × Version × CommitNote × Section }
+        requires of { IsOf self.now pass.old }
+        requires range { object < (config_of self.now).objects }
+        requires may { MayStoreMaster (config_of self.now) (view pass.old) object word value back.0 back.1 back.2 back.3 }
+        ensures same { IsSame pass.old pass.new }
+        ensures view { view pass.new ≡ master_stored (config_of self.now) (view pass.old) object word value back.0 }
+        ensures step { steps.new ≡ steps.old + 1 }
+    {
+        let place = master_place(&self.config, object, word);
+        store_as::<P, Brand, L, _>(self, pass, place, value, &(object, word), steps)
+    }
+
+    /// Exchanges HEAD of an object from the link of the version that is written back to 0, once all
+    /// its words were stored. Where it is won the version is cut from its chain: the object's master
+    /// has the present state, and a walk that begins goes there. A lost exchange leaves the chain as
+    /// it is. It is tried once in a write-back, won or lost.
+    pub fn cut_head<L: Ledger>(
+        &self,
+        pass: &mut Pass<P>,
+        object: u32,
+        position: u64,
+        steps: &mut Steps<L>,
+    ) -> Swap
+        ghost back: { Version × CommitNote }
+        requires of { IsOf self.now pass.old }
+        requires object { object < (config_of self.now).objects }
+        requires position { position < 2 ^ 57 }
+        requires may { MayCutHead (config_of self.now) (view pass.old) object position back.0 back.1 }
+        ensures same { IsSame pass.old pass.new }
+        ensures view { CutTold (config_of self.now) (view pass.old) object position back.0 back.1 (found_by (link_of (view pass.old).number position) result) (view pass.new) }
+        ensures swap { IsSwap (link_of (view pass.old).number position) result }
+        ensures link { found_by (link_of (view pass.old).number position) result ≢ link_of (view pass.old).number position → IsLinkOf (config_of self.now) (found_by (link_of (view pass.old).number position) result) }
+        ensures step { steps.new ≡ steps.old + 1 }
+    {
+        let place = head_place(&self.config, object);
+        let link = link_word(pass.number, position);
+        let found = swap_as::<P, Brand, L, _>(
+            self,
+            pass,
+            place,
+            link,
+            0,
+            &(object, position),
+            steps,
+        );
+        swap_of(found, link)
+    }
+
+    /// Stores STAMP 0 into the own slot of the oldest position of the log, outside a section, and so
+    /// gives the slot free. Where that position is the first of its write set, every version of the
+    /// set is dead from a time that is not above the pass's watermark, and none of them is live any
+    /// more; the slots of the others are given free by such stores of their own, in order.
+    pub fn store_free<L: Ledger>(&self, pass: &mut Pass<P>, position: u64, steps: &mut Steps<L>)
+        requires of { IsOf self.now pass.old }
+        requires may { MayStoreFree (config_of self.now) (view pass.old) position }
+        ensures same { IsSame pass.old pass.new }
+        ensures view { view pass.new ≡ free_stored (config_of self.now) (view pass.old) position }
+        ensures step { steps.new ≡ steps.old + 1 }
+    {
+        let slot = (position % self.config.slots as u64) as u32;
+        let place = slot_place(&self.config, pass.number, slot) + 1;
+        store_as::<P, Brand, L, _>(self, pass, place, 0, &position, steps)
+    }
+}

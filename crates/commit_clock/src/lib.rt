@@ -15,7 +15,18 @@
 //!
 //! **The contract.** `now` answers the word of CLOCK at one step, and takes what the pass has seen
 //! to the whole history of that step. `help` makes at most three steps; after it the word is among
-//! those that the pass has helped. Neither takes memory, and neither waits.
+//! those that the pass has helped. `name` and `rest` make one exchange of CLOCK each, from a word
+//! that the pass has loaded and helped and whose time isn't the last. `Done` says that the commit of
+//! what the section holds, or the rest, is the history's next entry, of the time after the word's.
+//! `Lost` says that CLOCK had another word by then, and names the seat and the time of its entry,
+//! which is later than the word loaded; no entry was made, and the pass has seen the whole history
+//! up to that one. The exchange of a commit also tells of the own log just before it: what is held
+//! links to nothing or by a packed link, and no commit there is later than the word. A commit that
+//! was named isn't stamped yet. No call takes memory, waits or tries twice.
+//!
+//! A rest is an entry that writes nothing. It moves the clock on, so that a version which is dead
+//! only from the next time on can be given up. It is `Lost` to the own seat where the seat has made
+//! a later rest since it loaded the word.
 //!
 //! A help loads CLOCK a second time before it exchanges a stamp. Between the load of a word and
 //! the load of the stamp the commit may have been stamped, died and been freed, and its slot built
@@ -26,7 +37,9 @@
 #![tactic(auto)]
 
 mod helping;
+mod naming;
 #[cfg(test)]
 mod tests;
 
 pub use helping::{help, help_clock, now};
+pub use naming::{Named, name, rest};

@@ -1,4 +1,5 @@
-//! Sections and their marks: how a seat enters a section, and how it leaves it.
+//! Sections and their marks: how a seat enters a section and leaves it, and how it finds a time that
+//! no section is below.
 //!
 //! A section reads the state of one time, so nobody may reclaim what that state needs while the
 //! section lasts. Each seat has a MARK, which is 0 outside a section, and else says a time not above
@@ -14,15 +15,23 @@
 //!
 //! **The contract.** `enter` makes at most six steps, one of which loads the time of the section
 //! that it begins from CLOCK; all that the seat had seen is in the section's snapshot, nothing is
-//! held, and the section is past its help. `leave` makes one step, and adds no entry. Neither takes
-//! memory, and neither waits.
+//! held, and the section is past its help. `leave` makes one step, and adds no entry. `scan` loads
+//! CLOCK and the mark of each other seat, and raises the shared word GRACE by the least of their
+//! times, `low`: no section of any seat has a time below it, now or later. Its watermark is the
+//! greater of `low` and the time found in GRACE, since another seat's scan may have found a later
+//! one. Its contract has the mark that it found of each seat and the exact steps, of which the
+//! raise of GRACE is the last. `known` takes the watermark that stands in GRACE, by one load. After
+//! both the pass's own watermark is at least the answered time, which is what freeing a slot and
+//! writing a version back ask for. No call takes memory, waits or refuses.
 //!
 //! The crate stands on `mv_core` for its steps, `commit_clock` for the help, and `mv_layout` for
 //! the packing of clock words.
 #![tactic(auto)]
 
+mod scanning;
 mod sections;
 #[cfg(test)]
 mod tests;
 
+pub use scanning::{Watermark, known, scan, scan_clock};
 pub use sections::{enter, enter_clock, leave};

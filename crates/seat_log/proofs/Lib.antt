@@ -1,0 +1,16 @@
+pub mod Places
+pub mod Noting
+pub mod MayBuild
+pub mod BuildsOn
+pub mod Standing
+pub mod Rebuilding
+pub mod HeldWords
+pub mod Stays
+pub mod Beginning
+pub mod Ended
+pub mod Changes
+pub mod Commits
+pub mod Aborts
+pub mod FreedSlots
+pub mod FreedOldest
+pub mod FreedLogs

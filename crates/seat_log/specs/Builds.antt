@@ -1,0 +1,76 @@
+-- Building a version in the next slot of the own log: what the calls need of the view, and what they make of it.
+use Rattle.std.specs.Prelude.{◌≡◌, ℕ, zero, suc, ◌+◌, ◌<◌, ◌==◌, if◌then◌else◌, List, [], length, Some, unwrap_or, slice_index}
+use Rattle.mv_layout.specs.declared.Config.{Config}
+use Rattle.mv_layout.specs.Words.{unset_of}
+use Rattle.mv_core.specs.declared.ring.Build.{Build}
+use Rattle.mv_core.specs.declared.ring.Slot.{Slot}
+use Rattle.mv_core.specs.declared.ring.Slot.TheVariants.{Live}
+use Rattle.mv_core.specs.declared.ring.Version.{Version}
+use Rattle.mv_core.specs.declared.view.View.{View}
+use Rattle.mv_core.specs.declared.view.Phase.TheVariants.{Inside}
+use Rattle.mv_core.specs.declared.view.Section.{Section}
+use Rattle.mv_core.specs.declared.view.Mode.TheVariants.{Open}
+use Rattle.mv_core.specs.Rings.{slot_at, index_of, set_first}
+use Rattle.mv_core.specs.LockSteps.{nothing_built, build_in, built_stored, data_stored}
+
+-- the view is in an open section
+abbrev pub IsOpen : View → Type 0
+IsOpen v = (inside : Section) × (v.phase ≡ Inside inside) × (inside.mode ≡ Open)
+
+-- what was stored so far of the version at a position
+abbrev pub build_at : Config → View → ℕ → Build
+build_at c v position = unwrap_or (build_in (slot_at v.ring (index_of c position))) nothing_built
+
+-- the view after one more word of it was stored
+unfoldable pub stored_next : Config → View → ℕ → ℕ → ℕ → View
+stored_next c v position field x = built_stored c v position field x (build_at c v position)
+
+-- the view after so many of its data words were stored, in order
+unfoldable pub words_stored : Config → View → ℕ → List ℕ → ℕ → View
+words_stored c v position words zero = v
+words_stored c v position words (suc i) = stored_next c (words_stored c v position words i) position (4 + i) (slice_index words i)
+
+-- FIRST, and STAMP where the position is the first of its set
+unfoldable pub begun : Config → View → ℕ → ℕ → View
+begun c v position first =
+    if first == position then stored_next c (stored_next c v position 0 first) position 1 (unset_of position) else stored_next c v position 0 first
+
+-- then PREV, and SUPER
+unfoldable pub linked : Config → View → ℕ → ℕ → ℕ → View
+linked c v position first previous = stored_next c (stored_next c (begun c v position first) position 2 previous) position 3 0
+
+-- and then the six data words: the version is whole
+unfoldable pub slot_built : Config → View → ℕ → ℕ → ℕ → List ℕ → View
+slot_built c v position first previous words = words_stored c (linked c v position first previous) position words 6
+
+-- how many words that are
+abbrev pub build_cost : ℕ → ℕ → ℕ
+build_cost position first = if first == position then 10 else 9
+
+-- a version may be built at a position: in an open section, at the next position, whose slot is free or being built
+pub record MayBuild (c : Config) (v : View) (position : ℕ) : Type 0 where
+  pub open_is : IsOpen v
+  pub next : position ≡ v.ring.next
+  pub within : index_of c position < length v.ring.slots
+  pub spare : (b : Build) × (build_in (slot_at v.ring (index_of c position)) ≡ Some b)
+
+-- the first position of the write set that is held, or the next position where nothing is held
+abbrev pub first_in : View → ℕ
+first_in v = set_first v.ring
+
+-- what is left of a version at this slot; it tells nothing of a slot that has none
+abbrev pub version_in : Slot → Version
+version_in (Live x st) = x
+version_in _ = record { position = 0; first = 0; object = 0; previous = 0; words = [] }
+
+-- the version at a position of the own log
+abbrev pub version_at : Config → View → ℕ → Version
+version_at c v position = version_in (slot_at v.ring (index_of c position))
+
+-- the view after a data word of the held version at a position was stored
+abbrev pub word_stored : Config → View → ℕ → ℕ → ℕ → View
+word_stored c v position word value = data_stored c v position word value (version_at c v position)
+
+-- nothing of a view has changed but the log and the trail
+abbrev pub ChangesLog : View → View → Type 0
+ChangesLog v w = w ≡ record v { ring = w.ring; trail = w.trail }

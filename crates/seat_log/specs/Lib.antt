@@ -1,0 +1,5 @@
+pub mod Notes
+pub mod Stands
+pub mod Builds
+pub mod Frees
+pub mod Tables

@@ -1,0 +1,89 @@
+-- A version was built, and HEAD exchanged: what the parts of a lock ask, and how their outcome is that of all.
+use Rattle.std.proofs.Common.{◌≡◌, ◌≢◌, ℕ, ◌+◌, ◌<◌, true, List, refl, sym, ap, ◌∙◌, subst, ⊎_elim, inl, inr, arith}
+use Rattle.mv_history.specs.declared.answers.LockAnswer.{LockAnswer}
+use Rattle.mv_history.specs.declared.answers.LockAnswer.TheVariants.{Held}
+use Rattle.mv_layout.specs.declared.Config.{Config}
+use Rattle.mv_layout.specs.Words.{link_seat_of}
+use Rattle.mv_core.specs.declared.view.View.{View}
+use Rattle.mv_core.specs.declared.view.Passed.TheVariants.{Nothing}
+use Rattle.mv_core.specs.declared.view.Walk.TheVariants as place
+use Rattle.mv_core.specs.Times.{words_of}
+use Rattle.mv_core.specs.Views.{time_in}
+use Rattle.mv_core.specs.LockSteps.{StandsToLock, head_locked, lock_lost, OneMoreWrite}
+use Rattle.mv_core.specs.WalkSteps.{IsLinkOf}
+use Rattle.mv_core.proofs.WalkOn.{at_zero}
+use Rattle.seat_log.specs.Notes.{Noted, next_of, first_of, next_note, built_noted, held_noted}
+use Rattle.seat_log.specs.Stands.{Stands}
+use Rattle.seat_log.specs.Builds.{slot_built, build_cost}
+use Rattle.version_chain.specs.Walks.{MayWalk, inside_of, section_in, time_at}
+use Rattle.version_chain.specs.Reads.{words_in}
+use Rattle.object_lock.specs.Tops.{Tries}
+use Rattle.object_lock.specs.Locks.{HoldsObject, IsBuiltFor, CameFirst, Outcome}
+use Rattle.object_lock.proofs.BuildTrails.{BuildsBy, builds_slot}
+use Rattle.object_lock.proofs.Holding.{Carries, own_kept, outcome_before, won_outcome, lost_tries, lost_carries, lost_may, lost_stands, came_first, built_may, built_carries, built_tries, built_walk}
+
+-- the words that a section reads stay with its section and what was seen
+pub words_carried : (c : Config) (v w : View) (object : ℕ) → Carries c v w → words_in c w object ≡ words_in c v object
+words_carried c v w object k = λ i. words_of c (k.start i) (k.seen i) (time_in (inside_of (k.phase i))) object
+
+-- where a lock may be put
+pub lock_carried : (v w : View) (object previous : ℕ) → w.walk ≡ v.walk → w.phase ≡ v.phase → StandsToLock v (section_in v) object previous → StandsToLock w (section_in w) object previous
+lock_carried v w object previous walk phase =
+    let same : time_at w ≡ time_at v = ap (λ p. time_in (inside_of p)) phase in
+    ⊎_elim (λ a. inl (walk ∙ a.0, a.1)) (λ a. inr (a.0, a.1, walk ∙ a.2, a.3, a.4, a.5, (let le = a.6 in omega arith)))
+
+module _ (c : Config) (v w x : View) (l m : Noted) (object previous position : ℕ) (words : List ℕ) (may : MayWalk v) (s : Stands c v l) (t : Stands c w m) (noted : m ≡ built_noted l (next_note l object previous words))
+    (built : w ≡ slot_built c v (next_of l) (first_of l) previous words) (at : position ≡ next_of l) (words_are : words ≡ words_in c v object) where
+  stores : BuildsBy v w (build_cost (next_of l) (first_of l))
+  stores = subst (λ (u : View). BuildsBy v u (build_cost (next_of l) (first_of l))) (sym built) (builds_slot c (next_of l) v (first_of l) previous words)
+
+  pub first_may : MayWalk w
+  first_may = built_may c v w (build_cost (next_of l) (first_of l)) stores may
+
+  pub first_carries : Carries c v w
+  first_carries = built_carries c v w (build_cost (next_of l) (first_of l)) stores (own_kept c v w l m s t (ap (λ (q : Noted). q.live) noted) (ap (λ (q : Noted). q.held) noted))
+
+  pub first_tries : (before after : ℕ) → after ≡ before + build_cost (next_of l) (first_of l) → Tries v w before after
+  first_tries = built_tries c v w (build_cost (next_of l) (first_of l)) stores
+
+  pub first_is : IsBuiltFor m position object previous (words_in c w object)
+  first_is = (next_note l object previous words, ap (λ (q : Noted). q.built) noted, sym at, refl, refl, words_are ∙ sym (words_carried c v w object first_carries))
+
+  pub first_lock : StandsToLock v (section_in v) object previous → StandsToLock w (section_in w) object previous
+  first_lock = lock_carried v w object previous (built_walk c v w (build_cost (next_of l) (first_of l)) stores) (first_carries.phase)
+
+  pub first_unheld : ¬ (HoldsObject l object) → ¬ (HoldsObject m object)
+  first_unheld = subst (λ (q : Noted). ¬ (HoldsObject q object)) (sym noted)
+
+  pub first_few : (most : ℕ) → l.held < most → m.held < most
+  first_few most = subst (λ (q : Noted). q.held < most) (sym noted)
+
+  pub first_won : x ≡ head_locked c w (section_in w) object previous position → OneMoreWrite c w (section_in w) object x → (q : Noted) (first second third : ℕ) → q ≡ held_noted m → second ≡ first + build_cost (next_of l) (first_of l) → third ≡ second + 1
+      → Outcome c v x q object Held first third
+  first_won told own q first second third q_is e f =
+      outcome_before c v w x q object Held first second third first_carries (first_tries first second e) (won_outcome c w x m object previous position first_may t first_is told own q second third q_is f)
+
+  module _ (link : ℕ) (told : x ≡ lock_lost c w object link) where
+    pub then_may : MayWalk x
+    then_may = lost_may c w x m object previous position first_may t first_is link told
+
+    pub then_stands : Stands c x m
+    then_stands = lost_stands c w x m object previous position first_may t first_is link told
+
+    pub then_first : link ≢ 0 → IsLinkOf c link → link_seat_of link ≢ w.number → CameFirst c x object link
+    then_first = came_first c w x m object previous position first_may t first_is link told
+
+    pub then_is : (below : ℕ) × IsBuiltFor m position object below (words_in c x object)
+    then_is =
+        let k = lost_carries c w x m object previous position first_may t first_is link told in
+        let is = first_is in
+        (previous, (is.0, is.1, is.2, is.3, is.4, is.5 ∙ sym (words_carried c w x object k)))
+
+    pub then_master : link ≡ 0 → x.walk ≡ place.Master object
+    then_master zero = ap (λ (u : View). u.walk) told ∙ sym (at_zero object link Nothing true zero)
+
+    pub then_lost : (y : View) (q : Noted) (answer : LockAnswer) (first second third last : ℕ) → second ≡ first + build_cost (next_of l) (first_of l) → third ≡ second + 1 → Outcome c x y q object answer third last → Outcome c v y q object answer first last
+    then_lost y q answer first second third last e f o =
+        outcome_before c v w y q object answer first second last first_carries (first_tries first second e)
+        (outcome_before c w x y q object answer second third last (lost_carries c w x m object previous position first_may t first_is link told)
+        (subst (Tries w x second) (sym f) (lost_tries c w x m object previous position first_may t first_is link told second)) o)

@@ -1,0 +1,239 @@
+-- The parts of a lock, from the build on: what each leaves, and how the outcome of one is that of all.
+use Rattle.std.proofs.Common.{◌≡◌, ◌≢◌, ℕ, ◌+◌, ◌-◌, ◌<◌, true, [], ◌∷◌, ◌++◌, length, map, drop, refl, sym, ap, ◌∙◌, subst, append-nil, length-append, inl, arith, Option, Some, None, IfSome}
+use Rattle.std.proofs.lemmas.List.Elements.{All-nil, All-cons}
+use Rattle.mv_history.specs.declared.Step.{Step}
+use Rattle.mv_history.specs.declared.StepKind.TheVariants.{LockHead}
+use Rattle.mv_history.specs.declared.answers.LockAnswer.{LockAnswer}
+use Rattle.mv_history.specs.declared.answers.LockAnswer.TheVariants.{Held, Busy, Stale, SetFull, LogFull}
+use Rattle.mv_layout.specs.declared.Config.{Config}
+use Rattle.mv_layout.specs.declared.Place.TheVariants.{Head}
+use Rattle.mv_layout.specs.Places.{place_of}
+use Rattle.mv_layout.specs.Words.{link_of, link_seat_of}
+use Rattle.mv_core.specs.declared.view.View.{View}
+use Rattle.mv_core.specs.declared.view.Phase.{Phase}
+use Rattle.mv_core.specs.declared.view.Phase.TheVariants.{Inside}
+use Rattle.mv_core.specs.declared.view.Section.{Section}
+use Rattle.mv_core.specs.declared.view.Heard.{Heard}
+use Rattle.mv_core.specs.declared.view.Passed.TheVariants.{Nothing}
+use Rattle.mv_core.specs.declared.view.Walk.TheVariants as place
+use Rattle.mv_core.specs.Rings.{own_of, spare_count}
+use Rattle.mv_core.specs.Times.{words_of}
+use Rattle.mv_core.specs.Views.{time_in}
+use Rattle.mv_core.specs.declared.view.Stand.{Stand}
+use Rattle.mv_core.specs.SectionFacts.{IsPastHelp}
+use Rattle.mv_core.specs.LockSteps.{StandsToLock, locked_version, head_locked, lock_lost, OneMoreWrite}
+use Rattle.mv_core.specs.WalkSteps.{IsLinkOf}
+use Rattle.mv_core.proofs.WalkOn.{at_some}
+use Rattle.seat_log.specs.declared.version.Note.{Note}
+use Rattle.seat_log.specs.Notes.{Noted, built_count, IsLog, IsNextOf, held_noted, built_list, cleared, without_previous}
+use Rattle.seat_log.specs.Stands.{version_of, Stands}
+use Rattle.seat_log.specs.Builds.{build_at, stored_next}
+use Rattle.seat_log.proofs.Noting.{held_is_noted}
+use Rattle.version_chain.specs.Walks.{MayWalk, inside_of, section_in, stand_of}
+use Rattle.version_chain.specs.Reads.{words_in}
+use Rattle.object_lock.specs.Tops.{Tries}
+use Rattle.object_lock.specs.Locks.{IsBuiltFor, CameFirst, LockMakes, KeepsOwn, Outcome}
+use Rattle.object_lock.proofs.BuildTrails.{BuildsBy, builds_next}
+use Rattle.object_lock.proofs.Looks.{IsLocks, rest_of}
+use Rattle.object_lock.proofs.MayLocks.{next_noted, position_next, first_noted, built_there}
+use Rattle.object_lock.proofs.Outcomes.{tries_on}
+use Rattle.object_lock.proofs.OwnNotes.{note_write, held_notes, own_is}
+use Rattle.object_lock.proofs.Stood.{stands_on, stands_held}
+
+-- a section may walk on where its phase, the clock words it heard and its write-back stay
+pub may_same : (v w : View) → w.phase ≡ v.phase → w.heard ≡ v.heard → w.back ≡ v.back → MayWalk v → MayWalk w
+may_same v w phase heard back may =
+    let inside : section_in w ≡ section_in v = ap inside_of phase in record {
+      phase = phase ∙ may.phase ∙ sym (ap Inside inside);
+      open_is = ap (λ (s : Section). s.mode) inside ∙ may.open_is;
+      helped = subst (λ (s : Section). IsPastHelp w.heard s) (sym inside) (subst (λ (h : Heard). IsPastHelp h (section_in v)) (sym heard) may.helped);
+      no_back = back ∙ may.no_back;
+    }
+
+-- logs with the same notes of what is live and held stand for passes that hold the same
+pub own_kept : (c : Config) (v w : View) (l m : Noted) → Stands c v l → Stands c w m → m.live ≡ l.live → m.held ≡ l.held → KeepsOwn c v w
+own_kept c v w l m s t live held =
+    let same : held_notes m ≡ held_notes l = (λ i. drop (length (live i) - held i) (live i)) in
+    let long = ap length live in
+    let a = s.spare in
+    let b = t.spare in
+    (own_is c w m t ∙ ap (map note_write) same ∙ sym (own_is c v l s), omega arith)
+
+-- what a step before the outcome leaves as it was
+pub record Carries (c : Config) (v w : View) : Type 0 where
+  pub number : w.number ≡ v.number
+  pub start : w.start ≡ v.start
+  pub seen : w.past.seen ≡ v.past.seen
+  pub phase : w.phase ≡ v.phase
+  pub own : KeepsOwn c v w
+
+-- what a lock makes from then on it makes in all
+pub makes_before : (c : Config) (v w x : View) (object : ℕ) (answer : LockAnswer) → w.number ≡ v.number → w.phase ≡ v.phase → KeepsOwn c v w → LockMakes c w x object answer → LockMakes c v x object answer
+makes_before c v w x object Held number phase own makes = (makes.0 ∙ ap (λ ws. ws ++ (object, words_in c x object) ∷ []) own.0, makes.1 ∙ own.1)
+makes_before c v w x object (Busy seat) number phase own makes = ((λ e. makes.0 (e ∙ sym number)), makes.1)
+makes_before c v w x object (Stale time) number phase own makes = (subst (λ (p : Phase). time_in (inside_of p) < time) phase makes.0, makes.1)
+makes_before c v w x object SetFull number phase own makes = absurd makes
+makes_before c v w x object LogFull number phase own makes = absurd makes
+
+pub outcome_before : (c : Config) (v w x : View) (l : Noted) (object : ℕ) (answer : LockAnswer) (first second third : ℕ) → Carries c v w → Tries v w first second → Outcome c w x l object answer second third → Outcome c v x l object answer first third
+outcome_before c v w x l object answer first second third k tries o = record {
+  may = o.may;
+  stands = o.stands;
+  unbuilt = o.unbuilt;
+  makes = makes_before c v w x object answer k.number k.phase k.own o.makes;
+  keeps = λ ne. let kept = o.keeps ne in (kept.0 ∙ k.own.0, kept.1 ∙ k.own.1);
+  tries = tries_on v w x first second third tries o.tries;
+}
+
+-- the built version may be noted as held
+held_is_log : (l : Noted) (n : Note) → l.built ≡ Some n → IsLog l → IsLog (held_noted l)
+held_is_log l n e k =
+    let is : IsNextOf l n = subst (λ o. IfSome o (IsNextOf l)) e k.built in
+    let live : l.live ++ built_list l.built ≡ l.live ++ n ∷ [] = ap (λ (o : Option Note). l.live ++ built_list o) e in
+    let long : length (l.live ++ built_list l.built) ≡ length l.live + 1 = ap length live ∙ length-append l.live (n ∷ []) in
+    let room = k.room in
+    let count = ap built_count e in
+    let few = k.held in
+    let at = is.0 in
+    let small = is.4 in
+    let sets = k.sets in
+    let backs = k.backs in
+    record { seat = k.seat; slots = k.slots; room = (omega arith); held = (omega arith); notes = held_is_noted l n e k; built = tt; positions = (omega arith); sets = (omega arith); backs = (omega arith); rests = k.rests }
+
+-- an exchange of HEAD
+module _ (c : Config) (v w : View) (l : Noted) (object previous position : ℕ) (may : MayWalk v) (s : Stands c v l) (is : IsBuiltFor l position object previous (words_in c v object)) where
+  -- won: the version is held
+  module _ (told : w ≡ head_locked c v (section_in v) object previous position) (own : OneMoreWrite c v (section_in v) object w) where
+    abbrev step : Step
+    step = record { kind = LockHead; word = place_of c (Head object); found = Some previous; stored = Some (link_of v.number position) }
+
+    version_is : version_of is.0 ≡ locked_version c v (section_in v) object previous position
+    version_is =
+        let first = first_noted c v l object previous position s is in
+        (λ i. record { position = is.2 i; first = first i; object = is.3 i; previous = is.4 i; words = is.5 i })
+
+    won_tries : (before : ℕ) → Tries v w before (before + 1)
+    won_tries before = record {
+      seen = ([], ap (λ (u : View). u.past.seen) told ∙ sym (append-nil v.past.seen));
+      trail = (step ∷ [], ap (λ (u : View). u.trail) told, refl, All-cons IsLocks step [] tt (All-nil IsLocks));
+      rest = ap (rest_of w) told;
+    }
+
+    pub won_outcome : (m : Noted) (before after : ℕ) → m ≡ held_noted l → after ≡ before + 1 → Outcome c v w m object Held before after
+    won_outcome m before after noted e =
+        let next = next_noted c v l object previous position s is in
+        let log = held_is_log l is.0 is.1 s.log in
+        let stands = stands_held c v (section_in v) object previous position l is.0 (build_at c v position) s log is.1 (position_next c v l object previous position s is) (built_there c v l object previous position s is) version_is (next.2, next.3) in
+        subst (λ (k : Noted). Outcome c v w k object Held before after) (sym noted) (record {
+          may = may_same v w (ap (λ (u : View). u.phase) told) (ap (λ (u : View). u.heard) told) (ap (λ (u : View). u.back) told) may;
+          stands = subst (λ (u : View). Stands c u (held_noted l)) (sym told) stands;
+          unbuilt = refl;
+          makes = (own.0 ∙ ap (λ ws. own_of c v.ring ++ (object, ws) ∷ []) (sym (ap (λ (u : View). words_in c u object) told)), own.1);
+          keeps = λ ne. absurd (ne refl);
+          tries = subst (Tries v w before) (sym e) (won_tries before);
+        })
+
+  -- lost: another came first, or the chain was cut
+  module _ (link : ℕ) (told : w ≡ lock_lost c v object link) where
+    abbrev step_lost : Step
+    step_lost = record { kind = LockHead; word = place_of c (Head object); found = Some link; stored = None }
+
+    pub lost_tries : (before : ℕ) → Tries v w before (before + 1)
+    lost_tries before = record {
+      seen = ([], ap (λ (u : View). u.past.seen) told ∙ sym (append-nil v.past.seen));
+      trail = (step_lost ∷ [], ap (λ (u : View). u.trail) told, refl, All-cons IsLocks step_lost [] tt (All-nil IsLocks));
+      rest = ap (rest_of w) told;
+    }
+
+    pub lost_carries : Carries c v w
+    lost_carries = record {
+      number = ap (λ (u : View). u.number) told;
+      start = ap (λ (u : View). u.start) told;
+      seen = ap (λ (u : View). u.past.seen) told;
+      phase = ap (λ (u : View). u.phase) told;
+      own = (ap (λ (u : View). own_of c u.ring) told, ap (λ (u : View). spare_count u.ring) told);
+    }
+
+    pub lost_may : MayWalk w
+    lost_may = may_same v w (ap (λ (u : View). u.phase) told) (ap (λ (u : View). u.heard) told) (ap (λ (u : View). u.back) told) may
+
+    pub lost_stands : Stands c w l
+    lost_stands =
+        stands_on c v w l (step_lost ∷ []) (ap (λ (u : View). u.number) told) (ap (λ (u : View). u.ring) told) (ap (λ (u : View). u.past.mine) told) (ap (λ (u : View). u.past.rests) told) (ap (λ (u : View). u.trail) told)
+        (All-cons IsLocks step_lost [] tt (All-nil IsLocks)) s
+
+    pub came_first : link ≢ 0 → IsLinkOf c link → link_seat_of link ≢ v.number → CameFirst c w object link
+    came_first some packed other =
+        let at : w.walk ≡ place.At (record { object = object; link = link; first = None; stamp = None; passed = Nothing; late = true }) = ap (λ (u : View). u.walk) told ∙ sym (at_some object link Nothing true some) in
+        let stand = ap stand_of at in record {
+          stands = record { stands = at ∙ ap place.At (sym stand); link_is = ap (λ (z : Stand). z.link) stand; packed = packed some };
+          object_is = ap (λ (z : Stand). z.object) stand;
+          late = ap (λ (z : Stand). z.late) stand;
+          other = λ e. other (e ∙ ap (λ (u : View). u.number) told);
+          lost = (v.trail, ap (λ (u : View). u.trail) told);
+        }
+
+-- PREV of the built version was cleared, where the walk stands at the master
+pub cleared_for : (c : Config) (v w : View) (l m : Noted) (object previous position : ℕ) → IsBuiltFor l position object previous (words_in c v object) → m ≡ cleared l → Carries c v w → IsBuiltFor m position object 0 (words_in c w object)
+cleared_for c v w l m object previous position is e k =
+    let n : Note = is.0 in
+    let words : words_in c v object ≡ words_in c w object = (λ i. words_of c (sym k.start i) (sym k.seen i) (time_in (inside_of (sym k.phase i))) object) in
+    (record n { previous = 0 }, ap (λ (q : Noted). q.built) e ∙ ap without_previous is.1, is.2, is.3, refl, is.5 ∙ words)
+
+-- stores into the slot that is being built
+module _ (c : Config) (v w : View) (n : ℕ) (b : BuildsBy v w n) where
+  pub built_may : MayWalk v → MayWalk w
+  built_may may = may_same v w (ap (λ (u : View). u.phase) b.rest) (ap (λ (u : View). u.heard) b.rest) (ap (λ (u : View). u.back) b.rest) may
+
+  pub built_carries : KeepsOwn c v w → Carries c v w
+  built_carries own =
+      record { number = ap (λ (u : View). u.number) b.rest; start = ap (λ (u : View). u.start) b.rest; seen = ap (λ (u : View). u.past.seen) b.rest; phase = ap (λ (u : View). u.phase) b.rest; own = own }
+
+  pub built_tries : (before after : ℕ) → after ≡ before + n → Tries v w before after
+  built_tries before after e =
+      let s = b.steps in
+      let long = s.2 in
+      record { seen = ([], ap (λ (u : View). u.past.seen) b.rest ∙ sym (append-nil v.past.seen)); trail = (s.0, s.1, (omega arith), s.3); rest = ap (rest_of w) b.rest }
+
+  pub built_walk : w.walk ≡ v.walk
+  built_walk = ap (λ (u : View). u.walk) b.rest
+
+-- PREV of the built version was cleared, and HEAD exchanged once more
+module _ (c : Config) (v w x : View) (l m : Noted) (object previous position : ℕ) (may : MayWalk v) (s : Stands c v l) (is : IsBuiltFor l position object previous (words_in c v object)) (t : Stands c w m) (noted : m ≡ cleared l) (stored : w ≡ stored_next c v position 2 0) where
+  stores : BuildsBy v w 1
+  stores = subst (λ (u : View). BuildsBy v u 1) (sym stored) (builds_next c position v 2 0)
+
+  pub cleared_may : MayWalk w
+  cleared_may = built_may c v w 1 stores may
+
+  pub cleared_carries : Carries c v w
+  cleared_carries = built_carries c v w 1 stores (own_kept c v w l m s t (ap (λ (q : Noted). q.live) noted) (ap (λ (q : Noted). q.held) noted))
+
+  pub cleared_is : IsBuiltFor m position object 0 (words_in c w object)
+  cleared_is = cleared_for c v w l m object previous position is noted cleared_carries
+
+  pub cleared_lock : v.walk ≡ place.Master object → StandsToLock w (section_in w) object 0
+  cleared_lock at = inl (built_walk c v w 1 stores ∙ at, refl)
+
+  pub cleared_tries : (before after : ℕ) → after ≡ before + 1 → Tries v w before after
+  cleared_tries = built_tries c v w 1 stores
+
+  pub again_won : x ≡ head_locked c w (section_in w) object 0 position → OneMoreWrite c w (section_in w) object x → (q : Noted) (first second third : ℕ) → q ≡ held_noted m → second ≡ first + 1 → third ≡ second + 1 → Outcome c v x q object Held first third
+  again_won told own q first second third q_is e f =
+      outcome_before c v w x q object Held first second third cleared_carries (cleared_tries first second e) (won_outcome c w x m object 0 position cleared_may t cleared_is told own q second third q_is f)
+
+  module _ (link : ℕ) (told : x ≡ lock_lost c w object link) where
+    pub again_may : MayWalk x
+    again_may = lost_may c w x m object 0 position cleared_may t cleared_is link told
+
+    pub again_stands : Stands c x m
+    again_stands = lost_stands c w x m object 0 position cleared_may t cleared_is link told
+
+    pub again_first : link ≢ 0 → IsLinkOf c link → link_seat_of link ≢ w.number → CameFirst c x object link
+    again_first = came_first c w x m object 0 position cleared_may t cleared_is link told
+
+    pub again_lost : (y : View) (q : Noted) (answer : LockAnswer) (first second third last : ℕ) → second ≡ first + 1 → third ≡ second + 1 → Outcome c x y q object answer third last → Outcome c v y q object answer first last
+    again_lost y q answer first second third last e f o =
+        outcome_before c v w y q object answer first second last cleared_carries (cleared_tries first second e)
+        (outcome_before c w x y q object answer second third last (lost_carries c w x m object 0 position cleared_may t cleared_is link told)
+        (subst (Tries w x second) (sym f) (lost_tries c w x m object 0 position cleared_may t cleared_is link told second)) o)

@@ -1,0 +1,11 @@
+pub mod Looks
+pub mod LockKinds
+pub mod Stood
+pub mod OwnNotes
+pub mod BuildTrails
+pub mod MayLocks
+pub mod Outcomes
+pub mod Holding
+pub mod Built
+pub mod Locked
+pub mod Rewriting

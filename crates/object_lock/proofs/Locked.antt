@@ -1,0 +1,120 @@
+-- What `lock` answers: whether the section holds the object, whether it may hold one more, and what came of looking at the top and of building.
+use Rattle.std.proofs.Common.{◌≡◌, ◌≢◌, ℕ, zero, suc, ◌+◌, ◌-◌, ◌<◌, ◌≤◌, true, false, List, [], ◌∷◌, ◌++◌, length, map, drop, length-append, refl, sym, ap, ◌∙◌, subst, arith, Some, None}
+use Rattle.std.specs.Prelude.{slice_get}
+use Rattle.mv_history.specs.State.{Writes, touches}
+use Rattle.mv_history.specs.declared.answers.LockAnswer.{LockAnswer}
+use Rattle.mv_history.specs.declared.answers.LockAnswer.TheVariants.{Held, Busy, Stale, SetFull, LogFull}
+use Rattle.mv_layout.specs.declared.Config.{Config}
+use Rattle.mv_core.specs.declared.view.View.{View}
+use Rattle.mv_core.specs.Rings.{own_of, spare_count}
+use Rattle.mv_core.proofs.Written.{write_there, write_touches}
+use Rattle.seat_log.specs.declared.version.Note.{Note}
+use Rattle.seat_log.specs.Notes.{Noted, built_count, held_from}
+use Rattle.seat_log.specs.Stands.{Stands}
+use Rattle.version_chain.specs.Reads.{words_in}
+use Rattle.object_lock.specs.Tops.{Tries, IsRefused}
+use Rattle.object_lock.specs.Locks.{HoldsObject, LockMakes, KeepsOwn, HasRoom, IsSetFull, LockAnswers}
+use Rattle.object_lock.proofs.Holding.{makes_before}
+use Rattle.object_lock.proofs.OwnNotes.{note_write, held_notes, get-drop, own_is, own_long}
+use Rattle.object_lock.proofs.Stood.{stands_on}
+
+-- a place of a mapped list
+get-map : (ns : List Note) (i : ℕ) (n : Note) → slice_get ns i ≡ Some n → slice_get (map note_write ns) i ≡ Some (note_write n)
+get-map [] i n e = absurd (cc)
+get-map (m ∷ ns) zero n e = let same : m ≡ n = cc in ap (λ (k : Note). Some (note_write k)) same
+get-map (m ∷ ns) (suc i) n e = get-map ns i n e
+
+get-unmap : (ns : List Note) (i : ℕ) (w : ℕ × List ℕ) → slice_get (map note_write ns) i ≡ Some w → (n : Note) × (slice_get ns i ≡ Some n) × (note_write n ≡ w)
+get-unmap [] i w e = absurd (cc)
+get-unmap (m ∷ ns) zero w e = (m, refl, (let f : Some (note_write m) ≡ Some w = e in cc))
+get-unmap (m ∷ ns) (suc i) w e = get-unmap ns i w e
+
+pub drop-get : (ns : List Note) (d i : ℕ) (n : Note) → d ≤ i → slice_get ns i ≡ Some n → slice_get (drop d ns) (i - d) ≡ Some n
+drop-get ns zero i n le e = ap (slice_get ns) (let z : i - 0 ≡ i = omega arith in z) ∙ e
+drop-get [] (suc d) i n le e = absurd (cc)
+drop-get (m ∷ ns) (suc d) zero n le e = absurd (omega arith)
+drop-get (m ∷ ns) (suc d) (suc i) n le e = ap (slice_get (drop d ns)) (let z : suc i - suc d ≡ i - d = omega arith in z) ∙ drop-get ns d i n (omega arith) e
+
+module _ (c : Config) (v : View) (l : Noted) (object : ℕ) (s : Stands c v l) where
+  -- what is held is noted
+  pub touched_is : touches (own_of c v.ring) object ≡ true → HoldsObject l object
+  touched_is e =
+      let w = write_there (map note_write (held_notes l)) object (ap (λ (ws : Writes). touches ws object) (sym (own_is c v l s)) ∙ e) in
+      let n = get-unmap (held_notes l) w.0 (object, w.1) w.3 in
+      (held_from l + w.0, n.0, get-drop l.live (held_from l) w.0 n.0 n.1, (omega arith), ap (λ (p : ℕ × List ℕ). p.0) n.2)
+
+  -- and what is noted is held
+  pub noted_is : HoldsObject l object → touches (own_of c v.ring) object ≡ true
+  noted_is h =
+      let at = get-map (held_notes l) (h.0 - held_from l) h.1 (drop-get l.live (held_from l) h.0 h.1 h.3 h.2) in
+      ap (λ (ws : Writes). touches ws object) (own_is c v l s)
+      ∙ subst (λ (o : ℕ). touches (map note_write (held_notes l)) o ≡ true) h.4 (write_touches (map note_write (held_notes l)) (h.0 - held_from l) h.1.object h.1.words at)
+
+  pub held_none : ¬ (HoldsObject l object) → {A : Type 0} → touches (own_of c v.ring) object ≡ true → A
+  held_none none e = absurd (none (touched_is e))
+
+  pub held_some : HoldsObject l object → {A : Type 0} → touches (own_of c v.ring) object ≡ false → A
+  held_some h e = let yes = noted_is h in let clash : true ≡ false = sym yes ∙ e in absurd (cc)
+
+  pub full_is : (held : ℕ) → held ≡ l.held → held ≡ c.write_max → IsSetFull c v
+  full_is held e f = let long = own_long c v l s in omega arith
+
+  pub not_full : (held : ℕ) → held ≡ l.held → held ≢ c.write_max → ¬ (IsSetFull c v)
+  not_full held e ne full = let long = own_long c v l s in ne (omega arith)
+
+  pub spare_is : (room : ℕ) → l.built ≡ None → room + length l.live + built_count l.built ≡ l.slots → spare_count v.ring ≡ room
+  spare_is room unbuilt e = let none : built_count l.built ≡ 0 = ap built_count unbuilt in let a = s.spare in let b = s.slots in omega arith
+
+-- the steps that looked at the top leave the log as it is
+module _ (c : Config) (v x : View) (l : Noted) (object before here : ℕ) (s : Stands c v l) (tries : Tries v x before here) (ring : x.ring ≡ v.ring) where
+  pub top_stands : Stands c x l
+  top_stands = let t = tries.trail in stands_on c v x l t.0 (ap (λ (u : View). u.number) tries.rest) ring (ap (λ (u : View). u.past.mine) tries.rest) (ap (λ (u : View). u.past.rests) tries.rest) t.1 t.3 s
+
+  pub top_keeps : KeepsOwn c v x
+  top_keeps = (ap (own_of c) ring, ap spare_count ring)
+
+  pub kept_too : (y : View) → KeepsOwn c x y → KeepsOwn c v y
+  kept_too y k = (k.0 ∙ top_keeps.0, k.1 ∙ top_keeps.1)
+
+  -- a refusal at the top
+  pub top_answers : (answer : LockAnswer) → HasRoom c v → IsRefused c v x object answer → LockAnswers c v x object answer
+  top_answers Held room cause = absurd cause
+  top_answers (Busy seat) room cause = (room, cause)
+  top_answers (Stale time) room cause = (room, cause)
+  top_answers SetFull room cause = absurd cause
+  top_answers LogFull room cause = absurd cause
+
+  pub top_refused : (answer : LockAnswer) → IsRefused c v x object answer → answer ≢ Held
+  top_refused answer cause e = subst (IsRefused c v x object) e cause
+
+  -- what came of building
+  all_answers : (y : View) (answer : LockAnswer) → HasRoom c v → LockMakes c v y object answer → LockAnswers c v y object answer
+  all_answers y Held room makes = (room, makes)
+  all_answers y (Busy seat) room makes = (room, makes)
+  all_answers y (Stale time) room makes = (room, makes)
+  all_answers y SetFull room makes = absurd makes
+  all_answers y LogFull room makes = absurd makes
+
+  pub made_answers : (y : View) (answer : LockAnswer) → HasRoom c v → LockMakes c x y object answer → LockAnswers c v y object answer
+  made_answers y answer room makes =
+      all_answers y answer room (makes_before c v x y object answer (ap (λ (u : View). u.number) tries.rest) (ap (λ (u : View). u.phase) tries.rest) top_keeps makes)
+
+  few_same : (y : View) (m : Noted) → l.held < c.write_max → Stands c y m → KeepsOwn c x y → m.held ≤ c.write_max
+  few_same y m few t keeps =
+      let long = ap length (keeps.0 ∙ top_keeps.0) in
+      let a = own_long c v l s in
+      let b = own_long c y m t in
+      omega arith
+
+  -- the section holds no more than it may
+  pub few_made : (y : View) (m : Noted) (answer : LockAnswer) → l.held < c.write_max → Stands c y m → LockMakes c x y object answer → (answer ≢ Held → KeepsOwn c x y) → m.held ≤ c.write_max
+  few_made y m Held few t makes keeps =
+      let own : own_of c y.ring ≡ own_of c v.ring ++ (object, words_in c y object) ∷ [] = makes.0 ∙ ap (λ ws. ws ++ (object, words_in c y object) ∷ []) top_keeps.0 in
+      let long : length (own_of c y.ring) ≡ length (own_of c v.ring) + 1 = ap length own ∙ length-append (own_of c v.ring) ((object, words_in c y object) ∷ []) in
+      let a = own_long c v l s in
+      let b = own_long c y m t in
+      omega arith
+  few_made y m (Busy seat) few t makes keeps = few_same y m few t (keeps (λ e. cc))
+  few_made y m (Stale time) few t makes keeps = few_same y m few t (keeps (λ e. cc))
+  few_made y m SetFull few t makes keeps = absurd makes
+  few_made y m LogFull few t makes keeps = absurd makes

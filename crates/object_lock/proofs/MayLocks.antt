@@ -1,0 +1,67 @@
+-- A version that was built may be locked: its slot has what the log has noted.
+use Rattle.std.proofs.Common.{◌≡◌, ℕ, ◌-◌, ◌<◌, ◌^◌, map, sym, ap, ◌∙◌, subst, arith, Some, IfSome}
+use Rattle.std.specs.Prelude.{unwrap_or}
+use Rattle.mv_layout.specs.declared.Config.{Config}
+use Rattle.mv_layout.specs.Words.{unset_of}
+use Rattle.mv_core.specs.declared.ring.Slot.{Slot}
+use Rattle.mv_core.specs.declared.ring.Slot.TheVariants.{Built}
+use Rattle.mv_core.specs.declared.ring.Build.{Build}
+use Rattle.mv_core.specs.declared.view.View.{View}
+use Rattle.mv_core.specs.Rings.{slot_at, index_of, set_first}
+use Rattle.mv_core.specs.LockSteps.{nothing_built, build_in, StandsToLock, MayLock}
+use Rattle.seat_log.specs.declared.version.Note.{Note}
+use Rattle.seat_log.specs.Notes.{Noted, IsNextOf}
+use Rattle.seat_log.specs.Stands.{IsWhole, HasBuilt, Stands}
+use Rattle.seat_log.specs.Builds.{build_at}
+use Rattle.version_chain.specs.Walks.{MayWalk, section_in}
+use Rattle.version_chain.specs.Reads.{words_in}
+use Rattle.object_lock.specs.Locks.{HoldsObject, IsBuiltFor}
+use Rattle.object_lock.proofs.OwnNotes.{unheld_is}
+
+module _ (c : Config) (v : View) (l : Noted) (object previous position : ℕ) (s : Stands c v l) (is : IsBuiltFor l position object previous (words_in c v object)) where
+  abbrev n : Note
+  n = is.0
+
+  pub next_noted : IsNextOf l n
+  next_noted = subst (λ o. IfSome o (IsNextOf l)) is.1 s.log.built
+
+  whole : (b : Build) × (slot_at v.ring (index_of c v.ring.next) ≡ Built b) × IsWhole b n
+  whole = subst (HasBuilt c v.ring) is.1 s.built
+
+  pub position_next : position ≡ v.ring.next
+  position_next = let a = is.2 in let b = next_noted.0 in let d = s.next in omega arith
+
+  there : slot_at v.ring (index_of c position) ≡ Built whole.0
+  there = ap (λ (p : ℕ). slot_at v.ring (index_of c p)) position_next ∙ whole.1
+
+  build_is : build_at c v position ≡ whole.0
+  build_is = ap (λ (z : Slot). unwrap_or (build_in z) nothing_built) there
+
+  pub built_there : slot_at v.ring (index_of c position) ≡ Built (build_at c v position)
+  built_there = there ∙ ap Built (sym build_is)
+
+  pub first_noted : n.first ≡ set_first v.ring
+  first_noted = let a = next_noted.1 in let b = s.next in let d = s.held in omega arith
+
+  pub first_is : (first held : ℕ) → held ≡ l.held → first ≡ position - held → first ≡ set_first v.ring
+  first_is first held e f = let a = position_next in let d = s.held in omega arith
+
+  pub small : position < 2 ^ 57
+  small = let a = next_noted.4 in let b = is.2 in omega arith
+
+  pub may_lock : (write_max : ℕ) → MayWalk v → object < c.objects → StandsToLock v (section_in v) object previous → ¬ (HoldsObject l object) → l.held < write_max → MayLock c write_max v object previous position (build_at c v position) (section_in v)
+  may_lock write_max may range stands unheld few =
+      let w = whole.2 in record {
+        walking = may;
+        in_range = range;
+        stands = stands;
+        unheld = unheld_is c v l s object unheld;
+        room = (let e = s.held in omega arith);
+        next = position_next;
+        build = built_there;
+        first = ap (λ (b : Build). b.first) build_is ∙ w.first ∙ ap Some first_noted;
+        stamp = λ e. ap (λ (b : Build). b.stamp) build_is ∙ w.stamp (first_noted ∙ e ∙ sym is.2) ∙ ap (λ (p : ℕ). Some (unset_of p)) is.2;
+        previous_is = ap (λ (b : Build). b.previous) build_is ∙ w.previous ∙ ap Some is.4;
+        successor = ap (λ (b : Build). b.successor) build_is ∙ w.successor;
+        words = ap (λ (b : Build). b.words) build_is ∙ w.words ∙ ap (map Some) is.5;
+      }

@@ -1,0 +1,89 @@
+-- What comes of a lock where another came first, and how the parts of a lock come together.
+use Rattle.std.proofs.Common.{◌≡◌, ℕ, ◌+◌, ◌<◌, ◌^◌, List, [], ◌∷◌, ◌++◌, refl, sym, ap, ◌∙◌, subst, append_assoc, length-append, arith, Some, None, All}
+use Rattle.std.proofs.lemmas.List.Elements.{All-nil, All-cons, All-append}
+use Rattle.mv_history.specs.declared.Entry.{Entry}
+use Rattle.mv_history.specs.declared.Step.{Step}
+use Rattle.mv_history.specs.declared.StepKind.TheVariants.{LoadFirst, LoadStamp, LockHead}
+use Rattle.mv_history.specs.declared.answers.LockAnswer.{LockAnswer}
+use Rattle.mv_history.specs.declared.answers.LockAnswer.TheVariants.{Busy, Stale}
+use Rattle.mv_layout.specs.declared.Config.{Config}
+use Rattle.mv_layout.specs.declared.Place.TheVariants.{First, Stamp}
+use Rattle.mv_layout.specs.Places.{place_of}
+use Rattle.mv_layout.specs.Words.{IsUnset, link_seat_of}
+use Rattle.mv_core.specs.declared.view.View.{View}
+use Rattle.mv_core.specs.Rings.{index_of, own_of, spare_count}
+use Rattle.mv_core.specs.WalkSteps.{slot_named, IsWriteOf}
+use Rattle.seat_log.specs.Notes.{Noted, IsLog, dropped}
+use Rattle.seat_log.specs.Stands.{Stands}
+use Rattle.seat_log.proofs.Standing.{built_is_log}
+use Rattle.version_chain.specs.Walks.{MayWalk, section_in, stand_in, time_at}
+use Rattle.object_lock.specs.Tops.{Looked, Tries, IsRefused}
+use Rattle.object_lock.specs.Locks.{CameFirst, LockMakes, Outcome}
+use Rattle.object_lock.proofs.Looks.{IsLocks, rest_of, found_held}
+use Rattle.object_lock.proofs.Stood.{stands_on, stands_dropped}
+
+-- the built version may be given up
+pub dropped_is_log : (l : Noted) → IsLog l → IsLog (dropped l)
+dropped_is_log l k = built_is_log l None (let r = k.room in omega arith) tt k
+
+-- one after another
+pub tries_on : (u v w : View) (first second third : ℕ) → Tries u v first second → Tries v w second third → Tries u w first third
+tries_on u v w first second third a b =
+    let s = a.trail in
+    let t = b.trail in
+    let long = length-append s.0 t.0 in
+    let one = s.2 in
+    let two = t.2 in record {
+      seen = (a.seen.0 ++ b.seen.0, b.seen.1 ∙ ap (λ (l : List Entry). l ++ b.seen.0) a.seen.1 ∙ append_assoc u.past.seen a.seen.0 b.seen.0);
+      trail = (s.0 ++ t.0, t.1 ∙ ap (λ (l : List Step). l ++ t.0) s.1 ∙ append_assoc u.trail s.0 t.0, (omega arith), All-append IsLocks s.0 t.0 s.3 t.3);
+      rest = ap (rest_of w) b.rest ∙ ap (rest_of w) a.rest;
+    }
+
+-- FIRST and STAMP of the version that came first were loaded
+module _ (c : Config) (v x : View) (object link found : ℕ) (may : MayWalk v) (first : CameFirst c v object link) (looked : Looked c v x found) where
+  abbrev of_first : Step
+  of_first = record { kind = LoadFirst; word = place_of c (First (link_seat_of (stand_in v).link) (slot_named c (stand_in v).link)); found = Some looked.first; stored = None }
+
+  abbrev of_stamp : Step
+  of_stamp = record { kind = LoadStamp; word = place_of c (Stamp (link_seat_of (stand_in v).link) (index_of c looked.first)); found = Some found; stored = None }
+
+  two_steps : x.trail ≡ v.trail ++ of_first ∷ of_stamp ∷ []
+  two_steps = ap (λ (u : View). u.trail) looked.view ∙ append_assoc v.trail (of_first ∷ []) (of_stamp ∷ [])
+
+  two_kinds : All IsLocks (of_first ∷ of_stamp ∷ [])
+  two_kinds = All-cons IsLocks of_first (of_stamp ∷ []) tt (All-cons IsLocks of_stamp [] tt (All-nil IsLocks))
+
+  looked_on : (before : ℕ) → Tries v x before (before + 2)
+  looked_on before = record { seen = looked.says.sees.more; trail = (of_first ∷ of_stamp ∷ [], two_steps, refl, two_kinds); rest = ap (rest_of x) looked.view }
+
+  -- an unset stamp
+  pub busy_cause : IsUnset found → IsRefused c v x object (Busy (link_seat_of link))
+  busy_cause unset = (first.other, found_held c (record v { trail = first.lost.0 }) v x LockHead object link found first.lost.1 first.stands.link_is looked unset)
+
+  -- and a time
+  pub stale_cause : found < 2 ^ 63 → IsRefused c v x object (Stale found)
+  stale_cause low =
+      let late = looked.says.late (section_in v) may.phase first.late low in
+      let same : time_at x ≡ time_at v = ap time_at looked.view in
+      ((omega arith), subst (λ (o : ℕ). IsWriteOf c x.past.seen o found) first.object_is (looked.says.write low))
+
+  pub lost_outcome : (l : Noted) (answer : LockAnswer) (before after : ℕ) → MayWalk x → Stands c v l → LockMakes c v x object answer → after ≡ before + 2 → Outcome c v x (dropped l) object answer before after
+  lost_outcome l answer before after still s makes e =
+      let ring : x.ring ≡ v.ring = ap (λ (u : View). u.ring) looked.view in record {
+        may = still;
+        stands = stands_dropped c x l (dropped_is_log l s.log) (stands_on c v x l (of_first ∷ of_stamp ∷ []) (ap (λ (u : View). u.number) looked.view) ring (ap (λ (u : View). u.past.mine) looked.view) (ap (λ (u : View). u.past.rests) looked.view) two_steps two_kinds s);
+        unbuilt = refl;
+        makes = makes;
+        keeps = λ _. (ap (own_of c) ring, ap spare_count ring);
+        tries = subst (Tries v x before) (sym e) (looked_on before);
+      }
+
+  -- the answer for another log's notes and counter that are these
+  pub lost_busy : (l m : Noted) (seat before after : ℕ) → MayWalk x → Stands c v l → m ≡ dropped l → seat ≡ link_seat_of link → IsUnset found → after ≡ before + 2 → Outcome c v x m object (Busy seat) before after
+  lost_busy l m seat before after still s is seat_is unset e =
+      subst (λ (k : Noted). Outcome c v x k object (Busy seat) before after) (sym is)
+      (subst (λ (q : ℕ). Outcome c v x (dropped l) object (Busy q) before after) (sym seat_is) (lost_outcome l (Busy (link_seat_of link)) before after still s (busy_cause unset) e))
+
+  pub lost_stale : (l m : Noted) (before after : ℕ) → MayWalk x → Stands c v l → m ≡ dropped l → found < 2 ^ 63 → after ≡ before + 2 → Outcome c v x m object (Stale found) before after
+  lost_stale l m before after still s is low e =
+      subst (λ (k : Noted). Outcome c v x k object (Stale found) before after) (sym is) (lost_outcome l (Stale found) before after still s (stale_cause low) e)

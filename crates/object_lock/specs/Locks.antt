@@ -1,0 +1,78 @@
+-- Locking an object and writing what is held: what the calls need of a pass and its log, what they answer, and what they leave.
+use Rattle.std.specs.Prelude.{◌≡◌, ◌≢◌, ℕ, ◌+◌, ◌<◌, ◌≤◌, ◌^◌, true, List, [], ◌∷◌, ◌++◌, length, Some, None}
+use Rattle.mv_history.specs.declared.Step.{Step}
+use Rattle.mv_history.specs.declared.StepKind.TheVariants.{LockHead}
+use Rattle.mv_history.specs.declared.answers.LockAnswer.{LockAnswer}
+use Rattle.mv_history.specs.declared.answers.LockAnswer.TheVariants.{Held, Busy, Stale, SetFull, LogFull}
+use Rattle.mv_layout.specs.declared.Config.{Config}
+use Rattle.mv_layout.specs.declared.Place.TheVariants.{Head}
+use Rattle.mv_layout.specs.Places.{place_of}
+use Rattle.mv_layout.specs.Words.{IsUnset, link_seat_of}
+use Rattle.mv_core.specs.declared.view.View.{View}
+use Rattle.mv_core.specs.Rings.{own_of, spare_count}
+use Rattle.seat_log.specs.declared.version.Note.{Note}
+use Rattle.seat_log.specs.Notes.{Noted, held_from, IsNoteAt}
+use Rattle.seat_log.specs.Stands.{Stands}
+use Rattle.version_chain.specs.Walks.{MayWalk, stand_in}
+use Rattle.version_chain.specs.Reads.{words_in}
+use Rattle.object_lock.specs.Tops.{StandsOn, Looked, IsRefused, Tries}
+
+-- the log has a held version of the object
+abbrev pub HoldsObject : Noted → ℕ → Type 0
+HoldsObject l object = (i : ℕ) × (n : Note) × IsNoteAt l i n × (held_from l ≤ i) × (n.object ≡ object)
+
+-- the version that was built is of this object, with this link below and these words
+abbrev pub IsBuiltFor : Noted → ℕ → ℕ → ℕ → List ℕ → Type 0
+IsBuiltFor l position object previous words =
+    (n : Note) × (l.built ≡ Some n) × (n.position ≡ position) × (n.object ≡ object) × (n.previous ≡ previous) × (n.words ≡ words)
+
+-- the last step found HEAD of the object to be this link, in a lost exchange
+abbrev pub WasLost : Config → ℕ → ℕ → List Step → Type 0
+WasLost c object link trail =
+    (before : List Step) × (trail ≡ before ++ record { kind = LockHead; word = place_of c (Head object); found = Some link; stored = None } ∷ [])
+
+-- a lost exchange put the walk at another log's version of the object
+pub record CameFirst (c : Config) (v : View) (object link : ℕ) : Type 0 where
+  pub stands : StandsOn c v link
+  pub object_is : (stand_in v).object ≡ object
+  pub late : (stand_in v).late ≡ true
+  pub other : link_seat_of link ≢ v.number
+  pub lost : WasLost c object link v.trail
+
+-- what FIRST and STAMP of the version tell that came first
+abbrev pub RivalIs : Config → View → View → ℕ → LockAnswer → Type 0
+RivalIs c v w link (Busy seat) = (found : ℕ) × Looked c v w found × IsUnset found × (seat ≡ link_seat_of link)
+RivalIs c v w link (Stale time) = Looked c v w time × (time < 2 ^ 63)
+RivalIs c v w link _ = ⊥
+
+-- what came of a lock: the object is held, with the words that the section reads; or why not
+abbrev pub LockMakes : Config → View → View → ℕ → LockAnswer → Type 0
+LockMakes c v w object Held = (own_of c w.ring ≡ own_of c v.ring ++ (object, words_in c w object) ∷ []) × (spare_count w.ring + 1 ≡ spare_count v.ring)
+LockMakes c v w object answer = IsRefused c v w object answer
+
+-- nothing is held that wasn't before, and no slot was used
+abbrev pub KeepsOwn : Config → View → View → Type 0
+KeepsOwn c v w = (own_of c w.ring ≡ own_of c v.ring) × (spare_count w.ring ≡ spare_count v.ring)
+
+-- What a call that builds, exchanges or looks at what came first leaves of a pass and its log.
+pub record Outcome (c : Config) (v w : View) (l : Noted) (object : ℕ) (answer : LockAnswer) (before after : ℕ) : Type 0 where
+  pub may : MayWalk w
+  pub stands : Stands c w l
+  pub unbuilt : l.built ≡ None
+  pub makes : LockMakes c v w object answer
+  pub keeps : answer ≢ Held → KeepsOwn c v w
+  pub tries : Tries v w before after
+
+-- the section holds as many objects as it may
+abbrev pub IsSetFull : Config → View → Type 0
+IsSetFull c v = length (own_of c v.ring) ≡ c.write_max
+
+-- it may hold one more, and the log has a slot for it
+abbrev pub HasRoom : Config → View → Type 0
+HasRoom c v = (¬ (IsSetFull c v)) × (spare_count v.ring ≢ 0)
+
+-- what `lock` answers for an object that the section doesn't hold
+abbrev pub LockAnswers : Config → View → View → ℕ → LockAnswer → Type 0
+LockAnswers c v w object SetFull = IsSetFull c v
+LockAnswers c v w object LogFull = (¬ (IsSetFull c v)) × (spare_count v.ring ≡ 0)
+LockAnswers c v w object answer = HasRoom c v × LockMakes c v w object answer

@@ -1,0 +1,32 @@
+//! Locking an object for a section, and writing what it holds.
+//!
+//! A section that is to write an object first puts a version of its own on top of the object's
+//! chain, whose stamp is unset: that is a lock, as in `try_lock` of MV-RLU (Kim, Mathew, Kashyap,
+//! Ramanathan and Min, ASPLOS 2019, section 3) and of read-log-update (Matveev, Shavit, Felber and
+//! Marlier, SOSP 2015). Only one exchange of HEAD can be won over the version that the section reads,
+//! so that of two sections that write one object from the same state at most one commits.
+//!
+//! **The model.** What a section holds are the versions of its log that are held, in the order of
+//! locking: `own_of` of its log, a list of objects with their words. The log's notes stand for the
+//! pass (`Stands` of `seat_log`), and say the same.
+//!
+//! **The contract.** `lock` answers one of `LockAnswer`. `Held` for a new object adds the object to
+//! what is held, with the words of the state that the section reads, and takes one free slot. A
+//! refusal leaves what is held and how many slots are free, and has its cause in the call's own
+//! steps: `Busy` in the last three of them, which found HEAD naming another log's version and its
+//! stamp unset; `Stale` in a later commit of the object, which was seen. That no commit after the
+//! section's time writes what it holds is known of every pass (`KnownSection` of `mv_core`). It makes
+//! at most 32 steps, waits for nothing and takes no memory; the trail has a record for each step,
+//! and none is an exchange on CLOCK. `write` gives a held object other words, in what is held alone,
+//! in six steps; it never refuses.
+//!
+//! The crate stands on `version_chain`, which reads what is on top; on `seat_log`, which builds a
+//! version and notes it; and on `mv_core`, whose exchange of HEAD alone can lock.
+#![tactic(auto)]
+
+mod locking;
+mod top;
+mod writing;
+
+pub use locking::{holds, lock};
+pub use writing::write;

@@ -1,0 +1,221 @@
+// Locking an object.
+ghost use Rattle.std.specs.Prelude.{◌≡◌, ◌≢◌, ℕ, ◌+◌, ◌<◌, ◌≤◌, ◌^◌, true, false, length, None};
+ghost use Rattle.mv_history.specs.State.{touches};
+ghost use Rattle.mv_layout.specs.Words.{link_seat_of};
+ghost use Rattle.mv_core.specs.declared.view.Walk.TheVariants.{Master};
+ghost use Rattle.mv_core.specs.Rings.{own_of};
+ghost use Rattle.mv_core.specs.Passes.{view, IsOf, IsSame, config_of};
+ghost use Rattle.mv_core.specs.WalkSteps.{IsLinkOf};
+ghost use Rattle.mv_core.specs.LockSteps.{StandsToLock, LockTold, OneMoreWrite};
+ghost use Rattle.mv_core.specs.Swaps.{found_by, IsSwap};
+ghost use Rattle.mv_history.specs.declared.answers.LockAnswer.TheVariants.{Held};
+ghost use Rattle.seat_log.specs.Notes.{IsBuilt};
+ghost use Rattle.seat_log.specs.Stands.{Stands};
+ghost use Rattle.version_chain.specs.Walks.{MayWalk, section_in};
+ghost use Rattle.version_chain.specs.Reads.{words_in};
+ghost use Rattle.object_lock.specs.Tops.{Tries};
+ghost use Rattle.object_lock.specs.Locks.{HoldsObject, IsBuiltFor, CameFirst, Outcome, KeepsOwn, LockAnswers};
+
+use crate::top::{stamp_at, top_of};
+use mv_core::{Pass, Shared, Steps, Swap};
+use mv_history::{LockAnswer, Protocol, Words};
+use mv_layout::{is_unset, link_seat};
+use seat_log::{Log, build, clear_previous, drop_built, held, live, note, note_held, room};
+use std::sync::ledger::Ledger;
+
+/// Whether the section whose log this is holds the object.
+pub fn holds(log: &Log, object: u32) -> bool
+    ensures yes { result ≡ true → HoldsObject log.now object }
+    ensures not { result ≡ false → ¬ (HoldsObject log.now object) }
+{
+    let end = live(log);
+    for index in end - held(log)..end {
+        if note(log, index).object == object {
+            return true;
+        }
+    }
+    false
+}
+
+// Exchanges HEAD of the object from this link to that of the version that was built at a position.
+pub(crate) fn exchange<P: Protocol, L: Ledger>(
+    shared: &Shared<P>,
+    pass: &mut Pass<P>,
+    log: &Log,
+    object: u32,
+    previous: u64,
+    position: u64,
+    steps: &mut Steps<L>,
+) -> Swap
+    requires of { IsOf shared.now pass.old }
+    requires may { MayWalk (view pass.old) }
+    requires range { object < (config_of shared.now).objects }
+    requires stands { Stands (config_of shared.now) (view pass.old) log.now }
+    requires built { IsBuiltFor log.now position object previous (words_in (config_of shared.now) (view pass.old) object) }
+    requires lock { StandsToLock (view pass.old) (section_in (view pass.old)) object previous }
+    requires unheld { ¬ (HoldsObject log.now object) }
+    requires few { log.now.held < (config_of shared.now).write_max }
+    ensures same { IsSame pass.old pass.new }
+    ensures told { LockTold (config_of shared.now) (view pass.old) (section_in (view pass.old)) object previous position (found_by previous result) (view pass.new) }
+    ensures swap { IsSwap previous result }
+    ensures own { found_by previous result ≡ previous → OneMoreWrite (config_of shared.now) (view pass.old) (section_in (view pass.old)) object (view pass.new) }
+    ensures link { found_by previous result ≢ previous → IsLinkOf (config_of shared.now) (found_by previous result) }
+    ensures other { found_by previous result ≢ previous → found_by previous result ≢ 0 → link_seat_of (found_by previous result) ≢ (view pass.old).number }
+    ensures step { steps.new ≡ steps.old + 1 }
+{
+    let first = position - held(log) as u64;
+    shared.lock_head(pass, object, previous, first, position, steps)
+}
+
+// Gives the built version up, and looks at what came first where a lost exchange put the walk.
+fn lost<P: Protocol, L: Ledger>(
+    shared: &Shared<P>,
+    pass: &mut Pass<P>,
+    log: &mut Log,
+    object: u32,
+    position: u64,
+    link: u64,
+    steps: &mut Steps<L>,
+) -> LockAnswer
+    requires of { IsOf shared.now pass.old }
+    requires may { MayWalk (view pass.old) }
+    requires stands { Stands (config_of shared.now) (view pass.old) log.old }
+    requires built { IsBuilt log.old position }
+    requires first { CameFirst (config_of shared.now) (view pass.old) object link }
+    ensures same { IsSame pass.old pass.new }
+    ensures outcome { Outcome (config_of shared.now) (view pass.old) (view pass.new) log.new object result steps.old steps.new }
+    ensures refused { result ≢ Held }
+    ensures step { steps.new ≡ steps.old + 2 }
+{
+    drop_built(log, position);
+    let stamp = stamp_at(shared, pass, link, steps);
+    if is_unset(stamp) {
+        return LockAnswer::Busy {
+            seat: link_seat(link),
+        };
+    }
+    LockAnswer::Stale { time: stamp }
+}
+
+// Tries once more, at the master, where the chain was cut since the section looked at it.
+fn hold_again<P: Protocol, L: Ledger>(
+    shared: &Shared<P>,
+    pass: &mut Pass<P>,
+    log: &mut Log,
+    object: u32,
+    position: u64,
+    steps: &mut Steps<L>,
+) -> LockAnswer
+    requires of { IsOf shared.now pass.old }
+    requires may { MayWalk (view pass.old) }
+    requires range { object < (config_of shared.now).objects }
+    requires stands { Stands (config_of shared.now) (view pass.old) log.old }
+    requires built { (previous : ℕ) × IsBuiltFor log.old position object previous (words_in (config_of shared.now) (view pass.old) object) }
+    requires master { (view pass.old).walk ≡ Master object }
+    requires unheld { ¬ (HoldsObject log.old object) }
+    requires few { log.old.held < (config_of shared.now).write_max }
+    ensures same { IsSame pass.old pass.new }
+    ensures outcome { Outcome (config_of shared.now) (view pass.old) (view pass.new) log.new object result steps.old steps.new }
+    ensures bound { steps.new ≤ steps.old + 4 }
+{
+    clear_previous(shared, pass, log, position, steps);
+    match exchange(shared, pass, log, object, 0, position, steps) {
+        Swap::Won => {
+            note_held(log, position);
+            LockAnswer::Held
+        }
+        Swap::Found(link) => lost(shared, pass, log, object, position, link, steps),
+    }
+}
+
+// Builds a version of the object, and puts it on top of the object's chain by an exchange of HEAD.
+fn hold<P: Protocol, L: Ledger>(
+    shared: &Shared<P>,
+    pass: &mut Pass<P>,
+    log: &mut Log,
+    object: u32,
+    previous: u64,
+    words: Words,
+    steps: &mut Steps<L>,
+) -> LockAnswer
+    requires of { IsOf shared.now pass.old }
+    requires may { MayWalk (view pass.old) }
+    requires range { object < (config_of shared.now).objects }
+    requires stands { Stands (config_of shared.now) (view pass.old) log.old }
+    requires unbuilt { log.old.built ≡ None }
+    requires room { length log.old.live < log.old.slots }
+    requires lock { StandsToLock (view pass.old) (section_in (view pass.old)) object previous }
+    requires words { words ≡ words_in (config_of shared.now) (view pass.old) object }
+    requires unheld { ¬ (HoldsObject log.old object) }
+    requires few { log.old.held < (config_of shared.now).write_max }
+    ensures same { IsSame pass.old pass.new }
+    ensures outcome { Outcome (config_of shared.now) (view pass.old) (view pass.new) log.new object result steps.old steps.new }
+    ensures bound { steps.new ≤ steps.old + 15 }
+{
+    let position = build(shared, pass, log, object, previous, words, steps);
+    match exchange(shared, pass, log, object, previous, position, steps) {
+        Swap::Won => {
+            note_held(log, position);
+            LockAnswer::Held
+        }
+        Swap::Found(0) => hold_again(shared, pass, log, object, position, steps),
+        Swap::Found(link) => lost(shared, pass, log, object, position, link, steps),
+    }
+}
+
+/// Tries to hold an object for the section. The pass is in an open section, past its help, with no
+/// write-back under way, nothing is being built in its log, and it holds no more than it may. The answers are tried in this order:
+///
+/// - `Held` where the section holds the object already; then nothing changes and no step is made.
+/// - `SetFull` exactly where it holds as many objects as it may, and `LogFull` exactly where its log
+///   has no free slot; then no step is made either.
+/// - `Busy` only where a step of this call found HEAD of the object naming a version of that other
+///   seat, and a later one the stamp of its write set unset. That seat holds the object, or its
+///   commit isn't finished.
+/// - `Stale` only where a commit of that printed time, after the section's, writes the object; it was
+///   seen.
+/// - Else `Held`: the object joins those that are held, with the words that the section reads, and
+///   the log has one free slot less.
+///
+/// After a refusal the section holds what it held, and the log has as many free slots. It makes at
+/// most 32 steps, and tries at most two exchanges on HEAD; the second comes only where the first
+/// found a chain that was cut meanwhile.
+pub fn lock<P: Protocol, L: Ledger>(
+    shared: &Shared<P>,
+    pass: &mut Pass<P>,
+    log: &mut Log,
+    object: u32,
+    steps: &mut Steps<L>,
+) -> LockAnswer
+    requires of { IsOf shared.now pass.old }
+    requires may { MayWalk (view pass.old) }
+    requires range { object < (config_of shared.now).objects }
+    requires stands { Stands (config_of shared.now) (view pass.old) log.old }
+    requires unbuilt { log.old.built ≡ None }
+    requires few { log.old.held ≤ (config_of shared.now).write_max }
+    ensures same { IsSame pass.old pass.new }
+    ensures may { MayWalk (view pass.new) }
+    ensures stands { Stands (config_of shared.now) (view pass.new) log.new }
+    ensures unbuilt { log.new.built ≡ None }
+    ensures few { log.new.held ≤ (config_of shared.now).write_max }
+    ensures tries { Tries (view pass.old) (view pass.new) steps.old steps.new }
+    ensures again { touches (own_of (config_of shared.now) (view pass.old).ring) object ≡ true → (result ≡ Held) × (view pass.new ≡ view pass.old) × (log.new ≡ log.old) }
+    ensures answers { touches (own_of (config_of shared.now) (view pass.old).ring) object ≡ false → LockAnswers (config_of shared.now) (view pass.old) (view pass.new) object result }
+    ensures refused { result ≢ Held → KeepsOwn (config_of shared.now) (view pass.old) (view pass.new) }
+    ensures bound { steps.new ≤ steps.old + 32 }
+{
+    if holds(log, object) {
+        return LockAnswer::Held;
+    }
+    if held(log) == shared.config().write_max {
+        return LockAnswer::SetFull;
+    }
+    if room(log) == 0 {
+        return LockAnswer::LogFull;
+    }
+    let (previous, words) = match top_of(shared, pass, object, steps) {
+        Ok(top) => top,
+        Err(answer) => return answer,
+    };
+    hold(shared, pass, log, object, previous, words, steps)
+}

@@ -1,0 +1,66 @@
+// What is on top of an object's chain.
+ghost use Rattle.std.specs.Prelude.{◌≡◌, ◌≢◌, ◌+◌, ◌<◌, ◌≤◌};
+ghost use Rattle.mv_layout.specs.Words.{link_seat_of};
+ghost use Rattle.mv_core.specs.Passes.{view, IsOf, IsSame, config_of};
+ghost use Rattle.version_chain.specs.Walks.{MayWalk, stand_in};
+ghost use Rattle.object_lock.specs.Tops.{IsUnheld, StandsOn, Looked, Tries, TopAnswers};
+
+use mv_core::{Pass, Shared, Steps};
+use mv_history::{LockAnswer, Protocol, Words};
+use mv_layout::{is_unset, link_position, link_seat};
+use std::sync::ledger::Ledger;
+use version_chain::{read_master, read_version};
+
+// Loads FIRST and STAMP of the version that the walk stands at, and answers the stamp.
+pub(crate) fn stamp_at<P: Protocol, L: Ledger>(
+    shared: &Shared<P>,
+    pass: &mut Pass<P>,
+    link: u64,
+    steps: &mut Steps<L>,
+) -> u64
+    requires of { IsOf shared.now pass.old }
+    requires may { MayWalk (view pass.old) }
+    requires stands { StandsOn (config_of shared.now) (view pass.old) link }
+    ensures same { IsSame pass.old pass.new }
+    ensures may { MayWalk (view pass.new) }
+    ensures looked { Looked (config_of shared.now) (view pass.old) (view pass.new) result }
+    ensures step { steps.new ≡ steps.old + 2 }
+{
+    let first = shared.load_first(pass, link, steps);
+    shared.load_stamp(pass, link, first, steps)
+}
+
+// Looks at what is on top of an object that the section doesn't hold. It answers the link there, 0
+// for the master, with the words that the section reads, where a lock may be put; else why not.
+pub(crate) fn top_of<P: Protocol, L: Ledger>(
+    shared: &Shared<P>,
+    pass: &mut Pass<P>,
+    object: u32,
+    steps: &mut Steps<L>,
+) -> Result<(u64, Words), LockAnswer>
+    requires of { IsOf shared.now pass.old }
+    requires may { MayWalk (view pass.old) }
+    requires range { object < (config_of shared.now).objects }
+    requires unheld { IsUnheld (view pass.old) object }
+    ensures same { IsSame pass.old pass.new }
+    ensures may { MayWalk (view pass.new) }
+    ensures answers { TopAnswers (config_of shared.now) (view pass.old) (view pass.new) object result }
+    ensures tries { Tries (view pass.old) (view pass.new) steps.old steps.new }
+    ensures ring { (view pass.new).ring ≡ (view pass.old).ring }
+    ensures bound { steps.new ≤ steps.old + 9 }
+{
+    let link = shared.load_head(pass, object, steps);
+    if link == 0 {
+        return Ok((0, read_master(shared, pass, object, steps)));
+    }
+    let stamp = stamp_at(shared, pass, link, steps);
+    let seat = link_seat(link);
+    if is_unset(stamp) {
+        return Err(LockAnswer::Busy { seat });
+    }
+    if stamp > pass.time() {
+        return Err(LockAnswer::Stale { time: stamp });
+    }
+    let position = link_position(link);
+    Ok((link, read_version(shared, pass, seat, position, steps)))
+}

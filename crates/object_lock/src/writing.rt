@@ -1,0 +1,69 @@
+// Writing an object that is held.
+ghost use Rattle.std.specs.Prelude.{◌≡◌, ◌+◌, true, None};
+ghost use Rattle.mv_history.specs.State.{touches, rewritten};
+ghost use Rattle.mv_core.specs.Rings.{own_of, spare_count};
+ghost use Rattle.mv_core.specs.Passes.{view, IsOf, IsSame, config_of};
+ghost use Rattle.seat_log.specs.Stands.{Stands};
+ghost use Rattle.version_chain.specs.Walks.{MayWalk};
+ghost use Rattle.object_lock.specs.Locks.{HoldsObject};
+ghost use Rattle.object_lock.specs.Writes.{IsHeldAt, Stores};
+
+use mv_core::{Pass, Shared, Steps};
+use mv_history::{Protocol, Words};
+use mv_layout::WIDTH;
+use seat_log::{Log, held, live, note, put_word};
+use std::sync::ledger::Ledger;
+
+// The position of the section's version of an object that it holds.
+fn position_of(log: &Log, object: u32) -> u64
+    requires { HoldsObject log.now object }
+    ensures { IsHeldAt log.now object result }
+{
+    let end = live(log);
+    for index in end - held(log)..end {
+        let version = note(log, index);
+        if version.object == object {
+            return version.position;
+        }
+    }
+    0
+}
+
+/// Gives an object that the section holds these words, in this section alone, in six steps. It never
+/// refuses, and leaves what else is held, and how many slots are free.
+pub fn write<P: Protocol, L: Ledger>(
+    shared: &Shared<P>,
+    pass: &mut Pass<P>,
+    log: &mut Log,
+    object: u32,
+    words: Words,
+    steps: &mut Steps<L>,
+)
+    requires of { IsOf shared.now pass.old }
+    requires may { MayWalk (view pass.old) }
+    requires stands { Stands (config_of shared.now) (view pass.old) log.old }
+    requires unbuilt { log.old.built ≡ None }
+    requires held { touches (own_of (config_of shared.now) (view pass.old).ring) object ≡ true }
+    ensures same { IsSame pass.old pass.new }
+    ensures may { MayWalk (view pass.new) }
+    ensures stands { Stands (config_of shared.now) (view pass.new) log.new }
+    ensures unbuilt { log.new.built ≡ None }
+    ensures count { log.new.held ≡ log.old.held }
+    ensures own { own_of (config_of shared.now) (view pass.new).ring ≡ rewritten (own_of (config_of shared.now) (view pass.old).ring) object words }
+    ensures spare { spare_count (view pass.new).ring ≡ spare_count (view pass.old).ring }
+    ensures stores { Stores (view pass.old) (view pass.new) 6 }
+    ensures cost { steps.new ≡ steps.old + 6 }
+{
+    let position = position_of(log, object);
+    for word in 0..WIDTH {
+        put_word(
+            shared,
+            pass,
+            log,
+            position,
+            word,
+            words[word as usize],
+            steps,
+        );
+    }
+}

@@ -1,0 +1,235 @@
+-- What a commit that was just named needs to be finished, from what held before it.
+use Rattle.std.proofs.Common.{◌≡◌, ℕ, ◌+◌, ◌<◌, ◌≤◌, ◌^◌, Bool, true, false, List, [], ◌∷◌, ◌++◌, length, refl, sym, ap, ◌∙◌, subst, ⊎_elim, arith, le-leb, append_assoc, length-append, All, Some, None}
+use Rattle.std.specs.Prelude.{nat_le, is_some, ◌&&◌}
+use Rattle.std.proofs.lemmas.Bool.{lt-leb}
+use Rattle.std.proofs.lemmas.List.{length-map}
+use Rattle.std.proofs.lemmas.List.Elements.{All-cons, All-push, All-weaker}
+use mathlib.Core.Logic.{dite}
+use native.Mathlib.Decide.{dec_le}
+use Rattle.mv_history.specs.declared.Step.{Step}
+use Rattle.mv_history.specs.declared.StepKind.{StepKind}
+use Rattle.mv_history.specs.declared.StepKind.TheVariants.{NameCommit, SwapStamp, StoreSuper, ClearMark}
+use Rattle.mv_layout.specs.declared.Config.{Config}
+use Rattle.mv_layout.specs.declared.Place.TheVariants.{Clock, Mark}
+use Rattle.mv_layout.specs.Places.{place_of}
+use Rattle.mv_layout.specs.Words.{clock_time_of}
+use Rattle.mv_core.specs.declared.ring.Slot.TheVariants.{Live}
+use Rattle.mv_core.specs.declared.ring.Status.{Status}
+use Rattle.mv_core.specs.declared.ring.Status.TheVariants.{Held, Aborted, Committed}
+use Rattle.mv_core.specs.declared.ring.CommitNote.{CommitNote}
+use Rattle.mv_core.specs.declared.view.View.{View}
+use Rattle.mv_core.specs.declared.view.Phase.TheVariants.{Outside, Inside}
+use Rattle.mv_core.specs.declared.view.Section.{Section}
+use Rattle.mv_core.specs.declared.view.Mode.TheVariants.{Named}
+use Rattle.mv_core.specs.declared.view.Walk.TheVariants.{Nowhere}
+use Rattle.mv_core.specs.Views.{heard_nothing}
+use Rattle.mv_core.specs.Rings.{slot_at, index_of, held_count, set_first}
+use Rattle.mv_core.specs.NameSteps.{commit_of, commit_word, committed_slot, commit_named}
+use Rattle.mv_core.specs.EnterSteps.{MayClearMark, mark_cleared}
+use Rattle.mv_core.proofs.Links.{live_once}
+use Rattle.mv_core.proofs.Commits.{new_note, committed_was}
+use Rattle.mv_core.proofs.HeldSet.{writes_length}
+use Rattle.mv_core.proofs.Slots.{slot_mapped}
+use Rattle.seat_log.specs.declared.version.Note.{Note}
+use Rattle.seat_log.specs.Notes.{Noted, held_from, IsNoteAt, committed_noted}
+use Rattle.seat_log.specs.Stands.{version_of, IsAsNoted, is_free_kind, is_cut_kind, is_free, is_won_cut, Stands}
+use Rattle.commit_abort.specs.Finishes.{WonNaming, section_of_phase, section_in, first_of_mode, first_named, IsJustNamed, HasNamed, StampsIt, AreCommitted, Tells, IsFinishStep, Finishes}
+use Rattle.commit_abort.proofs.Telling.{note_there}
+use Rattle.commit_abort.proofs.LogFates.{Fate, fate_of, stands_committed}
+
+-- a held note is of a held version
+pub held_status : (n : Note) (st : Status) → IsAsNoted true n st → st ≡ Held
+held_status n Held noted = refl
+held_status n (Aborted d) noted = absurd (let other : true ≡ false = noted.0 in cc)
+held_status n (Committed d) noted = absurd (let other : true ≡ false = noted.0 in cc)
+
+-- and a held version is noted as held
+pub held_noted_so : (b : Bool) (n : Note) (st : Status) → st ≡ Held → IsAsNoted b n st → b ≡ true
+held_noted_so b n Held e noted = noted.0
+held_noted_so b n (Aborted d) e noted = absurd cc
+held_noted_so b n (Committed d) e noted = absurd cc
+
+pub place_of_held : (n i : ℕ) → nat_le n i ≡ true → n ≤ i
+place_of_held n i e = dite (dec_le n i) (λ le. le) (λ gt. absurd (let no_le : nat_le n i ≡ false = lt-leb n i (let lt : i < n = omega arith in lt) in let other : false ≡ true = sym no_le ∙ e in cc))
+
+module _ (c : Config) (w : View) (l : Noted) (won : WonNaming) (k : IsJustNamed c w l won) where
+  abbrev v : View
+  v = won.before
+
+  abbrev t : ℕ
+  t = clock_time_of won.word + 1
+
+  pub some_held : 0 < l.held
+  some_held = subst (λ (n : ℕ). 0 < n) k.stands.held k.some
+
+  -- the first note of the write set
+  pub first_is : (i : ℕ) (n : Note) → IsNoteAt l i n → held_from l ≤ i → (n.first ≡ set_first v.ring) × (n.first < 2 ^ 57)
+  first_is i n at from =
+      let h = (k.stands.log.notes.held i n at).0 from in
+      let next = k.stands.next in
+      let held = k.stands.held in
+      let few = k.stands.log.held in
+      let positions = k.stands.log.positions in
+      let some = some_held in
+      (omega arith, omega arith)
+
+  pub has_named : HasNamed w (set_first v.ring) t won.inside
+  has_named = subst (λ (u : View). HasNamed u (set_first v.ring) t won.inside) (sym k.named) refl
+
+  -- the slots as the exchange left them
+  slot_now : (j : ℕ) → slot_at w.ring j ≡ committed_slot t (slot_at v.ring j)
+  slot_now j = ap (λ (u : View). slot_at u.ring j) k.named ∙ slot_mapped (committed_slot t) refl v.ring j
+
+  -- the version of a held note
+  held_at : (i : ℕ) (n : Note) → IsNoteAt l i n → held_from l ≤ i → slot_at v.ring (index_of c (l.freed + i)) ≡ Live (version_of n) Held
+  held_at i n at from =
+      let h = k.stands.live i n at in
+      h.lives ∙ ap (Live (version_of n)) (held_status n h.status (subst (λ b. IsAsNoted b n h.status) (le-leb (held_from l) i from) h.as_noted))
+
+  are_committed : AreCommitted c w l t
+  are_committed = record {
+    each = λ i n at from.
+        let lives = held_at i n at from in
+        (new_note t (version_of n), slot_now (index_of c (l.freed + i)) ∙ ap (committed_slot t) lives, refl, refl, k.log.links (index_of c (l.freed + i)) (version_of n) lives);
+    only = λ j x note live time.
+        let was = committed_was t (slot_at v.ring j) x (Committed note) (sym (slot_now j) ∙ live) in
+        ⊎_elim
+        (λ old. absurd (let le = k.log.old j x note (was.1 ∙ ap (Live x) old.0) in omega arith))
+        (λ new.
+        let a = k.stands.all j x was.0 was.1 in
+        let n = note_there l a.0 a.1 in
+        let h = k.stands.live a.0 n.0 n.1 in
+        let one = live_once (slot_at v.ring j) x (version_of n.0) was.0 h.status was.1 (ap (slot_at v.ring) a.2 ∙ h.lives) in
+        (a.0, place_of_held (held_from l) a.0 (held_noted_so (nat_le (held_from l) a.0) n.0 h.status (sym one.1 ∙ new.0) h.as_noted), a.1, a.2))
+        was.2;
+    round = (let room = k.stands.log.room in let slots = k.stands.slots in omega arith);
+    wide = ap (λ (u : View). length u.ring.slots) k.named ∙ length-map v.ring.slots (committed_slot t) ∙ k.stands.wide;
+    nothing = λ j x live.
+        let was = committed_was t (slot_at v.ring j) x Held (sym (slot_now j) ∙ live) in
+        ⊎_elim (λ old. old.1 refl) (λ new. let other : Held ≡ Committed (new_note t x) = new.1 in cc) was.2;
+  }
+
+  module _ (x : View) (st : StampsIt w x (set_first v.ring) t won.inside) where
+    same_ring : x.ring ≡ w.ring
+    same_ring = ap (λ (u : View). u.ring) st.rest
+
+    pub committed_still : AreCommitted c x l t
+    committed_still = subst (λ r. AreCommitted c (record x { ring = r }) l t) (sym same_ring) (let a = are_committed in record { each = a.each; only = a.only; round = a.round; wide = a.wide; nothing = a.nothing })
+
+    module _ (y : View) (tells : Tells c x y l (length l.live)) where
+      -- the section may end: nothing is held, the stamp was exchanged, and SUPER was stored below all
+      pub may_clear : MayClearMark y
+      may_clear = record {
+        inside = record won.inside { mode = Named (record { time = t; first = set_first v.ring; stamped = true }) };
+        phase = ap (λ (u : View). u.phase) tells.kept ∙ st.phase;
+        nothing = λ j z live.
+            ⊎_elim
+            (λ same. committed_still.nothing j z (sym same ∙ live))
+            (λ more. let one = live_once (slot_at y.ring j) z more.0 Held (Committed (record more.1 { linked = true })) live more.3 in let other : Held ≡ Committed (record more.1 { linked = true }) = one.1 in cc)
+            (tells.more j);
+        finished = (
+          refl,
+          λ j z note live time.
+              let before : (m : CommitNote) × (slot_at x.ring j ≡ Live z (Committed m)) × (m.time ≡ t) =
+              ⊎_elim
+              (λ same. (note, sym same ∙ live, time))
+              (λ more.
+              let one = live_once (slot_at y.ring j) more.0 z (Committed (record more.1 { linked = true })) (Committed note) more.3 live in
+              let is : record more.1 { linked = true } ≡ note = (let both : Committed (record more.1 { linked = true }) ≡ Committed note = one.1 in cc) in
+              (more.1, more.2 ∙ ap (λ u. Live u (Committed more.1)) one.0, ap (λ (d : CommitNote). d.time) is ∙ time))
+              (tells.more j) in
+              let a = committed_still.only j z before.0 before.1 before.2 in
+              tells.told a.0 z note a.1 a.2 (ap (slot_at y.ring) (sym a.3) ∙ live),
+        );
+      }
+
+      abbrev z : View
+      z = mark_cleared c y
+
+      -- what the finish appended to the trail
+      abbrev steps : List Step
+      steps = st.trail.0 ∷ (tells.trail.0 ++ record { kind = ClearMark; word = place_of c (Mark y.number); found = None; stored = Some 0 } ∷ [])
+
+      trail_is : z.trail ≡ w.trail ++ steps
+      trail_is =
+          let last : Step = record { kind = ClearMark; word = place_of c (Mark y.number); found = None; stored = Some 0 } in
+          ap (λ q. q ++ last ∷ []) (tells.trail.1 ∙ ap (λ q. q ++ tells.trail.0) st.trail.1)
+          ∙ append_assoc (w.trail ++ st.trail.0 ∷ []) tells.trail.0 (last ∷ [])
+          ∙ append_assoc w.trail (st.trail.0 ∷ []) (tells.trail.0 ++ last ∷ [])
+
+      -- what holds of each kind of step of it holds of all
+      all_steps : (P : StepKind → Type 0) → P SwapStamp → P StoreSuper → P ClearMark → All (λ s. P s.kind) steps
+      all_steps P a b d =
+          All-cons (λ s. P s.kind) st.trail.0 _ (subst P (sym st.trail.2) a)
+          (All-push (λ s. P s.kind) tells.trail.0 _ (All-weaker (λ s. s.kind ≡ StoreSuper) (λ s. P s.kind) (λ s e. subst P (sym e) b) tells.trail.0 tells.trail.3) d)
+
+      pub finishes : Finishes w z (l.held + 2)
+      finishes = record {
+        outside = refl;
+        trail = (steps, trail_is, (let long = length-append tells.trail.0 (record { kind = ClearMark; word = place_of c (Mark y.number); found = None; stored = Some 0 } ∷ []) in let few = tells.trail.2 in let held = k.stands.log.held in omega arith), all_steps IsFinishStep tt tt tt);
+        rest = rest_is;
+      }
+        where
+          rest_is : z ≡ record w { phase = Outside; heard = heard_nothing; walk = Nowhere; back = None; ring = z.ring; trail = z.trail }
+          rest_is = ap (λ (u : View). record u { phase = Outside; heard = heard_nothing; walk = Nowhere; back = None; ring = z.ring; trail = z.trail }) (tells.kept ∙ ap (λ (u : View). record u { ring = y.ring; trail = y.trail }) st.rest)
+
+      fates : (j : ℕ) → Fate t (slot_at v.ring j) (slot_at z.ring j)
+      fates j = fate_of t (slot_at v.ring j) (slot_at x.ring j) (slot_at y.ring j) (ap (λ r. slot_at r j) same_ring ∙ slot_now j) (tells.more j)
+
+      pub stands_after : Stands c z (committed_noted l t)
+      stands_after =
+          let to_x : x ≡ record w { phase = x.phase; heard = x.heard; trail = x.trail } = st.rest in
+          let past : z.past ≡ w.past = ap (λ (u : View). u.past) tells.kept ∙ ap (λ (u : View). u.past) to_x in
+          let named : w.past ≡ (commit_named c v won.inside won.tag won.word won.history).past = ap (λ (u : View). u.past) k.named in
+          let first : Step = record { kind = NameCommit; word = place_of c Clock; found = Some won.word; stored = Some (commit_word c v won.word) } in
+          stands_committed c v z l t k.stands (omega arith) some_held k.unbuilt
+          (ap (λ (u : View). u.number) tells.kept ∙ ap (λ (u : View). u.number) to_x ∙ ap (λ (u : View). u.number) k.named)
+          (tells.wide ∙ ap (λ r. length r.slots) same_ring ∙ ap (λ (u : View). length u.ring.slots) k.named ∙ length-map v.ring.slots (committed_slot t))
+          (tells.next ∙ ap (λ r. r.next) same_ring ∙ ap (λ (u : View). u.ring.next) k.named)
+          fates
+          (commit_of c v won.inside won.tag)
+          (ap (λ p. p.mine) past ∙ ap (λ p. p.mine) named)
+          (writes_length c v.ring (set_first v.ring) (held_count v.ring) ∙ k.stands.held)
+          (ap (λ p. p.rests) past ∙ ap (λ p. p.rests) named)
+          (first ∷ steps)
+          (trail_is ∙ ap (λ q. q ++ steps) (ap (λ (u : View). u.trail) k.named) ∙ append_assoc v.trail (first ∷ []) steps)
+          (All-cons (λ s. is_free s ≡ false) first steps refl (all_steps (λ q. is_free_kind q ≡ false) refl refl refl))
+          (All-cons (λ s. is_won_cut s ≡ false) first steps refl (All-weaker (λ s. is_cut_kind s.kind ≡ false) (λ s. is_won_cut s ≡ false) (λ s e. ap (λ b. b && is_some s.stored) e) steps (all_steps (λ q. is_cut_kind q ≡ false) refl refl refl)))
+
+  -- the same, by what the code has of the time, of the first position and of the section
+  module _ (time first : ℕ) (time_is : time ≡ t) (at : first ≡ set_first v.ring) where
+    -- the section as the exchange left it
+    named_phase : w.phase ≡ Inside (record won.inside { mode = Named (record { time = t; first = set_first v.ring; stamped = false }) })
+    named_phase = has_named
+
+    now_in : section_in w ≡ record won.inside { mode = Named (record { time = t; first = set_first v.ring; stamped = false }) }
+    now_in = ap section_of_phase named_phase
+
+    pub may_stamp : HasNamed w first time (section_in w)
+    may_stamp = named_phase ∙ (λ i. Inside (record (sym now_in i) { mode = Named (record { time = sym time_is i; first = sym at i; stamped = false }) }))
+
+    module _ (x : View) (stamps : StampsIt w x first time (section_in w)) where
+      now_stamps : StampsIt w x (set_first v.ring) t won.inside
+      now_stamps = record {
+        phase = stamps.phase ∙ (λ i. Inside (record (now_in i) { mode = Named (record { time = time_is i; first = at i; stamped = true }) }));
+        trail = stamps.trail;
+        rest = stamps.rest;
+      }
+
+      pub may_tell_below : (x.phase ≡ Inside (record (section_in x) { mode = Named (record { time = time; first = first_named x; stamped = true }) })) × AreCommitted c x l time
+      may_tell_below =
+          let inside : section_in x ≡ record won.inside { mode = Named (record { time = t; first = set_first v.ring; stamped = true }) } = ap section_of_phase now_stamps.phase in
+          let from : first_named x ≡ set_first v.ring = ap (λ (s : Section). first_of_mode s.mode) inside in (
+            now_stamps.phase ∙ (λ i. Inside (record (sym inside i) { mode = Named (record { time = sym time_is i; first = sym from i; stamped = true }) })),
+            subst (AreCommitted c x l) (sym time_is) (committed_still x now_stamps),
+          )
+
+      module _ (y : View) (tells : Tells c x y l (length l.live)) where
+        pub may_end : MayClearMark y
+        may_end = may_clear x now_stamps y tells
+
+        pub ended : (z : View) (m : Noted) → z ≡ mark_cleared c y → m ≡ committed_noted l time → Finishes w z (l.held + 2) × Stands c z m
+        ended z m is noted = (
+          subst (λ (u : View). Finishes w u (l.held + 2)) (sym is) (finishes x now_stamps y tells),
+          subst (Stands c z) (sym (noted ∙ ap (committed_noted l) time_is)) (subst (λ (u : View). Stands c u (committed_noted l t)) (sym is) (stands_after x now_stamps y tells)),
+        )

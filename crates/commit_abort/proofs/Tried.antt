@@ -1,0 +1,196 @@
+-- What a commit knows after each of its steps.
+use Rattle.std.proofs.Common.{◌≡◌, ℕ, ◌+◌, ◌-◌, ◌<◌, ◌≤◌, if◌then◌else◌, Bool, false, List, [], ◌∷◌, ◌++◌, length, take, refl, sym, ap, ◌∙◌, subst, ⊎_elim, arith, append_assoc, length-append, All, Some, None}
+use Rattle.std.specs.Prelude.{Contains, nat_le, is_some, ◌&&◌}
+use Rattle.std.proofs.Math.Logic.{∥∥₁_elim}
+use Rattle.std.proofs.Math.Bridge.{le_prop}
+use Rattle.std.proofs.lemmas.List.{take-append-le}
+use Rattle.std.proofs.lemmas.List.Elements.{All-nil, All-cons, All-head, All-tail, All-weaker, Contains-append_left}
+use Rattle.mv_history.specs.declared.Commit.{Commit}
+use Rattle.mv_history.specs.declared.Entry.{Entry}
+use Rattle.mv_history.specs.declared.Step.{Step}
+use Rattle.mv_history.specs.declared.StepKind.{StepKind}
+use Rattle.mv_history.specs.declared.StepKind.TheVariants.{LoadCheck, LoadNamed, SwapStamp}
+use Rattle.mv_history.specs.State.{State, Writes, state_after, state_at}
+use Rattle.mv_history.specs.Drift.{IsFit}
+use Rattle.mv_history.specs.Trail.{is_commit_exchange, commit_exchanges}
+use Rattle.mv_layout.specs.declared.Config.{Config}
+use Rattle.mv_layout.specs.declared.Place.TheVariants.{Clock}
+use Rattle.mv_layout.specs.Places.{place_of}
+use Rattle.mv_layout.specs.Words.{clock_time_of}
+use Rattle.mv_core.specs.declared.ring.Ring.{Ring}
+use Rattle.mv_core.specs.declared.view.View.{View}
+use Rattle.mv_core.specs.declared.view.Past.{Past}
+use Rattle.mv_core.specs.declared.view.Phase.TheVariants.{Inside}
+use Rattle.mv_core.specs.declared.view.Section.{Section}
+use Rattle.mv_core.specs.declared.view.Mode.TheVariants.{Open, Named}
+use Rattle.mv_core.specs.Rings.{slot_at, held_count, spare_count, own_of}
+use Rattle.mv_core.specs.Views.{time_in}
+use Rattle.mv_core.specs.HistoryFacts.{BeginsWith}
+use Rattle.mv_core.specs.SectionFacts.{IsPastHelp}
+use Rattle.mv_core.specs.EnterSteps.{IsWhole, if_none, checked_helped, check_loaded}
+use Rattle.mv_core.specs.Known.{Known}
+use Rattle.mv_core.specs.NameSteps.{LogTold, commit_of, MayNameCommit, commit_named}
+use Rattle.commit_clock.specs.Helps.{HasLoaded, IsHelpStep, Helps}
+use Rattle.seat_log.specs.Notes.{Noted, next_of, held_from}
+use Rattle.seat_log.specs.Stands.{HasNoted, HasBuilt, cut_count, writes_in, is_free_kind, is_cut_kind, is_free, is_won_cut, Stands}
+use Rattle.commit_abort.specs.Commits.{MayCommit, LoadsClock, IsKept, IsAtEnd}
+use Rattle.commit_abort.specs.Finishes.{WonNaming, IsJustNamed}
+use Rattle.commit_abort.proofs.LogFates.{counted_more}
+
+-- a history that begins with one that begins with another begins with that
+pub begins_by : (a b d : List Entry) → BeginsWith a b → BeginsWith b d → BeginsWith a d
+begins_by a b d p q = (q.0 ++ p.0, p.1 ∙ ap (λ l. l ++ p.0) q.1 ∙ append_assoc d q.0 p.0)
+
+pub begins_long : (a b : List Entry) → BeginsWith a b → length b ≤ length a
+begins_long a b p = let e = ap length p.1 in let f = length-append b p.0 in omega arith
+
+-- what a help does tells of no commit exchange, and frees and cuts nothing
+help_kind : (P : StepKind → Type 0) → P LoadNamed → P LoadCheck → P SwapStamp → (k : StepKind) → IsHelpStep k → P k
+help_kind P a b d LoadNamed h = a
+help_kind P a b d LoadCheck h = b
+help_kind P a b d SwapStamp h = d
+help_kind P a b d _ h = absurd h
+
+-- steps with no commit exchange
+pub no_exchange : (steps : List Step) → All (λ s. is_commit_exchange s.kind ≡ false) steps → commit_exchanges steps ≡ []
+no_exchange [] all = refl
+no_exchange (s ∷ steps) all = ap (λ (b : Bool). if b then s ∷ commit_exchanges steps else commit_exchanges steps) (All-head (λ s. is_commit_exchange s.kind ≡ false) s steps all) ∙ no_exchange steps (All-tail (λ s. is_commit_exchange s.kind ≡ false) s steps all)
+
+-- the log stands still, where the log's view and the counts stay
+pub stands_still : (c : Config) (v w : View) (l : Noted) → Stands c v l → w.number ≡ v.number → w.ring ≡ v.ring → w.past.mine ≡ v.past.mine → w.past.rests ≡ v.past.rests
+    → (steps : List Step) → w.trail ≡ v.trail ++ steps → All (λ s. is_free_kind s.kind ≡ false) steps → All (λ s. is_cut_kind s.kind ≡ false) steps → Stands c w l
+stands_still c v w l k number ring mine rests steps trail no_free no_cut =
+    let frees = counted_more is_free v.trail w.trail steps trail no_free in
+    let cuts = counted_more is_won_cut v.trail w.trail steps trail (All-weaker (λ s. is_cut_kind s.kind ≡ false) (λ s. is_won_cut s ≡ false) (λ s e. ap (λ b. b && is_some s.stored) e) steps no_cut) in
+    record {
+      seat = k.seat ∙ sym number;
+      slots = k.slots;
+      wide = ap (λ (r : Ring). length r.slots) ring ∙ k.wide;
+      log = k.log;
+      next = ap (λ (r : Ring). r.next) ring ∙ k.next;
+      held = ap held_count ring ∙ k.held;
+      live = λ i n at. subst (λ (r : Ring). HasNoted c r (l.freed + i) (nat_le (held_from l) i) n) (sym ring) (k.live i n at);
+      all = λ j x st at. k.all j x st (ap (λ (r : Ring). slot_at r j) (sym ring) ∙ at);
+      none_freeing = λ j p first at. k.none_freeing j p first (ap (λ (r : Ring). slot_at r j) (sym ring) ∙ at);
+      builds = λ j b at. k.builds j b (ap (λ (r : Ring). slot_at r j) (sym ring) ∙ at);
+      built = subst (λ (r : Ring). HasBuilt c r l.built) (sym ring) k.built;
+      spare = subst (λ (r : Ring). spare_count r + length l.live ≡ c.slots) (sym ring) k.spare;
+      commits = k.commits ∙ ap length (sym mine);
+      rests = k.rests ∙ sym rests;
+      frees = k.frees ∙ sym frees;
+      backs = k.backs ∙ sym cuts;
+      cuts = subst (λ (r : Ring). l.back ≤ l.freed + cut_count r) (sym ring) k.cuts;
+      used = subst (λ (cs : List Commit). writes_in cs + l.held ≤ next_of l) (sym mine) k.used;
+      all_used = λ none. k.all_used none ∙ ap (λ (cs : List Commit). writes_in cs + l.held) (sym mine);
+    }
+
+module _ (c : Config) (v x : View) (word : ℕ) (h0 : List Entry) (whole : IsWhole c v word h0) (is : x ≡ check_loaded c v word h0) (inside : Section) (phase : v.phase ≡ Inside inside) (past_help : IsPastHelp v.heard inside) where
+  abbrev pub load : Step
+  load = record { kind = LoadCheck; word = place_of c Clock; found = Some word; stored = None }
+
+  pub loads_first : LoadsClock c v x word 1 (load ∷ [])
+  loads_first = record {
+    trail = ap (λ (u : View). u.trail) is;
+    few = omega arith;
+    loaded = (0, omega arith, refl);
+    old = (let le = begins_long h0 v.past.seen whole.0 in let long = whole.1 in omega arith);
+  }
+
+  pub kept_first : IsKept v x inside
+  kept_first = subst (λ (u : View). IsKept v u inside) (sym is) (record { seen = whole.0; past_help = Contains-append_left v.heard.helped (if_none word ++ checked_helped v.heard.found word) inside.word past_help; rest = refl })
+
+  pub at_end : clock_time_of word ≡ 35184372088831 → IsAtEnd c v x inside
+  at_end last = record {
+    kept = kept_first;
+    word = word;
+    steps = load ∷ [];
+    loads = loads_first;
+    none = refl;
+    last = last;
+    all_seen = ap (λ (u : View). c.base + length u.past.seen) is ∙ sym whole.1 ∙ last;
+  }
+
+  pub stands_first : (l : Noted) → Stands c v l → Stands c x l
+  stands_first l k =
+      stands_still c v x l k (ap (λ (u : View). u.number) is) (ap (λ (u : View). u.ring) is) (ap (λ (u : View). u.past.mine) is) (ap (λ (u : View). u.past.rests) is) (load ∷ []) (ap (λ (u : View). u.trail) is)
+      (All-cons (λ s. is_free_kind s.kind ≡ false) load [] refl (All-nil (λ s. is_free_kind s.kind ≡ false))) (All-cons (λ s. is_cut_kind s.kind ≡ false) load [] refl (All-nil (λ s. is_cut_kind s.kind ≡ false)))
+
+  module _ (y : View) (helps : Helps c x y word) (open_is : inside.mode ≡ Open) where
+    phase_first : x.phase ≡ Inside inside
+    phase_first = ap (λ (u : View). u.phase) is ∙ phase
+
+    pub phase_next : y.phase ≡ Inside inside
+    phase_next =
+        ⊎_elim
+        (λ same. same ∙ phase_first)
+        (λ own.
+        let both : Inside own.inside ≡ Inside inside = sym own.phase ∙ phase_first in
+        let one : own.inside ≡ inside = cc in
+        let other : Named own.naming ≡ Open = sym own.mode ∙ ap (λ (s : Section). s.mode) one ∙ open_is in absurd cc)
+        helps.phase
+
+    pub ring_next : y.ring ≡ v.ring
+    ring_next = ap (λ (u : View). u.ring) helps.rest ∙ ap (λ (u : View). u.ring) is
+
+    pub number_next : y.number ≡ v.number
+    number_next = ap (λ (u : View). u.number) helps.rest ∙ ap (λ (u : View). u.number) is
+
+    pub past_next : y.past ≡ record v.past { seen = helps.past.0 }
+    past_next = helps.past.2 ∙ ap (λ (u : View). record u.past { seen = helps.past.0 }) is
+
+    -- it begins with all that was seen, and with the history that the load found
+    pub begins_found : BeginsWith helps.past.0 h0
+    begins_found = subst (BeginsWith helps.past.0) (ap (λ (u : View). u.past.seen) is) helps.past.1
+
+    pub begins_next : BeginsWith helps.past.0 v.past.seen
+    begins_next = begins_by helps.past.0 h0 v.past.seen begins_found whole.0
+
+    pub helped_next : IsPastHelp y.heard inside
+    helped_next = helps.still_helped inside.word (subst (λ (u : View). Contains u.heard.helped inside.word) (sym is) (Contains-append_left v.heard.helped (if_none word ++ checked_helped v.heard.found word) inside.word past_help))
+
+    abbrev pub steps_next : List Step
+    steps_next = load ∷ helps.trail.0
+
+    pub trail_next : y.trail ≡ v.trail ++ steps_next
+    trail_next = helps.trail.1 ∙ ap (λ (u : View). u.trail ++ helps.trail.0) is ∙ append_assoc v.trail (load ∷ []) helps.trail.0
+
+    -- what holds of each kind of step of it holds of all
+    pub kinds_next : (P : StepKind → Type 0) → P LoadNamed → P LoadCheck → P SwapStamp → All (λ s. P s.kind) steps_next
+    kinds_next P a b d = All-cons (λ s. P s.kind) load helps.trail.0 b (All-weaker (λ s. IsHelpStep s.kind) (λ s. P s.kind) (λ s. help_kind P a b d s.kind) helps.trail.0 helps.trail.3)
+
+    pub stands_next : (l : Noted) → Stands c v l → Stands c y l
+    stands_next l k =
+        stands_still c v y l k number_next ring_next (ap (λ (p : Past). p.mine) past_next) (ap (λ (p : Past). p.rests) past_next) steps_next trail_next
+        (kinds_next (λ q. is_free_kind q ≡ false) refl refl refl) (kinds_next (λ q. is_cut_kind q ≡ false) refl refl refl)
+
+    pub may_name : (starts : State → Type 0) (allows : List ℕ → State → Writes → Type 0) (tag : List ℕ) → MayCommit allows c v tag inside → HasLoaded c x word → clock_time_of word < 35184372088831 → ∥ Known starts allows v ∥₁ → v.base ≡ c.base → MayNameCommit allows c y word tag inside
+    may_name starts allows tag may has room known base =
+        let seen : time_in inside ≤ v.base + length v.past.seen = ∥∥₁_elim known le_prop (λ a. (a.section inside phase).seen) in
+        let n : ℕ = time_in inside - c.base in
+        let from = begins_next in
+        let same : take n y.past.seen ≡ take n v.past.seen = ap (λ (p : Past). take n p.seen) past_next ∙ ap (take n) from.1 ∙ take-append-le n v.past.seen from.0 (omega arith) in
+        let start : y.start ≡ v.start = ap (λ (u : View). u.start) helps.rest ∙ ap (λ (u : View). u.start) is in
+        record {
+          phase = phase_next;
+          open_is = open_is;
+          past_help = helped_next;
+          some_held = subst (λ (r : Ring). 0 < held_count r) (sym ring_next) may.some_held;
+          loaded = helps.still_loaded word has.loaded;
+          helped = helps.helped;
+          room = room;
+          fit = subst (λ (r : Ring). IsFit allows (state_at y.start y.past.seen n) tag (own_of c r)) (sym ring_next)
+              (subst (λ (s : State). IsFit allows s tag (own_of c v.ring)) (λ i. state_after (sym start i) (sym same i)) may.fit);
+        }
+
+    -- the commit is that of the section at the begin of the call
+    pub commit_next : (tag : List ℕ) → commit_of c y inside tag ≡ commit_of c v inside tag
+    commit_next tag = λ i. record { seat = number_next i; number = length (past_next i).mine + 1; snapshot = time_in inside - c.base; tag = tag; writes = own_of c (ring_next i) }
+
+    -- the exchange was won: the pass has just named the commit
+    pub just_named : (l : Noted) (tag : List ℕ) (z : View) (time : ℕ) → Stands c v l → l.built ≡ None → 0 < held_count v.ring → LogTold c y word → (time ≡ clock_time_of word + 1) × ((h : List Entry) × IsWhole c y word h × (z ≡ commit_named c y inside tag word h))
+        → (won : WonNaming) × IsJustNamed c z l won × (time ≡ clock_time_of won.word + 1)
+    just_named l tag z time stands unbuilt some log named = (
+      record { before = y; inside = inside; tag = tag; word = word; history = named.1.0 },
+      record { phase = phase_next; some = subst (λ (r : Ring). 0 < held_count r) (sym ring_next) some; named = named.1.2; log = log; stands = stands_next l stands; unbuilt = unbuilt },
+      named.0,
+    )

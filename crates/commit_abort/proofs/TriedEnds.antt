@@ -1,0 +1,220 @@
+-- What a commit answers after its exchange of CLOCK, won or lost.
+use Rattle.std.proofs.Common.{◌≡◌, ◌≢◌, ℕ, zero, suc, ◌+◌, ◌-◌, ◌<◌, ◌≤◌, eqb, if◌then◌else◌, Bool, true, false, List, [], ◌∷◌, ◌++◌, length, refl, sym, ap, ◌∙◌, subst, arith, eq-eqb, append_assoc, length-append, All, Some, None}
+use Rattle.std.specs.Prelude.{slice_get}
+use Rattle.std.proofs.Math.Logic.{∥∥₁_elim}
+use Rattle.std.proofs.lemmas.List.Elements.{All-nil, All-cons, All-head, All-tail, All-weaker, Contains-append_left}
+use Rattle.mv_history.specs.declared.Entry.{Entry}
+use Rattle.mv_history.specs.declared.Entry.TheVariants.{Rest, Change}
+use Rattle.mv_history.specs.declared.Commit.{Commit}
+use Rattle.mv_history.specs.declared.Step.{Step}
+use Rattle.mv_history.specs.declared.StepKind.{StepKind}
+use Rattle.mv_history.specs.declared.StepKind.TheVariants.{NameCommit, SwapStamp, StoreSuper, ClearMark}
+use Rattle.mv_history.specs.declared.answers.Rival.{Rival}
+use Rattle.mv_history.specs.State.{State, Writes, maker_of, commits_of, rests_of}
+use Rattle.mv_history.specs.Trail.{is_commit_exchange, commit_exchanges}
+use Rattle.mv_history.proofs.Writing.{commits_of-append}
+use Rattle.mv_layout.specs.declared.Config.{Config}
+use Rattle.mv_layout.specs.declared.Place.TheVariants.{Clock}
+use Rattle.mv_layout.specs.Places.{place_of}
+use Rattle.mv_layout.specs.Words.{clock_time_of, clock_seat_of}
+use Rattle.mv_core.specs.declared.view.View.{View}
+use Rattle.mv_core.specs.declared.view.Past.{Past}
+use Rattle.mv_core.specs.declared.view.Phase.TheVariants.{Outside, Inside}
+use Rattle.mv_core.specs.declared.view.Section.{Section}
+use Rattle.mv_core.specs.declared.view.Mode.TheVariants.{Open}
+use Rattle.mv_core.specs.declared.view.Walk.TheVariants.{Nowhere}
+use Rattle.mv_core.specs.Rings.{held_count}
+use Rattle.mv_core.specs.Times.{IsEntry}
+use Rattle.mv_core.specs.Views.{heard_nothing}
+use Rattle.mv_core.specs.HistoryFacts.{BeginsWith}
+use Rattle.mv_core.specs.SectionFacts.{IsPastHelp}
+use Rattle.mv_core.specs.EnterSteps.{IsWhole, if_none, check_loaded}
+use Rattle.mv_core.specs.Known.{Known}
+use Rattle.mv_core.specs.NameSteps.{commit_word, commit_named, commit_lost}
+use Rattle.mv_core.proofs.SeenMore.{rests_of-append}
+use Rattle.commit_clock.specs.Helps.{Helps}
+use Rattle.commit_clock.specs.Names.{IsLost}
+use Rattle.seat_log.specs.Notes.{Noted}
+use Rattle.seat_log.specs.Stands.{is_free_kind, is_cut_kind, Stands}
+use Rattle.commit_abort.specs.Finishes.{IsFinishStep, Finishes}
+use Rattle.commit_abort.specs.Commits.{LoadsClock, Commits, IsKept, IsOvertakenBy}
+use Rattle.commit_abort.proofs.Tried.{no_exchange, begins_by, begins_long, steps_next, trail_next, kinds_next, past_next, phase_next, helped_next, begins_next, begins_found, commit_next, number_next, stands_still, stands_next}
+
+-- no step of a finish is a commit exchange
+finish_kind : (k : StepKind) → IsFinishStep k → is_commit_exchange k ≡ false
+finish_kind SwapStamp h = refl
+finish_kind StoreSuper h = refl
+finish_kind ClearMark h = refl
+finish_kind _ h = absurd h
+
+-- one exchange among others that are none
+exchanges_one : (a b : List Step) (s : Step) → is_commit_exchange s.kind ≡ true → All (λ s. is_commit_exchange s.kind ≡ false) a → All (λ s. is_commit_exchange s.kind ≡ false) b → commit_exchanges (a ++ s ∷ b) ≡ s ∷ []
+exchanges_one [] b s is none_a none_b = ap (λ (q : Bool). if q then s ∷ commit_exchanges b else commit_exchanges b) is ∙ ap (λ l. s ∷ l) (no_exchange b none_b)
+exchanges_one (x ∷ a) b s is none_a none_b =
+    ap (λ (q : Bool). if q then x ∷ commit_exchanges (a ++ s ∷ b) else commit_exchanges (a ++ s ∷ b)) (All-head (λ s. is_commit_exchange s.kind ≡ false) x a none_a)
+    ∙ exchanges_one a b s is (All-tail (λ s. is_commit_exchange s.kind ≡ false) x a none_a) none_b
+
+-- an entry after the front is one of the rest
+drop_get : (a r : List Entry) (i : ℕ) → length a ≤ i → slice_get (a ++ r) i ≡ slice_get r (i - length a)
+drop_get [] r i le = ap (slice_get r) (let e : i ≡ i - 0 = omega arith in e)
+drop_get (x ∷ a) r zero le = absurd (omega arith)
+drop_get (x ∷ a) r (suc i) le = drop_get a r i (omega arith) ∙ ap (slice_get r) (let e : i - length a ≡ suc i - length (x ∷ a) = omega arith in e)
+
+one_longer : (b : Bool) (d : Commit) (cs : List Commit) → length cs ≤ length (if b then d ∷ cs else cs)
+one_longer true d cs = omega arith
+one_longer false d cs = omega arith
+
+-- an own entry is a commit or a rest of the seat
+none_own : (n : ℕ) (xs : List Entry) (i : ℕ) (e : Entry) → slice_get xs i ≡ Some e → maker_of e ≡ n → length (commits_of n xs) + rests_of n xs ≢ 0
+none_own n [] i e at mine none = absurd cc
+none_own n (Rest by ∷ es) zero e at mine none =
+    let same : Rest by ≡ e = cc in
+    let one : ◌≡◌ {A = ℕ} (if eqb by n then 1 else 0) 1 = ap (λ (b : Bool). if b then 1 else 0) (eq-eqb by n (ap maker_of same ∙ mine)) in
+    omega arith
+none_own n (Change d ∷ es) zero e at mine none =
+    let same : Change d ≡ e = cc in
+    let one : length (if eqb d.seat n then d ∷ commits_of n es else commits_of n es) ≡ suc (length (commits_of n es)) = ap (λ (b : Bool). length (if b then d ∷ commits_of n es else commits_of n es)) (eq-eqb d.seat n (ap maker_of same ∙ mine)) in
+    omega arith
+none_own n (Rest by ∷ es) (suc i) e at mine none =
+    let b : ℕ = if eqb by n then 1 else 0 in
+    let all : length (commits_of n es) + (b + rests_of n es) ≡ 0 = none in
+    none_own n es i e at mine (omega arith)
+none_own n (Change d ∷ es) (suc i) e at mine none =
+    let longer = one_longer (eqb d.seat n) d (commits_of n es) in
+    none_own n es i e at mine (omega arith)
+
+-- so where a seat made no entry meanwhile, one after the front is of another
+not_own : (n : ℕ) (h front : List Entry) (i : ℕ) (e : Entry) → BeginsWith h front → slice_get h i ≡ Some e → length front ≤ i → commits_of n h ≡ commits_of n front → rests_of n h ≡ rests_of n front → maker_of e ≢ n
+not_own n h front i e begins at late mine rests own =
+    let r = begins.0 in
+    let commits = ap length (sym mine ∙ ap (commits_of n) begins.1 ∙ commits_of-append n front r) in
+    let long = length-append (commits_of n front) (commits_of n r) in
+    let more = sym rests ∙ ap (rests_of n) begins.1 ∙ rests_of-append n front r in
+    none_own n r (i - length front) e (sym (drop_get front r i late) ∙ ap (λ l. slice_get l i) (sym begins.1) ∙ at) own (omega arith)
+
+module _ (c : Config) (v x : View) (word : ℕ) (h0 : List Entry) (whole : IsWhole c v word h0) (is : x ≡ check_loaded c v word h0) (inside : Section) (phase : v.phase ≡ Inside inside) (past_help : IsPastHelp v.heard inside)
+    (y : View) (helps : Helps c x y word) (open_is : inside.mode ≡ Open) where
+  abbrev steps : List Step
+  steps = steps_next c v x word h0 whole is inside phase past_help y helps open_is
+
+  trail : y.trail ≡ v.trail ++ steps
+  trail = trail_next c v x word h0 whole is inside phase past_help y helps open_is
+
+  past : y.past ≡ record v.past { seen = helps.past.0 }
+  past = past_next c v x word h0 whole is inside phase past_help y helps open_is
+
+  seen : y.past.seen ≡ helps.past.0
+  seen = ap (λ (p : Past). p.seen) past
+
+  seen_all : BeginsWith y.past.seen v.past.seen
+  seen_all = subst (λ l. BeginsWith l v.past.seen) (sym seen) (begins_next c v x word h0 whole is inside phase past_help y helps open_is)
+
+  none_tried : All (λ s. is_commit_exchange s.kind ≡ false) steps
+  none_tried = kinds_next c v x word h0 whole is inside phase past_help y helps open_is (λ q. is_commit_exchange q ≡ false) refl refl refl
+
+  -- the steps of the call, with these after those
+  loads : (w : View) (more : List Step) (most : ℕ) → w.trail ≡ v.trail ++ (steps ++ more) → length more + 4 ≤ most → LoadsClock c v w word most (steps ++ more)
+  loads w more most at few =
+      let long = length-append steps more in
+      let help = helps.trail.2 in
+      record {
+        trail = at;
+        few = omega arith;
+        loaded = (0, omega arith, refl);
+        old = (let le = begins_long h0 v.past.seen whole.0 in let all = whole.1 in omega arith);
+      }
+
+  module _ (tag : List ℕ) (z w : View) (time held : ℕ) (h : List Entry) (time_is : time ≡ clock_time_of word + 1) (now : IsWhole c y word h) (named : z ≡ commit_named c y inside tag word h) (fin : Finishes z w (held + 2)) (held_is : held_count v.ring ≡ held) where
+    abbrev won : Step
+    won = record { kind = NameCommit; word = place_of c Clock; found = Some word; stored = Some (commit_word c y word) }
+
+    same_past : w.past ≡ z.past
+    same_past = ap (λ (u : View). u.past) fin.rest
+
+    abbrev ended_of : View → View
+    ended_of u = record u { past = w.past; phase = Outside; heard = heard_nothing; walk = Nowhere; back = None; ring = w.ring; trail = w.trail }
+
+    pub committed : Commits c v w inside tag time
+    committed =
+        let commit = commit_next c v x word h0 whole is inside phase past_help y helps open_is tag in
+        record {
+          word = word;
+          time_is = time_is;
+          history = h;
+          whole = (begins_by h y.past.seen v.past.seen now.0 seen_all, now.1);
+          past = same_past ∙ ap (λ (u : View). u.past) named ∙ (λ i. record (past i) { seen = h ++ Change (commit i) ∷ []; mine = (past i).mine ++ commit i ∷ [] });
+          steps = steps ++ won ∷ fin.trail.0;
+          loads = loads w (won ∷ fin.trail.0) (held_count v.ring + 8)
+              (fin.trail.1 ∙ ap (λ (u : View). u.trail ++ fin.trail.0) named ∙ ap (λ l. (l ++ won ∷ []) ++ fin.trail.0) trail ∙ append_assoc (v.trail ++ steps) (won ∷ []) fin.trail.0 ∙ append_assoc v.trail steps (won ∷ fin.trail.0))
+              (let few = fin.trail.2 in omega arith);
+          one_won = record { step = won; one = exchanges_one steps fin.trail.0 won refl none_tried (All-weaker (λ s. IsFinishStep s.kind) (λ s. is_commit_exchange s.kind ≡ false) (λ s. finish_kind s.kind) fin.trail.0 fin.trail.3); won = refl };
+          outside = fin.outside;
+          rest = fin.rest ∙ (λ i. record z { past = sym same_past i; phase = Outside; heard = heard_nothing; walk = Nowhere; back = None; ring = w.ring; trail = w.trail })
+              ∙ ap ended_of named ∙ ap ended_of helps.rest ∙ ap ended_of is;
+        }
+
+  module _ (w : View) (found : ℕ) (h : List Entry) (rival : Rival) (lost : IsLost c y word found rival h) (at : w ≡ commit_lost c y found h) where
+    abbrev tried : Step
+    tried = record { kind = NameCommit; word = place_of c Clock; found = Some found; stored = None }
+
+    same_seen : w.past.seen ≡ h
+    same_seen = ap (λ (u : View). u.past.seen) at
+
+    past_is : w.past ≡ record v.past { seen = w.past.seen }
+    past_is = ap (λ (u : View). u.past) at ∙ (λ i. record (past i) { seen = sym same_seen i })
+
+    same_phase : w.phase ≡ Inside inside
+    same_phase = ap (λ (u : View). u.phase) at ∙ phase_next c v x word h0 whole is inside phase past_help y helps open_is
+
+    begins : BeginsWith h v.past.seen
+    begins = begins_by h y.past.seen v.past.seen lost.whole.0 seen_all
+
+    abbrev kept_of : View → View
+    kept_of u = record u { past = record v.past { seen = w.past.seen }; phase = Inside inside; heard = w.heard; trail = w.trail }
+
+    kept : IsKept v w inside
+    kept = record {
+      seen = subst (λ l. BeginsWith l v.past.seen) (sym same_seen) begins;
+      past_help = subst (λ (u : View). IsPastHelp u.heard inside) (sym at) (Contains-append_left y.heard.helped (if_none found) inside.word (helped_next c v x word h0 whole is inside phase past_help y helps open_is));
+      rest = (λ i. record w { past = past_is i; phase = same_phase i }) ∙ ap kept_of at ∙ ap kept_of helps.rest ∙ ap kept_of is ∙ (λ i. record v { past = record v.past { seen = w.past.seen }; phase = sym phase i; heard = w.heard; trail = w.trail });
+    }
+
+    pub stands_lost : (l : Noted) → Stands c v l → Stands c w l
+    stands_lost l k =
+        stands_still c y w l (stands_next c v x word h0 whole is inside phase past_help y helps open_is l k) (ap (λ (u : View). u.number) at) (ap (λ (u : View). u.ring) at) (ap (λ (u : View). u.past.mine) at) (ap (λ (u : View). u.past.rests) at) (tried ∷ []) (ap (λ (u : View). u.trail) at)
+        (All-cons (λ s. is_free_kind s.kind ≡ false) tried [] refl (All-nil (λ s. is_free_kind s.kind ≡ false))) (All-cons (λ s. is_cut_kind s.kind ≡ false) tried [] refl (All-nil (λ s. is_cut_kind s.kind ≡ false)))
+
+    module _ (starts : State → Type 0) (allows : List ℕ → State → Writes → Type 0) (known_x : ∥ Known starts allows x ∥₁) (known_w : ∥ Known starts allows w ∥₁) where
+      made : (e : Entry) × IsEntry c.base h (clock_time_of found) e × (maker_of e ≡ clock_seat_of found)
+      made = lost.overtaken.made (let long = whole.1 in omega arith)
+
+      other_seat : rival.seat ≢ v.number
+      other_seat own =
+          let same : clock_seat_of found ≡ v.number = ap (λ (r : Rival). r.seat) (sym lost.rival_is) ∙ own in
+          let number_x : x.number ≡ v.number = ap (λ (u : View). u.number) is in
+          let number_w : w.number ≡ v.number = ap (λ (u : View). u.number) at ∙ number_next c v x word h0 whole is inside phase past_help y helps open_is in
+          let mine : w.past.mine ≡ x.past.mine = ap (λ (p : Past). p.mine) past_is ∙ ap (λ (u : View). u.past.mine) (sym is) in
+          let rests : w.past.rests ≡ x.past.rests = ap (λ (p : Past). p.rests) past_is ∙ ap (λ (u : View). u.past.rests) (sym is) in
+          let seen_x : x.past.seen ≡ h0 = ap (λ (u : View). u.past.seen) is in
+          ∥∥₁_elim known_x (λ a b. absurd a) (λ kx. ∥∥₁_elim known_w (λ a b. absurd a) (λ kw.
+          not_own v.number h h0 (clock_time_of found - (c.base + 1)) made.0
+          (begins_by h y.past.seen h0 lost.whole.0 (subst (λ l. BeginsWith l h0) (sym seen) (begins_found c v x word h0 whole is inside phase past_help y helps open_is)))
+          made.1.1
+          (let later = lost.overtaken.later in let long = whole.1 in omega arith)
+          ((λ i. commits_of (sym number_w i) (sym same_seen i)) ∙ sym kw.mine ∙ mine ∙ kx.mine ∙ (λ i. commits_of (number_x i) (seen_x i)))
+          ((λ i. rests_of (sym number_w i) (sym same_seen i)) ∙ sym kw.rests ∙ rests ∙ kx.rests ∙ (λ i. rests_of (number_x i) (seen_x i)))
+          (made.2 ∙ same)))
+
+      pub overtaken : IsOvertakenBy c v w inside rival
+      overtaken =
+          let time_is : clock_time_of found ≡ rival.time = ap (λ (r : Rival). r.time) (sym lost.rival_is) in
+          record {
+            kept = kept;
+            word = word;
+            steps = steps ++ tried ∷ [];
+            loads = loads w (tried ∷ []) 5 (ap (λ (u : View). u.trail) at ∙ ap (λ l. l ++ tried ∷ []) trail ∙ append_assoc v.trail steps (tried ∷ [])) (omega arith);
+            one = ap length (exchanges_one steps [] tried refl none_tried (All-nil (λ s. is_commit_exchange s.kind ≡ false)));
+            other = other_seat;
+            later = subst (λ n. clock_time_of word < n) time_is lost.overtaken.later;
+            entry = (made.0, subst (λ (p : List Entry × ℕ). IsEntry c.base p.0 p.1 made.0) (λ i. (sym same_seen i, time_is i)) made.1, made.2 ∙ ap (λ (r : Rival). r.seat) (sym lost.rival_is));
+          }

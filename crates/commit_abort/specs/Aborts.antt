@@ -1,0 +1,70 @@
+-- Giving up what a section holds: what the calls need of the view and of the log, and what they leave.
+use Rattle.std.specs.Prelude.{◌≡◌, ◌⊎◌, ℕ, ◌+◌, ◌<◌, ◌≤◌, List, ◌++◌, length, All, None}
+use Rattle.mv_history.specs.declared.Step.{Step}
+use Rattle.mv_history.specs.declared.StepKind.{StepKind}
+use Rattle.mv_history.specs.declared.StepKind.TheVariants.{UnlockHead, LoadDeath, ClearMark}
+use Rattle.mv_layout.specs.declared.Config.{Config}
+use Rattle.mv_core.specs.declared.ring.Slot.{Slot}
+use Rattle.mv_core.specs.declared.ring.Slot.TheVariants.{Live}
+use Rattle.mv_core.specs.declared.ring.Version.{Version}
+use Rattle.mv_core.specs.declared.ring.Status.TheVariants.{Held, Aborted}
+use Rattle.mv_core.specs.declared.view.View.{View}
+use Rattle.mv_core.specs.declared.view.Phase.TheVariants.{Outside, Inside}
+use Rattle.mv_core.specs.declared.view.Section.{Section}
+use Rattle.mv_core.specs.declared.view.Mode.TheVariants.{Open}
+use Rattle.mv_core.specs.declared.view.Walk.TheVariants.{Nowhere}
+use Rattle.mv_core.specs.Rings.{slot_at, index_of}
+use Rattle.mv_core.specs.Views.{heard_nothing, IsUnnamed}
+use Rattle.mv_core.specs.HistoryFacts.{BeginsWith}
+use Rattle.mv_core.specs.LockSteps.{MayUnlock, head_unlocked}
+use Rattle.seat_log.specs.declared.version.Note.{Note}
+use Rattle.seat_log.specs.Notes.{Noted, held_from}
+use Rattle.commit_abort.specs.Finishes.{section_in, version_in}
+
+-- an open section
+pub record IsOpen (v : View) (inside : Section) : Type 0 where
+  pub phase : v.phase ≡ Inside inside
+  pub open_is : inside.mode ≡ Open
+
+-- what is in a slot, and is there still, but that what was held may be aborted
+abbrev pub IsAbortedToo : Slot → Slot → Type 0
+IsAbortedToo a b = (b ≡ a) ⊎ ((x : Version) × (a ≡ Live x Held) × (b ≡ Live x (Aborted None)))
+
+-- HEAD was given back of each of the held versions before this place in the log, and nothing else changed but how far the section is, and the trail
+pub record Unlocks (c : Config) (v w : View) (l : Noted) (inside : Section) (i : ℕ) : Type 0 where
+  pub inside_now : Section
+  pub phase : w.phase ≡ Inside inside_now
+  pub unnamed : IsUnnamed inside_now.mode
+  pub kept : w ≡ record v { phase = w.phase; ring = w.ring; trail = w.trail }
+  pub wide : length w.ring.slots ≡ length v.ring.slots
+  pub next : w.ring.next ≡ v.ring.next
+  pub more : (k : ℕ) → IsAbortedToo (slot_at v.ring k) (slot_at w.ring k)
+  pub gone : (j : ℕ) → held_from l ≤ j → j < i → (x : Version) × (slot_at w.ring (index_of c (l.freed + j)) ≡ Live x (Aborted None))
+  pub left : (j : ℕ) → i ≤ j → j < length l.live → slot_at w.ring (index_of c (l.freed + j)) ≡ slot_at v.ring (index_of c (l.freed + j))
+  pub trail : (steps : List Step) × (w.trail ≡ v.trail ++ steps) × (length steps + held_from l ≤ i) × All (λ s. s.kind ≡ UnlockHead) steps
+
+-- the slot of a held version, with the version, and the section
+abbrev pub held_in : View → ℕ → ℕ × Version × Section
+held_in v k = (k, version_in (slot_at v.ring k), section_in v)
+
+-- HEAD of the object of this note may be given back
+abbrev pub MayGiveBack : Config → View → Note → ℕ × Version × Section → Type 0
+MayGiveBack c v n held = (n.object < c.objects) × MayUnlock v n.object n.previous held.0 held.1 held.2
+
+-- and was
+abbrev pub GivesBack : Config → View → View → Note → ℕ × Version × Section → Type 0
+GivesBack c v w n held = w ≡ head_unlocked c v n.object n.previous held.0 held.1 held.2
+
+-- a step of an abort
+abbrev pub IsAbortStep : StepKind → Type 0
+IsAbortStep UnlockHead = Unit {0}
+IsAbortStep LoadDeath = Unit {0}
+IsAbortStep ClearMark = Unit {0}
+IsAbortStep _ = ⊥
+
+-- The section has ended and made no entry, nor tried to: the trail has at most so many steps more, each of an abort, and more may have been seen.
+pub record Aborts (v w : View) (most : ℕ) : Type 0 where
+  pub outside : w.phase ≡ Outside
+  pub seen : BeginsWith w.past.seen v.past.seen
+  pub trail : (steps : List Step) × (w.trail ≡ v.trail ++ steps) × (length steps ≤ most) × All (λ s. IsAbortStep s.kind) steps
+  pub rest : w ≡ record v { past = record v.past { seen = w.past.seen }; phase = Outside; heard = heard_nothing; walk = Nowhere; back = None; ring = w.ring; trail = w.trail }

@@ -1,0 +1,125 @@
+-- Finishing a commit that its section has named: what the calls need of the view and of the log, and what they leave.
+use Rattle.std.specs.Prelude.{◌≡◌, ◌≢◌, ◌⊎◌, ℕ, ◌+◌, ◌<◌, ◌≤◌, ◌==◌, true, false, List, [], ◌∷◌, ◌++◌, length, All, None}
+use Rattle.mv_history.specs.declared.Entry.{Entry}
+use Rattle.mv_history.specs.declared.Step.{Step}
+use Rattle.mv_history.specs.declared.StepKind.{StepKind}
+use Rattle.mv_history.specs.declared.StepKind.TheVariants.{SwapStamp, StoreSuper, ClearMark}
+use Rattle.mv_layout.specs.declared.Config.{Config}
+use Rattle.mv_core.specs.declared.ring.Slot.{Slot}
+use Rattle.mv_core.specs.declared.ring.Slot.TheVariants.{Live}
+use Rattle.mv_core.specs.declared.ring.Version.{Version}
+use Rattle.mv_core.specs.declared.ring.Status.TheVariants.{Committed}
+use Rattle.mv_core.specs.declared.ring.CommitNote.{CommitNote}
+use Rattle.mv_core.specs.declared.view.View.{View}
+use Rattle.mv_core.specs.declared.view.Phase.{Phase}
+use Rattle.mv_core.specs.declared.view.Phase.TheVariants.{Outside, Inside}
+use Rattle.mv_core.specs.declared.view.Mode.{Mode}
+use Rattle.mv_core.specs.declared.view.Section.{Section}
+use Rattle.mv_core.specs.declared.view.Mode.TheVariants.{Open, Named}
+use Rattle.mv_core.specs.declared.view.Walk.TheVariants.{Nowhere}
+use Rattle.mv_core.specs.Rings.{slot_at, index_of, HoldsNothing, held_count}
+use Rattle.mv_core.specs.Views.{heard_nothing}
+use Rattle.mv_core.specs.WalkSteps.{IsPackedOf, IsLinkOf}
+use Rattle.mv_core.specs.NameSteps.{LogTold, commit_named, MayStoreSuper, super_stored}
+use Rattle.seat_log.specs.declared.version.Note.{Note}
+use Rattle.seat_log.specs.Notes.{Noted, held_from, IsNoteAt}
+use Rattle.seat_log.specs.Stands.{version_of, Stands}
+
+-- a won exchange of CLOCK for a commit: the view before it, its section, the tag, the word that was expected, and the whole history before it
+pub record WonNaming : Type 0 where
+  pub before : View
+  pub inside : Section
+  pub tag : List ℕ
+  pub word : ℕ
+  pub history : List Entry
+
+-- The last step of the pass was this exchange. Before it its section was open and held something, the log stood for the pass, and nothing was being built.
+pub record IsJustNamed (c : Config) (w : View) (l : Noted) (won : WonNaming) : Type 0 where
+  pub phase : won.before.phase ≡ Inside won.inside
+  pub some : 0 < held_count won.before.ring
+  pub named : w ≡ commit_named c won.before won.inside won.tag won.word won.history
+  pub log : LogTold c won.before won.word
+  pub stands : Stands c won.before l
+  pub unbuilt : l.built ≡ None
+
+-- the section that a view is in, and the first position of the commit that it has named; they tell nothing of a view in none
+abbrev pub section_of_phase : Phase → Section
+section_of_phase (Inside inside) = inside
+section_of_phase _ = record { low = 0; word = 0; mode = Open }
+
+abbrev pub section_in : View → Section
+section_in v = section_of_phase v.phase
+
+abbrev pub first_of_mode : Mode → ℕ
+first_of_mode (Named n) = n.first
+first_of_mode _ = 0
+
+abbrev pub first_named : View → ℕ
+first_named v = first_of_mode (section_in v).mode
+
+-- the section has named the commit of this first position and time, and its own stamp isn't exchanged yet
+abbrev pub HasNamed : View → ℕ → ℕ → Section → Type 0
+HasNamed v first time inside = v.phase ≡ Inside (record inside { mode = Named (record { time = time; first = first; stamped = false }) })
+
+-- that exchange was made: nothing else changed but the words helped and the trail
+pub record StampsIt (v w : View) (first time : ℕ) (inside : Section) : Type 0 where
+  pub phase : w.phase ≡ Inside (record inside { mode = Named (record { time = time; first = first; stamped = true }) })
+  pub trail : (s : Step) × (w.trail ≡ v.trail ++ s ∷ []) × (s.kind ≡ SwapStamp)
+  pub rest : w ≡ record v { phase = w.phase; heard = w.heard; trail = w.trail }
+
+-- the held versions of the log are committed at this time; those with something below aren't linked yet
+pub record AreCommitted (c : Config) (v : View) (l : Noted) (time : ℕ) : Type 0 where
+  pub each : (i : ℕ) (n : Note) → IsNoteAt l i n → held_from l ≤ i → (note : CommitNote) × (slot_at v.ring (index_of c (l.freed + i)) ≡ Live (version_of n) (Committed note)) × (note.time ≡ time) × (note.linked ≡ (n.previous == 0)) × IsLinkOf c n.previous
+  pub only : (k : ℕ) (x : Version) (note : CommitNote) → slot_at v.ring k ≡ Live x (Committed note) → note.time ≡ time → (i : ℕ) × (held_from l ≤ i) × (i < length l.live) × (k ≡ index_of c (l.freed + i))
+  pub round : length l.live ≤ c.slots
+  pub wide : length v.ring.slots ≡ c.slots
+  pub nothing : HoldsNothing v.ring
+
+-- the version in a slot, and what is noted of its commit; they tell nothing of a slot without one
+abbrev pub version_in : Slot → Version
+version_in (Live x st) = x
+version_in _ = record { position = 0; first = 0; object = 0; previous = 0; words = [] }
+
+abbrev pub note_in : Slot → CommitNote
+note_in (Live x (Committed note)) = note
+note_in _ = record { time = 0; dead = None; cut = false; linked = false }
+
+-- a slot of the own log, with the version that it has and what is noted of its commit
+abbrev pub above_at : View → ℕ → ℕ × Version × CommitNote
+above_at v k = (k, version_in (slot_at v.ring k), note_in (slot_at v.ring k))
+
+-- SUPER may be stored below the version of this note, where something is below it
+abbrev pub MayTell : Config → View → Note → ℕ → ℕ × Version × CommitNote → Type 0
+MayTell c v n time above = n.previous ≢ 0 → IsPackedOf c n.previous × MayStoreSuper v n.previous time above.0 above.1 above.2
+
+-- and was stored, by the one step that was made
+pub record TellsOne (c : Config) (v w : View) (n : Note) (time before after : ℕ) (above : ℕ × Version × CommitNote) : Type 0 where
+  pub none : n.previous ≡ 0 → (w ≡ v) × (after ≡ before)
+  pub one : n.previous ≢ 0 → (w ≡ super_stored c v n.previous time above.0 above.1 above.2) × (after ≡ before + 1)
+
+-- what is in a slot, and is there still, but that SUPER may have been stored below it
+abbrev pub IsLinkedToo : Slot → Slot → Type 0
+IsLinkedToo a b = (b ≡ a) ⊎ ((x : Version) × (note : CommitNote) × (a ≡ Live x (Committed note)) × (b ≡ Live x (Committed (record note { linked = true }))))
+
+-- SUPER was stored below each of the held versions before this place in the log, and nothing else changed but the trail
+pub record Tells (c : Config) (v w : View) (l : Noted) (i : ℕ) : Type 0 where
+  pub kept : w ≡ record v { ring = w.ring; trail = w.trail }
+  pub wide : length w.ring.slots ≡ length v.ring.slots
+  pub next : w.ring.next ≡ v.ring.next
+  pub more : (k : ℕ) → IsLinkedToo (slot_at v.ring k) (slot_at w.ring k)
+  pub told : (j : ℕ) (x : Version) (note : CommitNote) → held_from l ≤ j → j < i → slot_at w.ring (index_of c (l.freed + j)) ≡ Live x (Committed note) → note.linked ≡ true
+  pub left : (j : ℕ) → i ≤ j → j < length l.live → slot_at w.ring (index_of c (l.freed + j)) ≡ slot_at v.ring (index_of c (l.freed + j))
+  pub trail : (steps : List Step) × (w.trail ≡ v.trail ++ steps) × (length steps + held_from l ≤ i) × All (λ s. s.kind ≡ StoreSuper) steps
+
+-- a step of finishing a commit
+abbrev pub IsFinishStep : StepKind → Type 0
+IsFinishStep SwapStamp = Unit {0}
+IsFinishStep StoreSuper = Unit {0}
+IsFinishStep ClearMark = Unit {0}
+IsFinishStep _ = ⊥
+
+-- The section has ended: the walk, the write-back and the clock words with it. Its log is committed, and the trail has at most so many steps more, each of a finish.
+pub record Finishes (v w : View) (most : ℕ) : Type 0 where
+  pub outside : w.phase ≡ Outside
+  pub trail : (steps : List Step) × (w.trail ≡ v.trail ++ steps) × (length steps ≤ most) × All (λ s. IsFinishStep s.kind) steps
+  pub rest : w ≡ record v { phase = Outside; heard = heard_nothing; walk = Nowhere; back = None; ring = w.ring; trail = w.trail }

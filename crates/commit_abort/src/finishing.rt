@@ -1,0 +1,114 @@
+// Finishing a commit that was named.
+ghost use Rattle.std.specs.Prelude.{◌≡◌, ℕ, ◌+◌, ◌≤◌, ◌<◌, ◌^◌, true, length};
+ghost use Rattle.mv_core.specs.declared.view.Mode.TheVariants.{Named};
+ghost use Rattle.mv_core.specs.declared.view.Phase.TheVariants.{Inside};
+ghost use Rattle.mv_layout.specs.Words.{clock_time_of};
+ghost use Rattle.mv_core.specs.declared.ring.CommitNote.{CommitNote};
+ghost use Rattle.mv_core.specs.declared.ring.Version.{Version};
+ghost use Rattle.mv_core.specs.declared.view.Section.{Section};
+ghost use Rattle.mv_core.specs.Passes.{view, IsOf, IsSame, config_of};
+ghost use Rattle.seat_log.specs.declared.version.Note.{Note};
+ghost use Rattle.seat_log.specs.Notes.{IsNoteAt, committed_noted};
+ghost use Rattle.seat_log.specs.Stands.{Stands};
+ghost use Rattle.commit_abort.specs.Finishes.{WonNaming, IsJustNamed, HasNamed, StampsIt, AreCommitted, MayTell, TellsOne, Tells, Finishes};
+
+use mv_core::{Pass, Shared, Steps};
+use mv_history::Protocol;
+use mv_layout::{LAST, clock_word, unset_stamp};
+use seat_log::{Log, held, live, note, note_commit};
+use std::sync::ledger::Ledger;
+
+// Exchanges the stamp of the own commit.
+fn stamp_own<P: Protocol, L: Ledger>(
+    shared: &Shared<P>,
+    pass: &mut Pass<P>,
+    first: u64,
+    time: u64,
+    steps: &mut Steps<L>,
+)
+    ghost inside: { Section }
+    requires of { IsOf shared.now pass.old }
+    requires named { HasNamed (view pass.old) first time inside }
+    requires time { time ≤ LAST }
+    requires first { first < 2 ^ 57 }
+    ensures same { IsSame pass.old pass.new }
+    ensures stamps { StampsIt (view pass.old) (view pass.new) first time inside }
+    ensures step { steps.new ≡ steps.old + 1 }
+{
+    let slot = (first % shared.config().slots as u64) as u32;
+    let word = clock_word(time, pass.seat(), slot);
+    let _ = shared.stamp(pass, word, unset_stamp(first), steps);
+}
+
+// Stores the commit's time into SUPER of the version below the one that is noted at this index, if
+// there is one.
+fn tell_one<P: Protocol, L: Ledger>(
+    shared: &Shared<P>,
+    pass: &mut Pass<P>,
+    log: &Log,
+    index: u32,
+    time: u64,
+    steps: &mut Steps<L>,
+)
+    ghost above: { ℕ × Version × CommitNote }
+    requires of { IsOf shared.now pass.old }
+    requires range { index < length log.now.live }
+    requires may { (n : Note) → IsNoteAt log.now index n → MayTell (config_of shared.now) (view pass.old) n time above }
+    ensures same { IsSame pass.old pass.new }
+    ensures tells { (n : Note) → IsNoteAt log.now index n → TellsOne (config_of shared.now) (view pass.old) (view pass.new) n time steps.old steps.new above }
+{
+    let above = note(log, index);
+    if above.previous != 0 {
+        shared.store_super(pass, above.previous, time, steps);
+    }
+}
+
+// Stores the commit's time into SUPER below each version of the write set, in the order of locking.
+fn tell_below<P: Protocol, L: Ledger>(
+    shared: &Shared<P>,
+    pass: &mut Pass<P>,
+    log: &Log,
+    time: u64,
+    steps: &mut Steps<L>,
+)
+    ghost at: { Section × ℕ }
+    requires of { IsOf shared.now pass.old }
+    requires phase { (view pass.old).phase ≡ Inside (record at.0 { mode = Named (record { time = time; first = at.1; stamped = true }) }) }
+    requires committed { AreCommitted (config_of shared.now) (view pass.old) log.now time }
+    ensures same { IsSame pass.old pass.new }
+    ensures tells { Tells (config_of shared.now) (view pass.old) (view pass.new) log.now (length log.now.live) }
+    ensures cost { steps.new ≤ steps.old + log.now.held }
+{
+    let count = live(log);
+    for index in count - held(log)..count {
+        tell_one(shared, pass, log, index, time, steps);
+    }
+}
+
+/// Finishes the commit that the pass has just named: its last step was its own won exchange of CLOCK,
+/// and `time` is the commit's printed time. The log stood for the pass before that exchange, and
+/// has noted nothing since. It stamps the write set, stores SUPER below each of its versions, leaves
+/// the section, and notes the commit; the log stands for the pass again, with nothing held. It makes
+/// at most `held + 2` steps, and never refuses.
+pub fn finish<P: Protocol, L: Ledger>(
+    shared: &Shared<P>,
+    pass: &mut Pass<P>,
+    log: &mut Log,
+    time: u64,
+    steps: &mut Steps<L>,
+)
+    requires of { IsOf shared.now pass.old }
+    requires named { (won : WonNaming) × IsJustNamed (config_of shared.now) (view pass.old) log.old won × (time ≡ clock_time_of won.word + 1) }
+    requires range { time ≤ LAST }
+    ensures same { IsSame pass.old pass.new }
+    ensures finishes { Finishes (view pass.old) (view pass.new) (log.old.held + 2) }
+    ensures log { log.new ≡ committed_noted log.old time }
+    ensures stands { Stands (config_of shared.now) (view pass.new) log.new }
+    ensures cost { steps.new ≤ steps.old + log.old.held + 2 }
+{
+    let first = note(log, live(log) - held(log)).first;
+    stamp_own(shared, pass, first, time, steps);
+    tell_below(shared, pass, log, time, steps);
+    shared.clear_mark(pass, steps);
+    note_commit(log, time);
+}

@@ -1,0 +1,83 @@
+// Schedules of several clients, as tables of moves with the answers that are wanted.
+ghost use Rattle.std.specs.Prelude.{◌≡◌, ◌<◌, All};
+ghost use Rattle.runtime_tests.specs.Clients.{AreReady};
+
+use crate::clients::{Client, open};
+use crate::moves::{Answer, Move, make};
+use mv_core::{Shared, Steps};
+use mv_history::AnyRules;
+use mv_layout::Config;
+use std::alloc::{AllocError, Global};
+use std::sync::ledger::{Blank, Ledger};
+
+/// A turn of a schedule: the number of a seat, its move, and the answer that is wanted.
+pub type Turn = (usize, Move, Answer);
+
+// Plays a schedule. It answers the first turn that was answered otherwise, with that answer.
+fn play<L: Ledger>(
+    shared: &Shared<AnyRules>,
+    clients: &mut Vec<Client>,
+    turns: &[Turn],
+    steps: &mut Steps<L>,
+) -> Option<(usize, Answer)>
+    requires ready { AreReady shared.now clients.old.items }
+    ensures ready { AreReady shared.now clients.new.items }
+{
+    for at in 0..turns.len() {
+        let (seat, next, wanted) = turns[at];
+        if seat >= clients.len() {
+            return Some((at, Answer::Skipped));
+        }
+        let answer = make(shared, &mut clients[seat], next, steps);
+        if answer != wanted {
+            return Some((at, answer));
+        }
+    }
+    None
+}
+
+/// The numbers of a domain of so many seats and objects, with write sets of up to so many objects, logs
+/// of 64 slots, and `base` as its opening time. They are not checked: `played` does that.
+pub fn domain(seats: u32, objects: u32, write_max: u32, base: u64) -> Config {
+    Config {
+        seats,
+        objects,
+        slots: 64,
+        write_max,
+        low: 32,
+        high: 48,
+        base,
+    }
+}
+
+/// Plays the three parts of a schedule, one after another, in a new domain. It answers the part and the
+/// turn of the first that was answered otherwise, with that answer, and makes no turn after it; `None`
+/// is that every turn was answered as wanted. Numbers that are no domain are answered as the first turn,
+/// `Skipped`. Where memory is refused, no turn was made.
+pub fn played<L: Ledger>(
+    alloc: Global,
+    config: &Config,
+    before: &[Turn],
+    call: &[Turn],
+    after: &[Turn],
+    blank: Blank,
+) -> Result<Option<(usize, usize, Answer)>, AllocError>
+    requires name { blank.name ≡ L.name }
+    requires parts { (blank.parts ≡ L.parts) × (0 < L.parts) }
+{
+    let Ok(()) = config.check() else {
+        return Ok(Some((0, 0, Answer::Skipped)));
+    };
+    let mut steps = Steps::<L>::open(blank);
+    let (shared, mut clients) = open(alloc, config)?;
+    if let Some((at, answer)) = play(&shared, &mut clients, before, &mut steps) {
+        return Ok(Some((0, at, answer)));
+    }
+    if let Some((at, answer)) = play(&shared, &mut clients, call, &mut steps) {
+        return Ok(Some((1, at, answer)));
+    }
+    if let Some((at, answer)) = play(&shared, &mut clients, after, &mut steps) {
+        return Ok(Some((2, at, answer)));
+    }
+    Ok(None)
+}

@@ -3,8 +3,8 @@ use Rattle.std.proofs.Common.{◌≡◌, ◌≢◌, ℕ, suc, ◌<◌, ◌≤◌
 use Rattle.std.proofs.lemmas.Bool.Decides.{nat_tests}
 use Rattle.mv_history.specs.State.{State}
 use Rattle.mv_history.specs.Meaning.{words_at}
-use Rattle.set_script.specs.Objects.{owner, key, link, list_words, relink}
-use Rattle.set_script.specs.Lists.{Node, Nodes, first_of, is_among, Links, IsAbove, IsRising, IsList}
+use Rattle.set_script.specs.Objects.{owner, kind, key, link, list_words, relink}
+use Rattle.set_script.specs.Lists.{Node, Nodes, first_of, is_among, FitsHead, Links, IsAbove, IsRising, IsList}
 use Rattle.set_script.proofs.ObjectWords.{word}
 
 -- the object is one of the nodes, as a choice of one of them
@@ -42,6 +42,16 @@ pub Links-node : (s : State) (head : ℕ) (ns : Nodes) → Links s head ns → (
 Links-node s head [] l o i = absurd i
 Links-node s head (n ∷ ns) l o (inl e) = let lo : 180 ≤ n.object = l.0 in omega (arith, e)
 Links-node s head (n ∷ ns) l o (inr i) = Links-node s head ns l.3 o i
+
+pub Links-kind : (s : State) (head : ℕ) (ns : Nodes) → Links s head ns → (o : ℕ) → IsAmong o ns → kind s o ≡ 0
+Links-kind s head [] l o i = absurd i
+Links-kind s head (n ∷ ns) l o (inl e) = ap (kind s) e ∙ ap (word 1) l.2
+Links-kind s head (n ∷ ns) l o (inr i) = Links-kind s head ns l.3 o i
+
+pub Links-fits : (s : State) (head : ℕ) (ns : Nodes) → Links s head ns → (o : ℕ) → IsAmong o ns → FitsHead head (key s o)
+Links-fits s head [] l o i = absurd i
+Links-fits s head (n ∷ ns) l o (inl e) = subst (λ (k : ℕ). FitsHead head k) (sym (ap (key s) e ∙ ap (word 2) l.2)) l.1
+Links-fits s head (n ∷ ns) l o (inr i) = Links-fits s head ns l.3 o i
 
 pub above_key : (s : State) (head k : ℕ) (ns : Nodes) → Links s head ns → IsAbove k ns → (o : ℕ) → IsAmong o ns → k < key s o
 above_key s head k [] l a o i = absurd i

@@ -1,5 +1,5 @@
 -- One line more of a script.
-use Rattle.std.proofs.Common.{◌≡◌, ℕ, ◌+◌, ◌≤◌, ◌<◌, List, length, get_or, drop, map, Option, Some, None, Result, Ok, ap, sym, ◌∙◌, arith}
+use Rattle.std.proofs.Common.{◌≡◌, ℕ, ◌+◌, ◌≤◌, ◌<◌, List, length, get_or, drop, Option, Some, None, Result, Ok, ap, sym, ◌∙◌, arith}
 use Rattle.std.proofs.lemmas.Iterator.{YieldsList}
 use Rattle.std.proofs.lemmas.Iterator.Consumers.{YieldsList-turn, YieldsList-end}
 use Rattle.std.specs.Iterator.{Yields}
@@ -10,7 +10,7 @@ use Rattle.set_script.specs.declared.commands.Command.{Command}
 use Rattle.set_script.specs.declared.commands.FaultKind.{FaultKind}
 use Rattle.set_script.specs.declared.commands.ScriptFault.{ScriptFault}
 use Rattle.set_script.specs.declared.commands.ScriptFault.TheVariants.{At, Memory}
-use Rattle.set_script.specs.Grammar.{◌>>=◌, is_line_end, lines_of, line_read, with_reading, parsed, parsed_after, Refuses}
+use Rattle.set_script.specs.Grammar.{◌>>=◌, is_line_end, lines_of, reading_in, format_after, readings_in, with_reading, parsed, parsed_after, Refuses}
 
 -- std's two lemmas on a loop's turn and its end, with the items first, from which the iterator's steps are known
 module _ {S A B : Type 0} {steps : S → Option A → S → Type 0} {s : S} {all : List B} (v : A → B) (items : List A) (t : S) (yields : Yields steps s items t) where
@@ -29,19 +29,25 @@ pub Refuses-then : {A B : Type 0} (reading : Result A (ℕ × FaultKind)) (f : A
 Refuses-then reading f (At line kind) refused = ap (λ r. r >>= f) refused
 Refuses-then reading f Memory refused = tt
 
-module _ (text : List ℕ) (commands : List Command) (number : ℕ) (rest : parsed text ≡ parsed_after commands (number + 1) (map line_read (drop number (lines_of text)))) where
+-- the lines from this one on, in a format
+abbrev from_line : List ℕ → List Command → Option ℕ → ℕ → Result (List Command) (ℕ × FaultKind)
+from_line text commands format number = parsed_after commands (number + 1) (readings_in format (drop number (lines_of text)))
+
+module _ (text : List ℕ) (commands : List Command) (format : Option ℕ) (number : ℕ) (rest : parsed text ≡ parsed_after commands (number + 1) (readings_in format (drop number (lines_of text)))) where
   -- the line that comes
-  turn : (k : ℕ) (line : List ℕ) → number ≡ k → (k < length (lines_of text)) × (line ≡ get_or (lines_of text) k line) → parsed text ≡ with_reading commands (number + 1) (line_read line) >>= (λ more. parsed_after more (number + 1 + 1) (map line_read (drop (number + 1) (lines_of text))))
+  turn : (k : ℕ) (line : List ℕ) → number ≡ k → (k < length (lines_of text)) × (line ≡ get_or (lines_of text) k line) → parsed text ≡ with_reading commands (number + 1) (reading_in format line) >>= (λ more. from_line text more (format_after format line) (number + 1))
   turn k line same h =
       let at : line ≡ get_or (lines_of text) number line = rw same h.1 in
-      rest ∙ at_drop_more (λ lines. parsed_after commands (number + 1) (map line_read lines)) (lines_of text) number line (omega arith)
-      ∙ ap (λ l. with_reading commands (number + 1) (line_read l) >>= (λ more. parsed_after more (number + 1 + 1) (map line_read (drop (number + 1) (lines_of text))))) (sym at)
+      rest ∙ at_drop_more (λ lines. parsed_after commands (number + 1) (readings_in format lines)) (lines_of text) number line (omega arith)
+      ∙ ap (λ l. with_reading commands (number + 1) (reading_in format l) >>= (λ more. from_line text more (format_after format l) (number + 1))) (sym at)
 
-  pub taken : (k : ℕ) (line : List ℕ) (more : List Command) → number ≡ k → (k < length (lines_of text)) × (line ≡ get_or (lines_of text) k line) → with_reading commands (number + 1) (line_read line) ≡ Ok more → parsed text ≡ parsed_after more (number + 1 + 1) (map line_read (drop (number + 1) (lines_of text)))
-  taken k line more same h read = turn k line same h ∙ ap (λ r. r >>= (λ more. parsed_after more (number + 1 + 1) (map line_read (drop (number + 1) (lines_of text))))) read
+  pub taken : (k : ℕ) (line : List ℕ) (more : List Command) (then : Option ℕ) → number ≡ k → (k < length (lines_of text)) × (line ≡ get_or (lines_of text) k line) → with_reading commands (number + 1) (reading_in format line) ≡ Ok more → then ≡ format_after format line
+      → parsed text ≡ parsed_after more (number + 1 + 1) (readings_in then (drop (number + 1) (lines_of text)))
+  taken k line more then same h read goes =
+      turn k line same h ∙ ap (λ r. r >>= (λ cs. from_line text cs (format_after format line) (number + 1))) read ∙ ap (λ f. from_line text more f (number + 1)) (sym goes)
 
-  pub refused : (k : ℕ) (line : List ℕ) (fault : ScriptFault) → number ≡ k → (k < length (lines_of text)) × (line ≡ get_or (lines_of text) k line) → Refuses (with_reading commands (number + 1) (line_read line)) fault → Refuses (parsed text) fault
-  refused k line fault same h refuses = rw (turn k line same h) (Refuses-then (with_reading commands (number + 1) (line_read line)) (λ more. parsed_after more (number + 1 + 1) (map line_read (drop (number + 1) (lines_of text)))) fault refuses)
+  pub refused : (k : ℕ) (line : List ℕ) (fault : ScriptFault) → number ≡ k → (k < length (lines_of text)) × (line ≡ get_or (lines_of text) k line) → Refuses (with_reading commands (number + 1) (reading_in format line)) fault → Refuses (parsed text) fault
+  refused k line fault same h refuses = rw (turn k line same h) (Refuses-then (with_reading commands (number + 1) (reading_in format line)) (λ more. from_line text more (format_after format line) (number + 1)) fault refuses)
 
   pub done : length (lines_of text) ≤ number → parsed text ≡ Ok commands
-  done past = rest ∙ at_drop_all (λ lines. parsed_after commands (number + 1) (map line_read lines)) (lines_of text) number past
+  done past = rest ∙ at_drop_all (λ lines. parsed_after commands (number + 1) (readings_in format lines)) (lines_of text) number past

@@ -2,7 +2,7 @@
 use Rattle.std.proofs.Common.{◌≡◌, ◌≢◌, ℕ, ◌<◌, ◌≤◌, Bool, true, false, cond, eqb, eq-eqb, ne_eqb, ◌⊎◌, inl, inr, [], ◌∷◌, refl, sym, ap, ◌∙◌, arith, Option, Some, None}
 use Rattle.std.proofs.lemmas.Bool.{cases_lt, cases_order}
 use Rattle.std.proofs.lemmas.Bool.Decides.{nat_tests}
-use Rattle.set_script.specs.Catalogue.{Map, IsMap, IsAboveKey, has_key, put, take_out}
+use Rattle.set_script.specs.Catalogue.{Map, IsMap, IsAboveKey, has_key, value_of, put, take_out}
 use Rattle.set_script.proofs.MapLaws.{above_lower}
 
 -- two keys may be put in either order
@@ -15,6 +15,27 @@ pub take_out-put : (k v : ℕ) (m : Map) → has_key k m ≡ false → take_out 
 take_out-put k v [] h = grind (arith, nat_tests)
 take_out-put k v (e ∷ m) h = grind (arith, nat_tests, take_out-put k v m)
 
+-- a key that all keys are above is not taken out
+take_out-above : (k : ℕ) (m : Map) → IsAboveKey k m → take_out k m ≡ m
+take_out-above k [] a = refl
+take_out-above k (e ∷ m) a = let lt : k < e.0 = a.0 in let r = take_out-above k m a.1 in grind (arith, nat_tests)
+
+-- a key that is taken out is put again
+pub put-take_out : (k v : ℕ) (m : Map) → IsMap m → put k v (take_out k m) ≡ put k v m
+put-take_out k v [] r = refl
+put-take_out k v (e ∷ m) r = go (cases_order e.0 k) (put-take_out k v m r.1)
+  where
+    first : (m : Map) → IsAboveKey k m → put k v m ≡ (k, v) ∷ m
+    first [] a = refl
+    first (x ∷ m) a = let lt : k < x.0 = a.0 in grind (arith, nat_tests)
+
+    go : (e.0 ≡ k) ⊎ ((e.0 < k) ⊎ (k < e.0)) → put k v (take_out k m) ≡ put k v m → put k v (take_out k (e ∷ m)) ≡ put k v (e ∷ m)
+    go (inl q) i =
+        let a : put k v m ≡ (k, v) ∷ m = first m (above_lower k e.0 m (omega arith) r.0) in grind (arith, nat_tests)
+    go (inr (inl lt)) i = grind (arith, nat_tests)
+    go (inr (inr gt)) i =
+        let absent : take_out k m ≡ m = take_out-above k m (above_lower k e.0 m (omega arith) r.0) in grind (arith, nat_tests)
+
 pub has_key-put : (j k v : ℕ) (m : Map) → has_key j (put k v m) ≡ cond (eqb k j) true (has_key j m)
 has_key-put j k v [] = grind (arith, nat_tests)
 has_key-put j k v (e ∷ m) = grind (arith, nat_tests, has_key-put j k v m)
@@ -24,11 +45,6 @@ pub has_key-above : (k : ℕ) (m : Map) → IsAboveKey k m → has_key k m ≡ f
 has_key-above k [] a = refl
 has_key-above k (e ∷ m) a =
     let lt : k < e.0 = a.0 in let r = has_key-above k m a.1 in grind (arith, nat_tests)
-
--- the value of a key
-abbrev pub value_of : ℕ → Map → Option ℕ
-value_of k [] = None
-value_of k (e ∷ m) = cond (eqb e.0 k) (Some e.1) (value_of k m)
 
 pub value_of-put : (j k v : ℕ) (m : Map) → value_of j (put k v m) ≡ cond (eqb k j) (Some v) (value_of j m)
 value_of-put j k v [] = refl
@@ -54,6 +70,13 @@ has_key-some k v (x ∷ m) e = go (eqb x.0 k) (λ f. has_key-some k v m f) e
     go : (b : Bool) → (value_of k m ≡ Some v → has_key k m ≡ true) → cond b (Some x.1) (value_of k m) ≡ Some v → cond b true (has_key k m) ≡ true
     go true r f = refl
     go false r f = r f
+
+pub has_key-same : (k : ℕ) (m n : Map) → value_of k m ≡ value_of k n → has_key k m ≡ has_key k n
+has_key-same k m n e = go (value_of k m) refl
+  where
+    go : (r : Option ℕ) → value_of k m ≡ r → has_key k m ≡ has_key k n
+    go None q = has_key-none k m q ∙ sym (has_key-none k n (sym e ∙ q))
+    go (Some v) q = has_key-some k v m q ∙ sym (has_key-some k v n (sym e ∙ q))
 
 pub value_of-first : (k v : ℕ) (m : Map) → value_of k ((k, v) ∷ m) ≡ Some v
 value_of-first k v m = ap (λ (b : Bool). cond b (Some v) (value_of k m)) (eq-eqb k k refl)

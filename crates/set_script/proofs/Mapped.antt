@@ -1,14 +1,14 @@
 -- What the change of one object's words does to the catalogue.
-use Rattle.std.proofs.Common.{◌≡◌, ◌≢◌, ℕ, zero, suc, ◌+◌, ◌-◌, ◌<◌, ◌≤◌, ◌⊎◌, inl, inr, Bool, true, false, cond, eqb, List, [], ◌∷◌, length, get_or, set, drop, refl, sym, ap, ◌∙◌, subst, arith, eqb-true, eq-eqb, length-set, ext_get_or, set-set, ⊎_elim, get_or-set_same, get_or-set_other, get_or-drop, length-drop}
+use Rattle.std.proofs.Common.{◌≡◌, ◌≢◌, ℕ, zero, suc, ◌+◌, ◌-◌, ◌<◌, ◌≤◌, ◌⊎◌, inl, inr, Bool, true, false, cond, eqb, List, [], ◌∷◌, length, get_or, set, drop, refl, sym, ap, ◌∙◌, subst, arith, eqb-true, eq-eqb, length-set, ext_get_or, set-set, ⊎_elim, get_or-set_same, get_or-set_other, get_or-drop, length-drop, Some}
 use Rattle.std.proofs.lemmas.List.{get_or-map, drop-set-lt, drop-set-add, set-get_or}
-use Rattle.std.proofs.lemmas.Bool.{cases_eq, cases_lt}
+use Rattle.std.proofs.lemmas.Bool.{cases_eq, cases_lt, false_from_ne_true}
 use Rattle.std.proofs.lemmas.Bool.Decides.{nat_tests}
 use Rattle.mv_history.specs.State.{State}
 use Rattle.mv_history.specs.Meaning.{words_at}
-use Rattle.set_script.specs.Catalogue.{Map, IsMap, has_key, put, take_out, map_of}
+use Rattle.set_script.specs.Catalogue.{Map, IsMap, has_key, put, take_out, map_of, value_of}
 use Rattle.set_script.specs.CatalogueOf.{name_of, is_key_of, map_among, map_in, numbers, catalogue_of}
 use Rattle.set_script.specs.Objects.{owner, key, value}
-use Rattle.set_script.proofs.MapLemmas.{put-put, take_out-put, has_key-put}
+use Rattle.set_script.proofs.MapLemmas.{put-put, take_out-put, has_key-put, value_of-put}
 use Rattle.set_script.proofs.MapLaws.{put_is_map}
 use Rattle.set_script.proofs.ObjectWords.{word, owned_in_range}
 
@@ -51,6 +51,20 @@ map_among-has test (x ∷ s) k h = go (test x) refl (map_among-has test s k) h
         by_key : (b : Bool) → eqb (word 2 x) k ≡ b → cond b true (has_key k (map_among test s)) ≡ true → (i : ℕ) × (test (words_at (x ∷ s) i) ≡ true) × (word 2 (words_at (x ∷ s) i) ≡ k)
         by_key true q _ = (0, e, eqb-true (word 2 x) k q)
         by_key false q f = let u = r f in (suc u.0, u.1, u.2)
+
+-- a value of the map is that of an object that is picked
+pub map_among-value : (test : List ℕ → Bool) (s : State) (k v : ℕ) → value_of k (map_among test s) ≡ Some v → (i : ℕ) × (test (words_at s i) ≡ true) × (word 2 (words_at s i) ≡ k) × (word 5 (words_at s i) ≡ v)
+unfolding map_among
+map_among-value test [] k v h = absurd (cc)
+map_among-value test (x ∷ s) k v h = go (test x) refl (map_among-value test s k v) h
+  where
+    go : (t : Bool) → test x ≡ t → (value_of k (map_among test s) ≡ Some v → (i : ℕ) × (test (words_at s i) ≡ true) × (word 2 (words_at s i) ≡ k) × (word 5 (words_at s i) ≡ v)) → value_of k (cond t (put (word 2 x) (word 5 x) (map_among test s)) (map_among test s)) ≡ Some v → (i : ℕ) × (test (words_at (x ∷ s) i) ≡ true) × (word 2 (words_at (x ∷ s) i) ≡ k) × (word 5 (words_at (x ∷ s) i) ≡ v)
+    go false e r g = let u = r g in (suc u.0, u.1, u.2, u.3)
+    go true e r g = by_key (eqb (word 2 x) k) refl (sym (value_of-put k (word 2 x) (word 5 x) (map_among test s)) ∙ g)
+      where
+        by_key : (b : Bool) → eqb (word 2 x) k ≡ b → cond b (Some (word 5 x)) (value_of k (map_among test s)) ≡ Some v → (i : ℕ) × (test (words_at (x ∷ s) i) ≡ true) × (word 2 (words_at (x ∷ s) i) ≡ k) × (word 5 (words_at (x ∷ s) i) ≡ v)
+        by_key true q f = let same : word 5 x ≡ v = cc in (0, e, eqb-true (word 2 x) k q, same)
+        by_key false q f = let u = r f in (suc u.0, u.1, u.2, u.3)
 
 -- an object that is picked has its key in the map
 pub has-map_among : (test : List ℕ → Bool) (s : State) (k i : ℕ) → i < length s → test (words_at s i) ≡ true → word 2 (words_at s i) ≡ k → has_key k (map_among test s) ≡ true
@@ -98,12 +112,12 @@ map_among-less test s i w l a b h =
     sym (ap (take_out (word 2 (words_at s i))) (sym (ap (map_among test) back) ∙ more) ∙ take_out-put (word 2 (words_at s i)) (word 5 (words_at s i)) (map_among test (set s i w)) h)
 
 -- The same in the map of a name, where an object from 180 on changes.
-drop-set_at : (s : State) (o : ℕ) (w : List ℕ) → 180 ≤ o → drop 180 (set s o w) ≡ set (drop 180 s) (o - 180) w
+pub drop-set_at : (s : State) (o : ℕ) (w : List ℕ) → 180 ≤ o → drop 180 (set s o w) ≡ set (drop 180 s) (o - 180) w
 drop-set_at s o w lo =
     let e : 180 + (o - 180) ≡ o = omega arith in
     ap (λ i. drop 180 (set s i w)) (sym e) ∙ drop-set-add 180 s (o - 180) w
 
-at-drop : (s : State) (o : ℕ) → 180 ≤ o → words_at (drop 180 s) (o - 180) ≡ words_at s o
+pub at-drop : (s : State) (o : ℕ) → 180 ≤ o → words_at (drop 180 s) (o - 180) ≡ words_at s o
 at-drop s o lo = let e : 180 + (o - 180) ≡ o = omega arith in get_or-drop 180 s (o - 180) [] ∙ ap (words_at s) e
 
 pub map_in-low : (s : State) (name o : ℕ) (w : List ℕ) → o < 180 → map_in (set s o w) name ≡ map_in s name
@@ -157,6 +171,11 @@ holds-map_in s name k (o, lo, e, q) =
     let own : 0 < owner s o = (is_key-from name (words_at s o) e).0 in
     let here : o < length s = owned_in_range s o (owner s o - 1) (omega arith) in
     has-map_among (is_key_of name) (drop 180 s) k (o - 180) (omega (arith, length-drop 180 s)) (ap (is_key_of name) f ∙ e) (ap (word 2) f ∙ q)
+
+-- a node of another head holds no key of the name
+pub is_key-other : (name head : ℕ) (w : List ℕ) → word 0 w ≡ suc head → name ≢ name_of head → is_key_of name w ≡ false
+is_key-other name head w e n = false_from_ne_true (is_key_of name w) (λ t.
+    (let q : word 0 w - 1 ≡ head = omega arith in n (sym (is_key-from name w t).2 ∙ ap name_of q)))
 
 -- The catalogue of a state has the map of each name.
 pub map_of-catalogue_of : (s : State) (name : ℕ) → name < 30 → map_of name (catalogue_of s) ≡ map_in s name

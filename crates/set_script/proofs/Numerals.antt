@@ -13,19 +13,19 @@ use Rattle.set_script.specs.Grammar.{is_numeral}
 pub own : IsNumeralModel (λ ds. list_all is_ascii_digit ds ≡ true) (digits_value 10)
 own = numerals_by_value _ (search rules)
 
-module _ (word : List ℕ) (numeral : is_numeral word ≡ true) where
-  short : length word ≤ 10
+module _ (word : List ℕ) (numeral : is_numeral 20 word ≡ true) where
+  short : length word ≤ 20
   short = grind (arith, nat_tests)
 
   digits : list_all is_ascii_digit word ≡ true
   digits = grind (arith, nat_tests)
 
-  -- ten digits at most
-  pub small : (i : ℕ) → digits_value 10 (take i word) < 10 ^ 10
-  small i = omega (arith, digits_value-take-le 10 word i (omega arith), digits_value_short own word 10 digits short)
+  -- twenty digits at most
+  pub small : (i : ℕ) → digits_value 10 (take i word) < 10 ^ 20
+  small i = omega (arith, digits_value-take-le 10 word i (omega arith), digits_value_short own word 20 digits short)
 
   -- one digit more
-  pub more : (i value digit : ℕ) → i < length word → value ≡ digits_value 10 (take i word) → digit ≡ get_or word i 0 - 48 → value * 10 + digit ≡ digits_value 10 (take (i + 1) word)
-  more i value digit lt e d =
+  pub more : (i number digit : ℕ) → i < length word → number ≡ digits_value 10 (take i word) → digit ≡ get_or word i 0 - 48 → number * 10 + digit ≡ digits_value 10 (take (i + 1) word)
+  more i number digit lt e d =
       let is_digit = digit_at word i (own.to word digits) lt in
       omega (arith, digits_value_more 10 word i lt, digit_value_digit (get_or word i 0) is_digit)

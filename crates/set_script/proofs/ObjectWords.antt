@@ -2,7 +2,7 @@
 use Rattle.std.proofs.Common.{◌≡◌, ℕ, zero, suc, ◌<◌, List, [], ◌∷◌, length, get_or, refl, arith}
 use Rattle.mv_history.specs.State.{State}
 use Rattle.mv_history.specs.Meaning.{words_at}
-use Rattle.set_script.specs.Objects.{owner, relink}
+use Rattle.set_script.specs.Objects.{owner, relink, revalue}
 
 -- one word of an object
 abbrev pub word : ℕ → List ℕ → ℕ
@@ -41,3 +41,19 @@ value-relink (a ∷ []) to = refl
 value-relink (a ∷ b ∷ []) to = refl
 value-relink (a ∷ b ∷ c ∷ []) to = refl
 value-relink (a ∷ b ∷ c ∷ d ∷ w) to = refl
+
+-- and whose value changes
+pub owner-revalue : (w : List ℕ) (to : ℕ) → word 0 (revalue w to) ≡ word 0 w
+owner-revalue [] to = refl
+owner-revalue (a ∷ w) to = refl
+
+pub kind-revalue : (w : List ℕ) (to : ℕ) → word 1 (revalue w to) ≡ word 1 w
+kind-revalue [] to = refl
+kind-revalue (a ∷ []) to = refl
+kind-revalue (a ∷ b ∷ w) to = refl
+
+pub key-revalue : (w : List ℕ) (to : ℕ) → word 2 (revalue w to) ≡ word 2 w
+key-revalue [] to = refl
+key-revalue (a ∷ []) to = refl
+key-revalue (a ∷ b ∷ []) to = refl
+key-revalue (a ∷ b ∷ c ∷ w) to = refl

@@ -1,5 +1,5 @@
 -- The states with which the sets begin are lawful, and their catalogue is empty.
-use Rattle.std.proofs.Common.{◌≡◌, ℕ, zero, suc, ◌+◌, ◌<◌, ◌≤◌, inl, inr, Bool, false, cond, List, [], ◌∷◌, length, map, drop, replicate, refl, ap, ◌∙◌, arith, get_or-drop}
+use Rattle.std.proofs.Common.{◌≡◌, ℕ, zero, suc, ◌+◌, ◌<◌, ◌≤◌, inl, inr, Bool, false, cond, List, [], ◌∷◌, length, map, drop, replicate, refl, ap, ◌∙◌, arith, get_or-drop, None}
 use Rattle.std.proofs.lemmas.List.{get_or_past, get_or-replicate, length-replicate}
 use Rattle.std.proofs.lemmas.Bool.{cases_lt}
 use Rattle.mv_history.specs.State.{State}
@@ -40,7 +40,10 @@ opening_lawful s z = record {
       only = λ o lo e. (let q = opening_owner s z o in absurd (omega arith));
     },
   );
-  empty = λ head lo lt. (let m = z.some in z.zeros head (omega arith));
+  trees = λ root lo lt. (
+    None,
+    ((let m = z.some in z.zeros root (omega arith)), λ o ge e. (let q = opening_owner s z o in absurd (omega arith))),
+  );
   owned = λ o lo. (let q = opening_owner s z o in omega arith);
 }
 

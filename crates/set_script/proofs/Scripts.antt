@@ -1,11 +1,11 @@
 -- What the fold over the lines comes to.
-use Rattle.std.proofs.Common.{◌≡◌, ℕ, ◌+◌, ◌≤◌, Bool, true, false, cond, List, [], ◌∷◌, ◌++◌, length, Option, Some, None, Result, Ok, Err, nat_lt, refl, ap, sym, ◌∙◌, append_assoc, append-nil, length-append, arith}
+use Rattle.std.proofs.Common.{◌≡◌, ℕ, ◌+◌, ◌≤◌, Bool, true, false, cond, List, [], ◌∷◌, ◌++◌, length, Some, None, Ok, Err, nat_lt, refl, ap, sym, ◌∙◌, append_assoc, append-nil, length-append, arith}
 use Rattle.std.proofs.lemmas.Bool.Decides.{nat_tests}
 use Rattle.set_script.specs.declared.commands.Command.{Command}
 use Rattle.set_script.specs.declared.commands.FaultKind.{FaultKind}
 use Rattle.set_script.specs.declared.commands.FaultKind.TheVariants.{Many}
 use Rattle.set_script.specs.declared.script.TheConstants.{MOST_COMMANDS}
-use Rattle.set_script.specs.Grammar.{◌>>=◌, readings_of, parsed, parsed_after}
+use Rattle.set_script.specs.Grammar.{◌>>=◌, Reading, readings_of, parsed, parsed_after}
 use Rattle.set_script.specs.GrammarLaws.{AreRead, commands_in, IsScriptOf, IsFaulty, IsFirstFault}
 
 -- there is room for one more
@@ -13,7 +13,7 @@ room : (front more : List Command) (c : Command) → length (front ++ c ∷ more
 room front more c few = let n = length-append front (c ∷ more) in grind (arith, nat_tests)
 
 -- lines in the grammar are taken, and the others follow
-pub parsed_after-read : (front : List Command) (number : ℕ) (before rest : List (Result (Option Command) FaultKind)) → AreRead before → length (front ++ commands_in before) ≤ MOST_COMMANDS → parsed_after front number (before ++ rest) ≡ parsed_after (front ++ commands_in before) (number + length before) rest
+pub parsed_after-read : (front : List Command) (number : ℕ) (before rest : List Reading) → AreRead before → length (front ++ commands_in before) ≤ MOST_COMMANDS → parsed_after front number (before ++ rest) ≡ parsed_after (front ++ commands_in before) (number + length before) rest
 parsed_after-read front number [] rest read few =
     let same : number + 0 ≡ number = omega arith in
     rw (append-nil front, same) refl
@@ -30,12 +30,12 @@ parsed_after-read front number (Ok (Some c) ∷ before) rest read few =
 parsed_after-read front number (Err kind ∷ before) rest read few = absurd read
 
 -- what a fold that ends well says of the lines
-record Taken (front : List Command) (readings : List (Result (Option Command) FaultKind)) (commands : List Command) : Type 0 where
+record Taken (front : List Command) (readings : List Reading) (commands : List Command) : Type 0 where
   pub read : AreRead readings
   pub commands_are : commands ≡ front ++ commands_in readings
   pub few : length commands ≤ MOST_COMMANDS
 
-parsed_after-Ok : (front : List Command) (number : ℕ) (readings : List (Result (Option Command) FaultKind)) (commands : List Command) → length front ≤ MOST_COMMANDS → parsed_after front number readings ≡ Ok commands → Taken front readings commands
+parsed_after-Ok : (front : List Command) (number : ℕ) (readings : List Reading) (commands : List Command) → length front ≤ MOST_COMMANDS → parsed_after front number readings ≡ Ok commands → Taken front readings commands
 parsed_after-Ok front number [] commands few e =
     let same : front ≡ commands = cc in
     record { read = tt; commands_are = sym same ∙ sym (append-nil front); few = rw (sym same) few }
@@ -54,17 +54,17 @@ parsed_after-Ok front number (Ok (Some c) ∷ readings) commands few e = cases (
 parsed_after-Ok front number (Err kind ∷ readings) commands few e = absurd (cc)
 
 -- what a fold that ends in a fault says of the lines
-record Stopped (front : List Command) (number : ℕ) (readings : List (Result (Option Command) FaultKind)) (line : ℕ) (kind : FaultKind) : Type 0 where
-  pub before : List (Result (Option Command) FaultKind)
-  pub reading : Result (Option Command) FaultKind
-  pub after : List (Result (Option Command) FaultKind)
+record Stopped (front : List Command) (number : ℕ) (readings : List Reading) (line : ℕ) (kind : FaultKind) : Type 0 where
+  pub before : List Reading
+  pub reading : Reading
+  pub after : List Reading
   pub readings_are : readings ≡ before ++ reading ∷ after
   pub line_is : line ≡ number + length before
   pub read : AreRead before
   pub few : length (front ++ commands_in before) ≤ MOST_COMMANDS
   pub faulty : IsFaulty (length (front ++ commands_in before)) reading kind
 
-parsed_after-Err : (front : List Command) (number : ℕ) (readings : List (Result (Option Command) FaultKind)) (line : ℕ) (kind : FaultKind) → length front ≤ MOST_COMMANDS → parsed_after front number readings ≡ Err (line, kind) → Stopped front number readings line kind
+parsed_after-Err : (front : List Command) (number : ℕ) (readings : List Reading) (line : ℕ) (kind : FaultKind) → length front ≤ MOST_COMMANDS → parsed_after front number readings ≡ Err (line, kind) → Stopped front number readings line kind
 parsed_after-Err front number [] line kind few e = absurd (cc)
 parsed_after-Err front number (Ok None ∷ readings) line kind few e =
     let t = parsed_after-Err front (number + 1) readings line kind few e in
@@ -157,7 +157,7 @@ fault-from_parsed text number kind e =
       faulty = t.faulty;
     }
 
-stops : (front : List Command) (number : ℕ) (reading : Result (Option Command) FaultKind) (after : List (Result (Option Command) FaultKind)) (kind : FaultKind) → IsFaulty (length front) reading kind → parsed_after front number (reading ∷ after) ≡ Err (number, kind)
+stops : (front : List Command) (number : ℕ) (reading : Reading) (after : List Reading) (kind : FaultKind) → IsFaulty (length front) reading kind → parsed_after front number (reading ∷ after) ≡ Err (number, kind)
 stops front number (Err fault) after kind faulty = rw faulty refl
 stops front number (Ok None) after kind faulty = absurd faulty
 stops front number (Ok (Some c)) after kind faulty =

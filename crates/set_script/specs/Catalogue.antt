@@ -1,5 +1,5 @@
 -- A catalogue: for each name a map, as the list of its keys, rising, each with its value.
-use Rattle.std.specs.Prelude.{ℕ, suc, ◌+◌, ◌-◌, ◌*◌, ◌<◌, ◌^◌, ◌==◌, ◌≡◌, All, nat_lt, Bool, true, false, List, [], ◌∷◌, length, replicate, slice_index_or, ⊤, if◌then◌else◌}
+use Rattle.std.specs.Prelude.{ℕ, suc, ◌+◌, ◌-◌, ◌*◌, ◌<◌, ◌^◌, ◌==◌, ◌≡◌, All, nat_lt, Bool, true, false, List, [], ◌∷◌, length, replicate, set, slice_index_or, ⊤, Option, None, Some, if◌then◌else◌}
 
 -- keys with their values
 abbrev pub Map : Type 0
@@ -24,6 +24,21 @@ abbrev pub has_key : ℕ → Map → Bool
 has_key k [] = false
 has_key k (e ∷ m) = if e.0 == k then true else has_key k m
 
+-- the value of the key, or none where it is not there
+abbrev pub value_of : ℕ → Map → Option ℕ
+value_of k [] = None
+value_of k (e ∷ m) = if e.0 == k then Some e.1 else value_of k m
+
+-- whether the key is there with this value
+abbrev pub has_entry : ℕ → ℕ → Map → Bool
+has_entry k v [] = false
+has_entry k v (e ∷ m) = if e.0 == k then e.1 == v else has_entry k v m
+
+-- the first key that is not below this one, or none; keys rise, so it is the least
+abbrev pub next_key : ℕ → Map → Option ℕ
+next_key k [] = None
+next_key k (e ∷ m) = if nat_lt e.0 k then next_key k m else Some e.0
+
 -- the map with the key at this value
 abbrev pub put : ℕ → ℕ → Map → Map
 put k v [] = (k, v) ∷ []
@@ -45,6 +60,14 @@ empty = replicate names []
 -- the map of a name
 abbrev pub map_of : ℕ → Maps → Map
 map_of name c = slice_index_or c name []
+
+-- the catalogue with the key at this value in the map of a name
+abbrev pub with_key : ℕ → ℕ → ℕ → Maps → Maps
+with_key name k v c = set c name (put k v (map_of name c))
+
+-- the catalogue without the key in the map of a name
+abbrev pub without_key : ℕ → ℕ → Maps → Maps
+without_key name k c = set c name (take_out k (map_of name c))
 
 -- how many nodes a name's map takes: one for each key, and in a tree one more between two neighbours
 abbrev pub cost_of : ℕ → Map → ℕ

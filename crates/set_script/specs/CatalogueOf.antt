@@ -13,6 +13,10 @@ abbrev pub is_key_of : ℕ → List ℕ → Bool
 is_key_of name w =
     not (slice_index_or w 0 0 == 0) && not (slice_index_or w 1 0 == 2) && (name_of (slice_index_or w 0 0 - 1) == name)
 
+-- whether these are the words of a node that holds a key in the list or tree of this head
+abbrev pub is_key_at : ℕ → List ℕ → Bool
+is_key_at head w = (slice_index_or w 0 0 == suc head) && not (slice_index_or w 1 0 == 2)
+
 -- the keys, with their values, of those nodes whose words the test picks
 unfoldable pub map_among : (List ℕ → Bool) → State → Map
 map_among test [] = []
@@ -22,6 +26,10 @@ map_among test (w ∷ ws) =
 -- the map of a name
 abbrev pub map_in : State → ℕ → Map
 map_in s name = map_among (is_key_of name) (drop first_node s)
+
+-- the map of a head alone: of one list, one bucket or one tree
+abbrev pub map_at : State → ℕ → Map
+map_at s head = map_among (is_key_at head) (drop first_node s)
 
 -- the numbers from n on
 abbrev pub numbers : ℕ → ℕ → List ℕ

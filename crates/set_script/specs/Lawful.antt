@@ -1,17 +1,18 @@
 -- The states that stand for a catalogue.
-use Rattle.std.specs.Prelude.{ℕ, ◌≡◌, ◌<◌, ◌≤◌, length}
+use Rattle.std.specs.Prelude.{ℕ, ◌≡◌, ◌<◌, ◌≤◌, length, Option}
 use Rattle.mv_history.specs.State.{State}
 use Rattle.mv_history.specs.Meaning.{words_at}
-use Rattle.set_script.specs.Objects.{first_node, list_heads, owner, no_words}
+use Rattle.set_script.specs.Objects.{first_node, first_root, owner, no_words}
 use Rattle.set_script.specs.Lists.{Nodes, IsList}
+use Rattle.set_script.specs.Trees.{Tree, IsTree}
 
--- Each list head has its list, the other heads lead nowhere, and each node is vacant or in the list of the head that it names.
+-- Each head of a list or a bucket has its list, each root its tree, and each node is vacant or in that of the head that it names.
 pub record IsLawful (s : State) : Type 0 where
   pub some : first_node < length s
   pub few : length s ≤ 65535
-  pub lists : (head : ℕ) → head < list_heads → (ns : Nodes) × IsList s head ns
-  pub empty : (head : ℕ) → list_heads ≤ head → head < first_node → words_at s head ≡ no_words
-  pub owned : (o : ℕ) → first_node ≤ o → owner s o ≤ list_heads
+  pub lists : (head : ℕ) → head < first_root → (ns : Nodes) × IsList s head ns
+  pub trees : (root : ℕ) → first_root ≤ root → root < first_node → (t : Option Tree) × IsTree s root t
+  pub owned : (o : ℕ) → first_node ≤ o → owner s o ≤ first_node
 
 -- the states with which the sets begin: all words are 0
 pub record IsOpening (s : State) : Type 0 where

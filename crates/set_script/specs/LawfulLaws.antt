@@ -1,12 +1,14 @@
--- That a state is lawful in one way at most: its words determine each list.
-use Rattle.std.specs.Prelude.{◌≡◌, ℕ, suc, ◌<◌, ◌≤◌, true, [], ◌∷◌, length, slice_index_or, refl}
+-- That a state is lawful in one way at most: its words determine each list and each tree.
+use Rattle.std.specs.Prelude.{◌≡◌, ℕ, suc, ◌<◌, ◌≤◌, true, [], ◌∷◌, length, slice_index_or, refl, Option}
 use Rattle.std.proofs.Common.{sym, ap, ◌∙◌, arith}
 use Rattle.std.proofs.Props.{props}
 use mathlib.Core.HLevel.{Σ_prop_path}
 use Rattle.mv_history.specs.State.{State}
 use Rattle.mv_history.specs.Meaning.{words_at}
-use Rattle.set_script.specs.Objects.{first_node, list_heads, owner, head_words, list_words, no_words}
+use Rattle.set_script.specs.Objects.{first_node, owner, head_words, list_words}
 use Rattle.set_script.specs.Lists.{Nodes, first_of, is_among, Links, IsAbove, IsRising, IsList}
+use Rattle.set_script.specs.Trees.{Tree, IsTree}
+use Rattle.set_script.specs.TreeLaws.{tree_once, IsTree-prop}
 use Rattle.set_script.specs.Lawful.{IsLawful}
 
 -- links that lead to the same first node lead through the same nodes
@@ -52,16 +54,18 @@ IsList-prop s head ns x y =
 one_list : (s : State) (head : ℕ) → IsProp ((ns : Nodes) × IsList s head ns)
 one_list s head x y = Σ_prop_path (λ ns. IsList-prop s head ns) (list_once s head x.0 y.0 x.1 y.1)
 
+one_tree : (s : State) (root : ℕ) → IsProp ((t : Option Tree) × IsTree s root t)
+one_tree s root x y = Σ_prop_path (λ t. IsTree-prop s root t) (tree_once s root x.0 y.0 x.1 y.1)
+
 pub IsLawful-prop : (s : State) → IsProp (IsLawful s)
 IsLawful-prop s x y =
     let some_prop : IsProp (first_node < length s) = hlevel props in
     let few_prop : IsProp (length s ≤ 65535) = hlevel props in
-    let empty_prop : IsProp ((head : ℕ) → list_heads ≤ head → head < first_node → words_at s head ≡ no_words) = hlevel props in
-    let owned_prop : IsProp ((o : ℕ) → first_node ≤ o → owner s o ≤ list_heads) = hlevel props in
+    let owned_prop : IsProp ((o : ℕ) → first_node ≤ o → owner s o ≤ first_node) = hlevel props in
     λ i. record {
       some = some_prop x.some y.some i;
       few = few_prop x.few y.few i;
       lists = λ head lt. one_list s head (x.lists head lt) (y.lists head lt) i;
-      empty = empty_prop x.empty y.empty i;
+      trees = λ root lo lt. one_tree s root (x.trees root lo lt) (y.trees root lo lt) i;
       owned = owned_prop x.owned y.owned i;
     }

@@ -2,8 +2,15 @@ pub mod Catalogue
 pub mod Replies
 pub mod Objects
 pub mod Lists
+pub mod Trees
+pub mod TreeLaws
 pub mod Lawful
 pub mod CatalogueOf
 pub mod LawfulLaws
+pub mod Tags
+pub mod OwnWrites
+pub mod Rules
+pub mod RuleLaws
+pub mod Formats
 pub mod Grammar
 pub mod GrammarLaws

@@ -7,15 +7,15 @@ use Rattle.mv_history.specs.Meaning.{words_at}
 abbrev pub first_node : ℕ
 first_node = 180
 
--- how many of the heads are those of lists
-abbrev pub list_heads : ℕ
-list_heads = 10
+-- the heads below this one are those of lists and buckets, the others are roots of trees
+abbrev pub first_root : ℕ
+first_root = 170
 
 -- the number of the head in whose list the object is, and one; of a vacant object and of a head 0
 abbrev pub owner : State → ℕ → ℕ
 owner s o = slice_index_or (words_at s o) 0 0
 
--- 0 of a head or a list node
+-- 0 of a head or a list node, 1 of a leaf, 2 of an inner node
 abbrev pub kind : State → ℕ → ℕ
 kind s o = slice_index_or (words_at s o) 1 0
 
@@ -23,9 +23,13 @@ kind s o = slice_index_or (words_at s o) 1 0
 abbrev pub key : State → ℕ → ℕ
 key s o = slice_index_or (words_at s o) 2 0
 
--- the first node of a head, and the next node of a list node; 0 is none
+-- the first node of a head, the next node of a list node, the left child of an inner node; 0 is none
 abbrev pub link : State → ℕ → ℕ
 link s o = slice_index_or (words_at s o) 3 0
+
+-- the right child of an inner node
+abbrev pub right_link : State → ℕ → ℕ
+right_link s o = slice_index_or (words_at s o) 4 0
 
 -- the value of a node's key
 abbrev pub value : State → ℕ → ℕ
@@ -39,6 +43,14 @@ head_words first = 0 ∷ 0 ∷ 0 ∷ first ∷ 0 ∷ 0 ∷ []
 abbrev pub list_words : ℕ → ℕ → ℕ → ℕ → List ℕ
 list_words head key value next = suc head ∷ 0 ∷ key ∷ next ∷ 0 ∷ value ∷ []
 
+-- the words of a leaf in the tree of this root, with this key and value
+abbrev pub leaf_words : ℕ → ℕ → ℕ → List ℕ
+leaf_words root key value = suc root ∷ 1 ∷ key ∷ 0 ∷ 0 ∷ value ∷ []
+
+-- the words of an inner node in the tree of this root, that divides its children at this key
+abbrev pub inner_words : ℕ → ℕ → ℕ → ℕ → List ℕ
+inner_words root key left right = suc root ∷ 2 ∷ key ∷ left ∷ right ∷ 0 ∷ []
+
 -- the words of a vacant object
 abbrev pub no_words : List ℕ
 no_words = 0 ∷ 0 ∷ 0 ∷ 0 ∷ 0 ∷ 0 ∷ []
@@ -46,3 +58,7 @@ no_words = 0 ∷ 0 ∷ 0 ∷ 0 ∷ 0 ∷ 0 ∷ []
 -- the words with the link to this node
 abbrev pub relink : List ℕ → ℕ → List ℕ
 relink words to = set words 3 to
+
+-- the words with this value
+abbrev pub revalue : List ℕ → ℕ → List ℕ
+revalue words to = set words 5 to

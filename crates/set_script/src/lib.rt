@@ -8,6 +8,11 @@
 //! It does so in one way at most. A script is text, and its grammar a function on bytes
 //! (`specs/Grammar.antt`).
 //!
+//! **Rules.** `SetRules` are the rules of the sets: which states a store begins with, and which commits
+//! it takes (`specs/Rules.antt`). What of a section's writes stays allowed while others commit is
+//! proved once over the ways to change a map (`proofs/Ways.antt`, `proofs/TwoWays.antt`), and for
+//! each add, put, del and move over any of these (`proofs/Fits.antt`).
+//!
 //! **Contract.** `parse` answers exactly the commands of a script, or its first faulty line and
 //! what is wrong with it first; want of memory is the one free answer. `Catalogue` is such a
 //! catalogue in memory, and each call says which maps it leaves.
@@ -19,10 +24,12 @@
 
 mod catalogue;
 mod commands;
+mod rules;
 mod script;
 #[cfg(test)]
 mod tests;
 
 pub use catalogue::Catalogue;
-pub use commands::{Command, FaultKind, Name, Place, Reply, ScriptFault};
+pub use commands::{Command, FaultKind, Format, Name, Place, Reply, ScriptFault};
+pub use rules::SetRules;
 pub use script::{MOST_COMMANDS, commands_read_back, parse, parse_is_exact, parse_line};

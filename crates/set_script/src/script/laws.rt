@@ -1,10 +1,11 @@
 //! Laws of the grammar, over all texts and commands.
-ghost use Rattle.std.specs.Prelude.{◌≡◌, ◌≤◌, ℕ, ◌↔◌, List, length};
+ghost use Rattle.std.specs.Prelude.{◌≡◌, ◌≤◌, ℕ, ◌↔◌, List, ◌++◌, length};
 ghost use Rattle.std.specs.List.{AllByRecursion};
 ghost use Rattle.set_script.specs.declared.commands.Command.{Command};
 ghost use Rattle.set_script.specs.declared.commands.FaultKind.{FaultKind};
+ghost use Rattle.set_script.specs.Formats.{IsFormat};
 ghost use Rattle.set_script.specs.Grammar.{parsed};
-ghost use Rattle.set_script.specs.GrammarLaws.{IsScriptOf, IsFirstFault, IsCommand, script_text};
+ghost use Rattle.set_script.specs.GrammarLaws.{IsScriptOf, IsFirstFault, MaySay, script_text, format_text};
 
 use crate::script::MOST_COMMANDS;
 
@@ -19,8 +20,11 @@ pub fn parse_is_exact()
 {}
 
 /// Commands are read back from their plainest script, each on a line of its own with one space
-/// between its words, unless there are more than `MOST_COMMANDS`.
+/// between its words, unless there are more than `MOST_COMMANDS`: behind a line on the format that
+/// has them all, or without one where format 1 has them all.
 pub fn commands_read_back()
-    ensures { (commands : List Command) → AllByRecursion IsCommand commands → length commands ≤ MOST_COMMANDS
+    ensures plain { (commands : List Command) → AllByRecursion (MaySay 1) commands → length commands ≤ MOST_COMMANDS
         → parsed (script_text commands) ≡ Ok commands }
+    ensures headed { (format : ℕ) (commands : List Command) → IsFormat format → AllByRecursion (MaySay format) commands → length commands ≤ MOST_COMMANDS
+        → parsed (format_text format ++ script_text commands) ≡ Ok commands }
 {}

@@ -1,124 +1,146 @@
 //! One line of a script: its command, or what is wrong with it first.
-ghost use Rattle.std.specs.Prelude.{◌≡◌, ◌≢◌, IfErr, MatchResult, length, true};
-ghost use Rattle.std.specs.List.{list_all};
-ghost use Rattle.std.specs.Char.{is_ascii_digit};
-ghost use Rattle.std.specs.Str.Parse.{digits_value};
-ghost use Rattle.set_script.specs.Grammar.{words_in, verb_of, two_of, name_of, is_numeral, key_of, command_with, line_read};
+ghost use Rattle.std.specs.Prelude.{◌≡◌, ◌≢◌, IfErr, MatchResult};
+ghost use Rattle.set_script.specs.Grammar.{words_in, verb_of, name_of, set_of, set_key_of, set_key_value_of, sets_key_of, command_with, line_read};
 
-use crate::commands::{Command, FaultKind, Name};
-use crate::script::words::{first_word, strip_carriage_return};
+use crate::commands::{Command, FaultKind, Format, Name};
+use crate::script::numbers::{read_key, read_value};
+use crate::script::words::{first_word, read_one, read_three, read_two, strip_carriage_return};
 
 /// What a command does.
 #[derive(Clone, Copy, Debug, Drop, PartialEq, Eq)]
 enum Verb {
     Add,
+    Put,
     Del,
     Has,
+    Get,
+    Move,
+    Pair,
+    Size,
+    Next,
 }
 
-impl Verb {
-    // The command that does this to the key of a set.
-    fn with(self, name: Name, key: u32) -> Command
-        ensures { result ≡ command_with self name key }
-    {
-        match self {
-            Verb::Add => Command::Add { name, key },
-            Verb::Del => Command::Del { name, key },
-            Verb::Has => Command::Has { name, key },
-        }
-    }
-}
-
-// What the first word of a line says to do. `Err` is `Word`, for any other word.
-fn read_verb(word: &[u8]) -> Result<Verb, FaultKind>
-    ensures { result ≡ verb_of word.now }
+// What the first word of a line says to do. `Err` is `Word`, for any other word, and for `put` and `get` in format 1.
+fn read_verb(word: &[u8], format: &Format) -> Result<Verb, FaultKind>
+    ensures { result ≡ verb_of format.now word.now }
 {
     match word {
         b"add" => Ok(Verb::Add),
+        b"put" if format.has_values() => Ok(Verb::Put),
         b"del" => Ok(Verb::Del),
         b"has" => Ok(Verb::Has),
+        b"get" if format.has_values() => Ok(Verb::Get),
+        b"move" => Ok(Verb::Move),
+        b"pair" => Ok(Verb::Pair),
+        b"size" => Ok(Verb::Size),
+        b"next" => Ok(Verb::Next),
         _ => Err(FaultKind::Word),
     }
 }
 
-// The two words of the bytes. `Err` is `Count`, for fewer and for more.
-fn read_two(bytes: &[u8]) -> Result<(&[u8], &[u8]), FaultKind>
-    ensures { MatchResult result (λ two. two_of (words_in bytes.now) ≡ Ok (two.0.now, two.1.now)) (λ kind. two_of (words_in bytes.now) ≡ Err kind) }
-{
-    let (first, rest) = first_word(bytes).ok_or(FaultKind::Count)?;
-    let (second, rest) = first_word(rest).ok_or(FaultKind::Count)?;
-    match first_word(rest) {
-        None => Ok((first, second)),
-        Some(_) => Err(FaultKind::Count),
-    }
-}
-
-// The set of this name. `Err` is `Name`, for any other word than `l0` to `l9`.
+// The set of this name. `Err` is `Name`, for any other word than the 30 names.
 fn read_name(word: &[u8]) -> Result<Name, FaultKind>
     ensures { result ≡ name_of word.now }
 {
-    match word {
-        [b'l', digit @ b'0'..=b'9'] => {
-            Name::new(u32::from(*digit - b'0')).ok_or(FaultKind::Name)
+    let (first, digit) = match word {
+        [b'l', digit @ b'0'..=b'9'] => (0, *digit),
+        [b'h', digit @ b'0'..=b'9'] => (10, *digit),
+        [b't', digit @ b'0'..=b'9'] => (20, *digit),
+        _ => return Err(FaultKind::Name),
+    };
+    Name::new(first + u32::from(digit - b'0')).ok_or(FaultKind::Name)
+}
+
+// The name that the bytes are. `Err` is `Count`, then `Name`.
+fn read_set(bytes: &[u8]) -> Result<Name, FaultKind>
+    ensures { result ≡ set_of (words_in bytes.now) }
+{
+    let name = read_one(bytes)?;
+    read_name(name)
+}
+
+// The name and the key that the bytes are. `Err` is `Count`, then `Name`, then `Key`.
+fn read_set_key(bytes: &[u8]) -> Result<(Name, u32), FaultKind>
+    ensures { result ≡ set_key_of (words_in bytes.now) }
+{
+    let (name, key) = read_two(bytes)?;
+    let name = read_name(name)?;
+    let key = read_key(key)?;
+    Ok((name, key))
+}
+
+// The name, the key and the value that the bytes are. `Err` is `Count`, then `Name`, `Key` and `Value`.
+fn read_set_key_value(bytes: &[u8]) -> Result<(Name, u32, u64), FaultKind>
+    ensures { result ≡ set_key_value_of (words_in bytes.now) }
+{
+    let (name, key, value) = read_three(bytes)?;
+    let name = read_name(name)?;
+    let key = read_key(key)?;
+    let value = read_value(value)?;
+    Ok((name, key, value))
+}
+
+// The two names and the key that the bytes are. `Err` is `Count`, then `Name`, then `Key`.
+fn read_sets_key(bytes: &[u8]) -> Result<(Name, Name, u32), FaultKind>
+    ensures { result ≡ sets_key_of (words_in bytes.now) }
+{
+    let (first, second, key) = read_three(bytes)?;
+    let first = read_name(first)?;
+    let second = read_name(second)?;
+    let key = read_key(key)?;
+    Ok((first, second, key))
+}
+
+// The move that the bytes are. `Err` is that of the names and the key, then `Same`.
+fn read_move(bytes: &[u8]) -> Result<Command, FaultKind>
+    ensures { result ≡ command_with Verb.Move (words_in bytes.now) }
+{
+    let (source, target, key) = read_sets_key(bytes)?;
+    if source.index() == target.index() {
+        return Err(FaultKind::Same);
+    }
+    Ok(Command::Move {
+        source,
+        target,
+        key,
+    })
+}
+
+// The command that does this, with what the bytes say.
+fn read_command(verb: Verb, bytes: &[u8]) -> Result<Command, FaultKind>
+    ensures { result ≡ command_with verb (words_in bytes.now) }
+{
+    match verb {
+        Verb::Add => read_set_key(bytes).map(|(name, key)| Command::Add { name, key }),
+        Verb::Put => {
+            read_set_key_value(bytes).map(|(name, key, value)| Command::Put { name, key, value })
         }
-        _ => Err(FaultKind::Name),
+        Verb::Del => read_set_key(bytes).map(|(name, key)| Command::Del { name, key }),
+        Verb::Has => read_set_key(bytes).map(|(name, key)| Command::Has { name, key }),
+        Verb::Get => read_set_key(bytes).map(|(name, key)| Command::Get { name, key }),
+        Verb::Move => read_move(bytes),
+        Verb::Pair => {
+            read_sets_key(bytes).map(|(first, second, key)| Command::Pair { first, second, key })
+        }
+        Verb::Size => read_set(bytes).map(|name| Command::Size { name }),
+        Verb::Next => read_set_key(bytes).map(|(name, key)| Command::Next { name, key }),
     }
 }
 
-fn has_only_digits(word: &[u8]) -> bool
-    ensures { result ≡ list_all is_ascii_digit word.now }
-{
-    word.iter().all(u8::is_ascii_digit)
-}
-
-// Whether the word is 1 to 10 decimal digits.
-fn is_numeral(word: &[u8]) -> bool
-    ensures { result ≡ is_numeral word.now }
-{
-    if word.is_empty() || word.len() > 10 {
-        return false;
-    }
-    has_only_digits(word)
-}
-
-// The number that the digits stand for.
-fn value_of(word: &[u8]) -> u64
-    requires { is_numeral word.now ≡ true }
-    ensures { result ≡ digits_value 10 word.now }
-{
-    let mut value = 0;
-    for digit in word {
-        value = value * 10 + u64::from(*digit - b'0');
-    }
-    value
-}
-
-// The key. `Err` is `Key`, for what is no numeral, and above 4294967295.
-fn read_key(word: &[u8]) -> Result<u32, FaultKind>
-    ensures { result ≡ key_of word.now }
-{
-    if !is_numeral(word) {
-        return Err(FaultKind::Key);
-    }
-    u32::try_from(value_of(word)).map_err(|_| FaultKind::Key)
-}
-
-/// Reads one line, given without its LF: its command, and `None` for a line without words.
+/// Reads one line of a script of this format, given without its LF: its command, and `None` for a line without words.
 /// Takes no memory.
 ///
-/// `Err` tells what is wrong first, in the order `Word`, `Count`, `Name`, `Key`. It is never
-/// `Many`, since that depends on the lines before.
+/// `Err` tells what is wrong first, in the order `Word`, `Count`, `Name`, `Key`, `Value`, `Same`. It is never `Many` or
+/// `Format`, since these depend on the lines before: a line that begins with `format` is a `Word` here.
 #[tactic(auto, unfolding(crate::specs::Grammar::command_of))]
-pub fn parse_line(line: &[u8]) -> Result<Option<Command>, FaultKind>
-    ensures is { result ≡ line_read line.now }
-    ensures other { IfErr result (λ kind. kind ≢ FaultKind.Many) }
+pub fn parse_line(line: &[u8], format: &Format) -> Result<Option<Command>, FaultKind>
+    ensures is { result ≡ line_read format.now line.now }
+    ensures other { IfErr result (λ kind. (kind ≢ FaultKind.Many) × (kind ≢ FaultKind.Format)) }
 {
     let Some((word, rest)) = first_word(strip_carriage_return(line)) else {
         return Ok(None);
     };
-    let verb = read_verb(word)?;
-    let (name, key) = read_two(rest)?;
-    let name = read_name(name)?;
-    let key = read_key(key)?;
-    Ok(Some(verb.with(name, key)))
+    let verb = read_verb(word, format)?;
+    let command = read_command(verb, rest)?;
+    Ok(Some(command))
 }

@@ -1,8 +1,10 @@
 //! The words of a line: what stands between its blanks, up to a comment.
-ghost use Rattle.std.specs.Prelude.{◌≡◌, ◌≤◌, [], ◌∷◌, MatchOption, length, drop};
+ghost use Rattle.std.specs.Prelude.{◌≡◌, ◌≤◌, [], ◌∷◌, MatchOption, MatchResult, length, drop};
 ghost use Rattle.std.specs.List.{position_or_len, prefix_len};
 ghost use Rattle.std.specs.Str.Lines.{strip_carriage_return};
-ghost use Rattle.set_script.specs.Grammar.{is_blank, words_in};
+ghost use Rattle.set_script.specs.Grammar.{is_blank, words_in, one_of, two_of, three_of};
+
+use crate::commands::FaultKind;
 
 // Whether the byte separates words: a space or a tab.
 fn is_blank(byte: u8) -> bool
@@ -55,4 +57,33 @@ pub fn first_word(bytes: &[u8]) -> Option<(&[u8], &[u8])>
         return None;
     }
     Some(rest.split_at(word_length(rest)))
+}
+
+/// The one word of the bytes. `Err` is `Count`, for fewer and for more.
+pub fn read_one(bytes: &[u8]) -> Result<&[u8], FaultKind>
+    ensures { MatchResult result (λ word. one_of (words_in bytes.now) ≡ Ok word.now) (λ kind. one_of (words_in bytes.now) ≡ Err kind) }
+{
+    let (word, rest) = first_word(bytes).ok_or(FaultKind::Count)?;
+    match first_word(rest) {
+        None => Ok(word),
+        Some(_) => Err(FaultKind::Count),
+    }
+}
+
+/// The two words of the bytes. `Err` is `Count`, for fewer and for more.
+pub fn read_two(bytes: &[u8]) -> Result<(&[u8], &[u8]), FaultKind>
+    ensures { MatchResult result (λ two. two_of (words_in bytes.now) ≡ Ok (two.0.now, two.1.now)) (λ kind. two_of (words_in bytes.now) ≡ Err kind) }
+{
+    let (first, rest) = first_word(bytes).ok_or(FaultKind::Count)?;
+    let second = read_one(rest)?;
+    Ok((first, second))
+}
+
+/// The three words of the bytes. `Err` is `Count`, for fewer and for more.
+pub fn read_three(bytes: &[u8]) -> Result<(&[u8], &[u8], &[u8]), FaultKind>
+    ensures { MatchResult result (λ three. three_of (words_in bytes.now) ≡ Ok (three.0.now, three.1.now, three.2.now)) (λ kind. three_of (words_in bytes.now) ≡ Err kind) }
+{
+    let (first, rest) = first_word(bytes).ok_or(FaultKind::Count)?;
+    let (second, third) = read_two(rest)?;
+    Ok((first, second, third))
 }

@@ -1,6 +1,6 @@
 use Rattle.std.proofs.Common.{◌≡◌, take}
 use Rattle.std.specs.Str.Parse.{digits_value}
-use Rattle.set_script.proofs.script.line.value_of.Given as goal
+use Rattle.set_script.proofs.script.numbers.number_of.Given as goal
 
 abbrev pub invariant-loop-digit : goal.invariant-loop-digit
-invariant-loop-digit l = l.value ≡ digits_value 10 (take l.digit-index l.word)
+invariant-loop-digit l = l.number ≡ digits_value 10 (take l.digit-index l.word)

@@ -1,11 +1,12 @@
 -- What a client of the calls concludes from their clauses.
-use Rattle.std.proofs.Common.{◌≡◌, ◌≢◌, ℕ, suc, ◌+◌, ◌-◌, ◌<◌, ◌≤◌, Bool, true, false, cond, List, [], ◌∷◌, ◌++◌, length, take, take_all, sym, ap, ◌∙◌, subst, arith, length-set, get_or-set_same, get_or-set_other, take-suc, Some}
+use Rattle.std.proofs.Common.{◌≡◌, ◌≢◌, ℕ, suc, ◌+◌, ◌-◌, ◌<◌, ◌≤◌, Bool, true, false, cond, List, [], ◌∷◌, ◌++◌, length, take, take_all, refl, sym, ap, ◌∙◌, subst, arith, length-set, get_or-set_same, get_or-set_other, take-suc, Some}
 use Rattle.std.specs.Prelude.{slice_get}
 use Rattle.std.proofs.lemmas.Option.{slice_get_within, get_or_from_slice_get}
 use Rattle.mv_history.specs.declared.history.Entry.{Entry}
 use Rattle.mv_history.specs.declared.history.Entry.TheVariants.{Change}
 use Rattle.std.proofs.lemmas.Bool.Decides.{nat_tests}
 use Rattle.mv_history.specs.State.{State, Writes, rewritten, touches, written, state_after, state_at}
+use Rattle.mv_history.specs.Legal.{are_distinct}
 use Rattle.mv_history.specs.Meaning.{Seat, InSection, words_at, snapshot_of, state_of}
 use Rattle.mv_history.specs.Calls.{Enters, Commits, commit_by}
 use Rattle.mv_history.proofs.Writing.{state_after-append, length-written, length-rewritten}
@@ -13,11 +14,12 @@ use Rattle.mv_history.proofs.Steps.{state_at-later}
 use Rattle.set_script.specs.Objects.{owner, link, no_words, relink}
 use Rattle.set_script.specs.Lawful.{IsLawful}
 use Rattle.list_set.specs.Places.{add_writes, del_writes}
-use Rattle.list_set.specs.Held.{with_lock, with_locks, with_writes, count_unheld, HasRoom}
+use Rattle.set_script.specs.OwnWrites.{with_locks, with_writes, objects_of}
+use Rattle.list_set.specs.Held.{count_unheld, HasRoom}
 use Rattle.list_set.specs.Calls.{Rewritten, Adds, Takes, IsCause, Refuses}
 use Rattle.list_set.specs.declared.answers.Cause.{Cause}
 use Rattle.list_set.specs.declared.answers.Cause.TheVariants.{Busy, Stale, Rival, LogFull}
-use Rattle.list_set.proofs.OwnWrites.{length-with_lock, count-with_lock}
+use Rattle.list_set.proofs.OwnWrites.{length-with_locks}
 use Rattle.list_set.proofs.Parts.{place_not_vacant}
 use Rattle.list_set.proofs.Removing.{Removal, removal}
 
@@ -36,16 +38,14 @@ pub room_for_two : (s : InSection) (o p : ℕ) → 2 ≤ s.seat.spare → length
 room_for_two s o p spare most =
     let n : count_unheld s.own (o ∷ p ∷ []) ≤ 2 = count_unheld-two s.own o p in record { spare = omega arith; held = omega arith }
 
--- two different objects more are held
-pub rewritten-held : (old new : InSection) (o p : ℕ) (x y : List ℕ) → o ≢ p → Rewritten old new (o ∷ p ∷ []) ((o, x) ∷ (p, y) ∷ []) → length new.own ≡ length old.own + count_unheld old.own (o ∷ p ∷ [])
-rewritten-held old new o p x y apart r =
-    let s : State = state_of old in
-    let a = length-with_lock (state_of old) old.own o in
-    let b = length-with_lock (state_of old) (with_lock (state_of old) old.own o) p in
-    let c = count-with_lock (state_of old) old.own o p apart in
-    let d = length-rewritten (with_locks (state_of old) old.own (o ∷ p ∷ [])) o x in
-    let e = length-rewritten (rewritten (with_locks (state_of old) old.own (o ∷ p ∷ [])) o x) p y in
-    ap length r.holds.own ∙ omega arith
+-- the different objects more are held
+pub rewritten-held : (old new : InSection) (changes : Writes) → are_distinct changes ≡ true → Rewritten old new (objects_of changes) changes → length new.own ≡ length old.own + count_unheld old.own (objects_of changes)
+rewritten-held old new changes d r =
+    ap length r.holds.own ∙ length-with_writes (with_locks (state_of old) old.own (objects_of changes)) changes ∙ length-with_locks (state_of old) old.own changes d
+  where
+    length-with_writes : (own ws : Writes) → length (with_writes own ws) ≡ length own
+    length-with_writes own [] = refl
+    length-with_writes own (w ∷ ws) = length-with_writes (rewritten own w.0 w.1) ws ∙ length-rewritten own w.0 w.1
 
 -- a section that held nothing holds exactly the two objects, with the words that were written
 pub rewritten-writes : (old new : InSection) (o p : ℕ) (x y : List ℕ) → o ≢ p → old.own ≡ [] → Rewritten old new (o ∷ p ∷ []) ((o, x) ∷ (p, y) ∷ []) → new.own ≡ (o, x) ∷ (p, y) ∷ []
@@ -70,7 +70,7 @@ pub adds-length : (old new : InSection) (head k value node : ℕ) → Adds old n
 adds-length old new head k value node a =
     ap length a.change.state ∙ length-written (state_of old) (add_writes (state_of old) head k value a.previous node)
 
-pub adds-others : (old new : InSection) (head k value node : ℕ) → head < 10 → Adds old new head k value node → (o : ℕ) → 180 ≤ o → owner (state_of old) o ≡ 0 → o ≢ node → words_at (state_of new) o ≡ words_at (state_of old) o
+pub adds-others : (old new : InSection) (head k value node : ℕ) → head < 170 → Adds old new head k value node → (o : ℕ) → 180 ≤ o → owner (state_of old) o ≡ 0 → o ≢ node → words_at (state_of new) o ≡ words_at (state_of old) o
 adds-others old new head k value node lh a o lo vacant apart =
     let p : ℕ = a.previous in
     let other : o ≢ a.previous = λ e. place_not_vacant (state_of old) head a.previous o (omega arith) a.place.within lo vacant (sym e) in
@@ -81,12 +81,12 @@ pub takes-length : (old new : InSection) (head k node : ℕ) → Takes old new h
 takes-length old new head k node t =
     ap length t.change.state ∙ length-written (state_of old) (del_writes (state_of old) t.previous node)
 
-pub takes-node : (old new : InSection) (head k node : ℕ) → IsLawful (state_of old) → head < 10 → Takes old new head k node → (180 ≤ node) × (node < length (state_of old)) × (words_at (state_of new) node ≡ no_words)
+pub takes-node : (old new : InSection) (head k node : ℕ) → IsLawful (state_of old) → head < 170 → Takes old new head k node → (180 ≤ node) × (node < length (state_of old)) × (words_at (state_of new) node ≡ no_words)
 takes-node old new head k node l lh t =
     let r : Removal (state_of old) head k t.previous node = removal (state_of old) head k t.previous node l lh t.place in
     (r.node, r.node_in, ap (λ (s : State). words_at s node) t.change.state ∙ get_or-set_same _ node no_words [] (omega (arith, r.node_in, length-set (state_of old) t.previous (relink (words_at (state_of old) t.previous) (link (state_of old) node)))))
 
-pub takes-others : (old new : InSection) (head k node : ℕ) → head < 10 → Takes old new head k node → (o : ℕ) → 180 ≤ o → owner (state_of old) o ≡ 0 → o ≢ node → words_at (state_of new) o ≡ words_at (state_of old) o
+pub takes-others : (old new : InSection) (head k node : ℕ) → head < 170 → Takes old new head k node → (o : ℕ) → 180 ≤ o → owner (state_of old) o ≡ 0 → o ≢ node → words_at (state_of new) o ≡ words_at (state_of old) o
 takes-others old new head k node lh t o lo vacant apart =
     let other : o ≢ t.previous = λ e. place_not_vacant (state_of old) head t.previous o (omega arith) t.place.within lo vacant (sym e) in
     ap (λ (s : State). words_at s o) t.change.state ∙ get_or-set_other _ node o no_words [] apart ∙ get_or-set_other (state_of old) t.previous o _ [] other

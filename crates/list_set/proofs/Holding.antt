@@ -1,21 +1,24 @@
 -- What a section's locks and writes do, one after another.
-use Rattle.std.proofs.Common.{◌≡◌, ◌≢◌, ℕ, ◌+◌, ◌≤◌, Bool, true, false, cond, eqb, ◌||◌, List, [], ◌∷◌, ◌++◌, length, set, refl, sym, ap, ◌∙◌, subst, arith, eq-eqb, Result, Ok, Err}
+use Rattle.std.proofs.Common.{◌≡◌, ℕ, suc, ◌+◌, ◌<◌, ◌≤◌, Bool, true, false, cond, ◌||◌, List, [], ◌∷◌, ◌++◌, length, get_or, take, drop, set, refl, sym, ap, ◌∙◌, subst, arith, Result, Ok, Err}
+use Rattle.std.proofs.lemmas.List.{take_all, take_more}
 use Rattle.std.specs.Result.{IsErrAnd, IfErr}
 use Rattle.mv_history.specs.State.{State, Writes, written, touches, rewritten}
-use Rattle.mv_history.specs.Legal.{are_distinct}
+use Rattle.mv_history.specs.Legal.{are_distinct, AreWithin}
 use Rattle.mv_history.specs.Meaning.{InSection, words_at, snapshot_of, state_of, Holds, Lacks}
 use Rattle.mv_history.specs.Calls.{GoesOn, Locks, Rewrites}
 use Rattle.mv_history.specs.CallLaws.{GoesOn-itself}
-use Rattle.mv_history.proofs.Writing.{touches-rewritten}
+use Rattle.mv_history.proofs.Writing.{written-append, touches_at}
 use Rattle.mv_history.proofs.Steps.{GoesOn-GoesOn}
 use Rattle.mv_history.proofs.Holding.{state_of-as_before, state_of-rewrites}
 use Rattle.mv_history.proofs.Snapshots.{snapshot_of-goes_on}
-use Rattle.list_set.specs.Held.{with_lock, with_locks, count_unheld, HasRoom, HoldsMore}
+use Rattle.set_script.specs.OwnWrites.{with_lock, with_locks, with_writes, objects_of}
+use Rattle.list_set.specs.Held.{count_unheld, HasRoom, HoldsMore}
 use Rattle.list_set.specs.Calls.{Rewritten, IsRefused, Refuses}
 use Rattle.list_set.specs.declared.answers.Cause.{Cause}
-use Rattle.list_set.proofs.OwnWrites.{written-with_lock, touches-with_lock, length-with_lock, count-with_lock}
+use Rattle.set_script.proofs.OwnWrites.{written-with_locks}
+use Rattle.list_set.proofs.OwnWrites.{touches-with_locks, touches-with_writes, length-with_locks, count-with_locks, objects_of-append, with_locks-push, with_writes-push, count-append, at_place, distinct_front, distinct_apart}
 
-holds_nothing : (a : InSection) → HoldsMore a a [] a.own
+pub holds_nothing : (a : InSection) → HoldsMore a a [] a.own
 holds_nothing a = record { goes_on = GoesOn-itself a; spare = omega arith; own = refl; snapshot = refl }
 
 -- One lock.
@@ -36,111 +39,123 @@ holds_lock a b o le goes held new = go (touches a.own o) refl
       snapshot = snapshot_of-goes_on a b goes le;
     }
 
--- a lock leaves the state
-pub holds-state : (a b : InSection) (o : ℕ) → HoldsMore a b (o ∷ []) (with_locks (state_of a) a.own (o ∷ [])) → state_of b ≡ state_of a
-holds-state a b o h =
-    ap (written (snapshot_of b)) h.own ∙ ap (λ (u : State). written u (with_lock (state_of a) a.own o)) h.snapshot ∙ written-with_lock (snapshot_of a) a.own o
+-- locks leave the state
+pub holds-state : (a b : InSection) (os : List ℕ) → HoldsMore a b os (with_locks (state_of a) a.own os) → state_of b ≡ state_of a
+holds-state a b os h =
+    ap (written (snapshot_of b)) h.own ∙ ap (λ (u : State). written u (with_locks (state_of a) a.own os)) h.snapshot ∙ written-with_locks (snapshot_of a) (state_of a) a.own os (λ o i. refl)
 
--- Two locks of different objects.
-module _ (a b : InSection) (o p : ℕ) (apart : o ≢ p) (h : HoldsMore a b (o ∷ []) (with_locks (state_of a) a.own (o ∷ []))) where
-  own_b : with_lock (state_of b) b.own p ≡ with_locks (state_of a) a.own (o ∷ p ∷ [])
-  own_b = ap (λ (u : State). with_lock u b.own p) (holds-state a b o h) ∙ ap (λ (u : Writes). with_lock (state_of a) u p) h.own
+-- From section `a`, in which the locks of `xs` began, by `b`, in which these are held, to `c`, in which that of `x` is too.
+module _ (a b : InSection) (xs : Writes) (x : ℕ × List ℕ) (h : HoldsMore a b (objects_of xs) (with_locks (state_of a) a.own (objects_of xs))) where
+  own_b : with_lock (state_of b) b.own x.0 ≡ with_locks (state_of a) a.own (objects_of (xs ++ x ∷ []))
+  own_b =
+      ap (λ (u : State). with_lock u b.own x.0) (holds-state a b (objects_of xs) h) ∙ ap (λ (u : Writes). with_lock (state_of a) u x.0) h.own ∙ sym (with_locks-push (state_of a) a.own xs x)
 
-  count_b : count_unheld b.own (p ∷ []) ≡ count_unheld a.own (p ∷ [])
-  count_b = ap (λ (u : Writes). count_unheld u (p ∷ [])) h.own ∙ count-with_lock (state_of a) a.own o p apart
+  count_b : touches xs x.0 ≡ false → count_unheld b.own (x.0 ∷ []) ≡ count_unheld a.own (x.0 ∷ [])
+  count_b n = ap (λ (u : Writes). count_unheld u (x.0 ∷ [])) h.own ∙ count-with_locks (state_of a) a.own xs x.0 n
 
-  pub holds_two : (c : InSection) → HoldsMore b c (p ∷ []) (with_locks (state_of b) b.own (p ∷ [])) → HoldsMore a c (o ∷ p ∷ []) (with_locks (state_of a) a.own (o ∷ p ∷ []))
-  holds_two c k = record {
+  pub holds_push : (c : InSection) → touches xs x.0 ≡ false → HoldsMore b c (x.0 ∷ []) (with_locks (state_of b) b.own (x.0 ∷ [])) → HoldsMore a c (objects_of (xs ++ x ∷ [])) (with_locks (state_of a) a.own (objects_of (xs ++ x ∷ [])))
+  holds_push c n k = record {
     goes_on = GoesOn-GoesOn h.goes_on k.goes_on;
-    spare = let x = h.spare in let y = k.spare in let z = count_b in omega arith;
+    spare = let u = h.spare in let v = k.spare in let w = count_b n in let z = count-append a.own xs (x ∷ []) in omega arith;
     own = k.own ∙ own_b;
     snapshot = k.snapshot ∙ h.snapshot;
   }
 
-  -- there is still room for the second
-  pub room_two : HasRoom a (o ∷ p ∷ []) → HasRoom b (p ∷ [])
-  room_two r = record {
-    spare = let x = h.spare in let y = r.spare in let z = count_b in omega arith;
-    held =
-        let x = r.held in let z = count_b in
-        let l : length b.own ≡ length a.own + count_unheld a.own (o ∷ []) = ap length h.own ∙ length-with_lock (state_of a) a.own o in
-        let w = h.goes_on.continues.write_max in omega arith;
+  -- there is still room for it
+  pub room_left : (ys : Writes) → touches xs x.0 ≡ false → are_distinct xs ≡ true → HasRoom a (objects_of (xs ++ x ∷ ys)) → HasRoom b (x.0 ∷ [])
+  room_left ys n d r =
+      let z = count-append a.own xs (x ∷ ys) in let w = count_b n in record {
+        spare = let u = h.spare in let v = r.spare in omega arith;
+        held =
+            let v = r.held in
+            let l : length b.own ≡ length a.own + count_unheld a.own (objects_of xs) = ap length h.own ∙ length-with_locks (state_of a) a.own xs d in
+            let m = h.goes_on.continues.write_max in omega arith;
+      }
+
+  pub refuses_at : (may : Type 0) (found : InSection → InSection → ℕ → ℕ → Type 0) (cause : Cause) (c : InSection) (ys : Writes) → b.at ≤ length b.seat.seen → IsRefused may found b c x.0 cause → Refuses may found a c (objects_of (xs ++ x ∷ ys)) cause
+  refuses_at may found cause c ys le r = record {
+    held = objects_of xs;
+    object = x.0;
+    rest = objects_of ys;
+    parts = objects_of-append xs (x ∷ ys);
+    before = b;
+    holds = h;
+    refused = r;
+    state = state_of-as_before b c le r.as_before ∙ holds-state a b (objects_of xs) h;
   }
-
-pub room_one : (a : InSection) (o p : ℕ) → HasRoom a (o ∷ p ∷ []) → HasRoom a (o ∷ [])
-room_one a o p r = record {
-  spare = let x = r.spare in omega arith;
-  held = let x = r.held in omega arith;
-}
-
--- Refusals.
 
 pub IfErr-told : {T E : Type 0} (r : Result T E) (x : E) (P : E → Type 0) → IsErrAnd r (λ e. e ≡ x) → P x → IfErr r P
 IfErr-told (Ok t) x P h p = absurd h
 IfErr-told (Err e) x P h p = subst P (sym h) p
 
-module _ (may : Type 0) (found : InSection → InSection → ℕ → ℕ → Type 0) (cause : Cause) (a c : InSection) (o p : ℕ) where
-  pub refuses_first : a.at ≤ length a.seat.seen → IsRefused may found a c o cause → Refuses may found a c (o ∷ p ∷ []) cause
-  refuses_first le r = record {
-    held = [];
-    object = o;
-    rest = p ∷ [];
-    parts = refl;
-    before = a;
-    holds = holds_nothing a;
-    refused = r;
-    state = state_of-as_before a c le r.as_before;
-  }
+-- The section holds all of these objects, and so many of them are written.
+pub record IsWriting (a b : InSection) (changes xs : Writes) : Type 0 where
+  pub holds : HoldsMore a b (objects_of changes) (with_writes (with_locks (state_of a) a.own (objects_of changes)) xs)
+  pub state : state_of b ≡ written (state_of a) xs
 
-  pub refuses_second : (b : InSection) → b.at ≤ length b.seat.seen → HoldsMore a b (o ∷ []) (with_locks (state_of a) a.own (o ∷ [])) → IsRefused may found b c p cause → Refuses may found a c (o ∷ p ∷ []) cause
-  refuses_second b le h r = record {
-    held = o ∷ [];
-    object = p;
-    rest = [];
-    parts = refl;
-    before = b;
-    holds = h;
-    refused = r;
-    state = state_of-as_before b c le r.as_before ∙ holds-state a b o h;
-  }
+pub writing_none : (a b : InSection) (changes : Writes) → HoldsMore a b (objects_of changes) (with_locks (state_of a) a.own (objects_of changes)) → IsWriting a b changes []
+writing_none a b changes h = record { holds = h; state = holds-state a b (objects_of changes) h }
 
--- Writes of held objects.
-pub holds_write : (a b c : InSection) (os : List ℕ) (ws : Writes) (o : ℕ) (words : List ℕ) → b.at ≤ length b.seat.seen → HoldsMore a b os ws → GoesOn b c → Rewrites b c o words → HoldsMore a c os (rewritten ws o words)
-holds_write a b c os ws o words le h goes r = record {
-  goes_on = GoesOn-GoesOn h.goes_on goes;
-  spare = let x = h.spare in let y = r.seat.spare in omega arith;
-  own = r.own ∙ ap (λ (u : Writes). rewritten u o words) h.own;
-  snapshot = snapshot_of-goes_on b c goes le ∙ h.snapshot;
+pub writing_all : (a b : InSection) (changes : Writes) → IsWriting a b changes changes → Rewritten a b (objects_of changes) changes
+writing_all a b changes w = record { holds = w.holds; state = w.state }
+
+-- an object that is to be written is held
+pub writing-touches : (a b : InSection) (changes xs : Writes) (o : ℕ) → IsWriting a b changes xs → touches changes o ≡ true → touches b.own o ≡ true
+writing-touches a b changes xs o w t =
+    ap (λ (u : Writes). touches u o) w.holds.own ∙ touches-with_writes (with_locks (state_of a) a.own (objects_of changes)) xs o ∙ touches-with_locks (state_of a) a.own changes o
+    ∙ ap (λ (u : Bool). touches a.own o || u) t ∙ or-right (touches a.own o)
+  where
+    or-right : (x : Bool) → x || true ≡ true
+    or-right true = refl
+    or-right false = refl
+
+pub writing_push : (a b c : InSection) (changes xs : Writes) (x : ℕ × List ℕ) → b.at ≤ length b.seat.seen → are_distinct b.own ≡ true → touches b.own x.0 ≡ true → IsWriting a b changes xs → GoesOn b c → Rewrites b c x.0 x.1 → IsWriting a c changes (xs ++ x ∷ [])
+writing_push a b c changes xs x le d t w goes r = record {
+  holds = record {
+    goes_on = GoesOn-GoesOn w.holds.goes_on goes;
+    spare = let u = w.holds.spare in let v = r.seat.spare in omega arith;
+    own = r.own ∙ ap (λ (u : Writes). rewritten u x.0 x.1) w.holds.own ∙ sym (with_writes-push (with_locks (state_of a) a.own (objects_of changes)) xs x);
+    snapshot = snapshot_of-goes_on b c goes le ∙ w.holds.snapshot;
+  };
+  state =
+      state_of-rewrites b c x.0 x.1 le d t r ∙ ap (λ (u : State). set u x.0 x.1) w.state ∙ sym (written-append (state_of a) xs (x ∷ []));
 }
 
-or-true : (x y : Bool) → x ≡ true → x || y ≡ true
-or-true x y e = ap (λ (u : Bool). u || y) e
+-- The loops: the objects before place i are locked, and then written.
+module _ (a b : InSection) (changes : Writes) (i : ℕ) (d : ℕ × List ℕ) (lt : i < length changes) (distinct : are_distinct changes ≡ true) where
+  parts : changes ≡ take i changes ++ get_or changes i d ∷ drop (suc i) changes
+  parts = at_place changes i d lt
 
-or-right : (x : Bool) → x || true ≡ true
-or-right true = refl
-or-right false = refl
+  apart : touches (take i changes) (get_or changes i d).0 ≡ false
+  apart = distinct_apart (take i changes) (drop (suc i) changes) (get_or changes i d) (subst (λ (u : Writes). are_distinct u ≡ true) parts distinct)
 
--- what was locked is held
-pub holds-touches : (a b : InSection) (o : ℕ) → HoldsMore a b (o ∷ []) (with_locks (state_of a) a.own (o ∷ [])) → touches b.own o ≡ true
-holds-touches a b o h =
-    ap (λ (u : Writes). touches u o) h.own ∙ touches-with_lock (state_of a) a.own o o ∙ ap (λ (u : Bool). touches a.own o || u) (eq-eqb o o refl) ∙ or-right (touches a.own o)
+  front : are_distinct (take i changes) ≡ true
+  front = distinct_front (take i changes) (get_or changes i d ∷ drop (suc i) changes) (subst (λ (u : Writes). are_distinct u ≡ true) parts distinct)
 
--- and stays so after another lock
-pub holds-still : (b c : InSection) (o p : ℕ) → touches b.own o ≡ true → HoldsMore b c (p ∷ []) (with_locks (state_of b) b.own (p ∷ [])) → touches c.own o ≡ true
-holds-still b c o p t h =
-    ap (λ (u : Writes). touches u o) h.own ∙ touches-with_lock (state_of b) b.own p o ∙ or-true (touches b.own o) (eqb p o) t
+  pub place_within : HoldsMore a b (objects_of (take i changes)) (with_locks (state_of a) a.own (objects_of (take i changes))) → AreWithin changes (length (state_of a)) → (get_or changes i d).0 < length (state_of b)
+  place_within h w =
+      subst (λ (u : State). (get_or changes i d).0 < length u) (sym (holds-state a b (objects_of (take i changes)) h))
+      (w (get_or changes i d).0 (touches_at changes i (get_or changes i d).0 d lt refl))
 
--- and after a write
-pub rewrites-touches : (c d : InSection) (o p : ℕ) (words : List ℕ) → touches c.own p ≡ true → Rewrites c d o words → touches d.own p ≡ true
-rewrites-touches c d o p words t r = ap (λ (u : Writes). touches u p) r.own ∙ touches-rewritten c.own o words p ∙ t
+  pub place_room : HoldsMore a b (objects_of (take i changes)) (with_locks (state_of a) a.own (objects_of (take i changes))) → HasRoom a (objects_of changes) → HasRoom b ((get_or changes i d).0 ∷ [])
+  place_room h r =
+      room_left a b (take i changes) (get_or changes i d) h (drop (suc i) changes) apart front (subst (λ (u : Writes). HasRoom a (objects_of u)) parts r)
 
--- Two locks and two writes: from section `a` by `b`, `c` and `d` to `e`.
-pub rewritten_two : (a b c d e : InSection) (o p : ℕ) (x y : List ℕ) → o ≢ p → c.at ≤ length c.seat.seen → d.at ≤ length d.seat.seen → are_distinct c.own ≡ true → are_distinct d.own ≡ true → HoldsMore a b (o ∷ []) (with_locks (state_of a) a.own (o ∷ [])) → HoldsMore b c (p ∷ []) (with_locks (state_of b) b.own (p ∷ [])) → GoesOn c d → Rewrites c d o x → GoesOn d e → Rewrites d e p y → Rewritten a e (o ∷ p ∷ []) ((o, x) ∷ (p, y) ∷ [])
-rewritten_two a b c d e o p x y apart lc ld dc dd h k gr r gq q =
-    let two : HoldsMore a c (o ∷ p ∷ []) (with_locks (state_of a) a.own (o ∷ p ∷ [])) = holds_two a b o p apart h c k in
-    let to : touches c.own o ≡ true = holds-still b c o p (holds-touches a b o h) k in
-    let tp : touches d.own p ≡ true = rewrites-touches c d o p x (holds-touches b c p k) r in
-    record {
-      holds = holds_write a d e (o ∷ p ∷ []) _ p y ld (holds_write a c d (o ∷ p ∷ []) _ o x lc two gr r) gq q;
-      state = state_of-rewrites d e p y ld dd tp q ∙ ap (λ (u : State). set u p y) (state_of-rewrites c d o x lc dc to r ∙ ap (λ (u : State). set u o x) (holds-state b c p k ∙ holds-state a b o h));
-    }
+  pub place_refused : (may : Type 0) (found : InSection → InSection → ℕ → ℕ → Type 0) (cause : Cause) (c : InSection) → b.at ≤ length b.seat.seen → HoldsMore a b (objects_of (take i changes)) (with_locks (state_of a) a.own (objects_of (take i changes))) → IsRefused may found b c (get_or changes i d).0 cause → Refuses may found a c (objects_of changes) cause
+  place_refused may found cause c le h r =
+      subst (λ (u : Writes). Refuses may found a c (objects_of u) cause) (sym parts) (refuses_at a b (take i changes) (get_or changes i d) h may found cause c (drop (suc i) changes) le r)
+
+  pub place_held : (c : InSection) → HoldsMore a b (objects_of (take i changes)) (with_locks (state_of a) a.own (objects_of (take i changes))) → HoldsMore b c ((get_or changes i d).0 ∷ []) (with_locks (state_of b) b.own ((get_or changes i d).0 ∷ [])) → HoldsMore a c (objects_of (take (i + 1) changes)) (with_locks (state_of a) a.own (objects_of (take (i + 1) changes)))
+  place_held c h k =
+      subst (λ (u : Writes). HoldsMore a c (objects_of u) (with_locks (state_of a) a.own (objects_of u))) (sym (take_more changes i d lt)) (holds_push a b (take i changes) (get_or changes i d) h c apart k)
+
+  pub place_touches : IsWriting a b changes (take i changes) → touches b.own (get_or changes i d).0 ≡ true
+  place_touches w = writing-touches a b changes (take i changes) (get_or changes i d).0 w (touches_at changes i (get_or changes i d).0 d lt refl)
+
+  pub place_written : (c : InSection) → b.at ≤ length b.seat.seen → are_distinct b.own ≡ true → IsWriting a b changes (take i changes) → GoesOn b c → Rewrites b c (get_or changes i d).0 (get_or changes i d).1 → IsWriting a c changes (take (i + 1) changes)
+  place_written c le own w goes r =
+      subst (λ (u : Writes). IsWriting a c changes u) (sym (take_more changes i d lt)) (writing_push a b c changes (take i changes) (get_or changes i d) le own (place_touches w) w goes r)
+
+-- all are locked, or written
+pub all_taken : (P : Writes → Type 0) (changes : Writes) (i : ℕ) → length changes ≤ i → P (take i changes) → P changes
+all_taken P changes i le p = subst P (take_all i changes le) p

@@ -2,9 +2,14 @@ pub mod Changes
 pub mod Parts
 pub mod Adding
 pub mod Removing
+pub mod Putting
 pub mod Walking
+pub mod Counting
 pub mod OwnWrites
 pub mod Holding
 pub mod Spots
 pub mod Clients
 pub mod Filling
+pub mod SectionFits
+pub mod ListHalves
+pub mod ListWays

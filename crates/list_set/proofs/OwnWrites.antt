@@ -1,26 +1,32 @@
--- The writes of a section, after one more lock and one more write.
-use Rattle.std.proofs.Common.{◌≡◌, ◌≢◌, ℕ, ◌+◌, Bool, true, false, cond, eqb, ◌||◌, [], ◌∷◌, ◌++◌, length, refl, ap, ◌∙◌, arith, length-append}
-use Rattle.std.proofs.lemmas.List.{set-get_or}
+-- The writes of a section, after locks and writes.
+use Rattle.std.proofs.Common.{◌≡◌, ◌≢◌, ℕ, suc, ◌+◌, ◌<◌, Bool, true, false, cond, eqb, not, ◌||◌, List, [], ◌∷◌, ◌++◌, length, get_or, take, drop, refl, sym, ap, ◌∙◌, arith, length-append, append_assoc, take-suc}
+use Rattle.std.proofs.lemmas.List.{take-append-drop}
+use Rattle.std.proofs.lemmas.Bool.{not-true, and_parts}
 use Rattle.std.proofs.lemmas.Bool.Decides.{nat_tests}
-use Rattle.mv_history.specs.State.{State, Writes, written, touches}
+use Rattle.mv_history.specs.State.{State, Writes, touches, rewritten}
+use Rattle.mv_history.specs.Legal.{are_distinct}
 use Rattle.mv_history.specs.Meaning.{words_at}
-use Rattle.mv_history.proofs.Writing.{written-append, touches-append}
-use Rattle.list_set.specs.Held.{with_lock, count_unheld}
+use Rattle.mv_history.proofs.Writing.{touches-append, touches-rewritten}
+use Rattle.set_script.specs.OwnWrites.{with_lock, with_locks, with_writes, objects_of}
+use Rattle.set_script.proofs.OwnWrites.{touches-with_lock}
+use Rattle.list_set.specs.Held.{count_unheld}
 
--- a lock changes no state
-pub written-with_lock : (s : State) (ws : Writes) (o : ℕ) → written s (with_lock (written s ws) ws o) ≡ written s ws
-written-with_lock s ws o = go (touches ws o)
-  where
-    go : (b : Bool) → written s (cond b ws (ws ++ (o, words_at (written s ws) o) ∷ [])) ≡ written s ws
-    go true = refl
-    go false = written-append s ws ((o, words_at (written s ws) o) ∷ []) ∙ set-get_or (written s ws) o []
+or_assoc : (x y z : Bool) → (x || y) || z ≡ x || (y || z)
+or_assoc true y z = refl
+or_assoc false y z = refl
 
-pub touches-with_lock : (s : State) (ws : Writes) (o p : ℕ) → touches (with_lock s ws o) p ≡ touches ws p || eqb o p
-touches-with_lock s ws o p = go (touches ws o) refl
+pub touches-with_locks : (s : State) (own xs : Writes) (p : ℕ) → touches (with_locks s own (objects_of xs)) p ≡ touches own p || touches xs p
+touches-with_locks s own [] p = or_false (touches own p)
   where
-    go : (b : Bool) → touches ws o ≡ b → touches (cond b ws (ws ++ (o, words_at s o) ∷ [])) p ≡ touches ws p || eqb o p
-    go true e = grind (arith, nat_tests)
-    go false e = grind (arith, nat_tests, touches-append ws ((o, words_at s o) ∷ []) p)
+    or_false : (x : Bool) → x ≡ x || false
+    or_false true = refl
+    or_false false = refl
+touches-with_locks s own (x ∷ xs) p =
+    touches-with_locks s (with_lock s own x.0) xs p ∙ ap (λ (b : Bool). b || touches xs p) (touches-with_lock s own x.0 p) ∙ or_assoc (touches own p) (eqb x.0 p) (touches xs p)
+
+pub touches-with_writes : (own xs : Writes) (p : ℕ) → touches (with_writes own xs) p ≡ touches own p
+touches-with_writes own [] p = refl
+touches-with_writes own (x ∷ xs) p = touches-with_writes (rewritten own x.0 x.1) xs p ∙ touches-rewritten own x.0 x.1 p
 
 pub length-with_lock : (s : State) (ws : Writes) (o : ℕ) → length (with_lock s ws o) ≡ length ws + count_unheld ws (o ∷ [])
 length-with_lock s ws o = go (touches ws o)
@@ -29,7 +35,64 @@ length-with_lock s ws o = go (touches ws o)
     go true = omega arith
     go false = length-append ws ((o, words_at s o) ∷ []) ∙ omega arith
 
-pub count-with_lock : (s : State) (ws : Writes) (o p : ℕ) → o ≢ p → count_unheld (with_lock s ws o) (p ∷ []) ≡ count_unheld ws (p ∷ [])
-count-with_lock s ws o p n =
-    let e : touches (with_lock s ws o) p ≡ touches ws p = touches-with_lock s ws o p ∙ grind (arith, nat_tests) in
-    ap (λ (u : Bool). cond u 0 1 + 0) e
+-- one object more, held or not, leaves the count of others that are not held
+count-with_lock : (s : State) (own xs : Writes) (o : ℕ) → touches xs o ≡ false → count_unheld (with_lock s own o) (objects_of xs) ≡ count_unheld own (objects_of xs)
+count-with_lock s own [] o n = refl
+count-with_lock s own (x ∷ xs) o n =
+    let e : touches (with_lock s own o) x.0 ≡ touches own x.0 = touches-with_lock s own o x.0 ∙ grind (arith, nat_tests) in
+    let r = count-with_lock s own xs o (grind (arith, nat_tests)) in
+    ap (λ (b : Bool). cond b 0 1 + count_unheld (with_lock s own o) (objects_of xs)) e ∙ ap (λ (c : ℕ). cond (touches own x.0) 0 1 + c) r
+
+pub length-with_locks : (s : State) (own xs : Writes) → are_distinct xs ≡ true → length (with_locks s own (objects_of xs)) ≡ length own + count_unheld own (objects_of xs)
+length-with_locks s own [] d = omega arith
+length-with_locks s own (x ∷ xs) d =
+    let parts = and_parts (not (touches xs x.0)) (are_distinct xs) d in
+    let a = length-with_locks s (with_lock s own x.0) xs parts.1 in
+    let b = length-with_lock s own x.0 in
+    let c = count-with_lock s own xs x.0 (not-true (touches xs x.0) parts.0) in omega arith
+
+-- whether an object is held is the same after locks of others
+pub count-with_locks : (s : State) (own xs : Writes) (o : ℕ) → touches xs o ≡ false → count_unheld (with_locks s own (objects_of xs)) (o ∷ []) ≡ count_unheld own (o ∷ [])
+count-with_locks s own xs o n =
+    let e : touches (with_locks s own (objects_of xs)) o ≡ touches own o = touches-with_locks s own xs o ∙ grind (arith, nat_tests) in
+    ap (λ (b : Bool). cond b 0 1 + 0) e
+
+-- The last of several objects.
+pub objects_of-append : (xs ys : Writes) → objects_of (xs ++ ys) ≡ objects_of xs ++ objects_of ys
+objects_of-append [] ys = refl
+objects_of-append (x ∷ xs) ys = ap (λ (os : List ℕ). x.0 ∷ os) (objects_of-append xs ys)
+
+pub with_locks-push : (s : State) (own xs : Writes) (x : ℕ × List ℕ) → with_locks s own (objects_of (xs ++ x ∷ [])) ≡ with_lock s (with_locks s own (objects_of xs)) x.0
+with_locks-push s own [] x = refl
+with_locks-push s own (y ∷ xs) x = with_locks-push s (with_lock s own y.0) xs x
+
+pub with_writes-push : (own xs : Writes) (x : ℕ × List ℕ) → with_writes own (xs ++ x ∷ []) ≡ rewritten (with_writes own xs) x.0 x.1
+with_writes-push own [] x = refl
+with_writes-push own (y ∷ xs) x = with_writes-push (rewritten own y.0 y.1) xs x
+
+pub count-append : (own xs ys : Writes) → count_unheld own (objects_of (xs ++ ys)) ≡ count_unheld own (objects_of xs) + count_unheld own (objects_of ys)
+count-append own [] ys = omega arith
+count-append own (x ∷ xs) ys = let r = count-append own xs ys in omega arith
+
+-- The writes at a place.
+pub at_place : (ws : Writes) (i : ℕ) (d : ℕ × List ℕ) → i < length ws → ws ≡ take i ws ++ get_or ws i d ∷ drop (suc i) ws
+at_place ws i d lt =
+    sym (take-append-drop (suc i) ws) ∙ ap (λ (u : Writes). u ++ drop (suc i) ws) (take-suc ws i d lt) ∙ append_assoc (take i ws) (get_or ws i d ∷ []) (drop (suc i) ws)
+
+pub distinct_front : (xs ys : Writes) → are_distinct (xs ++ ys) ≡ true → are_distinct xs ≡ true
+distinct_front [] ys d = refl
+distinct_front (x ∷ xs) ys d =
+    let parts = and_parts (not (touches (xs ++ ys) x.0)) (are_distinct (xs ++ ys)) d in
+    let r = distinct_front xs ys parts.1 in
+    let n : touches (xs ++ ys) x.0 ≡ false = not-true (touches (xs ++ ys) x.0) parts.0 in
+    let e = touches-append xs ys x.0 in
+    let m : touches xs x.0 ≡ false = grind (arith, nat_tests) in grind (arith, nat_tests)
+
+pub distinct_apart : (xs ys : Writes) (x : ℕ × List ℕ) → are_distinct (xs ++ x ∷ ys) ≡ true → touches xs x.0 ≡ false
+distinct_apart [] ys x d = refl
+distinct_apart (y ∷ xs) ys x d =
+    let parts = and_parts (not (touches (xs ++ x ∷ ys) y.0)) (are_distinct (xs ++ x ∷ ys)) d in
+    let r : touches xs x.0 ≡ false = distinct_apart xs ys x parts.1 in
+    let n : touches (xs ++ x ∷ ys) y.0 ≡ false = not-true (touches (xs ++ x ∷ ys) y.0) parts.0 in
+    let e = touches-append xs (x ∷ ys) y.0 in
+    let m : y.0 ≢ x.0 = grind (arith, nat_tests) in grind (arith, nat_tests)

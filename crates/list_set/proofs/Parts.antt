@@ -1,16 +1,12 @@
 -- The places of a list.
-use Rattle.std.proofs.Common.{◌≡◌, ◌≢◌, ℕ, suc, ◌-◌, ◌<◌, ◌≤◌, inl, inr, false, List, [], ◌∷◌, ◌++◌, length, set, refl, sym, ap, ◌∙◌, subst, arith}
-use Rattle.std.proofs.lemmas.Bool.{false_from_ne_true}
+use Rattle.std.proofs.Common.{◌≡◌, ◌≢◌, ℕ, suc, ◌<◌, ◌≤◌, inl, inr, [], ◌∷◌, ◌++◌, length, refl, sym, ap, ◌∙◌, subst, arith}
 use Rattle.mv_history.specs.State.{State}
 use Rattle.mv_history.specs.Meaning.{words_at}
-use Rattle.set_script.specs.CatalogueOf.{is_key_of, map_in, catalogue_of}
 use Rattle.set_script.specs.Objects.{owner, link, relink}
 use Rattle.set_script.specs.Lists.{Nodes, first_of, Links, IsList}
 use Rattle.set_script.specs.Lawful.{IsLawful}
-use Rattle.set_script.proofs.ObjectWords.{word, in_range, owned_in_range, owner-relink, key-relink, value-relink}
+use Rattle.set_script.proofs.ObjectWords.{word, in_range, owned_in_range, owner-relink}
 use Rattle.set_script.proofs.Chains.{only_among, last_of, last_leads, part_behind}
-use Rattle.set_script.proofs.Mapped.{is_key-from, map_in-same}
-use Rattle.set_script.proofs.ListMaps.{name_of-list}
 use Rattle.list_set.specs.Places.{IsInList}
 
 -- the list parted behind p
@@ -36,7 +32,7 @@ in_list_range s head p ns l (inl e) =
 in_list_range s head p ns l (inr g) = owned_in_range s p head g.1
 
 -- the place of an object in a lawful state's list is in range
-pub place_in_range : (s : State) (head p : ℕ) → IsLawful s → head < 10 → IsInList s head p → p < length s
+pub place_in_range : (s : State) (head p : ℕ) → IsLawful s → head < 170 → IsInList s head p → p < length s
 place_in_range s head p l lh i = in_list_range s head p (l.lists head lh).0 (l.lists head lh).1 i
 
 -- an object of the list is not a vacant node
@@ -47,19 +43,3 @@ place_not_vacant s head p n lh (inr g) lo vac e = let z : suc head ≡ 0 = sym g
 -- what an object keeps whose link changes
 pub relink_owner : (s s' : State) (p to : ℕ) → words_at s' p ≡ relink (words_at s p) to → owner s' p ≡ owner s p
 relink_owner s s' p to e = ap (word 0) e ∙ owner-relink (words_at s p) to
-
-pub is_key-relink : (name : ℕ) (w : List ℕ) (to : ℕ) → is_key_of name (relink w to) ≡ is_key_of name w
-is_key-relink name [] to = refl
-is_key-relink name (a ∷ []) to = refl
-is_key-relink name (a ∷ b ∷ w) to = refl
-
--- a new link changes no map
-pub map_in-relink : (s : State) (name p to : ℕ) → map_in (set s p (relink (words_at s p) to)) name ≡ map_in s name
-map_in-relink s name p to =
-    map_in-same s name p (relink (words_at s p) to) (is_key-relink name (words_at s p) to) (key-relink (words_at s p) to) (value-relink (words_at s p) to)
-
-pub not_key : (name head : ℕ) (w : List ℕ) → head < 10 → word 0 w ≡ suc head → name ≢ head → is_key_of name w ≡ false
-not_key name head w lh e n = false_from_ne_true (is_key_of name w) (λ t.
-    (let f = (is_key-from name w t).2 in
-    let q : word 0 w - 1 ≡ head = omega arith in
-    n (sym f ∙ ap Rattle.set_script.specs.CatalogueOf.name_of q ∙ name_of-list head lh)))

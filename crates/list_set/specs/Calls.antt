@@ -1,13 +1,14 @@
 -- What the calls that lock leave, by their answers.
-use Rattle.std.specs.Prelude.{ℕ, ◌≡◌, ◌≢◌, List, [], ◌∷◌, ◌++◌, set}
+use Rattle.std.specs.Prelude.{ℕ, ◌≡◌, ◌≢◌, List, [], ◌∷◌, ◌++◌}
 use Rattle.mv_history.specs.State.{Writes, written}
 use Rattle.mv_history.specs.Meaning.{InSection, Lacks, state_of}
 use Rattle.mv_history.specs.Calls.{IsAsBefore, GoesOn, IsStale}
-use Rattle.set_script.specs.Catalogue.{map_of, put, take_out}
-use Rattle.set_script.specs.CatalogueOf.{catalogue_of}
+use Rattle.set_script.specs.Catalogue.{with_key, without_key}
+use Rattle.set_script.specs.CatalogueOf.{name_of, catalogue_of}
 use Rattle.set_script.specs.Lawful.{IsLawful}
-use Rattle.list_set.specs.Places.{IsAddPlace, add_writes, IsDelPlace, del_writes}
-use Rattle.list_set.specs.Held.{with_locks, with_writes, HoldsMore}
+use Rattle.list_set.specs.Places.{IsAddPlace, add_writes, IsDelPlace, del_writes, IsPutPlace, put_writes}
+use Rattle.set_script.specs.OwnWrites.{with_locks, with_writes}
+use Rattle.list_set.specs.Held.{HoldsMore}
 use Rattle.list_set.specs.declared.answers.Cause.{Cause}
 use Rattle.list_set.specs.declared.answers.Cause.TheVariants.{Busy, Stale, Rival, LogFull}
 
@@ -22,7 +23,7 @@ pub record Adds (old new : InSection) (head k value node : ℕ) : Type 0 where
   pub place : IsAddPlace (state_of old) head k previous
   pub change : Rewritten old new (previous ∷ node ∷ []) (add_writes (state_of old) head k value previous node)
   pub lawful : IsLawful (state_of new)
-  pub catalogue : catalogue_of (state_of new) ≡ set (catalogue_of (state_of old)) head (put k value (map_of head (catalogue_of (state_of old))))
+  pub catalogue : catalogue_of (state_of new) ≡ with_key (name_of head) k value (catalogue_of (state_of old))
 
 -- What a del that answers `Took` leaves: the key is gone, and its node is vacant.
 pub record Takes (old new : InSection) (head k node : ℕ) : Type 0 where
@@ -30,7 +31,15 @@ pub record Takes (old new : InSection) (head k node : ℕ) : Type 0 where
   pub place : IsDelPlace (state_of old) head k previous node
   pub change : Rewritten old new (previous ∷ node ∷ []) (del_writes (state_of old) previous node)
   pub lawful : IsLawful (state_of new)
-  pub catalogue : catalogue_of (state_of new) ≡ set (catalogue_of (state_of old)) head (take_out k (map_of head (catalogue_of (state_of old))))
+  pub catalogue : catalogue_of (state_of new) ≡ without_key (name_of head) k (catalogue_of (state_of old))
+
+-- What a put that answers `Yes` leaves: the key, which was there, has this value.
+pub record Puts (old new : InSection) (head k value : ℕ) : Type 0 where
+  pub node : ℕ
+  pub place : IsPutPlace (state_of old) head k node
+  pub change : Rewritten old new (node ∷ []) (put_writes (state_of old) node value)
+  pub lawful : IsLawful (state_of new)
+  pub catalogue : catalogue_of (state_of new) ≡ with_key (name_of head) k value (catalogue_of (state_of old))
 
 -- The lock of this object was refused: another seat holds it, or a later commit wrote it.
 abbrev pub IsCause : Type 0 → (InSection → InSection → ℕ → ℕ → Type 0) → InSection → InSection → ℕ → Cause → Type 0

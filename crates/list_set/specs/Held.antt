@@ -1,22 +1,8 @@
--- What a section holds after locks and writes.
-use Rattle.std.specs.Prelude.{ℕ, ◌+◌, ◌≡◌, ◌≤◌, if◌then◌else◌, List, [], ◌∷◌, ◌++◌, length}
-use Rattle.mv_history.specs.State.{State, Writes, touches, rewritten}
-use Rattle.mv_history.specs.Meaning.{InSection, words_at, snapshot_of}
+-- What a section may hold, and what it holds after a call.
+use Rattle.std.specs.Prelude.{ℕ, ◌+◌, ◌≡◌, ◌≤◌, if◌then◌else◌, List, [], ◌∷◌, length}
+use Rattle.mv_history.specs.State.{Writes, touches}
+use Rattle.mv_history.specs.Meaning.{InSection, snapshot_of}
 use Rattle.mv_history.specs.Calls.{GoesOn}
-
--- the writes once the object is held too, with its words in this state
-abbrev pub with_lock : State → Writes → ℕ → Writes
-with_lock s own o = if touches own o then own else own ++ (o, words_at s o) ∷ []
-
--- the same for each of these objects
-abbrev pub with_locks : State → Writes → List ℕ → Writes
-with_locks s own [] = own
-with_locks s own (o ∷ os) = with_locks s (with_lock s own o) os
-
--- the writes once each of these is written
-abbrev pub with_writes : Writes → Writes → Writes
-with_writes own [] = own
-with_writes own (w ∷ ws) = with_writes (rewritten own w.0 w.1) ws
 
 -- how many of these different objects are not held
 abbrev pub count_unheld : Writes → List ℕ → ℕ

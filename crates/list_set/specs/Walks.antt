@@ -1,9 +1,9 @@
 -- A walk along a list that looks for a key.
-use Rattle.std.specs.Prelude.{ℕ, suc, ◌≡◌, ◌-◌, ◌^◌, ◌<◌, ◌≤◌, ◌⊎◌, ◌==◌, ◌&&◌, not, ⊤, List, [], ◌∷◌, ◌++◌, if◌then◌else◌}
+use Rattle.std.specs.Prelude.{ℕ, suc, ◌≡◌, ◌+◌, ◌-◌, ◌^◌, ◌<◌, ◌≤◌, ◌⊎◌, ◌==◌, ◌&&◌, not, ⊤, List, [], ◌∷◌, ◌++◌, length, slice_index_or, Some, None, if◌then◌else◌}
 use Rattle.mv_history.specs.State.{State}
 use Rattle.mv_history.specs.Meaning.{words_at}
-use Rattle.set_script.specs.Catalogue.{map_of, has_key}
-use Rattle.set_script.specs.CatalogueOf.{catalogue_of}
+use Rattle.set_script.specs.Catalogue.{has_key, value_of, next_key}
+use Rattle.set_script.specs.CatalogueOf.{map_at}
 use Rattle.set_script.specs.Objects.{first_node, owner, key, link}
 use Rattle.set_script.specs.Lists.{Nodes, first_of, IsList}
 use Rattle.list_set.specs.Places.{IsInList}
@@ -25,11 +25,30 @@ pub record IsWalk (s : State) (head k node : ℕ) : Type 0 where
 unfoldable pub walk_left : State → ℕ → ℕ
 walk_left s node = if node == 0 then 0 else 2 ^ 32 - key s node
 
--- What a search for key k found: the first node whose key is not below k, 0 at the end, and its predecessor with its words.
-pub record IsSpot (s : State) (head k previous : ℕ) (words : List ℕ) (node node_key : ℕ) : Type 0 where
+-- a node of the list with these words, whose key is not below k
+pub record IsFound (s : State) (head k node : ℕ) (words : List ℕ) : Type 0 where
+  pub is_node : first_node ≤ node
+  pub own : owner s node ≡ suc head
+  pub words_are : words ≡ words_at s node
+  pub above : k ≤ key s node
+
+-- What a search for key k found: the first node whose key is not below k, 0 at the end, and its predecessor, both with their words.
+pub record IsSpot (s : State) (head k previous : ℕ) (words : List ℕ) (node : ℕ) (node_words : List ℕ) : Type 0 where
   pub within : IsInList s head previous
   pub words_are : words ≡ words_at s previous
   pub below : (previous ≡ head) ⊎ (key s previous < k)
   pub next : node ≡ link s previous
-  pub key_is : (node ≡ 0) ⊎ ((first_node ≤ node) × (owner s node ≡ suc head) × (node_key ≡ key s node) × (k ≤ node_key))
-  pub has : (not (node == 0) && (node_key == k)) ≡ has_key k (map_of head (catalogue_of s))
+  pub found : (node ≡ 0) ⊎ IsFound s head k node node_words
+  pub fits : slice_index_or node_words 2 0 < 2 ^ 32
+  pub has : (not (node == 0) && (slice_index_or node_words 2 0 == k)) ≡ has_key k (map_at s head)
+  pub value : (if not (node == 0) && (slice_index_or node_words 2 0 == k) then Some (slice_index_or node_words 5 0) else None) ≡ value_of k (map_at s head)
+  pub least : (if node == 0 then None else Some (slice_index_or node_words 2 0)) ≡ next_key k (map_at s head)
+
+-- A count along the list has passed so many nodes, and stands at this node, or at the end, 0.
+pub record IsCount (s : State) (head node n : ℕ) : Type 0 where
+  pub front : Nodes
+  pub rest : Nodes
+  pub list : IsList s head (front ++ rest)
+  pub here : node ≡ first_of rest
+  pub count : n ≡ length front
+  pub room : n + walk_left s node ≤ 2 ^ 32

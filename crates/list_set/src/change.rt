@@ -1,7 +1,9 @@
 // Locks and writes.
-ghost use Rattle.std.specs.Prelude.{◌≡◌, ◌≢◌, ◌<◌, [], ◌∷◌, length, OnOk, IfErr};
+ghost use Rattle.std.specs.Prelude.{◌≡◌, ◌<◌, true, [], ◌∷◌, length, OnOk, IfErr};
+ghost use Rattle.mv_history.specs.Legal.{are_distinct, AreWithin};
 ghost use Rattle.mv_history.specs.Meaning.{state_of};
-ghost use Rattle.list_set.specs.Held.{HasRoom, with_locks, HoldsMore};
+ghost use Rattle.set_script.specs.OwnWrites.{objects_of, with_locks};
+ghost use Rattle.list_set.specs.Held.{HasRoom, HoldsMore};
 ghost use Rattle.list_set.specs.Calls.{IsRefused, Refuses, Rewritten};
 
 use crate::answers::Cause;
@@ -22,24 +24,24 @@ fn hold<S: Section>(section: &mut S, object: u32) -> Result<(), Cause>
     }
 }
 
-// Locks two objects and writes them. On a refusal nothing is written.
-pub fn rewrite<S: Section>(
-    section: &mut S,
-    first: u32,
-    first_words: Words,
-    second: u32,
-    second_words: Words,
-) -> Result<(), Cause>
-    requires apart { first ≢ second }
-    requires first_in { first < length (state_of (S.section section.old)) }
-    requires second_in { second < length (state_of (S.section section.old)) }
-    requires room { HasRoom (S.section section.old) (first ∷ second ∷ []) }
-    ensures written { OnOk result (Rewritten (S.section section.old) (S.section section.new) (first ∷ second ∷ []) ((first, first_words) ∷ (second, second_words) ∷ [])) }
-    ensures refused { IfErr result (λ cause. Refuses S.may_refuse S.found_held (S.section section.old) (S.section section.new) (first ∷ second ∷ []) cause) }
+/// Locks these different objects, in their order, and then gives them these words.
+///
+/// It is what each call of a set that changes something ends with. It needs room for those of the
+/// objects that are not held yet, and takes no memory. An `Err` carries the first lock that was
+/// refused, `Busy` or `Stale`. The objects before it stay held, nothing is written, and the state is
+/// as before.
+pub fn rewrite<S: Section>(section: &mut S, changes: &[(u32, Words)]) -> Result<(), Cause>
+    requires distinct { are_distinct changes.now ≡ true }
+    requires within { AreWithin changes.now (length (state_of (S.section section.old))) }
+    requires room { HasRoom (S.section section.old) (objects_of changes.now) }
+    ensures written { OnOk result (Rewritten (S.section section.old) (S.section section.new) (objects_of changes.now) changes.now) }
+    ensures refused { IfErr result (λ cause. Refuses S.may_refuse S.found_held (S.section section.old) (S.section section.new) (objects_of changes.now) cause) }
 {
-    hold(section, first)?;
-    hold(section, second)?;
-    section.write(first, first_words);
-    section.write(second, second_words);
+    for lock in changes {
+        hold(section, lock.0)?;
+    }
+    for change in changes {
+        section.write(change.0, change.1);
+    }
     Ok(())
 }

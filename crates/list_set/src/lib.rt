@@ -2,30 +2,38 @@
 //!
 //! # The model
 //!
-//! A state is lawful where each list head leads through nodes with strictly rising keys, and each
-//! node is vacant or in the list of the head that it names (`set_script::specs::Lawful`). A lawful
-//! state stands for a catalogue, in which the map of a list has the keys of its nodes with their
-//! values (`set_script::specs::CatalogueOf`). The definition folds over the nodes and follows no
-//! link, so a clause about it says nothing of how a list is walked.
+//! The heads are objects 0 to 169: those of the lists `l0` to `l9`, and those of the sixteen buckets
+//! of each hash table. A state is lawful where each head leads through nodes with strictly rising
+//! keys, in a bucket of its remainder alone, and each node is vacant or in the list of the head that
+//! it names (`set_script::specs::Lawful`). A lawful state stands for a catalogue
+//! (`set_script::specs::CatalogueOf`): the map of a list's name has the keys of its nodes with their
+//! values, and the map of a hash table's name those of its sixteen buckets. `map_at` is the map of
+//! one head alone. These definitions fold over the nodes and follow no link, so a clause about them
+//! says nothing of how a list is walked.
 //!
 //! # The contract
 //!
-//! Each call speaks of that catalogue alone: `has_in` answers whether the key is in the map,
-//! `add_in` puts a key with its value there, and `del_in` takes it out. A changing call also says
-//! which two objects it locks and how it writes them, as a function of the state and its arguments
-//! (`specs/Places.antt`, `specs/Held.antt`): whoever commits needs that to show the commit fit on
-//! every state to which others' commits may have led. A refusal carries the one lock that was
-//! refused, and leaves the state as it was.
+//! `has_in`, `get_in`, `next_in` and `size_in` answer of the map of their head alone: whether the
+//! key is there, its value, the least key that is not below one, and how many there are. `add_in`
+//! puts a key with its value into the catalogue, `put_in` gives a key that is there another value,
+//! and `del_in` takes a key out. A changing call also says which objects it locks and how it writes
+//! them, as a function of the state and its arguments (`specs/Places.antt`, `specs/Held.antt`):
+//! whoever commits needs that to show the commit fit on every state to which others' commits may
+//! have led. A refusal carries the one lock that was refused, and leaves the state as it was.
+//!
+//! `rewrite` is what a changing call ends with: it locks some objects in order, and then writes
+//! them. The sets over trees end with it too.
 //!
 //! The calls never commit and never retry, and take no memory.
 //!
-//! # Why two locks are enough
+//! # Why these locks are enough
 //!
 //! A section reads a snapshot, and a commit checks only what it holds (snapshot isolation), so two
 //! sections that hold nothing in common both commit, whatever they read. An add depends on its
 //! predecessor alone: what could part the two is an add or a del right behind the predecessor,
 //! which holds the predecessor too, or a del of the predecessor, which writes it. That is why a del
-//! locks and writes the node that it takes out, and not only the node before it. RLU (Matveev,
+//! locks and writes the node that it takes out, and not only the node before it. A put depends on
+//! its node alone, which stays in its list until someone writes it. RLU (Matveev,
 //! Shavit, Felber and Marlier, SOSP 2015) and MV-RLU (Kim, Mathew, Kashyap, Ramanathan and Min,
 //! ASPLOS 2019) are introduced and measured with such lists.
 //!
@@ -42,4 +50,5 @@ mod lists;
 mod tests;
 
 pub use answers::{Cause, Removed, SetStep};
-pub use lists::{add_in, del_in, has_in};
+pub use change::rewrite;
+pub use lists::{add_in, del_in, get_in, has_in, next_in, put_in, size_in};

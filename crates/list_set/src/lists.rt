@@ -1,13 +1,14 @@
 // The calls.
-ghost use Rattle.std.specs.Prelude.{true, false, ◌≡◌, ℕ, ◌<◌, ◌≤◌, ◌↔◌, [], ◌∷◌, length};
+ghost use Rattle.std.specs.Prelude.{true, false, ◌≡◌, ℕ, ◌<◌, ◌≤◌, ◌↔◌, [], ◌∷◌, length, Some};
 ghost use Rattle.mv_history.specs.Meaning.{state_of};
-ghost use Rattle.set_script.specs.Catalogue.{map_of, has_key};
-ghost use Rattle.set_script.specs.CatalogueOf.{catalogue_of};
+ghost use Rattle.set_script.specs.Catalogue.{has_key, value_of, next_key};
+ghost use Rattle.set_script.specs.CatalogueOf.{map_at};
 ghost use Rattle.set_script.specs.Lawful.{IsLawful};
+ghost use Rattle.set_script.specs.Lists.{FitsHead};
 ghost use Rattle.set_script.specs.Objects.{owner};
-ghost use Rattle.list_set.specs.Places.{IsAddPlace, IsDelPlace};
+ghost use Rattle.list_set.specs.Places.{IsAddPlace, IsDelPlace, IsPutPlace};
 ghost use Rattle.list_set.specs.Held.{HasRoom};
-ghost use Rattle.list_set.specs.Calls.{Adds, Takes, Refuses};
+ghost use Rattle.list_set.specs.Calls.{Adds, Takes, Puts, Refuses};
 ghost use Rattle.list_set.specs.declared.answers.Cause.{Cause};
 ghost use Rattle.list_set.specs.declared.answers.SetStep.TheVariants.{Yes, No, Again};
 ghost use Rattle.list_set.specs.declared.answers.Removed.TheVariants.{Took, Absent, Again as DelAgain};
@@ -19,23 +20,77 @@ use mv_history::{Section, View};
 
 /// Whether the list of this head has the key.
 ///
-/// It needs a lawful state and a list head, 0 to 9. It reads the objects of the list up to the key,
-/// never refuses, and takes no memory.
+/// It needs a lawful state and the head of a list or a bucket, 0 to 169. It reads the objects of
+/// the list up to the key, never refuses, and takes no memory.
 pub fn has_in<V: View>(view: &mut V, head: u32, key: u32) -> bool
-    requires head_in { head < 10 }
+    requires head_in { head < 170 }
     requires lawful { IsLawful (V.state view.old) }
-    ensures has { result ≡ has_key key (map_of head (catalogue_of (V.state view.old))) }
+    ensures has { result ≡ has_key key (map_at (V.state view.old) head) }
     ensures as_before { V.as_before view.old view.new }
 {
     find(view, head, key).has(key)
 }
 
+/// The value of the key in the list of this head, or `None` exactly where the key is not there.
+///
+/// It needs what `has_in` needs, and reads and takes as much.
+pub fn get_in<V: View>(view: &mut V, head: u32, key: u32) -> Option<u64>
+    requires head_in { head < 170 }
+    requires lawful { IsLawful (V.state view.old) }
+    ensures value { result ≡ value_of key (map_at (V.state view.old) head) }
+    ensures as_before { V.as_before view.old view.new }
+{
+    let spot = find(view, head, key);
+    if spot.has(key) {
+        Some(spot.node_words[5])
+    } else {
+        None
+    }
+}
+
+/// The least key of the list of this head that is not below `key`, or `None` where each is.
+///
+/// It needs what `has_in` needs, and reads and takes as much.
+pub fn next_in<V: View>(view: &mut V, head: u32, key: u32) -> Option<u32>
+    requires head_in { head < 170 }
+    requires lawful { IsLawful (V.state view.old) }
+    ensures next { result ≡ next_key key (map_at (V.state view.old) head) }
+    ensures as_before { V.as_before view.old view.new }
+{
+    let spot = find(view, head, key);
+    if spot.node == 0 {
+        None
+    } else {
+        Some(spot.node_words[2] as u32)
+    }
+}
+
+/// How many keys the list of this head has.
+///
+/// It needs a lawful state and the head of a list or a bucket, 0 to 169. It reads each object of
+/// the list, never refuses, and takes no memory.
+pub fn size_in<V: View>(view: &mut V, head: u32) -> u64
+    requires head_in { head < 170 }
+    requires lawful { IsLawful (V.state view.old) }
+    ensures size { result ≡ length (map_at (V.state view.old) head) }
+    ensures as_before { V.as_before view.old view.new }
+{
+    let mut node = view.read(head)[3];
+    let mut count = 0;
+    while node != 0 {
+        node = view.read(node as u32)[3];
+        count += 1;
+    }
+    count
+}
+
 /// Adds the key, with this value, to the list of this head, in a vacant node.
 ///
-/// It needs a lawful state, a list head, 0 to 9, and an object from 180 on that is vacant in the
-/// section's state. It locks two objects, the key's predecessor, which is the head or a node of its
-/// list, and the vacant node, and needs room for those of them that are not held yet: as many free
-/// slots in the seat's log, and as many objects less than `write_max` held. It takes no memory.
+/// It needs a lawful state, the head of a list or a bucket, 0 to 169, and an object from 180 on that
+/// is vacant in the section's state. Where the head is that of bucket b, `key % 16` must be b. It
+/// locks two objects, the key's predecessor, which is the head or a node of its list, and the vacant
+/// node, and needs room for those of them that are not held yet: as many free slots in the seat's
+/// log, and as many objects less than `write_max` held. It takes no memory.
 ///
 /// - `No` exactly where the key is there, with whatever value; then nothing changes.
 /// - `Yes`: both objects are held, and the section's state is lawful, with the key and its value
@@ -44,13 +99,14 @@ pub fn has_in<V: View>(view: &mut V, head: u32, key: u32) -> bool
 ///   `Busy` or `Stale`, which the cause carries. The predecessor, if its lock was had, stays held.
 ///   The section's state is as before. Over the plain store it never comes.
 pub fn add_in<S: Section>(section: &mut S, head: u32, key: u32, value: u64, node: u32) -> SetStep
-    requires head_in { head < 10 }
+    requires head_in { head < 170 }
+    requires fits { FitsHead head key }
     requires lawful { IsLawful (state_of (S.section section.old)) }
     requires node_in { 180 ≤ node }
     requires in_range { node < length (state_of (S.section section.old)) }
     requires vacant { owner (state_of (S.section section.old)) node ≡ 0 }
     requires room { (previous : ℕ) → IsAddPlace (state_of (S.section section.old)) head key previous → HasRoom (S.section section.old) (previous ∷ node ∷ []) }
-    ensures no { (result ≡ No) ↔ (has_key key (map_of head (catalogue_of (state_of (S.section section.old)))) ≡ true) }
+    ensures no { (result ≡ No) ↔ (has_key key (map_at (state_of (S.section section.old)) head) ≡ true) }
     ensures unchanged { result ≡ No → S.as_before section.old section.new }
     ensures yes { result ≡ Yes → Adds (S.section section.old) (S.section section.new) head key value node }
     ensures again { (cause : Cause) → result ≡ Again cause → (previous : ℕ) × IsAddPlace (state_of (S.section section.old)) head key previous × Refuses S.may_refuse S.found_held (S.section section.old) (S.section section.new) (previous ∷ node ∷ []) cause }
@@ -62,7 +118,41 @@ pub fn add_in<S: Section>(section: &mut S, head: u32, key: u32, value: u64, node
     let mut words = spot.words;
     words[3] = node as u64;
     let node_words = [head as u64 + 1, 0, key as u64, spot.node as u64, 0, value];
-    match rewrite(section, spot.previous, words, node, node_words) {
+    match rewrite(section, &[(spot.previous, words), (node, node_words)]) {
+        Ok(()) => SetStep::Yes,
+        Err(cause) => SetStep::Again(cause),
+    }
+}
+
+/// Gives the key, which is in the list of this head, this value.
+///
+/// It needs a lawful state, the head of a list or a bucket, 0 to 169, and the key in its list. It
+/// locks one object, the key's node, and needs room for it where it is not held yet: a free slot in
+/// the seat's log, and fewer objects than `write_max` held. It takes no memory.
+///
+/// - `No` exactly where the key has this value already; then nothing changes.
+/// - `Yes`: the node is held, and the section's state is lawful, with the key at this value. Only
+///   the value in the words of the node changed.
+/// - `Again` only where the key has another value and the lock of the node was refused, with `Busy`
+///   or `Stale`, which the cause carries. The section's state is as before. Over the plain store it
+///   never comes.
+pub fn put_in<S: Section>(section: &mut S, head: u32, key: u32, value: u64) -> SetStep
+    requires head_in { head < 170 }
+    requires lawful { IsLawful (state_of (S.section section.old)) }
+    requires present { has_key key (map_at (state_of (S.section section.old)) head) ≡ true }
+    requires room { (node : ℕ) → IsPutPlace (state_of (S.section section.old)) head key node → HasRoom (S.section section.old) (node ∷ []) }
+    ensures no { (result ≡ No) ↔ (value_of key (map_at (state_of (S.section section.old)) head) ≡ Some value) }
+    ensures unchanged { result ≡ No → S.as_before section.old section.new }
+    ensures yes { result ≡ Yes → Puts (S.section section.old) (S.section section.new) head key value }
+    ensures again { (cause : Cause) → result ≡ Again cause → (node : ℕ) × IsPutPlace (state_of (S.section section.old)) head key node × Refuses S.may_refuse S.found_held (S.section section.old) (S.section section.new) (node ∷ []) cause }
+{
+    let spot = find(section, head, key);
+    let mut words = spot.node_words;
+    if words[5] == value {
+        return SetStep::No;
+    }
+    words[5] = value;
+    match rewrite(section, &[(spot.node, words)]) {
         Ok(()) => SetStep::Yes,
         Err(cause) => SetStep::Again(cause),
     }
@@ -70,10 +160,10 @@ pub fn add_in<S: Section>(section: &mut S, head: u32, key: u32, value: u64, node
 
 /// Takes the key out of the list of this head.
 ///
-/// It needs a lawful state and a list head, 0 to 9. It locks two objects, the key's node and its
-/// predecessor, which is the head or a node of the list, and needs room for those of them that are
-/// not held yet: as many free slots in the seat's log, and as many objects less than `write_max`
-/// held. It takes no memory.
+/// It needs a lawful state and the head of a list or a bucket, 0 to 169. It locks two objects, the
+/// key's node and its predecessor, which is the head or a node of the list, and needs room for those
+/// of them that are not held yet: as many free slots in the seat's log, and as many objects less
+/// than `write_max` held. It takes no memory.
 ///
 /// It writes the node that it takes out, and not only the node before it, so that an add or a del
 /// of another seat at that node meets it, and one of the two is refused.
@@ -85,10 +175,10 @@ pub fn add_in<S: Section>(section: &mut S, head: u32, key: u32, value: u64, node
 ///   `Stale`, which the cause carries. The predecessor, if its lock was had, stays held. The
 ///   section's state is as before. Over the plain store it never comes.
 pub fn del_in<S: Section>(section: &mut S, head: u32, key: u32) -> Removed
-    requires head_in { head < 10 }
+    requires head_in { head < 170 }
     requires lawful { IsLawful (state_of (S.section section.old)) }
     requires room { (previous node : ℕ) → IsDelPlace (state_of (S.section section.old)) head key previous node → HasRoom (S.section section.old) (previous ∷ node ∷ []) }
-    ensures absent { (result ≡ Absent) ↔ (has_key key (map_of head (catalogue_of (state_of (S.section section.old)))) ≡ false) }
+    ensures absent { (result ≡ Absent) ↔ (has_key key (map_at (state_of (S.section section.old)) head) ≡ false) }
     ensures unchanged { result ≡ Absent → S.as_before section.old section.new }
     ensures took { (node inner : ℕ) → result ≡ Took node inner → (inner ≡ 0) × Takes (S.section section.old) (S.section section.new) head key node }
     ensures again { (cause : Cause) → result ≡ DelAgain cause → (previous node : ℕ) × IsDelPlace (state_of (S.section section.old)) head key previous node × Refuses S.may_refuse S.found_held (S.section section.old) (S.section section.new) (previous ∷ node ∷ []) cause }
@@ -97,10 +187,9 @@ pub fn del_in<S: Section>(section: &mut S, head: u32, key: u32) -> Removed
     if !spot.has(key) {
         return Removed::Absent;
     }
-    let node_words = section.read(spot.node);
     let mut words = spot.words;
-    words[3] = node_words[3];
-    match rewrite(section, spot.previous, words, spot.node, [0; 6]) {
+    words[3] = spot.node_words[3];
+    match rewrite(section, &[(spot.previous, words), (spot.node, [0; 6])]) {
         Ok(()) => Removed::Took {
             node: spot.node,
             inner: 0,

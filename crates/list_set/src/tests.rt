@@ -4,7 +4,7 @@ ghost use Rattle.set_script.specs.Lawful.{IsLawful};
 ghost use Rattle.list_set.specs.Filling.{IsFilled};
 
 use crate::answers::{Removed, SetStep};
-use crate::lists::{add_in, del_in, has_in};
+use crate::lists::{add_in, del_in, get_in, has_in, next_in, put_in, size_in};
 use mv_history::{AnyRules, PlainStore, Section, Store, View, Words};
 use std::test::Fail;
 
@@ -26,17 +26,36 @@ fn add_all<S: Section>(section: &mut S, head: u32, keys: &[u32]) -> bool
     true
 }
 
-// Adds 1, 3 and 2, then tries 3 again, and takes out 4 and 3. Whether each call answers as it should.
-fn add_and_del<S: Section>(section: &mut S, head: u32) -> bool
+// Gives the key another value than the one that it has. Whether each call answers as it should.
+fn put_value<S: Section>(section: &mut S, head: u32, key: u32, old: u64, new: u64) -> bool
+    requires head_in { head < 10 }
+    requires filled { IsFilled (S.section section.old) 3 }
+    ensures { result ≡ true → IsFilled (S.section section.new) 4 }
+{
+    if !has_in(section, head, key) {
+        return false;
+    }
+    let SetStep::No = put_in(section, head, key, old) else {
+        return false;
+    };
+    let SetStep::Yes = put_in(section, head, key, new) else {
+        return false;
+    };
+    true
+}
+
+// Adds 1, 3 and 2, and gives 2 another value; then tries 3 again, and takes out 4 and 3. Whether each
+// call answers as it should.
+fn change_some<S: Section>(section: &mut S, head: u32) -> bool
     requires head_in { head < 10 }
     requires filled { IsFilled (S.section section.old) 0 }
     ensures lawful { result ≡ true → IsLawful (S.state section.new) }
     ensures objects { result ≡ true → length (S.state section.new) ≡ 186 }
 {
-    if !add_all(section, head, &[1, 3, 2]) {
+    if !add_all(section, head, &[1, 3, 2]) || !put_value(section, head, 2, 20, 7) {
         return false;
     }
-    let SetStep::No = add_in(section, head, 3, 7, 183) else {
+    let SetStep::No = add_in(section, head, 3, 7, 184) else {
         return false;
     };
     let Removed::Absent = del_in(section, head, 4) else {
@@ -53,18 +72,25 @@ fn add_and_del<S: Section>(section: &mut S, head: u32) -> bool
 }
 
 #[test]
-fn list_order_and_del(rt: HostRuntime) -> Result<(), Fail> {
+fn list_order_put_and_del(rt: HostRuntime) -> Result<(), Fail> {
     let store = PlainStore::<AnyRules>::new(rt.alloc(), &VACANT, 0, 1)?;
     let mut section = store.enter();
-    if !add_and_del(&mut section, 1) {
+    if !change_some(&mut section, 1) {
         panic!(rt; "another answer");
     }
     assert_eq!(rt; section.read(1), [0, 0, 0, 180, 0, 0]);
     assert_eq!(rt; section.read(180), [2, 0, 1, 182, 0, 10]);
-    assert_eq!(rt; section.read(182), [2, 0, 2, 0, 0, 20]);
+    assert_eq!(rt; section.read(182), [2, 0, 2, 0, 0, 7]);
     assert_eq!(rt; section.read(181), [0; 6]);
     assert!(rt; has_in(&mut section, 1, 2));
     assert!(rt; !has_in(&mut section, 1, 3));
+    assert_eq!(rt; get_in(&mut section, 1, 2), Some(7));
+    assert_eq!(rt; get_in(&mut section, 1, 3), None);
+    assert_eq!(rt; next_in(&mut section, 1, 0), Some(1));
+    assert_eq!(rt; next_in(&mut section, 1, 2), Some(2));
+    assert_eq!(rt; next_in(&mut section, 1, 3), None);
+    assert_eq!(rt; size_in(&mut section, 1), 2);
+    assert_eq!(rt; size_in(&mut section, 169), 0);
     let _store = section.abort();
     Ok(())
 }

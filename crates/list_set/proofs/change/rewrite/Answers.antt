@@ -1,31 +1,36 @@
-use Rattle.std.proofs.Common.{◌<◌, length, subst, sym}
-use Rattle.mv_history.specs.State.{State}
-use Rattle.list_set.proofs.Holding.{IfErr-told, room_two, holds-state, refuses_first, refuses_second, rewritten_two, holds-touches, holds-still, rewrites-touches}
+use Rattle.mv_history.specs.State.{Writes}
+use Rattle.mv_history.specs.Meaning.{state_of}
+use Rattle.set_script.specs.OwnWrites.{objects_of, with_locks}
+use Rattle.list_set.specs.Held.{HoldsMore}
+use Rattle.list_set.proofs.Holding.{holds_nothing, IfErr-told, IsWriting, writing_none, writing_all, place_within, place_room, place_refused, place_held, place_touches, place_written, all_taken}
 use Rattle.list_set.proofs.change.rewrite.Goals as goal
+
+pub loop-lock-init : goal.loop-lock-init
+loop-lock-init g c = holds_nothing _
+
+pub hold-requires-clause-in_range : goal.hold-requires-clause-in_range
+hold-requires-clause-in_range g c = place_within _ _ _ _ _ c.loop-lock-test.true c.requires.distinct c.loop-lock.invariant c.requires.within
+
+pub hold-requires-clause-room : goal.hold-requires-clause-room
+hold-requires-clause-room g c = place_room _ _ _ _ _ c.loop-lock-test.true c.requires.distinct c.loop-lock.invariant c.requires.room
 
 pub returns-in_err-hold-clause-refused : goal.returns-in_err-hold-clause-refused
 returns-in_err-hold-clause-refused g c =
-    IfErr-told _ _ _ c.from_residual.ensures.1 (refuses_first _ _ _ _ _ _ _ (g.met.S.Section.lawful _).at c.in_err-hold.ensures.refused)
+    IfErr-told _ _ _ c.from_residual.ensures.1 (place_refused _ _ _ _ _ c.loop-lock-test.true c.requires.distinct _ _ _ _ (g.met.S.Section.lawful _).at c.loop-lock.invariant c.in_err-hold.ensures.refused)
 
-pub hold-requires-2-clause-in_range : goal.hold-requires-2-clause-in_range
-hold-requires-2-clause-in_range g c =
-    subst (λ (u : State). c.args.second < length u) (sym (holds-state _ _ _ c.in_ok-hold.ensures.held)) c.requires.second_in
+pub loop-lock-preserved : goal.loop-lock-preserved
+loop-lock-preserved g c = place_held _ _ _ _ _ c.loop-lock-test.true c.requires.distinct _ c.loop-lock.invariant c.in_ok-hold.ensures.held
 
-pub hold-requires-2-clause-room : goal.hold-requires-2-clause-room
-hold-requires-2-clause-room g c = room_two _ _ _ _ c.requires.apart c.in_ok-hold.ensures.held c.requires.room
-
-pub returns-in_err-hold-2-clause-refused : goal.returns-in_err-hold-2-clause-refused
-returns-in_err-hold-2-clause-refused g c =
-    IfErr-told _ _ _ c.from_residual-in_err-hold-2.ensures.1 (refuses_second _ _ _ _ _ _ _ _ (g.met.S.Section.lawful _).at c.in_ok-hold.ensures.held c.in_err-hold-2.ensures.refused)
+pub loop-change-init : goal.loop-change-init
+loop-change-init g c = writing_none _ _ _ (all_taken (λ (u : Writes). HoldsMore (g.S.Section.section c.args.section.now) (g.S.Section.section c.loop-lock.section) (objects_of u) (with_locks (state_of (g.S.Section.section c.args.section.now)) (g.S.Section.section c.args.section.now).own (objects_of u))) _ _ c.loop-lock-test.false c.loop-lock.invariant)
 
 pub write-requires : goal.write-requires
-write-requires g c =
-    holds-still _ _ _ _ (holds-touches _ _ _ c.in_ok-hold.ensures.held) c.in_ok-hold-2.ensures.held
+write-requires g c = place_touches _ _ _ _ _ c.loop-change-test.true c.requires.distinct c.loop-change.invariant
 
-pub write-requires-2 : goal.write-requires-2
-write-requires-2 g c =
-    rewrites-touches _ _ _ _ _ (holds-touches _ _ _ c.in_ok-hold-2.ensures.held) c.write.ensures.rewrites
+pub loop-change-preserved : goal.loop-change-preserved
+loop-change-preserved g c =
+    place_written _ _ _ _ _ c.loop-change-test.true c.requires.distinct _ (g.met.S.Section.lawful _).at (g.met.S.Section.lawful _).distinct c.loop-change.invariant c.write.ensures.goes_on c.write.ensures.rewrites
 
 pub returns-clause-written : goal.returns-clause-written
 returns-clause-written g c =
-    rewritten_two _ _ _ _ _ _ _ _ _ c.requires.apart (g.met.S.Section.lawful _).at (g.met.S.Section.lawful _).at (g.met.S.Section.lawful _).distinct (g.met.S.Section.lawful _).distinct c.in_ok-hold.ensures.held c.in_ok-hold-2.ensures.held c.write.ensures.goes_on c.write.ensures.rewrites c.write-2.ensures.goes_on c.write-2.ensures.rewrites
+    writing_all _ _ _ (all_taken (λ (u : Writes). IsWriting (g.S.Section.section c.args.section.now) (g.S.Section.section c.loop-change.section) c.args.changes.now u) _ _ c.loop-change-test.false c.loop-change.invariant)

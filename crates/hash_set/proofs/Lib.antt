@@ -1,0 +1,3 @@
+pub mod SetMaps
+pub mod Least
+pub mod Counting

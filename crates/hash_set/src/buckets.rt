@@ -1,0 +1,31 @@
+// Where the keys of a set stand.
+ghost use Rattle.std.specs.Prelude.{◌≡◌, ◌<◌};
+ghost use Rattle.hash_set.specs.Buckets.{bucket_at, head_of, lesser_of};
+
+// The head of this bucket of a set.
+pub fn bucket(set: u32, bucket: u32) -> u32
+    requires set_in { set < 10 }
+    requires bucket_in { bucket < 16 }
+    ensures { result ≡ bucket_at set bucket }
+{
+    10 + 16 * set + bucket
+}
+
+// The head of the bucket in which the key of a set stands.
+pub fn bucket_of(set: u32, key: u32) -> u32
+    requires set_in { set < 10 }
+    ensures { result ≡ head_of set key }
+{
+    bucket(set, key % 16)
+}
+
+// The lesser of two keys, or the one that is there.
+pub fn lesser(left: Option<u32>, right: Option<u32>) -> Option<u32>
+    ensures { result ≡ lesser_of left right }
+{
+    match (left, right) {
+        (Some(left), Some(right)) => Some(if right < left { right } else { left }),
+        (left, None) => left,
+        (None, right) => right,
+    }
+}

@@ -1,0 +1,31 @@
+//! Sets as hash tables of sixteen sorted linked lists, over the objects of any view or section.
+//!
+//! # The model
+//!
+//! The set of number i, 0 to 9, is the name 10 + i of the catalogue, `h`i of scripts. Its sixteen
+//! buckets are lists: that of bucket b has the head 10 + 16 * i + b, and a key stands in the bucket
+//! `key % 16`. A lawful state has in each bucket keys of that remainder alone, with rising keys
+//! (`set_script::specs::Lawful`), so the map of the name has exactly the keys of its buckets.
+//!
+//! # The contract
+//!
+//! Each call speaks of the catalogue's map of that name, and so of all sixteen buckets. What a call
+//! that changes something locks and writes is what `list_set` says of it at the key's bucket: two
+//! objects for an add or a del, and the key's node alone for a put. The calls never commit and never
+//! retry, and take no memory.
+//!
+//! `next_in` asks each bucket, since the next key may stand in any of them: a hash table has no
+//! order of its own.
+//!
+//! # Its place
+//!
+//! It stands on `list_set`, whose calls it makes and whose answers it gives. MV-RLU (Kim, Mathew,
+//! Kashyap, Ramanathan and Min, ASPLOS 2019), as RLU (Matveev, Shavit, Felber and Marlier, SOSP
+//! 2015) before it, is measured with a hash table of such lists.
+#![tactic(auto)]
+
+mod buckets;
+mod tables;
+mod tests;
+
+pub use tables::{add_in, del_in, get_in, has_in, next_in, put_in, size_in};

@@ -1,0 +1,13 @@
+use Rattle.std.proofs.Common.{take}
+use Rattle.mv_history.specs.Meaning.{state_of}
+use Rattle.set_script.specs.OwnWrites.{objects_of, with_locks}
+use Rattle.list_set.specs.Held.{HoldsMore}
+use Rattle.list_set.proofs.Holding.{IsWriting}
+use Rattle.list_set.proofs.change.rewrite.Given as goal
+
+abbrev pub invariant-loop-lock : goal.invariant-loop-lock
+invariant-loop-lock g l =
+    HoldsMore (g.S.Section.section l.fn.section) (g.S.Section.section l.section) (objects_of (take l.lock-index l.changes)) (with_locks (state_of (g.S.Section.section l.fn.section)) (g.S.Section.section l.fn.section).own (objects_of (take l.lock-index l.changes)))
+
+abbrev pub invariant-loop-change : goal.invariant-loop-change
+invariant-loop-change g l = IsWriting (g.S.Section.section l.fn.section) (g.S.Section.section l.section) l.changes (take l.change-index l.changes)

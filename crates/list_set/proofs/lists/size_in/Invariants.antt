@@ -1,0 +1,11 @@
+use Rattle.list_set.specs.Walks.{IsCount, walk_left}
+use Rattle.list_set.proofs.lists.size_in.Given as goal
+
+abbrev pub invariant-loop-node : goal.invariant-loop-node
+invariant-loop-node g l = record {
+  before : g.V.View.as_before l.fn.view l.view;
+  count : IsCount (g.V.View.state l.fn.view) l.head l.node l.count;
+}
+
+abbrev pub decreases-loop-node : goal.decreases-loop-node
+decreases-loop-node g l = walk_left (g.V.View.state l.fn.view) l.node

@@ -1,0 +1,5 @@
+pub mod Places
+pub mod Calls
+pub mod Paths
+pub mod Walks
+pub mod Filling

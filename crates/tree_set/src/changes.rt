@@ -1,0 +1,215 @@
+// The calls that change a tree.
+ghost use Rattle.std.specs.Prelude.{true, false, ◌≡◌, ◌≢◌, ℕ, ◌<◌, ◌≤◌, ◌↔◌, [], ◌∷◌, length, Some};
+ghost use Rattle.mv_history.specs.State.{Writes};
+ghost use Rattle.mv_history.specs.Meaning.{state_of};
+ghost use Rattle.set_script.specs.Catalogue.{map_of, has_key, value_of};
+ghost use Rattle.set_script.specs.CatalogueOf.{name_of, catalogue_of};
+ghost use Rattle.set_script.specs.Lawful.{IsLawful};
+ghost use Rattle.set_script.specs.Objects.{owner, link};
+ghost use Rattle.set_script.specs.OwnWrites.{objects_of};
+ghost use Rattle.list_set.specs.Places.{put_writes};
+ghost use Rattle.list_set.specs.Held.{HasRoom};
+ghost use Rattle.list_set.specs.Calls.{Refuses};
+ghost use Rattle.list_set.specs.declared.answers.Cause.{Cause};
+ghost use Rattle.list_set.specs.declared.answers.SetStep.TheVariants.{Yes, No, Again};
+ghost use Rattle.list_set.specs.declared.answers.Removed.TheVariants.{Took, Absent, Again as DelAgain};
+ghost use Rattle.tree_set.specs.Places.{IsLeaf, redirect, inner_over};
+ghost use Rattle.tree_set.specs.Calls.{IsAdd, IsDel, Gains, Loses};
+
+use crate::find::find;
+use list_set::{Removed, SetStep, rewrite};
+use mv_history::{Section, Words};
+
+// The words with the link that led to one node leading to another one.
+fn redirected(words: Words, old: u32, new: u32) -> Words
+    ensures { result ≡ redirect words old new }
+{
+    let mut words = words;
+    if words[3] == old as u64 {
+        words[3] = new as u64;
+    } else {
+        words[4] = new as u64;
+    }
+    words
+}
+
+// The words of an inner node over a new leaf and the leaf beside it, which has the key `other`.
+fn over(root: u32, key: u32, new_leaf: u32, other: u32, leaf: u32) -> Words
+    requires root_in { root < 180 }
+    ensures { result ≡ inner_over root key new_leaf other leaf }
+{
+    let owner = root as u64 + 1;
+    if key < other {
+        [owner, 2, other as u64, new_leaf as u64, leaf as u64, 0]
+    } else {
+        [owner, 2, key as u64, leaf as u64, new_leaf as u64, 0]
+    }
+}
+
+/// Adds the key, with this value, to the tree of this root, in a vacant node.
+///
+/// It needs a lawful state, a root, 170 to 179, and an object `leaf` from 180 on that is vacant in
+/// the section's state. For a tree that is not empty it needs another vacant object `inner`; for an
+/// empty tree, as `empty_in` tells, `inner` is not used, and 0 will do. It takes no memory.
+///
+/// In an empty tree it locks the root and the new leaf. Else it locks the leaf where the search for
+/// the key ends, that leaf's parent, which is the root or an inner node, and the two vacant nodes:
+/// the new leaf stands beside the one that was there, under the new inner node, whose dividing key
+/// is the larger of the two keys. It needs room for those of these objects that are not held yet:
+/// as many free slots in the seat's log, and as many objects less than `write_max` held.
+///
+/// - `No` exactly where the key is there, with whatever value; then nothing changes.
+/// - `Yes`: the objects are held, and the section's state is lawful, with the key and its value
+///   added. Only the link that led to the old leaf, or the root's, and the words of the new nodes
+///   changed.
+/// - `Again` only where the key is not there and the lock of one of the objects was refused, with
+///   `Busy` or `Stale`, which the cause carries. Those before it, in the order parent, old leaf, new
+///   leaf, new inner node, stay held. The section's state is as before. Over the plain store it
+///   never comes.
+pub fn add_in<S: Section>(
+    section: &mut S,
+    root: u32,
+    key: u32,
+    value: u64,
+    leaf: u32,
+    inner: u32,
+) -> SetStep
+    requires root_from { 170 ≤ root }
+    requires root_in { root < 180 }
+    requires lawful { IsLawful (state_of (S.section section.old)) }
+    requires leaf_from { 180 ≤ leaf }
+    requires leaf_in { leaf < length (state_of (S.section section.old)) }
+    requires leaf_vacant { owner (state_of (S.section section.old)) leaf ≡ 0 }
+    requires inner_vacant { link (state_of (S.section section.old)) root ≢ 0 → (180 ≤ inner) × (inner < length (state_of (S.section section.old))) × (owner (state_of (S.section section.old)) inner ≡ 0) × (leaf ≢ inner) }
+    requires room { (writes : Writes) → IsAdd (state_of (S.section section.old)) root key value leaf inner writes → HasRoom (S.section section.old) (objects_of writes) }
+    ensures no { (result ≡ No) ↔ (has_key key (map_of (name_of root) (catalogue_of (state_of (S.section section.old)))) ≡ true) }
+    ensures unchanged { result ≡ No → S.as_before section.old section.new }
+    ensures yes { result ≡ Yes → (writes : Writes) × IsAdd (state_of (S.section section.old)) root key value leaf inner writes × Gains (S.section section.old) (S.section section.new) root key value writes }
+    ensures again { (cause : Cause) → result ≡ Again cause → (writes : Writes) × IsAdd (state_of (S.section section.old)) root key value leaf inner writes × Refuses S.may_refuse S.found_held (S.section section.old) (S.section section.new) (objects_of writes) cause }
+{
+    let leaf_words = [root as u64 + 1, 1, key as u64, 0, 0, value];
+    let Some(fork) = find(section, root, key) else {
+        let root_words = [0, 0, 0, leaf as u64, 0, 0];
+        return match rewrite(section, &[(root, root_words), (leaf, leaf_words)]) {
+            Ok(()) => SetStep::Yes,
+            Err(cause) => SetStep::Again(cause),
+        };
+    };
+    let other = fork.words[2] as u32;
+    if other == key {
+        return SetStep::No;
+    }
+    let parent_words = redirected(section.read(fork.parent), fork.leaf, inner);
+    let inner_words = over(root, key, leaf, other, fork.leaf);
+    let changes = [
+        (fork.parent, parent_words),
+        (fork.leaf, fork.words),
+        (leaf, leaf_words),
+        (inner, inner_words),
+    ];
+    match rewrite(section, &changes) {
+        Ok(()) => SetStep::Yes,
+        Err(cause) => SetStep::Again(cause),
+    }
+}
+
+/// Gives the key, which is in the tree of this root, this value.
+///
+/// It needs a lawful state, a root, 170 to 179, and the key in its tree. It locks one object, the
+/// key's leaf, and needs room for it where it is not held yet: a free slot in the seat's log, and
+/// fewer objects than `write_max` held. It takes no memory.
+///
+/// - `No` exactly where the key has this value already; then nothing changes.
+/// - `Yes`: the leaf is held, and the section's state is lawful, with the key at this value. Only
+///   the value in the words of the leaf changed.
+/// - `Again` only where the key has another value and the lock of the leaf was refused, with `Busy`
+///   or `Stale`, which the cause carries. The section's state is as before. Over the plain store it
+///   never comes.
+pub fn put_in<S: Section>(section: &mut S, root: u32, key: u32, value: u64) -> SetStep
+    requires root_from { 170 ≤ root }
+    requires root_in { root < 180 }
+    requires lawful { IsLawful (state_of (S.section section.old)) }
+    requires present { has_key key (map_of (name_of root) (catalogue_of (state_of (S.section section.old)))) ≡ true }
+    requires room { (leaf : ℕ) → IsLeaf (state_of (S.section section.old)) root key leaf → HasRoom (S.section section.old) (leaf ∷ []) }
+    ensures no { (result ≡ No) ↔ (value_of key (map_of (name_of root) (catalogue_of (state_of (S.section section.old)))) ≡ Some value) }
+    ensures unchanged { result ≡ No → S.as_before section.old section.new }
+    ensures yes { result ≡ Yes → (leaf : ℕ) × IsLeaf (state_of (S.section section.old)) root key leaf × Gains (S.section section.old) (S.section section.new) root key value (put_writes (state_of (S.section section.old)) leaf value) }
+    ensures again { (cause : Cause) → result ≡ Again cause → (leaf : ℕ) × IsLeaf (state_of (S.section section.old)) root key leaf × Refuses S.may_refuse S.found_held (S.section section.old) (S.section section.new) (leaf ∷ []) cause }
+{
+    let Some(fork) = find(section, root, key) else {
+        unreachable!();
+    };
+    let mut words = fork.words;
+    if words[5] == value {
+        return SetStep::No;
+    }
+    words[5] = value;
+    match rewrite(section, &[(fork.leaf, words)]) {
+        Ok(()) => SetStep::Yes,
+        Err(cause) => SetStep::Again(cause),
+    }
+}
+
+/// Takes the key out of the tree of this root.
+///
+/// It needs a lawful state and a root, 170 to 179. It takes no memory. Where the key is the tree's
+/// last one it locks the root and the leaf. Else it locks the leaf, its parent, and the parent's
+/// parent, which is the root or an inner node and leads to the leaf's sibling afterwards. It needs
+/// room for those of these objects that are not held yet: as many free slots in the seat's log, and
+/// as many objects less than `write_max` held.
+///
+/// It writes the nodes that it takes out, and not only the one above them, so that an add or a del
+/// of another seat at them meets it, and one of the two is refused.
+///
+/// - `Absent` exactly where the key is not there; then nothing changes.
+/// - `Took`: the objects are held, and the section's state is lawful, without the key. `node`, the
+///   leaf, is vacant, all zero, and so is `inner`, its parent; `inner` is 0 where the key was the
+///   last one. Else only the link to the parent, or the root's, changed.
+/// - `Again` only where the key is there and the lock of one of the objects was refused, with `Busy`
+///   or `Stale`, which the cause carries. Those above it stay held. The section's state is as before.
+///   Over the plain store it never comes.
+pub fn del_in<S: Section>(section: &mut S, root: u32, key: u32) -> Removed
+    requires root_from { 170 ≤ root }
+    requires root_in { root < 180 }
+    requires lawful { IsLawful (state_of (S.section section.old)) }
+    requires room { (leaf inner : ℕ) (writes : Writes) → IsDel (state_of (S.section section.old)) root key leaf inner writes → HasRoom (S.section section.old) (objects_of writes) }
+    ensures absent { (result ≡ Absent) ↔ (has_key key (map_of (name_of root) (catalogue_of (state_of (S.section section.old)))) ≡ false) }
+    ensures unchanged { result ≡ Absent → S.as_before section.old section.new }
+    ensures took { (node inner : ℕ) → result ≡ Took node inner → (writes : Writes) × IsDel (state_of (S.section section.old)) root key node inner writes × Loses (S.section section.old) (S.section section.new) root key writes }
+    ensures again { (cause : Cause) → result ≡ DelAgain cause → (leaf inner : ℕ) × (writes : Writes) × IsDel (state_of (S.section section.old)) root key leaf inner writes × Refuses S.may_refuse S.found_held (S.section section.old) (S.section section.new) (objects_of writes) cause }
+{
+    let Some(fork) = find(section, root, key) else {
+        return Removed::Absent;
+    };
+    if fork.words[2] != key as u64 {
+        return Removed::Absent;
+    }
+    if fork.parent == root {
+        return match rewrite(section, &[(root, [0; 6]), (fork.leaf, [0; 6])]) {
+            Ok(()) => Removed::Took {
+                node: fork.leaf,
+                inner: 0,
+            },
+            Err(cause) => Removed::Again(cause),
+        };
+    }
+    let parent_words = section.read(fork.parent);
+    let sibling = if parent_words[3] == fork.leaf as u64 {
+        parent_words[4]
+    } else {
+        parent_words[3]
+    };
+    let grand_words = redirected(section.read(fork.grand), fork.parent, sibling as u32);
+    let changes = [
+        (fork.grand, grand_words),
+        (fork.parent, [0; 6]),
+        (fork.leaf, [0; 6]),
+    ];
+    match rewrite(section, &changes) {
+        Ok(()) => Removed::Took {
+            node: fork.leaf,
+            inner: fork.parent,
+        },
+        Err(cause) => Removed::Again(cause),
+    }
+}

@@ -1,0 +1,45 @@
+-- How many exchanges on CLOCK for a commit an attempt makes.
+use Rattle.std.proofs.Common.{◌≡◌, Bool, true, false, cond, List, [], ◌∷◌, ◌++◌, length, refl, sym, ap, ◌∙◌, arith, true≢false, length-append}
+use Rattle.mv_history.specs.declared.trail.Step.{Step}
+use Rattle.mv_history.specs.declared.trail.StepKind.{StepKind}
+use Rattle.mv_history.specs.declared.trail.StepKind.TheVariants.{NameCommit}
+use Rattle.mv_history.specs.Trail.{is_commit_exchange, is_clock_exchange, commit_exchanges, clock_exchanges}
+use Rattle.mv_history.specs.Meaning.{Seat, InSection}
+use Rattle.mv_history.specs.Calls.{call_trail, Continues, Leaves, NamesNoCommit}
+use Rattle.set_catalog.specs.Attempts.{TriesOne}
+use Rattle.mv_history.proofs.Steps.{NamesNoCommit-NamesNoCommit, commit_exchanges-call_trail}
+
+commit_is_clock : (k : StepKind) → is_commit_exchange k ≡ true → is_clock_exchange k ≡ true
+commit_is_clock NameCommit e = refl
+commit_is_clock _ e = absurd (true≢false (sym e))
+
+-- where no exchange on CLOCK is made, none is for a commit
+none_for_commit : (steps : List Step) → clock_exchanges steps ≡ [] → commit_exchanges steps ≡ []
+none_for_commit [] e = refl
+none_for_commit (x ∷ xs) e = go (is_commit_exchange x.kind) refl (is_clock_exchange x.kind) refl e (none_for_commit xs)
+  where
+    go : (a : Bool) → is_commit_exchange x.kind ≡ a → (b : Bool) → is_clock_exchange x.kind ≡ b → cond b (x ∷ clock_exchanges xs) (clock_exchanges xs) ≡ [] → (clock_exchanges xs ≡ [] → commit_exchanges xs ≡ []) → cond a (x ∷ commit_exchanges xs) (commit_exchanges xs) ≡ []
+    go a p true q e r = absurd (cc)
+    go false p false q e r = r e
+    go true p false q e r = absurd (true≢false (sym (commit_is_clock x.kind p) ∙ q))
+
+pub leaves_none : (old : InSection) (new : Seat) → Leaves old new → NamesNoCommit old.seat new
+leaves_none old new l = none_for_commit (call_trail old.seat new) l.names_nothing
+
+pub none_one : (a b : Seat) → NamesNoCommit a b → TriesOne a b
+none_one a b n = let e : length (commit_exchanges (call_trail a b)) ≡ 0 = ap length n in omega arith
+
+pub one_before : {a b c : Seat} → Continues a b → Continues b c → NamesNoCommit a b → TriesOne b c → TriesOne a c
+one_before {a} {b} {c} p q n o =
+    let e : commit_exchanges (call_trail a c) ≡ commit_exchanges (call_trail b c) =
+    commit_exchanges-call_trail p q ∙ ap (λ l. l ++ commit_exchanges (call_trail b c)) n in
+    omega (arith, ap length e, o)
+
+pub one_after : {a b c : Seat} → Continues a b → Continues b c → TriesOne a b → NamesNoCommit b c → TriesOne a c
+one_after {a} {b} {c} p q o n =
+    let e = commit_exchanges-call_trail p q in
+    omega (arith, ap length e, length-append (commit_exchanges (call_trail a b)) (commit_exchanges (call_trail b c)), ap length n, o)
+
+-- calls that try none, one after another, and then leave
+pub leave_none : (a : Seat) (found : InSection) (new : Seat) → Continues a found.seat → NamesNoCommit a found.seat → Leaves found new → NamesNoCommit a new
+leave_none a found new p n l = NamesNoCommit-NamesNoCommit p l.continues n (leaves_none found new l)

@@ -1,0 +1,9 @@
+pub mod Hinted
+pub mod Picks
+pub mod Sets
+pub mod Needs
+pub mod Replies
+pub mod Findings
+pub mod Plans
+pub mod Steps
+pub mod Attempts

@@ -1,0 +1,80 @@
+-- What a command locks and writes in a state: the objects, in the order of locking, with their new words.
+use Rattle.std.specs.Prelude.{ℕ, ◌≡◌, ◌≢◌, ◌+◌, ◌-◌, ◌*◌, ◌%◌, ◌<◌, ◌≤◌, ◌⊎◌, nat_lt, true, ⊤, if◌then◌else◌}
+use Rattle.mv_history.specs.State.{State, Writes, written, touches}
+use Rattle.set_script.specs.declared.commands.Command.{Command}
+use Rattle.set_script.specs.declared.commands.Command.TheVariants.{Add, Put, Del, Move}
+use Rattle.set_script.specs.Objects.{link, value}
+use Rattle.set_script.specs.OwnWrites.{with_locks, with_writes, objects_of}
+use Rattle.list_set.specs.Places.{IsAddPlace, add_writes, IsDelPlace, del_writes, IsPutPlace, put_writes}
+use Rattle.tree_set.specs.Places.{IsLeaf, plant_writes, IsGrowPlace, grow_writes, IsBarePlace, bare_writes, IsCutPlace, cut_writes}
+use Rattle.set_catalog.specs.Needs.{first_tree}
+use Rattle.set_catalog.specs.Picks.{IsVacant}
+
+-- the head under which a key stands in the set of a name: that of its list, its bucket or its tree
+abbrev pub head_of : ℕ → ℕ → ℕ
+head_of name key =
+    if nat_lt name 10 then name else (if nat_lt name first_tree then 10 + 16 * (name - 10) + key % 16 else name + 150)
+
+-- a del of the key, which leaves the node vacant, and in a tree that keeps other keys an inner node, else 0
+pub data DelPlan (s : State) (name key node : ℕ) : ℕ → Writes → Type 0 where
+  unlinks : (previous : ℕ) → name < first_tree → IsDelPlace s (head_of name key) key previous node → DelPlan s name key node 0 (del_writes s previous node)
+  bares : first_tree ≤ name → IsBarePlace s (head_of name key) key node → DelPlan s name key node 0 (bare_writes s (head_of name key) node)
+  cuts : (grand inner : ℕ) → first_tree ≤ name → IsCutPlace s (head_of name key) key grand inner node → DelPlan s name key node inner (cut_writes s grand inner node)
+
+-- an add of the key with this value, which takes the first of these vacant nodes, and in a tree that is not empty the second
+pub data AddPlan (s : State) (name key v first second : ℕ) : Writes → Type 0 where
+  links : (previous : ℕ) → name < first_tree → IsAddPlace s (head_of name key) key previous → IsVacant s first → AddPlan s name key v first second (add_writes s (head_of name key) key v previous first)
+  plants : first_tree ≤ name → link s (head_of name key) ≡ 0 → IsVacant s first → AddPlan s name key v first second (plant_writes s (head_of name key) key v first)
+  grows : (parent leaf : ℕ) → first_tree ≤ name → IsGrowPlace s (head_of name key) key parent leaf → IsVacant s first → IsVacant s second → second ≢ first → AddPlan s name key v first second (grow_writes s (head_of name key) key v parent leaf first second)
+
+-- another value for a key that is there
+pub data PutPlan (s : State) (name key v : ℕ) : Writes → Type 0 where
+  in_list : (node : ℕ) → name < first_tree → IsPutPlace s (head_of name key) key node → PutPlan s name key v (put_writes s node v)
+  in_tree : (leaf : ℕ) → first_tree ≤ name → IsLeaf s (head_of name key) key leaf → PutPlan s name key v (put_writes s leaf v)
+
+-- a del, and then an add in the state that it leaves, with the value that the key had
+pub record MovePlan (s : State) (source target key : ℕ) (ws : Writes) : Type 0 where
+  pub node : ℕ
+  pub inner : ℕ
+  pub dels : Writes
+  pub del : DelPlan s source key node inner dels
+  pub first : ℕ
+  pub second : ℕ
+  pub adds : Writes
+  pub add : AddPlan (written s dels) target key (value s node) first second adds
+  pub both : ws ≡ with_writes (with_locks (written s dels) dels (objects_of adds)) adds
+
+-- What a command that changes something locks, and how it writes that.
+abbrev pub PlanOf : Command → State → Writes → Type 0
+PlanOf (Add name key) s ws = (first : ℕ) × (second : ℕ) × AddPlan s name key 0 first second ws
+PlanOf (Put name key v) s ws = PutPlan s name key v ws ⊎ ((first : ℕ) × (second : ℕ) × AddPlan s name key v first second ws)
+PlanOf (Del name key) s ws = (node : ℕ) × (inner : ℕ) × DelPlan s name key node inner ws
+PlanOf (Move source target key) s ws = MovePlan s source target key ws
+PlanOf command s ws = ⊥
+
+-- the object is one of those that a del locks, an add, or a put of a key that is there
+abbrev pub DelLocks : State → ℕ → ℕ → ℕ → Type 0
+DelLocks s name key o = (node : ℕ) × (inner : ℕ) × (ws : Writes) × DelPlan s name key node inner ws × (touches ws o ≡ true)
+
+abbrev pub AddLocks : State → ℕ → ℕ → ℕ → ℕ → Type 0
+AddLocks s name key v o = (first : ℕ) × (second : ℕ) × (ws : Writes) × AddPlan s name key v first second ws × (touches ws o ≡ true)
+
+abbrev pub PutLocks : State → ℕ → ℕ → ℕ → ℕ → Type 0
+PutLocks s name key v o = (ws : Writes) × PutPlan s name key v ws × (touches ws o ≡ true)
+
+-- or by a move's add, in the state that its del leaves
+abbrev pub MoveLocks : State → ℕ → ℕ → ℕ → ℕ → Type 0
+MoveLocks s source target key o = (node : ℕ) × (inner : ℕ) × (ws : Writes) × DelPlan s source key node inner ws × AddLocks (written s ws) target key (value s node) o
+
+-- The object is one of those that the command locks.
+abbrev pub Locks : Command → State → ℕ → Type 0
+Locks (Add name key) s o = AddLocks s name key 0 o
+Locks (Put name key v) s o = PutLocks s name key v o ⊎ AddLocks s name key v o
+Locks (Del name key) s o = DelLocks s name key o
+Locks (Move source target key) s o = DelLocks s source key o ⊎ MoveLocks s source target key o
+Locks command s o = ⊥
+
+-- a del left these objects vacant, the second of them 0 where there is but one
+abbrev pub GoneBy : Command → State → Writes → ℕ → ℕ → Type 0
+GoneBy (Del name key) s ws node inner = DelPlan s name key node inner ws
+GoneBy command s ws node inner = ⊤

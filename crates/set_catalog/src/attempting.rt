@@ -1,0 +1,157 @@
+// One command as one section of a store.
+ghost use Rattle.std.specs.Prelude.{◌≡◌, ◌+◌, ◌<◌, ◌≤◌, true, false, length};
+ghost use Rattle.mv_history.specs.Meaning.{state_of, IsWorn};
+ghost use Rattle.mv_history.specs.Calls.{Continues, NamesNoCommit};
+ghost use Rattle.set_script.specs.CatalogueOf.{catalogue_of};
+ghost use Rattle.set_script.specs.Lawful.{IsLawful};
+ghost use Rattle.set_script.specs.Tags.{tag_of};
+ghost use Rattle.set_catalog.specs.Needs.{wanted, AreEnough};
+ghost use Rattle.set_catalog.specs.Replies.{reply_in, changes_in};
+ghost use Rattle.set_catalog.specs.Steps.{most_locks, HasSpace};
+ghost use Rattle.set_catalog.specs.Attempts.{Attempted, AttemptedIn, IsReadBy, HintsAfter, TriesOne};
+
+use crate::answer::Attempt;
+use crate::changing::change;
+use crate::finding::{Finding, find, has_range};
+use crate::hints::Hints;
+use crate::picks::Picked;
+use crate::sets::Gone;
+use list_set::Cause;
+use mv_history::{CommitAnswer, Room, Section, Store, Tag, View};
+use set_script::{Command, Place, Reply, SetRules};
+
+/// Attempts a command, as [`attempt_with`] does with no hints.
+pub fn attempt<S: Store<Rules = SetRules>>(store: S, command: &Command) -> (S, Attempt)
+    requires most { most_locks ≤ (S.seat_of store).write_max }
+    ensures attempted { Attempted S.Open.may_refuse S.Open.found_held S.Open.loaded S.holds_back (S.seat_of store) (S.seat_of result.0) command.now result.1 }
+    ensures at_most_one { TriesOne (S.seat_of store) (S.seat_of result.0) }
+{
+    attempt_with(store, &mut Hints::none(), command)
+}
+
+/// Attempts a command in one section of the store, and gives the store back.
+///
+/// It needs a `write_max` of at least 5. Vacant objects are looked for among the hints first; the
+/// objects that a del left vacant are noted once it is done. It never waits or tries again by
+/// itself, and takes no memory.
+///
+/// - `Done` at a `Place::Commit`: the command changed the catalogue, by one commit of that printed
+///   time, and the reply is that of the catalogue just before it.
+/// - `Done` at a `Place::Read`: the command changes nothing at that printed time, and the reply is
+///   that of the catalogue there: `No` or what was asked for, `Full` where there are too few vacant
+///   nodes, and `Worn` where no time is left for the change.
+/// - `Again`: the command would change something, and a lock or the commit was refused, or the
+///   seat's log had no room for a write set. No commit was made, nothing is held, and the seat is
+///   outside a section; rests may have been made for room.
+///
+/// At the last time `try_commit` can't commit any more; the attempt then answers in a new section
+/// what the command comes to there.
+pub fn attempt_with<S: Store<Rules = SetRules>>(
+    store: S,
+    hints: &mut Hints,
+    command: &Command,
+) -> (S, Attempt)
+    requires most { most_locks ≤ (S.seat_of store).write_max }
+    ensures attempted { Attempted S.Open.may_refuse S.Open.found_held S.Open.loaded S.holds_back (S.seat_of store) (S.seat_of result.0) command.now result.1 }
+    ensures noted { HintsAfter command.now hints.old hints.new (S.seat_of result.0) result.1 }
+    ensures at_most_one { TriesOne (S.seat_of store) (S.seat_of result.0) }
+{
+    let mut store = store;
+    let room = store.prepare();
+    let mut section = store.enter();
+    let time = section.at();
+    let last = time == section.last();
+    match find(&mut section, hints, command, last) {
+        Finding::Settled(reply) => {
+            let place = Place::Read(time);
+            (section.leave(), Attempt::Done { reply, place })
+        }
+        Finding::Open(picked) => match room {
+            Room::Enough => commit_change(section, hints, command, picked),
+            Room::Short(holder) => (section.leave(), Attempt::Again(Cause::LogFull(holder))),
+        },
+    }
+}
+
+// Makes the command's change in a section that holds nothing, and commits it.
+fn commit_change<S: Store<Rules = SetRules>>(
+    section: S::Open,
+    hints: &mut Hints,
+    command: &Command,
+    picked: Picked,
+) -> (S, Attempt)
+    requires lawful { IsLawful (state_of (S.Open.section section)) }
+    requires changing { changes_in command.now (state_of (S.Open.section section)) false ≡ true }
+    requires enough { AreEnough (state_of (S.Open.section section)) (wanted command.now (catalogue_of (state_of (S.Open.section section)))) picked.first picked.second }
+    requires space { HasSpace (S.Open.section section) }
+    ensures attempted { AttemptedIn S.Open.may_refuse S.Open.found_held S.Open.loaded (S.Open.section section) (S.seat_of result.0) command.now result.1 }
+    ensures noted { HintsAfter command.now hints.old hints.new (S.seat_of result.0) result.1 }
+    ensures continues { Continues (S.Open.section section).seat (S.seat_of result.0) }
+    ensures at_most_one { TriesOne (S.Open.section section).seat (S.seat_of result.0) }
+{
+    has_range(*command);
+    let mut section = section;
+    let gone = match change(&mut section, command, picked) {
+        Ok(gone) => gone,
+        Err(cause) => return (section.abort(), Attempt::Again(cause)),
+    };
+    match section.try_commit(tag(command)) {
+        CommitAnswer::Done(store, time) => {
+            gone.note(hints);
+            let place = Place::Commit(time);
+            let reply = Reply::Yes;
+            (store, Attempt::Done { reply, place })
+        }
+        CommitAnswer::Again(section, rival) => {
+            (section.abort(), Attempt::Again(Cause::Rival(rival)))
+        }
+        CommitAnswer::End(section) => answer_at_last(section.abort(), hints, command),
+    }
+}
+
+// Answers a command after the last time has been reached.
+fn answer_at_last<S: Store<Rules = SetRules>>(
+    store: S,
+    hints: &mut Hints,
+    command: &Command,
+) -> (S, Attempt)
+    requires worn { IsWorn (S.seat_of store) }
+    ensures read { IsReadBy (S.seat_of store) (S.seat_of result.0) command.now result.1 }
+    ensures none { NamesNoCommit (S.seat_of store) (S.seat_of result.0) }
+    ensures continues { Continues (S.seat_of store) (S.seat_of result.0) }
+{
+    let mut section = store.enter();
+    let place = Place::Read(section.at());
+    let reply = last_reply(&mut section, hints, command);
+    (section.leave(), Attempt::Done { reply, place })
+}
+
+// The reply at the last time, where no command changes anything.
+fn last_reply<V: View>(view: &mut V, hints: &mut Hints, command: &Command) -> Reply
+    requires lawful { IsLawful (V.state view.old) }
+    ensures reply { result ≡ reply_in command.now (V.state view.old) true }
+    ensures unchanging { changes_in command.now (V.state view.old) true ≡ false }
+    ensures as_before { V.as_before view.old view.new }
+{
+    match find(view, hints, command, true) {
+        Finding::Settled(reply) => reply,
+        Finding::Open(_) => unreachable!(),
+    }
+}
+
+// The tag of a command that changes something.
+fn tag(command: &Command) -> Tag
+    ensures { result ≡ tag_of command.now }
+{
+    match *command {
+        Command::Add { name, key } => [1, name.index() as u64, 0, key as u64],
+        Command::Del { name, key } => [2, name.index() as u64, 0, key as u64],
+        Command::Move {
+            source,
+            target,
+            key,
+        } => [3, source.index() as u64, target.index() as u64, key as u64],
+        Command::Put { name, key, value } => [4, name.index() as u64, value, key as u64],
+        _ => [0; 4],
+    }
+}

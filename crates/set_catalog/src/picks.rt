@@ -1,0 +1,118 @@
+// The search for vacant objects.
+ghost use Rattle.std.specs.Prelude.{◌≡◌, ◌≢◌, ℕ, ◌<◌, ◌≤◌, ◌⊎◌, ◌↔◌, [], length, IsTrue, IfSome, IfNone, MatchOption};
+ghost use Rattle.set_catalog.specs.Picks.{IsVacant, vacant_nodes, ArePicked, TriesHints, TriesFor, AllTried};
+
+use crate::hints::Hints;
+use crate::names::FIRST_NODE;
+use mv_history::View;
+
+/// Vacant objects: `first`, and where two were wanted a different `second`, else 0.
+#[derive(Clone, Copy, Debug, PartialEq, Eq)]
+pub struct Picked {
+    pub first: u32,
+    pub second: u32,
+}
+
+/// Finds `want` vacant objects, 1 or 2, from 180 on.
+///
+/// It needs a view of 181 to 65,535 objects. None exactly where fewer than `want` objects from 180 on
+/// are vacant in the view's state.
+///
+/// Hints are tried before other objects, the last noted first, and those that were tried are gone: a
+/// wrong one, and one that is picked. Where none is left, it looks through the nodes, from where the
+/// last look ended and once round. It takes no memory.
+pub fn pick<V: View>(view: &mut V, hints: &mut Hints, want: u32) -> Option<Picked>
+    requires want { (want ≡ 1) ⊎ (want ≡ 2) }
+    requires some { 180 < length (V.state view.old) }
+    requires few { length (V.state view.old) ≤ 65535 }
+    ensures none { MatchOption result (vacant_nodes (V.state view.old) < want) (λ p. want ≤ vacant_nodes (V.state view.old)) }
+    ensures picked { IfSome result (λ p. ArePicked (V.state view.old) want p.first p.second) }
+    ensures hints { IfSome result (λ p. TriesHints (V.state view.old) hints.old hints.new p.first p.second) }
+    ensures none_left { IfNone result (hints.new.objects ≡ []) }
+    ensures room { hints.new.room ≡ hints.old.room }
+    ensures as_before { V.as_before view.old view.new }
+{
+    let first = another(view, hints, 0)?;
+    if want == 1 {
+        return Some(Picked { first, second: 0 });
+    }
+    let second = another(view, hints, first)?;
+    Some(Picked { first, second })
+}
+
+// A vacant object other than this one.
+fn another<V: View>(view: &mut V, hints: &mut Hints, but: u32) -> Option<u32>
+    requires some { 180 < length (V.state view.old) }
+    requires few { length (V.state view.old) ≤ 65535 }
+    ensures found { MatchOption result ((o : ℕ) → IsVacant (V.state view.old) o → o ≡ but) (λ o. IsVacant (V.state view.old) o × (o ≢ but)) }
+    ensures hints { IfSome result (λ o. TriesFor (V.state view.old) hints.old hints.new but o) }
+    ensures none_left { IfNone result (hints.new.objects ≡ []) }
+    ensures room { hints.new.room ≡ hints.old.room }
+    ensures as_before { V.as_before view.old view.new }
+{
+    match hinted(view, hints, but) {
+        Some(object) => Some(object),
+        None => look(view, hints, but),
+    }
+}
+
+// The last hint that is vacant, other than this object.
+fn hinted<V: View>(view: &mut V, hints: &mut Hints, but: u32) -> Option<u32>
+    requires some { 180 < length (V.state view.old) }
+    requires few { length (V.state view.old) ≤ 65535 }
+    ensures found { IfSome result (λ o. IsVacant (V.state view.old) o × (o ≢ but)) }
+    ensures hints { MatchOption result (AllTried (V.state view.old) hints.old hints.new but) (λ o. TriesFor (V.state view.old) hints.old hints.new but o) }
+    ensures as_before { V.as_before view.old view.new }
+{
+    while let Some(object) = hints.take() {
+        if object != but && is_vacant(view, object) {
+            return Some(object);
+        }
+    }
+    None
+}
+
+// A vacant node other than this one, from where the last look ended and once round.
+fn look<V: View>(view: &mut V, hints: &mut Hints, but: u32) -> Option<u32>
+    requires some { 180 < length (V.state view.old) }
+    requires few { length (V.state view.old) ≤ 65535 }
+    ensures found { MatchOption result ((o : ℕ) → IsVacant (V.state view.old) o → o ≡ but) (λ o. IsVacant (V.state view.old) o × (o ≢ but)) }
+    ensures hints { hints.new ≡ hints.old }
+    ensures as_before { V.as_before view.old view.new }
+{
+    let objects = view.objects();
+    let from = hints.next().clamp(FIRST_NODE, objects);
+    let found = match vacant_between(view, from, objects, but) {
+        Some(object) => Some(object),
+        None => vacant_between(view, FIRST_NODE, from, but),
+    };
+    if let Some(object) = found {
+        hints.look_on_from(object + 1);
+    }
+    found
+}
+
+// The first vacant object of a range of nodes, other than this one.
+fn vacant_between<V: View>(view: &mut V, from: u32, end: u32, but: u32) -> Option<u32>
+    requires nodes { 180 ≤ from }
+    requires within { end ≤ length (V.state view.old) }
+    requires few { length (V.state view.old) ≤ 65535 }
+    ensures found { MatchOption result ((o : ℕ) → from ≤ o → o < end → IsVacant (V.state view.old) o → o ≡ but) (λ o. IsVacant (V.state view.old) o × (o ≢ but)) }
+    ensures as_before { V.as_before view.old view.new }
+{
+    for object in from..end {
+        if object != but && is_vacant(view, object) {
+            return Some(object);
+        }
+    }
+    None
+}
+
+// Whether the object is a node, and vacant.
+fn is_vacant<V: View>(view: &mut V, object: u32) -> bool
+    requires few { length (V.state view.old) ≤ 65535 }
+    ensures vacant { IsTrue result ↔ IsVacant (V.state view.old) object }
+    ensures as_before { V.as_before view.old view.new }
+{
+    object >= FIRST_NODE && object < view.objects() && view.read(object)[0] == 0
+}

@@ -1,7 +1,4 @@
 pub mod Parts
-pub mod Costs
-pub mod Sections
+pub mod Commands
 pub mod Told
 pub mod Opened
-pub mod Walks
-pub mod Filled

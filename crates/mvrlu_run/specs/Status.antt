@@ -1,7 +1,7 @@
 -- The status of each way to end, and its line on `err`.
 use Rattle.std.specs.Prelude.{ℕ, List, [], ◌++◌, codes, decimal}
 use Rattle.set_script.specs.declared.commands.FaultKind.{FaultKind}
-use Rattle.set_script.specs.declared.commands.FaultKind.TheVariants.{Word, Count, Name, Key, Many}
+use Rattle.set_script.specs.declared.commands.FaultKind.TheVariants.{Word, Count, Format, Name, Key, Value, Same, Many}
 use Rattle.mvrlu_run.specs.declared.finish.Finish.{Finish}
 use Rattle.mvrlu_run.specs.declared.finish.Finish.TheVariants.{Done, Usage, Script, Bytes, Read, Write, Memory}
 
@@ -29,8 +29,11 @@ fault_start _ = codes "script 0 line "
 abbrev pub fault_end : FaultKind → List ℕ
 fault_end Word = codes ": unknown command\n"
 fault_end Count = codes ": wrong number of words\n"
+fault_end Format = codes ": unknown format\n"
 fault_end Name = codes ": unknown name\n"
 fault_end Key = codes ": bad key\n"
+fault_end Value = codes ": bad value\n"
+fault_end Same = codes ": same name twice\n"
 fault_end Many = codes " commands\n"
 
 -- the line on `err`

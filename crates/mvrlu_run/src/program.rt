@@ -22,7 +22,7 @@ use std::thread::Threads;
 /// - 0: the whole text of the run was written to `out`.
 /// - 2 exactly where the words are not `run` and one further word, FILE.
 /// - 3 exactly where the script is outside the grammar; the first faulty line is answered.
-/// - 4 exactly where the file has more than 1,048,576 bytes, or its script a 3,917th command.
+/// - 4 exactly where the file has more than 1,048,576 bytes, or its script a 65,537th command.
 /// - 5 only where a call of `files` failed in this call.
 /// - 6 only where a call of `out` failed in this call; the bytes written are a prefix of the text.
 /// - 7: want of memory, which may come at each point before the first write.

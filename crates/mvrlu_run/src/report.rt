@@ -52,8 +52,11 @@ fn fault_words(kind: FaultKind) -> (&'static [u8], &'static [u8])
     let end = match kind {
         FaultKind::Word => b": unknown command\n".as_slice(),
         FaultKind::Count => b": wrong number of words\n",
+        FaultKind::Format => b": unknown format\n",
         FaultKind::Name => b": unknown name\n",
         FaultKind::Key => b": bad key\n",
+        FaultKind::Value => b": bad value\n",
+        FaultKind::Same => b": same name twice\n",
         FaultKind::Many => return (b"limit: script 0 line ", b" commands\n"),
     };
     (b"script 0 line ", end)

@@ -4,10 +4,10 @@ ghost use Rattle.mvrlu_run.specs.Script.{IsTextOf, IsRefusal};
 
 use crate::finish::{Finish, MOST_BYTES};
 use crate::running::run_commands;
-use crate::walk::read_all;
 use mv_history::{Section, Store};
 use run_outside::Gate;
 use run_report::{order, render};
+use set_catalog::read_all;
 use set_script::{ScriptFault, parse};
 use std::alloc::Global;
 

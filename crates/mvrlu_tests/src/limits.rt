@@ -63,21 +63,27 @@ fn the_bytes_of_a_script_are_limited(rt: HostRuntime) -> Result<(), Fail> {
     run_text(&rt, alloc, &more, &line_ends(alloc, 1_048_577)?, &OpenGate)
 }
 
-#[test]
-fn the_commands_of_a_script_are_limited(rt: HostRuntime) -> Result<(), Fail> {
-    let alloc = rt.alloc();
+// So many lines that ask for a key.
+fn questions(alloc: Global, count: u32) -> Result<Vec<u8>, AllocError> {
     let mut script = Vec::new(alloc);
-    for _ in 0..3917 {
+    for _ in 0..count {
         for byte in b"has l0 1\n" {
             script.push(*byte)?;
         }
     }
+    Ok(script)
+}
+
+#[test]
+fn the_commands_of_a_script_are_limited(rt: HostRuntime) -> Result<(), Fail> {
+    let alloc = rt.alloc();
     let more = Row {
-        name: "3,917 commands",
+        name: "65,537 commands",
+        most: 1 << 16,
         status: 4,
         out: b"",
-        err: b"limit: script 0 line 3917 commands\n",
+        err: b"limit: script 0 line 65537 commands\n",
         ..PLAIN
     };
-    run_text(&rt, alloc, &more, &script, &OpenGate)
+    run_text(&rt, alloc, &more, &questions(alloc, 65_537)?, &OpenGate)
 }

@@ -59,3 +59,67 @@ fn each_script_gives_its_text(rt: HostRuntime) -> Result<(), Fail> {
     }
     Ok(())
 }
+
+#[test]
+fn all_kinds_of_sets_answer_all_commands(rt: HostRuntime) -> Result<(), Fail> {
+    let rows = [
+        Row {
+            name: "the greatest key of a hash set",
+            script: b"add h9 4294967295\nnext h9 4294967295\n",
+            out: b"0.1 c1 yes\n0.2 r1 4294967295\nh9 4294967295\n",
+            ..PLAIN
+        },
+        Row {
+            name: "adds to a tree, a del, and the next key",
+            script: b"add t1 5\nadd t1 3\nadd t1 9\ndel t1 5\nnext t1 4\n",
+            out: b"0.1 c1 yes\n0.2 c2 yes\n0.3 c3 yes\n0.4 c4 yes\n0.5 r4 9\nt1 3 9\n",
+            ..PLAIN
+        },
+        Row {
+            name: "the next key and the size over two buckets",
+            script: b"add h0 17\nadd h0 2\nnext h0 3\nnext h0 18\nsize h0\n",
+            out: b"0.1 c1 yes\n0.2 c2 yes\n0.3 r2 17\n0.4 r2 none\n0.5 r2 2\nh0 2 17\n",
+            ..PLAIN
+        },
+        Row {
+            name: "a move from a tree to a bucket",
+            script: b"add t0 7\nmove t0 h3 7\npair t0 h3 7\n",
+            out: b"0.1 c1 yes\n0.2 c2 yes\n0.3 r2 no yes\nh3 7\n",
+            ..PLAIN
+        },
+        Row {
+            name: "a move onto a key that is there",
+            script: b"add l0 4\nadd l1 4\nmove l0 l1 4\n",
+            out: b"0.1 c1 yes\n0.2 c2 yes\n0.3 r2 no\nl0 4\nl1 4\n",
+            ..PLAIN
+        },
+        Row {
+            name: "values through put, get and move",
+            script: b"format 2\nput l0 5 7\nput l0 5 7\nget l0 5\nadd l0 6\nmove l0 t0 5\nget t0 5\nget l0 5\n",
+            out: b"0.1 c1 yes\n0.2 r1 no\n0.3 r1 7\n0.4 c2 yes\n0.5 c3 yes\n0.6 r3 7\n0.7 r3 none\nl0 6\nt0 5=7\n",
+            ..PLAIN
+        },
+        Row {
+            name: "ten digits of a key",
+            script: b"next t9 0000000001\n",
+            out: b"0.1 r0 none\n",
+            ..PLAIN
+        },
+        Row {
+            name: "CR as the last byte",
+            script: b"has l0 1\r",
+            out: b"0.1 r0 no\n",
+            ..PLAIN
+        },
+        Row {
+            name: "a comment that is no text",
+            script: b"# \xff\n",
+            out: b"",
+            ..PLAIN
+        },
+    ];
+    for row in &rows {
+        run_row(&rt, rt.alloc(), row)?;
+    }
+    Ok(())
+}

@@ -6,7 +6,8 @@ use Rattle.std.proofs.lemmas.List.{at_drop_more, take_more, take_all, flat_map_m
 use Rattle.std.proofs.lemmas.Slice.Zip.{length-zip, get_or-zip}
 use Rattle.mv_history.specs.declared.answers.LogTable.{LogTable}
 use Rattle.set_script.specs.Catalogue.{Map, Maps, map_of}
-use Rattle.run_report.specs.Text.{text_of_name, text_of_key, text_of_set, text_of_sets, text_of_table, text_of_tables}
+use Rattle.set_script.specs.GrammarLaws.{name_text}
+use Rattle.run_report.specs.Text.{text_of_key, text_of_set, text_of_sets, text_of_table, text_of_tables}
 
 -- the keys of a map beside its values are the map
 pub zip_of_parts : (m : Map) → zip (map (λ (e : ℕ × ℕ). e.0) m) (map (λ (e : ℕ × ℕ). e.1) m) ≡ m
@@ -26,13 +27,13 @@ pub keys_all : (keys values old now : List ℕ) (i : ℕ) → length keys ≤ i 
 keys_all keys values old now i past n told = rw (take_all i (zip keys values) (rw (length-zip keys values, n) (omega arith))) at told
 
 -- the text of a set that isn't empty
-set_whole : (name : ℕ) (m : Map) (keys values old : List ℕ) → keys ≡ map (λ (e : ℕ × ℕ). e.0) m → values ≡ map (λ (e : ℕ × ℕ). e.1) m → 0 < length keys → ((old ++ text_of_name name) ++ flat_map text_of_key (zip keys values)) ++ codes "\n" ≡ old ++ text_of_set name m
+set_whole : (name : ℕ) (m : Map) (keys values old : List ℕ) → keys ≡ map (λ (e : ℕ × ℕ). e.0) m → values ≡ map (λ (e : ℕ × ℕ). e.1) m → 0 < length keys → ((old ++ name_text name) ++ flat_map text_of_key (zip keys values)) ++ codes "\n" ≡ old ++ text_of_set name m
 set_whole name [] keys values old first second some = absurd (omega (arith, ap length first))
 set_whole name (e ∷ m) keys values old first second some =
     let all : zip keys values ≡ e ∷ m = rw (first, second) (zip_of_parts (e ∷ m)) in
     rw all (simp append_assoc)
 
-pub set_told : (name : ℕ) (m : Map) (keys values old named keyed now : List ℕ) (result : Result (Unit {0}) AllocError) → keys ≡ map (λ (e : ℕ × ℕ). e.0) m → values ≡ map (λ (e : ℕ × ℕ). e.1) m → 0 < length keys → named ≡ old ++ text_of_name name → keyed ≡ named ++ flat_map text_of_key (zip keys values) → now ≡ (if is_ok result then keyed ++ codes "\n" else keyed) → OnOk result (now ≡ old ++ text_of_set name m)
+pub set_told : (name : ℕ) (m : Map) (keys values old named keyed now : List ℕ) (result : Result (Unit {0}) AllocError) → keys ≡ map (λ (e : ℕ × ℕ). e.0) m → values ≡ map (λ (e : ℕ × ℕ). e.1) m → 0 < length keys → named ≡ old ++ name_text name → keyed ≡ named ++ flat_map text_of_key (zip keys values) → now ≡ (if is_ok result then keyed ++ codes "\n" else keyed) → OnOk result (now ≡ old ++ text_of_set name m)
 set_told name m keys values old named keyed now (Ok u) first second some name_told keys_told end_told = end_told ∙ rw (keys_told, name_told) (set_whole name m keys values old first second some)
 set_told name m keys values old named keyed now (Err e) first second some name_told keys_told end_told = tt
 

@@ -1,12 +1,13 @@
 -- The text of a run: a line for each command, then the sets that aren't empty, then the table of each seat's log.
-use Rattle.std.specs.Prelude.{ℕ, suc, ◌%◌, ◌==◌, nat_lt, List, [], ◌∷◌, ◌++◌, codes, decimal, if◌then◌else◌}
+use Rattle.std.specs.Prelude.{ℕ, suc, ◌==◌, Bool, List, [], ◌∷◌, ◌++◌, codes, decimal, if◌then◌else◌}
 use Rattle.std.specs.List.{flat_map}
 use Rattle.mv_history.specs.declared.answers.LogTable.{LogTable}
 use Rattle.set_script.specs.Catalogue.{Map, Maps}
+use Rattle.set_script.specs.GrammarLaws.{name_text}
 use Rattle.set_script.specs.declared.commands.Place.{Place}
 use Rattle.set_script.specs.declared.commands.Place.TheVariants.{Commit, Read}
 use Rattle.set_script.specs.declared.commands.Reply.{Reply}
-use Rattle.set_script.specs.declared.commands.Reply.TheVariants.{Yes, No, Full, Worn}
+use Rattle.set_script.specs.declared.commands.Reply.TheVariants.{Yes, No, Full, Worn, Both, Count, Key, NoKey, Value}
 use Rattle.run_report.specs.declared.line.Line.{Line}
 
 -- a place, with its printed time
@@ -14,21 +15,26 @@ abbrev pub text_of_place : Place → List ℕ
 text_of_place (Commit time) = codes "c" ++ decimal time
 text_of_place (Read time) = codes "r" ++ decimal time
 
+-- whether a set has a key
+abbrev pub text_of_answer : Bool → List ℕ
+text_of_answer has = if has then codes "yes" else codes "no"
+
 -- a reply
 abbrev pub text_of_reply : Reply → List ℕ
 text_of_reply Yes = codes "yes"
 text_of_reply No = codes "no"
 text_of_reply Full = codes "full"
 text_of_reply Worn = codes "worn"
+text_of_reply (Both first second) = text_of_answer first ++ codes " " ++ text_of_answer second
+text_of_reply (Count count) = decimal count
+text_of_reply (Key key) = decimal key
+text_of_reply NoKey = codes "none"
+text_of_reply (Value value) = decimal value
 
 -- a line: the seat, the number, the place and the reply
 abbrev pub text_of_line : Line → List ℕ
 text_of_line line =
     decimal line.seat ++ codes "." ++ decimal line.number ++ codes " " ++ text_of_place line.place ++ codes " " ++ text_of_reply line.reply ++ codes "\n"
-
--- a set's name: l0 to l9, h0 to h9 and t0 to t9
-abbrev pub text_of_name : ℕ → List ℕ
-text_of_name name = (if nat_lt name 10 then codes "l" else (if nat_lt name 20 then codes "h" else codes "t")) ++ decimal (name % 10)
 
 -- a key, with its value where that isn't 0
 abbrev pub text_of_key : ℕ × ℕ → List ℕ
@@ -37,7 +43,7 @@ text_of_key e = codes " " ++ decimal e.0 ++ (if e.1 == 0 then [] else codes "=" 
 -- a set: its name and its keys, and nothing where it is empty
 abbrev pub text_of_set : ℕ → Map → List ℕ
 text_of_set name [] = []
-text_of_set name (e ∷ m) = text_of_name name ++ flat_map text_of_key (e ∷ m) ++ codes "\n"
+text_of_set name (e ∷ m) = name_text name ++ flat_map text_of_key (e ∷ m) ++ codes "\n"
 
 -- the sets, the first of which has this name
 abbrev pub text_of_sets : ℕ → Maps → List ℕ

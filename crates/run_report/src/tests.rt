@@ -22,6 +22,10 @@ fn line(seat: u32, number: u32, place: Place, reply: Reply) -> Line {
     }
 }
 
+fn both(first: bool, second: bool) -> Reply {
+    Reply::Both { first, second }
+}
+
 #[test]
 fn add_then_has(rt: HostRuntime) -> Result<(), Fail> {
     let lines = [
@@ -101,5 +105,63 @@ fn lines_stand_by_time_and_commits_before_reads(rt: HostRuntime) -> Result<(), F
     lines.swap(1, 3);
     order(&mut lines);
     assert_eq!(rt; lines.as_slice(), expected.as_slice());
+    Ok(())
+}
+
+#[test]
+fn every_reply_is_printed(rt: HostRuntime) -> Result<(), Fail> {
+    let rows: [(Reply, &str); 13] = [
+        (Reply::Yes, "yes"),
+        (Reply::No, "no"),
+        (Reply::Full, "full"),
+        (Reply::Worn, "worn"),
+        (both(false, false), "no no"),
+        (both(false, true), "no yes"),
+        (both(true, false), "yes no"),
+        (both(true, true), "yes yes"),
+        (Reply::Count { count: 2 }, "2"),
+        (Reply::Key { key: 4294967295 }, "4294967295"),
+        (Reply::NoKey, "none"),
+        (Reply::Value { value: 0 }, "0"),
+        (
+            Reply::Value {
+                value: 18446744073709551615,
+            },
+            "18446744073709551615",
+        ),
+    ];
+    let end = Catalogue::new(rt.alloc())?;
+    for (reply, word) in &rows {
+        let text = render(rt.alloc(), &[line(0, 1, Place::Read(2), *reply)], &end, &[])?;
+        let want = format!(in rt.alloc(); "0.1 r2 {word}\n")?;
+        assert_eq!(rt; text.as_slice(), want.as_bytes());
+    }
+    Ok(())
+}
+
+#[test]
+fn values_follow_their_keys(rt: HostRuntime) -> Result<(), Fail> {
+    let lines = [
+        line(0, 1, Place::Commit(1), Reply::Yes),
+        line(0, 2, Place::Read(1), Reply::No),
+        line(0, 3, Place::Read(1), Reply::Value { value: 7 }),
+        line(0, 4, Place::Commit(2), Reply::Yes),
+        line(0, 5, Place::Commit(3), Reply::Yes),
+        line(0, 6, Place::Read(3), Reply::Value { value: 7 }),
+        line(0, 7, Place::Read(3), Reply::NoKey),
+    ];
+    let mut end = Catalogue::new(rt.alloc())?;
+    end.insert(0, 6, 0)?;
+    end.insert(20, 5, 7)?;
+    let table = LogTable {
+        live: 7,
+        commits: 3,
+        ..NO_TABLE
+    };
+    let text = render(rt.alloc(), &lines, &end, &[table])?;
+    assert_eq!(rt;
+        text.as_slice(),
+        b"0.1 c1 yes\n0.2 r1 no\n0.3 r1 7\n0.4 c2 yes\n0.5 c3 yes\n0.6 r3 7\n0.7 r3 none\nl0 6\nt0 5=7\nlog 0 live 7 freed 0 back 0 commits 3 aborts 0 rests 0\n".as_slice()
+    );
     Ok(())
 }

@@ -2,7 +2,8 @@
 ghost use Rattle.std.specs.Prelude.{◌≡◌, ◌++◌, ◌<◌, IfOk, OnOk, length, string_bytes};
 ghost use Rattle.std.specs.List.{flat_map, zip};
 ghost use Rattle.set_script.specs.Catalogue.{map_of, IsCatalogue};
-ghost use Rattle.run_report.specs.Text.{text_of_line, text_of_place, text_of_reply, text_of_name, text_of_key, text_of_set, text_of_sets, text_of_table, text_of_tables, text_of_run};
+ghost use Rattle.set_script.specs.GrammarLaws.{name_text};
+ghost use Rattle.run_report.specs.Text.{text_of_line, text_of_place, text_of_answer, text_of_reply, text_of_key, text_of_set, text_of_sets, text_of_table, text_of_tables, text_of_run};
 
 use crate::line::Line;
 use mv_history::LogTable;
@@ -15,7 +16,8 @@ const NAMES: u32 = 30;
 
 /// The text of a run: the lines as they stand, each set of the catalogue that isn't empty, and the log tables of the seats, from seat 0 on.
 ///
-/// A line is `S.N cT R` for a commit and `S.N rT R` for a read: the seat, the number, the printed time and the reply.
+/// A line is `S.N cT R` for a commit and `S.N rT R` for a read: the seat, the number, the printed time and the reply,
+/// which is `yes`, `no`, `full` or `worn`, two of `yes` and `no`, a number, or `none` where there is no key.
 /// A set is its name and its rising keys; a key whose value is not 0 is followed by `=` and the value.
 /// A table is `log S live A freed B back C commits D aborts E rests F`. Each line ends with LF.
 /// The error is want of memory.
@@ -65,12 +67,28 @@ fn write_place(text: &mut String, place: &Place) -> Result<(), AllocError>
 fn write_reply(text: &mut String, reply: Reply) -> Result<(), AllocError>
     ensures { OnOk result (string_bytes text.new ≡ string_bytes text.old ++ text_of_reply reply) }
 {
-    text.push_str(match reply {
-        Reply::Yes => "yes",
-        Reply::No => "no",
-        Reply::Full => "full",
-        Reply::Worn => "worn",
-    })
+    match reply {
+        Reply::Yes => text.push_str("yes"),
+        Reply::No => text.push_str("no"),
+        Reply::Full => text.push_str("full"),
+        Reply::Worn => text.push_str("worn"),
+        Reply::Both { first, second } => {
+            write_answer(text, first)?;
+            text.push_str(" ")?;
+            write_answer(text, second)
+        }
+        Reply::Count { count } => write!(text, "{count}"),
+        Reply::Key { key } => write!(text, "{key}"),
+        Reply::NoKey => text.push_str("none"),
+        Reply::Value { value } => write!(text, "{value}"),
+    }
+}
+
+// Writes whether a set has a key.
+fn write_answer(text: &mut String, has: bool) -> Result<(), AllocError>
+    ensures { OnOk result (string_bytes text.new ≡ string_bytes text.old ++ text_of_answer has) }
+{
+    text.push_str(if has { "yes" } else { "no" })
 }
 
 fn write_sets(text: &mut String, end: &Catalogue) -> Result<(), AllocError>
@@ -98,7 +116,7 @@ fn write_set(text: &mut String, name: u32, end: &Catalogue) -> Result<(), AllocE
 }
 
 fn write_name(text: &mut String, name: u32) -> Result<(), AllocError>
-    ensures { OnOk result (string_bytes text.new ≡ string_bytes text.old ++ text_of_name name) }
+    ensures { OnOk result (string_bytes text.new ≡ string_bytes text.old ++ name_text name) }
 {
     let kind = match name {
         0..10 => "l",

@@ -8,9 +8,10 @@ use Rattle.mvrlu_run.proofs.running.run_commands.Given as goal
 
 abbrev pub invariant-loop-command : goal.invariant-loop-command
 invariant-loop-command g l = record {
-  done : l.run.done ≡ l.command-index;
-  ready : IsReady (seat_of l.run.store) l.run.vacant l.run.done;
-  told : IsTold l.commands capacity l.run.done l.lines.items (length (seat_of l.run.store).seen) (catalogue_of (state_now (seat_of l.run.store)));
-  lines : length l.lines.items ≡ l.run.done;
+  number : l.number ≡ l.command-index;
+  ready : IsReady (seat_of l.store);
+  seen : length (seat_of l.store).seen ≤ l.number;
+  told : IsTold l.commands capacity l.number l.lines.items (length (seat_of l.store).seen) (catalogue_of (state_now (seat_of l.store)));
+  lines : length l.lines.items ≡ l.number;
   room : length l.commands ≤ vec_capacity l.lines;
 }

@@ -1,19 +1,26 @@
-use Rattle.std.proofs.Common.{◌≡◌, [], ◌∷◌, ap, ◌∙◌}
+use Rattle.std.proofs.Common.{◌≡◌, [], ◌∷◌, ap, ◌∙◌, subst, sym}
 use Rattle.mv_history.specs.PlainLaws.{plain_reads}
 use Rattle.mv_history.specs.PlainMeaning.{seat_of, section_of}
 use Rattle.set_script.specs.CatalogueOf.{catalogue_of}
+use Rattle.set_script.specs.Lawful.{IsLawful}
 use Rattle.run_report.specs.Text.{text_of_run}
 use Rattle.mvrlu_run.specs.Run.{capacity}
 use Rattle.mvrlu_run.specs.Ready.{state_now}
-use Rattle.mvrlu_run.proofs.Sections.{begins, store_alone, section_alone}
+use Rattle.mvrlu_run.proofs.Commands.{last_section, lawful_now}
 use Rattle.mvrlu_run.proofs.script.make_text.Goals as goal
+
+pub read_all-end-requires : goal.read_all-end-requires
+read_all-end-requires g c =
+    let store = c.in-Ok-run_commands.store in
+    let reads = plain_reads c.enter-section.result ∙ last_section (seat_of store) (section_of c.enter-section.result) c.enter-section.ensures.enters c.enter-section.ensures.took in
+    record { lawful = subst IsLawful (sym reads) (lawful_now (seat_of store) store.lawful) }
 
 pub returns : goal.returns
 returns g c =
     let store = c.in-Ok-run_commands.store in
-    let b = begins (seat_of store) (section_of c.enter-section.result) (store_alone store) (section_alone c.enter-section.result) c.enter-section.ensures.enters c.enter-section.ensures.took in
-    let end : c.in-Ok-end.end ≡ catalogue_of (state_now (seat_of store)) = c.in-Ok-end.ensures.catalogue ∙ ap catalogue_of (plain_reads c.enter-section.result ∙ b.state) in
-    let ran = rw c.deref.ensures.value at c.in-Ok-run_commands.ensures.legal in
+    let reads = plain_reads c.enter-section.result ∙ last_section (seat_of store) (section_of c.enter-section.result) c.enter-section.ensures.enters c.enter-section.ensures.took in
+    let end : c.in-Ok-end.end ≡ catalogue_of (state_now (seat_of store)) = c.in-Ok-end.ensures.catalogue ∙ ap catalogue_of reads in
+    let ran = rw c.deref.ensures.value at c.in-Ok-run_commands.ensures in
     record {
       short = c.requires;
       commands = c.in-Ok.commands.items;

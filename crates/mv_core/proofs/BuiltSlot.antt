@@ -214,6 +214,7 @@ module _ (starts : State → Type 0) (allows : List ℕ → State → Writes →
       lock_freshness = set.freshness_match c h f.ring rings alike f.time k.lock_freshness;
       successors = stamped.successors_match c h f.ring rings alike (λ s j. m (Super s j)) super same_super (λ s j. m (Stamp s j)) stamp same_stamp f.section supers_built k.successors;
       deaths = walked.deaths_match c h f.ring rings steady k.deaths;
+      deaths_seen = walked.deaths_seen_match c h f.ring rings steady f.past k.deaths_seen;
       positions = set.positions_match c h f.ring rings alike (wide_after f.ring n slot (Built new) built refl within) freeing_back freeing_forth built_next k.positions;
       head_is_top = set.top_match c h f.ring rings alike (λ o. m (Head o)) k.head_is_top;
       held_link = set.held_link_match c h f.ring rings alike k.held_link;
@@ -234,7 +235,7 @@ module _ (starts : State → Type 0) (allows : List ℕ → State → Writes →
       successor_flag = walked.flag_match c h f.ring rings steady (λ s j. m (Super s j)) super same_super f.section k.successor_flag;
       succeeded_has_super = stamped.succeeded_match c h f.ring rings alike (λ s j. m (Super s j)) super same_super f.empty k.succeeded_has_super;
       loaded_words = k.loaded_words;
-      freed_is_old = set.freed_match c h f.ring rings alike (m Clock) f.time k.freed_is_old;
+      freed_is_old = set.freed_match c h f.ring rings alike (m Clock) f.grace k.freed_is_old;
       cut_is_old = set.cut_match c h f.ring rings alike f.time k.cut_is_old;
       death_after_write = walked.death_after_match c h f.ring rings steady k.death_after_write;
       write_back = stamped.back_match c h f.ring rings alike (λ o w. m (Master o w)) f.section f.time f.heard f.grace f.back k.write_back;

@@ -136,6 +136,7 @@ module _ (starts : State → Type 0) (allows : List ℕ → State → Writes →
                 built = k.successors.built;
               };
               deaths = k.deaths;
+              deaths_seen = k.deaths_seen;
               positions = k.positions;
               head_is_top = k.head_is_top;
               held_link = k.held_link;
@@ -157,7 +158,7 @@ module _ (starts : State → Type 0) (allows : List ℕ → State → Writes →
               succeeded_has_super = k.succeeded_has_super;
               loaded_words = loaded_after c (m Clock) stamp heard n section (become section n None) heard_nothing refl (λ word has. none_in word has) (λ word has. none_in word has)
                   (inside_after c (m Clock) stamp heard n section None (λ i e. absurd (cc)) k.loaded_words) k.loaded_words;
-              freed_is_old = more.freed_more c start h rings sets time n None tt (m Clock) k.freed_is_old;
+              freed_is_old = k.freed_is_old;
               cut_is_old = more.cut_more c start h rings sets time n None tt k.cut_is_old;
               death_after_write = k.death_after_write;
               write_back = more.back_more c start h rings sets time n None tt walk section heard None heard_nothing master (λ s. (seats s).grace) (λ s. (seats s).back) k.write_back;

@@ -93,8 +93,8 @@ module _ (rings later : ℕ → Ring) (kept : KeepsCommitted rings later) where
           none = λ none. ⊎_elim (λ z. inl z) (λ g. inr (gone_still x.previous g)) (b.none (λ link y n v. none link y n (version_still x.object _ link y n v)));
         }
 
-    pub freed_kept : (clock : ℕ) (time : ℕ → Option ℕ) → FreedIsOld c clock h time rings → FreedIsOld c clock h time later
-    freed_kept clock time k = record {
+    pub freed_kept : (clock : ℕ) (grace : ℕ → ℕ) → FreedIsOld c clock h grace rings → FreedIsOld c clock h grace later
+    freed_kept clock grace k = record {
       writes = λ t o e at w. ⊎_elim (λ a. inl (a.0, a.1, a.2, version_still o t a.0 a.1 a.2 a.3)) (λ old. inr old) (k.writes t o e at w);
       named = λ some. let a = k.named some in (a.0, a.1, kept.still _ _ a.0 a.1 a.2, a.3, a.4);
     }

@@ -73,6 +73,9 @@ module _ (c : Config) (h : List Entry) (before after : ℕ → Ring) (k : Matche
         w.once s j l x y a.0 b.0 a.1 b.1 (sym a.2.time ∙ e ∙ b.2.time);
     first = λ s j y su lives. let b = lived before after k s j y su lives in first_forth Cuts cuts_place before after k c s y y refl (w.first s j y b.0 b.1);
     after_first = λ s j y su lives. let b = lived before after k s j y su lives in w.after_first s j y b.0 b.1;
+    between = λ s j y su lives p from to.
+        let b = lived before after k s j y su lives in
+        set_forth Cuts cuts_place before after k (λ st. Unit {0}) (λ st. Unit {0}) (λ _ _ _ _ _ _. tt) c s y.first p (w.between s j y b.0 b.1 p from to);
     apart = λ s j l y z su n p uncommitted q.
         let a = lived before after k s j y su p in
         let b = committed_back before after k s l z n q in
@@ -91,6 +94,9 @@ module _ (c : Config) (h : List Entry) (before after : ℕ → Ring) (k : Matche
         let b = lived before after k s j y su lives in
         subst (λ (p : ℕ). (index_of c y.position ≡ j) × (y.position < p) × (p ≤ y.position + c.slots)) (sym (k.next s)) (old.live s j y b.0 b.1);
     freeing = λ s j p first e. subst (λ (q : ℕ). (index_of c p ≡ j) × (p < q) × (q ≤ p + c.slots)) (sym (k.next s)) (old.freeing s j p first (freeing s j p first e));
+    oldest = λ s j p first e.
+        let a = old.oldest s j p first (freeing s j p first e) in
+        (a.0, λ l y su lives. let b = lived before after k s l y su lives in a.1 l y b.0 b.1);
     built = λ s j b e. ap (index_of c) (k.next s) ∙ old.built s j b (built s j b e);
     no_gap = λ s p q in_use le lt.
         use_forth Cuts cuts_place before after k freeing_still c s q (old.no_gap s p q (use_back Cuts cuts_place before after k freeing c s p in_use) le (subst (λ (u : ℕ). q < u) (k.next s) lt));
@@ -152,8 +158,8 @@ module _ (c : Config) (h : List Entry) (before after : ℕ → Ring) (k : Matche
       r))
       (old s j y e (aborted_back before after k s j y e lives))
 
-  pub freed_kept : (clock : ℕ) (time : ℕ → Option ℕ) → FreedIsOld c clock h time before → FreedIsOld c clock h time after
-  freed_kept clock time old = record {
+  pub freed_kept : (clock : ℕ) (grace : ℕ → ℕ) → FreedIsOld c clock h grace before → FreedIsOld c clock h grace after
+  freed_kept clock grace old = record {
     writes = λ t o e at w. ⊎_elim (λ a. let f = version_forth before after k o t a.0 a.1 a.2 a.3 in inl (a.0, a.1, f.0, f.1)) (λ b. inr b) (old.writes t o e at w);
     named = λ ne.
         let r = old.named ne in

@@ -20,7 +20,7 @@ use Rattle.mv_core.specs.Views.{Faces, faces_of, become}
 use Rattle.mv_core.specs.Times.{NotAboveAny}
 use Rattle.mv_core.specs.WalkSteps.{IsLinkOf}
 use Rattle.mv_core.specs.ReclaimFacts.{IsWrittenBack, WriteBacks}
-use Rattle.mv_core.specs.ReclaimSteps.{MayCutHead, head_cut, cut_lost, CutTold}
+use Rattle.mv_core.specs.ReclaimSteps.{MayCutHead, head_cut, cut_lost, CutTold, IsOfOther}
 use Rattle.mv_core.specs.Known.{RunsOn}
 use Rattle.mv_core.specs.Rule.{Facts, Swaps, IsKept}
 use Rattle.mv_core.proofs.Frames.{become_here, become_all, unchanged, changed, settle}
@@ -30,6 +30,7 @@ use Rattle.mv_core.proofs.Counts.{held_same}
 use Rattle.mv_core.proofs.EmptyHeads.{time_of_section}
 use Rattle.mv_core.proofs.WalkOn.{head_link}
 use Rattle.mv_core.proofs.CutWon.{cut_facts}
+use Rattle.mv_core.proofs.LostCut.{lost_other}
 
 module _ (starts : State → Type 0) (allows : List ℕ → State → Writes → Type 0) (c : Config) (start : State) (m : Memory) (h : List Entry) (f : Faces) (k : Facts starts allows c start m h f)
     (n : ℕ) (b : WriteBack) (at : f.back n ≡ Some b) where
@@ -84,6 +85,7 @@ module _ (starts : State → Type 0) (allows : List ℕ → State → Writes →
     lock_freshness = k.lock_freshness;
     successors = k.successors;
     deaths = k.deaths;
+    deaths_seen = k.deaths_seen;
     positions = k.positions;
     head_is_top = k.head_is_top;
     held_link = k.held_link;
@@ -174,6 +176,9 @@ module _ (starts : State → Type 0) (allows : List ℕ → State → Writes →
     found_link : IsLinkOf c (m (Head object))
     found_link = let r = written in head_link starts allows c start m h f k n (f.heard n) r.0 (time_of_section (seats n).phase r.0 r.1) r.2.helped object
 
+    found_other : m (Head object) ≢ link_of n position → IsOfOther v (m (Head object))
+    found_other = let r = written in lost_other starts allows c start m h seats k v is back r.0 r.1 r.2 refl
+
   -- what the pass has at run time stays
   cut_runs : RunsOn v (head_cut c v object position x note)
   cut_runs time first a begun =
@@ -181,20 +186,20 @@ module _ (starts : State → Type 0) (allows : List ℕ → State → Writes →
       let held : held_count (put_slot v.ring slot cut) ≡ held_count v.ring = held_same v.ring slot cut (live_within v.ring slot x (Committed note) may.own) (sym (ap is_held may.own)) in
       (a, λ i e mode some_held. begun i e mode (subst (λ (y : ℕ). 0 < y) held some_held) ∙ ap (λ (y : ℕ). v.ring.next - y) (sym held))
 
-  cut_swaps_from : Swaps starts allows c start v (Head object) (link_of v.number position) 0 (λ found w. ((CutTold c v object position x note found w × (found ≢ link_of v.number position → IsLinkOf c found)) × RunsOn v w) × IsKept v w)
+  cut_swaps_from : Swaps starts allows c start v (Head object) (link_of v.number position) 0 (λ found w. ((CutTold c v object position x note found w × (found ≢ link_of v.number position → IsLinkOf c found) × (found ≢ link_of v.number position → IsOfOther v found)) × RunsOn v w) × IsKept v w)
   cut_swaps_from = (
     (λ m h seats k is own begins won. (
       head_cut c v object position x note,
       h,
       cut_stored m h seats k is won,
-      (((((λ _. refl), (λ ne. absurd (ne refl))), (λ ne. absurd (ne refl))), cut_runs), (refl, refl, refl, refl, refl, refl)),
+      (((((λ _. refl), (λ ne. absurd (ne refl))), (λ ne. absurd (ne refl)), (λ ne. absurd (ne refl))), cut_runs), (refl, refl, refl, refl, refl, refl)),
     )),
     (λ m h seats k is own begins lost wide. (
       cut_lost c v object position (m (Head object)),
       lost_stored m h seats k is,
-      (((((λ e. absurd (lost e)), (λ _. refl)), (λ _. found_link m h seats k is)), (λ t i a b. (a, b))), (refl, refl, refl, refl, refl, refl)),
+      (((((λ e. absurd (lost e)), (λ _. refl)), (λ _. found_link m h seats k is), found_other m h seats k is), (λ t i a b. (a, b))), (refl, refl, refl, refl, refl, refl)),
     )),
   )
 
-  pub cut_swaps : (link : ℕ) → link ≡ link_of v.number position → Swaps starts allows c start v (Head object) link 0 (λ found w. ((CutTold c v object position x note found w × (found ≢ link_of v.number position → IsLinkOf c found)) × RunsOn v w) × IsKept v w)
-  cut_swaps link e = subst (λ (g : ℕ). Swaps starts allows c start v (Head object) g 0 (λ found w. ((CutTold c v object position x note found w × (found ≢ link_of v.number position → IsLinkOf c found)) × RunsOn v w) × IsKept v w)) (sym e) cut_swaps_from
+  pub cut_swaps : (link : ℕ) → link ≡ link_of v.number position → Swaps starts allows c start v (Head object) link 0 (λ found w. ((CutTold c v object position x note found w × (found ≢ link_of v.number position → IsLinkOf c found) × (found ≢ link_of v.number position → IsOfOther v found)) × RunsOn v w) × IsKept v w)
+  cut_swaps link e = subst (λ (g : ℕ). Swaps starts allows c start v (Head object) g 0 (λ found w. ((CutTold c v object position x note found w × (found ≢ link_of v.number position → IsLinkOf c found) × (found ≢ link_of v.number position → IsOfOther v found)) × RunsOn v w) × IsKept v w)) (sym e) cut_swaps_from

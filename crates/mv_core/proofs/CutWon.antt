@@ -36,6 +36,7 @@ use Rattle.mv_core.proofs.LockWon.{put_head}
 use Rattle.mv_core.proofs.Cuts as cuts
 use Rattle.mv_core.proofs.Cuts.{IsCutOf, Cuts, cuts_self}
 use Rattle.mv_core.proofs.CutKept as kept
+use Rattle.mv_core.proofs.SeenDeaths.{noted_same, seen_put}
 
 module _ (starts : State → Type 0) (allows : List ℕ → State → Writes → Type 0) (c : Config) (start : State) (m : Memory) (h : List Entry) (f : Faces) (k : Facts starts allows c start m h f)
     (n slot : ℕ) (x : Version) (note : CommitNote) (lives : Lives f.ring n slot x (Committed note)) (won : m (Head x.object) ≡ link_of n x.position)
@@ -282,6 +283,7 @@ module _ (starts : State → Type 0) (allows : List ℕ → State → Writes →
     lock_freshness = kept.freshness_kept c h f.ring rings matches f.time k.lock_freshness;
     successors = kept.successors_kept c h f.ring rings matches (λ s j. m (Stamp s j)) (λ s j. m (Super s j)) f.section built_back k.successors;
     deaths = kept.deaths_kept c h f.ring rings matches k.deaths;
+    deaths_seen = seen_put c f.past f.ring n slot cut_ring x (Committed new) refl within (noted_same (c.base + length (f.past n).seen) (Committed note) (Committed new) refl (λ (uncut : true ≡ false). absurd (cc)) (k.deaths_seen n slot x (Committed note) lives)) k.deaths_seen;
     positions = kept.positions_kept c h f.ring rings matches (wide_after f.ring n slot (Live x (Committed new)) cut_ring refl within) freeing_back freeing_forth built_back k.positions;
     head_is_top = heads;
     held_link = links;
@@ -302,7 +304,7 @@ module _ (starts : State → Type 0) (allows : List ℕ → State → Writes →
     successor_flag = kept.flag_kept c h f.ring rings matches (λ s j. m (Super s j)) f.section k.successor_flag;
     succeeded_has_super = kept.succeeded_kept c h f.ring rings matches (λ s j. m (Super s j)) f.empty k.succeeded_has_super;
     loaded_words = k.loaded_words;
-    freed_is_old = kept.freed_kept c h f.ring rings matches (m Clock) f.time k.freed_is_old;
+    freed_is_old = kept.freed_kept c h f.ring rings matches (m Clock) f.grace k.freed_is_old;
     cut_is_old = cut_old;
     death_after_write = kept.death_after_kept c h f.ring rings matches k.death_after_write;
     write_back = backs;

@@ -116,6 +116,7 @@ module _ (starts : State → Type 0) (allows : List ℕ → State → Writes →
     successors = stamped.successors_match c h f.ring rings alike (λ s j. m (Super s j)) (λ s j. m (Super s j)) (λ s j y st l. refl) (λ s j. m (Stamp s j)) (λ s j. m (Stamp s j)) (λ s j y st l. refl) f.section
         (λ s j b e. k.successors.built s j b (built_back s j b e)) k.successors;
     deaths = walked.deaths_match c h f.ring rings steady k.deaths;
+    deaths_seen = walked.deaths_seen_match c h f.ring rings steady f.past k.deaths_seen;
     positions = set.positions_match c h f.ring rings alike (wide_after f.ring n slot (Live (with_word x w value) Held) stored refl within) freeing_back freeing_forth (λ s j b e. k.positions.built s j b (built_back s j b e)) k.positions;
     head_is_top = set.top_match c h f.ring rings alike (λ o. m (Head o)) k.head_is_top;
     held_link = set.held_link_match c h f.ring rings alike k.held_link;
@@ -136,7 +137,7 @@ module _ (starts : State → Type 0) (allows : List ℕ → State → Writes →
     successor_flag = walked.flag_match c h f.ring rings steady (λ s j. m (Super s j)) (λ s j. m (Super s j)) (λ s j y st l. refl) f.section k.successor_flag;
     succeeded_has_super = stamped.succeeded_match c h f.ring rings alike (λ s j. m (Super s j)) (λ s j. m (Super s j)) (λ s j y st l. refl) f.empty k.succeeded_has_super;
     loaded_words = k.loaded_words;
-    freed_is_old = set.freed_match c h f.ring rings alike (m Clock) f.time k.freed_is_old;
+    freed_is_old = set.freed_match c h f.ring rings alike (m Clock) f.grace k.freed_is_old;
     cut_is_old = set.cut_match c h f.ring rings alike f.time k.cut_is_old;
     death_after_write = walked.death_after_match c h f.ring rings steady k.death_after_write;
     write_back = stamped.back_match c h f.ring rings alike (λ o i. m (Master o i)) f.section f.time f.heard f.grace f.back k.write_back;

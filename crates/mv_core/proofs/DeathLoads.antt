@@ -22,12 +22,12 @@ use Rattle.mv_core.specs.Views.{Faces, faces_of}
 use Rattle.mv_core.specs.SetFacts.{HoldsSlot, SlotWords}
 use Rattle.mv_core.specs.SectionFacts.{IsWord}
 use Rattle.mv_core.specs.WalkFacts.{IsBeforeDeath, WalkerBeforeDeath}
-use Rattle.mv_core.specs.ReclaimFacts.{Deaths, DeathAfterWrite, SuccessorFlag, PositionsAndGrace}
+use Rattle.mv_core.specs.ReclaimFacts.{Deaths, DeathSeen, DeathsSeen, DeathAfterWrite, SuccessorFlag, PositionsAndGrace}
 use Rattle.mv_core.specs.EnterSteps.{IsWhole}
 use Rattle.mv_core.specs.LockSteps.{timed_status, timed, death_loaded}
 use Rattle.mv_core.specs.Known.{RunsOn}
 use Rattle.mv_core.specs.Rule.{Facts, Loads, IsKept}
-use Rattle.mv_core.proofs.Frames.{unchanged, changed, settle}
+use Rattle.mv_core.proofs.Frames.{become_here, unchanged, changed, settle}
 use Rattle.mv_core.proofs.Links.{note_once, names_once, none_names_zero, gone_names_none}
 use Rattle.mv_core.proofs.Finding.{find_write}
 use Rattle.mv_core.proofs.Written.{commit_within}
@@ -35,7 +35,7 @@ use Rattle.mv_core.proofs.WholeSeen.{whole_seen}
 use Rattle.mv_core.proofs.Counts.{held_mapped}
 use Rattle.mv_core.proofs.Slots.{Matches, match_weaker, match_map, mapped, slots_mapped, wide_mapped, next_mapped}
 use Rattle.mv_core.proofs.Matching.{Alike, names_back}
-use Rattle.mv_core.proofs.DeathNotes.{timed_back, aborted_was, timed_note, committed_was, note_time, note_cut, note_linked, note_uncut, dead_is, note_dead, before_timed, Timed, timed_self, timed_place, timed_alike}
+use Rattle.mv_core.proofs.DeathNotes.{timed_back, aborted_was, timed_note, committed_was, note_time, note_cut, note_linked, note_uncut, dead_is, note_dead, before_timed, timed_seen, Timed, timed_self, timed_place, timed_alike}
 use Rattle.mv_core.proofs.MatchedSets as set
 use Rattle.mv_core.proofs.MatchedStamps as stamped
 use Rattle.mv_core.proofs.MatchedWalks as walked
@@ -161,6 +161,16 @@ module _ (starts : State → Type 0) (allows : List ℕ → State → Writes →
           k.deaths.superseded s j dead x note (subst (λ (o : CommitNote). Lives f.ring s j x (Committed o)) (sym same) b.1) uncut e;
     }
 
+    -- where the seat has seen the whole history
+    deaths_seen_after : (f.past n).seen ≡ h → DeathsSeen c f.past rings
+    deaths_seen_after whole s j x st = all_slots (λ t i z. z ≡ Live x st → DeathSeen (c.base + length (f.past t).seen) st)
+        (λ i e.
+        let b = timed_back d (slot_at (f.ring n) i) x st e in
+        let now = now_is in
+        let long : length (f.past n).seen ≡ length h = ap length whole in
+        subst (DeathSeen (c.base + length (f.past n).seen)) b.2 (timed_seen (c.base + length (f.past n).seen) d b.0 (omega arith) (k.deaths_seen n i x b.0 b.1)))
+        (λ t i ne e. k.deaths_seen t i x st e) s j
+
     death_after : DeathAfterWrite rings
     death_after s j dead x note lives e =
         let b = committed_back s j x note lives in
@@ -267,8 +277,8 @@ module _ (starts : State → Type 0) (allows : List ℕ → State → Writes →
     }
 
     -- all facts after the load, but for what its seat has seen
-    death_facts : Facts starts allows c start m h (changed f n (record unchanged { ring = Some (record (f.ring n) { slots = map (timed d) (f.ring n).slots }) }))
-    death_facts = record {
+    death_facts : (f.past n).seen ≡ h → Facts starts allows c start m h (changed f n (record unchanged { ring = Some (record (f.ring n) { slots = map (timed d) (f.ring n).slots }) }))
+    death_facts whole = record {
       checked = k.checked;
       history = k.history;
       slot_words = slot_words_after;
@@ -282,6 +292,7 @@ module _ (starts : State → Type 0) (allows : List ℕ → State → Writes →
       successors = stamped.successors_match c h f.ring rings alike (λ s j. m (Super s j)) (λ s j. m (Super s j)) (λ s j y st l. refl) (λ s j. m (Stamp s j)) (λ s j. m (Stamp s j)) (λ s j y st l. refl) f.section
           (λ s j b e. k.successors.built s j b (built_back s j b e)) k.successors;
       deaths = deaths_after;
+      deaths_seen = deaths_seen_after whole;
       positions = set.positions_match c h f.ring rings alike (wide_mapped f.ring n (timed d) refl) freeing_back freeing_forth (λ s j b e. k.positions.built s j b (built_back s j b e)) k.positions;
       head_is_top = set.top_match c h f.ring rings alike (λ o. m (Head o)) k.head_is_top;
       held_link = set.held_link_match c h f.ring rings alike k.held_link;
@@ -302,7 +313,7 @@ module _ (starts : State → Type 0) (allows : List ℕ → State → Writes →
       successor_flag = flag_after;
       succeeded_has_super = stamped.succeeded_match c h f.ring rings alike (λ s j. m (Super s j)) (λ s j. m (Super s j)) (λ s j y st l. refl) f.empty k.succeeded_has_super;
       loaded_words = k.loaded_words;
-      freed_is_old = set.freed_match c h f.ring rings alike (m Clock) f.time k.freed_is_old;
+      freed_is_old = set.freed_match c h f.ring rings alike (m Clock) f.grace k.freed_is_old;
       cut_is_old = set.cut_match c h f.ring rings alike f.time k.cut_is_old;
       death_after_write = death_after;
       write_back = stamped.back_match c h f.ring rings alike (λ o i. m (Master o i)) f.section f.time f.heard f.grace f.back k.write_back;
@@ -335,6 +346,6 @@ module _ (starts : State → Type 0) (allows : List ℕ → State → Writes →
         w,
         settle starts allows c start m h seats n v w is (record unchanged { past = Some p; ring = Some r })
             (ap (λ (u : View). record u.past { seen = h }) (sym is), refl, refl, refl, refl, refl, refl, ap (λ (u : View). record u.ring { slots = map (timed d) u.ring.slots }) (sym is), refl, refl, refl)
-            (death_facts starts allows c start m h (changed f n (record unchanged { past = Some p })) seen n),
+            (death_facts starts allows c start m h (changed f n (record unchanged { past = Some p })) seen n (ap (λ (q : Past). q.seen) (become_here f.past n p))),
         ((((h, (front, k.history.long), refl), k.loaded_words.clock_is), (λ time first a begun. (a, λ i e mode some_held. begun i e mode (subst (λ (u : ℕ). 0 < u) held some_held) ∙ ap (λ (u : ℕ). v.ring.next - u) (sym held)))), (refl, refl, refl, refl, refl, refl)),
       )

@@ -1,5 +1,5 @@
 -- What a load of CLOCK that times dead versions makes of each version of the log: an aborted or cut one that waits for its time of death gets it, and else it is as before.
-use Rattle.std.proofs.Common.{◌≡◌, ◌⊎◌, ℕ, ◌<◌, Bool, true, false, cond, refl, sym, ap, subst, inl, inr, ⊎_elim, Option, Some, None}
+use Rattle.std.proofs.Common.{◌≡◌, ◌⊎◌, ℕ, ◌+◌, ◌<◌, ◌≤◌, Bool, true, false, cond, refl, sym, ap, ◌∙◌, subst, inl, inr, ⊎_elim, Option, Some, None}
 use Rattle.mv_core.specs.declared.ring.Slot.{Slot}
 use Rattle.mv_core.specs.declared.ring.Slot.TheVariants.{Free, Built, Live, Freeing}
 use Rattle.mv_core.specs.declared.ring.Version.{Version}
@@ -7,6 +7,7 @@ use Rattle.mv_core.specs.declared.ring.Status.{Status}
 use Rattle.mv_core.specs.declared.ring.Status.TheVariants.{Held, Aborted, Committed}
 use Rattle.mv_core.specs.declared.ring.CommitNote.{CommitNote}
 use Rattle.mv_core.specs.WalkFacts.{IsBeforeDeath}
+use Rattle.mv_core.specs.ReclaimFacts.{DeathSeen}
 use Rattle.mv_core.specs.LockSteps.{dead_if, timed_status, timed}
 use Rattle.mv_core.proofs.Links.{note_once}
 use Rattle.mv_core.proofs.Slots.{Becomes}
@@ -82,6 +83,15 @@ before_timed t d Held lt a = tt
 before_timed t d (Aborted None) lt a = lt
 before_timed t d (Aborted (Some e)) lt a = a
 before_timed t d (Committed m) lt a = λ dead e. ⊎_elim (λ was. a dead was) (λ is. subst (λ (u : ℕ). t < u) (sym is) lt) (note_dead d m dead e)
+
+-- where the new death is at most the time after what was seen, the status after it notes none that is later
+pub timed_seen : (now d : ℕ) (st : Status) → d ≤ now + 1 → DeathSeen now st → DeathSeen now (timed_status d st)
+timed_seen now d Held le old = old
+timed_seen now d (Aborted o) le old = λ dead e. (⊎_elim (λ was. (old dead was).0) (λ is. subst (λ (t : ℕ). t ≤ now + 1) (sym is) le) (dead_is d o dead e), λ none. absurd none)
+timed_seen now d (Committed m) le old = λ dead e. (
+  ⊎_elim (λ was. (old dead was).0) (λ is. subst (λ (t : ℕ). t ≤ now + 1) (sym is) le) (note_dead d m dead e),
+  λ uncut. let was : m.cut ≡ false = sym (note_cut d m) ∙ uncut in (old dead (ap (λ (o : CommitNote). o.dead) (sym (note_uncut d m was)) ∙ e)).1 was,
+)
 
 -- what becomes of the own versions, and of those of others
 abbrev pub Timed : ℕ → Becomes

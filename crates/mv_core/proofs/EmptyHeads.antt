@@ -50,7 +50,7 @@ module _ (starts : State → Type 0) (allows : List ℕ → State → Writes →
       (λ none. none)
       (find_holder c h (λ s. (seats s).ring) k.checked k.history.in_time k.positions o)
 
-  none_uncut : NoneUncut (λ s. (seats s).ring) o (latest c.base h o)
+  pub none_uncut : NoneUncut (λ s. (seats s).ring) o (latest c.base h o)
   none_uncut =
       ⊎_elim
       (λ a. absurd (names_some (λ s. (seats s).ring) (m (Head o)) a.0 (Committed a.1) a.2.names empty_is))

@@ -42,6 +42,6 @@ module _ (starts : State → Type 0) (allows : List ℕ → State → Writes →
         late = r.late;
       } in (
         w,
-        walked starts allows c start m h seats v k is inside there.1 (walk.At after) stands w None None (refl, refl, refl, refl, refl, refl, refl, refl, refl, refl, refl) k.history k.phases_and_scan.seen k.succeeded_has_super,
+        walked starts allows c start m h seats v k is inside there.1 (walk.At after) stands w None None (refl, refl, refl, refl, refl, refl, refl, refl, refl, refl, refl) k.history k.phases_and_scan.seen k.succeeded_has_super k.deaths_seen,
         ((refl, (λ t f a b. (a, b))), (refl, refl, refl, refl, refl, refl)),
       )

@@ -53,6 +53,7 @@ module _ (starts : State → Type 0) (allows : List ℕ → State → Writes →
       cut = λ s j dead x note lives. k.deaths.cut s j dead x note (was s j x (Committed note) lives);
       superseded = λ s j dead x note lives. k.deaths.superseded s j dead x note (was s j x (Committed note) lives);
     };
+    deaths_seen = λ s j x st lives. k.deaths_seen s j x st (was s j x st lives);
     positions = sets.positions_after starts allows c start m h f k n position r is;
     head_is_top = chain.heads starts allows c start m h f k n position r is;
     held_link = chain.links starts allows c start m h f k n position r is;
@@ -152,7 +153,7 @@ module _ (starts : State → Type 0) (allows : List ℕ → State → Writes →
         (λ j y su l same. free j y su l (same ∙ sym first)),
       )
 
-  is_freed : IsFreed c f n position (freed_ring v.ring slot (slot_at v.ring slot))
+  pub is_freed : IsFreed c f n position (freed_ring v.ring slot (slot_at v.ring slot))
   is_freed =
       let a = freed (slot_at v.ring slot) refl in record {
         outside = ap (λ (u : View). section_of u.phase) is ∙ ap section_of may.outside;

@@ -1,8 +1,8 @@
 -- store STAMP 0 (free), in the version chains: a version that was dropped is no top, and who linked to it is not later than any section.
-use Rattle.std.proofs.Common.{◌≡◌, ◌⊎◌, ℕ, ◌-◌, ◌<◌, ◌≤◌, Bool, true, false, List, refl, sym, subst, inl, inr, ⊎_elim, arith, Option, Some, None}
+use Rattle.std.proofs.Common.{◌≡◌, ◌⊎◌, ℕ, ◌-◌, ◌<◌, Bool, true, false, List, refl, sym, ap, ◌∙◌, subst, inl, inr, ⊎_elim, arith}
 use Rattle.mv_history.specs.declared.Entry.{Entry}
 use Rattle.mv_history.specs.declared.Entry.TheVariants.{Change}
-use Rattle.mv_history.specs.State.{State, Writes}
+use Rattle.mv_history.specs.State.{State, Writes, maker_of}
 use Rattle.mv_layout.specs.declared.Config.{Config}
 use Rattle.mv_layout.specs.declared.Place.TheVariants.{Clock, Head, Master}
 use Rattle.mv_layout.specs.Places.{Memory}
@@ -12,23 +12,18 @@ use Rattle.mv_core.specs.declared.ring.Status.{Status}
 use Rattle.mv_core.specs.declared.ring.Status.TheVariants.{Held, Aborted, Committed}
 use Rattle.mv_core.specs.declared.ring.CommitNote.{CommitNote}
 use Rattle.mv_core.specs.Rings.{Lives, Names, IsGone, IsVersion, NoneHolds, NoneUncut, IsTop}
-use Rattle.mv_core.specs.Times.{latest, latest_at, IsNextWrite, NotAbove, NotAboveAny, IsBelow}
+use Rattle.mv_core.specs.Times.{latest, latest_at, IsEntry, IsNextWrite, NotAboveAny}
 use Rattle.mv_core.specs.Views.{Faces}
 use Rattle.mv_core.specs.ChainFacts.{HeadIsTop, HeldLink, LinksBelow, CommitLink, AbortedLink, PresentMaster, ChainFoot}
 use Rattle.mv_core.specs.ReclaimFacts.{FreedIsOld}
 use Rattle.mv_core.specs.Rule.{Facts}
 use Rattle.mv_core.proofs.Latest.{next_write-le, next_write-once, next_write-of}
-use Rattle.mv_core.proofs.Written.{set_writes}
+use Rattle.mv_core.proofs.Written.{entry_once, set_writes}
 use Rattle.mv_core.proofs.Links.{names_once, none_names_zero, gone_names_none}
 use Rattle.mv_core.proofs.Finding.{find_write, find_named}
 use Rattle.mv_core.proofs.Watermarks.{lower_not_above}
 use Rattle.mv_core.proofs.FreedLog as log
 use Rattle.mv_core.proofs.FreedLog.{IsFreed, IsDropped}
-
--- a time below one that a section isn't below is below the section's
-below_of : (t g : ℕ) (u : Option ℕ) → t < g → NotAbove g u → IsBelow t u
-below_of t g None lt le = tt
-below_of t g (Some u) lt le = let l : g ≤ u = le in omega arith
 
 module _ (starts : State → Type 0) (allows : List ℕ → State → Writes → Type 0) (c : Config) (start : State) (m : Memory) (h : List Entry) (f : Faces) (k : Facts starts allows c start m h f) (n position : ℕ) (r : Ring) (is : IsFreed c f n position r) where
   abbrev pub later : ℕ → Ring
@@ -173,7 +168,7 @@ module _ (starts : State → Type 0) (allows : List ℕ → State → Writes →
       (λ none. k.chain_foot s j y o lived none)
       (find_named c h f.ring k.checked k.history.in_time k.positions y.previous)
 
-  pub freed_after : FreedIsOld c (m Clock) h f.time later
+  pub freed_after : FreedIsOld c (m Clock) h f.grace later
   freed_after = record {
     writes = λ t o e at w.
         ⊎_elim
@@ -183,9 +178,10 @@ module _ (starts : State → Type 0) (allows : List ℕ → State → Writes →
         (λ d.
         let low = log.dropped_is_old starts allows c start m h f k n position r is v.names.seat v.names.slot a.1 a.2 v.names.lives d in
         let time_is = v.time_is in
-        let high = (k.grace.views n).0 in
-        let long = k.history.long in
-        inr (omega arith, λ s. below_of t (f.grace n) (f.time s) (omega arith) ((k.grace.views n).1 s)))
+        let co = k.write_sets.commit v.names.seat v.names.slot a.1 a.2 v.names.lives in
+        let one : e ≡ Change co.commit = entry_once c.base h t e (Change co.commit) at (subst (λ (u : ℕ). IsEntry c.base h u (Change co.commit)) time_is co.entry) in
+        let maker : maker_of e ≡ n = ap maker_of one ∙ co.seat ∙ d.seat_is in
+        inr (subst (λ (s : ℕ). t < f.grace s) (sym maker) (omega arith)))
         (version_still o t a.0 a.1 a.2 v))
         (λ old. inr old)
         (k.freed_is_old.writes t o e at w);

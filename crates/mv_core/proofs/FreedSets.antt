@@ -1,7 +1,7 @@
 -- store STAMP 0 (free), in the write sets and positions of the logs: the sets left are whole, with their stamps, and the slot's next position is of the round after.
 use Rattle.std.proofs.Common.{◌≡◌, ◌≢◌, ◌⊎◌, ℕ, ◌+◌, ◌-◌, ◌*◌, ◌/◌, ◌%◌, ◌<◌, ◌≤◌, List, length, refl, sym, ap, ◌∙◌, subst, inl, inr, ⊎_elim, arith, Option, Some}
 use mathlib.Core.Logic.{dite}
-use native.Mathlib.Decide.{ℕ_discrete}
+use native.Mathlib.Decide.{ℕ_discrete, dec_lt}
 use Rattle.mv_history.specs.declared.Entry.{Entry}
 use Rattle.mv_history.specs.State.{State, Writes}
 use Rattle.mv_layout.specs.declared.Config.{Config}
@@ -22,6 +22,7 @@ use Rattle.mv_core.specs.ReclaimFacts.{next_in, PositionsAndGrace}
 use Rattle.mv_core.specs.ReclaimSteps.{UsesPosition, IsDeadBy}
 use Rattle.mv_core.specs.Rule.{Facts}
 use Rattle.mv_core.proofs.SlotWords.{slot_word_else}
+use Rattle.mv_core.proofs.Links.{position_once}
 use Rattle.mv_core.proofs.Slots.{here_or_else}
 use Rattle.mv_core.proofs.NextPosition.{next_in-again, next_round}
 use Rattle.mv_core.proofs.FreedLog as log
@@ -89,6 +90,15 @@ module _ (starts : State → Type 0) (allows : List ℕ → State → Writes →
     once = λ s j l x y a b p q. k.write_sets.once s j l x y a b (was s j x (Committed a) p) (was s l y (Committed b) q);
     first = log.first_still starts allows c start m h f k n position r is;
     after_first = λ s j x st lives. k.write_sets.after_first s j x st (was s j x st lives);
+    between = λ s j x st lives p from to.
+        let a = k.write_sets.between s j x st (was s j x st lives) p from to in record {
+          version = a.version;
+          status = a.status;
+          lives = set_still s j (index_of c p) x a.version st a.status lives a.lives a.first_is;
+          position_is = a.position_is;
+          first_is = a.first_is;
+          known = tt;
+        };
     apart = λ s j l x y st note p uncommitted q. k.write_sets.apart s j l x y st note (was s j x st p) uncommitted (was s l y (Committed note) q);
     held = λ s j x lives p from below.
         let a = k.write_sets.held s j x (was s j x Held lives) p from (subst (λ (u : ℕ). p < u) (next_same s) below) in record {
@@ -217,6 +227,30 @@ module _ (starts : State → Type 0) (allows : List ℕ → State → Writes →
       let e : p ≡ position = omega arith in
       apart (ap (index_of c) e)
 
+  -- a version of the set that goes is before each one that stays
+  set_before : (i j : ℕ) (x y : Version) (st su : Status) → Lives f.ring n i x st → x.first ≡ position → Lives later n j y su → x.position < y.position
+  set_before i j x y st su lives first there =
+      let was_there = was n j y su there in
+      let at = (k.positions.live n j y su was_there).0 in
+      let low = is.oldest (index_of c y.position) y.position (uses n y.position (inl (y, su, subst (λ (l : ℕ). Lives f.ring n l y su) (sym at) was_there, refl))) in
+      dite (dec_lt x.position y.position) (λ lt. lt)
+      (λ ge.
+      let a = k.write_sets.between n i x st lives y.position (omega arith) (omega arith) in
+      let one = position_once c h f.ring k.checked k.history.in_time k.positions n (index_of c y.position) j a.version y a.status su a.lives was_there a.position_is in
+      absurd (log.not_of_set starts allows c start m h f k n position r is j y su there (ap (λ (v : Version). v.first) (sym one.1) ∙ a.first_is ∙ first)))
+
+  oldest_after : (s j p first : ℕ) → slot_at (later s) j ≡ Freeing p first → (first < p) × ((l : ℕ) (y : Version) (su : Status) → Lives later s l y su → p < y.position)
+  oldest_after =
+      each_slot (λ t i z. (p first : ℕ) → z ≡ Freeing p first → (first < p) × ((l : ℕ) (y : Version) (su : Status) → Lives later t l y su → p < y.position))
+      (λ p first e. absurd (cc))
+      (λ i x st ne l same p first e.
+      let at : x.position ≡ p = cc in
+      let set_is : x.first ≡ first = cc in
+      let after = k.write_sets.after_first n i x st l in
+      let other : x.position ≢ position = λ e. ne (sym (k.positions.live n i x st l).0 ∙ ap (index_of c) e) in
+      (omega arith, λ j y su there. subst (λ (q : ℕ). q < y.position) at (set_before i j x y st su l same there)))
+      (λ t i ne other p first e. let a = k.positions.oldest t i p first e in (a.0, λ l y su there. a.1 l y su (was t l y su there)))
+
   pub positions_after : Positions c h later
   positions_after = record {
     wide = λ s. log.wide_same starts allows c start m h f k n position r is s ∙ k.positions.wide s;
@@ -227,6 +261,7 @@ module _ (starts : State → Type 0) (allows : List ℕ → State → Writes →
         (λ i x st ne l first p g e. let at : x.position ≡ p = cc in subst (λ (q : ℕ). IsIn q i (f.ring n).next) at (k.positions.live n i x st l))
         (λ t i ne other p first e. k.positions.freeing t i p first e)
         s j p first e);
+    oldest = oldest_after;
     built = λ s j b e. ap (index_of c) (next_same s) ∙ k.positions.built s j b (log.built_was starts allows c start m h f k n position r is s j b e).0;
     no_gap = λ s p q used le lt.
         let a = use_was s p used in

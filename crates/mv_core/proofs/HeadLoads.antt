@@ -10,18 +10,18 @@ use Rattle.mv_core.specs.declared.view.Passed.TheVariants.{Nothing}
 use Rattle.mv_core.specs.Views.{faces_of, time_in, become}
 use Rattle.mv_core.specs.SectionFacts.{MarkedAs}
 use Rattle.mv_core.specs.WalkFacts.{SucceededHasSuper}
-use Rattle.mv_core.specs.WalkSteps.{IsWalking, IsLinkOf, IsOwnTop, stand_at, empty_too, head_loaded}
+use Rattle.mv_core.specs.WalkSteps.{IsWalking, IsLinkOf, IsOwnTop, IsOwnLink, IsLastOwn, IsLastSeen, stand_at, empty_too, head_loaded}
 use Rattle.mv_core.specs.Known.{RunsOn}
 use Rattle.mv_core.specs.Rule.{Loads, IsKept}
 use Rattle.mv_core.proofs.Seeing.{time_is}
 use Rattle.mv_core.proofs.Walks.{walked}
 use Rattle.mv_core.proofs.WalkOn.{head_right, head_link}
-use Rattle.mv_core.proofs.OwnTops.{own_top}
+use Rattle.mv_core.proofs.OwnTops.{own_top, own_top_link, own_top_last, own_top_seen}
 use Rattle.mv_core.proofs.EmptyHeads.{succeeded_after}
 
 module _ (starts : State → Type 0) (allows : List ℕ → State → Writes → Type 0) (c : Config) (start : State) (v : View) where
   pub head_loads : (object : ℕ) (inside : Section) → IsWalking v inside
-      → Loads starts allows c start v (Head object) (λ n w. (((w ≡ head_loaded c v inside object n) × IsLinkOf c n × IsOwnTop c v object n) × RunsOn v w) × IsKept v w)
+      → Loads starts allows c start v (Head object) (λ n w. (((w ≡ head_loaded c v inside object n) × IsLinkOf c n × IsOwnTop c v object n × IsOwnLink c v n × IsLastOwn c v object n × IsLastSeen c v object n) × RunsOn v w) × IsKept v w)
   head_loads object inside may m h seats k is own begins small =
       let n : ℕ = m (Head object) in
       let w : View = head_loaded c v inside object n in
@@ -33,6 +33,6 @@ module _ (starts : State → Type 0) (allows : List ℕ → State → Writes →
       (succeeded_after starts allows c start m h seats k v.number object (time_in inside) past) in (
         w,
         walked starts allows c start m h seats v k is inside may.phase (stand_at object n Nothing false) (head_right starts allows c start m h (faces_of seats) k v.number v.heard inside timed may.helped object)
-            w None (Some empty) (refl, refl, refl, refl, refl, refl, refl, refl, refl, refl, refl) k.history k.phases_and_scan.seen succeeded,
-        (((refl, head_link starts allows c start m h (faces_of seats) k v.number v.heard inside timed may.helped object, own_top starts allows c start m h seats k v is object), (λ t f a b. (a, b))), (refl, refl, refl, refl, refl, refl)),
+            w None (Some empty) (refl, refl, refl, refl, refl, refl, refl, refl, refl, refl, refl) k.history k.phases_and_scan.seen succeeded k.deaths_seen,
+        (((refl, head_link starts allows c start m h (faces_of seats) k v.number v.heard inside timed may.helped object, own_top starts allows c start m h seats k v is object, own_top_link starts allows c start m h seats k v is object, own_top_last starts allows c start m h seats k v is object, own_top_seen starts allows c start m h seats k v is object), (λ t f a b. (a, b))), (refl, refl, refl, refl, refl, refl)),
       )

@@ -1,12 +1,14 @@
 -- Joining a seat: its view is spent, and the seat that is left has a note of it.
 use Rattle.std.proofs.Common.{◌≡◌, ◌≢◌, ◌⊎◌, ℕ, zero, suc, ◌+◌, ◌<◌, ◌≤◌, true, false, List, [], ◌∷◌, ◌++◌, length, set, sym, refl, ap, ◌∙◌, subst, inl, inr, ⊎_elim, arith, All}
 use Rattle.std.specs.Prelude.{Contains}
-use Rattle.std.proofs.lemmas.List.Elements.{All-append, All-cons, Contains-append_cases}
+use Rattle.std.proofs.lemmas.List.Elements.{All-append, All-cons, Contains-append_cases, Contains-append_left, Contains-append_right}
 use Rattle.std.proofs.Math.Logic.{∥∥₁_map}
+use mathlib.Core.Logic.{dite}
 use mathlib.Core.Option.{some, some-injective, some-ne-none}
+use native.Mathlib.Decide.{ℕ_discrete}
 use lib.ListN.{get_elem?}
 use Rattle.atomic_table.specs.Table.{Joins}
-use Rattle.atomic_table.proofs.Lists.{at_set}
+use Rattle.atomic_table.proofs.Lists.{at_set, set_here, set_else}
 use Rattle.mv_history.specs.State.{State, Writes}
 use Rattle.mv_layout.specs.declared.Config.{Config}
 use Rattle.mv_core.specs.declared.view.View.{View}
@@ -16,8 +18,10 @@ use Rattle.mv_core.specs.declared.shared.Opening.{Opening}
 use Rattle.mv_core.specs.Views.{new_view, spent_view, become}
 use Rattle.mv_core.specs.Known.{Known, RunsOn}
 use Rattle.mv_core.specs.SeatSteps.{MayJoin, note_of, joined}
-use Rattle.mv_core.specs.Rule.{IsNoted, Seated, Ruled}
+use Rattle.mv_core.specs.Rule.{IsNoted, IsThere, Seated, Ruled}
 use Rattle.mv_core.proofs.Frames.{become_here, become_else, become_all, unread}
+use Rattle.mv_core.proofs.KnownLogs.{commit_still}
+use Rattle.mv_core.proofs.SeatsThere.{at_within, named_still}
 
 -- where an element of a list stands that is put together of two and one between them
 record After {A : Type 0} (zs : List A) (n : ℕ) (i : ℕ) (a : A) : Type 0 where
@@ -234,6 +238,60 @@ module _ (c : Config) (start : State) (vs : List View) (seats : ℕ → View) (i
       (let r = k.own v.number in (refl, sym (ap (λ (x : View). x.start) here) ∙ r.1, sym (ap (λ (x : View). x.base) here) ∙ r.2))
       (λ s ne. k.own s)
 
+  u_place : get_elem? list id ≡ some u
+  u_place = set_else (set vs id u) o id spent_view (λ e. other (sym e)) ∙ set_here vs id u (at_within vs id v at)
+
+  old_noted : (n : Note) → Contains v.notes n → Contains u.notes n
+  old_noted n has = Contains-append_left v.notes (note_of w ∷ w.notes) n has
+
+  new_noted : (n : Note) → (note_of w ≡ n) ⊎ Contains w.notes n → Contains u.notes n
+  new_noted n which =
+      Contains-append_right v.notes (note_of w ∷ w.notes) n
+      (⊎_elim (λ own. (zero, omega arith, own)) (λ its. let lt = its.1 in (suc its.0, omega arith, its.2)) which)
+
+  -- each seat that had a view or a note has one: that of the joined seat is a note now
+  there_joined : (s : ℕ) → IsThere vs s → IsThere list s
+  there_joined s t =
+      dite (ℕ_discrete t.id o)
+      (λ e.
+      let same : t.holder ≡ w = some-injective t.holder w (sym t.place ∙ ap (get_elem? vs) e ∙ other_at) in
+      let named : (w.number ≡ s) ⊎ ((n : Note) × Contains w.notes n × (n.number ≡ s)) = subst (λ (z : View). (z.number ≡ s) ⊎ ((n : Note) × Contains z.notes n × (n.number ≡ s))) same t.named in
+      record {
+        id = id;
+        holder = u;
+        place = u_place;
+        unspent = unspent;
+        named = inr (⊎_elim (λ own. (note_of w, new_noted (note_of w) (inl refl), own)) (λ its. (its.0, new_noted its.0 (inr its.1), its.2)) named);
+      })
+      (λ ne.
+      dite (ℕ_discrete t.id id)
+      (λ here.
+      let same : t.holder ≡ v = some-injective t.holder v (sym t.place ∙ ap (get_elem? vs) here ∙ at) in
+      record {
+        id = id;
+        holder = u;
+        place = u_place;
+        unspent = unspent;
+        named = named_still v u s refl old_noted (subst (λ (z : View). (z.number ≡ s) ⊎ ((n : Note) × Contains z.notes n × (n.number ≡ s))) same t.named);
+      })
+      (λ away. record {
+        id = t.id;
+        holder = t.holder;
+        place = set_else (set vs id u) o t.id spent_view ne ∙ set_else vs id t.id u away ∙ t.place;
+        unspent = t.unspent;
+        named = t.named;
+      }))
+
+  all_after : (s : ℕ) → IsThere list s ⊎ (become seats v.number u s ≡ new_view c start s 0)
+  all_after s =
+      ⊎_elim
+      (λ t. inl (there_joined s t))
+      (λ new.
+      dite (ℕ_discrete s v.number)
+      (λ e. inl (record { id = id; holder = u; place = u_place; unspent = unspent; named = inl (sym e) }))
+      (λ ne. inr (become_else seats v.number u s ne ∙ new)))
+      (k.all s)
+
   pub seated_joined : Seated c start list (become seats v.number u)
   seated_joined = record {
     own = own_after;
@@ -247,6 +305,7 @@ module _ (c : Config) (start : State) (vs : List View) (seats : ℕ → View) (i
     once = λ i j p q y z m n e f un vn g l. once_of i j p q y z m n (noted_at i y p m e un g) (noted_at j z q n f vn l);
     maker = maker_after;
     made = made_after;
+    all = all_after;
   }
 
 -- the join of two seats keeps the rule
@@ -279,5 +338,9 @@ joined_stays starts allows c v w j may e =
         rests = a.rests;
         in_time = a.in_time;
         section = λ inside at. let out : Outside ≡ Inside inside = sym may.outside ∙ at in absurd (cc);
+        idle = a.idle;
+        still = a.still;
+        commits = λ i x note there. commit_still v x note (joined c v w).trail v.made (joined c v w).notes (a.commits i x note there);
+        deaths = a.deaths;
       }),
     )

@@ -3,7 +3,7 @@ use Rattle.std.proofs.Common.{◌≡◌, ◌≢◌, ℕ, ◌+◌, ◌-◌, ◌<�
 use mathlib.Core.Logic.{dite}
 use native.Mathlib.Decide.{dec_le}
 use Rattle.mv_history.specs.declared.Entry.{Entry}
-use Rattle.mv_history.specs.State.{State, Writes}
+use Rattle.mv_history.specs.State.{State, Writes, maker_of}
 use Rattle.mv_layout.specs.declared.Config.{Config}
 use Rattle.mv_layout.specs.Words.{link_of}
 use Rattle.mv_layout.specs.Places.{Memory}
@@ -14,7 +14,7 @@ use Rattle.mv_core.specs.declared.ring.CommitNote.{CommitNote}
 use Rattle.mv_core.specs.declared.view.WriteBack.{WriteBack}
 use Rattle.mv_core.specs.declared.view.Section.{Section}
 use Rattle.mv_core.specs.Rings.{Lives, Names, IsVersion, NoneUncut}
-use Rattle.mv_core.specs.Times.{writes_to, latest, latest_at, IsEntry, NotAboveAny, IsBelow}
+use Rattle.mv_core.specs.Times.{writes_to, latest, latest_at, IsEntry, NotAboveAny}
 use Rattle.mv_core.specs.Views.{Faces, time_in}
 use Rattle.mv_core.specs.Rule.{Facts}
 use Rattle.mv_core.proofs.Latest.{latest_at-whole, latest_at-entry, latest_at-reaches}
@@ -76,7 +76,7 @@ module _ (starts : State → Type 0) (allows : List ℕ → State → Writes →
       let is = v.3.time_is in
       omega arith)
       (λ freed.
-      let lt : a < t = subst (IsBelow a) last.timed (freed.1 n) in
+      let le = not_above (f.grace (maker_of e.0)) n t f.time (k.grace.views (maker_of e.0)).1 last.timed in
       omega arith)
       (k.freed_is_old.writes a x.object e.0 e.1 e.2))
 

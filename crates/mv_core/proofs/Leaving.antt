@@ -9,7 +9,7 @@ use Rattle.mv_core.specs.declared.ring.Ring.{Ring}
 use Rattle.mv_core.specs.declared.view.Section.{Section}
 use Rattle.mv_core.specs.declared.view.Heard.{Heard}
 use Rattle.mv_core.specs.declared.view.FoundStamp.{FoundStamp}
-use Rattle.mv_core.specs.Times.{NotAbove, NotAboveAny, IsBelow, IsBelowAll}
+use Rattle.mv_core.specs.Times.{NotAbove, NotAboveAny}
 use Rattle.mv_core.specs.Views.{become}
 use Rattle.mv_core.specs.SectionFacts.{IsDone, HelpedWords, WasClock, LoadedWords, IsNamedCommit, IsFound, FoundStamps}
 use Rattle.mv_core.proofs.Frames.{become_all}
@@ -26,10 +26,6 @@ by_seat t n Q here rest =
 -- a bound on all sections holds after one has changed, if it is one on that
 pub any_after : (t : ℕ) (time : ℕ → Option ℕ) (n : ℕ) (x : Option ℕ) → NotAboveAny t time → NotAbove t x → NotAboveAny t (become time n x)
 any_after t time n x all one = become_all (λ _ u. NotAbove t u) time n x one (λ s ne. all s)
-
--- the same of a strict bound
-pub below_after : (t : ℕ) (time : ℕ → Option ℕ) (n : ℕ) (x : Option ℕ) → IsBelowAll t time → IsBelow t x → IsBelowAll t (become time n x)
-below_after t time n x all one = become_all (λ _ u. IsBelow t u) time n x one (λ s ne. all s)
 
 module _ (c : Config) (clock : ℕ) (stamp : ℕ → ℕ → ℕ) (heard : ℕ → Heard) (n : ℕ) where
   -- the helped words of all are done, where those of one seat are given anew

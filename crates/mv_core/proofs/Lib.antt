@@ -1,6 +1,8 @@
 pub mod Frames
+pub mod SeatsThere
 pub mod Seating
 pub mod KnownSections
+pub mod KnownLogs
 pub mod Turning
 pub mod Seeing
 pub mod Looking
@@ -23,6 +25,7 @@ pub mod SlotWords
 pub mod Matching
 pub mod MatchedSets
 pub mod MatchedStamps
+pub mod SeenDeaths
 pub mod MatchedWalks
 pub mod BuiltSlot
 pub mod BuildStores
@@ -76,6 +79,7 @@ pub mod NewHistory
 pub mod NextCommit
 pub mod NewFacts
 pub mod LostClock
+pub mod LostCut
 pub mod CommitSwap
 pub mod RestSwap
 pub mod JoinedLoads
@@ -98,8 +102,11 @@ pub mod FreedSets
 pub mod FreedChains
 pub mod FreedWalks
 pub mod FreeStores
-pub mod PointsHold
 pub mod Reaching
+pub mod EntryMakers
+pub mod SetsWhole
+pub mod SetsFreed
+pub mod PointsHold
 pub mod ChainLengths
 pub mod Chaining
 pub mod Placing

@@ -17,9 +17,10 @@ use Rattle.mv_core.specs.Times.{IsNextWrite}
 use Rattle.mv_core.specs.Views.{Faces, become}
 use Rattle.mv_core.specs.SetFacts.{IsHeldOrAborted}
 use Rattle.mv_core.specs.WalkFacts.{IsBeforeDeath, WalkerBeforeDeath}
-use Rattle.mv_core.specs.ReclaimFacts.{Deaths, DeathAfterWrite, PositionsAndGrace}
+use Rattle.mv_core.specs.ReclaimFacts.{Deaths, DeathsSeen, DeathAfterWrite, PositionsAndGrace}
 use Rattle.mv_core.specs.Rule.{Facts}
 use Rattle.mv_core.proofs.Links.{live_once, note_once}
+use Rattle.mv_core.proofs.SeenDeaths.{noted_same, seen_put}
 use Rattle.mv_core.proofs.Slots.{Matches, live_within, match_put, slots_after, next_after as next_same}
 use Rattle.mv_core.proofs.Matching.{Alike, alike_self, alike_place}
 
@@ -101,6 +102,9 @@ module _ (starts : State → Type 0) (allows : List ℕ → State → Writes →
         let w = noted s i z d at in
         subst (λ (u : ℕ). IsNextWrite c.base h z.object u dead) (sym w.time) (k.deaths.superseded s i dead z w.was w.lives_was (sym w.cut ∙ uncut) (sym w.dead ∙ e));
   }
+
+  pub deaths_seen_after : DeathsSeen c f.past rings
+  deaths_seen_after = seen_put c f.past f.ring n j ring' x (Committed note') refl within (noted_same (c.base + length (f.past n).seen) (Committed note) (Committed note') refl (λ uncut. uncut) (k.deaths_seen n j x (Committed note) lives)) k.deaths_seen
 
   pub death_after : DeathAfterWrite rings
   death_after s i dead z d at e = let w = noted s i z d at in subst (λ (u : ℕ). u < dead) (sym w.time) (k.death_after_write s i dead z w.was w.lives_was (sym w.dead ∙ e))

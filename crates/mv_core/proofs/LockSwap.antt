@@ -38,7 +38,7 @@ module _ (starts : State → Type 0) (allows : List ℕ → State → Writes →
         let timed = time_is starts allows c start m h seats v inside k is may.walking.phase in (
           lock_lost c v object n,
           walked starts allows c start m h seats v k is inside may.walking.phase (stand_at object n Nothing true) (lost_right starts allows c start m h seats k v is inside may.walking object previous may.stands lost)
-              (lock_lost c v object n) None None (refl, refl, refl, refl, refl, refl, refl, refl, refl, refl, refl) k.history k.phases_and_scan.seen k.succeeded_has_super,
+              (lock_lost c v object n) None None (refl, refl, refl, refl, refl, refl, refl, refl, refl, refl, refl) k.history k.phases_and_scan.seen k.succeeded_has_super k.deaths_seen,
           ((((λ e. absurd (lost e)), (λ _. refl)), (λ e. absurd (lost e)), (λ _. (head_link starts allows c start m h (faces_of seats) k v.number v.heard inside timed may.walking.helped object, lost_other starts allows c start m h seats k v is write_max object previous position b inside may lost))), (refl, refl, refl, refl, refl, refl)),
         )),
   )

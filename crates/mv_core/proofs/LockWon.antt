@@ -29,6 +29,7 @@ use Rattle.mv_core.specs.SetFacts.{stamp_of, IsHeldOrAborted, Successors, BelowI
 use Rattle.mv_core.specs.SectionFacts.{LockFreshness, FoundStamps, OpenSection}
 use Rattle.mv_core.specs.ChainFacts.{HeadIsTop, HeldLink, AbortedLink}
 use Rattle.mv_core.specs.WalkFacts.{MayStandAt, StandsRight, IsBeforeDeath, WalkerBeforeDeath, WalkerKnowledge, WalkerFalls}
+use Rattle.mv_core.specs.ReclaimFacts.{DeathSeen}
 use Rattle.mv_core.specs.LockSteps.{MayLock, head_locked}
 use Rattle.mv_core.specs.Rule.{Facts}
 use Rattle.mv_core.proofs.Frames.{become_else, unchanged, settle}
@@ -36,6 +37,7 @@ use Rattle.mv_core.proofs.CommittedKept.{KeepsCommitted, names_was, names_still,
 use Rattle.mv_core.proofs.Links.{names_once}
 use Rattle.mv_core.proofs.Lockable.{none_holds, is_top, is_fresh, below_stamped}
 use Rattle.mv_core.proofs.LockedLog as log
+use Rattle.mv_core.proofs.SeenDeaths.{none_noted}
 use Rattle.mv_core.proofs.Seeing.{section_is, time_is}
 
 -- the heads after a store into one
@@ -282,6 +284,7 @@ module _ (starts : State → Type 0) (allows : List ℕ → State → Writes →
           cut = λ s j dead y note lives. k.deaths.cut s j dead y note (kept.was s j y note lives);
           superseded = λ s j dead y note lives. k.deaths.superseded s j dead y note (kept.was s j y note lives);
         };
+        deaths_seen = each_live (λ s j y st. DeathSeen (c.base + length (seats s).past.seen) st) (none_noted (c.base + length (seats n).past.seen) Held refl) k.deaths_seen;
         positions = positions;
         head_is_top = heads;
         held_link = links;
@@ -302,7 +305,7 @@ module _ (starts : State → Type 0) (allows : List ℕ → State → Writes →
         successor_flag = flag_kept rings later kept super section k.successor_flag;
         succeeded_has_super = super_kept rings later kept c h super (λ s. (seats s).empty) k.succeeded_has_super;
         loaded_words = k.loaded_words;
-        freed_is_old = freed_kept rings later kept c h (m Clock) time k.freed_is_old;
+        freed_is_old = freed_kept rings later kept c h (m Clock) (λ s. (seats s).grace) k.freed_is_old;
         cut_is_old = λ s j y note lives. k.cut_is_old s j y note (kept.was s j y note lives);
         death_after_write = λ s j dead y note lives. k.death_after_write s j dead y note (kept.was s j y note lives);
         write_back = back_kept rings later kept c h master section time (λ s. (seats s).heard) (λ s. (seats s).grace) (λ s. (seats s).back)

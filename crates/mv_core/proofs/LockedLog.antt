@@ -24,7 +24,7 @@ use Rattle.mv_core.specs.declared.view.View.{View}
 use Rattle.mv_core.specs.declared.view.Section.{Section}
 use Rattle.mv_core.specs.Rings.{slot_at, index_of, is_held, held_count, set_first, HoldsNothing, Lives, InUse, HasFirst}
 use Rattle.mv_core.specs.Views.{section_of, faces_of, become}
-use Rattle.mv_core.specs.SetFacts.{IsStored, HoldsBuild, HoldsSlot, SlotWords, StampedAs, Stamps, InHeldSet, IsHeldOrAborted, WriteSets, Positions}
+use Rattle.mv_core.specs.SetFacts.{IsStored, HoldsBuild, HoldsSlot, SlotWords, StampedAs, Stamps, InHeldSet, InSet, IsHeldOrAborted, WriteSets, Positions}
 use Rattle.mv_core.specs.ReclaimFacts.{next_in, PositionsAndGrace}
 use Rattle.mv_core.specs.LockSteps.{MayLock, locked_version, head_locked}
 use Rattle.mv_core.specs.Rule.{Facts}
@@ -187,6 +187,11 @@ module _ (starts : State → Type 0) (allows : List ℕ → State → Writes →
     first = each_live (λ s j y st. HasFirst later c s y) first_there
         (λ s j y st lives. let a = k.write_sets.first s j y st lives in record { version = a.version; status = a.status; lives = lives_still s _ a.version a.status a.lives; position_is = a.position_is; first_is = a.first_is });
     after_first = each_live (λ s j y st. y.first ≤ y.position) first_le k.write_sets.after_first;
+    between = each_live (λ s j y st. (p : ℕ) → y.first ≤ p → p ≤ y.position → InSet c later s y.first p)
+        (λ p from to.
+        let a = in_set p from (omega arith) in
+        record { version = a.version; status = a.status; lives = a.lives; position_is = a.position_is; first_is = a.first_is; known = tt })
+        (λ s j y st lives p from to. stays_in s y.first p (λ st. Unit {0}) (k.write_sets.between s j y st lives p from to));
     apart = λ s j l y z st note a fate d.
         each_live (λ s j y st. IsHeldOrAborted st → Lives rings s l z (Committed note) → y.first ≢ z.first)
         (λ _ other same.
@@ -313,6 +318,17 @@ module _ (starts : State → Type 0) (allows : List ℕ → State → Writes →
     freeing = slots_after rings n slot (Live x Held) ring_now written within (λ s j z. (p first : ℕ) → z ≡ Freeing p first → IsIn p (later s) j s)
         (λ p first e. absurd (cc))
         (λ s j ne p first there. in_log s p j (λ e other. let at : slot_at (rings n) j ≡ Freeing p first = subst (λ (t : ℕ). slot_at (rings t) j ≡ Freeing p first) e there in let none : Built b ≡ Freeing p first = sym other ∙ at in cc) (k.positions.freeing s j p first there));
+    oldest = slots_after rings n slot (Live x Held) ring_now written within (λ s j z. (p first : ℕ) → z ≡ Freeing p first → (first < p) × ((l : ℕ) (y : Version) (st : Status) → Lives later s l y st → p < y.position))
+        (λ p first e. absurd (cc))
+        (λ s j ne p first there.
+        let a = k.positions.oldest s j p first there in (
+          a.0,
+          λ l y st lives.
+              each_live (λ t i z su. t ≡ s → p < z.position)
+              (λ e. let below = (k.positions.freeing s j p first there).1 in let next : (rings s).next ≡ position = ap (λ (t : ℕ). (rings t).next) (sym e) ∙ next_is in omega arith)
+              (λ t i z su was e. a.1 i z su (subst (λ (u : ℕ). Lives rings u i z su) e was))
+              s l y st lives refl,
+        ));
     built = λ s j d at. let r = built_was s j d at in ap (index_of c) (next_else s r.1) ∙ k.positions.built s j d r.0;
     no_gap = gapless;
     bound = become_all (λ s r. r.next ≤ c.slots * (length h + 1)) rings n ring_now (let low = below_rounds c.slots position (length h) (let some = k.checked.slots.0 in omega arith) in_round in omega arith) (λ s ne. k.positions.bound s);

@@ -14,7 +14,7 @@ use Rattle.mv_core.specs.declared.ring.CommitNote.{CommitNote}
 use Rattle.mv_core.specs.declared.view.Section.{Section}
 use Rattle.mv_core.specs.Rings.{slot_at, index_of, HoldsNothing, IsTop}
 use Rattle.mv_core.specs.Times.{latest, latest_at, IsEntry, NotAboveAny}
-use Rattle.mv_core.specs.SetFacts.{WriteSets, IsHeldOrAborted, InHeldSet, CommitOf, Positions}
+use Rattle.mv_core.specs.SetFacts.{WriteSets, IsHeldOrAborted, InHeldSet, InSet, CommitOf, Positions}
 use Rattle.mv_core.specs.SectionFacts.{LockFreshness, OpenSection}
 use Rattle.mv_core.specs.ChainFacts.{HeadIsTop, HeldLink, LinksBelow, CommitLink, AbortedLink, PresentMaster, IsGrounded, ChainFoot}
 use Rattle.mv_core.specs.ReclaimFacts.{FreedIsOld, CutIsOld}
@@ -57,6 +57,13 @@ module _ (c : Config) (h : List Entry) (before after : ℕ → Ring) (k : Matche
         let position = at.position in
         let le = w.after_first s j b.0 b.1 b.2 in
         omega arith;
+    between = λ s j y su lives p from to.
+        let b = k.back s j y su lives in
+        let at = alike_place b.0 b.1 y su b.3 in
+        let first = at.first in
+        let position = at.position in
+        let r = w.between s j b.0 b.1 b.2 p (omega arith) (omega arith) in
+        subst (λ (i : ℕ). InSet c after s i p) (sym first) (set_forth Alike alike_place before after k (λ st. Unit {0}) (λ st. Unit {0}) (λ _ _ _ _ _ _. tt) c s b.0.first p r);
     apart = λ s j l y z su n p uncommitted q e.
         let a = k.back s j y su p in
         let b = committed_back before after k s l z n q in
@@ -89,6 +96,15 @@ module _ (c : Config) (h : List Entry) (before after : ℕ → Ring) (k : Matche
         let low = q.1 in
         let high = q.2 in
         (q.0, omega arith, omega arith);
+    oldest = λ s j p first e.
+        let a = old.oldest s j p first (freeing s j p first e) in (
+          a.0,
+          λ l y su lives.
+              let b = k.back s l y su lives in
+              let position = (alike_place b.0 b.1 y su b.3).position in
+              let lt = a.1 l b.0 b.1 b.2 in
+              omega arith,
+        );
     built = λ s j b e. ap (index_of c) (k.next s) ∙ built s j b e;
     no_gap = λ s p q in_use le lt.
         let next = k.next s in
@@ -164,8 +180,8 @@ module _ (c : Config) (h : List Entry) (before after : ℕ → Ring) (k : Matche
         subst (λ (t : ℕ). NotAboveAny t time ⊎ IsGrounded c start h master time x (record n { time = t })) (sym b.2)
         (old s j x b.0 b.1 (unnamed_back Alike alike_place before after k x.previous none))
 
-  pub freed_match : (clock : ℕ) (time : ℕ → Option ℕ) → FreedIsOld c clock h time before → FreedIsOld c clock h time after
-  freed_match clock time old = record {
+  pub freed_match : (clock : ℕ) (grace : ℕ → ℕ) → FreedIsOld c clock h grace before → FreedIsOld c clock h grace after
+  freed_match clock grace old = record {
     writes = λ t o e at w.
         ⊎_elim (λ a. let f = version_forth before after k o t a.0 a.1 a.2 a.3 in inl (a.0, a.1, f.0, f.1)) (λ b. inr b) (old.writes t o e at w);
     named = λ ne.

@@ -1,5 +1,5 @@
 -- What holds of walks stays where each live version stays what it is to the other seats; and what holds of deaths and of unfinished commits, where what the owner noted stays too.
-use Rattle.std.proofs.Common.{◌≡◌, ◌⊎◌, ℕ, ◌+◌, ◌/◌, ◌<◌, ◌≤◌, List, refl, sym, ap, ◌∙◌, subst, inl, inr, ⊎_elim, Option, Some}
+use Rattle.std.proofs.Common.{◌≡◌, ◌⊎◌, ℕ, ◌+◌, ◌/◌, ◌<◌, ◌≤◌, List, length, refl, sym, ap, ◌∙◌, subst, inl, inr, ⊎_elim, Option, Some}
 use Rattle.mv_history.specs.declared.Entry.{Entry}
 use Rattle.mv_history.specs.State.{State}
 use Rattle.mv_layout.specs.declared.Config.{Config}
@@ -11,6 +11,7 @@ use Rattle.mv_core.specs.declared.ring.Version.{Version}
 use Rattle.mv_core.specs.declared.ring.Status.{Status}
 use Rattle.mv_core.specs.declared.ring.Status.TheVariants.{Held, Aborted, Committed}
 use Rattle.mv_core.specs.declared.ring.CommitNote.{CommitNote}
+use Rattle.mv_core.specs.declared.view.Past.{Past}
 use Rattle.mv_core.specs.declared.view.Section.{Section}
 use Rattle.mv_core.specs.declared.view.Heard.{Heard}
 use Rattle.mv_core.specs.declared.view.Walk.{Walk}
@@ -19,7 +20,8 @@ use Rattle.mv_core.specs.Rings.{slot_at, Lives, Names}
 use Rattle.mv_core.specs.Times.{latest_at}
 use Rattle.mv_core.specs.SetFacts.{stamp_of}
 use Rattle.mv_core.specs.WalkFacts.{MasterServes, IsRightFor, MayStandAt, StandsRight, WalkerPlace, IsBeforeDeath, WalkerBeforeDeath, WalkerKnowledge, IsBelowPassed, WalkerFalls, WalkerLate}
-use Rattle.mv_core.specs.ReclaimFacts.{Deaths, DeathAfterWrite, SuccessorFlag, next_in, PositionsAndGrace}
+use Rattle.mv_core.specs.ReclaimFacts.{Deaths, DeathsSeen, DeathAfterWrite, SuccessorFlag, next_in, PositionsAndGrace}
+use Rattle.mv_core.proofs.SeenDeaths.{none_noted}
 use Rattle.mv_core.proofs.Slots.{Becomes, Matches}
 use Rattle.mv_core.proofs.Matching.{IsSamePlace, KeepsPlace, Alike, alike_place, is_committed_so, names_back, names_committed_forth, committed_back, none_uncut_forth}
 
@@ -166,6 +168,11 @@ module _ (c : Config) (h : List Entry) (before after : ℕ → Ring) (k : Matche
     cut = λ s j dead x n lives. old.cut s j dead x n (this_committed s j x n lives);
     superseded = λ s j dead x n lives. old.superseded s j dead x n (this_committed s j x n lives);
   }
+
+  pub deaths_seen_match : (past : ℕ → Past) → DeathsSeen c past before → DeathsSeen c past after
+  deaths_seen_match past old s j x Held lives = none_noted (c.base + length (past s).seen) Held refl
+  deaths_seen_match past old s j x (Aborted d) lives = old s j x (Aborted d) (this_aborted s j x d lives)
+  deaths_seen_match past old s j x (Committed n) lives = old s j x (Committed n) (this_committed s j x n lives)
 
   pub death_after_match : DeathAfterWrite before → DeathAfterWrite after
   death_after_match old s j dead x n lives = old s j dead x n (this_committed s j x n lives)

@@ -7,13 +7,14 @@ use Rattle.mv_layout.specs.declared.Place.TheVariants.{Clock}
 use Rattle.mv_layout.specs.Places.{Memory}
 use Rattle.mv_core.specs.declared.view.Past.{Past}
 use Rattle.mv_core.specs.Views.{Faces, become}
-use Rattle.mv_core.specs.HistoryFacts.{History}
+use Rattle.mv_core.specs.HistoryFacts.{BeginsWith, History}
 use Rattle.mv_core.specs.Rule.{Facts}
 use Rattle.mv_core.proofs.Frames.{unchanged, changed}
+use Rattle.mv_core.proofs.SeenDeaths.{sees_on}
 
-pub more_seen : (starts : State → Type 0) (allows : List ℕ → State → Writes → Type 0) (c : Config) (start : State) (m : Memory) (h : List Entry) (f : Faces) → Facts starts allows c start m h f → (n : ℕ) (p : Past) → History starts allows c start (m Clock) h (become f.past n p) → ((s t : ℕ) → f.time s ≡ Some t → t ≤ c.base + length (become f.past n p s).seen)
+pub more_seen : (starts : State → Type 0) (allows : List ℕ → State → Writes → Type 0) (c : Config) (start : State) (m : Memory) (h : List Entry) (f : Faces) → Facts starts allows c start m h f → (n : ℕ) (p : Past) → History starts allows c start (m Clock) h (become f.past n p) → ((s t : ℕ) → f.time s ≡ Some t → t ≤ c.base + length (become f.past n p s).seen) → BeginsWith p.seen (f.past n).seen
     → Facts starts allows c start m h (changed f n (record unchanged { past = Some p }))
-more_seen starts allows c start m h f k n p history seen = record {
+more_seen starts allows c start m h f k n p history seen more = record {
   checked = k.checked;
   history = history;
   slot_words = k.slot_words;
@@ -26,6 +27,7 @@ more_seen starts allows c start m h f k n p history seen = record {
   lock_freshness = k.lock_freshness;
   successors = k.successors;
   deaths = k.deaths;
+  deaths_seen = sees_on c f.past f.ring n p more k.deaths_seen;
   positions = k.positions;
   head_is_top = k.head_is_top;
   held_link = k.held_link;

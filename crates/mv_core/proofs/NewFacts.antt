@@ -65,6 +65,7 @@ module _ (starts : State → Type 0) (allows : List ℕ → State → Writes →
           lock_freshness = turned.freshness_after starts allows c start m h f k n e makes clock sections turns;
           successors = turned.successors_after starts allows c start m h f k n e makes clock sections turns;
           deaths = sets.deaths_after starts allows c start m h f k n e;
+          deaths_seen = sets.deaths_seen_after starts allows c start m h f k n e past seen;
           positions = positions;
           head_is_top = chains.heads_after starts allows c start m h f k n e makes;
           held_link = chains.held_links starts allows c start m h f k n e makes;

@@ -323,14 +323,14 @@ module _ (starts : State → Type 0) (allows : List ℕ → State → Writes →
               (logs.was_committed f.ring n t s j x note lives),
         )
 
-    pub freed_after : FreedIsOld c clock later f.time rings
+    pub freed_after : FreedIsOld c clock later f.grace rings
     freed_after = record {
       writes = λ u o x at w.
           ⊎_elim
           (λ old.
           ⊎_elim
           (λ v. inl (v.0, v.1, v.2, logs.still_version f.ring n t o u v.0 v.1 v.2 v.3))
-          (λ gone. inr (let lt = gone.0 in let long = longer_long c.base h e in omega arith, gone.1))
+          (λ gone. inr gone)
           (k.freed_is_old.writes u o x old w))
           (λ new.
           let a = makes.only o (ap (writes_to o) (sym new.1) ∙ w) in

@@ -1,5 +1,5 @@
 -- One more entry, of what its seat holds: the slots, the positions, the write sets, and what is noted of dead and cut versions.
-use Rattle.std.proofs.Common.{◌≡◌, ◌≢◌, ℕ, ◌+◌, ◌-◌, ◌*◌, ◌/◌, ◌%◌, ◌<◌, ◌≤◌, true, false, List, [], ◌∷◌, ◌++◌, length, sym, ap, ◌∙◌, subst, inl, inr, ⊎_elim, arith, mul-le-mul, length-append, Option, Some, None}
+use Rattle.std.proofs.Common.{◌≡◌, ◌≢◌, ℕ, ◌+◌, ◌-◌, ◌*◌, ◌/◌, ◌%◌, ◌<◌, ◌≤◌, true, false, List, [], ◌∷◌, ◌++◌, length, refl, sym, ap, ◌∙◌, subst, inl, inr, ⊎_elim, arith, mul-le-mul, length-append, Option, Some, None}
 use Rattle.mv_history.specs.declared.Entry.{Entry}
 use Rattle.mv_history.specs.declared.Entry.TheVariants.{Change}
 use Rattle.mv_history.specs.State.{State, Writes}
@@ -14,16 +14,18 @@ use Rattle.mv_core.specs.declared.ring.Version.{Version}
 use Rattle.mv_core.specs.declared.ring.Status.{Status}
 use Rattle.mv_core.specs.declared.ring.Status.TheVariants.{Held, Aborted, Committed}
 use Rattle.mv_core.specs.declared.ring.CommitNote.{CommitNote}
+use Rattle.mv_core.specs.declared.view.Past.{Past}
 use Rattle.mv_core.specs.Rings.{index_of, Lives}
 use Rattle.mv_core.specs.Views.{Faces}
 use Rattle.mv_core.specs.SetFacts.{HoldsSlot, SlotWords, StampedAs, stamp_of, Stamps, CommitOf, InHeldSet, IsHeldOrAborted, WriteSets, Positions}
-use Rattle.mv_core.specs.ReclaimFacts.{Deaths, DeathAfterWrite, CutIsOld, PositionsAndGrace}
+use Rattle.mv_core.specs.ReclaimFacts.{Deaths, DeathSeen, DeathsSeen, DeathAfterWrite, CutIsOld, PositionsAndGrace}
 use Rattle.mv_core.specs.NameSteps.{committed_slot}
 use Rattle.mv_core.specs.Rule.{Facts}
 use Rattle.mv_core.proofs.Longer.{new_time, longer_long, entry-longer, next_write-longer}
 use Rattle.mv_core.proofs.Commits as logs
 use Rattle.mv_core.proofs.Commits.{new_note}
 use Rattle.mv_core.proofs.NewEntry.{old_time}
+use Rattle.mv_core.proofs.SeenDeaths.{none_noted, seen_later}
 
 -- the words of a slot are those of its version, held or committed
 held_words : (t first prev : ℕ) (data_word : ℕ → ℕ) (slot : Slot) → HoldsSlot first prev data_word slot → HoldsSlot first prev data_word (committed_slot t slot)
@@ -111,6 +113,11 @@ module _ (starts : State → Type 0) (allows : List ℕ → State → Writes →
         (logs.was_committed f.ring n t s j x a lx);
     first = λ s j x st lives. let r = logs.was f.ring n t s j x st lives in logs.still_first f.ring n t c s x (k.write_sets.first s j x r.old r.lives);
     after_first = λ s j x st lives. let r = logs.was f.ring n t s j x st lives in k.write_sets.after_first s j x r.old r.lives;
+    between = λ s j x st lives p lo hi.
+        let w = logs.was f.ring n t s j x st lives in
+        let a = k.write_sets.between s j x w.old w.lives p lo hi in
+        let b = logs.still_lives f.ring n t s (index_of c p) a.version a.status a.lives in
+        record { version = a.version; status = b.0; lives = b.1; position_is = a.position_is; first_is = a.first_is; known = tt };
     apart = apart;
     held = λ s j x lives p lo hi.
         let w = logs.was_held f.ring n t s j x lives in
@@ -150,6 +157,9 @@ module _ (starts : State → Type 0) (allows : List ℕ → State → Writes →
         let p = k.positions.freeing s j q first (logs.was_freeing f.ring n t s j q first at) in
         let same = sym (logs.next_same f.ring n t s) in
         (p.0, subst (λ (u : ℕ). q < u) same p.1, subst (λ (u : ℕ). u ≤ q + c.slots) same p.2);
+    oldest = λ s j q first at.
+        let a = k.positions.oldest s j q first (logs.was_freeing f.ring n t s j q first at) in
+        (a.0, λ l x st lives. let r = logs.was f.ring n t s l x st lives in a.1 l x r.old r.lives);
     built = λ s j b at. ap (index_of c) (logs.next_same f.ring n t s) ∙ k.positions.built s j b (logs.was_built f.ring n t s j b at);
     no_gap = λ s p q used le lt. logs.still_in_use f.ring n t c s q (k.positions.no_gap s p q (logs.was_in_use f.ring n t c s p used) le (subst (λ (u : ℕ). q < u) (logs.next_same f.ring n t s) lt));
     bound = λ s.
@@ -174,6 +184,15 @@ module _ (starts : State → Type 0) (allows : List ℕ → State → Writes →
         (λ new. let other : None ≡ Some dead = ap (λ (d : CommitNote). d.dead) (sym new.2) ∙ is in absurd cc)
         (logs.was_committed f.ring n t s j x note lives);
   }
+
+  -- the seats have seen no less, and what is committed has no death
+  pub deaths_seen_after : (past : ℕ → Past) → ((s : ℕ) → length (f.past s).seen ≤ length (past s).seen) → DeathsSeen c past rings
+  deaths_seen_after past more s j x st lives =
+      let r = logs.was f.ring n t s j x st lives in
+      ⊎_elim
+      (λ same. seen_later (c.base + length (f.past s).seen) (c.base + length (past s).seen) st (omega (arith, more s)) (k.deaths_seen s j x st (subst (Lives f.ring s j x) same r.lives)))
+      (λ new. subst (DeathSeen (c.base + length (past s).seen)) (sym new.2) (none_noted (c.base + length (past s).seen) (Committed (new_note t x)) refl))
+      r.how
 
   pub death_after_write : DeathAfterWrite rings
   death_after_write s j dead x note lives is =

@@ -2,7 +2,7 @@
 use Rattle.std.proofs.Common.{◌≡◌, ◌⊎◌, ℕ, zero, suc, ◌+◌, ◌-◌, ◌<◌, ◌≤◌, false, List, [], ◌∷◌, ◌++◌, Option, Some, None, sym, refl, ap, ◌∙◌, subst, inl, inr, ⊎_elim, arith}
 use mathlib.Core.Logic.{dite}
 use native.Mathlib.Decide.{dec_lt}
-use Rattle.mv_history.specs.State.{State, Writes}
+use Rattle.mv_history.specs.State.{State, Writes, maker_of}
 use Rattle.mv_history.specs.declared.Entry.{Entry}
 use Rattle.mv_layout.specs.declared.Config.{Config}
 use Rattle.mv_layout.specs.declared.Place.TheVariants.{Head, Master}
@@ -17,7 +17,7 @@ use Rattle.mv_core.specs.declared.view.WriteBack.{WriteBack}
 use Rattle.mv_core.specs.declared.view.Walk.TheVariants as walk
 use Rattle.mv_core.specs.declared.view.Stand.{Stand}
 use Rattle.mv_core.specs.Rings.{Lives, Names, IsVersion, IsTop, NoneUncut}
-use Rattle.mv_core.specs.Times.{latest, latest_at, words_of, IsNextWrite, IsBelow, IsBelowAll}
+use Rattle.mv_core.specs.Times.{latest, latest_at, words_of, IsNextWrite}
 use Rattle.mv_core.specs.Views.{Faces, faces_of, time_in}
 use Rattle.mv_core.specs.WalkFacts.{MasterServes, IsRightFor, MayStandAt, StandsRight}
 use Rattle.mv_core.specs.Rule.{Facts}
@@ -33,10 +33,6 @@ use Rattle.mv_core.proofs.NewEntry.{bool_is}
 use Rattle.mv_core.proofs.Written.{version_writes, commit_within}
 use Rattle.mv_core.proofs.Reaching.{prev_word}
 use Rattle.mv_core.proofs.Chaining.{chain_of}
-
--- what is below every section's time is below that of this one
-below_any : (u s t : ℕ) (times : ℕ → Option ℕ) → IsBelowAll u times → times s ≡ Some t → u < t
-below_any u s t times old e = subst (λ (x : Option ℕ). IsBelow u x) e (old s)
 
 module _ (starts : State → Type 0) (allows : List ℕ → State → Writes → Type 0) (c : Config) (start : State) (m : Memory) (h : List Entry) (seats : ℕ → View) (k : Facts starts allows c start m h (faces_of seats)) where
   abbrev f : Faces
@@ -114,7 +110,7 @@ module _ (starts : State → Type 0) (allows : List ℕ → State → Writes →
               (one_down (λ p. IsLater t p.status) up.0 (m (Head o)) (link_of q.seat y.position) q up.1 (refl, v.names.lives) (let lt : t < other.time = omega arith in lt)),
         ))
         (bool_is other.cut))
-        (λ old. let lt = below_any w j t f.time old.1 timed in absurd (omega arith))
+        (λ old. let le = not_above (f.grace (maker_of is.entry)) j t f.time (k.grace.views (maker_of is.entry)).1 timed in absurd (omega arith))
         (k.freed_is_old.writes w o is.entry is.there is.writes)
 
     under : (n : ℕ) → IsUnder n
@@ -247,7 +243,7 @@ module _ (starts : State → Type 0) (allows : List ℕ → State → Writes →
       let early : last ≤ there =
       ⊎_elim
       (λ a. let v = a.3 in let time = v.time_is in let le = not_above a.2.time s there f.time (k.cut_is_old v.names.seat v.names.slot a.1 a.2 v.names.lives (uncut a.0 a.1 a.2 v)) timed_there in omega arith)
-      (λ b. let lt = below_any last s there f.time b.1 timed_there in omega arith)
+      (λ b. let le = not_above (f.grace (maker_of e.0)) s there f.time (k.grace.views (maker_of e.0)).1 timed_there in omega arith)
       (k.freed_is_old.writes last o e.0 e.1 e.2) in
       let down = latest_at-reaches c.base h o last there e.0 e.1 e.2 early in
       let is = r.last in

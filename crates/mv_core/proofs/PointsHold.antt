@@ -1,4 +1,4 @@
--- The points that look at no chain.
+-- The points that look at no chain, and that of frees.
 use Rattle.std.proofs.Common.{◌≡◌, ℕ, ◌+◌, ◌*◌, ◌≤◌, List, Some, sym, ap, ◌∙◌, subst, arith}
 use mathlib.Core.Logic.{dite}
 use native.Mathlib.Decide.{dec_lt, ℕ_discrete}
@@ -14,7 +14,10 @@ use Rattle.mv_core.specs.Times.{latest_at}
 use Rattle.mv_core.specs.Views.{Faces, faces_of, section_of, time_in}
 use Rattle.mv_core.specs.ReclaimFacts.{IsWrittenBack}
 use Rattle.mv_core.specs.Rule.{Facts}
-use Rattle.mv_core.specs.Points.{HistoryPoint, WriteSetsPoint, MarksPoint, PositionsBoundedPoint, EarlierAreStamped, OneWritesBack}
+use Rattle.mv_core.specs.Points.{HistoryPoint, WriteSetsPoint, FreesPoint, MarksPoint, PositionsBoundedPoint, EarlierAreStamped, OneWritesBack}
+use Rattle.mv_core.proofs.EntryMakers.{entries_named}
+use Rattle.mv_core.proofs.SetsWhole.{sets_are_whole}
+use Rattle.mv_core.proofs.SetsFreed.{frees_hold, first_free}
 use Rattle.mv_core.proofs.Hearing.{clock_small, unstamped_is_named}
 use Rattle.mv_core.proofs.EmptyHeads.{time_of_section}
 use Rattle.mv_core.proofs.Latest.{latest_at-same}
@@ -23,10 +26,30 @@ use Rattle.mv_core.proofs.Versions.{write_once}
 
 module _ (starts : State → Type 0) (allows : List ℕ → State → Writes → Type 0) where
   pub history_law : HistoryPoint starts allows
-  history_law key s r = (r.facts.history, record { views = r.seated.apart; joined = r.seated.gone; notes = r.seated.once })
+  history_law key s r = (
+    r.facts.history,
+    record { views = r.seated.apart; joined = r.seated.gone; notes = r.seated.once },
+    entries_named key.config key.start.value.items s.views r.seats r.history r.seated r.facts.history.seats,
+    record {
+      views = λ id v at unspent. ap (λ (w : View). w.past) (r.seated.there id v at unspent).0;
+      notes = λ id v n at unspent has. (r.seated.noted id v n at unspent has).past;
+    },
+  )
 
   pub write_sets_law : WriteSetsPoint starts allows
-  write_sets_law key s r = record { words = r.facts.slot_words; stamps = r.facts.stamps; sets = r.facts.write_sets; helped = r.facts.helped_words }
+  write_sets_law key s r = record {
+    words = r.facts.slot_words;
+    stamps = r.facts.stamps;
+    sets = r.facts.write_sets;
+    whole = sets_are_whole starts allows key.config key.start.value.items r.memory r.history r.seats r.facts;
+    helped = r.facts.helped_words;
+  }
+
+  pub frees_law : FreesPoint starts allows
+  frees_law key s r = (
+    frees_hold starts allows key.config key.start.value.items r.memory r.history r.seats r.facts,
+    λ n position x st may at. first_free starts allows key.config key.start.value.items r.memory r.history r.seats r.facts n (r.seated.own n).0 position x st may at,
+  )
 
   pub marks_law : MarksPoint starts allows
   marks_law key s r = record { marks = r.facts.marks; stamped = r.facts.stamped_past_help }

@@ -31,6 +31,6 @@ module _ (starts : State → Type 0) (allows : List ℕ → State → Writes →
       (prev_right starts allows c start m h (faces_of seats) k v.number v.heard inside timed r.helped stand r may.found may.stamp_is may.goes_on) in (
         w,
         walked starts allows c start m h seats v k is inside may.phase (stand_at stand.object n (passed_too stand.passed stand.stamp) false) right
-            w None None (refl, refl, refl, refl, refl, refl, refl, refl, refl, refl, refl) k.history k.phases_and_scan.seen k.succeeded_has_super,
+            w None None (refl, refl, refl, refl, refl, refl, refl, refl, refl, refl, refl) k.history k.phases_and_scan.seen k.succeeded_has_super k.deaths_seen,
         (((refl, subst (IsLinkOf c) found (prev_link starts allows c start m h (faces_of seats) k v.number v.heard inside timed r.helped stand r may.found may.stamp_is may.goes_on)), (λ t f a b. (a, b))), (refl, refl, refl, refl, refl, refl)),
       )

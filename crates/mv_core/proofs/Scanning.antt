@@ -33,6 +33,7 @@ module _ (starts : State → Type 0) (allows : List ℕ → State → Writes →
     lock_freshness = k.lock_freshness;
     successors = k.successors;
     deaths = k.deaths;
+    deaths_seen = k.deaths_seen;
     positions = k.positions;
     head_is_top = k.head_is_top;
     held_link = k.held_link;

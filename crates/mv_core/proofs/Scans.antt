@@ -1,7 +1,8 @@
 -- load CLOCK (scan) and load MARK: a scan begins with the clock's time, and each mark lowers its least time to one that the section of that seat isn't below.
 use Rattle.std.proofs.Common.{◌≡◌, ◌≢◌, ℕ, ◌+◌, ◌-◌, ◌==◌, ◌≤◌, ◌<◌, ◌++◌, min, Bool, true, false, cond, List, refl, sym, ap, ◌∙◌, subst, le_refl, eqb-true, arith, Some}
+use Rattle.std.specs.Prelude.{All}
 use Rattle.mv_history.specs.declared.Entry.{Entry}
-use Rattle.mv_history.specs.State.{State, Writes}
+use Rattle.mv_history.specs.State.{State, Writes, maker_of}
 use Rattle.mv_layout.specs.declared.Config.{Config}
 use Rattle.mv_layout.specs.declared.Place.TheVariants.{Clock, Mark}
 use Rattle.mv_layout.specs.Words.{clock_time_of}
@@ -62,7 +63,7 @@ up_to_mark clock least mark seat phase is old s lt = go (s == seat) refl
     go false e = lower_not_above least (least_with least mark) (time_of (phase s)) (lowered least mark) (old s (let ne : s ≢ seat = grind (arith, e) in omega (arith, lt)))
 
 module _ (starts : State → Type 0) (allows : List ℕ → State → Writes → Type 0) (c : Config) (start : State) (v : View) where
-  pub scan_loads : MayLoadScan v → Loads starts allows c start v Clock (λ x w. ((((h : List Entry) × IsWhole c v x h × (w ≡ scan_loaded c v x h)) × IsWord c x) × RunsOn v w) × IsKept v w)
+  pub scan_loads : MayLoadScan v → Loads starts allows c start v Clock (λ x w. ((((h : List Entry) × IsWhole c v x h × (w ≡ scan_loaded c v x h)) × IsWord c x × All (λ e. maker_of e < c.seats) w.past.seen) × RunsOn v w) × IsKept v w)
   scan_loads may m h seats k is own begins wide =
       let n = v.number in
       let f : Faces = faces_of seats in
@@ -78,7 +79,7 @@ module _ (starts : State → Type 0) (allows : List ℕ → State → Writes →
         w,
         settle starts allows c start m h seats n v w is (record unchanged { past = Some p; scan = Some (scan_on c now now from); grace = Some (grace_on c (seats n).grace now from) })
             (ap (λ (u : View). record u.past { seen = h }) (sym is), refl, refl, refl, refl, refl, refl, refl, refl, refl, ap (λ (u : View). grace_on c u.grace now from) (sym is)) facts,
-        ((((h, (front, k.history.long), refl), k.loaded_words.clock_is), (λ t i a b. (a, b))), (refl, refl, refl, refl, refl, refl)),
+        ((((h, (front, k.history.long), refl), k.loaded_words.clock_is, k.history.makers), (λ t i a b. (a, b))), (refl, refl, refl, refl, refl, refl)),
       )
 
   pub mark_loads : (seat : ℕ) (scan : Scan) → MayLoadMark c v seat scan → Loads starts allows c start v (Mark seat) (λ x w. ((w ≡ mark_loaded c v seat scan x) × RunsOn v w) × IsKept v w)

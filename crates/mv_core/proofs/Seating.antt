@@ -1,16 +1,19 @@
 -- The table's list of views stays that of the seats, through a step of one seat that keeps its number, its notes and what else `IsKept` says. No other fact reads that list.
-use Rattle.std.proofs.Common.{◌≡◌, ℕ, ◌<◌, ◌≤◌, false, List, set, sym, refl, ap, ◌∙◌, subst, ⊎_elim, arith, All}
+use Rattle.std.proofs.Common.{◌≡◌, ◌⊎◌, ℕ, ◌<◌, ◌≤◌, false, List, set, sym, refl, ap, ◌∙◌, subst, inl, inr, ⊎_elim, arith, All}
 use Rattle.std.specs.Prelude.{Contains}
+use mathlib.Core.Logic.{dite}
 use mathlib.Core.Option.{some}
+use native.Mathlib.Decide.{ℕ_discrete}
 use lib.ListN.{get_elem?}
-use Rattle.atomic_table.proofs.Lists.{at_set}
+use Rattle.atomic_table.proofs.Lists.{at_set, set_here}
 use Rattle.mv_history.specs.State.{State}
 use Rattle.mv_layout.specs.declared.Config.{Config}
 use Rattle.mv_core.specs.declared.view.View.{View}
 use Rattle.mv_core.specs.declared.view.Note.{Note}
 use Rattle.mv_core.specs.Views.{new_view, become}
-use Rattle.mv_core.specs.Rule.{IsNoted, Seated, IsKept}
+use Rattle.mv_core.specs.Rule.{IsNoted, IsThere, Seated, IsKept}
 use Rattle.mv_core.proofs.Frames.{become_here, become_else, become_all}
+use Rattle.mv_core.proofs.SeatsThere.{at_within, there_still}
 
 module _ (vs : List View) (id : ℕ) (v w : View) where
   -- a view of the list after the step is one of before, as far as the list is read
@@ -70,6 +73,18 @@ module _ (c : Config) (start : State) (vs : List View) (seats : ℕ → View) (i
       let mine : v.number < o.0.made = (k.made j id o.0 v o.1 at old_un unspent old_made).0 in
       (o.2.0 ∙ r.0, λ s le. let le' : o.0.made ≤ s = subst (λ (n : ℕ). n ≤ s) o.2.3 le in become_else seats v.number w s (λ e. omega arith) ∙ r.1 s le')
 
+  -- each seat has its view or its note still, and this one has a view
+  all_after : (s : ℕ) → IsThere (set vs id w) s ⊎ (become seats v.number w s ≡ new_view c start s 0)
+  all_after s =
+      let unspent_still : w.spent ≡ false = kept.5 ∙ unspent in
+      ⊎_elim
+      (λ t. inl (there_still vs id v w at unspent_still kept.0 (λ n has. subst (λ (ns : List Note). Contains ns n) (sym kept.4) has) s t))
+      (λ new.
+      dite (ℕ_discrete s v.number)
+      (λ e. inl (record { id = id; holder = w; place = set_here vs id w (at_within vs id v at); unspent = unspent_still; named = inl (kept.0 ∙ sym e) }))
+      (λ ne. inr (become_else seats v.number w s ne ∙ new)))
+      (k.all s)
+
   pub seated_after : Seated c start (set vs id w) (become seats v.number w)
   seated_after = record {
     own = own_after;
@@ -85,6 +100,7 @@ module _ (c : Config) (start : State) (vs : List View) (seats : ℕ → View) (i
         let a = was i x at1 in let b = was j y at2 in
         k.once i j p q a.0 b.0 m n a.1 b.1 (sym a.2.5 ∙ u1) (sym b.2.5 ∙ u2) (subst (λ (ns : List Note). get_elem? ns p ≡ some m) a.2.4 g1) (subst (λ (ns : List Note). get_elem? ns q ≡ some n) b.2.4 g2) e;
     maker = maker_after;
+    all = all_after;
     made = λ i j x y at1 at2 u1 u2 some_made.
         let a = was i x at1 in let b = was j y at2 in
         let r = k.made i j a.0 b.0 a.1 b.1 (sym a.2.5 ∙ u1) (sym b.2.5 ∙ u2) (subst (λ (n : ℕ). 0 < n) a.2.3 some_made) in

@@ -3,10 +3,12 @@ use Rattle.std.proofs.Common.{◌≡◌, ◌≢◌, ◌⊎◌, ℕ, zero, suc, �
 use Rattle.std.specs.Prelude.{Contains}
 use Rattle.std.proofs.lemmas.List.Elements.{All-nil, All-weaker, All-contains}
 use Rattle.std.proofs.Math.Logic.{∥∥₁_map}
+use mathlib.Core.Logic.{dite}
 use mathlib.Core.Option.{some, some-injective, some-ne-none}
+use native.Mathlib.Decide.{ℕ_discrete}
 use lib.ListN.{get_elem?}
 use Rattle.atomic_table.specs.Table.{Splits, opening}
-use Rattle.atomic_table.proofs.Lists.{at_set}
+use Rattle.atomic_table.proofs.Lists.{at_set, set_here, at_last}
 use Rattle.mv_history.specs.declared.Entry.TheVariants.{Change}
 use Rattle.mv_history.specs.declared.Step.{Step}
 use Rattle.mv_history.specs.declared.StepKind.TheVariants.{MakeSeat}
@@ -16,6 +18,7 @@ use Rattle.mv_history.proofs.Histories.{no_split}
 use Rattle.mv_layout.specs.declared.Config.{Config}
 use Rattle.mv_layout.specs.Limits.{Checked}
 use Rattle.mv_layout.specs.Places.{Shows}
+use Rattle.mv_core.specs.declared.ring.Status.TheVariants.{Held, Committed}
 use Rattle.mv_core.specs.declared.view.View.{View}
 use Rattle.mv_core.specs.declared.view.Note.{Note}
 use Rattle.mv_core.specs.declared.shared.Opening.{Opening}
@@ -23,10 +26,12 @@ use Rattle.mv_core.specs.Views.{new_view, become}
 use Rattle.mv_core.specs.Known.{Known, IsTimed, IsBegun, RunsOn}
 use Rattle.mv_core.specs.Start.{opening_memory, maker_view}
 use Rattle.mv_core.specs.SeatSteps.{made_one, newly_made}
-use Rattle.mv_core.specs.Rule.{IsNoted, Seated, Ruled, first_view}
+use Rattle.mv_core.specs.Rule.{IsNoted, IsThere, Seated, Ruled, first_view}
 use Rattle.mv_core.proofs.Frames.{become_here, become_else, become_all, unread}
 use Rattle.mv_core.proofs.Leaving.{none_in}
-use Rattle.mv_core.proofs.Starting.{first_seats, starting_facts}
+use Rattle.mv_core.proofs.KnownLogs.{commit_still}
+use Rattle.mv_core.proofs.SeatsThere.{at_within, there_still, there_longer}
+use Rattle.mv_core.proofs.Starting.{none_lives, first_seats, starting_facts}
 
 one : {A : Type 0} (i : ℕ) (x y : A) → get_elem? (x ∷ []) i ≡ some y → (i ≡ 0) × (x ≡ y)
 one zero x y e = (refl, some-injective x y e)
@@ -60,6 +65,10 @@ module _ (c : Config) (start : State) where
     maker = λ id v at _ _.
         subst (λ (u : View). (u.number ≡ 0) × ((s : ℕ) → u.made ≤ s → first_seats c start s ≡ new_view c start s 0)) (one id (first_view c start) v at).1
         (refl, λ s le. ap (λ b. new_view c start s (cond b 1 0)) (ne_eqb s 0 (λ e. omega arith)));
+    all = λ s.
+        dite (ℕ_discrete s 0)
+        (λ e. inl (record { id = 0; holder = first_view c start; place = refl; unspent = refl; named = inl (sym e) }))
+        (λ ne. inr (ap (λ b. new_view c start s (cond b 1 0)) (ne_eqb s 0 ne)));
     made = λ i j v w a b _ _ _.
         subst (λ (u : View). (w.number < u.made) × All (λ n. n.number < u.made) w.notes) (one i (first_view c start) v a).1
         (subst (λ (u : View). (u.number < 1) × All (λ n. n.number < 1) u.notes) (one j (first_view c start) w b).1 (omega arith, All-nil (λ n. n.number < 1)));
@@ -199,6 +208,19 @@ module _ (c : Config) (start : State) (vs : List View) (seats : ℕ → View) (i
       (let o = k.own v.number in (refl, sym (ap (λ (u : View). u.start) here) ∙ o.1, sym (ap (λ (u : View). u.base) here) ∙ o.2))
       (λ s ne. k.own s)
 
+  all_after : (s : ℕ) → IsThere (set vs id w ++ x ∷ []) s ⊎ (become seats v.number w s ≡ new_view c start s 0)
+  all_after s =
+      ⊎_elim
+      (λ t. inl (there_longer (set vs id w) (x ∷ []) s (there_still vs id v w at unspent refl (λ n has. has) s t)))
+      (λ new.
+      dite (ℕ_discrete s v.number)
+      (λ e. inl (there_longer (set vs id w) (x ∷ []) s (record { id = id; holder = w; place = set_here vs id w (at_within vs id v at); unspent = unspent; named = inl (sym e) })))
+      (λ ne.
+      dite (ℕ_discrete s v.made)
+      (λ e. inl (record { id = length (set vs id w); holder = x; place = at_last (set vs id w) x (length (set vs id w)) refl; unspent = refl; named = inl (sym e) }))
+      (λ other. inr (become_else seats v.number w s ne ∙ new))))
+      (k.all s)
+
   pub seated_made : Seated c start (set vs id w ++ x ∷ []) (become seats v.number w)
   seated_made = record {
     own = own_after;
@@ -209,6 +231,7 @@ module _ (c : Config) (start : State) (vs : List View) (seats : ℕ → View) (i
     once = once_after;
     maker = maker_after;
     made = made_after;
+    all = all_after;
   }
 
 -- one more seat keeps the rule
@@ -250,10 +273,14 @@ module _ (starts : State → Type 0) (allows : List ℕ → State → Writes →
     rests = refl;
     in_time = (let b = k.base in omega arith);
     section = λ inside e. absurd (cc);
+    idle = λ out j x. none_lives c j x Held;
+    still = λ out. (refl, refl);
+    commits = λ j x note. none_lives c j x (Committed note);
+    deaths = λ j x st dead lives. none_lives c j x st lives;
   }
 
   maker_known : (v : View) → Known starts allows v → Known starts allows (made_one c v)
-  maker_known v k = record { unspent = k.unspent; opening = k.opening; words = k.words; legal = k.legal; allowed = k.allowed; mine = k.mine; rests = k.rests; in_time = k.in_time; section = λ inside e. let s = k.section inside e in record { seen = s.seen; own = s.own; held = λ j x there. let a = s.held j x there in record { in_range = a.in_range; wide = a.wide; unwritten = a.unwritten }; apart = s.apart } }
+  maker_known v k = record { unspent = k.unspent; opening = k.opening; words = k.words; legal = k.legal; allowed = k.allowed; mine = k.mine; rests = k.rests; in_time = k.in_time; section = λ inside e. let s = k.section inside e in record { seen = s.seen; own = s.own; held = λ j x there. let a = s.held j x there in record { in_range = a.in_range; wide = a.wide; unwritten = a.unwritten }; apart = s.apart }; idle = k.idle; still = k.still; commits = λ j x note there. commit_still v x note (made_one c v).trail (v.made + 1) v.notes (k.commits j x note there); deaths = k.deaths }
 
   -- the pass of the maker is as it was
   pub maker_stays : (v w : View) → w ≡ made_one c v → (w.number ≡ v.number) × RunsOn v w × (∥ Known starts allows v ∥₁ → ∥ Known starts allows w ∥₁)

@@ -17,25 +17,21 @@ use Rattle.mv_core.specs.declared.view.Walk.{Walk}
 use Rattle.mv_core.specs.declared.view.Walk.TheVariants.{Nowhere, At}
 use Rattle.mv_core.specs.declared.view.WriteBack.{WriteBack}
 use Rattle.mv_core.specs.Rings.{HoldsNothing, Lives, Names}
-use Rattle.mv_core.specs.Times.{latest, latest_at, last_own, NotAbove, NotAboveAny, IsBelow}
+use Rattle.mv_core.specs.Times.{latest, latest_at, last_own, NotAbove, NotAboveAny}
 use Rattle.mv_core.specs.Views.{time_in, IsUnnamed, become}
 use Rattle.mv_core.specs.SetFacts.{stamp_of, WriteSets, UnstampedIsUnfinished, InHeldSet}
 use Rattle.mv_core.specs.SectionFacts.{IsPastHelp, StampedPastHelp, ScanIs, Grace, LockFreshness, NamedIs, NamedCommit, OpenSection}
 use Rattle.mv_core.specs.ChainFacts.{PresentMaster, ChainFoot}
 use Rattle.mv_core.specs.WalkFacts.{StandsRight, WalkerPlace, IsBeforeDeath, WalkerBeforeDeath, WalkerKnowledge, HasPassed, IsBelowPassed, WalkerFalls, WalkerLate}
-use Rattle.mv_core.specs.ReclaimFacts.{FreedIsOld, CutIsOld, SuccessorFlag, IsWrittenBack, WriteBacks}
+use Rattle.mv_core.specs.ReclaimFacts.{CutIsOld, SuccessorFlag, IsWrittenBack, WriteBacks}
 use Rattle.mv_core.proofs.Frames.{become_all}
-use Rattle.mv_core.proofs.Leaving.{by_seat, any_after, below_after}
+use Rattle.mv_core.proofs.Leaving.{by_seat, any_after}
 use Rattle.mv_core.proofs.Latest.{latest-le, latest_at-latest}
 use Rattle.mv_core.proofs.Written.{commit_within}
 
 lower : (u w : ℕ) (t : Option ℕ) → u ≤ w → NotAbove w t → NotAbove u t
 lower u w None le k = tt
 lower u w (Some x) le k = omega arith
-
-lower_yet : (u w : ℕ) (t : Option ℕ) → u < w → NotAbove w t → IsBelow u t
-lower_yet u w None lt k = tt
-lower_yet u w (Some x) lt k = omega arith
 
 module _ (c : Config) (start : State) (h : List Entry) (rings : ℕ → Ring) (sets : WriteSets c h rings) (time : ℕ → Option ℕ) (n : ℕ) (t : Option ℕ) (late : NotAbove (c.base + length h) t) where
   any_more : (u : ℕ) → u ≤ c.base + length h → NotAboveAny u time → NotAboveAny u (become time n t)
@@ -69,12 +65,6 @@ module _ (c : Config) (start : State) (h : List Entry) (rings : ℕ → Ring) (s
       (λ old. inl (any_more note.time (commit_within c h rings sets s j x note lives).1 old))
       (λ ground. inr (ground.0, ground.1, any_more (latest_at c.base h x.object (note.time - 1)) (let a = latest_at-latest c.base h x.object (note.time - 1) in let b = latest-le c.base h x.object in omega arith) ground.2))
       (k s j x note lives none)
-
-  pub freed_more : (clock : ℕ) → FreedIsOld c clock h time rings → FreedIsOld c clock h (become time n t) rings
-  freed_more clock k = record {
-    writes = λ u o e at w. ⊎_elim inl (λ old. inr (old.0, below_after u time n t old.1 (lower_yet u (c.base + length h) t old.0 late))) (k.writes u o e at w);
-    named = k.named;
-  }
 
   pub cut_more : CutIsOld time rings → CutIsOld (become time n t) rings
   cut_more k s j x note lives cut = any_more note.time (commit_within c h rings sets s j x note lives).1 (k s j x note lives cut)

@@ -38,7 +38,8 @@ module _ (h : List Entry) (s : ℕ) (p : Past) (k : KnowsPast h s p) (seen : Lis
   all_is : h ≡ p.seen ++ (more.0 ++ whole.0)
   all_is = whole.1 ∙ ap (λ l. l ++ whole.0) more.1 ∙ append_assoc p.seen more.0 whole.0
 
-  none_more : commits_of s more.0 ≡ []
+  -- none of its commits is in what it sees more
+  pub none_more : commits_of s more.0 ≡ []
   none_more =
       let mine : commits_of s p.seen ++ [] ≡ commits_of s p.seen ++ commits_of s (more.0 ++ whole.0) =
       append-nil (commits_of s p.seen) ∙ sym k.seen_mine ∙ k.mine ∙ ap (commits_of s) all_is ∙ commits_of-append s p.seen (more.0 ++ whole.0) in

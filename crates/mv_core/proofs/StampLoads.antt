@@ -39,6 +39,7 @@ use Rattle.mv_core.proofs.Frames.{become_all}
 use Rattle.mv_core.proofs.Links.{live_once}
 use Rattle.mv_core.proofs.Seeing.{section_is}
 use Rattle.mv_core.proofs.Walks.{lives_named, Standing, section_there, standing_of, walked}
+use Rattle.mv_core.proofs.SeenDeaths.{sees_on}
 use Rattle.mv_core.proofs.SeenMore.{sees_more}
 
 -- a stamp that is a time is that of a commit
@@ -75,7 +76,7 @@ slice_get-front (x ∷ xs) ys zero lt = refl
 slice_get-front (x ∷ xs) ys (suc i) lt = slice_get-front xs ys i (omega arith)
 
 -- an entry of the history up to a time that was seen was seen
-entry_seen : (base : ℕ) (h seen : List Entry) (t : ℕ) (e : Entry) → BeginsWith h seen → t ≤ base + length seen → IsEntry base h t e → IsEntry base seen t e
+pub entry_seen : (base : ℕ) (h seen : List Entry) (t : ℕ) (e : Entry) → BeginsWith h seen → t ≤ base + length seen → IsEntry base h t e → IsEntry base seen t e
 entry_seen base h seen t e front le is =
     let low = is.0 in
     (low, sym (slice_get-front seen front.0 (t - (base + 1)) (omega arith)) ∙ ap (λ l. slice_get l (t - (base + 1))) (sym front.1) ∙ is.1)
@@ -188,6 +189,7 @@ module _ (starts : State → Type 0) (allows : List ℕ → State → Writes →
         (refl, refl, refl, refl, refl, refl, refl, refl, refl, refl, refl)
         (sees_more starts allows c start (m Clock) h (λ q. (seats q).past) v.number v.past (ap (λ (u : View). u.past) is) k.history seen front sees.more)
         (seen_by_all seen sees.more) k.succeeded_has_super
+        (sees_on c (λ q. (seats q).past) (λ q. (seats q).ring) v.number p (subst (λ (u : View). BeginsWith seen u.past.seen) (sym is) sees.more) k.deaths_seen)
 
 module _ (starts : State → Type 0) (allows : List ℕ → State → Writes → Type 0) (c : Config) (start : State) (v : View) (first : ℕ) (stand : Stand) where
   stamp_loads_there : MayLoadStamp v stand.link first stand

@@ -110,6 +110,7 @@ module _ (starts : State → Type 0) (allows : List ℕ → State → Writes →
       once = λ s j l x y a b lives. no_live j x (Committed a) lives;
       first = λ s j x st. no_live j x st;
       after_first = λ s j x st. no_live j x st;
+      between = λ s j x st lives. no_live j x st lives;
       apart = λ s j l x y st note lives. no_live j x st lives;
       held = λ s j x lives. no_live j x Held lives;
     };
@@ -134,11 +135,13 @@ module _ (starts : State → Type 0) (allows : List ℕ → State → Writes →
       cut = λ s j dead x note lives. no_live j x (Committed note) lives;
       superseded = λ s j dead x note lives. no_live j x (Committed note) lives;
     };
+    deaths_seen = λ s j x st lives. no_live j x st lives;
     positions = record {
       wide = λ s. length-replicate c.slots Free;
       within = λ s j x st. no_live j x st;
       live = λ s j x st. no_live j x st;
       freeing = λ s j p first. no_freeing j p first;
+      oldest = λ s j p first. no_freeing j p first;
       built = λ s j b. no_built j b;
       no_gap = λ s p q u. no_use s p u;
       bound = λ s. omega arith;

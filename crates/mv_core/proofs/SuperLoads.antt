@@ -1,7 +1,7 @@
 -- load SUPER: a time found there is that of the object's next write, from which on the version is dead; where none is found, no write of the object comes before the watermark.
 use Rattle.std.proofs.Common.{◌≡◌, ◌≢◌, ◌⊎◌, ℕ, ◌+◌, ◌-◌, ◌/◌, ◌%◌, ◌==◌, ◌<◌, ◌≤◌, Bool, true, false, cond, List, length, refl, sym, ap, ◌∙◌, subst, inl, inr, ⊎_elim, arith, Option, Some, None}
 use Rattle.std.proofs.lemmas.Bool.{eqb-false}
-use Rattle.std.specs.Prelude.{slice_get}
+use Rattle.std.specs.Prelude.{slice_get, Contains}
 use Rattle.std.proofs.lemmas.Option.{slice_get_within}
 use mathlib.Core.Logic.{dite}
 use native.Mathlib.Decide.{dec_lt, ℕ_discrete}
@@ -31,14 +31,15 @@ use Rattle.mv_core.specs.HistoryFacts.{BeginsWith}
 use Rattle.mv_core.specs.SetFacts.{HoldsSlot, SlotWords}
 use Rattle.mv_core.specs.WalkFacts.{IsRightFor, MayStandAt, StandsRight, IsBeforeDeath, WalkerBeforeDeath}
 use Rattle.mv_core.specs.ReclaimFacts.{Deaths, DeathAfterWrite, SuccessorFlag, PositionsAndGrace}
-use Rattle.mv_core.specs.ReclaimSteps.{super_note, MayLoadSuper, super_loaded, SeesSuper}
+use Rattle.mv_core.specs.ReclaimSteps.{super_note, MayLoadSuper, super_loaded, SeesSuper, FoundEmpty}
 use Rattle.mv_core.specs.Known.{RunsOn}
 use Rattle.mv_core.specs.Rule.{Facts, Loads, IsKept}
-use Rattle.mv_core.proofs.Frames.{unchanged, changed, settle}
+use Rattle.mv_core.proofs.Frames.{become_here, unchanged, changed, settle}
 use Rattle.mv_core.proofs.Latest.{latest_at-reaches, latest-reaches, next_write, entry-within}
 use Rattle.mv_core.proofs.Links.{live_once, note_once, names_once, none_names_zero}
 use Rattle.mv_core.proofs.Written.{commit_within}
 use Rattle.mv_core.proofs.EmptyHeads.{time_of_section}
+use Rattle.mv_core.proofs.SeenDeaths.{seen_put}
 use Rattle.mv_core.proofs.SeenMore.{sees_more}
 use Rattle.mv_core.proofs.MoreSeen.{more_seen}
 use Rattle.mv_core.proofs.StampLoads.{seen_to, seen_by_all, slice_get-front}
@@ -290,8 +291,8 @@ module _ (starts : State → Type 0) (allows : List ℕ → State → Writes →
   }
 
   -- all facts after the load, but for what its seat has seen
-  pub super_facts : Facts starts allows c start m h (changed f n (record unchanged { ring = Some loaded }))
-  super_facts = record {
+  pub super_facts : found ≤ c.base + length (f.past n).seen → Facts starts allows c start m h (changed f n (record unchanged { ring = Some loaded }))
+  super_facts sees = record {
     checked = k.checked;
     history = k.history;
     slot_words = slot_words_after;
@@ -305,6 +306,7 @@ module _ (starts : State → Type 0) (allows : List ℕ → State → Writes →
     successors = stamped.successors_match c h f.ring rings alike (λ s j. m (Super s j)) (λ s j. m (Super s j)) (λ s j y st l. refl) (λ s j. m (Stamp s j)) (λ s j. m (Stamp s j)) (λ s j y st l. refl) f.section
         (λ s j b e. k.successors.built s j b (built_back s j b e)) k.successors;
     deaths = deaths_after;
+    deaths_seen = seen_put c f.past f.ring n slot loaded x (Committed new) refl within (λ dead e. let is = (super_dead note found dead no_death e).0 in (omega arith, λ _. omega arith)) k.deaths_seen;
     positions = set.positions_match c h f.ring rings alike (wide_after f.ring n slot (Live x (Committed new)) loaded refl within) freeing_back freeing_forth (λ s j b e. k.positions.built s j b (built_back s j b e)) k.positions;
     head_is_top = set.top_match c h f.ring rings alike (λ o. m (Head o)) k.head_is_top;
     held_link = set.held_link_match c h f.ring rings alike k.held_link;
@@ -325,7 +327,7 @@ module _ (starts : State → Type 0) (allows : List ℕ → State → Writes →
     successor_flag = flag_after;
     succeeded_has_super = stamped.succeeded_match c h f.ring rings alike (λ s j. m (Super s j)) (λ s j. m (Super s j)) (λ s j y st l. refl) f.empty k.succeeded_has_super;
     loaded_words = k.loaded_words;
-    freed_is_old = set.freed_match c h f.ring rings alike (m Clock) f.time k.freed_is_old;
+    freed_is_old = set.freed_match c h f.ring rings alike (m Clock) f.grace k.freed_is_old;
     cut_is_old = set.cut_match c h f.ring rings alike f.time k.cut_is_old;
     death_after_write = death_after;
     write_back = stamped.back_match c h f.ring rings alike (λ o i. m (Master o i)) f.section f.time f.heard f.grace f.back k.write_back;
@@ -364,7 +366,7 @@ entry_of_history base h seen t e front is =
 
 module _ (starts : State → Type 0) (allows : List ℕ → State → Writes → Type 0) (c : Config) (start : State) (v : View) (position : ℕ) (x : Version) (note : CommitNote) where
   pub super_loads : MayLoadSuper c v position x note
-      → Loads starts allows c start v (Super v.number (index_of c position)) (λ found w. (((w ≡ super_loaded c v position x note found w.past.seen) × SeesSuper c v x note found w.past.seen) × RunsOn v w) × IsKept v w)
+      → Loads starts allows c start v (Super v.number (index_of c position)) (λ found w. (((w ≡ super_loaded c v position x note found w.past.seen) × SeesSuper c v x note found w.past.seen × (FoundEmpty v x.object note.time → found ≢ 0)) × RunsOn v w) × IsKept v w)
   super_loads may m h seats k is own begins small =
       let n = v.number in
       let slot = index_of c position in
@@ -381,14 +383,17 @@ module _ (starts : State → Type 0) (allows : List ℕ → State → Writes →
       let p : Past = record v.past { seen = seen } in
       let held : held_count w.ring ≡ held_count v.ring = held_same v.ring slot (Live x (Committed (super_note note found))) (live_within v.ring slot x (Committed note) may.own) (sym (ap is_held may.own)) in
       let more : Facts starts allows c start m h (changed f n (record unchanged { past = Some p })) =
-      more_seen starts allows c start m h f k n p (sees_more starts allows c start (m Clock) h f.past n v.past (ap (λ (u : View). u.past) is) k.history seen to.1 to.2.more) (seen_by_all starts allows c start m h seats k v is seen to.2.more) in
+      more_seen starts allows c start m h f k n p (sees_more starts allows c start (m Clock) h f.past n v.past (ap (λ (u : View). u.past) is) k.history seen to.1 to.2.more) (seen_by_all starts allows c start m h seats k v is seen to.2.more) (subst (λ (u : View). BeginsWith seen u.past.seen) (sym is) to.2.more) in
       let below : found ≡ 0 → (t : ℕ) (e : Entry) → IsEntry c.base v.past.seen t e → writes_to x.object e ≡ true → note.time < t → v.grace < t =
       λ none t e there writes late.
       subst (λ (u : View). u.grace < t) is (none_written starts allows c start m h f k n slot x note lives may.no_death (λ s inside in_section. time_of_section (seats s).phase inside in_section) may.uncut none t e (entry_of_history c.base h v.past.seen t e front there) writes late) in
-      let sees : SeesSuper c v x note found seen = record { more = to.2.more; time = to.2.time (omega arith); least = to.2.least; no_write = below } in (
+      let sees : SeesSuper c v x note found seen = record { more = to.2.more; time = to.2.time (omega arith); least = to.2.least; no_write = below } in
+      let some : FoundEmpty v x.object note.time → found ≢ 0 =
+      λ e. (k.succeeded_has_super n e.0 (subst (λ (u : View). Contains u.empty e.0) (sym is) e.1)).1 slot x note lives (sym e.2) e.3 may.uncut in (
         w,
         settle starts allows c start m h seats n v w is (record unchanged { past = Some p; ring = Some (put_slot (seats n).ring slot (Live x (Committed (super_note note found)))) })
             (refl, refl, refl, refl, refl, refl, refl, ap (λ (r : Ring). put_slot r slot (Live x (Committed (super_note note found)))) (sym ring), refl, refl, refl)
-            (super_facts starts allows c start m h (changed f n (record unchanged { past = Some p })) more n slot x note lives may.no_death),
-        (((refl, sees), (λ time first a begun. (a, λ i e mode some_held. begun i e mode (subst (λ (y : ℕ). 0 < y) held some_held) ∙ ap (λ (y : ℕ). v.ring.next - y) (sym held)))), (refl, refl, refl, refl, refl, refl)),
+            (super_facts starts allows c start m h (changed f n (record unchanged { past = Some p })) more n slot x note lives may.no_death
+            (subst (λ (q : Past). found ≤ c.base + length q.seen) (sym (become_here f.past n p)) (to.2.time (omega arith)))),
+        (((refl, sees, some), (λ time first a begun. (a, λ i e mode some_held. begun i e mode (subst (λ (y : ℕ). 0 < y) held some_held) ∙ ap (λ (y : ℕ). v.ring.next - y) (sym held)))), (refl, refl, refl, refl, refl, refl)),
       )

@@ -260,6 +260,7 @@ module _ (starts : State → Type 0) (allows : List ℕ → State → Writes →
     lock_freshness = set.freshness_match c h f.ring rings matches f.time k.lock_freshness;
     successors = successors_after;
     deaths = notes.deaths_after starts allows c start m h f k n j x note lives;
+    deaths_seen = notes.deaths_seen_after starts allows c start m h f k n j x note lives;
     positions = set.positions_match c h f.ring rings matches (wide_after f.ring n j new ring' refl (notes.within starts allows c start m h f k n j x note lives)) (notes.was_freeing starts allows c start m h f k n j x note lives) (notes.still_freeing starts allows c start m h f k n j x note lives) (λ s i b e. k.positions.built s i b (notes.was_built starts allows c start m h f k n j x note lives s i b e)) k.positions;
     head_is_top = set.top_match c h f.ring rings matches (λ o. m (Head o)) k.head_is_top;
     held_link = set.held_link_match c h f.ring rings matches k.held_link;
@@ -280,7 +281,7 @@ module _ (starts : State → Type 0) (allows : List ℕ → State → Writes →
     successor_flag = flags_after;
     succeeded_has_super = succeeded_after;
     loaded_words = k.loaded_words;
-    freed_is_old = set.freed_match c h f.ring rings matches (m Clock) f.time k.freed_is_old;
+    freed_is_old = set.freed_match c h f.ring rings matches (m Clock) f.grace k.freed_is_old;
     cut_is_old = set.cut_match c h f.ring rings matches f.time k.cut_is_old;
     death_after_write = notes.death_after starts allows c start m h f k n j x note lives;
     write_back = stamped.back_match c h f.ring rings matches (λ o i. m (Master o i)) f.section f.time f.heard f.grace f.back k.write_back;

@@ -110,6 +110,7 @@ module _ (starts : State → Type 0) (allows : List ℕ → State → Writes →
                 built = k.successors.built;
               };
               deaths = k.deaths;
+              deaths_seen = k.deaths_seen;
               positions = k.positions;
               head_is_top = k.head_is_top;
               held_link = k.held_link;
@@ -131,7 +132,7 @@ module _ (starts : State → Type 0) (allows : List ℕ → State → Writes →
               successor_flag = more.flag_more c h f.ring f.section n (Some inside) unnamed super k.successor_flag;
               succeeded_has_super = k.succeeded_has_super;
               loaded_words = words_of_all;
-              freed_is_old = more.freed_more c start h f.ring sets f.time n (Some now) late clock k.freed_is_old;
+              freed_is_old = k.freed_is_old;
               cut_is_old = more.cut_more c start h f.ring sets f.time n (Some now) late k.cut_is_old;
               death_after_write = k.death_after_write;
               write_back = more.back_more c start h f.ring sets f.time n (Some now) late f.walk f.section f.heard (Some inside) x master f.grace f.back k.write_back;

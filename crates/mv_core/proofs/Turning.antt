@@ -24,6 +24,7 @@ use Rattle.mv_core.specs.HistoryFacts.{KnowsPast}
 use Rattle.mv_core.specs.Known.{Known}
 use Rattle.mv_core.specs.Rule.{Facts, Ruled, Loads, Stores, Swaps, Raises, IsKept}
 use Rattle.mv_core.proofs.Frames.{become_here}
+use Rattle.mv_core.proofs.KnownLogs.{known_idle, known_still, known_commit, known_death}
 use Rattle.mv_core.proofs.KnownSections.{known_section}
 use Rattle.mv_core.proofs.Seating.{seated_after}
 
@@ -49,6 +50,10 @@ module _ (starts : State → Type 0) (allows : List ℕ → State → Writes →
         rests = p.seen_rests;
         in_time = (let t = k.history.in_time in omega arith);
         section = known_section starts allows c start m h seats w k is begins from;
+        idle = known_idle starts allows c start m h seats w k is begins from;
+        still = known_still starts allows c start m h seats w k is begins from;
+        commits = known_commit starts allows c start m h seats w k is begins from;
+        deaths = known_death starts allows c start m h seats w k is begins from;
       }
 
   module _ (key : Opening) (slots id : ℕ) (me : Me (List ℕ) View) (p : Place) (i : ℕ) (hp : IsPlace key.config p) (is : i ≡ place_of key.config p)

@@ -27,12 +27,14 @@ use Rattle.mv_core.specs.SetFacts.{IsHeldOrAborted, Successors}
 use Rattle.mv_core.specs.SectionFacts.{MarkedAs, WasClock, LoadedWords, OpenSection}
 use Rattle.mv_core.specs.ReclaimFacts.{WriteBacks}
 use Rattle.mv_core.specs.WalkFacts.{WalkerKnowledge}
+use Rattle.mv_core.specs.ReclaimFacts.{DeathSeen}
 use Rattle.mv_core.specs.LockSteps.{MayUnlock, head_unlocked}
 use Rattle.mv_core.specs.Known.{RunsOn}
 use Rattle.mv_core.specs.Rule.{Facts, Stores, IsKept}
 use Rattle.mv_core.proofs.Frames.{become_here, become_else, become_all, unchanged, settle}
 use Rattle.mv_core.proofs.CommittedKept.{KeepsCommitted, names_was, link_kept, freed_kept, master_kept, foot_kept, named_kept, back_kept, flag_kept, super_kept}
 use Rattle.mv_core.proofs.Sections as more
+use Rattle.mv_core.proofs.SeenDeaths.{none_noted}
 use Rattle.mv_core.proofs.Seeing.{section_is}
 use Rattle.mv_core.proofs.UnlockedChain as chain
 use Rattle.mv_core.proofs.UnlockedLog as log
@@ -199,6 +201,7 @@ module _ (starts : State → Type 0) (allows : List ℕ → State → Writes →
           cut = λ s j dead y note lives. k.deaths.cut s j dead y note (kept.was s j y note lives);
           superseded = λ s j dead y note lives. k.deaths.superseded s j dead y note (kept.was s j y note lives);
         };
+        deaths_seen = each_live (λ s j y st. DeathSeen (c.base + length (seats s).past.seen) st) (none_noted (c.base + length (seats n).past.seen) (Aborted None) refl) (λ s j y st ne. k.deaths_seen s j y st);
         positions = log.positions_after starts allows c start m h seats k v is object previous slot x inside may;
         head_is_top = chain.heads starts allows c start m h seats k v is object previous slot x inside may;
         held_link = chain.links starts allows c start m h seats k v is object previous slot x inside may;
@@ -221,7 +224,7 @@ module _ (starts : State → Type 0) (allows : List ℕ → State → Writes →
         successor_flag = more.flag_more c h later section n (Some aborting) aborting_unnamed super (flag_kept rings later kept super section k.successor_flag);
         succeeded_has_super = super_kept rings later kept c h super (λ s. (seats s).empty) k.succeeded_has_super;
         loaded_words = words_after;
-        freed_is_old = freed_kept rings later kept c h (m Clock) time k.freed_is_old;
+        freed_is_old = freed_kept rings later kept c h (m Clock) (λ s. (seats s).grace) k.freed_is_old;
         cut_is_old = λ s j y note lives. k.cut_is_old s j y note (kept.was s j y note lives);
         death_after_write = λ s j dead y note lives. k.death_after_write s j dead y note (kept.was s j y note lives);
         write_back = backs_after;

@@ -16,7 +16,7 @@ use Rattle.mv_core.specs.declared.view.View.{View}
 use Rattle.mv_core.specs.declared.view.Section.{Section}
 use Rattle.mv_core.specs.Rings.{slot_at, put_slot, index_of, Lives, InUse, HasFirst}
 use Rattle.mv_core.specs.Views.{faces_of, become}
-use Rattle.mv_core.specs.SetFacts.{HoldsSlot, SlotWords, StampedAs, Stamps, InHeldSet, IsHeldOrAborted, WriteSets, Positions}
+use Rattle.mv_core.specs.SetFacts.{HoldsSlot, SlotWords, StampedAs, Stamps, InHeldSet, InSet, IsHeldOrAborted, WriteSets, Positions}
 use Rattle.mv_core.specs.ReclaimFacts.{PositionsAndGrace}
 use Rattle.mv_core.specs.LockSteps.{MayUnlock}
 use Rattle.mv_core.specs.Rule.{Facts}
@@ -107,12 +107,21 @@ module _ (starts : State → Type 0) (allows : List ℕ → State → Writes →
       let b = lives_still s (index_of c y.first) a.version a.status a.lives in
       record { version = a.version; status = b.0; lives = b.1; position_is = a.position_is; first_is = a.first_is }
 
+  -- and so is the version at a position of a set
+  in_still : (s first p : ℕ) → InSet c rings s first p → InSet c later s first p
+  in_still s first p a =
+      let b = lives_still s (index_of c p) a.version a.status a.lives in
+      record { version = a.version; status = b.0; lives = b.1; position_is = a.position_is; first_is = a.first_is; known = tt }
+
   pub sets_after : WriteSets c h later
   sets_after = record {
     commit = λ s j y note lives. commit_kept rings later kept c h s y note (k.write_sets.commit s j y note (kept.was s j y note lives));
     once = λ s j l y z note other a d. k.write_sets.once s j l y z note other (kept.was s j y note a) (kept.was s l z other d);
     first = each_live (λ s j y st. HasFirst later c s y) (first_still n x (k.write_sets.first n slot x Held was_held)) (λ s j y st ne lives. first_still s y (k.write_sets.first s j y st lives));
     after_first = each_live (λ s j y st. y.first ≤ y.position) (k.write_sets.after_first n slot x Held was_held) (λ s j y st ne lives. k.write_sets.after_first s j y st lives);
+    between = each_live (λ s j y st. (p : ℕ) → y.first ≤ p → p ≤ y.position → InSet c later s y.first p)
+        (λ p from to. in_still n x.first p (k.write_sets.between n slot x Held was_held p from to))
+        (λ s j y st ne lives p from to. in_still s y.first p (k.write_sets.between s j y st lives p from to));
     apart = λ s j l y z st note a fate d.
         each_live (λ s j y st. IsHeldOrAborted st → Lives rings s l z (Committed note) → y.first ≢ z.first)
         (λ _ other. k.write_sets.apart n slot l x z Held note was_held tt other)
@@ -178,6 +187,9 @@ module _ (starts : State → Type 0) (allows : List ℕ → State → Writes →
         (subst (λ (p : ℕ). IsIn x.position p slot n) (sym (next_same n)) (k.positions.live n slot x Held was_held))
         (λ s j y st ne lives. subst (λ (p : ℕ). IsIn y.position p j s) (sym (next_same s)) (k.positions.live s j y st lives));
     freeing = λ s j p first at. subst (λ (q : ℕ). IsIn p q j s) (sym (next_same s)) (k.positions.freeing s j p first (freeing_was s j p first at));
+    oldest = λ s j p first at.
+        let a = k.positions.oldest s j p first (freeing_was s j p first at) in
+        (a.0, λ l y st lives. let b = lives_was s l y st lives in a.1 l y b.0 b.1);
     built = λ s j d at. ap (index_of c) (next_same s) ∙ k.positions.built s j d (built_was s j d at);
     no_gap = λ s p q used le lt. use_still s q (k.positions.no_gap s p q (use_was s p used) le (subst (λ (u : ℕ). q < u) (next_same s) lt));
     bound = λ s. subst (λ (p : ℕ). p ≤ c.slots * (length h + 1)) (sym (next_same s)) (k.positions.bound s);

@@ -27,6 +27,7 @@ use Rattle.mv_core.specs.HistoryFacts.{History}
 use Rattle.mv_core.specs.SetFacts.{stamp_of, HoldsVersion, HoldsSlot}
 use Rattle.mv_core.specs.WalkSteps.{slot_named}
 use Rattle.mv_core.specs.SectionFacts.{IsPastHelp}
+use Rattle.mv_core.specs.ReclaimFacts.{DeathsSeen}
 use Rattle.mv_core.specs.WalkFacts.{MasterServes, MayStandAt, StandsRight, IsBeforeDeath, IsBelowPassed, HasPassed, WalkerPlace, WalkerBeforeDeath, WalkerKnowledge, WalkerFalls, WalkerLate, SucceededHasSuper}
 use Rattle.mv_core.specs.Rule.{Facts}
 use Rattle.mv_core.proofs.Frames.{become_all, after, unchanged, Fits, settle}
@@ -251,8 +252,9 @@ module _ (starts : State → Type 0) (allows : List ℕ → State → Writes →
           → History starts allows c start (m Clock) h (after (λ s. (seats s).past) v.number p)
           → ((s t : ℕ) → time_of (seats s).phase ≡ Some t → t ≤ c.base + length (after (λ s. (seats s).past) v.number p s).seen)
           → SucceededHasSuper c h (λ s k. m (Super s k)) (after (λ s. (seats s).empty) v.number e) rings
+          → DeathsSeen c (after (λ s. (seats s).past) v.number p) rings
           → Facts starts allows c start m h (faces_of (become seats v.number w))
-      walked w p e fits history seen succeeded =
+      walked w p e fits history seen succeeded deaths_seen =
           settle starts allows c start m h seats v.number v w is (record unchanged { past = p; walk = Some y; empty = e }) fits (record {
             checked = k.checked;
             history = history;
@@ -266,6 +268,7 @@ module _ (starts : State → Type 0) (allows : List ℕ → State → Writes →
             lock_freshness = k.lock_freshness;
             successors = k.successors;
             deaths = k.deaths;
+            deaths_seen = deaths_seen;
             positions = k.positions;
             head_is_top = k.head_is_top;
             held_link = k.held_link;

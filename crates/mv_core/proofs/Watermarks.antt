@@ -1,14 +1,14 @@
 -- A watermark rises: what keeps all facts where one seat's watermark becomes a greater one that no section is below.
-use Rattle.std.proofs.Common.{ℕ, ◌≤◌, max, List, le_refl, le_trans, arith, Option, Some, None}
+use Rattle.std.proofs.Common.{ℕ, ◌≤◌, max, List, le_refl, le_trans, inl, inr, ⊎_elim, arith, Option, Some, None}
 use Rattle.mv_history.specs.declared.Entry.{Entry}
-use Rattle.mv_history.specs.State.{State, Writes}
+use Rattle.mv_history.specs.State.{State, Writes, maker_of}
 use Rattle.mv_layout.specs.declared.Config.{Config}
 use Rattle.mv_layout.specs.declared.Place.TheVariants.{Clock, Grace, Master}
 use Rattle.mv_layout.specs.Words.{clock_time_of}
 use Rattle.mv_layout.specs.Places.{Memory, put}
 use Rattle.mv_core.specs.Times.{NotAbove, NotAboveAny}
 use Rattle.mv_core.specs.Views.{Faces}
-use Rattle.mv_core.specs.ReclaimFacts.{WriteBacks, PositionsAndGrace}
+use Rattle.mv_core.specs.ReclaimFacts.{FreedIsOld, WriteBacks, PositionsAndGrace}
 use Rattle.mv_core.specs.Rule.{Facts}
 use Rattle.mv_core.proofs.Frames.{become_all, unchanged, changed}
 
@@ -65,6 +65,12 @@ module _ (starts : State → Type 0) (allows : List ℕ → State → Writes →
     aborted = k.positions_and_grace.aborted;
   }
 
+  freed : FreedIsOld c (m Clock) h t.grace t.ring
+  freed = record {
+    writes = λ u o e at w. ⊎_elim inl (λ old. let up = rises (maker_of e) in inr (omega arith)) (k.freed_is_old.writes u o e at w);
+    named = k.freed_is_old.named;
+  }
+
   pub watermark_rises : Facts starts allows c start m h t
   watermark_rises = record {
     checked = k.checked;
@@ -83,6 +89,7 @@ module _ (starts : State → Type 0) (allows : List ℕ → State → Writes →
     lock_freshness = k.lock_freshness;
     successors = k.successors;
     deaths = k.deaths;
+    deaths_seen = k.deaths_seen;
     positions = k.positions;
     head_is_top = k.head_is_top;
     held_link = k.held_link;
@@ -103,7 +110,7 @@ module _ (starts : State → Type 0) (allows : List ℕ → State → Writes →
     successor_flag = k.successor_flag;
     succeeded_has_super = k.succeeded_has_super;
     loaded_words = k.loaded_words;
-    freed_is_old = k.freed_is_old;
+    freed_is_old = freed;
     cut_is_old = k.cut_is_old;
     death_after_write = k.death_after_write;
     write_back = written_back;
@@ -127,6 +134,7 @@ module _ (starts : State → Type 0) (allows : List ℕ → State → Writes →
         lock_freshness = w.lock_freshness;
         successors = w.successors;
         deaths = w.deaths;
+        deaths_seen = w.deaths_seen;
         positions = w.positions;
         head_is_top = w.head_is_top;
         held_link = w.held_link;

@@ -10,6 +10,7 @@ use Rattle.mv_core.specs.Views.{Faces}
 use Rattle.mv_core.specs.HistoryFacts.{History}
 use Rattle.mv_core.specs.Rule.{Facts}
 use Rattle.mv_core.proofs.Frames.{become_all, unchanged, changed}
+use Rattle.mv_core.proofs.SeenDeaths.{sees_on}
 use Rattle.mv_core.proofs.SeenMore.{sees_more}
 
 module _ (starts : State → Type 0) (allows : List ℕ → State → Writes → Type 0) (c : Config) (start : State) (m : Memory) (h : List Entry) (f : Faces) (k : Facts starts allows c start m h f) (n : ℕ) where
@@ -47,6 +48,7 @@ module _ (starts : State → Type 0) (allows : List ℕ → State → Writes →
     lock_freshness = k.lock_freshness;
     successors = k.successors;
     deaths = k.deaths;
+    deaths_seen = sees_on c f.past f.ring n p (k.history.seats n).seen k.deaths_seen;
     positions = k.positions;
     head_is_top = k.head_is_top;
     held_link = k.held_link;

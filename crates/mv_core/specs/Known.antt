@@ -1,17 +1,21 @@
 -- What every pass knows of its own view, and what it has of it at run time.
-use Rattle.std.specs.Prelude.{◌≡◌, ℕ, ◌+◌, ◌<◌, ◌≤◌, List, length, false}
+use Rattle.std.specs.Prelude.{◌≡◌, ℕ, ◌+◌, ◌<◌, ◌≤◌, List, length, false, Some, None}
 use Rattle.mv_history.specs.State.{State, Writes, commits_of, rests_of}
 use Rattle.mv_history.specs.Legal.{AreWords, IsLegal, IsAllowed}
 use Rattle.mv_core.specs.declared.ring.Slot.TheVariants.{Live}
 use Rattle.mv_core.specs.declared.ring.Version.{Version}
-use Rattle.mv_core.specs.declared.ring.Status.TheVariants.{Held}
+use Rattle.mv_core.specs.declared.ring.Status.{Status}
+use Rattle.mv_core.specs.declared.ring.Status.TheVariants.{Held, Committed}
+use Rattle.mv_core.specs.declared.ring.CommitNote.{CommitNote}
 use Rattle.mv_core.specs.declared.view.View.{View}
-use Rattle.mv_core.specs.declared.view.Phase.TheVariants.{Inside}
+use Rattle.mv_core.specs.declared.view.Phase.TheVariants.{Outside, Inside}
 use Rattle.mv_core.specs.declared.view.Section.{Section}
+use Rattle.mv_core.specs.declared.view.Walk.TheVariants.{Nowhere}
 use Rattle.mv_core.specs.declared.view.Mode.TheVariants.{Open}
-use Rattle.mv_core.specs.Rings.{slot_at, held_count, set_first}
-use Rattle.mv_core.specs.Times.{latest, last_own}
+use Rattle.mv_core.specs.Rings.{slot_at, HoldsNothing, held_count, set_first}
+use Rattle.mv_core.specs.Times.{latest, latest_at, last_own, IsNextIn}
 use Rattle.mv_core.specs.Views.{time_in, IsUnnamed}
+use Rattle.mv_core.specs.ReclaimFacts.{death_in}
 
 -- what a pass knows of a version that it holds: its object is one of the domain and wasn't written after the section's time, and it has six words
 pub record KnownHeld (v : View) (inside : Section) (x : Version) : Type 0 where
@@ -26,7 +30,16 @@ pub record KnownSection (v : View) (inside : Section) : Type 0 where
   pub held : (k : ℕ) (x : Version) → slot_at v.ring k ≡ Live x Held → KnownHeld v inside x
   pub apart : (k l : ℕ) (x y : Version) → slot_at v.ring k ≡ Live x Held → slot_at v.ring l ≡ Live y Held → x.object ≡ y.object → k ≡ l
 
--- the opening state is lawful, what was seen is legal and allowed and has all its own commits and rests, its time is in range, and of its section it knows this
+-- what a pass knows of a committed version of its own log: its object is one of the domain, it has six words, its write was seen, and a death noted while it isn't cut is that of the next write of its object that was seen
+pub record KnownCommit (v : View) (x : Version) (note : CommitNote) : Type 0 where
+  pub in_range : x.object < length v.start
+  pub wide : length x.words ≡ 6
+  pub after : v.base < note.time
+  pub seen : note.time ≤ v.base + length v.past.seen
+  pub written : latest_at v.base v.past.seen x.object note.time ≡ note.time
+  pub superseded : (dead : ℕ) → note.cut ≡ false → note.dead ≡ Some dead → IsNextIn v.base v.past.seen x.object note.time dead
+
+-- the opening state is lawful, what was seen is legal and allowed and has all its own commits and rests, its time is in range, outside a section it holds nothing, walks nowhere and writes nothing back, and of its section and of the versions of its own log it knows this
 pub record Known (starts : State → Type 0) (allows : List ℕ → State → Writes → Type 0) (v : View) : Type 0 where
   pub unspent : v.spent ≡ false
   pub opening : starts v.start
@@ -37,6 +50,10 @@ pub record Known (starts : State → Type 0) (allows : List ℕ → State → Wr
   pub rests : v.past.rests ≡ rests_of v.number v.past.seen
   pub in_time : v.base + length v.past.seen ≤ 35184372088831
   pub section : (inside : Section) → v.phase ≡ Inside inside → KnownSection v inside
+  pub idle : v.phase ≡ Outside → HoldsNothing v.ring
+  pub still : v.phase ≡ Outside → (v.walk ≡ Nowhere) × (v.back ≡ None)
+  pub commits : (k : ℕ) (x : Version) (note : CommitNote) → slot_at v.ring k ≡ Live x (Committed note) → KnownCommit v x note
+  pub deaths : (k : ℕ) (x : Version) (st : Status) (dead : ℕ) → slot_at v.ring k ≡ Live x st → death_in st ≡ Some dead → dead ≤ v.base + length v.past.seen + 1
 
 -- in a section this is its time
 abbrev pub IsTimed : ℕ → View → Type 0

@@ -20,4 +20,6 @@ pub mod Known
 pub mod Passes
 pub mod Laws
 pub mod Chains
+pub mod WholeSets
+pub mod Frees
 pub mod Points

@@ -4,23 +4,25 @@ use mathlib.Core.Option.{some}
 use lib.ListN.{get_elem?}
 use Rattle.atomic_table.specs.Table as table
 use Rattle.mv_history.specs.declared.Entry.{Entry}
-use Rattle.mv_history.specs.State.{State, Writes}
+use Rattle.mv_history.specs.State.{State, Writes, maker_of}
 use Rattle.mv_layout.specs.declared.Config.{Config}
 use Rattle.mv_layout.specs.declared.Place.TheVariants.{Clock, Grace, Mark, Master, First, Stamp, Prev, Super, Data}
 use Rattle.mv_layout.specs.Places.{Memory}
 use Rattle.mv_layout.specs.Words.{clock_time_of, link_of}
+use Rattle.mv_core.specs.declared.ring.Slot.TheVariants.{Live}
 use Rattle.mv_core.specs.declared.ring.Version.{Version}
 use Rattle.mv_core.specs.declared.ring.Status.{Status}
 use Rattle.mv_core.specs.declared.ring.Status.TheVariants.{Committed}
 use Rattle.mv_core.specs.declared.ring.CommitNote.{CommitNote}
 use Rattle.mv_core.specs.declared.view.View.{View}
 use Rattle.mv_core.specs.declared.view.Note.{Note}
+use Rattle.mv_core.specs.declared.view.Past.{Past}
 use Rattle.mv_core.specs.declared.view.WriteBack.{WriteBack}
 use Rattle.mv_core.specs.declared.view.Walk.TheVariants.{At}
 use Rattle.mv_core.specs.declared.view.Walk.TheVariants as walk
 use Rattle.mv_core.specs.declared.view.Stand.{Stand}
 use Rattle.mv_core.specs.declared.shared.Opening.{Opening}
-use Rattle.mv_core.specs.Rings.{Lives, index_of}
+use Rattle.mv_core.specs.Rings.{slot_at, Lives, index_of}
 use Rattle.mv_core.specs.Times.{latest_at, words_of, AreThe, NotAboveAny}
 use Rattle.mv_core.specs.Views.{Faces, faces_of}
 use Rattle.mv_core.specs.HistoryFacts.{History}
@@ -30,7 +32,10 @@ use Rattle.mv_core.specs.SectionFacts as section
 use Rattle.mv_core.specs.ReclaimFacts.{Deaths}
 use Rattle.mv_core.specs.WalkFacts.{IsBeforeDeath}
 use Rattle.mv_core.specs.Chains.{Placed, IsLinked, AreLatest, IsChain, IsGrounded, IsLoose, ReachesLink, Reaches, IsUnderLater, IsRightLink, IsRightMaster, IsAbortedOver}
-use Rattle.mv_core.specs.Rule.{Ruled}
+use Rattle.mv_core.specs.ReclaimSteps.{MayStoreFree}
+use Rattle.mv_core.specs.WholeSets.{SetsAreWhole}
+use Rattle.mv_core.specs.Frees.{FreesHold, FirstFree}
+use Rattle.mv_core.specs.Rule.{IsThere, Ruled}
 
 -- the numbers of the unspent views and of the notes of joined seats all differ
 pub record AllDiffer (vs : List View) : Type 0 where
@@ -38,11 +43,21 @@ pub record AllDiffer (vs : List View) : Type 0 where
   pub joined : (i j : ℕ) (v w : View) (n : Note) → get_elem? vs i ≡ some v → get_elem? vs j ≡ some w → v.spent ≡ false → w.spent ≡ false → Contains v.notes n → w.number ≢ n.number
   pub notes : (i j a b : ℕ) (v w : View) (m n : Note) → get_elem? vs i ≡ some v → get_elem? vs j ≡ some w → v.spent ≡ false → w.spent ≡ false → get_elem? v.notes a ≡ some m → get_elem? w.notes b ≡ some n → m.number ≡ n.number → (i ≡ j) × (a ≡ b)
 
--- write-sets: the words of each slot are those of its version or of what was built there; a committed set has the writes of one commit, and a held one goes on to the next position; a set's stamp is its commit's time, or unset while the clock names the commit or there is none; and a clock word that was helped is done
+-- each entry of a history is of a seat that has an unspent view among these, or a note in one
+abbrev pub EntriesAreNamed : List View → List Entry → Type 0
+EntriesAreNamed vs h = (e : Entry) → Contains h e → IsThere vs (maker_of e)
+
+-- what is said of the history by number is said of the unspent views and of the notes of joined seats
+pub record AreThePasts (vs : List View) (past : ℕ → Past) : Type 0 where
+  pub views : (id : ℕ) (v : View) → get_elem? vs id ≡ some v → v.spent ≡ false → past v.number ≡ v.past
+  pub notes : (id : ℕ) (v : View) (n : Note) → get_elem? vs id ≡ some v → v.spent ≡ false → Contains v.notes n → past n.number ≡ n.past
+
+-- write-sets: the words of each slot are those of its version or of what was built there; a committed set has the writes of one commit, and a held one goes on to the next position; each set is a run of positions, whose versions were all committed, or are held or aborted; a set's stamp is its commit's time, or unset while the clock names the commit or there is none; and a clock word that was helped is done
 pub record WriteSetsHold (c : Config) (m : Memory) (h : List Entry) (f : Faces) : Type 0 where
   pub words : SlotWords (λ s k. m (First s k)) (λ s k. m (Prev s k)) (λ s k i. m (Data s k i)) f.ring
   pub stamps : Stamps c (m Clock) (λ s k. m (Stamp s k)) f.ring
   pub sets : WriteSets c h f.ring
+  pub whole : SetsAreWhole c m f
   pub helped : HelpedWords (m Clock) (λ s k. m (Stamp s k)) f.heard
 
 -- marks: each seat has the mark of its phase, and a section that is past its help finds each live commit up to its time stamped
@@ -146,15 +161,22 @@ module _ (starts : State → Type 0) (allows : List ℕ → State → Writes →
   abbrev pub InEachState : (Config → State → Memory → List Entry → Faces → Type 0) → Type 0
   InEachState P = (key : Opening) (s : table.State (List ℕ) View) (r : Ruled starts allows key s) → P key.config key.start.value.items r.memory r.history (faces_of r.seats)
 
-  -- history: it is legal and allowed, its length is the clock's time less base, each seat has seen a part of it and one all of it, the clock names its last entry, and each seat knows its own commits and rests; and the seats' numbers differ
+  -- history: it is legal and allowed, its length is the clock's time less base, each seat has seen a part of it and one all of it, the clock names its last entry, and each seat knows its own commits and rests; the seats' numbers differ, each entry is of one of them, and what a seat knows is in its view or its note
   abbrev pub HistoryPoint : Type 0
   HistoryPoint =
       (key : Opening) (s : table.State (List ℕ) View) (r : Ruled starts allows key s)
-      → History starts allows key.config key.start.value.items (r.memory Clock) r.history (λ n. (r.seats n).past) × AllDiffer s.views
+      → History starts allows key.config key.start.value.items (r.memory Clock) r.history (λ n. (r.seats n).past) × AllDiffer s.views × EntriesAreNamed s.views r.history × AreThePasts s.views (λ n. (r.seats n).past)
 
   -- write-sets, in each such state
   abbrev pub WriteSetsPoint : Type 0
   WriteSetsPoint = InEachState (λ c start m h f. WriteSetsHold c m h f)
+
+  -- frees of write sets: what is being freed and what is dead, and each first free that a seat may make
+  abbrev pub FreesPoint : Type 0
+  FreesPoint =
+      (key : Opening) (s : table.State (List ℕ) View) (r : Ruled starts allows key s)
+      → FreesHold key.config r.memory r.history (faces_of r.seats)
+      × ((n position : ℕ) (x : Version) (st : Status) → MayStoreFree key.config (r.seats n) position → slot_at (r.seats n).ring (index_of key.config position) ≡ Live x st → FirstFree key.config (r.seats n) position x)
 
   -- marks, in each such state
   abbrev pub MarksPoint : Type 0

@@ -1,6 +1,7 @@
 -- What holds of versions that are dead, cut, freed or written back.
 use Rattle.std.specs.Prelude.{◌≡◌, ◌≢◌, ◌⊎◌, ℕ, ◌+◌, ◌-◌, ◌/◌, ◌%◌, ◌<◌, ◌≤◌, true, false, List, length, Option, Some, None, slice_index}
 use Rattle.mv_history.specs.declared.Entry.{Entry}
+use Rattle.mv_history.specs.State.{maker_of}
 use Rattle.mv_layout.specs.declared.Config.{Config}
 use Rattle.mv_layout.specs.Words.{clock_time_of, clock_seat_of, clock_slot_of}
 use Rattle.mv_core.specs.declared.ring.Ring.{Ring}
@@ -8,15 +9,16 @@ use Rattle.mv_core.specs.declared.ring.Slot.TheVariants.{Free, Built, Freeing}
 use Rattle.mv_core.specs.declared.ring.Build.{Build}
 use Rattle.mv_core.specs.declared.ring.Version.{Version}
 use Rattle.mv_core.specs.declared.ring.Status.{Status}
-use Rattle.mv_core.specs.declared.ring.Status.TheVariants.{Aborted, Committed}
+use Rattle.mv_core.specs.declared.ring.Status.TheVariants.{Held, Aborted, Committed}
 use Rattle.mv_core.specs.declared.ring.CommitNote.{CommitNote}
+use Rattle.mv_core.specs.declared.view.Past.{Past}
 use Rattle.mv_core.specs.declared.view.Section.{Section}
 use Rattle.mv_core.specs.declared.view.Mode.TheVariants.{Open, Named}
 use Rattle.mv_core.specs.declared.view.Naming.{Naming}
 use Rattle.mv_core.specs.declared.view.Heard.{Heard}
 use Rattle.mv_core.specs.declared.view.WriteBack.{WriteBack}
 use Rattle.mv_core.specs.Rings.{slot_at, index_of, HoldsNothing, Lives, Names, IsVersion}
-use Rattle.mv_core.specs.Times.{writes_to, latest_at, IsEntry, IsNextWrite, NotAboveAny, IsBelowAll}
+use Rattle.mv_core.specs.Times.{writes_to, latest_at, IsEntry, IsNextWrite, NotAboveAny}
 use Rattle.mv_core.specs.Views.{time_in}
 use Rattle.mv_core.specs.SectionFacts.{IsPastHelp}
 
@@ -26,14 +28,34 @@ pub record Deaths (c : Config) (h : List Entry) (rings : ℕ → Ring) : Type 0 
   pub cut : (s k dead : ℕ) (x : Version) (note : CommitNote) → Lives rings s k x (Committed note) → note.cut ≡ true → note.dead ≡ Some dead → dead ≤ c.base + length h + 1
   pub superseded : (s k dead : ℕ) (x : Version) (note : CommitNote) → Lives rings s k x (Committed note) → note.cut ≡ false → note.dead ≡ Some dead → IsNextWrite c.base h x.object note.time dead
 
+-- the death that is noted in a status
+abbrev pub death_in : Status → Option ℕ
+death_in Held = None
+death_in (Aborted dead) = dead
+death_in (Committed note) = note.dead
+
+-- the version is committed and wasn't cut
+abbrev pub IsUncut : Status → Type 0
+IsUncut Held = ⊥
+IsUncut (Aborted dead) = ⊥
+IsUncut (Committed note) = note.cut ≡ false
+
+-- a death that is noted in the status isn't after what was seen up to this time; of a version that was aborted or cut it may be the time after it
+abbrev pub DeathSeen : ℕ → Status → Type 0
+DeathSeen now st = (dead : ℕ) → death_in st ≡ Some dead → (dead ≤ now + 1) × (IsUncut st → dead ≤ now)
+
+-- deaths-seen: a death that a seat noted is a time that it has seen, or, of a version that was aborted or cut, at most the time after all that it has seen
+abbrev pub DeathsSeen : Config → (ℕ → Past) → (ℕ → Ring) → Type 0
+DeathsSeen c past rings = (s k : ℕ) (x : Version) (st : Status) → Lives rings s k x st → DeathSeen (c.base + length (past s).seen) st
+
 -- death-after-write: a noted death of a committed version is above its time
 abbrev pub DeathAfterWrite : (ℕ → Ring) → Type 0
 DeathAfterWrite rings =
     (s k dead : ℕ) (x : Version) (note : CommitNote) → Lives rings s k x (Committed note) → note.dead ≡ Some dead → note.time < dead
 
--- freed-is-old: a write whose version isn't live any more is below the clock's time and every section's, and the commit that CLOCK names is live
-pub record FreedIsOld (c : Config) (clock : ℕ) (h : List Entry) (time : ℕ → Option ℕ) (rings : ℕ → Ring) : Type 0 where
-  pub writes : (t o : ℕ) (e : Entry) → IsEntry c.base h t e → writes_to o e ≡ true → ((link : ℕ) × (x : Version) × (note : CommitNote) × IsVersion rings o t link x note) ⊎ ((t < c.base + length h) × IsBelowAll t time)
+-- freed-is-old: the time of a write whose version isn't live any more is below the watermark of the seat that made it, and the commit that CLOCK names is live
+pub record FreedIsOld (c : Config) (clock : ℕ) (h : List Entry) (grace : ℕ → ℕ) (rings : ℕ → Ring) : Type 0 where
+  pub writes : (t o : ℕ) (e : Entry) → IsEntry c.base h t e → writes_to o e ≡ true → ((link : ℕ) × (x : Version) × (note : CommitNote) × IsVersion rings o t link x note) ⊎ (t < grace (maker_of e))
   pub named : clock_slot_of clock ≢ 8191 → (x : Version) × (note : CommitNote) × Lives rings (clock_seat_of clock) (clock_slot_of clock) x (Committed note) × (x.position ≡ x.first) × (note.time ≡ clock_time_of clock)
 
 -- cut-is-old: the time of a cut version isn't above any section's

@@ -1,10 +1,10 @@
 -- Reclaiming the slots of a log: what each kind of step asks of its own view, and what it makes of it.
-use Rattle.std.specs.Prelude.{◌≡◌, ◌≢◌, ◌⊎◌, ℕ, ◌+◌, ◌-◌, ◌<◌, ◌≤◌, ◌==◌, nat_lt, min, max, true, false, if◌then◌else◌, List, length, map, Option, Some, None, slice_index}
+use Rattle.std.specs.Prelude.{◌≡◌, ◌≢◌, ◌⊎◌, ℕ, ◌+◌, ◌-◌, ◌<◌, ◌≤◌, ◌==◌, nat_lt, min, max, true, false, if◌then◌else◌, List, length, map, Contains, Option, Some, None, slice_index}
 use Rattle.mv_history.specs.declared.Entry.{Entry}
 use Rattle.mv_history.specs.declared.StepKind.TheVariants.{LoadScan, LoadMark, LoadSuper, StoreMaster, CutHead, StoreFree}
 use Rattle.mv_layout.specs.declared.Config.{Config}
 use Rattle.mv_layout.specs.declared.Place.TheVariants.{Clock, Mark, Head, Master, Stamp, Super}
-use Rattle.mv_layout.specs.Words.{clock_time_of, link_of}
+use Rattle.mv_layout.specs.Words.{clock_time_of, link_of, link_seat_of}
 use Rattle.mv_core.specs.declared.ring.Ring.{Ring}
 use Rattle.mv_core.specs.declared.ring.Slot.{Slot}
 use Rattle.mv_core.specs.declared.ring.Slot.TheVariants.{Free, Built, Live, Freeing}
@@ -19,6 +19,7 @@ use Rattle.mv_core.specs.declared.view.Mode.TheVariants.{Open}
 use Rattle.mv_core.specs.declared.view.Walk.TheVariants as walk
 use Rattle.mv_core.specs.declared.view.Stand.{Stand}
 use Rattle.mv_core.specs.declared.view.Scan.{Scan}
+use Rattle.mv_core.specs.declared.view.EmptyHead.{EmptyHead}
 use Rattle.mv_core.specs.declared.view.WriteBack.{WriteBack}
 use Rattle.mv_core.specs.Rings.{slot_at, index_of, put_slot, HoldsNothing}
 use Rattle.mv_core.specs.Times.{writes_to, IsEntry}
@@ -77,6 +78,10 @@ pub record MayLoadSuper (c : Config) (v : View) (position : ℕ) (x : Version) (
   pub position_is : x.position ≡ position
   pub no_death : note.dead ≡ None
   pub uncut : note.cut ≡ false
+
+-- a section of a time not below this one found the object's HEAD empty
+abbrev pub FoundEmpty : View → ℕ → ℕ → Type 0
+FoundEmpty v object time = (e : EmptyHead) × Contains v.empty e × (e.object ≡ object) × (time ≤ e.time)
 
 -- a time found is the time of death
 abbrev pub super_note : CommitNote → ℕ → CommitNote
@@ -149,6 +154,10 @@ cut_lost c v object position found =
 abbrev pub CutTold : Config → View → ℕ → ℕ → Version → CommitNote → ℕ → View → Type 0
 CutTold c v object position x note found w =
     (found ≡ link_of v.number position → w ≡ head_cut c v object position x note) × (found ≢ link_of v.number position → w ≡ cut_lost c v object position found)
+
+-- the word isn't 0, and is a link to the log of another seat
+abbrev pub IsOfOther : View → ℕ → Type 0
+IsOfOther v found = (found ≢ 0) × (link_seat_of found ≢ v.number)
 
 -- the slot is in use for this position
 abbrev pub UsesPosition : Slot → ℕ → Type 0

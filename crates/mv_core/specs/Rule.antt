@@ -1,5 +1,5 @@
 -- The rule of the table, and what a step asks of its kind.
-use Rattle.std.specs.Prelude.{◌≡◌, ◌≢◌, ℕ, ◌≤◌, ◌<◌, ◌^◌, false, List, length, max, Contains, None, All}
+use Rattle.std.specs.Prelude.{◌≡◌, ◌≢◌, ◌⊎◌, ℕ, ◌≤◌, ◌<◌, ◌^◌, false, List, length, max, Contains, None, All}
 use mathlib.Core.Option.{some}
 use lib.ListN.{get_elem?}
 use Rattle.atomic_table.specs.Table as table
@@ -21,7 +21,7 @@ use Rattle.mv_core.specs.SectionFacts.{Marks, StampedPastHelp, LoadedWords, Help
 use Rattle.mv_core.specs.SectionFacts as section
 use Rattle.mv_core.specs.ChainFacts.{HeadIsTop, HeldLink, CommitLink, AbortedLink, PresentMaster, ChainFoot}
 use Rattle.mv_core.specs.WalkFacts.{WalkerPlace, WalkerBeforeDeath, WalkerKnowledge, WalkerFalls, WalkerLate, SucceededHasSuper}
-use Rattle.mv_core.specs.ReclaimFacts.{Deaths, DeathAfterWrite, FreedIsOld, CutIsOld, SuccessorFlag, WriteBacks, PositionsAndGrace}
+use Rattle.mv_core.specs.ReclaimFacts.{Deaths, DeathsSeen, DeathAfterWrite, FreedIsOld, CutIsOld, SuccessorFlag, WriteBacks, PositionsAndGrace}
 
 -- the view of the first seat, which makes the others
 abbrev pub first_view : Config → State → View
@@ -35,7 +35,15 @@ pub record IsNoted (seats : ℕ → View) (n : Note) : Type 0 where
   pub outside : (seats n.number).phase ≡ Outside
   pub no_scan : (seats n.number).scan ≡ None
 
--- The views of the table are those of the seats: each unspent one is that of its number, each note is of a joined seat, no number is twice, and a seat that isn't made yet is new.
+-- the seat s has an unspent view among these, or an unspent view has a note of it
+pub record IsThere (vs : List View) (s : ℕ) : Type 0 where
+  pub id : ℕ
+  pub holder : View
+  pub place : get_elem? vs id ≡ some holder
+  pub unspent : holder.spent ≡ false
+  pub named : (holder.number ≡ s) ⊎ ((n : Note) × Contains holder.notes n × (n.number ≡ s))
+
+-- The views of the table are those of the seats: each unspent one is that of its number, each note is of a joined seat, no number is twice, and a seat that isn't made yet is new, while each other one has a view or a note.
 pub record Seated (c : Config) (start : State) (vs : List View) (seats : ℕ → View) : Type 0 where
   pub own : (s : ℕ) → ((seats s).number ≡ s) × ((seats s).start ≡ start) × ((seats s).base ≡ c.base)
   pub there : (id : ℕ) (v : View) → get_elem? vs id ≡ some v → v.spent ≡ false → (seats v.number ≡ v) × (v.number < c.seats)
@@ -45,6 +53,7 @@ pub record Seated (c : Config) (start : State) (vs : List View) (seats : ℕ →
   pub once : (i j a b : ℕ) (v w : View) (m n : Note) → get_elem? vs i ≡ some v → get_elem? vs j ≡ some w → v.spent ≡ false → w.spent ≡ false → get_elem? v.notes a ≡ some m → get_elem? w.notes b ≡ some n → m.number ≡ n.number → (i ≡ j) × (a ≡ b)
   pub maker : (id : ℕ) (v : View) → get_elem? vs id ≡ some v → v.spent ≡ false → 0 < v.made → (v.number ≡ 0) × ((s : ℕ) → v.made ≤ s → seats s ≡ new_view c start s 0)
   pub made : (i j : ℕ) (v w : View) → get_elem? vs i ≡ some v → get_elem? vs j ≡ some w → v.spent ≡ false → w.spent ≡ false → 0 < v.made → (w.number < v.made) × All (λ n. n.number < v.made) w.notes
+  pub all : (s : ℕ) → IsThere vs s ⊎ (seats s ≡ new_view c start s 0)
 
 -- what a step keeps of its seat's view besides
 abbrev pub IsKept : View → View → Type 0
@@ -65,6 +74,7 @@ module _ (starts : State → Type 0) (allows : List ℕ → State → Writes →
     pub lock_freshness : LockFreshness c h f.time f.ring
     pub successors : Successors c h (λ s k. m (Stamp s k)) (λ s k. m (Super s k)) f.section f.ring
     pub deaths : Deaths c h f.ring
+    pub deaths_seen : DeathsSeen c f.past f.ring
     pub positions : Positions c h f.ring
     pub head_is_top : HeadIsTop c h (λ o. m (Head o)) f.ring
     pub held_link : HeldLink c h f.ring
@@ -85,7 +95,7 @@ module _ (starts : State → Type 0) (allows : List ℕ → State → Writes →
     pub successor_flag : SuccessorFlag (λ s k. m (Super s k)) f.section f.ring
     pub succeeded_has_super : SucceededHasSuper c h (λ s k. m (Super s k)) f.empty f.ring
     pub loaded_words : LoadedWords c (m Clock) f.section f.heard
-    pub freed_is_old : FreedIsOld c (m Clock) h f.time f.ring
+    pub freed_is_old : FreedIsOld c (m Clock) h f.grace f.ring
     pub cut_is_old : CutIsOld f.time f.ring
     pub death_after_write : DeathAfterWrite f.ring
     pub write_back : WriteBacks c h (λ o w. m (Master o w)) f.section f.time f.heard f.grace f.back f.ring

@@ -1,5 +1,5 @@
 -- The writes of one object in a history, by printed times: the entry t, counted from 1, has the time base + t.
-use Rattle.std.specs.Prelude.{◌≡◌, ℕ, zero, suc, ◌+◌, ◌-◌, ◌<◌, ◌≤◌, ◌==◌, Bool, true, false, List, [], ◌∷◌, take, Option, Some, None, slice_get, slice_index}
+use Rattle.std.specs.Prelude.{◌≡◌, ℕ, zero, suc, ◌+◌, ◌-◌, ◌<◌, ◌≤◌, ◌==◌, Bool, true, false, List, [], ◌∷◌, length, take, Option, Some, None, slice_get, slice_index}
 use Rattle.mv_history.specs.declared.Entry.{Entry}
 use Rattle.mv_history.specs.State.{State, maker_of, writes_of, touches, state_at}
 use Rattle.mv_history.specs.Meaning.{words_at}
@@ -48,6 +48,13 @@ pub record IsNextWrite (base : ℕ) (h : List Entry) (object time next : ℕ) : 
   pub writes : writes_to object entry ≡ true
   pub none_between : latest_at base h object (next - 1) ≤ time
 
+-- the next write of the object after a time that the history has is at this time
+pub record IsNextIn (base : ℕ) (h : List Entry) (object time next : ℕ) : Type 0 where
+  pub later : time < next
+  pub within : next ≤ base + length h
+  pub written : latest_at base h object next ≡ next
+  pub none_between : latest_at base h object (next - 1) ≤ time
+
 -- the words of the object at a time
 abbrev pub words_of : Config → State → List Entry → ℕ → ℕ → List ℕ
 words_of c start h time object = words_at (state_at start h (time - c.base)) object
@@ -61,15 +68,6 @@ abbrev pub NotAbove : ℕ → Option ℕ → Type 0
 NotAbove t None = Unit {0}
 NotAbove t (Some u) = t ≤ u
 
--- t is below the time of the section, if there is one
-abbrev pub IsBelow : ℕ → Option ℕ → Type 0
-IsBelow t None = Unit {0}
-IsBelow t (Some u) = t < u
-
 -- the same of every section, by the number of its seat
 abbrev pub NotAboveAny : ℕ → (ℕ → Option ℕ) → Type 0
 NotAboveAny t times = (s : ℕ) → NotAbove t (times s)
-
--- t is below the time of every section
-abbrev pub IsBelowAll : ℕ → (ℕ → Option ℕ) → Type 0
-IsBelowAll t times = (s : ℕ) → IsBelow t (times s)

@@ -4,7 +4,7 @@ use Rattle.mv_history.specs.declared.Entry.{Entry}
 use Rattle.mv_history.specs.declared.StepKind.TheVariants.{LoadHead, LoadFirst, LoadStamp, LoadPrev, LoadData, LoadMaster}
 use Rattle.mv_layout.specs.declared.Config.{Config}
 use Rattle.mv_layout.specs.declared.Place.TheVariants.{Head, Master, First, Stamp, Prev, Data}
-use Rattle.mv_layout.specs.Words.{link_seat_of, link_position_of, IsLink, IsUnset}
+use Rattle.mv_layout.specs.Words.{link_of, link_seat_of, link_position_of, IsLink, IsUnset}
 use Rattle.mv_core.specs.declared.ring.Slot.TheVariants.{Live}
 use Rattle.mv_core.specs.declared.ring.Version.{Version}
 use Rattle.mv_core.specs.declared.ring.Status.{Status}
@@ -21,7 +21,7 @@ use Rattle.mv_core.specs.declared.view.Passed.{Passed}
 use Rattle.mv_core.specs.declared.view.Passed.TheVariants.{Nothing, Unset, Time}
 use Rattle.mv_core.specs.declared.view.EmptyHead.{EmptyHead}
 use Rattle.mv_core.specs.Rings.{slot_at, index_of}
-use Rattle.mv_core.specs.Times.{words_of, writes_to, IsEntry}
+use Rattle.mv_core.specs.Times.{words_of, writes_to, latest, IsEntry}
 use Rattle.mv_core.specs.Views.{time_in, told}
 use Rattle.mv_core.specs.HistoryFacts.{BeginsWith}
 use Rattle.mv_core.specs.SectionFacts.{IsPastHelp}
@@ -43,6 +43,22 @@ slot_named c link = index_of c (link_position_of link)
 abbrev pub IsOwnTop : Config → View → ℕ → ℕ → Type 0
 IsOwnTop c v object link =
     link ≢ 0 → link_seat_of link ≡ v.number → (x : Version) × (st : Status) × (slot_at v.ring (slot_named c link) ≡ Live x st) × (x.object ≡ object) × ((st ≡ Held) ⊎ ((note : CommitNote) × (st ≡ Committed note) × (note.cut ≡ false)))
+
+-- where the link is to the own log, it is that of the version in the slot that it names
+abbrev pub IsOwnLink : Config → View → ℕ → Type 0
+IsOwnLink c v link =
+    link ≢ 0 → link_seat_of link ≡ v.number → (x : Version) (st : Status) → slot_at v.ring (slot_named c link) ≡ Live x st → link ≡ link_of v.number x.position
+
+-- where the link names a committed version of the own log, each other one of the object there that is committed has a lesser time
+abbrev pub IsLastOwn : Config → View → ℕ → ℕ → Type 0
+IsLastOwn c v object link =
+    link ≢ 0 → link_seat_of link ≡ v.number → (x : Version) (note : CommitNote) → slot_at v.ring (slot_named c link) ≡ Live x (Committed note)
+    → (k : ℕ) (y : Version) (other : CommitNote) → slot_at v.ring k ≡ Live y (Committed other) → y.object ≡ object → k ≢ slot_named c link → other.time < note.time
+
+-- where the link names a committed version of the own log, no later write of the object was seen
+abbrev pub IsLastSeen : Config → View → ℕ → ℕ → Type 0
+IsLastSeen c v object link =
+    link ≢ 0 → link_seat_of link ≡ v.number → (x : Version) (note : CommitNote) → slot_at v.ring (slot_named c link) ≡ Live x (Committed note) → latest c.base v.past.seen object ≤ note.time
 
 -- a stamp of the own log that was found is a time, where the version there is committed
 abbrev pub IsOwnTime : Config → View → ℕ → ℕ → Type 0

@@ -3,26 +3,41 @@
 //! shared words and of the seats' views that the rule allows, and the rule holds after each step.
 //! They are the invariants of MV-RLU (Kim, Mathew, Kashyap, Ramanathan and Min, ASPLOS 2019,
 //! sections 3 and 4), of the subject that stands in brackets at each.
-ghost use Rattle.mv_core.specs.Points.{HistoryPoint, WriteSetsPoint, MarksPoint, GracePoint, LockFreshnessPoint, SuccessorsPoint, DeathsPoint, PositionsPoint, PositionsBoundedPoint, EarlierStampedPoint, OneWriteBackPoint, ReachableLinksPoint, NoSlotReusePoint, BeforeDeathPoint, ChainsPoint, WalkersPoint, MasterReadPoint, WriteBackPoint};
+ghost use Rattle.mv_core.specs.Points.{HistoryPoint, WriteSetsPoint, FreesPoint, MarksPoint, GracePoint, LockFreshnessPoint, SuccessorsPoint, DeathsPoint, PositionsPoint, PositionsBoundedPoint, EarlierStampedPoint, OneWriteBackPoint, ReachableLinksPoint, NoSlotReusePoint, BeforeDeathPoint, ChainsPoint, WalkersPoint, MasterReadPoint, WriteBackPoint};
 
 use mv_history::Protocol;
 
 /// There is one commit history. It is legal and allowed by the client's rules, and as long as the
 /// clock's time less the base; the clock names the seat and the slot of its last entry. By number,
 /// each seat has seen a prefix of it and knows exactly its own commits and rests in it, and one has
-/// seen it all. The numbers of the unspent views and of the notes of joined seats all differ.
+/// seen it all. The numbers of the unspent views and of the notes of joined seats all differ, each
+/// entry is of one of them, and what a seat knows is what its view says, or its note.
 /// (MV-RLU: the clock orders commits.)
 pub fn history_is_one<P: Protocol>()
     ensures { HistoryPoint P.start P.allowed }
 {}
 
-/// The words of a log are those of its write sets. A committed set has exactly the writes of one
-/// commit, all live or none; a held set reaches to the next position. A set's stamp is the time of
-/// its commit, or unset while the clock names the commit, and of a held or aborted one unset. Each
-/// clock word that a seat helped has left the clock, names no commit, or names a stamped one.
+/// The words of a log are those of its write sets. Each set is a run of positions, all of them live.
+/// A committed set has exactly the writes of one commit; any other has no committed version. A held
+/// set reaches to the next position, its seat is in a section, and each version is held, at HEAD of
+/// its object, or, once the section aborts, aborted; in any other set that isn't committed all are
+/// aborted. A set's stamp is the time of its commit, or unset while the clock names the commit, and
+/// of a held or aborted one unset. Each clock word that a seat helped has left the clock, names no
+/// commit, or names a stamped one.
 /// (MV-RLU: write sets in per-thread logs; the commit timestamp of a write set.)
 pub fn write_sets_are_whole<P: Protocol>()
     ensures { WriteSetsPoint P.start P.allowed }
+{}
+
+/// A seat's first free of a write set is of the set's first slot, which is the oldest of its log, and
+/// needs each version of the set dead from a time not above the seat's watermark; such a version is
+/// reached by no section. Then no version of the set is live: its other slots are being freed. While
+/// they are, each live version of the log is of a later set, no section and no clock word names the
+/// set's commit, and no section reaches a link to it or to what was freed before. Each write of the
+/// history has its version still, or its time is below the watermark of the seat that made it.
+/// (MV-RLU: log space is reused after a grace period.)
+pub fn sets_are_freed_whole<P: Protocol>()
+    ensures { FreesPoint P.start P.allowed }
 {}
 
 /// The mark of a seat outside is 0. In a section it is one more than a time not above the section's,

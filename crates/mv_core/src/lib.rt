@@ -72,8 +72,8 @@ pub use laws::{
     chains_are_latest_writes, deaths_are_after_readers, deaths_are_next,
     earlier_commits_are_stamped, grace_is_below_sections, history_is_one, locks_are_fresh,
     marks_are_low, masters_are_read_whole, one_seat_writes_back, positions_are_bounded,
-    positions_run_on, reached_links_are_live, reached_slots_are_kept, successors_are_next,
-    walks_stand_right, write_backs_are_last, write_sets_are_whole,
+    positions_run_on, reached_links_are_live, reached_slots_are_kept, sets_are_freed_whole,
+    successors_are_next, walks_stand_right, write_backs_are_last, write_sets_are_whole,
 };
 pub use shared::{Pass, Shared};
 pub use steps::Steps;

@@ -1,6 +1,7 @@
 //! The steps of a scan of the marks, which finds a time that no section is below.
-ghost use Rattle.std.specs.Prelude.{◌≡◌, ◌+◌, List, Some};
+ghost use Rattle.std.specs.Prelude.{◌≡◌, ◌+◌, ◌<◌, List, Some, All};
 ghost use Rattle.mv_history.specs.declared.Entry.{Entry};
+ghost use Rattle.mv_history.specs.State.{maker_of};
 ghost use Rattle.mv_core.specs.declared.view.Scan.{Scan};
 ghost use Rattle.mv_core.specs.Passes.{view, IsOf, IsSame, config_of};
 ghost use Rattle.mv_core.specs.SectionFacts.{IsWord};
@@ -18,14 +19,16 @@ use std::sync::ledger::Ledger;
 
 impl<P: Protocol> Shared<P> {
     /// Loads CLOCK and begins a scan of the marks, whose least time so far is that of the word found.
-    /// The seat is outside, with no scan running, and has then seen the whole history. In a domain
-    /// of one seat the scan is finished by this step, and its time is known to the pass.
+    /// The seat is outside, with no scan running, and has then seen the whole history, every entry of
+    /// which is by a seat of the domain. In a domain of one seat the scan is finished by this step,
+    /// and its time is known to the pass.
     pub fn load_scan<L: Ledger>(&self, pass: &mut Pass<P>, steps: &mut Steps<L>) -> u64
         requires of { IsOf self.now pass.old }
         requires may { MayLoadScan (view pass.old) }
         ensures same { IsSame pass.old pass.new }
         ensures view { (h : List Entry) × IsWhole (config_of self.now) (view pass.old) result h × (view pass.new ≡ scan_loaded (config_of self.now) (view pass.old) result h) }
         ensures word { IsWord (config_of self.now) result }
+        ensures makers { All (λ e. maker_of e < (config_of self.now).seats) (view pass.new).past.seen }
         ensures step { steps.new ≡ steps.old + 1 }
     {
         load_as::<P, Brand, L, _>(self, pass, CLOCK, &(), steps)

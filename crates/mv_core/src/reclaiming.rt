@@ -4,7 +4,7 @@ ghost use Rattle.mv_core.specs.declared.ring.Version.{Version};
 ghost use Rattle.mv_core.specs.declared.ring.CommitNote.{CommitNote};
 ghost use Rattle.mv_core.specs.declared.view.Section.{Section};
 ghost use Rattle.mv_core.specs.Passes.{view, IsOf, IsSame, config_of};
-ghost use Rattle.mv_core.specs.ReclaimSteps.{MayLoadSuper, super_loaded, SeesSuper, MayStoreMaster, master_stored, MayCutHead, CutTold, MayStoreFree, free_stored};
+ghost use Rattle.mv_core.specs.ReclaimSteps.{MayLoadSuper, super_loaded, SeesSuper, FoundEmpty, MayStoreMaster, master_stored, MayCutHead, CutTold, IsOfOther, MayStoreFree, free_stored};
 ghost use Rattle.mv_core.specs.Swaps.{found_by, IsSwap};
 ghost use Rattle.mv_core.specs.WalkSteps.{IsLinkOf};
 ghost use Rattle.mv_layout.specs.Words.{link_of};
@@ -22,7 +22,8 @@ impl<P: Protocol> Shared<P> {
     /// Loads SUPER of an own committed version that wasn't cut and has no time of death. A time found
     /// is the printed time of the next write of the object, from which on the version is dead; the
     /// pass then has seen that write. Where 0 is found, no write of the object that the pass has
-    /// seen comes after the version's and up to the pass's watermark.
+    /// seen comes after the version's and up to the pass's watermark. A time is found where a
+    /// section of the seat whose time wasn't below the version's found the object's HEAD empty.
     pub fn load_super<L: Ledger>(
         &self,
         pass: &mut Pass<P>,
@@ -35,6 +36,7 @@ impl<P: Protocol> Shared<P> {
         ensures same { IsSame pass.old pass.new }
         ensures view { view pass.new ≡ super_loaded (config_of self.now) (view pass.old) position own.0 own.1 result (view pass.new).past.seen }
         ensures sees { SeesSuper (config_of self.now) (view pass.old) own.0 own.1 result (view pass.new).past.seen }
+        ensures empty { FoundEmpty (view pass.old) own.0.object own.1.time → result ≢ 0 }
         ensures step { steps.new ≡ steps.old + 1 }
     {
         let slot = (position % self.config.slots as u64) as u32;
@@ -70,7 +72,8 @@ impl<P: Protocol> Shared<P> {
     /// Exchanges HEAD of an object from the link of the version that is written back to 0, once all
     /// its words were stored. Where it is won the version is cut from its chain: the object's master
     /// has the present state, and a walk that begins goes there. A lost exchange leaves the chain as
-    /// it is. It is tried once in a write-back, won or lost.
+    /// it is, and found the link of a version of another seat. It is tried once in a write-back, won
+    /// or lost.
     pub fn cut_head<L: Ledger>(
         &self,
         pass: &mut Pass<P>,
@@ -87,6 +90,7 @@ impl<P: Protocol> Shared<P> {
         ensures view { CutTold (config_of self.now) (view pass.old) object position back.0 back.1 (found_by (link_of (view pass.old).number position) result) (view pass.new) }
         ensures swap { IsSwap (link_of (view pass.old).number position) result }
         ensures link { found_by (link_of (view pass.old).number position) result ≢ link_of (view pass.old).number position → IsLinkOf (config_of self.now) (found_by (link_of (view pass.old).number position) result) }
+        ensures other { found_by (link_of (view pass.old).number position) result ≢ link_of (view pass.old).number position → IsOfOther (view pass.old) (found_by (link_of (view pass.old).number position) result) }
         ensures step { steps.new ≡ steps.old + 1 }
     {
         let place = head_place(&self.config, object);

@@ -3,7 +3,7 @@ ghost use Rattle.std.specs.Prelude.{◌≡◌, ◌+◌, ◌<◌, length};
 ghost use Rattle.mv_core.specs.declared.view.Section.{Section};
 ghost use Rattle.mv_core.specs.declared.view.Stand.{Stand};
 ghost use Rattle.mv_core.specs.Passes.{view, IsOf, IsSame, config_of};
-ghost use Rattle.mv_core.specs.WalkSteps.{IsPackedOf, IsLinkOf, IsOwnTop, IsOwnTime, slot_named, MayLoadHead, head_loaded, MayLoadFirst, first_loaded, MayLoadStamp, StampSays, stamp_loaded, MayLoadPrev, prev_loaded, MayLoadData, data_loaded, MayLoadMaster, master_loaded, words_read, word_read};
+ghost use Rattle.mv_core.specs.WalkSteps.{IsPackedOf, IsLinkOf, IsOwnTop, IsOwnLink, IsLastOwn, IsLastSeen, IsOwnTime, slot_named, MayLoadHead, head_loaded, MayLoadFirst, first_loaded, MayLoadStamp, StampSays, stamp_loaded, MayLoadPrev, prev_loaded, MayLoadData, data_loaded, MayLoadMaster, master_loaded, words_read, word_read};
 ghost use Rattle.mv_layout.specs.Places.{place_of};
 ghost use Rattle.mv_layout.specs.Words.{link_seat_of};
 ghost use Rattle.mv_layout.specs.declared.Place.TheVariants.{First};
@@ -29,7 +29,9 @@ impl<P: Protocol> Shared<P> {
     /// Loads HEAD of an object, in an open section that is past its help and has no write-back under
     /// way, and so begins a walk over that object. The word is 0, where the walk then stands at the
     /// master, or the link of the version on top, where it then stands. A version of the own log on top
-    /// is held, or is committed and wasn't cut.
+    /// is held, or is committed and wasn't cut, and the link is of its position; where it is committed,
+    /// each other committed version of the object in the own log has a lesser time, and the pass has
+    /// seen no later write of the object.
     pub fn load_head<L: Ledger>(&self, pass: &mut Pass<P>, object: u32, steps: &mut Steps<L>) -> u64
         ghost inside: { Section }
         requires of { IsOf self.now pass.old }
@@ -39,6 +41,9 @@ impl<P: Protocol> Shared<P> {
         ensures view { view pass.new ≡ head_loaded (config_of self.now) (view pass.old) inside object result }
         ensures link { IsLinkOf (config_of self.now) result }
         ensures own { IsOwnTop (config_of self.now) (view pass.old) object result }
+        ensures own_link { IsOwnLink (config_of self.now) (view pass.old) result }
+        ensures later { IsLastOwn (config_of self.now) (view pass.old) object result }
+        ensures seen { IsLastSeen (config_of self.now) (view pass.old) object result }
         ensures step { steps.new ≡ steps.old + 1 }
     {
         let place = head_place(&self.config, object);

@@ -1,5 +1,6 @@
 // Scanning the marks for a watermark, and taking the one that stands in GRACE.
-ghost use Rattle.std.specs.Prelude.{◌≡◌, ◌≢◌, ℕ, ◌+◌, ◌≤◌, false, None, Some};
+ghost use Rattle.std.specs.Prelude.{◌≡◌, ◌≢◌, ℕ, ◌+◌, ◌<◌, ◌≤◌, false, None, Some, All};
+ghost use Rattle.mv_history.specs.State.{maker_of};
 ghost use Rattle.mv_core.specs.declared.view.Scan.{Scan};
 ghost use Rattle.mv_core.specs.Passes.{view, IsOf, IsSame, config_of};
 ghost use Rattle.mv_core.specs.ReclaimSteps.{MayLoadScan, MayLoadMark, mark_loaded};
@@ -75,7 +76,7 @@ fn look_at<P: Protocol, L: Ledger>(
 /// least of their times, `low`. The answered `time` is the greater of `low` and the time found in
 /// GRACE. No section of any seat has a time below it, now or later, and the pass knows it. The pass
 /// is outside a section, with no scan running, and has then seen the whole history of the load of
-/// CLOCK. It never refuses.
+/// CLOCK, every entry of which is by a seat of the domain. It never refuses.
 pub fn scan<P: Protocol, L: Ledger>(
     shared: &Shared<P>,
     pass: &mut Pass<P>,
@@ -86,6 +87,7 @@ pub fn scan<P: Protocol, L: Ledger>(
     ensures same { IsSame pass.old pass.new }
     ensures scans { (clock : ℕ) × Scans (config_of shared.now) (view pass.old) (view pass.new) result clock steps.old steps.new }
     ensures known { IsKnown (view pass.new) result }
+    ensures makers { All (λ e. maker_of e < (config_of shared.now).seats) (view pass.new).past.seen }
     ensures cost { steps.new ≤ steps.old + ((config_of shared.now).seats + 3) }
 {
     scan_clock(shared, pass, steps).0
@@ -102,6 +104,7 @@ pub fn scan_clock<P: Protocol, L: Ledger>(
     ensures same { IsSame pass.old pass.new }
     ensures scans { Scans (config_of shared.now) (view pass.old) (view pass.new) result.0 result.1 steps.old steps.new }
     ensures known { IsKnown (view pass.new) result.0 }
+    ensures makers { All (λ e. maker_of e < (config_of shared.now).seats) (view pass.new).past.seen }
     ensures cost { steps.new ≤ steps.old + ((config_of shared.now).seats + 3) }
 {
     let clock = clock_time(shared.load_scan(pass, steps));

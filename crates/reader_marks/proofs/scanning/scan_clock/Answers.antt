@@ -1,5 +1,8 @@
-use Rattle.std.proofs.Common.{◌≡◌, ℕ, ◌+◌, ◌<◌, refl, sym, ap, ◌∙◌, subst, ⊎_elim, arith}
+use Rattle.std.proofs.Common.{◌≡◌, ℕ, ◌+◌, ◌<◌, List, refl, sym, ap, ◌∙◌, subst, ⊎_elim, arith}
 use Rattle.std.proofs.lemmas.Bool.{cases_eq}
+use Rattle.std.specs.Prelude.{All}
+use Rattle.mv_history.specs.declared.Entry.{Entry}
+use Rattle.mv_history.specs.State.{maker_of}
 use Rattle.mv_layout.specs.declared.Config.{Config}
 use Rattle.mv_core.specs.declared.view.View.{View}
 use Rattle.mv_core.specs.Passes.{view, config_of}
@@ -11,7 +14,11 @@ use Rattle.reader_marks.proofs.scanning.scan_clock.Goals as goal
 pub loop-seat-init : goal.loop-seat-init
 loop-seat-init g c =
     let a = c.load_scan.ensures in
-    (a.same, looks_first (config_of c.args.shared.now) (view c.args.pass.now) (view c.load_scan.new.pass) c.load_scan.result c.clock_time-clock.result c.args.steps.now c.load_scan.new.steps a.view.0 a.view.1 a.view.2 c.clock_time-clock.ensures a.step)
+    (a.same, looks_first (config_of c.args.shared.now) (view c.args.pass.now) (view c.load_scan.new.pass) c.load_scan.result c.clock_time-clock.result c.args.steps.now c.load_scan.new.steps a.view.0 a.view.1 a.view.2 c.clock_time-clock.ensures a.step, a.makers)
+
+-- every entry that is seen is by a seat of the domain, also where the same is seen later
+makers_on : (c : Config) (v w : View) → w.past.seen ≡ v.past.seen → All (λ e. maker_of e < c.seats) v.past.seen → All (λ e. maker_of e < c.seats) w.past.seen
+makers_on c v w is = subst (λ (h : List Entry). All (λ e. maker_of e < c.seats) h) (sym is)
 
 -- the number of a seat stays
 number_is : (c : Config) (v w : View) (clock n : ℕ) (l : Lowest) (before after : ℕ) → Looks c v w clock n l before after → w.number ≡ v.number
@@ -44,6 +51,9 @@ loop-seat-preserved g c =
           subst (λ (x : Lowest). Looks (config_of c.args.shared.now) (view c.args.pass.now) (view c.look_at-lowest.new.pass) c.clock_time-clock.result (c.loop-seat.seat + 1) x c.args.steps.now c.look_at-lowest.new.steps) (sym o.3)
           (looks_other _ _ _ _ _ _ _ _ k (view c.look_at-lowest.new.pass) o.0 c.look_at-lowest.new.steps o.1 lt (λ e. ne (e ∙ sym at)) o.2 o.4 o.5))
           (cases_eq c.loop-seat.seat (view c.loop-seat.pass).number),
+      makers_on (config_of c.args.shared.now) (view c.loop-seat.pass) (view c.look_at-lowest.new.pass)
+          (⊎_elim (λ e. ap (λ (u : View). u.past.seen) (t.own e).1) (λ ne. ap (λ (u : View). u.past.seen) (t.other ne).4) (cases_eq c.loop-seat.seat (view c.loop-seat.pass).number))
+          c.loop-seat.invariant.2,
     )
 
 pub returns-clause-scans : goal.returns-clause-scans
@@ -54,6 +64,10 @@ returns-clause-scans g c =
     (subst (λ (n : ℕ). Looks (config_of c.args.shared.now) (view c.args.pass.now) (view c.loop-seat.pass) c.clock_time-clock.result n c.loop-seat.lowest c.args.steps.now c.loop-seat.steps) done k)
     (subst (λ (n : ℕ). n < (config_of c.args.shared.now).seats) c.args.pass.now.numbered c.requires.of.1) c.requires.may.no_scan c.raise_grace-found.result _ c.raise_grace-found.ensures.view c.raise_grace-found.ensures.step c.max.ensures refl c.is_some.ensures
     c.unwrap_or.ensures
+
+pub returns-clause-makers : goal.returns-clause-makers
+returns-clause-makers g c =
+    makers_on (config_of c.args.shared.now) (view c.loop-seat.pass) (view c.raise_grace-found.new.pass) (ap (λ (u : View). u.past.seen) c.raise_grace-found.ensures.view) c.loop-seat.invariant.2
 
 pub returns-clause-cost : goal.returns-clause-cost
 returns-clause-cost g c = scan_cost _ _ _ _ _ _ _ (returns-clause-scans g c)

@@ -1,5 +1,7 @@
-use Rattle.std.proofs.Common.{◌≡◌, List}
+use Rattle.std.proofs.Common.{◌≡◌, ◌<◌, List}
+use Rattle.std.specs.Prelude.{All}
 use Rattle.mv_history.specs.declared.Entry.{Entry}
+use Rattle.mv_history.specs.State.{maker_of}
 use Rattle.mv_layout.specs.declared.Place.TheVariants.{Clock}
 use Rattle.mv_core.specs.Passes.{view, config_of}
 use Rattle.mv_core.specs.SectionFacts.{IsWord}
@@ -10,5 +12,5 @@ use Rattle.mv_core.proofs.shared.Shared.load_scan.Given as goal
 abbrev pub ghosts-load_as : goal.ghosts-load_as
 ghosts-load_as g a = record {
   place = Clock;
-  tells = λ n w. ((h : List Entry) × IsWhole (config_of a.shared.now) (view a.pass.now) n h × (w ≡ scan_loaded (config_of a.shared.now) (view a.pass.now) n h)) × IsWord (config_of a.shared.now) n;
+  tells = λ n w. ((h : List Entry) × IsWhole (config_of a.shared.now) (view a.pass.now) n h × (w ≡ scan_loaded (config_of a.shared.now) (view a.pass.now) n h)) × IsWord (config_of a.shared.now) n × All (λ e. maker_of e < (config_of a.shared.now).seats) w.past.seen;
 }

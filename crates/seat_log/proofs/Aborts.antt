@@ -111,17 +111,17 @@ noted_of c v l s k x st e =
     let one = live_once (slot_at v.ring k) (version_of n.0) x h.status st (ap (slot_at v.ring) r.2 ∙ h.lives) e in
     (_, n.0, subst (IsAsNoted _ n.0) one.1 h.as_noted)
 
--- a slot that isn't held waits for no death
-unwaiting : (c : Config) (v : View) (l : Noted) (d : ℕ) → Stands c v l → (k : ℕ) (z : Slot) → slot_at v.ring k ≡ z → is_held z ≡ false → timed d z ≡ z
-unwaiting c v l d s k Free e unheld = refl
-unwaiting c v l d s k (Built b) e unheld = refl
-unwaiting c v l d s k (Freeing p q) e unheld = refl
-unwaiting c v l d s k (Live x Held) e unheld = refl
-unwaiting c v l d s k (Live x (Aborted dead)) e unheld =
+-- no slot of a log that stands for the pass waits for its time of death
+pub unwaiting : (c : Config) (v : View) (l : Noted) (d : ℕ) → Stands c v l → (k : ℕ) (z : Slot) → slot_at v.ring k ≡ z → timed d z ≡ z
+unwaiting c v l d s k Free e = refl
+unwaiting c v l d s k (Built b) e = refl
+unwaiting c v l d s k (Freeing p q) e = refl
+unwaiting c v l d s k (Live x Held) e = refl
+unwaiting c v l d s k (Live x (Aborted dead)) e =
     let r = noted_of c v l s k x (Aborted dead) e in
     let some_death : dead ≡ Some r.1.dead = r.2.3 in
     ap (λ (o : Option ℕ). Live x (Aborted (dead_if o d))) some_death ∙ ap (λ (o : Option ℕ). Live x (Aborted o)) (sym some_death)
-unwaiting c v l d s k (Live x (Committed note)) e unheld =
+unwaiting c v l d s k (Live x (Committed note)) e =
     let r = noted_of c v l s k x (Committed note) e in
     go r.1.dead r.2.3 r.2.4
   where
@@ -154,7 +154,7 @@ abort_ends c v u l word h s e none =
           (λ a. absurd (none_held u.ring.slots none k x a))
           (λ b. (Aborted (Some d), slot_mapped (timed d) refl u.ring k ∙ ap (timed d) b, λ n time dead. (refl, time, (omega arith), refl)))
           (e.held k x is);
-      others = λ k z is unheld. slot_mapped (timed d) refl u.ring k ∙ ap (timed d) (e.others k z is unheld) ∙ unwaiting c v l d s k z is unheld;
+      others = λ k z is unheld. slot_mapped (timed d) refl u.ring k ∙ ap (timed d) (e.others k z is unheld) ∙ unwaiting c v l d s k z is;
       frees = unpassed is_free u.trail _ refl ∙ e.frees;
       backs = unpassed is_won_cut u.trail _ refl ∙ e.backs;
     }

@@ -24,7 +24,7 @@ use Rattle.seat_log.proofs.Standing.{mod_apart, le_or_gt}
 use Rattle.seat_log.proofs.Rebuilding.{held_note}
 
 -- two places of the ring that are less than its slots apart differ
-places_apart : (c : Config) (a i j : ℕ) → i < c.slots → j < c.slots → index_of c (a + i) ≡ index_of c (a + j) → i ≡ j
+pub places_apart : (c : Config) (a i j : ℕ) → i < c.slots → j < c.slots → index_of c (a + i) ≡ index_of c (a + j) → i ≡ j
 places_apart c a i j low high e =
     ⊎_elim
     (λ le. ⊎_elim (λ ge. omega arith) (λ lt. absurd (mod_apart (a + j) (a + i) c.slots (omega arith) (omega arith) (sym e))) (le_or_gt i j))

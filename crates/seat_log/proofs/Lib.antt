@@ -14,3 +14,7 @@ pub mod Aborts
 pub mod FreedSlots
 pub mod FreedOldest
 pub mod FreedLogs
+pub mod PlainSteps
+pub mod Retired
+pub mod CutLogs
+pub mod Rested

@@ -1,9 +1,9 @@
 -- What holds of every log holds after each note.
-use Rattle.std.proofs.Common.{◌≡◌, ◌≢◌, ◌⊎◌, ℕ, ◌+◌, ◌<◌, ◌≤◌, ◌==◌, if◌then◌else◌, Bool, true, false, cond, List, [], ◌∷◌, ◌++◌, length, refl, sym, ap, ◌∙◌, subst, inl, inr, ⊎_elim, arith, length-append, Option, Some, None, slice_get}
+use Rattle.std.proofs.Common.{◌≡◌, ◌≢◌, ◌⊎◌, ℕ, ◌+◌, ◌<◌, ◌≤◌, ◌==◌, ◌^◌, if◌then◌else◌, Bool, true, false, cond, List, [], ◌∷◌, ◌++◌, length, refl, sym, ap, ◌∙◌, subst, inl, inr, ⊎_elim, arith, length-append, Option, Some, None, slice_get}
 use Rattle.std.proofs.lemmas.Bool.{eqb-false, ne_eqb}
 use Rattle.std.specs.Prelude.{IfSome}
 use Rattle.seat_log.specs.declared.version.Note.{Note}
-use Rattle.seat_log.specs.Notes.{Noted, held_from, first_of, built_list, built_count, AreNoted, IsNextOf, IsLog, from_place, at_place, held_noted, committed_noted, aborted_noted}
+use Rattle.seat_log.specs.Notes.{Noted, next_of, held_from, first_of, built_list, built_count, AreNoted, IsNextOf, IsLog, from_place, at_place, held_noted, committed_noted, aborted_noted}
 use Rattle.seat_log.proofs.Places.{from_end, length-from_place, length-at_place, from_before, at_before, push_before, get_within}
 
 -- the notes of two lists are of the same versions, in the same sets
@@ -217,3 +217,18 @@ renoted_is_log l f i keeps k =
     next_again : (o : Option Note) → IfSome o (IsNextOf l) → IfSome o (IsNextOf (record l { live = at_place f i l.live }))
     next_again None a = tt
     next_again (Some n) a = let long = length-at_place f i l.live in let at = a.0 in let first = a.1 in (omega arith, omega arith, a.2, a.3, a.4)
+
+-- other counts of write-backs and rests
+pub counted_is_log : (l : Noted) (back rests : ℕ) → back ≤ next_of l → rests < 2 ^ 63 → IsLog l → IsLog (record l { back = back; rests = rests })
+counted_is_log l back rests few some k = record {
+  seat = k.seat;
+  slots = k.slots;
+  room = k.room;
+  held = k.held;
+  notes = record { position = k.notes.position; first = k.notes.first; run = k.notes.run; held = k.notes.held };
+  built = k.built;
+  positions = k.positions;
+  sets = k.sets;
+  backs = few;
+  rests = some;
+}

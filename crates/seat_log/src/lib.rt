@@ -28,9 +28,10 @@
 //! and answers how many. `table` answers the counts, which are those of the pass.
 //! `drop_built`, `retire` and the calls that begin with `note_` make no step: they note exactly what
 //! they are told, and their caller shows again that the log stands for the pass. The lemmas for
-//! that are in proofs/: `Beginning` for a new domain, `Stays` for steps that leave the own log alone
-//! and for a won lock, `Ended` with `Commits` and `Aborts` for the end of a write set. No call waits
-//! or refuses; `new_log` alone takes memory, once, and refuses for want of it only.
+//! that are in proofs/: `Beginning` for a new domain, `Stays` and `PlainSteps` for steps that leave
+//! the own log alone, `Stays` for a won lock, `Ended` with `Commits` and `Aborts` for the end of a
+//! write set, `Retired` for a load of SUPER, `CutLogs` for a write-back and `Rested` for a rest. No
+//! call waits or refuses; `new_log` alone takes memory, once, and refuses for want of it only.
 //!
 //! The crate stands on `mv_core` for its steps, on `reader_marks` for watermarks, and on `mv_layout`
 //! for the packing of stamps.

@@ -1,0 +1,65 @@
+-- The log stands for the pass after a rest.
+use Rattle.std.proofs.Common.{ℕ, eqb, ◌+◌, ◌^◌, ◌<◌, ◌≤◌, Bool, true, false, if◌then◌else◌, List, [], ◌∷◌, length, refl, sym, ap, ◌∙◌, arith}
+use Rattle.std.proofs.Math.Logic.{∥∥₁_elim}
+use Rattle.std.proofs.Math.Bridge.{le_prop}
+use Rattle.mv_history.specs.declared.Entry.{Entry}
+use Rattle.mv_history.specs.declared.Entry.TheVariants.{Rest, Change}
+use Rattle.mv_history.specs.State.{State, Writes, rests_of}
+use Rattle.mv_layout.specs.declared.Config.{Config}
+use Rattle.mv_core.specs.declared.view.View.{View}
+use Rattle.mv_core.specs.Known.{Known}
+use Rattle.mv_core.specs.NameSteps.{rest_named, rest_lost}
+use Rattle.seat_log.specs.Notes.{Noted, rest_noted}
+use Rattle.seat_log.specs.Stands.{is_free, is_won_cut, Stands}
+use Rattle.seat_log.proofs.BuildsOn.{unpassed}
+use Rattle.seat_log.proofs.Noting.{counted_is_log}
+use Rattle.seat_log.proofs.Stays.{stands_same}
+
+-- a seat makes no more rests than there are entries
+few_rests : (seat : ℕ) (es : List Entry) → rests_of seat es ≤ length es
+few_rests seat [] = omega arith
+few_rests seat (Rest by ∷ es) = let rest = few_rests seat es in let first = one (eqb by seat) in let sum : (if eqb by seat then 1 else 0) + rests_of seat es ≤ length es + 1 = omega arith in omega arith
+  where
+    one : (b : Bool) → (if b then 1 else 0) ≤ 1
+    one true = omega arith
+    one false = omega arith
+few_rests seat (Change c ∷ es) = let rest = few_rests seat es in omega arith
+
+-- one more rest may be counted: what was seen has fewer entries
+pub rests_room : (starts : State → Type 0) (allows : List ℕ → State → Writes → Type 0) (c : Config) (v : View) (l : Noted) → Stands c v l → ∥ Known starts allows v ∥₁ → l.rests + 1 < 2 ^ 63
+rests_room starts allows c v l k known =
+    let few : l.rests ≤ 35184372088831 = ∥∥₁_elim known le_prop (λ a.
+    let mine = few_rests v.number v.past.seen in
+    let rests = k.rests in
+    let known_rests = a.rests in
+    let long = a.in_time in
+    omega arith) in
+    omega arith
+
+-- the log stands for the pass after a rest, with one more
+pub stands_rested : (c : Config) (v : View) (l : Noted) (word : ℕ) (h : List Entry) → Stands c v l → l.rests + 1 < 2 ^ 63 → Stands c (rest_named c v word h) (rest_noted l)
+stands_rested c v l word h k room = record {
+  seat = k.seat;
+  slots = k.slots;
+  wide = k.wide;
+  log = counted_is_log l l.back (l.rests + 1) k.log.backs room k.log;
+  next = k.next;
+  held = k.held;
+  live = k.live;
+  all = k.all;
+  none_freeing = k.none_freeing;
+  builds = k.builds;
+  built = k.built;
+  spare = k.spare;
+  commits = k.commits;
+  rests = ap (λ n. n + 1) k.rests;
+  frees = k.frees ∙ sym (unpassed is_free v.trail _ refl);
+  backs = k.backs ∙ sym (unpassed is_won_cut v.trail _ refl);
+  cuts = k.cuts;
+  used = k.used;
+  all_used = k.all_used;
+}
+
+-- and as it is after one whose exchange was lost
+pub stands_unrested : (c : Config) (v : View) (l : Noted) (found : ℕ) (h : List Entry) → Stands c v l → Stands c (rest_lost c v found h) l
+stands_unrested c v l found h k = stands_same c v (rest_lost c v found h) l refl refl refl refl (unpassed is_free v.trail _ refl) (unpassed is_won_cut v.trail _ refl) k

@@ -1,26 +1,23 @@
--- A version was built, and HEAD exchanged: what the parts of a lock ask, and how their outcome is that of all.
-use Rattle.std.proofs.Common.{◌≡◌, ◌≢◌, ℕ, ◌+◌, ◌<◌, true, List, refl, sym, ap, ◌∙◌, subst, ⊎_elim, inl, inr, arith}
+-- A version was built, or HEAD exchanged: what the next part of a lock asks, and how its outcome is that of both.
+use Rattle.std.proofs.Common.{◌≡◌, ℕ, ◌+◌, ◌<◌, true, List, refl, sym, ap, ◌∙◌, subst, ⊎_elim, inl, inr, arith}
 use Rattle.mv_history.specs.declared.answers.LockAnswer.{LockAnswer}
-use Rattle.mv_history.specs.declared.answers.LockAnswer.TheVariants.{Held}
 use Rattle.mv_layout.specs.declared.Config.{Config}
-use Rattle.mv_layout.specs.Words.{link_seat_of}
 use Rattle.mv_core.specs.declared.view.View.{View}
 use Rattle.mv_core.specs.declared.view.Passed.TheVariants.{Nothing}
 use Rattle.mv_core.specs.declared.view.Walk.TheVariants as place
 use Rattle.mv_core.specs.Times.{words_of}
 use Rattle.mv_core.specs.Views.{time_in}
-use Rattle.mv_core.specs.LockSteps.{StandsToLock, head_locked, lock_lost, OneMoreWrite}
-use Rattle.mv_core.specs.WalkSteps.{IsLinkOf}
+use Rattle.mv_core.specs.LockSteps.{StandsToLock, lock_lost}
 use Rattle.mv_core.proofs.WalkOn.{at_zero}
-use Rattle.seat_log.specs.Notes.{Noted, next_of, first_of, next_note, built_noted, held_noted}
+use Rattle.seat_log.specs.Notes.{Noted, next_of, first_of, next_note, built_noted}
 use Rattle.seat_log.specs.Stands.{Stands}
 use Rattle.seat_log.specs.Builds.{slot_built, build_cost}
 use Rattle.version_chain.specs.Walks.{MayWalk, inside_of, section_in, time_at}
 use Rattle.version_chain.specs.Reads.{words_in}
 use Rattle.object_lock.specs.Tops.{Tries}
-use Rattle.object_lock.specs.Locks.{HoldsObject, IsBuiltFor, CameFirst, Outcome}
+use Rattle.object_lock.specs.Locks.{HoldsObject, IsBuiltFor, Outcome}
 use Rattle.object_lock.proofs.BuildTrails.{BuildsBy, builds_slot}
-use Rattle.object_lock.proofs.Holding.{Carries, own_kept, outcome_before, won_outcome, lost_tries, lost_carries, lost_may, lost_stands, came_first, built_may, built_carries, built_tries, built_walk}
+use Rattle.object_lock.proofs.Holding.{Carries, own_kept, outcome_before, lost_tries, lost_carries, built_may, built_carries, built_tries, built_walk}
 
 -- the words that a section reads stay with its section and what was seen
 pub words_carried : (c : Config) (v w : View) (object : ℕ) → Carries c v w → words_in c w object ≡ words_in c v object
@@ -32,7 +29,7 @@ lock_carried v w object previous walk phase =
     let same : time_at w ≡ time_at v = ap (λ p. time_in (inside_of p)) phase in
     ⊎_elim (λ a. inl (walk ∙ a.0, a.1)) (λ a. inr (a.0, a.1, walk ∙ a.2, a.3, a.4, a.5, (let le = a.6 in omega arith)))
 
-module _ (c : Config) (v w x : View) (l m : Noted) (object previous position : ℕ) (words : List ℕ) (may : MayWalk v) (s : Stands c v l) (t : Stands c w m) (noted : m ≡ built_noted l (next_note l object previous words))
+module _ (c : Config) (v w : View) (l m : Noted) (object previous position : ℕ) (words : List ℕ) (may : MayWalk v) (s : Stands c v l) (t : Stands c w m) (noted : m ≡ built_noted l (next_note l object previous words))
     (built : w ≡ slot_built c v (next_of l) (first_of l) previous words) (at : position ≡ next_of l) (words_are : words ≡ words_in c v object) where
   stores : BuildsBy v w (build_cost (next_of l) (first_of l))
   stores = subst (λ (u : View). BuildsBy v u (build_cost (next_of l) (first_of l))) (sym built) (builds_slot c (next_of l) v (first_of l) previous words)
@@ -58,32 +55,18 @@ module _ (c : Config) (v w x : View) (l m : Noted) (object previous position : �
   pub first_few : (most : ℕ) → l.held < most → m.held < most
   first_few most = subst (λ (q : Noted). q.held < most) (sym noted)
 
-  pub first_won : x ≡ head_locked c w (section_in w) object previous position → OneMoreWrite c w (section_in w) object x → (q : Noted) (first second third : ℕ) → q ≡ held_noted m → second ≡ first + build_cost (next_of l) (first_of l) → third ≡ second + 1
-      → Outcome c v x q object Held first third
-  first_won told own q first second third q_is e f =
-      outcome_before c v w x q object Held first second third first_carries (first_tries first second e) (won_outcome c w x m object previous position first_may t first_is told own q second third q_is f)
+-- HEAD was exchanged, and another came first
+module _ (c : Config) (v w : View) (l : Noted) (object previous position : ℕ) (may : MayWalk v) (s : Stands c v l) (is : IsBuiltFor l position object previous (words_in c v object)) (link : ℕ) (told : w ≡ lock_lost c v object link) where
+  then_carries : Carries c v w
+  then_carries = lost_carries c v w l object previous position may s is link told
 
-  module _ (link : ℕ) (told : x ≡ lock_lost c w object link) where
-    pub then_may : MayWalk x
-    then_may = lost_may c w x m object previous position first_may t first_is link told
+  pub then_is : (below : ℕ) × IsBuiltFor l position object below (words_in c w object)
+  then_is = (previous, (is.0, is.1, is.2, is.3, is.4, is.5 ∙ sym (words_carried c v w object then_carries)))
 
-    pub then_stands : Stands c x m
-    then_stands = lost_stands c w x m object previous position first_may t first_is link told
+  pub then_master : link ≡ 0 → w.walk ≡ place.Master object
+  then_master zero = ap (λ (u : View). u.walk) told ∙ sym (at_zero object link Nothing true zero)
 
-    pub then_first : link ≢ 0 → IsLinkOf c link → link_seat_of link ≢ w.number → CameFirst c x object link
-    then_first = came_first c w x m object previous position first_may t first_is link told
-
-    pub then_is : (below : ℕ) × IsBuiltFor m position object below (words_in c x object)
-    then_is =
-        let k = lost_carries c w x m object previous position first_may t first_is link told in
-        let is = first_is in
-        (previous, (is.0, is.1, is.2, is.3, is.4, is.5 ∙ sym (words_carried c w x object k)))
-
-    pub then_master : link ≡ 0 → x.walk ≡ place.Master object
-    then_master zero = ap (λ (u : View). u.walk) told ∙ sym (at_zero object link Nothing true zero)
-
-    pub then_lost : (y : View) (q : Noted) (answer : LockAnswer) (first second third last : ℕ) → second ≡ first + build_cost (next_of l) (first_of l) → third ≡ second + 1 → Outcome c x y q object answer third last → Outcome c v y q object answer first last
-    then_lost y q answer first second third last e f o =
-        outcome_before c v w y q object answer first second last first_carries (first_tries first second e)
-        (outcome_before c w x y q object answer second third last (lost_carries c w x m object previous position first_may t first_is link told)
-        (subst (Tries w x second) (sym f) (lost_tries c w x m object previous position first_may t first_is link told second)) o)
+  pub then_lost : (x : View) (q : Noted) (answer : LockAnswer) (first second last : ℕ) → second ≡ first + 1 → Outcome c w x q object answer second last → Outcome c v x q object answer first last
+  then_lost x q answer first second last e o =
+      outcome_before c v w x q object answer first second last then_carries
+      (subst (Tries v w first) (sym e) (lost_tries c v w l object previous position may s is link told first)) o

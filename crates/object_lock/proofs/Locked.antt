@@ -1,5 +1,5 @@
 -- What `lock` answers: whether the section holds the object, whether it may hold one more, and what came of looking at the top and of building.
-use Rattle.std.proofs.Common.{◌≡◌, ◌≢◌, ℕ, zero, suc, ◌+◌, ◌-◌, ◌<◌, ◌≤◌, true, false, List, [], ◌∷◌, ◌++◌, length, map, drop, length-append, refl, sym, ap, ◌∙◌, subst, arith, Some, None}
+use Rattle.std.proofs.Common.{◌≡◌, ◌≢◌, ℕ, zero, suc, ◌+◌, ◌-◌, ◌<◌, ◌≤◌, true, false, List, [], ◌∷◌, length, map, drop, length-append, refl, sym, ap, ◌∙◌, subst, arith, Bool, Some, None}
 use Rattle.std.specs.Prelude.{slice_get}
 use Rattle.mv_history.specs.State.{Writes, touches}
 use Rattle.mv_history.specs.declared.answers.LockAnswer.{LockAnswer}
@@ -53,6 +53,13 @@ module _ (c : Config) (v : View) (l : Noted) (object : ℕ) (s : Stands c v l) w
   pub held_none : ¬ (HoldsObject l object) → {A : Type 0} → touches (own_of c v.ring) object ≡ true → A
   held_none none e = absurd (none (touched_is e))
 
+  pub lacks_is : ¬ (HoldsObject l object) → touches (own_of c v.ring) object ≡ false
+  lacks_is none = by_bool (touches (own_of c v.ring) object) refl
+    where
+      by_bool : (b : Bool) → touches (own_of c v.ring) object ≡ b → touches (own_of c v.ring) object ≡ false
+      by_bool true e = absurd (none (touched_is e))
+      by_bool false e = e
+
   pub held_some : HoldsObject l object → {A : Type 0} → touches (own_of c v.ring) object ≡ false → A
   held_some h e = let yes = noted_is h in let clash : true ≡ false = sym yes ∙ e in absurd (cc)
 
@@ -73,9 +80,6 @@ module _ (c : Config) (v x : View) (l : Noted) (object before here : ℕ) (s : S
   pub top_keeps : KeepsOwn c v x
   top_keeps = (ap (own_of c) ring, ap spare_count ring)
 
-  pub kept_too : (y : View) → KeepsOwn c x y → KeepsOwn c v y
-  kept_too y k = (k.0 ∙ top_keeps.0, k.1 ∙ top_keeps.1)
-
   -- a refusal at the top
   pub top_answers : (answer : LockAnswer) → HasRoom c v → IsRefused c v x object answer → LockAnswers c v x object answer
   top_answers Held room cause = absurd cause
@@ -87,34 +91,39 @@ module _ (c : Config) (v x : View) (l : Noted) (object before here : ℕ) (s : S
   pub top_refused : (answer : LockAnswer) → IsRefused c v x object answer → answer ≢ Held
   top_refused answer cause e = subst (IsRefused c v x object) e cause
 
-  -- what came of building
-  all_answers : (y : View) (answer : LockAnswer) → HasRoom c v → LockMakes c v y object answer → LockAnswers c v y object answer
-  all_answers y Held room makes = (room, makes)
-  all_answers y (Busy seat) room makes = (room, makes)
-  all_answers y (Stale time) room makes = (room, makes)
-  all_answers y SetFull room makes = absurd makes
-  all_answers y LogFull room makes = absurd makes
+-- what was done leaves what is held as it was
+module _ (c : Config) (v w : View) (keeps : KeepsOwn c v w) where
+  pub kept_too : (x : View) → KeepsOwn c w x → KeepsOwn c v x
+  kept_too x k = (k.0 ∙ keeps.0, k.1 ∙ keeps.1)
 
-  pub made_answers : (y : View) (answer : LockAnswer) → HasRoom c v → LockMakes c x y object answer → LockAnswers c v y object answer
-  made_answers y answer room makes =
-      all_answers y answer room (makes_before c v x y object answer (ap (λ (u : View). u.number) tries.rest) (ap (λ (u : View). u.phase) tries.rest) top_keeps makes)
+  -- what came of an exchange of HEAD
+  all_answers : (x : View) (object : ℕ) (answer : LockAnswer) → HasRoom c v → LockMakes c v x object answer → LockAnswers c v x object answer
+  all_answers x object Held room makes = (room, makes)
+  all_answers x object (Busy seat) room makes = (room, makes)
+  all_answers x object (Stale time) room makes = (room, makes)
+  all_answers x object SetFull room makes = absurd makes
+  all_answers x object LogFull room makes = absurd makes
 
-  few_same : (y : View) (m : Noted) → l.held < c.write_max → Stands c y m → KeepsOwn c x y → m.held ≤ c.write_max
-  few_same y m few t keeps =
-      let long = ap length (keeps.0 ∙ top_keeps.0) in
+  pub made_answers : (x : View) (object : ℕ) (answer : LockAnswer) → w.number ≡ v.number → w.phase ≡ v.phase → HasRoom c v → LockMakes c w x object answer → LockAnswers c v x object answer
+  made_answers x object answer number phase room makes =
+      all_answers x object answer room (makes_before c v w x object answer number phase keeps makes)
+
+-- the section holds no more than it may
+module _ (c : Config) (v w : View) (l m : Noted) (object : ℕ) (s : Stands c v l) (t : Stands c w m) (few : l.held < c.write_max) where
+  few_same : KeepsOwn c v w → m.held ≤ c.write_max
+  few_same keeps =
+      let long = ap length keeps.0 in
       let a = own_long c v l s in
-      let b = own_long c y m t in
+      let b = own_long c w m t in
       omega arith
 
-  -- the section holds no more than it may
-  pub few_made : (y : View) (m : Noted) (answer : LockAnswer) → l.held < c.write_max → Stands c y m → LockMakes c x y object answer → (answer ≢ Held → KeepsOwn c x y) → m.held ≤ c.write_max
-  few_made y m Held few t makes keeps =
-      let own : own_of c y.ring ≡ own_of c v.ring ++ (object, words_in c y object) ∷ [] = makes.0 ∙ ap (λ ws. ws ++ (object, words_in c y object) ∷ []) top_keeps.0 in
-      let long : length (own_of c y.ring) ≡ length (own_of c v.ring) + 1 = ap length own ∙ length-append (own_of c v.ring) ((object, words_in c y object) ∷ []) in
+  pub few_made : (answer : LockAnswer) → LockMakes c v w object answer → (answer ≢ Held → KeepsOwn c v w) → m.held ≤ c.write_max
+  few_made Held makes keeps =
+      let long : length (own_of c w.ring) ≡ length (own_of c v.ring) + 1 = ap length makes.0 ∙ length-append (own_of c v.ring) ((object, words_in c w object) ∷ []) in
       let a = own_long c v l s in
-      let b = own_long c y m t in
+      let b = own_long c w m t in
       omega arith
-  few_made y m (Busy seat) few t makes keeps = few_same y m few t (keeps (λ e. cc))
-  few_made y m (Stale time) few t makes keeps = few_same y m few t (keeps (λ e. cc))
-  few_made y m SetFull few t makes keeps = absurd makes
-  few_made y m LogFull few t makes keeps = absurd makes
+  few_made (Busy seat) makes keeps = few_same (keeps (λ e. cc))
+  few_made (Stale time) makes keeps = few_same (keeps (λ e. cc))
+  few_made SetFull makes keeps = absurd makes
+  few_made LogFull makes keeps = absurd makes

@@ -1,7 +1,8 @@
 -- Locking an object and writing what is held: what the calls need of a pass and its log, what they answer, and what they leave.
-use Rattle.std.specs.Prelude.{◌≡◌, ◌≢◌, ℕ, ◌+◌, ◌<◌, ◌≤◌, ◌^◌, true, List, [], ◌∷◌, ◌++◌, length, Some, None}
+use Rattle.std.specs.Prelude.{◌≡◌, ◌≢◌, ℕ, ◌+◌, ◌<◌, ◌≤◌, ◌^◌, true, false, List, [], ◌∷◌, ◌++◌, length, Some, None}
 use Rattle.mv_history.specs.declared.Step.{Step}
 use Rattle.mv_history.specs.declared.StepKind.TheVariants.{LockHead}
+use Rattle.mv_history.specs.State.{touches}
 use Rattle.mv_history.specs.declared.answers.LockAnswer.{LockAnswer}
 use Rattle.mv_history.specs.declared.answers.LockAnswer.TheVariants.{Held, Busy, Stale, SetFull, LogFull}
 use Rattle.mv_layout.specs.declared.Config.{Config}
@@ -9,12 +10,14 @@ use Rattle.mv_layout.specs.declared.Place.TheVariants.{Head}
 use Rattle.mv_layout.specs.Places.{place_of}
 use Rattle.mv_layout.specs.Words.{IsUnset, link_seat_of}
 use Rattle.mv_core.specs.declared.view.View.{View}
+use Rattle.mv_core.specs.LockSteps.{StandsToLock}
 use Rattle.mv_core.specs.Rings.{own_of, spare_count}
 use Rattle.seat_log.specs.declared.version.Note.{Note}
 use Rattle.seat_log.specs.Notes.{Noted, held_from, IsNoteAt}
 use Rattle.seat_log.specs.Stands.{Stands}
-use Rattle.version_chain.specs.Walks.{MayWalk, stand_in}
+use Rattle.version_chain.specs.Walks.{MayWalk, section_in, stand_in}
 use Rattle.version_chain.specs.Reads.{words_in}
+use Rattle.object_lock.specs.declared.locking.StartedLock.{StartedLock}
 use Rattle.object_lock.specs.Tops.{StandsOn, Looked, IsRefused, Tries}
 
 -- the log has a held version of the object
@@ -76,3 +79,20 @@ abbrev pub LockAnswers : Config → View → View → ℕ → LockAnswer → Typ
 LockAnswers c v w object SetFull = IsSetFull c v
 LockAnswers c v w object LogFull = (¬ (IsSetFull c v)) × (spare_count v.ring ≡ 0)
 LockAnswers c v w object answer = HasRoom c v × LockMakes c v w object answer
+
+-- between the two parts of a lock: a version of the object is built over what is on top of its chain, in a section that doesn't hold the object and may hold one more
+pub record IsStarted (c : Config) (v : View) (l : Noted) (lock : StartedLock) : Type 0 where
+  pub may : MayWalk v
+  pub range : lock.object < c.objects
+  pub stands : Stands c v l
+  pub built : IsBuiltFor l lock.position lock.object lock.link (words_in c v lock.object)
+  pub over : StandsToLock v (section_in v) lock.object lock.link
+  pub unheld : ¬ (HoldsObject l lock.object)
+  pub few : l.held < c.write_max
+
+-- a lock of an object that wasn't held was begun
+pub record Starts (c : Config) (v w : View) (l : Noted) (object : ℕ) (lock : StartedLock) : Type 0 where
+  pub lacks : touches (own_of c v.ring) object ≡ false
+  pub room : HasRoom c v
+  pub object_is : lock.object ≡ object
+  pub started : IsStarted c w l lock

@@ -20,6 +20,10 @@
 //! and none is an exchange on CLOCK. `write` gives a held object other words, in what is held alone,
 //! in six steps; it never refuses.
 //!
+//! `lock` is `lock_start`, which does all before the first exchange of HEAD, and then `lock_end`. A
+//! caller may stop between them, where a version is built and nobody else sees it (`IsStarted`): what
+//! others do there may lose the exchange, or leave HEAD as it was found, and then the exchange is won.
+//!
 //! The crate stands on `version_chain`, which reads what is on top; on `seat_log`, which builds a
 //! version and notes it; and on `mv_core`, whose exchange of HEAD alone can lock.
 #![tactic(auto)]
@@ -28,5 +32,5 @@ mod locking;
 mod top;
 mod writing;
 
-pub use locking::{holds, lock};
+pub use locking::{StartedLock, holds, lock, lock_end, lock_start};
 pub use writing::write;

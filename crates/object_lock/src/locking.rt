@@ -1,5 +1,5 @@
 // Locking an object.
-ghost use Rattle.std.specs.Prelude.{◌≡◌, ◌≢◌, ℕ, ◌+◌, ◌<◌, ◌≤◌, ◌^◌, true, false, length, None};
+ghost use Rattle.std.specs.Prelude.{◌≡◌, ◌≢◌, ℕ, ◌+◌, ◌<◌, ◌≤◌, ◌^◌, true, false, length, None, Err, IfOk, IfErr, OnErr};
 ghost use Rattle.mv_history.specs.State.{touches};
 ghost use Rattle.mv_layout.specs.Words.{link_seat_of};
 ghost use Rattle.mv_core.specs.declared.view.Walk.TheVariants.{Master};
@@ -14,11 +14,11 @@ ghost use Rattle.seat_log.specs.Stands.{Stands};
 ghost use Rattle.version_chain.specs.Walks.{MayWalk, section_in};
 ghost use Rattle.version_chain.specs.Reads.{words_in};
 ghost use Rattle.object_lock.specs.Tops.{Tries};
-ghost use Rattle.object_lock.specs.Locks.{HoldsObject, IsBuiltFor, CameFirst, Outcome, KeepsOwn, LockAnswers};
+ghost use Rattle.object_lock.specs.Locks.{HoldsObject, IsBuiltFor, CameFirst, Outcome, KeepsOwn, LockAnswers, IsStarted, Starts};
 
 use crate::top::{stamp_at, top_of};
 use mv_core::{Pass, Shared, Steps, Swap};
-use mv_history::{LockAnswer, Protocol, Words};
+use mv_history::{LockAnswer, Protocol};
 use mv_layout::{is_unset, link_seat};
 use seat_log::{Log, build, clear_previous, drop_built, held, live, note, note_held, room};
 use std::sync::ledger::Ledger;
@@ -128,31 +128,91 @@ fn hold_again<P: Protocol, L: Ledger>(
     }
 }
 
-// Builds a version of the object, and puts it on top of the object's chain by an exchange of HEAD.
-fn hold<P: Protocol, L: Ledger>(
+/// A lock under way: a version of the object was built, and HEAD of the object wasn't exchanged yet.
+#[derive(Clone, Copy, Debug, PartialEq, Eq)]
+pub struct StartedLock {
+    /// The object.
+    pub object: u32,
+    /// What is on top of its chain, and will be below the version: the link that the exchange expects.
+    pub link: u64,
+    /// The position of the version that was built.
+    pub position: u64,
+}
+
+/// Begins a lock: all of `lock` before its first exchange of HEAD, with the same condition. It answers
+/// `Err` where `lock` is answered without an exchange, which then is `lock`'s answer. Else a version of
+/// the object was built over what is on top of its chain, and `lock_end` goes on from there, now or
+/// after steps of others. What the section holds and how many slots are free is as before in either
+/// case. It makes at most 19 steps.
+pub fn lock_start<P: Protocol, L: Ledger>(
     shared: &Shared<P>,
     pass: &mut Pass<P>,
     log: &mut Log,
     object: u32,
-    previous: u64,
-    words: Words,
     steps: &mut Steps<L>,
-) -> LockAnswer
+) -> Result<StartedLock, LockAnswer>
     requires of { IsOf shared.now pass.old }
     requires may { MayWalk (view pass.old) }
     requires range { object < (config_of shared.now).objects }
     requires stands { Stands (config_of shared.now) (view pass.old) log.old }
     requires unbuilt { log.old.built ≡ None }
-    requires room { length log.old.live < log.old.slots }
-    requires lock { StandsToLock (view pass.old) (section_in (view pass.old)) object previous }
-    requires words { words ≡ words_in (config_of shared.now) (view pass.old) object }
-    requires unheld { ¬ (HoldsObject log.old object) }
-    requires few { log.old.held < (config_of shared.now).write_max }
+    requires few { log.old.held ≤ (config_of shared.now).write_max }
     ensures same { IsSame pass.old pass.new }
-    ensures outcome { Outcome (config_of shared.now) (view pass.old) (view pass.new) log.new object result steps.old steps.new }
-    ensures bound { steps.new ≤ steps.old + 15 }
+    ensures may { MayWalk (view pass.new) }
+    ensures stands { Stands (config_of shared.now) (view pass.new) log.new }
+    ensures few { log.new.held ≤ (config_of shared.now).write_max }
+    ensures tries { Tries (view pass.old) (view pass.new) steps.old steps.new }
+    ensures keeps { KeepsOwn (config_of shared.now) (view pass.old) (view pass.new) }
+    ensures again { touches (own_of (config_of shared.now) (view pass.old).ring) object ≡ true → (result ≡ Err Held) × (view pass.new ≡ view pass.old) × (log.new ≡ log.old) }
+    ensures started { IfOk result (λ lock. Starts (config_of shared.now) (view pass.old) (view pass.new) log.new object lock) }
+    ensures unbuilt { OnErr result (log.new.built ≡ None) }
+    ensures answers { IfErr result (λ answer. touches (own_of (config_of shared.now) (view pass.old).ring) object ≡ false → LockAnswers (config_of shared.now) (view pass.old) (view pass.new) object answer) }
+    ensures bound { steps.new ≤ steps.old + 19 }
 {
+    if holds(log, object) {
+        return Err(LockAnswer::Held);
+    }
+    if held(log) == shared.config().write_max {
+        return Err(LockAnswer::SetFull);
+    }
+    if room(log) == 0 {
+        return Err(LockAnswer::LogFull);
+    }
+    let (previous, words) = match top_of(shared, pass, object, steps) {
+        Ok(top) => top,
+        Err(answer) => return Err(answer),
+    };
     let position = build(shared, pass, log, object, previous, words, steps);
+    Ok(StartedLock {
+        object,
+        link: previous,
+        position,
+    })
+}
+
+/// Ends a lock that was begun, in the same section, with nothing done for its seat since. It puts the
+/// built version on top of the object's chain by an exchange of HEAD, and answers as `lock` does; what
+/// others did since the lock was begun may lose the exchange. It makes at most five steps, and tries at
+/// most two exchanges; the second comes only where the first found a chain that was cut meanwhile.
+pub fn lock_end<P: Protocol, L: Ledger>(
+    shared: &Shared<P>,
+    pass: &mut Pass<P>,
+    log: &mut Log,
+    started: StartedLock,
+    steps: &mut Steps<L>,
+) -> LockAnswer
+    requires of { IsOf shared.now pass.old }
+    requires started { IsStarted (config_of shared.now) (view pass.old) log.old started }
+    ensures same { IsSame pass.old pass.new }
+    ensures outcome { Outcome (config_of shared.now) (view pass.old) (view pass.new) log.new started.object result steps.old steps.new }
+    ensures few { log.new.held ≤ (config_of shared.now).write_max }
+    ensures bound { steps.new ≤ steps.old + 5 }
+{
+    let StartedLock {
+        object,
+        link: previous,
+        position,
+    } = started;
     match exchange(shared, pass, log, object, previous, position, steps) {
         Swap::Won => {
             note_held(log, position);
@@ -204,18 +264,8 @@ pub fn lock<P: Protocol, L: Ledger>(
     ensures refused { result ≢ Held → KeepsOwn (config_of shared.now) (view pass.old) (view pass.new) }
     ensures bound { steps.new ≤ steps.old + 32 }
 {
-    if holds(log, object) {
-        return LockAnswer::Held;
+    match lock_start(shared, pass, log, object, steps) {
+        Ok(started) => lock_end(shared, pass, log, started, steps),
+        Err(answer) => answer,
     }
-    if held(log) == shared.config().write_max {
-        return LockAnswer::SetFull;
-    }
-    if room(log) == 0 {
-        return LockAnswer::LogFull;
-    }
-    let (previous, words) = match top_of(shared, pass, object, steps) {
-        Ok(top) => top,
-        Err(answer) => return answer,
-    };
-    hold(shared, pass, log, object, previous, words, steps)
 }

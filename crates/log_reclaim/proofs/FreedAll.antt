@@ -1,0 +1,155 @@
+-- Freeing the oldest write set, one after another.
+use Rattle.std.proofs.Common.{◌≡◌, ℕ, zero, suc, ◌+◌, ◌<◌, ◌≤◌, List, [], ◌∷◌, ◌++◌, length, drop, All, refl, sym, ap, ◌∙◌, subst, ⊎_elim, arith, append-nil, append_assoc, length-drop, Some, None}
+use Rattle.std.proofs.lemmas.List.Elements.{All-nil, All-push, All-append, All-weaker}
+use Rattle.mv_history.specs.declared.Step.{Step}
+use Rattle.mv_history.specs.declared.StepKind.{StepKind}
+use Rattle.mv_history.specs.declared.StepKind.TheVariants.{StoreFree}
+use Rattle.mv_layout.specs.declared.Config.{Config}
+use Rattle.mv_layout.specs.declared.Place.TheVariants.{Stamp}
+use Rattle.mv_layout.specs.Places.{place_of}
+use Rattle.mv_core.specs.declared.view.View.{View}
+use Rattle.mv_core.specs.declared.view.Walk.TheVariants.{Nowhere}
+use Rattle.mv_core.specs.EnterSteps.{MayLoadLow}
+use Rattle.mv_core.specs.Rings.{index_of}
+use Rattle.mv_core.specs.ReclaimSteps.{free_stored}
+use Rattle.seat_log.specs.declared.version.Note.{Note}
+use Rattle.seat_log.specs.Notes.{Noted, IsLog}
+use Rattle.seat_log.specs.Frees.{OldestIsDead, FreesSet, freed_noted, slots_freed}
+use Rattle.seat_log.proofs.FreedLogs.{few_freed}
+use Rattle.seat_log.proofs.Rebuilding.{note_there}
+use Rattle.log_reclaim.specs.Parts.{NamesNoCommit, IsOtherKind}
+use Rattle.log_reclaim.specs.Tries.{Makes}
+use Rattle.log_reclaim.specs.Rounds.{FreesAll}
+use Rattle.log_reclaim.proofs.Reclaiming.{makes_none, makes_on, reclaims_may, reclaims_still}
+
+-- one more is dropped after others
+drops : (a b : ℕ) (ns : List Note) → drop b (drop a ns) ≡ drop (a + b) ns
+drops zero b ns = ap (λ k. drop k ns) (let e : b ≡ 0 + b = omega arith in e)
+drops (suc a) zero [] = ap (λ k. drop k []) (let e : suc (a + 0) ≡ suc a + 0 = omega arith in e)
+drops (suc a) (suc b) [] = ap (λ k. drop k []) (let e : suc (a + suc b) ≡ suc a + suc b = omega arith in e)
+drops (suc a) b (n ∷ ns) = drops a b ns ∙ ap (λ k. drop k (n ∷ ns)) (let e : suc (a + b) ≡ suc a + b = omega arith in e)
+
+-- the frees of one set: of the view nothing changes but the log and the trail, which is longer by these steps
+record FreesSlots (v w : View) (steps : List Step) : Type 0 where
+  view : w ≡ record v { ring = w.ring; trail = w.trail }
+  trail : w.trail ≡ v.trail ++ steps
+  kinds : All (λ s. s.kind ≡ StoreFree) steps
+
+slots_view : (c : Config) (v : View) (p k : ℕ) → (steps : List Step) × FreesSlots v (slots_freed c v p k) steps
+unfolding slots_freed
+slots_view c v p zero = ([], record { view = refl; trail = sym (append-nil v.trail); kinds = All-nil (λ s. s.kind ≡ StoreFree) })
+slots_view c v p (suc k) =
+    let a = slots_view c v p k in
+    let u : View = slots_freed c v p k in
+    let w : View = free_stored c u (p + k) in
+    let step : Step = record { kind = StoreFree; word = place_of c (Stamp u.number (index_of c (p + k))); found = None; stored = Some 0 } in (
+      a.0 ++ step ∷ [],
+      record {
+        view = ap (λ (x : View). record x { ring = w.ring; trail = w.trail }) a.1.view;
+        trail = ap (λ l. l ++ step ∷ []) a.1.trail ∙ append_assoc v.trail a.0 (step ∷ []);
+        kinds = All-push (λ (s : Step). s.kind ≡ StoreFree) a.0 step a.1.kinds refl;
+      },
+    )
+
+-- a free of a slot is a step of reclaiming, begins no scan, and is no exchange on CLOCK
+free_kind : (P : StepKind → Type 0) → P StoreFree → (steps : List Step) → All (λ s. s.kind ≡ StoreFree) steps → All (λ (s : Step). P s.kind) steps
+free_kind P p steps = All-weaker (λ (s : Step). s.kind ≡ StoreFree) (λ (s : Step). P s.kind) (λ s e. subst P (sym e) p) steps
+
+frees_makes : (v w : View) (steps : List Step) → MayLoadLow v → (v.walk ≡ Nowhere) × (v.back ≡ None) → FreesSlots v w steps → Makes v w steps
+frees_makes v w steps may still k =
+    let e = k.view in record {
+      reclaims = record {
+        outside = ap (λ (x : View). x.phase) e ∙ may.outside;
+        no_scan = ap (λ (x : View). x.scan) e ∙ may.no_scan;
+        seen = ([], ap (λ (x : View). x.past.seen) e ∙ sym (append-nil v.past.seen));
+        mine = ap (λ (x : View). x.past.mine) e;
+        grace = (let same : w.grace ≡ v.grace = ap (λ (x : View). x.grace) e in omega arith);
+        trail = k.trail;
+        kinds = free_kind NamesNoCommit tt steps k.kinds;
+        rest = e
+            ∙ (λ i. record v {
+              past = sym (ap (λ (x : View). x.past) e) i;
+              phase = may.outside i;
+              heard = sym (ap (λ (x : View). x.heard) e) i;
+              walk = still.0 i;
+              empty = sym (ap (λ (x : View). x.empty) e) i;
+              ring = w.ring;
+              back = still.1 i;
+              scan = may.no_scan i;
+              grace = sym (ap (λ (x : View). x.grace) e) i;
+              trail = w.trail;
+            });
+      };
+      rests = ap (λ (x : View). x.past.rests) e;
+      kinds = free_kind IsOtherKind tt steps k.kinds;
+    }
+
+-- so many slots were freed so far, by one step each
+pub record FreesSome (v w : View) (l m : Noted) (made : List Step) (freed : ℕ) : Type 0 where
+  pub makes : Makes v w made
+  pub kinds : All (λ s. s.kind ≡ StoreFree) made
+  pub view : w ≡ record v { ring = w.ring; trail = w.trail }
+  pub few : freed ≤ length l.live
+  pub log : m ≡ freed_noted l freed
+
+pub frees_none : (v : View) (l : Noted) → MayLoadLow v → (v.walk ≡ Nowhere) × (v.back ≡ None) → FreesSome v v l l [] 0
+frees_none v l may still = record {
+  makes = makes_none v may still;
+  kinds = All-nil (λ s. s.kind ≡ StoreFree);
+  view = refl;
+  few = omega arith;
+  log = λ i. record l { freed = (let e : l.freed ≡ l.freed + 0 = omega arith in e) i };
+}
+
+module _ (c : Config) (v w : View) (l m : Noted) (made : List Step) (freed : ℕ) (k : FreesSome v w l m made freed) (t count : ℕ) (f : FreesSet m t count) where
+  -- there are so many versions fewer
+  fewer : length m.live + freed ≡ length l.live
+  fewer = let e : length m.live ≡ length (drop freed l.live) = ap (λ (n : Noted). length n.live) k.log in let d = length-drop freed l.live in let few = k.few in omega arith
+
+  -- one set more
+  pub frees_more : (u : View) (n : Noted) → u ≡ slots_freed c w m.freed count → n ≡ freed_noted m count → (more : List Step) × FreesSome v u l n more (freed + count)
+  frees_more u n view log =
+      let a = slots_view c w m.freed count in
+      let one : FreesSlots w u a.0 = subst (λ (x : View). FreesSlots w x a.0) (sym view) a.1 in
+      let makes = frees_makes w u a.0 (reclaims_may v w made k.makes.reclaims) (reclaims_still v w made k.makes.reclaims) one in
+      let all = fewer in
+      let some = few_freed m t count f in (
+        made ++ a.0,
+        record {
+          makes = makes_on v w u made a.0 k.makes makes;
+          kinds = All-append (λ (s : Step). s.kind ≡ StoreFree) made a.0 k.kinds one.kinds;
+          view = one.view ∙ ap (λ (x : View). record x { ring = u.ring; trail = u.trail }) k.view;
+          few = omega arith;
+          log = log
+              ∙ ap (λ (x : Noted). freed_noted x count) k.log
+              ∙ (λ i. record l { live = drops freed count l.live i; freed = (let e : l.freed + freed + count ≡ l.freed + (freed + count) = omega arith in e) i });
+        },
+      )
+
+-- where nothing is freed and the log has a version, the oldest write set isn't dead
+none_dead : (m : Noted) (t count : ℕ) → IsLog m → FreesSet m t count → count ≡ 0 → 0 < length m.live → OldestIsDead m t → ⊥
+none_dead m t count log f none some dead =
+    let r = note_there m.live 0 some in
+    let first = log.notes.first 0 r.0 r.1 in
+    let low = first.0 in
+    let high = first.1 in
+    let place = log.notes.position 0 r.0 r.1 in
+    ⊎_elim (λ a. a.1.outside 0 r.0 r.1 (omega arith) (let e : r.0.first ≡ m.freed = omega arith in e)) (λ b. b.0 dead) f
+
+-- no set more
+pub frees_end : (c : Config) (v w : View) (l m : Noted) (made : List Step) (freed t count : ℕ) → FreesSome v w l m made freed → IsLog m → FreesSet m t count → count ≡ 0 → (u : View) (n : Noted) → u ≡ slots_freed c w m.freed count → n ≡ freed_noted m count → (more : List Step) × FreesAll v u l n more t freed
+frees_end c v w l m made freed t count k log f none u n view is =
+    let a = frees_more c v w l m made freed k t count f u n view is in
+    let all : freed + count ≡ freed = omega arith in
+    let same : m ≡ n = (λ i. record m { freed = (let e : m.freed ≡ m.freed + 0 = omega arith in e) i }) ∙ ap (freed_noted m) (sym none) ∙ sym is in
+    let fewer = a.1.few in (
+      a.0,
+      record {
+        makes = a.1.makes;
+        kinds = a.1.kinds;
+        view = a.1.view;
+        few = omega arith;
+        log = subst (λ (x : ℕ). n ≡ freed_noted l x) all a.1.log;
+        kept = subst (λ (x : Noted). 0 < length x.live → OldestIsDead x t → ⊥) same (none_dead m t count log f none);
+      },
+    )

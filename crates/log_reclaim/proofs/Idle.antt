@@ -1,0 +1,16 @@
+-- A pass outside a section walks nowhere and writes nothing back.
+use Rattle.std.proofs.Common.{◌≡◌, ℕ, List, None}
+use Rattle.std.proofs.Props.{props}
+use Rattle.std.proofs.Math.Logic.{∥∥₁_elim}
+use mathlib.Core.Sum.{⊎_set}
+use Rattle.mv_history.specs.State.{State, Writes}
+use Rattle.mv_core.specs.declared.view.View.{View}
+use Rattle.mv_core.specs.declared.view.Phase.TheVariants.{Outside}
+use Rattle.mv_core.specs.declared.view.Walk.TheVariants.{Nowhere}
+use Rattle.mv_core.specs.Known.{Known}
+
+still_once : (v : View) → IsProp ((v.walk ≡ Nowhere) × (v.back ≡ None))
+still_once v = hlevel (props, ⊎_set)
+
+pub still_of : (starts : State → Type 0) (allows : List ℕ → State → Writes → Type 0) (v : View) → ∥ Known starts allows v ∥₁ → v.phase ≡ Outside → (v.walk ≡ Nowhere) × (v.back ≡ None)
+still_of starts allows v known out = ∥∥₁_elim known (still_once v) (λ a. a.still out)

@@ -1,0 +1,143 @@
+-- What a scan, and a load of GRACE, leave of a pass that reclaims.
+use Rattle.std.proofs.Common.{◌≡◌, ℕ, ◌+◌, ◌≤◌, max, List, [], ◌∷◌, ◌++◌, length, All, refl, sym, ap, ◌∙◌, subst, arith, append-nil, Some, None}
+use Rattle.std.proofs.lemmas.List.Elements.{All-nil, All-cons}
+use Rattle.mv_history.specs.declared.Entry.{Entry}
+use Rattle.mv_history.specs.declared.Step.{Step}
+use Rattle.mv_history.specs.declared.StepKind.{StepKind}
+use Rattle.mv_history.specs.declared.StepKind.TheVariants.{LoadScan, LoadMark, LoadGrace, RaiseGrace}
+use Rattle.mv_layout.specs.declared.Config.{Config}
+use Rattle.mv_layout.specs.declared.Place.TheVariants.{Grace}
+use Rattle.mv_layout.specs.Places.{place_of}
+use Rattle.mv_core.specs.declared.view.View.{View}
+use Rattle.mv_core.specs.declared.view.Walk.TheVariants.{Nowhere}
+use Rattle.mv_core.specs.EnterSteps.{MayLoadLow}
+use Rattle.mv_core.specs.HistoryFacts.{BeginsWith}
+use Rattle.mv_core.specs.SeatSteps.{grace_loaded}
+use Rattle.reader_marks.specs.declared.scanning.Watermark.{Watermark}
+use Rattle.reader_marks.specs.Scans.{Scans, scan_step, grace_step, mark_steps, scan_steps}
+use Rattle.seat_log.specs.Notes.{Noted}
+use Rattle.seat_log.specs.Stands.{Stands}
+use Rattle.seat_log.proofs.PlainSteps.{LeavesLog, stands_left}
+use Rattle.log_reclaim.specs.Parts.{NamesNoCommit, BeginsNoScan, LeavesClock, IsOtherKind, Reclaims, HasScanned}
+use Rattle.log_reclaim.specs.Tries.{Makes}
+use Rattle.log_reclaim.proofs.Reclaiming.{begins_long}
+use Rattle.log_reclaim.proofs.ScanCauses.{after_clock_all}
+
+-- a load of GRACE
+abbrev pub grace_load : Config → ℕ → Step
+grace_load c found = record { kind = LoadGrace; word = place_of c Grace; found = Some found; stored = None }
+
+one_kind : (P : StepKind → Type 0) (s : Step) → P s.kind → All (λ (x : Step). P x.kind) (s ∷ [])
+one_kind P s p = All-cons (λ (x : Step). P x.kind) s [] p (All-nil (λ (x : Step). P x.kind))
+
+module _ (c : Config) (v w : View) (found : ℕ) (is : w ≡ grace_loaded c v found) where
+  pub grace_makes : MayLoadLow v → (v.walk ≡ Nowhere) × (v.back ≡ None) → Makes v w (grace_load c found ∷ [])
+  grace_makes may still = record {
+    reclaims = record {
+      outside = ap (λ (x : View). x.phase) is ∙ may.outside;
+      no_scan = ap (λ (x : View). x.scan) is ∙ may.no_scan;
+      seen = ([], ap (λ (x : View). x.past.seen) is ∙ sym (append-nil v.past.seen));
+      mine = ap (λ (x : View). x.past.mine) is;
+      grace = (let e : w.grace ≡ max v.grace found = ap (λ (x : View). x.grace) is in omega arith);
+      trail = ap (λ (x : View). x.trail) is;
+      kinds = one_kind NamesNoCommit (grace_load c found) tt;
+      rest = is
+          ∙ (λ i. record v {
+            past = sym (ap (λ (x : View). x.past) is) i;
+            phase = may.outside i;
+            heard = sym (ap (λ (x : View). x.heard) is) i;
+            walk = still.0 i;
+            empty = sym (ap (λ (x : View). x.empty) is) i;
+            ring = sym (ap (λ (x : View). x.ring) is) i;
+            back = still.1 i;
+            scan = may.no_scan i;
+            grace = sym (ap (λ (x : View). x.grace) is) i;
+            trail = sym (ap (λ (x : View). x.trail) is) i;
+          });
+    };
+    rests = ap (λ (x : View). x.past.rests) is;
+    kinds = one_kind IsOtherKind (grace_load c found) tt;
+  }
+
+  pub grace_stands : (l : Noted) → Stands c v l → Stands c w l
+  grace_stands l k =
+      stands_left c v w l k (ap (λ (x : View). x.number) is) (ap (λ (x : View). x.ring) is) (ap (λ (x : View). x.past.mine) is) (ap (λ (x : View). x.past.rests) is) (grace_load c found ∷ []) (ap (λ (x : View). x.trail) is)
+      (one_kind LeavesLog (grace_load c found) (refl, refl))
+
+module _ (c : Config) (v w : View) (mark : Watermark) (clock before after : ℕ) (k : Scans c v w mark clock before after) where
+  -- the steps of the scan
+  abbrev pub steps_of : List Step
+  steps_of = scan_steps c v.number k.word k.marks mark.low k.found
+
+  steps_all : (P : StepKind → Type 0) → P LoadScan → P LoadMark → P RaiseGrace → All (λ (s : Step). P s.kind) steps_of
+  steps_all P a b d = All-cons (λ (s : Step). P s.kind) (scan_step c k.word) (mark_steps c v.number k.marks c.seats ++ grace_step c mark.low k.found ∷ []) a (after_clock_all P c v.number k.marks mark.low k.found b d)
+
+  pub scan_leaves : All (λ s. LeavesClock s.kind) steps_of
+  scan_leaves = steps_all LeavesClock tt tt tt
+
+  seen_is : w.past.seen ≡ k.h
+  seen_is = ap (λ (x : View). x.past.seen) k.view
+
+  scan_seen : BeginsWith w.past.seen v.past.seen
+  scan_seen = subst (λ (h : List Entry). BeginsWith h v.past.seen) (sym seen_is) k.whole.0
+
+  -- it has seen just what its clock says
+  pub scan_clock_is : v.base ≡ c.base → clock ≡ w.base + length w.past.seen
+  scan_clock_is from =
+      let long = k.whole.1 in
+      let is = k.clock_is in
+      let base : w.base ≡ v.base = ap (λ (x : View). x.base) k.view in
+      let seen : length w.past.seen ≡ length k.h = ap length seen_is in
+      omega arith
+
+  pub scan_later : v.base ≡ c.base → v.base + length v.past.seen ≤ clock
+  scan_later from = let e = scan_clock_is from in let base : w.base ≡ v.base = ap (λ (x : View). x.base) k.view in let more = begins_long w.past.seen v.past.seen scan_seen in omega arith
+
+  pub scan_reclaims : MayLoadLow v → (v.walk ≡ Nowhere) × (v.back ≡ None) → Reclaims v w steps_of
+  scan_reclaims may still =
+      let is = k.view in record {
+        outside = ap (λ (x : View). x.phase) is ∙ may.outside;
+        no_scan = ap (λ (x : View). x.scan) is;
+        seen = scan_seen;
+        mine = ap (λ (x : View). x.past.mine) is;
+        grace = (let e : w.grace ≡ max (max v.grace mark.low) k.found = ap (λ (x : View). x.grace) is in omega arith);
+        trail = ap (λ (x : View). x.trail) is;
+        kinds = steps_all NamesNoCommit tt tt tt;
+        rest = is
+            ∙ (λ i. record v {
+              past = sym (ap (λ (x : View). x.past) is) i;
+              phase = may.outside i;
+              heard = sym (ap (λ (x : View). x.heard) is) i;
+              walk = still.0 i;
+              empty = sym (ap (λ (x : View). x.empty) is) i;
+              ring = sym (ap (λ (x : View). x.ring) is) i;
+              back = still.1 i;
+              scan = None;
+              grace = sym (ap (λ (x : View). x.grace) is) i;
+              trail = sym (ap (λ (x : View). x.trail) is) i;
+            });
+      }
+
+  pub scan_rests : w.past.rests ≡ v.past.rests
+  scan_rests = ap (λ (x : View). x.past.rests) k.view
+
+  pub scan_stands : (l : Noted) → Stands c v l → Stands c w l
+  scan_stands l s =
+      let is = k.view in
+      stands_left c v w l s (ap (λ (x : View). x.number) is) (ap (λ (x : View). x.ring) is) (ap (λ (x : View). x.past.mine) is) scan_rests steps_of (ap (λ (x : View). x.trail) is) (steps_all LeavesLog (refl, refl) (refl, refl) (refl, refl))
+
+  pub scan_shown : HasScanned c v.number steps_of mark clock
+  scan_shown = record {
+    word = k.word;
+    clock_is = k.clock_is;
+    marks = k.marks;
+    own_is = k.own;
+    lowest = k.lowest;
+    unmarked = k.unmarked;
+    found = k.found;
+    time = k.time;
+    before = [];
+    after = [];
+    made_is = sym (append-nil steps_of);
+    last = All-nil (λ (s : Step). BeginsNoScan s.kind);
+  }

@@ -1,0 +1,88 @@
+-- Why a version has no time of death, and where one comes from, after more steps, before which others were made too.
+use Rattle.std.proofs.Common.{ℕ, ◌+◌, ◌<◌, ◌≤◌, Bool, List, ◌∷◌, ◌++◌, length, sym, ap, ◌∙◌, subst, inl, inr, ⊎_elim, arith, append_assoc, Option, Some, None, Contains}
+use Rattle.std.proofs.lemmas.List.Elements.{Contains-append_left, Contains-append_right}
+use Rattle.mv_history.specs.declared.Step.{Step}
+use Rattle.mv_layout.specs.declared.Config.{Config}
+use Rattle.mv_core.specs.declared.view.View.{View}
+use Rattle.mv_core.specs.Times.{latest, latest_at}
+use Rattle.reader_marks.specs.declared.scanning.Watermark.{Watermark}
+use Rattle.seat_log.specs.declared.version.Note.{Note}
+use Rattle.log_reclaim.specs.Parts.{Reclaims, super_step, FindsAbove, TimesDeath}
+use Rattle.log_reclaim.specs.Untimed.{TriedSo, StaysUntimed, DatedSo}
+use Rattle.log_reclaim.proofs.Seen.{latest_at-more, latest-more}
+use Rattle.log_reclaim.proofs.Reclaiming.{reclaims_number, reclaims_base, reclaims_more}
+
+-- steps that time a death are among more steps
+pub times_first : (made more : List Step) (dead : ℕ) → TimesDeath made dead → TimesDeath (made ++ more) dead
+times_first made more dead t = record { step = t.step; there = Contains-append_left made more t.step t.there; kind = t.kind; clock = t.clock; word = t.word; found = t.found; dead_is = t.dead_is }
+
+pub times_then : (made more : List Step) (dead : ℕ) → TimesDeath more dead → TimesDeath (made ++ more) dead
+times_then made more dead t = record { step = t.step; there = Contains-append_right made more t.step t.there; kind = t.kind; clock = t.clock; word = t.word; found = t.found; dead_is = t.dead_is }
+
+-- and so are those that find another seat's version in HEAD
+pub above_first : (c : Config) (own : ℕ) (made more : List Step) (n : Note) (seat : ℕ) → FindsAbove c own made n seat → FindsAbove c own (made ++ more) n seat
+above_first c own made more n seat a = record {
+  not_own = a.not_own;
+  in_range = a.in_range;
+  before = a.before;
+  after = a.after ++ more;
+  made_is = ap (λ l. l ++ more) a.made_is ∙ append_assoc a.before (super_step c own n ∷ a.after) more;
+  step = a.step;
+  later = Contains-append_left a.after more a.step a.later;
+  finds = a.finds;
+}
+
+pub above_then : (c : Config) (own : ℕ) (made more : List Step) (n : Note) (seat : ℕ) → FindsAbove c own more n seat → FindsAbove c own (made ++ more) n seat
+above_then c own made more n seat a = record {
+  not_own = a.not_own;
+  in_range = a.in_range;
+  before = made ++ a.before;
+  after = a.after;
+  made_is = ap (λ l. made ++ l) a.made_is ∙ sym (append_assoc made a.before (super_step c own n ∷ a.after));
+  step = a.step;
+  later = a.later;
+  finds = a.finds;
+}
+
+-- more steps are made after these, and more is seen
+module _ (c : Config) (u w : View) (made more : List Step) (r : Reclaims u w more) where
+  module _ (mark : Watermark) (clock : ℕ) (n : Note) where
+    tried_on : (above : Option ℕ) → TriedSo c u made mark clock n above → TriedSo c w (made ++ more) mark clock n above
+    tried_on None t =
+        let base = reclaims_base u w more r in
+        (t.0, ⊎_elim inl (λ late. let later = latest-more u.base w.past.seen u.past.seen n.object r.seen in inr (subst (λ (b : ℕ). n.time < latest b w.past.seen n.object) (sym base) (omega arith))) t.1)
+    tried_on (Some seat) a = subst (λ (own : ℕ). FindsAbove c own (made ++ more) n seat) (sym (reclaims_number u w more r)) (above_first c u.number made more n seat a)
+
+    pub untimed_on : (back : Bool) (above : Option ℕ) → mark.low ≤ u.base + length u.past.seen → StaysUntimed c u made mark clock back n above → StaysUntimed c w (made ++ more) mark clock back n above
+    untimed_on back above seen d = record {
+      committed = d.committed;
+      super = Contains-append_left made more (super_step c w.number n) (subst (λ (own : ℕ). Contains made (super_step c own n)) (sym (reclaims_number u w more r)) d.super);
+      unwritten =
+          (let old = d.unwritten in
+          let same = latest_at-more u.base w.past.seen u.past.seen n.object r.seen mark.low seen in
+          subst (λ (b : ℕ). latest_at b w.past.seen n.object mark.low ≤ n.time) (sym (reclaims_base u w more r)) (omega arith));
+      tried = λ b. tried_on above (d.tried b);
+    }
+
+  pub dated_on : (most top : ℕ) (back : Bool) (old n : Note) → most ≤ top → DatedSo u made most back old n → DatedSo w (made ++ more) top back old n
+  dated_on most top back old n le d =
+      let base = reclaims_base u w more r in
+      let long = reclaims_more u w more r in
+      ⊎_elim inl (λ e. inr (⊎_elim (λ seen. inl (omega arith)) (λ b. let fits = b.1 in inr (b.0, omega arith, times_first made more n.dead b.2)) e)) d
+
+-- other steps were made before these
+module _ (c : Config) (w : View) (made more : List Step) (mark : Watermark) (clock : ℕ) (n : Note) where
+  tried_then : (above : Option ℕ) → TriedSo c w more mark clock n above → TriedSo c w (made ++ more) mark clock n above
+  tried_then None t = t
+  tried_then (Some seat) a = above_then c w.number made more n seat a
+
+  pub untimed_then : (back : Bool) (above : Option ℕ) → StaysUntimed c w more mark clock back n above → StaysUntimed c w (made ++ more) mark clock back n above
+  untimed_then back above d = record {
+    committed = d.committed;
+    super = Contains-append_right made more (super_step c w.number n) d.super;
+    unwritten = d.unwritten;
+    tried = λ b. tried_then above (d.tried b);
+  }
+
+pub dated_then : (w : View) (made more : List Step) (most top : ℕ) (back : Bool) (old n : Note) → most ≤ top → DatedSo w more most back old n → DatedSo w (made ++ more) top back old n
+dated_then w made more most top back old n le d = ⊎_elim inl (λ e. inr (⊎_elim inl (λ b. let fits = b.1 in inr (b.0, omega arith, times_then made more n.dead b.2)) e)) d

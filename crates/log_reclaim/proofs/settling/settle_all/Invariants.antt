@@ -1,0 +1,15 @@
+use Rattle.std.proofs.Common.{◌+◌, ◌*◌, ◌≤◌, List}
+use Rattle.mv_history.specs.declared.Step.{Step}
+use Rattle.mv_core.specs.Passes.{view, IsOf, IsSame, config_of}
+use Rattle.seat_log.specs.Stands.{Stands}
+use Rattle.log_reclaim.specs.Sweeps.{Settles}
+use Rattle.log_reclaim.proofs.settling.settle_all.Given as goal
+
+abbrev pub invariant-loop-index : goal.invariant-loop-index
+invariant-loop-index g l = record {
+  of : IsOf l.shared l.pass;
+  same : IsSame l.fn.pass l.pass;
+  stands : Stands (config_of l.shared) (view l.pass) l.log;
+  settles : (made : List Step) × Settles (config_of l.shared) (view l.fn.pass) (view l.pass) l.fn.log l.log made l.mark l.clock l.back l.found l.top l.index;
+  cost : l.steps ≤ l.fn.steps + 18 * l.index;
+}

@@ -1,0 +1,22 @@
+use Rattle.std.proofs.Common.{rules, ◌∙◌}
+use Rattle.mv_core.specs.Passes.{view, config_of}
+use Rattle.log_reclaim.proofs.StoringAll.{stored_more, stands_stored, stores_all}
+use Rattle.log_reclaim.proofs.settling.store_all.Goals as goal
+
+pub loop-preserved : goal.loop-preserved
+loop-preserved g c =
+    let a = c.loop.invariant.same in
+    let b = c.back_word.ensures.same in
+    record {
+      of = search rules;
+      same = (b.0 ∙ a.0, b.1 ∙ a.1, b.2 ∙ a.2, b.3 ∙ a.3, b.4 ∙ a.4, b.5 ∙ a.5);
+      stores = stored_more (config_of c.args.shared.now) (view c.args.pass.now) (view c.loop.pass) c.args.back c.loop.back c.loop.counter c.args.steps.now c.loop.steps c.loop.invariant.stores (view c.back_word.new.pass) c.back_word.new.back c.back_word.new.steps c.back_word.ensures.writing c.back_word.ensures.stores c.back_word.ensures.step;
+    }
+
+pub finish_clock-requires-clause-stands : goal.finish_clock-requires-clause-stands
+finish_clock-requires-clause-stands g c =
+    stands_stored (config_of c.args.shared.now) (view c.args.pass.now) (view c.loop.pass) c.args.back c.loop.back c.loop.counter c.args.steps.now c.loop.steps c.loop.invariant.stores c.args.log.now c.requires.stands
+
+pub returns-clause-stores : goal.returns-clause-stores
+returns-clause-stores g c =
+    stores_all (config_of c.args.shared.now) (view c.args.pass.now) (view c.loop.pass) c.args.back c.loop.back c.loop.counter c.args.steps.now c.loop.steps c.loop.invariant.stores (view c.finish_clock.new.pass) c.args.log.now c.finish_clock.new.log c.finish_clock.result.1 c.requires.of.2 c.finish_clock.ensures.clock c.finish_clock.result.0 c.finish_clock.ensures.finishes c.finish_clock.ensures.cut

@@ -1,0 +1,131 @@
+-- Writing a version back: what the calls need of the view and of the log, and what they leave.
+use Rattle.std.specs.Prelude.{◌≡◌, ◌≢◌, ℕ, ◌+◌, ◌-◌, ◌<◌, ◌≤◌, ◌^◌, false, List, Result, Ok, Err, None, slice_index}
+use Rattle.mv_history.specs.declared.Entry.{Entry}
+use Rattle.mv_layout.specs.declared.Config.{Config}
+use Rattle.mv_layout.specs.Words.{clock_time_of, link_of, link_seat_of}
+use Rattle.mv_core.specs.declared.ring.Slot.TheVariants.{Live}
+use Rattle.mv_core.specs.declared.ring.Version.{Version}
+use Rattle.mv_core.specs.declared.ring.Status.TheVariants.{Committed}
+use Rattle.mv_core.specs.declared.ring.CommitNote.{CommitNote}
+use Rattle.mv_core.specs.declared.view.View.{View}
+use Rattle.mv_core.specs.declared.view.Phase.TheVariants.{Inside}
+use Rattle.mv_core.specs.declared.view.Section.{Section}
+use Rattle.mv_core.specs.declared.view.Mode.TheVariants.{Open}
+use Rattle.mv_core.specs.Rings.{slot_at, index_of, HoldsNothing}
+use Rattle.mv_core.specs.SectionFacts.{IsPastHelp}
+use Rattle.mv_core.specs.EnterSteps.{IsWhole, mark_cleared}
+use Rattle.mv_core.specs.WalkSteps.{IsLinkOf, head_loaded}
+use Rattle.mv_core.specs.LockSteps.{death_loaded}
+use Rattle.mv_core.specs.ReclaimSteps.{GoesToWord, master_stored, head_cut, cut_lost}
+use Rattle.reader_marks.specs.declared.scanning.Watermark.{Watermark}
+use Rattle.reader_marks.specs.Sections.{Begins}
+use Rattle.seat_log.specs.declared.version.Note.{Note}
+use Rattle.seat_log.specs.Notes.{Noted, IsNoteAt, retired, back_noted}
+use Rattle.log_reclaim.specs.declared.writing_back.Back.{Back}
+use Rattle.log_reclaim.specs.declared.writing_back.NoBack.{NoBack}
+use Rattle.log_reclaim.specs.declared.writing_back.NoBack.TheVariants.{Young, Gone, Above}
+use Rattle.log_reclaim.specs.declared.writing_back.BackEnd.{BackEnd}
+use Rattle.log_reclaim.specs.declared.writing_back.BackEnd.TheVariants as end
+
+-- the log has this note of a committed version at the position
+pub record IsCommitted (l : Noted) (position : ℕ) (n : Note) : Type 0 where
+  pub from : l.freed ≤ position
+  pub at : IsNoteAt l (position - l.freed) n
+  pub committed : 0 < n.time
+
+-- The write-back is under way in the view: in an open section past its help that holds nothing, of an own committed version that has no time of death, wasn't cut, and whose time isn't above the pass's watermark; so many of its words were stored, and its exchange of HEAD wasn't tried.
+pub record IsWriting (c : Config) (v : View) (back : Back) : Type 0 where
+  pub inside : Section
+  pub phase : v.phase ≡ Inside inside
+  pub open_is : inside.mode ≡ Open
+  pub past_help : IsPastHelp v.heard inside
+  pub nothing : HoldsNothing v.ring
+  pub version : Version
+  pub note : CommitNote
+  pub own : slot_at v.ring (index_of c back.position) ≡ Live version (Committed note)
+  pub position_is : version.position ≡ back.position
+  pub object_is : version.object ≡ back.object
+  pub words_is : version.words ≡ back.words
+  pub no_death : note.dead ≡ None
+  pub uncut : note.cut ≡ false
+  pub known : note.time ≤ v.grace
+  pub in_range : back.object < c.objects
+  pub small : back.position < 2 ^ 57
+  pub few : back.stored ≤ 6
+  pub goes : GoesToWord v back.object back.stored back.position version note
+
+-- a section was entered, and HEAD of the object then had this link
+pub record HasLooked (c : Config) (v w : View) (object link : ℕ) : Type 0 where
+  pub entered : View
+  pub time : ℕ
+  pub begins : Begins c v entered time
+  pub looked : w ≡ head_loaded c entered begins.inside object link
+  pub link_is : IsLinkOf c link
+
+-- HEAD of the object had another link than that of the version of the note, and the section was left
+pub record LeavesAt (c : Config) (v w : View) (n : Note) (link : ℕ) : Type 0 where
+  pub other : link ≢ link_of v.number n.position
+  pub inside : View
+  pub looked : HasLooked c v inside n.object link
+  pub left : w ≡ mark_cleared c inside
+
+-- the log has a later commit of the object than the note's
+pub record HasLater (l : Noted) (n : Note) : Type 0 where
+  pub index : ℕ
+  pub other : Note
+  pub at : IsNoteAt l index other
+  pub object_is : other.object ≡ n.object
+  pub later : n.time < other.time
+
+-- the link names a version of this seat, and where that is the own one, the log has a later commit of the object
+pub record NamesSeat (c : Config) (v : View) (l : Noted) (n : Note) (seat link : ℕ) : Type 0 where
+  pub some : link ≢ 0
+  pub seat_is : link_seat_of link ≡ seat
+  pub in_range : seat < c.seats
+  pub own : seat ≡ v.number → HasLater l n
+
+-- what starting a write-back of the version of a note answers
+abbrev pub StartsSo : Config → View → View → Noted → Note → Watermark → ℕ → ℕ → Result Back NoBack → Type 0
+StartsSo c v w l n mark before after (Ok back) =
+    (n.time ≤ mark.time) × HasLooked c v w n.object (link_of v.number n.position) × IsWriting c w back
+    × (back ≡ record { object = n.object; position = n.position; words = n.words; stored = 0 })
+StartsSo c v w l n mark before after (Err Young) = (mark.time < n.time) × (w ≡ v) × (after ≡ before)
+StartsSo c v w l n mark before after (Err Gone) = (n.time ≤ mark.time) × LeavesAt c v w n 0
+StartsSo c v w l n mark before after (Err (Above seat)) =
+    (n.time ≤ mark.time) × (link : ℕ) × LeavesAt c v w n link × NamesSeat c v l n seat link
+
+-- the next word is stored
+pub record StoresWord (c : Config) (v w : View) (b d : Back) : Type 0 where
+  pub view : w ≡ master_stored c v b.object b.stored (slice_index b.words b.stored) b.position
+  pub back : d ≡ record b { stored = b.stored + 1 }
+
+-- the exchange was won: the version is cut, and dead from the time after that of the clock, and the section was left
+pub record IsCut (c : Config) (v w : View) (l m : Noted) (back : Back) : Type 0 where
+  pub version : Version
+  pub note : CommitNote
+  pub own : slot_at v.ring (index_of c back.position) ≡ Live version (Committed note)
+  pub word : ℕ
+  pub history : List Entry
+  pub whole : IsWhole c v word history
+  pub view : w ≡ mark_cleared c (death_loaded c (head_cut c v back.object back.position version note) word history)
+  pub log : m ≡ back_noted (retired l back.position (clock_time_of word + 1))
+
+-- the same, where the clock's time was this
+abbrev pub IsCutAt : Config → View → View → Noted → Noted → Back → ℕ → Type 0
+IsCutAt c v w l m back time = (cut : IsCut c v w l m back) × (clock_time_of cut.word ≡ time)
+
+-- the exchange found another link, of another seat, and the section was left
+pub record IsUncut (c : Config) (v w : View) (l m : Noted) (back : Back) (seat : ℕ) : Type 0 where
+  pub link : ℕ
+  pub some : link ≢ 0
+  pub other : link ≢ link_of v.number back.position
+  pub seat_is : link_seat_of link ≡ seat
+  pub in_range : seat < c.seats
+  pub not_own : seat ≢ v.number
+  pub view : w ≡ mark_cleared c (cut_lost c v back.object back.position link)
+  pub log : m ≡ l
+
+-- how a write-back ends
+abbrev pub FinishesSo : Config → View → View → Noted → Noted → Back → BackEnd → Type 0
+FinishesSo c v w l m back end.Cut = IsCut c v w l m back
+FinishesSo c v w l m back (end.Above seat) = IsUncut c v w l m back seat

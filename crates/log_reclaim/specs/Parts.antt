@@ -1,0 +1,140 @@
+-- What a part of a reclaiming call leaves of a view and of the log, and what its steps show.
+use Rattle.std.specs.Prelude.{◌≡◌, ◌≢◌, ℕ, ◌+◌, ◌<◌, ◌≤◌, max, false, List, ◌∷◌, ◌++◌, length, Contains, All, Some, None}
+use Rattle.mv_history.specs.declared.Step.{Step}
+use Rattle.mv_history.specs.declared.StepKind.{StepKind}
+use Rattle.mv_history.specs.declared.StepKind.TheVariants.{LoadScan, LoadHead, CutHead, LoadSuper, LoadDeath, NameCommit, NameRest}
+use Rattle.mv_layout.specs.declared.Config.{Config}
+use Rattle.mv_layout.specs.declared.Place.TheVariants.{Head, Super}
+use Rattle.mv_layout.specs.Places.{place_of}
+use Rattle.mv_layout.specs.Words.{clock_time_of, link_seat_of}
+use Rattle.mv_core.specs.declared.view.View.{View}
+use Rattle.mv_core.specs.declared.view.Phase.TheVariants.{Outside}
+use Rattle.mv_core.specs.declared.view.Walk.TheVariants.{Nowhere}
+use Rattle.mv_core.specs.Rings.{index_of}
+use Rattle.mv_core.specs.HistoryFacts.{BeginsWith}
+use Rattle.reader_marks.specs.declared.scanning.Watermark.{Watermark}
+use Rattle.reader_marks.specs.Scans.{IsLowest, named_by, scan_steps}
+use Rattle.seat_log.specs.declared.version.Note.{Note}
+use Rattle.seat_log.specs.Notes.{Noted, IsNoteAt}
+
+-- a kind of step that reclaiming may make: no exchange that names a commit
+abbrev pub NamesNoCommit : StepKind → Type 0
+NamesNoCommit NameCommit = ⊥
+NamesNoCommit _ = Unit {0}
+
+-- a step of another kind than the load of CLOCK that begins a scan
+abbrev pub BeginsNoScan : StepKind → Type 0
+BeginsNoScan LoadScan = ⊥
+BeginsNoScan _ = Unit {0}
+
+-- a step of another kind than the exchanges on CLOCK
+abbrev pub LeavesClock : StepKind → Type 0
+LeavesClock NameCommit = ⊥
+LeavesClock NameRest = ⊥
+LeavesClock _ = Unit {0}
+
+-- a step of another kind than the load of CLOCK that begins a scan and the exchanges on CLOCK
+abbrev pub IsOtherKind : StepKind → Type 0
+IsOtherKind LoadScan = ⊥
+IsOtherKind NameCommit = ⊥
+IsOtherKind NameRest = ⊥
+IsOtherKind _ = Unit {0}
+
+-- The pass is outside a section, as before, with no scan running. What was seen is only longer, the own commits are as before, the watermark isn't lower, and the trail is longer by these steps; nothing else has changed but the rests, the clock words heard, the HEADs found empty and the own log.
+pub record Reclaims (v w : View) (made : List Step) : Type 0 where
+  pub outside : w.phase ≡ Outside
+  pub no_scan : w.scan ≡ None
+  pub seen : BeginsWith w.past.seen v.past.seen
+  pub mine : w.past.mine ≡ v.past.mine
+  pub grace : v.grace ≤ w.grace
+  pub trail : w.trail ≡ v.trail ++ made
+  pub kinds : All (λ s. NamesNoCommit s.kind) made
+  pub rest : w ≡ record v { past = w.past; phase = Outside; heard = w.heard; walk = Nowhere; empty = w.empty; ring = w.ring; back = None; scan = None; grace = w.grace; trail = w.trail }
+
+-- the same note, but for a time of death where there was none
+pub record DiesFrom (old n : Note) : Type 0 where
+  pub same : n ≡ record old { dead = n.dead }
+  pub once : 0 < old.dead → n.dead ≡ old.dead
+
+-- so many of the oldest versions were freed, and of the others nothing changed but times of death; write-backs and rests were counted
+pub record Shrinks (l m : Noted) (freed : ℕ) : Type 0 where
+  pub few : length m.live + freed ≡ length l.live
+  pub notes : (i : ℕ) (n : Note) → IsNoteAt m i n → (old : Note) × IsNoteAt l (i + freed) old × DiesFrom old n
+  pub rest : m ≡ record l { live = m.live; freed = l.freed + freed; back = m.back; rests = m.rests }
+
+-- a load of SUPER of the version of this note found 0
+abbrev pub super_step : Config → ℕ → Note → Step
+super_step c own n = record { kind = LoadSuper; word = place_of c (Super own (index_of c n.position)); found = Some 0; stored = None }
+
+-- a step that loads HEAD, or tries to cut its chain
+abbrev pub IsHeadKind : StepKind → Type 0
+IsHeadKind LoadHead = Unit {0}
+IsHeadKind CutHead = Unit {0}
+IsHeadKind _ = ⊥
+
+-- the step found HEAD of the object naming a version of this seat
+pub record FindsSeat (c : Config) (object seat : ℕ) (s : Step) : Type 0 where
+  pub kind : IsHeadKind s.kind
+  pub word : s.word ≡ place_of c (Head object)
+  pub link : ℕ
+  pub found : s.found ≡ Some link
+  pub some : link ≢ 0
+  pub seat_is : link_seat_of link ≡ seat
+
+-- one of these steps found HEAD of the note's object naming a version of this other seat
+pub record FindsOther (c : Config) (own : ℕ) (made : List Step) (n : Note) (seat : ℕ) : Type 0 where
+  pub not_own : seat ≢ own
+  pub in_range : seat < c.seats
+  pub step : Step
+  pub there : Contains made step
+  pub finds : FindsSeat c n.object seat step
+
+-- among these steps one found SUPER 0 in the version of the note, and a later one found HEAD of its object naming a version of this other seat
+pub record FindsAbove (c : Config) (own : ℕ) (made : List Step) (n : Note) (seat : ℕ) : Type 0 where
+  pub not_own : seat ≢ own
+  pub in_range : seat < c.seats
+  pub before : List Step
+  pub after : List Step
+  pub made_is : made ≡ before ++ super_step c own n ∷ after
+  pub step : Step
+  pub later : Contains after step
+  pub finds : FindsSeat c n.object seat step
+
+-- among these steps is a scan, the last one, which found this watermark and this time in CLOCK
+pub record HasScanned (c : Config) (own : ℕ) (made : List Step) (mark : Watermark) (clock : ℕ) : Type 0 where
+  pub word : ℕ
+  pub clock_is : clock ≡ clock_time_of word
+  pub marks : ℕ → ℕ
+  pub own_is : marks own ≡ 0
+  pub lowest : IsLowest clock marks c.seats mark.low (named_by mark)
+  pub unmarked : mark.marked ≡ false → mark.seat ≡ 0
+  pub found : ℕ
+  pub time : mark.time ≡ max mark.low found
+  pub before : List Step
+  pub after : List Step
+  pub made_is : made ≡ before ++ scan_steps c own word marks mark.low found ++ after
+  pub last : All (λ s. BeginsNoScan s.kind) after
+
+-- among these steps is a scan, the last one or not, which found this watermark and this time in CLOCK
+pub record HasScan (c : Config) (own : ℕ) (made : List Step) (mark : Watermark) (clock : ℕ) : Type 0 where
+  pub word : ℕ
+  pub clock_is : clock ≡ clock_time_of word
+  pub marks : ℕ → ℕ
+  pub own_is : marks own ≡ 0
+  pub lowest : IsLowest clock marks c.seats mark.low (named_by mark)
+  pub unmarked : mark.marked ≡ false → mark.seat ≡ 0
+  pub found : ℕ
+  pub time : mark.time ≡ max mark.low found
+  pub before : List Step
+  pub after : List Step
+  pub made_is : made ≡ before ++ scan_steps c own word marks mark.low found ++ after
+
+-- among these steps is a load of CLOCK that found the time before this time of death, to time a version
+pub record TimesDeath (made : List Step) (dead : ℕ) : Type 0 where
+  pub step : Step
+  pub there : Contains made step
+  pub kind : step.kind ≡ LoadDeath
+  pub clock : step.word ≡ 0
+  pub word : ℕ
+  pub found : step.found ≡ Some word
+  pub dead_is : dead ≡ clock_time_of word + 1

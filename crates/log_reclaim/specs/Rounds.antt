@@ -1,0 +1,67 @@
+-- The parts of a round, and what it leaves of each version.
+use Rattle.std.specs.Prelude.{◌≡◌, ◌⊎◌, ℕ, ◌<◌, ◌≤◌, Bool, if◌then◌else◌, nat_lt, List, length, All, Option, Some, None}
+use Rattle.mv_history.specs.declared.answers.Holder.{Holder}
+use Rattle.mv_history.specs.declared.answers.Holder.TheVariants.{Mark, Above, Fresh, End}
+use Rattle.mv_history.specs.declared.Step.{Step}
+use Rattle.mv_history.specs.declared.StepKind.TheVariants.{StoreFree}
+use Rattle.mv_layout.specs.declared.Config.{Config}
+use Rattle.mv_core.specs.declared.view.View.{View}
+use Rattle.reader_marks.specs.declared.scanning.Watermark.{Watermark}
+use Rattle.seat_log.specs.declared.version.Note.{Note}
+use Rattle.seat_log.specs.Notes.{Noted, IsNoteAt}
+use Rattle.seat_log.specs.Frees.{OldestIsDead, IsDeadNote, freed_noted}
+use Rattle.log_reclaim.specs.declared.settling.Found.{Found}
+use Rattle.log_reclaim.specs.declared.rounds.Scanned.{Scanned}
+use Rattle.log_reclaim.specs.Sweeps.{found_at}
+use Rattle.log_reclaim.specs.Parts.{HasScanned}
+use Rattle.log_reclaim.specs.Tries.{Makes}
+use Rattle.log_reclaim.specs.Untimed.{StaysUntimed}
+
+-- So many slots were freed, by one step each, and the oldest write set that is left isn't dead by that time. Of the view nothing has changed but the log and the trail.
+pub record FreesAll (v w : View) (l m : Noted) (made : List Step) (time freed : ℕ) : Type 0 where
+  pub makes : Makes v w made
+  pub kinds : All (λ s. s.kind ≡ StoreFree) made
+  pub view : w ≡ record v { ring = w.ring; trail = w.trail }
+  pub few : freed ≤ length l.live
+  pub log : m ≡ freed_noted l freed
+  pub kept : 0 < length m.live → OldestIsDead m time → ⊥
+
+-- the first version of the oldest write set that isn't dead by this time; where there is none, the set is dead by it
+abbrev pub IsDue : Noted → ℕ → Option Note → Type 0
+IsDue l time (Some n) = (i : ℕ) × IsNoteAt l i n × (n.first ≡ l.freed) × (IsDeadNote time n → ⊥)
+IsDue l time None = OldestIsDead l time
+
+-- the holder by the mark of a scan
+abbrev pub by_mark_of : Watermark → Holder
+by_mark_of mark = Mark mark.seat mark.low
+
+-- the holder of a version without a time of death, by which seat's version its write-back found in HEAD
+abbrev pub untimed_holder : Scanned → Note → Option ℕ → Holder
+untimed_holder first n None = by_mark_of first.mark
+untimed_holder first n (Some seat) = Above n.object seat
+
+-- The holder by the version that is due: the last time is reached; it is dead from a time above the last scan's clock; it is dead from a time above the last scan's watermark; it is untimed after a round that wrote nothing back; or a write-back left it untimed.
+abbrev pub holder_of : Scanned → Scanned → Bool → Found → Note → Holder
+holder_of first last back found n =
+    if nat_lt 35184372088831 n.dead then End
+    else (if nat_lt last.clock n.dead then Fresh n.dead
+    else (if nat_lt 0 n.dead then by_mark_of last.mark
+    else (if back then untimed_holder first n (found_at found n.position)
+    else Fresh n.time)))
+
+-- who holds the oldest write set: by the version of it that is due by the last scan's watermark
+abbrev pub IsHolder : Noted → Scanned → Scanned → Bool → Found → Option Holder → Type 0
+IsHolder l first last back found None = OldestIsDead l last.mark.time
+IsHolder l first last back found (Some holder) =
+    (n : Note) × IsDue l last.mark.time (Some n) × (holder ≡ holder_of first last back found n)
+
+-- After a round the log is empty, or the round's scan found a watermark by which the oldest write set isn't dead, and of each version without a time of death it is known why it has none.
+pub record HasLeft (c : Config) (w : View) (l : Noted) (made : List Step) (back : Bool) : Type 0 where
+  pub mark : Watermark
+  pub clock : ℕ
+  pub scan : HasScanned c w.number made mark clock
+  pub kept : OldestIsDead l mark.time → ⊥
+  pub untimed : (i : ℕ) (n : Note) → IsNoteAt l i n → n.dead ≡ 0 → (above : Option ℕ) × StaysUntimed c w made mark clock back n above
+
+abbrev pub SweptSo : Config → View → Noted → List Step → Bool → Type 0
+SweptSo c w l made back = (length l.live ≡ 0) ⊎ HasLeft c w l made back

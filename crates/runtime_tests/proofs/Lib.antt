@@ -1,7 +1,10 @@
 pub mod Begun
 pub mod StepKinds
 pub mod Moved
+pub mod Marked
 pub mod NamedOnes
 pub mod Stages
-pub mod Dying
+pub mod Building
 pub mod Opened
+pub mod Rested
+pub mod Reclaimed

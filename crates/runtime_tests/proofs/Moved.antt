@@ -20,10 +20,13 @@ use Rattle.seat_log.specs.Notes.{Noted}
 use Rattle.seat_log.specs.Stands.{Stands}
 use Rattle.version_chain.specs.Walks.{inside_of, section_in, MayWalk, Walks}
 use Rattle.version_chain.specs.Reads.{Reads}
+use Rattle.mv_history.specs.declared.answers.LockAnswer.{LockAnswer}
+use Rattle.object_lock.specs.declared.locking.StartedLock.{StartedLock}
+use Rattle.object_lock.specs.Locks.{IsStarted, Outcome}
 use Rattle.object_lock.specs.Tops.{Tries}
 use Rattle.object_lock.specs.Writes.{Stores}
 use Rattle.commit_abort.proofs.Tried.{stands_still, stands_next, phase_next, helped_next}
-use Rattle.runtime_tests.specs.Clients.{IsOutside, IsInside}
+use Rattle.runtime_tests.specs.Clients.{IsOutside, IsInside, HasStarted}
 use Rattle.runtime_tests.proofs.Begun.{may_walk}
 use Rattle.runtime_tests.proofs.StepKinds.{ArePlain, IsPlain, enters_plain, walks_plain, reads_plain, one_plain, none_free, none_cut}
 
@@ -81,6 +84,20 @@ tried c v w l m word before after i t may stands unbuilt = record {
   stands = stands;
   unbuilt = unbuilt;
   helped = subst (λ (h : Heard). (x : ℕ) → word ≡ Some x → Contains h.loaded x × Contains h.helped x) (sym (ap (λ (u : View). u.heard) t.rest)) i.helped;
+}
+
+-- a lock was begun: a version of the object is built
+pub has_started : (c : Config) (v w : View) (l m : Noted) (word : Option ℕ) (before after : ℕ) (lock : StartedLock) → IsInside c v l word → Tries v w before after → IsStarted c w m lock → HasStarted c w m lock
+has_started c v w l m word before after lock i t started = record { started = started; no_scan = ap (λ (u : View). u.scan) t.rest ∙ i.no_scan }
+
+-- and ended
+pub has_ended : (c : Config) (v w : View) (l m : Noted) (object before after : ℕ) (lock : StartedLock) (answer : LockAnswer) → HasStarted c v l lock → Outcome c v w m object answer before after → IsInside c w m None
+has_ended c v w l m object before after lock answer k o = record {
+  may = o.may;
+  no_scan = ap (λ (u : View). u.scan) o.tries.rest ∙ k.no_scan;
+  stands = o.stands;
+  unbuilt = o.unbuilt;
+  helped = λ x e. absurd cc;
 }
 
 pub written : (c : Config) (v w : View) (l m : Noted) (word : Option ℕ) (n : ℕ) → IsInside c v l word → Stores v w n → MayWalk w → Stands c w m → m.built ≡ None → IsInside c w m word

@@ -6,6 +6,7 @@ use Rattle.mv_history.specs.declared.StepKind.{StepKind}
 use Rattle.mv_history.specs.declared.StepKind.TheVariants.{LoadLow, StoreMark, LoadTime, LoadNamed, LoadCheck, SwapStamp, LoadHead, LoadFirst, LoadStamp, LoadPrev}
 use Rattle.seat_log.specs.Stands.{is_free_kind, is_cut_kind}
 use Rattle.reader_marks.specs.Sections.{IsEnterStep}
+use Rattle.commit_clock.specs.Helps.{IsHelpStep}
 use Rattle.version_chain.specs.Walks.{IsWalkStep}
 
 -- neither frees a slot nor cuts a chain
@@ -28,6 +29,12 @@ walk_plain LoadStamp h = (refl, refl)
 walk_plain LoadPrev h = (refl, refl)
 walk_plain _ h = absurd h
 
+help_plain : (k : StepKind) → IsHelpStep k → IsPlain k
+help_plain LoadNamed h = (refl, refl)
+help_plain LoadCheck h = (refl, refl)
+help_plain SwapStamp h = (refl, refl)
+help_plain _ h = absurd h
+
 abbrev pub ArePlain : List Step → Type 0
 ArePlain steps = All (λ (s : Step). IsPlain s.kind) steps
 
@@ -36,6 +43,9 @@ enters_plain steps all = All-weaker (λ s. IsEnterStep s.kind) (λ s. IsPlain s.
 
 pub walks_plain : (steps : List Step) → All (λ s. IsWalkStep s.kind) steps → ArePlain steps
 walks_plain steps all = All-weaker (λ s. IsWalkStep s.kind) (λ s. IsPlain s.kind) (λ s. walk_plain s.kind) steps all
+
+pub helps_plain : (steps : List Step) → All (λ s. IsHelpStep s.kind) steps → ArePlain steps
+helps_plain steps all = All-weaker (λ s. IsHelpStep s.kind) (λ s. IsPlain s.kind) (λ s. help_plain s.kind) steps all
 
 pub reads_plain : (kind : StepKind) → IsPlain kind → (steps : List Step) → All (λ s. s.kind ≡ kind) steps → ArePlain steps
 reads_plain kind plain steps all = All-weaker (λ s. s.kind ≡ kind) (λ s. IsPlain s.kind) (λ s e. subst IsPlain (sym e) plain) steps all

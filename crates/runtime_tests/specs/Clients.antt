@@ -1,28 +1,65 @@
 -- Where a client of a domain stands between two of its moves.
-use Rattle.std.specs.Prelude.{◌≡◌, ℕ, ◌+◌, ◌≤◌, List, All, Option, Some, None, Contains}
+use Rattle.std.specs.Prelude.{◌≡◌, ℕ, ◌+◌, ◌<◌, ◌≤◌, List, All, Option, Some, None, Contains}
 use Rattle.mv_history.specs.declared.rules.AnyRules.{AnyRules}
 use Rattle.mv_layout.specs.declared.Config.{Config}
 use Rattle.mv_layout.specs.Words.{clock_time_of}
 use Rattle.mv_core.specs.declared.view.View.{View}
+use Rattle.mv_core.specs.declared.view.Phase.TheVariants as phase
+use Rattle.mv_core.specs.declared.view.Section.{Section}
+use Rattle.mv_core.specs.declared.view.Mode.TheVariants.{Open}
 use Rattle.mv_core.specs.declared.shared.Shared.{Shared}
 use Rattle.mv_core.specs.declared.shared.Pass.{Pass}
 use Rattle.mv_core.specs.Start.{starting_view}
 use Rattle.mv_history.specs.declared.Protocol.{Ghosts}
 use Rattle.mv_core.specs.Passes.{view, IsOf, config_of, start_of}
-use Rattle.mv_core.specs.EnterSteps.{MayLoadLow}
+use Rattle.mv_core.specs.EnterSteps.{MayLoadLow, MayStoreMark, MayLoadTime}
+use Rattle.commit_clock.specs.Helps.{HasLoaded}
+use Rattle.reader_marks.specs.Sections.{IsOpen}
 use Rattle.seat_log.specs.Notes.{Noted}
 use Rattle.seat_log.specs.Stands.{Stands}
-use Rattle.version_chain.specs.Walks.{MayWalk}
+use Rattle.version_chain.specs.Walks.{MayWalk, StandsAt, HasFound}
+use Rattle.object_lock.specs.declared.locking.StartedLock.{StartedLock}
+use Rattle.object_lock.specs.Locks.{IsStarted}
 use Rattle.commit_abort.specs.Finishes.{WonNaming, IsJustNamed}
+use Rattle.log_reclaim.specs.Backs.{IsWriting}
 use Rattle.runtime_tests.specs.declared.clients.Client.{Client}
 use Rattle.runtime_tests.specs.declared.clients.Stage.{Stage}
-use Rattle.runtime_tests.specs.declared.clients.Stage.TheVariants.{Outside, Inside, Named, Stopped}
+use Rattle.runtime_tests.specs.declared.clients.Stage.TheVariants.{Outside, Lowered, Marked, Taken, Inside, Named, Stopped, Locking, Loaded, Helped, WritingBack}
+use Rattle.runtime_tests.specs.declared.clients.UnderWay.{UnderWay}
+use Rattle.runtime_tests.specs.declared.clients.UnderWay.TheVariants.{Nothing, Walking, Ended, WriteBack}
 
 -- outside a section, with no scan running; the log stands for the pass, and nothing is being built in it
 pub record IsOutside (c : Config) (v : View) (l : Noted) : Type 0 where
   pub may : MayLoadLow v
   pub stands : Stands c v l
   pub unbuilt : l.built ≡ None
+
+-- between the parts of a call: no scan is running, the log stands for the pass, and nothing is being built in it
+pub record IsBetween (c : Config) (v : View) (l : Noted) : Type 0 where
+  pub no_scan : v.scan ≡ None
+  pub stands : Stands c v l
+  pub unbuilt : l.built ≡ None
+
+-- this low time was loaded
+pub record HasLowered (c : Config) (v : View) (l : Noted) (low : ℕ) : Type 0 where
+  pub may : MayStoreMark v low
+  pub within : low ≤ 35184372088831
+  pub between : IsBetween c v l
+
+-- the mark was stored
+pub record HasMarked (c : Config) (v : View) (l : Noted) : Type 0 where
+  pub may : MayLoadTime v
+  pub between : IsBetween c v l
+
+-- an open section began by the load of this word of CLOCK
+pub record HasTaken (c : Config) (v : View) (l : Noted) (word : ℕ) : Type 0 where
+  pub inside : Section
+  pub phase_is : v.phase ≡ phase.Inside inside
+  pub open_is : inside.mode ≡ Open
+  pub word_is : inside.word ≡ word
+  pub loaded : HasLoaded c v word
+  pub no_back : v.back ≡ None
+  pub between : IsBetween c v l
 
 -- the word of CLOCK, if one is kept, was loaded and helped
 abbrev pub HasHelped : View → Option ℕ → Type 0
@@ -44,20 +81,59 @@ pub record HasJustNamed (c : Config) (v : View) (l : Noted) (time : ℕ) : Type 
   pub within : time ≤ 35184372088831
   pub no_scan : v.scan ≡ None
 
+-- a lock was begun in its section, and HEAD wasn't exchanged yet
+pub record HasStarted (c : Config) (v : View) (l : Noted) (lock : StartedLock) : Type 0 where
+  pub started : IsStarted c v l lock
+  pub no_scan : v.scan ≡ None
+
+-- outside a section, where this word of CLOCK was loaded
+pub record HasClock (c : Config) (v : View) (l : Noted) (word : ℕ) : Type 0 where
+  pub outside : IsOutside c v l
+  pub loaded : HasLoaded c v word
+
+-- and was helped too
+pub record HasHelpedClock (c : Config) (v : View) (l : Noted) (word : ℕ) : Type 0 where
+  pub outside : IsOutside c v l
+  pub loaded : Contains v.heard.loaded word
+  pub helped : Contains v.heard.helped word
+
+-- in an open section that holds nothing, in which a version is written back
+pub record IsWritingBack (c : Config) (v : View) (l : Noted) : Type 0 where
+  pub opened : IsOpen v
+  pub between : IsBetween c v l
+
 -- what holds at each stage; a client that stopped may stand anywhere
 abbrev pub IsAt : Config → View → Noted → Stage → Type 0
 IsAt c v l Outside = IsOutside c v l
+IsAt c v l (Lowered low) = HasLowered c v l low
+IsAt c v l Marked = HasMarked c v l
+IsAt c v l (Taken word) = HasTaken c v l word
 IsAt c v l (Inside word) = IsInside c v l word
 IsAt c v l (Named time) = HasJustNamed c v l time
 IsAt c v l Stopped = Unit {0}
+IsAt c v l (Locking lock) = HasStarted c v l lock
+IsAt c v l (Loaded word) = HasClock c v l word
+IsAt c v l (Helped word) = HasHelpedClock c v l word
+IsAt c v l WritingBack = IsWritingBack c v l
 
 -- the client is of this domain, and stands where its stage says
 abbrev pub IsReady : Shared AnyRules → Client → Type 0
 IsReady s client = IsOf s client.pass × IsAt (config_of s) (view client.pass) client.log client.stage
 
--- each of them is
+-- the view says of what is under way that it is: the walk stands at its link, or at what it ended at; or the write-back is of that object and position, and so many of its words were stored
+abbrev pub IsUnderWay : Config → View → UnderWay → Type 0
+IsUnderWay c v Nothing = Unit {0}
+IsUnderWay c v (Walking object walk) = StandsAt c v walk × (walk.object ≡ object) × (object < c.objects)
+IsUnderWay c v (Ended object found) = HasFound c v object found × (object < c.objects)
+IsUnderWay c v (WriteBack back object position stored) = IsWriting c v back × (back.object ≡ object) × (back.position ≡ position) × (back.stored ≡ stored)
+
+-- the client is ready, and can go on with what it has under way
+abbrev pub IsPlayable : Shared AnyRules → Client → Type 0
+IsPlayable s client = IsReady s client × IsUnderWay (config_of s) (view client.pass) client.under_way
+
+-- each of them is so
 abbrev pub AreReady : Shared AnyRules → List Client → Type 0
-AreReady s clients = All (IsReady s) clients
+AreReady s clients = All (IsPlayable s) clients
 
 -- the pass is as it was when the domain was opened
 abbrev pub IsNew : {g : Ghosts AnyRules} → Shared AnyRules → Pass AnyRules g → Type 0

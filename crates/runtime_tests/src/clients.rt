@@ -4,31 +4,62 @@ ghost use Rattle.mv_layout.specs.Limits.{Checked};
 ghost use Rattle.mv_core.specs.Passes.{config_of};
 ghost use Rattle.runtime_tests.specs.Clients.{AreReady};
 
+use log_reclaim::Back;
 use mv_core::{Pass, Shared};
 use mv_history::AnyRules;
 use mv_layout::Config;
+use object_lock::StartedLock;
 use seat_log::{Log, new_log};
 use std::alloc::{AllocError, Global};
+use version_chain::{Found, Walk};
 
 /// How far a client has come, as it knows it at run time.
 #[derive(Clone, Copy, Debug, PartialEq, Eq)]
 pub enum Stage {
     /// It is outside a section.
     Outside,
+    /// It has loaded this low time of a section to come.
+    Lowered(u64),
+    /// It has stored the mark of a section to come.
+    Marked,
+    /// It is in a section that began by its load of this word of CLOCK, and has yet to help it.
+    Taken(u64),
     /// It is in an open section, in which it has perhaps loaded and helped this word of CLOCK.
     Inside(Option<u64>),
     /// Its section has named a commit of this time, by its last step.
     Named(u64),
     /// It stopped within a call, and does nothing more.
     Stopped,
+    /// It is in an open section, in which it has begun this lock.
+    Locking(StartedLock),
+    /// It is outside a section, and has loaded this word of CLOCK, and has yet to help it.
+    Loaded(u64),
+    /// It is outside a section, and has loaded and helped this word of CLOCK.
+    Helped(u64),
+    /// It is in an open section, in which it writes a version back.
+    WritingBack,
 }
 
-/// What calls for one seat: its pass, its log, and how far it has come.
+/// What a client has begun and not ended, in an open section.
+#[derive(Drop)]
+pub(crate) enum UnderWay {
+    Nothing,
+    /// A walk over this object.
+    Walking(u32, Walk),
+    /// What a walk over this object ended at, and the client hasn't read.
+    Ended(u32, Found),
+    /// A write-back, of this object and of the version at this position of its log, of which so many
+    /// words were stored.
+    WriteBack(Back, u32, u64, u32),
+}
+
+/// What calls for one seat: its pass, its log, how far it has come, and what it has under way.
 #[derive(Drop)]
 pub struct Client {
     pub(crate) pass: Pass<AnyRules>,
     pub(crate) log: Log,
     pub(crate) stage: Stage,
+    pub(crate) under_way: UnderWay,
 }
 
 // A new domain of these numbers whose objects are all zeros, with a client for each seat.
@@ -48,6 +79,7 @@ pub(crate) fn open(
             pass,
             log,
             stage: Stage::Outside,
+            under_way: UnderWay::Nothing,
         };
         clients.insert(0, client)?;
     }

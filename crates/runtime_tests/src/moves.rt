@@ -4,17 +4,21 @@ ghost use Rattle.mv_core.specs.Passes.{config_of};
 ghost use Rattle.runtime_tests.specs.Clients.{IsReady};
 
 use crate::clients::{Client, Stage};
-use crate::stops::{first_of_abort, first_of_enter, first_of_finish, first_of_lock};
-use commit_abort::{Ended, abort, commit, finish};
-use commit_clock::{Named, help, name, now};
+use crate::commits::{aborting, committing, finishing, naming};
+use crate::lock_moves::{ending, starting};
+use crate::lock_stops::{first_of_lock, first_of_lock_end};
+use crate::marking::{entering_by_parts, knowing, scanning};
+use crate::reclaiming::{giving_up, rounding, tidying};
+use crate::resting::{helping, resting, taking_clock};
+use crate::sections::{entering, leaving, loading, locking, reading, writing};
+use crate::stops::{first_of_abort, first_of_enter, first_of_finish, first_of_now};
+use log_reclaim::{BackEnd, NoBack};
 use mv_core::{Shared, Steps};
-use mv_history::{AnyRules, LockAnswer, Words};
-use mv_layout::{LAST, clock_time};
-use object_lock::{holds, lock, write};
-use reader_marks::{enter, leave};
-use seat_log::held;
+use mv_history::{AnyRules, Holder, LockAnswer, LogTable, Words};
+use reader_marks::Watermark;
+use seat_log::{held, table};
 use std::sync::ledger::Ledger;
-use version_chain::{Found, find, read_master, read_version};
+use version_chain::Found;
 
 /// A call of a client.
 #[derive(Clone, Copy, Debug, PartialEq, Eq)]
@@ -25,7 +29,7 @@ pub enum Move {
     Read(u32),
     Lock(u32),
     Write(u32, Words),
-    /// Loads CLOCK, and helps the commit that it names.
+    /// Loads CLOCK. In a section it also helps the commit that the word names.
     Now,
     /// Names the commit, after the word that `Now` loaded last.
     Name,
@@ -34,6 +38,40 @@ pub enum Move {
     Abort,
     /// The first steps of a call, so many of them; then the client stops.
     FirstOf(Call, u32),
+    /// All of a lock before its exchange of HEAD.
+    LockStart(u32),
+    /// The rest of the lock that was begun last.
+    LockEnd,
+    /// `enter` by its parts. First the low time is loaded.
+    LoadLow,
+    /// Then the mark for that low time is stored.
+    StoreMark(u64),
+    /// Then the time of the section is loaded.
+    LoadTime,
+    /// At last the commit is helped that the clock's word names. So it is, outside a section, after
+    /// `Now`.
+    Help,
+    /// `rest`, after the word that `Now` loaded last, and `Help` helped.
+    Rest,
+    Scan,
+    Known,
+    /// The table of the log.
+    Table,
+    /// `walk_start` over an object.
+    WalkStart(u32),
+    /// `walk_step` of the walk that is under way.
+    WalkStep,
+    /// The matching reader, where the last look of a walk ended it.
+    ReadFound,
+    /// `round`, with write-backs or without.
+    Round(bool),
+    Tidy,
+    /// A scan, and `back_start` with its watermark, of the version at this place of the log, from the
+    /// oldest on.
+    BackStart(u32),
+    /// `back_word` of the write-back that is under way.
+    BackWord,
+    BackFinish,
 }
 
 /// A call of which the first steps alone are made.
@@ -41,8 +79,13 @@ pub enum Move {
 pub enum Call {
     Enter,
     Lock(u32),
+    /// The rest of the lock that was begun last.
+    LockEnd,
+    /// What a commit does before its exchange of CLOCK.
+    Now,
     Finish,
     Abort,
+    BackFinish,
 }
 
 /// What a move is answered.
@@ -70,9 +113,27 @@ pub enum Answer {
     Stopped,
     /// The move isn't one of this stage, and nothing was done.
     Skipped,
+    /// A version was built for a lock, and HEAD wasn't exchanged yet.
+    LockStarted,
+    /// The time of the word of CLOCK that was loaded.
+    Time(u64),
+    Stored,
+    Helped,
+    Marked(Watermark),
+    Counts(LogTable),
+    /// A walk has begun.
+    Started,
+    /// Where a walk ended, or that it goes on.
+    Walked(Option<Found>),
+    /// A rest was made, of this time.
+    Rested(u64),
+    /// How many slots were freed, how many are live then, and who holds the oldest write set.
+    Tidied(u32, u32, Option<Holder>),
+    NoBack(NoBack),
+    BackEnded(BackEnd),
 }
 
-fn tried(answer: LockAnswer) -> Answer {
+pub(crate) fn tried(answer: LockAnswer) -> Answer {
     match answer {
         LockAnswer::Held => Answer::Held,
         LockAnswer::Busy { seat } => Answer::Busy(seat),
@@ -80,216 +141,6 @@ fn tried(answer: LockAnswer) -> Answer {
         LockAnswer::SetFull => Answer::SetFull,
         LockAnswer::LogFull => Answer::LogFull,
     }
-}
-
-fn entering<L: Ledger>(
-    shared: &Shared<AnyRules>,
-    client: &mut Client,
-    steps: &mut Steps<L>,
-) -> Answer
-    requires ready { IsReady shared.now client.old }
-    ensures ready { IsReady shared.now client.new }
-{
-    let Stage::Outside = client.stage else {
-        return Answer::Skipped;
-    };
-    let time = enter(shared, &mut client.pass, steps);
-    client.stage = Stage::Inside(None);
-    Answer::Entered(time)
-}
-
-fn leaving<L: Ledger>(
-    shared: &Shared<AnyRules>,
-    client: &mut Client,
-    steps: &mut Steps<L>,
-) -> Answer
-    requires ready { IsReady shared.now client.old }
-    ensures ready { IsReady shared.now client.new }
-{
-    let Stage::Inside(_) = client.stage else {
-        return Answer::Skipped;
-    };
-    if held(&client.log) != 0 {
-        return Answer::Skipped;
-    }
-    leave(shared, &mut client.pass, steps);
-    client.stage = Stage::Outside;
-    Answer::Left
-}
-
-fn reading<L: Ledger>(
-    shared: &Shared<AnyRules>,
-    client: &mut Client,
-    object: u32,
-    steps: &mut Steps<L>,
-) -> Answer
-    requires ready { IsReady shared.now client.old }
-    requires range { object < (config_of shared.now).objects }
-    ensures ready { IsReady shared.now client.new }
-{
-    let Stage::Inside(_) = client.stage else {
-        return Answer::Skipped;
-    };
-    let pass = &mut client.pass;
-    Answer::Words(match find(shared, pass, object, steps) {
-        Found::Master => read_master(shared, pass, object, steps),
-        Found::Version { seat, position } => read_version(shared, pass, seat, position, steps),
-    })
-}
-
-fn locking<L: Ledger>(
-    shared: &Shared<AnyRules>,
-    client: &mut Client,
-    object: u32,
-    steps: &mut Steps<L>,
-) -> Answer
-    requires ready { IsReady shared.now client.old }
-    requires range { object < (config_of shared.now).objects }
-    ensures ready { IsReady shared.now client.new }
-{
-    let Stage::Inside(_) = client.stage else {
-        return Answer::Skipped;
-    };
-    if held(&client.log) > shared.config().write_max {
-        return Answer::Skipped;
-    }
-    tried(lock(shared, &mut client.pass, &mut client.log, object, steps))
-}
-
-fn writing<L: Ledger>(
-    shared: &Shared<AnyRules>,
-    client: &mut Client,
-    object: u32,
-    words: Words,
-    steps: &mut Steps<L>,
-) -> Answer
-    requires ready { IsReady shared.now client.old }
-    ensures ready { IsReady shared.now client.new }
-{
-    let Stage::Inside(_) = client.stage else {
-        return Answer::Skipped;
-    };
-    if !holds(&client.log, object) {
-        return Answer::Skipped;
-    }
-    write(
-        shared,
-        &mut client.pass,
-        &mut client.log,
-        object,
-        words,
-        steps,
-    );
-    Answer::Written
-}
-
-fn loading<L: Ledger>(
-    shared: &Shared<AnyRules>,
-    client: &mut Client,
-    steps: &mut Steps<L>,
-) -> Answer
-    requires ready { IsReady shared.now client.old }
-    ensures ready { IsReady shared.now client.new }
-{
-    let Stage::Inside(_) = client.stage else {
-        return Answer::Skipped;
-    };
-    let word = now(shared, &mut client.pass, steps);
-    help(shared, &mut client.pass, word, steps);
-    client.stage = Stage::Inside(Some(word));
-    Answer::Clock(word)
-}
-
-// The tag of each commit. The rules allow every one.
-const TAG: [u64; 4] = [1, 2, 3, 4];
-
-fn naming<L: Ledger>(shared: &Shared<AnyRules>, client: &mut Client, steps: &mut Steps<L>) -> Answer
-    requires ready { IsReady shared.now client.old }
-    ensures ready { IsReady shared.now client.new }
-{
-    let Stage::Inside(kept) = client.stage else {
-        return Answer::Skipped;
-    };
-    let Some(word) = kept else {
-        return Answer::Skipped;
-    };
-    if held(&client.log) == 0 || clock_time(word) >= LAST {
-        return Answer::Skipped;
-    }
-    let named = name(shared, &mut client.pass, word, TAG, steps);
-    match named {
-        Named::Done(time) => {
-            client.stage = Stage::Named(time);
-            Answer::Named(time)
-        }
-        Named::Lost(rival) => {
-            client.stage = Stage::Inside(None);
-            Answer::Lost(rival.seat, rival.time)
-        }
-    }
-}
-
-fn finishing<L: Ledger>(
-    shared: &Shared<AnyRules>,
-    client: &mut Client,
-    steps: &mut Steps<L>,
-) -> Answer
-    requires ready { IsReady shared.now client.old }
-    ensures ready { IsReady shared.now client.new }
-{
-    let Stage::Named(time) = client.stage else {
-        return Answer::Skipped;
-    };
-    finish(shared, &mut client.pass, &mut client.log, time, steps);
-    client.stage = Stage::Outside;
-    Answer::Finished
-}
-
-fn committing<L: Ledger>(
-    shared: &Shared<AnyRules>,
-    client: &mut Client,
-    steps: &mut Steps<L>,
-) -> Answer
-    requires ready { IsReady shared.now client.old }
-    ensures ready { IsReady shared.now client.new }
-{
-    let Stage::Inside(_) = client.stage else {
-        return Answer::Skipped;
-    };
-    if held(&client.log) == 0 {
-        return Answer::Skipped;
-    }
-    let ended = commit(shared, &mut client.pass, &mut client.log, TAG, steps);
-    match ended {
-        Ended::Done(time) => {
-            client.stage = Stage::Outside;
-            Answer::Done(time)
-        }
-        Ended::Again(rival) => {
-            client.stage = Stage::Inside(None);
-            Answer::Again(rival.seat, rival.time)
-        }
-        Ended::End => {
-            client.stage = Stage::Inside(None);
-            Answer::End
-        }
-    }
-}
-
-fn aborting<L: Ledger>(
-    shared: &Shared<AnyRules>,
-    client: &mut Client,
-    steps: &mut Steps<L>,
-) -> Answer
-    requires ready { IsReady shared.now client.old }
-    ensures ready { IsReady shared.now client.new }
-{
-    let Stage::Inside(_) = client.stage else {
-        return Answer::Skipped;
-    };
-    abort(shared, &mut client.pass, &mut client.log, steps);
-    client.stage = Stage::Outside;
-    Answer::Aborted
 }
 
 // Makes the first steps of a call, and stops.
@@ -309,8 +160,12 @@ fn stopping<L: Ledger>(
         (Call::Lock(object), Stage::Inside(None)) if object < shared.config().objects => {
             first_of_lock(shared, pass, &client.log, object, count, steps)
         }
+        (Call::LockEnd, Stage::Locking(started)) => {
+            first_of_lock_end(shared, pass, &mut client.log, started, count, steps)
+        }
+        (Call::Now, Stage::Inside(_)) => first_of_now(shared, pass, count, steps),
         (Call::Finish, Stage::Named(time)) => {
-            first_of_finish(shared, pass, &client.log, time, steps)
+            first_of_finish(shared, pass, &client.log, time, count, steps)
         }
         (Call::Abort, Stage::Inside(None)) if held(&client.log) != 0 => {
             first_of_abort(shared, pass, &client.log, count, steps)
@@ -321,7 +176,7 @@ fn stopping<L: Ledger>(
     Answer::Stopped
 }
 
-// Makes a move of a client, and answers what it was answered.
+// Makes a move of a client that goes on with nothing under way, and answers what it was answered.
 pub(crate) fn make<L: Ledger>(
     shared: &Shared<AnyRules>,
     client: &mut Client,
@@ -333,7 +188,10 @@ pub(crate) fn make<L: Ledger>(
 {
     match next {
         Move::Enter => entering(shared, client, steps),
-        Move::Leave => leaving(shared, client, steps),
+        Move::Leave => match client.stage {
+            Stage::WritingBack => giving_up(shared, client, steps),
+            _ => leaving(shared, client, steps),
+        },
         Move::Read(object) if object < shared.config().objects => {
             reading(shared, client, object, steps)
         }
@@ -342,11 +200,30 @@ pub(crate) fn make<L: Ledger>(
         }
         Move::Write(object, words) => writing(shared, client, object, words, steps),
         Move::Abort => aborting(shared, client, steps),
-        Move::Now => loading(shared, client, steps),
+        Move::Now => match client.stage {
+            Stage::Outside => taking_clock(shared, client, steps),
+            _ => loading(shared, client, steps),
+        },
+        Move::Rest => resting(shared, client, steps),
         Move::Name => naming(shared, client, steps),
         Move::Finish => finishing(shared, client, steps),
         Move::Commit => committing(shared, client, steps),
         Move::FirstOf(call, count) => stopping(shared, client, call, count, steps),
-        Move::Read(_) | Move::Lock(_) => Answer::Skipped,
+        Move::LockStart(object) if object < shared.config().objects => {
+            starting(shared, client, object, steps)
+        }
+        Move::LockEnd => ending(shared, client, steps),
+        Move::LoadLow | Move::StoreMark(_) | Move::LoadTime => {
+            entering_by_parts(shared, client, next, steps)
+        }
+        Move::Help => helping(shared, client, steps),
+        Move::Scan => scanning(shared, client, steps),
+        Move::Known => knowing(shared, client, steps),
+        Move::Table => Answer::Counts(table(&client.log)),
+        Move::Round(back) => rounding(shared, client, back, steps),
+        Move::Tidy => tidying(shared, client, steps),
+        Move::WalkStart(_) | Move::WalkStep | Move::ReadFound => Answer::Skipped,
+        Move::BackStart(_) | Move::BackWord | Move::BackFinish => Answer::Skipped,
+        Move::Read(_) | Move::Lock(_) | Move::LockStart(_) => Answer::Skipped,
     }
 }

@@ -1,9 +1,11 @@
 // Schedules of several clients, as tables of moves with the answers that are wanted.
 ghost use Rattle.std.specs.Prelude.{◌≡◌, ◌<◌, All};
-ghost use Rattle.runtime_tests.specs.Clients.{AreReady};
+ghost use Rattle.runtime_tests.specs.Clients.{IsPlayable, AreReady};
 
-use crate::clients::{Client, open};
-use crate::moves::{Answer, Move, make};
+use crate::clients::{Client, UnderWay, open};
+use crate::moves::{Answer, Call, Move, make};
+use crate::reclaiming::{back_finishing, back_starting, back_stopping, back_storing};
+use crate::walks::{reading_found, walk_starting, walk_stepping};
 use mv_core::{Shared, Steps};
 use mv_history::AnyRules;
 use mv_layout::Config;
@@ -12,6 +14,35 @@ use std::sync::ledger::{Blank, Ledger};
 
 /// A turn of a schedule: the number of a seat, its move, and the answer that is wanted.
 pub type Turn = (usize, Move, Answer);
+
+// Makes a move of a client, and answers what it was answered. What the client has under way ends with
+// every move that doesn't go on with it.
+fn make_next<L: Ledger>(
+    shared: &Shared<AnyRules>,
+    client: &mut Client,
+    next: Move,
+    steps: &mut Steps<L>,
+) -> Answer
+    requires ready { IsPlayable shared.now client.old }
+    ensures ready { IsPlayable shared.now client.new }
+{
+    match next {
+        Move::WalkStart(object) if object < shared.config().objects => {
+            walk_starting(shared, client, object, steps)
+        }
+        Move::WalkStep => walk_stepping(shared, client, steps),
+        Move::ReadFound => reading_found(shared, client, steps),
+        Move::BackStart(index) => back_starting(shared, client, index, steps),
+        Move::BackWord => back_storing(shared, client, steps),
+        Move::BackFinish => back_finishing(shared, client, steps),
+        Move::FirstOf(Call::BackFinish, count) => back_stopping(shared, client, count, steps),
+        _ => {
+            let answer = make(shared, client, next, steps);
+            client.under_way = UnderWay::Nothing;
+            answer
+        }
+    }
+}
 
 // Plays a schedule. It answers the first turn that was answered otherwise, with that answer.
 fn play<L: Ledger>(
@@ -28,7 +59,7 @@ fn play<L: Ledger>(
         if seat >= clients.len() {
             return Some((at, Answer::Skipped));
         }
-        let answer = make(shared, &mut clients[seat], next, steps);
+        let answer = make_next(shared, &mut clients[seat], next, steps);
         if answer != wanted {
             return Some((at, answer));
         }
@@ -50,7 +81,7 @@ pub fn domain(seats: u32, objects: u32, write_max: u32, base: u64) -> Config {
     }
 }
 
-/// Plays the three parts of a schedule, one after another, in a new domain. It answers the part and the
+/// Plays the four parts of a schedule, one after another, in a new domain. It answers the part and the
 /// turn of the first that was answered otherwise, with that answer, and makes no turn after it; `None`
 /// is that every turn was answered as wanted. Numbers that are no domain are answered as the first turn,
 /// `Skipped`. Where memory is refused, no turn was made.
@@ -60,6 +91,7 @@ pub fn played<L: Ledger>(
     before: &[Turn],
     call: &[Turn],
     after: &[Turn],
+    end: &[Turn],
     blank: Blank,
 ) -> Result<Option<(usize, usize, Answer)>, AllocError>
     requires name { blank.name ≡ L.name }
@@ -78,6 +110,9 @@ pub fn played<L: Ledger>(
     }
     if let Some((at, answer)) = play(&shared, &mut clients, after, &mut steps) {
         return Ok(Some((2, at, answer)));
+    }
+    if let Some((at, answer)) = play(&shared, &mut clients, end, &mut steps) {
+        return Ok(Some((3, at, answer)));
     }
     Ok(None)
 }

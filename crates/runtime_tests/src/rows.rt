@@ -1,11 +1,10 @@
 // Worked rows of locks and commits.
 use crate::moves::Answer::{
-    Aborted, Busy, Clock, Done, End, Entered, Finished, Held, Left, Lost, Named, SetFull, Stale,
-    Words, Written,
+    Busy, Clock, Done, Entered, Held, Left, Lost, Named, SetFull, Stale, Words, Written,
 };
-use crate::moves::Move::{Abort, Commit, Enter, Finish, Leave, Lock, Name, Now, Read, Write};
+use crate::moves::Move::{Commit, Enter, Leave, Lock, Name, Now, Read, Write};
 use crate::{Turn, domain, played};
-use mv_layout::{Config, LAST};
+use mv_layout::Config;
 use std::marker::Brand;
 use std::sync::ledger::Blank;
 use std::test::Fail;
@@ -36,16 +35,6 @@ const LOST_NAME: [Turn; 10] = [
     (1, Now, Clock(1_048_576)),
 ];
 
-const END_AND_ABORT: [Turn; 7] = [
-    (0, Enter, Entered(LAST)),
-    (0, Lock(0), Held),
-    (0, Write(0, [1, 2, 3, 4, 5, 6]), Written),
-    (0, Commit, End),
-    (0, Abort, Aborted),
-    (0, Enter, Entered(LAST)),
-    (0, Read(0), Words([0; 6])),
-];
-
 const HELPED_READER: [Turn; 9] = [
     (2, Enter, Entered(0)),
     (0, Enter, Entered(0)),
@@ -69,38 +58,16 @@ const SET_FULL: [Turn; 7] = [
     (0, Lock(1), Held),
 ];
 
-// A commit is named and its seat stops; others enter, commit and lock over it, and then it is finished.
-const PAST_A_STOPPED_COMMIT: [Turn; 12] = [
-    (0, Enter, Entered(0)),
-    (0, Lock(0), Held),
-    (0, Now, Clock(8191)),
-    (0, Name, Named(1)),
-    (1, Enter, Entered(1)),
-    (1, Lock(1), Held),
-    (1, Commit, Done(2)),
-    (1, Enter, Entered(2)),
-    (1, Lock(0), Held),
-    (1, Commit, Done(3)),
-    (0, Finish, Finished),
-    (0, Enter, Entered(3)),
-];
-
 #[test]
 fn locks_and_commits(rt: HostRuntime) -> Result<(), Fail> {
-    let rows: [(&str, Config, &[Turn]); 6] = [
+    let rows: [(&str, Config, &[Turn]); 4] = [
         ("busy then stale", domain(2, 4, 16, 0), &BUSY_THEN_STALE),
         ("lost name", domain(2, 2, 16, 0), &LOST_NAME),
-        ("end and abort", domain(1, 1, 16, LAST), &END_AND_ABORT),
         ("helped reader", domain(3, 1, 16, 0), &HELPED_READER),
         ("set full", domain(1, 2, 1, 0), &SET_FULL),
-        (
-            "past a stopped commit",
-            domain(2, 2, 16, 0),
-            &PAST_A_STOPPED_COMMIT,
-        ),
     ];
     for (row, config, turns) in rows {
-        let other = played::<Brand>(rt.alloc(), &config, turns, &[], &[], Blank::new(1))?;
+        let other = played::<Brand>(rt.alloc(), &config, turns, &[], &[], &[], Blank::new(1))?;
         assert_eq!(rt; other, None, "{row}");
     }
     Ok(())

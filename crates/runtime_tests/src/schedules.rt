@@ -369,7 +369,7 @@ fn seats_meet(rt: HostRuntime) -> Result<(), Fail> {
     ];
     for (row, write_max, base, turns) in schedules {
         let config = domain(3, 3, write_max, base);
-        let other = played::<Brand>(rt.alloc(), &config, turns, &[], &[], Blank::new(1))?;
+        let other = played::<Brand>(rt.alloc(), &config, turns, &[], &[], &[], Blank::new(1))?;
         assert_eq!(rt; other, None, "{row}");
     }
     Ok(())

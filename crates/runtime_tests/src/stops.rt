@@ -1,26 +1,26 @@
 // The first steps of a call, after which the client stops.
-ghost use Rattle.std.specs.Prelude.{◌≡◌, ℕ, ◌+◌, ◌<◌, ◌≤◌, ◌^◌, length, None};
+ghost use Rattle.std.specs.Prelude.{◌≡◌, ℕ, ◌+◌, ◌<◌, ◌≤◌, ◌^◌, true, length, None};
+ghost use Rattle.mv_core.specs.declared.ring.CommitNote.{CommitNote};
 ghost use Rattle.mv_core.specs.declared.ring.Version.{Version};
+ghost use Rattle.mv_core.specs.declared.view.Mode.TheVariants.{Named};
+ghost use Rattle.mv_core.specs.declared.view.Phase.TheVariants.{Inside};
 ghost use Rattle.mv_core.specs.declared.view.Section.{Section};
-ghost use Rattle.mv_core.specs.declared.view.Walk.TheVariants as place;
 ghost use Rattle.mv_core.specs.EnterSteps.{MayLoadLow, MayLoadCheck};
-ghost use Rattle.mv_core.specs.LockSteps.{FitsField, MayLoadDeath};
 ghost use Rattle.mv_core.specs.Passes.{view, IsOf, IsSame, config_of};
 ghost use Rattle.commit_clock.specs.Helps.{HasLoaded};
 ghost use Rattle.seat_log.specs.declared.version.Note.{Note};
-ghost use Rattle.seat_log.specs.Notes.{IsNoteAt};
-ghost use Rattle.seat_log.specs.Builds.{MayBuild, first_in};
-ghost use Rattle.version_chain.specs.Walks.{MayWalk};
-ghost use Rattle.commit_abort.specs.Finishes.{HasNamed};
-ghost use Rattle.commit_abort.specs.Aborts.{MayGiveBack};
+ghost use Rattle.seat_log.specs.Notes.{IsNoteAt, held_from};
+ghost use Rattle.seat_log.specs.Stands.{Stands};
+ghost use Rattle.commit_abort.specs.Finishes.{HasNamed, StampsIt, AreCommitted, MayTell, TellsOne};
+ghost use Rattle.commit_abort.specs.Aborts.{IsOpen, Unlocks, MayGiveBack, GivesBack};
 ghost use Rattle.runtime_tests.specs.Clients.{IsInside, HasJustNamed};
 
+use commit_clock::now;
 use mv_core::{Pass, Shared, Steps};
-use mv_history::{AnyRules, Words};
+use mv_history::AnyRules;
 use mv_layout::{LAST, NO_SLOT, clock_slot, clock_time, clock_word, is_unset, unset_stamp};
-use seat_log::{Log, held, live, note, room};
+use seat_log::{Log, held, live, note};
 use std::sync::ledger::Ledger;
-use version_chain::{Found, read_master, walk_start, walk_step};
 
 // The first steps of a help of a word of CLOCK.
 fn first_of_help<L: Ledger>(
@@ -75,98 +75,22 @@ pub(crate) fn first_of_enter<L: Ledger>(
     first_of_help(shared, pass, word, count - 3, steps);
 }
 
-// The word of a slot at this offset, of a version without one below it, where nothing is held.
-fn field_of(position: u64, words: &Words, field: u32) -> u64
-    requires small { position < 2 ^ 57 }
-    requires range { field < 10 }
-    ensures { FitsField position position field result }
-{
-    match field {
-        0 => position,
-        1 => unset_stamp(position),
-        2 | 3 => 0,
-        _ => words[field as usize - 4],
-    }
-}
-
-// The first stores of a build for the next position, where nothing is held.
-fn first_of_build<L: Ledger>(
+// The first steps of a commit before its exchange of CLOCK: the load of CLOCK, and the help of its word.
+pub(crate) fn first_of_now<L: Ledger>(
     shared: &Shared<AnyRules>,
     pass: &mut Pass<AnyRules>,
-    position: u64,
-    words: &Words,
     count: u32,
     steps: &mut Steps<L>,
 )
     requires of { IsOf shared.now pass.old }
-    requires may { MayBuild (config_of shared.now) (view pass.old) position }
-    requires first { first_in (view pass.old) ≡ position }
-    requires small { position < 2 ^ 57 }
-    requires count { count ≤ 10 }
-    ensures same { IsSame pass.old pass.new }
-{
-    for field in 0..count {
-        let value = field_of(position, words, field);
-        shared.store_built(pass, position, field, value, steps);
-    }
-}
-
-// The first loads of the master words of an object.
-fn first_of_read<L: Ledger>(
-    shared: &Shared<AnyRules>,
-    pass: &mut Pass<AnyRules>,
-    object: u32,
-    count: u32,
-    steps: &mut Steps<L>,
-)
-    requires of { IsOf shared.now pass.old }
-    requires may { MayWalk (view pass.old) }
-    requires range { object < (config_of shared.now).objects }
-    requires stands { (view pass.old).walk ≡ place.Master object }
-    requires count { count ≤ 6 }
-    ensures same { IsSame pass.old pass.new }
-{
-    for word in 0..count {
-        let _ = shared.load_master(pass, object, word, steps);
-    }
-}
-
-// The first steps of a lock of an object without versions, by a section that holds nothing and whose
-// log has a version already. The exchange of HEAD, which is the last step, isn't among them.
-pub(crate) fn first_of_lock<L: Ledger>(
-    shared: &Shared<AnyRules>,
-    pass: &mut Pass<AnyRules>,
-    log: &Log,
-    object: u32,
-    count: u32,
-    steps: &mut Steps<L>,
-)
-    requires of { IsOf shared.now pass.old }
-    requires inside { IsInside (config_of shared.now) (view pass.old) log.now None }
-    requires range { object < (config_of shared.now).objects }
+    requires may { MayLoadCheck (view pass.old).phase }
     ensures same { IsSame pass.old pass.new }
 {
     if count == 0 {
         return;
     }
-    let walk = walk_start(shared, pass, object, steps);
-    if count == 1 {
-        return;
-    }
-    let Ok(Found::Master) = walk_step(shared, pass, walk, steps) else {
-        return;
-    };
-    if count < 7 {
-        first_of_read(shared, pass, object, count - 1, steps);
-        return;
-    }
-    let words = read_master(shared, pass, object, steps);
-    if held(log) == 0 && live(log) != 0 && room(log) != 0 {
-        let position = note(log, live(log) - 1).position + 1;
-        if position < 1 << 57 {
-            first_of_build(shared, pass, position, &words, (count - 7).min(10), steps);
-        }
-    }
+    let word = now(shared, pass, steps);
+    first_of_help(shared, pass, word, count - 1, steps);
 }
 
 // Exchanges the stamp of the own commit.
@@ -183,26 +107,78 @@ fn stamp_own<L: Ledger>(
     requires time { time ≤ LAST }
     requires first { first < 2 ^ 57 }
     ensures same { IsSame pass.old pass.new }
+    ensures stamps { StampsIt (view pass.old) (view pass.new) first time inside }
 {
     let slot = (first % shared.config().slots as u64) as u32;
     let word = clock_word(time, pass.seat(), slot);
     let _ = shared.stamp(pass, word, unset_stamp(first), steps);
 }
 
-// The first step of `finish`: the exchange of the own stamp.
+// Stores SUPER below the version that is noted at this index, if there is one below it.
+fn tell_one<L: Ledger>(
+    shared: &Shared<AnyRules>,
+    pass: &mut Pass<AnyRules>,
+    log: &Log,
+    index: u32,
+    time: u64,
+    steps: &mut Steps<L>,
+)
+    ghost above: { ℕ × Version × CommitNote }
+    requires of { IsOf shared.now pass.old }
+    requires range { index < length log.now.live }
+    requires may { (n : Note) → IsNoteAt log.now index n → MayTell (config_of shared.now) (view pass.old) n time above }
+    ensures same { IsSame pass.old pass.new }
+    ensures tells { (n : Note) → IsNoteAt log.now index n → TellsOne (config_of shared.now) (view pass.old) (view pass.new) n time steps.old steps.new above }
+{
+    let above = note(log, index);
+    if above.previous != 0 {
+        shared.store_super(pass, above.previous, time, steps);
+    }
+}
+
+// Stores SUPER below the first versions of the write set, in the order of locking.
+fn tell_first<L: Ledger>(
+    shared: &Shared<AnyRules>,
+    pass: &mut Pass<AnyRules>,
+    log: &Log,
+    time: u64,
+    count: u32,
+    steps: &mut Steps<L>,
+)
+    ghost at: { Section × ℕ }
+    requires of { IsOf shared.now pass.old }
+    requires phase { (view pass.old).phase ≡ Inside (record at.0 { mode = Named (record { time = time; first = at.1; stamped = true }) }) }
+    requires committed { AreCommitted (config_of shared.now) (view pass.old) log.now time }
+    requires count { count ≤ log.now.held }
+    ensures same { IsSame pass.old pass.new }
+{
+    let from = live(log) - held(log);
+    for index in from..from + count {
+        tell_one(shared, pass, log, index, time, steps);
+    }
+}
+
+// The first steps of `finish`: the exchange of the own stamp, and then a store of SUPER below each of
+// the first `count - 1` versions that has one below it. The store of MARK, which is the last step,
+// isn't among them.
 pub(crate) fn first_of_finish<L: Ledger>(
     shared: &Shared<AnyRules>,
     pass: &mut Pass<AnyRules>,
     log: &Log,
     time: u64,
+    count: u32,
     steps: &mut Steps<L>,
 )
     requires of { IsOf shared.now pass.old }
     requires named { HasJustNamed (config_of shared.now) (view pass.old) log.now time }
     ensures same { IsSame pass.old pass.new }
 {
+    if count == 0 {
+        return;
+    }
     let first = note(log, live(log) - held(log)).first;
     stamp_own(shared, pass, first, time, steps);
+    tell_first(shared, pass, log, time, (count - 1).min(held(log)), steps);
 }
 
 // Gives HEAD back of the object that is noted at this index, and is held.
@@ -218,14 +194,37 @@ fn unlock_one<L: Ledger>(
     requires range { index < length log.now.live }
     requires may { (n : Note) → IsNoteAt log.now index n → MayGiveBack (config_of shared.now) (view pass.old) n at }
     ensures same { IsSame pass.old pass.new }
-    ensures dies { MayLoadDeath (view pass.new) }
+    ensures gives { (n : Note) → IsNoteAt log.now index n → GivesBack (config_of shared.now) (view pass.old) (view pass.new) n at }
 {
     let version = note(log, index);
     shared.unlock_head(pass, version.object, version.previous, steps);
 }
 
-// The first steps of an abort: HEAD of the object that was locked first is stored back, and then,
-// where no other is held, the time of death is loaded.
+// Gives HEAD back of the objects that were locked first, in the order of locking.
+fn unlock_first<L: Ledger>(
+    shared: &Shared<AnyRules>,
+    pass: &mut Pass<AnyRules>,
+    log: &Log,
+    count: u32,
+    steps: &mut Steps<L>,
+)
+    ghost inside: { Section }
+    requires of { IsOf shared.now pass.old }
+    requires open { IsOpen (view pass.old) inside }
+    requires stands { Stands (config_of shared.now) (view pass.old) log.now }
+    requires count { count ≤ log.now.held }
+    ensures same { IsSame pass.old pass.new }
+    ensures unlocks { Unlocks (config_of shared.now) (view pass.old) (view pass.new) log.now inside (held_from log.now + count) }
+{
+    let from = live(log) - held(log);
+    for index in from..from + count {
+        unlock_one(shared, pass, log, index, steps);
+    }
+}
+
+// The first steps of an abort: HEAD of each object that is held is stored back, in the order of
+// locking, and then the time of death is loaded. The store of MARK, which is the last step, isn't
+// among them.
 pub(crate) fn first_of_abort<L: Ledger>(
     shared: &Shared<AnyRules>,
     pass: &mut Pass<AnyRules>,
@@ -238,11 +237,11 @@ pub(crate) fn first_of_abort<L: Ledger>(
     requires some { 0 < log.now.held }
     ensures same { IsSame pass.old pass.new }
 {
-    if count == 0 {
+    let most = held(log);
+    if count <= most {
+        unlock_first(shared, pass, log, count, steps);
         return;
     }
-    unlock_one(shared, pass, log, live(log) - held(log), steps);
-    if count > 1 && held(log) == 1 {
-        let _ = shared.load_death(pass, steps);
-    }
+    unlock_first(shared, pass, log, most, steps);
+    let _ = shared.load_death(pass, steps);
 }

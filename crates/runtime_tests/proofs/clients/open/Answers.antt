@@ -2,7 +2,7 @@ use Rattle.std.proofs.Common.{rules, sym, ap, ◌∙◌, subst, arith, ◌<◌, 
 use Rattle.std.proofs.lemmas.List.Elements.{All-cons}
 use Rattle.mv_layout.specs.declared.Config.{Config}
 use Rattle.mv_layout.specs.Limits.{Checked}
-use Rattle.runtime_tests.specs.Clients.{IsNew, IsReady}
+use Rattle.runtime_tests.specs.Clients.{IsNew, IsPlayable}
 use Rattle.runtime_tests.proofs.Opened.{news, split_new, ready_new}
 use Rattle.runtime_tests.proofs.clients.open.Goals as goal
 
@@ -27,5 +27,5 @@ loop-pass-preserved c =
     let outside = ready_new s p c.in_ok-log.log c.seat.result c.args.config.now.slots (subst Checked (sym about) c.requires.checked) r.1 (c.seat.ensures ∙ sym p.numbered) (ap (λ (d : Config). d.slots) (sym about)) c.in_ok-log.ensures in
     record {
       new = r.0;
-      ready = subst (λ cs. All (IsReady s) cs) (sym c.in_ok-insert.ensures.items) (All-cons (IsReady s) _ c.loop-pass.clients.items (r.1.0, outside) c.loop-pass.invariant.ready);
+      ready = subst (λ cs. All (IsPlayable s) cs) (sym c.in_ok-insert.ensures.items) (All-cons (IsPlayable s) _ c.loop-pass.clients.items ((r.1.0, outside), tt) c.loop-pass.invariant.ready);
     }

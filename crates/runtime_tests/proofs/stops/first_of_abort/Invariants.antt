@@ -1,8 +1,6 @@
-use Rattle.std.proofs.Common.{◌+◌}
-use Rattle.mv_core.specs.Passes.{view, config_of}
-use Rattle.mv_core.specs.Rings.{index_of}
-use Rattle.commit_abort.specs.Aborts.{held_in}
+use Rattle.mv_core.specs.Passes.{view}
+use Rattle.version_chain.specs.Walks.{section_in}
 use Rattle.runtime_tests.proofs.stops.first_of_abort.Given as goal
 
-abbrev pub ghost-unlock_one : goal.ghost-unlock_one
-ghost-unlock_one g a = held_in (view a.pass.now) (index_of (config_of a.shared.now) (a.log.now.freed + a.index))
+abbrev pub ghost-unlock_first : goal.ghost-unlock_first
+ghost-unlock_first g a = section_in (view a.pass.now)

@@ -1,0 +1,16 @@
+use Rattle.std.proofs.Common.{rules, ap, ◌∙◌}
+use Rattle.mv_core.specs.declared.view.View.{View}
+use Rattle.mv_core.specs.Passes.{view}
+use Rattle.object_lock.proofs.Holding.{may_same}
+use Rattle.runtime_tests.proofs.lock_stops.first_of_master.Goals as goal
+
+pub loop-word-preserved : goal.loop-word-preserved
+loop-word-preserved g c =
+    let i = c.loop-word.invariant in
+    let is = c.load_master.ensures.view in
+    record {
+      of = search rules;
+      same = search rules;
+      may = may_same (view c.loop-word.pass) (view c.load_master.new.pass) (ap (λ (u : View). u.phase) is) (ap (λ (u : View). u.heard) is) (ap (λ (u : View). u.back) is) i.may;
+      stands = ap (λ (u : View). u.walk) is ∙ i.stands;
+    }

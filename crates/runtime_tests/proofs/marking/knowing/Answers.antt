@@ -1,0 +1,14 @@
+use Rattle.std.proofs.Common.{rules}
+use Rattle.mv_core.specs.Passes.{view, config_of}
+use Rattle.runtime_tests.proofs.Marked.{known}
+use Rattle.runtime_tests.proofs.Stages.{at_outside, still_outside}
+use Rattle.runtime_tests.proofs.marking.knowing.Goals as goal
+
+pub returns : goal.returns
+returns g c =
+    let config = config_of c.args.shared.now in
+    let v = view c.args.client.now.pass in
+    let w = view c.known.new.pass in
+    let l = c.args.client.now.log in
+    let o = at_outside config v l c.args.client.now.stage c.requires.ready.1 c.in-Outside.is in
+    record { ready = (search rules, still_outside config w l c.args.client.now.stage c.in-Outside.is (known config v w l c.known.result.time o c.known.ensures.view)) }

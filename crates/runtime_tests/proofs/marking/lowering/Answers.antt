@@ -1,0 +1,15 @@
+use Rattle.std.proofs.Common.{rules, arith}
+use Rattle.mv_core.specs.Passes.{view, config_of}
+use Rattle.runtime_tests.proofs.Marked.{lowered}
+use Rattle.runtime_tests.proofs.Stages.{at_outside}
+use Rattle.runtime_tests.proofs.marking.lowering.Goals as goal
+
+pub returns : goal.returns
+returns g c =
+    let config = config_of c.args.shared.now in
+    let v = view c.args.client.now.pass in
+    let l = c.args.client.now.log in
+    let o = at_outside config v l c.args.client.now.stage c.requires.ready.1 c.in-Outside.is in
+    let e = c.clock_time-low.ensures in
+    let r = c.load_low.type_inv in
+    record { ready = (search rules, lowered config v (view c.load_low.new.pass) l c.load_low.result c.clock_time-low.result o c.load_low.ensures.view e (omega arith)) }

@@ -1,0 +1,13 @@
+use Rattle.std.proofs.Common.{rules}
+use Rattle.mv_core.specs.Passes.{view, config_of}
+use Rattle.runtime_tests.proofs.Marked.{marked}
+use Rattle.runtime_tests.proofs.Stages.{at_lowered}
+use Rattle.runtime_tests.proofs.marking.storing_mark.Goals as goal
+
+pub returns : goal.returns
+returns g c =
+    let config = config_of c.args.shared.now in
+    let v = view c.args.client.now.pass in
+    let l = c.args.client.now.log in
+    let h = at_lowered config v l c.args.client.now.stage c.requires.ready.1 _ c.in-Lowered.is in
+    record { ready = (search rules, marked config v (view c.store_mark.new.pass) l _ h c.store_mark.ensures.view) }

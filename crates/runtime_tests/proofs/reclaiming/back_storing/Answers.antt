@@ -1,0 +1,24 @@
+use Rattle.std.proofs.Common.{rules, ◌+◌, sym, ap, ◌∙◌, subst}
+use Rattle.mv_core.specs.Passes.{view, config_of}
+use Rattle.log_reclaim.specs.declared.writing_back.Back.{Back}
+use Rattle.runtime_tests.specs.Clients.{IsUnderWay}
+use Rattle.runtime_tests.proofs.Reclaimed.{back_stored}
+use Rattle.runtime_tests.proofs.Stages.{at_writing_back, still_writing_back}
+use Rattle.runtime_tests.proofs.reclaiming.back_storing.Goals as goal
+
+pub returns : goal.returns
+returns g c =
+    let config = config_of c.args.shared.now in
+    let v = view c.args.client.now.pass in
+    let w = view c.back_word.new.pass in
+    let l = c.args.client.now.log in
+    let u = subst (IsUnderWay config v) (sym c.replace-under_way.ensures.value ∙ c.in-WriteBack.is) c.requires.ready.1 in
+    let k = at_writing_back config v l c.args.client.now.stage c.requires.ready.0.1 c.in-WritingBack.is in
+    let e = c.back_word.ensures in
+    let is = e.stores.back in
+    record {
+      ready = (
+        (search rules, still_writing_back config w l c.args.client.now.stage c.in-WritingBack.is (back_stored config v w l _ _ k e.writing e.stores)),
+        (e.writing, ap (λ (b : Back). b.object) is ∙ u.1, ap (λ (b : Back). b.position) is ∙ u.2, ap (λ (b : Back). b.stored) is ∙ ap (λ n. n + 1) u.3),
+      );
+    }

@@ -1,0 +1,15 @@
+use Rattle.std.proofs.Common.{rules}
+use Rattle.mv_core.specs.Passes.{view, config_of}
+use Rattle.runtime_tests.proofs.Moved.{tried}
+use Rattle.runtime_tests.proofs.Stages.{at_inside, in_stage}
+use Rattle.runtime_tests.proofs.sections.locking.Goals as goal
+
+pub returns : goal.returns
+returns g c =
+    let config = config_of c.args.shared.now in
+    let v = view c.args.client.now.pass in
+    let w = view c.lock.new.pass in
+    let l = c.args.client.now.log in
+    let e = c.lock.ensures in
+    let i = at_inside config v l c.args.client.now.stage c.requires.ready.1 _ c.in-Inside.is in
+    record { ready = (search rules, in_stage config w c.lock.new.log c.args.client.now.stage _ c.in-Inside.is (tried config v w l c.lock.new.log _ _ _ i e.tries e.may e.stands e.unbuilt)) }

@@ -22,6 +22,7 @@ use Rattle.mv_core.specs.WalkSteps.{IsLinkOf}
 use Rattle.mv_core.specs.ReclaimFacts.{IsWrittenBack, WriteBacks}
 use Rattle.mv_core.specs.ReclaimSteps.{MayCutHead, head_cut, cut_lost, CutTold, IsOfOther}
 use Rattle.mv_core.specs.Known.{RunsOn}
+use Rattle.mv_core.specs.SectionFacts.{PhasesAndScan}
 use Rattle.mv_core.specs.Rule.{Facts, Swaps, IsKept}
 use Rattle.mv_core.proofs.Frames.{become_here, become_all, unchanged, changed, settle}
 use Rattle.mv_core.proofs.Links.{live_once, note_once}
@@ -72,54 +73,16 @@ module _ (starts : State → Type 0) (allows : List ℕ → State → Writes →
 
   -- all facts once the exchange was tried
   pub tried_facts : Facts starts allows c start m h (changed f n (record unchanged { back = Some (Some tried) }))
-  tried_facts = record {
-    checked = k.checked;
-    history = k.history;
-    slot_words = k.slot_words;
-    stamps = k.stamps;
-    write_sets = k.write_sets;
-    helped_words = k.helped_words;
-    marks = k.marks;
-    stamped_past_help = k.stamped_past_help;
-    grace = k.grace;
-    lock_freshness = k.lock_freshness;
-    successors = k.successors;
-    deaths = k.deaths;
-    deaths_seen = k.deaths_seen;
-    positions = k.positions;
-    head_is_top = k.head_is_top;
-    held_link = k.held_link;
-    commit_link = k.commit_link;
-    aborted_link = k.aborted_link;
-    present_master = k.present_master;
-    chain_foot = k.chain_foot;
-    walker_place = k.walker_place;
-    walker_before_death = k.walker_before_death;
-    walker_knowledge = k.walker_knowledge;
-    below_is_stamped = k.below_is_stamped;
-    walker_falls = k.walker_falls;
-    walker_late = k.walker_late;
-    found_stamp = k.found_stamp;
-    unstamped_is_unfinished = k.unstamped_is_unfinished;
-    named_commit = k.named_commit;
-    open_section = k.open_section;
-    successor_flag = k.successor_flag;
-    succeeded_has_super = k.succeeded_has_super;
-    loaded_words = k.loaded_words;
-    freed_is_old = k.freed_is_old;
-    cut_is_old = k.cut_is_old;
-    death_after_write = k.death_after_write;
-    write_back = backs;
-    positions_and_grace = k.positions_and_grace;
-    phases_and_scan = record {
-      scanning = k.phases_and_scan.scanning;
-      outside = become_all (λ s d. f.time s ≡ None → (f.walk s ≡ Nowhere) × (d ≡ None)) f.back n (Some tried)
-          (λ none. let clash : Some b ≡ None = sym at ∙ (k.phases_and_scan.outside n none).1 in absurd (cc))
-          (λ s ne. k.phases_and_scan.outside s);
-      seen = k.phases_and_scan.seen;
-      within = k.phases_and_scan.within;
-    };
-  }
+  tried_facts =
+      let phases : PhasesAndScan c f.past f.phase f.time f.walk (become f.back n (Some tried)) f.scan = record {
+        scanning = k.phases_and_scan.scanning;
+        outside = become_all (λ s d. f.time s ≡ None → (f.walk s ≡ Nowhere) × (d ≡ None)) f.back n (Some tried)
+            (λ none. let clash : Some b ≡ None = sym at ∙ (k.phases_and_scan.outside n none).1 in absurd (cc))
+            (λ s ne. k.phases_and_scan.outside s);
+        seen = k.phases_and_scan.seen;
+        within = k.phases_and_scan.within;
+      } in
+      assumption (backs, k)
 
 module _ (starts : State → Type 0) (allows : List ℕ → State → Writes → Type 0) (c : Config) (start : State) (v : View) (object position : ℕ) (x : Version) (note : CommitNote) (may : MayCutHead c v object position x note) where
   abbrev back : WriteBack

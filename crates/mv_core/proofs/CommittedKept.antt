@@ -22,6 +22,7 @@ use Rattle.mv_core.specs.SectionFacts.{NamedCommit, IsNamedCommit, StampedPastHe
 use Rattle.mv_core.specs.ChainFacts.{CommitLink, PresentMaster, ChainFoot}
 use Rattle.mv_core.specs.ReclaimFacts.{FreedIsOld, SuccessorFlag, WriteBacks}
 use Rattle.mv_core.specs.WalkFacts.{MasterServes, SucceededHasSuper}
+use Rattle.mv_core.proofs.KeptRecords.{same_back, same_named}
 
 -- the committed versions are the same; each live version's position is live still, and each live one was, or wasn't used before
 pub record KeepsCommitted (rings later : ℕ → Ring) : Type 0 where
@@ -114,18 +115,8 @@ module _ (rings later : ℕ → Ring) (kept : KeepsCommitted rings later) where
         → ((s : ℕ) (inside : Section) (n : Naming) → section s ≡ Some inside → inside.mode ≡ Named n → HoldsNothing (rings s) → HoldsNothing (later s))
         → NamedCommit c h stamp section rings → NamedCommit c h stamp section later
     named_kept stamp section nothing k s inside n at mode =
-        let r = k s inside n at mode in record {
-          later = r.later;
-          last = r.last;
-          nothing = nothing s inside n at mode r.nothing;
-          version = r.version;
-          note = r.note;
-          lives = kept.still s _ r.version r.note r.lives;
-          position_is = r.position_is;
-          first_is = r.first_is;
-          time_is = r.time_is;
-          stamped = r.stamped;
-        }
+        let r = k s inside n at mode in
+        same_named r r.note r.last (nothing s inside n at mode r.nothing) (kept.still s _ r.version r.note r.lives) r.time_is r.stamped
 
     -- a write-back, where the seats that write back hold nothing still
     pub back_kept : (master : ℕ → ℕ → ℕ) (section : ℕ → Option Section) (time : ℕ → Option ℕ) (heard : ℕ → Heard) (grace : ℕ → ℕ) (back : ℕ → Option WriteBack)
@@ -133,26 +124,8 @@ module _ (rings later : ℕ → Ring) (kept : KeepsCommitted rings later) where
         → WriteBacks c h master section time heard grace back rings → WriteBacks c h master section time heard grace back later
     back_kept master section time heard grace back nothing k s b at =
         let o = k s b at in
-        let r = o.2 in (
-          o.0,
-          o.1,
-          record {
-            mode = r.mode;
-            helped = r.helped;
-            nothing = nothing s b at r.nothing;
-            version = r.version;
-            note = r.note;
-            lives = kept.still s _ r.version r.note r.lives;
-            position_is = r.position_is;
-            object_is = r.object_is;
-            old = r.old;
-            known = r.known;
-            last = r.last;
-            some_stored = r.some_stored;
-            uncut = r.uncut;
-            words = r.words;
-          },
-        )
+        let r = o.2 in
+        (o.0, o.1, same_back r r.note r.helped (nothing s b at r.nothing) (kept.still s _ r.version r.note r.lives) r.old r.known r.last r.uncut r.words)
 
   pub past_help_kept : (c : Config) (stamp : ℕ → ℕ → ℕ) (section : ℕ → Option Section) (heard : ℕ → Heard) → StampedPastHelp c stamp section heard rings → StampedPastHelp c stamp section heard later
   past_help_kept c stamp section heard k s inside at past t j x note lives = k s inside at past t j x note (kept.was t j x note lives)

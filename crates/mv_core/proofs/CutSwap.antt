@@ -22,7 +22,6 @@ use Rattle.mv_core.specs.WalkSteps.{IsLinkOf}
 use Rattle.mv_core.specs.ReclaimFacts.{IsWrittenBack, WriteBacks}
 use Rattle.mv_core.specs.ReclaimSteps.{MayCutHead, head_cut, cut_lost, CutTold, IsOfOther}
 use Rattle.mv_core.specs.Known.{RunsOn}
-use Rattle.mv_core.specs.SectionFacts.{PhasesAndScan}
 use Rattle.mv_core.specs.Rule.{Facts, Swaps, IsKept}
 use Rattle.mv_core.proofs.Frames.{become_here, become_all, unchanged, changed, settle}
 use Rattle.mv_core.proofs.Links.{live_once, note_once}
@@ -74,15 +73,10 @@ module _ (starts : State → Type 0) (allows : List ℕ → State → Writes →
   -- all facts once the exchange was tried
   pub tried_facts : Facts starts allows c start m h (changed f n (record unchanged { back = Some (Some tried) }))
   tried_facts =
-      let phases : PhasesAndScan c f.past f.phase f.time f.walk (become f.back n (Some tried)) f.scan = record {
-        scanning = k.phases_and_scan.scanning;
-        outside = become_all (λ s d. f.time s ≡ None → (f.walk s ≡ Nowhere) × (d ≡ None)) f.back n (Some tried)
-            (λ none. let clash : Some b ≡ None = sym at ∙ (k.phases_and_scan.outside n none).1 in absurd (cc))
-            (λ s ne. k.phases_and_scan.outside s);
-        seen = k.phases_and_scan.seen;
-        within = k.phases_and_scan.within;
-      } in
-      assumption (backs, k)
+      let outside = become_all (λ s d. f.time s ≡ None → (f.walk s ≡ Nowhere) × (d ≡ None)) f.back n (Some tried)
+      (λ none. let clash : Some b ≡ None = sym at ∙ (k.phases_and_scan.outside n none).1 in absurd (cc))
+      (λ s ne. k.phases_and_scan.outside s) in
+      assumption (backs, outside, k)
 
 module _ (starts : State → Type 0) (allows : List ℕ → State → Writes → Type 0) (c : Config) (start : State) (v : View) (object position : ℕ) (x : Version) (note : CommitNote) (may : MayCutHead c v object position x note) where
   abbrev back : WriteBack

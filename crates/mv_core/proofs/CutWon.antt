@@ -24,6 +24,7 @@ use Rattle.mv_core.specs.SetFacts.{HoldsSlot, SlotWords}
 use Rattle.mv_core.specs.ChainFacts.{HeadIsTop, HeldLink, LinksBelow, CommitLink, PresentMaster}
 use Rattle.mv_core.specs.ReclaimFacts.{CutIsOld, WriteBacks}
 use Rattle.mv_core.specs.Rule.{Facts}
+use Rattle.mv_core.proofs.KeptRecords.{same_back}
 use Rattle.mv_core.proofs.Frames.{unchanged, changed}
 use Rattle.mv_core.proofs.Latest.{latest-le, latest_at-end, latest-reaches, latest_at-le}
 use Rattle.mv_core.proofs.Links.{live_once, note_once, link_some, names_once, position_once}
@@ -222,32 +223,18 @@ module _ (starts : State → Type 0) (allows : List ℕ → State → Writes →
       let r = k.write_back s b e in
       let w = r.2 in
       let i : ℕ = index_of c b.position in
-      let q = cuts.committed_forth f.ring rings matches s i w.version w.note w.lives in (
-        r.0,
-        r.1,
-        record {
-          mode = w.mode;
-          helped = w.helped;
-          nothing = cuts.nothing_still f.ring rings matches s w.nothing;
-          version = w.version;
-          note = q.0;
-          lives = q.1;
-          position_is = w.position_is;
-          object_is = w.object_is;
-          old = subst (λ (t : ℕ). NotAboveAny t f.time) (sym q.2.time) w.old;
-          known = subst (λ (t : ℕ). t ≤ f.grace s) (sym q.2.time) w.known;
-          last = w.last ∙ sym q.2.time;
-          some_stored = w.some_stored;
-          uncut = λ untried.
-              ⊎_elim
-              (λ a. let all = tried b (ap f.back (sym a.0) ∙ e) in let clash : true ≡ false = sym all ∙ untried in absurd (cc))
-              (λ was.
-              let one = live_once (slot_at (f.ring s) i) w.version w.version (Committed w.note) (Committed q.0) w.lives was in
-              ap (λ (p : CommitNote). p.cut) (sym (note_once w.note q.0 one.1)) ∙ w.uncut untried)
-              (committed_was s i w.version q.0 q.1);
-          words = w.words;
-        },
-      )
+      let q = cuts.committed_forth f.ring rings matches s i w.version w.note w.lives in
+      let uncut : b.tried ≡ false → q.0.cut ≡ false = λ untried.
+          ⊎_elim
+          (λ a. let all = tried b (ap f.back (sym a.0) ∙ e) in let clash : true ≡ false = sym all ∙ untried in absurd (cc))
+          (λ was.
+          let one = live_once (slot_at (f.ring s) i) w.version w.version (Committed w.note) (Committed q.0) w.lives was in
+          ap (λ (p : CommitNote). p.cut) (sym (note_once w.note q.0 one.1)) ∙ w.uncut untried)
+          (committed_was s i w.version q.0 q.1) in
+      let old = subst (λ (t : ℕ). NotAboveAny t f.time) (sym q.2.time) w.old in
+      let known = subst (λ (t : ℕ). t ≤ f.grace s) (sym q.2.time) w.known in
+      let nothing = cuts.nothing_still f.ring rings matches s w.nothing in
+      (r.0, r.1, same_back w q.0 w.helped nothing q.1 old known (w.last ∙ sym q.2.time) uncut w.words)
 
   built_back : (s j : ℕ) (b : Build) → slot_at (rings s) j ≡ Built b → slot_at (f.ring s) j ≡ Built b
   built_back = all_slots (λ s j z. (b : Build) → z ≡ Built b → slot_at (f.ring s) j ≡ Built b) (λ b e. absurd (cc)) (λ s j other b e. e)

@@ -22,6 +22,7 @@ use Rattle.mv_core.specs.SectionFacts.{IsFound, FoundStamps, NamedCommit, Stampe
 use Rattle.mv_core.specs.WalkFacts.{MasterServes, MayStandAt, StandsRight, WalkerPlace, WalkerBeforeDeath, WalkerKnowledge, WalkerFalls}
 use Rattle.mv_core.specs.ReclaimFacts.{WriteBacks}
 use Rattle.mv_core.specs.Rule.{Facts}
+use Rattle.mv_core.proofs.KeptRecords.{same_back, same_named}
 use Rattle.mv_core.proofs.Slots.{here_or_else}
 use Rattle.mv_core.proofs.Landing.{not_above}
 use Rattle.mv_core.proofs.SlotWords.{slot_word_here}
@@ -127,42 +128,17 @@ module _ (starts : State → Type 0) (allows : List ℕ → State → Writes →
   pub named : NamedCommit c h after f.section later
   named s i naming there mode =
       let a = k.named_commit s i naming there mode in
-      let lives = log.section_kept starts allows c start m h f k n position r is s (index_of c naming.first) a.version (Committed a.note) i there a.lives in record {
-        later = a.later;
-        last = a.last;
-        nothing = λ j y held. a.nothing j y (was s j y Held held);
-        version = a.version;
-        note = a.note;
-        lives = lives;
-        position_is = a.position_is;
-        first_is = a.first_is;
-        time_is = a.time_is;
-        stamped = λ made. subst (λ (p : ℕ). after s (index_of c p) ≡ stamp s (index_of c p)) a.first_is (stamp_same s (index_of c naming.first) a.version (Committed a.note) lives) ∙ a.stamped made;
-      }
+      let lives = log.section_kept starts allows c start m h f k n position r is s (index_of c naming.first) a.version (Committed a.note) i there a.lives in
+      let same = stamp_same s (index_of c naming.first) a.version (Committed a.note) lives in
+      same_named a a.note a.last (λ j y held. a.nothing j y (was s j y Held held)) lives a.time_is
+      (λ made. subst (λ (p : ℕ). after s (index_of c p) ≡ stamp s (index_of c p)) a.first_is same ∙ a.stamped made)
 
   pub backs : WriteBacks c h master f.section f.time f.heard f.grace f.back later
   backs s b e =
       let a = k.write_back s b e in
-      let w = a.2 in (
-        a.0,
-        a.1,
-        record {
-          mode = w.mode;
-          helped = w.helped;
-          nothing = λ j y held. w.nothing j y (was s j y Held held);
-          version = w.version;
-          note = w.note;
-          lives = log.section_kept starts allows c start m h f k n position r is s (index_of c b.position) w.version (Committed w.note) a.0 a.1 w.lives;
-          position_is = w.position_is;
-          object_is = w.object_is;
-          old = w.old;
-          known = w.known;
-          last = w.last;
-          some_stored = w.some_stored;
-          uncut = w.uncut;
-          words = w.words;
-        },
-      )
+      let w = a.2 in
+      let lives = log.section_kept starts allows c start m h f k n position r is s (index_of c b.position) w.version (Committed w.note) a.0 a.1 w.lives in
+      (a.0, a.1, same_back w w.note w.helped (λ j y held. w.nothing j y (was s j y Held held)) lives w.old w.known w.last w.uncut w.words)
 
   -- an unset stamp that was found isn't 0
   unset_some : (p : ℕ) → 0 ≢ unset_of p

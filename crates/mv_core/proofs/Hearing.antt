@@ -19,6 +19,7 @@ use Rattle.mv_core.specs.declared.ring.CommitNote.{CommitNote}
 use Rattle.mv_core.specs.declared.view.Section.{Section}
 use Rattle.mv_core.specs.declared.view.Heard.{Heard}
 use Rattle.mv_core.specs.declared.view.FoundStamp.{FoundStamp}
+use Rattle.mv_core.specs.declared.view.Walk.TheVariants.{Nowhere}
 use Rattle.mv_core.specs.Rings.{index_of, Lives}
 use Rattle.mv_core.specs.Views.{Faces}
 use Rattle.mv_core.specs.SetFacts.{stamp_of, Stamps, Positions}
@@ -26,6 +27,7 @@ use Rattle.mv_core.specs.SectionFacts.{IsPastHelp, StampedPastHelp, WasClock, Is
 use Rattle.mv_core.specs.ReclaimFacts.{WriteBacks}
 use Rattle.mv_core.specs.EnterSteps.{helped_too}
 use Rattle.mv_core.specs.Rule.{Facts}
+use Rattle.mv_core.proofs.KeptRecords.{same_back}
 use Rattle.mv_core.proofs.Frames.{become_all, unchanged, changed}
 use Rattle.mv_core.proofs.Leaving.{helped_after, found_anew, loaded_anew}
 
@@ -158,66 +160,13 @@ module _ (starts : State → Type 0) (allows : List ℕ → State → Writes →
     backs_after : WriteBacks c h (λ o w. m (Master o w)) f.section f.time t.heard f.grace f.back f.ring
     backs_after s b at =
         let o = k.write_back s b at in
-        let r = o.2 in (
-          o.0,
-          o.1,
-          record {
-            mode = r.mode;
-            helped = still_past s o.0 r.helped;
-            nothing = r.nothing;
-            version = r.version;
-            note = r.note;
-            lives = r.lives;
-            position_is = r.position_is;
-            object_is = r.object_is;
-            old = r.old;
-            known = r.known;
-            last = r.last;
-            some_stored = r.some_stored;
-            uncut = r.uncut;
-            words = r.words;
-          },
-        )
+        let r = o.2 in
+        (o.0, o.1, same_back r r.note (still_past s o.0 r.helped) r.nothing r.lives r.old r.known r.last r.uncut r.words)
 
     pub heard_facts : Facts starts allows c start m h t
-    heard_facts = record {
-      checked = k.checked;
-      history = k.history;
-      slot_words = k.slot_words;
-      stamps = k.stamps;
-      write_sets = k.write_sets;
-      helped_words = helped_words_after;
-      marks = k.marks;
-      stamped_past_help = past_help c (m Clock) (λ s k. m (Stamp s k)) h f.ring k.checked clock_small k.stamps k.positions f.section t.heard words_after helped_words_after;
-      grace = k.grace;
-      lock_freshness = k.lock_freshness;
-      successors = k.successors;
-      deaths = k.deaths;
-      deaths_seen = k.deaths_seen;
-      positions = k.positions;
-      head_is_top = k.head_is_top;
-      held_link = k.held_link;
-      commit_link = k.commit_link;
-      aborted_link = k.aborted_link;
-      present_master = k.present_master;
-      chain_foot = k.chain_foot;
-      walker_place = k.walker_place;
-      walker_before_death = k.walker_before_death;
-      walker_knowledge = record { helped = λ s inside at walks. still_past s inside (k.walker_knowledge.helped s inside at walks); first = k.walker_knowledge.first; stamp = k.walker_knowledge.stamp; unset = k.walker_knowledge.unset };
-      below_is_stamped = k.below_is_stamped;
-      walker_falls = k.walker_falls;
-      walker_late = k.walker_late;
-      found_stamp = stamps_after;
-      unstamped_is_unfinished = k.unstamped_is_unfinished;
-      named_commit = k.named_commit;
-      open_section = k.open_section;
-      successor_flag = k.successor_flag;
-      succeeded_has_super = k.succeeded_has_super;
-      loaded_words = words_after;
-      freed_is_old = k.freed_is_old;
-      cut_is_old = k.cut_is_old;
-      death_after_write = k.death_after_write;
-      write_back = backs_after;
-      positions_and_grace = k.positions_and_grace;
-      phases_and_scan = k.phases_and_scan;
-    }
+    heard_facts =
+        let past = past_help c (m Clock) (λ s k. m (Stamp s k)) h f.ring k.checked clock_small k.stamps k.positions f.section t.heard words_after
+        helped_words_after in
+        let helped : (s : ℕ) (inside : Section) → f.section s ≡ Some inside → f.walk s ≢ Nowhere → IsPastHelp (t.heard s) inside =
+        λ s inside at walks. still_past s inside (k.walker_knowledge.helped s inside at walks) in
+        assumption (helped_words_after, past, helped, stamps_after, words_after, backs_after, k)

@@ -1,4 +1,5 @@
 pub mod Frames
+pub mod KeptRecords
 pub mod SeatsThere
 pub mod Seating
 pub mod KnownSections

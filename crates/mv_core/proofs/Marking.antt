@@ -44,53 +44,14 @@ module _ (starts : State → Type 0) (allows : List ℕ → State → Writes →
       let n = v.number in
       let phase_is : (seats n).phase ≡ Lowered low = ap (λ (u : View). u.phase) is ∙ may in
       let low_now : low ≤ clock_time_of (m Clock) = (subst (MarkedAs (m Clock) (m (Mark n))) phase_is (k.marks n)).1 in
-      let scanning : (s : ℕ) (running : Scan) → (seats s).scan ≡ Some running → become (λ t. (seats t).phase) n (Marked low) s ≡ Outside =
-      become_all (λ s p. (running : Scan) → (seats s).scan ≡ Some running → p ≡ Outside) (λ t. (seats t).phase) n (Marked low)
+      let marks = marks_after m n (1 + low) (λ s. (seats s).phase) (Marked low) k.marks (refl, low_now) in
+      let scanning = become_all (λ s p. (running : Scan) → (seats s).scan ≡ Some running → p ≡ Outside) (λ t. (seats t).phase) n (Marked low)
       (λ running e. let out : Lowered low ≡ Outside = sym phase_is ∙ k.phases_and_scan.scanning n running e in absurd (cc))
       (λ s ne. k.phases_and_scan.scanning s) in (
         w,
         h,
-        settle starts allows c start (put m (Mark n) (1 + low)) h seats n v w is (record unchanged { phase = Some (Marked low) }) (refl, refl, ap section_of (sym may), ap time_of (sym may), refl, refl, refl, refl, refl, refl, refl) (record {
-          checked = k.checked;
-          history = k.history;
-          slot_words = k.slot_words;
-          stamps = k.stamps;
-          write_sets = k.write_sets;
-          helped_words = k.helped_words;
-          marks = marks_after m n (1 + low) (λ s. (seats s).phase) (Marked low) k.marks (refl, low_now);
-          stamped_past_help = k.stamped_past_help;
-          grace = k.grace;
-          lock_freshness = k.lock_freshness;
-          successors = k.successors;
-          deaths = k.deaths;
-          deaths_seen = k.deaths_seen;
-          positions = k.positions;
-          head_is_top = k.head_is_top;
-          held_link = k.held_link;
-          commit_link = k.commit_link;
-          aborted_link = k.aborted_link;
-          present_master = k.present_master;
-          chain_foot = k.chain_foot;
-          walker_place = k.walker_place;
-          walker_before_death = k.walker_before_death;
-          walker_knowledge = k.walker_knowledge;
-          below_is_stamped = k.below_is_stamped;
-          walker_falls = k.walker_falls;
-          walker_late = k.walker_late;
-          found_stamp = k.found_stamp;
-          unstamped_is_unfinished = k.unstamped_is_unfinished;
-          named_commit = k.named_commit;
-          open_section = k.open_section;
-          successor_flag = k.successor_flag;
-          succeeded_has_super = k.succeeded_has_super;
-          loaded_words = k.loaded_words;
-          freed_is_old = k.freed_is_old;
-          cut_is_old = k.cut_is_old;
-          death_after_write = k.death_after_write;
-          write_back = k.write_back;
-          positions_and_grace = k.positions_and_grace;
-          phases_and_scan = record { scanning = scanning; outside = k.phases_and_scan.outside; seen = k.phases_and_scan.seen; within = k.phases_and_scan.within };
-        }),
+        settle starts allows c start (put m (Mark n) (1 + low)) h seats n v w is (record unchanged { phase = Some (Marked low) })
+            (refl, refl, ap section_of (sym may), ap time_of (sym may), refl, refl, refl, refl, refl, refl, refl) (assumption (marks, scanning, k)),
         ((refl, runs_outside v w (λ s e. let f : Marked low ≡ Inside s = e in absurd (cc))), (refl, refl, refl, refl, refl, refl)),
       )
 

@@ -23,11 +23,12 @@ use Rattle.mv_core.specs.Times.{latest, latest_at}
 use Rattle.mv_core.specs.Views.{Faces, faces_of, become, time_in}
 use Rattle.mv_core.specs.SectionFacts.{IsPastHelp}
 use Rattle.mv_core.specs.ChainFacts.{PresentMaster, ChainFoot}
-use Rattle.mv_core.specs.WalkFacts.{MasterServes, IsRightFor, MayStandAt, StandsRight}
+use Rattle.mv_core.specs.WalkFacts.{MasterServes, IsRightFor, MayStandAt, StandsRight, WalkerPlace}
 use Rattle.mv_core.specs.ReclaimFacts.{IsWrittenBack, WriteBacks}
 use Rattle.mv_core.specs.ReclaimSteps.{GoesToWord, MayStoreMaster, master_stored}
 use Rattle.mv_core.specs.Known.{RunsOn}
 use Rattle.mv_core.specs.Rule.{Facts, Stores, IsKept}
+use Rattle.mv_core.proofs.KeptRecords.{same_back}
 use Rattle.mv_core.proofs.Frames.{become_all, unchanged, changed, settle}
 use Rattle.mv_core.proofs.Links.{live_once, note_once, names_once}
 use Rattle.mv_core.proofs.SlotWords.{slot_word_here, slot_word_else}
@@ -125,77 +126,17 @@ module _ (starts : State → Type 0) (allows : List ℕ → State → Writes →
         (λ s ne b e.
         let r = k.write_back s b e in
         let is = r.2 in
-        let other = none_else starts allows c start m h f k n slot (time_in inside) x note last s b e (timed s) ne in (
-          r.0,
-          r.1,
-          record {
-            mode = is.mode;
-            helped = is.helped;
-            nothing = is.nothing;
-            version = is.version;
-            note = is.note;
-            lives = is.lives;
-            position_is = is.position_is;
-            object_is = is.object_is;
-            old = is.old;
-            known = is.known;
-            last = is.last;
-            some_stored = is.some_stored;
-            uncut = is.uncut;
-            words = λ untried i lt. else_same b.object i other ∙ is.words untried i lt;
-          },
-        ))
+        let other = none_else starts allows c start m h f k n slot (time_in inside) x note last s b e (timed s) ne in
+        (r.0, r.1, same_back is is.note is.helped is.nothing is.lives is.old is.known is.last is.uncut (λ untried i lt. else_same b.object i other ∙ is.words untried i lt)))
 
     -- all facts after the store
     pub master_facts : Facts starts allows c start (put m (Master x.object w) (slice_index x.words w)) h (changed f n (record unchanged { back = Some (Some new) }))
-    master_facts = record {
-      checked = k.checked;
-      history = k.history;
-      slot_words = k.slot_words;
-      stamps = k.stamps;
-      write_sets = k.write_sets;
-      helped_words = k.helped_words;
-      marks = k.marks;
-      stamped_past_help = k.stamped_past_help;
-      grace = k.grace;
-      lock_freshness = k.lock_freshness;
-      successors = k.successors;
-      deaths = k.deaths;
-      deaths_seen = k.deaths_seen;
-      positions = k.positions;
-      head_is_top = k.head_is_top;
-      held_link = k.held_link;
-      commit_link = k.commit_link;
-      aborted_link = k.aborted_link;
-      present_master = present_after;
-      chain_foot = foot_after;
-      walker_place = λ s t at. stands s t at (f.walk s) (k.walker_place s t at);
-      walker_before_death = k.walker_before_death;
-      walker_knowledge = k.walker_knowledge;
-      below_is_stamped = k.below_is_stamped;
-      walker_falls = k.walker_falls;
-      walker_late = k.walker_late;
-      found_stamp = k.found_stamp;
-      unstamped_is_unfinished = k.unstamped_is_unfinished;
-      named_commit = k.named_commit;
-      open_section = k.open_section;
-      successor_flag = k.successor_flag;
-      succeeded_has_super = k.succeeded_has_super;
-      loaded_words = k.loaded_words;
-      freed_is_old = k.freed_is_old;
-      cut_is_old = k.cut_is_old;
-      death_after_write = k.death_after_write;
-      write_back = backs_after;
-      positions_and_grace = k.positions_and_grace;
-      phases_and_scan = record {
-        scanning = k.phases_and_scan.scanning;
-        outside = become_all (λ s b. f.time s ≡ None → (f.walk s ≡ walk.Nowhere) × (b ≡ None)) f.back n (Some new)
-            (λ none. let clash : Some (time_in inside) ≡ None = sym last.timed ∙ none in absurd (cc))
-            (λ s ne. k.phases_and_scan.outside s);
-        seen = k.phases_and_scan.seen;
-        within = k.phases_and_scan.within;
-      };
-    }
+    master_facts =
+        let places : WalkerPlace c start h later f.time f.walk f.ring = λ s t at. stands s t at (f.walk s) (k.walker_place s t at) in
+        let outside = become_all (λ s b. f.time s ≡ None → (f.walk s ≡ walk.Nowhere) × (b ≡ None)) f.back n (Some new)
+        (λ none. let clash : Some (time_in inside) ≡ None = sym last.timed ∙ none in absurd (cc))
+        (λ s ne. k.phases_and_scan.outside s) in
+        assumption (present_after, foot_after, places, backs_after, outside, k)
 
 module _ (starts : State → Type 0) (allows : List ℕ → State → Writes → Type 0) (c : Config) (start : State) (m : Memory) (h : List Entry) (seats : ℕ → View) (k : Facts starts allows c start m h (faces_of seats))
     (v : View) (is : seats v.number ≡ v) (object w value position : ℕ) (x : Version) (note : CommitNote) (inside : Section) (may : MayStoreMaster c v object w value position x note inside) where

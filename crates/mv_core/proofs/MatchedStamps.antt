@@ -21,6 +21,7 @@ use Rattle.mv_core.specs.SetFacts.{IsStored, StampedAs, stamp_of, Stamps, Succes
 use Rattle.mv_core.specs.SectionFacts.{StampedPastHelp, FoundStamps, NamedCommit}
 use Rattle.mv_core.specs.WalkFacts.{SucceededHasSuper}
 use Rattle.mv_core.specs.ReclaimFacts.{WriteBacks}
+use Rattle.mv_core.proofs.KeptRecords.{same_back}
 use Rattle.mv_core.proofs.Slots.{Matches}
 use Rattle.mv_core.proofs.Matching.{Alike, alike_place, uncommitted_back, is_committed_so, committed_back, committed_forth}
 use Rattle.mv_core.proofs.MatchedSets.{nothing_match}
@@ -156,23 +157,8 @@ module _ (c : Config) (h : List Entry) (before after : ℕ → Ring) (k : Matche
   back_match master section time heard grace back old s b is =
       let r = old s b is in
       let w = r.2 in
-      let f = committed_forth before after k s (index_of c b.position) w.version w.note w.lives in (
-        r.0,
-        r.1,
-        record {
-          mode = w.mode;
-          helped = w.helped;
-          nothing = nothing_match c h before after k s w.nothing;
-          version = w.version;
-          note = f.0;
-          lives = f.1;
-          position_is = w.position_is;
-          object_is = w.object_is;
-          old = subst (λ (t : ℕ). NotAboveAny t time) (sym f.2) w.old;
-          known = subst (λ (t : ℕ). t ≤ grace s) (sym f.2) w.known;
-          last = w.last ∙ sym f.2;
-          some_stored = w.some_stored;
-          uncut = λ untried. f.3 ∙ w.uncut untried;
-          words = w.words;
-        },
-      )
+      let f = committed_forth before after k s (index_of c b.position) w.version w.note w.lives in
+      let old_still = subst (λ (t : ℕ). NotAboveAny t time) (sym f.2) w.old in
+      let known = subst (λ (t : ℕ). t ≤ grace s) (sym f.2) w.known in
+      let nothing = nothing_match c h before after k s w.nothing in
+      (r.0, r.1, same_back w f.0 w.helped nothing f.1 old_still known (w.last ∙ sym f.2) (λ untried. f.3 ∙ w.uncut untried) w.words)

@@ -8,7 +8,6 @@ use Rattle.mv_layout.specs.Places.{Memory}
 use Rattle.mv_core.specs.declared.view.Past.{Past}
 use Rattle.mv_core.specs.Views.{Faces, become}
 use Rattle.mv_core.specs.HistoryFacts.{BeginsWith, History}
-use Rattle.mv_core.specs.SectionFacts.{PhasesAndScan}
 use Rattle.mv_core.specs.Rule.{Facts}
 use Rattle.mv_core.proofs.Frames.{unchanged, changed}
 use Rattle.mv_core.proofs.SeenDeaths.{sees_on}
@@ -17,5 +16,4 @@ pub more_seen : (starts : State → Type 0) (allows : List ℕ → State → Wri
     → Facts starts allows c start m h (changed f n (record unchanged { past = Some p }))
 more_seen starts allows c start m h f k n p history seen more =
     let deaths = sees_on c f.past f.ring n p more k.deaths_seen in
-    let phases : PhasesAndScan c (become f.past n p) f.phase f.time f.walk f.back f.scan = record { scanning = k.phases_and_scan.scanning; outside = k.phases_and_scan.outside; seen = seen; within = k.phases_and_scan.within } in
-    assumption (history, deaths, k)
+    assumption (history, deaths, seen, k)

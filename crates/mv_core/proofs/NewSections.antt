@@ -28,6 +28,7 @@ use Rattle.mv_core.specs.SectionFacts as section
 use Rattle.mv_core.specs.ReclaimFacts.{FreedIsOld, SuccessorFlag, WriteBacks}
 use Rattle.mv_core.specs.WalkFacts.{SucceededHasSuper}
 use Rattle.mv_core.specs.Rule.{Facts}
+use Rattle.mv_core.proofs.KeptRecords.{same_back, same_named}
 use Rattle.mv_core.proofs.Latest.{latest-le, next_write-le}
 use Rattle.mv_core.proofs.Links.{none_names_zero}
 use Rattle.mv_core.proofs.Written.{commit_within}
@@ -227,18 +228,9 @@ module _ (starts : State → Type 0) (allows : List ℕ → State → Writes →
         dite (ℕ_discrete s n)
         (λ at. subst (λ (u : ℕ). NamedIs c later stamp rings u i d) (sym at) (turns.named_is i d (ap sections (sym at) ∙ is) mode))
         (λ ne.
-        let r = k.named_commit s i d (sym (turns.others s ne) ∙ is) mode in record {
-          later = r.later;
-          last = own-else c.base h e s (λ made. ne (sym made ∙ makes.maker)) ∙ r.last;
-          nothing = still_nothing s r.nothing;
-          version = r.version;
-          note = r.note;
-          lives = logs.still_committed f.ring n t s (index_of c d.first) r.version r.note r.lives;
-          position_is = r.position_is;
-          first_is = r.first_is;
-          time_is = r.time_is;
-          stamped = r.stamped;
-        })
+        let r = k.named_commit s i d (sym (turns.others s ne) ∙ is) mode in
+        let last = own-else c.base h e s (λ made. ne (sym made ∙ makes.maker)) ∙ r.last in
+        same_named r r.note last (still_nothing s r.nothing) (logs.still_committed f.ring n t s (index_of c d.first) r.version r.note r.lives) r.time_is r.stamped)
 
     pub open_after : OpenSection c later sections rings
     open_after = record {
@@ -349,23 +341,7 @@ module _ (starts : State → Type 0) (allows : List ℕ → State → Writes →
         let ne : s ≢ n = λ here. let none : None ≡ Some b = sym turns.no_back ∙ ap f.back (sym here) ∙ at in cc in
         let o = k.write_back s b at in
         let r = o.2 in
-        let le = section_time s o.0 o.1 in (
-          o.0,
-          turns.others s ne ∙ o.1,
-          record {
-            mode = r.mode;
-            helped = r.helped;
-            nothing = still_nothing s r.nothing;
-            version = r.version;
-            note = r.note;
-            lives = logs.still_committed f.ring n t s (index_of c b.position) r.version r.note r.lives;
-            position_is = r.position_is;
-            object_is = r.object_is;
-            old = r.old;
-            known = r.known;
-            last = latest_at-longer c.base h e b.object (time_in o.0) le ∙ r.last;
-            some_stored = r.some_stored;
-            uncut = r.uncut;
-            words = r.words;
-          },
-        )
+        let le = section_time s o.0 o.1 in
+        let lives = logs.still_committed f.ring n t s (index_of c b.position) r.version r.note r.lives in
+        let last = latest_at-longer c.base h e b.object (time_in o.0) le ∙ r.last in
+        (o.0, turns.others s ne ∙ o.1, same_back r r.note r.helped (still_nothing s r.nothing) lives r.old r.known last r.uncut r.words)

@@ -1,5 +1,5 @@
 -- A section that has named a commit notes that its own exchange of the stamp was made, over all facts, where the commit is stamped.
-use Rattle.std.proofs.Common.{◌≡◌, ◌≢◌, ℕ, ◌≤◌, true, List, sym, refl, ap, ◌∙◌, subst, Option, Some}
+use Rattle.std.proofs.Common.{◌≡◌, ◌≢◌, ℕ, ◌≤◌, true, false, List, sym, refl, ap, ◌∙◌, subst, Option, Some}
 use Rattle.std.specs.Prelude.{Contains}
 use mathlib.Core.Logic.{dite}
 use native.Mathlib.Decide.{ℕ_discrete}
@@ -8,7 +8,9 @@ use Rattle.mv_history.specs.State.{State, Writes}
 use Rattle.mv_layout.specs.declared.Config.{Config}
 use Rattle.mv_layout.specs.declared.Place.TheVariants.{Clock, Mark, Master, Stamp, Super}
 use Rattle.mv_layout.specs.Places.{Memory}
+use Rattle.mv_core.specs.declared.ring.Version.{Version}
 use Rattle.mv_core.specs.declared.ring.Status.TheVariants.{Committed}
+use Rattle.mv_core.specs.declared.ring.CommitNote.{CommitNote}
 use Rattle.mv_core.specs.declared.view.Phase.TheVariants.{Outside, Inside}
 use Rattle.mv_core.specs.declared.view.Section.{Section}
 use Rattle.mv_core.specs.declared.view.Mode.{Mode}
@@ -17,7 +19,7 @@ use Rattle.mv_core.specs.declared.view.Naming.{Naming}
 use Rattle.mv_core.specs.declared.view.Walk.TheVariants.{Nowhere}
 use Rattle.mv_core.specs.declared.view.Scan.{Scan}
 use Rattle.mv_core.specs.Rings.{index_of, Lives}
-use Rattle.mv_core.specs.Times.{last_own}
+use Rattle.mv_core.specs.Times.{last_own, IsNextWrite}
 use Rattle.mv_core.specs.Views.{time_in, IsUnnamed, Faces}
 use Rattle.mv_core.specs.SetFacts.{IsNaming, UnstampedIsUnfinished}
 use Rattle.mv_core.specs.SectionFacts.{MarkedAs, Marks, IsPastHelp, WasClock, LoadedWords, NamedIs, NamedCommit, OpenSection}
@@ -66,15 +68,10 @@ module _ (starts : State → Type 0) (allows : List ℕ → State → Writes →
 
   words_after : LoadedWords c (m Clock) t.section f.heard
   words_after =
-      let old = k.loaded_words in record {
-        clock_is = old.clock_is;
-        loaded = old.loaded;
-        helped = old.helped;
-        found = old.found;
-        inside = sections (λ s o. (i : Section) → o ≡ Some i → WasClock c (m Clock) i.word)
-            (λ i e. subst (λ (j : Section). WasClock c (m Clock) j.word) (same_section e) (old.inside n inside section_is))
-            (λ s ne. old.inside s);
-      }
+      let inside = sections (λ s o. (i : Section) → o ≡ Some i → WasClock c (m Clock) i.word)
+      (λ i e. subst (λ (j : Section). WasClock c (m Clock) j.word) (same_section e) (k.loaded_words.inside n inside section_is))
+      (λ s ne. k.loaded_words.inside s) in
+      assumption (inside, k.loaded_words)
 
   -- the seat of an unfinished commit is still in the section that named it
   naming_after : (time : ℕ) → IsNaming f.section time (λ _. Unit {0}) → IsNaming t.section time (λ _. Unit {0})
@@ -106,17 +103,16 @@ module _ (starts : State → Type 0) (allows : List ℕ → State → Writes →
   named_after =
       sections (λ s o. (i : Section) (d : Naming) → o ≡ Some i → i.mode ≡ Named d → NamedIs c h stamp f.ring s i d)
       (λ i d e mode.
-      let old = named in
       let new : NamedIs c h stamp f.ring n inside' naming' = record {
-        later = old.later;
-        last = old.last;
-        nothing = old.nothing;
-        version = old.version;
-        note = old.note;
-        lives = old.lives;
-        position_is = old.position_is;
-        first_is = old.first_is;
-        time_is = old.time_is;
+        later = named.later;
+        last = named.last;
+        nothing = named.nothing;
+        version = named.version;
+        note = named.note;
+        lives = named.lives;
+        position_is = named.position_is;
+        first_is = named.first_is;
+        time_is = named.time_is;
         stamped = λ _. made;
       } in
       subst (λ (p : Section × Naming). NamedIs c h stamp f.ring n p.0 p.1) (λ z. (same_section e z, same_naming e mode z)) new)
@@ -176,50 +172,11 @@ module _ (starts : State → Type 0) (allows : List ℕ → State → Writes →
       (λ s ne. k.walker_knowledge.helped s)
 
   pub own_stamped : Facts starts allows c start m h t
-  own_stamped = record {
-    checked = k.checked;
-    history = k.history;
-    slot_words = k.slot_words;
-    stamps = k.stamps;
-    write_sets = k.write_sets;
-    helped_words = k.helped_words;
-    marks = marks_after;
-    stamped_past_help = past_help c (m Clock) stamp h f.ring k.checked (clock_small starts allows c start m h f k) k.stamps k.positions t.section f.heard words_after k.helped_words;
-    grace = k.grace;
-    lock_freshness = k.lock_freshness;
-    successors = record {
-      held = k.successors.held;
-      next = k.successors.next;
-      stamped = k.successors.stamped;
-      unfinished = λ s j x note lives uncut none next is_next. naming_after next (k.successors.unfinished s j x note lives uncut none next is_next);
-      built = k.successors.built;
-    };
-    deaths = k.deaths;
-    deaths_seen = k.deaths_seen;
-    positions = k.positions;
-    head_is_top = k.head_is_top;
-    held_link = k.held_link;
-    commit_link = k.commit_link;
-    aborted_link = k.aborted_link;
-    present_master = k.present_master;
-    chain_foot = k.chain_foot;
-    walker_place = k.walker_place;
-    walker_before_death = k.walker_before_death;
-    walker_knowledge = record { helped = knows_after; first = k.walker_knowledge.first; stamp = k.walker_knowledge.stamp; unset = k.walker_knowledge.unset };
-    below_is_stamped = k.below_is_stamped;
-    walker_falls = k.walker_falls;
-    walker_late = k.walker_late;
-    found_stamp = k.found_stamp;
-    unstamped_is_unfinished = unfinished_after;
-    named_commit = named_after;
-    open_section = open_after;
-    successor_flag = flag_after;
-    succeeded_has_super = k.succeeded_has_super;
-    loaded_words = words_after;
-    freed_is_old = k.freed_is_old;
-    cut_is_old = k.cut_is_old;
-    death_after_write = k.death_after_write;
-    write_back = backs_after;
-    positions_and_grace = k.positions_and_grace;
-    phases_and_scan = record { scanning = scanning_after; outside = k.phases_and_scan.outside; seen = k.phases_and_scan.seen; within = k.phases_and_scan.within };
-  }
+  own_stamped =
+      let past = past_help c (m Clock) stamp h f.ring k.checked (clock_small starts allows c start m h f k) k.stamps k.positions t.section f.heard words_after
+      k.helped_words in
+      let unfinished : (s j : ℕ) (x : Version) (note : CommitNote) → Lives f.ring s j x (Committed note) → note.cut ≡ false → m (Super s j) ≡ 0
+      → (next : ℕ) → IsNextWrite c.base h x.object note.time next → IsNaming t.section next (λ _. Unit {0}) =
+      λ s j x note lives uncut none next is_next. naming_after next (k.successors.unfinished s j x note lives uncut none next is_next) in
+      assumption
+      (marks_after, past, unfinished, knows_after, unfinished_after, named_after, open_after, flag_after, words_after, backs_after, scanning_after, k)

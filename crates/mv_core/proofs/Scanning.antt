@@ -20,52 +20,11 @@ use Rattle.mv_core.proofs.Watermarks.{max_not_above, watermark_rises}
 module _ (starts : State → Type 0) (allows : List ℕ → State → Writes → Type 0) (c : Config) (start : State) (m : Memory) (h : List Entry) (f : Faces) (k : Facts starts allows c start m h f) (n : ℕ) (out : f.phase n ≡ Outside) where
   -- the scan of a seat that is outside becomes one whose least time is no section's that it has scanned
   scan_is : (o : Option Scan) → ScanIs (m Clock) f.time o → Facts starts allows c start m h (changed f n (record unchanged { scan = Some o }))
-  scan_is o fits = record {
-    checked = k.checked;
-    history = k.history;
-    slot_words = k.slot_words;
-    stamps = k.stamps;
-    write_sets = k.write_sets;
-    helped_words = k.helped_words;
-    marks = k.marks;
-    stamped_past_help = k.stamped_past_help;
-    grace = record { views = k.grace.views; shared = k.grace.shared; scans = become_all (λ s x. ScanIs (m Clock) f.time x) f.scan n o fits (λ s ne. k.grace.scans s) };
-    lock_freshness = k.lock_freshness;
-    successors = k.successors;
-    deaths = k.deaths;
-    deaths_seen = k.deaths_seen;
-    positions = k.positions;
-    head_is_top = k.head_is_top;
-    held_link = k.held_link;
-    commit_link = k.commit_link;
-    aborted_link = k.aborted_link;
-    present_master = k.present_master;
-    chain_foot = k.chain_foot;
-    walker_place = k.walker_place;
-    walker_before_death = k.walker_before_death;
-    walker_knowledge = k.walker_knowledge;
-    below_is_stamped = k.below_is_stamped;
-    walker_falls = k.walker_falls;
-    walker_late = k.walker_late;
-    found_stamp = k.found_stamp;
-    unstamped_is_unfinished = k.unstamped_is_unfinished;
-    named_commit = k.named_commit;
-    open_section = k.open_section;
-    successor_flag = k.successor_flag;
-    succeeded_has_super = k.succeeded_has_super;
-    loaded_words = k.loaded_words;
-    freed_is_old = k.freed_is_old;
-    cut_is_old = k.cut_is_old;
-    death_after_write = k.death_after_write;
-    write_back = k.write_back;
-    positions_and_grace = k.positions_and_grace;
-    phases_and_scan = record {
-      scanning = become_all (λ s x. (running : Scan) → x ≡ Some running → f.phase s ≡ Outside) f.scan n o (λ running e. out) (λ s ne. k.phases_and_scan.scanning s);
-      outside = k.phases_and_scan.outside;
-      seen = k.phases_and_scan.seen;
-      within = k.phases_and_scan.within;
-    };
-  }
+  scan_is o fits =
+      let scans = become_all (λ s x. ScanIs (m Clock) f.time x) f.scan n o fits (λ s ne. k.grace.scans s) in
+      let scanning = become_all (λ s x. (running : Scan) → x ≡ Some running → f.phase s ≡ Outside) f.scan n o (λ running e. out)
+          (λ s ne. k.phases_and_scan.scanning s) in
+      assumption (scans, scanning, k)
 
   module _ (clock least next : ℕ) (low : least ≤ clock) (now : clock ≤ clock_time_of (m Clock)) (scanned : (s : ℕ) → s < next → NotAbove least (f.time s)) where
     scan_fits : (b : Bool) → nat_lt next c.seats ≡ b → ScanIs (m Clock) f.time (cond b (Some (record { clock = clock; least = least; next = next })) None)

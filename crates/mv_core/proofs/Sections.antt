@@ -24,6 +24,7 @@ use Rattle.mv_core.specs.SectionFacts.{IsPastHelp, StampedPastHelp, ScanIs, Grac
 use Rattle.mv_core.specs.ChainFacts.{PresentMaster, ChainFoot}
 use Rattle.mv_core.specs.WalkFacts.{StandsRight, WalkerPlace, IsBeforeDeath, WalkerBeforeDeath, WalkerKnowledge, HasPassed, IsBelowPassed, WalkerFalls, WalkerLate}
 use Rattle.mv_core.specs.ReclaimFacts.{CutIsOld, SuccessorFlag, IsWrittenBack, WriteBacks}
+use Rattle.mv_core.proofs.KeptRecords.{same_back}
 use Rattle.mv_core.proofs.Frames.{become_all}
 use Rattle.mv_core.proofs.Leaving.{by_seat, any_after}
 use Rattle.mv_core.proofs.Latest.{latest-le, latest_at-latest}
@@ -116,30 +117,16 @@ module _ (c : Config) (start : State) (h : List Entry) (rings : ℕ → Ring) (s
             (λ _ _ e. absurd (cc)) (λ _. k.unset s u found stand y note);
       }
 
-      written_more : (master : ℕ → ℕ → ℕ) (grace : ℕ) (s : ℕ) (y : Heard) (b : WriteBack) (i : Section) → IsWrittenBack c h master time rings s y grace b i → IsWrittenBack c h master (become time n t) rings s y grace b i
-      written_more master grace s y b i k = record {
-        mode = k.mode;
-        helped = k.helped;
-        nothing = k.nothing;
-        version = k.version;
-        note = k.note;
-        lives = k.lives;
-        position_is = k.position_is;
-        object_is = k.object_is;
-        old = any_more k.note.time (commit_within c h rings sets s _ k.version k.note k.lives).1 k.old;
-        known = k.known;
-        last = k.last;
-        some_stored = k.some_stored;
-        uncut = k.uncut;
-        words = k.words;
-      }
-
       pub back_more : (master : ℕ → ℕ → ℕ) (grace : ℕ → ℕ) (back : ℕ → Option WriteBack) → WriteBacks c h master section time heard grace back rings
           → WriteBacks c h master (become section n inside) (become time n t) (become heard n x) grace (become back n None) rings
       back_more master grace back k s b =
           by_seat s n (λ q. cond q None (back s) ≡ Some b → (i : Section) × (cond q inside (section s) ≡ Some i) × IsWrittenBack c h master (become time n t) rings s (cond q x (heard s)) (grace s) b i)
           (λ _ e. absurd (cc))
-          (λ _ e. let r = k s b e in (r.0, r.1, written_more master (grace s) s (heard s) b r.0 r.2))
+          (λ _ e.
+          let o = k s b e in
+          let r = o.2 in
+          let old = any_more r.note.time (commit_within c h rings sets s _ r.version r.note r.lives).1 r.old in
+          (o.0, o.1, same_back r r.note r.helped r.nothing r.lives old r.known r.last r.uncut r.words))
 
       pub past_help_more : (stamp : ℕ → ℕ → ℕ)
           → ((i : Section) → inside ≡ Some i → IsPastHelp x i → (s j : ℕ) (y : Version) (note : CommitNote) → Lives rings s j y (Committed note) → note.time ≤ time_in i → stamp_of c stamp s y ≡ note.time)

@@ -5,7 +5,7 @@ use native.Mathlib.Decide.{ℕ_discrete}
 use Rattle.mv_history.specs.declared.Entry.{Entry}
 use Rattle.mv_history.specs.State.{State, Writes}
 use Rattle.mv_layout.specs.declared.Config.{Config}
-use Rattle.mv_layout.specs.declared.Place.TheVariants.{Clock, Stamp}
+use Rattle.mv_layout.specs.declared.Place.TheVariants.{Clock, Stamp, Super}
 use Rattle.mv_layout.specs.Places.{Memory, put}
 use Rattle.mv_layout.specs.Words.{clock_time_of, clock_seat_of, clock_slot_of, unset_of}
 use Rattle.mv_core.specs.declared.ring.Slot.{Slot}
@@ -17,10 +17,11 @@ use Rattle.mv_core.specs.declared.ring.CommitNote.{CommitNote}
 use Rattle.mv_core.specs.declared.view.FoundStamp.{FoundStamp}
 use Rattle.mv_core.specs.Rings.{slot_at, index_of, Lives}
 use Rattle.mv_core.specs.Views.{Faces}
-use Rattle.mv_core.specs.SetFacts.{IsStored, StampedAs, stamp_of, Stamps, IsHeldOrAborted}
-use Rattle.mv_core.specs.SectionFacts.{WasClock, IsDone, HelpedWords, IsFound}
+use Rattle.mv_core.specs.SetFacts.{IsStored, StampedAs, stamp_of, Stamps, IsHeldOrAborted, BelowIsStamped, UnstampedIsUnfinished}
+use Rattle.mv_core.specs.SectionFacts.{WasClock, IsDone, HelpedWords, IsFound, NamedCommit}
 use Rattle.mv_core.specs.WalkFacts.{WalkerFalls}
 use Rattle.mv_core.specs.Rule.{Facts}
+use Rattle.mv_core.proofs.KeptRecords.{same_named}
 use Rattle.mv_core.proofs.Hearing.{clock_small, unstamped_is_named, past_help}
 use Rattle.mv_core.proofs.Written.{commit_within}
 use Rattle.mv_core.proofs.Stampable.{IsStampable}
@@ -180,65 +181,20 @@ module _ (starts : State → Type 0) (allows : List ℕ → State → Writes →
   done_now = inr (inr (after_here s0 k0 refl refl))
 
   pub stamp_stored : Facts starts allows c start (put m (Stamp s0 k0) t0) h f
-  stamp_stored = record {
-    checked = k.checked;
-    history = k.history;
-    slot_words = k.slot_words;
-    stamps = stamps_after;
-    write_sets = k.write_sets;
-    helped_words = helped_after;
-    marks = k.marks;
-    stamped_past_help = past_help c (m Clock) after h f.ring k.checked (clock_small starts allows c start m h f k) stamps_after k.positions f.section f.heard k.loaded_words helped_after;
-    grace = k.grace;
-    lock_freshness = k.lock_freshness;
-    successors = record {
-      held = k.successors.held;
-      next = k.successors.next;
-      stamped = λ s j x note lives t l y other there e. still t l y other there (k.successors.stamped s j x note lives t l y other there e);
-      unfinished = k.successors.unfinished;
-      built = k.successors.built;
-    };
-    deaths = k.deaths;
-    deaths_seen = k.deaths_seen;
-    positions = k.positions;
-    head_is_top = k.head_is_top;
-    held_link = k.held_link;
-    commit_link = k.commit_link;
-    aborted_link = k.aborted_link;
-    present_master = k.present_master;
-    chain_foot = k.chain_foot;
-    walker_place = k.walker_place;
-    walker_before_death = k.walker_before_death;
-    walker_knowledge = k.walker_knowledge;
-    below_is_stamped = λ s j x st lives fate y note below. still below.seat below.slot y note below.lives (k.below_is_stamped s j x st lives fate y note below);
-    walker_falls = falls_after;
-    walker_late = k.walker_late;
-    found_stamp = record { now = k.found_stamp.now; checked = found_after };
-    unstamped_is_unfinished = λ s j x note lives ne. k.unstamped_is_unfinished s j x note lives (λ made. ne (still s j x note lives made));
-    named_commit = λ s inside n at mode.
-        let r = k.named_commit s inside n at mode in record {
-          later = r.later;
-          last = r.last;
-          nothing = r.nothing;
-          version = r.version;
-          note = r.note;
-          lives = r.lives;
-          position_is = r.position_is;
-          first_is = r.first_is;
-          time_is = r.time_is;
-          stamped = λ was_made.
-              let place : stamp_of c after s r.version ≡ after s (index_of c n.first) = ap (λ p. after s (index_of c p)) r.first_is in
-              let before : stamp_of c stamp s r.version ≡ stamp s (index_of c n.first) = ap (λ p. stamp s (index_of c p)) r.first_is in
-              sym place ∙ still s (index_of c n.first) r.version r.note r.lives (before ∙ r.stamped was_made ∙ sym r.time_is) ∙ r.time_is;
-        };
-    open_section = k.open_section;
-    successor_flag = k.successor_flag;
-    succeeded_has_super = k.succeeded_has_super;
-    loaded_words = k.loaded_words;
-    freed_is_old = k.freed_is_old;
-    cut_is_old = k.cut_is_old;
-    death_after_write = k.death_after_write;
-    write_back = k.write_back;
-    positions_and_grace = k.positions_and_grace;
-    phases_and_scan = k.phases_and_scan;
-  }
+  stamp_stored =
+      let past = past_help c (m Clock) after h f.ring k.checked (clock_small starts allows c start m h f k) stamps_after k.positions f.section f.heard
+      k.loaded_words helped_after in
+      let stamped : (s j : ℕ) (x : Version) (note : CommitNote) → Lives f.ring s j x (Committed note) → (t l : ℕ) (y : Version) (other : CommitNote)
+      → Lives f.ring t l y (Committed other) → other.time ≡ m (Super s j) → stamp_of c after t y ≡ other.time =
+      λ s j x note lives t l y other there e. still t l y other there (k.successors.stamped s j x note lives t l y other there e) in
+      let below : BelowIsStamped c after f.ring =
+      λ s j x st lives fate y note under. still under.seat under.slot y note under.lives (k.below_is_stamped s j x st lives fate y note under) in
+      let unfinished : UnstampedIsUnfinished c after f.section f.ring =
+      λ s j x note lives ne. k.unstamped_is_unfinished s j x note lives (λ made. ne (still s j x note lives made)) in
+      let named : NamedCommit c h after f.section f.ring = λ s inside n at mode.
+          let r = k.named_commit s inside n at mode in
+          let place : stamp_of c after s r.version ≡ after s (index_of c n.first) = ap (λ p. after s (index_of c p)) r.first_is in
+          let before : stamp_of c stamp s r.version ≡ stamp s (index_of c n.first) = ap (λ p. stamp s (index_of c p)) r.first_is in
+          same_named r r.note r.last r.nothing r.lives r.time_is
+          (λ was_made. sym place ∙ still s (index_of c n.first) r.version r.note r.lives (before ∙ r.stamped was_made ∙ sym r.time_is) ∙ r.time_is) in
+      assumption (stamps_after, helped_after, past, stamped, below, falls_after, found_after, unfinished, named, k)

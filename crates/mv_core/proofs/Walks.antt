@@ -255,44 +255,5 @@ module _ (starts : State → Type 0) (allows : List ℕ → State → Writes →
           → DeathsSeen c (after (λ s. (seats s).past) v.number p) rings
           → Facts starts allows c start m h (faces_of (become seats v.number w))
       walked w p e fits history seen succeeded deaths_seen =
-          settle starts allows c start m h seats v.number v w is (record unchanged { past = p; walk = Some y; empty = e }) fits (record {
-            checked = k.checked;
-            history = history;
-            slot_words = k.slot_words;
-            stamps = k.stamps;
-            write_sets = k.write_sets;
-            helped_words = k.helped_words;
-            marks = k.marks;
-            stamped_past_help = k.stamped_past_help;
-            grace = k.grace;
-            lock_freshness = k.lock_freshness;
-            successors = k.successors;
-            deaths = k.deaths;
-            deaths_seen = deaths_seen;
-            positions = k.positions;
-            head_is_top = k.head_is_top;
-            held_link = k.held_link;
-            commit_link = k.commit_link;
-            aborted_link = k.aborted_link;
-            present_master = k.present_master;
-            chain_foot = k.chain_foot;
-            walker_place = places;
-            walker_before_death = deaths;
-            walker_knowledge = knowledge;
-            below_is_stamped = k.below_is_stamped;
-            walker_falls = falls;
-            walker_late = lates;
-            found_stamp = k.found_stamp;
-            unstamped_is_unfinished = k.unstamped_is_unfinished;
-            named_commit = k.named_commit;
-            open_section = k.open_section;
-            successor_flag = k.successor_flag;
-            succeeded_has_super = succeeded;
-            loaded_words = k.loaded_words;
-            freed_is_old = k.freed_is_old;
-            cut_is_old = k.cut_is_old;
-            death_after_write = k.death_after_write;
-            write_back = k.write_back;
-            positions_and_grace = k.positions_and_grace;
-            phases_and_scan = record { scanning = k.phases_and_scan.scanning; outside = outside; seen = seen; within = k.phases_and_scan.within };
-          })
+          settle starts allows c start m h seats v.number v w is (record unchanged { past = p; walk = Some y; empty = e }) fits
+              (assumption (history, seen, succeeded, deaths_seen, places, deaths, knowledge, falls, lates, outside, k))

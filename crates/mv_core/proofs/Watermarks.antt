@@ -9,8 +9,8 @@ use Rattle.mv_layout.specs.Places.{Memory, put}
 use Rattle.mv_core.specs.Times.{NotAbove, NotAboveAny}
 use Rattle.mv_core.specs.Views.{Faces}
 use Rattle.mv_core.specs.ReclaimFacts.{FreedIsOld, WriteBacks, PositionsAndGrace}
-use Rattle.mv_core.specs.SectionFacts as section
 use Rattle.mv_core.specs.Rule.{Facts}
+use Rattle.mv_core.proofs.KeptRecords.{same_back}
 use Rattle.mv_core.proofs.Frames.{become_all, unchanged, changed}
 
 -- the greater of two times that a section isn't below is such a time
@@ -34,26 +34,8 @@ module _ (starts : State → Type 0) (allows : List ℕ → State → Writes →
   written_back : WriteBacks c h (λ o w. m (Master o w)) t.section t.time t.heard t.grace t.back t.ring
   written_back s b e =
       let old = k.write_back s b e in
-      let is = old.2 in (
-        old.0,
-        old.1,
-        record {
-          mode = is.mode;
-          helped = is.helped;
-          nothing = is.nothing;
-          version = is.version;
-          note = is.note;
-          lives = is.lives;
-          position_is = is.position_is;
-          object_is = is.object_is;
-          old = is.old;
-          known = le_trans is.known (rises s);
-          last = is.last;
-          some_stored = is.some_stored;
-          uncut = is.uncut;
-          words = is.words;
-        },
-      )
+      let is = old.2 in
+      (old.0, old.1, same_back is is.note is.helped is.nothing is.lives is.old (le_trans is.known (rises s)) is.last is.uncut is.words)
 
   positions : PositionsAndGrace c t.grace t.ring
   positions = record {
@@ -73,55 +55,12 @@ module _ (starts : State → Type 0) (allows : List ℕ → State → Writes →
   }
 
   pub watermark_rises : Facts starts allows c start m h t
-  watermark_rises = record {
-    checked = k.checked;
-    history = k.history;
-    slot_words = k.slot_words;
-    stamps = k.stamps;
-    write_sets = k.write_sets;
-    helped_words = k.helped_words;
-    marks = k.marks;
-    stamped_past_help = k.stamped_past_help;
-    grace = record {
-      views = become_all (λ s x. (x ≤ clock_time_of (m Clock)) × NotAboveAny x f.time) f.grace n g below (λ s ne. k.grace.views s);
-      shared = k.grace.shared;
-      scans = k.grace.scans;
-    };
-    lock_freshness = k.lock_freshness;
-    successors = k.successors;
-    deaths = k.deaths;
-    deaths_seen = k.deaths_seen;
-    positions = k.positions;
-    head_is_top = k.head_is_top;
-    held_link = k.held_link;
-    commit_link = k.commit_link;
-    aborted_link = k.aborted_link;
-    present_master = k.present_master;
-    chain_foot = k.chain_foot;
-    walker_place = k.walker_place;
-    walker_before_death = k.walker_before_death;
-    walker_knowledge = k.walker_knowledge;
-    below_is_stamped = k.below_is_stamped;
-    walker_falls = k.walker_falls;
-    walker_late = k.walker_late;
-    found_stamp = k.found_stamp;
-    unstamped_is_unfinished = k.unstamped_is_unfinished;
-    named_commit = k.named_commit;
-    open_section = k.open_section;
-    successor_flag = k.successor_flag;
-    succeeded_has_super = k.succeeded_has_super;
-    loaded_words = k.loaded_words;
-    freed_is_old = freed;
-    cut_is_old = k.cut_is_old;
-    death_after_write = k.death_after_write;
-    write_back = written_back;
-    positions_and_grace = positions;
-    phases_and_scan = k.phases_and_scan;
-  }
+  watermark_rises =
+      let views = become_all (λ s x. (x ≤ clock_time_of (m Clock)) × NotAboveAny x f.time) f.grace n g below (λ s ne. k.grace.views s) in
+      assumption (views, freed, written_back, positions, k)
 
   -- and the shared watermark too
   pub shared_rises : (x : ℕ) → (x ≤ clock_time_of (m Clock)) × NotAboveAny x f.time → Facts starts allows c start (put m Grace x) h t
   shared_rises x fits =
       let w = watermark_rises in
-      let grace : section.Grace (m Clock) x f.time t.grace f.scan = record { views = w.grace.views; shared = fits; scans = w.grace.scans } in
-      assumption (w)
+      assumption (fits, w)

@@ -8,7 +8,6 @@ use Rattle.mv_layout.specs.Places.{Memory}
 use Rattle.mv_core.specs.declared.view.Past.{Past}
 use Rattle.mv_core.specs.Views.{Faces}
 use Rattle.mv_core.specs.HistoryFacts.{History}
-use Rattle.mv_core.specs.SectionFacts.{PhasesAndScan}
 use Rattle.mv_core.specs.Rule.{Facts}
 use Rattle.mv_core.proofs.Frames.{become_all, unchanged, changed}
 use Rattle.mv_core.proofs.SeenDeaths.{sees_on}
@@ -38,5 +37,4 @@ module _ (starts : State → Type 0) (allows : List ℕ → State → Writes →
   pub whole_seen : Facts starts allows c start m h t
   whole_seen =
       let deaths = sees_on c f.past f.ring n p (k.history.seats n).seen k.deaths_seen in
-      let phases : PhasesAndScan c t.past f.phase f.time f.walk f.back f.scan = record { scanning = k.phases_and_scan.scanning; outside = k.phases_and_scan.outside; seen = seen_after; within = k.phases_and_scan.within } in
-      assumption (history_after, deaths, k)
+      assumption (history_after, deaths, seen_after, k)

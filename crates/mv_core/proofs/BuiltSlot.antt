@@ -20,13 +20,14 @@ use Rattle.mv_core.specs.declared.ring.Status.TheVariants.{Committed}
 use Rattle.mv_core.specs.Rings.{slot_at, index_of, put_slot, Lives}
 use Rattle.mv_core.specs.Views.{Faces, become}
 use Rattle.mv_core.specs.SetFacts.{IsStored, HoldsBuild, HoldsSlot, SlotWords, stamp_of}
-use Rattle.mv_core.specs.SectionFacts.{IsDone}
+use Rattle.mv_core.specs.SectionFacts.{IsDone, HelpedWords}
 use Rattle.mv_core.specs.ReclaimFacts.{next_in}
 use Rattle.mv_core.specs.LockSteps.{nothing_built, build_in}
 use Rattle.mv_core.specs.Rule.{Facts}
 use Rattle.mv_core.proofs.Frames.{unchanged, changed}
 use Rattle.mv_core.proofs.Slots.{Matches, match_weaker, match_unlived, slots_after, wide_after, next_after, here_or_else}
 use Rattle.mv_core.proofs.Matching.{Alike}
+use Rattle.mv_core.proofs.MatchedFacts.{matched_facts}
 use Rattle.mv_core.proofs.MatchedSets as set
 use Rattle.mv_core.proofs.MatchedStamps as stamped
 use Rattle.mv_core.proofs.MatchedWalks as walked
@@ -201,44 +202,21 @@ module _ (starts : State → Type 0) (allows : List ℕ → State → Writes →
 
     -- all facts after the store
     pub built_facts : Facts starts allows c start (of_parts (m Clock) (m Grace) (λ s. m (Mark s)) (λ o. m (Head o)) (λ o w. m (Master o w)) first stamp prev super data_word) h (changed f n (record unchanged { ring = Some built }))
-    built_facts = record {
-      checked = k.checked;
-      history = k.history;
-      slot_words = slot_words_after;
-      stamps = stamped.stamps_match c h f.ring rings alike (λ s j. m (Stamp s j)) stamp same_stamp (m Clock) stamps_built k.stamps;
-      write_sets = set.sets_match c h f.ring rings alike k.write_sets;
-      helped_words = λ s word has. done_after word (k.helped_words s word has);
-      marks = k.marks;
-      stamped_past_help = stamped.past_help_match c h f.ring rings alike (λ s j. m (Stamp s j)) stamp same_stamp f.section f.heard k.stamped_past_help;
-      grace = k.grace;
-      lock_freshness = set.freshness_match c h f.ring rings alike f.time k.lock_freshness;
-      successors = stamped.successors_match c h f.ring rings alike (λ s j. m (Super s j)) super same_super (λ s j. m (Stamp s j)) stamp same_stamp f.section supers_built k.successors;
-      deaths = walked.deaths_match c h f.ring rings steady k.deaths;
-      deaths_seen = walked.deaths_seen_match c h f.ring rings steady f.past k.deaths_seen;
-      positions = set.positions_match c h f.ring rings alike (wide_after f.ring n slot (Built new) built refl within) freeing_back freeing_forth built_next k.positions;
-      head_is_top = set.top_match c h f.ring rings alike (λ o. m (Head o)) k.head_is_top;
-      held_link = set.held_link_match c h f.ring rings alike k.held_link;
-      commit_link = set.commit_link_match c h f.ring rings alike k.commit_link;
-      aborted_link = set.aborted_link_match c h f.ring rings alike k.aborted_link;
-      present_master = set.master_match c h f.ring rings alike start (λ o w. m (Master o w)) f.time k.present_master;
-      chain_foot = set.foot_match c h f.ring rings alike start (λ o w. m (Master o w)) f.time k.chain_foot;
-      walker_place = walked.place_match c h f.ring rings alike start (λ o w. m (Master o w)) f.time f.walk k.walker_place;
-      walker_before_death = walked.before_death_match c h f.ring rings steady f.time f.walk k.walker_before_death;
-      walker_knowledge = walked.knowledge_match c h f.ring rings alike f.section f.time f.heard f.walk k.walker_knowledge;
-      below_is_stamped = stamped.below_match c h f.ring rings alike (λ s j. m (Stamp s j)) stamp same_stamp k.below_is_stamped;
-      walker_falls = walked.falls_match c h f.ring rings alike (λ s j. m (Stamp s j)) stamp same_stamp f.walk k.walker_falls;
-      walker_late = walked.late_match c h f.ring rings alike f.time f.walk k.walker_late;
-      found_stamp = stamped.found_match c h f.ring rings alike (λ s j. m (Stamp s j)) stamp same_stamp (m Clock) f.heard apart_after k.found_stamp;
-      unstamped_is_unfinished = stamped.unfinished_match c h f.ring rings alike (λ s j. m (Stamp s j)) stamp same_stamp f.section k.unstamped_is_unfinished;
-      named_commit = stamped.named_match c h f.ring rings alike (λ s j. m (Stamp s j)) stamp same_stamp f.section k.named_commit;
-      open_section = set.open_match c h f.ring rings alike f.section k.open_section;
-      successor_flag = walked.flag_match c h f.ring rings steady (λ s j. m (Super s j)) super same_super f.section k.successor_flag;
-      succeeded_has_super = stamped.succeeded_match c h f.ring rings alike (λ s j. m (Super s j)) super same_super f.empty k.succeeded_has_super;
-      loaded_words = k.loaded_words;
-      freed_is_old = set.freed_match c h f.ring rings alike (m Clock) f.grace k.freed_is_old;
-      cut_is_old = set.cut_match c h f.ring rings alike f.time k.cut_is_old;
-      death_after_write = walked.death_after_match c h f.ring rings steady k.death_after_write;
-      write_back = stamped.back_match c h f.ring rings alike (λ o w. m (Master o w)) f.section f.time f.heard f.grace f.back k.write_back;
-      positions_and_grace = walked.positions_grace_match c h f.ring rings steady f.grace free_after grace_built (λ s j p first e. k.positions_and_grace.freeing s j p first (freeing_back s j p first e)) k.positions_and_grace;
-      phases_and_scan = k.phases_and_scan;
-    }
+    built_facts =
+        let matched = matched_facts starts allows c start m h f k rings alike stamp same_stamp apart_after in
+        let stamps = stamped.stamps_match c h f.ring rings alike (λ s j. m (Stamp s j)) stamp same_stamp (m Clock) stamps_built k.stamps in
+        let helped_words : HelpedWords (m Clock) stamp f.heard = λ s word has. done_after word (k.helped_words s word has) in
+        let successors = stamped.successors_match c h f.ring rings alike (λ s j. m (Super s j)) super same_super (λ s j. m (Stamp s j)) stamp same_stamp
+        f.section supers_built k.successors in
+        let deaths = walked.deaths_match c h f.ring rings steady k.deaths in
+        let deaths_seen = walked.deaths_seen_match c h f.ring rings steady f.past k.deaths_seen in
+        let positions = set.positions_match c h f.ring rings alike (wide_after f.ring n slot (Built new) built refl within) freeing_back freeing_forth
+        built_next k.positions in
+        let before_death = walked.before_death_match c h f.ring rings steady f.time f.walk k.walker_before_death in
+        let flags = walked.flag_match c h f.ring rings steady (λ s j. m (Super s j)) super same_super f.section k.successor_flag in
+        let succeeded = stamped.succeeded_match c h f.ring rings alike (λ s j. m (Super s j)) super same_super f.empty k.succeeded_has_super in
+        let death_after = walked.death_after_match c h f.ring rings steady k.death_after_write in
+        let grace = walked.positions_grace_match c h f.ring rings steady f.grace free_after grace_built
+        (λ s j p first e. k.positions_and_grace.freeing s j p first (freeing_back s j p first e)) k.positions_and_grace in
+        assumption
+        (slot_words_after, stamps, helped_words, successors, deaths, deaths_seen, positions, before_death, flags, succeeded, death_after, grace, matched, k)

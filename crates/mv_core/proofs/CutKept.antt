@@ -25,6 +25,7 @@ use Rattle.mv_core.specs.SectionFacts.{StampedPastHelp, FoundStamps, LockFreshne
 use Rattle.mv_core.specs.ChainFacts.{AbortedLink, IsGrounded, ChainFoot}
 use Rattle.mv_core.specs.WalkFacts.{MasterServes, MayStandAt, StandsRight, WalkerPlace, WalkerBeforeDeath, WalkerKnowledge, IsBelowPassed, WalkerFalls, WalkerLate, SucceededHasSuper}
 use Rattle.mv_core.specs.ReclaimFacts.{Deaths, DeathAfterWrite, FreedIsOld, SuccessorFlag, PositionsAndGrace}
+use Rattle.mv_core.proofs.KeptRecords.{same_named}
 use Rattle.mv_core.proofs.Latest.{entry-within}
 use Rattle.mv_core.proofs.Slots.{Matches}
 use Rattle.mv_core.proofs.Matching.{gone_forth, first_forth, set_forth, use_forth, use_back, unnamed_back}
@@ -262,18 +263,8 @@ module _ (c : Config) (h : List Entry) (before after : ℕ → Ring) (k : Matche
     pub named_kept : (section : ℕ → Option Section) → NamedCommit c h stamp section before → NamedCommit c h stamp section after
     named_kept section old s inside n in_section mode =
         let r = old s inside n in_section mode in
-        let f = committed_forth before after k s (index_of c n.first) r.version r.note r.lives in record {
-          later = r.later;
-          last = r.last;
-          nothing = nothing_still before after k s r.nothing;
-          version = r.version;
-          note = f.0;
-          lives = f.1;
-          position_is = r.position_is;
-          first_is = r.first_is;
-          time_is = f.2.time ∙ r.time_is;
-          stamped = r.stamped;
-        }
+        let f = committed_forth before after k s (index_of c n.first) r.version r.note r.lives in
+        same_named r f.0 r.last (nothing_still before after k s r.nothing) f.1 (f.2.time ∙ r.time_is) r.stamped
 
     pub found_kept : (clock : ℕ) (heard : ℕ → Heard) → FoundStamps c clock stamp heard before → FoundStamps c clock stamp heard after
     found_kept clock heard old = record {

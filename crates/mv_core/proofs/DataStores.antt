@@ -26,6 +26,7 @@ use Rattle.mv_core.specs.Rule.{Facts, Stores, IsKept}
 use Rattle.mv_core.proofs.Frames.{unchanged, changed, settle}
 use Rattle.mv_core.proofs.Slots.{Matches, match_weaker, match_put, slots_after, wide_after, next_after, live_within}
 use Rattle.mv_core.proofs.Matching.{Alike}
+use Rattle.mv_core.proofs.MatchedFacts.{same_stamp_facts}
 use Rattle.mv_core.proofs.MatchedSets as set
 use Rattle.mv_core.proofs.MatchedStamps as stamped
 use Rattle.mv_core.proofs.MatchedWalks as walked
@@ -102,48 +103,25 @@ module _ (starts : State → Type 0) (allows : List ℕ → State → Writes →
 
   -- all facts after the store
   data_facts : Facts starts allows c start (put m (Data n slot w) value) h (changed f n (record unchanged { ring = Some stored }))
-  data_facts = record {
-    checked = k.checked;
-    history = k.history;
-    slot_words = slot_words_after;
-    stamps = stamped.stamps_match c h f.ring rings alike (λ s j. m (Stamp s j)) (λ s j. m (Stamp s j)) (λ s j y st l. refl) (m Clock) (λ s j b e. k.stamps.built s j b (built_back s j b e)) k.stamps;
-    write_sets = set.sets_match c h f.ring rings alike k.write_sets;
-    helped_words = k.helped_words;
-    marks = k.marks;
-    stamped_past_help = stamped.past_help_match c h f.ring rings alike (λ s j. m (Stamp s j)) (λ s j. m (Stamp s j)) (λ s j y st l. refl) f.section f.heard k.stamped_past_help;
-    grace = k.grace;
-    lock_freshness = set.freshness_match c h f.ring rings alike f.time k.lock_freshness;
-    successors = stamped.successors_match c h f.ring rings alike (λ s j. m (Super s j)) (λ s j. m (Super s j)) (λ s j y st l. refl) (λ s j. m (Stamp s j)) (λ s j. m (Stamp s j)) (λ s j y st l. refl) f.section
-        (λ s j b e. k.successors.built s j b (built_back s j b e)) k.successors;
-    deaths = walked.deaths_match c h f.ring rings steady k.deaths;
-    deaths_seen = walked.deaths_seen_match c h f.ring rings steady f.past k.deaths_seen;
-    positions = set.positions_match c h f.ring rings alike (wide_after f.ring n slot (Live (with_word x w value) Held) stored refl within) freeing_back freeing_forth (λ s j b e. k.positions.built s j b (built_back s j b e)) k.positions;
-    head_is_top = set.top_match c h f.ring rings alike (λ o. m (Head o)) k.head_is_top;
-    held_link = set.held_link_match c h f.ring rings alike k.held_link;
-    commit_link = set.commit_link_match c h f.ring rings alike k.commit_link;
-    aborted_link = set.aborted_link_match c h f.ring rings alike k.aborted_link;
-    present_master = set.master_match c h f.ring rings alike start (λ o i. m (Master o i)) f.time k.present_master;
-    chain_foot = set.foot_match c h f.ring rings alike start (λ o i. m (Master o i)) f.time k.chain_foot;
-    walker_place = walked.place_match c h f.ring rings alike start (λ o i. m (Master o i)) f.time f.walk k.walker_place;
-    walker_before_death = walked.before_death_match c h f.ring rings steady f.time f.walk k.walker_before_death;
-    walker_knowledge = walked.knowledge_match c h f.ring rings alike f.section f.time f.heard f.walk k.walker_knowledge;
-    below_is_stamped = stamped.below_match c h f.ring rings alike (λ s j. m (Stamp s j)) (λ s j. m (Stamp s j)) (λ s j y st l. refl) k.below_is_stamped;
-    walker_falls = walked.falls_match c h f.ring rings alike (λ s j. m (Stamp s j)) (λ s j. m (Stamp s j)) (λ s j y st l. refl) f.walk k.walker_falls;
-    walker_late = walked.late_match c h f.ring rings alike f.time f.walk k.walker_late;
-    found_stamp = stamped.found_match c h f.ring rings alike (λ s j. m (Stamp s j)) (λ s j. m (Stamp s j)) (λ s j y st l. refl) (m Clock) f.heard (λ s j p used apart. apart) k.found_stamp;
-    unstamped_is_unfinished = stamped.unfinished_match c h f.ring rings alike (λ s j. m (Stamp s j)) (λ s j. m (Stamp s j)) (λ s j y st l. refl) f.section k.unstamped_is_unfinished;
-    named_commit = stamped.named_match c h f.ring rings alike (λ s j. m (Stamp s j)) (λ s j. m (Stamp s j)) (λ s j y st l. refl) f.section k.named_commit;
-    open_section = set.open_match c h f.ring rings alike f.section k.open_section;
-    successor_flag = walked.flag_match c h f.ring rings steady (λ s j. m (Super s j)) (λ s j. m (Super s j)) (λ s j y st l. refl) f.section k.successor_flag;
-    succeeded_has_super = stamped.succeeded_match c h f.ring rings alike (λ s j. m (Super s j)) (λ s j. m (Super s j)) (λ s j y st l. refl) f.empty k.succeeded_has_super;
-    loaded_words = k.loaded_words;
-    freed_is_old = set.freed_match c h f.ring rings alike (m Clock) f.grace k.freed_is_old;
-    cut_is_old = set.cut_match c h f.ring rings alike f.time k.cut_is_old;
-    death_after_write = walked.death_after_match c h f.ring rings steady k.death_after_write;
-    write_back = stamped.back_match c h f.ring rings alike (λ o i. m (Master o i)) f.section f.time f.heard f.grace f.back k.write_back;
-    positions_and_grace = walked.positions_grace_match c h f.ring rings steady f.grace free_after grace_built (λ s j p first e. k.positions_and_grace.freeing s j p first (freeing_back s j p first e)) k.positions_and_grace;
-    phases_and_scan = k.phases_and_scan;
-  }
+  data_facts =
+      let stamps = stamped.stamps_match c h f.ring rings alike (λ s j. m (Stamp s j)) (λ s j. m (Stamp s j)) (λ s j y st l. refl) (m Clock)
+      (λ s j b e. k.stamps.built s j b (built_back s j b e)) k.stamps in
+      let successors = stamped.successors_match c h f.ring rings alike (λ s j. m (Super s j)) (λ s j. m (Super s j)) (λ s j y st l. refl)
+      (λ s j. m (Stamp s j)) (λ s j. m (Stamp s j)) (λ s j y st l. refl) f.section (λ s j b e. k.successors.built s j b (built_back s j b e)) k.successors in
+      let deaths = walked.deaths_match c h f.ring rings steady k.deaths in
+      let deaths_seen = walked.deaths_seen_match c h f.ring rings steady f.past k.deaths_seen in
+      let positions = set.positions_match c h f.ring rings alike (wide_after f.ring n slot (Live (with_word x w value) Held) stored refl within)
+      freeing_back freeing_forth (λ s j b e. k.positions.built s j b (built_back s j b e)) k.positions in
+      let before_death = walked.before_death_match c h f.ring rings steady f.time f.walk k.walker_before_death in
+      let flags = walked.flag_match c h f.ring rings steady (λ s j. m (Super s j)) (λ s j. m (Super s j)) (λ s j y st l. refl) f.section k.successor_flag in
+      let succeeded = stamped.succeeded_match c h f.ring rings alike (λ s j. m (Super s j)) (λ s j. m (Super s j)) (λ s j y st l. refl) f.empty
+      k.succeeded_has_super in
+      let death_after = walked.death_after_match c h f.ring rings steady k.death_after_write in
+      let grace = walked.positions_grace_match c h f.ring rings steady f.grace free_after grace_built
+      (λ s j p first e. k.positions_and_grace.freeing s j p first (freeing_back s j p first e)) k.positions_and_grace in
+      assumption
+      (slot_words_after, stamps, successors, deaths, deaths_seen, positions, before_death, flags, succeeded, death_after, grace,
+      same_stamp_facts starts allows c start m h f k rings alike, k)
 
 module _ (starts : State → Type 0) (allows : List ℕ → State → Writes → Type 0) (c : Config) (start : State) (v : View) where
   pub data_stores : (position w value : ℕ) (x : Version) → MayStoreData c v position w x → Stores starts allows c start v (Data v.number (index_of c position) w) value (λ u. ((u ≡ data_stored c v position w value x) × RunsOn v u) × IsKept v u)

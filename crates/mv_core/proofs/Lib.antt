@@ -28,6 +28,7 @@ pub mod MatchedSets
 pub mod MatchedStamps
 pub mod SeenDeaths
 pub mod MatchedWalks
+pub mod MatchedFacts
 pub mod BuiltSlot
 pub mod BuildStores
 pub mod DataStores

@@ -21,7 +21,7 @@ use Rattle.mv_core.specs.SetFacts.{IsStored, StampedAs, stamp_of, Stamps, Succes
 use Rattle.mv_core.specs.SectionFacts.{StampedPastHelp, FoundStamps, NamedCommit}
 use Rattle.mv_core.specs.WalkFacts.{SucceededHasSuper}
 use Rattle.mv_core.specs.ReclaimFacts.{WriteBacks}
-use Rattle.mv_core.proofs.KeptRecords.{same_back}
+use Rattle.mv_core.proofs.KeptRecords.{same_back, same_named}
 use Rattle.mv_core.proofs.Slots.{Matches}
 use Rattle.mv_core.proofs.Matching.{Alike, alike_place, uncommitted_back, is_committed_so, committed_back, committed_forth}
 use Rattle.mv_core.proofs.MatchedSets.{nothing_match}
@@ -80,18 +80,10 @@ module _ (c : Config) (h : List Entry) (before after : ℕ → Ring) (k : Matche
     pub named_match : (section : ℕ → Option Section) → NamedCommit c h stamp section before → NamedCommit c h stamp' section after
     named_match section old s inside n in_section mode =
         let r = old s inside n in_section mode in
-        let f = committed_forth before after k s (index_of c n.first) r.version r.note r.lives in record {
-          later = r.later;
-          last = r.last;
-          nothing = nothing_match c h before after k s r.nothing;
-          version = r.version;
-          note = f.0;
-          lives = f.1;
-          position_is = r.position_is;
-          first_is = r.first_is;
-          time_is = f.2 ∙ r.time_is;
-          stamped = λ made. subst (λ (i : ℕ). stamp' s (index_of c i) ≡ stamp s (index_of c i)) r.first_is (same_committed s (index_of c n.first) r.version r.note r.lives) ∙ r.stamped made;
-        }
+        let f = committed_forth before after k s (index_of c n.first) r.version r.note r.lives in
+        let word = subst (λ (i : ℕ). stamp' s (index_of c i) ≡ stamp s (index_of c i)) r.first_is
+        (same_committed s (index_of c n.first) r.version r.note r.lives) in
+        same_named r f.0 r.last (nothing_match c h before after k s r.nothing) f.1 (f.2 ∙ r.time_is) (λ made. word ∙ r.stamped made)
 
     -- the stamps found hold, where no stamp becomes the unset one of a position that was used
     pub found_match : (clock : ℕ) (heard : ℕ → Heard) → ((s j p : ℕ) → p < (before s).next → stamp s j ≢ unset_of p → stamp' s j ≢ unset_of p) → FoundStamps c clock stamp heard before → FoundStamps c clock stamp' heard after

@@ -45,6 +45,7 @@ use Rattle.mv_core.proofs.MoreSeen.{more_seen}
 use Rattle.mv_core.proofs.StampLoads.{seen_to, seen_by_all, slice_get-front}
 use Rattle.mv_core.proofs.Slots.{Matches, match_put, slots_after, wide_after, next_after, live_within}
 use Rattle.mv_core.proofs.Matching.{Alike, alike_self, alike_place}
+use Rattle.mv_core.proofs.MatchedFacts.{same_stamp_facts}
 use Rattle.mv_core.proofs.MatchedSets as set
 use Rattle.mv_core.proofs.MatchedStamps as stamped
 use Rattle.mv_core.proofs.MatchedWalks as walked
@@ -292,48 +293,20 @@ module _ (starts : State → Type 0) (allows : List ℕ → State → Writes →
 
   -- all facts after the load, but for what its seat has seen
   pub super_facts : found ≤ c.base + length (f.past n).seen → Facts starts allows c start m h (changed f n (record unchanged { ring = Some loaded }))
-  super_facts sees = record {
-    checked = k.checked;
-    history = k.history;
-    slot_words = slot_words_after;
-    stamps = stamped.stamps_match c h f.ring rings alike (λ s j. m (Stamp s j)) (λ s j. m (Stamp s j)) (λ s j y st l. refl) (m Clock) (λ s j b e. k.stamps.built s j b (built_back s j b e)) k.stamps;
-    write_sets = set.sets_match c h f.ring rings alike k.write_sets;
-    helped_words = k.helped_words;
-    marks = k.marks;
-    stamped_past_help = stamped.past_help_match c h f.ring rings alike (λ s j. m (Stamp s j)) (λ s j. m (Stamp s j)) (λ s j y st l. refl) f.section f.heard k.stamped_past_help;
-    grace = k.grace;
-    lock_freshness = set.freshness_match c h f.ring rings alike f.time k.lock_freshness;
-    successors = stamped.successors_match c h f.ring rings alike (λ s j. m (Super s j)) (λ s j. m (Super s j)) (λ s j y st l. refl) (λ s j. m (Stamp s j)) (λ s j. m (Stamp s j)) (λ s j y st l. refl) f.section
-        (λ s j b e. k.successors.built s j b (built_back s j b e)) k.successors;
-    deaths = deaths_after;
-    deaths_seen = seen_put c f.past f.ring n slot loaded x (Committed new) refl within (λ dead e. let is = (super_dead note found dead no_death e).0 in (omega arith, λ _. omega arith)) k.deaths_seen;
-    positions = set.positions_match c h f.ring rings alike (wide_after f.ring n slot (Live x (Committed new)) loaded refl within) freeing_back freeing_forth (λ s j b e. k.positions.built s j b (built_back s j b e)) k.positions;
-    head_is_top = set.top_match c h f.ring rings alike (λ o. m (Head o)) k.head_is_top;
-    held_link = set.held_link_match c h f.ring rings alike k.held_link;
-    commit_link = set.commit_link_match c h f.ring rings alike k.commit_link;
-    aborted_link = set.aborted_link_match c h f.ring rings alike k.aborted_link;
-    present_master = set.master_match c h f.ring rings alike start (λ o i. m (Master o i)) f.time k.present_master;
-    chain_foot = set.foot_match c h f.ring rings alike start (λ o i. m (Master o i)) f.time k.chain_foot;
-    walker_place = walked.place_match c h f.ring rings alike start (λ o i. m (Master o i)) f.time f.walk k.walker_place;
-    walker_before_death = before_death_after;
-    walker_knowledge = walked.knowledge_match c h f.ring rings alike f.section f.time f.heard f.walk k.walker_knowledge;
-    below_is_stamped = stamped.below_match c h f.ring rings alike (λ s j. m (Stamp s j)) (λ s j. m (Stamp s j)) (λ s j y st l. refl) k.below_is_stamped;
-    walker_falls = walked.falls_match c h f.ring rings alike (λ s j. m (Stamp s j)) (λ s j. m (Stamp s j)) (λ s j y st l. refl) f.walk k.walker_falls;
-    walker_late = walked.late_match c h f.ring rings alike f.time f.walk k.walker_late;
-    found_stamp = stamped.found_match c h f.ring rings alike (λ s j. m (Stamp s j)) (λ s j. m (Stamp s j)) (λ s j y st l. refl) (m Clock) f.heard (λ s j p used apart. apart) k.found_stamp;
-    unstamped_is_unfinished = stamped.unfinished_match c h f.ring rings alike (λ s j. m (Stamp s j)) (λ s j. m (Stamp s j)) (λ s j y st l. refl) f.section k.unstamped_is_unfinished;
-    named_commit = stamped.named_match c h f.ring rings alike (λ s j. m (Stamp s j)) (λ s j. m (Stamp s j)) (λ s j y st l. refl) f.section k.named_commit;
-    open_section = set.open_match c h f.ring rings alike f.section k.open_section;
-    successor_flag = flag_after;
-    succeeded_has_super = stamped.succeeded_match c h f.ring rings alike (λ s j. m (Super s j)) (λ s j. m (Super s j)) (λ s j y st l. refl) f.empty k.succeeded_has_super;
-    loaded_words = k.loaded_words;
-    freed_is_old = set.freed_match c h f.ring rings alike (m Clock) f.grace k.freed_is_old;
-    cut_is_old = set.cut_match c h f.ring rings alike f.time k.cut_is_old;
-    death_after_write = death_after;
-    write_back = stamped.back_match c h f.ring rings alike (λ o i. m (Master o i)) f.section f.time f.heard f.grace f.back k.write_back;
-    positions_and_grace = grace_after;
-    phases_and_scan = k.phases_and_scan;
-  }
+  super_facts sees =
+      let stamps = stamped.stamps_match c h f.ring rings alike (λ s j. m (Stamp s j)) (λ s j. m (Stamp s j)) (λ s j y st l. refl) (m Clock)
+      (λ s j b e. k.stamps.built s j b (built_back s j b e)) k.stamps in
+      let successors = stamped.successors_match c h f.ring rings alike (λ s j. m (Super s j)) (λ s j. m (Super s j)) (λ s j y st l. refl)
+      (λ s j. m (Stamp s j)) (λ s j. m (Stamp s j)) (λ s j y st l. refl) f.section (λ s j b e. k.successors.built s j b (built_back s j b e)) k.successors in
+      let deaths_seen = seen_put c f.past f.ring n slot loaded x (Committed new) refl within
+      (λ dead e. let is = (super_dead note found dead no_death e).0 in (omega arith, λ _. omega arith)) k.deaths_seen in
+      let positions = set.positions_match c h f.ring rings alike (wide_after f.ring n slot (Live x (Committed new)) loaded refl within) freeing_back freeing_forth
+      (λ s j b e. k.positions.built s j b (built_back s j b e)) k.positions in
+      let succeeded = stamped.succeeded_match c h f.ring rings alike (λ s j. m (Super s j)) (λ s j. m (Super s j)) (λ s j y st l. refl) f.empty
+      k.succeeded_has_super in
+      assumption
+      (slot_words_after, stamps, successors, deaths_after, deaths_seen, positions, before_death_after, flag_after, succeeded, death_after, grace_after,
+      same_stamp_facts starts allows c start m h f k rings alike, k)
 
   -- a time found is in the history
   pub found_within : found ≤ c.base + length h

@@ -39,6 +39,7 @@ use Rattle.mv_core.proofs.BelowCommit.{next_after, link_below, below_there, abov
 use Rattle.mv_core.proofs.Slots.{Matches, wide_after}
 use Rattle.mv_core.proofs.Matching.{Alike}
 use Rattle.mv_core.proofs.LinkedNotes as notes
+use Rattle.mv_core.proofs.MatchedFacts.{same_stamp_facts}
 use Rattle.mv_core.proofs.MatchedSets as set
 use Rattle.mv_core.proofs.MatchedStamps as stamped
 use Rattle.mv_core.proofs.MatchedWalks as walked
@@ -245,49 +246,24 @@ module _ (starts : State → Type 0) (allows : List ℕ → State → Writes →
       )
 
   pub super_facts : Facts starts allows c start (put m (Super s0 k0) t) h (changed f n (record unchanged { ring = Some ring' }))
-  super_facts = record {
-    checked = k.checked;
-    history = k.history;
-    slot_words = notes.all_slots starts allows c start m h f k n j x note lives (λ s i slot. HoldsSlot (m (First s i)) (m (Prev s i)) (λ w. m (Data s i w)) slot)
-        (let old : HoldsSlot (m (First n j)) (m (Prev n j)) (λ w. m (Data n j w)) (Live x (Committed note)) = subst (HoldsSlot (m (First n j)) (m (Prev n j)) (λ w. m (Data n j w))) lives (k.slot_words n j) in old)
-        (λ s i ne. k.slot_words s i);
-    stamps = stamped.stamps_match c h f.ring rings matches (λ s i. m (Stamp s i)) (λ s i. m (Stamp s i)) (λ s i z st l. refl) (m Clock) (λ s i b e. k.stamps.built s i b (notes.was_built starts allows c start m h f k n j x note lives s i b e)) k.stamps;
-    write_sets = set.sets_match c h f.ring rings matches k.write_sets;
-    helped_words = k.helped_words;
-    marks = k.marks;
-    stamped_past_help = stamped.past_help_match c h f.ring rings matches (λ s i. m (Stamp s i)) (λ s i. m (Stamp s i)) (λ s i z st l. refl) f.section f.heard k.stamped_past_help;
-    grace = k.grace;
-    lock_freshness = set.freshness_match c h f.ring rings matches f.time k.lock_freshness;
-    successors = successors_after;
-    deaths = notes.deaths_after starts allows c start m h f k n j x note lives;
-    deaths_seen = notes.deaths_seen_after starts allows c start m h f k n j x note lives;
-    positions = set.positions_match c h f.ring rings matches (wide_after f.ring n j new ring' refl (notes.within starts allows c start m h f k n j x note lives)) (notes.was_freeing starts allows c start m h f k n j x note lives) (notes.still_freeing starts allows c start m h f k n j x note lives) (λ s i b e. k.positions.built s i b (notes.was_built starts allows c start m h f k n j x note lives s i b e)) k.positions;
-    head_is_top = set.top_match c h f.ring rings matches (λ o. m (Head o)) k.head_is_top;
-    held_link = set.held_link_match c h f.ring rings matches k.held_link;
-    commit_link = set.commit_link_match c h f.ring rings matches k.commit_link;
-    aborted_link = set.aborted_link_match c h f.ring rings matches k.aborted_link;
-    present_master = set.master_match c h f.ring rings matches start (λ o i. m (Master o i)) f.time k.present_master;
-    chain_foot = set.foot_match c h f.ring rings matches start (λ o i. m (Master o i)) f.time k.chain_foot;
-    walker_place = walked.place_match c h f.ring rings matches start (λ o i. m (Master o i)) f.time f.walk k.walker_place;
-    walker_before_death = notes.before_death_after starts allows c start m h f k n j x note lives;
-    walker_knowledge = walked.knowledge_match c h f.ring rings matches f.section f.time f.heard f.walk k.walker_knowledge;
-    below_is_stamped = stamped.below_match c h f.ring rings matches (λ s i. m (Stamp s i)) (λ s i. m (Stamp s i)) (λ s i z st l. refl) k.below_is_stamped;
-    walker_falls = walked.falls_match c h f.ring rings matches (λ s i. m (Stamp s i)) (λ s i. m (Stamp s i)) (λ s i z st l. refl) f.walk k.walker_falls;
-    walker_late = walked.late_match c h f.ring rings matches f.time f.walk k.walker_late;
-    found_stamp = stamped.found_match c h f.ring rings matches (λ s i. m (Stamp s i)) (λ s i. m (Stamp s i)) (λ s i z st l. refl) (m Clock) f.heard (λ s i p used apart. apart) k.found_stamp;
-    unstamped_is_unfinished = stamped.unfinished_match c h f.ring rings matches (λ s i. m (Stamp s i)) (λ s i. m (Stamp s i)) (λ s i z st l. refl) f.section k.unstamped_is_unfinished;
-    named_commit = stamped.named_match c h f.ring rings matches (λ s i. m (Stamp s i)) (λ s i. m (Stamp s i)) (λ s i z st l. refl) f.section k.named_commit;
-    open_section = set.open_match c h f.ring rings matches f.section k.open_section;
-    successor_flag = flags_after;
-    succeeded_has_super = succeeded_after;
-    loaded_words = k.loaded_words;
-    freed_is_old = set.freed_match c h f.ring rings matches (m Clock) f.grace k.freed_is_old;
-    cut_is_old = set.cut_match c h f.ring rings matches f.time k.cut_is_old;
-    death_after_write = notes.death_after starts allows c start m h f k n j x note lives;
-    write_back = stamped.back_match c h f.ring rings matches (λ o i. m (Master o i)) f.section f.time f.heard f.grace f.back k.write_back;
-    positions_and_grace = notes.grace_after starts allows c start m h f k n j x note lives;
-    phases_and_scan = k.phases_and_scan;
-  }
+  super_facts =
+      let was_built = notes.was_built starts allows c start m h f k n j x note lives in
+      let slot_words = notes.all_slots starts allows c start m h f k n j x note lives
+      (λ s i slot. HoldsSlot (m (First s i)) (m (Prev s i)) (λ w. m (Data s i w)) slot)
+      (let old : HoldsSlot (m (First n j)) (m (Prev n j)) (λ w. m (Data n j w)) (Live x (Committed note)) =
+      subst (HoldsSlot (m (First n j)) (m (Prev n j)) (λ w. m (Data n j w))) lives (k.slot_words n j) in old)
+      (λ s i ne. k.slot_words s i) in
+      let stamps = stamped.stamps_match c h f.ring rings matches (λ s i. m (Stamp s i)) (λ s i. m (Stamp s i)) (λ s i z st l. refl) (m Clock)
+      (λ s i b e. k.stamps.built s i b (was_built s i b e)) k.stamps in
+      let positions = set.positions_match c h f.ring rings matches
+      (wide_after f.ring n j new ring' refl (notes.within starts allows c start m h f k n j x note lives))
+      (notes.was_freeing starts allows c start m h f k n j x note lives) (notes.still_freeing starts allows c start m h f k n j x note lives)
+      (λ s i b e. k.positions.built s i b (was_built s i b e)) k.positions in
+      assumption
+      (slot_words, stamps, successors_after, positions, flags_after, succeeded_after, notes.deaths_after starts allows c start m h f k n j x note lives,
+      notes.deaths_seen_after starts allows c start m h f k n j x note lives, notes.before_death_after starts allows c start m h f k n j x note lives,
+      notes.death_after starts allows c start m h f k n j x note lives, notes.grace_after starts allows c start m h f k n j x note lives,
+      same_stamp_facts starts allows c start m h f k rings matches, k)
 
 module _ (starts : State → Type 0) (allows : List ℕ → State → Writes → Type 0) (c : Config) (start : State) (v : View) (link time k : ℕ) (x : Version) (note : CommitNote) (may : MayStoreSuper v link time k x note) where
   pub super_stores : Stores starts allows c start v (Super (link_seat_of link) (slot_named c link)) time (λ w. ((w ≡ super_stored c v link time k x note) × RunsOn v w) × IsKept v w)

@@ -257,44 +257,27 @@ module _ (starts : State → Type 0) (allows : List ℕ → State → Writes →
 
   -- all facts after the exchange
   pub cut_facts : Facts starts allows c start (put m (Head x.object) 0) h (changed f n (record unchanged { ring = Some cut_ring }))
-  cut_facts = record {
-    checked = k.checked;
-    history = k.history;
-    slot_words = words_after;
-    stamps = kept.stamps_kept c h f.ring rings matches (m Clock) (λ s j. m (Stamp s j)) built_back k.stamps;
-    write_sets = kept.sets_kept c h f.ring rings matches k.write_sets;
-    helped_words = k.helped_words;
-    marks = k.marks;
-    stamped_past_help = kept.past_help_kept c h f.ring rings matches (λ s j. m (Stamp s j)) f.section f.heard k.stamped_past_help;
-    grace = k.grace;
-    lock_freshness = kept.freshness_kept c h f.ring rings matches f.time k.lock_freshness;
-    successors = kept.successors_kept c h f.ring rings matches (λ s j. m (Stamp s j)) (λ s j. m (Super s j)) f.section built_back k.successors;
-    deaths = kept.deaths_kept c h f.ring rings matches k.deaths;
-    deaths_seen = seen_put c f.past f.ring n slot cut_ring x (Committed new) refl within (noted_same (c.base + length (f.past n).seen) (Committed note) (Committed new) refl (λ (uncut : true ≡ false). absurd (cc)) (k.deaths_seen n slot x (Committed note) lives)) k.deaths_seen;
-    positions = kept.positions_kept c h f.ring rings matches (wide_after f.ring n slot (Live x (Committed new)) cut_ring refl within) freeing_back freeing_forth built_back k.positions;
-    head_is_top = heads;
-    held_link = links;
-    commit_link = commit_links;
-    aborted_link = kept.aborted_link_kept c h f.ring rings matches k.aborted_link;
-    present_master = masters;
-    chain_foot = kept.foot_kept c h f.ring rings matches start master f.time k.chain_foot;
-    walker_place = kept.place_kept c h f.ring rings matches start master f.time f.walk k.walker_place;
-    walker_before_death = kept.before_death_kept c h f.ring rings matches f.time f.walk k.walker_before_death;
-    walker_knowledge = kept.knowledge_kept c h f.ring rings matches f.section f.time f.heard f.walk k.walker_knowledge;
-    below_is_stamped = kept.below_kept c h f.ring rings matches (λ s j. m (Stamp s j)) k.below_is_stamped;
-    walker_falls = kept.falls_kept c h f.ring rings matches (λ s j. m (Stamp s j)) f.walk k.walker_falls;
-    walker_late = kept.late_kept c h f.ring rings matches f.time f.walk k.walker_late;
-    found_stamp = kept.found_kept c h f.ring rings matches (λ s j. m (Stamp s j)) (m Clock) f.heard k.found_stamp;
-    unstamped_is_unfinished = kept.unfinished_kept c h f.ring rings matches (λ s j. m (Stamp s j)) f.section k.unstamped_is_unfinished;
-    named_commit = kept.named_kept c h f.ring rings matches (λ s j. m (Stamp s j)) f.section k.named_commit;
-    open_section = kept.open_kept c h f.ring rings matches f.section k.open_section;
-    successor_flag = kept.flag_kept c h f.ring rings matches (λ s j. m (Super s j)) f.section k.successor_flag;
-    succeeded_has_super = kept.succeeded_kept c h f.ring rings matches (λ s j. m (Super s j)) f.empty k.succeeded_has_super;
-    loaded_words = k.loaded_words;
-    freed_is_old = kept.freed_kept c h f.ring rings matches (m Clock) f.grace k.freed_is_old;
-    cut_is_old = cut_old;
-    death_after_write = kept.death_after_kept c h f.ring rings matches k.death_after_write;
-    write_back = backs;
-    positions_and_grace = kept.grace_kept c h f.ring rings matches f.grace free_back freeing_back built_back k.positions_and_grace;
-    phases_and_scan = k.phases_and_scan;
-  }
+  cut_facts =
+      let stamp : ℕ → ℕ → ℕ = λ s j. m (Stamp s j) in
+      let super : ℕ → ℕ → ℕ = λ s j. m (Super s j) in
+      let seen = seen_put c f.past f.ring n slot cut_ring x (Committed new) refl within
+      (noted_same (c.base + length (f.past n).seen) (Committed note) (Committed new) refl (λ (uncut : true ≡ false). absurd (cc))
+      (k.deaths_seen n slot x (Committed note) lives)) k.deaths_seen in
+      let positions = kept.positions_kept c h f.ring rings matches (wide_after f.ring n slot (Live x (Committed new)) cut_ring refl within) freeing_back freeing_forth
+      built_back k.positions in
+      assumption
+      (words_after, seen, positions, heads, links, commit_links, masters, cut_old, backs,
+      kept.stamps_kept c h f.ring rings matches (m Clock) stamp built_back k.stamps, kept.sets_kept c h f.ring rings matches k.write_sets,
+      kept.past_help_kept c h f.ring rings matches stamp f.section f.heard k.stamped_past_help, kept.freshness_kept c h f.ring rings matches f.time k.lock_freshness,
+      kept.successors_kept c h f.ring rings matches stamp super f.section built_back k.successors, kept.deaths_kept c h f.ring rings matches k.deaths,
+      kept.aborted_link_kept c h f.ring rings matches k.aborted_link, kept.foot_kept c h f.ring rings matches start master f.time k.chain_foot,
+      kept.place_kept c h f.ring rings matches start master f.time f.walk k.walker_place,
+      kept.before_death_kept c h f.ring rings matches f.time f.walk k.walker_before_death,
+      kept.knowledge_kept c h f.ring rings matches f.section f.time f.heard f.walk k.walker_knowledge, kept.below_kept c h f.ring rings matches stamp k.below_is_stamped,
+      kept.falls_kept c h f.ring rings matches stamp f.walk k.walker_falls, kept.late_kept c h f.ring rings matches f.time f.walk k.walker_late,
+      kept.found_kept c h f.ring rings matches stamp (m Clock) f.heard k.found_stamp,
+      kept.unfinished_kept c h f.ring rings matches stamp f.section k.unstamped_is_unfinished, kept.named_kept c h f.ring rings matches stamp f.section k.named_commit,
+      kept.open_kept c h f.ring rings matches f.section k.open_section, kept.flag_kept c h f.ring rings matches super f.section k.successor_flag,
+      kept.succeeded_kept c h f.ring rings matches super f.empty k.succeeded_has_super, kept.freed_kept c h f.ring rings matches (m Clock) f.grace k.freed_is_old,
+      kept.death_after_kept c h f.ring rings matches k.death_after_write,
+      kept.grace_kept c h f.ring rings matches f.grace free_back freeing_back built_back k.positions_and_grace, k)

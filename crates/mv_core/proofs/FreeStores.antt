@@ -4,7 +4,7 @@ use Rattle.std.proofs.lemmas.List.{length-set, length-map}
 use Rattle.mv_history.specs.declared.Entry.{Entry}
 use Rattle.mv_history.specs.State.{State, Writes}
 use Rattle.mv_layout.specs.declared.Config.{Config}
-use Rattle.mv_layout.specs.declared.Place.TheVariants.{Stamp}
+use Rattle.mv_layout.specs.declared.Place.TheVariants.{Stamp, Super}
 use Rattle.mv_layout.specs.Places.{Memory, put}
 use Rattle.mv_core.specs.declared.ring.Ring.{Ring}
 use Rattle.mv_core.specs.declared.ring.Slot.{Slot}
@@ -17,6 +17,9 @@ use Rattle.mv_core.specs.declared.view.Phase.TheVariants.{Outside, Inside}
 use Rattle.mv_core.specs.Rings.{slot_at, index_of, Lives}
 use Rattle.mv_core.specs.Views.{Faces, faces_of, become, section_of}
 use Rattle.mv_core.specs.ReclaimSteps.{UsesPosition, IsDeadBy, MayFreeSlot, MayStoreFree, freeing_slot, freed_ring, free_stored}
+use Rattle.mv_core.specs.SectionFacts.{LockFreshness}
+use Rattle.mv_core.specs.WalkFacts.{WalkerLate, SucceededHasSuper}
+use Rattle.mv_core.specs.ReclaimFacts.{Deaths, DeathsSeen, DeathAfterWrite, CutIsOld, SuccessorFlag}
 use Rattle.mv_core.specs.Known.{RunsOn}
 use Rattle.mv_core.specs.Rule.{Facts, Stores, IsKept}
 use Rattle.mv_core.proofs.Frames.{unchanged, changed, settle}
@@ -36,53 +39,36 @@ module _ (starts : State → Type 0) (allows : List ℕ → State → Writes →
 
   -- all facts after the store
   pub freed_facts : Facts starts allows c start (put m (Stamp n (index_of c position)) 0) h (changed f n (record unchanged { ring = Some r }))
-  freed_facts = record {
-    checked = k.checked;
-    history = k.history;
-    slot_words = sets.words_after starts allows c start m h f k n position r is;
-    stamps = sets.stamps_after starts allows c start m h f k n position r is;
-    write_sets = sets.sets_after starts allows c start m h f k n position r is;
-    helped_words = sets.helped_after starts allows c start m h f k n position r is;
-    marks = k.marks;
-    stamped_past_help = walks.past_help starts allows c start m h f k n position r is;
-    grace = k.grace;
-    lock_freshness = λ s j x lives. k.lock_freshness s j x (was s j x Held lives);
-    successors = sets.successors_after starts allows c start m h f k n position r is;
-    deaths = record {
-      aborted = λ s j dead x lives. k.deaths.aborted s j dead x (was s j x (Aborted (Some dead)) lives);
-      cut = λ s j dead x note lives. k.deaths.cut s j dead x note (was s j x (Committed note) lives);
-      superseded = λ s j dead x note lives. k.deaths.superseded s j dead x note (was s j x (Committed note) lives);
-    };
-    deaths_seen = λ s j x st lives. k.deaths_seen s j x st (was s j x st lives);
-    positions = sets.positions_after starts allows c start m h f k n position r is;
-    head_is_top = chain.heads starts allows c start m h f k n position r is;
-    held_link = chain.links starts allows c start m h f k n position r is;
-    commit_link = chain.commit_links starts allows c start m h f k n position r is;
-    aborted_link = chain.aborted_links starts allows c start m h f k n position r is;
-    present_master = chain.masters starts allows c start m h f k n position r is;
-    chain_foot = chain.feet starts allows c start m h f k n position r is;
-    walker_place = walks.places starts allows c start m h f k n position r is;
-    walker_before_death = walks.deaths starts allows c start m h f k n position r is;
-    walker_knowledge = walks.knowledge starts allows c start m h f k n position r is;
-    below_is_stamped = walks.below starts allows c start m h f k n position r is;
-    walker_falls = walks.falls starts allows c start m h f k n position r is;
-    walker_late = λ s t stand x note timed at late names. k.walker_late s t stand x note timed at late (chain.names_was starts allows c start m h f k n position r is stand.link x (Committed note) names);
-    found_stamp = walks.found starts allows c start m h f k n position r is;
-    unstamped_is_unfinished = walks.unfinished starts allows c start m h f k n position r is;
-    named_commit = walks.named starts allows c start m h f k n position r is;
-    open_section = sets.open_after starts allows c start m h f k n position r is;
-    successor_flag = λ s j i naming x note there mode lives time.
-        let a = k.successor_flag s j i naming x note there mode (was s j x (Committed note) lives) time in
-        (a.0, λ y other under. a.1 y other (chain.names_was starts allows c start m h f k n position r is x.previous y (Committed other) under));
-    succeeded_has_super = λ s e has. let a = k.succeeded_has_super s e has in (a.0, λ j x note lives. a.1 j x note (was s j x (Committed note) lives));
-    loaded_words = k.loaded_words;
-    freed_is_old = chain.freed_after starts allows c start m h f k n position r is;
-    cut_is_old = λ s j x note lives. k.cut_is_old s j x note (was s j x (Committed note) lives);
-    death_after_write = λ s j dead x note lives. k.death_after_write s j dead x note (was s j x (Committed note) lives);
-    write_back = walks.backs starts allows c start m h f k n position r is;
-    positions_and_grace = sets.grace_after starts allows c start m h f k n position r is;
-    phases_and_scan = k.phases_and_scan;
-  }
+  freed_facts =
+      let fresh : LockFreshness c h f.time later = λ s j x lives. k.lock_freshness s j x (was s j x Held lives) in
+      let deaths : Deaths c h later = record {
+        aborted = λ s j dead x lives. k.deaths.aborted s j dead x (was s j x (Aborted (Some dead)) lives);
+        cut = λ s j dead x note lives. k.deaths.cut s j dead x note (was s j x (Committed note) lives);
+        superseded = λ s j dead x note lives. k.deaths.superseded s j dead x note (was s j x (Committed note) lives);
+      } in
+      let seen : DeathsSeen c f.past later = λ s j x st lives. k.deaths_seen s j x st (was s j x st lives) in
+      let late : WalkerLate f.time f.walk later = λ s t stand x note timed at late names.
+          k.walker_late s t stand x note timed at late (chain.names_was starts allows c start m h f k n position r is stand.link x (Committed note) names) in
+      let flags : SuccessorFlag (λ s j. m (Super s j)) f.section later = λ s j i naming x note there mode lives time.
+          let a = k.successor_flag s j i naming x note there mode (was s j x (Committed note) lives) time in
+          (a.0, λ y other under. a.1 y other (chain.names_was starts allows c start m h f k n position r is x.previous y (Committed other) under)) in
+      let succeeded : SucceededHasSuper c h (λ s j. m (Super s j)) f.empty later = λ s e has.
+          let a = k.succeeded_has_super s e has in (a.0, λ j x note lives. a.1 j x note (was s j x (Committed note) lives)) in
+      let cut : CutIsOld f.time later = λ s j x note lives. k.cut_is_old s j x note (was s j x (Committed note) lives) in
+      let death_after : DeathAfterWrite later = λ s j dead x note lives. k.death_after_write s j dead x note (was s j x (Committed note) lives) in
+      assumption
+      (fresh, deaths, seen, late, flags, succeeded, cut, death_after,
+      sets.words_after starts allows c start m h f k n position r is, sets.stamps_after starts allows c start m h f k n position r is,
+      sets.sets_after starts allows c start m h f k n position r is, sets.helped_after starts allows c start m h f k n position r is,
+      sets.successors_after starts allows c start m h f k n position r is, sets.positions_after starts allows c start m h f k n position r is,
+      sets.open_after starts allows c start m h f k n position r is, sets.grace_after starts allows c start m h f k n position r is,
+      chain.heads starts allows c start m h f k n position r is, chain.links starts allows c start m h f k n position r is, chain.commit_links starts allows c start m h f k n position r is,
+      chain.aborted_links starts allows c start m h f k n position r is, chain.masters starts allows c start m h f k n position r is,
+      chain.feet starts allows c start m h f k n position r is, chain.freed_after starts allows c start m h f k n position r is,
+      walks.past_help starts allows c start m h f k n position r is, walks.places starts allows c start m h f k n position r is,
+      walks.deaths starts allows c start m h f k n position r is, walks.knowledge starts allows c start m h f k n position r is,
+      walks.below starts allows c start m h f k n position r is, walks.falls starts allows c start m h f k n position r is, walks.found starts allows c start m h f k n position r is,
+      walks.unfinished starts allows c start m h f k n position r is, walks.named starts allows c start m h f k n position r is, walks.backs starts allows c start m h f k n position r is, k)
 
 -- a slot that isn't of the set is as it was
 freeing_same : (position : ℕ) (z : Slot) → ((x : Version) (st : Status) → z ≡ Live x st → x.first ≢ position) → freeing_slot position z ≡ z

@@ -1,5 +1,5 @@
 -- One more entry, of what its seat holds: all facts.
-use Rattle.std.proofs.Common.{◌≡◌, ℕ, ◌≤◌, List, [], ◌∷◌, ◌++◌, length, subst, arith, Option, Some}
+use Rattle.std.proofs.Common.{◌≡◌, ℕ, ◌+◌, ◌≤◌, List, [], ◌∷◌, ◌++◌, length, subst, arith, Option, Some}
 use Rattle.std.specs.Prelude.{Contains}
 use Rattle.mv_history.specs.declared.Entry.{Entry}
 use Rattle.mv_history.specs.State.{State, Writes}
@@ -52,45 +52,34 @@ module _ (starts : State → Type 0) (allows : List ℕ → State → Writes →
         let positions = sets.positions_after starts allows c start m h f k n e in
         let words = turned.words_after starts allows c start m h f k n e makes clock sections turns in
         let helped_words = turned.helped_after starts allows c start m h f k n e makes clock sections turns in
-        record {
-          checked = k.checked;
-          history = history;
-          slot_words = sets.words_after starts allows c start m h f k n e;
-          stamps = stamps;
-          write_sets = sets.sets_after starts allows c start m h f k n e set;
-          helped_words = helped_words;
-          marks = turned.marks_later (m Clock) clock (λ s. m (Mark s)) phase later marks;
-          stamped_past_help = past_help c clock (λ s j. m (Stamp s j)) (h ++ e ∷ []) (logs.after f.ring n (new_time c.base h e)) k.checked (let long = history.long in let low = history.in_time in omega arith) stamps positions sections f.heard words helped_words;
-          grace = turned.grace_later (m Clock) clock (m Grace) f.time f.grace f.scan later k.grace;
-          lock_freshness = turned.freshness_after starts allows c start m h f k n e makes clock sections turns;
-          successors = turned.successors_after starts allows c start m h f k n e makes clock sections turns;
-          deaths = sets.deaths_after starts allows c start m h f k n e;
-          deaths_seen = sets.deaths_seen_after starts allows c start m h f k n e past seen;
-          positions = positions;
-          head_is_top = chains.heads_after starts allows c start m h f k n e makes;
-          held_link = chains.held_links starts allows c start m h f k n e makes;
-          commit_link = chains.commit_links starts allows c start m h f k n e makes;
-          aborted_link = chains.aborted_links starts allows c start m h f k n e makes;
-          present_master = chains.masters_present starts allows c start m h f k n e makes;
-          chain_foot = chains.feet_after starts allows c start m h f k n e makes;
-          walker_place = walks.places_after starts allows c start m h f k n e;
-          walker_before_death = walks.deaths_after starts allows c start m h f k n e;
-          walker_knowledge = walks.knowledge_after starts allows c start m h f k n e sections
-              (λ s i is stands. let w = turned.past_help_words starts allows c start m h f k n e makes clock sections turns s i is in subst (λ (word : ℕ). Contains (f.heard s).helped word) w.2 (k.walker_knowledge.helped s w.0 w.1 stands));
-          below_is_stamped = walks.below_after starts allows c start m h f k n e;
-          walker_falls = walks.falls_after starts allows c start m h f k n e;
-          walker_late = walks.lates_after starts allows c start m h f k n e;
-          found_stamp = turned.found_after starts allows c start m h f k n e makes clock sections turns;
-          unstamped_is_unfinished = turned.unfinished_after starts allows c start m h f k n e makes clock sections turns;
-          named_commit = turned.named_after starts allows c start m h f k n e makes clock sections turns;
-          open_section = turned.open_after starts allows c start m h f k n e makes clock sections turns;
-          successor_flag = turned.flags_after starts allows c start m h f k n e makes clock sections turns;
-          succeeded_has_super = turned.succeeded_after starts allows c start m h f k n e makes clock sections turns;
-          loaded_words = words;
-          freed_is_old = turned.freed_after starts allows c start m h f k n e makes clock sections turns;
-          cut_is_old = sets.cut_after starts allows c start m h f k n e;
-          death_after_write = sets.death_after_write starts allows c start m h f k n e;
-          write_back = turned.backs_after starts allows c start m h f k n e makes clock sections turns;
-          positions_and_grace = sets.grace_after starts allows c start m h f k n e;
-          phases_and_scan = record { scanning = scanning; outside = k.phases_and_scan.outside; seen = λ s u at. let old = k.phases_and_scan.seen s u at in let more = seen s in omega arith; within = k.phases_and_scan.within };
-        }
+        let past_helped = past_help c clock (λ s j. m (Stamp s j)) (h ++ e ∷ []) (logs.after f.ring n (new_time c.base h e)) k.checked
+        (let long = history.long in let low = history.in_time in omega arith) stamps positions sections f.heard words helped_words in
+        let knowledge = walks.knowledge_after starts allows c start m h f k n e sections
+        (λ s i is stands.
+        let w = turned.past_help_words starts allows c start m h f k n e makes clock sections turns s i is in
+        subst (λ (word : ℕ). Contains (f.heard s).helped word) w.2 (k.walker_knowledge.helped s w.0 w.1 stands)) in
+        let times_seen : (s u : ℕ) → f.time s ≡ Some u → u ≤ c.base + length (past s).seen =
+        λ s u at. let old = k.phases_and_scan.seen s u at in let more = seen s in omega arith in
+        assumption
+        (history, stamps, positions, words, helped_words, past_helped, knowledge, times_seen, scanning,
+        sets.words_after starts allows c start m h f k n e, sets.sets_after starts allows c start m h f k n e set,
+        turned.marks_later (m Clock) clock (λ s. m (Mark s)) phase later marks,
+        turned.grace_later (m Clock) clock (m Grace) f.time f.grace f.scan later k.grace,
+        turned.freshness_after starts allows c start m h f k n e makes clock sections turns,
+        turned.successors_after starts allows c start m h f k n e makes clock sections turns,
+        turned.found_after starts allows c start m h f k n e makes clock sections turns,
+        turned.unfinished_after starts allows c start m h f k n e makes clock sections turns,
+        turned.named_after starts allows c start m h f k n e makes clock sections turns,
+        turned.open_after starts allows c start m h f k n e makes clock sections turns,
+        turned.flags_after starts allows c start m h f k n e makes clock sections turns,
+        turned.succeeded_after starts allows c start m h f k n e makes clock sections turns,
+        turned.freed_after starts allows c start m h f k n e makes clock sections turns,
+        turned.backs_after starts allows c start m h f k n e makes clock sections turns,
+        sets.deaths_after starts allows c start m h f k n e, sets.deaths_seen_after starts allows c start m h f k n e past seen,
+        sets.cut_after starts allows c start m h f k n e, sets.death_after_write starts allows c start m h f k n e,
+        sets.grace_after starts allows c start m h f k n e, chains.heads_after starts allows c start m h f k n e makes,
+        chains.held_links starts allows c start m h f k n e makes, chains.commit_links starts allows c start m h f k n e makes,
+        chains.aborted_links starts allows c start m h f k n e makes, chains.masters_present starts allows c start m h f k n e makes,
+        chains.feet_after starts allows c start m h f k n e makes, walks.places_after starts allows c start m h f k n e,
+        walks.deaths_after starts allows c start m h f k n e, walks.below_after starts allows c start m h f k n e,
+        walks.falls_after starts allows c start m h f k n e, walks.lates_after starts allows c start m h f k n e, k)

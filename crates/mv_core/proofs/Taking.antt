@@ -1,5 +1,5 @@
 -- load CLOCK (take time): a section begins, whose time is the clock's, and its seat sees the whole history. Nothing that bounds the times of all sections is above the clock.
-use Rattle.std.proofs.Common.{◌≡◌, ◌<◌, ◌≢◌, ℕ, suc, ◌+◌, ◌≤◌, cond, count_by, List, [], ◌∷◌, length, refl, sym, ap, ◌∙◌, subst, inl, inr, le_refl, arith, Some, None}
+use Rattle.std.proofs.Common.{◌≡◌, ◌<◌, ◌≢◌, ℕ, suc, ◌+◌, ◌≤◌, cond, count_by, List, [], ◌∷◌, length, refl, sym, ap, ◌∙◌, subst, inl, inr, le_refl, arith, Some, None, false}
 use Rattle.std.specs.Prelude.{Contains, slice_index_or}
 use Rattle.mv_history.specs.declared.Entry.{Entry}
 use Rattle.mv_history.specs.State.{State, Writes}
@@ -19,10 +19,12 @@ use Rattle.mv_core.specs.declared.view.Mode.TheVariants.{Open}
 use Rattle.mv_core.specs.declared.view.Heard.{Heard}
 use Rattle.mv_core.specs.declared.view.Scan.{Scan}
 use Rattle.mv_core.specs.declared.view.Walk.TheVariants.{Nowhere}
-use Rattle.mv_core.specs.Rings.{is_held, held_count, HoldsNothing}
-use Rattle.mv_core.specs.Times.{is_by, last_own}
+use Rattle.mv_core.specs.declared.ring.CommitNote.{CommitNote}
+use Rattle.mv_core.specs.Rings.{is_held, held_count, HoldsNothing, Lives}
+use Rattle.mv_core.specs.Times.{is_by, last_own, IsNextWrite}
 use Rattle.mv_core.specs.Views.{section_of, time_in, low_of, IsUnnamed, Faces, faces_of, become}
 use Rattle.mv_core.specs.HistoryFacts.{BeginsWith}
+use Rattle.mv_core.specs.SetFacts.{IsNaming}
 use Rattle.mv_core.specs.SectionFacts.{MarkedAs, IsWord, WasClock, IsDone}
 use Rattle.mv_core.specs.EnterSteps.{IsWhole, if_none, MayLoadTime, time_loaded}
 use Rattle.mv_core.specs.Known.{IsTimed, IsBegun}
@@ -80,74 +82,58 @@ module _ (starts : State → Type 0) (allows : List ℕ → State → Writes →
       (inside_after c clock stamp f.heard n f.section (Some inside) (λ i e. subst (λ (s : Section). WasClock c clock s.word) (same_inside i e) this) k.loaded_words)
       k.loaded_words in
       let helped_all = helped_after c clock stamp f.heard n x helped_done k.helped_words in
-      let front : BeginsWith h v.past.seen = subst (λ (u : View). BeginsWith h u.past.seen) is (old.history.seats n).seen in (
+      let front : BeginsWith h v.past.seen = subst (λ (u : View). BeginsWith h u.past.seen) is (old.history.seats n).seen in
+      let marks = become_all (λ s q. MarkedAs clock (m (Mark s)) q) f.phase n (Inside inside)
+      (let r = subst (MarkedAs clock (m (Mark n))) marked (k.marks n) in
+      let lows : inside.low ≡ low = ap low_of may.1 in
+      (subst (λ (l : ℕ). m (Mark n) ≡ 1 + l) (sym lows) r.0, subst (λ (l : ℕ). l ≤ now) (sym lows) r.1, le_refl now))
+      (λ s ne. k.marks s) in
+      let past_helped = past_help c clock stamp h f.ring k.checked (clock_small starts allows c start m h f old) k.stamps k.positions
+      (become f.section n (Some inside)) (become f.heard n x) words_of_all helped_all in
+      let naming : (s j : ℕ) (y : Version) (note : CommitNote) → Lives f.ring s j y (Committed note) → note.cut ≡ false → m (Super s j) ≡ 0
+      → (next : ℕ) → IsNextWrite c.base h y.object note.time next → IsNaming (become f.section n (Some inside)) next (λ _. Unit {0}) =
+      λ s j y note lives uncut zero_is next is_next.
+          let by = k.successors.unfinished s j y note lives uncut zero_is next is_next in
+          let ne : by.seat ≢ n = λ e. not_inside by.inside (ap f.section (sym e) ∙ by.in_section) in
+          record { seat = by.seat; inside = by.inside; naming = by.naming; in_section = become_else f.section n (Some inside) by.seat ne ∙ by.in_section;
+          mode = by.mode; time_is = by.time_is; known = tt } in
+      let unfinished = more.unfinished_more c h f.ring f.section n (Some inside) unnamed stamp (λ i naming e mode unset. not_inside i e)
+      k.unstamped_is_unfinished in
+      let opened = more.open_more c h f.ring f.section n (Some inside) unnamed nothing
+      (λ i e. subst (λ (s : Section). last_own c.base h n ≤ time_in s) (same_inside i e) (let l = last_that-le (is_by n) h in omega arith)) k.open_section in
+      let backs = more.back_more c start h f.ring sets f.time n (Some now) late f.walk f.section f.heard (Some inside) x master f.grace f.back k.write_back in
+      let scanning = become_all (λ s q. (running : Scan) → f.scan s ≡ Some running → q ≡ Outside) f.phase n (Inside inside)
+      (λ running e. let g : Marked low ≡ Outside = sym marked ∙ k.phases_and_scan.scanning n running e in absurd (cc))
+      (λ s ne. k.phases_and_scan.scanning s) in
+      let outside : (s : ℕ) → become f.time n (Some now) s ≡ None → (become f.walk n Nowhere s ≡ Nowhere) × (become f.back n None s ≡ None) =
+      λ s. by_seat s n (λ b. cond b (Some now) (f.time s) ≡ None → (cond b Nowhere (f.walk s) ≡ Nowhere) × (cond b None (f.back s) ≡ None))
+      (λ _ e. absurd (cc)) (λ _. k.phases_and_scan.outside s) in
+      let seen : (s u : ℕ) → become f.time n (Some now) s ≡ Some u → u ≤ c.base + length (become f.past n p s).seen =
+      λ s u. by_seat s n (λ b. cond b (Some now) (f.time s) ≡ Some u → u ≤ c.base + length (cond b p (f.past s)).seen)
+      (λ _ e. let same : now ≡ u = cc in let l = k.history.long in omega arith)
+      (λ ne e. old.phases_and_scan.seen s u e) in
+      let within : (s u : ℕ) → become f.time n (Some now) s ≡ Some u → s < c.seats =
+      λ s u. by_seat s n (λ b. cond b (Some now) (f.time s) ≡ Some u → s < c.seats) (λ same e. subst (λ (x : ℕ). x < c.seats) (sym same) own)
+      (λ ne e. k.phases_and_scan.within s u e) in (
         w,
         settle starts allows c start m h seats n v w is
-            (record unchanged { past = Some p; phase = Some (Inside inside); section = Some (Some inside); time = Some (Some now); heard = Some x; walk = Some Nowhere; back = Some None })
-            (ap (λ (u : View). record u.past { seen = h }) (sym is), refl, refl, refl, refl, refl, refl, refl, refl, refl, refl) (record {
-              checked = k.checked;
-              history = k.history;
-              slot_words = k.slot_words;
-              stamps = k.stamps;
-              write_sets = k.write_sets;
-              helped_words = helped_all;
-              marks = become_all (λ s q. MarkedAs clock (m (Mark s)) q) f.phase n (Inside inside)
-                  (let r = subst (MarkedAs clock (m (Mark n))) marked (k.marks n) in
-                  let lows : inside.low ≡ low = ap low_of may.1 in
-                  (subst (λ (l : ℕ). m (Mark n) ≡ 1 + l) (sym lows) r.0, subst (λ (l : ℕ). l ≤ now) (sym lows) r.1, le_refl now))
-                  (λ s ne. k.marks s);
-              stamped_past_help = past_help c clock stamp h f.ring k.checked (clock_small starts allows c start m h f old) k.stamps k.positions (become f.section n (Some inside)) (become f.heard n x) words_of_all helped_all;
-              grace = more.grace_more c start h f.ring sets f.time n (Some now) late clock (m Grace) f.grace f.scan k.history.long k.grace;
-              lock_freshness = more.freshness_more c start h f.ring sets f.time n (Some now) late nothing k.lock_freshness;
-              successors = record {
-                held = k.successors.held;
-                next = k.successors.next;
-                stamped = k.successors.stamped;
-                unfinished = λ s j y note lives uncut zero_is next is_next.
-                    let by = k.successors.unfinished s j y note lives uncut zero_is next is_next in
-                    let ne : by.seat ≢ n = λ e. not_inside by.inside (ap f.section (sym e) ∙ by.in_section) in
-                    record { seat = by.seat; inside = by.inside; naming = by.naming; in_section = become_else f.section n (Some inside) by.seat ne ∙ by.in_section; mode = by.mode; time_is = by.time_is; known = tt };
-                built = k.successors.built;
-              };
-              deaths = k.deaths;
-              deaths_seen = k.deaths_seen;
-              positions = k.positions;
-              head_is_top = k.head_is_top;
-              held_link = k.held_link;
-              commit_link = k.commit_link;
-              aborted_link = k.aborted_link;
-              present_master = more.master_more c start h f.ring sets f.time n (Some now) late master k.present_master;
-              chain_foot = more.foot_more c start h f.ring sets f.time n (Some now) late master k.chain_foot;
-              walker_place = more.place_more c start h f.ring sets f.time n (Some now) late f.walk master k.walker_place;
-              walker_before_death = more.before_death_more c start h f.ring sets f.time n (Some now) late f.walk k.walker_before_death;
-              walker_knowledge = more.knowledge_more c start h f.ring sets f.time n (Some now) late f.walk f.section f.heard (Some inside) x k.walker_knowledge;
-              below_is_stamped = k.below_is_stamped;
-              walker_falls = more.falls_more c start h f.ring sets f.time n (Some now) late f.walk stamp k.walker_falls;
-              walker_late = more.late_more c start h f.ring sets f.time n (Some now) late f.walk k.walker_late;
-              found_stamp = found_after c clock stamp f.heard n f.ring x refl k.found_stamp;
-              unstamped_is_unfinished = more.unfinished_more c h f.ring f.section n (Some inside) unnamed stamp (λ i naming e mode unset. not_inside i e) k.unstamped_is_unfinished;
-              named_commit = more.named_more c h f.ring f.section n (Some inside) unnamed stamp k.named_commit;
-              open_section = more.open_more c h f.ring f.section n (Some inside) unnamed nothing
-                  (λ i e. subst (λ (s : Section). last_own c.base h n ≤ time_in s) (same_inside i e) (let l = last_that-le (is_by n) h in omega arith)) k.open_section;
-              successor_flag = more.flag_more c h f.ring f.section n (Some inside) unnamed super k.successor_flag;
-              succeeded_has_super = k.succeeded_has_super;
-              loaded_words = words_of_all;
-              freed_is_old = k.freed_is_old;
-              cut_is_old = more.cut_more c start h f.ring sets f.time n (Some now) late k.cut_is_old;
-              death_after_write = k.death_after_write;
-              write_back = more.back_more c start h f.ring sets f.time n (Some now) late f.walk f.section f.heard (Some inside) x master f.grace f.back k.write_back;
-              positions_and_grace = k.positions_and_grace;
-              phases_and_scan = record {
-                scanning = become_all (λ s q. (running : Scan) → f.scan s ≡ Some running → q ≡ Outside) f.phase n (Inside inside)
-                    (λ running e. let g : Marked low ≡ Outside = sym marked ∙ k.phases_and_scan.scanning n running e in absurd (cc))
-                    (λ s ne. k.phases_and_scan.scanning s);
-                outside = λ s. by_seat s n (λ b. cond b (Some now) (f.time s) ≡ None → (cond b Nowhere (f.walk s) ≡ Nowhere) × (cond b None (f.back s) ≡ None)) (λ _ e. absurd (cc)) (λ _. k.phases_and_scan.outside s);
-                seen = λ s u. by_seat s n (λ b. cond b (Some now) (f.time s) ≡ Some u → u ≤ c.base + length (cond b p (f.past s)).seen)
-                    (λ _ e. let same : now ≡ u = cc in let l = k.history.long in omega arith)
-                    (λ ne e. old.phases_and_scan.seen s u e);
-                within = λ s u. by_seat s n (λ b. cond b (Some now) (f.time s) ≡ Some u → s < c.seats) (λ same e. subst (λ (x : ℕ). x < c.seats) (sym same) own) (λ ne e. k.phases_and_scan.within s u e);
-              };
-            }),
+            (record unchanged { past = Some p; phase = Some (Inside inside); section = Some (Some inside); time = Some (Some now); heard = Some x;
+            walk = Some Nowhere; back = Some None })
+            (ap (λ (u : View). record u.past { seen = h }) (sym is), refl, refl, refl, refl, refl, refl, refl, refl, refl, refl)
+            (assumption
+            (helped_all, marks, past_helped, naming, unfinished, opened, words_of_all, backs, scanning, outside, seen, within,
+            more.grace_more c start h f.ring sets f.time n (Some now) late clock (m Grace) f.grace f.scan k.history.long k.grace,
+            more.freshness_more c start h f.ring sets f.time n (Some now) late nothing k.lock_freshness,
+            more.master_more c start h f.ring sets f.time n (Some now) late master k.present_master,
+            more.foot_more c start h f.ring sets f.time n (Some now) late master k.chain_foot,
+            more.place_more c start h f.ring sets f.time n (Some now) late f.walk master k.walker_place,
+            more.before_death_more c start h f.ring sets f.time n (Some now) late f.walk k.walker_before_death,
+            more.knowledge_more c start h f.ring sets f.time n (Some now) late f.walk f.section f.heard (Some inside) x k.walker_knowledge,
+            more.falls_more c start h f.ring sets f.time n (Some now) late f.walk stamp k.walker_falls,
+            more.late_more c start h f.ring sets f.time n (Some now) late f.walk k.walker_late,
+            found_after c clock stamp f.heard n f.ring x refl k.found_stamp, more.named_more c h f.ring f.section n (Some inside) unnamed stamp k.named_commit,
+            more.flag_more c h f.ring f.section n (Some inside) unnamed super k.successor_flag,
+            more.cut_more c start h f.ring sets f.time n (Some now) late k.cut_is_old, k)),
         (((h, (front, k.history.long), refl), k.loaded_words.clock_is, subst (λ (u : View). HoldsNothing u.ring) is nothing), (refl, refl, refl, refl, refl, refl)),
       )
 

@@ -1,5 +1,5 @@
 -- compare_exchange HEAD (cut), won: the version was on top of its object's chain and alone is cut, and the master has the present state.
-use Rattle.std.proofs.Common.{◌≡◌, ◌≢◌, ◌⊎◌, ℕ, ◌+◌, ◌-◌, ◌<◌, ◌≤◌, true, false, List, length, refl, sym, ap, ◌∙◌, subst, inl, inr, ⊎_elim, arith, slice_index, Some}
+use Rattle.std.proofs.Common.{◌≡◌, ◌≢◌, ◌⊎◌, ℕ, ◌+◌, ◌-◌, ◌/◌, ◌%◌, ◌<◌, ◌≤◌, true, false, List, length, refl, sym, ap, ◌∙◌, subst, inl, inr, ⊎_elim, arith, slice_index, Some}
 use mathlib.Core.Logic.{dite}
 use native.Mathlib.Decide.{ℕ_discrete}
 use Rattle.mv_history.specs.declared.Entry.{Entry}
@@ -28,16 +28,17 @@ use Rattle.mv_core.proofs.KeptRecords.{same_back}
 use Rattle.mv_core.proofs.Frames.{unchanged, changed}
 use Rattle.mv_core.proofs.Latest.{latest-le, latest_at-end, latest-reaches, latest_at-le}
 use Rattle.mv_core.proofs.Links.{live_once, note_once, link_some, names_once, position_once}
-use Rattle.mv_core.proofs.Slots.{Matches, match_put, slots_after, at_here, wide_after, lives_back, lives_else, live_within, here_or_else}
-use Rattle.mv_core.proofs.Matching.{gone_forth}
+use Rattle.mv_core.proofs.Slots.{Matches, match_weaker, match_put, slots_after, at_here, wide_after, lives_back, lives_else, live_within, here_or_else}
+use Rattle.mv_core.proofs.Matching.{AlikeOrCut, alike_place, gone_forth, uncut_back, none_uncut_forth, none_holds_back, version_back, version_forth, committed_forth}
 use Rattle.mv_core.proofs.Versions.{write_once}
 use Rattle.mv_core.proofs.Written.{version_writes, commit_within}
 use Rattle.mv_core.proofs.WordsAt.{words_of-same, version-words}
 use Rattle.mv_core.proofs.LockWon.{put_head}
 use Rattle.mv_core.proofs.Cuts as cuts
-use Rattle.mv_core.proofs.Cuts.{IsCutOf, Cuts, cuts_self}
-use Rattle.mv_core.proofs.CutKept as kept
-use Rattle.mv_core.proofs.SeenDeaths.{noted_same, seen_put}
+use Rattle.mv_core.proofs.Cuts.{Cuts, cuts_self, cuts_alike}
+use Rattle.mv_core.proofs.MatchedSets as set
+use Rattle.mv_core.proofs.MatchedStamps as stamped
+use Rattle.mv_core.proofs.MatchedFacts.{alike_or_cut_facts}
 
 module _ (starts : State → Type 0) (allows : List ℕ → State → Writes → Type 0) (c : Config) (start : State) (m : Memory) (h : List Entry) (f : Faces) (k : Facts starts allows c start m h f)
     (n slot : ℕ) (x : Version) (note : CommitNote) (lives : Lives f.ring n slot x (Committed note)) (won : m (Head x.object) ≡ link_of n x.position)
@@ -64,7 +65,10 @@ module _ (starts : State → Type 0) (allows : List ℕ → State → Writes →
   within = live_within (f.ring n) slot x (Committed note) lives
 
   matches : Matches Cuts f.ring rings
-  matches = match_put Cuts cuts_self f.ring n slot (Live x (Committed new)) cut_ring refl within refl x (Committed note) x (Committed new) lives refl (refl, record { time = refl; dead = refl; linked = refl; cut = λ _. refl })
+  matches = match_put Cuts cuts_self f.ring n slot (Live x (Committed new)) cut_ring refl within refl x (Committed note) x (Committed new) lives refl ((refl, refl, λ _. refl), (refl, refl))
+
+  or_cut : Matches AlikeOrCut f.ring rings
+  or_cut = match_weaker Cuts AlikeOrCut f.ring rings cuts_alike matches
 
   all_slots : (P : ℕ → ℕ → Slot → Type 0) → P n slot (Live x (Committed new)) → ((s j : ℕ) → ¬ ((s ≡ n) × (j ≡ slot)) → P s j (slot_at (f.ring s) j)) → (s j : ℕ) → P s j (slot_at (rings s) j)
   all_slots = slots_after f.ring n slot (Live x (Committed new)) cut_ring refl within
@@ -142,24 +146,27 @@ module _ (starts : State → Type 0) (allows : List ℕ → State → Writes →
         },
         a.3,
       ))
-      (λ z. inr (z.0, cuts.none_uncut_forth f.ring rings matches o t z.1))
+      (λ z. inr (z.0, none_uncut_forth f.ring rings or_cut o t z.1))
+
+  held_was : (s j : ℕ) (y : Version) → Lives rings s j y Held → Lives f.ring s j y Held
+  held_was = all_slots (λ s j z. (y : Version) → z ≡ Live y Held → Lives f.ring s j y Held) (λ y e. absurd (cc)) (λ s j other y e. e)
 
   heads : HeadIsTop c h head rings
   heads = record {
     held = λ s j y there.
-        let was = cuts.held_back f.ring rings matches s j y there in
+        let was = held_was s j y there in
         put_head m x.object 0 (λ o w. o ≡ y.object → w ≡ link_of s y.position)
         (λ e. absurd (none_holds s j y was (sym e)))
         (λ o ne e. ap (λ (p : ℕ). m (Head p)) e ∙ k.head_is_top.held s j y was)
         y.object refl;
     top = put_head m x.object 0 (λ o w. NoneHolds rings o → IsTop rings o (latest c.base h o) w)
         (λ none. inr (refl, none_uncut))
-        (λ o ne none. top_still o (latest c.base h o) (m (Head o)) ne (k.head_is_top.top o (cuts.none_holds_back f.ring rings matches o none)));
+        (λ o ne none. top_still o (latest c.base h o) (m (Head o)) ne (k.head_is_top.top o (none_holds_back f.ring rings or_cut o none)));
   }
 
   links : HeldLink c h rings
   links s j y there =
-      let was = cuts.held_back f.ring rings matches s j y there in
+      let was = held_was s j y there in
       top_still y.object (latest c.base h y.object) y.previous (none_holds s j y was) (k.held_link s j y was)
 
   -- no later write of the object lies above it
@@ -174,10 +181,10 @@ module _ (starts : State → Type 0) (allows : List ℕ → State → Writes →
 
   commit_links : CommitLink c h rings
   commit_links s j y o there =
-      let b = cuts.committed_back f.ring rings matches s j y o there in
+      let b = cuts.this_committed c h f.ring rings matches s j y o there in
       let r = subst (λ (t : ℕ). LinksBelow f.ring y (latest_at c.base h y.object (t - 1))) (sym b.2.time) (k.commit_link s j y b.0 b.1) in
       let t : ℕ = latest_at c.base h y.object (o.time - 1) in record {
-        uncut = λ link z q v uncut. let w = cuts.version_back f.ring rings matches y.object t link z q v in r.uncut link z w.0 w.1 (cuts.uncut_back w.0 q w.2 uncut);
+        uncut = λ link z q v uncut. let w = version_back f.ring rings or_cut y.object t link z q v in r.uncut link z w.0 w.1 (uncut_back w.0 q w.2 uncut);
         cut = λ link z q v cut.
             ⊎_elim
             (λ a.
@@ -187,8 +194,8 @@ module _ (starts : State → Type 0) (allows : List ℕ → State → Writes →
             (λ was. r.cut link z q (record { names = record { seat = v.names.seat; slot = v.names.slot; lives = was; is = v.names.is }; object_is = v.object_is; time_is = v.time_is }) cut)
             (committed_was v.names.seat v.names.slot z q v.names.lives);
         none = λ none.
-            ⊎_elim (λ a. inl a) (λ g. inr (gone_forth Cuts cuts.cuts_place f.ring rings matches y.previous g))
-            (r.none (λ link z q v. let w = cuts.version_forth f.ring rings matches y.object t link z q v in none link z w.0 w.1));
+            ⊎_elim (λ a. inl a) (λ g. inr (gone_forth AlikeOrCut alike_place f.ring rings or_cut y.previous g))
+            (r.none (λ link z q v. let w = version_forth f.ring rings or_cut y.object t link z q v in none link z w.0 w.1));
       }
 
   -- the master has the present state
@@ -223,7 +230,7 @@ module _ (starts : State → Type 0) (allows : List ℕ → State → Writes →
       let r = k.write_back s b e in
       let w = r.2 in
       let i : ℕ = index_of c b.position in
-      let q = cuts.committed_forth f.ring rings matches s i w.version w.note w.lives in
+      let q = committed_forth f.ring rings or_cut s i w.version w.note w.lives in
       let uncut : b.tried ≡ false → q.0.cut ≡ false = λ untried.
           ⊎_elim
           (λ a. let all = tried b (ap f.back (sym a.0) ∙ e) in let clash : true ≡ false = sym all ∙ untried in absurd (cc))
@@ -231,10 +238,10 @@ module _ (starts : State → Type 0) (allows : List ℕ → State → Writes →
           let one = live_once (slot_at (f.ring s) i) w.version w.version (Committed w.note) (Committed q.0) w.lives was in
           ap (λ (p : CommitNote). p.cut) (sym (note_once w.note q.0 one.1)) ∙ w.uncut untried)
           (committed_was s i w.version q.0 q.1) in
-      let old = subst (λ (t : ℕ). NotAboveAny t f.time) (sym q.2.time) w.old in
-      let known = subst (λ (t : ℕ). t ≤ f.grace s) (sym q.2.time) w.known in
-      let nothing = cuts.nothing_still f.ring rings matches s w.nothing in
-      (r.0, r.1, same_back w q.0 w.helped nothing q.1 old known (w.last ∙ sym q.2.time) uncut w.words)
+      let old = subst (λ (t : ℕ). NotAboveAny t f.time) (sym q.2) w.old in
+      let known = subst (λ (t : ℕ). t ≤ f.grace s) (sym q.2) w.known in
+      let nothing = set.nothing_match c h f.ring rings or_cut s w.nothing in
+      (r.0, r.1, same_back w q.0 w.helped nothing q.1 old known (w.last ∙ sym q.2) uncut w.words)
 
   built_back : (s j : ℕ) (b : Build) → slot_at (rings s) j ≡ Built b → slot_at (f.ring s) j ≡ Built b
   built_back = all_slots (λ s j z. (b : Build) → z ≡ Built b → slot_at (f.ring s) j ≡ Built b) (λ b e. absurd (cc)) (λ s j other b e. e)
@@ -260,24 +267,23 @@ module _ (starts : State → Type 0) (allows : List ℕ → State → Writes →
   cut_facts =
       let stamp : ℕ → ℕ → ℕ = λ s j. m (Stamp s j) in
       let super : ℕ → ℕ → ℕ = λ s j. m (Super s j) in
-      let seen = seen_put c f.past f.ring n slot cut_ring x (Committed new) refl within
-      (noted_same (c.base + length (f.past n).seen) (Committed note) (Committed new) refl (λ (uncut : true ≡ false). absurd (cc))
-      (k.deaths_seen n slot x (Committed note) lives)) k.deaths_seen in
-      let positions = kept.positions_kept c h f.ring rings matches (wide_after f.ring n slot (Live x (Committed new)) cut_ring refl within) freeing_back freeing_forth
-      built_back k.positions in
+      let stamps = stamped.stamps_match c h f.ring rings or_cut stamp stamp (λ s j y st l. refl) (m Clock) (λ s j b e. k.stamps.built s j b (built_back s j b e))
+      k.stamps in
+      let successors = stamped.successors_match c h f.ring rings or_cut super super (λ s j y st l. refl) stamp stamp (λ s j y st l. refl) f.section
+      (λ s j b e. k.successors.built s j b (built_back s j b e)) k.successors in
+      let positions = set.positions_match c h f.ring rings or_cut (wide_after f.ring n slot (Live x (Committed new)) cut_ring refl within) freeing_back
+      freeing_forth (λ s j b e. k.positions.built s j b (built_back s j b e)) k.positions in
+      let succeeded = stamped.succeeded_match c h f.ring rings or_cut super super (λ s j y st l. refl) f.empty k.succeeded_has_super in
+      let flags = cuts.flag_match c h f.ring rings matches super super (λ s j y st l. refl) f.section k.successor_flag in
+      let next_is : (s : ℕ) → (rings s).next ≡ (f.ring s).next = matches.next in
+      let grace = cuts.positions_grace_match c h f.ring rings matches f.grace
+      (λ s j low e. subst (λ (p : ℕ). c.base + (p + (j + c.slots - p % c.slots) % c.slots) / c.slots ≤ f.grace s) (sym (next_is s))
+      (k.positions_and_grace.free s j low (free_back s j e)))
+      (λ s j b e. subst (λ (p : ℕ). c.base + p / c.slots ≤ f.grace s) (sym (next_is s)) (k.positions_and_grace.built s j b (built_back s j b e)))
+      (λ s j p first e. k.positions_and_grace.freeing s j p first (freeing_back s j p first e)) k.positions_and_grace in
       assumption
-      (words_after, seen, positions, heads, links, commit_links, masters, cut_old, backs,
-      kept.stamps_kept c h f.ring rings matches (m Clock) stamp built_back k.stamps, kept.sets_kept c h f.ring rings matches k.write_sets,
-      kept.past_help_kept c h f.ring rings matches stamp f.section f.heard k.stamped_past_help, kept.freshness_kept c h f.ring rings matches f.time k.lock_freshness,
-      kept.successors_kept c h f.ring rings matches stamp super f.section built_back k.successors, kept.deaths_kept c h f.ring rings matches k.deaths,
-      kept.aborted_link_kept c h f.ring rings matches k.aborted_link, kept.foot_kept c h f.ring rings matches start master f.time k.chain_foot,
-      kept.place_kept c h f.ring rings matches start master f.time f.walk k.walker_place,
-      kept.before_death_kept c h f.ring rings matches f.time f.walk k.walker_before_death,
-      kept.knowledge_kept c h f.ring rings matches f.section f.time f.heard f.walk k.walker_knowledge, kept.below_kept c h f.ring rings matches stamp k.below_is_stamped,
-      kept.falls_kept c h f.ring rings matches stamp f.walk k.walker_falls, kept.late_kept c h f.ring rings matches f.time f.walk k.walker_late,
-      kept.found_kept c h f.ring rings matches stamp (m Clock) f.heard k.found_stamp,
-      kept.unfinished_kept c h f.ring rings matches stamp f.section k.unstamped_is_unfinished, kept.named_kept c h f.ring rings matches stamp f.section k.named_commit,
-      kept.open_kept c h f.ring rings matches f.section k.open_section, kept.flag_kept c h f.ring rings matches super f.section k.successor_flag,
-      kept.succeeded_kept c h f.ring rings matches super f.empty k.succeeded_has_super, kept.freed_kept c h f.ring rings matches (m Clock) f.grace k.freed_is_old,
-      kept.death_after_kept c h f.ring rings matches k.death_after_write,
-      kept.grace_kept c h f.ring rings matches f.grace free_back freeing_back built_back k.positions_and_grace, k)
+      (words_after, stamps, successors, positions, heads, links, commit_links, masters, succeeded, flags, cut_old, backs, grace,
+      cuts.deaths_match c h f.ring rings matches k.deaths, cuts.deaths_seen_match c h f.ring rings matches f.past k.deaths_seen,
+      cuts.before_death_match c h f.ring rings matches f.time f.walk k.walker_before_death,
+      cuts.death_after_match c h f.ring rings matches k.death_after_write,
+      alike_or_cut_facts starts allows c start m h f k rings stamp (λ s j y st l. refl) (λ s j p used apart. apart) or_cut, k)

@@ -25,12 +25,12 @@ use Rattle.mv_core.specs.Known.{RunsOn}
 use Rattle.mv_core.specs.Rule.{Facts, Stores, IsKept}
 use Rattle.mv_core.proofs.Frames.{unchanged, changed, settle}
 use Rattle.mv_core.proofs.Slots.{Matches, match_weaker, match_put, slots_after, wide_after, next_after, live_within}
-use Rattle.mv_core.proofs.Matching.{Alike}
+use Rattle.mv_core.proofs.Matching.{Alike, AlikeOrCut, alike_or_cut}
 use Rattle.mv_core.proofs.MatchedFacts.{same_stamp_facts}
 use Rattle.mv_core.proofs.MatchedSets as set
 use Rattle.mv_core.proofs.MatchedStamps as stamped
-use Rattle.mv_core.proofs.MatchedWalks as walked
-use Rattle.mv_core.proofs.MatchedWalks.{Steady, steady_self, steady_alike}
+use Rattle.mv_core.proofs.Cuts as cuts
+use Rattle.mv_core.proofs.Cuts.{Cuts, Steady, steady_self, steady_alike, steady_cuts}
 use Rattle.mv_core.proofs.Counts.{held_same}
 use Rattle.mv_core.proofs.SlotWords.{data_word_here, data_word_else, data_word_other}
 
@@ -50,10 +50,16 @@ module _ (starts : State → Type 0) (allows : List ℕ → State → Writes →
   within = live_within (f.ring n) slot x Held lives
 
   steady : Matches Steady f.ring rings
-  steady = match_put Steady steady_self f.ring n slot (Live (with_word x w value) Held) stored refl within refl x Held (with_word x w value) Held lives refl (record { position = refl; first = refl; object = refl; previous = refl })
+  steady = match_put Steady steady_self f.ring n slot (Live (with_word x w value) Held) stored refl within refl x Held (with_word x w value) Held lives refl ((record { position = refl; first = refl; object = refl; previous = refl }, refl), (refl, refl))
 
   alike : Matches Alike f.ring rings
   alike = match_weaker Steady Alike f.ring rings steady_alike steady
+
+  but_cut : Matches Cuts f.ring rings
+  but_cut = match_weaker Steady Cuts f.ring rings steady_cuts steady
+
+  or_cut : Matches AlikeOrCut f.ring rings
+  or_cut = match_weaker Alike AlikeOrCut f.ring rings alike_or_cut alike
 
   -- what holds of the slot, and of each other, holds of all
   all_slots : (P : ℕ → ℕ → Slot → Type 0) → P n slot (Live (with_word x w value) Held) → ((s j : ℕ) → ¬ ((s ≡ n) × (j ≡ slot)) → P s j (slot_at (f.ring s) j)) → (s j : ℕ) → P s j (slot_at (rings s) j)
@@ -104,20 +110,20 @@ module _ (starts : State → Type 0) (allows : List ℕ → State → Writes →
   -- all facts after the store
   data_facts : Facts starts allows c start (put m (Data n slot w) value) h (changed f n (record unchanged { ring = Some stored }))
   data_facts =
-      let stamps = stamped.stamps_match c h f.ring rings alike (λ s j. m (Stamp s j)) (λ s j. m (Stamp s j)) (λ s j y st l. refl) (m Clock)
+      let stamps = stamped.stamps_match c h f.ring rings or_cut (λ s j. m (Stamp s j)) (λ s j. m (Stamp s j)) (λ s j y st l. refl) (m Clock)
       (λ s j b e. k.stamps.built s j b (built_back s j b e)) k.stamps in
-      let successors = stamped.successors_match c h f.ring rings alike (λ s j. m (Super s j)) (λ s j. m (Super s j)) (λ s j y st l. refl)
+      let successors = stamped.successors_match c h f.ring rings or_cut (λ s j. m (Super s j)) (λ s j. m (Super s j)) (λ s j y st l. refl)
       (λ s j. m (Stamp s j)) (λ s j. m (Stamp s j)) (λ s j y st l. refl) f.section (λ s j b e. k.successors.built s j b (built_back s j b e)) k.successors in
-      let deaths = walked.deaths_match c h f.ring rings steady k.deaths in
-      let deaths_seen = walked.deaths_seen_match c h f.ring rings steady f.past k.deaths_seen in
-      let positions = set.positions_match c h f.ring rings alike (wide_after f.ring n slot (Live (with_word x w value) Held) stored refl within)
+      let deaths = cuts.deaths_match c h f.ring rings but_cut k.deaths in
+      let deaths_seen = cuts.deaths_seen_match c h f.ring rings but_cut f.past k.deaths_seen in
+      let positions = set.positions_match c h f.ring rings or_cut (wide_after f.ring n slot (Live (with_word x w value) Held) stored refl within)
       freeing_back freeing_forth (λ s j b e. k.positions.built s j b (built_back s j b e)) k.positions in
-      let before_death = walked.before_death_match c h f.ring rings steady f.time f.walk k.walker_before_death in
-      let flags = walked.flag_match c h f.ring rings steady (λ s j. m (Super s j)) (λ s j. m (Super s j)) (λ s j y st l. refl) f.section k.successor_flag in
-      let succeeded = stamped.succeeded_match c h f.ring rings alike (λ s j. m (Super s j)) (λ s j. m (Super s j)) (λ s j y st l. refl) f.empty
+      let before_death = cuts.before_death_match c h f.ring rings but_cut f.time f.walk k.walker_before_death in
+      let flags = cuts.flag_match c h f.ring rings but_cut (λ s j. m (Super s j)) (λ s j. m (Super s j)) (λ s j y st l. refl) f.section k.successor_flag in
+      let succeeded = stamped.succeeded_match c h f.ring rings or_cut (λ s j. m (Super s j)) (λ s j. m (Super s j)) (λ s j y st l. refl) f.empty
       k.succeeded_has_super in
-      let death_after = walked.death_after_match c h f.ring rings steady k.death_after_write in
-      let grace = walked.positions_grace_match c h f.ring rings steady f.grace free_after grace_built
+      let death_after = cuts.death_after_match c h f.ring rings but_cut k.death_after_write in
+      let grace = cuts.positions_grace_match c h f.ring rings but_cut f.grace free_after grace_built
       (λ s j p first e. k.positions_and_grace.freeing s j p first (freeing_back s j p first e)) k.positions_and_grace in
       assumption
       (slot_words_after, stamps, successors, deaths, deaths_seen, positions, before_death, flags, succeeded, death_after, grace,

@@ -34,12 +34,11 @@ use Rattle.mv_core.proofs.Written.{commit_within}
 use Rattle.mv_core.proofs.WholeSeen.{whole_seen}
 use Rattle.mv_core.proofs.Counts.{held_mapped}
 use Rattle.mv_core.proofs.Slots.{Matches, match_weaker, match_map, mapped, slots_mapped, wide_mapped, next_mapped}
-use Rattle.mv_core.proofs.Matching.{Alike, names_back}
+use Rattle.mv_core.proofs.Matching.{Alike, AlikeOrCut, alike_or_cut, names_back}
 use Rattle.mv_core.proofs.DeathNotes.{timed_back, aborted_was, timed_note, committed_was, note_time, note_cut, note_linked, note_uncut, dead_is, note_dead, before_timed, timed_seen, Timed, timed_self, timed_place, timed_alike}
 use Rattle.mv_core.proofs.MatchedFacts.{same_stamp_facts}
 use Rattle.mv_core.proofs.MatchedSets as set
 use Rattle.mv_core.proofs.MatchedStamps as stamped
-use Rattle.mv_core.proofs.MatchedWalks as walked
 
 module _ (starts : State → Type 0) (allows : List ℕ → State → Writes → Type 0) (c : Config) (start : State) (m : Memory) (h : List Entry) (f : Faces) (k : Facts starts allows c start m h f) where
   -- the version below a committed one wasn't cut
@@ -80,6 +79,9 @@ module _ (starts : State → Type 0) (allows : List ℕ → State → Writes →
 
     alike : Matches Alike f.ring rings
     alike = match_weaker (Timed d) Alike f.ring rings (timed_alike d) matches
+
+    or_cut : Matches AlikeOrCut f.ring rings
+    or_cut = match_weaker Alike AlikeOrCut f.ring rings alike_or_cut alike
 
     -- what holds of each slot of the log, and of each other, holds of all
     all_slots : (P : ℕ → ℕ → Slot → Type 0) → ((j : ℕ) → P n j (timed d (slot_at (f.ring n) j))) → ((s j : ℕ) → s ≢ n → P s j (slot_at (f.ring s) j)) → (s j : ℕ) → P s j (slot_at (rings s) j)
@@ -280,14 +282,14 @@ module _ (starts : State → Type 0) (allows : List ℕ → State → Writes →
     -- all facts after the load, but for what its seat has seen
     death_facts : (f.past n).seen ≡ h → Facts starts allows c start m h (changed f n (record unchanged { ring = Some (record (f.ring n) { slots = map (timed d) (f.ring n).slots }) }))
     death_facts whole =
-        let stamps = stamped.stamps_match c h f.ring rings alike (λ s j. m (Stamp s j)) (λ s j. m (Stamp s j)) (λ s j y st l. refl) (m Clock)
+        let stamps = stamped.stamps_match c h f.ring rings or_cut (λ s j. m (Stamp s j)) (λ s j. m (Stamp s j)) (λ s j y st l. refl) (m Clock)
         (λ s j b e. k.stamps.built s j b (built_back s j b e)) k.stamps in
-        let successors = stamped.successors_match c h f.ring rings alike (λ s j. m (Super s j)) (λ s j. m (Super s j)) (λ s j y st l. refl)
+        let successors = stamped.successors_match c h f.ring rings or_cut (λ s j. m (Super s j)) (λ s j. m (Super s j)) (λ s j y st l. refl)
         (λ s j. m (Stamp s j)) (λ s j. m (Stamp s j)) (λ s j y st l. refl) f.section (λ s j b e. k.successors.built s j b (built_back s j b e)) k.successors in
         let deaths_seen = deaths_seen_after whole in
-        let positions = set.positions_match c h f.ring rings alike (wide_mapped f.ring n (timed d) refl) freeing_back freeing_forth
+        let positions = set.positions_match c h f.ring rings or_cut (wide_mapped f.ring n (timed d) refl) freeing_back freeing_forth
         (λ s j b e. k.positions.built s j b (built_back s j b e)) k.positions in
-        let succeeded = stamped.succeeded_match c h f.ring rings alike (λ s j. m (Super s j)) (λ s j. m (Super s j)) (λ s j y st l. refl) f.empty
+        let succeeded = stamped.succeeded_match c h f.ring rings or_cut (λ s j. m (Super s j)) (λ s j. m (Super s j)) (λ s j y st l. refl) f.empty
         k.succeeded_has_super in
         assumption
         (slot_words_after, stamps, successors, deaths_after, deaths_seen, positions, before_death_after, flag_after, succeeded, death_after, grace_after,

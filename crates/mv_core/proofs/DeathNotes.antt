@@ -104,9 +104,9 @@ pub timed_place : (d : ℕ) → KeepsPlace (Timed d)
 timed_place d x st y su a = same_place x y a.0
 
 alike_timed : (d : ℕ) (x : Version) (st : Status) → Alike x st x (timed_status d st)
-alike_timed d x Held = same_place x x refl
-alike_timed d x (Aborted e) = refl
-alike_timed d x (Committed m) = (refl, note_time d m, note_cut d m)
+alike_timed d x Held = (same_place x x refl, refl)
+alike_timed d x (Aborted e) = (refl, refl)
+alike_timed d x (Committed m) = let same = note_cut d m in ((refl, note_time d m, λ cut. same ∙ cut), same)
 
 pub timed_alike : (d : ℕ) (x : Version) (st : Status) (y : Version) (su : Status) → Timed d x st y su → Alike x st y su
 timed_alike d x st y su a =

@@ -90,7 +90,6 @@ pub mod SuperLoads
 pub mod LastWrites
 pub mod MasterStores
 pub mod Cuts
-pub mod CutKept
 pub mod CutWon
 pub mod CutSwap
 pub mod JoinedSeats

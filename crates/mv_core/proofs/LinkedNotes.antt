@@ -42,7 +42,7 @@ module _ (starts : State → Type 0) (allows : List ℕ → State → Writes →
   within = live_within (f.ring n) j x (Committed note) lives
 
   pub matches : Matches Alike f.ring rings
-  matches = match_put Alike alike_self f.ring n j new ring' refl within refl x (Committed note) x (Committed note') lives refl (refl, refl, refl)
+  matches = match_put Alike alike_self f.ring n j new ring' refl within refl x (Committed note) x (Committed note') lives refl ((refl, refl, λ cut. cut), refl)
 
   -- what holds of the new slot, and of each other as it was, holds of all
   pub all_slots : (P : ℕ → ℕ → Slot → Type 0) → P n j new → ((s i : ℕ) → ¬ ((s ≡ n) × (i ≡ j)) → P s i (slot_at (f.ring s) i)) → (s i : ℕ) → P s i (slot_at (rings s) i)
@@ -127,7 +127,7 @@ module _ (starts : State → Type 0) (allows : List ℕ → State → Writes →
 
   pub grace_after : PositionsAndGrace c f.grace rings
   grace_after = record {
-    live = λ s i z st at. let b = matches.back s i z st at in subst (λ (p : ℕ). c.base + p / c.slots ≤ f.grace s) (sym (alike_place b.0 b.1 z st b.3).position) (k.positions_and_grace.live s i b.0 b.1 b.2);
+    live = λ s i z st at. let b = matches.back s i z st at in subst (λ (p : ℕ). c.base + p / c.slots ≤ f.grace s) (sym (alike_place b.0 b.1 z st b.3.0).position) (k.positions_and_grace.live s i b.0 b.1 b.2);
     free = λ s i low e. subst (λ (p : ℕ). c.base + (p + (i + c.slots - p % c.slots) % c.slots) / c.slots ≤ f.grace s) (sym (next_is s)) (k.positions_and_grace.free s i low (was_free s i e));
     built = λ s i b e. subst (λ (p : ℕ). c.base + p / c.slots ≤ f.grace s) (sym (next_is s)) (k.positions_and_grace.built s i b (was_built s i b e));
     freeing = λ s i p first e. k.positions_and_grace.freeing s i p first (was_freeing s i p first e);

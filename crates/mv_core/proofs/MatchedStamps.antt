@@ -23,11 +23,11 @@ use Rattle.mv_core.specs.WalkFacts.{SucceededHasSuper}
 use Rattle.mv_core.specs.ReclaimFacts.{WriteBacks}
 use Rattle.mv_core.proofs.KeptRecords.{same_back, same_named}
 use Rattle.mv_core.proofs.Slots.{Matches}
-use Rattle.mv_core.proofs.Matching.{Alike, alike_place, uncommitted_back, is_committed_so, committed_back, committed_forth}
+use Rattle.mv_core.proofs.Matching.{AlikeOrCut, SameCut, uncut_back, alike_place, uncommitted_back, is_committed_so, committed_back, committed_forth}
 use Rattle.mv_core.proofs.MatchedSets.{nothing_match}
 
 -- the stamp of a write set goes on
-stamped_alike : (clock s k stamp first : ℕ) (x : Version) (st : Status) (y : Version) (su : Status) → Alike x st y su → StampedAs clock s k stamp first st → StampedAs clock s k stamp first su
+stamped_alike : (clock s k stamp first : ℕ) (x : Version) (st : Status) (y : Version) (su : Status) → AlikeOrCut x st y su → StampedAs clock s k stamp first st → StampedAs clock s k stamp first su
 stamped_alike clock s k stamp first x Held y Held a e = e
 stamped_alike clock s k stamp first x (Aborted d) y (Aborted f) a e = e
 stamped_alike clock s k stamp first x (Committed m) y (Committed n) a e =
@@ -39,7 +39,7 @@ stamped_alike clock s k stamp first x (Aborted d) y (Committed n) a e = absurd a
 stamped_alike clock s k stamp first x (Committed m) y Held a e = absurd a
 stamped_alike clock s k stamp first x (Committed m) y (Aborted f) a e = absurd a
 
-module _ (c : Config) (h : List Entry) (before after : ℕ → Ring) (k : Matches Alike before after) where
+module _ (c : Config) (h : List Entry) (before after : ℕ → Ring) (k : Matches AlikeOrCut before after) where
   -- the stamps, and those after, where the stamp of each live version's write set stays
   module _ (stamp stamp' : ℕ → ℕ → ℕ) (same : (s j : ℕ) (x : Version) (st : Status) → Lives before s j x st → stamp_of c stamp' s x ≡ stamp_of c stamp s x) where
     -- of a committed version
@@ -132,7 +132,7 @@ module _ (c : Config) (h : List Entry) (before after : ℕ → Ring) (k : Matche
           stamps t l y (Committed d.0) d.1 ∙ old.stamped s j x b.0 b.1 t l y d.0 d.1 (sym d.2 ∙ e ∙ same s j x (Committed b.0) b.1) ∙ sym d.2;
       unfinished = λ s j x n lives uncut zero_is next is_next.
           let b = committed_back before after k s j x n lives in
-          old.unfinished s j x b.0 b.1 (sym b.3 ∙ uncut) (sym (same s j x (Committed b.0) b.1) ∙ zero_is) next (subst (λ (t : ℕ). IsNextWrite c.base h x.object t next) b.2 is_next);
+          old.unfinished s j x b.0 b.1 (uncut_back b.0 n b.3 uncut) (sym (same s j x (Committed b.0) b.1) ∙ zero_is) next (subst (λ (t : ℕ). IsNextWrite c.base h x.object t next) b.2 is_next);
       built = built;
     }
 
@@ -142,15 +142,16 @@ module _ (c : Config) (h : List Entry) (before after : ℕ → Ring) (k : Matche
           r.0,
           λ j x n lives object le uncut zero_is.
               let b = committed_back before after k s j x n lives in
-              r.1 j x b.0 b.1 object (subst (λ (t : ℕ). t ≤ e.time) b.2 le) (sym b.3 ∙ uncut) (sym (same s j x (Committed b.0) b.1) ∙ zero_is),
+              r.1 j x b.0 b.1 object (subst (λ (t : ℕ). t ≤ e.time) b.2 le) (uncut_back b.0 n b.3 uncut) (sym (same s j x (Committed b.0) b.1) ∙ zero_is),
         )
 
-  pub back_match : (master : ℕ → ℕ → ℕ) (section : ℕ → Option Section) (time : ℕ → Option ℕ) (heard : ℕ → Heard) (grace : ℕ → ℕ) (back : ℕ → Option WriteBack) → WriteBacks c h master section time heard grace back before → WriteBacks c h master section time heard grace back after
-  back_match master section time heard grace back old s b is =
+  pub back_match : SameCut before after → (master : ℕ → ℕ → ℕ) (section : ℕ → Option Section) (time : ℕ → Option ℕ) (heard : ℕ → Heard) (grace : ℕ → ℕ) (back : ℕ → Option WriteBack) → WriteBacks c h master section time heard grace back before → WriteBacks c h master section time heard grace back after
+  back_match same_cut master section time heard grace back old s b is =
       let r = old s b is in
       let w = r.2 in
       let f = committed_forth before after k s (index_of c b.position) w.version w.note w.lives in
       let old_still = subst (λ (t : ℕ). NotAboveAny t time) (sym f.2) w.old in
       let known = subst (λ (t : ℕ). t ≤ grace s) (sym f.2) w.known in
       let nothing = nothing_match c h before after k s w.nothing in
-      (r.0, r.1, same_back w f.0 w.helped nothing f.1 old_still known (w.last ∙ sym f.2) (λ untried. f.3 ∙ w.uncut untried) w.words)
+      let cut_same = same_cut s (index_of c b.position) w.version w.note f.0 w.lives f.1 in
+      (r.0, r.1, same_back w f.0 w.helped nothing f.1 old_still known (w.last ∙ sym f.2) (λ untried. cut_same ∙ w.uncut untried) w.words)

@@ -23,13 +23,13 @@ use Rattle.mv_core.specs.WalkFacts.{MasterServes, IsRightFor, MayStandAt, Stands
 use Rattle.mv_core.specs.ReclaimFacts.{Deaths, DeathsSeen, DeathAfterWrite, SuccessorFlag, next_in, PositionsAndGrace}
 use Rattle.mv_core.proofs.SeenDeaths.{none_noted}
 use Rattle.mv_core.proofs.Slots.{Becomes, Matches}
-use Rattle.mv_core.proofs.Matching.{IsSamePlace, KeepsPlace, Alike, alike_place, is_committed_so, names_back, names_committed_forth, committed_back, none_uncut_forth}
+use Rattle.mv_core.proofs.Matching.{AlikeOrCut, alike_place, is_committed_so, names_back, names_committed_forth, committed_back, none_uncut_forth}
 
 -- a link names the version that is there
 abbrev names_at : (rings : ℕ → Ring) (link seat slot : ℕ) (x : Version) (st : Status) → Lives rings seat slot x st → (p : ℕ) → x.position ≡ p → link ≡ link_of seat p → Names rings link x st
 names_at rings link seat slot x st lives p e is = record { seat = seat; slot = slot; lives = lives; is = is ∙ ap (link_of seat) (sym e) }
 
-module _ (c : Config) (h : List Entry) (before after : ℕ → Ring) (k : Matches Alike before after) where
+module _ (c : Config) (h : List Entry) (before after : ℕ → Ring) (k : Matches AlikeOrCut before after) where
   module _ (start : State) (master : ℕ → ℕ → ℕ) where
     serves_match : (t o : ℕ) → MasterServes c start h master before t o → MasterServes c start h master after t o
     serves_match t o a = (a.0, none_uncut_forth before after k o (latest_at c.base h o t) a.1)
@@ -38,7 +38,7 @@ module _ (c : Config) (h : List Entry) (before after : ℕ → Ring) (k : Matche
     right_match t x y m n same time a =
         subst (λ (v : Version). IsRightFor c h t v n) (sym same) (subst (λ (u : ℕ). (t < u) ⊎ (u ≡ latest_at c.base h x.object t)) (sym time) a)
 
-    stand_match : (t : ℕ) (x : Version) (st : Status) (y : Version) (su : Status) → Alike x st y su → MayStandAt c start h master before t x st → MayStandAt c start h master after t y su
+    stand_match : (t : ℕ) (x : Version) (st : Status) (y : Version) (su : Status) → AlikeOrCut x st y su → MayStandAt c start h master before t x st → MayStandAt c start h master after t y su
     stand_match t x Held y Held a may = tt
     stand_match t x (Committed m) y (Committed n) a may = right_match t x y m n a.0 a.1 may
     stand_match t x (Aborted d) y (Aborted e) a may =
@@ -71,10 +71,10 @@ module _ (c : Config) (h : List Entry) (before after : ℕ → Ring) (k : Matche
   knowledge_match section time heard walk old = record {
     helped = old.helped;
     first = λ s first stand y su e f names.
-        let b = names_back Alike alike_place before after k stand.link y su names in
+        let b = names_back AlikeOrCut alike_place before after k stand.link y su names in
         old.first s first stand b.0 b.1 e f b.2 ∙ sym (alike_place b.0 b.1 y su b.3).first;
     stamp = λ s found stand y su e f small names.
-        let b = names_back Alike alike_place before after k stand.link y su names in
+        let b = names_back AlikeOrCut alike_place before after k stand.link y su names in
         let r = old.stamp s found stand b.0 b.1 e f small b.2 in
         let i = is_committed_so b.0 b.1 y su r.0 b.3 r.1 in
         (i.0, i.1, i.3 ∙ r.2);
@@ -100,117 +100,3 @@ module _ (c : Config) (h : List Entry) (before after : ℕ → Ring) (k : Matche
   late_match time walk old s t stand x n e w late names =
       let b = committed_back before after k names.seat names.slot x n names.lives in
       subst (λ (u : ℕ). t < u) (sym b.2) (old s t stand x b.0 e w late (record { seat = names.seat; slot = names.slot; lives = b.1; is = names.is }))
-
--- each live version stays what it is, with all that is noted of it, but for the words of a held one
-abbrev pub Steady : Becomes
-Steady x Held y Held = IsSamePlace x y
-Steady x (Aborted d) y (Aborted e) = (y ≡ x) × (e ≡ d)
-Steady x (Committed m) y (Committed n) = (y ≡ x) × (n ≡ m)
-Steady x _ y _ = ⊥
-
-pub steady_alike : (x : Version) (st : Status) (y : Version) (su : Status) → Steady x st y su → Alike x st y su
-steady_alike x Held y Held a = a
-steady_alike x (Aborted d) y (Aborted e) a = a.0
-steady_alike x (Committed m) y (Committed n) a = (a.0, ap (λ (o : CommitNote). o.time) a.1, ap (λ (o : CommitNote). o.cut) a.1)
-steady_alike x Held y (Aborted e) a = absurd a
-steady_alike x Held y (Committed n) a = absurd a
-steady_alike x (Aborted d) y Held a = absurd a
-steady_alike x (Aborted d) y (Committed n) a = absurd a
-steady_alike x (Committed m) y Held a = absurd a
-steady_alike x (Committed m) y (Aborted e) a = absurd a
-
-steady_place : KeepsPlace Steady
-steady_place x st y su a = alike_place x st y su (steady_alike x st y su a)
-
-pub steady_self : (x : Version) (st : Status) → Steady x st x st
-steady_self x Held = record { position = refl; first = refl; object = refl; previous = refl }
-steady_self x (Aborted d) = (refl, refl)
-steady_self x (Committed m) = (refl, refl)
-
--- a time before a death is so still
-before_death : (t : ℕ) (x : Version) (st : Status) (y : Version) (su : Status) → Steady x st y su → IsBeforeDeath t st → IsBeforeDeath t su
-before_death t x Held y Held a d = tt
-before_death t x (Aborted d) y (Aborted e) a b = subst (λ (o : Option ℕ). IsBeforeDeath t (Aborted o)) (sym a.1) b
-before_death t x (Committed m) y (Committed n) a b = subst (λ (o : CommitNote). IsBeforeDeath t (Committed o)) (sym a.1) b
-before_death t x Held y (Aborted e) a b = absurd a
-before_death t x Held y (Committed n) a b = absurd a
-before_death t x (Aborted d) y Held a b = absurd a
-before_death t x (Aborted d) y (Committed n) a b = absurd a
-before_death t x (Committed m) y Held a b = absurd a
-before_death t x (Committed m) y (Aborted e) a b = absurd a
-
-was_this_aborted : (x y : Version) (st : Status) (e : Option ℕ) → Steady x st y (Aborted e) → (st ≡ Aborted e) × (y ≡ x)
-was_this_aborted x y (Aborted d) e a = (ap Aborted (sym a.1), a.0)
-was_this_aborted x y Held e a = absurd a
-was_this_aborted x y (Committed m) e a = absurd a
-
-was_this_committed : (x y : Version) (st : Status) (n : CommitNote) → Steady x st y (Committed n) → (st ≡ Committed n) × (y ≡ x)
-was_this_committed x y (Committed m) n a = (ap Committed (sym a.1), a.0)
-was_this_committed x y Held n a = absurd a
-was_this_committed x y (Aborted d) n a = absurd a
-
-module _ (c : Config) (h : List Entry) (before after : ℕ → Ring) (k : Matches Steady before after) where
-  pub this_aborted : (s j : ℕ) (y : Version) (e : Option ℕ) → Lives after s j y (Aborted e) → Lives before s j y (Aborted e)
-  this_aborted s j y e lives =
-      let b = k.back s j y (Aborted e) lives in
-      let w = was_this_aborted b.0 y b.1 e b.3 in
-      subst (λ (v : Version). Lives before s j v (Aborted e)) (sym w.1) (subst (Lives before s j b.0) w.0 b.2)
-
-  pub this_committed : (s j : ℕ) (y : Version) (n : CommitNote) → Lives after s j y (Committed n) → Lives before s j y (Committed n)
-  this_committed s j y n lives =
-      let b = k.back s j y (Committed n) lives in
-      let w = was_this_committed b.0 y b.1 n b.3 in
-      subst (λ (v : Version). Lives before s j v (Committed n)) (sym w.1) (subst (Lives before s j b.0) w.0 b.2)
-
-  pub deaths_match : Deaths c h before → Deaths c h after
-  deaths_match old = record {
-    aborted = λ s j dead x lives. old.aborted s j dead x (this_aborted s j x (Some dead) lives);
-    cut = λ s j dead x n lives. old.cut s j dead x n (this_committed s j x n lives);
-    superseded = λ s j dead x n lives. old.superseded s j dead x n (this_committed s j x n lives);
-  }
-
-  pub deaths_seen_match : (past : ℕ → Past) → DeathsSeen c past before → DeathsSeen c past after
-  deaths_seen_match past old s j x Held lives = none_noted (c.base + length (past s).seen) Held refl
-  deaths_seen_match past old s j x (Aborted d) lives = old s j x (Aborted d) (this_aborted s j x d lives)
-  deaths_seen_match past old s j x (Committed n) lives = old s j x (Committed n) (this_committed s j x n lives)
-
-  pub death_after_match : DeathAfterWrite before → DeathAfterWrite after
-  death_after_match old s j dead x n lives = old s j dead x n (this_committed s j x n lives)
-
-  pub before_death_match : (time : ℕ → Option ℕ) (walk : ℕ → Walk) → WalkerBeforeDeath time walk before → WalkerBeforeDeath time walk after
-  before_death_match time walk old = record {
-    here = λ s t stand y su e w names.
-        let b = names_back Steady steady_place before after k stand.link y su names in
-        before_death t b.0 b.1 y su b.3 (old.here s t stand b.0 b.1 e w b.2);
-    below = λ s t stand y z dead su e w names below.
-        let b : Names before stand.link y (Aborted dead) = record { seat = names.seat; slot = names.slot; lives = this_aborted names.seat names.slot y dead names.lives; is = names.is } in
-        let d = names_back Steady steady_place before after k y.previous z su below in
-        before_death t d.0 d.1 z su d.3 (old.below s t stand y d.0 dead d.1 e w b d.2);
-  }
-
-  pub flag_match : (super super' : ℕ → ℕ → ℕ) → ((s j : ℕ) (x : Version) (st : Status) → Lives before s j x st → super' s j ≡ super s j) → (section : ℕ → Option Section) → SuccessorFlag super section before → SuccessorFlag super' section after
-  flag_match super super' same section old s j inside naming x n in_section mode lives time =
-      let r = old s j inside naming x n in_section mode (this_committed s j x n lives) time in (
-        r.0,
-        λ y other below.
-            let was = this_committed below.seat below.slot y other below.lives in
-            let word : super' below.seat below.slot ≡ super below.seat below.slot = same below.seat below.slot y (Committed other) was in
-            let q = r.1 y other (record { seat = below.seat; slot = below.slot; lives = was; is = below.is }) in
-            (λ linked. word ∙ q.0 linked, λ unlinked. let z = q.1 unlinked in (word ∙ z.0, z.1)),
-      )
-
-  pub positions_grace_match : (grace : ℕ → ℕ) → ((s j : ℕ) → j < c.slots → slot_at (after s) j ≡ Free → c.base + next_in c (after s) j / c.slots ≤ grace s)
-      → ((s j : ℕ) (b : Build) → slot_at (after s) j ≡ Built b → c.base + (after s).next / c.slots ≤ grace s)
-      → ((s j p first : ℕ) → slot_at (after s) j ≡ Freeing p first → c.base + p / c.slots < grace s)
-      → PositionsAndGrace c grace before → PositionsAndGrace c grace after
-  positions_grace_match grace free built freeing old = record {
-    live = λ s j y su lives.
-        let b = k.back s j y su lives in
-        subst (λ (p : ℕ). c.base + p / c.slots ≤ grace s) (sym (steady_place b.0 b.1 y su b.3).position) (old.live s j b.0 b.1 b.2);
-    free = free;
-    built = built;
-    freeing = freeing;
-    commit = λ s j x n lives. old.commit s j x n (this_committed s j x n lives);
-    dead = λ s j t x n lives. old.dead s j t x n (this_committed s j x n lives);
-    aborted = λ s j t x lives. old.aborted s j t x (this_aborted s j x (Some t) lives);
-  }

@@ -1,9 +1,9 @@
 -- Links, first versions and tops where the live versions of the logs before and after a step match; and the relation in which the versions stay what they are to other seats.
-use Rattle.std.proofs.Common.{◌≡◌, ℕ, ◌<◌, refl, sym, ap, ◌∙◌, subst, inl, inr, ⊎_elim, Option}
+use Rattle.std.proofs.Common.{◌≡◌, ℕ, ◌<◌, true, false, Bool, refl, sym, ap, ◌∙◌, subst, inl, inr, ⊎_elim, Option}
 use Rattle.mv_layout.specs.declared.Config.{Config}
 use Rattle.mv_layout.specs.Words.{link_of}
 use Rattle.mv_core.specs.declared.ring.Ring.{Ring}
-use Rattle.mv_core.specs.declared.ring.Slot.TheVariants.{Freeing}
+use Rattle.mv_core.specs.declared.ring.Slot.TheVariants.{Live, Freeing}
 use Rattle.mv_core.specs.declared.ring.Version.{Version}
 use Rattle.mv_core.specs.declared.ring.Status.{Status}
 use Rattle.mv_core.specs.declared.ring.Status.TheVariants.{Held, Aborted, Committed}
@@ -89,19 +89,43 @@ module _ (R : Becomes) (places : KeepsPlace R) (before after : ℕ → Ring) (k 
       let at = places r.version r.status f.0 f.1 f.3 in
       record { version = f.0; status = f.1; lives = f.2; position_is = at.position ∙ r.position_is; first_is = at.first ∙ r.first_is; known = goes_on r.version r.status f.0 f.1 f.3 r.known }
 
--- A version stays what it is to the other seats: a held one in its place, and of a committed one its time and whether it was cut; its words, while it is held, and what its owner noted besides may change.
+-- A version stays what it is to the other seats, but that it may be cut: a held one in its place, and a committed one of its time, and cut if it was; its words, while it is held, and what its owner noted besides may change.
+abbrev pub AlikeOrCut : Becomes
+AlikeOrCut x Held y Held = IsSamePlace x y
+AlikeOrCut x (Aborted d) y (Aborted e) = y ≡ x
+AlikeOrCut x (Committed m) y (Committed n) = (y ≡ x) × (n.time ≡ m.time) × (m.cut ≡ true → n.cut ≡ true)
+AlikeOrCut x _ y _ = ⊥
+
+-- whether the status is that of a cut version
+abbrev pub cut_in : Status → Bool
+cut_in Held = false
+cut_in (Aborted dead) = false
+cut_in (Committed note) = note.cut
+
+-- and it isn't cut, if it wasn't
 abbrev pub Alike : Becomes
-Alike x Held y Held = IsSamePlace x y
-Alike x (Aborted d) y (Aborted e) = y ≡ x
-Alike x (Committed m) y (Committed n) = (y ≡ x) × (n.time ≡ m.time) × (n.cut ≡ m.cut)
-Alike x _ y _ = ⊥
+Alike x st y su = AlikeOrCut x st y su × (cut_in su ≡ cut_in st)
+
+pub alike_or_cut : (x : Version) (st : Status) (y : Version) (su : Status) → Alike x st y su → AlikeOrCut x st y su
+alike_or_cut x st y su a = a.0
+
+or_cut_self : (x : Version) (st : Status) → AlikeOrCut x st x st
+or_cut_self x Held = same_place x x refl
+or_cut_self x (Aborted d) = refl
+or_cut_self x (Committed m) = (refl, refl, λ cut. cut)
 
 pub alike_self : (x : Version) (st : Status) → Alike x st x st
-alike_self x Held = same_place x x refl
-alike_self x (Aborted d) = refl
-alike_self x (Committed m) = (refl, refl, refl)
+alike_self x st = (or_cut_self x st, refl)
 
-pub alike_place : KeepsPlace Alike
+-- one that isn't cut afterwards wasn't before
+pub uncut_back : (m n : CommitNote) → (m.cut ≡ true → n.cut ≡ true) → n.cut ≡ false → m.cut ≡ false
+uncut_back m n still uncut = go m.cut refl
+  where
+    go : (b : Bool) → m.cut ≡ b → m.cut ≡ false
+    go true e = let clash : true ≡ false = sym (still e) ∙ uncut in absurd (cc)
+    go false e = e
+
+pub alike_place : KeepsPlace AlikeOrCut
 alike_place x Held y Held a = a
 alike_place x (Aborted d) y (Aborted e) a = same_place x y a
 alike_place x (Committed m) y (Committed n) a = same_place x y a.0
@@ -113,59 +137,71 @@ alike_place x (Committed m) y Held a = absurd a
 alike_place x (Committed m) y (Aborted e) a = absurd a
 
 -- what a version was that is held, aborted or committed
-was_held : (x y : Version) (st : Status) → Alike x st y Held → (st ≡ Held) × IsSamePlace x y
+was_held : (x y : Version) (st : Status) → AlikeOrCut x st y Held → (st ≡ Held) × IsSamePlace x y
 was_held x y Held a = (refl, a)
 was_held x y (Aborted d) a = absurd a
 was_held x y (Committed m) a = absurd a
 
-was_aborted : (x y : Version) (st : Status) (e : Option ℕ) → Alike x st y (Aborted e) → (d : Option ℕ) × (st ≡ Aborted d) × (y ≡ x)
+pub was_aborted : (x y : Version) (st : Status) (e : Option ℕ) → AlikeOrCut x st y (Aborted e) → (d : Option ℕ) × (st ≡ Aborted d) × (y ≡ x)
 was_aborted x y Held e a = absurd a
 was_aborted x y (Aborted d) e a = (d, refl, a)
 was_aborted x y (Committed m) e a = absurd a
 
-was_committed : (x y : Version) (st : Status) (n : CommitNote) → Alike x st y (Committed n) → (m : CommitNote) × (st ≡ Committed m) × (y ≡ x) × (n.time ≡ m.time) × (n.cut ≡ m.cut)
+pub was_committed : (x y : Version) (st : Status) (n : CommitNote) → AlikeOrCut x st y (Committed n) → (m : CommitNote) × (st ≡ Committed m) × (y ≡ x) × (n.time ≡ m.time) × (m.cut ≡ true → n.cut ≡ true)
 was_committed x y Held n a = absurd a
 was_committed x y (Aborted d) n a = absurd a
 was_committed x y (Committed m) n a = (m, refl, a.0, a.1, a.2)
 
 -- and what it is then
-is_held_still : (x y : Version) (su : Status) → Alike x Held y su → (su ≡ Held) × IsSamePlace x y
+is_held_still : (x y : Version) (su : Status) → AlikeOrCut x Held y su → (su ≡ Held) × IsSamePlace x y
 is_held_still x y Held a = (refl, a)
 is_held_still x y (Aborted d) a = absurd a
 is_held_still x y (Committed m) a = absurd a
 
-is_aborted_still : (x y : Version) (su : Status) (d : Option ℕ) → Alike x (Aborted d) y su → (e : Option ℕ) × (su ≡ Aborted e) × (y ≡ x)
+is_aborted_still : (x y : Version) (su : Status) (d : Option ℕ) → AlikeOrCut x (Aborted d) y su → (e : Option ℕ) × (su ≡ Aborted e) × (y ≡ x)
 is_aborted_still x y Held d a = absurd a
 is_aborted_still x y (Aborted e) d a = (e, refl, a)
 is_aborted_still x y (Committed m) d a = absurd a
 
-is_committed_still : (x y : Version) (su : Status) (m : CommitNote) → Alike x (Committed m) y su → (n : CommitNote) × (su ≡ Committed n) × (y ≡ x) × (n.time ≡ m.time) × (n.cut ≡ m.cut)
+is_committed_still : (x y : Version) (su : Status) (m : CommitNote) → AlikeOrCut x (Committed m) y su → (n : CommitNote) × (su ≡ Committed n) × (y ≡ x) × (n.time ≡ m.time) × (m.cut ≡ true → n.cut ≡ true)
 is_committed_still x y Held m a = absurd a
 is_committed_still x y (Aborted d) m a = absurd a
 is_committed_still x y (Committed n) m a = (n, refl, a.0, a.1, a.2)
 
 -- held is held still, and not committed not committed
-pub still_held : (x : Version) (st : Status) (y : Version) (su : Status) → Alike x st y su → st ≡ Held → su ≡ Held
-still_held x st y su a e = (is_held_still x y su (subst (λ (s : Status). Alike x s y su) e a)).0
+pub still_held : (x : Version) (st : Status) (y : Version) (su : Status) → AlikeOrCut x st y su → st ≡ Held → su ≡ Held
+still_held x st y su a e = (is_held_still x y su (subst (λ (s : Status). AlikeOrCut x s y su) e a)).0
 
-pub is_committed_so : (x : Version) (st : Status) (y : Version) (su : Status) (m : CommitNote) → Alike x st y su → st ≡ Committed m → (n : CommitNote) × (su ≡ Committed n) × (y ≡ x) × (n.time ≡ m.time) × (n.cut ≡ m.cut)
-is_committed_so x st y su m a e = is_committed_still x y su m (subst (λ (s : Status). Alike x s y su) e a)
+pub is_committed_so : (x : Version) (st : Status) (y : Version) (su : Status) (m : CommitNote) → AlikeOrCut x st y su → st ≡ Committed m → (n : CommitNote) × (su ≡ Committed n) × (y ≡ x) × (n.time ≡ m.time) × (m.cut ≡ true → n.cut ≡ true)
+is_committed_so x st y su m a e = is_committed_still x y su m (subst (λ (s : Status). AlikeOrCut x s y su) e a)
 
-pub uncommitted_forth : (x : Version) (st : Status) (y : Version) (su : Status) → Alike x st y su → IsHeldOrAborted st → IsHeldOrAborted su
+pub uncommitted_forth : (x : Version) (st : Status) (y : Version) (su : Status) → AlikeOrCut x st y su → IsHeldOrAborted st → IsHeldOrAborted su
 uncommitted_forth x st y Held a p = tt
 uncommitted_forth x st y (Aborted e) a p = tt
 uncommitted_forth x Held y (Committed n) a p = absurd a
 uncommitted_forth x (Aborted d) y (Committed n) a p = absurd a
 uncommitted_forth x (Committed m) y (Committed n) a p = p
 
-pub uncommitted_back : (x : Version) (st : Status) (y : Version) (su : Status) → Alike x st y su → IsHeldOrAborted su → IsHeldOrAborted st
+pub uncommitted_back : (x : Version) (st : Status) (y : Version) (su : Status) → AlikeOrCut x st y su → IsHeldOrAborted su → IsHeldOrAborted st
 uncommitted_back x Held y su a p = tt
 uncommitted_back x (Aborted d) y su a p = tt
 uncommitted_back x (Committed m) y Held a p = absurd a
 uncommitted_back x (Committed m) y (Aborted e) a p = absurd a
 uncommitted_back x (Committed m) y (Committed n) a p = p
 
-module _ (before after : ℕ → Ring) (k : Matches Alike before after) where
+-- each committed version is cut if it was, and only then
+abbrev pub SameCut : (before after : ℕ → Ring) → Type 0
+SameCut before after =
+    (s j : ℕ) (x : Version) (m n : CommitNote) → Lives before s j x (Committed m) → Lives after s j x (Committed n) → n.cut ≡ m.cut
+
+pub same_cuts : (before after : ℕ → Ring) → Matches Alike before after → SameCut before after
+same_cuts before after k s j x m n there now =
+    let f = k.forth s j x (Committed m) there in
+    let one : Live f.0 f.1 ≡ Live x (Committed n) = sym f.2 ∙ now in
+    let status : f.1 ≡ Committed n = cc in
+    ap cut_in (sym status) ∙ f.3.1
+
+module _ (before after : ℕ → Ring) (k : Matches AlikeOrCut before after) where
   pub held_back : (s j : ℕ) (y : Version) → Lives after s j y Held → (x : Version) × Lives before s j x Held × IsSamePlace x y
   held_back s j y lives =
       let b = k.back s j y Held lives in
@@ -190,54 +226,59 @@ module _ (before after : ℕ → Ring) (k : Matches Alike before after) where
       let w = is_aborted_still x f.0 f.1 d f.3 in
       (w.0, subst (λ (v : Version). Lives after s j v (Aborted w.0)) w.2 (subst (Lives after s j f.0) w.1 f.2))
 
-  pub committed_back : (s j : ℕ) (y : Version) (n : CommitNote) → Lives after s j y (Committed n) → (m : CommitNote) × Lives before s j y (Committed m) × (n.time ≡ m.time) × (n.cut ≡ m.cut)
+  pub committed_back : (s j : ℕ) (y : Version) (n : CommitNote) → Lives after s j y (Committed n) → (m : CommitNote) × Lives before s j y (Committed m) × (n.time ≡ m.time) × (m.cut ≡ true → n.cut ≡ true)
   committed_back s j y n lives =
       let b = k.back s j y (Committed n) lives in
       let w = was_committed b.0 y b.1 n b.3 in
       (w.0, subst (λ (v : Version). Lives before s j v (Committed w.0)) (sym w.2) (subst (Lives before s j b.0) w.1 b.2), w.3, w.4)
 
-  pub committed_forth : (s j : ℕ) (x : Version) (m : CommitNote) → Lives before s j x (Committed m) → (n : CommitNote) × Lives after s j x (Committed n) × (n.time ≡ m.time) × (n.cut ≡ m.cut)
+  pub committed_forth : (s j : ℕ) (x : Version) (m : CommitNote) → Lives before s j x (Committed m) → (n : CommitNote) × Lives after s j x (Committed n) × (n.time ≡ m.time) × (m.cut ≡ true → n.cut ≡ true)
   committed_forth s j x m lives =
       let f = k.forth s j x (Committed m) lives in
       let w = is_committed_still x f.0 f.1 m f.3 in
       (w.0, subst (λ (v : Version). Lives after s j v (Committed w.0)) w.2 (subst (Lives after s j f.0) w.1 f.2), w.3, w.4)
 
   -- the version of a link that names a committed one
-  pub names_committed_back : (link : ℕ) (y : Version) (n : CommitNote) → (names : Names after link y (Committed n)) → (m : CommitNote) × Lives before names.seat names.slot y (Committed m) × (n.time ≡ m.time) × (n.cut ≡ m.cut)
+  pub names_committed_back : (link : ℕ) (y : Version) (n : CommitNote) → (names : Names after link y (Committed n)) → (m : CommitNote) × Lives before names.seat names.slot y (Committed m) × (n.time ≡ m.time) × (m.cut ≡ true → n.cut ≡ true)
   names_committed_back link y n names = committed_back names.seat names.slot y n names.lives
 
-  pub names_committed_forth : (link : ℕ) (x : Version) (m : CommitNote) → Names before link x (Committed m) → (n : CommitNote) × Names after link x (Committed n) × (n.time ≡ m.time) × (n.cut ≡ m.cut)
+  pub names_committed_forth : (link : ℕ) (x : Version) (m : CommitNote) → Names before link x (Committed m) → (n : CommitNote) × Names after link x (Committed n) × (n.time ≡ m.time) × (m.cut ≡ true → n.cut ≡ true)
   names_committed_forth link x m names =
       let f = committed_forth names.seat names.slot x m names.lives in
       (f.0, record { seat = names.seat; slot = names.slot; lives = f.1; is = names.is }, f.2, f.3)
 
   -- the version of a write
-  pub version_back : (o t link : ℕ) (x : Version) (n : CommitNote) → IsVersion after o t link x n → (m : CommitNote) × IsVersion before o t link x m × (n.cut ≡ m.cut)
+  pub version_back : (o t link : ℕ) (x : Version) (n : CommitNote) → (v : IsVersion after o t link x n)
+      → (m : CommitNote) × IsVersion before o t link x m × (m.cut ≡ true → n.cut ≡ true) × Lives before v.names.seat v.names.slot x (Committed m)
   version_back o t link x n v =
       let b = committed_back v.names.seat v.names.slot x n v.names.lives in
-      (b.0, record { names = record { seat = v.names.seat; slot = v.names.slot; lives = b.1; is = v.names.is }; object_is = v.object_is; time_is = sym b.2 ∙ v.time_is }, b.3)
+      let names : Names before link x (Committed b.0) = record { seat = v.names.seat; slot = v.names.slot; lives = b.1; is = v.names.is } in
+      (b.0, record { names = names; object_is = v.object_is; time_is = sym b.2 ∙ v.time_is }, b.3, b.1)
 
-  pub version_forth : (o t link : ℕ) (x : Version) (m : CommitNote) → IsVersion before o t link x m → (n : CommitNote) × IsVersion after o t link x n × (n.cut ≡ m.cut)
+  pub version_forth : (o t link : ℕ) (x : Version) (m : CommitNote) → (v : IsVersion before o t link x m)
+      → (n : CommitNote) × IsVersion after o t link x n × (m.cut ≡ true → n.cut ≡ true) × Lives after v.names.seat v.names.slot x (Committed n)
   version_forth o t link x m v =
       let f = committed_forth v.names.seat v.names.slot x m v.names.lives in
-      (f.0, record { names = record { seat = v.names.seat; slot = v.names.slot; lives = f.1; is = v.names.is }; object_is = v.object_is; time_is = f.2 ∙ v.time_is }, f.3)
+      let names : Names after link x (Committed f.0) = record { seat = v.names.seat; slot = v.names.slot; lives = f.1; is = v.names.is } in
+      (f.0, record { names = names; object_is = v.object_is; time_is = f.2 ∙ v.time_is }, f.3, f.1)
 
   -- who holds an object, and what its top is
   pub none_holds_back : (o : ℕ) → NoneHolds after o → NoneHolds before o
   none_holds_back o none s j x lives e = let f = held_forth s j x lives in none s j f.0 f.1 (f.2.object ∙ e)
 
-  pub none_holds_forth : (o : ℕ) → NoneHolds before o → NoneHolds after o
-  none_holds_forth o none s j y lives e = let b = held_back s j y lives in none s j b.0 b.1 (sym b.2.object ∙ e)
-
-  pub none_uncut_back : (o t : ℕ) → NoneUncut after o t → NoneUncut before o t
-  none_uncut_back o t none link x m v = let f = version_forth o t link x m v in sym f.2 ∙ none link x f.0 f.1
-
   pub none_uncut_forth : (o t : ℕ) → NoneUncut before o t → NoneUncut after o t
-  none_uncut_forth o t none link x n v = let b = version_back o t link x n v in b.2 ∙ none link x b.0 b.1
+  none_uncut_forth o t none link x n v = let b = version_back o t link x n v in b.2 (none link x b.0 b.1)
 
-  pub top_forth : (o t link : ℕ) → IsTop before o t link → IsTop after o t link
-  top_forth o t link top =
-      ⊎_elim
-      (λ a. let f = version_forth o t link a.0 a.1 a.2 in inl (a.0, f.0, f.1, f.2 ∙ a.3))
-      (λ b. inr (b.0, none_uncut_forth o t b.1))
-      top
+  module _ (same_cut : SameCut before after) where
+    pub none_uncut_back : (o t : ℕ) → NoneUncut after o t → NoneUncut before o t
+    none_uncut_back o t none link x m v =
+        let f = version_forth o t link x m v in sym (same_cut v.names.seat v.names.slot x m f.0 v.names.lives f.3) ∙ none link x f.0 f.1
+
+    pub top_forth : (o t link : ℕ) → IsTop before o t link → IsTop after o t link
+    top_forth o t link =
+        ⊎_elim
+        (λ a.
+        let v = a.2 in
+        let f = version_forth o t link a.0 a.1 v in
+        inl (a.0, f.0, f.1, same_cut v.names.seat v.names.slot a.0 a.1 f.0 v.names.lives f.3 ∙ a.3))
+        (λ b. inr (b.0, none_uncut_forth o t b.1))

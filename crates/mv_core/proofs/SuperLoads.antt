@@ -43,12 +43,11 @@ use Rattle.mv_core.proofs.SeenDeaths.{seen_put}
 use Rattle.mv_core.proofs.SeenMore.{sees_more}
 use Rattle.mv_core.proofs.MoreSeen.{more_seen}
 use Rattle.mv_core.proofs.StampLoads.{seen_to, seen_by_all, slice_get-front}
-use Rattle.mv_core.proofs.Slots.{Matches, match_put, slots_after, wide_after, next_after, live_within}
-use Rattle.mv_core.proofs.Matching.{Alike, alike_self, alike_place}
+use Rattle.mv_core.proofs.Slots.{Matches, match_weaker, match_put, slots_after, wide_after, next_after, live_within}
+use Rattle.mv_core.proofs.Matching.{Alike, AlikeOrCut, alike_or_cut, alike_self, alike_place}
 use Rattle.mv_core.proofs.MatchedFacts.{same_stamp_facts}
 use Rattle.mv_core.proofs.MatchedSets as set
 use Rattle.mv_core.proofs.MatchedStamps as stamped
-use Rattle.mv_core.proofs.MatchedWalks as walked
 use Rattle.mv_core.proofs.Counts.{held_same}
 
 -- the note differs in its death alone
@@ -93,7 +92,10 @@ module _ (starts : State → Type 0) (allows : List ℕ → State → Writes →
   within = live_within (f.ring n) slot x (Committed note) lives
 
   alike : Matches Alike f.ring rings
-  alike = match_put Alike alike_self f.ring n slot (Live x (Committed new)) loaded refl within refl x (Committed note) x (Committed new) lives refl (refl, (super_keeps note found).0, (super_keeps note found).1)
+  alike = match_put Alike alike_self f.ring n slot (Live x (Committed new)) loaded refl within refl x (Committed note) x (Committed new) lives refl (let same = (super_keeps note found).1 in (refl, (super_keeps note found).0, λ cut. same ∙ cut), (super_keeps note found).1)
+
+  or_cut : Matches AlikeOrCut f.ring rings
+  or_cut = match_weaker Alike AlikeOrCut f.ring rings alike_or_cut alike
 
   -- what holds of the slot, and of each other, holds of all
   all_slots : (P : ℕ → ℕ → Slot → Type 0) → P n slot (Live x (Committed new)) → ((s j : ℕ) → ¬ ((s ≡ n) × (j ≡ slot)) → P s j (slot_at (f.ring s) j)) → (s j : ℕ) → P s j (slot_at (rings s) j)
@@ -269,7 +271,7 @@ module _ (starts : State → Type 0) (allows : List ℕ → State → Writes →
   grace_after = record {
     live = λ s j y su l.
         let b = alike.back s j y su l in
-        subst (λ (p : ℕ). c.base + p / c.slots ≤ f.grace s) (sym (alike_place b.0 b.1 y su b.3).position) (k.positions_and_grace.live s j b.0 b.1 b.2);
+        subst (λ (p : ℕ). c.base + p / c.slots ≤ f.grace s) (sym (alike_place b.0 b.1 y su b.3.0).position) (k.positions_and_grace.live s j b.0 b.1 b.2);
     free = λ s j low e.
         let was : slot_at (f.ring s) j ≡ Free = all_slots (λ t i z. z ≡ Free → slot_at (f.ring t) i ≡ Free) (λ e. absurd (cc)) (λ t i other e. e) s j e in
         subst (λ (p : ℕ). c.base + (p + (j + c.slots - p % c.slots) % c.slots) / c.slots ≤ f.grace s) (sym (next_position s)) (k.positions_and_grace.free s j low was);
@@ -294,15 +296,15 @@ module _ (starts : State → Type 0) (allows : List ℕ → State → Writes →
   -- all facts after the load, but for what its seat has seen
   pub super_facts : found ≤ c.base + length (f.past n).seen → Facts starts allows c start m h (changed f n (record unchanged { ring = Some loaded }))
   super_facts sees =
-      let stamps = stamped.stamps_match c h f.ring rings alike (λ s j. m (Stamp s j)) (λ s j. m (Stamp s j)) (λ s j y st l. refl) (m Clock)
+      let stamps = stamped.stamps_match c h f.ring rings or_cut (λ s j. m (Stamp s j)) (λ s j. m (Stamp s j)) (λ s j y st l. refl) (m Clock)
       (λ s j b e. k.stamps.built s j b (built_back s j b e)) k.stamps in
-      let successors = stamped.successors_match c h f.ring rings alike (λ s j. m (Super s j)) (λ s j. m (Super s j)) (λ s j y st l. refl)
+      let successors = stamped.successors_match c h f.ring rings or_cut (λ s j. m (Super s j)) (λ s j. m (Super s j)) (λ s j y st l. refl)
       (λ s j. m (Stamp s j)) (λ s j. m (Stamp s j)) (λ s j y st l. refl) f.section (λ s j b e. k.successors.built s j b (built_back s j b e)) k.successors in
       let deaths_seen = seen_put c f.past f.ring n slot loaded x (Committed new) refl within
       (λ dead e. let is = (super_dead note found dead no_death e).0 in (omega arith, λ _. omega arith)) k.deaths_seen in
-      let positions = set.positions_match c h f.ring rings alike (wide_after f.ring n slot (Live x (Committed new)) loaded refl within) freeing_back freeing_forth
+      let positions = set.positions_match c h f.ring rings or_cut (wide_after f.ring n slot (Live x (Committed new)) loaded refl within) freeing_back freeing_forth
       (λ s j b e. k.positions.built s j b (built_back s j b e)) k.positions in
-      let succeeded = stamped.succeeded_match c h f.ring rings alike (λ s j. m (Super s j)) (λ s j. m (Super s j)) (λ s j y st l. refl) f.empty
+      let succeeded = stamped.succeeded_match c h f.ring rings or_cut (λ s j. m (Super s j)) (λ s j. m (Super s j)) (λ s j y st l. refl) f.empty
       k.succeeded_has_super in
       assumption
       (slot_words_after, stamps, successors, deaths_after, deaths_seen, positions, before_death_after, flag_after, succeeded, death_after, grace_after,

@@ -25,11 +25,11 @@ use Rattle.mv_core.specs.Rings.{slot_at, index_of, HoldsNothing, Lives, Names, I
 use Rattle.mv_core.specs.declared.ring.Slot.TheVariants.{Live}
 use Rattle.mv_core.specs.Times.{latest}
 use Rattle.mv_core.specs.Views.{section_of, time_of, time_in, IsUnnamed, faces_of, become}
-use Rattle.mv_core.specs.SetFacts.{stamp_of, IsHeldOrAborted, Successors, BelowIsStamped, Positions}
+use Rattle.mv_core.specs.SetFacts.{stamp_of, IsHeldOrAborted, Successors, BelowIsStamped, UnstampedIsUnfinished, Positions}
 use Rattle.mv_core.specs.SectionFacts.{LockFreshness, FoundStamps, OpenSection}
 use Rattle.mv_core.specs.ChainFacts.{HeadIsTop, HeldLink, AbortedLink}
-use Rattle.mv_core.specs.WalkFacts.{MayStandAt, StandsRight, IsBeforeDeath, WalkerBeforeDeath, WalkerKnowledge, WalkerFalls}
-use Rattle.mv_core.specs.ReclaimFacts.{DeathSeen}
+use Rattle.mv_core.specs.WalkFacts.{MayStandAt, StandsRight, IsBeforeDeath, WalkerPlace, WalkerBeforeDeath, WalkerKnowledge, WalkerFalls, WalkerLate}
+use Rattle.mv_core.specs.ReclaimFacts.{Deaths, DeathSeen, DeathAfterWrite, CutIsOld}
 use Rattle.mv_core.specs.LockSteps.{MayLock, head_locked}
 use Rattle.mv_core.specs.Rule.{Facts}
 use Rattle.mv_core.proofs.Frames.{become_else, unchanged, settle}
@@ -266,50 +266,34 @@ module _ (starts : State → Type 0) (allows : List ℕ → State → Writes →
 
   pub lock_won : Facts starts allows c start (put m (Head object) (link_of v.number position)) h (faces_of (become seats v.number (head_locked c v inside object previous position)))
   lock_won =
+      let deaths : Deaths c h later = record {
+        aborted = λ s j dead y lives. each_live (λ s j y st. st ≡ Aborted (Some dead) → dead ≤ c.base + length h + 1) (λ e. absurd (cc))
+            (λ s j y st lives e. k.deaths.aborted s j dead y (subst (Lives rings s j y) e lives)) s j y (Aborted (Some dead)) lives refl;
+        cut = λ s j dead y note lives. k.deaths.cut s j dead y note (kept.was s j y note lives);
+        superseded = λ s j dead y note lives. k.deaths.superseded s j dead y note (kept.was s j y note lives);
+      } in
+      let seen = each_live (λ s j y st. DeathSeen (c.base + length (seats s).past.seen) st) (none_noted (c.base + length (seats n).past.seen) Held refl) k.deaths_seen in
+      let places : WalkerPlace c start h master time (λ s. (seats s).walk) later = λ s t timed. stands_kept t (seats s).walk (k.walker_place s t timed) in
+      let late : WalkerLate time (λ s. (seats s).walk) later =
+      λ s t stand y note timed at e names. k.walker_late s t stand y note timed at e (stand_was s stand at y (Committed note) names) in
+      let unfinished : UnstampedIsUnfinished c stamp section later = λ s j y note lives. k.unstamped_is_unfinished s j y note (kept.was s j y note lives) in
+      let cut : CutIsOld time later = λ s j y note lives. k.cut_is_old s j y note (kept.was s j y note lives) in
+      let death_after : DeathAfterWrite later = λ s j dead y note lives. k.death_after_write s j dead y note (kept.was s j y note lives) in
+      let named = named_kept rings later kept c h stamp section (λ s i naming at mode. nothing_else s (other_named s i naming at mode)) k.named_commit in
+      let backs = back_kept rings later kept c h master section time (λ s. (seats s).heard) (λ s. (seats s).grace) (λ s. (seats s).back)
+      (λ s w at. nothing_else s (λ e.
+      let none : None ≡ Some w = sym may.walking.no_back ∙ ap (λ (u : View). u.back) (sym is) ∙ ap (λ (t : ℕ). (seats t).back) (sym e) ∙ at in cc))
+      k.write_back in
       settle starts allows c start (put m (Head object) (link_of v.number position)) h seats v.number v (head_locked c v inside object previous position) is
-      (record unchanged { ring = Some (head_locked c v inside object previous position).ring }) (refl, refl, refl, refl, refl, refl, refl, refl, refl, refl, refl) (record {
-        checked = k.checked;
-        history = k.history;
-        slot_words = log.words_after starts allows c start m h seats k v is own write_max object previous position b inside may;
-        stamps = log.stamps_after starts allows c start m h seats k v is own write_max object previous position b inside may;
-        write_sets = log.sets_after starts allows c start m h seats k v is own write_max object previous position b inside may;
-        helped_words = k.helped_words;
-        marks = k.marks;
-        stamped_past_help = past_help_kept rings later kept c stamp section (λ s. (seats s).heard) k.stamped_past_help;
-        grace = k.grace;
-        lock_freshness = fresh_after;
-        successors = successors_after;
-        deaths = record {
-          aborted = λ s j dead y lives. each_live (λ s j y st. st ≡ Aborted (Some dead) → dead ≤ c.base + length h + 1) (λ e. absurd (cc)) (λ s j y st lives e. k.deaths.aborted s j dead y (subst (Lives rings s j y) e lives)) s j y (Aborted (Some dead)) lives refl;
-          cut = λ s j dead y note lives. k.deaths.cut s j dead y note (kept.was s j y note lives);
-          superseded = λ s j dead y note lives. k.deaths.superseded s j dead y note (kept.was s j y note lives);
-        };
-        deaths_seen = each_live (λ s j y st. DeathSeen (c.base + length (seats s).past.seen) st) (none_noted (c.base + length (seats n).past.seen) Held refl) k.deaths_seen;
-        positions = positions;
-        head_is_top = heads;
-        held_link = links;
-        commit_link = link_kept rings later kept c h k.commit_link;
-        aborted_link = aborted_after;
-        present_master = master_kept rings later kept c h start master time k.present_master;
-        chain_foot = foot_kept rings later kept c h start master time k.chain_foot;
-        walker_place = λ s t timed. stands_kept t (seats s).walk (k.walker_place s t timed);
-        walker_before_death = before_death;
-        walker_knowledge = knowledge;
-        below_is_stamped = below_after;
-        walker_falls = falls;
-        walker_late = λ s t stand y note timed at e names. k.walker_late s t stand y note timed at e (stand_was s stand at y (Committed note) names);
-        found_stamp = found_after;
-        unstamped_is_unfinished = λ s j y note lives. k.unstamped_is_unfinished s j y note (kept.was s j y note lives);
-        named_commit = named_kept rings later kept c h stamp section (λ s i naming at mode. nothing_else s (other_named s i naming at mode)) k.named_commit;
-        open_section = open_after;
-        successor_flag = flag_kept rings later kept super section k.successor_flag;
-        succeeded_has_super = super_kept rings later kept c h super (λ s. (seats s).empty) k.succeeded_has_super;
-        loaded_words = k.loaded_words;
-        freed_is_old = freed_kept rings later kept c h (m Clock) (λ s. (seats s).grace) k.freed_is_old;
-        cut_is_old = λ s j y note lives. k.cut_is_old s j y note (kept.was s j y note lives);
-        death_after_write = λ s j dead y note lives. k.death_after_write s j dead y note (kept.was s j y note lives);
-        write_back = back_kept rings later kept c h master section time (λ s. (seats s).heard) (λ s. (seats s).grace) (λ s. (seats s).back)
-            (λ s w at. nothing_else s (λ e. let none : None ≡ Some w = sym may.walking.no_back ∙ ap (λ (u : View). u.back) (sym is) ∙ ap (λ (t : ℕ). (seats t).back) (sym e) ∙ at in cc)) k.write_back;
-        positions_and_grace = log.grace_after starts allows c start m h seats k v is own write_max object previous position b inside may;
-        phases_and_scan = k.phases_and_scan;
-      })
+      (record unchanged { ring = Some (head_locked c v inside object previous position).ring }) (refl, refl, refl, refl, refl, refl, refl, refl, refl, refl, refl)
+      (assumption
+      (deaths, seen, places, late, unfinished, cut, death_after, named, backs, positions, heads, links, aborted_after, below_after, fresh_after, successors_after,
+      before_death, knowledge, falls, found_after, open_after,
+      log.words_after starts allows c start m h seats k v is own write_max object previous position b inside may,
+      log.stamps_after starts allows c start m h seats k v is own write_max object previous position b inside may,
+      log.sets_after starts allows c start m h seats k v is own write_max object previous position b inside may,
+      log.grace_after starts allows c start m h seats k v is own write_max object previous position b inside may,
+      past_help_kept rings later kept c stamp section (λ s. (seats s).heard) k.stamped_past_help, link_kept rings later kept c h k.commit_link,
+      master_kept rings later kept c h start master time k.present_master, foot_kept rings later kept c h start master time k.chain_foot,
+      flag_kept rings later kept super section k.successor_flag, super_kept rings later kept c h super (λ s. (seats s).empty) k.succeeded_has_super,
+      freed_kept rings later kept c h (m Clock) (λ s. (seats s).grace) k.freed_is_old, k))

@@ -24,10 +24,9 @@ use Rattle.mv_core.specs.Rings.{slot_at, index_of, HoldsNothing, Lives}
 use Rattle.mv_core.specs.Times.{latest, last_own}
 use Rattle.mv_core.specs.Views.{section_of, time_of, time_in, IsUnnamed, faces_of, become}
 use Rattle.mv_core.specs.SetFacts.{IsHeldOrAborted, Successors}
-use Rattle.mv_core.specs.SectionFacts.{MarkedAs, WasClock, LoadedWords, OpenSection}
-use Rattle.mv_core.specs.ReclaimFacts.{WriteBacks}
-use Rattle.mv_core.specs.WalkFacts.{WalkerKnowledge}
-use Rattle.mv_core.specs.ReclaimFacts.{DeathSeen}
+use Rattle.mv_core.specs.SectionFacts.{MarkedAs, StampedPastHelp, WasClock, LoadedWords, OpenSection}
+use Rattle.mv_core.specs.ReclaimFacts.{Deaths, DeathSeen, DeathAfterWrite, CutIsOld, WriteBacks}
+use Rattle.mv_core.specs.WalkFacts.{WalkerPlace, WalkerKnowledge, WalkerLate}
 use Rattle.mv_core.specs.LockSteps.{MayUnlock, head_unlocked}
 use Rattle.mv_core.specs.Known.{RunsOn}
 use Rattle.mv_core.specs.Rule.{Facts, Stores, IsKept}
@@ -162,13 +161,9 @@ module _ (starts : State → Type 0) (allows : List ℕ → State → Writes →
 
   words_after : LoadedWords c (m Clock) sections (λ s. (seats s).heard)
   words_after =
-      let w = k.loaded_words in record {
-        clock_is = w.clock_is;
-        loaded = w.loaded;
-        helped = w.helped;
-        found = w.found;
-        inside = λ s i at. let o = section_was s i at in subst (WasClock c (m Clock)) o.2 (w.inside s o.0 o.1);
-      }
+      let now : (s : ℕ) (i : Section) → sections s ≡ Some i → WasClock c (m Clock) i.word =
+      λ s i at. let o = section_was s i at in subst (WasClock c (m Clock)) o.2 (k.loaded_words.inside s o.0 o.1) in
+      assumption (now, k.loaded_words)
 
   backs_after : WriteBacks c h master sections time (λ s. (seats s).heard) (λ s. (seats s).grace) (λ s. (seats s).back) later
   backs_after s b at =
@@ -180,64 +175,53 @@ module _ (starts : State → Type 0) (allows : List ℕ → State → Writes →
 
   pub unlock_stored : Facts starts allows c start (put m (Head object) previous) h (faces_of (become seats v.number (head_unlocked c v object previous slot x inside)))
   unlock_stored =
+      let marks = become_all (λ s q. MarkedAs (m Clock) (m (Mark s)) q) (λ s. (seats s).phase) n (Inside aborting)
+      (subst (MarkedAs (m Clock) (m (Mark n))) (ap (λ (u : View). u.phase) is ∙ may.phase) (k.marks n)) (λ s ne. k.marks s) in
+      let past_help : StampedPastHelp c stamp sections (λ s. (seats s).heard) later = λ s i at past t j y note lives le.
+          let o = section_was s i at in
+          k.stamped_past_help s o.0 o.1 (subst (Contains (seats s).heard.helped) (sym o.2) past) t j y note (kept.was t j y note lives)
+          (subst (λ (word : ℕ). note.time ≤ clock_time_of word) (sym o.2) le) in
+      let fresh = each_held (λ s j y. (t : ℕ) × (time s ≡ Some t) × (latest c.base h y.object ≤ t) × (y.object < c.objects)) (λ s j y ne. k.lock_freshness s j y) in
+      let deaths : Deaths c h later = record {
+        aborted = λ s j dead y lives. each_live (λ s j y st. st ≡ Aborted (Some dead) → dead ≤ c.base + length h + 1) (λ e. absurd (cc))
+            (λ s j y st ne lives e. k.deaths.aborted s j dead y (subst (Lives rings s j y) e lives)) s j y (Aborted (Some dead)) lives refl;
+        cut = λ s j dead y note lives. k.deaths.cut s j dead y note (kept.was s j y note lives);
+        superseded = λ s j dead y note lives. k.deaths.superseded s j dead y note (kept.was s j y note lives);
+      } in
+      let seen = each_live (λ s j y st. DeathSeen (c.base + length (seats s).past.seen) st) (none_noted (c.base + length (seats n).past.seen) (Aborted None) refl)
+      (λ s j y st ne. k.deaths_seen s j y st) in
+      let places : WalkerPlace c start h master time (λ s. (seats s).walk) later =
+      λ s t timed. chain.stands_kept starts allows c start m h seats k v is object previous slot x inside may s t timed (seats s).walk (k.walker_place s t timed) in
+      let late : WalkerLate time (λ s. (seats s).walk) later =
+      λ s t stand y note timed at e names. k.walker_late s t stand y note timed at e (names_was rings later kept stand.link y note names) in
+      let unfinished = more.unfinished_more c h later section n (Some aborting) aborting_unnamed stamp (λ i naming at mode. other_named i naming at mode)
+      (λ s j y note lives. k.unstamped_is_unfinished s j y note (kept.was s j y note lives)) in
+      let named = more.named_more c h later section n (Some aborting) aborting_unnamed stamp
+      (named_kept rings later kept c h stamp section
+      (λ s i naming at mode. nothing_else s (λ e. other_named i naming (ap section (sym e) ∙ at) mode)) k.named_commit) in
+      let flags = more.flag_more c h later section n (Some aborting) aborting_unnamed super (flag_kept rings later kept super section k.successor_flag) in
+      let cut : CutIsOld time later = λ s j y note lives. k.cut_is_old s j y note (kept.was s j y note lives) in
+      let death_after : DeathAfterWrite later = λ s j dead y note lives. k.death_after_write s j dead y note (kept.was s j y note lives) in
+      let scanning = become_all (λ s q. (running : Scan) → (seats s).scan ≡ Some running → q ≡ Outside) (λ s. (seats s).phase) n (Inside aborting)
+      (λ running e.
+      let out : Inside inside ≡ Outside = sym may.phase ∙ ap (λ (u : View). u.phase) (sym is) ∙ k.phases_and_scan.scanning n running e in absurd (cc))
+      (λ s ne. k.phases_and_scan.scanning s) in
       settle starts allows c start (put m (Head object) previous) h seats v.number v (head_unlocked c v object previous slot x inside) is
-      (record unchanged { phase = Some (Inside aborting); section = Some (Some aborting); ring = Some (head_unlocked c v object previous slot x inside).ring }) (refl, refl, refl, ap time_of (sym may.phase), refl, refl, refl, refl, refl, refl, refl) (record {
-        checked = k.checked;
-        history = k.history;
-        slot_words = log.words_after starts allows c start m h seats k v is object previous slot x inside may;
-        stamps = log.stamps_after starts allows c start m h seats k v is object previous slot x inside may;
-        write_sets = log.sets_after starts allows c start m h seats k v is object previous slot x inside may;
-        helped_words = k.helped_words;
-        marks = become_all (λ s q. MarkedAs (m Clock) (m (Mark s)) q) (λ s. (seats s).phase) n (Inside aborting)
-            (subst (MarkedAs (m Clock) (m (Mark n))) (ap (λ (u : View). u.phase) is ∙ may.phase) (k.marks n)) (λ s ne. k.marks s);
-        stamped_past_help = λ s i at past t j y note lives le.
-            let o = section_was s i at in
-            k.stamped_past_help s o.0 o.1 (subst (Contains (seats s).heard.helped) (sym o.2) past) t j y note (kept.was t j y note lives) (subst (λ (word : ℕ). note.time ≤ clock_time_of word) (sym o.2) le);
-        grace = k.grace;
-        lock_freshness = each_held (λ s j y. (t : ℕ) × (time s ≡ Some t) × (latest c.base h y.object ≤ t) × (y.object < c.objects)) (λ s j y ne. k.lock_freshness s j y);
-        successors = successors_after;
-        deaths = record {
-          aborted = λ s j dead y lives. each_live (λ s j y st. st ≡ Aborted (Some dead) → dead ≤ c.base + length h + 1) (λ e. absurd (cc)) (λ s j y st ne lives e. k.deaths.aborted s j dead y (subst (Lives rings s j y) e lives)) s j y (Aborted (Some dead)) lives refl;
-          cut = λ s j dead y note lives. k.deaths.cut s j dead y note (kept.was s j y note lives);
-          superseded = λ s j dead y note lives. k.deaths.superseded s j dead y note (kept.was s j y note lives);
-        };
-        deaths_seen = each_live (λ s j y st. DeathSeen (c.base + length (seats s).past.seen) st) (none_noted (c.base + length (seats n).past.seen) (Aborted None) refl) (λ s j y st ne. k.deaths_seen s j y st);
-        positions = log.positions_after starts allows c start m h seats k v is object previous slot x inside may;
-        head_is_top = chain.heads starts allows c start m h seats k v is object previous slot x inside may;
-        held_link = chain.links starts allows c start m h seats k v is object previous slot x inside may;
-        commit_link = link_kept rings later kept c h k.commit_link;
-        aborted_link = chain.aborted_after starts allows c start m h seats k v is object previous slot x inside may;
-        present_master = master_kept rings later kept c h start master time k.present_master;
-        chain_foot = foot_kept rings later kept c h start master time k.chain_foot;
-        walker_place = λ s t timed. chain.stands_kept starts allows c start m h seats k v is object previous slot x inside may s t timed (seats s).walk (k.walker_place s t timed);
-        walker_before_death = chain.before_death starts allows c start m h seats k v is object previous slot x inside may;
-        walker_knowledge = knowledge;
-        below_is_stamped = chain.below_after starts allows c start m h seats k v is object previous slot x inside may;
-        walker_falls = chain.falls starts allows c start m h seats k v is object previous slot x inside may;
-        walker_late = λ s t stand y note timed at e names. k.walker_late s t stand y note timed at e (names_was rings later kept stand.link y note names);
-        found_stamp = chain.found_after starts allows c start m h seats k v is object previous slot x inside may;
-        unstamped_is_unfinished = more.unfinished_more c h later section n (Some aborting) aborting_unnamed stamp (λ i naming at mode. other_named i naming at mode)
-            (λ s j y note lives. k.unstamped_is_unfinished s j y note (kept.was s j y note lives));
-        named_commit = more.named_more c h later section n (Some aborting) aborting_unnamed stamp
-            (named_kept rings later kept c h stamp section (λ s i naming at mode. nothing_else s (λ e. other_named i naming (ap section (sym e) ∙ at) mode)) k.named_commit);
-        open_section = open_after;
-        successor_flag = more.flag_more c h later section n (Some aborting) aborting_unnamed super (flag_kept rings later kept super section k.successor_flag);
-        succeeded_has_super = super_kept rings later kept c h super (λ s. (seats s).empty) k.succeeded_has_super;
-        loaded_words = words_after;
-        freed_is_old = freed_kept rings later kept c h (m Clock) (λ s. (seats s).grace) k.freed_is_old;
-        cut_is_old = λ s j y note lives. k.cut_is_old s j y note (kept.was s j y note lives);
-        death_after_write = λ s j dead y note lives. k.death_after_write s j dead y note (kept.was s j y note lives);
-        write_back = backs_after;
-        positions_and_grace = log.grace_after starts allows c start m h seats k v is object previous slot x inside may;
-        phases_and_scan = record {
-          scanning = become_all (λ s q. (running : Scan) → (seats s).scan ≡ Some running → q ≡ Outside) (λ s. (seats s).phase) n (Inside aborting)
-              (λ running e. let out : Inside inside ≡ Outside = sym may.phase ∙ ap (λ (u : View). u.phase) (sym is) ∙ k.phases_and_scan.scanning n running e in absurd (cc))
-              (λ s ne. k.phases_and_scan.scanning s);
-          outside = k.phases_and_scan.outside;
-          seen = k.phases_and_scan.seen;
-          within = k.phases_and_scan.within;
-        };
-      })
+      (record unchanged { phase = Some (Inside aborting); section = Some (Some aborting); ring = Some (head_unlocked c v object previous slot x inside).ring })
+      (refl, refl, refl, ap time_of (sym may.phase), refl, refl, refl, refl, refl, refl, refl)
+      (assumption
+      (marks, past_help, fresh, deaths, seen, places, late, unfinished, named, flags, cut, death_after, scanning, successors_after, knowledge, open_after,
+      words_after, backs_after, log.words_after starts allows c start m h seats k v is object previous slot x inside may,
+      log.stamps_after starts allows c start m h seats k v is object previous slot x inside may, log.sets_after starts allows c start m h seats k v is object previous slot x inside may,
+      log.positions_after starts allows c start m h seats k v is object previous slot x inside may,
+      log.grace_after starts allows c start m h seats k v is object previous slot x inside may,
+      chain.heads starts allows c start m h seats k v is object previous slot x inside may, chain.links starts allows c start m h seats k v is object previous slot x inside may,
+      chain.aborted_after starts allows c start m h seats k v is object previous slot x inside may,
+      chain.before_death starts allows c start m h seats k v is object previous slot x inside may, chain.below_after starts allows c start m h seats k v is object previous slot x inside may,
+      chain.falls starts allows c start m h seats k v is object previous slot x inside may, chain.found_after starts allows c start m h seats k v is object previous slot x inside may,
+      link_kept rings later kept c h k.commit_link, master_kept rings later kept c h start master time k.present_master,
+      foot_kept rings later kept c h start master time k.chain_foot, super_kept rings later kept c h super (λ s. (seats s).empty) k.succeeded_has_super,
+      freed_kept rings later kept c h (m Clock) (λ s. (seats s).grace) k.freed_is_old, k))
 
 module _ (starts : State → Type 0) (allows : List ℕ → State → Writes → Type 0) (c : Config) (start : State) (v : View) (object previous slot : ℕ) (x : Version) (inside : Section) (may : MayUnlock v object previous slot x inside) where
   -- what the pass has at run time of the section stays

@@ -7,7 +7,7 @@ use native.Mathlib.Decide.{ℕ_discrete}
 use Rattle.mv_history.specs.declared.Entry.{Entry}
 use Rattle.mv_history.specs.State.{State, Writes}
 use Rattle.mv_layout.specs.declared.Config.{Config}
-use Rattle.mv_layout.specs.declared.Place.TheVariants.{Clock, Head, Master, First, Stamp, Prev, Super, Data}
+use Rattle.mv_layout.specs.declared.Place.TheVariants.{Clock, First, Stamp, Prev, Super, Data}
 use Rattle.mv_layout.specs.Places.{Memory, put}
 use Rattle.mv_core.specs.declared.ring.Ring.{Ring}
 use Rattle.mv_core.specs.declared.ring.Slot.{Slot}

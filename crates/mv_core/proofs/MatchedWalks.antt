@@ -1,28 +1,23 @@
 -- What holds of walks stays where each live version stays what it is to the other seats; and what holds of deaths and of unfinished commits, where what the owner noted stays too.
-use Rattle.std.proofs.Common.{◌≡◌, ◌⊎◌, ℕ, ◌+◌, ◌/◌, ◌<◌, ◌≤◌, List, length, refl, sym, ap, ◌∙◌, subst, inl, inr, ⊎_elim, Option, Some}
+use Rattle.std.proofs.Common.{◌≡◌, ◌⊎◌, ℕ, ◌<◌, List, refl, sym, ap, ◌∙◌, subst, inl, inr, ⊎_elim, Option}
 use Rattle.mv_history.specs.declared.Entry.{Entry}
 use Rattle.mv_history.specs.State.{State}
 use Rattle.mv_layout.specs.declared.Config.{Config}
 use Rattle.mv_layout.specs.Words.{link_of}
 use Rattle.mv_core.specs.declared.ring.Ring.{Ring}
-use Rattle.mv_core.specs.declared.ring.Slot.TheVariants.{Free, Built, Freeing}
-use Rattle.mv_core.specs.declared.ring.Build.{Build}
 use Rattle.mv_core.specs.declared.ring.Version.{Version}
 use Rattle.mv_core.specs.declared.ring.Status.{Status}
 use Rattle.mv_core.specs.declared.ring.Status.TheVariants.{Held, Aborted, Committed}
 use Rattle.mv_core.specs.declared.ring.CommitNote.{CommitNote}
-use Rattle.mv_core.specs.declared.view.Past.{Past}
 use Rattle.mv_core.specs.declared.view.Section.{Section}
 use Rattle.mv_core.specs.declared.view.Heard.{Heard}
 use Rattle.mv_core.specs.declared.view.Walk.{Walk}
 use Rattle.mv_core.specs.declared.view.Walk.TheVariants.{Nowhere, At, Master}
-use Rattle.mv_core.specs.Rings.{slot_at, Lives, Names}
+use Rattle.mv_core.specs.Rings.{Lives, Names}
 use Rattle.mv_core.specs.Times.{latest_at}
 use Rattle.mv_core.specs.SetFacts.{stamp_of}
-use Rattle.mv_core.specs.WalkFacts.{MasterServes, IsRightFor, MayStandAt, StandsRight, WalkerPlace, IsBeforeDeath, WalkerBeforeDeath, WalkerKnowledge, IsBelowPassed, WalkerFalls, WalkerLate}
-use Rattle.mv_core.specs.ReclaimFacts.{Deaths, DeathsSeen, DeathAfterWrite, SuccessorFlag, next_in, PositionsAndGrace}
-use Rattle.mv_core.proofs.SeenDeaths.{none_noted}
-use Rattle.mv_core.proofs.Slots.{Becomes, Matches}
+use Rattle.mv_core.specs.WalkFacts.{MasterServes, IsRightFor, MayStandAt, StandsRight, WalkerPlace, WalkerKnowledge, IsBelowPassed, WalkerFalls, WalkerLate}
+use Rattle.mv_core.proofs.Slots.{Matches}
 use Rattle.mv_core.proofs.Matching.{AlikeOrCut, alike_place, is_committed_so, names_back, names_committed_forth, committed_back, none_uncut_forth}
 
 -- a link names the version that is there

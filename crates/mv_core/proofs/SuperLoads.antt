@@ -8,7 +8,7 @@ use native.Mathlib.Decide.{dec_lt, ℕ_discrete}
 use Rattle.mv_history.specs.declared.Entry.{Entry}
 use Rattle.mv_history.specs.State.{State, Writes}
 use Rattle.mv_layout.specs.declared.Config.{Config}
-use Rattle.mv_layout.specs.declared.Place.TheVariants.{Clock, Head, Master, First, Stamp, Prev, Super, Data}
+use Rattle.mv_layout.specs.declared.Place.TheVariants.{Clock, Master, First, Stamp, Prev, Super, Data}
 use Rattle.mv_layout.specs.Places.{Memory}
 use Rattle.mv_layout.specs.Words.{link_of}
 use Rattle.mv_core.specs.declared.ring.Ring.{Ring}

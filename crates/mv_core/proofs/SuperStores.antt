@@ -6,7 +6,7 @@ use Rattle.mv_history.specs.declared.Entry.{Entry}
 use Rattle.mv_history.specs.declared.Entry.TheVariants.{Change}
 use Rattle.mv_history.specs.State.{State, Writes}
 use Rattle.mv_layout.specs.declared.Config.{Config}
-use Rattle.mv_layout.specs.declared.Place.TheVariants.{Clock, Head, Master, First, Stamp, Prev, Super, Data}
+use Rattle.mv_layout.specs.declared.Place.TheVariants.{Clock, First, Stamp, Prev, Super, Data}
 use Rattle.mv_layout.specs.Places.{Memory, put}
 use Rattle.mv_layout.specs.Words.{link_seat_of}
 use Rattle.mv_core.specs.declared.ring.Ring.{Ring}

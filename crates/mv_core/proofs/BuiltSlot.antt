@@ -26,12 +26,11 @@ use Rattle.mv_core.specs.LockSteps.{nothing_built, build_in}
 use Rattle.mv_core.specs.Rule.{Facts}
 use Rattle.mv_core.proofs.Frames.{unchanged, changed}
 use Rattle.mv_core.proofs.Slots.{Matches, match_weaker, match_unlived, slots_after, wide_after, next_after, here_or_else}
-use Rattle.mv_core.proofs.Matching.{Alike, AlikeOrCut, alike_or_cut}
-use Rattle.mv_core.proofs.MatchedFacts.{alike_facts}
+use Rattle.mv_core.proofs.Matching.{AlikeOrCut}
+use Rattle.mv_core.proofs.Cuts.{Steady, steady_self}
+use Rattle.mv_core.proofs.MatchedFacts.{steady_facts}
 use Rattle.mv_core.proofs.MatchedSets as set
 use Rattle.mv_core.proofs.MatchedStamps as stamped
-use Rattle.mv_core.proofs.Cuts as cuts
-use Rattle.mv_core.proofs.Cuts.{Cuts, Steady, steady_self, steady_alike, steady_cuts}
 use Rattle.mv_core.proofs.SlotWords.{of_parts}
 
 -- what was stored so far is in the words
@@ -114,14 +113,8 @@ module _ (starts : State → Type 0) (allows : List ℕ → State → Writes →
     steady : Matches Steady f.ring rings
     steady = match_unlived Steady steady_self f.ring n slot (Built new) built refl within refl not_live (λ y st e. absurd (cc))
 
-    alike : Matches Alike f.ring rings
-    alike = match_weaker Steady Alike f.ring rings steady_alike steady
-
-    but_cut : Matches Cuts f.ring rings
-    but_cut = match_weaker Steady Cuts f.ring rings steady_cuts steady
-
     or_cut : Matches AlikeOrCut f.ring rings
-    or_cut = match_weaker Alike AlikeOrCut f.ring rings alike_or_cut alike
+    or_cut = match_weaker Steady AlikeOrCut f.ring rings (λ x st y su a. a.0.0.0) steady
 
     -- a live version is in another slot
     other_slot : (s j : ℕ) (x : Version) (st : Status) → Lives f.ring s j x st → ¬ ((s ≡ n) × (j ≡ slot))
@@ -209,20 +202,15 @@ module _ (starts : State → Type 0) (allows : List ℕ → State → Writes →
     -- all facts after the store
     pub built_facts : Facts starts allows c start (of_parts (m Clock) (m Grace) (λ s. m (Mark s)) (λ o. m (Head o)) (λ o w. m (Master o w)) first stamp prev super data_word) h (changed f n (record unchanged { ring = Some built }))
     built_facts =
-        let matched = alike_facts starts allows c start m h f k rings stamp same_stamp apart_after alike in
         let stamps = stamped.stamps_match c h f.ring rings or_cut (λ s j. m (Stamp s j)) stamp same_stamp (m Clock) stamps_built k.stamps in
         let helped_words : HelpedWords (m Clock) stamp f.heard = λ s word has. done_after word (k.helped_words s word has) in
         let successors = stamped.successors_match c h f.ring rings or_cut (λ s j. m (Super s j)) super same_super (λ s j. m (Stamp s j)) stamp same_stamp
         f.section supers_built k.successors in
-        let deaths = cuts.deaths_match c h f.ring rings but_cut k.deaths in
-        let deaths_seen = cuts.deaths_seen_match c h f.ring rings but_cut f.past k.deaths_seen in
         let positions = set.positions_match c h f.ring rings or_cut (wide_after f.ring n slot (Built new) built refl within) freeing_back freeing_forth
         built_next k.positions in
-        let before_death = cuts.before_death_match c h f.ring rings but_cut f.time f.walk k.walker_before_death in
-        let flags = cuts.flag_match c h f.ring rings but_cut (λ s j. m (Super s j)) super same_super f.section k.successor_flag in
         let succeeded = stamped.succeeded_match c h f.ring rings or_cut (λ s j. m (Super s j)) super same_super f.empty k.succeeded_has_super in
-        let death_after = cuts.death_after_match c h f.ring rings but_cut k.death_after_write in
-        let grace = cuts.positions_grace_match c h f.ring rings but_cut f.grace free_after grace_built
-        (λ s j p first e. k.positions_and_grace.freeing s j p first (freeing_back s j p first e)) k.positions_and_grace in
+        let freeing : (s j p first : ℕ) → slot_at (rings s) j ≡ Freeing p first → c.base + p / c.slots < f.grace s =
+        λ s j p first e. k.positions_and_grace.freeing s j p first (freeing_back s j p first e) in
         assumption
-        (slot_words_after, stamps, helped_words, successors, deaths, deaths_seen, positions, before_death, flags, succeeded, death_after, grace, matched, k)
+        (slot_words_after, stamps, helped_words, successors, positions, succeeded, free_after, grace_built, freeing,
+        steady_facts starts allows c start m h f k rings stamp super same_stamp apart_after same_super steady, k)

@@ -1,17 +1,16 @@
 -- compare_exchange HEAD (cut), won: the version was on top of its object's chain and alone is cut, and the master has the present state.
-use Rattle.std.proofs.Common.{◌≡◌, ◌≢◌, ◌⊎◌, ℕ, ◌+◌, ◌-◌, ◌/◌, ◌%◌, ◌<◌, ◌≤◌, true, false, List, length, refl, sym, ap, ◌∙◌, subst, inl, inr, ⊎_elim, arith, slice_index, Some}
+use Rattle.std.proofs.Common.{◌≡◌, ◌≢◌, ◌⊎◌, ℕ, ◌+◌, ◌-◌, ◌<◌, ◌≤◌, true, false, List, length, refl, sym, ap, ◌∙◌, subst, inl, inr, ⊎_elim, arith, slice_index, Some}
 use mathlib.Core.Logic.{dite}
 use native.Mathlib.Decide.{ℕ_discrete}
 use Rattle.mv_history.specs.declared.Entry.{Entry}
 use Rattle.mv_history.specs.State.{State, Writes}
 use Rattle.mv_layout.specs.declared.Config.{Config}
-use Rattle.mv_layout.specs.declared.Place.TheVariants.{Clock, Head, Master, First, Stamp, Prev, Super, Data}
+use Rattle.mv_layout.specs.declared.Place.TheVariants.{Head, Master, First, Stamp, Prev, Super, Data}
 use Rattle.mv_layout.specs.Words.{link_of}
 use Rattle.mv_layout.specs.Places.{Memory, put}
 use Rattle.mv_core.specs.declared.ring.Ring.{Ring}
 use Rattle.mv_core.specs.declared.ring.Slot.{Slot}
-use Rattle.mv_core.specs.declared.ring.Slot.TheVariants.{Free, Built, Live, Freeing}
-use Rattle.mv_core.specs.declared.ring.Build.{Build}
+use Rattle.mv_core.specs.declared.ring.Slot.TheVariants.{Live}
 use Rattle.mv_core.specs.declared.ring.Version.{Version}
 use Rattle.mv_core.specs.declared.ring.Status.{Status}
 use Rattle.mv_core.specs.declared.ring.Status.TheVariants.{Held, Committed}
@@ -28,17 +27,16 @@ use Rattle.mv_core.proofs.KeptRecords.{same_back}
 use Rattle.mv_core.proofs.Frames.{unchanged, changed}
 use Rattle.mv_core.proofs.Latest.{latest-le, latest_at-end, latest-reaches, latest_at-le}
 use Rattle.mv_core.proofs.Links.{live_once, note_once, link_some, names_once, position_once}
-use Rattle.mv_core.proofs.Slots.{Matches, match_weaker, match_put, slots_after, at_here, wide_after, lives_back, lives_else, live_within, here_or_else}
-use Rattle.mv_core.proofs.Matching.{AlikeOrCut, alike_place, gone_forth, uncut_back, none_uncut_forth, none_holds_back, version_back, version_forth, committed_forth}
+use Rattle.mv_core.proofs.Slots.{Matches, match_weaker, match_put, slots_after, at_here, lives_back, lives_else, live_within, here_or_else}
+use Rattle.mv_core.proofs.Matching.{AlikeOrCut, alike_place, gone_forth, uncut_back, none_uncut_forth, none_holds_back, version_back, version_forth, committed_back, committed_forth}
 use Rattle.mv_core.proofs.Versions.{write_once}
 use Rattle.mv_core.proofs.Written.{version_writes, commit_within}
 use Rattle.mv_core.proofs.WordsAt.{words_of-same, version-words}
 use Rattle.mv_core.proofs.LockWon.{put_head}
-use Rattle.mv_core.proofs.Cuts as cuts
-use Rattle.mv_core.proofs.Cuts.{Cuts, cuts_self, cuts_alike}
+use Rattle.mv_core.proofs.Cuts.{SameDeath, Cuts, cuts_self, same_death_facts, flags_match}
 use Rattle.mv_core.proofs.MatchedSets as set
-use Rattle.mv_core.proofs.MatchedStamps as stamped
 use Rattle.mv_core.proofs.MatchedFacts.{alike_or_cut_facts}
+use Rattle.mv_core.proofs.InPlace.{in_place_put, in_place_facts}
 
 module _ (starts : State → Type 0) (allows : List ℕ → State → Writes → Type 0) (c : Config) (start : State) (m : Memory) (h : List Entry) (f : Faces) (k : Facts starts allows c start m h f)
     (n slot : ℕ) (x : Version) (note : CommitNote) (lives : Lives f.ring n slot x (Committed note)) (won : m (Head x.object) ≡ link_of n x.position)
@@ -65,10 +63,10 @@ module _ (starts : State → Type 0) (allows : List ℕ → State → Writes →
   within = live_within (f.ring n) slot x (Committed note) lives
 
   matches : Matches Cuts f.ring rings
-  matches = match_put Cuts cuts_self f.ring n slot (Live x (Committed new)) cut_ring refl within refl x (Committed note) x (Committed new) lives refl ((refl, refl, λ _. refl), (refl, refl))
+  matches = match_put Cuts cuts_self f.ring n slot (Live x (Committed new)) cut_ring refl within refl x (Committed note) x (Committed new) lives refl (((refl, refl, λ _. refl), refl), refl)
 
   or_cut : Matches AlikeOrCut f.ring rings
-  or_cut = match_weaker Cuts AlikeOrCut f.ring rings cuts_alike matches
+  or_cut = match_weaker Cuts AlikeOrCut f.ring rings (λ y st z su a. a.0.0) matches
 
   all_slots : (P : ℕ → ℕ → Slot → Type 0) → P n slot (Live x (Committed new)) → ((s j : ℕ) → ¬ ((s ≡ n) × (j ≡ slot)) → P s j (slot_at (f.ring s) j)) → (s j : ℕ) → P s j (slot_at (rings s) j)
   all_slots = slots_after f.ring n slot (Live x (Committed new)) cut_ring refl within
@@ -181,8 +179,8 @@ module _ (starts : State → Type 0) (allows : List ℕ → State → Writes →
 
   commit_links : CommitLink c h rings
   commit_links s j y o there =
-      let b = cuts.this_committed c h f.ring rings matches s j y o there in
-      let r = subst (λ (t : ℕ). LinksBelow f.ring y (latest_at c.base h y.object (t - 1))) (sym b.2.time) (k.commit_link s j y b.0 b.1) in
+      let b = committed_back f.ring rings or_cut s j y o there in
+      let r = subst (λ (t : ℕ). LinksBelow f.ring y (latest_at c.base h y.object (t - 1))) (sym b.2) (k.commit_link s j y b.0 b.1) in
       let t : ℕ = latest_at c.base h y.object (o.time - 1) in record {
         uncut = λ link z q v uncut. let w = version_back f.ring rings or_cut y.object t link z q v in r.uncut link z w.0 w.1 (uncut_back w.0 q w.2 uncut);
         cut = λ link z q v cut.
@@ -190,7 +188,7 @@ module _ (starts : State → Type 0) (allows : List ℕ → State → Writes →
             (λ a.
             let at : t ≡ note.time = sym v.time_is ∙ ap (λ (p : CommitNote). p.time) a.3 in
             let same : y.object ≡ x.object = sym v.object_is ∙ ap (λ (p : Version). p.object) a.2 in
-            absurd (none_above s j y b.0 b.1 same (subst (λ (u : ℕ). latest_at c.base h y.object (u - 1) ≡ note.time) b.2.time at)))
+            absurd (none_above s j y b.0 b.1 same (subst (λ (u : ℕ). latest_at c.base h y.object (u - 1) ≡ note.time) b.2 at)))
             (λ was. r.cut link z q (record { names = record { seat = v.names.seat; slot = v.names.slot; lives = was; is = v.names.is }; object_is = v.object_is; time_is = v.time_is }) cut)
             (committed_was v.names.seat v.names.slot z q v.names.lives);
         none = λ none.
@@ -243,20 +241,6 @@ module _ (starts : State → Type 0) (allows : List ℕ → State → Writes →
       let nothing = set.nothing_match c h f.ring rings or_cut s w.nothing in
       (r.0, r.1, same_back w q.0 w.helped nothing q.1 old known (w.last ∙ sym q.2) uncut w.words)
 
-  built_back : (s j : ℕ) (b : Build) → slot_at (rings s) j ≡ Built b → slot_at (f.ring s) j ≡ Built b
-  built_back = all_slots (λ s j z. (b : Build) → z ≡ Built b → slot_at (f.ring s) j ≡ Built b) (λ b e. absurd (cc)) (λ s j other b e. e)
-
-  freeing_back : (s j p first : ℕ) → slot_at (rings s) j ≡ Freeing p first → slot_at (f.ring s) j ≡ Freeing p first
-  freeing_back = all_slots (λ s j z. (p first : ℕ) → z ≡ Freeing p first → slot_at (f.ring s) j ≡ Freeing p first) (λ p first e. absurd (cc)) (λ s j other p first e. e)
-
-  freeing_forth : (s j p first : ℕ) → slot_at (f.ring s) j ≡ Freeing p first → slot_at (rings s) j ≡ Freeing p first
-  freeing_forth = all_slots (λ s j z. (p first : ℕ) → slot_at (f.ring s) j ≡ Freeing p first → z ≡ Freeing p first)
-      (λ p first e. let g : Live x (Committed note) ≡ Freeing p first = sym lives ∙ e in absurd (cc))
-      (λ s j other p first e. e)
-
-  free_back : (s j : ℕ) → slot_at (rings s) j ≡ Free → slot_at (f.ring s) j ≡ Free
-  free_back = all_slots (λ s j z. z ≡ Free → slot_at (f.ring s) j ≡ Free) (λ e. absurd (cc)) (λ s j other e. e)
-
   words_after : SlotWords (λ s j. m (First s j)) (λ s j. m (Prev s j)) (λ s j i. m (Data s j i)) rings
   words_after = all_slots (λ s j z. HoldsSlot (m (First s j)) (m (Prev s j)) (λ i. m (Data s j i)) z)
       (subst (HoldsSlot (m (First n slot)) (m (Prev n slot)) (λ i. m (Data n slot i))) lives (k.slot_words n slot))
@@ -265,25 +249,10 @@ module _ (starts : State → Type 0) (allows : List ℕ → State → Writes →
   -- all facts after the exchange
   pub cut_facts : Facts starts allows c start (put m (Head x.object) 0) h (changed f n (record unchanged { ring = Some cut_ring }))
   cut_facts =
-      let stamp : ℕ → ℕ → ℕ = λ s j. m (Stamp s j) in
-      let super : ℕ → ℕ → ℕ = λ s j. m (Super s j) in
-      let stamps = stamped.stamps_match c h f.ring rings or_cut stamp stamp (λ s j y st l. refl) (m Clock) (λ s j b e. k.stamps.built s j b (built_back s j b e))
-      k.stamps in
-      let successors = stamped.successors_match c h f.ring rings or_cut super super (λ s j y st l. refl) stamp stamp (λ s j y st l. refl) f.section
-      (λ s j b e. k.successors.built s j b (built_back s j b e)) k.successors in
-      let positions = set.positions_match c h f.ring rings or_cut (wide_after f.ring n slot (Live x (Committed new)) cut_ring refl within) freeing_back
-      freeing_forth (λ s j b e. k.positions.built s j b (built_back s j b e)) k.positions in
-      let succeeded = stamped.succeeded_match c h f.ring rings or_cut super super (λ s j y st l. refl) f.empty k.succeeded_has_super in
-      let flags = cuts.flag_match c h f.ring rings matches super super (λ s j y st l. refl) f.section k.successor_flag in
-      let next_is : (s : ℕ) → (rings s).next ≡ (f.ring s).next = matches.next in
-      let grace = cuts.positions_grace_match c h f.ring rings matches f.grace
-      (λ s j low e. subst (λ (p : ℕ). c.base + (p + (j + c.slots - p % c.slots) % c.slots) / c.slots ≤ f.grace s) (sym (next_is s))
-      (k.positions_and_grace.free s j low (free_back s j e)))
-      (λ s j b e. subst (λ (p : ℕ). c.base + p / c.slots ≤ f.grace s) (sym (next_is s)) (k.positions_and_grace.built s j b (built_back s j b e)))
-      (λ s j p first e. k.positions_and_grace.freeing s j p first (freeing_back s j p first e)) k.positions_and_grace in
+      let stays = in_place_put f.ring n slot cut_ring x x (Committed note) (Committed new) lives refl in
+      let same_death = match_weaker Cuts SameDeath f.ring rings (λ y st z su a. a.0) matches in
       assumption
-      (words_after, stamps, successors, positions, heads, links, commit_links, masters, succeeded, flags, cut_old, backs, grace,
-      cuts.deaths_match c h f.ring rings matches k.deaths, cuts.deaths_seen_match c h f.ring rings matches f.past k.deaths_seen,
-      cuts.before_death_match c h f.ring rings matches f.time f.walk k.walker_before_death,
-      cuts.death_after_match c h f.ring rings matches k.death_after_write,
-      alike_or_cut_facts starts allows c start m h f k rings stamp (λ s j y st l. refl) (λ s j p used apart. apart) or_cut, k)
+      (words_after, heads, links, commit_links, masters, cut_old, backs, in_place_facts starts allows c start m h f k rings or_cut stays,
+      alike_or_cut_facts starts allows c start m h f k rings (λ s j. m (Stamp s j)) (λ s j y st l. refl) (λ s j p used apart. apart) or_cut,
+      same_death_facts starts allows c start m h f k rings same_death,
+      flags_match starts allows c start m h f k rings (λ s j. m (Super s j)) (λ s j y st l. refl) matches, k)

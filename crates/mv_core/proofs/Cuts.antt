@@ -1,25 +1,31 @@
 -- What holds of deaths and of unfinished commits stays where each live version stays what it is to the other seats, but that it may be cut, and what its owner noted of it stays.
 use Rattle.std.proofs.Common.{◌≡◌, ℕ, ◌+◌, ◌/◌, ◌<◌, ◌≤◌, true, false, Bool, List, length, refl, sym, ap, ◌∙◌, subst, arith, Option, Some, None}
 use Rattle.mv_history.specs.declared.Entry.{Entry}
+use Rattle.mv_history.specs.State.{State, Writes}
 use Rattle.mv_layout.specs.declared.Config.{Config}
+use Rattle.mv_layout.specs.declared.Place.TheVariants.{Super}
+use Rattle.mv_layout.specs.Places.{Memory}
 use Rattle.mv_core.specs.declared.ring.Ring.{Ring}
-use Rattle.mv_core.specs.declared.ring.Slot.TheVariants.{Free, Built, Freeing}
-use Rattle.mv_core.specs.declared.ring.Build.{Build}
 use Rattle.mv_core.specs.declared.ring.Version.{Version}
 use Rattle.mv_core.specs.declared.ring.Status.{Status}
 use Rattle.mv_core.specs.declared.ring.Status.TheVariants.{Held, Aborted, Committed}
 use Rattle.mv_core.specs.declared.ring.CommitNote.{CommitNote}
 use Rattle.mv_core.specs.declared.view.Past.{Past}
-use Rattle.mv_core.specs.declared.view.Section.{Section}
 use Rattle.mv_core.specs.declared.view.Walk.{Walk}
-use Rattle.mv_core.specs.Rings.{slot_at, Lives, Names}
+use Rattle.mv_core.specs.Rings.{Lives, Names}
 use Rattle.mv_core.specs.Times.{IsNextWrite}
+use Rattle.mv_core.specs.Views.{Faces}
 use Rattle.mv_core.specs.WalkFacts.{IsBeforeDeath, WalkerBeforeDeath}
-use Rattle.mv_core.specs.ReclaimFacts.{Deaths, death_in, DeathsSeen, DeathAfterWrite, SuccessorFlag, next_in, PositionsAndGrace}
+use Rattle.mv_core.specs.ReclaimFacts.{Deaths, death_in, DeathsSeen, DeathAfterWrite, SuccessorFlag}
+use Rattle.mv_core.specs.Rule.{Facts}
 use Rattle.mv_core.proofs.Latest.{entry-within}
 use Rattle.mv_core.proofs.SeenDeaths.{none_noted}
 use Rattle.mv_core.proofs.Slots.{Becomes, Matches}
-use Rattle.mv_core.proofs.Matching.{KeepsPlace, AlikeOrCut, Alike, alike_self, alike_place, was_aborted, was_committed, uncut_back, names_back}
+use Rattle.mv_core.proofs.Matching.{KeepsPlace, AlikeOrCut, cut_in, alike_self, alike_place, was_aborted, was_committed, uncut_back, names_back}
+
+-- and the same death is noted
+abbrev pub SameDeath : Becomes
+SameDeath x st y su = AlikeOrCut x st y su × (death_in su ≡ death_in st)
 
 -- whether SUPER of the version below was stored
 abbrev pub linked_in : Status → Bool
@@ -27,41 +33,30 @@ linked_in Held = false
 linked_in (Aborted dead) = false
 linked_in (Committed note) = note.linked
 
--- the same was noted in both
-abbrev pub SameNotes : Status → Status → Type 0
-SameNotes st su = (death_in su ≡ death_in st) × (linked_in su ≡ linked_in st)
-
 -- a version stays what it is, with all that is noted of it, but that it may be cut, and for the words of a held one
 abbrev pub Cuts : Becomes
-Cuts x st y su = AlikeOrCut x st y su × SameNotes st su
+Cuts x st y su = SameDeath x st y su × (linked_in su ≡ linked_in st)
 
 -- and it isn't cut, if it wasn't
 abbrev pub Steady : Becomes
-Steady x st y su = Alike x st y su × SameNotes st su
+Steady x st y su = Cuts x st y su × (cut_in su ≡ cut_in st)
+
+pub death_self : (x : Version) (st : Status) → SameDeath x st x st
+death_self x st = ((alike_self x st).0, refl)
 
 pub cuts_self : (x : Version) (st : Status) → Cuts x st x st
-cuts_self x st = ((alike_self x st).0, (refl, refl))
+cuts_self x st = (death_self x st, refl)
 
 pub steady_self : (x : Version) (st : Status) → Steady x st x st
-steady_self x st = (alike_self x st, (refl, refl))
+steady_self x st = (cuts_self x st, refl)
 
-pub cuts_alike : (x : Version) (st : Status) (y : Version) (su : Status) → Cuts x st y su → AlikeOrCut x st y su
-cuts_alike x st y su a = a.0
+pub death_place : KeepsPlace SameDeath
+death_place x st y su a = alike_place x st y su a.0
 
-pub steady_alike : (x : Version) (st : Status) (y : Version) (su : Status) → Steady x st y su → Alike x st y su
-steady_alike x st y su a = a.0
-
-pub steady_cuts : (x : Version) (st : Status) (y : Version) (su : Status) → Steady x st y su → Cuts x st y su
-steady_cuts x st y su a = (a.0.0, a.1)
-
-pub cuts_place : KeepsPlace Cuts
-cuts_place x st y su a = alike_place x st y su a.0
-
--- the second note is the first one, of a version that may have been cut since
-pub record IsCutOf (m n : CommitNote) : Type 0 where
+-- the second note has the time and the death of the first one, and is that of a cut version if the first one is
+pub record IsNoteOf (m n : CommitNote) : Type 0 where
   pub time : n.time ≡ m.time
   pub dead : n.dead ≡ m.dead
-  pub linked : n.linked ≡ m.linked
   pub cut : m.cut ≡ true → n.cut ≡ true
 
 -- a time is before a death, by what is noted
@@ -80,22 +75,22 @@ is_before t (Committed m) before = before
 still_before : (t : ℕ) (st su : Status) → death_in su ≡ death_in st → IsBeforeDeath t st → IsBeforeDeath t su
 still_before t st su same before = is_before t su (λ dead e. death_before t st before dead (sym same ∙ e))
 
-module _ (c : Config) (h : List Entry) (before after : ℕ → Ring) (k : Matches Cuts before after) where
+module _ (c : Config) (h : List Entry) (before after : ℕ → Ring) (k : Matches SameDeath before after) where
   pub this_aborted : (s j : ℕ) (y : Version) (e : Option ℕ) → Lives after s j y (Aborted e) → Lives before s j y (Aborted e)
   this_aborted s j y e lives =
       let b = k.back s j y (Aborted e) lives in
       let w = was_aborted b.0 y b.1 e b.3.0 in
-      let same : e ≡ w.0 = b.3.1.0 ∙ ap death_in w.1 in
+      let same : e ≡ w.0 = b.3.1 ∙ ap death_in w.1 in
       subst (λ (v : Version). Lives before s j v (Aborted e)) (sym w.2) (subst (Lives before s j b.0) (w.1 ∙ ap Aborted (sym same)) b.2)
 
-  pub this_committed : (s j : ℕ) (y : Version) (n : CommitNote) → Lives after s j y (Committed n) → (m : CommitNote) × Lives before s j y (Committed m) × IsCutOf m n
+  pub this_committed : (s j : ℕ) (y : Version) (n : CommitNote) → Lives after s j y (Committed n) → (m : CommitNote) × Lives before s j y (Committed m) × IsNoteOf m n
   this_committed s j y n lives =
       let b = k.back s j y (Committed n) lives in
       let w = was_committed b.0 y b.1 n b.3.0 in
       let there = subst (λ (v : Version). Lives before s j v (Committed w.0)) (sym w.2) (subst (Lives before s j b.0) w.1 b.2) in
-      (w.0, there, record { time = w.3; dead = b.3.1.0 ∙ ap death_in w.1; linked = b.3.1.1 ∙ ap linked_in w.1; cut = w.4 })
+      (w.0, there, record { time = w.3; dead = b.3.1 ∙ ap death_in w.1; cut = w.4 })
 
-  pub deaths_match : Deaths c h before → Deaths c h after
+  deaths_match : Deaths c h before → Deaths c h after
   deaths_match old = record {
     aborted = λ s j dead x lives. old.aborted s j dead x (this_aborted s j x (Some dead) lives);
     cut = λ s j dead x n lives cut e.
@@ -113,7 +108,7 @@ module _ (c : Config) (h : List Entry) (before after : ℕ → Ring) (k : Matche
         (old.superseded s j dead x b.0 b.1 (uncut_back b.0 n b.2.cut uncut) (sym b.2.dead ∙ e));
   }
 
-  pub deaths_seen_match : (past : ℕ → Past) → DeathsSeen c past before → DeathsSeen c past after
+  deaths_seen_match : (past : ℕ → Past) → DeathsSeen c past before → DeathsSeen c past after
   deaths_seen_match past old s j x Held lives = none_noted (c.base + length (past s).seen) Held refl
   deaths_seen_match past old s j x (Aborted d) lives = old s j x (Aborted d) (this_aborted s j x d lives)
   deaths_seen_match past old s j x (Committed n) lives = λ dead e.
@@ -121,48 +116,61 @@ module _ (c : Config) (h : List Entry) (before after : ℕ → Ring) (k : Matche
       let r = old s j x (Committed b.0) b.1 dead (sym b.2.dead ∙ e) in
       (r.0, λ uncut. r.1 (uncut_back b.0 n b.2.cut uncut))
 
-  pub death_after_match : DeathAfterWrite before → DeathAfterWrite after
+  death_after_match : DeathAfterWrite before → DeathAfterWrite after
   death_after_match old s j dead x n lives e =
       let b = this_committed s j x n lives in subst (λ (t : ℕ). t < dead) (sym b.2.time) (old s j dead x b.0 b.1 (sym b.2.dead ∙ e))
 
-  pub before_death_match : (time : ℕ → Option ℕ) (walk : ℕ → Walk) → WalkerBeforeDeath time walk before → WalkerBeforeDeath time walk after
+  before_death_match : (time : ℕ → Option ℕ) (walk : ℕ → Walk) → WalkerBeforeDeath time walk before → WalkerBeforeDeath time walk after
   before_death_match time walk old = record {
     here = λ s t stand y su e w names.
-        let b = names_back Cuts cuts_place before after k stand.link y su names in
-        still_before t b.1 su b.3.1.0 (old.here s t stand b.0 b.1 e w b.2);
+        let b = names_back SameDeath death_place before after k stand.link y su names in
+        still_before t b.1 su b.3.1 (old.here s t stand b.0 b.1 e w b.2);
     below = λ s t stand y z dead su e w names below.
         let lives = this_aborted names.seat names.slot y dead names.lives in
         let b : Names before stand.link y (Aborted dead) = record { seat = names.seat; slot = names.slot; lives = lives; is = names.is } in
-        let d = names_back Cuts cuts_place before after k y.previous z su below in
-        still_before t d.1 su d.3.1.0 (old.below s t stand y d.0 dead d.1 e w b d.2);
+        let d = names_back SameDeath death_place before after k y.previous z su below in
+        still_before t d.1 su d.3.1 (old.below s t stand y d.0 dead d.1 e w b d.2);
   }
 
-  pub flag_match : (super super' : ℕ → ℕ → ℕ) → ((s j : ℕ) (x : Version) (st : Status) → Lives before s j x st → super' s j ≡ super s j)
-      → (section : ℕ → Option Section) → SuccessorFlag super section before → SuccessorFlag super' section after
-  flag_match super super' same section old s j inside naming x n in_section mode lives time =
-      let b = this_committed s j x n lives in
-      let r = old s j inside naming x b.0 in_section mode b.1 (sym b.2.time ∙ time) in (
-        λ zero_is. b.2.linked ∙ r.0 zero_is,
+-- all facts that stay where each version stays with its death
+pub record SameDeathFacts (c : Config) (h : List Entry) (f : Faces) (rings : ℕ → Ring) : Type 0 where
+  pub deaths : Deaths c h rings
+  pub deaths_seen : DeathsSeen c f.past rings
+  pub death_after : DeathAfterWrite rings
+  pub before_death : WalkerBeforeDeath f.time f.walk rings
+  pub dead : (s j t : ℕ) (x : Version) (n : CommitNote) → Lives rings s j x (Committed n) → n.dead ≡ Some t → c.base + x.position / c.slots < t
+  pub aborted : (s j t : ℕ) (x : Version) → Lives rings s j x (Aborted (Some t)) → c.base + x.position / c.slots < t
+
+module _ (starts : State → Type 0) (allows : List ℕ → State → Writes → Type 0) (c : Config) (start : State) (m : Memory) (h : List Entry) (f : Faces)
+    (k : Facts starts allows c start m h f) (rings : ℕ → Ring) where
+  pub same_death_facts : Matches SameDeath f.ring rings → SameDeathFacts c h f rings
+  same_death_facts same = record {
+    deaths = deaths_match c h f.ring rings same k.deaths;
+    deaths_seen = deaths_seen_match c h f.ring rings same f.past k.deaths_seen;
+    death_after = death_after_match c h f.ring rings same k.death_after_write;
+    before_death = before_death_match c h f.ring rings same f.time f.walk k.walker_before_death;
+    dead = λ s j t x n lives e. let b = this_committed c h f.ring rings same s j x n lives in k.positions_and_grace.dead s j t x b.0 b.1 (sym b.2.dead ∙ e);
+    aborted = λ s j t x lives. k.positions_and_grace.aborted s j t x (this_aborted c h f.ring rings same s j x (Some t) lives);
+  }
+
+  -- and the flags of commits that aren't finished, where these stay, and SUPER of each live version
+  pub flags_match : (super : ℕ → ℕ → ℕ) → ((s j : ℕ) (x : Version) (st : Status) → Lives f.ring s j x st → super s j ≡ m (Super s j))
+      → Matches Cuts f.ring rings → SuccessorFlag super f.section rings
+  flags_match super same cuts s j inside naming x n in_section mode lives time =
+      let b = linked_committed s j x n lives in
+      let r = k.successor_flag s j inside naming x b.0 in_section mode b.1 (sym b.2.time ∙ time) in (
+        λ zero_is. b.3 ∙ r.0 zero_is,
         λ y other below.
-            let d = this_committed below.seat below.slot y other below.lives in
-            let word : super' below.seat below.slot ≡ super below.seat below.slot = same below.seat below.slot y (Committed d.0) d.1 in
+            let d = linked_committed below.seat below.slot y other below.lives in
+            let word = same below.seat below.slot y (Committed d.0) d.1 in
             let q = r.1 y d.0 (record { seat = below.seat; slot = below.slot; lives = d.1; is = below.is }) in
-            (λ linked. word ∙ q.0 (sym b.2.linked ∙ linked), λ unlinked. let z = q.1 (sym b.2.linked ∙ unlinked) in (word ∙ z.0, d.2.dead ∙ z.1)),
+            (λ linked. word ∙ q.0 (sym b.3 ∙ linked), λ unlinked. let z = q.1 (sym b.3 ∙ unlinked) in (word ∙ z.0, d.2.dead ∙ z.1)),
       )
-
-  pub positions_grace_match : (grace : ℕ → ℕ) → ((s j : ℕ) → j < c.slots → slot_at (after s) j ≡ Free → c.base + next_in c (after s) j / c.slots ≤ grace s)
-      → ((s j : ℕ) (b : Build) → slot_at (after s) j ≡ Built b → c.base + (after s).next / c.slots ≤ grace s)
-      → ((s j p first : ℕ) → slot_at (after s) j ≡ Freeing p first → c.base + p / c.slots < grace s)
-      → PositionsAndGrace c grace before → PositionsAndGrace c grace after
-  positions_grace_match grace free built freeing old = record {
-    live = λ s j y su lives.
-        let b = k.back s j y su lives in
-        subst (λ (p : ℕ). c.base + p / c.slots ≤ grace s) (sym (cuts_place b.0 b.1 y su b.3).position) (old.live s j b.0 b.1 b.2);
-    free = free;
-    built = built;
-    freeing = freeing;
-    commit = λ s j x n lives.
-        let b = this_committed s j x n lives in subst (λ (t : ℕ). c.base + x.position / c.slots < t) (sym b.2.time) (old.commit s j x b.0 b.1);
-    dead = λ s j t x n lives e. let b = this_committed s j x n lives in old.dead s j t x b.0 b.1 (sym b.2.dead ∙ e);
-    aborted = λ s j t x lives. old.aborted s j t x (this_aborted s j x (Some t) lives);
-  }
+    where
+      linked_committed : (s j : ℕ) (y : Version) (n : CommitNote) → Lives rings s j y (Committed n)
+          → (m : CommitNote) × Lives f.ring s j y (Committed m) × IsNoteOf m n × (n.linked ≡ m.linked)
+      linked_committed s j y n lives =
+          let b = cuts.back s j y (Committed n) lives in
+          let w = was_committed b.0 y b.1 n b.3.0.0 in
+          let there = subst (λ (v : Version). Lives f.ring s j v (Committed w.0)) (sym w.2) (subst (Lives f.ring s j b.0) w.1 b.2) in
+          (w.0, there, record { time = w.3; dead = b.3.0.1 ∙ ap death_in w.1; cut = w.4 }, b.3.1 ∙ ap linked_in w.1)

@@ -1,15 +1,14 @@
 -- load CLOCK (time a dead version): the own aborted and cut versions that wait for it are dead from the time after the clock's, and their seat sees the whole history.
-use Rattle.std.proofs.Common.{◌≡◌, ◌≢◌, ◌⊎◌, ℕ, ◌+◌, ◌-◌, ◌/◌, ◌%◌, ◌<◌, ◌≤◌, Bool, true, false, List, ◌++◌, length, map, length-append, refl, sym, ap, ◌∙◌, subst, inl, inr, ⊎_elim, arith, Option, Some}
+use Rattle.std.proofs.Common.{◌≡◌, ◌≢◌, ◌⊎◌, ℕ, ◌+◌, ◌-◌, ◌/◌, ◌<◌, ◌≤◌, Bool, true, false, List, ◌++◌, length, map, length-append, refl, sym, ap, ◌∙◌, subst, inl, inr, ⊎_elim, arith, Option, Some}
 use Rattle.mv_history.specs.declared.Entry.{Entry}
 use Rattle.mv_history.specs.State.{State, Writes}
 use Rattle.mv_layout.specs.declared.Config.{Config}
-use Rattle.mv_layout.specs.declared.Place.TheVariants.{Clock, First, Stamp, Prev, Super, Data}
+use Rattle.mv_layout.specs.declared.Place.TheVariants.{Clock, First, Prev, Super, Data}
 use Rattle.mv_layout.specs.Places.{Memory}
 use Rattle.mv_layout.specs.Words.{clock_time_of}
 use Rattle.mv_core.specs.declared.ring.Ring.{Ring}
 use Rattle.mv_core.specs.declared.ring.Slot.{Slot}
 use Rattle.mv_core.specs.declared.ring.Slot.TheVariants.{Free, Built, Live, Freeing}
-use Rattle.mv_core.specs.declared.ring.Build.{Build}
 use Rattle.mv_core.specs.declared.ring.Version.{Version}
 use Rattle.mv_core.specs.declared.ring.Status.{Status}
 use Rattle.mv_core.specs.declared.ring.Status.TheVariants.{Held, Aborted, Committed}
@@ -22,7 +21,7 @@ use Rattle.mv_core.specs.Views.{Faces, faces_of}
 use Rattle.mv_core.specs.SetFacts.{HoldsSlot, SlotWords}
 use Rattle.mv_core.specs.SectionFacts.{IsWord}
 use Rattle.mv_core.specs.WalkFacts.{IsBeforeDeath, WalkerBeforeDeath}
-use Rattle.mv_core.specs.ReclaimFacts.{Deaths, DeathSeen, DeathsSeen, DeathAfterWrite, SuccessorFlag, PositionsAndGrace}
+use Rattle.mv_core.specs.ReclaimFacts.{Deaths, DeathSeen, DeathsSeen, DeathAfterWrite, SuccessorFlag}
 use Rattle.mv_core.specs.EnterSteps.{IsWhole}
 use Rattle.mv_core.specs.LockSteps.{timed_status, timed, death_loaded}
 use Rattle.mv_core.specs.Known.{RunsOn}
@@ -33,12 +32,11 @@ use Rattle.mv_core.proofs.Finding.{find_write}
 use Rattle.mv_core.proofs.Written.{commit_within}
 use Rattle.mv_core.proofs.WholeSeen.{whole_seen}
 use Rattle.mv_core.proofs.Counts.{held_mapped}
-use Rattle.mv_core.proofs.Slots.{Matches, match_weaker, match_map, mapped, slots_mapped, wide_mapped, next_mapped}
+use Rattle.mv_core.proofs.Slots.{Matches, match_weaker, match_map, mapped, slots_mapped}
 use Rattle.mv_core.proofs.Matching.{Alike, AlikeOrCut, alike_or_cut, names_back}
 use Rattle.mv_core.proofs.DeathNotes.{timed_back, aborted_was, timed_note, committed_was, note_time, note_cut, note_linked, note_uncut, dead_is, note_dead, before_timed, timed_seen, Timed, timed_self, timed_place, timed_alike}
 use Rattle.mv_core.proofs.MatchedFacts.{same_stamp_facts}
-use Rattle.mv_core.proofs.MatchedSets as set
-use Rattle.mv_core.proofs.MatchedStamps as stamped
+use Rattle.mv_core.proofs.InPlace.{IsUnlived, StaysInPlace, in_place_map, in_place_facts}
 
 module _ (starts : State → Type 0) (allows : List ℕ → State → Writes → Type 0) (c : Config) (start : State) (m : Memory) (h : List Entry) (f : Faces) (k : Facts starts allows c start m h f) where
   -- the version below a committed one wasn't cut
@@ -79,9 +77,6 @@ module _ (starts : State → Type 0) (allows : List ℕ → State → Writes →
 
     alike : Matches Alike f.ring rings
     alike = match_weaker (Timed d) Alike f.ring rings (timed_alike d) matches
-
-    or_cut : Matches AlikeOrCut f.ring rings
-    or_cut = match_weaker Alike AlikeOrCut f.ring rings alike_or_cut alike
 
     -- what holds of each slot of the log, and of each other, holds of all
     all_slots : (P : ℕ → ℕ → Slot → Type 0) → ((j : ℕ) → P n j (timed d (slot_at (f.ring n) j))) → ((s j : ℕ) → s ≢ n → P s j (slot_at (f.ring s) j)) → (s j : ℕ) → P s j (slot_at (rings s) j)
@@ -216,35 +211,20 @@ module _ (starts : State → Type 0) (allows : List ℕ → State → Writes →
               (λ linked. q.0 (sym i.linked_is ∙ linked), λ unlinked. let z = q.1 (sym i.linked_is ∙ unlinked) in (z.0, ap (λ (p : CommitNote). p.dead) same ∙ z.1)),
         )
 
-    built_back : (s j : ℕ) (b : Build) → slot_at (rings s) j ≡ Built b → slot_at (f.ring s) j ≡ Built b
-    built_back s j b = all_slots (λ t i z. z ≡ Built b → slot_at (f.ring t) i ≡ Built b) (λ i. go (slot_at (f.ring n) i)) (λ t i ne e. e) s j
+    stays : StaysInPlace f.ring rings
+    stays = in_place_map f.ring n (timed d) refl same was
       where
-        go : (z : Slot) → timed d z ≡ Built b → z ≡ Built b
-        go Free e = absurd (cc)
-        go (Built a) e = e
-        go (Live x st) e = absurd (cc)
-        go (Freeing p q) e = absurd (cc)
+        same : (z : Slot) → IsUnlived z → timed d z ≡ z
+        same Free unlived = refl
+        same (Built b) unlived = refl
+        same (Live x st) unlived = absurd unlived
+        same (Freeing p q) unlived = refl
 
-    free_back : (s j : ℕ) → slot_at (rings s) j ≡ Free → slot_at (f.ring s) j ≡ Free
-    free_back s j = all_slots (λ t i z. z ≡ Free → slot_at (f.ring t) i ≡ Free) (λ i. go (slot_at (f.ring n) i)) (λ t i ne e. e) s j
-      where
-        go : (z : Slot) → timed d z ≡ Free → z ≡ Free
-        go Free e = refl
-        go (Built a) e = absurd (cc)
-        go (Live x st) e = absurd (cc)
-        go (Freeing p q) e = absurd (cc)
-
-    freeing_back : (s j p first : ℕ) → slot_at (rings s) j ≡ Freeing p first → slot_at (f.ring s) j ≡ Freeing p first
-    freeing_back s j p first = all_slots (λ t i z. z ≡ Freeing p first → slot_at (f.ring t) i ≡ Freeing p first) (λ i. go (slot_at (f.ring n) i)) (λ t i ne e. e) s j
-      where
-        go : (z : Slot) → timed d z ≡ Freeing p first → z ≡ Freeing p first
-        go Free e = absurd (cc)
-        go (Built a) e = absurd (cc)
-        go (Live x st) e = absurd (cc)
-        go (Freeing a b) e = e
-
-    freeing_forth : (s j p first : ℕ) → slot_at (f.ring s) j ≡ Freeing p first → slot_at (rings s) j ≡ Freeing p first
-    freeing_forth s j p first = all_slots (λ t i z. slot_at (f.ring t) i ≡ Freeing p first → z ≡ Freeing p first) (λ i e. ap (timed d) e) (λ t i ne e. e) s j
+        was : (z : Slot) → IsUnlived (timed d z) → IsUnlived z
+        was Free unlived = tt
+        was (Built b) unlived = tt
+        was (Live x st) unlived = absurd unlived
+        was (Freeing p q) unlived = tt
 
     slot_words_after : SlotWords (λ s j. m (First s j)) (λ s j. m (Prev s j)) (λ s j i. m (Data s j i)) rings
     slot_words_after = all_slots (λ s j z. HoldsSlot (m (First s j)) (m (Prev s j)) (λ i. m (Data s j i)) z) (λ j. go j (slot_at (f.ring n) j) (k.slot_words n j)) (λ s j ne. k.slot_words s j)
@@ -255,45 +235,25 @@ module _ (starts : State → Type 0) (allows : List ℕ → State → Writes →
         go j (Live x st) a = a
         go j (Freeing p q) a = a
 
-    next_is : (s : ℕ) → (rings s).next ≡ (f.ring s).next
-    next_is = next_mapped f.ring n (timed d) refl
+    dead_after : (s j t : ℕ) (x : Version) (note : CommitNote) → Lives rings s j x (Committed note) → note.dead ≡ Some t → c.base + x.position / c.slots < t
+    dead_after s j t x note lives e =
+        let b = committed_back s j x note lives in
+        let low = round_time s j x (Committed b.0) b.1 in
+        ⊎_elim (λ was. k.positions_and_grace.dead s j t x b.0 b.1 was) (λ is. subst (λ (u : ℕ). c.base + x.position / c.slots < u) (sym is) low) ((is_timed b.0 note b.2).dead_was t e)
 
-    grace_after : PositionsAndGrace c f.grace rings
-    grace_after = record {
-      live = λ s j x su lives. let b = matches.back s j x su lives in subst (λ (v : Version). c.base + v.position / c.slots ≤ f.grace s) (sym b.3.0) (k.positions_and_grace.live s j b.0 b.1 b.2);
-      free = λ s j low e. subst (λ (p : ℕ). c.base + (p + (j + c.slots - p % c.slots) % c.slots) / c.slots ≤ f.grace s) (sym (next_is s)) (k.positions_and_grace.free s j low (free_back s j e));
-      built = λ s j b e. subst (λ (p : ℕ). c.base + p / c.slots ≤ f.grace s) (sym (next_is s)) (k.positions_and_grace.built s j b (built_back s j b e));
-      freeing = λ s j p first e. k.positions_and_grace.freeing s j p first (freeing_back s j p first e);
-      commit = λ s j x note lives.
-          let b = committed_back s j x note lives in
-          let time = (is_timed b.0 note b.2).time_is in
-          let lt = k.positions_and_grace.commit s j x b.0 b.1 in
-          omega arith;
-      dead = λ s j t x note lives e.
-          let b = committed_back s j x note lives in
-          let low = round_time s j x (Committed b.0) b.1 in
-          ⊎_elim (λ was. k.positions_and_grace.dead s j t x b.0 b.1 was) (λ is. subst (λ (u : ℕ). c.base + x.position / c.slots < u) (sym is) low) ((is_timed b.0 note b.2).dead_was t e);
-      aborted = λ s j t x lives.
-          let b = aborted_back s j t x lives in
-          let low = round_time s j x (Aborted b.0) b.1 in
-          ⊎_elim (λ e. k.positions_and_grace.aborted s j t x (subst (λ (o : Option ℕ). Lives f.ring s j x (Aborted o)) e b.1)) (λ is. subst (λ (u : ℕ). c.base + x.position / c.slots < u) (sym is) low) b.2;
-    }
+    aborted_after : (s j t : ℕ) (x : Version) → Lives rings s j x (Aborted (Some t)) → c.base + x.position / c.slots < t
+    aborted_after s j t x lives =
+        let b = aborted_back s j t x lives in
+        let low = round_time s j x (Aborted b.0) b.1 in
+        ⊎_elim (λ e. k.positions_and_grace.aborted s j t x (subst (λ (o : Option ℕ). Lives f.ring s j x (Aborted o)) e b.1)) (λ is. subst (λ (u : ℕ). c.base + x.position / c.slots < u) (sym is) low) b.2
 
     -- all facts after the load, but for what its seat has seen
     death_facts : (f.past n).seen ≡ h → Facts starts allows c start m h (changed f n (record unchanged { ring = Some (record (f.ring n) { slots = map (timed d) (f.ring n).slots }) }))
     death_facts whole =
-        let stamps = stamped.stamps_match c h f.ring rings or_cut (λ s j. m (Stamp s j)) (λ s j. m (Stamp s j)) (λ s j y st l. refl) (m Clock)
-        (λ s j b e. k.stamps.built s j b (built_back s j b e)) k.stamps in
-        let successors = stamped.successors_match c h f.ring rings or_cut (λ s j. m (Super s j)) (λ s j. m (Super s j)) (λ s j y st l. refl)
-        (λ s j. m (Stamp s j)) (λ s j. m (Stamp s j)) (λ s j y st l. refl) f.section (λ s j b e. k.successors.built s j b (built_back s j b e)) k.successors in
-        let deaths_seen = deaths_seen_after whole in
-        let positions = set.positions_match c h f.ring rings or_cut (wide_mapped f.ring n (timed d) refl) freeing_back freeing_forth
-        (λ s j b e. k.positions.built s j b (built_back s j b e)) k.positions in
-        let succeeded = stamped.succeeded_match c h f.ring rings or_cut (λ s j. m (Super s j)) (λ s j. m (Super s j)) (λ s j y st l. refl) f.empty
-        k.succeeded_has_super in
+        let or_cut = match_weaker Alike AlikeOrCut f.ring rings alike_or_cut alike in
         assumption
-        (slot_words_after, stamps, successors, deaths_after, deaths_seen, positions, before_death_after, flag_after, succeeded, death_after, grace_after,
-        same_stamp_facts starts allows c start m h f k rings alike, k)
+        (slot_words_after, deaths_after, deaths_seen_after whole, before_death_after, flag_after, death_after, dead_after, aborted_after,
+        in_place_facts starts allows c start m h f k rings or_cut stays, same_stamp_facts starts allows c start m h f k rings alike, k)
 
 -- the timed slot is held where it was
 held_timed : (d : ℕ) (z : Slot) → is_held (timed d z) ≡ is_held z

@@ -29,6 +29,7 @@ pub mod MatchedStamps
 pub mod SeenDeaths
 pub mod MatchedWalks
 pub mod MatchedFacts
+pub mod InPlace
 pub mod BuiltSlot
 pub mod BuildStores
 pub mod DataStores

@@ -1,24 +1,27 @@
 -- All facts that stay where each live version stays what it is to the other seats, and the stamp of its write set too: the frame of a step that changes one log.
-use Rattle.std.proofs.Common.{◌≡◌, ◌≢◌, ℕ, ◌<◌, List, refl}
+use Rattle.std.proofs.Common.{◌≡◌, ◌≢◌, ℕ, ◌+◌, ◌/◌, ◌<◌, ◌≤◌, List, refl, sym, subst}
 use Rattle.mv_history.specs.declared.Entry.{Entry}
 use Rattle.mv_history.specs.State.{State, Writes}
 use Rattle.mv_layout.specs.declared.Config.{Config}
-use Rattle.mv_layout.specs.declared.Place.TheVariants.{Clock, Head, Master, Stamp}
+use Rattle.mv_layout.specs.declared.Place.TheVariants.{Clock, Head, Master, Stamp, Super}
 use Rattle.mv_layout.specs.Places.{Memory}
 use Rattle.mv_layout.specs.Words.{unset_of}
 use Rattle.mv_core.specs.declared.ring.Ring.{Ring}
 use Rattle.mv_core.specs.declared.ring.Version.{Version}
 use Rattle.mv_core.specs.declared.ring.Status.{Status}
+use Rattle.mv_core.specs.declared.ring.Status.TheVariants.{Committed}
+use Rattle.mv_core.specs.declared.ring.CommitNote.{CommitNote}
 use Rattle.mv_core.specs.Rings.{Lives}
 use Rattle.mv_core.specs.Views.{Faces}
 use Rattle.mv_core.specs.SetFacts.{stamp_of, WriteSets, BelowIsStamped, UnstampedIsUnfinished}
 use Rattle.mv_core.specs.SectionFacts.{StampedPastHelp, LockFreshness, FoundStamps, NamedCommit, OpenSection}
 use Rattle.mv_core.specs.ChainFacts.{HeadIsTop, HeldLink, CommitLink, AbortedLink, PresentMaster, ChainFoot}
 use Rattle.mv_core.specs.WalkFacts.{WalkerPlace, WalkerKnowledge, WalkerFalls, WalkerLate}
-use Rattle.mv_core.specs.ReclaimFacts.{FreedIsOld, CutIsOld, WriteBacks}
+use Rattle.mv_core.specs.ReclaimFacts.{FreedIsOld, CutIsOld, SuccessorFlag, WriteBacks}
 use Rattle.mv_core.specs.Rule.{Facts}
 use Rattle.mv_core.proofs.Slots.{Matches, match_weaker}
-use Rattle.mv_core.proofs.Matching.{AlikeOrCut, Alike, alike_or_cut, same_cuts}
+use Rattle.mv_core.proofs.Matching.{AlikeOrCut, Alike, alike_place, alike_or_cut, same_cuts, committed_back}
+use Rattle.mv_core.proofs.Cuts.{SameDeath, Cuts, Steady, SameDeathFacts, same_death_facts, flags_match}
 use Rattle.mv_core.proofs.MatchedSets as set
 use Rattle.mv_core.proofs.MatchedStamps as stamped
 use Rattle.mv_core.proofs.MatchedWalks as walked
@@ -40,6 +43,8 @@ pub record AlikeOrCutFacts (c : Config) (start : State) (m : Memory) (h : List E
   pub named : NamedCommit c h stamp f.section rings
   pub open_sections : OpenSection c h f.section rings
   pub freed : FreedIsOld c (m Clock) h f.grace rings
+  pub live : (s j : ℕ) (x : Version) (st : Status) → Lives rings s j x st → c.base + x.position / c.slots ≤ f.grace s
+  pub commit : (s j : ℕ) (x : Version) (note : CommitNote) → Lives rings s j x (Committed note) → c.base + x.position / c.slots < note.time
 
 -- and those that stay where no version is cut
 pub record AlikeFacts (c : Config) (start : State) (m : Memory) (h : List Entry) (f : Faces) (stamp : ℕ → ℕ → ℕ) (rings : ℕ → Ring) : Type 0 where
@@ -50,6 +55,12 @@ pub record AlikeFacts (c : Config) (start : State) (m : Memory) (h : List Entry)
   pub masters : PresentMaster c start h (λ o w. m (Master o w)) f.time rings
   pub cut : CutIsOld f.time rings
   pub backs : WriteBacks c h (λ o w. m (Master o w)) f.section f.time f.heard f.grace f.back rings
+
+-- and those that stay where each version stays, with all that is noted of it
+pub record SteadyFacts (c : Config) (start : State) (m : Memory) (h : List Entry) (f : Faces) (stamp super : ℕ → ℕ → ℕ) (rings : ℕ → Ring) : Type 0 where
+  pub alike : AlikeFacts c start m h f stamp rings
+  pub same_death : SameDeathFacts c h f rings
+  pub flags : SuccessorFlag super f.section rings
 
 module _ (starts : State → Type 0) (allows : List ℕ → State → Writes → Type 0) (c : Config) (start : State) (m : Memory) (h : List Entry) (f : Faces)
     (k : Facts starts allows c start m h f) (rings : ℕ → Ring) where
@@ -79,6 +90,12 @@ module _ (starts : State → Type 0) (allows : List ℕ → State → Writes →
       named = stamped.named_match c h f.ring rings alike stamp stamp' same f.section k.named_commit;
       open_sections = set.open_match c h f.ring rings alike f.section k.open_section;
       freed = set.freed_match c h f.ring rings alike (m Clock) f.grace k.freed_is_old;
+      live = λ s j x st lives.
+          let b = alike.back s j x st lives in
+          subst (λ (p : ℕ). c.base + p / c.slots ≤ f.grace s) (sym (alike_place b.0 b.1 x st b.3).position) (k.positions_and_grace.live s j b.0 b.1 b.2);
+      commit = λ s j x note lives.
+          let b = committed_back f.ring rings alike s j x note lives in
+          subst (λ (t : ℕ). c.base + x.position / c.slots < t) (sym b.2) (k.positions_and_grace.commit s j x b.0 b.1);
     }
 
     pub alike_facts : Matches Alike f.ring rings → AlikeFacts c start m h f stamp' rings
@@ -97,3 +114,12 @@ module _ (starts : State → Type 0) (allows : List ℕ → State → Writes →
   -- where no stamp changes
   pub same_stamp_facts : Matches Alike f.ring rings → AlikeFacts c start m h f stamp rings
   same_stamp_facts = alike_facts stamp (λ s j x st l. refl) (λ s j p used apart. apart)
+
+  pub steady_facts : (stamp' super : ℕ → ℕ → ℕ) → ((s j : ℕ) (x : Version) (st : Status) → Lives f.ring s j x st → stamp_of c stamp' s x ≡ stamp_of c stamp s x)
+      → ((s j p : ℕ) → p < (f.ring s).next → stamp s j ≢ unset_of p → stamp' s j ≢ unset_of p)
+      → ((s j : ℕ) (x : Version) (st : Status) → Lives f.ring s j x st → super s j ≡ m (Super s j)) → Matches Steady f.ring rings → SteadyFacts c start m h f stamp' super rings
+  steady_facts stamp' super same apart same_super steady = record {
+    alike = alike_facts stamp' same apart (match_weaker Steady Alike f.ring rings (λ x st y su a. (a.0.0.0, a.1)) steady);
+    same_death = same_death_facts starts allows c start m h f k rings (match_weaker Steady SameDeath f.ring rings (λ x st y su a. a.0.0) steady);
+    flags = flags_match starts allows c start m h f k rings super same_super (match_weaker Steady Cuts f.ring rings (λ x st y su a. a.0) steady);
+  }

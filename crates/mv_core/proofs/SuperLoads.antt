@@ -1,5 +1,5 @@
 -- load SUPER: a time found there is that of the object's next write, from which on the version is dead; where none is found, no write of the object comes before the watermark.
-use Rattle.std.proofs.Common.{◌≡◌, ◌≢◌, ◌⊎◌, ℕ, ◌+◌, ◌-◌, ◌/◌, ◌%◌, ◌==◌, ◌<◌, ◌≤◌, Bool, true, false, cond, List, length, refl, sym, ap, ◌∙◌, subst, inl, inr, ⊎_elim, arith, Option, Some, None}
+use Rattle.std.proofs.Common.{◌≡◌, ◌≢◌, ◌⊎◌, ℕ, ◌+◌, ◌-◌, ◌/◌, ◌==◌, ◌<◌, ◌≤◌, Bool, true, false, cond, List, length, refl, sym, ap, ◌∙◌, subst, inl, inr, ⊎_elim, arith, Option, Some, None}
 use Rattle.std.proofs.lemmas.Bool.{eqb-false}
 use Rattle.std.specs.Prelude.{slice_get, Contains}
 use Rattle.std.proofs.lemmas.Option.{slice_get_within}
@@ -8,13 +8,12 @@ use native.Mathlib.Decide.{dec_lt, ℕ_discrete}
 use Rattle.mv_history.specs.declared.Entry.{Entry}
 use Rattle.mv_history.specs.State.{State, Writes}
 use Rattle.mv_layout.specs.declared.Config.{Config}
-use Rattle.mv_layout.specs.declared.Place.TheVariants.{Clock, Master, First, Stamp, Prev, Super, Data}
+use Rattle.mv_layout.specs.declared.Place.TheVariants.{Clock, Master, First, Prev, Super, Data}
 use Rattle.mv_layout.specs.Places.{Memory}
 use Rattle.mv_layout.specs.Words.{link_of}
 use Rattle.mv_core.specs.declared.ring.Ring.{Ring}
 use Rattle.mv_core.specs.declared.ring.Slot.{Slot}
-use Rattle.mv_core.specs.declared.ring.Slot.TheVariants.{Free, Built, Live, Freeing}
-use Rattle.mv_core.specs.declared.ring.Build.{Build}
+use Rattle.mv_core.specs.declared.ring.Slot.TheVariants.{Live}
 use Rattle.mv_core.specs.declared.ring.Version.{Version}
 use Rattle.mv_core.specs.declared.ring.Status.{Status}
 use Rattle.mv_core.specs.declared.ring.Status.TheVariants.{Aborted, Committed}
@@ -30,7 +29,7 @@ use Rattle.mv_core.specs.Views.{Faces, faces_of, become, time_in}
 use Rattle.mv_core.specs.HistoryFacts.{BeginsWith}
 use Rattle.mv_core.specs.SetFacts.{HoldsSlot, SlotWords}
 use Rattle.mv_core.specs.WalkFacts.{IsRightFor, MayStandAt, StandsRight, IsBeforeDeath, WalkerBeforeDeath}
-use Rattle.mv_core.specs.ReclaimFacts.{Deaths, DeathAfterWrite, SuccessorFlag, PositionsAndGrace}
+use Rattle.mv_core.specs.ReclaimFacts.{Deaths, DeathAfterWrite, SuccessorFlag}
 use Rattle.mv_core.specs.ReclaimSteps.{super_note, MayLoadSuper, super_loaded, SeesSuper, FoundEmpty}
 use Rattle.mv_core.specs.Known.{RunsOn}
 use Rattle.mv_core.specs.Rule.{Facts, Loads, IsKept}
@@ -43,11 +42,10 @@ use Rattle.mv_core.proofs.SeenDeaths.{seen_put}
 use Rattle.mv_core.proofs.SeenMore.{sees_more}
 use Rattle.mv_core.proofs.MoreSeen.{more_seen}
 use Rattle.mv_core.proofs.StampLoads.{seen_to, seen_by_all, slice_get-front}
-use Rattle.mv_core.proofs.Slots.{Matches, match_weaker, match_put, slots_after, wide_after, next_after, live_within}
-use Rattle.mv_core.proofs.Matching.{Alike, AlikeOrCut, alike_or_cut, alike_self, alike_place}
+use Rattle.mv_core.proofs.Slots.{Matches, match_weaker, match_put, slots_after, live_within}
+use Rattle.mv_core.proofs.Matching.{Alike, AlikeOrCut, alike_or_cut, alike_self}
 use Rattle.mv_core.proofs.MatchedFacts.{same_stamp_facts}
-use Rattle.mv_core.proofs.MatchedSets as set
-use Rattle.mv_core.proofs.MatchedStamps as stamped
+use Rattle.mv_core.proofs.InPlace.{in_place_put, in_place_facts}
 use Rattle.mv_core.proofs.Counts.{held_same}
 
 -- the note differs in its death alone
@@ -93,9 +91,6 @@ module _ (starts : State → Type 0) (allows : List ℕ → State → Writes →
 
   alike : Matches Alike f.ring rings
   alike = match_put Alike alike_self f.ring n slot (Live x (Committed new)) loaded refl within refl x (Committed note) x (Committed new) lives refl (let same = (super_keeps note found).1 in (refl, (super_keeps note found).0, λ cut. same ∙ cut), (super_keeps note found).1)
-
-  or_cut : Matches AlikeOrCut f.ring rings
-  or_cut = match_weaker Alike AlikeOrCut f.ring rings alike_or_cut alike
 
   -- what holds of the slot, and of each other, holds of all
   all_slots : (P : ℕ → ℕ → Slot → Type 0) → P n slot (Live x (Committed new)) → ((s j : ℕ) → ¬ ((s ≡ n) × (j ≡ slot)) → P s j (slot_at (f.ring s) j)) → (s j : ℕ) → P s j (slot_at (rings s) j)
@@ -248,67 +243,38 @@ module _ (starts : State → Type 0) (allows : List ℕ → State → Writes →
             ),
       )
 
-  built_back : (s j : ℕ) (b : Build) → slot_at (rings s) j ≡ Built b → slot_at (f.ring s) j ≡ Built b
-  built_back = all_slots (λ s j z. (b : Build) → z ≡ Built b → slot_at (f.ring s) j ≡ Built b) (λ b e. absurd (cc)) (λ s j other b e. e)
-
-  freeing_back : (s j p first : ℕ) → slot_at (rings s) j ≡ Freeing p first → slot_at (f.ring s) j ≡ Freeing p first
-  freeing_back = all_slots (λ s j z. (p first : ℕ) → z ≡ Freeing p first → slot_at (f.ring s) j ≡ Freeing p first) (λ p first e. absurd (cc)) (λ s j other p first e. e)
-
-  freeing_forth : (s j p first : ℕ) → slot_at (f.ring s) j ≡ Freeing p first → slot_at (rings s) j ≡ Freeing p first
-  freeing_forth = all_slots (λ s j z. (p first : ℕ) → slot_at (f.ring s) j ≡ Freeing p first → z ≡ Freeing p first)
-      (λ p first e. let g : Live x (Committed note) ≡ Freeing p first = sym lives ∙ e in absurd (cc))
-      (λ s j other p first e. e)
-
   slot_words_after : SlotWords (λ s j. m (First s j)) (λ s j. m (Prev s j)) (λ s j i. m (Data s j i)) rings
   slot_words_after = all_slots (λ s j z. HoldsSlot (m (First s j)) (m (Prev s j)) (λ i. m (Data s j i)) z)
       (subst (HoldsSlot (m (First n slot)) (m (Prev n slot)) (λ i. m (Data n slot i))) lives (k.slot_words n slot))
       (λ s j other. k.slot_words s j)
 
-  next_position : (s : ℕ) → (rings s).next ≡ (f.ring s).next
-  next_position = next_after f.ring n slot (Live x (Committed new)) loaded refl within refl
+  dead_after : (s j t : ℕ) (y : Version) (o : CommitNote) → Lives rings s j y (Committed o) → o.dead ≡ Some t → c.base + y.position / c.slots < t
+  dead_after s j t y o l e =
+      let w = committed_was s j y o l in
+      let lt = k.positions_and_grace.commit s j y w.was w.lived in
+      ⊎_elim
+      (λ same. k.positions_and_grace.dead s j t y o (subst (λ (q : CommitNote). Lives f.ring s j y (Committed q)) (sym same) w.lived) e)
+      (λ this.
+      let d = super_dead note found t no_death (ap (λ (q : CommitNote). q.dead) (sym this.4) ∙ e) in
+      let later = (next_is d.1).later in
+      let is = d.0 in
+      let time : w.was.time ≡ note.time = ap (λ (q : CommitNote). q.time) this.3 in
+      let r : c.base + y.position / c.slots < t = omega arith in r)
+      w.same_or
 
-  grace_after : PositionsAndGrace c f.grace rings
-  grace_after = record {
-    live = λ s j y su l.
-        let b = alike.back s j y su l in
-        subst (λ (p : ℕ). c.base + p / c.slots ≤ f.grace s) (sym (alike_place b.0 b.1 y su b.3.0).position) (k.positions_and_grace.live s j b.0 b.1 b.2);
-    free = λ s j low e.
-        let was : slot_at (f.ring s) j ≡ Free = all_slots (λ t i z. z ≡ Free → slot_at (f.ring t) i ≡ Free) (λ e. absurd (cc)) (λ t i other e. e) s j e in
-        subst (λ (p : ℕ). c.base + (p + (j + c.slots - p % c.slots) % c.slots) / c.slots ≤ f.grace s) (sym (next_position s)) (k.positions_and_grace.free s j low was);
-    built = λ s j b e. subst (λ (p : ℕ). c.base + p / c.slots ≤ f.grace s) (sym (next_position s)) (k.positions_and_grace.built s j b (built_back s j b e));
-    freeing = λ s j p first e. k.positions_and_grace.freeing s j p first (freeing_back s j p first e);
-    commit = λ s j y o l. let w = committed_was s j y o l in let time = w.time_is in let lt = k.positions_and_grace.commit s j y w.was w.lived in omega arith;
-    dead = λ s j t y o l e.
-        let w = committed_was s j y o l in
-        let lt = k.positions_and_grace.commit s j y w.was w.lived in
-        ⊎_elim
-        (λ same. k.positions_and_grace.dead s j t y o (subst (λ (q : CommitNote). Lives f.ring s j y (Committed q)) (sym same) w.lived) e)
-        (λ this.
-        let d = super_dead note found t no_death (ap (λ (q : CommitNote). q.dead) (sym this.4) ∙ e) in
-        let later = (next_is d.1).later in
-        let is = d.0 in
-        let time : w.was.time ≡ note.time = ap (λ (q : CommitNote). q.time) this.3 in
-        let r : c.base + y.position / c.slots < t = omega arith in r)
-        w.same_or;
-    aborted = λ s j t y l. k.positions_and_grace.aborted s j t y (aborted_was s j y (Some t) l);
-  }
+  aborted_after : (s j t : ℕ) (y : Version) → Lives rings s j y (Aborted (Some t)) → c.base + y.position / c.slots < t
+  aborted_after s j t y l = k.positions_and_grace.aborted s j t y (aborted_was s j y (Some t) l)
 
   -- all facts after the load, but for what its seat has seen
   pub super_facts : found ≤ c.base + length (f.past n).seen → Facts starts allows c start m h (changed f n (record unchanged { ring = Some loaded }))
   super_facts sees =
-      let stamps = stamped.stamps_match c h f.ring rings or_cut (λ s j. m (Stamp s j)) (λ s j. m (Stamp s j)) (λ s j y st l. refl) (m Clock)
-      (λ s j b e. k.stamps.built s j b (built_back s j b e)) k.stamps in
-      let successors = stamped.successors_match c h f.ring rings or_cut (λ s j. m (Super s j)) (λ s j. m (Super s j)) (λ s j y st l. refl)
-      (λ s j. m (Stamp s j)) (λ s j. m (Stamp s j)) (λ s j y st l. refl) f.section (λ s j b e. k.successors.built s j b (built_back s j b e)) k.successors in
-      let deaths_seen = seen_put c f.past f.ring n slot loaded x (Committed new) refl within
+      let seen = seen_put c f.past f.ring n slot loaded x (Committed new) refl within
       (λ dead e. let is = (super_dead note found dead no_death e).0 in (omega arith, λ _. omega arith)) k.deaths_seen in
-      let positions = set.positions_match c h f.ring rings or_cut (wide_after f.ring n slot (Live x (Committed new)) loaded refl within) freeing_back freeing_forth
-      (λ s j b e. k.positions.built s j b (built_back s j b e)) k.positions in
-      let succeeded = stamped.succeeded_match c h f.ring rings or_cut (λ s j. m (Super s j)) (λ s j. m (Super s j)) (λ s j y st l. refl) f.empty
-      k.succeeded_has_super in
+      let or_cut = match_weaker Alike AlikeOrCut f.ring rings alike_or_cut alike in
+      let stays = in_place_put f.ring n slot loaded x x (Committed note) (Committed new) lives refl in
       assumption
-      (slot_words_after, stamps, successors, deaths_after, deaths_seen, positions, before_death_after, flag_after, succeeded, death_after, grace_after,
-      same_stamp_facts starts allows c start m h f k rings alike, k)
+      (slot_words_after, deaths_after, seen, before_death_after, flag_after, death_after, dead_after, aborted_after,
+      in_place_facts starts allows c start m h f k rings or_cut stays, same_stamp_facts starts allows c start m h f k rings alike, k)
 
   -- a time found is in the history
   pub found_within : found ≤ c.base + length h

@@ -6,7 +6,7 @@ use Rattle.mv_history.specs.declared.Entry.{Entry}
 use Rattle.mv_history.specs.declared.Entry.TheVariants.{Change}
 use Rattle.mv_history.specs.State.{State, Writes}
 use Rattle.mv_layout.specs.declared.Config.{Config}
-use Rattle.mv_layout.specs.declared.Place.TheVariants.{Clock, First, Stamp, Prev, Super, Data}
+use Rattle.mv_layout.specs.declared.Place.TheVariants.{First, Stamp, Prev, Super, Data}
 use Rattle.mv_layout.specs.Places.{Memory, put}
 use Rattle.mv_layout.specs.Words.{link_seat_of}
 use Rattle.mv_core.specs.declared.ring.Ring.{Ring}
@@ -36,12 +36,12 @@ use Rattle.mv_core.proofs.Seeing.{section_is, time_is}
 use Rattle.mv_core.proofs.Links.{live_once, note_once, names_place}
 use Rattle.mv_core.proofs.Written.{commit_within, entry_once}
 use Rattle.mv_core.proofs.BelowCommit.{next_after, link_below, below_there, above_once}
-use Rattle.mv_core.proofs.Slots.{Matches, match_weaker, wide_after}
+use Rattle.mv_core.proofs.Slots.{Matches, match_weaker}
 use Rattle.mv_core.proofs.Matching.{Alike, AlikeOrCut, alike_or_cut}
 use Rattle.mv_core.proofs.LinkedNotes as notes
+use Rattle.mv_core.proofs.Cuts.{same_death_facts}
 use Rattle.mv_core.proofs.MatchedFacts.{same_stamp_facts}
-use Rattle.mv_core.proofs.MatchedSets as set
-use Rattle.mv_core.proofs.MatchedStamps as stamped
+use Rattle.mv_core.proofs.InPlace.{in_place_facts}
 
 module _ (starts : State → Type 0) (allows : List ℕ → State → Writes → Type 0) (c : Config) (start : State) (m : Memory) (h : List Entry) (f : Faces) (k : Facts starts allows c start m h f)
     (n j : ℕ) (x : Version) (note : CommitNote) (lives : Lives f.ring n j x (Committed note)) (inside : Section) (naming : Naming) (there : f.section n ≡ Some inside) (timed : f.time n ≡ Some (time_in inside)) (mode : inside.mode ≡ Named naming)
@@ -126,9 +126,6 @@ module _ (starts : State → Type 0) (allows : List ℕ → State → Writes →
 
   matches : Matches Alike f.ring rings
   matches = notes.matches starts allows c start m h f k n j x note lives
-
-  or_cut : Matches AlikeOrCut f.ring rings
-  or_cut = match_weaker Alike AlikeOrCut f.ring rings alike_or_cut matches
 
   -- each live commit of that time is stamped
   all_stamped : (s i : ℕ) (z : Version) (d : CommitNote) → Lives f.ring s i z (Committed d) → d.time ≡ t → stamp_of c (λ s i. m (Stamp s i)) s z ≡ t
@@ -249,22 +246,16 @@ module _ (starts : State → Type 0) (allows : List ℕ → State → Writes →
 
   pub super_facts : Facts starts allows c start (put m (Super s0 k0) t) h (changed f n (record unchanged { ring = Some ring' }))
   super_facts =
-      let was_built = notes.was_built starts allows c start m h f k n j x note lives in
       let slot_words = notes.all_slots starts allows c start m h f k n j x note lives
       (λ s i slot. HoldsSlot (m (First s i)) (m (Prev s i)) (λ w. m (Data s i w)) slot)
       (let old : HoldsSlot (m (First n j)) (m (Prev n j)) (λ w. m (Data n j w)) (Live x (Committed note)) =
       subst (HoldsSlot (m (First n j)) (m (Prev n j)) (λ w. m (Data n j w))) lives (k.slot_words n j) in old)
       (λ s i ne. k.slot_words s i) in
-      let stamps = stamped.stamps_match c h f.ring rings or_cut (λ s i. m (Stamp s i)) (λ s i. m (Stamp s i)) (λ s i z st l. refl) (m Clock)
-      (λ s i b e. k.stamps.built s i b (was_built s i b e)) k.stamps in
-      let positions = set.positions_match c h f.ring rings or_cut
-      (wide_after f.ring n j new ring' refl (notes.within starts allows c start m h f k n j x note lives))
-      (notes.was_freeing starts allows c start m h f k n j x note lives) (notes.still_freeing starts allows c start m h f k n j x note lives)
-      (λ s i b e. k.positions.built s i b (was_built s i b e)) k.positions in
+      let or_cut = match_weaker Alike AlikeOrCut f.ring rings alike_or_cut matches in
       assumption
-      (slot_words, stamps, successors_after, positions, flags_after, succeeded_after, notes.deaths_after starts allows c start m h f k n j x note lives,
-      notes.deaths_seen_after starts allows c start m h f k n j x note lives, notes.before_death_after starts allows c start m h f k n j x note lives,
-      notes.death_after starts allows c start m h f k n j x note lives, notes.grace_after starts allows c start m h f k n j x note lives,
+      (slot_words, successors_after, flags_after, succeeded_after,
+      in_place_facts starts allows c start m h f k rings or_cut (notes.stays starts allows c start m h f k n j x note lives),
+      same_death_facts starts allows c start m h f k rings (notes.same_death starts allows c start m h f k n j x note lives),
       same_stamp_facts starts allows c start m h f k rings matches, k)
 
 module _ (starts : State → Type 0) (allows : List ℕ → State → Writes → Type 0) (c : Config) (start : State) (v : View) (link time k : ℕ) (x : Version) (note : CommitNote) (may : MayStoreSuper v link time k x note) where

@@ -1,0 +1,88 @@
+-- A step that changes live versions in their slots, and no other slot: what it keeps of the facts that read slots, where STAMP and SUPER stay.
+use Rattle.std.proofs.Common.{◌≡◌, ℕ, ◌+◌, ◌-◌, ◌/◌, ◌%◌, ◌<◌, ◌≤◌, List, length, refl, sym, ap, ◌∙◌, subst}
+use Rattle.std.specs.Prelude.{slice_set}
+use Rattle.mv_history.specs.declared.Entry.{Entry}
+use Rattle.mv_history.specs.State.{State, Writes}
+use Rattle.mv_layout.specs.declared.Config.{Config}
+use Rattle.mv_layout.specs.declared.Place.TheVariants.{Clock, Stamp, Super}
+use Rattle.mv_layout.specs.Places.{Memory}
+use Rattle.mv_core.specs.declared.ring.Ring.{Ring}
+use Rattle.mv_core.specs.declared.ring.Slot.{Slot}
+use Rattle.mv_core.specs.declared.ring.Slot.TheVariants.{Free, Built, Live, Freeing}
+use Rattle.mv_core.specs.declared.ring.Build.{Build}
+use Rattle.mv_core.specs.declared.ring.Version.{Version}
+use Rattle.mv_core.specs.declared.ring.Status.{Status}
+use Rattle.mv_core.specs.Rings.{slot_at, Lives}
+use Rattle.mv_core.specs.Views.{Faces, become}
+use Rattle.mv_core.specs.SetFacts.{Stamps, Successors, Positions}
+use Rattle.mv_core.specs.WalkFacts.{SucceededHasSuper}
+use Rattle.mv_core.specs.ReclaimFacts.{next_in}
+use Rattle.mv_core.specs.Rule.{Facts}
+use Rattle.mv_core.proofs.Slots.{Matches, live_within, slots_after, wide_after, mapped, slots_mapped, wide_mapped}
+use Rattle.mv_core.proofs.Matching.{AlikeOrCut}
+use Rattle.mv_core.proofs.MatchedSets as set
+use Rattle.mv_core.proofs.MatchedStamps as stamped
+
+-- no version is live there
+abbrev pub IsUnlived : Slot → Type 0
+IsUnlived Free = Unit {0}
+IsUnlived (Built b) = Unit {0}
+IsUnlived (Live x st) = ⊥
+IsUnlived (Freeing p first) = Unit {0}
+
+-- each slot with no live version was so before, and stays so
+pub record StaysInPlace (before after : ℕ → Ring) : Type 0 where
+  pub wide : (s : ℕ) → length (after s).slots ≡ length (before s).slots
+  pub back : (s j : ℕ) (z : Slot) → IsUnlived z → slot_at (after s) j ≡ z → slot_at (before s) j ≡ z
+  pub forth : (s j : ℕ) (z : Slot) → IsUnlived z → slot_at (before s) j ≡ z → slot_at (after s) j ≡ z
+
+-- a live version was written over another one
+pub in_place_put : (rings : ℕ → Ring) (n j : ℕ) (r : Ring) (x y : Version) (st su : Status)
+    → Lives rings n j x st → r.slots ≡ slice_set (rings n).slots j (Live y su) → StaysInPlace rings (become rings n r)
+in_place_put rings n j r x y st su lives written =
+    let within = live_within (rings n) j x st lives in record {
+      wide = wide_after rings n j (Live y su) r written within;
+      back = λ s i z unlived. slots_after rings n j (Live y su) r written within (λ s i w. w ≡ z → slot_at (rings s) i ≡ z)
+          (λ e. absurd (subst IsUnlived (sym e) unlived)) (λ s i other e. e) s i;
+      forth = λ s i z unlived. slots_after rings n j (Live y su) r written within (λ s i w. slot_at (rings s) i ≡ z → w ≡ z)
+          (λ e. absurd (subst IsUnlived (sym e ∙ lives) unlived)) (λ s i other e. e) s i;
+    }
+
+-- the slots of a log were mapped, and the map changes live versions alone
+pub in_place_map : (rings : ℕ → Ring) (n : ℕ) (f : Slot → Slot) (free : f Free ≡ Free) → ((z : Slot) → IsUnlived z → f z ≡ z) → ((z : Slot) → IsUnlived (f z) → IsUnlived z)
+    → StaysInPlace rings (mapped rings n f free)
+in_place_map rings n f free same was = record {
+  wide = wide_mapped rings n f free;
+  back = λ s i z unlived. slots_mapped rings n f free (λ s i w. w ≡ z → slot_at (rings s) i ≡ z)
+      (λ i e. sym (same (slot_at (rings n) i) (was (slot_at (rings n) i) (subst IsUnlived (sym e) unlived))) ∙ e) (λ s i ne e. e) s i;
+  forth = λ s i z unlived. slots_mapped rings n f free (λ s i w. slot_at (rings s) i ≡ z → w ≡ z) (λ i e. ap f e ∙ same z unlived) (λ s i ne e. e) s i;
+}
+
+-- the facts that stay, and what of positions-and-grace reads slots with no live version
+pub record InPlaceFacts (c : Config) (m : Memory) (h : List Entry) (f : Faces) (rings : ℕ → Ring) : Type 0 where
+  pub stamps : Stamps c (m Clock) (λ s j. m (Stamp s j)) rings
+  pub positions : Positions c h rings
+  pub successors : Successors c h (λ s j. m (Stamp s j)) (λ s j. m (Super s j)) f.section rings
+  pub succeeded : SucceededHasSuper c h (λ s j. m (Super s j)) f.empty rings
+  pub free : (s j : ℕ) → j < c.slots → slot_at (rings s) j ≡ Free → c.base + next_in c (rings s) j / c.slots ≤ f.grace s
+  pub built : (s j : ℕ) (b : Build) → slot_at (rings s) j ≡ Built b → c.base + (rings s).next / c.slots ≤ f.grace s
+  pub freeing : (s j p first : ℕ) → slot_at (rings s) j ≡ Freeing p first → c.base + p / c.slots < f.grace s
+
+pub in_place_facts : (starts : State → Type 0) (allows : List ℕ → State → Writes → Type 0) (c : Config) (start : State) (m : Memory) (h : List Entry) (f : Faces)
+    → Facts starts allows c start m h f → (rings : ℕ → Ring) → Matches AlikeOrCut f.ring rings → StaysInPlace f.ring rings → InPlaceFacts c m h f rings
+in_place_facts starts allows c start m h f k rings alike stays =
+    let stamp : ℕ → ℕ → ℕ = λ s j. m (Stamp s j) in
+    let super : ℕ → ℕ → ℕ = λ s j. m (Super s j) in
+    let built_back : (s j : ℕ) (b : Build) → slot_at (rings s) j ≡ Built b → slot_at (f.ring s) j ≡ Built b = λ s j b. stays.back s j (Built b) tt in
+    let next_is : (s : ℕ) → (rings s).next ≡ (f.ring s).next = alike.next in record {
+      stamps = stamped.stamps_match c h f.ring rings alike stamp stamp (λ s j x st l. refl) (m Clock) (λ s j b e. k.stamps.built s j b (built_back s j b e)) k.stamps;
+      positions = set.positions_match c h f.ring rings alike stays.wide (λ s j p first. stays.back s j (Freeing p first) tt)
+          (λ s j p first. stays.forth s j (Freeing p first) tt) (λ s j b e. k.positions.built s j b (built_back s j b e)) k.positions;
+      successors = stamped.successors_match c h f.ring rings alike super super (λ s j x st l. refl) stamp stamp (λ s j x st l. refl) f.section
+          (λ s j b e. k.successors.built s j b (built_back s j b e)) k.successors;
+      succeeded = stamped.succeeded_match c h f.ring rings alike super super (λ s j x st l. refl) f.empty k.succeeded_has_super;
+      free = λ s j low e. subst (λ (p : ℕ). c.base + (p + (j + c.slots - p % c.slots) % c.slots) / c.slots ≤ f.grace s) (sym (next_is s))
+          (k.positions_and_grace.free s j low (stays.back s j Free tt e));
+      built = λ s j b e. subst (λ (p : ℕ). c.base + p / c.slots ≤ f.grace s) (sym (next_is s)) (k.positions_and_grace.built s j b (built_back s j b e));
+      freeing = λ s j p first e. k.positions_and_grace.freeing s j p first (stays.back s j (Freeing p first) tt e);
+    }

@@ -41,9 +41,6 @@ module _ (r : Ring) (k : ℕ) (x : Slot) (within : k < length r.slots) where
   pub held_more : is_held (slot_at r k) ≡ false → is_held x ≡ true → held_count (put_slot r k x) ≡ held_count r + 1
   held_more was is = count_more is_held was is
 
-  pub held_less : is_held (slot_at r k) ≡ true → is_held x ≡ false → held_count (put_slot r k x) + 1 ≡ held_count r
-  held_less was is = count_less is_held was is
-
 -- as many after a map that keeps what is held
 pub held_mapped : (f : Slot → Slot) → ((x : Slot) → is_held (f x) ≡ is_held x) → (r : Ring) → held_count (record r { slots = map f r.slots }) ≡ held_count r
 held_mapped f same r = count_mapped is_held f same r.slots

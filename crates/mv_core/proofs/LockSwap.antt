@@ -1,7 +1,5 @@
 -- compare_exchange HEAD (lock), won and lost.
-use Rattle.std.proofs.Common.{◌≡◌, ◌≢◌, ℕ, true, List, sym, refl, subst, arith, None}
-use mathlib.Core.Logic.{dite}
-use native.Mathlib.Decide.{ℕ_discrete}
+use Rattle.std.proofs.Common.{◌≡◌, ◌≢◌, ℕ, true, List, sym, refl, subst, None}
 use Rattle.mv_history.specs.State.{State, Writes}
 use Rattle.mv_layout.specs.declared.Config.{Config}
 use Rattle.mv_layout.specs.declared.Place.TheVariants.{Head}
@@ -10,16 +8,14 @@ use Rattle.mv_core.specs.declared.ring.Build.{Build}
 use Rattle.mv_core.specs.declared.view.View.{View}
 use Rattle.mv_core.specs.declared.view.Section.{Section}
 use Rattle.mv_core.specs.declared.view.Passed.TheVariants.{Nothing}
-use Rattle.mv_core.specs.Rings.{index_of, set_first}
 use Rattle.mv_core.specs.WalkSteps.{IsLinkOf, stand_at}
-use Rattle.mv_core.specs.LockSteps.{MayLock, locked_version, head_locked, lock_lost, LockTold, OneMoreWrite}
-use Rattle.mv_core.specs.Known.{IsTimed, IsBegun}
+use Rattle.mv_core.specs.LockSteps.{MayLock, head_locked, lock_lost, LockTold, OneMoreWrite}
 use Rattle.mv_core.specs.Views.{faces_of}
 use Rattle.mv_core.specs.Rule.{Swaps, IsKept}
 use Rattle.mv_core.proofs.LockWon.{lock_won}
 use Rattle.mv_core.proofs.Lockable.{lost_right}
 use Rattle.mv_core.proofs.OwnTops.{lost_other}
-use Rattle.mv_core.proofs.OwnWrites.{one_more_write, one_held_more}
+use Rattle.mv_core.proofs.OwnWrites.{one_more_write}
 use Rattle.mv_core.proofs.Seeing.{time_is}
 use Rattle.mv_core.proofs.WalkOn.{head_link}
 use Rattle.mv_core.proofs.Walks.{walked}
@@ -45,20 +41,3 @@ module _ (starts : State → Type 0) (allows : List ℕ → State → Writes →
 
   pub lock_swaps : (new : ℕ) → new ≡ link_of v.number position → Swaps starts allows c start v (Head object) previous new (λ n w. (LockTold c v inside object previous position n w × (n ≡ previous → OneMoreWrite c v inside object w) × (n ≢ previous → IsLinkOf c n × (n ≢ 0 → link_seat_of n ≢ v.number))) × IsKept v w)
   lock_swaps new e = subst (λ (g : ℕ). Swaps starts allows c start v (Head object) previous g (λ n w. (LockTold c v inside object previous position n w × (n ≡ previous → OneMoreWrite c v inside object w) × (n ≢ previous → IsLinkOf c n × (n ≢ 0 → link_seat_of n ≢ v.number))) × IsKept v w)) (sym e) lock_swaps_to
-
--- what a pass has at run time after it: its section's time, and where the exchange was won the first position of its write set
-pub lock_runs : (c : Config) (v w : View) (write_max object previous position : ℕ) (b : Build) (inside : Section) → MayLock c write_max v object previous position b inside → (found : ℕ) → LockTold c v inside object previous position found w
-    → (time first begun : ℕ) → IsTimed time v → IsBegun begun v → first ≡ set_first v.ring → IsTimed time w × (found ≡ previous → IsBegun first w) × (found ≢ previous → IsBegun begun w)
-lock_runs c v w write_max object previous position b inside may found told time first begun timed is_begun first_is =
-    dite (ℕ_discrete found previous)
-    (λ e.
-    let is : w ≡ head_locked c v inside object previous position = told.0 e in (
-      subst (IsTimed time) (sym is) timed,
-      (λ _. subst (IsBegun first) (sym is) (λ i phase mode some.
-          let more = one_held_more v.ring (index_of c position) b (locked_version c v inside object previous position) may.build in
-          let next = may.next in omega arith)),
-      (λ ne. absurd (ne e)),
-    ))
-    (λ ne.
-    let is : w ≡ lock_lost c v object found = told.1 ne in
-    (subst (IsTimed time) (sym is) timed, (λ e. absurd (ne e)), (λ _. subst (IsBegun begun) (sym is) is_begun)))

@@ -38,10 +38,7 @@ module _ (R : Becomes) (places : KeepsPlace R) (before after : ℕ → Ring) (k 
       let b = k.back n.seat n.slot y su n.lives in
       (b.0, b.1, record { seat = n.seat; slot = n.slot; lives = b.2; is = n.is ∙ ap (link_of n.seat) (places b.0 b.1 y su b.3).position }, b.3)
 
-  -- a link that names no version
-  pub unnamed_forth : (link : ℕ) → ((x : Version) (st : Status) → ¬ (Names before link x st)) → (y : Version) (su : Status) → ¬ (Names after link y su)
-  unnamed_forth link none y su n = let b = names_back link y su n in none b.0 b.1 b.2
-
+  -- a link that names no version named none
   pub unnamed_back : (link : ℕ) → ((y : Version) (su : Status) → ¬ (Names after link y su)) → (x : Version) (st : Status) → ¬ (Names before link x st)
   unnamed_back link none x st n = let f = names_forth link x st n in none f.0 f.1 f.2
 
@@ -158,11 +155,6 @@ is_held_still x y Held a = (refl, a)
 is_held_still x y (Aborted d) a = absurd a
 is_held_still x y (Committed m) a = absurd a
 
-is_aborted_still : (x y : Version) (su : Status) (d : Option ℕ) → AlikeOrCut x (Aborted d) y su → (e : Option ℕ) × (su ≡ Aborted e) × (y ≡ x)
-is_aborted_still x y Held d a = absurd a
-is_aborted_still x y (Aborted e) d a = (e, refl, a)
-is_aborted_still x y (Committed m) d a = absurd a
-
 is_committed_still : (x y : Version) (su : Status) (m : CommitNote) → AlikeOrCut x (Committed m) y su → (n : CommitNote) × (su ≡ Committed n) × (y ≡ x) × (n.time ≡ m.time) × (m.cut ≡ true → n.cut ≡ true)
 is_committed_still x y Held m a = absurd a
 is_committed_still x y (Aborted d) m a = absurd a
@@ -220,12 +212,6 @@ module _ (before after : ℕ → Ring) (k : Matches AlikeOrCut before after) whe
       let w = was_aborted b.0 y b.1 e b.3 in
       (w.0, subst (λ (v : Version). Lives before s j v (Aborted w.0)) (sym w.2) (subst (Lives before s j b.0) w.1 b.2))
 
-  pub aborted_forth : (s j : ℕ) (x : Version) (d : Option ℕ) → Lives before s j x (Aborted d) → (e : Option ℕ) × Lives after s j x (Aborted e)
-  aborted_forth s j x d lives =
-      let f = k.forth s j x (Aborted d) lives in
-      let w = is_aborted_still x f.0 f.1 d f.3 in
-      (w.0, subst (λ (v : Version). Lives after s j v (Aborted w.0)) w.2 (subst (Lives after s j f.0) w.1 f.2))
-
   pub committed_back : (s j : ℕ) (y : Version) (n : CommitNote) → Lives after s j y (Committed n) → (m : CommitNote) × Lives before s j y (Committed m) × (n.time ≡ m.time) × (m.cut ≡ true → n.cut ≡ true)
   committed_back s j y n lives =
       let b = k.back s j y (Committed n) lives in
@@ -237,10 +223,6 @@ module _ (before after : ℕ → Ring) (k : Matches AlikeOrCut before after) whe
       let f = k.forth s j x (Committed m) lives in
       let w = is_committed_still x f.0 f.1 m f.3 in
       (w.0, subst (λ (v : Version). Lives after s j v (Committed w.0)) w.2 (subst (Lives after s j f.0) w.1 f.2), w.3, w.4)
-
-  -- the version of a link that names a committed one
-  pub names_committed_back : (link : ℕ) (y : Version) (n : CommitNote) → (names : Names after link y (Committed n)) → (m : CommitNote) × Lives before names.seat names.slot y (Committed m) × (n.time ≡ m.time) × (m.cut ≡ true → n.cut ≡ true)
-  names_committed_back link y n names = committed_back names.seat names.slot y n names.lives
 
   pub names_committed_forth : (link : ℕ) (x : Version) (m : CommitNote) → Names before link x (Committed m) → (n : CommitNote) × Names after link x (Committed n) × (n.time ≡ m.time) × (m.cut ≡ true → n.cut ≡ true)
   names_committed_forth link x m names =

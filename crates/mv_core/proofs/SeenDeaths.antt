@@ -9,7 +9,7 @@ use Rattle.mv_core.specs.declared.ring.Status.{Status}
 use Rattle.mv_core.specs.declared.view.Past.{Past}
 use Rattle.mv_core.specs.Views.{become}
 use Rattle.mv_core.specs.HistoryFacts.{BeginsWith}
-use Rattle.mv_core.specs.ReclaimFacts.{death_in, IsUncut, DeathSeen, DeathsSeen}
+use Rattle.mv_core.specs.ReclaimFacts.{death_in, DeathSeen, DeathsSeen}
 use Rattle.mv_core.proofs.Frames.{become_all}
 use Rattle.mv_core.proofs.Links.{live_once}
 use Rattle.mv_core.proofs.Slots.{slots_after}
@@ -24,12 +24,6 @@ seen_later now later st le old dead e =
     let r = old dead e in
     let late = r.0 in
     (omega arith, λ uncut. let early = r.1 uncut in omega arith)
-
--- the same death, of a version that isn't cut only if it wasn't
-pub noted_same : (now : ℕ) (st su : Status) → death_in su ≡ death_in st → (IsUncut su → IsUncut st) → DeathSeen now st → DeathSeen now su
-noted_same now st su same uncut old dead e =
-    let r = old dead (sym same ∙ e) in
-    (r.0, λ u. r.1 (uncut u))
 
 -- one seat sees more, and the logs stay
 pub sees_on : (c : Config) (past : ℕ → Past) (rings : ℕ → Ring) (n : ℕ) (p : Past) → BeginsWith p.seen (past n).seen → DeathsSeen c past rings → DeathsSeen c (become past n p) rings

@@ -15,8 +15,8 @@ use Rattle.mv_core.specs.declared.ring.Version.{Version}
 use Rattle.mv_core.specs.declared.ring.CommitNote.{CommitNote}
 use Rattle.mv_core.specs.Times.{one_more, last_that, writes_to, latest_at, IsEntry, words_of}
 use Rattle.mv_core.specs.SetFacts.{CommitOf}
-use Rattle.mv_core.proofs.Latest.{one_more-back, latest_at-le, latest_at-own}
-use Rattle.mv_core.proofs.Written.{write_touches, set_writes}
+use Rattle.mv_core.proofs.Latest.{one_more-back, latest_at-le}
+use Rattle.mv_core.proofs.Written.{write_touches}
 
 one_more-none : (b : Bool) (n : ℕ) → one_more b n ≡ 0 → (b ≡ false) × (n ≡ 0)
 one_more-none b (suc n) e = absurd (omega arith)
@@ -71,10 +71,6 @@ module _ (c : Config) (start : State) (h : List Entry) where
 
   -- a committed version's write set has its commit's writes
   module _ (legal : IsLegal (length start) h) (rings : ℕ → Ring) (s : ℕ) (x : Version) (note : CommitNote) (k : CommitOf c h rings s x note) where
-    -- its object was written at its time
-    pub version-latest : latest_at c.base h x.object note.time ≡ note.time
-    version-latest = latest_at-own c.base h x.object note.time (Change k.commit) k.entry (set_writes c h rings s x note k)
-
     -- its words are those of its object at that time
     pub version-words : words_of c start h note.time x.object ≡ x.words
     version-words = words_of-written legal note.time k.commit k.entry (x.position - x.first) x.object x.words k.write

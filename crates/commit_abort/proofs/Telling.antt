@@ -29,7 +29,7 @@ use Rattle.seat_log.specs.Notes.{Noted, held_from, IsNoteAt}
 use Rattle.seat_log.specs.Stands.{version_of}
 use Rattle.seat_log.proofs.Places.{get_within}
 use Rattle.seat_log.proofs.NotedSlots.{places_apart}
-use Rattle.commit_abort.specs.Finishes.{AreCommitted, IsLinkedToo, above_at, version_in, note_in, MayTell, TellsOne, Tells}
+use Rattle.commit_abort.specs.Finishes.{CommittedSlot, AreCommitted, IsLinkedToo, above_at, version_in, note_in, MayTell, TellsOne, Tells}
 
 module _ (c : Config) (v : View) (l : Noted) (time : ℕ) (k : AreCommitted c v l time) where
   -- the slot of a place in the log
@@ -59,13 +59,13 @@ module _ (c : Config) (v : View) (l : Noted) (time : ℕ) (k : AreCommitted c v 
     abbrev here : (note : CommitNote) × (slot_at w.ring (slot_of i) ≡ Live (version_of n) (Committed note)) × (note.time ≡ time) × (note.linked ≡ (n.previous == 0)) × IsLinkOf c n.previous
     here = let a = k.each i n at from in (a.0, t.left i (omega arith) within ∙ a.1, a.2, a.3, a.4)
 
-    above_is : above_at w (slot_of i) ≡ (slot_of i, version_of n, here.0)
-    above_is = ap (λ (s : Slot). (slot_of i, version_in s, note_in s)) here.1
+    above_is : above_at w (slot_of i) ≡ record { slot = slot_of i; version = version_of n; note = here.0 }
+    above_is = λ j. record { slot = slot_of i; version = version_in (here.1 j); note = note_in (here.1 j) }
 
     pub may_tell : (inside : Section) (first : ℕ) → v.phase ≡ Inside (record inside { mode = Named (record { time = time; first = first; stamped = true }) }) → MayTell c w n time (above_at w (slot_of i))
     may_tell inside first phase some = (
       here.4 some,
-      subst (λ (a : ℕ × Version × CommitNote). MayStoreSuper w n.previous time a.0 a.1 a.2) (sym above_is) (record {
+      subst (λ (a : CommittedSlot). MayStoreSuper w n.previous time a.slot a.version a.note) (sym above_is) (record {
         inside = record inside { mode = Named (record { time = time; first = first; stamped = true }) };
         naming = record { time = time; first = first; stamped = true };
         phase = ap (λ (u : View). u.phase) t.kept ∙ phase;
@@ -144,5 +144,5 @@ module _ (c : Config) (v : View) (l : Noted) (time : ℕ) (k : AreCommitted c v 
         (λ some.
         let a = one.one some in
         let same = a.1 in
-        let is : x ≡ next_view = a.0 ∙ ap (λ (p : ℕ × Version × CommitNote). super_stored c w n.previous time p.0 p.1 p.2) above_is in
+        let is : x ≡ next_view = a.0 ∙ ap (λ (a : CommittedSlot). super_stored c w n.previous time a.slot a.version a.note) above_is in
         (subst (λ (u : View). Tells c v u l (i + 1)) (sym is) tells_next, omega arith))

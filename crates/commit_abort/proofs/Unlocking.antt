@@ -29,7 +29,7 @@ use Rattle.seat_log.specs.Stands.{version_of, Stands}
 use Rattle.seat_log.proofs.Places.{get_within}
 use Rattle.seat_log.proofs.NotedSlots.{apart, held_at}
 use Rattle.commit_abort.specs.Finishes.{version_in, section_of_phase}
-use Rattle.commit_abort.specs.Aborts.{IsOpen, IsAbortedToo, Unlocks, held_in, MayGiveBack, GivesBack}
+use Rattle.commit_abort.specs.Aborts.{IsOpen, HeldSlot, IsAbortedToo, Unlocks, held_in, MayGiveBack, GivesBack}
 
 module _ (c : Config) (v : View) (l : Noted) (inside : Section) (k : Stands c v l) (open_is : IsOpen v inside) where
   abbrev slot_of : ℕ → ℕ
@@ -62,14 +62,14 @@ module _ (c : Config) (v : View) (l : Noted) (inside : Section) (k : Stands c v 
     here : slot_at w.ring (slot_of i) ≡ Live (version_of n) Held
     here = t.left i (omega arith) within ∙ before
 
-    held_is : held_in w (slot_of i) ≡ (slot_of i, version_of n, t.inside_now)
-    held_is = λ j. (slot_of i, version_in (here j), section_of_phase (t.phase j))
+    held_is : held_in w (slot_of i) ≡ record { slot = slot_of i; version = version_of n; inside = t.inside_now }
+    held_is = λ j. record { slot = slot_of i; version = version_in (here j); inside = section_of_phase (t.phase j) }
 
     pub may_give : (starts : State → Type 0) (allows : List ℕ → State → Writes → Type 0) → ∥ Known starts allows v ∥₁ → length v.start ≡ c.objects → MayGiveBack c w n (held_in w (slot_of i))
     may_give starts allows known objects =
         let range : n.object < length v.start = ∥∥₁_elim known le_prop (λ a. ((a.section inside open_is.phase).held (slot_of i) (version_of n) before).in_range) in (
           omega arith,
-          subst (λ (a : ℕ × Version × Section). MayUnlock w n.object n.previous a.0 a.1 a.2) (sym held_is) (record { phase = t.phase; unnamed = t.unnamed; held = here; object_is = refl; previous_is = refl }),
+          subst (λ (a : HeldSlot). MayUnlock w n.object n.previous a.slot a.version a.inside) (sym held_is) (record { phase = t.phase; unnamed = t.unnamed; held = here; object_is = refl; previous_is = refl }),
         )
 
     abbrev next_view : View
@@ -110,4 +110,4 @@ module _ (c : Config) (v : View) (l : Noted) (inside : Section) (k : Stands c v 
 
     pub unlocks_more : (x : View) → GivesBack c w x n (held_in w (slot_of i)) → Unlocks c v x l inside (i + 1)
     unlocks_more x gives =
-        subst (λ (u : View). Unlocks c v u l inside (i + 1)) (sym (gives ∙ ap (λ (p : ℕ × Version × Section). head_unlocked c w n.object n.previous p.0 p.1 p.2) held_is)) unlocks_next
+        subst (λ (u : View). Unlocks c v u l inside (i + 1)) (sym (gives ∙ ap (λ (a : HeldSlot). head_unlocked c w n.object n.previous a.slot a.version a.inside) held_is)) unlocks_next

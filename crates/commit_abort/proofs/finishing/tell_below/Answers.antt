@@ -21,7 +21,7 @@ tell_one-requires g c κs within =
           search rules,
           (
             search rules,
-            λ n at. may_tell (config_of c.args.shared.now) (view c.args.pass.now) c.args.log.now c.args.time c.requires.1.1.1.1 (view c.loop-index.pass) c.loop-index.index n at from c.loop-index.invariant.tells g.at.0 g.at.1 c.requires.1.1.1.0,
+            λ n at. may_tell (config_of c.args.shared.now) (view c.args.pass.now) c.args.log.now c.args.time c.requires.1.1.1.1 (view c.loop-index.pass) c.loop-index.index n at from c.loop-index.invariant.tells g.at.inside g.at.first c.requires.1.1.1.0,
           ),
         ),
       ),

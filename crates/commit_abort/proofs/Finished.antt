@@ -1,21 +1,17 @@
 -- What a commit that was just named needs to be finished, from what held before it.
-use Rattle.std.proofs.Common.{◌≡◌, ℕ, ◌+◌, ◌<◌, ◌≤◌, ◌^◌, Bool, true, false, List, [], ◌∷◌, ◌++◌, length, refl, sym, ap, ◌∙◌, subst, ⊎_elim, arith, le-leb, append_assoc, length-append, All, Some, None}
-use Rattle.std.specs.Prelude.{nat_le, is_some, ◌&&◌}
-use Rattle.std.proofs.lemmas.Bool.{lt-leb}
+use Rattle.std.proofs.Common.{◌≡◌, ℕ, ◌+◌, ◌<◌, ◌≤◌, ◌^◌, true, false, List, [], ◌∷◌, ◌++◌, length, refl, sym, ap, ◌∙◌, subst, ⊎_elim, arith, append_assoc, length-append, All, Some, None}
 use Rattle.std.proofs.lemmas.List.{length-map}
 use Rattle.std.proofs.lemmas.List.Elements.{All-cons, All-push, All-weaker}
-use mathlib.Core.Logic.{dite}
-use native.Mathlib.Decide.{dec_le}
 use Rattle.mv_history.specs.declared.Step.{Step}
 use Rattle.mv_history.specs.declared.StepKind.{StepKind}
-use Rattle.mv_history.specs.declared.StepKind.TheVariants.{NameCommit, SwapStamp, StoreSuper, ClearMark}
+use Rattle.mv_history.specs.declared.StepKind.TheVariants.{SwapStamp, StoreSuper, ClearMark}
 use Rattle.mv_layout.specs.declared.Config.{Config}
-use Rattle.mv_layout.specs.declared.Place.TheVariants.{Clock, Mark}
+use Rattle.mv_layout.specs.declared.Place.TheVariants.{Mark}
 use Rattle.mv_layout.specs.Places.{place_of}
 use Rattle.mv_layout.specs.Words.{clock_time_of}
+use Rattle.mv_core.specs.declared.ring.Slot.{Slot}
 use Rattle.mv_core.specs.declared.ring.Slot.TheVariants.{Live}
-use Rattle.mv_core.specs.declared.ring.Status.{Status}
-use Rattle.mv_core.specs.declared.ring.Status.TheVariants.{Held, Aborted, Committed}
+use Rattle.mv_core.specs.declared.ring.Status.TheVariants.{Held, Committed}
 use Rattle.mv_core.specs.declared.ring.CommitNote.{CommitNote}
 use Rattle.mv_core.specs.declared.view.View.{View}
 use Rattle.mv_core.specs.declared.view.Phase.TheVariants.{Outside, Inside}
@@ -24,7 +20,7 @@ use Rattle.mv_core.specs.declared.view.Mode.TheVariants.{Named}
 use Rattle.mv_core.specs.declared.view.Walk.TheVariants.{Nowhere}
 use Rattle.mv_core.specs.Views.{heard_nothing}
 use Rattle.mv_core.specs.Rings.{slot_at, index_of, held_count, set_first}
-use Rattle.mv_core.specs.NameSteps.{commit_of, commit_word, committed_slot, commit_named}
+use Rattle.mv_core.specs.NameSteps.{commit_of, committed_slot, commit_named}
 use Rattle.mv_core.specs.EnterSteps.{MayClearMark, mark_cleared}
 use Rattle.mv_core.proofs.Links.{live_once}
 use Rattle.mv_core.proofs.Commits.{new_note, committed_was}
@@ -32,25 +28,12 @@ use Rattle.mv_core.proofs.HeldSet.{writes_length}
 use Rattle.mv_core.proofs.Slots.{slot_mapped}
 use Rattle.seat_log.specs.declared.version.Note.{Note}
 use Rattle.seat_log.specs.Notes.{Noted, held_from, IsNoteAt, committed_noted}
-use Rattle.seat_log.specs.Stands.{version_of, IsAsNoted, is_free_kind, is_cut_kind, is_free, is_won_cut, Stands}
-use Rattle.commit_abort.specs.Finishes.{WonNaming, section_of_phase, section_in, first_of_mode, first_named, IsJustNamed, HasNamed, StampsIt, AreCommitted, Tells, IsFinishStep, Finishes}
-use Rattle.commit_abort.proofs.Telling.{note_there}
-use Rattle.commit_abort.proofs.LogFates.{Fate, fate_of, stands_committed}
-
--- a held note is of a held version
-pub held_status : (n : Note) (st : Status) → IsAsNoted true n st → st ≡ Held
-held_status n Held noted = refl
-held_status n (Aborted d) noted = absurd (let other : true ≡ false = noted.0 in cc)
-held_status n (Committed d) noted = absurd (let other : true ≡ false = noted.0 in cc)
-
--- and a held version is noted as held
-pub held_noted_so : (b : Bool) (n : Note) (st : Status) → st ≡ Held → IsAsNoted b n st → b ≡ true
-held_noted_so b n Held e noted = noted.0
-held_noted_so b n (Aborted d) e noted = absurd cc
-held_noted_so b n (Committed d) e noted = absurd cc
-
-pub place_of_held : (n i : ℕ) → nat_le n i ≡ true → n ≤ i
-place_of_held n i e = dite (dec_le n i) (λ le. le) (λ gt. absurd (let no_le : nat_le n i ≡ false = lt-leb n i (let lt : i < n = omega arith in lt) in let other : false ≡ true = sym no_le ∙ e in cc))
+use Rattle.seat_log.specs.Stands.{version_of, Stands}
+use Rattle.seat_log.proofs.NotedSlots.{noted_in, held_last, held_at}
+use Rattle.seat_log.proofs.PlainSteps.{LeavesLog, frees_left, cuts_left}
+use Rattle.seat_log.proofs.Ended.{HasEnded}
+use Rattle.seat_log.proofs.Commits.{commit_ends, ends_linked, stands_committed}
+use Rattle.commit_abort.specs.Finishes.{WonNaming, section_of_phase, section_in, first_of_mode, first_named, IsJustNamed, HasNamed, StampsIt, AreCommitted, IsLinkedToo, Tells, IsFinishStep, Finishes}
 
 module _ (c : Config) (w : View) (l : Noted) (won : WonNaming) (k : IsJustNamed c w l won) where
   abbrev v : View
@@ -80,27 +63,18 @@ module _ (c : Config) (w : View) (l : Noted) (won : WonNaming) (k : IsJustNamed 
   slot_now : (j : ℕ) → slot_at w.ring j ≡ committed_slot t (slot_at v.ring j)
   slot_now j = ap (λ (u : View). slot_at u.ring j) k.named ∙ slot_mapped (committed_slot t) refl v.ring j
 
-  -- the version of a held note
-  held_at : (i : ℕ) (n : Note) → IsNoteAt l i n → held_from l ≤ i → slot_at v.ring (index_of c (l.freed + i)) ≡ Live (version_of n) Held
-  held_at i n at from =
-      let h = k.stands.live i n at in
-      h.lives ∙ ap (Live (version_of n)) (held_status n h.status (subst (λ b. IsAsNoted b n h.status) (le-leb (held_from l) i from) h.as_noted))
-
   are_committed : AreCommitted c w l t
   are_committed = record {
     each = λ i n at from.
-        let lives = held_at i n at from in
+        let lives = (held_at c v l k.stands i n at from).0 in
         (new_note t (version_of n), slot_now (index_of c (l.freed + i)) ∙ ap (committed_slot t) lives, refl, refl, k.log.links (index_of c (l.freed + i)) (version_of n) lives);
     only = λ j x note live time.
         let was = committed_was t (slot_at v.ring j) x (Committed note) (sym (slot_now j) ∙ live) in
         ⊎_elim
         (λ old. absurd (let le = k.log.old j x note (was.1 ∙ ap (Live x) old.0) in omega arith))
         (λ new.
-        let a = k.stands.all j x was.0 was.1 in
-        let n = note_there l a.0 a.1 in
-        let h = k.stands.live a.0 n.0 n.1 in
-        let one = live_once (slot_at v.ring j) x (version_of n.0) was.0 h.status was.1 (ap (slot_at v.ring) a.2 ∙ h.lives) in
-        (a.0, place_of_held (held_from l) a.0 (held_noted_so (nat_le (held_from l) a.0) n.0 h.status (sym one.1 ∙ new.0) h.as_noted), a.1, a.2))
+        let r = noted_in c v l k.stands j x Held (was.1 ∙ ap (Live x) new.0) in
+        (r.index, held_last c v l k.stands j x r, r.within, r.slot_is))
         was.2;
     round = (let room = k.stands.log.room in let slots = k.stands.slots in omega arith);
     wide = ap (λ (u : View). length u.ring.slots) k.named ∙ length-map v.ring.slots (committed_slot t) ∙ k.stands.wide;
@@ -173,28 +147,30 @@ module _ (c : Config) (w : View) (l : Noted) (won : WonNaming) (k : IsJustNamed 
           rest_is : z ≡ record w { phase = Outside; heard = heard_nothing; walk = Nowhere; back = None; ring = z.ring; trail = z.trail }
           rest_is = ap (λ (u : View). record u { phase = Outside; heard = heard_nothing; walk = Nowhere; back = None; ring = z.ring; trail = z.trail }) (tells.kept ∙ ap (λ (u : View). record u { ring = y.ring; trail = y.trail }) st.rest)
 
-      fates : (j : ℕ) → Fate t (slot_at v.ring j) (slot_at z.ring j)
-      fates j = fate_of t (slot_at v.ring j) (slot_at x.ring j) (slot_at y.ring j) (ap (λ r. slot_at r j) same_ring ∙ slot_now j) (tells.more j)
+      same_number : z.number ≡ w.number
+      same_number = ap (λ (u : View). u.number) tells.kept ∙ ap (λ (u : View). u.number) st.rest
+
+      has_ended : HasEnded v z (λ n. record n { time = t })
+      has_ended =
+          let leaves = all_steps LeavesLog (refl, refl) (refl, refl) (refl, refl) in
+          ends_linked v w z (λ n. record n { time = t })
+          (subst (λ (u : View). HasEnded v u (λ n. record n { time = t })) (sym k.named) (commit_ends c v won.inside won.tag won.word won.history))
+          same_number
+          (tells.next ∙ ap (λ r. r.next) same_ring)
+          (tells.wide ∙ ap (λ r. length r.slots) same_ring)
+          (λ j. subst (λ (s : Slot). IsLinkedToo s (slot_at y.ring j)) (ap (λ r. slot_at r j) same_ring) (tells.more j))
+          (frees_left w.trail z.trail steps trail_is leaves)
+          (cuts_left w.trail z.trail steps trail_is leaves)
 
       pub stands_after : Stands c z (committed_noted l t)
       stands_after =
-          let to_x : x ≡ record w { phase = x.phase; heard = x.heard; trail = x.trail } = st.rest in
-          let past : z.past ≡ w.past = ap (λ (u : View). u.past) tells.kept ∙ ap (λ (u : View). u.past) to_x in
+          let past : z.past ≡ w.past = ap (λ (u : View). u.past) tells.kept ∙ ap (λ (u : View). u.past) st.rest in
           let named : w.past ≡ (commit_named c v won.inside won.tag won.word won.history).past = ap (λ (u : View). u.past) k.named in
-          let first : Step = record { kind = NameCommit; word = place_of c Clock; found = Some won.word; stored = Some (commit_word c v won.word) } in
-          stands_committed c v z l t k.stands (omega arith) some_held k.unbuilt
-          (ap (λ (u : View). u.number) tells.kept ∙ ap (λ (u : View). u.number) to_x ∙ ap (λ (u : View). u.number) k.named)
-          (tells.wide ∙ ap (λ r. length r.slots) same_ring ∙ ap (λ (u : View). length u.ring.slots) k.named ∙ length-map v.ring.slots (committed_slot t))
-          (tells.next ∙ ap (λ r. r.next) same_ring ∙ ap (λ (u : View). u.ring.next) k.named)
-          fates
+          stands_committed c v z l t k.stands has_ended some_held k.unbuilt
           (commit_of c v won.inside won.tag)
           (ap (λ p. p.mine) past ∙ ap (λ p. p.mine) named)
           (writes_length c v.ring (set_first v.ring) (held_count v.ring) ∙ k.stands.held)
           (ap (λ p. p.rests) past ∙ ap (λ p. p.rests) named)
-          (first ∷ steps)
-          (trail_is ∙ ap (λ q. q ++ steps) (ap (λ (u : View). u.trail) k.named) ∙ append_assoc v.trail (first ∷ []) steps)
-          (All-cons (λ s. is_free s ≡ false) first steps refl (all_steps (λ q. is_free_kind q ≡ false) refl refl refl))
-          (All-cons (λ s. is_won_cut s ≡ false) first steps refl (All-weaker (λ s. is_cut_kind s.kind ≡ false) (λ s. is_won_cut s ≡ false) (λ s e. ap (λ b. b && is_some s.stored) e) steps (all_steps (λ q. is_cut_kind q ≡ false) refl refl refl)))
 
   -- the same, by what the code has of the time, of the first position and of the section
   module _ (time first : ℕ) (time_is : time ≡ t) (at : first ≡ set_first v.ring) where

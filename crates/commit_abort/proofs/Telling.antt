@@ -1,10 +1,9 @@
 -- SUPER is stored below one version of a committed write set after another.
-use Rattle.std.proofs.Common.{◌≡◌, ◌≢◌, ℕ, zero, suc, ◌+◌, ◌<◌, ◌≤◌, ◌==◌, true, List, [], ◌∷◌, ◌++◌, length, refl, sym, ap, ◌∙◌, subst, inl, inr, arith, eq-eqb, ne_eqb, append-nil, append_assoc, length-append, mod-lt, Some, None}
-use Rattle.std.specs.Prelude.{slice_get}
-use Rattle.std.proofs.lemmas.List.{get_or-set_same, get_or-set_other, length-set}
+use Rattle.std.proofs.Common.{◌≡◌, ◌≢◌, ℕ, zero, suc, ◌+◌, ◌<◌, ◌≤◌, ◌==◌, true, List, [], ◌∷◌, ◌++◌, length, refl, sym, ap, ◌∙◌, subst, inl, inr, arith, eq-eqb, ne_eqb, append-nil, append_assoc, length-append, Some, None}
+use Rattle.std.proofs.lemmas.List.{length-set}
 use Rattle.std.proofs.lemmas.List.Elements.{All-nil, All-push}
 use mathlib.Core.Logic.{dite}
-use native.Mathlib.Decide.{ℕ_discrete, dec_lt}
+use native.Mathlib.Decide.{ℕ_discrete}
 use Rattle.mv_history.specs.declared.Step.{Step}
 use Rattle.mv_history.specs.declared.StepKind.TheVariants.{StoreSuper}
 use Rattle.mv_layout.specs.declared.Config.{Config}
@@ -12,7 +11,7 @@ use Rattle.mv_layout.specs.declared.Place.TheVariants.{Super}
 use Rattle.mv_layout.specs.Places.{place_of}
 use Rattle.mv_layout.specs.Words.{link_seat_of}
 use Rattle.mv_core.specs.declared.ring.Slot.{Slot}
-use Rattle.mv_core.specs.declared.ring.Slot.TheVariants.{Free, Live}
+use Rattle.mv_core.specs.declared.ring.Slot.TheVariants.{Live}
 use Rattle.mv_core.specs.declared.ring.Version.{Version}
 use Rattle.mv_core.specs.declared.ring.Status.TheVariants.{Committed}
 use Rattle.mv_core.specs.declared.ring.CommitNote.{CommitNote}
@@ -24,21 +23,13 @@ use Rattle.mv_core.specs.Rings.{slot_at, index_of}
 use Rattle.mv_core.specs.WalkSteps.{IsLinkOf, slot_named}
 use Rattle.mv_core.specs.NameSteps.{MayStoreSuper, super_stored}
 use Rattle.mv_core.proofs.Links.{live_once, note_once}
-use Rattle.mv_core.proofs.HeldSet.{slots_apart}
+use Rattle.mv_core.proofs.Slots.{slot_here, slot_else, live_within}
 use Rattle.seat_log.specs.declared.version.Note.{Note}
 use Rattle.seat_log.specs.Notes.{Noted, held_from, IsNoteAt}
 use Rattle.seat_log.specs.Stands.{version_of}
 use Rattle.seat_log.proofs.Places.{get_within}
-use Rattle.commit_abort.specs.Finishes.{AreCommitted, IsLinkedToo, above_at, version_in, note_in, MayTell, TellsOne, Tells}
-
--- there is a note at each place
-there : (ns : List Note) (i : ℕ) → i < length ns → (n : Note) × (slice_get ns i ≡ Some n)
-there [] i lt = absurd (omega arith)
-there (n ∷ ns) zero lt = (n, refl)
-there (n ∷ ns) (suc i) lt = there ns i (omega arith)
-
-pub note_there : (l : Noted) (i : ℕ) → i < length l.live → (n : Note) × IsNoteAt l i n
-note_there l i lt = there l.live i lt
+use Rattle.seat_log.proofs.NotedSlots.{places_apart}
+use Rattle.commit_abort.specs.Finishes.{CommittedSlot, AreCommitted, IsLinkedToo, above_at, version_in, note_in, MayTell, TellsOne, Tells}
 
 module _ (c : Config) (v : View) (l : Noted) (time : ℕ) (k : AreCommitted c v l time) where
   -- the slot of a place in the log
@@ -47,11 +38,7 @@ module _ (c : Config) (v : View) (l : Noted) (time : ℕ) (k : AreCommitted c v 
 
   -- two places have two slots
   apart : (i j : ℕ) → i < length l.live → j < length l.live → i ≢ j → slot_of i ≢ slot_of j
-  apart i j a b ne e =
-      let round = k.round in
-      dite (dec_lt i j)
-      (λ lt. slots_apart c.slots (l.freed + i) (l.freed + j) (omega arith) (omega arith) e)
-      (λ ge. slots_apart c.slots (l.freed + j) (l.freed + i) (omega arith) (omega arith) (sym e))
+  apart i j a b ne e = let round = k.round in ne (places_apart c l.freed i j (omega arith) (omega arith) e)
 
   pub tells_first : Tells c v v l (held_from l)
   tells_first = record {
@@ -72,13 +59,13 @@ module _ (c : Config) (v : View) (l : Noted) (time : ℕ) (k : AreCommitted c v 
     abbrev here : (note : CommitNote) × (slot_at w.ring (slot_of i) ≡ Live (version_of n) (Committed note)) × (note.time ≡ time) × (note.linked ≡ (n.previous == 0)) × IsLinkOf c n.previous
     here = let a = k.each i n at from in (a.0, t.left i (omega arith) within ∙ a.1, a.2, a.3, a.4)
 
-    above_is : above_at w (slot_of i) ≡ (slot_of i, version_of n, here.0)
-    above_is = ap (λ (s : Slot). (slot_of i, version_in s, note_in s)) here.1
+    above_is : above_at w (slot_of i) ≡ record { slot = slot_of i; version = version_of n; note = here.0 }
+    above_is = λ j. record { slot = slot_of i; version = version_in (here.1 j); note = note_in (here.1 j) }
 
     pub may_tell : (inside : Section) (first : ℕ) → v.phase ≡ Inside (record inside { mode = Named (record { time = time; first = first; stamped = true }) }) → MayTell c w n time (above_at w (slot_of i))
     may_tell inside first phase some = (
       here.4 some,
-      subst (λ (a : ℕ × Version × CommitNote). MayStoreSuper w n.previous time a.0 a.1 a.2) (sym above_is) (record {
+      subst (λ (a : CommittedSlot). MayStoreSuper w n.previous time a.slot a.version a.note) (sym above_is) (record {
         inside = record inside { mode = Named (record { time = time; first = first; stamped = true }) };
         naming = record { time = time; first = first; stamped = true };
         phase = ap (λ (u : View). u.phase) t.kept ∙ phase;
@@ -112,14 +99,13 @@ module _ (c : Config) (v : View) (l : Noted) (time : ℕ) (k : AreCommitted c v 
     abbrev next_view : View
     next_view = super_stored c w n.previous time (slot_of i) (version_of n) here.0
 
-    inside_ring : slot_of i < length w.ring.slots
-    inside_ring = let wide = t.wide in let all = k.wide in let small = mod-lt (l.freed + i) (let round = k.round in let some = within in let pos : 0 < c.slots = omega arith in pos) in omega arith
-
     slot_same : slot_at next_view.ring (slot_of i) ≡ Live (version_of n) (Committed (record here.0 { linked = true }))
-    slot_same = get_or-set_same w.ring.slots (slot_of i) (Live (version_of n) (Committed (record here.0 { linked = true }))) Free inside_ring
+    slot_same =
+        slot_here w.ring (slot_of i) (Live (version_of n) (Committed (record here.0 { linked = true })))
+        (live_within w.ring (slot_of i) (version_of n) (Committed here.0) here.1)
 
     slot_other : (j : ℕ) → j ≢ slot_of i → slot_at next_view.ring j ≡ slot_at w.ring j
-    slot_other j ne = get_or-set_other w.ring.slots (slot_of i) j (Live (version_of n) (Committed (record here.0 { linked = true }))) Free ne
+    slot_other j ne = slot_else w.ring (slot_of i) j (Live (version_of n) (Committed (record here.0 { linked = true }))) ne
 
     tells_next : Tells c v next_view l (i + 1)
     tells_next = record {
@@ -158,5 +144,5 @@ module _ (c : Config) (v : View) (l : Noted) (time : ℕ) (k : AreCommitted c v 
         (λ some.
         let a = one.one some in
         let same = a.1 in
-        let is : x ≡ next_view = a.0 ∙ ap (λ (p : ℕ × Version × CommitNote). super_stored c w n.previous time p.0 p.1 p.2) above_is in
+        let is : x ≡ next_view = a.0 ∙ ap (λ (a : CommittedSlot). super_stored c w n.previous time a.slot a.version a.note) above_is in
         (subst (λ (u : View). Tells c v u l (i + 1)) (sym is) tells_next, omega arith))

@@ -1,11 +1,10 @@
 -- What a commit knows after each of its steps.
-use Rattle.std.proofs.Common.{◌≡◌, ℕ, ◌+◌, ◌-◌, ◌<◌, ◌≤◌, if◌then◌else◌, Bool, false, List, [], ◌∷◌, ◌++◌, length, take, refl, sym, ap, ◌∙◌, subst, ⊎_elim, arith, append_assoc, length-append, All, Some, None}
-use Rattle.std.specs.Prelude.{Contains, nat_le, is_some, ◌&&◌}
+use Rattle.std.proofs.Common.{◌≡◌, ℕ, ◌+◌, ◌-◌, ◌<◌, ◌≤◌, if◌then◌else◌, Bool, false, List, [], ◌∷◌, ◌++◌, length, take, refl, sym, ap, ◌∙◌, subst, ⊎_elim, arith, append_assoc, All, Some, None}
+use Rattle.std.specs.Prelude.{Contains}
 use Rattle.std.proofs.Math.Logic.{∥∥₁_elim}
 use Rattle.std.proofs.Math.Bridge.{le_prop}
 use Rattle.std.proofs.lemmas.List.{take-append-le}
-use Rattle.std.proofs.lemmas.List.Elements.{All-nil, All-cons, All-head, All-tail, All-weaker, Contains-append_left}
-use Rattle.mv_history.specs.declared.Commit.{Commit}
+use Rattle.std.proofs.lemmas.List.Elements.{All-cons, All-head, All-tail, All-weaker, Contains-append_left}
 use Rattle.mv_history.specs.declared.Entry.{Entry}
 use Rattle.mv_history.specs.declared.Step.{Step}
 use Rattle.mv_history.specs.declared.StepKind.{StepKind}
@@ -23,28 +22,22 @@ use Rattle.mv_core.specs.declared.view.Past.{Past}
 use Rattle.mv_core.specs.declared.view.Phase.TheVariants.{Inside}
 use Rattle.mv_core.specs.declared.view.Section.{Section}
 use Rattle.mv_core.specs.declared.view.Mode.TheVariants.{Open, Named}
-use Rattle.mv_core.specs.Rings.{slot_at, held_count, spare_count, own_of}
+use Rattle.mv_core.specs.Rings.{held_count, own_of}
 use Rattle.mv_core.specs.Views.{time_in}
 use Rattle.mv_core.specs.HistoryFacts.{BeginsWith}
 use Rattle.mv_core.specs.SectionFacts.{IsPastHelp}
 use Rattle.mv_core.specs.EnterSteps.{IsWhole, if_none, checked_helped, check_loaded}
 use Rattle.mv_core.specs.Known.{Known}
 use Rattle.mv_core.specs.NameSteps.{LogTold, commit_of, MayNameCommit, commit_named}
+use Rattle.mv_core.proofs.Fronts.{begins_by, begins_long}
 use Rattle.commit_clock.specs.Helps.{HasLoaded, IsHelpStep, Helps}
-use Rattle.seat_log.specs.Notes.{Noted, next_of, held_from}
-use Rattle.seat_log.specs.Stands.{HasNoted, HasBuilt, cut_count, writes_in, is_free_kind, is_cut_kind, is_free, is_won_cut, Stands}
+use Rattle.seat_log.specs.Notes.{Noted}
+use Rattle.seat_log.specs.Stands.{Stands}
+use Rattle.seat_log.proofs.PlainSteps.{LeavesLog, one_leaves, stands_left}
 use Rattle.commit_abort.specs.Commits.{MayCommit, LoadsClock, IsKept, IsAtEnd}
 use Rattle.commit_abort.specs.Finishes.{WonNaming, IsJustNamed}
-use Rattle.commit_abort.proofs.LogFates.{counted_more}
 
--- a history that begins with one that begins with another begins with that
-pub begins_by : (a b d : List Entry) → BeginsWith a b → BeginsWith b d → BeginsWith a d
-begins_by a b d p q = (q.0 ++ p.0, p.1 ∙ ap (λ l. l ++ p.0) q.1 ∙ append_assoc d q.0 p.0)
-
-pub begins_long : (a b : List Entry) → BeginsWith a b → length b ≤ length a
-begins_long a b p = let e = ap length p.1 in let f = length-append b p.0 in omega arith
-
--- what a help does tells of no commit exchange, and frees and cuts nothing
+-- what holds of each kind of step of a help holds of all
 help_kind : (P : StepKind → Type 0) → P LoadNamed → P LoadCheck → P SwapStamp → (k : StepKind) → IsHelpStep k → P k
 help_kind P a b d LoadNamed h = a
 help_kind P a b d LoadCheck h = b
@@ -55,34 +48,6 @@ help_kind P a b d _ h = absurd h
 pub no_exchange : (steps : List Step) → All (λ s. is_commit_exchange s.kind ≡ false) steps → commit_exchanges steps ≡ []
 no_exchange [] all = refl
 no_exchange (s ∷ steps) all = ap (λ (b : Bool). if b then s ∷ commit_exchanges steps else commit_exchanges steps) (All-head (λ s. is_commit_exchange s.kind ≡ false) s steps all) ∙ no_exchange steps (All-tail (λ s. is_commit_exchange s.kind ≡ false) s steps all)
-
--- the log stands still, where the log's view and the counts stay
-pub stands_still : (c : Config) (v w : View) (l : Noted) → Stands c v l → w.number ≡ v.number → w.ring ≡ v.ring → w.past.mine ≡ v.past.mine → w.past.rests ≡ v.past.rests
-    → (steps : List Step) → w.trail ≡ v.trail ++ steps → All (λ s. is_free_kind s.kind ≡ false) steps → All (λ s. is_cut_kind s.kind ≡ false) steps → Stands c w l
-stands_still c v w l k number ring mine rests steps trail no_free no_cut =
-    let frees = counted_more is_free v.trail w.trail steps trail no_free in
-    let cuts = counted_more is_won_cut v.trail w.trail steps trail (All-weaker (λ s. is_cut_kind s.kind ≡ false) (λ s. is_won_cut s ≡ false) (λ s e. ap (λ b. b && is_some s.stored) e) steps no_cut) in
-    record {
-      seat = k.seat ∙ sym number;
-      slots = k.slots;
-      wide = ap (λ (r : Ring). length r.slots) ring ∙ k.wide;
-      log = k.log;
-      next = ap (λ (r : Ring). r.next) ring ∙ k.next;
-      held = ap held_count ring ∙ k.held;
-      live = λ i n at. subst (λ (r : Ring). HasNoted c r (l.freed + i) (nat_le (held_from l) i) n) (sym ring) (k.live i n at);
-      all = λ j x st at. k.all j x st (ap (λ (r : Ring). slot_at r j) (sym ring) ∙ at);
-      none_freeing = λ j p first at. k.none_freeing j p first (ap (λ (r : Ring). slot_at r j) (sym ring) ∙ at);
-      builds = λ j b at. k.builds j b (ap (λ (r : Ring). slot_at r j) (sym ring) ∙ at);
-      built = subst (λ (r : Ring). HasBuilt c r l.built) (sym ring) k.built;
-      spare = subst (λ (r : Ring). spare_count r + length l.live ≡ c.slots) (sym ring) k.spare;
-      commits = k.commits ∙ ap length (sym mine);
-      rests = k.rests ∙ sym rests;
-      frees = k.frees ∙ sym frees;
-      backs = k.backs ∙ sym cuts;
-      cuts = subst (λ (r : Ring). l.back ≤ l.freed + cut_count r) (sym ring) k.cuts;
-      used = subst (λ (cs : List Commit). writes_in cs + l.held ≤ next_of l) (sym mine) k.used;
-      all_used = λ none. k.all_used none ∙ ap (λ (cs : List Commit). writes_in cs + l.held) (sym mine);
-    }
 
 module _ (c : Config) (v x : View) (word : ℕ) (h0 : List Entry) (whole : IsWhole c v word h0) (is : x ≡ check_loaded c v word h0) (inside : Section) (phase : v.phase ≡ Inside inside) (past_help : IsPastHelp v.heard inside) where
   abbrev pub load : Step
@@ -112,8 +77,8 @@ module _ (c : Config) (v x : View) (word : ℕ) (h0 : List Entry) (whole : IsWho
 
   pub stands_first : (l : Noted) → Stands c v l → Stands c x l
   stands_first l k =
-      stands_still c v x l k (ap (λ (u : View). u.number) is) (ap (λ (u : View). u.ring) is) (ap (λ (u : View). u.past.mine) is) (ap (λ (u : View). u.past.rests) is) (load ∷ []) (ap (λ (u : View). u.trail) is)
-      (All-cons (λ s. is_free_kind s.kind ≡ false) load [] refl (All-nil (λ s. is_free_kind s.kind ≡ false))) (All-cons (λ s. is_cut_kind s.kind ≡ false) load [] refl (All-nil (λ s. is_cut_kind s.kind ≡ false)))
+      stands_left c v x l k (ap (λ (u : View). u.number) is) (ap (λ (u : View). u.ring) is) (ap (λ (u : View). u.past.mine) is)
+      (ap (λ (u : View). u.past.rests) is) (load ∷ []) (ap (λ (u : View). u.trail) is) (one_leaves load (refl, refl))
 
   module _ (y : View) (helps : Helps c x y word) (open_is : inside.mode ≡ Open) where
     phase_first : x.phase ≡ Inside inside
@@ -160,8 +125,8 @@ module _ (c : Config) (v x : View) (word : ℕ) (h0 : List Entry) (whole : IsWho
 
     pub stands_next : (l : Noted) → Stands c v l → Stands c y l
     stands_next l k =
-        stands_still c v y l k number_next ring_next (ap (λ (p : Past). p.mine) past_next) (ap (λ (p : Past). p.rests) past_next) steps_next trail_next
-        (kinds_next (λ q. is_free_kind q ≡ false) refl refl refl) (kinds_next (λ q. is_cut_kind q ≡ false) refl refl refl)
+        stands_left c v y l k number_next ring_next (ap (λ (p : Past). p.mine) past_next) (ap (λ (p : Past). p.rests) past_next) steps_next trail_next
+        (kinds_next LeavesLog (refl, refl) (refl, refl) (refl, refl))
 
     pub may_name : (starts : State → Type 0) (allows : List ℕ → State → Writes → Type 0) (tag : List ℕ) → MayCommit allows c v tag inside → HasLoaded c x word → clock_time_of word < 35184372088831 → ∥ Known starts allows v ∥₁ → v.base ≡ c.base → MayNameCommit allows c y word tag inside
     may_name starts allows tag may has room known base =

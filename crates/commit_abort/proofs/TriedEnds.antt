@@ -1,18 +1,16 @@
 -- What a commit answers after its exchange of CLOCK, won or lost.
-use Rattle.std.proofs.Common.{◌≡◌, ◌≢◌, ℕ, zero, suc, ◌+◌, ◌-◌, ◌<◌, ◌≤◌, eqb, if◌then◌else◌, Bool, true, false, List, [], ◌∷◌, ◌++◌, length, refl, sym, ap, ◌∙◌, subst, arith, eq-eqb, append_assoc, length-append, All, Some, None}
+use Rattle.std.proofs.Common.{◌≡◌, ◌≢◌, ℕ, ◌+◌, ◌-◌, ◌<◌, ◌≤◌, if◌then◌else◌, Bool, true, false, List, [], ◌∷◌, ◌++◌, length, refl, sym, ap, ◌∙◌, subst, arith, append_assoc, length-append, All, Some, None}
 use Rattle.std.specs.Prelude.{slice_get}
-use Rattle.std.proofs.Math.Logic.{∥∥₁_elim}
-use Rattle.std.proofs.lemmas.List.Elements.{All-nil, All-cons, All-head, All-tail, All-weaker, Contains-append_left}
+use Rattle.std.proofs.lemmas.List.Elements.{All-nil, All-head, All-tail, All-weaker, Contains-append_left}
 use Rattle.mv_history.specs.declared.Entry.{Entry}
-use Rattle.mv_history.specs.declared.Entry.TheVariants.{Rest, Change}
+use Rattle.mv_history.specs.declared.Entry.TheVariants.{Change}
 use Rattle.mv_history.specs.declared.Commit.{Commit}
 use Rattle.mv_history.specs.declared.Step.{Step}
 use Rattle.mv_history.specs.declared.StepKind.{StepKind}
 use Rattle.mv_history.specs.declared.StepKind.TheVariants.{NameCommit, SwapStamp, StoreSuper, ClearMark}
 use Rattle.mv_history.specs.declared.answers.Rival.{Rival}
-use Rattle.mv_history.specs.State.{State, Writes, maker_of, commits_of, rests_of}
+use Rattle.mv_history.specs.State.{State, Writes, maker_of}
 use Rattle.mv_history.specs.Trail.{is_commit_exchange, commit_exchanges}
-use Rattle.mv_history.proofs.Writing.{commits_of-append}
 use Rattle.mv_layout.specs.declared.Config.{Config}
 use Rattle.mv_layout.specs.declared.Place.TheVariants.{Clock}
 use Rattle.mv_layout.specs.Places.{place_of}
@@ -31,14 +29,16 @@ use Rattle.mv_core.specs.SectionFacts.{IsPastHelp}
 use Rattle.mv_core.specs.EnterSteps.{IsWhole, if_none, check_loaded}
 use Rattle.mv_core.specs.Known.{Known}
 use Rattle.mv_core.specs.NameSteps.{commit_word, commit_named, commit_lost}
-use Rattle.mv_core.proofs.SeenMore.{rests_of-append}
+use Rattle.mv_core.proofs.Fronts.{begins_by, begins_long}
+use Rattle.mv_core.proofs.OwnEntries.{other_maker}
 use Rattle.commit_clock.specs.Helps.{Helps}
 use Rattle.commit_clock.specs.Names.{IsLost}
 use Rattle.seat_log.specs.Notes.{Noted}
-use Rattle.seat_log.specs.Stands.{is_free_kind, is_cut_kind, Stands}
+use Rattle.seat_log.specs.Stands.{Stands}
+use Rattle.seat_log.proofs.PlainSteps.{one_leaves, stands_left}
 use Rattle.commit_abort.specs.Finishes.{IsFinishStep, Finishes}
 use Rattle.commit_abort.specs.Commits.{LoadsClock, Commits, IsKept, IsOvertakenBy}
-use Rattle.commit_abort.proofs.Tried.{no_exchange, begins_by, begins_long, steps_next, trail_next, kinds_next, past_next, phase_next, helped_next, begins_next, begins_found, commit_next, number_next, stands_still, stands_next}
+use Rattle.commit_abort.proofs.Tried.{no_exchange, steps_next, trail_next, kinds_next, past_next, phase_next, helped_next, begins_next, begins_found, commit_next, number_next, stands_next}
 
 -- no step of a finish is a commit exchange
 finish_kind : (k : StepKind) → IsFinishStep k → is_commit_exchange k ≡ false
@@ -53,44 +53,6 @@ exchanges_one [] b s is none_a none_b = ap (λ (q : Bool). if q then s ∷ commi
 exchanges_one (x ∷ a) b s is none_a none_b =
     ap (λ (q : Bool). if q then x ∷ commit_exchanges (a ++ s ∷ b) else commit_exchanges (a ++ s ∷ b)) (All-head (λ s. is_commit_exchange s.kind ≡ false) x a none_a)
     ∙ exchanges_one a b s is (All-tail (λ s. is_commit_exchange s.kind ≡ false) x a none_a) none_b
-
--- an entry after the front is one of the rest
-drop_get : (a r : List Entry) (i : ℕ) → length a ≤ i → slice_get (a ++ r) i ≡ slice_get r (i - length a)
-drop_get [] r i le = ap (slice_get r) (let e : i ≡ i - 0 = omega arith in e)
-drop_get (x ∷ a) r zero le = absurd (omega arith)
-drop_get (x ∷ a) r (suc i) le = drop_get a r i (omega arith) ∙ ap (slice_get r) (let e : i - length a ≡ suc i - length (x ∷ a) = omega arith in e)
-
-one_longer : (b : Bool) (d : Commit) (cs : List Commit) → length cs ≤ length (if b then d ∷ cs else cs)
-one_longer true d cs = omega arith
-one_longer false d cs = omega arith
-
--- an own entry is a commit or a rest of the seat
-none_own : (n : ℕ) (xs : List Entry) (i : ℕ) (e : Entry) → slice_get xs i ≡ Some e → maker_of e ≡ n → length (commits_of n xs) + rests_of n xs ≢ 0
-none_own n [] i e at mine none = absurd cc
-none_own n (Rest by ∷ es) zero e at mine none =
-    let same : Rest by ≡ e = cc in
-    let one : ◌≡◌ {A = ℕ} (if eqb by n then 1 else 0) 1 = ap (λ (b : Bool). if b then 1 else 0) (eq-eqb by n (ap maker_of same ∙ mine)) in
-    omega arith
-none_own n (Change d ∷ es) zero e at mine none =
-    let same : Change d ≡ e = cc in
-    let one : length (if eqb d.seat n then d ∷ commits_of n es else commits_of n es) ≡ suc (length (commits_of n es)) = ap (λ (b : Bool). length (if b then d ∷ commits_of n es else commits_of n es)) (eq-eqb d.seat n (ap maker_of same ∙ mine)) in
-    omega arith
-none_own n (Rest by ∷ es) (suc i) e at mine none =
-    let b : ℕ = if eqb by n then 1 else 0 in
-    let all : length (commits_of n es) + (b + rests_of n es) ≡ 0 = none in
-    none_own n es i e at mine (omega arith)
-none_own n (Change d ∷ es) (suc i) e at mine none =
-    let longer = one_longer (eqb d.seat n) d (commits_of n es) in
-    none_own n es i e at mine (omega arith)
-
--- so where a seat made no entry meanwhile, one after the front is of another
-not_own : (n : ℕ) (h front : List Entry) (i : ℕ) (e : Entry) → BeginsWith h front → slice_get h i ≡ Some e → length front ≤ i → commits_of n h ≡ commits_of n front → rests_of n h ≡ rests_of n front → maker_of e ≢ n
-not_own n h front i e begins at late mine rests own =
-    let r = begins.0 in
-    let commits = ap length (sym mine ∙ ap (commits_of n) begins.1 ∙ commits_of-append n front r) in
-    let long = length-append (commits_of n front) (commits_of n r) in
-    let more = sym rests ∙ ap (rests_of n) begins.1 ∙ rests_of-append n front r in
-    none_own n r (i - length front) e (sym (drop_get front r i late) ∙ ap (λ l. slice_get l i) (sym begins.1) ∙ at) own (omega arith)
 
 module _ (c : Config) (v x : View) (word : ℕ) (h0 : List Entry) (whole : IsWhole c v word h0) (is : x ≡ check_loaded c v word h0) (inside : Section) (phase : v.phase ≡ Inside inside) (past_help : IsPastHelp v.heard inside)
     (y : View) (helps : Helps c x y word) (open_is : inside.mode ≡ Open) where
@@ -181,8 +143,9 @@ module _ (c : Config) (v x : View) (word : ℕ) (h0 : List Entry) (whole : IsWho
 
     pub stands_lost : (l : Noted) → Stands c v l → Stands c w l
     stands_lost l k =
-        stands_still c y w l (stands_next c v x word h0 whole is inside phase past_help y helps open_is l k) (ap (λ (u : View). u.number) at) (ap (λ (u : View). u.ring) at) (ap (λ (u : View). u.past.mine) at) (ap (λ (u : View). u.past.rests) at) (tried ∷ []) (ap (λ (u : View). u.trail) at)
-        (All-cons (λ s. is_free_kind s.kind ≡ false) tried [] refl (All-nil (λ s. is_free_kind s.kind ≡ false))) (All-cons (λ s. is_cut_kind s.kind ≡ false) tried [] refl (All-nil (λ s. is_cut_kind s.kind ≡ false)))
+        stands_left c y w l (stands_next c v x word h0 whole is inside phase past_help y helps open_is l k) (ap (λ (u : View). u.number) at)
+        (ap (λ (u : View). u.ring) at) (ap (λ (u : View). u.past.mine) at) (ap (λ (u : View). u.past.rests) at) (tried ∷ [])
+        (ap (λ (u : View). u.trail) at) (one_leaves tried (refl, refl))
 
     module _ (starts : State → Type 0) (allows : List ℕ → State → Writes → Type 0) (known_x : ∥ Known starts allows x ∥₁) (known_w : ∥ Known starts allows w ∥₁) where
       made : (e : Entry) × IsEntry c.base h (clock_time_of found) e × (maker_of e ≡ clock_seat_of found)
@@ -196,14 +159,13 @@ module _ (c : Config) (v x : View) (word : ℕ) (h0 : List Entry) (whole : IsWho
           let mine : w.past.mine ≡ x.past.mine = ap (λ (p : Past). p.mine) past_is ∙ ap (λ (u : View). u.past.mine) (sym is) in
           let rests : w.past.rests ≡ x.past.rests = ap (λ (p : Past). p.rests) past_is ∙ ap (λ (u : View). u.past.rests) (sym is) in
           let seen_x : x.past.seen ≡ h0 = ap (λ (u : View). u.past.seen) is in
-          ∥∥₁_elim known_x (λ a b. absurd a) (λ kx. ∥∥₁_elim known_w (λ a b. absurd a) (λ kw.
-          not_own v.number h h0 (clock_time_of found - (c.base + 1)) made.0
-          (begins_by h y.past.seen h0 lost.whole.0 (subst (λ l. BeginsWith l h0) (sym seen) (begins_found c v x word h0 whole is inside phase past_help y helps open_is)))
-          made.1.1
-          (let later = lost.overtaken.later in let long = whole.1 in omega arith)
-          ((λ i. commits_of (sym number_w i) (sym same_seen i)) ∙ sym kw.mine ∙ mine ∙ kx.mine ∙ (λ i. commits_of (number_x i) (seen_x i)))
-          ((λ i. rests_of (sym number_w i) (sym same_seen i)) ∙ sym kw.rests ∙ rests ∙ kx.rests ∙ (λ i. rests_of (number_x i) (seen_x i)))
-          (made.2 ∙ same)))
+          let more : BeginsWith h h0 =
+          begins_by h y.past.seen h0 lost.whole.0 (subst (λ l. BeginsWith l h0) (sym seen) (begins_found c v x word h0 whole is inside phase past_help y helps open_is)) in
+          let i : ℕ = clock_time_of found - (c.base + 1) in
+          let late : length x.past.seen ≤ i = (let at_x = ap length seen_x in let later = lost.overtaken.later in let long = whole.1 in omega arith) in
+          other_maker starts allows x w known_x known_w (number_w ∙ sym number_x)
+          (subst (λ (p : List Entry × List Entry). BeginsWith p.0 p.1) (λ i. (sym same_seen i, sym seen_x i)) more) mine rests
+          i made.0 (ap (λ l. slice_get l i) same_seen ∙ made.1.1) late (made.2 ∙ same ∙ sym number_w)
 
       pub overtaken : IsOvertakenBy c v w inside rival
       overtaken =

@@ -1,18 +1,18 @@
 -- HEAD is given back of one held version after another.
-use Rattle.std.proofs.Common.{◌≡◌, ◌≢◌, ℕ, ◌+◌, ◌<◌, ◌≤◌, List, [], ◌∷◌, ◌++◌, length, refl, sym, ap, ◌∙◌, subst, inl, inr, arith, le-leb, append-nil, append_assoc, length-append, mod-lt, Some, None}
+use Rattle.std.proofs.Common.{◌≡◌, ◌≢◌, ℕ, ◌+◌, ◌<◌, ◌≤◌, List, [], ◌∷◌, ◌++◌, length, refl, sym, ap, ◌∙◌, subst, inl, inr, arith, append-nil, append_assoc, length-append, Some, None}
 use Rattle.std.proofs.Math.Logic.{∥∥₁_elim}
 use Rattle.std.proofs.Math.Bridge.{le_prop}
-use Rattle.std.proofs.lemmas.List.{get_or-set_same, get_or-set_other, length-set}
+use Rattle.std.proofs.lemmas.List.{length-set}
 use Rattle.std.proofs.lemmas.List.Elements.{All-nil, All-push}
 use mathlib.Core.Logic.{dite}
-use native.Mathlib.Decide.{ℕ_discrete, dec_lt}
+use native.Mathlib.Decide.{ℕ_discrete}
 use Rattle.mv_history.specs.State.{State, Writes}
 use Rattle.mv_history.specs.declared.Step.{Step}
 use Rattle.mv_history.specs.declared.StepKind.TheVariants.{UnlockHead}
 use Rattle.mv_layout.specs.declared.Config.{Config}
 use Rattle.mv_layout.specs.declared.Place.TheVariants.{Head}
 use Rattle.mv_layout.specs.Places.{place_of}
-use Rattle.mv_core.specs.declared.ring.Slot.TheVariants.{Free, Live}
+use Rattle.mv_core.specs.declared.ring.Slot.TheVariants.{Live}
 use Rattle.mv_core.specs.declared.ring.Version.{Version}
 use Rattle.mv_core.specs.declared.ring.Status.TheVariants.{Held, Aborted}
 use Rattle.mv_core.specs.declared.view.View.{View}
@@ -22,28 +22,21 @@ use Rattle.mv_core.specs.Rings.{slot_at, index_of}
 use Rattle.mv_core.specs.Views.{IsUnnamed}
 use Rattle.mv_core.specs.Known.{Known}
 use Rattle.mv_core.specs.LockSteps.{MayUnlock, head_unlocked}
-use Rattle.mv_core.proofs.HeldSet.{slots_apart}
+use Rattle.mv_core.proofs.Slots.{slot_here, slot_else, live_within}
 use Rattle.seat_log.specs.declared.version.Note.{Note}
 use Rattle.seat_log.specs.Notes.{Noted, held_from, IsNoteAt}
-use Rattle.seat_log.specs.Stands.{version_of, IsAsNoted, Stands}
+use Rattle.seat_log.specs.Stands.{version_of, Stands}
 use Rattle.seat_log.proofs.Places.{get_within}
+use Rattle.seat_log.proofs.NotedSlots.{apart, held_at}
 use Rattle.commit_abort.specs.Finishes.{version_in, section_of_phase}
-use Rattle.commit_abort.specs.Aborts.{IsOpen, IsAbortedToo, Unlocks, held_in, MayGiveBack, GivesBack}
-use Rattle.commit_abort.proofs.Finished.{held_status}
+use Rattle.commit_abort.specs.Aborts.{IsOpen, HeldSlot, IsAbortedToo, Unlocks, held_in, MayGiveBack, GivesBack}
 
 module _ (c : Config) (v : View) (l : Noted) (inside : Section) (k : Stands c v l) (open_is : IsOpen v inside) where
   abbrev slot_of : ℕ → ℕ
   slot_of i = index_of c (l.freed + i)
 
-  round : length l.live ≤ c.slots
-  round = let room = k.log.room in let slots = k.slots in omega arith
-
-  apart : (i j : ℕ) → i < length l.live → j < length l.live → i ≢ j → slot_of i ≢ slot_of j
-  apart i j a b ne e =
-      let few = round in
-      dite (dec_lt i j)
-      (λ lt. slots_apart c.slots (l.freed + i) (l.freed + j) (omega arith) (omega arith) e)
-      (λ ge. slots_apart c.slots (l.freed + j) (l.freed + i) (omega arith) (omega arith) (sym e))
+  differ : (i j : ℕ) → i < length l.live → j < length l.live → i ≢ j → slot_of i ≢ slot_of j
+  differ i j a b ne e = ne (apart c v l k i j a b e)
 
   pub unlocks_first : Unlocks c v v l inside (held_from l)
   unlocks_first = record {
@@ -64,35 +57,32 @@ module _ (c : Config) (v : View) (l : Noted) (inside : Section) (k : Stands c v 
     within = get_within l.live i n at
 
     before : slot_at v.ring (slot_of i) ≡ Live (version_of n) Held
-    before = let h = k.live i n at in h.lives ∙ ap (Live (version_of n)) (held_status n h.status (subst (λ b. IsAsNoted b n h.status) (le-leb (held_from l) i from) h.as_noted))
+    before = (held_at c v l k i n at from).0
 
     here : slot_at w.ring (slot_of i) ≡ Live (version_of n) Held
     here = t.left i (omega arith) within ∙ before
 
-    held_is : held_in w (slot_of i) ≡ (slot_of i, version_of n, t.inside_now)
-    held_is = λ j. (slot_of i, version_in (here j), section_of_phase (t.phase j))
+    held_is : held_in w (slot_of i) ≡ record { slot = slot_of i; version = version_of n; inside = t.inside_now }
+    held_is = λ j. record { slot = slot_of i; version = version_in (here j); inside = section_of_phase (t.phase j) }
 
     pub may_give : (starts : State → Type 0) (allows : List ℕ → State → Writes → Type 0) → ∥ Known starts allows v ∥₁ → length v.start ≡ c.objects → MayGiveBack c w n (held_in w (slot_of i))
     may_give starts allows known objects =
         let range : n.object < length v.start = ∥∥₁_elim known le_prop (λ a. ((a.section inside open_is.phase).held (slot_of i) (version_of n) before).in_range) in (
           omega arith,
-          subst (λ (a : ℕ × Version × Section). MayUnlock w n.object n.previous a.0 a.1 a.2) (sym held_is) (record { phase = t.phase; unnamed = t.unnamed; held = here; object_is = refl; previous_is = refl }),
+          subst (λ (a : HeldSlot). MayUnlock w n.object n.previous a.slot a.version a.inside) (sym held_is) (record { phase = t.phase; unnamed = t.unnamed; held = here; object_is = refl; previous_is = refl }),
         )
 
     abbrev next_view : View
     next_view = head_unlocked c w n.object n.previous (slot_of i) (version_of n) t.inside_now
 
-    inside_ring : slot_of i < length w.ring.slots
-    inside_ring = let wide = t.wide in let all = k.wide in let few = round in let some = within in let small = mod-lt (l.freed + i) (let pos : 0 < c.slots = omega arith in pos) in omega arith
-
-    slot_same : slot_at next_view.ring (slot_of i) ≡ Live (version_of n) (Aborted None)
-    slot_same = get_or-set_same w.ring.slots (slot_of i) (Live (version_of n) (Aborted None)) Free inside_ring
-
-    slot_other : (j : ℕ) → j ≢ slot_of i → slot_at next_view.ring j ≡ slot_at w.ring j
-    slot_other j ne = get_or-set_other w.ring.slots (slot_of i) j (Live (version_of n) (Aborted None)) Free ne
-
     abbrev step : Step
     step = record { kind = UnlockHead; word = place_of c (Head n.object); found = None; stored = Some n.previous }
+
+    slot_same : slot_at next_view.ring (slot_of i) ≡ Live (version_of n) (Aborted None)
+    slot_same = slot_here w.ring (slot_of i) (Live (version_of n) (Aborted None)) (live_within w.ring (slot_of i) (version_of n) Held here)
+
+    slot_other : (j : ℕ) → j ≢ slot_of i → slot_at next_view.ring j ≡ slot_at w.ring j
+    slot_other j ne = slot_else w.ring (slot_of i) j (Live (version_of n) (Aborted None)) ne
 
     unlocks_next : Unlocks c v next_view l inside (i + 1)
     unlocks_next = record {
@@ -109,8 +99,8 @@ module _ (c : Config) (v : View) (l : Noted) (inside : Section) (k : Stands c v 
       gone = λ j lo hi.
           dite (ℕ_discrete j i)
           (λ e. (version_of n, ap (λ p. slot_at next_view.ring (slot_of p)) e ∙ slot_same))
-          (λ ne. let a = t.gone j lo (omega arith) in (a.0, slot_other (slot_of j) (apart j i (let lt = within in let le : j < length l.live = omega arith in le) within ne) ∙ a.1));
-      left = λ j lo hi. slot_other (slot_of j) (apart j i hi within (λ e. omega arith)) ∙ t.left j (omega arith) hi;
+          (λ ne. let a = t.gone j lo (omega arith) in (a.0, slot_other (slot_of j) (differ j i (let lt = within in let le : j < length l.live = omega arith in le) within ne) ∙ a.1));
+      left = λ j lo hi. slot_other (slot_of j) (differ j i hi within (λ e. omega arith)) ∙ t.left j (omega arith) hi;
       trail =
           (let a = t.trail in
           let few = a.2 in
@@ -120,4 +110,4 @@ module _ (c : Config) (v : View) (l : Noted) (inside : Section) (k : Stands c v 
 
     pub unlocks_more : (x : View) → GivesBack c w x n (held_in w (slot_of i)) → Unlocks c v x l inside (i + 1)
     unlocks_more x gives =
-        subst (λ (u : View). Unlocks c v u l inside (i + 1)) (sym (gives ∙ ap (λ (p : ℕ × Version × Section). head_unlocked c w n.object n.previous p.0 p.1 p.2) held_is)) unlocks_next
+        subst (λ (u : View). Unlocks c v u l inside (i + 1)) (sym (gives ∙ ap (λ (a : HeldSlot). head_unlocked c w n.object n.previous a.slot a.version a.inside) held_is)) unlocks_next

@@ -43,17 +43,23 @@ pub record Unlocks (c : Config) (v w : View) (l : Noted) (inside : Section) (i :
   pub left : (j : ℕ) → i ≤ j → j < length l.live → slot_at w.ring (index_of c (l.freed + j)) ≡ slot_at v.ring (index_of c (l.freed + j))
   pub trail : (steps : List Step) × (w.trail ≡ v.trail ++ steps) × (length steps + held_from l ≤ i) × All (λ s. s.kind ≡ UnlockHead) steps
 
--- the slot of a held version, with the version, and the section
-abbrev pub held_in : View → ℕ → ℕ × Version × Section
-held_in v k = (k, version_in (slot_at v.ring k), section_in v)
+-- a slot of the own log, the held version that it has, and the section that holds it
+pub record HeldSlot : Type 0 where
+  pub slot : ℕ
+  pub version : Version
+  pub inside : Section
+
+-- this slot of a view's log, so; it tells nothing of a slot without a version
+abbrev pub held_in : View → ℕ → HeldSlot
+held_in v k = record { slot = k; version = version_in (slot_at v.ring k); inside = section_in v }
 
 -- HEAD of the object of this note may be given back
-abbrev pub MayGiveBack : Config → View → Note → ℕ × Version × Section → Type 0
-MayGiveBack c v n held = (n.object < c.objects) × MayUnlock v n.object n.previous held.0 held.1 held.2
+abbrev pub MayGiveBack : Config → View → Note → HeldSlot → Type 0
+MayGiveBack c v n held = (n.object < c.objects) × MayUnlock v n.object n.previous held.slot held.version held.inside
 
 -- and was
-abbrev pub GivesBack : Config → View → View → Note → ℕ × Version × Section → Type 0
-GivesBack c v w n held = w ≡ head_unlocked c v n.object n.previous held.0 held.1 held.2
+abbrev pub GivesBack : Config → View → View → Note → HeldSlot → Type 0
+GivesBack c v w n held = w ≡ head_unlocked c v n.object n.previous held.slot held.version held.inside
 
 -- a step of an abort
 abbrev pub IsAbortStep : StepKind → Type 0

@@ -67,6 +67,15 @@ pub record StampsIt (v w : View) (first time : ℕ) (inside : Section) : Type 0 
   pub trail : (s : Step) × (w.trail ≡ v.trail ++ s ∷ []) × (s.kind ≡ SwapStamp)
   pub rest : w ≡ record v { phase = w.phase; heard = w.heard; trail = w.trail }
 
+-- the section of a pass, and the first position of the commit that it has named
+pub record NamedSection : Type 0 where
+  pub inside : Section
+  pub first : ℕ
+
+-- of a view
+abbrev pub named_in : View → NamedSection
+named_in v = record { inside = section_in v; first = first_named v }
+
 -- the held versions of the log are committed at this time; those with something below aren't linked yet
 pub record AreCommitted (c : Config) (v : View) (l : Noted) (time : ℕ) : Type 0 where
   pub each : (i : ℕ) (n : Note) → IsNoteAt l i n → held_from l ≤ i → (note : CommitNote) × (slot_at v.ring (index_of c (l.freed + i)) ≡ Live (version_of n) (Committed note)) × (note.time ≡ time) × (note.linked ≡ (n.previous == 0)) × IsLinkOf c n.previous
@@ -84,18 +93,24 @@ abbrev pub note_in : Slot → CommitNote
 note_in (Live x (Committed note)) = note
 note_in _ = record { time = 0; dead = None; cut = false; linked = false }
 
--- a slot of the own log, with the version that it has and what is noted of its commit
-abbrev pub above_at : View → ℕ → ℕ × Version × CommitNote
-above_at v k = (k, version_in (slot_at v.ring k), note_in (slot_at v.ring k))
+-- a slot of the own log, the committed version that it has, and what is noted of its commit
+pub record CommittedSlot : Type 0 where
+  pub slot : ℕ
+  pub version : Version
+  pub note : CommitNote
+
+-- this slot of a view's log, so; it tells nothing of a slot without one
+abbrev pub above_at : View → ℕ → CommittedSlot
+above_at v k = record { slot = k; version = version_in (slot_at v.ring k); note = note_in (slot_at v.ring k) }
 
 -- SUPER may be stored below the version of this note, where something is below it
-abbrev pub MayTell : Config → View → Note → ℕ → ℕ × Version × CommitNote → Type 0
-MayTell c v n time above = n.previous ≢ 0 → IsPackedOf c n.previous × MayStoreSuper v n.previous time above.0 above.1 above.2
+abbrev pub MayTell : Config → View → Note → ℕ → CommittedSlot → Type 0
+MayTell c v n time above = n.previous ≢ 0 → IsPackedOf c n.previous × MayStoreSuper v n.previous time above.slot above.version above.note
 
 -- and was stored, by the one step that was made
-pub record TellsOne (c : Config) (v w : View) (n : Note) (time before after : ℕ) (above : ℕ × Version × CommitNote) : Type 0 where
+pub record TellsOne (c : Config) (v w : View) (n : Note) (time before after : ℕ) (above : CommittedSlot) : Type 0 where
   pub none : n.previous ≡ 0 → (w ≡ v) × (after ≡ before)
-  pub one : n.previous ≢ 0 → (w ≡ super_stored c v n.previous time above.0 above.1 above.2) × (after ≡ before + 1)
+  pub one : n.previous ≢ 0 → (w ≡ super_stored c v n.previous time above.slot above.version above.note) × (after ≡ before + 1)
 
 -- what is in a slot, and is there still, but that SUPER may have been stored below it
 abbrev pub IsLinkedToo : Slot → Slot → Type 0

@@ -1,12 +1,11 @@
 // Giving up what a section holds.
 ghost use Rattle.std.specs.Prelude.{◌≡◌, ℕ, ◌+◌, ◌*◌, ◌≤◌, ◌<◌, length, None};
-ghost use Rattle.mv_core.specs.declared.ring.Version.{Version};
 ghost use Rattle.mv_core.specs.declared.view.Section.{Section};
 ghost use Rattle.mv_core.specs.Passes.{view, IsOf, IsSame, config_of};
 ghost use Rattle.seat_log.specs.declared.version.Note.{Note};
 ghost use Rattle.seat_log.specs.Notes.{IsNoteAt, aborted_noted};
 ghost use Rattle.seat_log.specs.Stands.{Stands};
-ghost use Rattle.commit_abort.specs.Aborts.{IsOpen, Unlocks, MayGiveBack, GivesBack, Aborts};
+ghost use Rattle.commit_abort.specs.Aborts.{IsOpen, HeldSlot, Unlocks, MayGiveBack, GivesBack, Aborts};
 
 use mv_core::{Pass, Shared, Steps};
 use mv_history::Protocol;
@@ -22,7 +21,7 @@ fn unlock_one<P: Protocol, L: Ledger>(
     index: u32,
     steps: &mut Steps<L>,
 )
-    ghost at: { ℕ × Version × Section }
+    ghost at: { HeldSlot }
     requires of { IsOf shared.now pass.old }
     requires range { index < length log.now.live }
     requires may { (n : Note) → IsNoteAt log.now index n → MayGiveBack (config_of shared.now) (view pass.old) n at }

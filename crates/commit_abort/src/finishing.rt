@@ -1,16 +1,14 @@
 // Finishing a commit that was named.
-ghost use Rattle.std.specs.Prelude.{◌≡◌, ℕ, ◌+◌, ◌≤◌, ◌<◌, ◌^◌, true, length};
+ghost use Rattle.std.specs.Prelude.{◌≡◌, ◌+◌, ◌≤◌, ◌<◌, ◌^◌, true, length};
 ghost use Rattle.mv_core.specs.declared.view.Mode.TheVariants.{Named};
 ghost use Rattle.mv_core.specs.declared.view.Phase.TheVariants.{Inside};
 ghost use Rattle.mv_layout.specs.Words.{clock_time_of};
-ghost use Rattle.mv_core.specs.declared.ring.CommitNote.{CommitNote};
-ghost use Rattle.mv_core.specs.declared.ring.Version.{Version};
 ghost use Rattle.mv_core.specs.declared.view.Section.{Section};
 ghost use Rattle.mv_core.specs.Passes.{view, IsOf, IsSame, config_of};
 ghost use Rattle.seat_log.specs.declared.version.Note.{Note};
 ghost use Rattle.seat_log.specs.Notes.{IsNoteAt, committed_noted};
 ghost use Rattle.seat_log.specs.Stands.{Stands};
-ghost use Rattle.commit_abort.specs.Finishes.{WonNaming, IsJustNamed, HasNamed, StampsIt, AreCommitted, MayTell, TellsOne, Tells, Finishes};
+ghost use Rattle.commit_abort.specs.Finishes.{WonNaming, IsJustNamed, HasNamed, StampsIt, CommittedSlot, NamedSection, AreCommitted, MayTell, TellsOne, Tells, Finishes};
 
 use mv_core::{Pass, Shared, Steps};
 use mv_history::Protocol;
@@ -50,7 +48,7 @@ fn tell_one<P: Protocol, L: Ledger>(
     time: u64,
     steps: &mut Steps<L>,
 )
-    ghost above: { ℕ × Version × CommitNote }
+    ghost above: { CommittedSlot }
     requires of { IsOf shared.now pass.old }
     requires range { index < length log.now.live }
     requires may { (n : Note) → IsNoteAt log.now index n → MayTell (config_of shared.now) (view pass.old) n time above }
@@ -71,9 +69,9 @@ fn tell_below<P: Protocol, L: Ledger>(
     time: u64,
     steps: &mut Steps<L>,
 )
-    ghost at: { Section × ℕ }
+    ghost at: { NamedSection }
     requires of { IsOf shared.now pass.old }
-    requires phase { (view pass.old).phase ≡ Inside (record at.0 { mode = Named (record { time = time; first = at.1; stamped = true }) }) }
+    requires phase { (view pass.old).phase ≡ Inside (record at.inside { mode = Named (record { time = time; first = at.first; stamped = true }) }) }
     requires committed { AreCommitted (config_of shared.now) (view pass.old) log.now time }
     ensures same { IsSame pass.old pass.new }
     ensures tells { Tells (config_of shared.now) (view pass.old) (view pass.new) log.now (length log.now.live) }

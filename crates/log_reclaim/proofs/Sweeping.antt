@@ -13,7 +13,7 @@ use Rattle.seat_log.specs.declared.version.Note.{Note}
 use Rattle.seat_log.specs.Notes.{Noted, IsNoteAt}
 use Rattle.seat_log.specs.Stands.{Stands}
 use Rattle.seat_log.specs.Frees.{freed_noted}
-use Rattle.seat_log.proofs.FreedLogs.{get_dropped}
+use Rattle.seat_log.proofs.Places.{get_dropped}
 use Rattle.seat_log.proofs.Places.{get_within}
 use Rattle.log_reclaim.specs.declared.settling.Found.{Found}
 use Rattle.log_reclaim.specs.Parts.{IsOtherKind, LeavesClock, Reclaims, DiesFrom, Shrinks}

@@ -112,3 +112,5 @@ pub mod PointsHold
 pub mod ChainLengths
 pub mod Chaining
 pub mod Placing
+pub mod Fronts
+pub mod OwnEntries

@@ -1,5 +1,5 @@
 -- The parts of a lock, from the build on: what each leaves, and how the outcome of one is that of all.
-use Rattle.std.proofs.Common.{◌≡◌, ◌≢◌, ℕ, ◌+◌, ◌-◌, ◌<◌, true, [], ◌∷◌, ◌++◌, length, map, drop, refl, sym, ap, ◌∙◌, subst, append-nil, length-append, inl, arith, Option, Some, None, IfSome}
+use Rattle.std.proofs.Common.{◌≡◌, ◌≢◌, ℕ, ◌+◌, ◌-◌, ◌<◌, true, [], ◌∷◌, ◌++◌, length, map, drop, refl, sym, ap, ◌∙◌, subst, append-nil, length-append, inl, arith, Option, Some, None}
 use Rattle.std.proofs.lemmas.List.Elements.{All-nil, All-cons}
 use Rattle.mv_history.specs.declared.Step.{Step}
 use Rattle.mv_history.specs.declared.StepKind.TheVariants.{LockHead}
@@ -21,24 +21,23 @@ use Rattle.mv_core.specs.Times.{words_of}
 use Rattle.mv_core.specs.Views.{time_in}
 use Rattle.mv_core.specs.declared.view.Stand.{Stand}
 use Rattle.mv_core.specs.SectionFacts.{IsPastHelp}
-use Rattle.mv_core.specs.LockSteps.{StandsToLock, locked_version, head_locked, lock_lost, OneMoreWrite}
+use Rattle.mv_core.specs.LockSteps.{StandsToLock, head_locked, lock_lost, OneMoreWrite}
 use Rattle.mv_core.specs.WalkSteps.{IsLinkOf}
 use Rattle.mv_core.proofs.WalkOn.{at_some}
 use Rattle.seat_log.specs.declared.version.Note.{Note}
-use Rattle.seat_log.specs.Notes.{Noted, built_count, IsLog, IsNextOf, held_noted, built_list, cleared, without_previous}
-use Rattle.seat_log.specs.Stands.{version_of, Stands}
-use Rattle.seat_log.specs.Builds.{build_at, stored_next}
-use Rattle.seat_log.proofs.Noting.{held_is_noted}
+use Rattle.seat_log.specs.Notes.{Noted, held_noted, cleared, without_previous}
+use Rattle.seat_log.specs.Stands.{Stands}
+use Rattle.seat_log.specs.Builds.{stored_next}
+use Rattle.seat_log.proofs.Stays.{stands_locked}
 use Rattle.version_chain.specs.Walks.{MayWalk, inside_of, section_in, stand_of}
 use Rattle.version_chain.specs.Reads.{words_in}
 use Rattle.object_lock.specs.Tops.{Tries}
 use Rattle.object_lock.specs.Locks.{IsBuiltFor, CameFirst, LockMakes, KeepsOwn, Outcome}
 use Rattle.object_lock.proofs.BuildTrails.{BuildsBy, builds_next}
 use Rattle.object_lock.proofs.Looks.{IsLocks, rest_of}
-use Rattle.object_lock.proofs.MayLocks.{next_noted, position_next, first_noted, built_there}
 use Rattle.object_lock.proofs.Outcomes.{tries_on}
 use Rattle.object_lock.proofs.OwnNotes.{note_write, held_notes, own_is}
-use Rattle.object_lock.proofs.Stood.{stands_on, stands_held}
+use Rattle.object_lock.proofs.Stood.{stands_on}
 
 -- a section may walk on where its phase, the clock words it heard and its write-back stay
 pub may_same : (v w : View) → w.phase ≡ v.phase → w.heard ≡ v.heard → w.back ≡ v.back → MayWalk v → MayWalk w
@@ -85,32 +84,12 @@ outcome_before c v w x l object answer first second third k tries o = record {
   tries = tries_on v w x first second third tries o.tries;
 }
 
--- the built version may be noted as held
-held_is_log : (l : Noted) (n : Note) → l.built ≡ Some n → IsLog l → IsLog (held_noted l)
-held_is_log l n e k =
-    let is : IsNextOf l n = subst (λ o. IfSome o (IsNextOf l)) e k.built in
-    let live : l.live ++ built_list l.built ≡ l.live ++ n ∷ [] = ap (λ (o : Option Note). l.live ++ built_list o) e in
-    let long : length (l.live ++ built_list l.built) ≡ length l.live + 1 = ap length live ∙ length-append l.live (n ∷ []) in
-    let room = k.room in
-    let count = ap built_count e in
-    let few = k.held in
-    let at = is.0 in
-    let small = is.4 in
-    let sets = k.sets in
-    let backs = k.backs in
-    record { seat = k.seat; slots = k.slots; room = (omega arith); held = (omega arith); notes = held_is_noted l n e k; built = tt; positions = (omega arith); sets = (omega arith); backs = (omega arith); rests = k.rests }
-
 -- an exchange of HEAD
 module _ (c : Config) (v w : View) (l : Noted) (object previous position : ℕ) (may : MayWalk v) (s : Stands c v l) (is : IsBuiltFor l position object previous (words_in c v object)) where
   -- won: the version is held
   module _ (told : w ≡ head_locked c v (section_in v) object previous position) (own : OneMoreWrite c v (section_in v) object w) where
     abbrev step : Step
     step = record { kind = LockHead; word = place_of c (Head object); found = Some previous; stored = Some (link_of v.number position) }
-
-    version_is : version_of is.0 ≡ locked_version c v (section_in v) object previous position
-    version_is =
-        let first = first_noted c v l object previous position s is in
-        (λ i. record { position = is.2 i; first = first i; object = is.3 i; previous = is.4 i; words = is.5 i })
 
     won_tries : (before : ℕ) → Tries v w before (before + 1)
     won_tries before = record {
@@ -121,12 +100,12 @@ module _ (c : Config) (v w : View) (l : Noted) (object previous position : ℕ) 
 
     pub won_outcome : (m : Noted) (before after : ℕ) → m ≡ held_noted l → after ≡ before + 1 → Outcome c v w m object Held before after
     won_outcome m before after noted e =
-        let next = next_noted c v l object previous position s is in
-        let log = held_is_log l is.0 is.1 s.log in
-        let stands = stands_held c v (section_in v) object previous position l is.0 (build_at c v position) s log is.1 (position_next c v l object previous position s is) (built_there c v l object previous position s is) version_is (next.2, next.3) in
+        let at : head_locked c v (section_in v) is.0.object is.0.previous is.0.position ≡ w =
+        (λ i. head_locked c v (section_in v) (is.3 i) (is.4 i) (is.2 i)) ∙ sym told in
+        let stands = stands_locked c v l is.0 (section_in v) s is.1 (is.5 ∙ ap (words_in c v) (sym is.3)) in
         subst (λ (k : Noted). Outcome c v w k object Held before after) (sym noted) (record {
           may = may_same v w (ap (λ (u : View). u.phase) told) (ap (λ (u : View). u.heard) told) (ap (λ (u : View). u.back) told) may;
-          stands = subst (λ (u : View). Stands c u (held_noted l)) (sym told) stands;
+          stands = subst (λ (u : View). Stands c u (held_noted l)) at stands;
           unbuilt = refl;
           makes = (own.0 ∙ ap (λ ws. own_of c v.ring ++ (object, ws) ∷ []) (sym (ap (λ (u : View). words_in c u object) told)), own.1);
           keeps = λ ne. absurd (ne refl);

@@ -11,11 +11,12 @@ use Rattle.mv_core.proofs.Written.{write_there, write_touches}
 use Rattle.seat_log.specs.declared.version.Note.{Note}
 use Rattle.seat_log.specs.Notes.{Noted, built_count, held_from}
 use Rattle.seat_log.specs.Stands.{Stands}
+use Rattle.seat_log.proofs.Places.{get_dropped, get_left}
 use Rattle.version_chain.specs.Reads.{words_in}
 use Rattle.object_lock.specs.Tops.{Tries, IsRefused}
 use Rattle.object_lock.specs.Locks.{HoldsObject, LockMakes, KeepsOwn, HasRoom, IsSetFull, LockAnswers}
 use Rattle.object_lock.proofs.Holding.{makes_before}
-use Rattle.object_lock.proofs.OwnNotes.{note_write, held_notes, get-drop, own_is, own_long}
+use Rattle.object_lock.proofs.OwnNotes.{note_write, held_notes, own_is, own_long}
 use Rattle.object_lock.proofs.Stood.{stands_on}
 
 -- a place of a mapped list
@@ -29,24 +30,18 @@ get-unmap [] i w e = absurd (cc)
 get-unmap (m ∷ ns) zero w e = (m, refl, (let f : Some (note_write m) ≡ Some w = e in cc))
 get-unmap (m ∷ ns) (suc i) w e = get-unmap ns i w e
 
-pub drop-get : (ns : List Note) (d i : ℕ) (n : Note) → d ≤ i → slice_get ns i ≡ Some n → slice_get (drop d ns) (i - d) ≡ Some n
-drop-get ns zero i n le e = ap (slice_get ns) (let z : i - 0 ≡ i = omega arith in z) ∙ e
-drop-get [] (suc d) i n le e = absurd (cc)
-drop-get (m ∷ ns) (suc d) zero n le e = absurd (omega arith)
-drop-get (m ∷ ns) (suc d) (suc i) n le e = ap (slice_get (drop d ns)) (let z : suc i - suc d ≡ i - d = omega arith in z) ∙ drop-get ns d i n (omega arith) e
-
 module _ (c : Config) (v : View) (l : Noted) (object : ℕ) (s : Stands c v l) where
   -- what is held is noted
   pub touched_is : touches (own_of c v.ring) object ≡ true → HoldsObject l object
   touched_is e =
       let w = write_there (map note_write (held_notes l)) object (ap (λ (ws : Writes). touches ws object) (sym (own_is c v l s)) ∙ e) in
       let n = get-unmap (held_notes l) w.0 (object, w.1) w.3 in
-      (held_from l + w.0, n.0, get-drop l.live (held_from l) w.0 n.0 n.1, (omega arith), ap (λ (p : ℕ × List ℕ). p.0) n.2)
+      (held_from l + w.0, n.0, sym (get_dropped (held_from l) w.0 l.live) ∙ n.1, (omega arith), ap (λ (p : ℕ × List ℕ). p.0) n.2)
 
   -- and what is noted is held
   pub noted_is : HoldsObject l object → touches (own_of c v.ring) object ≡ true
   noted_is h =
-      let at = get-map (held_notes l) (h.0 - held_from l) h.1 (drop-get l.live (held_from l) h.0 h.1 h.3 h.2) in
+      let at = get-map (held_notes l) (h.0 - held_from l) h.1 (get_left (held_from l) h.0 l.live h.1 h.3 h.2) in
       ap (λ (ws : Writes). touches ws object) (own_is c v l s)
       ∙ subst (λ (o : ℕ). touches (map note_write (held_notes l)) o ≡ true) h.4 (write_touches (map note_write (held_notes l)) (h.0 - held_from l) h.1.object h.1.words at)
 

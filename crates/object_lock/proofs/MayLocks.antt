@@ -1,5 +1,5 @@
 -- A version that was built may be locked: its slot has what the log has noted.
-use Rattle.std.proofs.Common.{◌≡◌, ℕ, ◌-◌, ◌<◌, ◌^◌, map, sym, ap, ◌∙◌, subst, arith, Some, IfSome}
+use Rattle.std.proofs.Common.{◌≡◌, ℕ, ◌-◌, ◌<◌, ◌^◌, map, sym, ap, ◌∙◌, subst, arith, Some}
 use Rattle.std.specs.Prelude.{unwrap_or}
 use Rattle.mv_layout.specs.declared.Config.{Config}
 use Rattle.mv_layout.specs.Words.{unset_of}
@@ -13,6 +13,7 @@ use Rattle.seat_log.specs.declared.version.Note.{Note}
 use Rattle.seat_log.specs.Notes.{Noted, IsNextOf}
 use Rattle.seat_log.specs.Stands.{IsWhole, HasBuilt, Stands}
 use Rattle.seat_log.specs.Builds.{build_at}
+use Rattle.seat_log.proofs.Standing.{built_next}
 use Rattle.version_chain.specs.Walks.{MayWalk, section_in}
 use Rattle.version_chain.specs.Reads.{words_in}
 use Rattle.object_lock.specs.Locks.{HoldsObject, IsBuiltFor}
@@ -23,7 +24,7 @@ module _ (c : Config) (v : View) (l : Noted) (object previous position : ℕ) (s
   n = is.0
 
   pub next_noted : IsNextOf l n
-  next_noted = subst (λ o. IfSome o (IsNextOf l)) is.1 s.log.built
+  next_noted = built_next l n is.1 s.log
 
   whole : (b : Build) × (slot_at v.ring (index_of c v.ring.next) ≡ Built b) × IsWhole b n
   whole = subst (HasBuilt c v.ring) is.1 s.built

@@ -13,18 +13,14 @@ use Rattle.mv_layout.specs.Words.{IsUnset, link_seat_of}
 use Rattle.mv_core.specs.declared.view.View.{View}
 use Rattle.mv_core.specs.Rings.{index_of, own_of, spare_count}
 use Rattle.mv_core.specs.WalkSteps.{slot_named, IsWriteOf}
-use Rattle.seat_log.specs.Notes.{Noted, IsLog, dropped}
+use Rattle.seat_log.specs.Notes.{Noted, dropped}
 use Rattle.seat_log.specs.Stands.{Stands}
-use Rattle.seat_log.proofs.Standing.{built_is_log}
+use Rattle.seat_log.proofs.Standing.{stands_dropped}
 use Rattle.version_chain.specs.Walks.{MayWalk, section_in, stand_in, time_at}
 use Rattle.object_lock.specs.Tops.{Looked, Tries, IsRefused}
 use Rattle.object_lock.specs.Locks.{CameFirst, LockMakes, Outcome}
 use Rattle.object_lock.proofs.Looks.{IsLocks, rest_of, found_held}
-use Rattle.object_lock.proofs.Stood.{stands_on, stands_dropped}
-
--- the built version may be given up
-pub dropped_is_log : (l : Noted) → IsLog l → IsLog (dropped l)
-dropped_is_log l k = built_is_log l None (let r = k.room in omega arith) tt k
+use Rattle.object_lock.proofs.Stood.{stands_on}
 
 -- one after another
 pub tries_on : (u v w : View) (first second third : ℕ) → Tries u v first second → Tries v w second third → Tries u w first third
@@ -71,7 +67,7 @@ module _ (c : Config) (v x : View) (object link found : ℕ) (may : MayWalk v) (
   lost_outcome l answer before after still s makes e =
       let ring : x.ring ≡ v.ring = ap (λ (u : View). u.ring) looked.view in record {
         may = still;
-        stands = stands_dropped c x l (dropped_is_log l s.log) (stands_on c v x l (of_first ∷ of_stamp ∷ []) (ap (λ (u : View). u.number) looked.view) ring (ap (λ (u : View). u.past.mine) looked.view) (ap (λ (u : View). u.past.rests) looked.view) two_steps two_kinds s);
+        stands = stands_dropped c x l (stands_on c v x l (of_first ∷ of_stamp ∷ []) (ap (λ (u : View). u.number) looked.view) ring (ap (λ (u : View). u.past.mine) looked.view) (ap (λ (u : View). u.past.rests) looked.view) two_steps two_kinds s);
         unbuilt = refl;
         makes = makes;
         keeps = λ _. (ap (own_of c) ring, ap spare_count ring);

@@ -12,12 +12,12 @@ use Rattle.mv_layout.specs.declared.Place.TheVariants.{Data}
 use Rattle.mv_layout.specs.Places.{place_of}
 use Rattle.seat_log.specs.declared.version.Note.{Note}
 use Rattle.seat_log.specs.Notes.{Noted, held_from, IsHeld, at_place, with_word, word_noted}
+use Rattle.seat_log.proofs.Places.{get_dropped, get_left}
 use Rattle.seat_log.specs.Stands.{Stands}
 use Rattle.seat_log.specs.Builds.{word_stored}
 use Rattle.seat_log.proofs.Places.{length-at_place, get_within}
 use Rattle.object_lock.specs.Writes.{IsHeldAt, with_words, Stores}
-use Rattle.object_lock.proofs.Locked.{drop-get}
-use Rattle.object_lock.proofs.OwnNotes.{note_write, held_notes, get-drop, own_is}
+use Rattle.object_lock.proofs.OwnNotes.{note_write, held_notes, own_is}
 
 -- what a section holds, with other words at the first place that has the object
 rewrites : (ms : List Note) (j : ℕ) (n : Note) (f : Note → Note) (o : ℕ) (words : List ℕ) → slice_get ms j ≡ Some n → n.object ≡ o → ((i : ℕ) (m : Note) → slice_get ms i ≡ Some m → i < j → m.object ≢ o) → note_write (f n) ≡ (o, words)
@@ -135,8 +135,8 @@ module _ (c : Config) (v w : View) (l m : Noted) (object position : ℕ) (words 
       own_is c w m wrote.stands
       ∙ (λ i. map note_write (drop (heads i) (live i)))
       ∙ ap (map note_write) (drop-at f d at.place l.live at.held)
-      ∙ rewrites (held_notes l) (at.place - d) at.note f object words (drop-get l.live d at.place at.note at.held at.there) at.object_is
-      (λ i n there lt. at.first_one (d + i) n (get-drop l.live d i n there) (omega arith) (omega arith)) same
+      ∙ rewrites (held_notes l) (at.place - d) at.note f object words (get_left d at.place l.live at.note at.held at.there) at.object_is
+      (λ i n there lt. at.first_one (d + i) n (sym (get_dropped d i l.live) ∙ there) (omega arith) (omega arith)) same
       ∙ ap (λ ws. rewritten ws object words) (sym (own_is c v l s))
 
   pub spare_stays : spare_count w.ring ≡ spare_count v.ring

@@ -1,7 +1,5 @@
 // The first steps of a call, after which the client stops.
-ghost use Rattle.std.specs.Prelude.{◌≡◌, ℕ, ◌+◌, ◌<◌, ◌≤◌, ◌^◌, true, length, None};
-ghost use Rattle.mv_core.specs.declared.ring.CommitNote.{CommitNote};
-ghost use Rattle.mv_core.specs.declared.ring.Version.{Version};
+ghost use Rattle.std.specs.Prelude.{◌≡◌, ◌+◌, ◌<◌, ◌≤◌, ◌^◌, true, length, None};
 ghost use Rattle.mv_core.specs.declared.view.Mode.TheVariants.{Named};
 ghost use Rattle.mv_core.specs.declared.view.Phase.TheVariants.{Inside};
 ghost use Rattle.mv_core.specs.declared.view.Section.{Section};
@@ -11,8 +9,8 @@ ghost use Rattle.commit_clock.specs.Helps.{HasLoaded};
 ghost use Rattle.seat_log.specs.declared.version.Note.{Note};
 ghost use Rattle.seat_log.specs.Notes.{IsNoteAt, held_from};
 ghost use Rattle.seat_log.specs.Stands.{Stands};
-ghost use Rattle.commit_abort.specs.Finishes.{HasNamed, StampsIt, AreCommitted, MayTell, TellsOne};
-ghost use Rattle.commit_abort.specs.Aborts.{IsOpen, Unlocks, MayGiveBack, GivesBack};
+ghost use Rattle.commit_abort.specs.Finishes.{HasNamed, StampsIt, CommittedSlot, NamedSection, AreCommitted, MayTell, TellsOne};
+ghost use Rattle.commit_abort.specs.Aborts.{IsOpen, HeldSlot, Unlocks, MayGiveBack, GivesBack};
 ghost use Rattle.runtime_tests.specs.Clients.{IsInside, HasJustNamed};
 
 use commit_clock::now;
@@ -123,7 +121,7 @@ fn tell_one<L: Ledger>(
     time: u64,
     steps: &mut Steps<L>,
 )
-    ghost above: { ℕ × Version × CommitNote }
+    ghost above: { CommittedSlot }
     requires of { IsOf shared.now pass.old }
     requires range { index < length log.now.live }
     requires may { (n : Note) → IsNoteAt log.now index n → MayTell (config_of shared.now) (view pass.old) n time above }
@@ -145,9 +143,9 @@ fn tell_first<L: Ledger>(
     count: u32,
     steps: &mut Steps<L>,
 )
-    ghost at: { Section × ℕ }
+    ghost at: { NamedSection }
     requires of { IsOf shared.now pass.old }
-    requires phase { (view pass.old).phase ≡ Inside (record at.0 { mode = Named (record { time = time; first = at.1; stamped = true }) }) }
+    requires phase { (view pass.old).phase ≡ Inside (record at.inside { mode = Named (record { time = time; first = at.first; stamped = true }) }) }
     requires committed { AreCommitted (config_of shared.now) (view pass.old) log.now time }
     requires count { count ≤ log.now.held }
     ensures same { IsSame pass.old pass.new }
@@ -189,7 +187,7 @@ fn unlock_one<L: Ledger>(
     index: u32,
     steps: &mut Steps<L>,
 )
-    ghost at: { ℕ × Version × Section }
+    ghost at: { HeldSlot }
     requires of { IsOf shared.now pass.old }
     requires range { index < length log.now.live }
     requires may { (n : Note) → IsNoteAt log.now index n → MayGiveBack (config_of shared.now) (view pass.old) n at }

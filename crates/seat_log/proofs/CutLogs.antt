@@ -26,6 +26,7 @@ use Rattle.seat_log.specs.Stands.{version_of, is_cut, cut_count, is_free, is_won
 use Rattle.seat_log.proofs.Places.{length-at_place}
 use Rattle.seat_log.proofs.BuildsOn.{unpassed}
 use Rattle.seat_log.proofs.Stays.{stands_same}
+use Rattle.seat_log.proofs.FreedSlots.{passed}
 use Rattle.seat_log.proofs.Aborts.{unwaiting}
 use Rattle.seat_log.proofs.PlainSteps.{stands_unmarked}
 use Rattle.seat_log.proofs.Retired.{as_committed, committed_at, no_death, death_is, stands_renoted}
@@ -77,13 +78,6 @@ note_cut_room c v l i n dead k is_note time alive =
     let a = committed_at c v l i n k is_note time in
     let room = cuts_room c v l (index_of c n.position) (version_of n) a.0 k a.1 (a.4 alive) in
     let long = length-at_place (λ (x : Note). record x { dead = dead }) (n.position - l.freed) l.live in
-    omega arith
-
--- one step more passes a test
-passed : (test : Step → Bool) (steps : List Step) (s : Step) → test s ≡ true → count_by test (steps ++ s ∷ []) ≡ count_by test steps + 1
-passed test steps s e =
-    let more = sum_by-append (λ t. cond (test t) 1 0) steps (s ∷ []) in
-    let one : count_by test (s ∷ []) ≡ 1 = ap (λ b. 0 + cond b 1 0) e in
     omega arith
 
 -- a map that keeps each slot keeps them all

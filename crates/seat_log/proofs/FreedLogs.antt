@@ -1,6 +1,6 @@
 -- The log stands for the pass after its oldest write set was freed.
-use Rattle.std.proofs.Common.{◌≡◌, ◌≢◌, ℕ, zero, suc, ◌+◌, ◌-◌, ◌<◌, ◌≤◌, nat_le, Bool, true, false, List, [], ◌∷◌, length, drop, refl, sym, ap, ◌∙◌, subst, ⊎_elim, arith, length-drop, Option, Some, None, slice_get}
-use Rattle.std.proofs.lemmas.Bool.{cases_lt, cases_eq}
+use Rattle.std.proofs.Common.{◌≡◌, ◌≢◌, ℕ, zero, suc, ◌+◌, ◌-◌, ◌<◌, ◌≤◌, nat_le, Bool, true, false, List, [], ◌∷◌, length, drop, refl, sym, ap, ◌∙◌, subst, ⊎_elim, arith, le-leb, length-drop, Option, Some, None, slice_get}
+use Rattle.std.proofs.lemmas.Bool.{cases_lt, cases_eq, lt-leb}
 use Rattle.std.specs.Prelude.{IfSome}
 use Rattle.mv_layout.specs.declared.Config.{Config}
 use Rattle.mv_core.specs.declared.ring.Slot.{Slot}
@@ -16,29 +16,17 @@ use Rattle.seat_log.specs.declared.version.Note.{Note}
 use Rattle.seat_log.specs.Notes.{Noted, next_of, held_from, first_of, IsNoteAt, AreNoted, IsNextOf, IsLog}
 use Rattle.seat_log.specs.Stands.{version_of, HasBuilt, IsAsNoted, writes_in, Stands}
 use Rattle.seat_log.specs.Frees.{IsDeadNote, OldestIsDead, IsOldestSet, FreesSet, freed_noted, slots_freed}
-use Rattle.seat_log.proofs.Places.{get_within}
-use Rattle.seat_log.proofs.Rebuilding.{note_there, held_status}
-use Rattle.seat_log.proofs.FreedSlots.{none_going, Freed, noted_at, apart, noted_in}
+use Rattle.seat_log.proofs.Places.{get_within, get_dropped}
+use Rattle.seat_log.proofs.NotedSlots.{note_there, held_at, noted_at, apart, noted_in}
+use Rattle.seat_log.proofs.FreedSlots.{none_going, Freed}
 use Rattle.seat_log.proofs.FreedOldest.{dead_by, of_set, freed_after}
-
--- the note at a place of what is left
-pub get_dropped : (k i : ℕ) (ns : List Note) → slice_get (drop k ns) i ≡ slice_get ns (k + i)
-get_dropped zero i ns = ap (slice_get ns) (let e : i ≡ 0 + i = omega arith in e)
-get_dropped (suc k) i [] = ap (slice_get []) (let e : suc (k + i) ≡ suc k + i = omega arith in e)
-get_dropped (suc k) i (n ∷ ns) = get_dropped k i ns ∙ ap (slice_get (n ∷ ns)) (let e : suc (k + i) ≡ suc k + i = omega arith in e)
-
-le_true : (a b : ℕ) → a ≤ b → nat_le a b ≡ true
-le_true a b le = grind arith
-
-le_false : (a b : ℕ) → b < a → nat_le a b ≡ false
-le_false a b lt = grind arith
 
 -- a comparison of numbers that both grew
 le_shift : (a b i k : ℕ) → b ≡ a + k → nat_le b (k + i) ≡ nat_le a i
 le_shift a b i k e =
     ⊎_elim
-    (λ lt. le_false b (k + i) (omega arith) ∙ sym (le_false a i lt))
-    (λ le. le_true b (k + i) (omega arith) ∙ sym (le_true a i le))
+    (λ lt. lt-leb b (k + i) (omega arith) ∙ sym (lt-leb a i lt))
+    (λ le. le-leb b (k + i) (omega arith) ∙ sym (le-leb a i le))
     (cases_lt i a)
 
 module _ (c : Config) (v : View) (l : Noted) (k t : ℕ) (s : Stands c v l) (set : IsOldestSet l k) (dead : (i : ℕ) (n : Note) → IsNoteAt l i n → i < k → IsDeadNote t n) where
@@ -53,21 +41,21 @@ module _ (c : Config) (v : View) (l : Noted) (k t : ℕ) (s : Stands c v l) (set
     oldest_first p u Free is uses = absurd uses
     oldest_first p u (Built b) is uses = absurd uses
     oldest_first p u (Freeing q r) is uses = absurd (s.none_freeing u q r is)
-    oldest_first p u (Live x st) is uses = let r = noted_in c v l k s set u x st is in let a = r.6 in let b : x.position ≡ p = uses in omega arith
+    oldest_first p u (Live x st) is uses = let r = noted_in c v l s u x st is in let a = r.position_is in let b : x.position ≡ p = uses in omega arith
 
     -- the first slot may be freed
     may_first : 0 < k → MayStoreFree c v (f + 0)
     may_first some =
         let few = set.few in
-        let head = noted_at c v l k s set 0 (omega arith) in
+        let head = noted_at c v l s 0 (omega arith) in
         let first : head.0.first ≡ f = set.inside 0 head.0 head.1 some in record {
           outside = outside;
           in_use = subst (λ (z : Slot). UsesPosition z (f + 0)) (sym head.2.lives) (s.log.notes.position 0 head.0 head.1);
           oldest = λ u p uses. oldest_first p u (slot_at v.ring u) refl uses;
           may_free = subst (MayFreeSlot v) (sym head.2.lives) (λ u y other is same.
-              let r = noted_in c v l k s set u y other is in
-              let own : r.1.first ≡ f = ap (λ (x : Version). x.first) (sym r.5) ∙ same ∙ first in
-              dead_by t v.grace (nat_le (held_from l) r.0) r.1 other known (dead r.0 r.1 r.3 (of_set c v l k t s set dead r.0 r.1 r.3 own)) r.7);
+              let r = noted_in c v l s u y other is in
+              let own : r.note.first ≡ f = ap (λ (x : Version). x.first) (sym r.version_is) ∙ same ∙ first in
+              dead_by t v.grace (nat_le (held_from l) r.index) r.note other known (dead r.index r.note r.at (of_set c v l k t s set dead r.index r.note r.at own)) r.as_noted);
         }
 
     module _ (w : View) (j : ℕ) (lt : j < k) (e : Freed c v w f k j) where
@@ -117,12 +105,12 @@ module _ (c : Config) (v : View) (l : Noted) (k t : ℕ) (s : Stands c v l) (set
     few_held =
         let few = set.few in
         let i : ℕ = k - 1 in
-        let a = noted_at c v l k s set i (omega arith) in
+        let a = noted_at c v l s i (omega arith) in
         let d = (dead i a.0 a.1 (omega arith)).0 in
         let some_held = s.log.held in
         ⊎_elim
         (λ lt. omega arith)
-        (λ le. let z = (held_status a.0 a.2.status (subst (λ (b : Bool). IsAsNoted b a.0 a.2.status) (le_true (held_from l) i le) a.2.as_noted)).2 in absurd (omega arith))
+        (λ le. let z = (held_at c v l s i a.0 a.1 le).2 in absurd (omega arith))
         (cases_lt i (held_from l))
 
     first_is : first_of m ≡ first_of l
@@ -193,7 +181,7 @@ module _ (c : Config) (v : View) (l : Noted) (k t : ℕ) (s : Stands c v l) (set
       still_lives i lt =
           let n_long = long in
           ⊎_elim
-          (λ a. let lt' = a.1 in let z = apart c v l k s set (k + i) a.0 (omega arith) (omega arith) a.2 in absurd (omega arith))
+          (λ a. let lt' = a.1 in let z = apart c v l s (k + i) a.0 (omega arith) (omega arith) a.2 in absurd (omega arith))
           (λ b. b.0)
           (e.each (at (k + i)))
 
@@ -244,11 +232,11 @@ module _ (c : Config) (v : View) (l : Noted) (k t : ℕ) (s : Stands c v l) (set
                 record { status = old.status; lives = ap (slot_at w.ring) place ∙ still_lives i lt ∙ old.lives; as_noted = subst (λ (b : Bool). IsAsNoted b n old.status) flag old.as_noted };
             all = λ u x st is.
                 let b = unchanged u (Live x st) is (λ g. absurd (cc)) in
-                let r = noted_in c v l k s set u x st b.0 in
+                let r = noted_in c v l s u x st b.0 in
                 let late = b.1 x st b.0 in
-                let p = r.6 in
-                let lt = r.2 in
-                (r.0 - k, (omega arith), r.4 ∙ ap (index_of c) (let a : l.freed + r.0 ≡ l.freed + k + (r.0 - k) = omega arith in a));
+                let p = r.position_is in
+                let lt = r.within in
+                (r.index - k, (omega arith), r.slot_is ∙ ap (index_of c) (let a : l.freed + r.index ≡ l.freed + k + (r.index - k) = omega arith in a));
             none_freeing = none_freeing;
             builds = λ u b is. s.builds u b (unchanged u (Built b) is (λ g. absurd (cc))).0;
             built = built_stays l.built s.built;

@@ -24,7 +24,8 @@ use Rattle.seat_log.specs.Notes.{Noted, held_from, IsNoteAt}
 use Rattle.seat_log.specs.Stands.{version_of, death_of, IsAsNoted, HasNoted, is_cut, is_free, is_won_cut, Stands}
 use Rattle.seat_log.specs.Frees.{IsDeadNote, IsOldestSet, slots_freed}
 use Rattle.seat_log.proofs.BuildsOn.{unpassed}
-use Rattle.seat_log.proofs.FreedSlots.{passed, is_going, count_at, freeing_in, freeing_out, spare_freeing, cuts_freeing, Freed, noted_at, apart, noted_in}
+use Rattle.seat_log.proofs.FreedSlots.{passed, is_going, count_at, freeing_in, freeing_out, spare_freeing, cuts_freeing, Freed}
+use Rattle.seat_log.proofs.NotedSlots.{noted_at, apart, noted_in}
 
 -- a noted time of death, by the status
 pub dead_by : (t g : ℕ) (b : Bool) (n : Note) (st : Status) → t ≤ g → IsDeadNote t n → IsAsNoted b n st → IsDeadBy g st
@@ -51,10 +52,10 @@ module _ (c : Config) (v : View) (l : Noted) (k t : ℕ) (s : Stands c v l) (set
   -- none of the set is held
   not_held : (x : Version) (u : ℕ) → slot_at v.ring u ≡ Live x Held → x.first ≢ f
   not_held x u is first =
-      let r = noted_in c v l k s set u x Held is in
-      let own : r.1.first ≡ f = ap (λ (y : Version). y.first) (sym r.5) ∙ first in
-      let d = (dead r.0 r.1 r.3 (of_set r.0 r.1 r.3 own)).0 in
-      let z = r.7.2 in absurd (omega arith)
+      let r = noted_in c v l s u x Held is in
+      let own : r.note.first ≡ f = ap (λ (y : Version). y.first) (sym r.version_is) ∙ first in
+      let d = (dead r.index r.note r.at (of_set r.index r.note r.at own)).0 in
+      let z = r.as_noted.2 in absurd (omega arith)
 
   held_freeing : (u : ℕ) (z : Slot) → slot_at v.ring u ≡ z → is_held (freeing_slot f z) ≡ is_held z
   held_freeing u Free is = refl
@@ -67,7 +68,7 @@ module _ (c : Config) (v : View) (l : Noted) (k t : ℕ) (s : Stands c v l) (set
   module _ (some : 0 < k) where
     -- the first version of the set
     abbrev head : (n : Note) × IsNoteAt l 0 n × HasNoted c v.ring (f + 0) (nat_le (held_from l) 0) n
-    head = noted_at c v l k s set 0 (let few = set.few in omega arith)
+    head = noted_at c v l s 0 (let few = set.few in omega arith)
 
     abbrev mid : Ring
     mid = record v.ring { slots = map (freeing_slot f) v.ring.slots }
@@ -84,7 +85,7 @@ module _ (c : Config) (v : View) (l : Noted) (k t : ℕ) (s : Stands c v l) (set
     mid_in : (i : ℕ) → i < k → slot_at mid (at i) ≡ Freeing (f + i) f
     mid_in i lt =
         let few = set.few in
-        let a = noted_at c v l k s set i (omega arith) in
+        let a = noted_at c v l s i (omega arith) in
         mid_is (at i) ∙ ap (freeing_slot f) a.2.lives ∙ freeing_in f (version_of a.0) a.2.status (set.inside i a.0 a.1 lt) ∙ ap (λ p. Freeing p f) (s.log.notes.position i a.0 a.1)
 
     within : at 0 < length mid.slots
@@ -101,16 +102,16 @@ module _ (c : Config) (v : View) (l : Noted) (k t : ℕ) (s : Stands c v l) (set
     first_each u (Built b) is = other_slot u (Built b) is refl (λ x st e. absurd (cc)) (λ e. let g : Built b ≡ Live (version_of head.0) head.2.status = sym is ∙ ap (slot_at v.ring) e ∙ here in absurd (cc))
     first_each u (Freeing p q) is = absurd (s.none_freeing u p q is)
     first_each u (Live x st) is =
-        let r = noted_in c v l k s set u x st is in
+        let r = noted_in c v l s u x st is in
         let few = set.few in
         ⊎_elim
-        (λ lt. inl (r.0, lt, r.4))
+        (λ lt. inl (r.index, lt, r.slot_is))
         (λ le.
-        let p = r.6 in
-        let ne : x.first ≢ f = λ e. set.outside r.0 r.1 r.3 le (ap (λ (y : Version). y.first) (sym r.5) ∙ e) in
+        let p = r.position_is in
+        let ne : x.first ≢ f = λ e. set.outside r.index r.note r.at le (ap (λ (y : Version). y.first) (sym r.version_is) ∙ e) in
         other_slot u (Live x st) is (freeing_out f x st ne) (λ y su e. let same : x ≡ y = (let g : Live x st ≡ Live y su = e in cc) in let q = ap (λ (z : Version). z.position) same in omega arith)
-        (λ e. let zero_is = apart c v l k s set r.0 0 r.2 (omega arith) (sym r.4 ∙ e) in omega arith))
-        (cases_lt r.0 k)
+        (λ e. let zero_is = apart c v l s r.index 0 r.within (omega arith) (sym r.slot_is ∙ e) in omega arith))
+        (cases_lt r.index k)
 
     -- the first store makes all of them slots that are being freed
     first_freed : Freed c v (free_stored c v (f + 0)) f k 1
@@ -130,7 +131,7 @@ module _ (c : Config) (v : View) (l : Noted) (k t : ℕ) (s : Stands c v l) (set
           frees = passed is_free v.trail _ refl;
           backs = unpassed is_won_cut v.trail _ refl;
           gone = λ i lt. let e : i ≡ 0 = omega arith in ap (λ j. slot_at first_ring (at j)) e ∙ slot_here mid (at 0) Free within;
-          going = λ i le lt. slot_else mid (at 0) (at i) Free (λ e. let z = apart c v l k s set i 0 (omega arith) (omega arith) e in omega arith) ∙ mid_in i lt;
+          going = λ i le lt. slot_else mid (at 0) (at i) Free (λ e. let z = apart c v l s i 0 (omega arith) (omega arith) e in omega arith) ∙ mid_in i lt;
           each = λ u. first_each u (slot_at v.ring u) refl;
         })
 
@@ -164,8 +165,8 @@ module _ (c : Config) (v : View) (l : Noted) (k t : ℕ) (s : Stands c v l) (set
           gone = λ i b.
               dite (ℕ_discrete i j)
               (λ same. ap (λ n. slot_at next_ring (at n)) same ∙ slot_here w.ring (at j) Free next_within)
-              (λ ne. slot_else w.ring (at j) (at i) Free (λ g. let z = apart c v l k s set i j (omega arith) (omega arith) g in ne z) ∙ e.gone i (omega arith));
-          going = λ i le b. slot_else w.ring (at j) (at i) Free (λ g. let z = apart c v l k s set i j (omega arith) (omega arith) g in omega arith) ∙ e.going i (omega arith) b;
+              (λ ne. slot_else w.ring (at j) (at i) Free (λ g. let z = apart c v l s i j (omega arith) (omega arith) g in ne z) ∙ e.gone i (omega arith));
+          going = λ i le b. slot_else w.ring (at j) (at i) Free (λ g. let z = apart c v l s i j (omega arith) (omega arith) g in omega arith) ∙ e.going i (omega arith) b;
           each = λ u.
               dite (ℕ_discrete u (at j))
               (λ same. inl (j, lt, same))

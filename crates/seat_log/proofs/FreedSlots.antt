@@ -18,7 +18,6 @@ use Rattle.seat_log.specs.declared.version.Note.{Note}
 use Rattle.seat_log.specs.Notes.{Noted, held_from, IsNoteAt}
 use Rattle.seat_log.specs.Stands.{version_of, IsAsNoted, HasNoted, is_cut, cut_count, is_free, is_won_cut, Stands}
 use Rattle.seat_log.specs.Frees.{IsOldestSet}
-use Rattle.seat_log.proofs.Rebuilding.{note_there}
 
 -- a step that passes a test
 pub passed : (test : Step → Bool) (steps : List Step) (s : Step) → test s ≡ true → count_by test (steps ++ s ∷ []) ≡ count_by test steps + 1
@@ -108,26 +107,3 @@ pub record Freed (c : Config) (v w : View) (f k j : ℕ) : Type 0 where
   pub gone : (i : ℕ) → i < j → slot_at w.ring (index_of c (f + i)) ≡ Free
   pub going : (i : ℕ) → j ≤ i → i < k → slot_at w.ring (index_of c (f + i)) ≡ Freeing (f + i) f
   pub each : (t : ℕ) → ((i : ℕ) × (i < k) × (t ≡ index_of c (f + i))) ⊎ ((slot_at w.ring t ≡ slot_at v.ring t) × ((x : Version) (st : Status) → slot_at v.ring t ≡ Live x st → f + k ≤ x.position))
-
-module _ (c : Config) (v : View) (l : Noted) (k : ℕ) (s : Stands c v l) (set : IsOldestSet l k) where
-  -- a live version, as it is noted
-  pub noted_at : (i : ℕ) → i < length l.live → (n : Note) × IsNoteAt l i n × HasNoted c v.ring (l.freed + i) (nat_le (held_from l) i) n
-  noted_at i lt = let r = note_there l.live i lt in (r.0, r.1, s.live i r.0 r.1)
-
-  -- live versions have slots of their own
-  pub apart : (i j : ℕ) → i < length l.live → j < length l.live → index_of c (l.freed + i) ≡ index_of c (l.freed + j) → i ≡ j
-  apart i j lt lt' e =
-      let a = noted_at i lt in
-      let b = noted_at j lt' in
-      let one = live_once (slot_at v.ring (index_of c (l.freed + i))) (version_of a.0) (version_of b.0) a.2.status b.2.status a.2.lives (ap (slot_at v.ring) e ∙ b.2.lives) in
-      let same : a.0.position ≡ b.0.position = ap (λ (x : Version). x.position) one.0 in
-      let p = s.log.notes.position i a.0 a.1 in
-      let q = s.log.notes.position j b.0 b.1 in omega arith
-
-  -- what is in a slot that has a version: one of those noted
-  pub noted_in : (t : ℕ) (x : Version) (st : Status) → slot_at v.ring t ≡ Live x st → (i : ℕ) × (n : Note) × (i < length l.live) × IsNoteAt l i n × (t ≡ index_of c (l.freed + i)) × (x ≡ version_of n) × (x.position ≡ l.freed + i) × IsAsNoted (nat_le (held_from l) i) n st
-  noted_in t x st is =
-      let r = s.all t x st is in
-      let a = noted_at r.0 r.1 in
-      let one = live_once (slot_at v.ring t) x (version_of a.0) st a.2.status is (ap (slot_at v.ring) r.2 ∙ a.2.lives) in
-      (r.0, a.0, r.1, a.1, r.2, one.0, ap (λ (y : Version). y.position) one.0 ∙ s.log.notes.position r.0 a.0 a.1, subst (IsAsNoted (nat_le (held_from l) r.0) a.0) (sym one.1) a.2.as_noted)

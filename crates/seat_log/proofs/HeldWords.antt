@@ -20,16 +20,8 @@ use Rattle.seat_log.specs.Builds.{IsOpen, version_in, version_at, word_stored}
 use Rattle.seat_log.proofs.Places.{length-at_place, at_before, get_within}
 use Rattle.seat_log.proofs.Noting.{renoted_is_log}
 use Rattle.seat_log.proofs.BuildsOn.{unpassed}
-use Rattle.seat_log.proofs.Standing.{mod_apart, le_or_gt}
+use Rattle.seat_log.proofs.NotedSlots.{places_apart}
 use Rattle.seat_log.proofs.Rebuilding.{held_note}
-
--- two places of the ring that are less than its slots apart differ
-pub places_apart : (c : Config) (a i j : ℕ) → i < c.slots → j < c.slots → index_of c (a + i) ≡ index_of c (a + j) → i ≡ j
-places_apart c a i j low high e =
-    ⊎_elim
-    (λ le. ⊎_elim (λ ge. omega arith) (λ lt. absurd (mod_apart (a + j) (a + i) c.slots (omega arith) (omega arith) (sym e))) (le_or_gt i j))
-    (λ gt. absurd (mod_apart (a + i) (a + j) c.slots (omega arith) (omega arith) e))
-    (le_or_gt j i)
 
 module _ (c : Config) (v : View) (l : Noted) (position word value : ℕ) (k : Stands c v l) (held : IsHeld l position) where
   abbrev at : ℕ

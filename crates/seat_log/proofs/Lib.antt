@@ -2,6 +2,8 @@ pub mod Places
 pub mod Noting
 pub mod MayBuild
 pub mod BuildsOn
+pub mod NotedSlots
+pub mod SlotCounts
 pub mod Standing
 pub mod Rebuilding
 pub mod HeldWords

@@ -1,5 +1,5 @@
 -- The notes from a place on, and one note, as loops and stores change them.
-use Rattle.std.proofs.Common.{◌≡◌, ◌≢◌, ◌⊎◌, ℕ, zero, suc, ◌+◌, ◌<◌, ◌≤◌, List, [], ◌∷◌, ◌++◌, length, refl, sym, ap, ◌∙◌, inl, inr, ⊎_elim, arith, Some, slice_get, slice_index_or}
+use Rattle.std.proofs.Common.{◌≡◌, ◌≢◌, ◌⊎◌, ℕ, zero, suc, ◌+◌, ◌-◌, ◌<◌, ◌≤◌, List, [], ◌∷◌, ◌++◌, length, drop, refl, sym, ap, ◌∙◌, inl, inr, ⊎_elim, arith, Some, slice_get, slice_index_or}
 use Rattle.std.specs.Prelude.{slice_set}
 use Rattle.std.proofs.lemmas.List.{length-map, length-set}
 use Rattle.seat_log.specs.declared.version.Note.{Note}
@@ -69,6 +69,16 @@ pub get_within : (ns : List Note) (i : ℕ) (m : Note) → slice_get ns i ≡ So
 get_within [] i m e = absurd (cc)
 get_within (n ∷ ns) zero m e = omega arith
 get_within (n ∷ ns) (suc i) m e = let lt = get_within ns i m e in omega arith
+
+-- the note at a place of what is left
+pub get_dropped : (k i : ℕ) (ns : List Note) → slice_get (drop k ns) i ≡ slice_get ns (k + i)
+get_dropped zero i ns = ap (slice_get ns) (let e : i ≡ 0 + i = omega arith in e)
+get_dropped (suc k) i [] = ap (slice_get []) (let e : suc (k + i) ≡ suc k + i = omega arith in e)
+get_dropped (suc k) i (n ∷ ns) = get_dropped k i ns ∙ ap (slice_get (n ∷ ns)) (let e : suc (k + i) ≡ suc k + i = omega arith in e)
+
+-- so a note from k on is one of what is left
+pub get_left : (k i : ℕ) (ns : List Note) (n : Note) → k ≤ i → slice_get ns i ≡ Some n → slice_get (drop k ns) (i - k) ≡ Some n
+get_left k i ns n le e = get_dropped k (i - k) ns ∙ ap (slice_get ns) (let place : k + (i - k) ≡ i = omega arith in place) ∙ e
 
 -- a loop that sets f of each note from a place on: what it has to do still from i on comes to what it is to do in all
 pub record GoesFrom (f : Note → Note) (from : ℕ) (before : List Note) (i : ℕ) (ns : List Note) : Type 0 where

@@ -1,20 +1,20 @@
 -- The log stands for the pass after a word of the built version was stored again, and after one of a held version was.
-use Rattle.std.proofs.Common.{◌≡◌, ℕ, zero, suc, ◌+◌, ◌-◌, ◌<◌, ◌≤◌, nat_le, true, false, List, [], ◌∷◌, length, map, refl, sym, ap, ◌∙◌, subst, arith, Option, Some, slice_get}
+use Rattle.std.proofs.Common.{◌≡◌, ℕ, zero, suc, ◌+◌, ◌-◌, ◌<◌, ◌≤◌, List, [], ◌∷◌, length, map, refl, sym, ap, ◌∙◌, subst, arith, Option, Some, slice_get}
 use Rattle.std.specs.Prelude.{slice_set, unwrap_or}
 use Rattle.std.proofs.lemmas.List.{length-map, length-set}
 use Rattle.mv_layout.specs.declared.Config.{Config}
 use Rattle.mv_core.specs.declared.ring.Slot.TheVariants.{Live}
 use Rattle.mv_core.specs.declared.ring.Build.{Build}
-use Rattle.mv_core.specs.declared.ring.Status.{Status}
-use Rattle.mv_core.specs.declared.ring.Status.TheVariants.{Held, Aborted, Committed}
+use Rattle.mv_core.specs.declared.ring.Status.TheVariants.{Held}
 use Rattle.mv_core.specs.declared.view.View.{View}
 use Rattle.mv_core.specs.Rings.{slot_at, index_of}
 use Rattle.mv_core.specs.LockSteps.{nothing_built, build_in, built_too}
 use Rattle.seat_log.specs.declared.version.Note.{Note}
-use Rattle.seat_log.specs.Notes.{Noted, held_from, built_count, IsNoteAt, IsNextOf, IsHeld, with_word, without_previous, cleared, built_word, built_word_noted}
-use Rattle.seat_log.specs.Stands.{version_of, IsAsNoted, IsWhole, HasBuilt, Stands}
+use Rattle.seat_log.specs.Notes.{Noted, built_count, IsNoteAt, IsNextOf, IsHeld, with_word, without_previous, cleared, built_word, built_word_noted}
+use Rattle.seat_log.specs.Stands.{version_of, IsWhole, HasBuilt, Stands}
 use Rattle.seat_log.specs.Builds.{IsOpen, build_at, stored_next}
 use Rattle.seat_log.proofs.BuildsOn.{BuildsOn, builds_first}
+use Rattle.seat_log.proofs.NotedSlots.{note_there, held_at}
 use Rattle.seat_log.proofs.Standing.{may_build, stands_on, built_is_log, built_next}
 
 module _ (c : Config) (v w : View) (l : Noted) (n : Note) (position field x : ℕ) (k : Stands c v l) (built : l.built ≡ Some n) (at : n.position ≡ position) (open_is : IsOpen v) (is : w ≡ stored_next c v position field x) where
@@ -72,31 +72,14 @@ stands_built_word c v w l n position word value k built at open_is is =
     }))
     next)
 
--- there is a note at each place of a list
-pub note_there : (ns : List Note) (i : ℕ) → i < length ns → (n : Note) × (slice_get ns i ≡ Some n)
-note_there [] i lt = absurd (omega arith)
-note_there (n ∷ ns) zero lt = (n, refl)
-note_there (n ∷ ns) (suc i) lt = note_there ns i (omega arith)
-
--- what is noted as held is held
-pub held_status : (n : Note) (st : Status) → IsAsNoted true n st → (st ≡ Held) × (n.time ≡ 0) × (n.dead ≡ 0)
-held_status n Held a = (refl, a.1, a.2)
-held_status n (Aborted d) a = let e : true ≡ false = a.0 in absurd (cc)
-held_status n (Committed note) a = let e : true ≡ false = a.0 in absurd (cc)
-
-le_true : (a b : ℕ) → a ≤ b → nat_le a b ≡ true
-le_true a b le = grind arith
-
 -- the note of a held version, and its slot
-pub held_note : (c : Config) (v : View) (l : Noted) (position : ℕ) → Stands c v l → IsHeld l position → (n : Note) × IsNoteAt l (position - l.freed) n × (slot_at v.ring (index_of c position) ≡ Live (version_of n) Held)
+pub held_note : (c : Config) (v : View) (l : Noted) (position : ℕ) → Stands c v l → IsHeld l position
+    → (n : Note) × IsNoteAt l (position - l.freed) n × (slot_at v.ring (index_of c position) ≡ Live (version_of n) Held)
 held_note c v l position k held =
     let few = k.log.held in
     let low = held.0 in
     let high = held.1 in
     let i : ℕ = position - l.freed in
     let r = note_there l.live i (omega arith) in
-    let a = k.live i r.0 r.1 in
-    let flag : nat_le (held_from l) i ≡ true = le_true (held_from l) i (omega arith) in
-    let s = held_status r.0 a.status (subst (λ b. IsAsNoted b r.0 a.status) flag a.as_noted) in
     let at : l.freed + i ≡ position = omega arith in
-    (r.0, r.1, ap (λ p. slot_at v.ring (index_of c p)) (sym at) ∙ a.lives ∙ ap (Live (version_of r.0)) s.0)
+    (r.0, r.1, ap (λ p. slot_at v.ring (index_of c p)) (sym at) ∙ (held_at c v l k i r.0 r.1 (omega arith)).0)

@@ -3,37 +3,24 @@ use Rattle.std.proofs.Common.{ℕ, eqb, ◌+◌, ◌^◌, ◌<◌, ◌≤◌, Bo
 use Rattle.std.proofs.Math.Logic.{∥∥₁_elim}
 use Rattle.std.proofs.Math.Bridge.{le_prop}
 use Rattle.mv_history.specs.declared.Entry.{Entry}
-use Rattle.mv_history.specs.declared.Entry.TheVariants.{Rest, Change}
-use Rattle.mv_history.specs.State.{State, Writes, rests_of}
+use Rattle.mv_history.specs.State.{State, Writes}
 use Rattle.mv_layout.specs.declared.Config.{Config}
 use Rattle.mv_core.specs.declared.view.View.{View}
 use Rattle.mv_core.specs.Known.{Known}
 use Rattle.mv_core.specs.NameSteps.{rest_named, rest_lost}
+use Rattle.mv_core.proofs.OwnEntries.{own_seen}
 use Rattle.seat_log.specs.Notes.{Noted, rest_noted}
 use Rattle.seat_log.specs.Stands.{is_free, is_won_cut, Stands}
 use Rattle.seat_log.proofs.BuildsOn.{unpassed}
 use Rattle.seat_log.proofs.Noting.{counted_is_log}
 use Rattle.seat_log.proofs.Stays.{stands_same}
 
--- a seat makes no more rests than there are entries
-few_rests : (seat : ℕ) (es : List Entry) → rests_of seat es ≤ length es
-few_rests seat [] = omega arith
-few_rests seat (Rest by ∷ es) = let rest = few_rests seat es in let first = one (eqb by seat) in let sum : (if eqb by seat then 1 else 0) + rests_of seat es ≤ length es + 1 = omega arith in omega arith
-  where
-    one : (b : Bool) → (if b then 1 else 0) ≤ 1
-    one true = omega arith
-    one false = omega arith
-few_rests seat (Change c ∷ es) = let rest = few_rests seat es in omega arith
-
 -- one more rest may be counted: what was seen has fewer entries
 pub rests_room : (starts : State → Type 0) (allows : List ℕ → State → Writes → Type 0) (c : Config) (v : View) (l : Noted) → Stands c v l → ∥ Known starts allows v ∥₁ → l.rests + 1 < 2 ^ 63
 rests_room starts allows c v l k known =
-    let few : l.rests ≤ 35184372088831 = ∥∥₁_elim known le_prop (λ a.
-    let mine = few_rests v.number v.past.seen in
+    let own = own_seen starts allows v known in
     let rests = k.rests in
-    let known_rests = a.rests in
-    let long = a.in_time in
-    omega arith) in
+    let few : length v.past.seen ≤ 35184372088831 = ∥∥₁_elim known le_prop (λ a. let long = a.in_time in omega arith) in
     omega arith
 
 -- the log stands for the pass after a rest, with one more

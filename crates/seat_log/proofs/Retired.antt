@@ -24,7 +24,7 @@ use Rattle.seat_log.specs.Stands.{version_of, death_of, IsAsNoted, HasNoted, Has
 use Rattle.seat_log.proofs.Places.{length-at_place, at_before, get_within}
 use Rattle.seat_log.proofs.Noting.{renoted_is_log, counted_is_log}
 use Rattle.seat_log.proofs.BuildsOn.{unpassed}
-use Rattle.seat_log.proofs.HeldWords.{places_apart}
+use Rattle.seat_log.proofs.NotedSlots.{places_apart}
 use Rattle.seat_log.proofs.Stays.{stands_same}
 
 -- what is noted with a time is committed

@@ -1,11 +1,9 @@
 -- The log stands for the pass: in a new domain, and after a version was built or given up.
-use Rattle.std.proofs.Common.{◌≡◌, ◌≢◌, ◌⊎◌, ℕ, zero, suc, ◌+◌, ◌*◌, ◌/◌, ◌%◌, ◌^◌, ◌<◌, ◌≤◌, Bool, List, length, refl, sym, ap, ◌∙◌, subst, inl, inr, ⊎_elim, arith, mod-lt, Option, Some, None}
+use Rattle.std.proofs.Common.{◌≡◌, ◌≢◌, ℕ, ◌+◌, ◌^◌, ◌<◌, ◌≤◌, Bool, List, length, refl, sym, ap, ◌∙◌, subst, inl, arith, mod-lt, Option, Some, None}
 use Rattle.std.specs.Prelude.{IfSome, unwrap_or}
 use Rattle.std.proofs.lemmas.List.{length-map}
-use Rattle.std.proofs.Math.Nat.{div-add-mod, mul-suc}
 use mathlib.Core.Logic.{dite}
 use native.Mathlib.Decide.{ℕ_discrete}
-use Rattle.std.proofs.Common.{mul-le-mul}
 use Rattle.mv_layout.specs.declared.Config.{Config}
 use Rattle.mv_core.specs.declared.ring.Slot.{Slot}
 use Rattle.mv_core.specs.declared.ring.Slot.TheVariants.{Free, Built, Live, Freeing}
@@ -13,33 +11,13 @@ use Rattle.mv_core.specs.declared.ring.Build.{Build}
 use Rattle.mv_core.specs.declared.view.View.{View}
 use Rattle.mv_core.specs.Rings.{slot_at, index_of, is_held, is_spare}
 use Rattle.mv_core.specs.LockSteps.{nothing_built, build_in}
+use Rattle.mv_core.proofs.HeldSet.{slots_apart}
 use Rattle.seat_log.specs.declared.version.Note.{Note}
 use Rattle.seat_log.specs.Notes.{Noted, next_of, first_of, built_count, IsNoteAt, IsNextOf, IsLog, next_note, built_noted, dropped}
 use Rattle.seat_log.specs.Stands.{version_of, HasBuilt, is_cut, writes_in, Stands}
 use Rattle.seat_log.specs.Builds.{IsOpen, build_at, slot_built, MayBuild}
 use Rattle.seat_log.proofs.Noting.{SameSets, noted_again}
 use Rattle.seat_log.proofs.BuildsOn.{BuildsOn, slot_whole}
-
-pub le_or_gt : (y x : ℕ) → (y ≤ x) ⊎ (suc x ≤ y)
-le_or_gt zero x = inl (omega arith)
-le_or_gt (suc y) zero = inr (omega arith)
-le_or_gt (suc y) (suc x) = ⊎_elim (λ a. inl (omega arith)) (λ b. inr (omega arith)) (le_or_gt y x)
-
--- two numbers that are less than n apart have different remainders by it
-pub mod_apart : (a b n : ℕ) → a < b → b < a + n → a % n ≢ b % n
-mod_apart a b n lt near e =
-    let p = div-add-mod a n in
-    let q = div-add-mod b n in
-    by_order (a / n) (b / n) refl refl
-  where
-    by_order : (x y : ℕ) → a / n ≡ x → b / n ≡ y → ⊥
-    by_order x y at_a at_b =
-        let p : n * x + a % n ≡ a = ap (λ z. n * z + a % n) (sym at_a) ∙ div-add-mod a n in
-        let q : n * y + b % n ≡ b = ap (λ z. n * z + b % n) (sym at_b) ∙ div-add-mod b n in
-        ⊎_elim
-        (λ le. let m : n * y ≤ n * x = mul-le-mul (let r : n ≤ n = omega arith in r) le in omega arith)
-        (λ gt. let m : n * suc x ≤ n * y = mul-le-mul (let r : n ≤ n = omega arith in r) gt in let s = mul-suc n x in omega arith)
-        (le_or_gt y x)
 
 -- the notes are of themselves
 same_self : (ns : List Note) → SameSets ns ns
@@ -59,7 +37,7 @@ module _ (c : Config) (v : View) (l : Noted) (k : Stands c v l) where
           let low = r.1 in
           let slots = k.slots in
           let next : v.ring.next ≡ l.freed + length l.live = k.next in
-          absurd (mod_apart (l.freed + r.0) v.ring.next c.slots (omega arith) (omega arith) (sym at))
+          absurd (slots_apart c.slots (l.freed + r.0) v.ring.next (omega arith) (omega arith) (sym at))
       go (Freeing p f) e = absurd (k.none_freeing (index_of c v.ring.next) p f e)
 
   pub may_build : (position : ℕ) → position ≡ v.ring.next → IsOpen v → length l.live < l.slots → MayBuild c v position

@@ -1,5 +1,5 @@
 -- The log stands for the pass: in a new domain, after steps that leave the own log alone, after a won lock, and after a commit or an abort.
-use Rattle.std.proofs.Common.{◌≡◌, ◌≢◌, ℕ, ◌+◌, ◌<◌, ◌≤◌, nat_le, true, count_by, [], ◌∷◌, ◌++◌, length, refl, sym, ap, ◌∙◌, subst, ⊎_elim, arith, length-append, Some, slice_get}
+use Rattle.std.proofs.Common.{◌≡◌, ◌≢◌, ℕ, ◌+◌, ◌<◌, ◌≤◌, nat_le, true, count_by, [], ◌∷◌, ◌++◌, length, refl, sym, ap, ◌∙◌, subst, ⊎_elim, arith, le-leb, length-append, Some, slice_get}
 use Rattle.std.proofs.lemmas.List.{length-set}
 use mathlib.Core.Logic.{dite}
 use native.Mathlib.Decide.{ℕ_discrete}
@@ -49,9 +49,6 @@ stands_same c v w l number ring mine rests frees backs k = record {
   all_used = λ none. k.all_used none ∙ ap (λ cs. writes_in cs + l.held) (sym mine);
 }
 
-le_true : (a b : ℕ) → a ≤ b → nat_le a b ≡ true
-le_true a b le = grind arith
-
 -- after a won lock of the built version, with what it was built with
 module _ (c : Config) (v : View) (l : Noted) (n : Note) (inside : Section) (k : Stands c v l) (built : l.built ≡ Some n) (words : n.words ≡ words_of c v.start v.past.seen (time_in inside) n.object) where
   abbrev s : ℕ
@@ -99,7 +96,7 @@ module _ (c : Config) (v : View) (l : Noted) (n : Note) (inside : Section) (k : 
             record { status = h.status; lives = slot_else v.ring s (index_of c (l.freed + i)) z ne ∙ h.lives; as_noted = subst (λ j. IsAsNoted (nat_le j i) m h.status) (sym from) h.as_noted })
             (λ b.
             let there : l.freed + i ≡ n.position = ap (λ j. l.freed + j) b.0 ∙ sym is.0 in
-            let flag : nat_le (held_from (held_noted l)) i ≡ true = le_true (held_from (held_noted l)) i (let q = b.0 in omega arith) in
+            let flag : nat_le (held_from (held_noted l)) i ≡ true = le-leb (held_from (held_noted l)) i (let q = b.0 in omega arith) in
             record {
               status = Held;
               lives = ap (λ p. slot_at (put_slot v.ring (index_of c n.position) z) (index_of c p)) there ∙ slot_here v.ring s z within ∙ z_is ∙ ap (λ (x : Note). Live (version_of x) Held) (sym b.1);

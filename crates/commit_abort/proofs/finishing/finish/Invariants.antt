@@ -1,9 +1,9 @@
 use Rattle.mv_core.specs.Passes.{view}
-use Rattle.commit_abort.specs.Finishes.{section_in, first_named}
+use Rattle.commit_abort.specs.Finishes.{section_in, named_in}
 use Rattle.commit_abort.proofs.finishing.finish.Given as goal
 
 abbrev pub ghost-stamp_own : goal.ghost-stamp_own
 ghost-stamp_own g a = section_in (view a.pass.now)
 
 abbrev pub ghost-tell_below : goal.ghost-tell_below
-ghost-tell_below g a = (section_in (view a.pass.now), first_named (view a.pass.now))
+ghost-tell_below g a = named_in (view a.pass.now)

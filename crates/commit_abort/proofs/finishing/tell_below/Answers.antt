@@ -1,7 +1,8 @@
 use Rattle.std.proofs.Common.{rules, ◌≤◌, arith}
 use Rattle.mv_core.specs.Passes.{view, config_of}
 use Rattle.seat_log.specs.Notes.{held_from}
-use Rattle.commit_abort.proofs.Telling.{note_there, may_tell, tells_more}
+use Rattle.seat_log.proofs.NotedSlots.{note_there}
+use Rattle.commit_abort.proofs.Telling.{may_tell, tells_more}
 use Rattle.commit_abort.proofs.finishing.tell_below.Goals as goal
 
 pub overflow_step-index : goal.overflow_step-index
@@ -20,7 +21,7 @@ tell_one-requires g c κs within =
           search rules,
           (
             search rules,
-            λ n at. may_tell (config_of c.args.shared.now) (view c.args.pass.now) c.args.log.now c.args.time c.requires.1.1.1.1 (view c.loop-index.pass) c.loop-index.index n at from c.loop-index.invariant.tells g.at.0 g.at.1 c.requires.1.1.1.0,
+            λ n at. may_tell (config_of c.args.shared.now) (view c.args.pass.now) c.args.log.now c.args.time c.requires.1.1.1.1 (view c.loop-index.pass) c.loop-index.index n at from c.loop-index.invariant.tells g.at.inside g.at.first c.requires.1.1.1.0,
           ),
         ),
       ),
@@ -33,7 +34,7 @@ loop-index-preserved g c =
     let low = c.loop-index.auto.index in
     let lt = c.loop-index-test.true in
     let from : held_from c.args.log.now ≤ c.loop-index.index = omega arith in
-    let n = note_there c.args.log.now c.loop-index.index (omega arith) in
+    let n = note_there c.args.log.now.live c.loop-index.index (omega arith) in
     let more = tells_more (config_of c.args.shared.now) (view c.args.pass.now) c.args.log.now c.args.time c.requires.1.1.1.1 (view c.loop-index.pass) c.loop-index.index n.0 n.1 from c.loop-index.invariant.tells (view c.tell_one.new.pass) _ _ (c.tell_one.ensures.tells n.0 n.1) in
     let one = more.1 in
     let cost = c.loop-index.invariant.cost in

@@ -1,9 +1,9 @@
 use Rattle.mv_core.specs.Passes.{view}
-use Rattle.commit_abort.specs.Finishes.{section_in, first_named}
+use Rattle.commit_abort.specs.Finishes.{section_in, named_in}
 use Rattle.runtime_tests.proofs.stops.first_of_finish.Given as goal
 
 abbrev pub ghost-stamp_own : goal.ghost-stamp_own
 ghost-stamp_own g a = section_in (view a.pass.now)
 
 abbrev pub ghost-tell_first : goal.ghost-tell_first
-ghost-tell_first g a = (section_in (view a.pass.now), first_named (view a.pass.now))
+ghost-tell_first g a = named_in (view a.pass.now)

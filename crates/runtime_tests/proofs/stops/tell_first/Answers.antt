@@ -1,7 +1,8 @@
 use Rattle.std.proofs.Common.{rules, ◌≤◌, arith}
 use Rattle.mv_core.specs.Passes.{view, config_of}
 use Rattle.seat_log.specs.Notes.{held_from}
-use Rattle.commit_abort.proofs.Telling.{note_there, may_tell, tells_more}
+use Rattle.seat_log.proofs.NotedSlots.{note_there}
+use Rattle.commit_abort.proofs.Telling.{may_tell, tells_more}
 use Rattle.runtime_tests.proofs.stops.tell_first.Goals as goal
 
 pub tell_one-requires : goal.tell_one-requires
@@ -10,7 +11,7 @@ tell_one-requires g c κs within =
     let all = c.live.ensures in
     let low = c.loop-index.auto.index in
     let from : held_from c.args.log.now ≤ c.loop-index.index = omega arith in
-    (search rules, (search rules, (search rules, λ n at. may_tell (config_of c.args.shared.now) (view c.args.pass.now) c.args.log.now c.args.time c.requires.1.1.1.0 (view c.loop-index.pass) c.loop-index.index n at from c.loop-index.invariant.tells g.at.0 g.at.1 c.requires.1.1.0)))
+    (search rules, (search rules, (search rules, λ n at. may_tell (config_of c.args.shared.now) (view c.args.pass.now) c.args.log.now c.args.time c.requires.1.1.1.0 (view c.loop-index.pass) c.loop-index.index n at from c.loop-index.invariant.tells g.at.inside g.at.first c.requires.1.1.0)))
 
 pub loop-index-preserved : goal.loop-index-preserved
 loop-index-preserved g c =
@@ -19,6 +20,6 @@ loop-index-preserved g c =
     let low = c.loop-index.auto.index in
     let lt = c.loop-index-test.true in
     let from : held_from c.args.log.now ≤ c.loop-index.index = omega arith in
-    let n = note_there c.args.log.now c.loop-index.index (omega arith) in
+    let n = note_there c.args.log.now.live c.loop-index.index (omega arith) in
     let more = tells_more (config_of c.args.shared.now) (view c.args.pass.now) c.args.log.now c.args.time c.requires.1.1.1.0 (view c.loop-index.pass) c.loop-index.index n.0 n.1 from c.loop-index.invariant.tells (view c.tell_one.new.pass) _ _ (c.tell_one.ensures.tells n.0 n.1) in
     record { of = search rules; same = search rules; tells = more.0 }

@@ -2,7 +2,7 @@ use Rattle.std.proofs.Common.{rules, ◌≡◌, ◌≤◌, length, arith, sym, a
 use Rattle.mv_layout.specs.declared.Config.{Config}
 use Rattle.mv_core.specs.Passes.{view, config_of}
 use Rattle.seat_log.specs.Notes.{held_from}
-use Rattle.commit_abort.proofs.Telling.{note_there}
+use Rattle.seat_log.proofs.NotedSlots.{note_there}
 use Rattle.commit_abort.proofs.Unlocking.{may_give, unlocks_more}
 use Rattle.runtime_tests.proofs.stops.unlock_first.Goals as goal
 
@@ -22,7 +22,7 @@ loop-index-preserved g c =
     let low = c.loop-index.auto.index in
     let lt = c.loop-index-test.true in
     let from : held_from c.args.log.now ≤ c.loop-index.index = omega arith in
-    let n = note_there c.args.log.now c.loop-index.index (omega arith) in
+    let n = note_there c.args.log.now.live c.loop-index.index (omega arith) in
     record {
       of = search rules;
       same = search rules;

@@ -1,0 +1,27 @@
+-- How many slots of two logs pass a test that each slot of the one passes where that of the other does.
+use Rattle.std.proofs.Common.{◌≡◌, ◌≢◌, ℕ, suc, ◌+◌, Bool, false, count_by, List, [], ◌∷◌, length, refl, sym, ap, ◌∙◌, arith, slice_index_or}
+use Rattle.std.proofs.lemmas.List.Sums.{sum_by-cons}
+use Rattle.mv_core.specs.declared.ring.Slot.{Slot}
+use Rattle.mv_core.specs.declared.ring.Slot.TheVariants.{Free, Built, Live, Freeing}
+use Rattle.mv_core.specs.declared.ring.Version.{Version}
+use Rattle.mv_core.specs.declared.ring.Status.{Status}
+use Rattle.mv_core.specs.Rings.{is_held}
+use Rattle.mv_core.proofs.Counts.{one_if}
+
+-- as many pass it
+pub count_alike : (p : Slot → Bool) (xs ys : List Slot) → length xs ≡ length ys
+    → ((k : ℕ) → p (slice_index_or xs k Free) ≡ p (slice_index_or ys k Free)) → count_by p xs ≡ count_by p ys
+count_alike p [] [] long same = refl
+count_alike p (x ∷ xs) [] long same = absurd (omega arith)
+count_alike p [] (y ∷ ys) long same = absurd (omega arith)
+count_alike p (x ∷ xs) (y ∷ ys) long same =
+    sum_by-cons (λ z. one_if (p z)) x xs
+    ∙ (λ i. one_if (same 0 i) + count_alike p xs ys (omega arith) (λ k. same (suc k)) i)
+    ∙ sym (sum_by-cons (λ z. one_if (p z)) y ys)
+
+-- a slot without a version holds nothing
+pub unlived : (z : Slot) → ((x : Version) (st : Status) → z ≢ Live x st) → is_held z ≡ false
+unlived Free none = refl
+unlived (Built b) none = refl
+unlived (Freeing p q) none = refl
+unlived (Live x st) none = absurd (none x st refl)

@@ -26,7 +26,7 @@ use Rattle.mv_core.specs.LockSteps.{nothing_built, build_in}
 use Rattle.mv_core.specs.Rule.{Facts}
 use Rattle.mv_core.proofs.Frames.{unchanged, changed}
 use Rattle.mv_core.proofs.Slots.{Matches, match_weaker, match_unlived, slots_after, wide_after, next_after, here_or_else}
-use Rattle.mv_core.proofs.Matching.{AlikeOrCut}
+use Rattle.mv_core.proofs.Matching.{LivesOn}
 use Rattle.mv_core.proofs.Cuts.{Steady, steady_self}
 use Rattle.mv_core.proofs.MatchedFacts.{steady_facts}
 use Rattle.mv_core.proofs.MatchedSets as set
@@ -113,8 +113,8 @@ module _ (starts : State → Type 0) (allows : List ℕ → State → Writes →
     steady : Matches Steady f.ring rings
     steady = match_unlived Steady steady_self f.ring n slot (Built new) built refl within refl not_live (λ y st e. absurd (cc))
 
-    or_cut : Matches AlikeOrCut f.ring rings
-    or_cut = match_weaker Steady AlikeOrCut f.ring rings (λ x st y su a. a.0.0.0) steady
+    on : Matches LivesOn f.ring rings
+    on = match_weaker Steady LivesOn f.ring rings (λ x st y su a. a.0.0.0.0) steady
 
     -- a live version is in another slot
     other_slot : (s j : ℕ) (x : Version) (st : Status) → Lives f.ring s j x st → ¬ ((s ≡ n) × (j ≡ slot))
@@ -202,13 +202,13 @@ module _ (starts : State → Type 0) (allows : List ℕ → State → Writes →
     -- all facts after the store
     pub built_facts : Facts starts allows c start (of_parts (m Clock) (m Grace) (λ s. m (Mark s)) (λ o. m (Head o)) (λ o w. m (Master o w)) first stamp prev super data_word) h (changed f n (record unchanged { ring = Some built }))
     built_facts =
-        let stamps = stamped.stamps_match c h f.ring rings or_cut (λ s j. m (Stamp s j)) stamp same_stamp (m Clock) stamps_built k.stamps in
+        let stamps = stamped.stamps_match c h f.ring rings on (λ s j. m (Stamp s j)) stamp same_stamp (m Clock) stamps_built k.stamps in
         let helped_words : HelpedWords (m Clock) stamp f.heard = λ s word has. done_after word (k.helped_words s word has) in
-        let successors = stamped.successors_match c h f.ring rings or_cut (λ s j. m (Super s j)) super same_super (λ s j. m (Stamp s j)) stamp same_stamp
+        let successors = stamped.successors_match c h f.ring rings on (λ s j. m (Super s j)) super same_super (λ s j. m (Stamp s j)) stamp same_stamp
         f.section supers_built k.successors in
-        let positions = set.positions_match c h f.ring rings or_cut (wide_after f.ring n slot (Built new) built refl within) freeing_back freeing_forth
+        let positions = set.positions_match c h f.ring rings on (wide_after f.ring n slot (Built new) built refl within) freeing_back freeing_forth
         built_next k.positions in
-        let succeeded = stamped.succeeded_match c h f.ring rings or_cut (λ s j. m (Super s j)) super same_super f.empty k.succeeded_has_super in
+        let succeeded = stamped.succeeded_match c h f.ring rings on (λ s j. m (Super s j)) super same_super f.empty k.succeeded_has_super in
         let freeing : (s j p first : ℕ) → slot_at (rings s) j ≡ Freeing p first → c.base + p / c.slots < f.grace s =
         λ s j p first e. k.positions_and_grace.freeing s j p first (freeing_back s j p first e) in
         assumption

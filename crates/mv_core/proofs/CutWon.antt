@@ -28,12 +28,12 @@ use Rattle.mv_core.proofs.Frames.{unchanged, changed}
 use Rattle.mv_core.proofs.Latest.{latest-le, latest_at-end, latest-reaches, latest_at-le}
 use Rattle.mv_core.proofs.Links.{live_once, note_once, link_some, names_once, position_once}
 use Rattle.mv_core.proofs.Slots.{Matches, match_weaker, match_put, slots_after, at_here, lives_back, lives_else, live_within, here_or_else}
-use Rattle.mv_core.proofs.Matching.{AlikeOrCut, alike_place, gone_forth, uncut_back, none_uncut_forth, none_holds_back, version_back, version_forth, committed_back, committed_forth}
+use Rattle.mv_core.proofs.Matching.{LivesOn, AlikeOrCut, on_place, gone_forth, uncut_back, none_uncut_forth, none_holds_back, version_back, version_forth, committed_back, committed_forth}
 use Rattle.mv_core.proofs.Versions.{write_once}
 use Rattle.mv_core.proofs.Written.{version_writes, commit_within}
 use Rattle.mv_core.proofs.WordsAt.{words_of-same, version-words}
 use Rattle.mv_core.proofs.LockWon.{put_head}
-use Rattle.mv_core.proofs.Cuts.{SameDeath, Cuts, cuts_self, same_death_facts, flags_match}
+use Rattle.mv_core.proofs.Cuts.{SameDeath, SameNotes, Cuts, cuts_self, same_death_facts, before_death_match, flags_match}
 use Rattle.mv_core.proofs.MatchedSets as set
 use Rattle.mv_core.proofs.MatchedFacts.{alike_or_cut_facts}
 use Rattle.mv_core.proofs.InPlace.{in_place_put, in_place_facts}
@@ -63,10 +63,14 @@ module _ (starts : State → Type 0) (allows : List ℕ → State → Writes →
   within = live_within (f.ring n) slot x (Committed note) lives
 
   matches : Matches Cuts f.ring rings
-  matches = match_put Cuts cuts_self f.ring n slot (Live x (Committed new)) cut_ring refl within refl x (Committed note) x (Committed new) lives refl (((refl, refl, λ _. refl), refl), refl)
+  matches = match_put Cuts cuts_self f.ring n slot (Live x (Committed new)) cut_ring refl within refl x (Committed note) x (Committed new) lives refl
+      ((((refl, refl, λ _. refl), refl), refl), λ e. let held : Committed note ≡ Held = e in absurd (cc))
 
   or_cut : Matches AlikeOrCut f.ring rings
-  or_cut = match_weaker Cuts AlikeOrCut f.ring rings (λ y st z su a. a.0.0) matches
+  or_cut = match_weaker Cuts AlikeOrCut f.ring rings (λ y st z su a. (a.0.0.0, a.1)) matches
+
+  on : Matches LivesOn f.ring rings
+  on = match_weaker Cuts LivesOn f.ring rings (λ y st z su a. a.0.0.0) matches
 
   all_slots : (P : ℕ → ℕ → Slot → Type 0) → P n slot (Live x (Committed new)) → ((s j : ℕ) → ¬ ((s ≡ n) × (j ≡ slot)) → P s j (slot_at (f.ring s) j)) → (s j : ℕ) → P s j (slot_at (rings s) j)
   all_slots = slots_after f.ring n slot (Live x (Committed new)) cut_ring refl within
@@ -144,7 +148,7 @@ module _ (starts : State → Type 0) (allows : List ℕ → State → Writes →
         },
         a.3,
       ))
-      (λ z. inr (z.0, none_uncut_forth f.ring rings or_cut o t z.1))
+      (λ z. inr (z.0, none_uncut_forth f.ring rings on o t z.1))
 
   held_was : (s j : ℕ) (y : Version) → Lives rings s j y Held → Lives f.ring s j y Held
   held_was = all_slots (λ s j z. (y : Version) → z ≡ Live y Held → Lives f.ring s j y Held) (λ y e. absurd (cc)) (λ s j other y e. e)
@@ -179,10 +183,10 @@ module _ (starts : State → Type 0) (allows : List ℕ → State → Writes →
 
   commit_links : CommitLink c h rings
   commit_links s j y o there =
-      let b = committed_back f.ring rings or_cut s j y o there in
+      let b = committed_back f.ring rings on s j y o there in
       let r = subst (λ (t : ℕ). LinksBelow f.ring y (latest_at c.base h y.object (t - 1))) (sym b.2) (k.commit_link s j y b.0 b.1) in
       let t : ℕ = latest_at c.base h y.object (o.time - 1) in record {
-        uncut = λ link z q v uncut. let w = version_back f.ring rings or_cut y.object t link z q v in r.uncut link z w.0 w.1 (uncut_back w.0 q w.2 uncut);
+        uncut = λ link z q v uncut. let w = version_back f.ring rings on y.object t link z q v in r.uncut link z w.0 w.1 (uncut_back w.0 q w.2 uncut);
         cut = λ link z q v cut.
             ⊎_elim
             (λ a.
@@ -192,8 +196,8 @@ module _ (starts : State → Type 0) (allows : List ℕ → State → Writes →
             (λ was. r.cut link z q (record { names = record { seat = v.names.seat; slot = v.names.slot; lives = was; is = v.names.is }; object_is = v.object_is; time_is = v.time_is }) cut)
             (committed_was v.names.seat v.names.slot z q v.names.lives);
         none = λ none.
-            ⊎_elim (λ a. inl a) (λ g. inr (gone_forth AlikeOrCut alike_place f.ring rings or_cut y.previous g))
-            (r.none (λ link z q v. let w = version_forth f.ring rings or_cut y.object t link z q v in none link z w.0 w.1));
+            ⊎_elim (λ a. inl a) (λ g. inr (gone_forth LivesOn on_place f.ring rings on y.previous g))
+            (r.none (λ link z q v. let w = version_forth f.ring rings on y.object t link z q v in none link z w.0 w.1));
       }
 
   -- the master has the present state
@@ -228,7 +232,7 @@ module _ (starts : State → Type 0) (allows : List ℕ → State → Writes →
       let r = k.write_back s b e in
       let w = r.2 in
       let i : ℕ = index_of c b.position in
-      let q = committed_forth f.ring rings or_cut s i w.version w.note w.lives in
+      let q = committed_forth f.ring rings on s i w.version w.note w.lives in
       let uncut : b.tried ≡ false → q.0.cut ≡ false = λ untried.
           ⊎_elim
           (λ a. let all = tried b (ap f.back (sym a.0) ∙ e) in let clash : true ≡ false = sym all ∙ untried in absurd (cc))
@@ -238,7 +242,7 @@ module _ (starts : State → Type 0) (allows : List ℕ → State → Writes →
           (committed_was s i w.version q.0 q.1) in
       let old = subst (λ (t : ℕ). NotAboveAny t f.time) (sym q.2) w.old in
       let known = subst (λ (t : ℕ). t ≤ f.grace s) (sym q.2) w.known in
-      let nothing = set.nothing_match c h f.ring rings or_cut s w.nothing in
+      let nothing = set.nothing_match c h f.ring rings on s w.nothing in
       (r.0, r.1, same_back w q.0 w.helped nothing q.1 old known (w.last ∙ sym q.2) uncut w.words)
 
   words_after : SlotWords (λ s j. m (First s j)) (λ s j. m (Prev s j)) (λ s j i. m (Data s j i)) rings
@@ -250,9 +254,11 @@ module _ (starts : State → Type 0) (allows : List ℕ → State → Writes →
   pub cut_facts : Facts starts allows c start (put m (Head x.object) 0) h (changed f n (record unchanged { ring = Some cut_ring }))
   cut_facts =
       let stays = in_place_put f.ring n slot cut_ring x x (Committed note) (Committed new) lives refl in
-      let same_death = match_weaker Cuts SameDeath f.ring rings (λ y st z su a. a.0) matches in
+      let same_death = match_weaker Cuts SameDeath f.ring rings (λ y st z su a. a.0.0) matches in
+      let same_notes = match_weaker Cuts SameNotes f.ring rings (λ y st z su a. a.0) matches in
       assumption
-      (words_after, heads, links, commit_links, masters, cut_old, backs, in_place_facts starts allows c start m h f k rings or_cut stays,
+      (words_after, heads, links, commit_links, masters, cut_old, backs, in_place_facts starts allows c start m h f k rings on stays,
       alike_or_cut_facts starts allows c start m h f k rings (λ s j. m (Stamp s j)) (λ s j y st l. refl) (λ s j p used apart. apart) or_cut,
       same_death_facts starts allows c start m h f k rings same_death,
-      flags_match starts allows c start m h f k rings (λ s j. m (Super s j)) (λ s j y st l. refl) matches, k)
+      flags_match starts allows c start m h f k rings (λ s j. m (Super s j)) (λ s j y st l. refl) same_notes,
+      before_death_match c h f.ring rings same_death or_cut f.time f.walk k.walker_before_death, k)

@@ -23,7 +23,7 @@ use Rattle.mv_core.specs.Known.{RunsOn}
 use Rattle.mv_core.specs.Rule.{Facts, Stores, IsKept}
 use Rattle.mv_core.proofs.Frames.{unchanged, changed, settle}
 use Rattle.mv_core.proofs.Slots.{Matches, match_weaker, match_put, slots_after, live_within}
-use Rattle.mv_core.proofs.Matching.{AlikeOrCut}
+use Rattle.mv_core.proofs.Matching.{LivesOn}
 use Rattle.mv_core.proofs.Cuts.{Steady, steady_self}
 use Rattle.mv_core.proofs.MatchedFacts.{steady_facts}
 use Rattle.mv_core.proofs.InPlace.{in_place_put, in_place_facts}
@@ -46,7 +46,8 @@ module _ (starts : State → Type 0) (allows : List ℕ → State → Writes →
   within = live_within (f.ring n) slot x Held lives
 
   steady : Matches Steady f.ring rings
-  steady = match_put Steady steady_self f.ring n slot (Live (with_word x w value) Held) stored refl within refl x Held (with_word x w value) Held lives refl (((record { position = refl; first = refl; object = refl; previous = refl }, refl), refl), refl)
+  steady = match_put Steady steady_self f.ring n slot (Live (with_word x w value) Held) stored refl within refl x Held (with_word x w value) Held lives refl
+      ((((record { position = refl; first = refl; object = refl; previous = refl }, refl), refl), λ held. held), refl)
 
   -- what holds of the slot, and of each other, holds of all
   all_slots : (P : ℕ → ℕ → Slot → Type 0) → P n slot (Live (with_word x w value) Held) → ((s j : ℕ) → ¬ ((s ≡ n) × (j ≡ slot)) → P s j (slot_at (f.ring s) j)) → (s j : ℕ) → P s j (slot_at (rings s) j)
@@ -76,9 +77,9 @@ module _ (starts : State → Type 0) (allows : List ℕ → State → Writes →
   data_facts : Facts starts allows c start (put m (Data n slot w) value) h (changed f n (record unchanged { ring = Some stored }))
   data_facts =
       let stays = in_place_put f.ring n slot stored x (with_word x w value) Held Held lives refl in
-      let or_cut = match_weaker Steady AlikeOrCut f.ring rings (λ y st z su a. a.0.0.0) steady in
+      let on = match_weaker Steady LivesOn f.ring rings (λ y st z su a. a.0.0.0.0) steady in
       assumption
-      (slot_words_after, in_place_facts starts allows c start m h f k rings or_cut stays,
+      (slot_words_after, in_place_facts starts allows c start m h f k rings on stays,
       steady_facts starts allows c start m h f k rings (λ s j. m (Stamp s j)) (λ s j. m (Super s j)) (λ s j y st l. refl) (λ s j p used apart. apart)
       (λ s j y st l. refl) steady, k)
 

@@ -33,7 +33,7 @@ use Rattle.mv_core.proofs.Written.{commit_within}
 use Rattle.mv_core.proofs.WholeSeen.{whole_seen}
 use Rattle.mv_core.proofs.Counts.{held_mapped}
 use Rattle.mv_core.proofs.Slots.{Matches, match_weaker, match_map, mapped, slots_mapped}
-use Rattle.mv_core.proofs.Matching.{Alike, AlikeOrCut, alike_or_cut, names_back}
+use Rattle.mv_core.proofs.Matching.{LivesOn, Alike, names_back}
 use Rattle.mv_core.proofs.DeathNotes.{timed_back, aborted_was, timed_note, committed_was, note_time, note_cut, note_linked, note_uncut, dead_is, note_dead, before_timed, timed_seen, Timed, timed_self, timed_place, timed_alike}
 use Rattle.mv_core.proofs.MatchedFacts.{same_stamp_facts}
 use Rattle.mv_core.proofs.InPlace.{IsUnlived, StaysInPlace, in_place_map, in_place_facts}
@@ -250,10 +250,10 @@ module _ (starts : State → Type 0) (allows : List ℕ → State → Writes →
     -- all facts after the load, but for what its seat has seen
     death_facts : (f.past n).seen ≡ h → Facts starts allows c start m h (changed f n (record unchanged { ring = Some (record (f.ring n) { slots = map (timed d) (f.ring n).slots }) }))
     death_facts whole =
-        let or_cut = match_weaker Alike AlikeOrCut f.ring rings alike_or_cut alike in
+        let on = match_weaker Alike LivesOn f.ring rings (λ x st y su a. a.0.0) alike in
         assumption
         (slot_words_after, deaths_after, deaths_seen_after whole, before_death_after, flag_after, death_after, dead_after, aborted_after,
-        in_place_facts starts allows c start m h f k rings or_cut stays, same_stamp_facts starts allows c start m h f k rings alike, k)
+        in_place_facts starts allows c start m h f k rings on stays, same_stamp_facts starts allows c start m h f k rings alike, k)
 
 -- the timed slot is held where it was
 held_timed : (d : ℕ) (z : Slot) → is_held (timed d z) ≡ is_held z

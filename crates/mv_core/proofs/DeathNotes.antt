@@ -11,7 +11,7 @@ use Rattle.mv_core.specs.ReclaimFacts.{DeathSeen}
 use Rattle.mv_core.specs.LockSteps.{dead_if, timed_status, timed}
 use Rattle.mv_core.proofs.Links.{note_once}
 use Rattle.mv_core.proofs.Slots.{Becomes}
-use Rattle.mv_core.proofs.Matching.{same_place, KeepsPlace, Alike, alike_self}
+use Rattle.mv_core.proofs.Matching.{same_place, KeepsPlace, Alike, alike_self, alike_committed}
 
 -- a slot with a version after it had that version before
 pub timed_back : (d : ℕ) (z : Slot) (x : Version) (su : Status) → timed d z ≡ Live x su → (st : Status) × (z ≡ Live x st) × (timed_status d st ≡ su)
@@ -104,9 +104,9 @@ pub timed_place : (d : ℕ) → KeepsPlace (Timed d)
 timed_place d x st y su a = same_place x y a.0
 
 alike_timed : (d : ℕ) (x : Version) (st : Status) → Alike x st x (timed_status d st)
-alike_timed d x Held = (same_place x x refl, refl)
-alike_timed d x (Aborted e) = (refl, refl)
-alike_timed d x (Committed m) = let same = note_cut d m in ((refl, note_time d m, λ cut. same ∙ cut), same)
+alike_timed d x Held = alike_self x Held
+alike_timed d x (Aborted e) = ((refl, λ held. let none : Aborted e ≡ Held = held in absurd (cc)), refl)
+alike_timed d x (Committed m) = alike_committed x m (timed_note d m) (note_time d m) (note_cut d m)
 
 pub timed_alike : (d : ℕ) (x : Version) (st : Status) (y : Version) (su : Status) → Timed d x st y su → Alike x st y su
 timed_alike d x st y su a =

@@ -18,7 +18,7 @@ use Rattle.mv_core.specs.SetFacts.{IsHeldOrAborted}
 use Rattle.mv_core.specs.Rule.{Facts}
 use Rattle.mv_core.proofs.Links.{live_once, note_once}
 use Rattle.mv_core.proofs.Slots.{Matches, live_within, match_put, slots_after}
-use Rattle.mv_core.proofs.Matching.{Alike, alike_self}
+use Rattle.mv_core.proofs.Matching.{Alike, alike_self, alike_committed}
 use Rattle.mv_core.proofs.Cuts.{SameDeath, death_self}
 use Rattle.mv_core.proofs.InPlace.{StaysInPlace, in_place_put}
 
@@ -40,7 +40,7 @@ module _ (starts : State → Type 0) (allows : List ℕ → State → Writes →
   within = live_within (f.ring n) j x (Committed note) lives
 
   pub matches : Matches Alike f.ring rings
-  matches = match_put Alike alike_self f.ring n j new ring' refl within refl x (Committed note) x (Committed note') lives refl ((refl, refl, λ cut. cut), refl)
+  matches = match_put Alike alike_self f.ring n j new ring' refl within refl x (Committed note) x (Committed note') lives refl (alike_committed x note note' refl refl)
 
   pub same_death : Matches SameDeath f.ring rings
   same_death = match_put SameDeath death_self f.ring n j new ring' refl within refl x (Committed note) x (Committed note') lives refl

@@ -18,10 +18,10 @@ use Rattle.mv_core.specs.SetFacts.{WriteSets, IsHeldOrAborted, InHeldSet, InSet,
 use Rattle.mv_core.specs.SectionFacts.{LockFreshness, OpenSection}
 use Rattle.mv_core.specs.ChainFacts.{HeadIsTop, HeldLink, LinksBelow, CommitLink, AbortedLink, PresentMaster, IsGrounded, ChainFoot}
 use Rattle.mv_core.specs.ReclaimFacts.{FreedIsOld, CutIsOld}
-use Rattle.mv_core.proofs.Slots.{Matches}
-use Rattle.mv_core.proofs.Matching.{AlikeOrCut, SameCut, alike_place, uncommitted_forth, uncommitted_back, still_held, unnamed_back, gone_forth, first_forth, set_forth, use_forth, use_back, held_back, aborted_back, committed_back, committed_forth, names_committed_forth, version_back, version_forth, none_holds_back, none_uncut_back, top_forth}
+use Rattle.mv_core.proofs.Slots.{Matches, match_weaker}
+use Rattle.mv_core.proofs.Matching.{LivesOn, AlikeOrCut, SameCut, on_place, alike_place, uncommitted_forth, uncommitted_back, still_held, unnamed_back, gone_forth, first_forth, set_forth, use_forth, use_back, held_back, aborted_back, committed_back, committed_forth, names_committed_forth, version_back, version_forth, none_holds_back, none_uncut_back, top_forth}
 
-module _ (c : Config) (h : List Entry) (before after : ℕ → Ring) (k : Matches AlikeOrCut before after) where
+module _ (c : Config) (h : List Entry) (before after : ℕ → Ring) (k : Matches LivesOn before after) where
   -- nothing is held still
   pub nothing_match : (s : ℕ) → HoldsNothing (before s) → HoldsNothing (after s)
   nothing_match s none j y lives = let b = held_back before after k s j y lives in none j b.0 b.1
@@ -49,31 +49,31 @@ module _ (c : Config) (h : List Entry) (before after : ℕ → Ring) (k : Matche
         w.once s j l x y a.0 b.0 a.1 b.1 (sym a.2 ∙ e ∙ b.2);
     first = λ s j y su lives.
         let b = k.back s j y su lives in
-        first_forth AlikeOrCut alike_place before after k c s b.0 y (alike_place b.0 b.1 y su b.3).first (w.first s j b.0 b.1 b.2);
+        first_forth LivesOn on_place before after k c s b.0 y (on_place b.0 b.1 y su b.3).first (w.first s j b.0 b.1 b.2);
     after_first = λ s j y su lives.
         let b = k.back s j y su lives in
-        let at = alike_place b.0 b.1 y su b.3 in
+        let at = on_place b.0 b.1 y su b.3 in
         let first = at.first in
         let position = at.position in
         let le = w.after_first s j b.0 b.1 b.2 in
         omega arith;
     between = λ s j y su lives p from to.
         let b = k.back s j y su lives in
-        let at = alike_place b.0 b.1 y su b.3 in
+        let at = on_place b.0 b.1 y su b.3 in
         let first = at.first in
         let position = at.position in
         let r = w.between s j b.0 b.1 b.2 p (omega arith) (omega arith) in
-        subst (λ (i : ℕ). InSet c after s i p) (sym first) (set_forth AlikeOrCut alike_place before after k (λ st. Unit {0}) (λ st. Unit {0}) (λ _ _ _ _ _ _. tt) c s b.0.first p r);
+        subst (λ (i : ℕ). InSet c after s i p) (sym first) (set_forth LivesOn on_place before after k (λ st. Unit {0}) (λ st. Unit {0}) (λ _ _ _ _ _ _. tt) c s b.0.first p r);
     apart = λ s j l y z su n p uncommitted q e.
         let a = k.back s j y su p in
         let b = committed_back before after k s l z n q in
-        w.apart s j l a.0 z a.1 b.0 a.2 (uncommitted_back a.0 a.1 y su a.3 uncommitted) b.1 (sym (alike_place a.0 a.1 y su a.3).first ∙ e);
+        w.apart s j l a.0 z a.1 b.0 a.2 (uncommitted_back a.0 a.1 y su a.3 uncommitted) b.1 (sym (on_place a.0 a.1 y su a.3).first ∙ e);
     held = λ s j y lives p from below.
         let b = held_back before after k s j y lives in
         let first = b.2.first in
         let next = k.next s in
         let r = w.held s j b.0 b.1 p (omega arith) (omega arith) in
-        subst (λ (i : ℕ). InHeldSet c after s i p IsHeldOrAborted) (sym first) (set_forth AlikeOrCut alike_place before after k IsHeldOrAborted IsHeldOrAborted uncommitted_forth c s b.0.first p r);
+        subst (λ (i : ℕ). InHeldSet c after s i p IsHeldOrAborted) (sym first) (set_forth LivesOn on_place before after k IsHeldOrAborted IsHeldOrAborted uncommitted_forth c s b.0.first p r);
   }
 
   -- positions, where each log has as many slots, what is freed stays, and a built slot is for the next position
@@ -84,7 +84,7 @@ module _ (c : Config) (h : List Entry) (before after : ℕ → Ring) (k : Matche
     within = λ s j y su lives. let b = k.back s j y su lives in old.within s j b.0 b.1 b.2;
     live = λ s j y su lives.
         let b = k.back s j y su lives in
-        let position = (alike_place b.0 b.1 y su b.3).position in
+        let position = (on_place b.0 b.1 y su b.3).position in
         let next = k.next s in
         let p = old.live s j b.0 b.1 b.2 in
         let low = p.1 in
@@ -101,14 +101,14 @@ module _ (c : Config) (h : List Entry) (before after : ℕ → Ring) (k : Matche
           a.0,
           λ l y su lives.
               let b = k.back s l y su lives in
-              let position = (alike_place b.0 b.1 y su b.3).position in
+              let position = (on_place b.0 b.1 y su b.3).position in
               let lt = a.1 l b.0 b.1 b.2 in
               omega arith,
         );
     built = λ s j b e. ap (index_of c) (k.next s) ∙ built s j b e;
     no_gap = λ s p q in_use le lt.
         let next = k.next s in
-        use_forth AlikeOrCut alike_place before after k freeing_still c s q (old.no_gap s p q (use_back AlikeOrCut alike_place before after k freeing c s p in_use) le (omega arith));
+        use_forth LivesOn on_place before after k freeing_still c s q (old.no_gap s p q (use_back LivesOn on_place before after k freeing c s p in_use) le (omega arith));
     bound = λ s. let next = k.next s in let le = old.bound s in omega arith;
   }
 
@@ -118,38 +118,11 @@ module _ (c : Config) (h : List Entry) (before after : ℕ → Ring) (k : Matche
       let r = old s j b.0 b.1 in
       (r.0, r.1, subst (λ (o : ℕ). latest c.base h o ≤ r.0) (sym b.2.object) r.2, subst (λ (o : ℕ). o < c.objects) (sym b.2.object) r.3)
 
-  pub open_match : (section : ℕ → Option Section) → OpenSection c h section before → OpenSection c h section after
-  open_match section old = record {
-    own = old.own;
-    held = λ s j y lives. let b = held_back before after k s j y lives in old.held s j b.0 b.1;
-    one_set = λ s j l y z p q.
-        let a = held_back before after k s j y p in
-        let b = held_back before after k s l z q in
-        a.2.first ∙ old.one_set s j l a.0 b.0 a.1 b.1 ∙ sym b.2.first;
-    whole = λ s j y inside lives in_section mode p from below.
-        let b = held_back before after k s j y lives in
-        let first = b.2.first in
-        let next = k.next s in
-        let r = old.whole s j b.0 inside b.1 in_section mode p (omega arith) (omega arith) in
-        subst (λ (i : ℕ). InHeldSet c after s i p (λ st. st ≡ Held)) (sym first) (set_forth AlikeOrCut alike_place before after k (λ st. st ≡ Held) (λ st. st ≡ Held) still_held c s b.0.first p r);
-  }
-
-  pub aborted_link_match : AbortedLink before → AbortedLink after
-  aborted_link_match old s j y e lives =
-      let b = aborted_back before after k s j y e lives in
-      ⊎_elim
-      (λ a. inl a)
-      (λ r. inr (⊎_elim
-      (λ g. inl (gone_forth AlikeOrCut alike_place before after k y.previous g))
-      (λ d. let f = names_committed_forth before after k y.previous d.0 d.1 d.2 in inr (d.0, f.0, f.1, d.3))
-      r))
-      (old s j y b.0 b.1)
-
   pub foot_match : (start : State) (master : ℕ → ℕ → ℕ) (time : ℕ → Option ℕ) → ChainFoot c start h master time before → ChainFoot c start h master time after
   foot_match start master time old s j x n lives none =
       let b = committed_back before after k s j x n lives in
       subst (λ (t : ℕ). NotAboveAny t time ⊎ IsGrounded c start h master time x (record n { time = t })) (sym b.2)
-      (old s j x b.0 b.1 (unnamed_back AlikeOrCut alike_place before after k x.previous none))
+      (old s j x b.0 b.1 (unnamed_back LivesOn on_place before after k x.previous none))
 
   pub freed_match : (clock : ℕ) (grace : ℕ → ℕ) → FreedIsOld c clock h grace before → FreedIsOld c clock h grace after
   freed_match clock grace old = record {
@@ -165,12 +138,6 @@ module _ (c : Config) (h : List Entry) (before after : ℕ → Ring) (k : Matche
     -- the top of an object's chain
     top_still : (o t link : ℕ) → IsTop before o t link → IsTop after o t link
     top_still = top_forth before after k same_cut
-
-    pub top_match : (head : ℕ → ℕ) → HeadIsTop c h head before → HeadIsTop c h head after
-    top_match head old = record {
-      held = λ s j y lives. let b = held_back before after k s j y lives in ap head b.2.object ∙ old.held s j b.0 b.1 ∙ ap (link_of s) (sym b.2.position);
-      top = λ o none. top_still o (latest c.base h o) (head o) (old.top o (none_holds_back before after k o none));
-    }
 
     pub held_link_match : HeldLink c h before → HeldLink c h after
     held_link_match old s j y lives =
@@ -191,7 +158,7 @@ module _ (c : Config) (h : List Entry) (before after : ℕ → Ring) (k : Matche
               let p = version_back before after k x.object t link y note v in
               r.cut link y p.0 p.1 (sym (same_cut v.names.seat v.names.slot y p.0 note p.3 v.names.lives) ∙ cut);
           none = λ none.
-              ⊎_elim (λ a. inl a) (λ g. inr (gone_forth AlikeOrCut alike_place before after k x.previous g))
+              ⊎_elim (λ a. inl a) (λ g. inr (gone_forth LivesOn on_place before after k x.previous g))
               (r.none (λ link y m v. let f = version_forth before after k x.object t link y m v in none link y f.0 f.1));
         }
 
@@ -202,3 +169,40 @@ module _ (c : Config) (h : List Entry) (before after : ℕ → Ring) (k : Matche
     cut_match time old s j x n lives cut =
         let b = committed_back before after k s j x n lives in
         subst (λ (t : ℕ). NotAboveAny t time) (sym b.2) (old s j x b.0 b.1 (sym (same_cut s j x b.0 n b.1 lives) ∙ cut))
+
+module _ (c : Config) (h : List Entry) (before after : ℕ → Ring) (k : Matches AlikeOrCut before after) where
+  on : Matches LivesOn before after
+  on = match_weaker AlikeOrCut LivesOn before after (λ x st y su a. a.0) k
+
+  pub open_match : (section : ℕ → Option Section) → OpenSection c h section before → OpenSection c h section after
+  open_match section old = record {
+    own = old.own;
+    held = λ s j y lives. let b = held_back before after on s j y lives in old.held s j b.0 b.1;
+    one_set = λ s j l y z p q.
+        let a = held_back before after on s j y p in
+        let b = held_back before after on s l z q in
+        a.2.first ∙ old.one_set s j l a.0 b.0 a.1 b.1 ∙ sym b.2.first;
+    whole = λ s j y inside lives in_section mode p from below.
+        let b = held_back before after on s j y lives in
+        let first = b.2.first in
+        let next = k.next s in
+        let r = old.whole s j b.0 inside b.1 in_section mode p (omega arith) (omega arith) in
+        subst (λ (i : ℕ). InHeldSet c after s i p (λ st. st ≡ Held)) (sym first) (set_forth AlikeOrCut alike_place before after k (λ st. st ≡ Held) (λ st. st ≡ Held) still_held c s b.0.first p r);
+  }
+
+  pub aborted_link_match : AbortedLink before → AbortedLink after
+  aborted_link_match old s j y e lives =
+      let b = aborted_back before after k s j y e lives in
+      ⊎_elim
+      (λ a. inl a)
+      (λ r. inr (⊎_elim
+      (λ g. inl (gone_forth LivesOn on_place before after on y.previous g))
+      (λ d. let f = names_committed_forth before after on y.previous d.0 d.1 d.2 in inr (d.0, f.0, f.1, d.3))
+      r))
+      (old s j y b.0 b.1)
+
+  pub top_match : SameCut before after → (head : ℕ → ℕ) → HeadIsTop c h head before → HeadIsTop c h head after
+  top_match same_cut head old = record {
+    held = λ s j y lives. let b = held_back before after on s j y lives in ap head b.2.object ∙ old.held s j b.0 b.1 ∙ ap (link_of s) (sym b.2.position);
+    top = λ o none. top_forth before after on same_cut o (latest c.base h o) (head o) (old.top o (none_holds_back before after k o none));
+  }

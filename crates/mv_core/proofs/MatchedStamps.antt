@@ -23,23 +23,23 @@ use Rattle.mv_core.specs.WalkFacts.{SucceededHasSuper}
 use Rattle.mv_core.specs.ReclaimFacts.{WriteBacks}
 use Rattle.mv_core.proofs.KeptRecords.{same_back, same_named}
 use Rattle.mv_core.proofs.Slots.{Matches}
-use Rattle.mv_core.proofs.Matching.{AlikeOrCut, SameCut, uncut_back, alike_place, uncommitted_back, is_committed_so, committed_back, committed_forth}
+use Rattle.mv_core.proofs.Matching.{LivesOn, SameCut, uncut_back, on_place, uncommitted_back, is_committed_so, committed_back, committed_forth}
 use Rattle.mv_core.proofs.MatchedSets.{nothing_match}
 
 -- the stamp of a write set goes on
-stamped_alike : (clock s k stamp first : ℕ) (x : Version) (st : Status) (y : Version) (su : Status) → AlikeOrCut x st y su → StampedAs clock s k stamp first st → StampedAs clock s k stamp first su
+stamped_alike : (clock s k stamp first : ℕ) (x : Version) (st : Status) (y : Version) (su : Status) → LivesOn x st y su → StampedAs clock s k stamp first st → StampedAs clock s k stamp first su
 stamped_alike clock s k stamp first x Held y Held a e = e
 stamped_alike clock s k stamp first x (Aborted d) y (Aborted f) a e = e
 stamped_alike clock s k stamp first x (Committed m) y (Committed n) a e =
     subst (λ (t : ℕ). (stamp ≡ t) ⊎ ((stamp ≡ unset_of first) × (clock ≡ clock_of t s k))) (sym a.1) e
-stamped_alike clock s k stamp first x Held y (Aborted f) a e = absurd a
+stamped_alike clock s k stamp first x Held y (Aborted f) a e = e
 stamped_alike clock s k stamp first x Held y (Committed n) a e = absurd a
 stamped_alike clock s k stamp first x (Aborted d) y Held a e = absurd a
 stamped_alike clock s k stamp first x (Aborted d) y (Committed n) a e = absurd a
 stamped_alike clock s k stamp first x (Committed m) y Held a e = absurd a
 stamped_alike clock s k stamp first x (Committed m) y (Aborted f) a e = absurd a
 
-module _ (c : Config) (h : List Entry) (before after : ℕ → Ring) (k : Matches AlikeOrCut before after) where
+module _ (c : Config) (h : List Entry) (before after : ℕ → Ring) (k : Matches LivesOn before after) where
   -- the stamps, and those after, where the stamp of each live version's write set stays
   module _ (stamp stamp' : ℕ → ℕ → ℕ) (same : (s j : ℕ) (x : Version) (st : Status) → Lives before s j x st → stamp_of c stamp' s x ≡ stamp_of c stamp s x) where
     -- of a committed version
@@ -50,7 +50,7 @@ module _ (c : Config) (h : List Entry) (before after : ℕ → Ring) (k : Matche
     stamps_match clock built old = record {
       live = λ s j y su lives.
           let b = k.back s j y su lives in
-          let at = alike_place b.0 b.1 y su b.3 in
+          let at = on_place b.0 b.1 y su b.3 in
           let word : StampedAs clock s (index_of c b.0.first) (stamp_of c stamp' s b.0) b.0.first b.1 =
           subst (λ (n : ℕ). StampedAs clock s (index_of c b.0.first) n b.0.first b.1) (sym (same s j b.0 b.1 b.2)) (old.live s j b.0 b.1 b.2) in
           stamped_alike clock s (index_of c y.first) (stamp_of c stamp' s y) y.first b.0 b.1 y su b.3
@@ -67,7 +67,7 @@ module _ (c : Config) (h : List Entry) (before after : ℕ → Ring) (k : Matche
     below_match old s j y su lives uncommitted z n names =
         let b = k.back s j y su lives in
         let d = committed_back before after k names.seat names.slot z n names.lives in
-        let at = alike_place b.0 b.1 y su b.3 in
+        let at = on_place b.0 b.1 y su b.3 in
         let below : Names before b.0.previous z (Committed d.0) = record { seat = names.seat; slot = names.slot; lives = d.1; is = sym at.previous ∙ names.is } in
         same_committed names.seat names.slot z d.0 d.1 ∙ old s j b.0 b.1 b.2 (uncommitted_back b.0 b.1 y su b.3 uncommitted) z d.0 below ∙ sym d.2
 
@@ -102,13 +102,13 @@ module _ (c : Config) (h : List Entry) (before after : ℕ → Ring) (k : Matche
             used = subst (λ (n : ℕ). r.position < n) (sym (k.next t)) r.used;
             live = λ y su lives is.
                 let b = k.back t j y su lives in
-                let at = alike_place b.0 b.1 y su b.3 in
+                let at = on_place b.0 b.1 y su b.3 in
                 let q = r.live b.0 b.1 b.2 (sym at.position ∙ is) in
                 let i = is_committed_so b.0 b.1 y su q.1.0 b.3 q.1.1 in
                 (at.first ∙ q.0, (i.0, i.1, i.3 ∙ q.1.2));
             gone = λ none.
                 let none_before : (x : Version) (st : Status) → Lives before t j x st → x.position ≢ r.position =
-                λ x st lives e. let g = k.forth t j x st lives in none g.0 g.1 g.2 ((alike_place x st g.0 g.1 g.3).position ∙ e) in
+                λ x st lives e. let g = k.forth t j x st lives in none g.0 g.1 g.2 ((on_place x st g.0 g.1 g.3).position ∙ e) in
                 let word : stamp t j ≢ unset_of r.position = λ e. r.gone none_before (e ∙ sym r.unset_is) in
                 λ e. apart t j r.position r.used word (e ∙ r.unset_is);
           };

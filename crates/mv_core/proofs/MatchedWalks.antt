@@ -17,17 +17,20 @@ use Rattle.mv_core.specs.Rings.{Lives, Names}
 use Rattle.mv_core.specs.Times.{latest_at}
 use Rattle.mv_core.specs.SetFacts.{stamp_of}
 use Rattle.mv_core.specs.WalkFacts.{MasterServes, IsRightFor, MayStandAt, StandsRight, WalkerPlace, WalkerKnowledge, IsBelowPassed, WalkerFalls, WalkerLate}
-use Rattle.mv_core.proofs.Slots.{Matches}
-use Rattle.mv_core.proofs.Matching.{AlikeOrCut, alike_place, is_committed_so, names_back, names_committed_forth, committed_back, none_uncut_forth}
+use Rattle.mv_core.proofs.Slots.{Matches, match_weaker}
+use Rattle.mv_core.proofs.Matching.{LivesOn, AlikeOrCut, on_place, alike_place, is_committed_so, names_back, names_committed_forth, committed_back, none_uncut_forth}
 
 -- a link names the version that is there
 abbrev names_at : (rings : ℕ → Ring) (link seat slot : ℕ) (x : Version) (st : Status) → Lives rings seat slot x st → (p : ℕ) → x.position ≡ p → link ≡ link_of seat p → Names rings link x st
 names_at rings link seat slot x st lives p e is = record { seat = seat; slot = slot; lives = lives; is = is ∙ ap (link_of seat) (sym e) }
 
 module _ (c : Config) (h : List Entry) (before after : ℕ → Ring) (k : Matches AlikeOrCut before after) where
+  on : Matches LivesOn before after
+  on = match_weaker AlikeOrCut LivesOn before after (λ x st y su a. a.0) k
+
   module _ (start : State) (master : ℕ → ℕ → ℕ) where
     serves_match : (t o : ℕ) → MasterServes c start h master before t o → MasterServes c start h master after t o
-    serves_match t o a = (a.0, none_uncut_forth before after k o (latest_at c.base h o t) a.1)
+    serves_match t o a = (a.0, none_uncut_forth before after on o (latest_at c.base h o t) a.1)
 
     right_match : (t : ℕ) (x y : Version) (m n : CommitNote) → y ≡ x → n.time ≡ m.time → IsRightFor c h t x m → IsRightFor c h t y n
     right_match t x y m n same time a =
@@ -35,19 +38,19 @@ module _ (c : Config) (h : List Entry) (before after : ℕ → Ring) (k : Matche
 
     stand_match : (t : ℕ) (x : Version) (st : Status) (y : Version) (su : Status) → AlikeOrCut x st y su → MayStandAt c start h master before t x st → MayStandAt c start h master after t y su
     stand_match t x Held y Held a may = tt
-    stand_match t x (Committed m) y (Committed n) a may = right_match t x y m n a.0 a.1 may
+    stand_match t x (Committed m) y (Committed n) a may = right_match t x y m n a.0.0 a.0.1 may
     stand_match t x (Aborted d) y (Aborted e) a may =
-        subst (λ (v : Version). MayStandAt c start h master after t v (Aborted e)) (sym a)
+        subst (λ (v : Version). MayStandAt c start h master after t v (Aborted e)) (sym a.0)
         (⊎_elim
         (λ p. inl (p.0, serves_match t x.object p.1))
-        (λ q. let f = names_committed_forth before after k x.previous q.0 q.1 q.2 in inr (q.0, f.0, f.1, q.3, right_match t q.0 q.0 q.1 f.0 refl f.2 q.4))
+        (λ q. let f = names_committed_forth before after on x.previous q.0 q.1 q.2 in inr (q.0, f.0, f.1, q.3, right_match t q.0 q.0 q.1 f.0 refl f.2 q.4))
         may)
-    stand_match t x Held y (Aborted e) a may = absurd a
-    stand_match t x Held y (Committed n) a may = absurd a
-    stand_match t x (Aborted d) y Held a may = absurd a
-    stand_match t x (Aborted d) y (Committed n) a may = absurd a
-    stand_match t x (Committed m) y Held a may = absurd a
-    stand_match t x (Committed m) y (Aborted e) a may = absurd a
+    stand_match t x Held y (Aborted e) a may = let held : Aborted e ≡ Held = a.1 refl in absurd (cc)
+    stand_match t x Held y (Committed n) a may = absurd a.0
+    stand_match t x (Aborted d) y Held a may = absurd a.0
+    stand_match t x (Aborted d) y (Committed n) a may = absurd a.0
+    stand_match t x (Committed m) y Held a may = absurd a.0
+    stand_match t x (Committed m) y (Aborted e) a may = absurd a.0
 
     stands_match : (t : ℕ) (w : Walk) → StandsRight c start h master before t w → StandsRight c start h master after t w
     stands_match t Nowhere a = tt
@@ -62,14 +65,15 @@ module _ (c : Config) (h : List Entry) (before after : ℕ → Ring) (k : Matche
     pub place_match : (time : ℕ → Option ℕ) (walk : ℕ → Walk) → WalkerPlace c start h master time walk before → WalkerPlace c start h master time walk after
     place_match time walk old s t e = stands_match t (walk s) (old s t e)
 
+module _ (c : Config) (before after : ℕ → Ring) (k : Matches LivesOn before after) where
   pub knowledge_match : (section : ℕ → Option Section) (time : ℕ → Option ℕ) (heard : ℕ → Heard) (walk : ℕ → Walk) → WalkerKnowledge section time heard walk before → WalkerKnowledge section time heard walk after
   knowledge_match section time heard walk old = record {
     helped = old.helped;
     first = λ s first stand y su e f names.
-        let b = names_back AlikeOrCut alike_place before after k stand.link y su names in
-        old.first s first stand b.0 b.1 e f b.2 ∙ sym (alike_place b.0 b.1 y su b.3).first;
+        let b = names_back LivesOn on_place before after k stand.link y su names in
+        old.first s first stand b.0 b.1 e f b.2 ∙ sym (on_place b.0 b.1 y su b.3).first;
     stamp = λ s found stand y su e f small names.
-        let b = names_back AlikeOrCut alike_place before after k stand.link y su names in
+        let b = names_back LivesOn on_place before after k stand.link y su names in
         let r = old.stamp s found stand b.0 b.1 e f small b.2 in
         let i = is_committed_so b.0 b.1 y su r.0 b.3 r.1 in
         (i.0, i.1, i.3 ∙ r.2);
@@ -82,7 +86,7 @@ module _ (c : Config) (h : List Entry) (before after : ℕ → Ring) (k : Matche
   falls_match stamp stamp' same walk old = record {
     stamped = λ s stand y su e passed names.
         let b = k.back names.seat names.slot y su names.lives in
-        let at = alike_place b.0 b.1 y su b.3 in
+        let at = on_place b.0 b.1 y su b.3 in
         let was : Names before stand.link b.0 b.1 = names_at before stand.link names.seat names.slot b.0 b.1 b.2 y.position (sym at.position) names.is in
         let r = old.stamped s stand b.0 b.1 e passed was in
         let i = is_committed_so b.0 b.1 y su r.0 b.3 r.1 in

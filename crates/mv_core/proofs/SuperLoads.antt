@@ -43,7 +43,7 @@ use Rattle.mv_core.proofs.SeenMore.{sees_more}
 use Rattle.mv_core.proofs.MoreSeen.{more_seen}
 use Rattle.mv_core.proofs.StampLoads.{seen_to, seen_by_all, slice_get-front}
 use Rattle.mv_core.proofs.Slots.{Matches, match_weaker, match_put, slots_after, live_within}
-use Rattle.mv_core.proofs.Matching.{Alike, AlikeOrCut, alike_or_cut, alike_self}
+use Rattle.mv_core.proofs.Matching.{LivesOn, Alike, alike_self, alike_committed}
 use Rattle.mv_core.proofs.MatchedFacts.{same_stamp_facts}
 use Rattle.mv_core.proofs.InPlace.{in_place_put, in_place_facts}
 use Rattle.mv_core.proofs.Counts.{held_same}
@@ -90,7 +90,8 @@ module _ (starts : State → Type 0) (allows : List ℕ → State → Writes →
   within = live_within (f.ring n) slot x (Committed note) lives
 
   alike : Matches Alike f.ring rings
-  alike = match_put Alike alike_self f.ring n slot (Live x (Committed new)) loaded refl within refl x (Committed note) x (Committed new) lives refl (let same = (super_keeps note found).1 in (refl, (super_keeps note found).0, λ cut. same ∙ cut), (super_keeps note found).1)
+  alike = match_put Alike alike_self f.ring n slot (Live x (Committed new)) loaded refl within refl x (Committed note) x (Committed new) lives refl
+      (alike_committed x note new (super_keeps note found).0 (super_keeps note found).1)
 
   -- what holds of the slot, and of each other, holds of all
   all_slots : (P : ℕ → ℕ → Slot → Type 0) → P n slot (Live x (Committed new)) → ((s j : ℕ) → ¬ ((s ≡ n) × (j ≡ slot)) → P s j (slot_at (f.ring s) j)) → (s j : ℕ) → P s j (slot_at (rings s) j)
@@ -270,11 +271,11 @@ module _ (starts : State → Type 0) (allows : List ℕ → State → Writes →
   super_facts sees =
       let seen = seen_put c f.past f.ring n slot loaded x (Committed new) refl within
       (λ dead e. let is = (super_dead note found dead no_death e).0 in (omega arith, λ _. omega arith)) k.deaths_seen in
-      let or_cut = match_weaker Alike AlikeOrCut f.ring rings alike_or_cut alike in
+      let on = match_weaker Alike LivesOn f.ring rings (λ y st z su a. a.0.0) alike in
       let stays = in_place_put f.ring n slot loaded x x (Committed note) (Committed new) lives refl in
       assumption
       (slot_words_after, deaths_after, seen, before_death_after, flag_after, death_after, dead_after, aborted_after,
-      in_place_facts starts allows c start m h f k rings or_cut stays, same_stamp_facts starts allows c start m h f k rings alike, k)
+      in_place_facts starts allows c start m h f k rings on stays, same_stamp_facts starts allows c start m h f k rings alike, k)
 
   -- a time found is in the history
   pub found_within : found ≤ c.base + length h

@@ -3,8 +3,8 @@ use Rattle.std.proofs.Common.{◌≡◌, ◌⊎◌, ℕ, ◌<◌, List, refl, sy
 use Rattle.mv_history.specs.declared.Entry.{Entry}
 use Rattle.mv_history.specs.State.{State, Writes}
 use Rattle.mv_layout.specs.declared.Config.{Config}
-use Rattle.mv_layout.specs.declared.Place.TheVariants.{Clock, Head, Master, Stamp}
-use Rattle.mv_layout.specs.Words.{link_of, clock_seat_of, clock_slot_of}
+use Rattle.mv_layout.specs.declared.Place.TheVariants.{Head, Master}
+use Rattle.mv_layout.specs.Words.{link_of}
 use Rattle.mv_layout.specs.Places.{Memory, put}
 use Rattle.mv_core.specs.declared.ring.Ring.{Ring}
 use Rattle.mv_core.specs.declared.ring.Version.{Version}
@@ -18,13 +18,12 @@ use Rattle.mv_core.specs.declared.view.Walk.TheVariants as walk
 use Rattle.mv_core.specs.Rings.{slot_at, Lives, Names, IsGone, NoneHolds, IsTop}
 use Rattle.mv_core.specs.Times.{latest, latest_at}
 use Rattle.mv_core.specs.Views.{time_of, faces_of}
-use Rattle.mv_core.specs.SetFacts.{stamp_of, IsHeldOrAborted, BelowIsStamped, Positions}
-use Rattle.mv_core.specs.SectionFacts.{FoundStamps}
-use Rattle.mv_core.specs.ChainFacts.{HeadIsTop, HeldLink, AbortedLink}
-use Rattle.mv_core.specs.WalkFacts.{MayStandAt, StandsRight, IsBeforeDeath, WalkerBeforeDeath, WalkerFalls}
+use Rattle.mv_core.specs.SetFacts.{Positions}
+use Rattle.mv_core.specs.ChainFacts.{HeadIsTop, AbortedLink}
+use Rattle.mv_core.specs.WalkFacts.{MayStandAt, StandsRight, IsBeforeDeath, WalkerBeforeDeath}
 use Rattle.mv_core.specs.LockSteps.{MayUnlock}
 use Rattle.mv_core.specs.Rule.{Facts}
-use Rattle.mv_core.proofs.CommittedKept.{KeepsCommitted, names_was, names_still, top_still, gone_still, serves_kept, is_named_kept}
+use Rattle.mv_core.proofs.CommittedKept.{KeepsCommitted, names_still, top_still, gone_still, serves_kept}
 use Rattle.mv_core.proofs.Landing.{Lands, top_lands}
 use Rattle.mv_core.proofs.Links.{live_once, names_once, none_names_zero}
 use Rattle.mv_core.proofs.LockWon.{put_head}
@@ -46,9 +45,6 @@ module _ (starts : State → Type 0) (allows : List ℕ → State → Writes →
   abbrev time : ℕ → Option ℕ
   time s = time_of (seats s).phase
 
-  abbrev stamp : ℕ → ℕ → ℕ
-  stamp s j = m (Stamp s j)
-
   abbrev master : ℕ → ℕ → ℕ
   master o w = m (Master o w)
 
@@ -68,22 +64,18 @@ module _ (starts : State → Type 0) (allows : List ℕ → State → Writes →
   lives_still : (s j : ℕ) (y : Version) (st : Status) → Lives rings s j y st → (su : Status) × Lives later s j y su × IsFateOf st su
   lives_still = log.lives_still starts allows c start m h seats k v is object previous slot x inside may
 
-  pub lives_was : (s j : ℕ) (y : Version) (st : Status) → Lives later s j y st → (su : Status) × Lives rings s j y su × IsFateOf su st
+  lives_was : (s j : ℕ) (y : Version) (st : Status) → Lives later s j y st → (su : Status) × Lives rings s j y su × IsFateOf su st
   lives_was = log.lives_was starts allows c start m h seats k v is object previous slot x inside may
 
   positions : Positions c h later
-  positions = log.positions_after starts allows c start m h seats k v is object previous slot x inside may
+  positions = (log.in_place starts allows c start m h seats k v is object previous slot x inside may).positions
 
   -- what a link names
   abbrev named_still : (link : ℕ) (y : Version) (st : Status) → Names rings link y st → (su : Status) × Names later link y su × IsFateOf st su
   named_still link y st a = let d = lives_still a.seat a.slot y st a.lives in (d.0, record { seat = a.seat; slot = a.slot; lives = d.1; is = a.is }, d.2)
 
-  abbrev pub named_was : (link : ℕ) (y : Version) (st : Status) → (a : Names later link y st) → (su : Status) × Lives rings a.seat a.slot y su × IsFateOf su st
+  abbrev named_was : (link : ℕ) (y : Version) (st : Status) → (a : Names later link y st) → (su : Status) × Lives rings a.seat a.slot y su × IsFateOf su st
   named_was link y st a = lives_was a.seat a.slot y st a.lives
-
-  -- a committed version's fate
-  pub committed_so : (st su : Status) (note : CommitNote) → IsFateOf su st → su ≡ Committed note → st ≡ Committed note
-  committed_so st su note fate e = ⊎_elim (λ (same : st ≡ su). same ∙ e) (λ (p : (su ≡ Held) × (st ≡ Aborted None)). let clash : Held ≡ Committed note = sym p.0 ∙ e in absurd (cc)) fate
 
   -- where the previous link of a held version leads
   under_held : (s t : ℕ) → time s ≡ Some t → (q j : ℕ) (y : Version) → Lives rings q j y Held → Lands c start h master rings t y.object y.previous
@@ -150,34 +142,6 @@ module _ (starts : State → Type 0) (allows : List ℕ → State → Writes →
         a.2;
   }
 
-  pub falls : WalkerFalls c stamp (λ s. (seats s).walk) later
-  falls = record {
-    stamped = λ s stand y st at passed names.
-        let a = named_was stand.link y st names in
-        let r = k.walker_falls.stamped s stand y a.0 at passed (record { seat = names.seat; slot = names.slot; lives = a.1; is = names.is }) in
-        (r.0, committed_so st a.0 r.0 a.2 r.1, r.2, r.3);
-    found = k.walker_falls.found;
-  }
-
-  pub found_after : FoundStamps c (m Clock) stamp (λ s. (seats s).heard) later
-  found_after = record {
-    now = λ s g at e. is_named_kept rings later kept g.word g.unset (k.found_stamp.now s g at e);
-    checked = λ s g at was.
-        let r = k.found_stamp.checked s g at was in
-        let q : ℕ = clock_seat_of g.word in
-        let j : ℕ = clock_slot_of g.word in record {
-          position = r.position;
-          unset_is = r.unset_is;
-          slot_is = r.slot_is;
-          used = subst (λ (p : ℕ). r.position < p) (sym (log.next_same starts allows c start m h seats k v is object previous slot x inside may q)) r.used;
-          live = λ y st lives e.
-              let a = lives_was q j y st lives in
-              let d = r.live y a.0 a.1 e in
-              (d.0, (d.1.0, committed_so st a.0 d.1.0 a.2 d.1.1, d.1.2));
-          gone = λ none. r.gone (λ y st lives. let a = lives_still q j y st lives in none y a.0 a.1);
-        };
-  }
-
   pub heads : HeadIsTop c h (λ o. put m (Head object) previous (Head o)) later
   heads = record {
     held = each_held (λ s j y. put m (Head object) previous (Head y.object) ≡ link_of s y.position)
@@ -202,9 +166,6 @@ module _ (starts : State → Type 0) (allows : List ℕ → State → Writes →
         (here_or_else s n j slot))));
   }
 
-  pub links : HeldLink c h later
-  links = each_held (λ s j y. IsTop later y.object (latest c.base h y.object) y.previous) (λ s j y ne lives. top_still rings later kept y.object (latest c.base h y.object) y.previous (k.held_link s j y lives))
-
   abbrev LinksAborted : Version → Type 0
   LinksAborted y = (y.previous ≡ 0) ⊎ (IsGone later y.previous ⊎ ((z : Version) × (note : CommitNote) × Names later y.previous z (Committed note) × (z.object ≡ y.object)))
 
@@ -221,10 +182,3 @@ module _ (starts : State → Type 0) (allows : List ℕ → State → Writes →
       (⊎_elim (λ g. inr (inl (gone_still rings later kept y.previous g))) (λ a. inr (inr (a.0, a.1, names_still rings later kept y.previous a.0 a.1 a.2, a.3))))
       (k.aborted_link s j y dead (subst (Lives rings s j y) e lives)))
       s j y (Aborted dead) lives refl
-
-  pub below_after : BelowIsStamped c stamp later
-  below_after s j y st lives fate z note under =
-      each_live (λ s j y st. IsHeldOrAborted st → (under : Names rings y.previous z (Committed note)) → stamp_of c stamp under.seat z ≡ note.time)
-      (λ _. k.below_is_stamped n slot x Held was_held tt z note)
-      (λ s j y st ne lives fate. k.below_is_stamped s j y st lives fate z note)
-      s j y st lives fate (names_was rings later kept y.previous z note under)

@@ -211,6 +211,5 @@ module _ (starts : State → Type 0) (allows : List ℕ → State → Writes →
         let succeeded = stamped.succeeded_match c h f.ring rings on (λ s j. m (Super s j)) super same_super f.empty k.succeeded_has_super in
         let freeing : (s j p first : ℕ) → slot_at (rings s) j ≡ Freeing p first → c.base + p / c.slots < f.grace s =
         λ s j p first e. k.positions_and_grace.freeing s j p first (freeing_back s j p first e) in
-        assumption
-        (slot_words_after, stamps, helped_words, successors, positions, succeeded, free_after, grace_built, freeing,
-        steady_facts starts allows c start m h f k rings stamp super same_stamp apart_after same_super steady, k)
+        let steady_kept = steady_facts starts allows c start m h f k rings stamp super same_stamp apart_after same_super steady in
+        assumption (slot_words_after, stamps, helped_words, successors, positions, succeeded, free_after, grace_built, freeing, steady_kept, k)

@@ -155,8 +155,6 @@ module _ (starts : State → Type 0) (allows : List ℕ → State → Writes →
         settle starts allows c start (put m (Mark n) 0) h seats n v w is
             (record unchanged { phase = Some Outside; section = Some None; time = Some None; heard = Some heard_nothing; walk = Some Nowhere; back = Some None })
             (refl, refl, refl, refl, refl, refl, refl, refl, refl, refl, refl)
-            (assumption
-            (helped_words, marks, past_help, grace, fresh, naming, masters, feet, places, before_death, knowledge, falls, late, found, unfinished, named, opened,
-            flags, words, cut, backs, scanning, outside, seen, within, k)),
+            (assumption (k)),
         ((refl, runs_outside v w (λ s e. let g : Outside ≡ Inside s = e in absurd (cc))), (refl, refl, refl, refl, refl, refl)),
       )

@@ -234,12 +234,12 @@ module _ (starts : State → Type 0) (allows : List ℕ → State → Writes →
       let i : ℕ = index_of c b.position in
       let q = committed_forth f.ring rings on s i w.version w.note w.lives in
       let uncut : b.tried ≡ false → q.0.cut ≡ false = λ untried.
-          ⊎_elim
-          (λ a. let all = tried b (ap f.back (sym a.0) ∙ e) in let clash : true ≡ false = sym all ∙ untried in absurd (cc))
-          (λ was.
-          let one = live_once (slot_at (f.ring s) i) w.version w.version (Committed w.note) (Committed q.0) w.lives was in
-          ap (λ (p : CommitNote). p.cut) (sym (note_once w.note q.0 one.1)) ∙ w.uncut untried)
-          (committed_was s i w.version q.0 q.1) in
+      ⊎_elim
+      (λ a. let all = tried b (ap f.back (sym a.0) ∙ e) in let clash : true ≡ false = sym all ∙ untried in absurd (cc))
+      (λ was.
+      let one = live_once (slot_at (f.ring s) i) w.version w.version (Committed w.note) (Committed q.0) w.lives was in
+      ap (λ (p : CommitNote). p.cut) (sym (note_once w.note q.0 one.1)) ∙ w.uncut untried)
+      (committed_was s i w.version q.0 q.1) in
       let old = subst (λ (t : ℕ). NotAboveAny t f.time) (sym q.2) w.old in
       let known = subst (λ (t : ℕ). t ≤ f.grace s) (sym q.2) w.known in
       let nothing = set.nothing_match c h f.ring rings on s w.nothing in
@@ -256,9 +256,9 @@ module _ (starts : State → Type 0) (allows : List ℕ → State → Writes →
       let stays = in_place_put f.ring n slot cut_ring x x (Committed note) (Committed new) lives refl in
       let same_death = match_weaker Cuts SameDeath f.ring rings (λ y st z su a. a.0.0) matches in
       let same_notes = match_weaker Cuts SameNotes f.ring rings (λ y st z su a. a.0) matches in
-      assumption
-      (words_after, heads, links, commit_links, masters, cut_old, backs, in_place_facts starts allows c start m h f k rings on stays,
-      alike_or_cut_facts starts allows c start m h f k rings (λ s j. m (Stamp s j)) (λ s j y st l. refl) (λ s j p used apart. apart) or_cut,
-      same_death_facts starts allows c start m h f k rings same_death,
-      flags_match starts allows c start m h f k rings (λ s j. m (Super s j)) (λ s j y st l. refl) same_notes,
-      before_death_match c h f.ring rings same_death or_cut f.time f.walk k.walker_before_death, k)
+      let in_place = in_place_facts starts allows c start m h f k rings on stays in
+      let or_cut_kept = alike_or_cut_facts starts allows c start m h f k rings (λ s j. m (Stamp s j)) (λ s j y st l. refl) (λ s j p used apart. apart) or_cut in
+      let same_death_kept = same_death_facts starts allows c start m h f k rings same_death in
+      let flags = flags_match starts allows c start m h f k rings (λ s j. m (Super s j)) (λ s j y st l. refl) same_notes in
+      let before_death = before_death_match c h f.ring rings same_death or_cut f.time f.walk k.walker_before_death in
+      assumption (words_after, heads, links, commit_links, masters, cut_old, backs, in_place, or_cut_kept, same_death_kept, flags, before_death, k)

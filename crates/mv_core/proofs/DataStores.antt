@@ -78,10 +78,10 @@ module _ (starts : State → Type 0) (allows : List ℕ → State → Writes →
   data_facts =
       let stays = in_place_put f.ring n slot stored x (with_word x w value) Held Held lives refl in
       let on = match_weaker Steady LivesOn f.ring rings (λ y st z su a. a.0.0.0.0) steady in
-      assumption
-      (slot_words_after, in_place_facts starts allows c start m h f k rings on stays,
-      steady_facts starts allows c start m h f k rings (λ s j. m (Stamp s j)) (λ s j. m (Super s j)) (λ s j y st l. refl) (λ s j p used apart. apart)
-      (λ s j y st l. refl) steady, k)
+      let in_place = in_place_facts starts allows c start m h f k rings on stays in
+      let steady_kept = steady_facts starts allows c start m h f k rings (λ s j. m (Stamp s j)) (λ s j. m (Super s j)) (λ s j y st l. refl)
+      (λ s j p used apart. apart) (λ s j y st l. refl) steady in
+      assumption (slot_words_after, in_place, steady_kept, k)
 
 module _ (starts : State → Type 0) (allows : List ℕ → State → Writes → Type 0) (c : Config) (start : State) (v : View) where
   pub data_stores : (position w value : ℕ) (x : Version) → MayStoreData c v position w x → Stores starts allows c start v (Data v.number (index_of c position) w) value (λ u. ((u ≡ data_stored c v position w value x) × RunsOn v u) × IsKept v u)

@@ -251,9 +251,10 @@ module _ (starts : State → Type 0) (allows : List ℕ → State → Writes →
     death_facts : (f.past n).seen ≡ h → Facts starts allows c start m h (changed f n (record unchanged { ring = Some (record (f.ring n) { slots = map (timed d) (f.ring n).slots }) }))
     death_facts whole =
         let on = match_weaker Alike LivesOn f.ring rings (λ x st y su a. a.0.0) alike in
-        assumption
-        (slot_words_after, deaths_after, deaths_seen_after whole, before_death_after, flag_after, death_after, dead_after, aborted_after,
-        in_place_facts starts allows c start m h f k rings on stays, same_stamp_facts starts allows c start m h f k rings alike, k)
+        let deaths_seen_after = deaths_seen_after whole in
+        let in_place = in_place_facts starts allows c start m h f k rings on stays in
+        let same_stamp = same_stamp_facts starts allows c start m h f k rings alike in
+        assumption (slot_words_after, deaths_after, before_death_after, flag_after, death_after, dead_after, aborted_after, k)
 
 -- the timed slot is held where it was
 held_timed : (d : ℕ) (z : Slot) → is_held (timed d z) ≡ is_held z

@@ -48,27 +48,40 @@ module _ (starts : State → Type 0) (allows : List ℕ → State → Writes →
       } in
       let seen : DeathsSeen c f.past later = λ s j x st lives. k.deaths_seen s j x st (was s j x st lives) in
       let late : WalkerLate f.time f.walk later = λ s t stand x note timed at late names.
-          k.walker_late s t stand x note timed at late (chain.names_was starts allows c start m h f k n position r is stand.link x (Committed note) names) in
+      k.walker_late s t stand x note timed at late (chain.names_was starts allows c start m h f k n position r is stand.link x (Committed note) names) in
       let flags : SuccessorFlag (λ s j. m (Super s j)) f.section later = λ s j i naming x note there mode lives time.
-          let a = k.successor_flag s j i naming x note there mode (was s j x (Committed note) lives) time in
-          (a.0, λ y other under. a.1 y other (chain.names_was starts allows c start m h f k n position r is x.previous y (Committed other) under)) in
+      let a = k.successor_flag s j i naming x note there mode (was s j x (Committed note) lives) time in
+      (a.0, λ y other under. a.1 y other (chain.names_was starts allows c start m h f k n position r is x.previous y (Committed other) under)) in
       let succeeded : SucceededHasSuper c h (λ s j. m (Super s j)) f.empty later = λ s e has.
-          let a = k.succeeded_has_super s e has in (a.0, λ j x note lives. a.1 j x note (was s j x (Committed note) lives)) in
+      let a = k.succeeded_has_super s e has in (a.0, λ j x note lives. a.1 j x note (was s j x (Committed note) lives)) in
       let cut : CutIsOld f.time later = λ s j x note lives. k.cut_is_old s j x note (was s j x (Committed note) lives) in
       let death_after : DeathAfterWrite later = λ s j dead x note lives. k.death_after_write s j dead x note (was s j x (Committed note) lives) in
-      assumption
-      (fresh, deaths, seen, late, flags, succeeded, cut, death_after,
-      sets.words_after starts allows c start m h f k n position r is, sets.stamps_after starts allows c start m h f k n position r is,
-      sets.sets_after starts allows c start m h f k n position r is, sets.helped_after starts allows c start m h f k n position r is,
-      sets.successors_after starts allows c start m h f k n position r is, sets.positions_after starts allows c start m h f k n position r is,
-      sets.open_after starts allows c start m h f k n position r is, sets.grace_after starts allows c start m h f k n position r is,
-      chain.heads starts allows c start m h f k n position r is, chain.links starts allows c start m h f k n position r is, chain.commit_links starts allows c start m h f k n position r is,
-      chain.aborted_links starts allows c start m h f k n position r is, chain.masters starts allows c start m h f k n position r is,
-      chain.feet starts allows c start m h f k n position r is, chain.freed_after starts allows c start m h f k n position r is,
-      walks.past_help starts allows c start m h f k n position r is, walks.places starts allows c start m h f k n position r is,
-      walks.deaths starts allows c start m h f k n position r is, walks.knowledge starts allows c start m h f k n position r is,
-      walks.below starts allows c start m h f k n position r is, walks.falls starts allows c start m h f k n position r is, walks.found starts allows c start m h f k n position r is,
-      walks.unfinished starts allows c start m h f k n position r is, walks.named starts allows c start m h f k n position r is, walks.backs starts allows c start m h f k n position r is, k)
+      let words_after = sets.words_after starts allows c start m h f k n position r is in
+      let stamps_after = sets.stamps_after starts allows c start m h f k n position r is in
+      let sets_after = sets.sets_after starts allows c start m h f k n position r is in
+      let helped_after = sets.helped_after starts allows c start m h f k n position r is in
+      let successors_after = sets.successors_after starts allows c start m h f k n position r is in
+      let positions_after = sets.positions_after starts allows c start m h f k n position r is in
+      let open_after = sets.open_after starts allows c start m h f k n position r is in
+      let grace_after = sets.grace_after starts allows c start m h f k n position r is in
+      let heads = chain.heads starts allows c start m h f k n position r is in
+      let links = chain.links starts allows c start m h f k n position r is in
+      let commit_links = chain.commit_links starts allows c start m h f k n position r is in
+      let aborted_links = chain.aborted_links starts allows c start m h f k n position r is in
+      let masters = chain.masters starts allows c start m h f k n position r is in
+      let feet = chain.feet starts allows c start m h f k n position r is in
+      let freed_after = chain.freed_after starts allows c start m h f k n position r is in
+      let past_help = walks.past_help starts allows c start m h f k n position r is in
+      let places = walks.places starts allows c start m h f k n position r is in
+      let deaths' = walks.deaths starts allows c start m h f k n position r is in
+      let knowledge = walks.knowledge starts allows c start m h f k n position r is in
+      let below = walks.below starts allows c start m h f k n position r is in
+      let falls = walks.falls starts allows c start m h f k n position r is in
+      let found = walks.found starts allows c start m h f k n position r is in
+      let unfinished = walks.unfinished starts allows c start m h f k n position r is in
+      let named = walks.named starts allows c start m h f k n position r is in
+      let backs = walks.backs starts allows c start m h f k n position r is in
+      assumption (k)
 
 -- a slot that isn't of the set is as it was
 freeing_same : (position : ℕ) (z : Slot) → ((x : Version) (st : Status) → z ≡ Live x st → x.first ≢ position) → freeing_slot position z ≡ z

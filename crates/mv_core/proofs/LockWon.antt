@@ -286,14 +286,15 @@ module _ (starts : State → Type 0) (allows : List ℕ → State → Writes →
       k.write_back in
       settle starts allows c start (put m (Head object) (link_of v.number position)) h seats v.number v (head_locked c v inside object previous position) is
       (record unchanged { ring = Some (head_locked c v inside object previous position).ring }) (refl, refl, refl, refl, refl, refl, refl, refl, refl, refl, refl)
-      (assumption
-      (deaths, seen, places, late, unfinished, cut, death_after, named, backs, positions, heads, links, aborted_after, below_after, fresh_after, successors_after,
-      before_death, knowledge, falls, found_after, open_after,
-      log.words_after starts allows c start m h seats k v is own write_max object previous position b inside may,
-      log.stamps_after starts allows c start m h seats k v is own write_max object previous position b inside may,
-      log.sets_after starts allows c start m h seats k v is own write_max object previous position b inside may,
-      log.grace_after starts allows c start m h seats k v is own write_max object previous position b inside may,
-      past_help_kept rings later kept c stamp section (λ s. (seats s).heard) k.stamped_past_help, link_kept rings later kept c h k.commit_link,
-      master_kept rings later kept c h start master time k.present_master, foot_kept rings later kept c h start master time k.chain_foot,
-      flag_kept rings later kept super section k.successor_flag, super_kept rings later kept c h super (λ s. (seats s).empty) k.succeeded_has_super,
-      freed_kept rings later kept c h (m Clock) (λ s. (seats s).grace) k.freed_is_old, k))
+      (let words_after = log.words_after starts allows c start m h seats k v is own write_max object previous position b inside may in
+      let stamps_after = log.stamps_after starts allows c start m h seats k v is own write_max object previous position b inside may in
+      let sets_after = log.sets_after starts allows c start m h seats k v is own write_max object previous position b inside may in
+      let grace_after = log.grace_after starts allows c start m h seats k v is own write_max object previous position b inside may in
+      let past_help_still = past_help_kept rings later kept c stamp section (λ s. (seats s).heard) k.stamped_past_help in
+      let link_still = link_kept rings later kept c h k.commit_link in
+      let master_still = master_kept rings later kept c h start master time k.present_master in
+      let foot_still = foot_kept rings later kept c h start master time k.chain_foot in
+      let flag_still = flag_kept rings later kept super section k.successor_flag in
+      let super_still = super_kept rings later kept c h super (λ s. (seats s).empty) k.succeeded_has_super in
+      let freed_still = freed_kept rings later kept c h (m Clock) (λ s. (seats s).grace) k.freed_is_old in
+      assumption (positions, heads, links, aborted_after, below_after, fresh_after, successors_after, before_death, knowledge, falls, found_after, open_after, k))

@@ -178,5 +178,4 @@ module _ (starts : State → Type 0) (allows : List ℕ → State → Writes →
       let unfinished : (s j : ℕ) (x : Version) (note : CommitNote) → Lives f.ring s j x (Committed note) → note.cut ≡ false → m (Super s j) ≡ 0
       → (next : ℕ) → IsNextWrite c.base h x.object note.time next → IsNaming t.section next (λ _. Unit {0}) =
       λ s j x note lives uncut none next is_next. naming_after next (k.successors.unfinished s j x note lives uncut none next is_next) in
-      assumption
-      (marks_after, past, unfinished, knows_after, unfinished_after, named_after, open_after, flag_after, words_after, backs_after, scanning_after, k)
+      assumption (marks_after, knows_after, unfinished_after, named_after, open_after, flag_after, words_after, backs_after, scanning_after, k)

@@ -23,7 +23,7 @@ module _ (starts : State → Type 0) (allows : List ℕ → State → Writes →
   scan_is o fits =
       let scans = become_all (λ s x. ScanIs (m Clock) f.time x) f.scan n o fits (λ s ne. k.grace.scans s) in
       let scanning = become_all (λ s x. (running : Scan) → x ≡ Some running → f.phase s ≡ Outside) f.scan n o (λ running e. out)
-          (λ s ne. k.phases_and_scan.scanning s) in
+      (λ s ne. k.phases_and_scan.scanning s) in
       assumption (scans, scanning, k)
 
   module _ (clock least next : ℕ) (low : least ≤ clock) (now : clock ≤ clock_time_of (m Clock)) (scanned : (s : ℕ) → s < next → NotAbove least (f.time s)) where

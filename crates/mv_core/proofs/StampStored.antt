@@ -192,9 +192,9 @@ module _ (starts : State → Type 0) (allows : List ℕ → State → Writes →
       let unfinished : UnstampedIsUnfinished c after f.section f.ring =
       λ s j x note lives ne. k.unstamped_is_unfinished s j x note lives (λ made. ne (still s j x note lives made)) in
       let named : NamedCommit c h after f.section f.ring = λ s inside n at mode.
-          let r = k.named_commit s inside n at mode in
-          let place : stamp_of c after s r.version ≡ after s (index_of c n.first) = ap (λ p. after s (index_of c p)) r.first_is in
-          let before : stamp_of c stamp s r.version ≡ stamp s (index_of c n.first) = ap (λ p. stamp s (index_of c p)) r.first_is in
-          same_named r r.note r.last r.nothing r.lives r.time_is
-          (λ was_made. sym place ∙ still s (index_of c n.first) r.version r.note r.lives (before ∙ r.stamped was_made ∙ sym r.time_is) ∙ r.time_is) in
+      let r = k.named_commit s inside n at mode in
+      let place : stamp_of c after s r.version ≡ after s (index_of c n.first) = ap (λ p. after s (index_of c p)) r.first_is in
+      let before : stamp_of c stamp s r.version ≡ stamp s (index_of c n.first) = ap (λ p. stamp s (index_of c p)) r.first_is in
+      same_named r r.note r.last r.nothing r.lives r.time_is
+      (λ was_made. sym place ∙ still s (index_of c n.first) r.version r.note r.lives (before ∙ r.stamped was_made ∙ sym r.time_is) ∙ r.time_is) in
       assumption (stamps_after, helped_after, past, stamped, below, falls_after, found_after, unfinished, named, k)

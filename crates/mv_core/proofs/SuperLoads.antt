@@ -273,9 +273,9 @@ module _ (starts : State → Type 0) (allows : List ℕ → State → Writes →
       (λ dead e. let is = (super_dead note found dead no_death e).0 in (omega arith, λ _. omega arith)) k.deaths_seen in
       let on = match_weaker Alike LivesOn f.ring rings (λ y st z su a. a.0.0) alike in
       let stays = in_place_put f.ring n slot loaded x x (Committed note) (Committed new) lives refl in
-      assumption
-      (slot_words_after, deaths_after, seen, before_death_after, flag_after, death_after, dead_after, aborted_after,
-      in_place_facts starts allows c start m h f k rings on stays, same_stamp_facts starts allows c start m h f k rings alike, k)
+      let in_place = in_place_facts starts allows c start m h f k rings on stays in
+      let same_stamp = same_stamp_facts starts allows c start m h f k rings alike in
+      assumption (slot_words_after, deaths_after, seen, before_death_after, flag_after, death_after, dead_after, aborted_after, in_place, same_stamp, k)
 
   -- a time found is in the history
   pub found_within : found ≤ c.base + length h

@@ -254,12 +254,11 @@ module _ (starts : State → Type 0) (allows : List ℕ → State → Writes →
       let or_cut = match_weaker Alike AlikeOrCut f.ring rings (λ z st u su a. a.0) matches in
       let on = match_weaker Alike LivesOn f.ring rings (λ z st u su a. a.0.0) matches in
       let same_death = notes.same_death starts allows c start m h f k n j x note lives in
-      assumption
-      (slot_words, successors_after, flags_after, succeeded_after,
-      in_place_facts starts allows c start m h f k rings on (notes.stays starts allows c start m h f k n j x note lives),
-      same_death_facts starts allows c start m h f k rings same_death,
-      before_death_match c h f.ring rings same_death or_cut f.time f.walk k.walker_before_death,
-      same_stamp_facts starts allows c start m h f k rings matches, k)
+      let in_place = in_place_facts starts allows c start m h f k rings on (notes.stays starts allows c start m h f k n j x note lives) in
+      let same_death_kept = same_death_facts starts allows c start m h f k rings same_death in
+      let before_death = before_death_match c h f.ring rings same_death or_cut f.time f.walk k.walker_before_death in
+      let same_stamp = same_stamp_facts starts allows c start m h f k rings matches in
+      assumption (slot_words, successors_after, flags_after, succeeded_after, in_place, same_death_kept, before_death, same_stamp, k)
 
 module _ (starts : State → Type 0) (allows : List ℕ → State → Writes → Type 0) (c : Config) (start : State) (v : View) (link time k : ℕ) (x : Version) (note : CommitNote) (may : MayStoreSuper v link time k x note) where
   pub super_stores : Stores starts allows c start v (Super (link_seat_of link) (slot_named c link)) time (λ w. ((w ≡ super_stored c v link time k x note) × RunsOn v w) × IsKept v w)

@@ -93,10 +93,10 @@ module _ (starts : State → Type 0) (allows : List ℕ → State → Writes →
       let naming : (s j : ℕ) (y : Version) (note : CommitNote) → Lives f.ring s j y (Committed note) → note.cut ≡ false → m (Super s j) ≡ 0
       → (next : ℕ) → IsNextWrite c.base h y.object note.time next → IsNaming (become f.section n (Some inside)) next (λ _. Unit {0}) =
       λ s j y note lives uncut zero_is next is_next.
-          let by = k.successors.unfinished s j y note lives uncut zero_is next is_next in
-          let ne : by.seat ≢ n = λ e. not_inside by.inside (ap f.section (sym e) ∙ by.in_section) in
-          record { seat = by.seat; inside = by.inside; naming = by.naming; in_section = become_else f.section n (Some inside) by.seat ne ∙ by.in_section;
-          mode = by.mode; time_is = by.time_is; known = tt } in
+      let by = k.successors.unfinished s j y note lives uncut zero_is next is_next in
+      let ne : by.seat ≢ n = λ e. not_inside by.inside (ap f.section (sym e) ∙ by.in_section) in
+      let there = become_else f.section n (Some inside) by.seat ne ∙ by.in_section in
+      record { seat = by.seat; inside = by.inside; naming = by.naming; in_section = there; mode = by.mode; time_is = by.time_is; known = tt } in
       let unfinished = more.unfinished_more c h f.ring f.section n (Some inside) unnamed stamp (λ i naming e mode unset. not_inside i e)
       k.unstamped_is_unfinished in
       let opened = more.open_more c h f.ring f.section n (Some inside) unnamed nothing
@@ -114,26 +114,27 @@ module _ (starts : State → Type 0) (allows : List ℕ → State → Writes →
       (λ ne e. old.phases_and_scan.seen s u e) in
       let within : (s u : ℕ) → become f.time n (Some now) s ≡ Some u → s < c.seats =
       λ s u. by_seat s n (λ b. cond b (Some now) (f.time s) ≡ Some u → s < c.seats) (λ same e. subst (λ (x : ℕ). x < c.seats) (sym same) own)
-      (λ ne e. k.phases_and_scan.within s u e) in (
+      (λ ne e. k.phases_and_scan.within s u e) in
+      let begun = record unchanged { past = Some p; phase = Some (Inside inside); section = Some (Some inside); time = Some (Some now) } in (
         w,
         settle starts allows c start m h seats n v w is
-            (record unchanged { past = Some p; phase = Some (Inside inside); section = Some (Some inside); time = Some (Some now); heard = Some x;
-            walk = Some Nowhere; back = Some None })
+            (record begun { heard = Some x; walk = Some Nowhere; back = Some None })
             (ap (λ (u : View). record u.past { seen = h }) (sym is), refl, refl, refl, refl, refl, refl, refl, refl, refl, refl)
-            (assumption
-            (helped_all, marks, past_helped, naming, unfinished, opened, words_of_all, backs, scanning, outside, seen, within,
-            more.grace_more c start h f.ring sets f.time n (Some now) late clock (m Grace) f.grace f.scan k.history.long k.grace,
-            more.freshness_more c start h f.ring sets f.time n (Some now) late nothing k.lock_freshness,
-            more.master_more c start h f.ring sets f.time n (Some now) late master k.present_master,
-            more.foot_more c start h f.ring sets f.time n (Some now) late master k.chain_foot,
-            more.place_more c start h f.ring sets f.time n (Some now) late f.walk master k.walker_place,
-            more.before_death_more c start h f.ring sets f.time n (Some now) late f.walk k.walker_before_death,
-            more.knowledge_more c start h f.ring sets f.time n (Some now) late f.walk f.section f.heard (Some inside) x k.walker_knowledge,
-            more.falls_more c start h f.ring sets f.time n (Some now) late f.walk stamp k.walker_falls,
-            more.late_more c start h f.ring sets f.time n (Some now) late f.walk k.walker_late,
-            found_after c clock stamp f.heard n f.ring x refl k.found_stamp, more.named_more c h f.ring f.section n (Some inside) unnamed stamp k.named_commit,
-            more.flag_more c h f.ring f.section n (Some inside) unnamed super k.successor_flag,
-            more.cut_more c start h f.ring sets f.time n (Some now) late k.cut_is_old, k)),
+            (let grace_more = more.grace_more c start h f.ring sets f.time n (Some now) late clock (m Grace) f.grace f.scan k.history.long k.grace in
+            let freshness_more = more.freshness_more c start h f.ring sets f.time n (Some now) late nothing k.lock_freshness in
+            let master_more = more.master_more c start h f.ring sets f.time n (Some now) late master k.present_master in
+            let foot_more = more.foot_more c start h f.ring sets f.time n (Some now) late master k.chain_foot in
+            let place_more = more.place_more c start h f.ring sets f.time n (Some now) late f.walk master k.walker_place in
+            let before_death_more = more.before_death_more c start h f.ring sets f.time n (Some now) late f.walk k.walker_before_death in
+            let knowledge_more = more.knowledge_more c start h f.ring sets f.time n (Some now) late f.walk f.section f.heard (Some inside) x
+            k.walker_knowledge in
+            let falls_more = more.falls_more c start h f.ring sets f.time n (Some now) late f.walk stamp k.walker_falls in
+            let late_more = more.late_more c start h f.ring sets f.time n (Some now) late f.walk k.walker_late in
+            let found = found_after c clock stamp f.heard n f.ring x refl k.found_stamp in
+            let named_more = more.named_more c h f.ring f.section n (Some inside) unnamed stamp k.named_commit in
+            let flag_more = more.flag_more c h f.ring f.section n (Some inside) unnamed super k.successor_flag in
+            let cut_more = more.cut_more c start h f.ring sets f.time n (Some now) late k.cut_is_old in
+            assumption (k)),
         (((h, (front, k.history.long), refl), k.loaded_words.clock_is, subst (λ (u : View). HoldsNothing u.ring) is nothing), (refl, refl, refl, refl, refl, refl)),
       )
 

@@ -161,11 +161,11 @@ module _ (starts : State → Type 0) (allows : List ℕ → State → Writes →
       let marks = become_all (λ s q. MarkedAs (m Clock) (m (Mark s)) q) (λ s. (seats s).phase) n (Inside aborting)
       (subst (MarkedAs (m Clock) (m (Mark n))) (ap (λ (u : View). u.phase) is ∙ may.phase) (k.marks n)) (λ s ne. k.marks s) in
       let past_help : StampedPastHelp c stamp sections (λ s. (seats s).heard) later = λ s i at past t j y note lives le.
-          let o = section_was s i at in
-          live_on.past_help s o.0 o.1 (subst (Contains (seats s).heard.helped) (sym o.2) past) t j y note lives
-          (subst (λ (word : ℕ). note.time ≤ clock_time_of word) (sym o.2) le) in
+      let o = section_was s i at in
+      live_on.past_help s o.0 o.1 (subst (Contains (seats s).heard.helped) (sym o.2) past) t j y note lives
+      (subst (λ (word : ℕ). note.time ≤ clock_time_of word) (sym o.2) le) in
       let helped : (s : ℕ) (i : Section) → sections s ≡ Some i → (seats s).walk ≢ Nowhere → IsPastHelp (seats s).heard i = λ s i at somewhere.
-          let o = section_was s i at in subst (Contains (seats s).heard.helped) o.2 (k.walker_knowledge.helped s o.0 o.1 somewhere) in
+      let o = section_was s i at in subst (Contains (seats s).heard.helped) o.2 (k.walker_knowledge.helped s o.0 o.1 somewhere) in
       let places : WalkerPlace c start h master time (λ s. (seats s).walk) later =
       λ s t timed. chain.stands_kept starts allows c start m h seats k v is object previous slot x inside may s t timed (seats s).walk (k.walker_place s t timed) in
       let unfinished = more.unfinished_more c h later section n (Some aborting) aborting_unnamed stamp (λ i naming at mode. other_named i naming at mode)
@@ -180,13 +180,12 @@ module _ (starts : State → Type 0) (allows : List ℕ → State → Writes →
       settle starts allows c start (put m (Head object) previous) h seats v.number v (head_unlocked c v object previous slot x inside) is
       (record unchanged { phase = Some (Inside aborting); section = Some (Some aborting); ring = Some (head_unlocked c v object previous slot x inside).ring })
       (refl, refl, refl, ap time_of (sym may.phase), refl, refl, refl, refl, refl, refl, refl)
-      (assumption
-      (marks, past_help, helped, places, unfinished, named, flags, scanning, naming_after, open_after, words_after, backs_after, in_place, live_on, same_cut,
-      log.words_after starts allows c start m h seats k v is object previous slot x inside may,
-      log.same_death starts allows c start m h seats k v is object previous slot x inside may,
-      chain.heads starts allows c start m h seats k v is object previous slot x inside may,
-      chain.aborted_after starts allows c start m h seats k v is object previous slot x inside may,
-      chain.before_death starts allows c start m h seats k v is object previous slot x inside may, k))
+      (let words_after' = log.words_after starts allows c start m h seats k v is object previous slot x inside may in
+      let same_death = log.same_death starts allows c start m h seats k v is object previous slot x inside may in
+      let heads = chain.heads starts allows c start m h seats k v is object previous slot x inside may in
+      let aborted_after = chain.aborted_after starts allows c start m h seats k v is object previous slot x inside may in
+      let before_death = chain.before_death starts allows c start m h seats k v is object previous slot x inside may in
+      assumption (naming_after, open_after, words_after, backs_after, in_place, live_on, same_cut, k))
 
 module _ (starts : State → Type 0) (allows : List ℕ → State → Writes → Type 0) (c : Config) (start : State) (v : View) (object previous slot : ℕ) (x : Version) (inside : Section) (may : MayUnlock v object previous slot x inside) where
   -- what the pass has at run time of the section stays

@@ -256,4 +256,4 @@ module _ (starts : State → Type 0) (allows : List ℕ → State → Writes →
           → Facts starts allows c start m h (faces_of (become seats v.number w))
       walked w p e fits history seen succeeded deaths_seen =
           settle starts allows c start m h seats v.number v w is (record unchanged { past = p; walk = Some y; empty = e }) fits
-              (assumption (history, seen, succeeded, deaths_seen, places, deaths, knowledge, falls, lates, outside, k))
+          (assumption (history, seen, succeeded, deaths_seen, places, deaths, knowledge, falls, lates, outside, k))

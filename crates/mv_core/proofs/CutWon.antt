@@ -1,5 +1,6 @@
 -- compare_exchange HEAD (cut), won: the version was on top of its object's chain and alone is cut, and the master has the present state.
-use Rattle.std.proofs.Common.{◌≡◌, ◌≢◌, ◌⊎◌, ℕ, ◌+◌, ◌-◌, ◌<◌, ◌≤◌, true, false, List, length, refl, sym, ap, ◌∙◌, subst, inl, inr, ⊎_elim, arith, slice_index, Some}
+use Rattle.std.proofs.Common.{◌≡◌, ◌≢◌, ◌⊎◌, ℕ, ◌+◌, ◌-◌, ◌<◌, ◌≤◌, true, false, List}
+use Rattle.std.proofs.Common.{length, refl, sym, ap, ◌∙◌, subst, inl, inr, ⊎_elim, arith, slice_index, Some}
 use mathlib.Core.Logic.{dite}
 use native.Mathlib.Decide.{ℕ_discrete}
 use Rattle.mv_history.specs.declared.Entry.{Entry}
@@ -28,7 +29,8 @@ use Rattle.mv_core.proofs.Frames.{unchanged, changed}
 use Rattle.mv_core.proofs.Latest.{latest-le, latest_at-end, latest-reaches, latest_at-le}
 use Rattle.mv_core.proofs.Links.{live_once, note_once, link_some, names_once, position_once}
 use Rattle.mv_core.proofs.Slots.{Matches, match_weaker, match_put, slots_after, at_here, lives_back, lives_else, live_within, here_or_else}
-use Rattle.mv_core.proofs.Matching.{LivesOn, AlikeOrCut, on_place, gone_forth, uncut_back, none_uncut_forth, none_holds_back, version_back, version_forth, committed_back, committed_forth}
+use Rattle.mv_core.proofs.Matching.{LivesOn, AlikeOrCut, on_place, gone_forth, uncut_back}
+use Rattle.mv_core.proofs.Matching.{none_uncut_forth, none_holds_back, version_back, version_forth, committed_back, committed_forth}
 use Rattle.mv_core.proofs.Versions.{write_once}
 use Rattle.mv_core.proofs.Written.{version_writes, commit_within}
 use Rattle.mv_core.proofs.WordsAt.{words_of-same, version-words}
@@ -38,9 +40,11 @@ use Rattle.mv_core.proofs.MatchedSets as set
 use Rattle.mv_core.proofs.MatchedFacts.{alike_or_cut_facts}
 use Rattle.mv_core.proofs.InPlace.{in_place_put, in_place_facts}
 
-module _ (starts : State → Type 0) (allows : List ℕ → State → Writes → Type 0) (c : Config) (start : State) (m : Memory) (h : List Entry) (f : Faces) (k : Facts starts allows c start m h f)
+module _ (starts : State → Type 0) (allows : List ℕ → State → Writes → Type 0) (c : Config) (start : State) (m : Memory) (h : List Entry) (f : Faces)
+    (k : Facts starts allows c start m h f)
     (n slot : ℕ) (x : Version) (note : CommitNote) (lives : Lives f.ring n slot x (Committed note)) (won : m (Head x.object) ≡ link_of n x.position)
-    (old : NotAboveAny note.time f.time) (words : (i : ℕ) → i < 6 → m (Master x.object i) ≡ slice_index x.words i) (tried : (b : WriteBack) → f.back n ≡ Some b → b.tried ≡ true) where
+    (old : NotAboveAny note.time f.time) (words : (i : ℕ) → i < 6 → m (Master x.object i) ≡ slice_index x.words i)
+    (tried : (b : WriteBack) → f.back n ≡ Some b → b.tried ≡ true) where
   abbrev new : CommitNote
   new = record note { cut = true }
 
@@ -72,14 +76,16 @@ module _ (starts : State → Type 0) (allows : List ℕ → State → Writes →
   on : Matches LivesOn f.ring rings
   on = match_weaker Cuts LivesOn f.ring rings (λ y st z su a. a.0.0.0) matches
 
-  all_slots : (P : ℕ → ℕ → Slot → Type 0) → P n slot (Live x (Committed new)) → ((s j : ℕ) → ¬ ((s ≡ n) × (j ≡ slot)) → P s j (slot_at (f.ring s) j)) → (s j : ℕ) → P s j (slot_at (rings s) j)
+  all_slots : (P : ℕ → ℕ → Slot → Type 0) → P n slot (Live x (Committed new)) → ((s j : ℕ) → ¬ ((s ≡ n) × (j ≡ slot)) → P s j (slot_at (f.ring s) j))
+      → (s j : ℕ) → P s j (slot_at (rings s) j)
   all_slots = slots_after f.ring n slot (Live x (Committed new)) cut_ring refl within
 
   abbrev mine : Names f.ring (link_of n x.position) x (Committed note)
   mine = record { seat = n; slot = slot; lives = lives; is = refl }
 
   -- a committed version afterwards is the one that was cut, or it is as it was
-  committed_was : (s j : ℕ) (y : Version) (o : CommitNote) → Lives rings s j y (Committed o) → ((s ≡ n) × (j ≡ slot) × (y ≡ x) × (o ≡ new)) ⊎ Lives f.ring s j y (Committed o)
+  committed_was : (s j : ℕ) (y : Version) (o : CommitNote) → Lives rings s j y (Committed o)
+      → ((s ≡ n) × (j ≡ slot) × (y ≡ x) × (o ≡ new)) ⊎ Lives f.ring s j y (Committed o)
   committed_was s j y o there =
       ⊎_elim
       (λ a. let one = live_once (Live x (Committed new)) x y (Committed new) (Committed o) refl a.2 in inl (a.0, a.1, sym one.0, sym (note_once new o one.1)))
@@ -100,7 +106,8 @@ module _ (starts : State → Type 0) (allows : List ℕ → State → Writes →
   -- no seat holds the object
   none_holds : NoneHolds f.ring x.object
   none_holds s j y there same =
-      let other : Names f.ring (link_of n x.position) y Held = record { seat = s; slot = j; lives = there; is = sym won ∙ ap (λ (o : ℕ). m (Head o)) (sym same) ∙ k.head_is_top.held s j y there } in
+      let other : Names f.ring (link_of n x.position) y Held =
+      record { seat = s; slot = j; lives = there; is = sym won ∙ ap (λ (o : ℕ). m (Head o)) (sym same) ∙ k.head_is_top.held s j y there } in
       let one = names_once c h f.ring k.checked k.history.in_time k.positions (link_of n x.position) x y (Committed note) Held mine other in
       let clash : Committed note ≡ Held = one.3 in cc
 
@@ -124,9 +131,11 @@ module _ (starts : State → Type 0) (allows : List ℕ → State → Writes →
       ⊎_elim
       (λ a. ap (λ (q : CommitNote). q.cut) a.3)
       (λ was.
-      let one = write_once c start h f.ring k.checked k.history.in_time k.history.legal k.positions k.write_sets v.names.seat n v.names.slot slot y x o note was lives v.object_is (v.time_is ∙ sym is_last) in
+      let one = write_once c start h f.ring k.checked k.history.in_time k.history.legal k.positions k.write_sets v.names.seat n v.names.slot slot y x o note was
+      lives v.object_is (v.time_is ∙ sym is_last) in
       let at : Lives f.ring n v.names.slot y (Committed o) = subst (λ (s : ℕ). Lives f.ring s v.names.slot y (Committed o)) one.0 was in
-      let place = position_once c h f.ring k.checked k.history.in_time k.positions n v.names.slot slot y x (Committed o) (Committed note) at lives (ap (λ (z : Version). z.position) one.1) in
+      let place = position_once c h f.ring k.checked k.history.in_time k.positions n v.names.slot slot y x (Committed o) (Committed note) at lives
+      (ap (λ (z : Version). z.position) one.1) in
       let here : Lives rings n slot y (Committed o) = subst (λ (p : ℕ × ℕ). Lives rings p.0 p.1 y (Committed o)) (λ i. (one.0 i, place.0 i)) v.names.lives in
       let same = live_once (slot_at (rings n) slot) x y (Committed new) (Committed o) cut_here here in
       ap (λ (q : CommitNote). q.cut) (sym (note_once new o same.1)))
@@ -172,7 +181,8 @@ module _ (starts : State → Type 0) (allows : List ℕ → State → Writes →
       top_still y.object (latest c.base h y.object) y.previous (none_holds s j y was) (k.held_link s j y was)
 
   -- no later write of the object lies above it
-  none_above : (s j : ℕ) (y : Version) (o : CommitNote) → Lives f.ring s j y (Committed o) → y.object ≡ x.object → latest_at c.base h y.object (o.time - 1) ≡ note.time → ⊥
+  none_above : (s j : ℕ) (y : Version) (o : CommitNote) → Lives f.ring s j y (Committed o) → y.object ≡ x.object
+      → latest_at c.base h y.object (o.time - 1) ≡ note.time → ⊥
   none_above s j y o there same at =
       let w = version_writes c h f.ring k.write_sets s j y o there in
       let top : o.time ≤ last = latest-reaches c.base h x.object o.time w.0 w.1 (ap (λ (p : ℕ). writes_to p w.0) (sym same) ∙ w.2) in
@@ -193,7 +203,9 @@ module _ (starts : State → Type 0) (allows : List ℕ → State → Writes →
             let at : t ≡ note.time = sym v.time_is ∙ ap (λ (p : CommitNote). p.time) a.3 in
             let same : y.object ≡ x.object = sym v.object_is ∙ ap (λ (p : Version). p.object) a.2 in
             absurd (none_above s j y b.0 b.1 same (subst (λ (u : ℕ). latest_at c.base h y.object (u - 1) ≡ note.time) b.2 at)))
-            (λ was. r.cut link z q (record { names = record { seat = v.names.seat; slot = v.names.slot; lives = was; is = v.names.is }; object_is = v.object_is; time_is = v.time_is }) cut)
+            (λ was. r.cut link z q
+            (record { names = record { seat = v.names.seat; slot = v.names.slot; lives = was; is = v.names.is }; object_is = v.object_is; time_is = v.time_is })
+            cut)
             (committed_was v.names.seat v.names.slot z q v.names.lives);
         none = λ none.
             ⊎_elim (λ a. inl a) (λ g. inr (gone_forth LivesOn on_place f.ring rings on y.previous g))
@@ -207,13 +219,15 @@ module _ (starts : State → Type 0) (allows : List ℕ → State → Writes →
       let ended : latest_at c.base h x.object (c.base + length h) ≡ last = latest_at-end c.base h x.object (c.base + length h) (omega arith) in
       let is = is_last in
       let same : words_of c start h (c.base + length h) x.object ≡ x.words =
-      words_of-same c start h note.time (c.base + length h) x.object (let le = latest-le c.base h x.object in omega arith) (omega arith) ∙ version-words c start h k.history.legal f.ring n x note co in
+      words_of-same c start h note.time (c.base + length h) x.object (let le = latest-le c.base h x.object in omega arith) (omega arith) ∙
+      version-words c start h k.history.legal f.ring n x note co in
       words i lt ∙ ap (λ (l : List ℕ). slice_index l i) (sym same)
 
   masters : PresentMaster c start h master f.time rings
   masters o none =
       dite (ℕ_discrete o x.object)
-      (λ e. subst (λ (p : ℕ). AreThe (master p) (words_of c start h (c.base + length h) p) × NotAboveAny (latest c.base h p) f.time) (sym e) (is_present, subst (λ (t : ℕ). NotAboveAny t f.time) is_last old))
+      (λ e. subst (λ (p : ℕ). AreThe (master p) (words_of c start h (c.base + length h) p) × NotAboveAny (latest c.base h p) f.time) (sym e)
+      (is_present, subst (λ (t : ℕ). NotAboveAny t f.time) is_last old))
       (λ ne. k.present_master o (λ link y q v. none link y q (record {
         names = record { seat = v.names.seat; slot = v.names.slot; lives = other_still v.names.seat v.names.slot y (Committed q) v.names.lives (λ e. ne (sym v.object_is ∙ e)); is = v.names.is };
         object_is = v.object_is;

@@ -1,4 +1,5 @@
--- What holds of deaths and of unfinished commits stays where each live version stays what it is to the other seats, but that it may be cut, and what its owner noted of it stays.
+-- What holds of deaths and of unfinished commits stays where each live version stays what it is to the other seats, but that it may be cut, and what its owner
+-- noted of it stays.
 use Rattle.std.proofs.Common.{◌≡◌, ℕ, ◌+◌, ◌/◌, ◌<◌, ◌≤◌, true, false, Bool, List, length, refl, sym, ap, ◌∙◌, subst, arith, Option, Some, None}
 use Rattle.mv_history.specs.declared.Entry.{Entry}
 use Rattle.mv_history.specs.State.{State, Writes}
@@ -94,7 +95,8 @@ module _ (c : Config) (h : List Entry) (before after : ℕ → Ring) (k : Matche
       let same : Some t ≡ w.0 = b.3.1 ∙ ap death_in w.1 in
       subst (λ (v : Version). Lives before s j v (Aborted (Some t))) (sym w.2) (subst (Lives before s j b.0) (w.1 ∙ ap Aborted (sym same)) b.2)
 
-  pub this_committed : (s j : ℕ) (y : Version) (n : CommitNote) → Lives after s j y (Committed n) → (m : CommitNote) × Lives before s j y (Committed m) × IsNoteOf m n
+  pub this_committed : (s j : ℕ) (y : Version) (n : CommitNote) → Lives after s j y (Committed n)
+      → (m : CommitNote) × Lives before s j y (Committed m) × IsNoteOf m n
   this_committed s j y n lives =
       let b = k.back s j y (Committed n) lives in
       let w = was_committed b.0 y b.1 n b.3.0 in

@@ -1,4 +1,5 @@
--- What a load of CLOCK that times dead versions makes of each version of the log: an aborted or cut one that waits for its time of death gets it, and else it is as before.
+-- What a load of CLOCK that times dead versions makes of each version of the log: an aborted or cut one that waits for its time of death gets it, and else it
+-- is as before.
 use Rattle.std.proofs.Common.{◌≡◌, ◌⊎◌, ℕ, ◌+◌, ◌<◌, ◌≤◌, Bool, true, false, cond, refl, sym, ap, ◌∙◌, subst, inl, inr, ⊎_elim, Option, Some, None}
 use Rattle.mv_core.specs.declared.ring.Slot.{Slot}
 use Rattle.mv_core.specs.declared.ring.Slot.TheVariants.{Free, Built, Live, Freeing}
@@ -87,7 +88,8 @@ before_timed t d (Committed m) lt a = λ dead e. ⊎_elim (λ was. a dead was) (
 -- where the new death is at most the time after what was seen, the status after it notes none that is later
 pub timed_seen : (now d : ℕ) (st : Status) → d ≤ now + 1 → DeathSeen now st → DeathSeen now (timed_status d st)
 timed_seen now d Held le old = old
-timed_seen now d (Aborted o) le old = λ dead e. (⊎_elim (λ was. (old dead was).0) (λ is. subst (λ (t : ℕ). t ≤ now + 1) (sym is) le) (dead_is d o dead e), λ none. absurd none)
+timed_seen now d (Aborted o) le old =
+    λ dead e. (⊎_elim (λ was. (old dead was).0) (λ is. subst (λ (t : ℕ). t ≤ now + 1) (sym is) le) (dead_is d o dead e), λ none. absurd none)
 timed_seen now d (Committed m) le old = λ dead e. (
   ⊎_elim (λ was. (old dead was).0) (λ is. subst (λ (t : ℕ). t ≤ now + 1) (sym is) le) (note_dead d m dead e),
   λ uncut. let was : m.cut ≡ false = sym (note_cut d m) ∙ uncut in (old dead (ap (λ (o : CommitNote). o.dead) (sym (note_uncut d m was)) ∙ e)).1 was,

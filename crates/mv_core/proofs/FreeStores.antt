@@ -30,7 +30,8 @@ use Rattle.mv_core.proofs.FreedSets as sets
 use Rattle.mv_core.proofs.FreedChains as chain
 use Rattle.mv_core.proofs.FreedWalks as walks
 
-module _ (starts : State → Type 0) (allows : List ℕ → State → Writes → Type 0) (c : Config) (start : State) (m : Memory) (h : List Entry) (f : Faces) (k : Facts starts allows c start m h f) (n position : ℕ) (r : Ring) (is : IsFreed c f n position r) where
+module _ (starts : State → Type 0) (allows : List ℕ → State → Writes → Type 0) (c : Config) (start : State) (m : Memory) (h : List Entry) (f : Faces)
+    (k : Facts starts allows c start m h f) (n position : ℕ) (r : Ring) (is : IsFreed c f n position r) where
   abbrev later : ℕ → Ring
   later = log.later starts allows c start m h f k n position r is
 
@@ -90,7 +91,8 @@ freeing_same position (Built b) apart = refl
 freeing_same position (Freeing p first) apart = refl
 freeing_same position (Live x st) apart = ap (λ (b : Bool). cond b (Freeing x.position x.first) (Live x st)) (ne_eqb x.first position (apart x st refl))
 
-module _ (starts : State → Type 0) (allows : List ℕ → State → Writes → Type 0) (c : Config) (start : State) (m : Memory) (h : List Entry) (seats : ℕ → View) (k : Facts starts allows c start m h (faces_of seats))
+module _ (starts : State → Type 0) (allows : List ℕ → State → Writes → Type 0) (c : Config) (start : State) (m : Memory) (h : List Entry) (seats : ℕ → View)
+    (k : Facts starts allows c start m h (faces_of seats))
     (v : View) (is : seats v.number ≡ v) (position : ℕ) (may : MayStoreFree c v position) where
   abbrev n : ℕ
   n = v.number
@@ -111,19 +113,22 @@ module _ (starts : State → Type 0) (allows : List ℕ → State → Writes →
       let used : UsesPosition (Live x st) position = subst (λ (z : Slot). UsesPosition z position) e may.in_use in
       let position_is : x.position ≡ position = used in
       let first = k.write_sets.first n slot x st lives in
-      let there : slot_at v.ring (index_of c x.first) ≡ Live first.version first.status = ap (λ (q : Ring). slot_at q (index_of c x.first)) (sym ring_is) ∙ first.lives in
+      let there : slot_at v.ring (index_of c x.first) ≡ Live first.version first.status =
+      ap (λ (q : Ring). slot_at q (index_of c x.first)) (sym ring_is) ∙ first.lives in
       let low = may.oldest (index_of c x.first) x.first (subst (λ (z : Slot). UsesPosition z x.first) (sym there) first.position_is) in
       let high = k.write_sets.after_first n slot x st lives in
       omega arith
 
   -- a version whose set begins there is of the set in that slot
-  set_there : (j : ℕ) (x : Version) (st : Status) → slot_at v.ring j ≡ Live x st → x.first ≡ position → (y : Version) × (su : Status) × (slot_at v.ring slot ≡ Live y su)
+  set_there : (j : ℕ) (x : Version) (st : Status) → slot_at v.ring j ≡ Live x st → x.first ≡ position
+      → (y : Version) × (su : Status) × (slot_at v.ring slot ≡ Live y su)
   set_there j x st e same =
       let first = k.write_sets.first n j x st (ap (λ (q : Ring). slot_at q j) ring_is ∙ e) in
       (first.version, first.status, ap (λ (q : Ring). slot_at q slot) (sym ring_is) ∙ subst (λ (p : ℕ). Lives f.ring n (index_of c p) first.version first.status) same first.lives)
 
   abbrev AreFreed : Ring → Type 0
-  AreFreed r = (r.next ≡ v.ring.next) × (length r.slots ≡ length v.ring.slots) × (slot_at r slot ≡ Free) × ((j : ℕ) → j ≢ slot → slot_at r j ≡ freeing_slot position (slot_at v.ring j))
+  AreFreed r = (r.next ≡ v.ring.next) × (length r.slots ≡ length v.ring.slots) × (slot_at r slot ≡ Free) ×
+      ((j : ℕ) → j ≢ slot → slot_at r j ≡ freeing_slot position (slot_at v.ring j))
       × ((j : ℕ) (x : Version) (st : Status) → slot_at v.ring j ≡ Live x st → x.first ≡ position → IsDeadBy v.grace st)
 
   freed : (z : Slot) → slot_at v.ring slot ≡ z → AreFreed (freed_ring v.ring slot z)
@@ -176,7 +181,8 @@ module _ (starts : State → Type 0) (allows : List ℕ → State → Writes →
   free_runs : (position : ℕ) → MayStoreFree c v position → RunsOn v (free_stored c v position)
   free_runs position may time first timed begun = (timed, λ i e mode some. let clash : Outside ≡ Inside i = sym may.outside ∙ e in absurd (cc))
 
-  pub free_stores : (position : ℕ) → MayStoreFree c v position → Stores starts allows c start v (Stamp v.number (index_of c position)) 0 (λ w. ((w ≡ free_stored c v position) × RunsOn v w) × IsKept v w)
+  pub free_stores : (position : ℕ) → MayStoreFree c v position
+      → Stores starts allows c start v (Stamp v.number (index_of c position)) 0 (λ w. ((w ≡ free_stored c v position) × RunsOn v w) × IsKept v w)
   free_stores position may m h seats k is own begins = (
     free_stored c v position,
     h,

@@ -49,7 +49,8 @@ in_place_put rings n j r x y st su lives written =
     }
 
 -- the slots of a log were mapped, and the map changes live versions alone
-pub in_place_map : (rings : ℕ → Ring) (n : ℕ) (f : Slot → Slot) (free : f Free ≡ Free) → ((z : Slot) → IsUnlived z → f z ≡ z) → ((z : Slot) → IsUnlived (f z) → IsUnlived z)
+pub in_place_map : (rings : ℕ → Ring) (n : ℕ) (f : Slot → Slot) (free : f Free ≡ Free) → ((z : Slot) → IsUnlived z → f z ≡ z)
+    → ((z : Slot) → IsUnlived (f z) → IsUnlived z)
     → StaysInPlace rings (mapped rings n f free)
 in_place_map rings n f free same was = record {
   wide = wide_mapped rings n f free;
@@ -68,14 +69,16 @@ pub record InPlaceFacts (c : Config) (m : Memory) (h : List Entry) (f : Faces) (
   pub built : (s j : ℕ) (b : Build) → slot_at (rings s) j ≡ Built b → c.base + (rings s).next / c.slots ≤ f.grace s
   pub freeing : (s j p first : ℕ) → slot_at (rings s) j ≡ Freeing p first → c.base + p / c.slots < f.grace s
 
-pub in_place_facts : (starts : State → Type 0) (allows : List ℕ → State → Writes → Type 0) (c : Config) (start : State) (m : Memory) (h : List Entry) (f : Faces)
+pub in_place_facts : (starts : State → Type 0) (allows : List ℕ → State → Writes
+    → Type 0) (c : Config) (start : State) (m : Memory) (h : List Entry) (f : Faces)
     → Facts starts allows c start m h f → (rings : ℕ → Ring) → Matches LivesOn f.ring rings → StaysInPlace f.ring rings → InPlaceFacts c m h f rings
 in_place_facts starts allows c start m h f k rings on stays =
     let stamp : ℕ → ℕ → ℕ = λ s j. m (Stamp s j) in
     let super : ℕ → ℕ → ℕ = λ s j. m (Super s j) in
     let built_back : (s j : ℕ) (b : Build) → slot_at (rings s) j ≡ Built b → slot_at (f.ring s) j ≡ Built b = λ s j b. stays.back s j (Built b) tt in
     let next_is : (s : ℕ) → (rings s).next ≡ (f.ring s).next = on.next in record {
-      stamps = stamped.stamps_match c h f.ring rings on stamp stamp (λ s j x st l. refl) (m Clock) (λ s j b e. k.stamps.built s j b (built_back s j b e)) k.stamps;
+      stamps = stamped.stamps_match c h f.ring rings on stamp stamp (λ s j x st l. refl) (m Clock)
+          (λ s j b e. k.stamps.built s j b (built_back s j b e)) k.stamps;
       positions = set.positions_match c h f.ring rings on stays.wide (λ s j p first. stays.back s j (Freeing p first) tt)
           (λ s j p first. stays.forth s j (Freeing p first) tt) (λ s j b e. k.positions.built s j b (built_back s j b e)) k.positions;
       successors = stamped.successors_match c h f.ring rings on super super (λ s j x st l. refl) stamp stamp (λ s j x st l. refl) f.section

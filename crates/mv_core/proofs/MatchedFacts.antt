@@ -1,4 +1,5 @@
--- All facts that stay where each live version stays what it is to the other seats, and the stamp of its write set too: the frame of a step that changes one log.
+-- All facts that stay where each live version stays what it is to the other seats, and the stamp of its write set too: the frame of a step that changes one
+-- log.
 use Rattle.std.proofs.Common.{◌≡◌, ◌≢◌, ℕ, ◌+◌, ◌/◌, ◌<◌, ◌≤◌, List, refl, sym, subst}
 use Rattle.mv_history.specs.declared.Entry.{Entry}
 use Rattle.mv_history.specs.State.{State, Writes}

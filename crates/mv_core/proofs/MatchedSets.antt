@@ -19,7 +19,10 @@ use Rattle.mv_core.specs.SectionFacts.{LockFreshness, OpenSection}
 use Rattle.mv_core.specs.ChainFacts.{HeadIsTop, HeldLink, LinksBelow, CommitLink, AbortedLink, PresentMaster, IsGrounded, ChainFoot}
 use Rattle.mv_core.specs.ReclaimFacts.{FreedIsOld, CutIsOld}
 use Rattle.mv_core.proofs.Slots.{Matches, match_weaker}
-use Rattle.mv_core.proofs.Matching.{LivesOn, AlikeOrCut, SameCut, on_place, alike_place, uncommitted_forth, uncommitted_back, still_held, unnamed_back, gone_forth, first_forth, set_forth, use_forth, use_back, held_back, aborted_back, committed_back, committed_forth, names_committed_forth, version_back, version_forth, none_holds_back, none_uncut_back, top_forth}
+use Rattle.mv_core.proofs.Matching.{LivesOn, AlikeOrCut, SameCut, on_place, alike_place, uncommitted_forth}
+use Rattle.mv_core.proofs.Matching.{uncommitted_back, still_held, unnamed_back, gone_forth, first_forth, set_forth}
+use Rattle.mv_core.proofs.Matching.{use_forth, use_back, held_back, aborted_back, committed_back, committed_forth}
+use Rattle.mv_core.proofs.Matching.{names_committed_forth, version_back, version_forth, none_holds_back, none_uncut_back, top_forth}
 
 module _ (c : Config) (h : List Entry) (before after : ℕ → Ring) (k : Matches LivesOn before after) where
   -- nothing is held still
@@ -63,7 +66,8 @@ module _ (c : Config) (h : List Entry) (before after : ℕ → Ring) (k : Matche
         let first = at.first in
         let position = at.position in
         let r = w.between s j b.0 b.1 b.2 p (omega arith) (omega arith) in
-        subst (λ (i : ℕ). InSet c after s i p) (sym first) (set_forth LivesOn on_place before after k (λ st. Unit {0}) (λ st. Unit {0}) (λ _ _ _ _ _ _. tt) c s b.0.first p r);
+        subst (λ (i : ℕ). InSet c after s i p) (sym first)
+        (set_forth LivesOn on_place before after k (λ st. Unit {0}) (λ st. Unit {0}) (λ _ _ _ _ _ _. tt) c s b.0.first p r);
     apart = λ s j l y z su n p uncommitted q e.
         let a = k.back s j y su p in
         let b = committed_back before after k s l z n q in
@@ -73,11 +77,14 @@ module _ (c : Config) (h : List Entry) (before after : ℕ → Ring) (k : Matche
         let first = b.2.first in
         let next = k.next s in
         let r = w.held s j b.0 b.1 p (omega arith) (omega arith) in
-        subst (λ (i : ℕ). InHeldSet c after s i p IsHeldOrAborted) (sym first) (set_forth LivesOn on_place before after k IsHeldOrAborted IsHeldOrAborted uncommitted_forth c s b.0.first p r);
+        subst (λ (i : ℕ). InHeldSet c after s i p IsHeldOrAborted) (sym first)
+        (set_forth LivesOn on_place before after k IsHeldOrAborted IsHeldOrAborted uncommitted_forth c s b.0.first p r);
   }
 
   -- positions, where each log has as many slots, what is freed stays, and a built slot is for the next position
-  pub positions_match : ((s : ℕ) → length (after s).slots ≡ length (before s).slots) → ((s j p first : ℕ) → slot_at (after s) j ≡ Freeing p first → slot_at (before s) j ≡ Freeing p first) → ((s j p first : ℕ) → slot_at (before s) j ≡ Freeing p first → slot_at (after s) j ≡ Freeing p first)
+  pub positions_match : ((s : ℕ) → length (after s).slots ≡ length (before s).slots)
+      → ((s j p first : ℕ) → slot_at (after s) j ≡ Freeing p first → slot_at (before s) j ≡ Freeing p first)
+      → ((s j p first : ℕ) → slot_at (before s) j ≡ Freeing p first → slot_at (after s) j ≡ Freeing p first)
       → ((s j : ℕ) (b : Build) → slot_at (after s) j ≡ Built b → index_of c (before s).next ≡ j) → Positions c h before → Positions c h after
   positions_match wide freeing freeing_still built old = record {
     wide = λ s. wide s ∙ old.wide s;
@@ -108,7 +115,8 @@ module _ (c : Config) (h : List Entry) (before after : ℕ → Ring) (k : Matche
     built = λ s j b e. ap (index_of c) (k.next s) ∙ built s j b e;
     no_gap = λ s p q in_use le lt.
         let next = k.next s in
-        use_forth LivesOn on_place before after k freeing_still c s q (old.no_gap s p q (use_back LivesOn on_place before after k freeing c s p in_use) le (omega arith));
+        use_forth LivesOn on_place before after k freeing_still c s q
+        (old.no_gap s p q (use_back LivesOn on_place before after k freeing c s p in_use) le (omega arith));
     bound = λ s. let next = k.next s in let le = old.bound s in omega arith;
   }
 
@@ -143,13 +151,15 @@ module _ (c : Config) (h : List Entry) (before after : ℕ → Ring) (k : Matche
     held_link_match old s j y lives =
         let b = held_back before after k s j y lives in
         let top : IsTop after b.0.object (latest c.base h b.0.object) y.previous =
-        subst (IsTop after b.0.object (latest c.base h b.0.object)) (sym b.2.previous) (top_still b.0.object (latest c.base h b.0.object) b.0.previous (old s j b.0 b.1)) in
+        subst (IsTop after b.0.object (latest c.base h b.0.object)) (sym b.2.previous)
+        (top_still b.0.object (latest c.base h b.0.object) b.0.previous (old s j b.0 b.1)) in
         subst (λ (o : ℕ). IsTop after o (latest c.base h o) y.previous) (sym b.2.object) top
 
     pub commit_link_match : CommitLink c h before → CommitLink c h after
     commit_link_match old s j x n lives =
         let b = committed_back before after k s j x n lives in
-        let r : LinksBelow before x (latest_at c.base h x.object (n.time - 1)) = subst (λ (t : ℕ). LinksBelow before x (latest_at c.base h x.object (t - 1))) (sym b.2) (old s j x b.0 b.1) in
+        let r : LinksBelow before x (latest_at c.base h x.object (n.time - 1)) =
+        subst (λ (t : ℕ). LinksBelow before x (latest_at c.base h x.object (t - 1))) (sym b.2) (old s j x b.0 b.1) in
         let t : ℕ = latest_at c.base h x.object (n.time - 1) in record {
           uncut = λ link y note v uncut.
               let p = version_back before after k x.object t link y note v in
@@ -162,7 +172,8 @@ module _ (c : Config) (h : List Entry) (before after : ℕ → Ring) (k : Matche
               (r.none (λ link y m v. let f = version_forth before after k x.object t link y m v in none link y f.0 f.1));
         }
 
-    pub master_match : (start : State) (master : ℕ → ℕ → ℕ) (time : ℕ → Option ℕ) → PresentMaster c start h master time before → PresentMaster c start h master time after
+    pub master_match : (start : State) (master : ℕ → ℕ → ℕ) (time : ℕ → Option ℕ) → PresentMaster c start h master time before
+        → PresentMaster c start h master time after
     master_match start master time old o none = old o (none_uncut_back before after k same_cut o (latest c.base h o) none)
 
     pub cut_match : (time : ℕ → Option ℕ) → CutIsOld time before → CutIsOld time after
@@ -187,7 +198,8 @@ module _ (c : Config) (h : List Entry) (before after : ℕ → Ring) (k : Matche
         let first = b.2.first in
         let next = k.next s in
         let r = old.whole s j b.0 inside b.1 in_section mode p (omega arith) (omega arith) in
-        subst (λ (i : ℕ). InHeldSet c after s i p (λ st. st ≡ Held)) (sym first) (set_forth AlikeOrCut alike_place before after k (λ st. st ≡ Held) (λ st. st ≡ Held) still_held c s b.0.first p r);
+        subst (λ (i : ℕ). InHeldSet c after s i p (λ st. st ≡ Held)) (sym first)
+        (set_forth AlikeOrCut alike_place before after k (λ st. st ≡ Held) (λ st. st ≡ Held) still_held c s b.0.first p r);
   }
 
   pub aborted_link_match : AbortedLink before → AbortedLink after

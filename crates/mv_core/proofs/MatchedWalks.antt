@@ -1,4 +1,5 @@
--- What holds of walks stays where each live version stays what it is to the other seats; and what holds of deaths and of unfinished commits, where what the owner noted stays too.
+-- What holds of walks stays where each live version stays what it is to the other seats; and what holds of deaths and of unfinished commits, where what the
+-- owner noted stays too.
 use Rattle.std.proofs.Common.{◌≡◌, ◌⊎◌, ℕ, ◌<◌, List, refl, sym, ap, ◌∙◌, subst, inl, inr, ⊎_elim, Option}
 use Rattle.mv_history.specs.declared.Entry.{Entry}
 use Rattle.mv_history.specs.State.{State}
@@ -18,10 +19,12 @@ use Rattle.mv_core.specs.Times.{latest_at}
 use Rattle.mv_core.specs.SetFacts.{stamp_of}
 use Rattle.mv_core.specs.WalkFacts.{MasterServes, IsRightFor, MayStandAt, StandsRight, WalkerPlace, WalkerKnowledge, IsBelowPassed, WalkerFalls, WalkerLate}
 use Rattle.mv_core.proofs.Slots.{Matches, match_weaker}
-use Rattle.mv_core.proofs.Matching.{LivesOn, AlikeOrCut, on_place, alike_place, is_committed_so, names_back, names_committed_forth, committed_back, none_uncut_forth}
+use Rattle.mv_core.proofs.Matching.{LivesOn, AlikeOrCut, on_place, alike_place}
+use Rattle.mv_core.proofs.Matching.{is_committed_so, names_back, names_committed_forth, committed_back, none_uncut_forth}
 
 -- a link names the version that is there
-abbrev names_at : (rings : ℕ → Ring) (link seat slot : ℕ) (x : Version) (st : Status) → Lives rings seat slot x st → (p : ℕ) → x.position ≡ p → link ≡ link_of seat p → Names rings link x st
+abbrev names_at : (rings : ℕ → Ring) (link seat slot : ℕ) (x : Version) (st : Status) → Lives rings seat slot x st → (p : ℕ) → x.position ≡ p
+    → link ≡ link_of seat p → Names rings link x st
 names_at rings link seat slot x st lives p e is = record { seat = seat; slot = slot; lives = lives; is = is ∙ ap (link_of seat) (sym e) }
 
 module _ (c : Config) (h : List Entry) (before after : ℕ → Ring) (k : Matches AlikeOrCut before after) where
@@ -36,7 +39,8 @@ module _ (c : Config) (h : List Entry) (before after : ℕ → Ring) (k : Matche
     right_match t x y m n same time a =
         subst (λ (v : Version). IsRightFor c h t v n) (sym same) (subst (λ (u : ℕ). (t < u) ⊎ (u ≡ latest_at c.base h x.object t)) (sym time) a)
 
-    stand_match : (t : ℕ) (x : Version) (st : Status) (y : Version) (su : Status) → AlikeOrCut x st y su → MayStandAt c start h master before t x st → MayStandAt c start h master after t y su
+    stand_match : (t : ℕ) (x : Version) (st : Status) (y : Version) (su : Status) → AlikeOrCut x st y su → MayStandAt c start h master before t x st
+        → MayStandAt c start h master after t y su
     stand_match t x Held y Held a may = tt
     stand_match t x (Committed m) y (Committed n) a may = right_match t x y m n a.0.0 a.0.1 may
     stand_match t x (Aborted d) y (Aborted e) a may =
@@ -66,7 +70,8 @@ module _ (c : Config) (h : List Entry) (before after : ℕ → Ring) (k : Matche
     place_match time walk old s t e = stands_match t (walk s) (old s t e)
 
 module _ (c : Config) (before after : ℕ → Ring) (k : Matches LivesOn before after) where
-  pub knowledge_match : (section : ℕ → Option Section) (time : ℕ → Option ℕ) (heard : ℕ → Heard) (walk : ℕ → Walk) → WalkerKnowledge section time heard walk before → WalkerKnowledge section time heard walk after
+  pub knowledge_match : (section : ℕ → Option Section) (time : ℕ → Option ℕ) (heard : ℕ → Heard) (walk : ℕ → Walk)
+      → WalkerKnowledge section time heard walk before → WalkerKnowledge section time heard walk after
   knowledge_match section time heard walk old = record {
     helped = old.helped;
     first = λ s first stand y su e f names.
@@ -79,10 +84,12 @@ module _ (c : Config) (before after : ℕ → Ring) (k : Matches LivesOn before 
         (i.0, i.1, i.3 ∙ r.2);
     unset = λ s t found stand x n e w f unset names.
         let b = committed_back before after k names.seat names.slot x n names.lives in
-        subst (λ (u : ℕ). t < u) (sym b.2) (old.unset s t found stand x b.0 e w f unset (record { seat = names.seat; slot = names.slot; lives = b.1; is = names.is }));
+        subst (λ (u : ℕ). t < u) (sym b.2) (old.unset s t found stand x b.0 e w f unset
+        (record { seat = names.seat; slot = names.slot; lives = b.1; is = names.is }));
   }
 
-  pub falls_match : (stamp stamp' : ℕ → ℕ → ℕ) → ((s j : ℕ) (x : Version) (st : Status) → Lives before s j x st → stamp_of c stamp' s x ≡ stamp_of c stamp s x) → (walk : ℕ → Walk) → WalkerFalls c stamp walk before → WalkerFalls c stamp' walk after
+  pub falls_match : (stamp stamp' : ℕ → ℕ → ℕ) → ((s j : ℕ) (x : Version) (st : Status) → Lives before s j x st → stamp_of c stamp' s x ≡ stamp_of c stamp s x)
+      → (walk : ℕ → Walk) → WalkerFalls c stamp walk before → WalkerFalls c stamp' walk after
   falls_match stamp stamp' same walk old = record {
     stamped = λ s stand y su e passed names.
         let b = k.back names.seat names.slot y su names.lives in

@@ -1,4 +1,5 @@
--- Links, first versions and tops where the live versions of the logs before and after a step match; and the relation in which the versions stay what they are to other seats.
+-- Links, first versions and tops where the live versions of the logs before and after a step match; and the relation in which the versions stay what they are
+-- to other seats.
 use Rattle.std.proofs.Common.{◌≡◌, ℕ, ◌<◌, true, false, Bool, refl, sym, ap, ◌∙◌, subst, inl, inr, ⊎_elim, Option, Some, None}
 use Rattle.mv_layout.specs.declared.Config.{Config}
 use Rattle.mv_layout.specs.Words.{link_of}
@@ -65,14 +66,16 @@ module _ (R : Becomes) (places : KeepsPlace R) (before after : ℕ → Ring) (k 
       }
 
   -- a position in use, where freeing slots stay
-  pub use_forth : ((s j p first : ℕ) → slot_at (before s) j ≡ Freeing p first → slot_at (after s) j ≡ Freeing p first) → (c : Config) (s p : ℕ) → InUse before c s p → InUse after c s p
+  pub use_forth : ((s j p first : ℕ) → slot_at (before s) j ≡ Freeing p first → slot_at (after s) j ≡ Freeing p first) → (c : Config) (s p : ℕ)
+      → InUse before c s p → InUse after c s p
   use_forth freeing c s p u =
       ⊎_elim
       (λ a. let f = k.forth s (index_of c p) a.0 a.1 a.2 in inl (f.0, f.1, f.2, (places a.0 a.1 f.0 f.1 f.3).position ∙ a.3))
       (λ b. inr (b.0, freeing s (index_of c p) p b.0 b.1))
       u
 
-  pub use_back : ((s j p first : ℕ) → slot_at (after s) j ≡ Freeing p first → slot_at (before s) j ≡ Freeing p first) → (c : Config) (s p : ℕ) → InUse after c s p → InUse before c s p
+  pub use_back : ((s j p first : ℕ) → slot_at (after s) j ≡ Freeing p first → slot_at (before s) j ≡ Freeing p first) → (c : Config) (s p : ℕ)
+      → InUse after c s p → InUse before c s p
   use_back freeing c s p u =
       ⊎_elim
       (λ a. let b = k.back s (index_of c p) a.0 a.1 a.2 in inl (b.0, b.1, b.2, sym (places b.0 b.1 a.0 a.1 b.3).position ∙ a.3))
@@ -80,13 +83,15 @@ module _ (R : Becomes) (places : KeepsPlace R) (before after : ℕ → Ring) (k 
       u
 
   -- a position of a write set, where what is known of its version goes on
-  pub set_forth : (P Q : Status → Type 0) → ((x : Version) (st : Status) (y : Version) (su : Status) → R x st y su → P st → Q su) → (c : Config) (s first p : ℕ) → InHeldSet c before s first p P → InHeldSet c after s first p Q
+  pub set_forth : (P Q : Status → Type 0) → ((x : Version) (st : Status) (y : Version) (su : Status) → R x st y su → P st → Q su) → (c : Config) (s first p : ℕ)
+      → InHeldSet c before s first p P → InHeldSet c after s first p Q
   set_forth P Q goes_on c s first p r =
       let f = k.forth s (index_of c p) r.version r.status r.lives in
       let at = places r.version r.status f.0 f.1 f.3 in
       record { version = f.0; status = f.1; lives = f.2; position_is = at.position ∙ r.position_is; first_is = at.first ∙ r.first_is; known = goes_on r.version r.status f.0 f.1 f.3 r.known }
 
--- A version lives on: a held one in its place, or as an aborted one with no death noted, and a committed one of its time, and cut if it was; the words of a held one, and what its owner noted besides, may change.
+-- A version lives on: a held one in its place, or as an aborted one with no death noted, and a committed one of its time, and cut if it was; the words of a
+-- held one, and what its owner noted besides, may change.
 abbrev pub LivesOn : Becomes
 LivesOn x Held y Held = IsSamePlace x y
 LivesOn x Held y (Aborted e) = (y ≡ x) × (e ≡ None)
@@ -159,7 +164,8 @@ was_dead x y Held t a = let none : Some t ≡ None = a.1 in absurd (cc)
 was_dead x y (Aborted d) t a = (d, refl, a)
 was_dead x y (Committed m) t a = absurd a
 
-pub was_committed : (x y : Version) (st : Status) (n : CommitNote) → LivesOn x st y (Committed n) → (m : CommitNote) × (st ≡ Committed m) × (y ≡ x) × (n.time ≡ m.time) × (m.cut ≡ true → n.cut ≡ true)
+pub was_committed : (x y : Version) (st : Status) (n : CommitNote) → LivesOn x st y (Committed n)
+    → (m : CommitNote) × (st ≡ Committed m) × (y ≡ x) × (n.time ≡ m.time) × (m.cut ≡ true → n.cut ≡ true)
 was_committed x y Held n a = absurd a
 was_committed x y (Aborted d) n a = absurd a
 was_committed x y (Committed m) n a = (m, refl, a.0, a.1, a.2)
@@ -168,7 +174,8 @@ was_committed x y (Committed m) n a = (m, refl, a.0, a.1, a.2)
 is_held_still : (x y : Version) (su : Status) → AlikeOrCut x Held y su → (su ≡ Held) × IsSamePlace x y
 is_held_still x y su a = (a.1 refl, on_place x Held y su a.0)
 
-is_committed_still : (x y : Version) (su : Status) (m : CommitNote) → LivesOn x (Committed m) y su → (n : CommitNote) × (su ≡ Committed n) × (y ≡ x) × (n.time ≡ m.time) × (m.cut ≡ true → n.cut ≡ true)
+is_committed_still : (x y : Version) (su : Status) (m : CommitNote) → LivesOn x (Committed m) y su
+    → (n : CommitNote) × (su ≡ Committed n) × (y ≡ x) × (n.time ≡ m.time) × (m.cut ≡ true → n.cut ≡ true)
 is_committed_still x y Held m a = absurd a
 is_committed_still x y (Aborted d) m a = absurd a
 is_committed_still x y (Committed n) m a = (n, refl, a.0, a.1, a.2)
@@ -177,7 +184,8 @@ is_committed_still x y (Committed n) m a = (n, refl, a.0, a.1, a.2)
 pub still_held : (x : Version) (st : Status) (y : Version) (su : Status) → AlikeOrCut x st y su → st ≡ Held → su ≡ Held
 still_held x st y su a = a.1
 
-pub is_committed_so : (x : Version) (st : Status) (y : Version) (su : Status) (m : CommitNote) → LivesOn x st y su → st ≡ Committed m → (n : CommitNote) × (su ≡ Committed n) × (y ≡ x) × (n.time ≡ m.time) × (m.cut ≡ true → n.cut ≡ true)
+pub is_committed_so : (x : Version) (st : Status) (y : Version) (su : Status) (m : CommitNote) → LivesOn x st y su → st ≡ Committed m
+    → (n : CommitNote) × (su ≡ Committed n) × (y ≡ x) × (n.time ≡ m.time) × (m.cut ≡ true → n.cut ≡ true)
 is_committed_so x st y su m a e = is_committed_still x y su m (subst (λ (s : Status). LivesOn x s y su) e a)
 
 pub uncommitted_forth : (x : Version) (st : Status) (y : Version) (su : Status) → LivesOn x st y su → IsHeldOrAborted st → IsHeldOrAborted su
@@ -214,19 +222,22 @@ module _ (before after : ℕ → Ring) (k : Matches LivesOn before after) where
       let w = was_held b.0 y b.1 b.3 in
       (b.0, subst (Lives before s j b.0) w.0 b.2, w.1)
 
-  pub committed_back : (s j : ℕ) (y : Version) (n : CommitNote) → Lives after s j y (Committed n) → (m : CommitNote) × Lives before s j y (Committed m) × (n.time ≡ m.time) × (m.cut ≡ true → n.cut ≡ true)
+  pub committed_back : (s j : ℕ) (y : Version) (n : CommitNote) → Lives after s j y (Committed n)
+      → (m : CommitNote) × Lives before s j y (Committed m) × (n.time ≡ m.time) × (m.cut ≡ true → n.cut ≡ true)
   committed_back s j y n lives =
       let b = k.back s j y (Committed n) lives in
       let w = was_committed b.0 y b.1 n b.3 in
       (w.0, subst (λ (v : Version). Lives before s j v (Committed w.0)) (sym w.2) (subst (Lives before s j b.0) w.1 b.2), w.3, w.4)
 
-  pub committed_forth : (s j : ℕ) (x : Version) (m : CommitNote) → Lives before s j x (Committed m) → (n : CommitNote) × Lives after s j x (Committed n) × (n.time ≡ m.time) × (m.cut ≡ true → n.cut ≡ true)
+  pub committed_forth : (s j : ℕ) (x : Version) (m : CommitNote) → Lives before s j x (Committed m)
+      → (n : CommitNote) × Lives after s j x (Committed n) × (n.time ≡ m.time) × (m.cut ≡ true → n.cut ≡ true)
   committed_forth s j x m lives =
       let f = k.forth s j x (Committed m) lives in
       let w = is_committed_still x f.0 f.1 m f.3 in
       (w.0, subst (λ (v : Version). Lives after s j v (Committed w.0)) w.2 (subst (Lives after s j f.0) w.1 f.2), w.3, w.4)
 
-  pub names_committed_forth : (link : ℕ) (x : Version) (m : CommitNote) → Names before link x (Committed m) → (n : CommitNote) × Names after link x (Committed n) × (n.time ≡ m.time) × (m.cut ≡ true → n.cut ≡ true)
+  pub names_committed_forth : (link : ℕ) (x : Version) (m : CommitNote) → Names before link x (Committed m)
+      → (n : CommitNote) × Names after link x (Committed n) × (n.time ≡ m.time) × (m.cut ≡ true → n.cut ≡ true)
   names_committed_forth link x m names =
       let f = committed_forth names.seat names.slot x m names.lives in
       (f.0, record { seat = names.seat; slot = names.slot; lives = f.1; is = names.is }, f.2, f.3)

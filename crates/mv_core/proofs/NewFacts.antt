@@ -31,18 +31,23 @@ use Rattle.mv_core.proofs.NewChains as chains
 use Rattle.mv_core.proofs.NewWalks as walks
 use Rattle.mv_core.proofs.NewSections as turned
 
-module _ (starts : State → Type 0) (allows : List ℕ → State → Writes → Type 0) (c : Config) (start : State) (m : Memory) (h : List Entry) (f : Faces) (k : Facts starts allows c start m h f) where
+module _ (starts : State → Type 0) (allows : List ℕ → State → Writes → Type 0) (c : Config) (start : State) (m : Memory) (h : List Entry) (f : Faces)
+    (k : Facts starts allows c start m h f) where
   -- where the clock's word was helped, each commit is stamped
-  pub all_stamped : (s j : ℕ) (x : Version) (note : CommitNote) → (u : ℕ) → Contains (f.heard u).helped (m Clock) → Lives f.ring s j x (Committed note) → stamp_of c (λ s j. m (Stamp s j)) s x ≡ note.time
+  pub all_stamped : (s j : ℕ) (x : Version) (note : CommitNote) → (u : ℕ) → Contains (f.heard u).helped (m Clock) → Lives f.ring s j x (Committed note)
+      → stamp_of c (λ s j. m (Stamp s j)) s x ≡ note.time
   all_stamped s j x note u helped lives =
       let le = (commit_within c h f.ring k.write_sets s j x note lives).1 in
       let long = k.history.long in
-      stamped_by_done c (m Clock) (λ s j. m (Stamp s j)) h f.ring k.checked (clock_small starts allows c start m h f k) k.stamps k.positions (m Clock) (k.loaded_words.helped u (m Clock) helped) (k.helped_words u (m Clock) helped) s j x note lives (omega arith)
+      stamped_by_done c (m Clock) (λ s j. m (Stamp s j)) h f.ring k.checked (clock_small starts allows c start m h f k) k.stamps k.positions (m Clock)
+      (k.loaded_words.helped u (m Clock) helped) (k.helped_words u (m Clock) helped) s j x note lives (omega arith)
 
   module _ (n : ℕ) (e : Entry) (helped : Contains (f.heard n).helped (m Clock)) (makes : Makes f.ring n e) (set : sets.NewSet starts allows c start m h f k n e)
-      (clock : ℕ) (clock_is : (j : ℕ) (x : Version) → Lives f.ring n j x Held → clock ≡ clock_of (new_time c.base h e) n (index_of c x.first)) (sections : ℕ → Option Section) (turns : turned.Turns starts allows c start m h f k n e clock sections)
+      (clock : ℕ) (clock_is : (j : ℕ) (x : Version) → Lives f.ring n j x Held → clock ≡ clock_of (new_time c.base h e) n (index_of c x.first))
+      (sections : ℕ → Option Section) (turns : turned.Turns starts allows c start m h f k n e clock sections)
       (past : ℕ → Past) (history : History starts allows c start clock (h ++ e ∷ []) past) (seen : (s : ℕ) → length (f.past s).seen ≤ length (past s).seen)
-      (phase : ℕ → Phase) (marks : Marks (m Clock) (λ s. m (Mark s)) phase) (scanning : (s : ℕ) (running : Scan) → f.scan s ≡ Some running → phase s ≡ Outside) where
+      (phase : ℕ → Phase) (marks : Marks (m Clock) (λ s. m (Mark s)) phase)
+      (scanning : (s : ℕ) (running : Scan) → f.scan s ≡ Some running → phase s ≡ Outside) where
     later : clock_time_of (m Clock) ≤ clock_time_of clock
     later = let lt = turned.rises starts allows c start m h f k n e makes clock sections turns in omega arith
 

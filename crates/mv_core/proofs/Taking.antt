@@ -1,5 +1,7 @@
--- load CLOCK (take time): a section begins, whose time is the clock's, and its seat sees the whole history. Nothing that bounds the times of all sections is above the clock.
-use Rattle.std.proofs.Common.{◌≡◌, ◌<◌, ◌≢◌, ℕ, suc, ◌+◌, ◌≤◌, cond, count_by, List, [], ◌∷◌, length, refl, sym, ap, ◌∙◌, subst, inl, inr, le_refl, arith, Some, None, false}
+-- load CLOCK (take time): a section begins, whose time is the clock's, and its seat sees the whole history. Nothing that bounds the times of all sections is
+-- above the clock.
+use Rattle.std.proofs.Common.{◌≡◌, ◌<◌, ◌≢◌, ℕ, suc, ◌+◌, ◌≤◌, cond, count_by, List, [], ◌∷◌}
+use Rattle.std.proofs.Common.{length, refl, sym, ap, ◌∙◌, subst, inl, inr, le_refl, arith, Some, None, false}
 use Rattle.std.specs.Prelude.{Contains, slice_index_or}
 use Rattle.mv_history.specs.declared.Entry.{Entry}
 use Rattle.mv_history.specs.State.{State, Writes}
@@ -51,7 +53,8 @@ pub holds_none : (r : Ring) → HoldsNothing r → held_count r ≡ 0
 holds_none r none = none_counted r.slots none
 
 module _ (starts : State → Type 0) (allows : List ℕ → State → Writes → Type 0) (c : Config) (start : State) (v : View) (may : MayLoadTime v) where
-  pub time_loads : Loads starts allows c start v Clock (λ n w. (((h : List Entry) × IsWhole c v n h × (w ≡ time_loaded c v n h)) × IsWord c n × HoldsNothing w.ring) × IsKept v w)
+  pub time_loads : Loads starts allows c start v Clock (λ n w. (((h : List Entry) × IsWhole c v n h × (w ≡ time_loaded c v n h)) × IsWord c n
+      × HoldsNothing w.ring) × IsKept v w)
   time_loads m h seats old is own begins small =
       let clock = m Clock in
       let n = v.number in
@@ -70,16 +73,19 @@ module _ (starts : State → Type 0) (allows : List ℕ → State → Writes →
       let master : ℕ → ℕ → ℕ = λ o j. m (Master o j) in
       let sets = k.write_sets in
       let late : c.base + length h ≤ now = (let l = k.history.long in omega arith) in
-      let nothing : HoldsNothing (seats n).ring = λ j y lives. let r = k.open_section.held n j y lives in let e : None ≡ Some r.0 = sym no_section ∙ r.1 in absurd (cc) in
+      let nothing : HoldsNothing (seats n).ring = λ j y lives. let r = k.open_section.held n j y lives in let e : None ≡ Some r.0 =
+      sym no_section ∙ r.1 in absurd (cc) in
       let not_inside : (i : Section) → section_of (seats n).phase ≡ Some i → ⊥ = λ i e. let g : None ≡ Some i = sym no_section ∙ e in cc in
       let same_inside : (i : Section) → Some inside ≡ Some i → inside ≡ i = λ i e. cc in
       let unnamed : (i : Section) → Some inside ≡ Some i → IsUnnamed i.mode = λ i e. subst (λ (s : Section). IsUnnamed s.mode) (same_inside i e) tt in
       let this = this_word c clock k.loaded_words.clock_is in
-      let helped_done : (word : ℕ) → Contains (if_none clock) word → IsDone clock stamp word = if_none_all (IsDone clock stamp) clock (λ none. inr (inl none)) in
+      let helped_done : (word : ℕ) → Contains (if_none clock) word → IsDone clock stamp word =
+      if_none_all (IsDone clock stamp) clock (λ none. inr (inl none)) in
       let words_of_all = loaded_after c clock stamp f.heard n f.section (become f.section n (Some inside)) x refl
       (one_more_word (WasClock c clock) [] clock (λ u has. none_in u has) this)
       (if_none_all (WasClock c clock) clock (λ _. this))
-      (inside_after c clock stamp f.heard n f.section (Some inside) (λ i e. subst (λ (s : Section). WasClock c clock s.word) (same_inside i e) this) k.loaded_words)
+      (inside_after c clock stamp f.heard n f.section (Some inside)
+      (λ i e. subst (λ (s : Section). WasClock c clock s.word) (same_inside i e) this) k.loaded_words)
       k.loaded_words in
       let helped_all = helped_after c clock stamp f.heard n x helped_done k.helped_words in
       let front : BeginsWith h v.past.seen = subst (λ (u : View). BeginsWith h u.past.seen) is (old.history.seats n).seen in
@@ -139,7 +145,8 @@ module _ (starts : State → Type 0) (allows : List ℕ → State → Writes →
       )
 
 -- what a pass has at run time in the section that begins
-pub time_runs : (c : Config) (v w : View) (word time first : ℕ) (h : List Entry) → w ≡ time_loaded c v word h → HoldsNothing w.ring → time ≡ clock_time_of word → IsTimed time w × IsBegun first w
+pub time_runs : (c : Config) (v w : View) (word time first : ℕ) (h : List Entry) → w ≡ time_loaded c v word h → HoldsNothing w.ring → time ≡ clock_time_of word
+    → IsTimed time w × IsBegun first w
 time_runs c v w word time first h e none is =
     let inside : Section = record { low = low_of v.phase; word = word; mode = Open } in
     let phase : w.phase ≡ Inside inside = ap (λ (u : View). u.phase) e in (

@@ -39,7 +39,8 @@ use Rattle.mv_core.proofs.Seeing.{section_is}
 use Rattle.mv_core.proofs.UnlockedChain as chain
 use Rattle.mv_core.proofs.UnlockedLog as log
 
-module _ (starts : State → Type 0) (allows : List ℕ → State → Writes → Type 0) (c : Config) (start : State) (m : Memory) (h : List Entry) (seats : ℕ → View) (k : Facts starts allows c start m h (faces_of seats))
+module _ (starts : State → Type 0) (allows : List ℕ → State → Writes → Type 0) (c : Config) (start : State) (m : Memory) (h : List Entry) (seats : ℕ → View)
+    (k : Facts starts allows c start m h (faces_of seats))
     (v : View) (is : seats v.number ≡ v) (object previous slot : ℕ) (x : Version) (inside : Section) (may : MayUnlock v object previous slot x inside) where
   abbrev rings : ℕ → Ring
   rings s = (seats s).ring
@@ -83,7 +84,8 @@ module _ (starts : State → Type 0) (allows : List ℕ → State → Writes →
   was_held : Lives rings n slot x Held
   was_held = log.was_held starts allows c start m h seats k v is object previous slot x inside may
 
-  each_held : (P : ℕ → ℕ → Version → Type 0) → ((s j : ℕ) (y : Version) → ¬ ((s ≡ n) × (j ≡ slot)) → Lives rings s j y Held → P s j y) → (s j : ℕ) (y : Version) → Lives later s j y Held → P s j y
+  each_held : (P : ℕ → ℕ → Version → Type 0) → ((s j : ℕ) (y : Version) → ¬ ((s ≡ n) × (j ≡ slot)) → Lives rings s j y Held → P s j y) → (s j : ℕ) (y : Version)
+      → Lives later s j y Held → P s j y
   each_held = log.each_held starts allows c start m h seats k v is object previous slot x inside may
 
   section_here : section n ≡ Some inside
@@ -109,7 +111,8 @@ module _ (starts : State → Type 0) (allows : List ℕ → State → Writes →
   open_after : OpenSection c h sections later
   open_after = record {
     own = become_all (λ s u. (i : Section) → u ≡ Some i → IsUnnamed i.mode → last_own c.base h s ≤ time_in i) section n (Some aborting)
-        (λ i e _. let same : aborting ≡ i = cc in subst (λ (j : Section). last_own c.base h n ≤ time_in j) same (k.open_section.own n inside section_here may.unnamed))
+        (λ i e _. let same : aborting ≡ i = cc in subst (λ (j : Section). last_own c.base h n ≤ time_in j) same
+        (k.open_section.own n inside section_here may.unnamed))
         (λ s ne. k.open_section.own s);
     held = each_held (λ s j y. (i : Section) × (sections s ≡ Some i) × IsUnnamed i.mode)
         (λ s j y ne lives.
@@ -118,7 +121,8 @@ module _ (starts : State → Type 0) (allows : List ℕ → State → Writes →
         (λ apart. let r = k.open_section.held s j y lives in (r.0, become_else section n (Some aborting) s apart ∙ r.1, r.2)));
     one_set = λ s j l y z a d.
         each_held (λ s j y. Lives later s l z Held → y.first ≡ z.first)
-        (λ s j y ne lives there. each_held (λ t i w. t ≡ s → y.first ≡ w.first) (λ t i w _ other e. k.open_section.one_set s j i y w lives (subst (λ (q : ℕ). Lives rings q i w Held) e other)) s l z there refl)
+        (λ s j y ne lives there. each_held (λ t i w. t ≡ s → y.first ≡ w.first)
+        (λ t i w _ other e. k.open_section.one_set s j i y w lives (subst (λ (q : ℕ). Lives rings q i w Held) e other)) s l z there refl)
         s j y a d;
     whole = λ s j y i lives at mode p lo hi.
         dite (ℕ_discrete s n)
@@ -128,7 +132,8 @@ module _ (starts : State → Type 0) (allows : List ℕ → State → Writes →
         let clash : Aborting ≡ Open = ap (λ (j : Section). j.mode) same ∙ mode in absurd (cc))
         (λ ne.
         let r = ring_else s ne in
-        let a = k.open_section.whole s j y i (subst (λ (q : Ring). slot_at q j ≡ Live y Held) r lives) (sym (become_else section n (Some aborting) s ne) ∙ at) mode p lo (subst (λ (q : Ring). p < q.next) r hi) in
+        let a = k.open_section.whole s j y i (subst (λ (q : Ring). slot_at q j ≡ Live y Held) r lives)
+        (sym (become_else section n (Some aborting) s ne) ∙ at) mode p lo (subst (λ (q : Ring). p < q.next) r hi) in
         record { version = a.version; status = a.status; lives = subst (λ (q : Ring). slot_at q (index_of c p) ≡ Live a.version a.status) (sym r) a.lives; position_is = a.position_is; first_is = a.first_is; known = a.known });
   }
 
@@ -167,7 +172,8 @@ module _ (starts : State → Type 0) (allows : List ℕ → State → Writes →
       let helped : (s : ℕ) (i : Section) → sections s ≡ Some i → (seats s).walk ≢ Nowhere → IsPastHelp (seats s).heard i = λ s i at somewhere.
       let o = section_was s i at in subst (Contains (seats s).heard.helped) o.2 (k.walker_knowledge.helped s o.0 o.1 somewhere) in
       let places : WalkerPlace c start h master time (λ s. (seats s).walk) later =
-      λ s t timed. chain.stands_kept starts allows c start m h seats k v is object previous slot x inside may s t timed (seats s).walk (k.walker_place s t timed) in
+      λ s t timed. chain.stands_kept starts allows c start m h seats k v is object previous slot x inside may s t timed (seats s).walk
+      (k.walker_place s t timed) in
       let unfinished = more.unfinished_more c h later section n (Some aborting) aborting_unnamed stamp (λ i naming at mode. other_named i naming at mode)
       live_on.unfinished in
       let named = more.named_more c h later section n (Some aborting) aborting_unnamed stamp live_on.named in
@@ -187,18 +193,21 @@ module _ (starts : State → Type 0) (allows : List ℕ → State → Writes →
       let before_death = chain.before_death starts allows c start m h seats k v is object previous slot x inside may in
       assumption (naming_after, open_after, words_after, backs_after, in_place, live_on, same_cut, k))
 
-module _ (starts : State → Type 0) (allows : List ℕ → State → Writes → Type 0) (c : Config) (start : State) (v : View) (object previous slot : ℕ) (x : Version) (inside : Section) (may : MayUnlock v object previous slot x inside) where
+module _ (starts : State → Type 0) (allows : List ℕ → State → Writes → Type 0) (c : Config) (start : State) (v : View) (object previous slot : ℕ) (x : Version)
+    (inside : Section) (may : MayUnlock v object previous slot x inside) where
   -- what the pass has at run time of the section stays
   unlock_runs : RunsOn v (head_unlocked c v object previous slot x inside)
   unlock_runs time first timed begun = (
-    (λ i e. let same : Inside (record inside { mode = Aborting }) ≡ Inside i = e in let one : record inside { mode = Aborting } ≡ i = cc in timed inside may.phase ∙ ap time_in one),
+    (λ i e. let same : Inside (record inside { mode = Aborting }) ≡ Inside i = e in let one : record inside { mode = Aborting } ≡ i =
+        cc in timed inside may.phase ∙ ap time_in one),
     (λ i e mode some.
         let same : Inside (record inside { mode = Aborting }) ≡ Inside i = e in
         let one : record inside { mode = Aborting } ≡ i = cc in
         let clash : Aborting ≡ Open = ap (λ (j : Section). j.mode) one ∙ mode in absurd (cc)),
   )
 
-  pub unlock_stores : Stores starts allows c start v (Head object) previous (λ w. ((w ≡ head_unlocked c v object previous slot x inside) × RunsOn v w) × IsKept v w)
+  pub unlock_stores : Stores starts allows c start v (Head object) previous (λ w. ((w ≡ head_unlocked c v object previous slot x inside) × RunsOn v w)
+      × IsKept v w)
   unlock_stores m h seats k is own begins = (
     head_unlocked c v object previous slot x inside,
     h,

@@ -31,7 +31,8 @@ use Rattle.mv_core.proofs.Slots.{here_or_else}
 use Rattle.mv_core.proofs.UnlockedLog as log
 use Rattle.mv_core.proofs.UnlockedLog.{IsFateOf}
 
-module _ (starts : State → Type 0) (allows : List ℕ → State → Writes → Type 0) (c : Config) (start : State) (m : Memory) (h : List Entry) (seats : ℕ → View) (k : Facts starts allows c start m h (faces_of seats))
+module _ (starts : State → Type 0) (allows : List ℕ → State → Writes → Type 0) (c : Config) (start : State) (m : Memory) (h : List Entry) (seats : ℕ → View)
+    (k : Facts starts allows c start m h (faces_of seats))
     (v : View) (is : seats v.number ≡ v) (object previous slot : ℕ) (x : Version) (inside : Section) (may : MayUnlock v object previous slot x inside) where
   abbrev rings : ℕ → Ring
   rings s = (seats s).ring
@@ -54,11 +55,13 @@ module _ (starts : State → Type 0) (allows : List ℕ → State → Writes →
   was_held : Lives rings n slot x Held
   was_held = log.was_held starts allows c start m h seats k v is object previous slot x inside may
 
-  each_live : (P : ℕ → ℕ → Version → Status → Type 0) → P n slot x (Aborted None) → ((s j : ℕ) (y : Version) (st : Status) → ¬ ((s ≡ n) × (j ≡ slot)) → Lives rings s j y st → P s j y st)
+  each_live : (P : ℕ → ℕ → Version → Status → Type 0) → P n slot x (Aborted None)
+      → ((s j : ℕ) (y : Version) (st : Status) → ¬ ((s ≡ n) × (j ≡ slot)) → Lives rings s j y st → P s j y st)
       → (s j : ℕ) (y : Version) (st : Status) → Lives later s j y st → P s j y st
   each_live = log.each_live starts allows c start m h seats k v is object previous slot x inside may
 
-  each_held : (P : ℕ → ℕ → Version → Type 0) → ((s j : ℕ) (y : Version) → ¬ ((s ≡ n) × (j ≡ slot)) → Lives rings s j y Held → P s j y) → (s j : ℕ) (y : Version) → Lives later s j y Held → P s j y
+  each_held : (P : ℕ → ℕ → Version → Type 0) → ((s j : ℕ) (y : Version) → ¬ ((s ≡ n) × (j ≡ slot)) → Lives rings s j y Held → P s j y) → (s j : ℕ) (y : Version)
+      → Lives later s j y Held → P s j y
   each_held = log.each_held starts allows c start m h seats k v is object previous slot x inside may
 
   lives_still : (s j : ℕ) (y : Version) (st : Status) → Lives rings s j y st → (su : Status) × Lives later s j y su × IsFateOf st su
@@ -118,7 +121,8 @@ module _ (starts : State → Type 0) (allows : List ℕ → State → Writes →
     here = λ s t stand y st timed at names.
         let a = named_was stand.link y st names in
         ⊎_elim
-        (λ same. subst (IsBeforeDeath t) (sym same) (k.walker_before_death.here s t stand y a.0 timed at (record { seat = names.seat; slot = names.slot; lives = a.1; is = names.is })))
+        (λ same. subst (IsBeforeDeath t) (sym same) (k.walker_before_death.here s t stand y a.0 timed at
+        (record { seat = names.seat; slot = names.slot; lives = a.1; is = names.is })))
         (λ p. subst (IsBeforeDeath t) (sym p.1) tt)
         a.2;
     below = λ s t stand y z dead st timed at names under.
@@ -136,7 +140,8 @@ module _ (starts : State → Type 0) (allows : List ℕ → State → Writes →
         ⊎_elim
         (λ zero. absurd (none_names_zero later y.previous zero.0 z st under))
         (λ l.
-        let r = names_once c h later k.checked k.history.in_time positions y.previous l.version z (Committed l.note) st (names_still rings later kept y.previous l.version l.note l.names) under in
+        let r = names_once c h later k.checked k.history.in_time positions y.previous l.version z (Committed l.note) st
+        (names_still rings later kept y.previous l.version l.note l.names) under in
         subst (IsBeforeDeath t) r.3 l.alive)
         (under_held s t timed names.seat names.slot y (subst (Lives rings names.seat names.slot y) p.0 a.1)))
         a.2;
@@ -148,14 +153,17 @@ module _ (starts : State → Type 0) (allows : List ℕ → State → Writes →
         (λ s j y ne lives.
         put_head m object previous (λ o w. o ≡ y.object → w ≡ link_of s y.position)
         (λ e.
-        let mine : Names rings (m (Head object)) x Held = record { seat = n; slot = slot; lives = was_held; is = ap (λ (o : ℕ). m (Head o)) (sym may.object_is) ∙ k.head_is_top.held n slot x was_held } in
-        let other : Names rings (m (Head object)) y Held = record { seat = s; slot = j; lives = lives; is = ap (λ (o : ℕ). m (Head o)) e ∙ k.head_is_top.held s j y lives } in
+        let mine : Names rings (m (Head object)) x Held =
+        record { seat = n; slot = slot; lives = was_held; is = ap (λ (o : ℕ). m (Head o)) (sym may.object_is) ∙ k.head_is_top.held n slot x was_held } in
+        let other : Names rings (m (Head object)) y Held =
+        record { seat = s; slot = j; lives = lives; is = ap (λ (o : ℕ). m (Head o)) e ∙ k.head_is_top.held s j y lives } in
         let r = names_once c h rings k.checked k.history.in_time k.positions (m (Head object)) y x Held Held other mine in
         absurd (ne (r.0, r.1)))
         (λ o apart e. ap (λ (p : ℕ). m (Head p)) e ∙ k.head_is_top.held s j y lives) y.object refl);
     top = put_head m object previous (λ o w. NoneHolds later o → IsTop later o (latest c.base h o) w)
         (λ none. top_still rings later kept object (latest c.base h object) previous
-        (subst (λ (o : ℕ). IsTop rings o (latest c.base h o) previous) may.object_is (subst (IsTop rings x.object (latest c.base h x.object)) may.previous_is (k.held_link n slot x was_held))))
+        (subst (λ (o : ℕ). IsTop rings o (latest c.base h o) previous) may.object_is
+        (subst (IsTop rings x.object (latest c.base h x.object)) may.previous_is (k.held_link n slot x was_held))))
         (λ o ne none. top_still rings later kept o (latest c.base h o) (m (Head o)) (k.head_is_top.top o (λ s j y lives e.
         ⊎_elim
         (λ at.
@@ -167,7 +175,8 @@ module _ (starts : State → Type 0) (allows : List ℕ → State → Writes →
   }
 
   abbrev LinksAborted : Version → Type 0
-  LinksAborted y = (y.previous ≡ 0) ⊎ (IsGone later y.previous ⊎ ((z : Version) × (note : CommitNote) × Names later y.previous z (Committed note) × (z.object ≡ y.object)))
+  LinksAborted y = (y.previous ≡ 0) ⊎ (IsGone later y.previous ⊎
+      ((z : Version) × (note : CommitNote) × Names later y.previous z (Committed note) × (z.object ≡ y.object)))
 
   pub aborted_after : AbortedLink later
   aborted_after s j y dead lives =

@@ -31,7 +31,8 @@ use Rattle.mv_core.proofs.InPlace.{InPlaceFacts, in_place_put, in_place_facts}
 abbrev pub IsFateOf : Status → Status → Type 0
 IsFateOf before after = (after ≡ before) ⊎ ((before ≡ Held) × (after ≡ Aborted None))
 
-module _ (starts : State → Type 0) (allows : List ℕ → State → Writes → Type 0) (c : Config) (start : State) (m : Memory) (h : List Entry) (seats : ℕ → View) (k : Facts starts allows c start m h (faces_of seats))
+module _ (starts : State → Type 0) (allows : List ℕ → State → Writes → Type 0) (c : Config) (start : State) (m : Memory) (h : List Entry) (seats : ℕ → View)
+    (k : Facts starts allows c start m h (faces_of seats))
     (v : View) (is : seats v.number ≡ v) (object previous slot : ℕ) (x : Version) (inside : Section) (may : MayUnlock v object previous slot x inside) where
   abbrev pub rings : ℕ → Ring
   rings s = (seats s).ring
@@ -55,16 +56,20 @@ module _ (starts : State → Type 0) (allows : List ℕ → State → Writes →
   within = live_within (rings n) slot x Held was_held
 
   -- what holds of the aborted version, and of each other one as it was, holds of all
-  pub each_live : (P : ℕ → ℕ → Version → Status → Type 0) → P n slot x (Aborted None) → ((s j : ℕ) (y : Version) (st : Status) → ¬ ((s ≡ n) × (j ≡ slot)) → Lives rings s j y st → P s j y st)
+  pub each_live : (P : ℕ → ℕ → Version → Status → Type 0) → P n slot x (Aborted None)
+      → ((s j : ℕ) (y : Version) (st : Status) → ¬ ((s ≡ n) × (j ≡ slot)) → Lives rings s j y st → P s j y st)
       → (s j : ℕ) (y : Version) (st : Status) → Lives later s j y st → P s j y st
   each_live P here rest =
       slots_after rings n slot (Live x (Aborted None)) ring_now written within (λ s j z. (y : Version) (st : Status) → z ≡ Live y st → P s j y st)
-      (λ y st e. let same : (x ≡ y) × (Aborted None ≡ st) = live_once (Live x (Aborted None)) x y (Aborted None) st refl e in subst (λ (w : Version). P n slot w st) same.0 (subst (P n slot x) same.1 here))
+      (λ y st e. let same : (x ≡ y) × (Aborted None ≡ st) =
+      live_once (Live x (Aborted None)) x y (Aborted None) st refl e in subst (λ (w : Version). P n slot w st) same.0 (subst (P n slot x) same.1 here))
       (λ s j ne y st lives. rest s j y st ne lives)
 
   -- the same of the versions that are still held
-  pub each_held : (P : ℕ → ℕ → Version → Type 0) → ((s j : ℕ) (y : Version) → ¬ ((s ≡ n) × (j ≡ slot)) → Lives rings s j y Held → P s j y) → (s j : ℕ) (y : Version) → Lives later s j y Held → P s j y
-  each_held P rest s j y lives = each_live (λ s j y st. st ≡ Held → P s j y) (λ e. absurd (cc)) (λ s j y st ne lives e. rest s j y ne (subst (Lives rings s j y) e lives)) s j y Held lives refl
+  pub each_held : (P : ℕ → ℕ → Version → Type 0) → ((s j : ℕ) (y : Version) → ¬ ((s ≡ n) × (j ≡ slot)) → Lives rings s j y Held → P s j y)
+      → (s j : ℕ) (y : Version) → Lives later s j y Held → P s j y
+  each_held P rest s j y lives = each_live (λ s j y st. st ≡ Held → P s j y) (λ e. absurd (cc))
+      (λ s j y st ne lives e. rest s j y ne (subst (Lives rings s j y) e lives)) s j y Held lives refl
 
   pub lives_now : Lives later n slot x (Aborted None)
   lives_now = at_here rings n slot (Live x (Aborted None)) ring_now written within
@@ -89,10 +94,13 @@ module _ (starts : State → Type 0) (allows : List ℕ → State → Writes →
 
   pub kept : KeepsCommitted rings later
   kept = record {
-    was = λ s j y note lives. each_live (λ s j y st. st ≡ Committed note → Lives rings s j y (Committed note)) (λ e. absurd (cc)) (λ s j y st ne lives e. subst (Lives rings s j y) e lives) s j y (Committed note) lives refl;
-    still = λ s j y note lives. let a = lives_still s j y (Committed note) lives in ⊎_elim (λ e. subst (Lives later s j y) e a.1) (λ p. let none = p.0 in absurd (cc)) a.2;
+    was = λ s j y note lives. each_live (λ s j y st. st ≡ Committed note → Lives rings s j y (Committed note)) (λ e. absurd (cc))
+        (λ s j y st ne lives e. subst (Lives rings s j y) e lives) s j y (Committed note) lives refl;
+    still = λ s j y note lives. let a = lives_still s j y (Committed note) lives in ⊎_elim (λ e. subst (Lives later s j y) e a.1)
+        (λ p. let none = p.0 in absurd (cc)) a.2;
     alive = λ s j y st lives. let a = lives_still s j y st lives in (y, a.0, a.1, refl);
-    known = each_live (λ s j y st. ((z : Version) × (su : Status) × Lives rings s j z su × (z.position ≡ y.position)) ⊎ ((rings s).next ≤ y.position)) (inl (x, Held, was_held, refl)) (λ s j y st ne lives. inl (y, st, lives, refl));
+    known = each_live (λ s j y st. ((z : Version) × (su : Status) × Lives rings s j z su × (z.position ≡ y.position)) ⊎ ((rings s).next ≤ y.position))
+        (inl (x, Held, was_held, refl)) (λ s j y st ne lives. inl (y, st, lives, refl));
     grows = λ s. subst (λ (p : ℕ). (rings s).next ≤ p) (sym (aborts.next s)) (le_refl (rings s).next);
   }
 
@@ -102,7 +110,8 @@ module _ (starts : State → Type 0) (allows : List ℕ → State → Writes →
 
   -- what each one was
   pub lives_was : (s j : ℕ) (y : Version) (st : Status) → Lives later s j y st → (su : Status) × Lives rings s j y su × IsFateOf su st
-  lives_was = each_live (λ s j y st. (su : Status) × Lives rings s j y su × IsFateOf su st) (Held, was_held, inr (refl, refl)) (λ s j y st ne lives. (st, lives, inl refl))
+  lives_was = each_live (λ s j y st. (su : Status) × Lives rings s j y su × IsFateOf su st) (Held, was_held, inr (refl, refl))
+      (λ s j y st ne lives. (st, lives, inl refl))
 
   pub words_after : SlotWords (λ s j. m (First s j)) (λ s j. m (Prev s j)) (λ s j w. m (Data s j w)) later
   words_after =

@@ -35,7 +35,7 @@ use Rattle.mv_core.proofs.Versions.{write_once}
 use Rattle.mv_core.proofs.Written.{version_writes, commit_within}
 use Rattle.mv_core.proofs.WordsAt.{words_of-same, version-words}
 use Rattle.mv_core.proofs.LockWon.{put_head}
-use Rattle.mv_core.proofs.Cuts.{SameDeath, SameNotes, Cuts, cuts_self, same_death_facts, before_death_match, flags_match}
+use Rattle.mv_core.proofs.Cuts.{SameDeath, SameNotes, Cuts, cuts_self, same_death_facts, flags_match}
 use Rattle.mv_core.proofs.MatchedSets as set
 use Rattle.mv_core.proofs.MatchedFacts.{alike_or_cut_facts}
 use Rattle.mv_core.proofs.InPlace.{in_place_put, in_place_facts}
@@ -274,5 +274,4 @@ module _ (starts : State → Type 0) (allows : List ℕ → State → Writes →
       let or_cut_kept = alike_or_cut_facts starts allows c start m h f k rings (λ s j. m (Stamp s j)) (λ s j y st l. refl) (λ s j p used apart. apart) or_cut in
       let same_death_kept = same_death_facts starts allows c start m h f k rings same_death in
       let flags = flags_match starts allows c start m h f k rings (λ s j. m (Super s j)) (λ s j y st l. refl) same_notes in
-      let before_death = before_death_match c h f.ring rings same_death or_cut f.time f.walk k.walker_before_death in
-      assumption (words_after, heads, links, commit_links, masters, cut_old, backs, in_place, or_cut_kept, same_death_kept, flags, before_death, k)
+      assumption (words_after, heads, links, commit_links, masters, cut_old, backs, in_place, or_cut_kept, same_death_kept, flags, k)

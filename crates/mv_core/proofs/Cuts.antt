@@ -1,6 +1,6 @@
 -- What holds of deaths and of unfinished commits stays where each live version stays what it is to the other seats, but that it may be cut, and what its owner
 -- noted of it stays.
-use Rattle.std.proofs.Common.{◌≡◌, ℕ, ◌+◌, ◌/◌, ◌<◌, ◌≤◌, true, false, Bool, List, length, refl, sym, ap, ◌∙◌, subst, arith, Option, Some, None}
+use Rattle.std.proofs.Common.{◌≡◌, ℕ, ◌+◌, ◌/◌, ◌<◌, ◌≤◌, true, false, Bool, List, length, refl, sym, ap, ◌∙◌, subst, ⊎_elim, arith, Option, Some, None}
 use Rattle.mv_history.specs.declared.Entry.{Entry}
 use Rattle.mv_history.specs.State.{State, Writes}
 use Rattle.mv_layout.specs.declared.Config.{Config}
@@ -20,9 +20,11 @@ use Rattle.mv_core.specs.WalkFacts.{IsBeforeDeath, WalkerBeforeDeath}
 use Rattle.mv_core.specs.ReclaimFacts.{Deaths, death_in, DeathsSeen, DeathAfterWrite, SuccessorFlag}
 use Rattle.mv_core.specs.Rule.{Facts}
 use Rattle.mv_core.proofs.Latest.{entry-within}
+use Rattle.mv_core.proofs.Links.{names_once, none_names_zero}
+use Rattle.mv_core.proofs.Landing.{top_lands}
 use Rattle.mv_core.proofs.SeenDeaths.{none_noted}
-use Rattle.mv_core.proofs.Slots.{Becomes, Matches}
-use Rattle.mv_core.proofs.Matching.{KeepsPlace, LivesOn, AlikeOrCut, cut_in, on_self, on_place, was_dead, was_committed, uncut_back, names_back, aborted_back}
+use Rattle.mv_core.proofs.Slots.{Becomes, Matches, match_weaker}
+use Rattle.mv_core.proofs.Matching.{KeepsPlace, LivesOn, cut_in, on_self, on_place, was_dead, was_committed, uncut_back, names_back, aborted_back}
 
 -- and the same death is noted
 abbrev pub SameDeath : Becomes
@@ -134,34 +136,51 @@ module _ (c : Config) (h : List Entry) (before after : ℕ → Ring) (k : Matche
   death_after_match old s j dead x n lives e =
       let b = this_committed s j x n lives in subst (λ (t : ℕ). t < dead) (sym b.2.time) (old s j dead x b.0 b.1 (sym b.2.dead ∙ e))
 
-  pub before_death_match : Matches AlikeOrCut before after → (time : ℕ → Option ℕ) (walk : ℕ → Walk) → WalkerBeforeDeath time walk before
-      → WalkerBeforeDeath time walk after
-  before_death_match alike time walk old = record {
+  -- where the death of what a held version links to is after the times of the walks that stand there
+  before_death_match : (time : ℕ → Option ℕ) (walk : ℕ → Walk)
+      → ((s t : ℕ) (y z : Version) (st : Status) (q j : ℕ) → time s ≡ Some t → Lives before q j y Held → Names before y.previous z st → IsBeforeDeath t st)
+      → WalkerBeforeDeath time walk before → WalkerBeforeDeath time walk after
+  before_death_match time walk held old = record {
     here = λ s t stand y su e w names.
         let b = names_back SameDeath death_place before after k stand.link y su names in
         still_before t b.1 su b.3.1 (old.here s t stand b.0 b.1 e w b.2);
     below = λ s t stand y z dead su e w names below.
-        let a = aborted_back before after alike names.seat names.slot y dead names.lives in
-        let b : Names before stand.link y (Aborted a.0) = record { seat = names.seat; slot = names.slot; lives = a.1; is = names.is } in
         let d = names_back SameDeath death_place before after k y.previous z su below in
-        still_before t d.1 su d.3.1 (old.below s t stand y d.0 a.0 d.1 e w b d.2);
+        still_before t d.1 su d.3.1
+        (⊎_elim
+        (λ a. old.below s t stand y d.0 a.0 d.1 e w (record { seat = names.seat; slot = names.slot; lives = a.1; is = names.is }) d.2)
+        (λ lives. held s t y d.0 d.1 names.seat names.slot e lives d.2)
+        (aborted_back before after (match_weaker SameDeath LivesOn before after (λ x st u sv a. a.0) k) names.seat names.slot y dead names.lives));
   }
 
--- all facts on deaths, but that of walks
+-- all facts on deaths
 pub record SameDeathFacts (c : Config) (h : List Entry) (f : Faces) (rings : ℕ → Ring) : Type 0 where
   pub deaths : Deaths c h rings
   pub deaths_seen : DeathsSeen c f.past rings
   pub death_after : DeathAfterWrite rings
+  pub before_death : WalkerBeforeDeath f.time f.walk rings
   pub dead : (s j t : ℕ) (x : Version) (n : CommitNote) → Lives rings s j x (Committed n) → n.dead ≡ Some t → c.base + x.position / c.slots < t
   pub aborted : (s j t : ℕ) (x : Version) → Lives rings s j x (Aborted (Some t)) → c.base + x.position / c.slots < t
 
 module _ (starts : State → Type 0) (allows : List ℕ → State → Writes → Type 0) (c : Config) (start : State) (m : Memory) (h : List Entry) (f : Faces)
     (k : Facts starts allows c start m h f) (rings : ℕ → Ring) where
+  -- what a held version links to is alive to all sections
+  held_alive : (s t : ℕ) (y z : Version) (st : Status) (q j : ℕ) → f.time s ≡ Some t → Lives f.ring q j y Held → Names f.ring y.previous z st
+      → IsBeforeDeath t st
+  held_alive s t y z st q j timed lives under =
+      ⊎_elim
+      (λ zero. absurd (none_names_zero f.ring y.previous zero.0 z st under))
+      (λ l.
+      let one = names_once c h f.ring k.checked k.history.in_time k.positions y.previous l.version z (Committed l.note) st l.names under in
+      subst (IsBeforeDeath t) one.3 l.alive)
+      (top_lands starts allows c start m h f k s t y.object y.previous timed (k.held_link q j y lives))
+
   pub same_death_facts : Matches SameDeath f.ring rings → SameDeathFacts c h f rings
   same_death_facts same = record {
     deaths = deaths_match c h f.ring rings same k.deaths;
     deaths_seen = deaths_seen_match c h f.ring rings same f.past k.deaths_seen;
     death_after = death_after_match c h f.ring rings same k.death_after_write;
+    before_death = before_death_match c h f.ring rings same f.time f.walk held_alive k.walker_before_death;
     dead = λ s j t x n lives e. let b = this_committed c h f.ring rings same s j x n lives in k.positions_and_grace.dead s j t x b.0 b.1 (sym b.2.dead ∙ e);
     aborted = λ s j t x lives. k.positions_and_grace.aborted s j t x (this_dead c h f.ring rings same s j t x lives);
   }

@@ -1,6 +1,6 @@
 -- All facts that stay where each live version stays what it is to the other seats, and the stamp of its write set too: the frame of a step that changes one
 -- log.
-use Rattle.std.proofs.Common.{◌≡◌, ◌≢◌, ℕ, ◌+◌, ◌/◌, ◌<◌, ◌≤◌, List, refl, sym, subst}
+use Rattle.std.proofs.Common.{◌≡◌, ◌≢◌, ◌⊎◌, ℕ, ◌+◌, ◌/◌, ◌<◌, ◌≤◌, List, refl, sym, subst, ⊎_elim, inl, inr, Some, None}
 use Rattle.mv_history.specs.declared.Entry.{Entry}
 use Rattle.mv_history.specs.State.{State, Writes}
 use Rattle.mv_layout.specs.declared.Config.{Config}
@@ -10,19 +10,23 @@ use Rattle.mv_layout.specs.Words.{unset_of}
 use Rattle.mv_core.specs.declared.ring.Ring.{Ring}
 use Rattle.mv_core.specs.declared.ring.Version.{Version}
 use Rattle.mv_core.specs.declared.ring.Status.{Status}
-use Rattle.mv_core.specs.declared.ring.Status.TheVariants.{Committed}
+use Rattle.mv_core.specs.declared.ring.Status.TheVariants.{Held, Aborted, Committed}
 use Rattle.mv_core.specs.declared.ring.CommitNote.{CommitNote}
-use Rattle.mv_core.specs.Rings.{Lives}
+use Rattle.mv_core.specs.declared.view.Stand.{Stand}
+use Rattle.mv_core.specs.declared.view.Walk.TheVariants.{At}
+use Rattle.mv_core.specs.Rings.{Lives, Names}
+use Rattle.mv_core.specs.Times.{latest_at}
 use Rattle.mv_core.specs.Views.{Faces}
 use Rattle.mv_core.specs.SetFacts.{stamp_of, WriteSets, BelowIsStamped, UnstampedIsUnfinished}
 use Rattle.mv_core.specs.SectionFacts.{StampedPastHelp, LockFreshness, FoundStamps, NamedCommit, OpenSection}
 use Rattle.mv_core.specs.ChainFacts.{HeadIsTop, HeldLink, CommitLink, AbortedLink, PresentMaster, ChainFoot}
-use Rattle.mv_core.specs.WalkFacts.{WalkerPlace, WalkerBeforeDeath, WalkerKnowledge, WalkerFalls, WalkerLate}
+use Rattle.mv_core.specs.WalkFacts.{MayStandAt, WalkerPlace, WalkerKnowledge, WalkerFalls, WalkerLate}
 use Rattle.mv_core.specs.ReclaimFacts.{FreedIsOld, CutIsOld, SuccessorFlag, WriteBacks}
 use Rattle.mv_core.specs.Rule.{Facts}
+use Rattle.mv_core.proofs.Landing.{top_lands}
 use Rattle.mv_core.proofs.Slots.{Matches, match_weaker}
 use Rattle.mv_core.proofs.Matching.{LivesOn, AlikeOrCut, Alike, SameCut, on_place, same_cuts, committed_back}
-use Rattle.mv_core.proofs.Cuts.{SameDeath, SameNotes, Steady, SameDeathFacts, same_death_facts, before_death_match, flags_match}
+use Rattle.mv_core.proofs.Cuts.{SameDeath, SameNotes, Steady, SameDeathFacts, same_death_facts, flags_match}
 use Rattle.mv_core.proofs.MatchedSets as set
 use Rattle.mv_core.proofs.MatchedStamps as stamped
 use Rattle.mv_core.proofs.MatchedWalks as walked
@@ -32,6 +36,8 @@ pub record LivesOnFacts (c : Config) (start : State) (m : Memory) (h : List Entr
   pub write_sets : WriteSets c h rings
   pub past_help : StampedPastHelp c stamp f.section f.heard rings
   pub fresh : LockFreshness c h f.time rings
+  pub aborted_links : AbortedLink rings
+  pub places : WalkerPlace c start h (λ o w. m (Master o w)) f.time f.walk rings
   pub feet : ChainFoot c start h (λ o w. m (Master o w)) f.time rings
   pub knowledge : WalkerKnowledge f.section f.time f.heard f.walk rings
   pub below : BelowIsStamped c stamp rings
@@ -55,8 +61,6 @@ pub record SameCutFacts (c : Config) (start : State) (m : Memory) (h : List Entr
 -- and those that stay where a held version is held still
 pub record AlikeOrCutFacts (c : Config) (start : State) (m : Memory) (h : List Entry) (f : Faces) (stamp : ℕ → ℕ → ℕ) (rings : ℕ → Ring) : Type 0 where
   pub live_on : LivesOnFacts c start m h f stamp rings
-  pub aborted_links : AbortedLink rings
-  pub places : WalkerPlace c start h (λ o w. m (Master o w)) f.time f.walk rings
   pub open_sections : OpenSection c h f.section rings
 
 -- and where none is cut besides
@@ -69,7 +73,6 @@ pub record AlikeFacts (c : Config) (start : State) (m : Memory) (h : List Entry)
 pub record SteadyFacts (c : Config) (start : State) (m : Memory) (h : List Entry) (f : Faces) (stamp super : ℕ → ℕ → ℕ) (rings : ℕ → Ring) : Type 0 where
   pub alike : AlikeFacts c start m h f stamp rings
   pub same_death : SameDeathFacts c h f rings
-  pub before_death : WalkerBeforeDeath f.time f.walk rings
   pub flags : SuccessorFlag super f.section rings
 
 module _ (starts : State → Type 0) (allows : List ℕ → State → Writes → Type 0) (c : Config) (start : State) (m : Memory) (h : List Entry) (f : Faces)
@@ -79,6 +82,17 @@ module _ (starts : State → Type 0) (allows : List ℕ → State → Writes →
 
   abbrev master : ℕ → ℕ → ℕ
   master o w = m (Master o w)
+
+  -- a walk may stand at a held version, were it aborted: it leads on to its object's top
+  held_place : (s t : ℕ) (stand : Stand) (x : Version) → f.time s ≡ Some t → f.walk s ≡ At stand → Names f.ring stand.link x Held
+      → MayStandAt c start h master f.ring t x (Aborted None)
+  held_place s t stand x timed at names =
+      ⊎_elim
+      (λ z. inl z)
+      (λ l.
+      let right = subst (λ (o : ℕ). (t < l.note.time) ⊎ (l.note.time ≡ latest_at c.base h o t)) (sym l.object_is) l.right in
+      inr (l.version, l.note, l.names, l.object_is, right))
+      (top_lands starts allows c start m h f k s t x.object x.previous timed (k.held_link names.seat names.slot x names.lives))
 
   pub same_cut_facts : Matches LivesOn f.ring rings → SameCut f.ring rings → SameCutFacts c start m h f rings
   same_cut_facts on same_cut = record {
@@ -97,6 +111,8 @@ module _ (starts : State → Type 0) (allows : List ℕ → State → Writes →
       write_sets = set.sets_match c h f.ring rings on k.write_sets;
       past_help = stamped.past_help_match c h f.ring rings on stamp stamp' same f.section f.heard k.stamped_past_help;
       fresh = set.freshness_match c h f.ring rings on f.time k.lock_freshness;
+      aborted_links = set.aborted_link_match c h f.ring rings on k.held_link k.aborted_link;
+      places = walked.place_match c h f.ring rings on start master f.time f.walk held_place k.walker_place;
       feet = set.foot_match c h f.ring rings on start master f.time k.chain_foot;
       knowledge = walked.knowledge_match c f.ring rings on f.section f.time f.heard f.walk k.walker_knowledge;
       below = stamped.below_match c h f.ring rings on stamp stamp' same k.below_is_stamped;
@@ -117,8 +133,6 @@ module _ (starts : State → Type 0) (allows : List ℕ → State → Writes →
     pub alike_or_cut_facts : Matches AlikeOrCut f.ring rings → AlikeOrCutFacts c start m h f stamp' rings
     alike_or_cut_facts alike = record {
       live_on = live_on_facts (match_weaker AlikeOrCut LivesOn f.ring rings (λ x st y su a. a.0) alike);
-      aborted_links = set.aborted_link_match c h f.ring rings alike k.aborted_link;
-      places = walked.place_match c h f.ring rings alike start master f.time f.walk k.walker_place;
       open_sections = set.open_match c h f.ring rings alike f.section k.open_section;
     }
 
@@ -140,11 +154,8 @@ module _ (starts : State → Type 0) (allows : List ℕ → State → Writes →
       → ((s j p : ℕ) → p < (f.ring s).next → stamp s j ≢ unset_of p → stamp' s j ≢ unset_of p)
       → ((s j : ℕ) (x : Version) (st : Status) → Lives f.ring s j x st → super s j ≡ m (Super s j)) → Matches Steady f.ring rings
       → SteadyFacts c start m h f stamp' super rings
-  steady_facts stamp' super same apart same_super steady =
-      let same_death = match_weaker Steady SameDeath f.ring rings (λ x st y su a. a.0.0.0) steady in
-      let alike = match_weaker Steady AlikeOrCut f.ring rings (λ x st y su a. (a.0.0.0.0, a.0.1)) steady in record {
-        alike = alike_facts stamp' same apart (match_weaker Steady Alike f.ring rings (λ x st y su a. ((a.0.0.0.0, a.0.1), a.1)) steady);
-        same_death = same_death_facts starts allows c start m h f k rings same_death;
-        before_death = before_death_match c h f.ring rings same_death alike f.time f.walk k.walker_before_death;
-        flags = flags_match starts allows c start m h f k rings super same_super (match_weaker Steady SameNotes f.ring rings (λ x st y su a. a.0.0) steady);
-      }
+  steady_facts stamp' super same apart same_super steady = record {
+    alike = alike_facts stamp' same apart (match_weaker Steady Alike f.ring rings (λ x st y su a. ((a.0.0.0.0, a.0.1), a.1)) steady);
+    same_death = same_death_facts starts allows c start m h f k rings (match_weaker Steady SameDeath f.ring rings (λ x st y su a. a.0.0.0) steady);
+    flags = flags_match starts allows c start m h f k rings super same_super (match_weaker Steady SameNotes f.ring rings (λ x st y su a. a.0.0) steady);
+  }

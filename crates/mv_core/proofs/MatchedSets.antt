@@ -9,10 +9,10 @@ use Rattle.mv_core.specs.declared.ring.Ring.{Ring}
 use Rattle.mv_core.specs.declared.ring.Slot.TheVariants.{Built, Freeing}
 use Rattle.mv_core.specs.declared.ring.Build.{Build}
 use Rattle.mv_core.specs.declared.ring.Version.{Version}
-use Rattle.mv_core.specs.declared.ring.Status.TheVariants.{Held}
+use Rattle.mv_core.specs.declared.ring.Status.TheVariants.{Held, Committed}
 use Rattle.mv_core.specs.declared.ring.CommitNote.{CommitNote}
 use Rattle.mv_core.specs.declared.view.Section.{Section}
-use Rattle.mv_core.specs.Rings.{slot_at, index_of, HoldsNothing, IsTop}
+use Rattle.mv_core.specs.Rings.{slot_at, index_of, HoldsNothing, Names, IsGone, IsTop}
 use Rattle.mv_core.specs.Times.{latest, latest_at, IsEntry, NotAboveAny}
 use Rattle.mv_core.specs.SetFacts.{WriteSets, IsHeldOrAborted, InHeldSet, InSet, CommitOf, Positions}
 use Rattle.mv_core.specs.SectionFacts.{LockFreshness, OpenSection}
@@ -126,6 +126,23 @@ module _ (c : Config) (h : List Entry) (before after : ℕ → Ring) (k : Matche
       let r = old s j b.0 b.1 in
       (r.0, r.1, subst (λ (o : ℕ). latest c.base h o ≤ r.0) (sym b.2.object) r.2, subst (λ (o : ℕ). o < c.objects) (sym b.2.object) r.3)
 
+  -- a version that was held links to what was its object's top
+  pub aborted_link_match : HeldLink c h before → AbortedLink before → AbortedLink after
+  aborted_link_match tops old s j y e lives =
+      let links : (y.previous ≡ 0) ⊎ (IsGone before y.previous ⊎
+      ((z : Version) × (note : CommitNote) × Names before y.previous z (Committed note) × (z.object ≡ y.object))) =
+      ⊎_elim
+      (λ b. old s j y b.0 b.1)
+      (λ held. ⊎_elim (λ a. inr (inr (a.0, a.1, a.2.names, a.2.object_is))) (λ z. inl z.0) (tops s j y held))
+      (aborted_back before after k s j y e lives) in
+      ⊎_elim
+      (λ a. inl a)
+      (λ r. inr (⊎_elim
+      (λ g. inl (gone_forth LivesOn on_place before after k y.previous g))
+      (λ d. let f = names_committed_forth before after k y.previous d.0 d.1 d.2 in inr (d.0, f.0, f.1, d.3))
+      r))
+      links
+
   pub foot_match : (start : State) (master : ℕ → ℕ → ℕ) (time : ℕ → Option ℕ) → ChainFoot c start h master time before → ChainFoot c start h master time after
   foot_match start master time old s j x n lives none =
       let b = committed_back before after k s j x n lives in
@@ -201,17 +218,6 @@ module _ (c : Config) (h : List Entry) (before after : ℕ → Ring) (k : Matche
         subst (λ (i : ℕ). InHeldSet c after s i p (λ st. st ≡ Held)) (sym first)
         (set_forth AlikeOrCut alike_place before after k (λ st. st ≡ Held) (λ st. st ≡ Held) still_held c s b.0.first p r);
   }
-
-  pub aborted_link_match : AbortedLink before → AbortedLink after
-  aborted_link_match old s j y e lives =
-      let b = aborted_back before after k s j y e lives in
-      ⊎_elim
-      (λ a. inl a)
-      (λ r. inr (⊎_elim
-      (λ g. inl (gone_forth LivesOn on_place before after on y.previous g))
-      (λ d. let f = names_committed_forth before after on y.previous d.0 d.1 d.2 in inr (d.0, f.0, f.1, d.3))
-      r))
-      (old s j y b.0 b.1)
 
   pub top_match : SameCut before after → (head : ℕ → ℕ) → HeadIsTop c h head before → HeadIsTop c h head after
   top_match same_cut head old = record {

@@ -1,6 +1,6 @@
 -- Links, first versions and tops where the live versions of the logs before and after a step match; and the relation in which the versions stay what they are
 -- to other seats.
-use Rattle.std.proofs.Common.{◌≡◌, ℕ, ◌<◌, true, false, Bool, refl, sym, ap, ◌∙◌, subst, inl, inr, ⊎_elim, Option, Some, None}
+use Rattle.std.proofs.Common.{◌≡◌, ◌⊎◌, ℕ, ◌<◌, true, false, Bool, refl, sym, ap, ◌∙◌, subst, inl, inr, ⊎_elim, Option, Some, None}
 use Rattle.mv_layout.specs.declared.Config.{Config}
 use Rattle.mv_layout.specs.Words.{link_of}
 use Rattle.mv_core.specs.declared.ring.Ring.{Ring}
@@ -153,10 +153,11 @@ was_held x y Held a = (refl, a)
 was_held x y (Aborted d) a = absurd a
 was_held x y (Committed m) a = absurd a
 
-was_aborted : (x y : Version) (st : Status) (e : Option ℕ) → AlikeOrCut x st y (Aborted e) → (d : Option ℕ) × (st ≡ Aborted d) × (y ≡ x)
-was_aborted x y Held e a = let held : Aborted e ≡ Held = a.1 refl in absurd (cc)
-was_aborted x y (Aborted d) e a = (d, refl, a.0)
-was_aborted x y (Committed m) e a = absurd a.0
+pub was_aborted : (x y : Version) (st : Status) (e : Option ℕ) → LivesOn x st y (Aborted e)
+    → ((d : Option ℕ) × (st ≡ Aborted d) × (y ≡ x)) ⊎ ((st ≡ Held) × (y ≡ x))
+was_aborted x y Held e a = inr (refl, a.0)
+was_aborted x y (Aborted d) e a = inl (d, refl, a)
+was_aborted x y (Committed m) e a = absurd a
 
 -- a death that is noted of an aborted one was noted before, or is of one that was aborted before
 pub was_dead : (x y : Version) (st : Status) (t : ℕ) → LivesOn x st y (Aborted (Some t)) → (d : Option ℕ) × (st ≡ Aborted d) × (y ≡ x)
@@ -222,6 +223,15 @@ module _ (before after : ℕ → Ring) (k : Matches LivesOn before after) where
       let w = was_held b.0 y b.1 b.3 in
       (b.0, subst (Lives before s j b.0) w.0 b.2, w.1)
 
+  pub aborted_back : (s j : ℕ) (y : Version) (e : Option ℕ) → Lives after s j y (Aborted e)
+      → ((d : Option ℕ) × Lives before s j y (Aborted d)) ⊎ Lives before s j y Held
+  aborted_back s j y e lives =
+      let b = k.back s j y (Aborted e) lives in
+      ⊎_elim
+      (λ w. inl (w.0, subst (λ (v : Version). Lives before s j v (Aborted w.0)) (sym w.2) (subst (Lives before s j b.0) w.1 b.2)))
+      (λ w. inr (subst (λ (v : Version). Lives before s j v Held) (sym w.1) (subst (Lives before s j b.0) w.0 b.2)))
+      (was_aborted b.0 y b.1 e b.3)
+
   pub committed_back : (s j : ℕ) (y : Version) (n : CommitNote) → Lives after s j y (Committed n)
       → (m : CommitNote) × Lives before s j y (Committed m) × (n.time ≡ m.time) × (m.cut ≡ true → n.cut ≡ true)
   committed_back s j y n lives =
@@ -281,12 +291,6 @@ module _ (before after : ℕ → Ring) (k : Matches AlikeOrCut before after) whe
       let f = k.forth s j x Held lives in
       let w = is_held_still x f.0 f.1 f.3 in
       (f.0, subst (Lives after s j f.0) w.0 f.2, w.1)
-
-  pub aborted_back : (s j : ℕ) (y : Version) (e : Option ℕ) → Lives after s j y (Aborted e) → (d : Option ℕ) × Lives before s j y (Aborted d)
-  aborted_back s j y e lives =
-      let b = k.back s j y (Aborted e) lives in
-      let w = was_aborted b.0 y b.1 e b.3 in
-      (w.0, subst (λ (v : Version). Lives before s j v (Aborted w.0)) (sym w.2) (subst (Lives before s j b.0) w.1 b.2))
 
   -- who holds an object
   pub none_holds_back : (o : ℕ) → NoneHolds after o → NoneHolds before o

@@ -38,9 +38,9 @@ use Rattle.mv_core.proofs.Links.{live_once, note_once, names_place}
 use Rattle.mv_core.proofs.Written.{commit_within, entry_once}
 use Rattle.mv_core.proofs.BelowCommit.{next_after, link_below, below_there, above_once}
 use Rattle.mv_core.proofs.Slots.{Matches, match_weaker}
-use Rattle.mv_core.proofs.Matching.{LivesOn, AlikeOrCut, Alike}
+use Rattle.mv_core.proofs.Matching.{LivesOn, Alike}
 use Rattle.mv_core.proofs.LinkedNotes as notes
-use Rattle.mv_core.proofs.Cuts.{same_death_facts, before_death_match}
+use Rattle.mv_core.proofs.Cuts.{same_death_facts}
 use Rattle.mv_core.proofs.MatchedFacts.{same_stamp_facts}
 use Rattle.mv_core.proofs.InPlace.{in_place_facts}
 
@@ -268,14 +268,12 @@ module _ (starts : State → Type 0) (allows : List ℕ → State → Writes →
       (let old : HoldsSlot (m (First n j)) (m (Prev n j)) (λ w. m (Data n j w)) (Live x (Committed note)) =
       subst (HoldsSlot (m (First n j)) (m (Prev n j)) (λ w. m (Data n j w))) lives (k.slot_words n j) in old)
       (λ s i ne. k.slot_words s i) in
-      let or_cut = match_weaker Alike AlikeOrCut f.ring rings (λ z st u su a. a.0) matches in
       let on = match_weaker Alike LivesOn f.ring rings (λ z st u su a. a.0.0) matches in
       let same_death = notes.same_death starts allows c start m h f k n j x note lives in
       let in_place = in_place_facts starts allows c start m h f k rings on (notes.stays starts allows c start m h f k n j x note lives) in
       let same_death_kept = same_death_facts starts allows c start m h f k rings same_death in
-      let before_death = before_death_match c h f.ring rings same_death or_cut f.time f.walk k.walker_before_death in
       let same_stamp = same_stamp_facts starts allows c start m h f k rings matches in
-      assumption (slot_words, successors_after, flags_after, succeeded_after, in_place, same_death_kept, before_death, same_stamp, k)
+      assumption (slot_words, successors_after, flags_after, succeeded_after, in_place, same_death_kept, same_stamp, k)
 
 module _ (starts : State → Type 0) (allows : List ℕ → State → Writes → Type 0) (c : Config) (start : State) (v : View) (link time k : ℕ) (x : Version)
     (note : CommitNote) (may : MayStoreSuper v link time k x note) where

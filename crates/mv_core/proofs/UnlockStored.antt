@@ -27,7 +27,6 @@ use Rattle.mv_core.specs.Views.{section_of, time_of, time_in, IsUnnamed, faces_o
 use Rattle.mv_core.specs.SetFacts.{IsNaming}
 use Rattle.mv_core.specs.SectionFacts.{MarkedAs, IsPastHelp, StampedPastHelp, WasClock, LoadedWords, OpenSection}
 use Rattle.mv_core.specs.ReclaimFacts.{WriteBacks}
-use Rattle.mv_core.specs.WalkFacts.{WalkerPlace}
 use Rattle.mv_core.specs.LockSteps.{MayUnlock, head_unlocked}
 use Rattle.mv_core.specs.Known.{RunsOn}
 use Rattle.mv_core.specs.Rule.{Facts, Stores, IsKept}
@@ -36,7 +35,6 @@ use Rattle.mv_core.proofs.MatchedFacts.{LivesOnFacts, SameCutFacts}
 use Rattle.mv_core.proofs.InPlace.{InPlaceFacts}
 use Rattle.mv_core.proofs.Sections as more
 use Rattle.mv_core.proofs.Seeing.{section_is}
-use Rattle.mv_core.proofs.UnlockedChain as chain
 use Rattle.mv_core.proofs.UnlockedLog as log
 
 module _ (starts : State → Type 0) (allows : List ℕ → State → Writes → Type 0) (c : Config) (start : State) (m : Memory) (h : List Entry) (seats : ℕ → View)
@@ -171,9 +169,6 @@ module _ (starts : State → Type 0) (allows : List ℕ → State → Writes →
       (subst (λ (word : ℕ). note.time ≤ clock_time_of word) (sym o.2) le) in
       let helped : (s : ℕ) (i : Section) → sections s ≡ Some i → (seats s).walk ≢ Nowhere → IsPastHelp (seats s).heard i = λ s i at somewhere.
       let o = section_was s i at in subst (Contains (seats s).heard.helped) o.2 (k.walker_knowledge.helped s o.0 o.1 somewhere) in
-      let places : WalkerPlace c start h master time (λ s. (seats s).walk) later =
-      λ s t timed. chain.stands_kept starts allows c start m h seats k v is object previous slot x inside may s t timed (seats s).walk
-      (k.walker_place s t timed) in
       let unfinished = more.unfinished_more c h later section n (Some aborting) aborting_unnamed stamp (λ i naming at mode. other_named i naming at mode)
       live_on.unfinished in
       let named = more.named_more c h later section n (Some aborting) aborting_unnamed stamp live_on.named in
@@ -186,12 +181,10 @@ module _ (starts : State → Type 0) (allows : List ℕ → State → Writes →
       settle starts allows c start (put m (Head object) previous) h seats v.number v (head_unlocked c v object previous slot x inside) is
       (record unchanged { phase = Some (Inside aborting); section = Some (Some aborting); ring = Some (head_unlocked c v object previous slot x inside).ring })
       (refl, refl, refl, ap time_of (sym may.phase), refl, refl, refl, refl, refl, refl, refl)
-      (let words_after' = log.words_after starts allows c start m h seats k v is object previous slot x inside may in
+      (let slot_words = log.words_after starts allows c start m h seats k v is object previous slot x inside may in
       let same_death = log.same_death starts allows c start m h seats k v is object previous slot x inside may in
-      let heads = chain.heads starts allows c start m h seats k v is object previous slot x inside may in
-      let aborted_after = chain.aborted_after starts allows c start m h seats k v is object previous slot x inside may in
-      let before_death = chain.before_death starts allows c start m h seats k v is object previous slot x inside may in
-      assumption (naming_after, open_after, words_after, backs_after, in_place, live_on, same_cut, k))
+      let heads = log.heads starts allows c start m h seats k v is object previous slot x inside may in
+      assumption (slot_words, same_death, heads, naming_after, open_after, words_after, backs_after, in_place, live_on, same_cut, k))
 
 module _ (starts : State → Type 0) (allows : List ℕ → State → Writes → Type 0) (c : Config) (start : State) (v : View) (object previous slot : ℕ) (x : Version)
     (inside : Section) (may : MayUnlock v object previous slot x inside) where

@@ -1,35 +1,33 @@
--- store HEAD (abort), in the log of its seat: a version that was held is aborted, in its place.
-use Rattle.std.proofs.Common.{◌≡◌, ◌⊎◌, ℕ, ◌<◌, ◌≤◌, List, length, refl, sym, ap, ◌∙◌, subst, ⊎_elim, inl, inr, le_refl, None}
+-- store HEAD (abort), in the log of its seat: a version that was held is aborted, in its place, and HEAD is the previous link again.
+use Rattle.std.proofs.Common.{◌≡◌, ℕ, ◌<◌, List, length, refl, sym, ap, ◌∙◌, subst, ⊎_elim, None}
 use Rattle.std.specs.Prelude.{slice_set}
 use Rattle.mv_history.specs.declared.Entry.{Entry}
 use Rattle.mv_history.specs.State.{State, Writes}
 use Rattle.mv_layout.specs.declared.Config.{Config}
-use Rattle.mv_layout.specs.declared.Place.TheVariants.{First, Stamp, Prev, Super, Data}
-use Rattle.mv_layout.specs.Places.{Memory}
+use Rattle.mv_layout.specs.declared.Place.TheVariants.{Head, First, Stamp, Prev, Super, Data}
+use Rattle.mv_layout.specs.Words.{link_of}
+use Rattle.mv_layout.specs.Places.{Memory, put}
 use Rattle.mv_core.specs.declared.ring.Ring.{Ring}
 use Rattle.mv_core.specs.declared.ring.Slot.TheVariants.{Live}
 use Rattle.mv_core.specs.declared.ring.Version.{Version}
-use Rattle.mv_core.specs.declared.ring.Status.{Status}
-use Rattle.mv_core.specs.declared.ring.Status.TheVariants.{Held, Aborted, Committed}
+use Rattle.mv_core.specs.declared.ring.Status.TheVariants.{Held, Aborted}
 use Rattle.mv_core.specs.declared.view.View.{View}
 use Rattle.mv_core.specs.declared.view.Section.{Section}
-use Rattle.mv_core.specs.Rings.{slot_at, put_slot, Lives}
+use Rattle.mv_core.specs.Rings.{slot_at, put_slot, Lives, Names, NoneHolds, IsTop}
+use Rattle.mv_core.specs.Times.{latest}
 use Rattle.mv_core.specs.Views.{faces_of, become}
 use Rattle.mv_core.specs.SetFacts.{HoldsSlot, SlotWords}
 use Rattle.mv_core.specs.ReclaimFacts.{SuccessorFlag}
+use Rattle.mv_core.specs.ChainFacts.{HeadIsTop}
 use Rattle.mv_core.specs.LockSteps.{MayUnlock}
 use Rattle.mv_core.specs.Rule.{Facts}
-use Rattle.mv_core.proofs.CommittedKept.{KeepsCommitted}
-use Rattle.mv_core.proofs.Links.{live_once}
-use Rattle.mv_core.proofs.Slots.{Matches, match_weaker, match_put, live_within, here_or_else, slots_after, at_here, lives_else}
-use Rattle.mv_core.proofs.Matching.{LivesOn, same_cuts}
+use Rattle.mv_core.proofs.Links.{live_once, names_once}
+use Rattle.mv_core.proofs.LockWon.{put_head}
+use Rattle.mv_core.proofs.Slots.{Matches, match_weaker, match_put, live_within, here_or_else, slots_after, lives_else}
+use Rattle.mv_core.proofs.Matching.{LivesOn, SameCut, same_cuts, top_forth}
 use Rattle.mv_core.proofs.Cuts.{SameDeath, SameNotes, Aborts, aborts_self, SameDeathFacts, same_death_facts, flags_match}
 use Rattle.mv_core.proofs.MatchedFacts.{LivesOnFacts, SameCutFacts, live_on_facts, same_cut_facts}
 use Rattle.mv_core.proofs.InPlace.{InPlaceFacts, in_place_put, in_place_facts}
-
--- a status afterwards: the same, or aborted where it was held
-abbrev pub IsFateOf : Status → Status → Type 0
-IsFateOf before after = (after ≡ before) ⊎ ((before ≡ Held) × (after ≡ Aborted None))
 
 module _ (starts : State → Type 0) (allows : List ℕ → State → Writes → Type 0) (c : Config) (start : State) (m : Memory) (h : List Entry) (seats : ℕ → View)
     (k : Facts starts allows c start m h (faces_of seats))
@@ -55,35 +53,12 @@ module _ (starts : State → Type 0) (allows : List ℕ → State → Writes →
   within : slot < length (rings n).slots
   within = live_within (rings n) slot x Held was_held
 
-  -- what holds of the aborted version, and of each other one as it was, holds of all
-  pub each_live : (P : ℕ → ℕ → Version → Status → Type 0) → P n slot x (Aborted None)
-      → ((s j : ℕ) (y : Version) (st : Status) → ¬ ((s ≡ n) × (j ≡ slot)) → Lives rings s j y st → P s j y st)
-      → (s j : ℕ) (y : Version) (st : Status) → Lives later s j y st → P s j y st
-  each_live P here rest =
-      slots_after rings n slot (Live x (Aborted None)) ring_now written within (λ s j z. (y : Version) (st : Status) → z ≡ Live y st → P s j y st)
-      (λ y st e. let same : (x ≡ y) × (Aborted None ≡ st) =
-      live_once (Live x (Aborted None)) x y (Aborted None) st refl e in subst (λ (w : Version). P n slot w st) same.0 (subst (P n slot x) same.1 here))
-      (λ s j ne y st lives. rest s j y st ne lives)
-
-  -- the same of the versions that are still held
+  -- what holds of each other held version as it was holds of all that are still held
   pub each_held : (P : ℕ → ℕ → Version → Type 0) → ((s j : ℕ) (y : Version) → ¬ ((s ≡ n) × (j ≡ slot)) → Lives rings s j y Held → P s j y)
       → (s j : ℕ) (y : Version) → Lives later s j y Held → P s j y
-  each_held P rest s j y lives = each_live (λ s j y st. st ≡ Held → P s j y) (λ e. absurd (cc))
-      (λ s j y st ne lives e. rest s j y ne (subst (Lives rings s j y) e lives)) s j y Held lives refl
-
-  pub lives_now : Lives later n slot x (Aborted None)
-  lives_now = at_here rings n slot (Live x (Aborted None)) ring_now written within
-
-  -- each one is there still, with its fate
-  pub lives_still : (s j : ℕ) (y : Version) (st : Status) → Lives rings s j y st → (su : Status) × Lives later s j y su × IsFateOf st su
-  lives_still s j y st lives =
-      ⊎_elim
-      (λ at.
-      let there : Lives rings n slot y st = subst (λ (p : ℕ × ℕ). Lives rings p.0 p.1 y st) (λ i. (at.0 i, at.1 i)) lives in
-      let one = live_once (slot_at (rings n) slot) x y Held st was_held there in
-      (Aborted None, subst (λ (p : ℕ × ℕ). Lives later p.0 p.1 y (Aborted None)) (λ i. (sym at.0 i, sym at.1 i)) (subst (λ (w : Version). Lives later n slot w (Aborted None)) one.0 lives_now), inr (sym one.1, refl)))
-      (λ ne. (st, lives_else rings n slot (Live x (Aborted None)) ring_now written within s j y st ne lives, inl refl))
-      (here_or_else s n j slot)
+  each_held P rest =
+      slots_after rings n slot (Live x (Aborted None)) ring_now written within (λ s j z. (y : Version) → z ≡ Live y Held → P s j y) (λ y e. absurd (cc))
+      (λ s j ne y lives. rest s j y ne lives)
 
   aborts : Matches Aborts rings later
   aborts = match_put Aborts aborts_self rings n slot (Live x (Aborted None)) ring_now written within (ap (λ (u : View). u.ring.next) (sym is)) x Held x
@@ -92,26 +67,12 @@ module _ (starts : State → Type 0) (allows : List ℕ → State → Writes →
   on : Matches LivesOn rings later
   on = match_weaker Aborts LivesOn rings later (λ y st z su a. a.0.0.0) aborts
 
-  pub kept : KeepsCommitted rings later
-  kept = record {
-    was = λ s j y note lives. each_live (λ s j y st. st ≡ Committed note → Lives rings s j y (Committed note)) (λ e. absurd (cc))
-        (λ s j y st ne lives e. subst (Lives rings s j y) e lives) s j y (Committed note) lives refl;
-    still = λ s j y note lives. let a = lives_still s j y (Committed note) lives in ⊎_elim (λ e. subst (Lives later s j y) e a.1)
-        (λ p. let none = p.0 in absurd (cc)) a.2;
-    alive = λ s j y st lives. let a = lives_still s j y st lives in (y, a.0, a.1, refl);
-    known = each_live (λ s j y st. ((z : Version) × (su : Status) × Lives rings s j z su × (z.position ≡ y.position)) ⊎ ((rings s).next ≤ y.position))
-        (inl (x, Held, was_held, refl)) (λ s j y st ne lives. inl (y, st, lives, refl));
-    grows = λ s. subst (λ (p : ℕ). (rings s).next ≤ p) (sym (aborts.next s)) (le_refl (rings s).next);
-  }
+  cut_same : SameCut rings later
+  cut_same = same_cuts Aborts (λ y st z su a. a.1) rings later aborts
 
   -- each other one is held still
-  pub held_still : (s j : ℕ) (y : Version) → ¬ ((s ≡ n) × (j ≡ slot)) → Lives rings s j y Held → Lives later s j y Held
+  held_still : (s j : ℕ) (y : Version) → ¬ ((s ≡ n) × (j ≡ slot)) → Lives rings s j y Held → Lives later s j y Held
   held_still s j y ne = lives_else rings n slot (Live x (Aborted None)) ring_now written within s j y Held ne
-
-  -- what each one was
-  pub lives_was : (s j : ℕ) (y : Version) (st : Status) → Lives later s j y st → (su : Status) × Lives rings s j y su × IsFateOf su st
-  lives_was = each_live (λ s j y st. (su : Status) × Lives rings s j y su × IsFateOf su st) (Held, was_held, inr (refl, refl))
-      (λ s j y st ne lives. (st, lives, inl refl))
 
   pub words_after : SlotWords (λ s j. m (First s j)) (λ s j. m (Prev s j)) (λ s j w. m (Data s j w)) later
   words_after =
@@ -128,7 +89,7 @@ module _ (starts : State → Type 0) (allows : List ℕ → State → Writes →
   live_on = live_on_facts starts allows c start m h (faces_of seats) k later (λ s j. m (Stamp s j)) (λ s j y st l. refl) (λ s j p used apart. apart) on
 
   pub same_cut : SameCutFacts c start m h (faces_of seats) later
-  same_cut = same_cut_facts starts allows c start m h (faces_of seats) k later on (same_cuts Aborts (λ y st z su a. a.1) rings later aborts)
+  same_cut = same_cut_facts starts allows c start m h (faces_of seats) k later on cut_same
 
   pub same_death : SameDeathFacts c h (faces_of seats) later
   same_death = same_death_facts starts allows c start m h (faces_of seats) k later (match_weaker Aborts SameDeath rings later (λ y st z su a. a.0.0) aborts)
@@ -136,3 +97,31 @@ module _ (starts : State → Type 0) (allows : List ℕ → State → Writes →
   pub flags : SuccessorFlag (λ s j. m (Super s j)) (faces_of seats).section later
   flags = flags_match starts allows c start m h (faces_of seats) k later (λ s j. m (Super s j)) (λ s j y st l. refl)
       (match_weaker Aborts SameNotes rings later (λ y st z su a. a.0) aborts)
+
+  -- HEAD is the previous link again
+  pub heads : HeadIsTop c h (λ o. put m (Head object) previous (Head o)) later
+  heads = record {
+    held = each_held (λ s j y. put m (Head object) previous (Head y.object) ≡ link_of s y.position)
+        (λ s j y ne lives.
+        put_head m object previous (λ o w. o ≡ y.object → w ≡ link_of s y.position)
+        (λ e.
+        let mine : Names rings (m (Head object)) x Held =
+        record { seat = n; slot = slot; lives = was_held; is = ap (λ (o : ℕ). m (Head o)) (sym may.object_is) ∙ k.head_is_top.held n slot x was_held } in
+        let other : Names rings (m (Head object)) y Held =
+        record { seat = s; slot = j; lives = lives; is = ap (λ (o : ℕ). m (Head o)) e ∙ k.head_is_top.held s j y lives } in
+        let r = names_once c h rings k.checked k.history.in_time k.positions (m (Head object)) y x Held Held other mine in
+        absurd (ne (r.0, r.1)))
+        (λ o apart e. ap (λ (p : ℕ). m (Head p)) e ∙ k.head_is_top.held s j y lives) y.object refl);
+    top = put_head m object previous (λ o w. NoneHolds later o → IsTop later o (latest c.base h o) w)
+        (λ none. top_forth rings later on cut_same object (latest c.base h object) previous
+        (subst (λ (o : ℕ). IsTop rings o (latest c.base h o) previous) may.object_is
+        (subst (IsTop rings x.object (latest c.base h x.object)) may.previous_is (k.held_link n slot x was_held))))
+        (λ o ne none. top_forth rings later on cut_same o (latest c.base h o) (m (Head o)) (k.head_is_top.top o (λ s j y lives e.
+        ⊎_elim
+        (λ at.
+        let there : Lives rings n slot y Held = subst (λ (p : ℕ × ℕ). Lives rings p.0 p.1 y Held) (λ i. (at.0 i, at.1 i)) lives in
+        let one = (live_once (slot_at (rings n) slot) x y Held Held was_held there).0 in
+        ne (sym e ∙ ap (λ (z : Version). z.object) (sym one) ∙ may.object_is))
+        (λ apart. none s j y (held_still s j y apart lives) e)
+        (here_or_else s n j slot))));
+  }

@@ -37,10 +37,13 @@ use Rattle.mv_core.proofs.Sections as more
 use Rattle.mv_core.proofs.Latest.{latest_at-before}
 use Rattle.mv_core.proofs.Written.{version_writes, version_of_write}
 
-module _ (starts : State → Type 0) (allows : List ℕ → State → Writes → Type 0) (c : Config) (start : State) (m : Memory) (h : List Entry) (f : Faces) (k : Facts starts allows c start m h f) where
+module _ (starts : State → Type 0) (allows : List ℕ → State → Writes → Type 0) (c : Config) (start : State) (m : Memory) (h : List Entry) (f : Faces)
+    (k : Facts starts allows c start m h f) where
   -- where a live version that wasn't cut has no SUPER yet, the commit of the next write has a version whose flag isn't set
-  unlinked : (s j next : ℕ) (x : Version) (note : CommitNote) → Lives f.ring s j x (Committed note) → note.cut ≡ false → m (Super s j) ≡ 0 → IsNextWrite c.base h x.object note.time next → (naming : IsNaming f.section next (λ _. Unit {0}))
-      → (l : ℕ) × (y : Version) × (other : CommitNote) × Lives f.ring naming.seat l y (Committed other) × (other.time ≡ naming.naming.time) × (other.linked ≢ true)
+  unlinked : (s j next : ℕ) (x : Version) (note : CommitNote) → Lives f.ring s j x (Committed note) → note.cut ≡ false → m (Super s j) ≡ 0
+      → IsNextWrite c.base h x.object note.time next → (naming : IsNaming f.section next (λ _. Unit {0}))
+      → (l : ℕ) × (y : Version) × (other : CommitNote) × Lives f.ring naming.seat l y (Committed other) × (other.time ≡ naming.naming.time)
+      × (other.linked ≢ true)
   unlinked s j next x note lives uncut zero is_next by =
       let seat = by.seat in
       let named = k.named_commit seat by.inside by.naming by.in_section by.mode in
@@ -54,7 +57,8 @@ module _ (starts : State → Type 0) (allows : List ℕ → State → Writes →
       let time_is : other.time ≡ next = above.5 ∙ on_time in
       let wrote = version_writes c h f.ring k.write_sets s j x note lives in
       let before : latest_at c.base h y.object (other.time - 1) ≡ note.time =
-      ap (λ (o : ℕ). latest_at c.base h o (other.time - 1)) object_is ∙ ap (λ (t : ℕ). latest_at c.base h x.object (t - 1)) time_is ∙ latest_at-before c.base h x.object note.time next wrote.0 wrote.1 wrote.2 is_next in
+      ap (λ (o : ℕ). latest_at c.base h o (other.time - 1)) object_is ∙ ap (λ (t : ℕ). latest_at c.base h x.object (t - 1)) time_is ∙
+      latest_at-before c.base h x.object note.time next wrote.0 wrote.1 wrote.2 is_next in
       let links = k.commit_link seat above.0 y other lives_y in
       let version : IsVersion f.ring y.object (latest_at c.base h y.object (other.time - 1)) (link_of s x.position) x note =
       record { names = record { seat = s; slot = j; lives = lives; is = refl }; object_is = sym object_is; time_is = sym before } in
@@ -79,15 +83,18 @@ module _ (starts : State → Type 0) (allows : List ℕ → State → Writes →
         let same : may.inside ≡ i = cc in
         subst (IsFinished v) (ap (λ (s : Section). s.mode) same ∙ mode) may.finished
 
-    still_naming : (next : ℕ) (s j : ℕ) (x : Version) (note : CommitNote) → Lives (λ r. (seats r).ring) s j x (Committed note) → note.cut ≡ false → m (Super s j) ≡ 0 → IsNextWrite c.base h x.object note.time next
-        → IsNaming (λ s. section_of (seats s).phase) next (λ _. Unit {0}) → IsNaming (become (λ s. section_of (seats s).phase) v.number None) next (λ _. Unit {0})
+    still_naming : (next : ℕ) (s j : ℕ) (x : Version) (note : CommitNote) → Lives (λ r. (seats r).ring) s j x (Committed note) → note.cut ≡ false
+        → m (Super s j) ≡ 0 → IsNextWrite c.base h x.object note.time next
+        → IsNaming (λ s. section_of (seats s).phase) next (λ _. Unit {0})
+        → IsNaming (become (λ s. section_of (seats s).phase) v.number None) next (λ _. Unit {0})
     still_naming next s j x note lives uncut zero is_next by =
         dite (ℕ_discrete by.seat v.number)
         (λ e.
         let open_flag = unlinked starts allows c start m h (faces_of seats) k s j next x note lives uncut zero is_next by in
         let own : section_of (seats v.number).phase ≡ Some by.inside = ap (λ (s : ℕ). section_of (seats s).phase) (sym e) ∙ by.in_section in
         let done = finished by.inside by.naming own by.mode in
-        let here : slot_at v.ring open_flag.0 ≡ Live open_flag.1 (Committed open_flag.2) = ap (λ (u : View). slot_at u.ring open_flag.0) (sym is) ∙ ap (λ (s : ℕ). slot_at (seats s).ring open_flag.0) (sym e) ∙ open_flag.3 in
+        let here : slot_at v.ring open_flag.0 ≡ Live open_flag.1 (Committed open_flag.2) =
+        ap (λ (u : View). slot_at u.ring open_flag.0) (sym is) ∙ ap (λ (s : ℕ). slot_at (seats s).ring open_flag.0) (sym e) ∙ open_flag.3 in
         absurd (open_flag.5 (done.1 open_flag.0 open_flag.1 open_flag.2 here open_flag.4)))
         (λ ne. record {
           seat = by.seat;
@@ -117,7 +124,8 @@ module _ (starts : State → Type 0) (allows : List ℕ → State → Writes →
       let done = finished m h seats k is in
       let helped_words = helped_after c (m Clock) stamp heard n heard_nothing (λ word has. none_in word has) k.helped_words in
       let marks = marks_after m n 0 (λ s. (seats s).phase) Outside k.marks refl in
-      let past_help = more.past_help_more c start h rings sets time n None tt walk section heard None heard_nothing stamp (λ i e. absurd (cc)) k.stamped_past_help in
+      let past_help = more.past_help_more c start h rings sets time n None tt walk section heard None heard_nothing stamp
+      (λ i e. absurd (cc)) k.stamped_past_help in
       let grace = more.grace_more c start h rings sets time n None tt (m Clock) (m Grace) (λ s. (seats s).grace) (λ s. (seats s).scan) k.history.long k.grace in
       let fresh = more.freshness_more c start h rings sets time n None tt nothing k.lock_freshness in
       let naming : (s j : ℕ) (x : Version) (note : CommitNote) → Lives rings s j x (Committed note) → note.cut ≡ false → m (Super s j) ≡ 0
@@ -147,7 +155,8 @@ module _ (starts : State → Type 0) (allows : List ℕ → State → Writes →
       λ s. by_seat s n (λ b. cond b None (time s) ≡ None → (cond b Nowhere (walk s) ≡ Nowhere) × (cond b None (back s) ≡ None)) (λ _ _. (refl, refl))
       (λ _. k.phases_and_scan.outside s) in
       let seen : (s u : ℕ) → become time n None s ≡ Some u → u ≤ c.base + length (seats s).past.seen =
-      λ s u. by_seat s n (λ b. cond b None (time s) ≡ Some u → u ≤ c.base + length (seats s).past.seen) (λ _ e. absurd (cc)) (λ _. k.phases_and_scan.seen s u) in
+      λ s u. by_seat s n (λ b. cond b None (time s) ≡ Some u → u ≤ c.base + length (seats s).past.seen) (λ _ e. absurd (cc))
+      (λ _. k.phases_and_scan.seen s u) in
       let within : (s u : ℕ) → become time n None s ≡ Some u → s < c.seats =
       λ s u. by_seat s n (λ b. cond b None (time s) ≡ Some u → s < c.seats) (λ _ e. absurd (cc)) (λ _. k.phases_and_scan.within s u) in (
         w,
@@ -155,8 +164,6 @@ module _ (starts : State → Type 0) (allows : List ℕ → State → Writes →
         settle starts allows c start (put m (Mark n) 0) h seats n v w is
             (record unchanged { phase = Some Outside; section = Some None; time = Some None; heard = Some heard_nothing; walk = Some Nowhere; back = Some None })
             (refl, refl, refl, refl, refl, refl, refl, refl, refl, refl, refl)
-            (assumption
-            (helped_words, marks, past_help, grace, fresh, naming, masters, feet, places, before_death, knowledge, falls, late, found, unfinished, named, opened,
-            flags, words, cut, backs, scanning, outside, seen, within, k)),
+            (assumption (k)),
         ((refl, runs_outside v w (λ s e. let g : Outside ≡ Inside s = e in absurd (cc))), (refl, refl, refl, refl, refl, refl)),
       )

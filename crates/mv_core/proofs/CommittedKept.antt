@@ -29,7 +29,8 @@ pub record KeepsCommitted (rings later : ℕ → Ring) : Type 0 where
   pub was : (s k : ℕ) (x : Version) (note : CommitNote) → Lives later s k x (Committed note) → Lives rings s k x (Committed note)
   pub still : (s k : ℕ) (x : Version) (note : CommitNote) → Lives rings s k x (Committed note) → Lives later s k x (Committed note)
   pub alive : (s k : ℕ) (x : Version) (st : Status) → Lives rings s k x st → (y : Version) × (su : Status) × Lives later s k y su × (y.position ≡ x.position)
-  pub known : (s k : ℕ) (x : Version) (st : Status) → Lives later s k x st → ((y : Version) × (su : Status) × Lives rings s k y su × (y.position ≡ x.position)) ⊎ ((rings s).next ≤ x.position)
+  pub known : (s k : ℕ) (x : Version) (st : Status) → Lives later s k x st
+      → ((y : Version) × (su : Status) × Lives rings s k y su × (y.position ≡ x.position)) ⊎ ((rings s).next ≤ x.position)
   pub grows : (s : ℕ) → (rings s).next ≤ (later s).next
 
 module _ (rings later : ℕ → Ring) (kept : KeepsCommitted rings later) where
@@ -127,7 +128,8 @@ module _ (rings later : ℕ → Ring) (kept : KeepsCommitted rings later) where
         let r = o.2 in
         (o.0, o.1, same_back r r.note r.helped (nothing s b at r.nothing) (kept.still s _ r.version r.note r.lives) r.old r.known r.last r.uncut r.words)
 
-  pub past_help_kept : (c : Config) (stamp : ℕ → ℕ → ℕ) (section : ℕ → Option Section) (heard : ℕ → Heard) → StampedPastHelp c stamp section heard rings → StampedPastHelp c stamp section heard later
+  pub past_help_kept : (c : Config) (stamp : ℕ → ℕ → ℕ) (section : ℕ → Option Section) (heard : ℕ → Heard) → StampedPastHelp c stamp section heard rings
+      → StampedPastHelp c stamp section heard later
   past_help_kept c stamp section heard k s inside at past t j x note lives = k s inside at past t j x note (kept.was t j x note lives)
 
   pub flag_kept : (super : ℕ → ℕ → ℕ) (section : ℕ → Option Section) → SuccessorFlag super section rings → SuccessorFlag super section later
@@ -135,7 +137,8 @@ module _ (rings later : ℕ → Ring) (kept : KeepsCommitted rings later) where
       let r = k s j inside n x note at mode (kept.was s j x note lives) e in
       (r.0, λ y other below. r.1 y other (names_was x.previous y other below))
 
-  pub super_kept : (c : Config) (h : List Entry) (super : ℕ → ℕ → ℕ) (empty : ℕ → List EmptyHead) → SucceededHasSuper c h super empty rings → SucceededHasSuper c h super empty later
+  pub super_kept : (c : Config) (h : List Entry) (super : ℕ → ℕ → ℕ) (empty : ℕ → List EmptyHead) → SucceededHasSuper c h super empty rings
+      → SucceededHasSuper c h super empty later
   super_kept c h super empty k s e has = let r = k s e has in (r.0, λ j x note lives. r.1 j x note (kept.was s j x note lives))
 
   -- the commit that a clock word names is it still

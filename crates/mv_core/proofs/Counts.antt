@@ -13,7 +13,8 @@ abbrev pub one_if : Bool → ℕ
 one_if b = cond b 1 0
 
 -- how many pass a test, after one was replaced
-pub count_put : {X : Type 0} (p : X → Bool) (xs : List X) (i : ℕ) (y d : X) → i < length xs → count_by p (slice_set xs i y) + one_if (p (get_or xs i d)) ≡ count_by p xs + one_if (p y)
+pub count_put : {X : Type 0} (p : X → Bool) (xs : List X) (i : ℕ) (y d : X) → i < length xs
+    → count_by p (slice_set xs i y) + one_if (p (get_or xs i d)) ≡ count_by p xs + one_if (p y)
 count_put p xs i y d within = sum_by-set (λ x. one_if (p x)) xs i y d within
 
 pub count_mapped : {X : Type 0} (p : X → Bool) (f : X → X) → ((x : X) → p (f x) ≡ p x) → (xs : List X) → count_by p (map f xs) ≡ count_by p xs

@@ -32,13 +32,15 @@ use Rattle.mv_core.proofs.WalkOn.{head_link}
 use Rattle.mv_core.proofs.CutWon.{cut_facts}
 use Rattle.mv_core.proofs.LostCut.{lost_other}
 
-module _ (starts : State → Type 0) (allows : List ℕ → State → Writes → Type 0) (c : Config) (start : State) (m : Memory) (h : List Entry) (f : Faces) (k : Facts starts allows c start m h f)
+module _ (starts : State → Type 0) (allows : List ℕ → State → Writes → Type 0) (c : Config) (start : State) (m : Memory) (h : List Entry) (f : Faces)
+    (k : Facts starts allows c start m h f)
     (n : ℕ) (b : WriteBack) (at : f.back n ≡ Some b) where
   abbrev pub tried : WriteBack
   tried = record b { tried = true }
 
   abbrev BackIs : ℕ → Option WriteBack → Type 0
-  BackIs s u = (d : WriteBack) → u ≡ Some d → (i : Section) × (f.section s ≡ Some i) × IsWrittenBack c h (λ o i. m (Master o i)) f.time f.ring s (f.heard s) (f.grace s) d i
+  BackIs s u = (d : WriteBack) → u ≡ Some d → (i : Section) × (f.section s ≡ Some i) × IsWrittenBack c h
+      (λ o i. m (Master o i)) f.time f.ring s (f.heard s) (f.grace s) d i
 
   own_tried : (i : Section) × (f.section n ≡ Some i) × IsWrittenBack c h (λ o i. m (Master o i)) f.time f.ring n (f.heard n) (f.grace n) tried i
   own_tried =
@@ -67,7 +69,8 @@ module _ (starts : State → Type 0) (allows : List ℕ → State → Writes →
   backs : WriteBacks c h (λ o i. m (Master o i)) f.section f.time f.heard f.grace (become f.back n (Some tried)) f.ring
   backs =
       become_all BackIs f.back n (Some tried)
-      (λ d e. let same : tried ≡ d = cc in subst (λ (u : WriteBack). (i : Section) × (f.section n ≡ Some i) × IsWrittenBack c h (λ o i. m (Master o i)) f.time f.ring n (f.heard n) (f.grace n) u i) same own_tried)
+      (λ d e. let same : tried ≡ d = cc in subst (λ (u : WriteBack). (i : Section) × (f.section n ≡ Some i) × IsWrittenBack c h
+      (λ o i. m (Master o i)) f.time f.ring n (f.heard n) (f.grace n) u i) same own_tried)
       (λ s ne. k.write_back s)
 
   -- all facts once the exchange was tried
@@ -78,7 +81,8 @@ module _ (starts : State → Type 0) (allows : List ℕ → State → Writes →
       (λ s ne. k.phases_and_scan.outside s) in
       assumption (backs, outside, k)
 
-module _ (starts : State → Type 0) (allows : List ℕ → State → Writes → Type 0) (c : Config) (start : State) (v : View) (object position : ℕ) (x : Version) (note : CommitNote) (may : MayCutHead c v object position x note) where
+module _ (starts : State → Type 0) (allows : List ℕ → State → Writes → Type 0) (c : Config) (start : State) (v : View) (object position : ℕ) (x : Version)
+    (note : CommitNote) (may : MayCutHead c v object position x note) where
   abbrev back : WriteBack
   back = record { object = object; position = position; stored = 6; tried = false }
 
@@ -102,13 +106,15 @@ module _ (starts : State → Type 0) (allows : List ℕ → State → Writes →
     more = changed f n (record unchanged { back = Some (Some (tried starts allows c start m h f k n back at)) })
 
     -- what is written back is that version
-    written : (i : Section) × (f.section n ≡ Some i) × (w : IsWrittenBack c h (λ o i. m (Master o i)) f.time f.ring n (f.heard n) (f.grace n) back i) × (w.version ≡ x) × (w.note ≡ note)
+    written : (i : Section) × (f.section n ≡ Some i) × (w : IsWrittenBack c h (λ o i. m (Master o i)) f.time f.ring n (f.heard n) (f.grace n) back i)
+        × (w.version ≡ x) × (w.note ≡ note)
     written =
         let r = k.write_back n back at in
         let one = live_once (slot_at (f.ring n) slot) r.2.version x (Committed r.2.note) (Committed note) r.2.lives lives in
         (r.0, r.1, r.2, one.0, note_once r.2.note note one.1)
 
-    pub cut_stored : m (Head object) ≡ link_of n position → Facts starts allows c start (put m (Head object) 0) h (faces_of (become seats n (head_cut c v object position x note)))
+    pub cut_stored : m (Head object) ≡ link_of n position
+        → Facts starts allows c start (put m (Head object) 0) h (faces_of (become seats n (head_cut c v object position x note)))
     cut_stored won =
         let r = written in
         let w = r.2 in
@@ -118,16 +124,21 @@ module _ (starts : State → Type 0) (allows : List ℕ → State → Writes →
         (ap (λ (o : ℕ). m (Head o)) object_is ∙ won ∙ ap (link_of n) (sym place))
         (subst (λ (o : CommitNote). NotAboveAny o.time f.time) r.4 w.old)
         (λ i lt. ap (λ (o : ℕ). m (Master o i)) object_is ∙ w.words refl i lt ∙ ap (λ (y : Version). slice_index y.words i) r.3)
-        (λ b e. let same : Some (tried starts allows c start m h f k n back at) ≡ Some b = sym (become_here f.back n (Some (tried starts allows c start m h f k n back at))) ∙ e in let one : tried starts allows c start m h f k n back at ≡ b = cc in ap (λ (d : WriteBack). d.tried) (sym one)) in
+        (λ b e. let same : Some (tried starts allows c start m h f k n back at) ≡ Some b =
+        sym (become_here f.back n (Some (tried starts allows c start m h f k n back at))) ∙ e in let one : tried starts allows c start m h f k n back at ≡ b =
+        cc in ap (λ (d : WriteBack). d.tried) (sym one)) in
         let ring : (seats n).ring ≡ v.ring = ap (λ (y : View). y.ring) is in
         settle starts allows c start (put m (Head object) 0) h seats n v (head_cut c v object position x note) is
         (record unchanged { back = Some (Some (tried starts allows c start m h f k n back at)); ring = Some (put_slot (seats n).ring slot (Live x (Committed (record note { cut = true })))) })
         (refl, refl, refl, refl, refl, refl, refl, ap (λ (r : Ring). put_slot r slot (Live x (Committed (record note { cut = true })))) (sym ring), refl, refl, refl)
-        (subst (λ (o : ℕ). Facts starts allows c start (put m (Head o) 0) h (changed more n (record unchanged { ring = Some (put_slot (seats n).ring slot (Live x (Committed (record note { cut = true })))) }))) object_is all)
+        (subst (λ (o : ℕ). Facts starts allows c start (put m (Head o) 0) h
+        (changed more n (record unchanged { ring = Some (put_slot (seats n).ring slot (Live x (Committed (record note { cut = true })))) }))) object_is all)
 
     pub lost_stored : Facts starts allows c start m h (faces_of (become seats n (cut_lost c v object position (m (Head object)))))
     lost_stored =
-        settle starts allows c start m h seats n v (cut_lost c v object position (m (Head object))) is (record unchanged { back = Some (Some (tried starts allows c start m h f k n back at)) }) (refl, refl, refl, refl, refl, refl, refl, refl, refl, refl, refl)
+        settle starts allows c start m h seats n v (cut_lost c v object position (m (Head object))) is
+        (record unchanged { back = Some (Some (tried starts allows c start m h f k n back at)) })
+        (refl, refl, refl, refl, refl, refl, refl, refl, refl, refl, refl)
         (tried_facts starts allows c start m h f k n back at)
 
     found_link : IsLinkOf c (m (Head object))
@@ -140,10 +151,12 @@ module _ (starts : State → Type 0) (allows : List ℕ → State → Writes →
   cut_runs : RunsOn v (head_cut c v object position x note)
   cut_runs time first a begun =
       let cut = Live x (Committed (record note { cut = true })) in
-      let held : held_count (put_slot v.ring slot cut) ≡ held_count v.ring = held_same v.ring slot cut (live_within v.ring slot x (Committed note) may.own) (sym (ap is_held may.own)) in
+      let held : held_count (put_slot v.ring slot cut) ≡ held_count v.ring =
+      held_same v.ring slot cut (live_within v.ring slot x (Committed note) may.own) (sym (ap is_held may.own)) in
       (a, λ i e mode some_held. begun i e mode (subst (λ (y : ℕ). 0 < y) held some_held) ∙ ap (λ (y : ℕ). v.ring.next - y) (sym held))
 
-  cut_swaps_from : Swaps starts allows c start v (Head object) (link_of v.number position) 0 (λ found w. ((CutTold c v object position x note found w × (found ≢ link_of v.number position → IsLinkOf c found) × (found ≢ link_of v.number position → IsOfOther v found)) × RunsOn v w) × IsKept v w)
+  cut_swaps_from : Swaps starts allows c start v (Head object) (link_of v.number position) 0 (λ found w. ((CutTold c v object position x note found w
+      × (found ≢ link_of v.number position → IsLinkOf c found) × (found ≢ link_of v.number position → IsOfOther v found)) × RunsOn v w) × IsKept v w)
   cut_swaps_from = (
     (λ m h seats k is own begins won. (
       head_cut c v object position x note,
@@ -158,5 +171,9 @@ module _ (starts : State → Type 0) (allows : List ℕ → State → Writes →
     )),
   )
 
-  pub cut_swaps : (link : ℕ) → link ≡ link_of v.number position → Swaps starts allows c start v (Head object) link 0 (λ found w. ((CutTold c v object position x note found w × (found ≢ link_of v.number position → IsLinkOf c found) × (found ≢ link_of v.number position → IsOfOther v found)) × RunsOn v w) × IsKept v w)
-  cut_swaps link e = subst (λ (g : ℕ). Swaps starts allows c start v (Head object) g 0 (λ found w. ((CutTold c v object position x note found w × (found ≢ link_of v.number position → IsLinkOf c found) × (found ≢ link_of v.number position → IsOfOther v found)) × RunsOn v w) × IsKept v w)) (sym e) cut_swaps_from
+  pub cut_swaps : (link : ℕ) → link ≡ link_of v.number position
+      → Swaps starts allows c start v (Head object) link 0 (λ found w. ((CutTold c v object position x note found w
+      × (found ≢ link_of v.number position → IsLinkOf c found) × (found ≢ link_of v.number position → IsOfOther v found)) × RunsOn v w) × IsKept v w)
+  cut_swaps link e = subst (λ (g : ℕ). Swaps starts allows c start v (Head object) g 0
+      (λ found w. ((CutTold c v object position x note found w × (found ≢ link_of v.number position → IsLinkOf c found) ×
+      (found ≢ link_of v.number position → IsOfOther v found)) × RunsOn v w) × IsKept v w)) (sym e) cut_swaps_from

@@ -1,5 +1,7 @@
--- load CLOCK (time a dead version): the own aborted and cut versions that wait for it are dead from the time after the clock's, and their seat sees the whole history.
-use Rattle.std.proofs.Common.{◌≡◌, ◌≢◌, ◌⊎◌, ℕ, ◌+◌, ◌-◌, ◌/◌, ◌<◌, ◌≤◌, Bool, true, false, List, ◌++◌, length, map, length-append, refl, sym, ap, ◌∙◌, subst, inl, inr, ⊎_elim, arith, Option, Some}
+-- load CLOCK (time a dead version): the own aborted and cut versions that wait for it are dead from the time after the clock's, and their seat sees the whole
+-- history.
+use Rattle.std.proofs.Common.{◌≡◌, ◌≢◌, ◌⊎◌, ℕ, ◌+◌, ◌-◌, ◌/◌, ◌<◌, ◌≤◌, Bool, true, false, List, ◌++◌}
+use Rattle.std.proofs.Common.{length, map, length-append, refl, sym, ap, ◌∙◌, subst, inl, inr, ⊎_elim, arith, Option, Some}
 use Rattle.mv_history.specs.declared.Entry.{Entry}
 use Rattle.mv_history.specs.State.{State, Writes}
 use Rattle.mv_layout.specs.declared.Config.{Config}
@@ -33,14 +35,17 @@ use Rattle.mv_core.proofs.Written.{commit_within}
 use Rattle.mv_core.proofs.WholeSeen.{whole_seen}
 use Rattle.mv_core.proofs.Counts.{held_mapped}
 use Rattle.mv_core.proofs.Slots.{Matches, match_weaker, match_map, mapped, slots_mapped}
-use Rattle.mv_core.proofs.Matching.{Alike, AlikeOrCut, alike_or_cut, names_back}
-use Rattle.mv_core.proofs.DeathNotes.{timed_back, aborted_was, timed_note, committed_was, note_time, note_cut, note_linked, note_uncut, dead_is, note_dead, before_timed, timed_seen, Timed, timed_self, timed_place, timed_alike}
+use Rattle.mv_core.proofs.Matching.{LivesOn, Alike, names_back}
+use Rattle.mv_core.proofs.DeathNotes.{timed_back, aborted_was, timed_note, committed_was, note_time, note_cut, note_linked, note_uncut}
+use Rattle.mv_core.proofs.DeathNotes.{dead_is, note_dead, before_timed, timed_seen, Timed, timed_self, timed_place, timed_alike}
 use Rattle.mv_core.proofs.MatchedFacts.{same_stamp_facts}
 use Rattle.mv_core.proofs.InPlace.{IsUnlived, StaysInPlace, in_place_map, in_place_facts}
 
-module _ (starts : State → Type 0) (allows : List ℕ → State → Writes → Type 0) (c : Config) (start : State) (m : Memory) (h : List Entry) (f : Faces) (k : Facts starts allows c start m h f) where
+module _ (starts : State → Type 0) (allows : List ℕ → State → Writes → Type 0) (c : Config) (start : State) (m : Memory) (h : List Entry) (f : Faces)
+    (k : Facts starts allows c start m h f) where
   -- the version below a committed one wasn't cut
-  below_uncut : (s j : ℕ) (x y : Version) (note other : CommitNote) → Lives f.ring s j x (Committed note) → Names f.ring x.previous y (Committed other) → other.cut ≡ false
+  below_uncut : (s j : ℕ) (x y : Version) (note other : CommitNote) → Lives f.ring s j x (Committed note) → Names f.ring x.previous y (Committed other)
+      → other.cut ≡ false
   below_uncut s j x y note other lives below =
       let t : ℕ = latest_at c.base h x.object (note.time - 1) in
       let links = k.commit_link s j x note lives in
@@ -56,7 +61,8 @@ module _ (starts : State → Type 0) (allows : List ℕ → State → Writes →
       let named : Names f.ring x.previous z (Committed n) = subst (λ (l : ℕ). Names f.ring l z (Committed n)) (sym (links.uncut link z n is uncut)) is.names in
       let one = names_once c h f.ring k.checked k.history.in_time k.positions x.previous y z (Committed other) (Committed n) below named in
       ap (λ (o : CommitNote). o.cut) (note_once other n one.3) ∙ uncut))
-      (λ none. absurd (⊎_elim unlinked (λ gone. gone_names_none c h f.ring k.checked k.history.in_time k.positions x.previous gone y (Committed other) below) (links.none none)))
+      (λ none. absurd (⊎_elim unlinked (λ gone. gone_names_none c h f.ring k.checked k.history.in_time k.positions x.previous gone y (Committed other) below)
+      (links.none none)))
       (find_write c h f.ring k.checked k.history.in_time k.positions x.object t)
     where
       by_cut : (b : Bool) → {P : Type 0} → (b ≡ true → P) → (b ≡ false → P) → P
@@ -79,7 +85,8 @@ module _ (starts : State → Type 0) (allows : List ℕ → State → Writes →
     alike = match_weaker (Timed d) Alike f.ring rings (timed_alike d) matches
 
     -- what holds of each slot of the log, and of each other, holds of all
-    all_slots : (P : ℕ → ℕ → Slot → Type 0) → ((j : ℕ) → P n j (timed d (slot_at (f.ring n) j))) → ((s j : ℕ) → s ≢ n → P s j (slot_at (f.ring s) j)) → (s j : ℕ) → P s j (slot_at (rings s) j)
+    all_slots : (P : ℕ → ℕ → Slot → Type 0) → ((j : ℕ) → P n j (timed d (slot_at (f.ring n) j))) → ((s j : ℕ) → s ≢ n → P s j (slot_at (f.ring s) j))
+        → (s j : ℕ) → P s j (slot_at (rings s) j)
     all_slots = slots_mapped f.ring n (timed d) refl
 
     now_is : clock_time_of (m Clock) ≡ c.base + length h
@@ -103,8 +110,10 @@ module _ (starts : State → Type 0) (allows : List ℕ → State → Writes →
     round_time s j x st lives = let low = k.positions_and_grace.live s j x st lives in let known = (k.grace.views s).0 in omega arith
 
     -- an aborted version had its death before, or has the new one
-    aborted_back : (s j dead : ℕ) (x : Version) → Lives rings s j x (Aborted (Some dead)) → (o : Option ℕ) × Lives f.ring s j x (Aborted o) × ((o ≡ Some dead) ⊎ (dead ≡ d))
-    aborted_back s j dead x = all_slots (λ t i z. z ≡ Live x (Aborted (Some dead)) → (o : Option ℕ) × (slot_at (f.ring t) i ≡ Live x (Aborted o)) × ((o ≡ Some dead) ⊎ (dead ≡ d)))
+    aborted_back : (s j dead : ℕ) (x : Version) → Lives rings s j x (Aborted (Some dead))
+        → (o : Option ℕ) × Lives f.ring s j x (Aborted o) × ((o ≡ Some dead) ⊎ (dead ≡ d))
+    aborted_back s j dead x = all_slots (λ t i z. z ≡ Live x (Aborted (Some dead)) → (o : Option ℕ) × (slot_at (f.ring t) i ≡ Live x (Aborted o)) ×
+        ((o ≡ Some dead) ⊎ (dead ≡ d)))
         (λ i e.
         let b = timed_back d (slot_at (f.ring n) i) x (Aborted (Some dead)) e in
         let w = aborted_was d b.0 (Some dead) b.2 in
@@ -112,8 +121,10 @@ module _ (starts : State → Type 0) (allows : List ℕ → State → Writes →
         (λ t i ne e. (Some dead, e, inl refl)) s j
 
     -- and so had a committed one, if it was cut; else its note is as before
-    committed_back : (s j : ℕ) (x : Version) (note : CommitNote) → Lives rings s j x (Committed note) → (was : CommitNote) × Lives f.ring s j x (Committed was) × ((note ≡ was) ⊎ (note ≡ timed_note d was))
-    committed_back s j x note = all_slots (λ t i z. z ≡ Live x (Committed note) → (was : CommitNote) × (slot_at (f.ring t) i ≡ Live x (Committed was)) × ((note ≡ was) ⊎ (note ≡ timed_note d was)))
+    committed_back : (s j : ℕ) (x : Version) (note : CommitNote) → Lives rings s j x (Committed note)
+        → (was : CommitNote) × Lives f.ring s j x (Committed was) × ((note ≡ was) ⊎ (note ≡ timed_note d was))
+    committed_back s j x note = all_slots (λ t i z. z ≡ Live x (Committed note) → (was : CommitNote) × (slot_at (f.ring t) i ≡ Live x (Committed was)) ×
+        ((note ≡ was) ⊎ (note ≡ timed_note d was)))
         (λ i e.
         let b = timed_back d (slot_at (f.ring n) i) x (Committed note) e in
         let w = committed_was d b.0 note b.2 in
@@ -146,12 +157,14 @@ module _ (starts : State → Type 0) (allows : List ℕ → State → Writes →
       aborted = λ s j dead x lives.
           let b = aborted_back s j dead x lives in
           let now = now_is in
-          ⊎_elim (λ e. k.deaths.aborted s j dead x (subst (λ (o : Option ℕ). Lives f.ring s j x (Aborted o)) e b.1)) (λ e. let le : dead ≤ c.base + length h + 1 = omega arith in le) b.2;
+          ⊎_elim (λ e. k.deaths.aborted s j dead x (subst (λ (o : Option ℕ). Lives f.ring s j x (Aborted o)) e b.1))
+          (λ e. let le : dead ≤ c.base + length h + 1 = omega arith in le) b.2;
       cut = λ s j dead x note lives cut e.
           let b = committed_back s j x note lives in
           let i = is_timed b.0 note b.2 in
           let now = now_is in
-          ⊎_elim (λ was. k.deaths.cut s j dead x b.0 b.1 (sym i.cut_is ∙ cut) was) (λ is. let le : dead ≤ c.base + length h + 1 = omega arith in le) (i.dead_was dead e);
+          ⊎_elim (λ was. k.deaths.cut s j dead x b.0 b.1 (sym i.cut_is ∙ cut) was)
+          (λ is. let le : dead ≤ c.base + length h + 1 = omega arith in le) (i.dead_was dead e);
       superseded = λ s j dead x note lives uncut e.
           let b = committed_back s j x note lives in
           let i = is_timed b.0 note b.2 in
@@ -166,7 +179,8 @@ module _ (starts : State → Type 0) (allows : List ℕ → State → Writes →
         let b = timed_back d (slot_at (f.ring n) i) x st e in
         let now = now_is in
         let long : length (f.past n).seen ≡ length h = ap length whole in
-        subst (DeathSeen (c.base + length (f.past n).seen)) b.2 (timed_seen (c.base + length (f.past n).seen) d b.0 (omega arith) (k.deaths_seen n i x b.0 b.1)))
+        subst (DeathSeen (c.base + length (f.past n).seen)) b.2
+        (timed_seen (c.base + length (f.past n).seen) d b.0 (omega arith) (k.deaths_seen n i x b.0 b.1)))
         (λ t i ne e. k.deaths_seen t i x st e) s j
 
     death_after : DeathAfterWrite rings
@@ -175,7 +189,8 @@ module _ (starts : State → Type 0) (allows : List ℕ → State → Writes →
         let i = is_timed b.0 note b.2 in
         let now = commit_time s j x b.0 b.1 in
         let time = i.time_is in
-        ⊎_elim (λ was. let lt = k.death_after_write s j dead x b.0 b.1 was in let r : note.time < dead = omega arith in r) (λ is. let r : note.time < dead = omega arith in r) (i.dead_was dead e)
+        ⊎_elim (λ was. let lt = k.death_after_write s j dead x b.0 b.1 was in let r : note.time < dead = omega arith in r)
+        (λ is. let r : note.time < dead = omega arith in r) (i.dead_was dead e)
 
     before_death_after : WalkerBeforeDeath f.time f.walk rings
     before_death_after = record {
@@ -185,7 +200,8 @@ module _ (starts : State → Type 0) (allows : List ℕ → State → Writes →
       below = λ s t stand y z dead su e w names below.
           let a = aborted_any names.seat names.slot y dead names.lives in
           let g = names_back (Timed d) (timed_place d) f.ring rings matches y.previous z su below in
-          before_either t g.1 su (section_time s t e) (k.walker_before_death.below s t stand y g.0 a.0 g.1 e w (record { seat = names.seat; slot = names.slot; lives = a.1; is = names.is }) g.2) g.3.1;
+          before_either t g.1 su (section_time s t e) (k.walker_before_death.below s t stand y g.0 a.0 g.1 e w
+          (record { seat = names.seat; slot = names.slot; lives = a.1; is = names.is }) g.2) g.3.1;
     }
       where
         before_either : (t : ℕ) (st su : Status) → t < d → IsBeforeDeath t st → (su ≡ st) ⊎ (su ≡ timed_status d st) → IsBeforeDeath t su
@@ -227,9 +243,11 @@ module _ (starts : State → Type 0) (allows : List ℕ → State → Writes →
         was (Freeing p q) unlived = tt
 
     slot_words_after : SlotWords (λ s j. m (First s j)) (λ s j. m (Prev s j)) (λ s j i. m (Data s j i)) rings
-    slot_words_after = all_slots (λ s j z. HoldsSlot (m (First s j)) (m (Prev s j)) (λ i. m (Data s j i)) z) (λ j. go j (slot_at (f.ring n) j) (k.slot_words n j)) (λ s j ne. k.slot_words s j)
+    slot_words_after = all_slots (λ s j z. HoldsSlot (m (First s j)) (m (Prev s j)) (λ i. m (Data s j i)) z)
+        (λ j. go j (slot_at (f.ring n) j) (k.slot_words n j)) (λ s j ne. k.slot_words s j)
       where
-        go : (j : ℕ) (z : Slot) → HoldsSlot (m (First n j)) (m (Prev n j)) (λ i. m (Data n j i)) z → HoldsSlot (m (First n j)) (m (Prev n j)) (λ i. m (Data n j i)) (timed d z)
+        go : (j : ℕ) (z : Slot) → HoldsSlot (m (First n j)) (m (Prev n j)) (λ i. m (Data n j i)) z
+            → HoldsSlot (m (First n j)) (m (Prev n j)) (λ i. m (Data n j i)) (timed d z)
         go j Free a = a
         go j (Built b) a = a
         go j (Live x st) a = a
@@ -239,21 +257,25 @@ module _ (starts : State → Type 0) (allows : List ℕ → State → Writes →
     dead_after s j t x note lives e =
         let b = committed_back s j x note lives in
         let low = round_time s j x (Committed b.0) b.1 in
-        ⊎_elim (λ was. k.positions_and_grace.dead s j t x b.0 b.1 was) (λ is. subst (λ (u : ℕ). c.base + x.position / c.slots < u) (sym is) low) ((is_timed b.0 note b.2).dead_was t e)
+        ⊎_elim (λ was. k.positions_and_grace.dead s j t x b.0 b.1 was)
+        (λ is. subst (λ (u : ℕ). c.base + x.position / c.slots < u) (sym is) low) ((is_timed b.0 note b.2).dead_was t e)
 
     aborted_after : (s j t : ℕ) (x : Version) → Lives rings s j x (Aborted (Some t)) → c.base + x.position / c.slots < t
     aborted_after s j t x lives =
         let b = aborted_back s j t x lives in
         let low = round_time s j x (Aborted b.0) b.1 in
-        ⊎_elim (λ e. k.positions_and_grace.aborted s j t x (subst (λ (o : Option ℕ). Lives f.ring s j x (Aborted o)) e b.1)) (λ is. subst (λ (u : ℕ). c.base + x.position / c.slots < u) (sym is) low) b.2
+        ⊎_elim (λ e. k.positions_and_grace.aborted s j t x (subst (λ (o : Option ℕ). Lives f.ring s j x (Aborted o)) e b.1))
+        (λ is. subst (λ (u : ℕ). c.base + x.position / c.slots < u) (sym is) low) b.2
 
     -- all facts after the load, but for what its seat has seen
-    death_facts : (f.past n).seen ≡ h → Facts starts allows c start m h (changed f n (record unchanged { ring = Some (record (f.ring n) { slots = map (timed d) (f.ring n).slots }) }))
+    death_facts : (f.past n).seen ≡ h
+        → Facts starts allows c start m h (changed f n (record unchanged { ring = Some (record (f.ring n) { slots = map (timed d) (f.ring n).slots }) }))
     death_facts whole =
-        let or_cut = match_weaker Alike AlikeOrCut f.ring rings alike_or_cut alike in
-        assumption
-        (slot_words_after, deaths_after, deaths_seen_after whole, before_death_after, flag_after, death_after, dead_after, aborted_after,
-        in_place_facts starts allows c start m h f k rings or_cut stays, same_stamp_facts starts allows c start m h f k rings alike, k)
+        let on = match_weaker Alike LivesOn f.ring rings (λ x st y su a. a.0.0) alike in
+        let deaths_seen_after = deaths_seen_after whole in
+        let in_place = in_place_facts starts allows c start m h f k rings on stays in
+        let same_stamp = same_stamp_facts starts allows c start m h f k rings alike in
+        assumption (slot_words_after, deaths_after, before_death_after, flag_after, death_after, dead_after, aborted_after, k)
 
 -- the timed slot is held where it was
 held_timed : (d : ℕ) (z : Slot) → is_held (timed d z) ≡ is_held z
@@ -265,7 +287,8 @@ held_timed d (Live x (Aborted e)) = refl
 held_timed d (Live x (Committed note)) = refl
 
 module _ (starts : State → Type 0) (allows : List ℕ → State → Writes → Type 0) (c : Config) (start : State) (v : View) where
-  pub death_loads : Loads starts allows c start v Clock (λ n w. ((((h : List Entry) × IsWhole c v n h × (w ≡ death_loaded c v n h)) × IsWord c n) × RunsOn v w) × IsKept v w)
+  pub death_loads : Loads starts allows c start v Clock (λ n w. ((((h : List Entry) × IsWhole c v n h × (w ≡ death_loaded c v n h)) × IsWord c n) × RunsOn v w)
+      × IsKept v w)
   death_loads m h seats k is own begins wide =
       let clock = m Clock in
       let d : ℕ = clock_time_of clock + 1 in
@@ -276,10 +299,12 @@ module _ (starts : State → Type 0) (allows : List ℕ → State → Writes →
       let r : Ring = record (seats n).ring { slots = map (timed d) (seats n).ring.slots } in
       let seen = whole_seen starts allows c start m h f k n in
       let held : held_count w.ring ≡ held_count v.ring = held_mapped (timed d) (held_timed d) v.ring in
-      let front : (rest : List Entry) × (h ≡ v.past.seen ++ rest) = subst (λ (u : View). (rest : List Entry) × (h ≡ u.past.seen ++ rest)) is (k.history.seats n).seen in (
+      let front : (rest : List Entry) × (h ≡ v.past.seen ++ rest) =
+      subst (λ (u : View). (rest : List Entry) × (h ≡ u.past.seen ++ rest)) is (k.history.seats n).seen in (
         w,
         settle starts allows c start m h seats n v w is (record unchanged { past = Some p; ring = Some r })
             (ap (λ (u : View). record u.past { seen = h }) (sym is), refl, refl, refl, refl, refl, refl, ap (λ (u : View). record u.ring { slots = map (timed d) u.ring.slots }) (sym is), refl, refl, refl)
-            (death_facts starts allows c start m h (changed f n (record unchanged { past = Some p })) seen n (ap (λ (q : Past). q.seen) (become_here f.past n p))),
+            (death_facts starts allows c start m h (changed f n (record unchanged { past = Some p })) seen n
+            (ap (λ (q : Past). q.seen) (become_here f.past n p))),
         ((((h, (front, k.history.long), refl), k.loaded_words.clock_is), (λ time first a begun. (a, λ i e mode some_held. begun i e mode (subst (λ (u : ℕ). 0 < u) held some_held) ∙ ap (λ (u : ℕ). v.ring.next - u) (sym held)))), (refl, refl, refl, refl, refl, refl)),
       )

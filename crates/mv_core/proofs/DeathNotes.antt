@@ -1,4 +1,5 @@
--- What a load of CLOCK that times dead versions makes of each version of the log: an aborted or cut one that waits for its time of death gets it, and else it is as before.
+-- What a load of CLOCK that times dead versions makes of each version of the log: an aborted or cut one that waits for its time of death gets it, and else it
+-- is as before.
 use Rattle.std.proofs.Common.{◌≡◌, ◌⊎◌, ℕ, ◌+◌, ◌<◌, ◌≤◌, Bool, true, false, cond, refl, sym, ap, ◌∙◌, subst, inl, inr, ⊎_elim, Option, Some, None}
 use Rattle.mv_core.specs.declared.ring.Slot.{Slot}
 use Rattle.mv_core.specs.declared.ring.Slot.TheVariants.{Free, Built, Live, Freeing}
@@ -11,7 +12,7 @@ use Rattle.mv_core.specs.ReclaimFacts.{DeathSeen}
 use Rattle.mv_core.specs.LockSteps.{dead_if, timed_status, timed}
 use Rattle.mv_core.proofs.Links.{note_once}
 use Rattle.mv_core.proofs.Slots.{Becomes}
-use Rattle.mv_core.proofs.Matching.{same_place, KeepsPlace, Alike, alike_self}
+use Rattle.mv_core.proofs.Matching.{same_place, KeepsPlace, Alike, alike_self, alike_committed}
 
 -- a slot with a version after it had that version before
 pub timed_back : (d : ℕ) (z : Slot) (x : Version) (su : Status) → timed d z ≡ Live x su → (st : Status) × (z ≡ Live x st) × (timed_status d st ≡ su)
@@ -87,7 +88,8 @@ before_timed t d (Committed m) lt a = λ dead e. ⊎_elim (λ was. a dead was) (
 -- where the new death is at most the time after what was seen, the status after it notes none that is later
 pub timed_seen : (now d : ℕ) (st : Status) → d ≤ now + 1 → DeathSeen now st → DeathSeen now (timed_status d st)
 timed_seen now d Held le old = old
-timed_seen now d (Aborted o) le old = λ dead e. (⊎_elim (λ was. (old dead was).0) (λ is. subst (λ (t : ℕ). t ≤ now + 1) (sym is) le) (dead_is d o dead e), λ none. absurd none)
+timed_seen now d (Aborted o) le old =
+    λ dead e. (⊎_elim (λ was. (old dead was).0) (λ is. subst (λ (t : ℕ). t ≤ now + 1) (sym is) le) (dead_is d o dead e), λ none. absurd none)
 timed_seen now d (Committed m) le old = λ dead e. (
   ⊎_elim (λ was. (old dead was).0) (λ is. subst (λ (t : ℕ). t ≤ now + 1) (sym is) le) (note_dead d m dead e),
   λ uncut. let was : m.cut ≡ false = sym (note_cut d m) ∙ uncut in (old dead (ap (λ (o : CommitNote). o.dead) (sym (note_uncut d m was)) ∙ e)).1 was,
@@ -104,9 +106,9 @@ pub timed_place : (d : ℕ) → KeepsPlace (Timed d)
 timed_place d x st y su a = same_place x y a.0
 
 alike_timed : (d : ℕ) (x : Version) (st : Status) → Alike x st x (timed_status d st)
-alike_timed d x Held = (same_place x x refl, refl)
-alike_timed d x (Aborted e) = (refl, refl)
-alike_timed d x (Committed m) = let same = note_cut d m in ((refl, note_time d m, λ cut. same ∙ cut), same)
+alike_timed d x Held = alike_self x Held
+alike_timed d x (Aborted e) = ((refl, λ held. let none : Aborted e ≡ Held = held in absurd (cc)), refl)
+alike_timed d x (Committed m) = alike_committed x m (timed_note d m) (note_time d m) (note_cut d m)
 
 pub timed_alike : (d : ℕ) (x : Version) (st : Status) (y : Version) (su : Status) → Timed d x st y su → Alike x st y su
 timed_alike d x st y su a =

@@ -30,7 +30,8 @@ use Rattle.mv_core.proofs.FreedSets as sets
 use Rattle.mv_core.proofs.FreedChains as chain
 use Rattle.mv_core.proofs.FreedWalks as walks
 
-module _ (starts : State → Type 0) (allows : List ℕ → State → Writes → Type 0) (c : Config) (start : State) (m : Memory) (h : List Entry) (f : Faces) (k : Facts starts allows c start m h f) (n position : ℕ) (r : Ring) (is : IsFreed c f n position r) where
+module _ (starts : State → Type 0) (allows : List ℕ → State → Writes → Type 0) (c : Config) (start : State) (m : Memory) (h : List Entry) (f : Faces)
+    (k : Facts starts allows c start m h f) (n position : ℕ) (r : Ring) (is : IsFreed c f n position r) where
   abbrev later : ℕ → Ring
   later = log.later starts allows c start m h f k n position r is
 
@@ -48,27 +49,40 @@ module _ (starts : State → Type 0) (allows : List ℕ → State → Writes →
       } in
       let seen : DeathsSeen c f.past later = λ s j x st lives. k.deaths_seen s j x st (was s j x st lives) in
       let late : WalkerLate f.time f.walk later = λ s t stand x note timed at late names.
-          k.walker_late s t stand x note timed at late (chain.names_was starts allows c start m h f k n position r is stand.link x (Committed note) names) in
+      k.walker_late s t stand x note timed at late (chain.names_was starts allows c start m h f k n position r is stand.link x (Committed note) names) in
       let flags : SuccessorFlag (λ s j. m (Super s j)) f.section later = λ s j i naming x note there mode lives time.
-          let a = k.successor_flag s j i naming x note there mode (was s j x (Committed note) lives) time in
-          (a.0, λ y other under. a.1 y other (chain.names_was starts allows c start m h f k n position r is x.previous y (Committed other) under)) in
+      let a = k.successor_flag s j i naming x note there mode (was s j x (Committed note) lives) time in
+      (a.0, λ y other under. a.1 y other (chain.names_was starts allows c start m h f k n position r is x.previous y (Committed other) under)) in
       let succeeded : SucceededHasSuper c h (λ s j. m (Super s j)) f.empty later = λ s e has.
-          let a = k.succeeded_has_super s e has in (a.0, λ j x note lives. a.1 j x note (was s j x (Committed note) lives)) in
+      let a = k.succeeded_has_super s e has in (a.0, λ j x note lives. a.1 j x note (was s j x (Committed note) lives)) in
       let cut : CutIsOld f.time later = λ s j x note lives. k.cut_is_old s j x note (was s j x (Committed note) lives) in
       let death_after : DeathAfterWrite later = λ s j dead x note lives. k.death_after_write s j dead x note (was s j x (Committed note) lives) in
-      assumption
-      (fresh, deaths, seen, late, flags, succeeded, cut, death_after,
-      sets.words_after starts allows c start m h f k n position r is, sets.stamps_after starts allows c start m h f k n position r is,
-      sets.sets_after starts allows c start m h f k n position r is, sets.helped_after starts allows c start m h f k n position r is,
-      sets.successors_after starts allows c start m h f k n position r is, sets.positions_after starts allows c start m h f k n position r is,
-      sets.open_after starts allows c start m h f k n position r is, sets.grace_after starts allows c start m h f k n position r is,
-      chain.heads starts allows c start m h f k n position r is, chain.links starts allows c start m h f k n position r is, chain.commit_links starts allows c start m h f k n position r is,
-      chain.aborted_links starts allows c start m h f k n position r is, chain.masters starts allows c start m h f k n position r is,
-      chain.feet starts allows c start m h f k n position r is, chain.freed_after starts allows c start m h f k n position r is,
-      walks.past_help starts allows c start m h f k n position r is, walks.places starts allows c start m h f k n position r is,
-      walks.deaths starts allows c start m h f k n position r is, walks.knowledge starts allows c start m h f k n position r is,
-      walks.below starts allows c start m h f k n position r is, walks.falls starts allows c start m h f k n position r is, walks.found starts allows c start m h f k n position r is,
-      walks.unfinished starts allows c start m h f k n position r is, walks.named starts allows c start m h f k n position r is, walks.backs starts allows c start m h f k n position r is, k)
+      let words_after = sets.words_after starts allows c start m h f k n position r is in
+      let stamps_after = sets.stamps_after starts allows c start m h f k n position r is in
+      let sets_after = sets.sets_after starts allows c start m h f k n position r is in
+      let helped_after = sets.helped_after starts allows c start m h f k n position r is in
+      let successors_after = sets.successors_after starts allows c start m h f k n position r is in
+      let positions_after = sets.positions_after starts allows c start m h f k n position r is in
+      let open_after = sets.open_after starts allows c start m h f k n position r is in
+      let grace_after = sets.grace_after starts allows c start m h f k n position r is in
+      let heads = chain.heads starts allows c start m h f k n position r is in
+      let links = chain.links starts allows c start m h f k n position r is in
+      let commit_links = chain.commit_links starts allows c start m h f k n position r is in
+      let aborted_links = chain.aborted_links starts allows c start m h f k n position r is in
+      let masters = chain.masters starts allows c start m h f k n position r is in
+      let feet = chain.feet starts allows c start m h f k n position r is in
+      let freed_after = chain.freed_after starts allows c start m h f k n position r is in
+      let past_help = walks.past_help starts allows c start m h f k n position r is in
+      let places = walks.places starts allows c start m h f k n position r is in
+      let deaths' = walks.deaths starts allows c start m h f k n position r is in
+      let knowledge = walks.knowledge starts allows c start m h f k n position r is in
+      let below = walks.below starts allows c start m h f k n position r is in
+      let falls = walks.falls starts allows c start m h f k n position r is in
+      let found = walks.found starts allows c start m h f k n position r is in
+      let unfinished = walks.unfinished starts allows c start m h f k n position r is in
+      let named = walks.named starts allows c start m h f k n position r is in
+      let backs = walks.backs starts allows c start m h f k n position r is in
+      assumption (k)
 
 -- a slot that isn't of the set is as it was
 freeing_same : (position : ℕ) (z : Slot) → ((x : Version) (st : Status) → z ≡ Live x st → x.first ≢ position) → freeing_slot position z ≡ z
@@ -77,7 +91,8 @@ freeing_same position (Built b) apart = refl
 freeing_same position (Freeing p first) apart = refl
 freeing_same position (Live x st) apart = ap (λ (b : Bool). cond b (Freeing x.position x.first) (Live x st)) (ne_eqb x.first position (apart x st refl))
 
-module _ (starts : State → Type 0) (allows : List ℕ → State → Writes → Type 0) (c : Config) (start : State) (m : Memory) (h : List Entry) (seats : ℕ → View) (k : Facts starts allows c start m h (faces_of seats))
+module _ (starts : State → Type 0) (allows : List ℕ → State → Writes → Type 0) (c : Config) (start : State) (m : Memory) (h : List Entry) (seats : ℕ → View)
+    (k : Facts starts allows c start m h (faces_of seats))
     (v : View) (is : seats v.number ≡ v) (position : ℕ) (may : MayStoreFree c v position) where
   abbrev n : ℕ
   n = v.number
@@ -98,19 +113,22 @@ module _ (starts : State → Type 0) (allows : List ℕ → State → Writes →
       let used : UsesPosition (Live x st) position = subst (λ (z : Slot). UsesPosition z position) e may.in_use in
       let position_is : x.position ≡ position = used in
       let first = k.write_sets.first n slot x st lives in
-      let there : slot_at v.ring (index_of c x.first) ≡ Live first.version first.status = ap (λ (q : Ring). slot_at q (index_of c x.first)) (sym ring_is) ∙ first.lives in
+      let there : slot_at v.ring (index_of c x.first) ≡ Live first.version first.status =
+      ap (λ (q : Ring). slot_at q (index_of c x.first)) (sym ring_is) ∙ first.lives in
       let low = may.oldest (index_of c x.first) x.first (subst (λ (z : Slot). UsesPosition z x.first) (sym there) first.position_is) in
       let high = k.write_sets.after_first n slot x st lives in
       omega arith
 
   -- a version whose set begins there is of the set in that slot
-  set_there : (j : ℕ) (x : Version) (st : Status) → slot_at v.ring j ≡ Live x st → x.first ≡ position → (y : Version) × (su : Status) × (slot_at v.ring slot ≡ Live y su)
+  set_there : (j : ℕ) (x : Version) (st : Status) → slot_at v.ring j ≡ Live x st → x.first ≡ position
+      → (y : Version) × (su : Status) × (slot_at v.ring slot ≡ Live y su)
   set_there j x st e same =
       let first = k.write_sets.first n j x st (ap (λ (q : Ring). slot_at q j) ring_is ∙ e) in
       (first.version, first.status, ap (λ (q : Ring). slot_at q slot) (sym ring_is) ∙ subst (λ (p : ℕ). Lives f.ring n (index_of c p) first.version first.status) same first.lives)
 
   abbrev AreFreed : Ring → Type 0
-  AreFreed r = (r.next ≡ v.ring.next) × (length r.slots ≡ length v.ring.slots) × (slot_at r slot ≡ Free) × ((j : ℕ) → j ≢ slot → slot_at r j ≡ freeing_slot position (slot_at v.ring j))
+  AreFreed r = (r.next ≡ v.ring.next) × (length r.slots ≡ length v.ring.slots) × (slot_at r slot ≡ Free) ×
+      ((j : ℕ) → j ≢ slot → slot_at r j ≡ freeing_slot position (slot_at v.ring j))
       × ((j : ℕ) (x : Version) (st : Status) → slot_at v.ring j ≡ Live x st → x.first ≡ position → IsDeadBy v.grace st)
 
   freed : (z : Slot) → slot_at v.ring slot ≡ z → AreFreed (freed_ring v.ring slot z)
@@ -163,7 +181,8 @@ module _ (starts : State → Type 0) (allows : List ℕ → State → Writes →
   free_runs : (position : ℕ) → MayStoreFree c v position → RunsOn v (free_stored c v position)
   free_runs position may time first timed begun = (timed, λ i e mode some. let clash : Outside ≡ Inside i = sym may.outside ∙ e in absurd (cc))
 
-  pub free_stores : (position : ℕ) → MayStoreFree c v position → Stores starts allows c start v (Stamp v.number (index_of c position)) 0 (λ w. ((w ≡ free_stored c v position) × RunsOn v w) × IsKept v w)
+  pub free_stores : (position : ℕ) → MayStoreFree c v position
+      → Stores starts allows c start v (Stamp v.number (index_of c position)) 0 (λ w. ((w ≡ free_stored c v position) × RunsOn v w) × IsKept v w)
   free_stores position may m h seats k is own begins = (
     free_stored c v position,
     h,

@@ -1,4 +1,5 @@
--- store STAMP 0 (free), in the walks and sections: no walk stands at a version that was dropped, nor at an aborted one that links to such a version, since both are dead by every section's time.
+-- store STAMP 0 (free), in the walks and sections: no walk stands at a version that was dropped, nor at an aborted one that links to such a version, since
+-- both are dead by every section's time.
 use Rattle.std.proofs.Common.{◌≡◌, ◌≢◌, ℕ, ◌<◌, ◌≤◌, List, refl, sym, ap, ◌∙◌, subst, inl, inr, ⊎_elim, arith, Some}
 use Rattle.mv_history.specs.declared.Entry.{Entry}
 use Rattle.mv_history.specs.State.{State, Writes}
@@ -31,7 +32,8 @@ use Rattle.mv_core.proofs.FreedLog.{IsFreed, IsDropped, not_dead_by}
 use Rattle.mv_core.proofs.FreedSets as sets
 use Rattle.mv_core.proofs.FreedChains as chain
 
-module _ (starts : State → Type 0) (allows : List ℕ → State → Writes → Type 0) (c : Config) (start : State) (m : Memory) (h : List Entry) (f : Faces) (k : Facts starts allows c start m h f) (n position : ℕ) (r : Ring) (is : IsFreed c f n position r) where
+module _ (starts : State → Type 0) (allows : List ℕ → State → Writes → Type 0) (c : Config) (start : State) (m : Memory) (h : List Entry) (f : Faces)
+    (k : Facts starts allows c start m h f) (n position : ℕ) (r : Ring) (is : IsFreed c f n position r) where
   abbrev slot : ℕ
   slot = log.slot starts allows c start m h f k n position r is
 
@@ -71,7 +73,8 @@ module _ (starts : State → Type 0) (allows : List ℕ → State → Writes →
           (λ b.
           ⊎_elim
           (λ under. inr (b.0, b.1, under, b.3, b.4))
-          (λ d. absurd (not_dead_by t (f.grace n) (Committed b.1) (k.walker_before_death.below s t stand x b.0 dead (Committed b.1) timed at names b.2) d.dead (low s t timed)))
+          (λ d. absurd (not_dead_by t (f.grace n) (Committed b.1) (k.walker_before_death.below s t stand x b.0 dead (Committed b.1) timed at names b.2) d.dead
+          (low s t timed)))
           (chain.names_still starts allows c start m h f k n position r is x.previous b.0 (Committed b.1) b.2))
           may
 
@@ -93,7 +96,8 @@ module _ (starts : State → Type 0) (allows : List ℕ → State → Writes →
   pub deaths : WalkerBeforeDeath f.time f.walk later
   deaths = record {
     here = λ s t stand x st timed at names. k.walker_before_death.here s t stand x st timed at (names_was stand.link x st names);
-    below = λ s t stand x y dead st timed at names under. k.walker_before_death.below s t stand x y dead st timed at (names_was stand.link x (Aborted dead) names) (names_was x.previous y st under);
+    below = λ s t stand x y dead st timed at names under. k.walker_before_death.below s t stand x y dead st timed at
+        (names_was stand.link x (Aborted dead) names) (names_was x.previous y st under);
   }
 
   pub knowledge : WalkerKnowledge f.section f.time f.heard f.walk later
@@ -101,7 +105,8 @@ module _ (starts : State → Type 0) (allows : List ℕ → State → Writes →
     helped = k.walker_knowledge.helped;
     first = λ s first stand x st at e names. k.walker_knowledge.first s first stand x st at e (names_was stand.link x st names);
     stamp = λ s found stand x st at e small names. k.walker_knowledge.stamp s found stand x st at e small (names_was stand.link x st names);
-    unset = λ s t found stand x note timed at e unset names. k.walker_knowledge.unset s t found stand x note timed at e unset (names_was stand.link x (Committed note) names);
+    unset = λ s t found stand x note timed at e unset names. k.walker_knowledge.unset s t found stand x note timed at e unset
+        (names_was stand.link x (Committed note) names);
   }
 
   stamp_same : (s j : ℕ) (x : Version) (st : Status) → Lives later s j x st → after s (index_of c x.first) ≡ stamp s (index_of c x.first)
@@ -117,13 +122,16 @@ module _ (starts : State → Type 0) (allows : List ℕ → State → Writes →
 
   pub below : BelowIsStamped c after later
   below s j x st lives uncommitted y note under =
-      stamp_same under.seat under.slot y (Committed note) under.lives ∙ k.below_is_stamped s j x st (was s j x st lives) uncommitted y note (names_was x.previous y (Committed note) under)
+      stamp_same under.seat under.slot y (Committed note) under.lives ∙
+      k.below_is_stamped s j x st (was s j x st lives) uncommitted y note (names_was x.previous y (Committed note) under)
 
   pub past_help : StampedPastHelp c after f.section f.heard later
-  past_help s i there past t j x note lives le = stamp_same t j x (Committed note) lives ∙ k.stamped_past_help s i there past t j x note (was t j x (Committed note) lives) le
+  past_help s i there past t j x note lives le = stamp_same t j x (Committed note) lives ∙
+      k.stamped_past_help s i there past t j x note (was t j x (Committed note) lives) le
 
   pub unfinished : UnstampedIsUnfinished c after f.section later
-  unfinished s j x note lives unset = k.unstamped_is_unfinished s j x note (was s j x (Committed note) lives) (λ e. unset (stamp_same s j x (Committed note) lives ∙ e))
+  unfinished s j x note lives unset = k.unstamped_is_unfinished s j x note (was s j x (Committed note) lives)
+      (λ e. unset (stamp_same s j x (Committed note) lives ∙ e))
 
   pub named : NamedCommit c h after f.section later
   named s i naming there mode =
@@ -178,7 +186,8 @@ module _ (starts : State → Type 0) (allows : List ℕ → State → Writes →
         let a = k.found_stamp.now s g there at in record {
           version = a.version;
           note = a.note;
-          lives = log.clock_kept starts allows c start m h f k n position r is a.version a.note (clock_seat_of g.word) (clock_slot_of g.word) a.lives (a.time_is ∙ ap clock_time_of (sym at));
+          lives = log.clock_kept starts allows c start m h f k n position r is a.version a.note (clock_seat_of g.word) (clock_slot_of g.word) a.lives
+              (a.time_is ∙ ap clock_time_of (sym at));
           first_is = a.first_is;
           time_is = a.time_is;
           unset_is = a.unset_is;

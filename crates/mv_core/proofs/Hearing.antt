@@ -1,4 +1,5 @@
--- A step that changes what its seat has heard of clock words: the frame of load STAMP named, load CLOCK (check) and the exchange of a stamp. That a section past its help finds every commit up to its time stamped follows from what was heard.
+-- A step that changes what its seat has heard of clock words: the frame of load STAMP named, load CLOCK (check) and the exchange of a stamp. That a section
+-- past its help finds every commit up to its time stamped follows from what was heard.
 use Rattle.std.proofs.Common.{◌≡◌, ◌≢◌, ◌⊎◌, ℕ, ◌<◌, ◌≤◌, true, List, [], ◌∷◌, ◌++◌, sym, ap, ◌∙◌, subst, ⊎_elim, inl, inr, mod-lt, arith, Option, Some, None}
 use Rattle.std.specs.Prelude.{Contains}
 use Rattle.std.proofs.lemmas.List.Elements.{Contains-append_left, Contains-append_cases}
@@ -35,7 +36,8 @@ use Rattle.mv_core.proofs.Leaving.{helped_after, found_anew, loaded_anew}
 pub slot_in : (c : Config) → Checked c → (p : ℕ) → index_of c p < c.slots
 slot_in c k p = let s = k.slots.0 in mod-lt p (omega arith)
 
-module _ (c : Config) (clock : ℕ) (stamp : ℕ → ℕ → ℕ) (h : List Entry) (rings : ℕ → Ring) (checked : Checked c) (small : clock_time_of clock ≤ 35184372088831) (stamps : Stamps c clock stamp rings) (positions : Positions c h rings) where
+module _ (c : Config) (clock : ℕ) (stamp : ℕ → ℕ → ℕ) (h : List Entry) (rings : ℕ → Ring) (checked : Checked c) (small : clock_time_of clock ≤ 35184372088831)
+    (stamps : Stamps c clock stamp rings) (positions : Positions c h rings) where
   -- a live commit that isn't stamped is the one that the clock names
   pub unstamped_is_named : (s k : ℕ) (x : Version) (note : CommitNote) → Lives rings s k x (Committed note) → stamp_of c stamp s x ≢ note.time
       → (stamp_of c stamp s x ≡ unset_of x.first) × (clock_time_of clock ≡ note.time) × (clock_seat_of clock ≡ s) × (clock_slot_of clock ≡ index_of c x.first)
@@ -76,7 +78,8 @@ module _ (c : Config) (clock : ℕ) (stamp : ℕ → ℕ → ℕ) (h : List Entr
       done)
 
   -- so stamped-past-help follows from what sections have heard
-  pub past_help : (section : ℕ → Option Section) (heard : ℕ → Heard) → LoadedWords c clock section heard → HelpedWords clock stamp heard → StampedPastHelp c stamp section heard rings
+  pub past_help : (section : ℕ → Option Section) (heard : ℕ → Heard) → LoadedWords c clock section heard → HelpedWords clock stamp heard
+      → StampedPastHelp c stamp section heard rings
   past_help section heard words helped s inside at past t k x note lives le =
       stamped_by_done inside.word (words.helped s inside.word past) (helped s inside.word past) t k x note lives le
 
@@ -99,7 +102,8 @@ one_more_word P words word all one w has =
     single a = grind arith
 
 -- and where it has helped one word more, and keeps no unset stamp
-pub helped_one : (c : Config) (clock : ℕ) (stamp : ℕ → ℕ → ℕ) (rings : ℕ → Ring) (old : Heard) (word : ℕ) → HeardIs c clock stamp rings old old → WasClock c clock word → IsDone clock stamp word → HeardIs c clock stamp rings old (helped_too old word)
+pub helped_one : (c : Config) (clock : ℕ) (stamp : ℕ → ℕ → ℕ) (rings : ℕ → Ring) (old : Heard) (word : ℕ) → HeardIs c clock stamp rings old old
+    → WasClock c clock word → IsDone clock stamp word → HeardIs c clock stamp rings old (helped_too old word)
 helped_one c clock stamp rings old word is was done = record {
   grows = λ w a. Contains-append_left old.helped (word ∷ []) w a;
   loaded = is.loaded;
@@ -110,7 +114,8 @@ helped_one c clock stamp rings old word is was done = record {
   checked = λ f e. let no_stamp : None ≡ Some f = e in absurd (cc);
 }
 
-module _ (starts : State → Type 0) (allows : List ℕ → State → Writes → Type 0) (c : Config) (start : State) (m : Memory) (h : List Entry) (f : Faces) (k : Facts starts allows c start m h f) where
+module _ (starts : State → Type 0) (allows : List ℕ → State → Writes → Type 0) (c : Config) (start : State) (m : Memory) (h : List Entry) (f : Faces)
+    (k : Facts starts allows c start m h f) where
   -- the clock's time is one that a stamp holds
   pub clock_small : clock_time_of (m Clock) ≤ 35184372088831
   clock_small = let long = k.history.long in let low = k.history.in_time in omega arith
@@ -122,7 +127,8 @@ module _ (starts : State → Type 0) (allows : List ℕ → State → Writes →
       let a = k.freed_is_old.named ne in
       let x = a.0 in
       let s = clock_seat_of (m Clock) in
-      let at : index_of c x.first ≡ clock_slot_of (m Clock) = ap (index_of c) (sym a.3) ∙ (k.positions.live s (clock_slot_of (m Clock)) x (Committed a.1) a.2).0 in
+      let at : index_of c x.first ≡ clock_slot_of (m Clock) =
+      ap (index_of c) (sym a.3) ∙ (k.positions.live s (clock_slot_of (m Clock)) x (Committed a.1) a.2).0 in
       let here : m (Stamp s (clock_slot_of (m Clock))) ≡ m (Stamp s (index_of c x.first)) = ap (λ i. m (Stamp s i)) (sym at) in
       ⊎_elim (λ e. inl (here ∙ e ∙ a.4))
       (λ t. inr (record { version = x; note = a.1; lives = a.2; first_is = a.3; time_is = a.4; unset_is = here ∙ t.0 }))
@@ -145,7 +151,8 @@ module _ (starts : State → Type 0) (allows : List ℕ → State → Writes →
     t = changed f n (record unchanged { heard = Some x })
 
     words_after : LoadedWords c (m Clock) f.section t.heard
-    words_after = loaded_anew c (m Clock) (λ s k. m (Stamp s k)) f.heard n f.section f.section x is.found is.loaded is.helped k.loaded_words.inside k.loaded_words
+    words_after = loaded_anew c (m Clock) (λ s k. m (Stamp s k)) f.heard n f.section f.section x is.found is.loaded is.helped k.loaded_words.inside
+        k.loaded_words
 
     helped_words_after : HelpedWords (m Clock) (λ s k. m (Stamp s k)) t.heard
     helped_words_after = helped_after c (m Clock) (λ s k. m (Stamp s k)) f.heard n x is.done k.helped_words

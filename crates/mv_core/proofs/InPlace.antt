@@ -19,7 +19,7 @@ use Rattle.mv_core.specs.WalkFacts.{SucceededHasSuper}
 use Rattle.mv_core.specs.ReclaimFacts.{next_in}
 use Rattle.mv_core.specs.Rule.{Facts}
 use Rattle.mv_core.proofs.Slots.{Matches, live_within, slots_after, wide_after, mapped, slots_mapped, wide_mapped}
-use Rattle.mv_core.proofs.Matching.{AlikeOrCut}
+use Rattle.mv_core.proofs.Matching.{LivesOn}
 use Rattle.mv_core.proofs.MatchedSets as set
 use Rattle.mv_core.proofs.MatchedStamps as stamped
 
@@ -49,7 +49,8 @@ in_place_put rings n j r x y st su lives written =
     }
 
 -- the slots of a log were mapped, and the map changes live versions alone
-pub in_place_map : (rings : ℕ → Ring) (n : ℕ) (f : Slot → Slot) (free : f Free ≡ Free) → ((z : Slot) → IsUnlived z → f z ≡ z) → ((z : Slot) → IsUnlived (f z) → IsUnlived z)
+pub in_place_map : (rings : ℕ → Ring) (n : ℕ) (f : Slot → Slot) (free : f Free ≡ Free) → ((z : Slot) → IsUnlived z → f z ≡ z)
+    → ((z : Slot) → IsUnlived (f z) → IsUnlived z)
     → StaysInPlace rings (mapped rings n f free)
 in_place_map rings n f free same was = record {
   wide = wide_mapped rings n f free;
@@ -68,19 +69,21 @@ pub record InPlaceFacts (c : Config) (m : Memory) (h : List Entry) (f : Faces) (
   pub built : (s j : ℕ) (b : Build) → slot_at (rings s) j ≡ Built b → c.base + (rings s).next / c.slots ≤ f.grace s
   pub freeing : (s j p first : ℕ) → slot_at (rings s) j ≡ Freeing p first → c.base + p / c.slots < f.grace s
 
-pub in_place_facts : (starts : State → Type 0) (allows : List ℕ → State → Writes → Type 0) (c : Config) (start : State) (m : Memory) (h : List Entry) (f : Faces)
-    → Facts starts allows c start m h f → (rings : ℕ → Ring) → Matches AlikeOrCut f.ring rings → StaysInPlace f.ring rings → InPlaceFacts c m h f rings
-in_place_facts starts allows c start m h f k rings alike stays =
+pub in_place_facts : (starts : State → Type 0) (allows : List ℕ → State → Writes
+    → Type 0) (c : Config) (start : State) (m : Memory) (h : List Entry) (f : Faces)
+    → Facts starts allows c start m h f → (rings : ℕ → Ring) → Matches LivesOn f.ring rings → StaysInPlace f.ring rings → InPlaceFacts c m h f rings
+in_place_facts starts allows c start m h f k rings on stays =
     let stamp : ℕ → ℕ → ℕ = λ s j. m (Stamp s j) in
     let super : ℕ → ℕ → ℕ = λ s j. m (Super s j) in
     let built_back : (s j : ℕ) (b : Build) → slot_at (rings s) j ≡ Built b → slot_at (f.ring s) j ≡ Built b = λ s j b. stays.back s j (Built b) tt in
-    let next_is : (s : ℕ) → (rings s).next ≡ (f.ring s).next = alike.next in record {
-      stamps = stamped.stamps_match c h f.ring rings alike stamp stamp (λ s j x st l. refl) (m Clock) (λ s j b e. k.stamps.built s j b (built_back s j b e)) k.stamps;
-      positions = set.positions_match c h f.ring rings alike stays.wide (λ s j p first. stays.back s j (Freeing p first) tt)
+    let next_is : (s : ℕ) → (rings s).next ≡ (f.ring s).next = on.next in record {
+      stamps = stamped.stamps_match c h f.ring rings on stamp stamp (λ s j x st l. refl) (m Clock)
+          (λ s j b e. k.stamps.built s j b (built_back s j b e)) k.stamps;
+      positions = set.positions_match c h f.ring rings on stays.wide (λ s j p first. stays.back s j (Freeing p first) tt)
           (λ s j p first. stays.forth s j (Freeing p first) tt) (λ s j b e. k.positions.built s j b (built_back s j b e)) k.positions;
-      successors = stamped.successors_match c h f.ring rings alike super super (λ s j x st l. refl) stamp stamp (λ s j x st l. refl) f.section
+      successors = stamped.successors_match c h f.ring rings on super super (λ s j x st l. refl) stamp stamp (λ s j x st l. refl) f.section
           (λ s j b e. k.successors.built s j b (built_back s j b e)) k.successors;
-      succeeded = stamped.succeeded_match c h f.ring rings alike super super (λ s j x st l. refl) f.empty k.succeeded_has_super;
+      succeeded = stamped.succeeded_match c h f.ring rings on super super (λ s j x st l. refl) f.empty k.succeeded_has_super;
       free = λ s j low e. subst (λ (p : ℕ). c.base + (p + (j + c.slots - p % c.slots) % c.slots) / c.slots ≤ f.grace s) (sym (next_is s))
           (k.positions_and_grace.free s j low (stays.back s j Free tt e));
       built = λ s j b e. subst (λ (p : ℕ). c.base + p / c.slots ≤ f.grace s) (sym (next_is s)) (k.positions_and_grace.built s j b (built_back s j b e));

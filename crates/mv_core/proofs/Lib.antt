@@ -69,7 +69,6 @@ pub mod Graces
 pub mod Scanning
 pub mod Scans
 pub mod UnlockedLog
-pub mod UnlockedChain
 pub mod UnlockStored
 pub mod Longer
 pub mod Commits

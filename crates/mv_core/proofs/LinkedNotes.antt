@@ -18,11 +18,12 @@ use Rattle.mv_core.specs.SetFacts.{IsHeldOrAborted}
 use Rattle.mv_core.specs.Rule.{Facts}
 use Rattle.mv_core.proofs.Links.{live_once, note_once}
 use Rattle.mv_core.proofs.Slots.{Matches, live_within, match_put, slots_after}
-use Rattle.mv_core.proofs.Matching.{Alike, alike_self}
+use Rattle.mv_core.proofs.Matching.{Alike, alike_self, alike_committed}
 use Rattle.mv_core.proofs.Cuts.{SameDeath, death_self}
 use Rattle.mv_core.proofs.InPlace.{StaysInPlace, in_place_put}
 
-module _ (starts : State → Type 0) (allows : List ℕ → State → Writes → Type 0) (c : Config) (start : State) (m : Memory) (h : List Entry) (f : Faces) (k : Facts starts allows c start m h f)
+module _ (starts : State → Type 0) (allows : List ℕ → State → Writes → Type 0) (c : Config) (start : State) (m : Memory) (h : List Entry) (f : Faces)
+    (k : Facts starts allows c start m h f)
     (n j : ℕ) (x : Version) (note : CommitNote) (lives : Lives f.ring n j x (Committed note)) where
   abbrev pub note' : CommitNote
   note' = record note { linked = true }
@@ -40,7 +41,8 @@ module _ (starts : State → Type 0) (allows : List ℕ → State → Writes →
   within = live_within (f.ring n) j x (Committed note) lives
 
   pub matches : Matches Alike f.ring rings
-  matches = match_put Alike alike_self f.ring n j new ring' refl within refl x (Committed note) x (Committed note') lives refl ((refl, refl, λ cut. cut), refl)
+  matches = match_put Alike alike_self f.ring n j new ring' refl within refl x (Committed note) x (Committed note') lives refl
+      (alike_committed x note note' refl refl)
 
   pub same_death : Matches SameDeath f.ring rings
   same_death = match_put SameDeath death_self f.ring n j new ring' refl within refl x (Committed note) x (Committed note') lives refl
@@ -50,7 +52,8 @@ module _ (starts : State → Type 0) (allows : List ℕ → State → Writes →
   stays = in_place_put f.ring n j ring' x x (Committed note) (Committed note') lives refl
 
   -- what holds of the new slot, and of each other as it was, holds of all
-  pub all_slots : (P : ℕ → ℕ → Slot → Type 0) → P n j new → ((s i : ℕ) → ¬ ((s ≡ n) × (i ≡ j)) → P s i (slot_at (f.ring s) i)) → (s i : ℕ) → P s i (slot_at (rings s) i)
+  pub all_slots : (P : ℕ → ℕ → Slot → Type 0) → P n j new → ((s i : ℕ) → ¬ ((s ≡ n) × (i ≡ j)) → P s i (slot_at (f.ring s) i)) → (s i : ℕ)
+      → P s i (slot_at (rings s) i)
   all_slots = slots_after f.ring n j new ring' refl within
 
   -- what was noted of a commit: the same, but for whether SUPER was stored below

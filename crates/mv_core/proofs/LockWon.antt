@@ -1,5 +1,6 @@
 -- A won exchange of a lock, over all facts: one version more is live, which is held and on top of its object's chain, and no walk stands at it.
-use Rattle.std.proofs.Common.{◌≡◌, ◌≢◌, ◌⊎◌, ℕ, ◌+◌, ◌<◌, ◌≤◌, cond, List, length, refl, sym, ap, ◌∙◌, subst, ⊎_elim, inl, inr, le_trans, eq-eqb, ne_eqb, arith, Option, Some, None}
+use Rattle.std.proofs.Common.{◌≡◌, ◌≢◌, ◌⊎◌, ℕ, ◌+◌, ◌<◌, ◌≤◌, cond, List, length, refl, sym}
+use Rattle.std.proofs.Common.{ap, ◌∙◌, subst, ⊎_elim, inl, inr, le_trans, eq-eqb, ne_eqb, arith, Option, Some, None}
 use mathlib.Core.Logic.{dite}
 use native.Mathlib.Decide.{ℕ_discrete}
 use Rattle.mv_history.specs.declared.Entry.{Entry}
@@ -33,7 +34,8 @@ use Rattle.mv_core.specs.ReclaimFacts.{Deaths, DeathSeen, DeathAfterWrite, CutIs
 use Rattle.mv_core.specs.LockSteps.{MayLock, head_locked}
 use Rattle.mv_core.specs.Rule.{Facts}
 use Rattle.mv_core.proofs.Frames.{become_else, unchanged, settle}
-use Rattle.mv_core.proofs.CommittedKept.{KeepsCommitted, names_was, names_still, top_still, gone_still, link_kept, freed_kept, master_kept, foot_kept, serves_kept, named_kept, back_kept, past_help_kept, flag_kept, super_kept, is_named_kept}
+use Rattle.mv_core.proofs.CommittedKept.{KeepsCommitted, names_was, names_still, top_still, gone_still, link_kept, freed_kept, master_kept}
+use Rattle.mv_core.proofs.CommittedKept.{foot_kept, serves_kept, named_kept, back_kept, past_help_kept, flag_kept, super_kept, is_named_kept}
 use Rattle.mv_core.proofs.Links.{names_once}
 use Rattle.mv_core.proofs.Lockable.{none_holds, is_top, is_fresh, below_stamped}
 use Rattle.mv_core.proofs.LockedLog as log
@@ -47,8 +49,10 @@ put_head m a n P here rest b =
     (λ e. subst (λ (t : ℕ). P t (put m (Head a) n (Head t))) (sym e) (subst (P a) (sym (ap (λ t. cond t n (m (Head a))) (eq-eqb a a refl))) here))
     (λ ne. subst (P b) (sym (ap (λ t. cond t n (m (Head b))) (ne_eqb a b (λ e. ne (sym e))))) (rest b ne))
 
-module _ (starts : State → Type 0) (allows : List ℕ → State → Writes → Type 0) (c : Config) (start : State) (m : Memory) (h : List Entry) (seats : ℕ → View) (k : Facts starts allows c start m h (faces_of seats))
-    (v : View) (is : seats v.number ≡ v) (own : v.number < c.seats) (write_max object previous position : ℕ) (b : Build) (inside : Section) (may : MayLock c write_max v object previous position b inside)
+module _ (starts : State → Type 0) (allows : List ℕ → State → Writes → Type 0) (c : Config) (start : State) (m : Memory) (h : List Entry) (seats : ℕ → View)
+    (k : Facts starts allows c start m h (faces_of seats))
+    (v : View) (is : seats v.number ≡ v) (own : v.number < c.seats) (write_max object previous position : ℕ) (b : Build) (inside : Section)
+    (may : MayLock c write_max v object previous position b inside)
     (won : m (Head object) ≡ previous) where
   abbrev rings : ℕ → Ring
   rings s = (seats s).ring
@@ -83,7 +87,8 @@ module _ (starts : State → Type 0) (allows : List ℕ → State → Writes →
   kept : KeepsCommitted rings later
   kept = log.kept starts allows c start m h seats k v is own write_max object previous position b inside may
 
-  each_live : (P : ℕ → ℕ → Version → Status → Type 0) → P n slot x Held → ((s j : ℕ) (y : Version) (st : Status) → Lives rings s j y st → P s j y st) → (s j : ℕ) (y : Version) (st : Status) → Lives later s j y st → P s j y st
+  each_live : (P : ℕ → ℕ → Version → Status → Type 0) → P n slot x Held → ((s j : ℕ) (y : Version) (st : Status) → Lives rings s j y st → P s j y st)
+      → (s j : ℕ) (y : Version) (st : Status) → Lives later s j y st → P s j y st
   each_live = log.each_live starts allows c start m h seats k v is own write_max object previous position b inside may
 
   lives_still : (s j : ℕ) (y : Version) (st : Status) → Lives rings s j y st → Lives later s j y st
@@ -155,7 +160,8 @@ module _ (starts : State → Type 0) (allows : List ℕ → State → Writes →
     here = λ s t stand y st timed at names. k.walker_before_death.here s t stand y st timed at (stand_was s stand at y st names);
     below = λ s t stand y z dead st timed at names under.
         each_live (λ q j u su. y.previous ≡ link_of q u.position → IsBeforeDeath t su) (λ _. tt)
-        (λ q j u su lives is. k.walker_before_death.below s t stand y u dead su timed at (stand_was s stand at y (Aborted dead) names) (record { seat = q; slot = j; lives = lives; is = is }))
+        (λ q j u su lives is. k.walker_before_death.below s t stand y u dead su timed at (stand_was s stand at y (Aborted dead) names)
+        (record { seat = q; slot = j; lives = lives; is = is }))
         under.seat under.slot z st under.lives under.is;
   }
 
@@ -164,7 +170,8 @@ module _ (starts : State → Type 0) (allows : List ℕ → State → Writes →
     helped = k.walker_knowledge.helped;
     first = λ s first stand y st at e names. k.walker_knowledge.first s first stand y st at e (stand_was s stand at y st names);
     stamp = λ s found stand y st at e low names. k.walker_knowledge.stamp s found stand y st at e low (stand_was s stand at y st names);
-    unset = λ s t found stand y note timed at e high names. k.walker_knowledge.unset s t found stand y note timed at e high (stand_was s stand at y (Committed note) names);
+    unset = λ s t found stand y note timed at e high names. k.walker_knowledge.unset s t found stand y note timed at e high
+        (stand_was s stand at y (Committed note) names);
   }
 
   falls : WalkerFalls c stamp (λ s. (seats s).walk) later
@@ -187,8 +194,10 @@ module _ (starts : State → Type 0) (allows : List ℕ → State → Writes →
           slot_is = r.slot_is;
           used = le_trans r.used (kept.grows (clock_seat_of g.word));
           live = λ y st lives.
-              each_live (λ q j z su. q ≡ clock_seat_of g.word → j ≡ clock_slot_of g.word → z.position ≡ r.position → (z.first ≡ r.position) × ((note : CommitNote) × (su ≡ Committed note) × (note.time ≡ clock_time_of g.word)))
-              (λ seat _ e. let used : r.position < (rings n).next = subst (λ (q : ℕ). r.position < (rings q).next) (sym seat) r.used in let next = log.next_is starts allows c start m h seats k v is own write_max object previous position b inside may in absurd (omega arith))
+              each_live (λ q j z su. q ≡ clock_seat_of g.word → j ≡ clock_slot_of g.word → z.position ≡ r.position → (z.first ≡ r.position) ×
+              ((note : CommitNote) × (su ≡ Committed note) × (note.time ≡ clock_time_of g.word)))
+              (λ seat _ e. let used : r.position < (rings n).next = subst (λ (q : ℕ). r.position < (rings q).next) (sym seat) r.used in let next =
+              log.next_is starts allows c start m h seats k v is own write_max object previous position b inside may in absurd (omega arith))
               (λ q j z su old seat slot_is e. r.live z su (subst (λ (p : ℕ × ℕ). Lives rings p.0 p.1 z su) (λ i. (seat i, slot_is i)) old) e)
               (clock_seat_of g.word) (clock_slot_of g.word) y st lives refl refl;
           gone = λ none. r.gone (λ y st lives. none y st (lives_still (clock_seat_of g.word) (clock_slot_of g.word) y st lives));
@@ -199,15 +208,19 @@ module _ (starts : State → Type 0) (allows : List ℕ → State → Writes →
   open_after = record {
     own = k.open_section.own;
     held = λ s j y lives. each_live (λ s j y st. st ≡ Held → (i : Section) × (section s ≡ Some i) × IsUnnamed i.mode)
-        (λ _. (inside, section_here, subst IsUnnamed (sym may.walking.open_is) tt)) (λ s j y st lives e. k.open_section.held s j y (subst (Lives rings s j y) e lives)) s j y Held lives refl;
+        (λ _. (inside, section_here, subst IsUnnamed (sym may.walking.open_is) tt))
+        (λ s j y st lives e. k.open_section.held s j y (subst (Lives rings s j y) e lives)) s j y Held lives refl;
     one_set = λ s j l y z a d.
         let mine = each_live (λ t i u su. t ≡ n → su ≡ Held → u.first ≡ x.first) (λ _ _. refl)
-        (λ t i u su lives at e. log.same_first starts allows c start m h seats k v is own write_max object previous position b inside may i u (subst (λ (q : ℕ). Lives rings q i u Held) at (subst (Lives rings t i u) e lives))) in
+        (λ t i u su lives at e. log.same_first starts allows c start m h seats k v is own write_max object previous position b inside may i u
+        (subst (λ (q : ℕ). Lives rings q i u Held) at (subst (Lives rings t i u) e lives))) in
         dite (ℕ_discrete s n)
         (λ e. mine s j y Held a e refl ∙ sym (mine s l z Held d e refl))
-        (λ ne. k.open_section.one_set s j l y z (subst (λ (r : Ring). slot_at r j ≡ Live y Held) (ring_else s ne) a) (subst (λ (r : Ring). slot_at r l ≡ Live z Held) (ring_else s ne) d));
+        (λ ne. k.open_section.one_set s j l y z (subst (λ (r : Ring). slot_at r j ≡ Live y Held) (ring_else s ne) a)
+        (subst (λ (r : Ring). slot_at r l ≡ Live z Held) (ring_else s ne) d));
     whole = λ s j y i lives at mode.
-        log.each_set starts allows c start m h seats k v is own write_max object previous position b inside may (λ st. st ≡ Held) refl s j y lives (λ ne before. k.open_section.whole s j y i before at mode);
+        log.each_set starts allows c start m h seats k v is own write_max object previous position b inside may (λ st. st ≡ Held) refl s j y lives
+        (λ ne before. k.open_section.whole s j y i before at mode);
   }
 
   heads : HeadIsTop c h (λ o. put m (Head object) (link_of n position) (Head o)) later
@@ -218,22 +231,27 @@ module _ (starts : State → Type 0) (allows : List ℕ → State → Writes →
         (λ e. absurd (holds_none s j y lives (sym e))) (λ o ne e. ap (λ (p : ℕ). m (Head p)) e ∙ k.head_is_top.held s j y lives) y.object refl);
     top = put_head m object (link_of n position) (λ o w. NoneHolds later o → IsTop later o (latest c.base h o) w)
         (λ none. absurd (none n slot x lives_new refl))
-        (λ o ne none. top_still rings later kept o (latest c.base h o) (m (Head o)) (k.head_is_top.top o (λ s j y lives. none s j y (lives_still s j y Held lives))));
+        (λ o ne none. top_still rings later kept o (latest c.base h o) (m (Head o))
+        (k.head_is_top.top o (λ s j y lives. none s j y (lives_still s j y Held lives))));
   }
     where
-      each_held : (P : ℕ → Version → Type 0) → P n x → ((s j : ℕ) (y : Version) → Lives rings s j y Held → P s y) → (s j : ℕ) (y : Version) → Lives later s j y Held → P s y
-      each_held P here rest s j y lives = each_live (λ s j y st. st ≡ Held → P s y) (λ _. here) (λ s j y st lives e. rest s j y (subst (Lives rings s j y) e lives)) s j y Held lives refl
+      each_held : (P : ℕ → Version → Type 0) → P n x → ((s j : ℕ) (y : Version) → Lives rings s j y Held → P s y) → (s j : ℕ) (y : Version)
+          → Lives later s j y Held → P s y
+      each_held P here rest s j y lives = each_live (λ s j y st. st ≡ Held → P s y) (λ _. here)
+          (λ s j y st lives e. rest s j y (subst (Lives rings s j y) e lives)) s j y Held lives refl
 
   links : HeldLink c h later
   links s j y lives =
       each_live (λ s j y st. st ≡ Held → IsTop later y.object (latest c.base h y.object) y.previous)
-      (λ _. top_still rings later kept object (latest c.base h object) previous (is_top starts allows c start m h seats k v is inside may.walking object previous may.stands won))
+      (λ _. top_still rings later kept object (latest c.base h object) previous
+      (is_top starts allows c start m h seats k v is inside may.walking object previous may.stands won))
       (λ s j y st lives e. top_still rings later kept y.object (latest c.base h y.object) y.previous (k.held_link s j y (subst (Lives rings s j y) e lives)))
       s j y Held lives refl
 
   aborted_after : AbortedLink later
   aborted_after s j y dead lives =
-      each_live (λ s j y st. st ≡ Aborted dead → (y.previous ≡ 0) ⊎ (IsGone later y.previous ⊎ ((z : Version) × (note : CommitNote) × Names later y.previous z (Committed note) × (z.object ≡ y.object))))
+      each_live (λ s j y st. st ≡ Aborted dead → (y.previous ≡ 0) ⊎
+      (IsGone later y.previous ⊎ ((z : Version) × (note : CommitNote) × Names later y.previous z (Committed note) × (z.object ≡ y.object))))
       (λ e. absurd (cc))
       (λ s j y st lives e.
       ⊎_elim inl
@@ -257,11 +275,13 @@ module _ (starts : State → Type 0) (allows : List ℕ → State → Writes →
 
   successors_after : Successors c h stamp super section later
   successors_after = record {
-    held = each_live (λ s j y st. IsHeldOrAborted st → super s j ≡ 0) (λ _. log.super_new starts allows c start m h seats k v is own write_max object previous position b inside may) k.successors.held;
+    held = each_live (λ s j y st. IsHeldOrAborted st → super s j ≡ 0)
+        (λ _. log.super_new starts allows c start m h seats k v is own write_max object previous position b inside may) k.successors.held;
     next = λ s j y note lives. k.successors.next s j y note (kept.was s j y note lives);
     stamped = λ s j y note lives t l z other there. k.successors.stamped s j y note (kept.was s j y note lives) t l z other (kept.was t l z other there);
     unfinished = λ s j y note lives. k.successors.unfinished s j y note (kept.was s j y note lives);
-    built = λ s j d at. k.successors.built s j d (log.built_was starts allows c start m h seats k v is own write_max object previous position b inside may s j d at).0;
+    built = λ s j d at. k.successors.built s j d (log.built_was starts allows c start m h seats k v is own write_max object previous position b inside may s j d
+        at).0;
   }
 
   pub lock_won : Facts starts allows c start (put m (Head object) (link_of v.number position)) h (faces_of (become seats v.number (head_locked c v inside object previous position)))
@@ -272,7 +292,8 @@ module _ (starts : State → Type 0) (allows : List ℕ → State → Writes →
         cut = λ s j dead y note lives. k.deaths.cut s j dead y note (kept.was s j y note lives);
         superseded = λ s j dead y note lives. k.deaths.superseded s j dead y note (kept.was s j y note lives);
       } in
-      let seen = each_live (λ s j y st. DeathSeen (c.base + length (seats s).past.seen) st) (none_noted (c.base + length (seats n).past.seen) Held refl) k.deaths_seen in
+      let seen = each_live (λ s j y st. DeathSeen (c.base + length (seats s).past.seen) st)
+      (none_noted (c.base + length (seats n).past.seen) Held refl) k.deaths_seen in
       let places : WalkerPlace c start h master time (λ s. (seats s).walk) later = λ s t timed. stands_kept t (seats s).walk (k.walker_place s t timed) in
       let late : WalkerLate time (λ s. (seats s).walk) later =
       λ s t stand y note timed at e names. k.walker_late s t stand y note timed at e (stand_was s stand at y (Committed note) names) in
@@ -285,15 +306,17 @@ module _ (starts : State → Type 0) (allows : List ℕ → State → Writes →
       let none : None ≡ Some w = sym may.walking.no_back ∙ ap (λ (u : View). u.back) (sym is) ∙ ap (λ (t : ℕ). (seats t).back) (sym e) ∙ at in cc))
       k.write_back in
       settle starts allows c start (put m (Head object) (link_of v.number position)) h seats v.number v (head_locked c v inside object previous position) is
-      (record unchanged { ring = Some (head_locked c v inside object previous position).ring }) (refl, refl, refl, refl, refl, refl, refl, refl, refl, refl, refl)
-      (assumption
-      (deaths, seen, places, late, unfinished, cut, death_after, named, backs, positions, heads, links, aborted_after, below_after, fresh_after, successors_after,
-      before_death, knowledge, falls, found_after, open_after,
-      log.words_after starts allows c start m h seats k v is own write_max object previous position b inside may,
-      log.stamps_after starts allows c start m h seats k v is own write_max object previous position b inside may,
-      log.sets_after starts allows c start m h seats k v is own write_max object previous position b inside may,
-      log.grace_after starts allows c start m h seats k v is own write_max object previous position b inside may,
-      past_help_kept rings later kept c stamp section (λ s. (seats s).heard) k.stamped_past_help, link_kept rings later kept c h k.commit_link,
-      master_kept rings later kept c h start master time k.present_master, foot_kept rings later kept c h start master time k.chain_foot,
-      flag_kept rings later kept super section k.successor_flag, super_kept rings later kept c h super (λ s. (seats s).empty) k.succeeded_has_super,
-      freed_kept rings later kept c h (m Clock) (λ s. (seats s).grace) k.freed_is_old, k))
+      (record unchanged { ring = Some (head_locked c v inside object previous position).ring })
+      (refl, refl, refl, refl, refl, refl, refl, refl, refl, refl, refl)
+      (let words_after = log.words_after starts allows c start m h seats k v is own write_max object previous position b inside may in
+      let stamps_after = log.stamps_after starts allows c start m h seats k v is own write_max object previous position b inside may in
+      let sets_after = log.sets_after starts allows c start m h seats k v is own write_max object previous position b inside may in
+      let grace_after = log.grace_after starts allows c start m h seats k v is own write_max object previous position b inside may in
+      let past_help_still = past_help_kept rings later kept c stamp section (λ s. (seats s).heard) k.stamped_past_help in
+      let link_still = link_kept rings later kept c h k.commit_link in
+      let master_still = master_kept rings later kept c h start master time k.present_master in
+      let foot_still = foot_kept rings later kept c h start master time k.chain_foot in
+      let flag_still = flag_kept rings later kept super section k.successor_flag in
+      let super_still = super_kept rings later kept c h super (λ s. (seats s).empty) k.succeeded_has_super in
+      let freed_still = freed_kept rings later kept c h (m Clock) (λ s. (seats s).grace) k.freed_is_old in
+      assumption (positions, heads, links, aborted_after, below_after, fresh_after, successors_after, before_death, knowledge, falls, found_after, open_after, k))

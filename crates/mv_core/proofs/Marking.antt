@@ -1,4 +1,5 @@
--- store MARK. The form of a step that writes a word and changes parts of its view: what changes is named in `settle`, and of the facts below only those that read it aren't that of before.
+-- store MARK. The form of a step that writes a word and changes parts of its view: what changes is named in `settle`, and of the facts below only those that
+-- read it aren't that of before.
 use Rattle.std.proofs.Common.{◌≡◌, ◌≢◌, ℕ, ◌+◌, ◌≤◌, cond, List, sym, refl, ap, ◌∙◌, subst, eq-eqb, ne_eqb, Some}
 use mathlib.Core.Logic.{dite}
 use native.Mathlib.Decide.{ℕ_discrete}
@@ -27,7 +28,8 @@ put_mark m a n P here rest b =
     (λ ne. subst (P b) (sym (ap (λ t. cond t n (m (Mark b))) (ne_eqb a b (λ e. ne (sym e))))) (rest b ne))
 
 -- the marks after a seat stores its own and changes its phase to fit
-pub marks_after : (m : Memory) (a n : ℕ) (phase : ℕ → Phase) (p : Phase) → Marks (m Clock) (λ s. m (Mark s)) phase → MarkedAs (m Clock) n p → Marks (m Clock) (λ s. put m (Mark a) n (Mark s)) (become phase a p)
+pub marks_after : (m : Memory) (a n : ℕ) (phase : ℕ → Phase) (p : Phase) → Marks (m Clock) (λ s. m (Mark s)) phase → MarkedAs (m Clock) n p
+    → Marks (m Clock) (λ s. put m (Mark a) n (Mark s)) (become phase a p)
 marks_after m a n phase p old here =
     put_mark m a n (λ s x. MarkedAs (m Clock) x (become phase a p s))
     (subst (MarkedAs (m Clock) n) (sym (become_here phase a p)) here)
@@ -38,7 +40,8 @@ pub runs_outside : (v w : View) → ((s : Section) → w.phase ≢ Inside s) →
 runs_outside v w out time first a b = ((λ s e. absurd (out s e)), (λ s e o l. absurd (out s e)))
 
 module _ (starts : State → Type 0) (allows : List ℕ → State → Writes → Type 0) (c : Config) (start : State) (v : View) where
-  mark_stores_low : (low : ℕ) → MayStoreMark v low → Stores starts allows c start v (Mark v.number) (1 + low) (λ w. ((w ≡ mark_stored c v low) × RunsOn v w) × IsKept v w)
+  mark_stores_low : (low : ℕ) → MayStoreMark v low → Stores starts allows c start v (Mark v.number) (1 + low) (λ w. ((w ≡ mark_stored c v low) × RunsOn v w)
+      × IsKept v w)
   mark_stores_low low may m h seats k is own begins =
       let w = mark_stored c v low in
       let n = v.number in
@@ -55,6 +58,8 @@ module _ (starts : State → Type 0) (allows : List ℕ → State → Writes →
         ((refl, runs_outside v w (λ s e. let f : Marked low ≡ Inside s = e in absurd (cc))), (refl, refl, refl, refl, refl, refl)),
       )
 
-  pub mark_stores : (low new : ℕ) → new ≡ 1 + low → MayStoreMark v low → Stores starts allows c start v (Mark v.number) new (λ w. ((w ≡ mark_stored c v low) × RunsOn v w) × IsKept v w)
+  pub mark_stores : (low new : ℕ) → new ≡ 1 + low → MayStoreMark v low
+      → Stores starts allows c start v (Mark v.number) new (λ w. ((w ≡ mark_stored c v low) × RunsOn v w) × IsKept v w)
   mark_stores low new e may =
-      subst (λ (x : ℕ). Stores starts allows c start v (Mark v.number) x (λ w. ((w ≡ mark_stored c v low) × RunsOn v w) × IsKept v w)) (sym e) (mark_stores_low low may)
+      subst (λ (x : ℕ). Stores starts allows c start v (Mark v.number) x (λ w. ((w ≡ mark_stored c v low) × RunsOn v w) × IsKept v w)) (sym e)
+      (mark_stores_low low may)

@@ -37,7 +37,8 @@ use Rattle.mv_core.proofs.Landing.{not_above}
 use Rattle.mv_core.proofs.EmptyHeads.{time_of_section}
 use Rattle.mv_core.proofs.LastWrites.{IsLastWrite, is_old, some_uncut, some_top, foot_is_old, none_else}
 
-module _ (starts : State → Type 0) (allows : List ℕ → State → Writes → Type 0) (c : Config) (start : State) (m : Memory) (h : List Entry) (f : Faces) (k : Facts starts allows c start m h f)
+module _ (starts : State → Type 0) (allows : List ℕ → State → Writes → Type 0) (c : Config) (start : State) (m : Memory) (h : List Entry) (f : Faces)
+    (k : Facts starts allows c start m h f)
     (n slot : ℕ) (inside : Section) (x : Version) (note : CommitNote) (last : IsLastWrite c h f n slot (time_in inside) x note) (w : ℕ) (range : w < 6) where
   abbrev master : ℕ → ℕ → ℕ
   master o i = m (Master o i)
@@ -59,7 +60,8 @@ module _ (starts : State → Type 0) (allows : List ℕ → State → Writes →
   serves : (s t o : ℕ) → f.time s ≡ Some t → MasterServes c start h master f.ring t o → MasterServes c start h later f.ring t o
   serves s t o timed a =
       dite (ℕ_discrete o x.object)
-      (λ e. absurd (some_uncut starts allows c start m h f k n slot (time_in inside) x note last s t timed (subst (λ (p : ℕ). MasterServes c start h master f.ring t p) e a).1))
+      (λ e. absurd (some_uncut starts allows c start m h f k n slot (time_in inside) x note last s t timed
+      (subst (λ (p : ℕ). MasterServes c start h master f.ring t p) e a).1))
       (λ ne. ((λ i lt. else_same o i ne ∙ a.0 i lt), a.1))
 
   status : (s t : ℕ) → f.time s ≡ Some t → (y : Version) (st : Status) → MayStandAt c start h master f.ring t y st → MayStandAt c start h later f.ring t y st
@@ -75,7 +77,8 @@ module _ (starts : State → Type 0) (allows : List ℕ → State → Writes →
   present_after : PresentMaster c start h later f.time f.ring
   present_after o none =
       dite (ℕ_discrete o x.object)
-      (λ e. absurd (some_top starts allows c start m h f k n slot (time_in inside) x note last (subst (λ (p : ℕ). NoneUncut f.ring p (latest c.base h p)) e none)))
+      (λ e. absurd (some_top starts allows c start m h f k n slot (time_in inside) x note last
+      (subst (λ (p : ℕ). NoneUncut f.ring p (latest c.base h p)) e none)))
       (λ ne. let p = k.present_master o none in ((λ i lt. else_same o i ne ∙ p.0 i lt), p.1))
 
   foot_after : ChainFoot c start h later f.time f.ring
@@ -84,8 +87,10 @@ module _ (starts : State → Type 0) (allows : List ℕ → State → Writes →
       (λ e. inl (foot_is_old starts allows c start m h f k n slot (time_in inside) x note last s j y o lives e nothing))
       (λ ne. ⊎_elim (λ a. inl a) (λ g. inr (g.0, (λ i lt. else_same y.object i ne ∙ g.1 i lt), g.2)) (k.chain_foot s j y o lives nothing))
 
-  module _ (position : ℕ) (slot_is : slot ≡ index_of c position) (position_is : x.position ≡ position) (here : f.section n ≡ Some inside) (open_is : inside.mode ≡ Open) (past : IsPastHelp (f.heard n) inside) (nothing : HoldsNothing (f.ring n))
-      (stored : (i : ℕ) → i < w → m (Master x.object i) ≡ slice_index x.words i) (timed : (s : ℕ) (i : Section) → f.section s ≡ Some i → f.time s ≡ Some (time_in i)) where
+  module _ (position : ℕ) (slot_is : slot ≡ index_of c position) (position_is : x.position ≡ position) (here : f.section n ≡ Some inside)
+      (open_is : inside.mode ≡ Open) (past : IsPastHelp (f.heard n) inside) (nothing : HoldsNothing (f.ring n))
+      (stored : (i : ℕ) → i < w → m (Master x.object i) ≡ slice_index x.words i)
+      (timed : (s : ℕ) (i : Section) → f.section s ≡ Some i → f.time s ≡ Some (time_in i)) where
     abbrev new : WriteBack
     new = record { object = x.object; position = position; stored = w + 1; tried = false }
 
@@ -122,7 +127,8 @@ module _ (starts : State → Type 0) (allows : List ℕ → State → Writes →
     backs_after : WriteBacks c h later f.section f.time f.heard f.grace backs f.ring
     backs_after =
         become_all BackIs f.back n (Some new)
-        (λ b e. let same : new ≡ b = cc in (inside, here, subst (λ (d : WriteBack). IsWrittenBack c h later f.time f.ring n (f.heard n) (f.grace n) d inside) same own_back))
+        (λ b e. let same : new ≡ b =
+        cc in (inside, here, subst (λ (d : WriteBack). IsWrittenBack c h later f.time f.ring n (f.heard n) (f.grace n) d inside) same own_back))
         (λ s ne b e.
         let r = k.write_back s b e in
         let is = r.2 in
@@ -138,8 +144,10 @@ module _ (starts : State → Type 0) (allows : List ℕ → State → Writes →
         (λ s ne. k.phases_and_scan.outside s) in
         assumption (present_after, foot_after, places, backs_after, outside, k)
 
-module _ (starts : State → Type 0) (allows : List ℕ → State → Writes → Type 0) (c : Config) (start : State) (m : Memory) (h : List Entry) (seats : ℕ → View) (k : Facts starts allows c start m h (faces_of seats))
-    (v : View) (is : seats v.number ≡ v) (object w value position : ℕ) (x : Version) (note : CommitNote) (inside : Section) (may : MayStoreMaster c v object w value position x note inside) where
+module _ (starts : State → Type 0) (allows : List ℕ → State → Writes → Type 0) (c : Config) (start : State) (m : Memory) (h : List Entry) (seats : ℕ → View)
+    (k : Facts starts allows c start m h (faces_of seats))
+    (v : View) (is : seats v.number ≡ v) (object w value position : ℕ) (x : Version) (note : CommitNote) (inside : Section)
+    (may : MayStoreMaster c v object w value position x note inside) where
   abbrev n : ℕ
   n = v.number
 
@@ -162,10 +170,14 @@ module _ (starts : State → Type 0) (allows : List ℕ → State → Writes →
       (λ a.
       let stand = a.2.0 in
       let at : f.walk n ≡ walk.At stand = ap (λ (u : View). u.walk) is ∙ a.2.1 in
-      let r : StandsRight c start h (λ o i. m (Master o i)) f.ring (time_in inside) (walk.At stand) = subst (StandsRight c start h (λ o i. m (Master o i)) f.ring (time_in inside)) at (k.walker_place n (time_in inside) timed) in
-      let mine : Names f.ring stand.link x (Committed note) = record { seat = n; slot = index_of c position; lives = lives; is = a.2.3 ∙ ap (link_of n) (sym may.position_is) } in
+      let r : StandsRight c start h (λ o i. m (Master o i)) f.ring (time_in inside) (walk.At stand) =
+      subst (StandsRight c start h (λ o i. m (Master o i)) f.ring (time_in inside)) at (k.walker_place n (time_in inside) timed) in
+      let mine : Names f.ring stand.link x (Committed note) =
+      record { seat = n; slot = index_of c position; lives = lives; is = a.2.3 ∙ ap (link_of n) (sym may.position_is) } in
       let one = names_once c h f.ring k.checked k.history.in_time k.positions stand.link r.0 x r.1 (Committed note) r.2 mine in
-      let right : IsRightFor c h (time_in inside) x note = subst (λ (y : Version). MayStandAt c start h (λ o i. m (Master o i)) f.ring (time_in inside) y (Committed note)) one.2 (subst (MayStandAt c start h (λ o i. m (Master o i)) f.ring (time_in inside) r.0) one.3 r.4) in
+      let right : IsRightFor c h (time_in inside) x note =
+      subst (λ (y : Version). MayStandAt c start h (λ o i. m (Master o i)) f.ring (time_in inside) y (Committed note)) one.2
+      (subst (MayStandAt c start h (λ o i. m (Master o i)) f.ring (time_in inside) r.0) one.3 r.4) in
       let known : note.time ≤ f.grace n = subst (λ (u : View). note.time ≤ u.grace) (sym is) a.4 in
       let below = not_above (f.grace n) n (time_in inside) f.time (k.grace.views n).1 timed in
       let zero = a.0 in
@@ -177,7 +189,8 @@ module _ (starts : State → Type 0) (allows : List ℕ → State → Writes →
       let section : inside ≡ r.0 = cc in
       let one = live_once (slot_at (f.ring n) (index_of c position)) own.version x (Committed own.note) (Committed note) own.lives lives in
       let noted : own.note ≡ note = note_once own.note note one.1 in
-      let at : latest_at c.base h x.object (time_in inside) ≡ note.time = (λ i. latest_at c.base h (may.object_is i) (time_in (section i))) ∙ own.last ∙ ap (λ (o : CommitNote). o.time) noted in (
+      let at : latest_at c.base h x.object (time_in inside) ≡ note.time =
+      (λ i. latest_at c.base h (may.object_is i) (time_in (section i))) ∙ own.last ∙ ap (λ (o : CommitNote). o.time) noted in (
         record {
           timed = timed;
           lives = lives;
@@ -191,15 +204,22 @@ module _ (starts : State → Type 0) (allows : List ℕ → State → Writes →
   pub master_stored_facts : Facts starts allows c start (put m (Master object w) value) h (faces_of (become seats v.number (master_stored c v object w value position)))
   master_stored_facts =
       let b = begins may.goes in
-      let all = master_facts starts allows c start m h f k n (index_of c position) inside x note b.0 w may.in_range position refl may.position_is (section_is starts allows c start m h seats v inside k is may.phase) may.open_is
-      (subst (λ (u : View). IsPastHelp u.heard inside) (sym is) may.past_help) (subst (λ (u : View). HoldsNothing u.ring) (sym is) may.nothing) b.1 (λ s i e. time_of_section (seats s).phase i e) in
+      let all = master_facts starts allows c start m h f k n (index_of c position) inside x note b.0 w may.in_range position refl may.position_is
+      (section_is starts allows c start m h seats v inside k is may.phase) may.open_is
+      (subst (λ (u : View). IsPastHelp u.heard inside) (sym is) may.past_help) (subst (λ (u : View). HoldsNothing u.ring) (sym is) may.nothing) b.1
+      (λ s i e. time_of_section (seats s).phase i e) in
       settle starts allows c start (put m (Master object w) value) h seats v.number v (master_stored c v object w value position) is
       (record unchanged { back = Some (master_stored c v object w value position).back }) (refl, refl, refl, refl, refl, refl, refl, refl, refl, refl, refl)
-      (subst (λ (o : ℕ). Facts starts allows c start (put m (Master o w) value) h (changed f n (record unchanged { back = Some (Some (record { object = o; position = position; stored = w + 1; tried = false })) }))) may.object_is
-      (subst (λ (y : ℕ). Facts starts allows c start (put m (Master x.object w) y) h (changed f n (record unchanged { back = Some (Some (record { object = x.object; position = position; stored = w + 1; tried = false })) }))) (sym may.value_is) all))
+      (subst (λ (o : ℕ). Facts starts allows c start (put m (Master o w) value) h
+      (changed f n (record unchanged { back = Some (Some (record { object = o; position = position; stored = w + 1; tried = false })) }))) may.object_is
+      (subst (λ (y : ℕ). Facts starts allows c start (put m (Master x.object w) y) h
+      (changed f n (record unchanged { back = Some (Some (record { object = x.object; position = position; stored = w + 1; tried = false })) })))
+      (sym may.value_is) all))
 
-module _ (starts : State → Type 0) (allows : List ℕ → State → Writes → Type 0) (c : Config) (start : State) (v : View) (object w value position : ℕ) (x : Version) (note : CommitNote) (inside : Section) where
-  pub master_stores : MayStoreMaster c v object w value position x note inside → Stores starts allows c start v (Master object w) value (λ u. ((u ≡ master_stored c v object w value position) × RunsOn v u) × IsKept v u)
+module _ (starts : State → Type 0) (allows : List ℕ → State → Writes → Type 0) (c : Config) (start : State) (v : View) (object w value position : ℕ)
+    (x : Version) (note : CommitNote) (inside : Section) where
+  pub master_stores : MayStoreMaster c v object w value position x note inside
+      → Stores starts allows c start v (Master object w) value (λ u. ((u ≡ master_stored c v object w value position) × RunsOn v u) × IsKept v u)
   master_stores may m h seats k is own begins = (
     master_stored c v object w value position,
     h,

@@ -23,34 +23,37 @@ use Rattle.mv_core.specs.WalkFacts.{SucceededHasSuper}
 use Rattle.mv_core.specs.ReclaimFacts.{WriteBacks}
 use Rattle.mv_core.proofs.KeptRecords.{same_back, same_named}
 use Rattle.mv_core.proofs.Slots.{Matches}
-use Rattle.mv_core.proofs.Matching.{AlikeOrCut, SameCut, uncut_back, alike_place, uncommitted_back, is_committed_so, committed_back, committed_forth}
+use Rattle.mv_core.proofs.Matching.{LivesOn, SameCut, uncut_back, on_place, uncommitted_back, is_committed_so, committed_back, committed_forth}
 use Rattle.mv_core.proofs.MatchedSets.{nothing_match}
 
 -- the stamp of a write set goes on
-stamped_alike : (clock s k stamp first : ℕ) (x : Version) (st : Status) (y : Version) (su : Status) → AlikeOrCut x st y su → StampedAs clock s k stamp first st → StampedAs clock s k stamp first su
+stamped_alike : (clock s k stamp first : ℕ) (x : Version) (st : Status) (y : Version) (su : Status) → LivesOn x st y su → StampedAs clock s k stamp first st
+    → StampedAs clock s k stamp first su
 stamped_alike clock s k stamp first x Held y Held a e = e
 stamped_alike clock s k stamp first x (Aborted d) y (Aborted f) a e = e
 stamped_alike clock s k stamp first x (Committed m) y (Committed n) a e =
     subst (λ (t : ℕ). (stamp ≡ t) ⊎ ((stamp ≡ unset_of first) × (clock ≡ clock_of t s k))) (sym a.1) e
-stamped_alike clock s k stamp first x Held y (Aborted f) a e = absurd a
+stamped_alike clock s k stamp first x Held y (Aborted f) a e = e
 stamped_alike clock s k stamp first x Held y (Committed n) a e = absurd a
 stamped_alike clock s k stamp first x (Aborted d) y Held a e = absurd a
 stamped_alike clock s k stamp first x (Aborted d) y (Committed n) a e = absurd a
 stamped_alike clock s k stamp first x (Committed m) y Held a e = absurd a
 stamped_alike clock s k stamp first x (Committed m) y (Aborted f) a e = absurd a
 
-module _ (c : Config) (h : List Entry) (before after : ℕ → Ring) (k : Matches AlikeOrCut before after) where
+module _ (c : Config) (h : List Entry) (before after : ℕ → Ring) (k : Matches LivesOn before after) where
   -- the stamps, and those after, where the stamp of each live version's write set stays
-  module _ (stamp stamp' : ℕ → ℕ → ℕ) (same : (s j : ℕ) (x : Version) (st : Status) → Lives before s j x st → stamp_of c stamp' s x ≡ stamp_of c stamp s x) where
+  module _ (stamp stamp' : ℕ → ℕ → ℕ)
+      (same : (s j : ℕ) (x : Version) (st : Status) → Lives before s j x st → stamp_of c stamp' s x ≡ stamp_of c stamp s x) where
     -- of a committed version
     same_committed : (s j : ℕ) (x : Version) (m : CommitNote) → Lives before s j x (Committed m) → stamp_of c stamp' s x ≡ stamp_of c stamp s x
     same_committed s j x m lives = same s j x (Committed m) lives
 
-    pub stamps_match : (clock : ℕ) → ((s j : ℕ) (b : Build) → slot_at (after s) j ≡ Built b → IsStored b.stamp (stamp' s j)) → Stamps c clock stamp before → Stamps c clock stamp' after
+    pub stamps_match : (clock : ℕ) → ((s j : ℕ) (b : Build) → slot_at (after s) j ≡ Built b → IsStored b.stamp (stamp' s j)) → Stamps c clock stamp before
+        → Stamps c clock stamp' after
     stamps_match clock built old = record {
       live = λ s j y su lives.
           let b = k.back s j y su lives in
-          let at = alike_place b.0 b.1 y su b.3 in
+          let at = on_place b.0 b.1 y su b.3 in
           let word : StampedAs clock s (index_of c b.0.first) (stamp_of c stamp' s b.0) b.0.first b.1 =
           subst (λ (n : ℕ). StampedAs clock s (index_of c b.0.first) n b.0.first b.1) (sym (same s j b.0 b.1 b.2)) (old.live s j b.0 b.1 b.2) in
           stamped_alike clock s (index_of c y.first) (stamp_of c stamp' s y) y.first b.0 b.1 y su b.3
@@ -58,7 +61,8 @@ module _ (c : Config) (h : List Entry) (before after : ℕ → Ring) (k : Matche
       built = built;
     }
 
-    pub past_help_match : (section : ℕ → Option Section) (heard : ℕ → Heard) → StampedPastHelp c stamp section heard before → StampedPastHelp c stamp' section heard after
+    pub past_help_match : (section : ℕ → Option Section) (heard : ℕ → Heard) → StampedPastHelp c stamp section heard before
+        → StampedPastHelp c stamp' section heard after
     past_help_match section heard old s inside in_section past t j x n lives le =
         let b = committed_back before after k t j x n lives in
         same_committed t j x b.0 b.1 ∙ old s inside in_section past t j x b.0 b.1 (subst (λ (u : ℕ). u ≤ time_in inside) b.2 le) ∙ sym b.2
@@ -67,8 +71,9 @@ module _ (c : Config) (h : List Entry) (before after : ℕ → Ring) (k : Matche
     below_match old s j y su lives uncommitted z n names =
         let b = k.back s j y su lives in
         let d = committed_back before after k names.seat names.slot z n names.lives in
-        let at = alike_place b.0 b.1 y su b.3 in
-        let below : Names before b.0.previous z (Committed d.0) = record { seat = names.seat; slot = names.slot; lives = d.1; is = sym at.previous ∙ names.is } in
+        let at = on_place b.0 b.1 y su b.3 in
+        let below : Names before b.0.previous z (Committed d.0) =
+        record { seat = names.seat; slot = names.slot; lives = d.1; is = sym at.previous ∙ names.is } in
         same_committed names.seat names.slot z d.0 d.1 ∙ old s j b.0 b.1 b.2 (uncommitted_back b.0 b.1 y su b.3 uncommitted) z d.0 below ∙ sym d.2
 
     pub unfinished_match : (section : ℕ → Option Section) → UnstampedIsUnfinished c stamp section before → UnstampedIsUnfinished c stamp' section after
@@ -86,7 +91,8 @@ module _ (c : Config) (h : List Entry) (before after : ℕ → Ring) (k : Matche
         same_named r f.0 r.last (nothing_match c h before after k s r.nothing) f.1 (f.2 ∙ r.time_is) (λ made. word ∙ r.stamped made)
 
     -- the stamps found hold, where no stamp becomes the unset one of a position that was used
-    pub found_match : (clock : ℕ) (heard : ℕ → Heard) → ((s j p : ℕ) → p < (before s).next → stamp s j ≢ unset_of p → stamp' s j ≢ unset_of p) → FoundStamps c clock stamp heard before → FoundStamps c clock stamp' heard after
+    pub found_match : (clock : ℕ) (heard : ℕ → Heard) → ((s j p : ℕ) → p < (before s).next → stamp s j ≢ unset_of p → stamp' s j ≢ unset_of p)
+        → FoundStamps c clock stamp heard before → FoundStamps c clock stamp' heard after
     found_match clock heard apart old = record {
       now = λ s f found is_clock.
           let r = old.now s f found is_clock in
@@ -102,13 +108,13 @@ module _ (c : Config) (h : List Entry) (before after : ℕ → Ring) (k : Matche
             used = subst (λ (n : ℕ). r.position < n) (sym (k.next t)) r.used;
             live = λ y su lives is.
                 let b = k.back t j y su lives in
-                let at = alike_place b.0 b.1 y su b.3 in
+                let at = on_place b.0 b.1 y su b.3 in
                 let q = r.live b.0 b.1 b.2 (sym at.position ∙ is) in
                 let i = is_committed_so b.0 b.1 y su q.1.0 b.3 q.1.1 in
                 (at.first ∙ q.0, (i.0, i.1, i.3 ∙ q.1.2));
             gone = λ none.
                 let none_before : (x : Version) (st : Status) → Lives before t j x st → x.position ≢ r.position =
-                λ x st lives e. let g = k.forth t j x st lives in none g.0 g.1 g.2 ((alike_place x st g.0 g.1 g.3).position ∙ e) in
+                λ x st lives e. let g = k.forth t j x st lives in none g.0 g.1 g.2 ((on_place x st g.0 g.1 g.3).position ∙ e) in
                 let word : stamp t j ≢ unset_of r.position = λ e. r.gone none_before (e ∙ sym r.unset_is) in
                 λ e. apart t j r.position r.used word (e ∙ r.unset_is);
           };
@@ -116,8 +122,10 @@ module _ (c : Config) (h : List Entry) (before after : ℕ → Ring) (k : Matche
 
   -- the SUPER words, and those after, where that of each live version stays
   module _ (super super' : ℕ → ℕ → ℕ) (same : (s j : ℕ) (x : Version) (st : Status) → Lives before s j x st → super' s j ≡ super s j) where
-    pub successors_match : (stamp stamp' : ℕ → ℕ → ℕ) → ((s j : ℕ) (x : Version) (st : Status) → Lives before s j x st → stamp_of c stamp' s x ≡ stamp_of c stamp s x) → (section : ℕ → Option Section)
-        → ((s j : ℕ) (b : Build) → slot_at (after s) j ≡ Built b → IsStored b.successor (super' s j)) → Successors c h stamp super section before → Successors c h stamp' super' section after
+    pub successors_match : (stamp stamp' : ℕ → ℕ → ℕ) → ((s j : ℕ) (x : Version) (st : Status) → Lives before s j x st
+        → stamp_of c stamp' s x ≡ stamp_of c stamp s x) → (section : ℕ → Option Section)
+        → ((s j : ℕ) (b : Build) → slot_at (after s) j ≡ Built b → IsStored b.successor (super' s j)) → Successors c h stamp super section before
+        → Successors c h stamp' super' section after
     successors_match stamp stamp' stamps section built old = record {
       held = λ s j y su lives uncommitted.
           let b = k.back s j y su lives in
@@ -125,14 +133,16 @@ module _ (c : Config) (h : List Entry) (before after : ℕ → Ring) (k : Matche
       next = λ s j x n lives ne.
           let b = committed_back before after k s j x n lives in
           let e : super' s j ≡ super s j = same s j x (Committed b.0) b.1 in
-          subst (λ (u : ℕ). IsNextWrite c.base h x.object n.time u) (sym e) (subst (λ (t : ℕ). IsNextWrite c.base h x.object t (super s j)) (sym b.2) (old.next s j x b.0 b.1 (λ z. ne (e ∙ z))));
+          subst (λ (u : ℕ). IsNextWrite c.base h x.object n.time u) (sym e)
+          (subst (λ (t : ℕ). IsNextWrite c.base h x.object t (super s j)) (sym b.2) (old.next s j x b.0 b.1 (λ z. ne (e ∙ z))));
       stamped = λ s j x n lives t l y other p e.
           let b = committed_back before after k s j x n lives in
           let d = committed_back before after k t l y other p in
           stamps t l y (Committed d.0) d.1 ∙ old.stamped s j x b.0 b.1 t l y d.0 d.1 (sym d.2 ∙ e ∙ same s j x (Committed b.0) b.1) ∙ sym d.2;
       unfinished = λ s j x n lives uncut zero_is next is_next.
           let b = committed_back before after k s j x n lives in
-          old.unfinished s j x b.0 b.1 (uncut_back b.0 n b.3 uncut) (sym (same s j x (Committed b.0) b.1) ∙ zero_is) next (subst (λ (t : ℕ). IsNextWrite c.base h x.object t next) b.2 is_next);
+          old.unfinished s j x b.0 b.1 (uncut_back b.0 n b.3 uncut) (sym (same s j x (Committed b.0) b.1) ∙ zero_is) next
+          (subst (λ (t : ℕ). IsNextWrite c.base h x.object t next) b.2 is_next);
       built = built;
     }
 
@@ -145,7 +155,9 @@ module _ (c : Config) (h : List Entry) (before after : ℕ → Ring) (k : Matche
               r.1 j x b.0 b.1 object (subst (λ (t : ℕ). t ≤ e.time) b.2 le) (uncut_back b.0 n b.3 uncut) (sym (same s j x (Committed b.0) b.1) ∙ zero_is),
         )
 
-  pub back_match : SameCut before after → (master : ℕ → ℕ → ℕ) (section : ℕ → Option Section) (time : ℕ → Option ℕ) (heard : ℕ → Heard) (grace : ℕ → ℕ) (back : ℕ → Option WriteBack) → WriteBacks c h master section time heard grace back before → WriteBacks c h master section time heard grace back after
+  pub back_match : SameCut before after → (master : ℕ → ℕ → ℕ) (section : ℕ → Option Section) (time : ℕ → Option ℕ) (heard : ℕ → Heard) (grace : ℕ
+      → ℕ) (back : ℕ → Option WriteBack) → WriteBacks c h master section time heard grace back before
+      → WriteBacks c h master section time heard grace back after
   back_match same_cut master section time heard grace back old s b is =
       let r = old s b is in
       let w = r.2 in

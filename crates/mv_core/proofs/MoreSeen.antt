@@ -12,7 +12,9 @@ use Rattle.mv_core.specs.Rule.{Facts}
 use Rattle.mv_core.proofs.Frames.{unchanged, changed}
 use Rattle.mv_core.proofs.SeenDeaths.{sees_on}
 
-pub more_seen : (starts : State → Type 0) (allows : List ℕ → State → Writes → Type 0) (c : Config) (start : State) (m : Memory) (h : List Entry) (f : Faces) → Facts starts allows c start m h f → (n : ℕ) (p : Past) → History starts allows c start (m Clock) h (become f.past n p) → ((s t : ℕ) → f.time s ≡ Some t → t ≤ c.base + length (become f.past n p s).seen) → BeginsWith p.seen (f.past n).seen
+pub more_seen : (starts : State → Type 0) (allows : List ℕ → State → Writes → Type 0) (c : Config) (start : State) (m : Memory) (h : List Entry) (f : Faces)
+    → Facts starts allows c start m h f → (n : ℕ) (p : Past) → History starts allows c start (m Clock) h (become f.past n p)
+    → ((s t : ℕ) → f.time s ≡ Some t → t ≤ c.base + length (become f.past n p s).seen) → BeginsWith p.seen (f.past n).seen
     → Facts starts allows c start m h (changed f n (record unchanged { past = Some p }))
 more_seen starts allows c start m h f k n p history seen more =
     let deaths = sees_on c f.past f.ring n p more k.deaths_seen in

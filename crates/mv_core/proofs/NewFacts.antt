@@ -31,18 +31,23 @@ use Rattle.mv_core.proofs.NewChains as chains
 use Rattle.mv_core.proofs.NewWalks as walks
 use Rattle.mv_core.proofs.NewSections as turned
 
-module _ (starts : State → Type 0) (allows : List ℕ → State → Writes → Type 0) (c : Config) (start : State) (m : Memory) (h : List Entry) (f : Faces) (k : Facts starts allows c start m h f) where
+module _ (starts : State → Type 0) (allows : List ℕ → State → Writes → Type 0) (c : Config) (start : State) (m : Memory) (h : List Entry) (f : Faces)
+    (k : Facts starts allows c start m h f) where
   -- where the clock's word was helped, each commit is stamped
-  pub all_stamped : (s j : ℕ) (x : Version) (note : CommitNote) → (u : ℕ) → Contains (f.heard u).helped (m Clock) → Lives f.ring s j x (Committed note) → stamp_of c (λ s j. m (Stamp s j)) s x ≡ note.time
+  pub all_stamped : (s j : ℕ) (x : Version) (note : CommitNote) → (u : ℕ) → Contains (f.heard u).helped (m Clock) → Lives f.ring s j x (Committed note)
+      → stamp_of c (λ s j. m (Stamp s j)) s x ≡ note.time
   all_stamped s j x note u helped lives =
       let le = (commit_within c h f.ring k.write_sets s j x note lives).1 in
       let long = k.history.long in
-      stamped_by_done c (m Clock) (λ s j. m (Stamp s j)) h f.ring k.checked (clock_small starts allows c start m h f k) k.stamps k.positions (m Clock) (k.loaded_words.helped u (m Clock) helped) (k.helped_words u (m Clock) helped) s j x note lives (omega arith)
+      stamped_by_done c (m Clock) (λ s j. m (Stamp s j)) h f.ring k.checked (clock_small starts allows c start m h f k) k.stamps k.positions (m Clock)
+      (k.loaded_words.helped u (m Clock) helped) (k.helped_words u (m Clock) helped) s j x note lives (omega arith)
 
   module _ (n : ℕ) (e : Entry) (helped : Contains (f.heard n).helped (m Clock)) (makes : Makes f.ring n e) (set : sets.NewSet starts allows c start m h f k n e)
-      (clock : ℕ) (clock_is : (j : ℕ) (x : Version) → Lives f.ring n j x Held → clock ≡ clock_of (new_time c.base h e) n (index_of c x.first)) (sections : ℕ → Option Section) (turns : turned.Turns starts allows c start m h f k n e clock sections)
+      (clock : ℕ) (clock_is : (j : ℕ) (x : Version) → Lives f.ring n j x Held → clock ≡ clock_of (new_time c.base h e) n (index_of c x.first))
+      (sections : ℕ → Option Section) (turns : turned.Turns starts allows c start m h f k n e clock sections)
       (past : ℕ → Past) (history : History starts allows c start clock (h ++ e ∷ []) past) (seen : (s : ℕ) → length (f.past s).seen ≤ length (past s).seen)
-      (phase : ℕ → Phase) (marks : Marks (m Clock) (λ s. m (Mark s)) phase) (scanning : (s : ℕ) (running : Scan) → f.scan s ≡ Some running → phase s ≡ Outside) where
+      (phase : ℕ → Phase) (marks : Marks (m Clock) (λ s. m (Mark s)) phase)
+      (scanning : (s : ℕ) (running : Scan) → f.scan s ≡ Some running → phase s ≡ Outside) where
     later : clock_time_of (m Clock) ≤ clock_time_of clock
     later = let lt = turned.rises starts allows c start m h f k n e makes clock sections turns in omega arith
 
@@ -60,26 +65,34 @@ module _ (starts : State → Type 0) (allows : List ℕ → State → Writes →
         subst (λ (word : ℕ). Contains (f.heard s).helped word) w.2 (k.walker_knowledge.helped s w.0 w.1 stands)) in
         let times_seen : (s u : ℕ) → f.time s ≡ Some u → u ≤ c.base + length (past s).seen =
         λ s u at. let old = k.phases_and_scan.seen s u at in let more = seen s in omega arith in
-        assumption
-        (history, stamps, positions, words, helped_words, past_helped, knowledge, times_seen, scanning,
-        sets.words_after starts allows c start m h f k n e, sets.sets_after starts allows c start m h f k n e set,
-        turned.marks_later (m Clock) clock (λ s. m (Mark s)) phase later marks,
-        turned.grace_later (m Clock) clock (m Grace) f.time f.grace f.scan later k.grace,
-        turned.freshness_after starts allows c start m h f k n e makes clock sections turns,
-        turned.successors_after starts allows c start m h f k n e makes clock sections turns,
-        turned.found_after starts allows c start m h f k n e makes clock sections turns,
-        turned.unfinished_after starts allows c start m h f k n e makes clock sections turns,
-        turned.named_after starts allows c start m h f k n e makes clock sections turns,
-        turned.open_after starts allows c start m h f k n e makes clock sections turns,
-        turned.flags_after starts allows c start m h f k n e makes clock sections turns,
-        turned.succeeded_after starts allows c start m h f k n e makes clock sections turns,
-        turned.freed_after starts allows c start m h f k n e makes clock sections turns,
-        turned.backs_after starts allows c start m h f k n e makes clock sections turns,
-        sets.deaths_after starts allows c start m h f k n e, sets.deaths_seen_after starts allows c start m h f k n e past seen,
-        sets.cut_after starts allows c start m h f k n e, sets.death_after_write starts allows c start m h f k n e,
-        sets.grace_after starts allows c start m h f k n e, chains.heads_after starts allows c start m h f k n e makes,
-        chains.held_links starts allows c start m h f k n e makes, chains.commit_links starts allows c start m h f k n e makes,
-        chains.aborted_links starts allows c start m h f k n e makes, chains.masters_present starts allows c start m h f k n e makes,
-        chains.feet_after starts allows c start m h f k n e makes, walks.places_after starts allows c start m h f k n e,
-        walks.deaths_after starts allows c start m h f k n e, walks.below_after starts allows c start m h f k n e,
-        walks.falls_after starts allows c start m h f k n e, walks.lates_after starts allows c start m h f k n e, k)
+        let words_after = sets.words_after starts allows c start m h f k n e in
+        let sets_after = sets.sets_after starts allows c start m h f k n e set in
+        let marks_later = turned.marks_later (m Clock) clock (λ s. m (Mark s)) phase later marks in
+        let grace_later = turned.grace_later (m Clock) clock (m Grace) f.time f.grace f.scan later k.grace in
+        let freshness_after = turned.freshness_after starts allows c start m h f k n e makes clock sections turns in
+        let successors_after = turned.successors_after starts allows c start m h f k n e makes clock sections turns in
+        let found_after = turned.found_after starts allows c start m h f k n e makes clock sections turns in
+        let unfinished_after = turned.unfinished_after starts allows c start m h f k n e makes clock sections turns in
+        let named_after = turned.named_after starts allows c start m h f k n e makes clock sections turns in
+        let open_after = turned.open_after starts allows c start m h f k n e makes clock sections turns in
+        let flags_after = turned.flags_after starts allows c start m h f k n e makes clock sections turns in
+        let succeeded_after = turned.succeeded_after starts allows c start m h f k n e makes clock sections turns in
+        let freed_after = turned.freed_after starts allows c start m h f k n e makes clock sections turns in
+        let backs_after = turned.backs_after starts allows c start m h f k n e makes clock sections turns in
+        let deaths_after = sets.deaths_after starts allows c start m h f k n e in
+        let deaths_seen_after = sets.deaths_seen_after starts allows c start m h f k n e past seen in
+        let cut_after = sets.cut_after starts allows c start m h f k n e in
+        let death_after_write = sets.death_after_write starts allows c start m h f k n e in
+        let grace_after = sets.grace_after starts allows c start m h f k n e in
+        let heads_after = chains.heads_after starts allows c start m h f k n e makes in
+        let held_links = chains.held_links starts allows c start m h f k n e makes in
+        let commit_links = chains.commit_links starts allows c start m h f k n e makes in
+        let aborted_links = chains.aborted_links starts allows c start m h f k n e makes in
+        let masters_present = chains.masters_present starts allows c start m h f k n e makes in
+        let feet_after = chains.feet_after starts allows c start m h f k n e makes in
+        let places_after = walks.places_after starts allows c start m h f k n e in
+        let deaths_after' = walks.deaths_after starts allows c start m h f k n e in
+        let below_after = walks.below_after starts allows c start m h f k n e in
+        let falls_after = walks.falls_after starts allows c start m h f k n e in
+        let lates_after = walks.lates_after starts allows c start m h f k n e in
+        assumption (history, scanning, k)

@@ -1,5 +1,6 @@
 -- One more entry, of what its seat holds: the clock words, the sections, and the commits that they have named.
-use Rattle.std.proofs.Common.{◌≡◌, ◌≢◌, ℕ, ◌+◌, ◌<◌, ◌≤◌, ◌==◌, true, false, List, [], ◌∷◌, ◌++◌, length, refl, sym, ap, ◌∙◌, subst, inl, inr, ⊎_elim, arith, eq-eqb, eqb-true, Option, Some, None}
+use Rattle.std.proofs.Common.{◌≡◌, ◌≢◌, ℕ, ◌+◌, ◌<◌, ◌≤◌, ◌==◌, true, false, List, [], ◌∷◌, ◌++◌, length}
+use Rattle.std.proofs.Common.{refl, sym, ap, ◌∙◌, subst, inl, inr, ⊎_elim, arith, eq-eqb, eqb-true, Option, Some, None}
 use mathlib.Core.Logic.{dite}
 use native.Mathlib.Decide.{ℕ_discrete}
 use Rattle.mv_history.specs.declared.Entry.{Entry}
@@ -23,7 +24,8 @@ use Rattle.mv_core.specs.Rings.{index_of, HoldsNothing, Lives, Names}
 use Rattle.mv_core.specs.Times.{writes_to, latest, IsNextWrite}
 use Rattle.mv_core.specs.Views.{time_in, IsUnnamed, Faces}
 use Rattle.mv_core.specs.SetFacts.{IsHeldOrAborted, IsNaming, Successors, UnstampedIsUnfinished}
-use Rattle.mv_core.specs.SectionFacts.{MarkedAs, IsPastHelp, IsWord, WasClock, LoadedWords, HelpedWords, IsFound, FoundStamps, ScanIs, LockFreshness, NamedIs, NamedCommit, OpenSection}
+use Rattle.mv_core.specs.SectionFacts.{MarkedAs, IsPastHelp, IsWord, WasClock, LoadedWords, HelpedWords}
+use Rattle.mv_core.specs.SectionFacts.{IsFound, FoundStamps, ScanIs, LockFreshness, NamedIs, NamedCommit, OpenSection}
 use Rattle.mv_core.specs.SectionFacts as section
 use Rattle.mv_core.specs.ReclaimFacts.{FreedIsOld, SuccessorFlag, WriteBacks}
 use Rattle.mv_core.specs.WalkFacts.{SucceededHasSuper}
@@ -44,22 +46,26 @@ marked_later clock clock' mark le (Lowered low) k = let a = k.1 in (k.0, omega a
 marked_later clock clock' mark le (Marked low) k = let a = k.1 in (k.0, omega arith)
 marked_later clock clock' mark le (Inside s) k = let a = k.2 in (k.0, k.1, omega arith)
 
-scan_later : (clock clock' : ℕ) (time : ℕ → Option ℕ) → clock_time_of clock ≤ clock_time_of clock' → (o : Option Scan) → ScanIs clock time o → ScanIs clock' time o
+scan_later : (clock clock' : ℕ) (time : ℕ → Option ℕ) → clock_time_of clock ≤ clock_time_of clock' → (o : Option Scan) → ScanIs clock time o
+    → ScanIs clock' time o
 scan_later clock clock' time le None k = tt
 scan_later clock clock' time le (Some scan) k = let a = k.1 in (k.0, omega arith, k.2)
 
 -- a mark fits its phase under a later clock, and the watermarks are still not above it
-pub marks_later : (clock clock' : ℕ) (mark : ℕ → ℕ) (phase : ℕ → Phase) → clock_time_of clock ≤ clock_time_of clock' → section.Marks clock mark phase → section.Marks clock' mark phase
+pub marks_later : (clock clock' : ℕ) (mark : ℕ → ℕ) (phase : ℕ → Phase) → clock_time_of clock ≤ clock_time_of clock' → section.Marks clock mark phase
+    → section.Marks clock' mark phase
 marks_later clock clock' mark phase le k s = marked_later clock clock' (mark s) le (phase s) (k s)
 
-pub grace_later : (clock clock' word : ℕ) (time : ℕ → Option ℕ) (grace : ℕ → ℕ) (scan : ℕ → Option Scan) → clock_time_of clock ≤ clock_time_of clock' → section.Grace clock word time grace scan → section.Grace clock' word time grace scan
+pub grace_later : (clock clock' word : ℕ) (time : ℕ → Option ℕ) (grace : ℕ → ℕ) (scan : ℕ → Option Scan) → clock_time_of clock ≤ clock_time_of clock'
+    → section.Grace clock word time grace scan → section.Grace clock' word time grace scan
 grace_later clock clock' word time grace scan le k = record {
   views = λ s. let r = k.views s in let a = r.0 in (omega arith, r.1);
   shared = (let a = k.shared.0 in omega arith, k.shared.1);
   scans = λ s. scan_later clock clock' time le (scan s) (k.scans s);
 }
 
-module _ (starts : State → Type 0) (allows : List ℕ → State → Writes → Type 0) (c : Config) (start : State) (m : Memory) (h : List Entry) (f : Faces) (k : Facts starts allows c start m h f) (n : ℕ) (e : Entry) where
+module _ (starts : State → Type 0) (allows : List ℕ → State → Writes → Type 0) (c : Config) (start : State) (m : Memory) (h : List Entry) (f : Faces)
+    (k : Facts starts allows c start m h f) (n : ℕ) (e : Entry) where
   abbrev t : ℕ
   t = new_time c.base h e
 
@@ -78,16 +84,19 @@ module _ (starts : State → Type 0) (allows : List ℕ → State → Writes →
   abbrev master : ℕ → ℕ → ℕ
   master o w = m (Master o w)
 
-  -- the clock afterwards, and the sections: those of the other seats are as they were; that of this one had named nothing, keeps its word, and has named the new commit, if it held something
+  -- the clock afterwards, and the sections: those of the other seats are as they were; that of this one had named nothing, keeps its word, and has named the
+  -- new commit, if it held something
   pub record Turns (clock : ℕ) (sections : ℕ → Option Section) : Type 0 where
     pub time_is : clock_time_of clock ≡ t
     pub is_word : IsWord c clock
-    pub names : clock_slot_of clock ≢ 8191 → (x : Version) × (note : CommitNote) × Lives rings (clock_seat_of clock) (clock_slot_of clock) x (Committed note) × (x.position ≡ x.first) × (note.time ≡ clock_time_of clock)
+    pub names : clock_slot_of clock ≢ 8191 → (x : Version) × (note : CommitNote) × Lives rings (clock_seat_of clock) (clock_slot_of clock) x (Committed note)
+        × (x.position ≡ x.first) × (note.time ≡ clock_time_of clock)
     pub others : (s : ℕ) → s ≢ n → sections s ≡ f.section s
     pub before : (i : Section) (d : Naming) → f.section n ≡ Some i → i.mode ≢ Named d
     pub word_same : (i : Section) → sections n ≡ Some i → (j : Section) × (f.section n ≡ Some j) × (j.word ≡ i.word)
     pub no_back : f.back n ≡ None
-    pub named : (j : ℕ) (x : Version) → Lives f.ring n j x Held → (i : Section) × (d : Naming) × (sections n ≡ Some i) × (i.mode ≡ Named d) × (d.time ≡ t) × (d.stamped ≡ false)
+    pub named : (j : ℕ) (x : Version) → Lives f.ring n j x Held
+        → (i : Section) × (d : Naming) × (sections n ≡ Some i) × (i.mode ≡ Named d) × (d.time ≡ t) × (d.stamped ≡ false)
     pub named_is : (i : Section) (d : Naming) → sections n ≡ Some i → i.mode ≡ Named d → NamedIs c later stamp rings n i d
     pub named_time : (i : Section) (d : Naming) → sections n ≡ Some i → i.mode ≡ Named d → d.time ≡ t
     pub not_open : (i : Section) → sections n ≡ Some i → ¬ (IsUnnamed i.mode)
@@ -164,7 +173,8 @@ module _ (starts : State → Type 0) (allows : List ℕ → State → Writes →
         record { seat = by.seat; inside = by.inside; naming = by.naming; in_section = turns.others by.seat (naming_else by.seat by.inside by.naming by.in_section by.mode) ∙ by.in_section; mode = by.mode; time_is = by.time_is; known = tt }
 
     now_naming : (o : ℕ) → writes_to o e ≡ true → IsNaming sections t (λ _. Unit {0})
-    now_naming o w = let a = makes.only o w in let b = turns.named a.0 a.1 a.2 in record { seat = n; inside = b.0; naming = b.1; in_section = b.2; mode = b.3; time_is = b.4; known = tt }
+    now_naming o w = let a = makes.only o w in let b =
+        turns.named a.0 a.1 a.2 in record { seat = n; inside = b.0; naming = b.1; in_section = b.2; mode = b.3; time_is = b.4; known = tt }
 
     pub successors_after : Successors c later stamp super sections rings
     successors_after = record {
@@ -230,14 +240,16 @@ module _ (starts : State → Type 0) (allows : List ℕ → State → Writes →
         (λ ne.
         let r = k.named_commit s i d (sym (turns.others s ne) ∙ is) mode in
         let last = own-else c.base h e s (λ made. ne (sym made ∙ makes.maker)) ∙ r.last in
-        same_named r r.note last (still_nothing s r.nothing) (logs.still_committed f.ring n t s (index_of c d.first) r.version r.note r.lives) r.time_is r.stamped)
+        same_named r r.note last (still_nothing s r.nothing)
+        (logs.still_committed f.ring n t s (index_of c d.first) r.version r.note r.lives) r.time_is r.stamped)
 
     pub open_after : OpenSection c later sections rings
     open_after = record {
       own = λ s i is unnamed.
           dite (ℕ_discrete s n)
           (λ at. absurd (turns.not_open i (ap sections (sym at) ∙ is) unnamed))
-          (λ ne. subst (λ (u : ℕ). u ≤ time_in i) (sym (own-else c.base h e s (λ made. ne (sym made ∙ makes.maker)))) (k.open_section.own s i (sym (turns.others s ne) ∙ is) unnamed));
+          (λ ne. subst (λ (u : ℕ). u ≤ time_in i) (sym (own-else c.base h e s (λ made. ne (sym made ∙ makes.maker))))
+          (k.open_section.own s i (sym (turns.others s ne) ∙ is) unnamed));
       held = λ s j x lives.
           let w = logs.was_held f.ring n t s j x lives in
           let r = k.open_section.held s j x w.1 in
@@ -250,7 +262,8 @@ module _ (starts : State → Type 0) (allows : List ℕ → State → Writes →
     }
 
     -- what lies below a new commit is its object's last write before, which has no successor and no death yet
-    new_below : (j : ℕ) (x y : Version) (other : CommitNote) → Lives f.ring n j x Held → (below : Names f.ring x.previous y (Committed other)) → (super below.seat below.slot ≡ 0) × (other.dead ≡ None)
+    new_below : (j : ℕ) (x y : Version) (other : CommitNote) → Lives f.ring n j x Held → (below : Names f.ring x.previous y (Committed other))
+        → (super below.seat below.slot ≡ 0) × (other.dead ≡ None)
     new_below j x y other lives below =
         ⊎_elim
         (λ a.
@@ -259,8 +272,10 @@ module _ (starts : State → Type 0) (allows : List ℕ → State → Writes →
         let object_is : y.object ≡ x.object = ap (λ (z : Version). z.object) one.2 ∙ a.2.object_is in
         let time_is : other.time ≡ latest c.base h y.object = ap (λ (d : CommitNote). d.time) note_is ∙ a.2.time_is ∙ ap (latest c.base h) (sym object_is) in
         let uncut : other.cut ≡ false = ap (λ (d : CommitNote). d.cut) note_is ∙ a.3 in
-        let no_next : (next : ℕ) → ¬ (IsNextWrite c.base h y.object other.time next) = λ next is. let le = next_write-le c.base h y.object other.time next is in let lt = is.later in omega arith in (
-          dite (ℕ_discrete (super below.seat below.slot) 0) (λ zero_is. zero_is) (λ some. absurd (no_next (super below.seat below.slot) (k.successors.next below.seat below.slot y other below.lives some))),
+        let no_next : (next : ℕ) → ¬ (IsNextWrite c.base h y.object other.time next) = λ next is. let le =
+        next_write-le c.base h y.object other.time next is in let lt = is.later in omega arith in (
+          dite (ℕ_discrete (super below.seat below.slot) 0) (λ zero_is. zero_is)
+              (λ some. absurd (no_next (super below.seat below.slot) (k.successors.next below.seat below.slot y other below.lives some))),
           undead other.dead (λ dead is. no_next dead (k.deaths.superseded below.seat below.slot dead y other below.lives uncut is)),
         ))
         (λ b. absurd (none_names_zero f.ring x.previous b.0 y (Committed other) below))
@@ -271,11 +286,13 @@ module _ (starts : State → Type 0) (allows : List ℕ → State → Writes →
         undead (Some dead) none = absurd (none dead refl)
 
     -- a commit below a live version was one before
-    was_below : (s j : ℕ) (x y : Version) (st : Status) (other : CommitNote) → Lives f.ring s j x st → (below : Names rings x.previous y (Committed other)) → Lives f.ring below.seat below.slot y (Committed other)
+    was_below : (s j : ℕ) (x y : Version) (st : Status) (other : CommitNote) → Lives f.ring s j x st → (below : Names rings x.previous y (Committed other))
+        → Lives f.ring below.seat below.slot y (Committed other)
     was_below s j x y st other lives below =
         ⊎_elim
         (λ old. old)
-        (λ new. absurd (link_not_held starts allows c start m h f k n e s j x y st lives (record { seat = below.seat; slot = below.slot; lives = subst (λ (u : ℕ). Lives f.ring u below.slot y Held) (sym new.0) new.1; is = below.is })))
+        (λ new. absurd (link_not_held starts allows c start m h f k n e s j x y st lives
+        (record { seat = below.seat; slot = below.slot; lives = subst (λ (u : ℕ). Lives f.ring u below.slot y Held) (sym new.0) new.1; is = below.is })))
         (logs.was_committed f.ring n t below.seat below.slot y other below.lives)
 
     pub flags_after : SuccessorFlag super sections rings
@@ -283,7 +300,8 @@ module _ (starts : State → Type 0) (allows : List ℕ → State → Writes →
         dite (ℕ_discrete s n)
         (λ at.
         ⊎_elim
-        (λ old. absurd (let le = old_time starts allows c start m h f k n e s j x note old in let now = turns.named_time i d (ap sections (sym at) ∙ is) mode in omega arith))
+        (λ old. absurd (let le = old_time starts allows c start m h f k n e s j x note old in let now =
+        turns.named_time i d (ap sections (sym at) ∙ is) mode in omega arith))
         (λ new.
         let linked : note.linked ≡ (x.previous == 0) = ap (λ (q : CommitNote). q.linked) new.2 in (
           (λ none. linked ∙ eq-eqb x.previous 0 none),

@@ -28,8 +28,10 @@ use Rattle.mv_core.specs.Rule.{Facts}
 use Rattle.mv_core.proofs.Frames.{become_here, become_else, become_all, unchanged, changed}
 use Rattle.mv_core.proofs.Hearing.{clock_small, past_help}
 
-module _ (starts : State → Type 0) (allows : List ℕ → State → Writes → Type 0) (c : Config) (start : State) (m : Memory) (h : List Entry) (f : Faces) (k : Facts starts allows c start m h f)
-    (n : ℕ) (inside : Section) (naming : Naming) (phase_is : f.phase n ≡ Inside inside) (section_is : f.section n ≡ Some inside) (mode_is : inside.mode ≡ Named naming) (made : m (Stamp n (index_of c naming.first)) ≡ naming.time) where
+module _ (starts : State → Type 0) (allows : List ℕ → State → Writes → Type 0) (c : Config) (start : State) (m : Memory) (h : List Entry) (f : Faces)
+    (k : Facts starts allows c start m h f)
+    (n : ℕ) (inside : Section) (naming : Naming) (phase_is : f.phase n ≡ Inside inside) (section_is : f.section n ≡ Some inside)
+    (mode_is : inside.mode ≡ Named naming) (made : m (Stamp n (index_of c naming.first)) ≡ naming.time) where
   abbrev stamp : ℕ → ℕ → ℕ
   stamp s i = m (Stamp s i)
 
@@ -55,7 +57,8 @@ module _ (starts : State → Type 0) (allows : List ℕ → State → Writes →
 
   -- no other mode was there
   only_named : {i : Section} {d : Mode} → f.section n ≡ Some i → i.mode ≡ d → Named naming ≡ d
-  only_named {i = i} {d = d} at mode = let one : Some inside ≡ Some i = sym section_is ∙ at in let same : inside ≡ i = cc in sym mode_is ∙ ap (λ (j : Section). j.mode) same ∙ mode
+  only_named {i = i} {d = d} at mode = let one : Some inside ≡ Some i = sym section_is ∙ at in let same : inside ≡ i =
+      cc in sym mode_is ∙ ap (λ (j : Section). j.mode) same ∙ mode
 
   named : NamedIs c h stamp f.ring n inside naming
   named = k.named_commit n inside naming section_is mode_is
@@ -95,7 +98,8 @@ module _ (starts : State → Type 0) (allows : List ℕ → State → Writes →
       let same : naming ≡ r.1 = cc in
       let here : Lives f.ring n j x (Committed note) = subst (λ (u : ℕ). Lives f.ring u j x (Committed note)) e lives in
       let time : note.time ≡ naming.time = sym r.4 ∙ ap (λ (d : Naming). d.time) (sym same) in
-      let first : x.first ≡ naming.first = k.write_sets.once n j (index_of c naming.first) x named.version note named.note here named.lives (time ∙ sym named.time_is) ∙ named.first_is in
+      let first : x.first ≡ naming.first = k.write_sets.once n j (index_of c naming.first) x named.version note named.note here named.lives
+      (time ∙ sym named.time_is) ∙ named.first_is in
       absurd (ne ((λ i. stamp (e i) (index_of c (first i))) ∙ made ∙ sym time)))
       (λ other. (r.0, r.1, become_else f.section n (Some inside') s other ∙ r.2, r.3, r.4, r.5))
 
@@ -168,7 +172,8 @@ module _ (starts : State → Type 0) (allows : List ℕ → State → Writes →
   knows_after : (s : ℕ) (i : Section) → t.section s ≡ Some i → f.walk s ≢ Nowhere → IsPastHelp (f.heard s) i
   knows_after =
       sections (λ s o. (i : Section) → o ≡ Some i → f.walk s ≢ Nowhere → IsPastHelp (f.heard s) i)
-      (λ i e walks. subst (λ (j : Section). IsPastHelp (f.heard n) j) (same_section e) (let old : Contains (f.heard n).helped inside.word = k.walker_knowledge.helped n inside section_is walks in old))
+      (λ i e walks. subst (λ (j : Section). IsPastHelp (f.heard n) j) (same_section e) (let old : Contains (f.heard n).helped inside.word =
+      k.walker_knowledge.helped n inside section_is walks in old))
       (λ s ne. k.walker_knowledge.helped s)
 
   pub own_stamped : Facts starts allows c start m h t
@@ -178,5 +183,4 @@ module _ (starts : State → Type 0) (allows : List ℕ → State → Writes →
       let unfinished : (s j : ℕ) (x : Version) (note : CommitNote) → Lives f.ring s j x (Committed note) → note.cut ≡ false → m (Super s j) ≡ 0
       → (next : ℕ) → IsNextWrite c.base h x.object note.time next → IsNaming t.section next (λ _. Unit {0}) =
       λ s j x note lives uncut none next is_next. naming_after next (k.successors.unfinished s j x note lives uncut none next is_next) in
-      assumption
-      (marks_after, past, unfinished, knows_after, unfinished_after, named_after, open_after, flag_after, words_after, backs_after, scanning_after, k)
+      assumption (marks_after, knows_after, unfinished_after, named_after, open_after, flag_after, words_after, backs_after, scanning_after, k)

@@ -17,13 +17,14 @@ use Rattle.mv_core.specs.Rule.{Facts}
 use Rattle.mv_core.proofs.Frames.{become_all, unchanged, changed}
 use Rattle.mv_core.proofs.Watermarks.{max_not_above, watermark_rises}
 
-module _ (starts : State → Type 0) (allows : List ℕ → State → Writes → Type 0) (c : Config) (start : State) (m : Memory) (h : List Entry) (f : Faces) (k : Facts starts allows c start m h f) (n : ℕ) (out : f.phase n ≡ Outside) where
+module _ (starts : State → Type 0) (allows : List ℕ → State → Writes → Type 0) (c : Config) (start : State) (m : Memory) (h : List Entry) (f : Faces)
+    (k : Facts starts allows c start m h f) (n : ℕ) (out : f.phase n ≡ Outside) where
   -- the scan of a seat that is outside becomes one whose least time is no section's that it has scanned
   scan_is : (o : Option Scan) → ScanIs (m Clock) f.time o → Facts starts allows c start m h (changed f n (record unchanged { scan = Some o }))
   scan_is o fits =
       let scans = become_all (λ s x. ScanIs (m Clock) f.time x) f.scan n o fits (λ s ne. k.grace.scans s) in
       let scanning = become_all (λ s x. (running : Scan) → x ≡ Some running → f.phase s ≡ Outside) f.scan n o (λ running e. out)
-          (λ s ne. k.phases_and_scan.scanning s) in
+      (λ s ne. k.phases_and_scan.scanning s) in
       assumption (scans, scanning, k)
 
   module _ (clock least next : ℕ) (low : least ≤ clock) (now : clock ≤ clock_time_of (m Clock)) (scanned : (s : ℕ) → s < next → NotAbove least (f.time s)) where
@@ -37,9 +38,11 @@ module _ (starts : State → Type 0) (allows : List ℕ → State → Writes →
       where
         go : (o : Option ℕ) → f.time s ≡ o → NotAbove least o
         go None at = tt
-        go (Some u) at = let ge : c.seats ≤ next = grind (arith, nat_tests, e) in let lt = k.phases_and_scan.within s u at in subst (NotAbove least) at (scanned s (omega arith))
+        go (Some u) at = let ge : c.seats ≤ next = grind (arith, nat_tests, e) in let lt =
+            k.phases_and_scan.within s u at in subst (NotAbove least) at (scanned s (omega arith))
 
-    grace_fits : (g : ℕ) (b : Bool) → nat_lt next c.seats ≡ b → (g ≤ clock_time_of (m Clock)) × NotAboveAny g f.time → (cond b g (max g least) ≤ clock_time_of (m Clock)) × NotAboveAny (cond b g (max g least)) f.time
+    grace_fits : (g : ℕ) (b : Bool) → nat_lt next c.seats ≡ b → (g ≤ clock_time_of (m Clock)) × NotAboveAny g f.time
+        → (cond b g (max g least) ≤ clock_time_of (m Clock)) × NotAboveAny (cond b g (max g least)) f.time
     grace_fits g true e old = old
     grace_fits g false e old = let le = old.0 in (omega arith, λ s. max_not_above g least (f.time s) (old.1 s) (all_scanned e s))
 
@@ -50,5 +53,6 @@ module _ (starts : State → Type 0) (allows : List ℕ → State → Writes →
     pub scan_goes_on : Facts starts allows c start m h (changed f n (record unchanged { scan = Some (scan_on c clock least next); grace = Some (grace_on c (f.grace n) least next) }))
     scan_goes_on =
         let b = nat_lt next c.seats in
-        watermark_rises starts allows c start m h (changed f n (record unchanged { scan = Some (scan_on c clock least next) })) (scan_is (scan_on c clock least next) (scan_fits b refl)) n (grace_on c (f.grace n) least next)
+        watermark_rises starts allows c start m h (changed f n (record unchanged { scan = Some (scan_on c clock least next) }))
+        (scan_is (scan_on c clock least next) (scan_fits b refl)) n (grace_on c (f.grace n) least next)
         (grace_up (f.grace n) b) (grace_fits (f.grace n) b refl (k.grace.views n))

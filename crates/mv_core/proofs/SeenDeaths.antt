@@ -26,14 +26,18 @@ seen_later now later st le old dead e =
     (omega arith, λ uncut. let early = r.1 uncut in omega arith)
 
 -- one seat sees more, and the logs stay
-pub sees_on : (c : Config) (past : ℕ → Past) (rings : ℕ → Ring) (n : ℕ) (p : Past) → BeginsWith p.seen (past n).seen → DeathsSeen c past rings → DeathsSeen c (become past n p) rings
+pub sees_on : (c : Config) (past : ℕ → Past) (rings : ℕ → Ring) (n : ℕ) (p : Past) → BeginsWith p.seen (past n).seen → DeathsSeen c past rings
+    → DeathsSeen c (become past n p) rings
 sees_on c past rings n p front old s k x st lives =
     let long : length p.seen ≡ length (past n).seen + length front.0 = ap length front.1 ∙ length-append (past n).seen front.0 in
-    let more : length (past s).seen ≤ length (become past n p s).seen = become_all (λ t (q : Past). length (past t).seen ≤ length q.seen) past n p (omega arith) (λ t ne. omega arith) s in
+    let more : length (past s).seen ≤ length (become past n p s).seen =
+    become_all (λ t (q : Past). length (past t).seen ≤ length q.seen) past n p (omega arith) (λ t ne. omega arith) s in
     seen_later (c.base + length (past s).seen) (c.base + length (become past n p s).seen) st (omega arith) (old s k x st lives)
 
 -- a version was written with a status whose death was seen, and all other slots stay
-pub seen_put : (c : Config) (past : ℕ → Past) (rings : ℕ → Ring) (n k : ℕ) (r : Ring) (x : Version) (st : Status) → r.slots ≡ slice_set (rings n).slots k (Live x st) → k < length (rings n).slots → DeathSeen (c.base + length (past n).seen) st → DeathsSeen c past rings → DeathsSeen c past (become rings n r)
+pub seen_put : (c : Config) (past : ℕ → Past) (rings : ℕ → Ring) (n k : ℕ) (r : Ring) (x : Version) (st : Status)
+    → r.slots ≡ slice_set (rings n).slots k (Live x st) → k < length (rings n).slots → DeathSeen (c.base + length (past n).seen) st → DeathsSeen c past rings
+    → DeathsSeen c past (become rings n r)
 seen_put c past rings n k r x st written within here old =
     slots_after rings n k (Live x st) r written within (λ s j z. (y : Version) (su : Status) → z ≡ Live y su → DeathSeen (c.base + length (past s).seen) su)
     (λ y su e. subst (DeathSeen (c.base + length (past n).seen)) (live_once (Live x st) x y st su refl e).1 here)

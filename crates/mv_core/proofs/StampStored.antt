@@ -1,5 +1,6 @@
 -- The stamp of a commit that is still unset becomes the commit's time: the frame of a won exchange of a stamp, over all facts.
-use Rattle.std.proofs.Common.{◌≡◌, ℕ, ◌<◌, ◌==◌, ◌&&◌, Bool, true, false, cond, List, sym, refl, ap, ap₂, ◌∙◌, subst, ⊎_elim, inl, inr, eq-eqb, eqb-true, arith, Some}
+use Rattle.std.proofs.Common.{◌≡◌, ℕ, ◌<◌, ◌==◌, ◌&&◌, Bool, true, false, cond, List, sym}
+use Rattle.std.proofs.Common.{refl, ap, ap₂, ◌∙◌, subst, ⊎_elim, inl, inr, eq-eqb, eqb-true, arith, Some}
 use mathlib.Core.Logic.{dite}
 use native.Mathlib.Decide.{ℕ_discrete}
 use Rattle.mv_history.specs.declared.Entry.{Entry}
@@ -26,8 +27,10 @@ use Rattle.mv_core.proofs.Hearing.{clock_small, unstamped_is_named, past_help}
 use Rattle.mv_core.proofs.Written.{commit_within}
 use Rattle.mv_core.proofs.Stampable.{IsStampable}
 
-module _ (starts : State → Type 0) (allows : List ℕ → State → Writes → Type 0) (c : Config) (start : State) (m : Memory) (h : List Entry) (f : Faces) (k : Facts starts allows c start m h f)
-    (word unset : ℕ) (is : IsStampable c (m Clock) (λ s i. m (Stamp s i)) f.ring word unset) (won : m (Stamp (clock_seat_of word) (clock_slot_of word)) ≡ unset) where
+module _ (starts : State → Type 0) (allows : List ℕ → State → Writes → Type 0) (c : Config) (start : State) (m : Memory) (h : List Entry) (f : Faces)
+    (k : Facts starts allows c start m h f)
+    (word unset : ℕ) (is : IsStampable c (m Clock) (λ s i. m (Stamp s i)) f.ring word unset)
+    (won : m (Stamp (clock_seat_of word) (clock_slot_of word)) ≡ unset) where
   abbrev s0 : ℕ
   s0 = clock_seat_of word
 
@@ -79,8 +82,10 @@ module _ (starts : State → Type 0) (allows : List ℕ → State → Writes →
       go : (slot : Slot) → slot_at (f.ring s0) k0 ≡ slot → It
       go (Live x st) e =
           dite (ℕ_discrete x.position is.found.position)
-          (λ at. let l = is.found.live x st e at in record { version = x; note = l.1.0; lives = e ∙ ap (Live x) l.1.1; position_is = at; first_is = l.0; time_is = l.1.2 })
-          (λ ne. absurd (is.found.gone (λ y other g at. let same : Live x st ≡ Live y other = sym e ∙ g in let one : x ≡ y = cc in ne (ap (λ (z : Version). z.position) one ∙ at)) won))
+          (λ at. let l = is.found.live x st e at
+          in record { version = x; note = l.1.0; lives = e ∙ ap (Live x) l.1.1; position_is = at; first_is = l.0; time_is = l.1.2 })
+          (λ ne. absurd (is.found.gone (λ y other g at. let same : Live x st ≡ Live y other = sym e ∙ g in let one : x ≡ y =
+          cc in ne (ap (λ (z : Version). z.position) one ∙ at)) won))
       go Free e = absurd (is.found.gone (λ y other g at. let same : Free ≡ Live y other = sym e ∙ g in absurd (cc)) won)
       go (Built b) e = absurd (is.found.gone (λ y other g at. let same : Built b ≡ Live y other = sym e ∙ g in absurd (cc)) won)
       go (Freeing p q) e = absurd (is.found.gone (λ y other g at. let same : Freeing p q ≡ Live y other = sym e ∙ g in absurd (cc)) won)
@@ -92,7 +97,8 @@ module _ (starts : State → Type 0) (allows : List ℕ → State → Writes →
   same_set : (s j : ℕ) (y : Version) (st : Status) → Lives f.ring s j y st → s ≡ s0 → index_of c y.first ≡ k0 → y.first ≡ is.found.position
   same_set s j y st lives e g =
       let first = k.write_sets.first s j y st lives in
-      let there : Lives f.ring s0 k0 first.version first.status = subst (λ (p : ℕ × ℕ). Lives f.ring p.0 p.1 first.version first.status) (λ i. (e i, g i)) first.lives in
+      let there : Lives f.ring s0 k0 first.version first.status =
+      subst (λ (p : ℕ × ℕ). Lives f.ring p.0 p.1 first.version first.status) (λ i. (e i, g i)) first.lives in
       let same : Live first.version first.status ≡ Live it.version (Committed it.note) = sym there ∙ it.lives in
       let one : first.version ≡ it.version = cc in
       sym first.position_is ∙ ap (λ (z : Version). z.position) one ∙ it.position_is
@@ -101,20 +107,24 @@ module _ (starts : State → Type 0) (allows : List ℕ → State → Writes →
   same_time : (s j : ℕ) (y : Version) (note : CommitNote) → Lives f.ring s j y (Committed note) → s ≡ s0 → index_of c y.first ≡ k0 → note.time ≡ t0
   same_time s j y note lives e g =
       let unset' : stamp_of c stamp s y ≡ unset_of is.found.position = (λ i. stamp (e i) (g i)) ∙ won ∙ unset_is in
-      let mine : stamp_of c stamp s0 it.version ≡ unset_of is.found.position = ap (λ p. stamp s0 (index_of c p)) it.first_is ∙ ap (stamp s0) is.found.slot_is ∙ won ∙ unset_is in
+      let mine : stamp_of c stamp s0 it.version ≡ unset_of is.found.position =
+      ap (λ p. stamp s0 (index_of c p)) it.first_is ∙ ap (stamp s0) is.found.slot_is ∙ won ∙ unset_is in
       let a = unstamped_is_named c (m Clock) stamp h f.ring k.checked (clock_small starts allows c start m h f k) k.stamps k.positions s j y note lives
       (λ (made : stamp_of c stamp s y ≡ note.time). let low = small_time s j y note lives in omega arith) in
-      let b = unstamped_is_named c (m Clock) stamp h f.ring k.checked (clock_small starts allows c start m h f k) k.stamps k.positions s0 k0 it.version it.note it.lives
+      let b = unstamped_is_named c (m Clock) stamp h f.ring k.checked
+      (clock_small starts allows c start m h f k) k.stamps k.positions s0 k0 it.version it.note it.lives
       (λ (made : stamp_of c stamp s0 it.version ≡ it.note.time). let low = small_time s0 k0 it.version it.note it.lives in omega arith) in
       sym a.1 ∙ b.1 ∙ it.time_is
 
   -- it isn't held or aborted
   not_else : (s j : ℕ) (y : Version) (st : Status) → Lives f.ring s j y st → s ≡ s0 → index_of c y.first ≡ k0 → ¬ (IsHeldOrAborted st)
   not_else s j y st lives e g fate =
-      k.write_sets.apart s0 j k0 y it.version st it.note (subst (λ (u : ℕ). Lives f.ring u j y st) e lives) fate it.lives (same_set s j y st lives e g ∙ sym it.first_is)
+      k.write_sets.apart s0 j k0 y it.version st it.note (subst (λ (u : ℕ). Lives f.ring u j y st) e lives) fate it.lives
+      (same_set s j y st lives e g ∙ sym it.first_is)
 
   -- a commit that is stamped stays so
-  still : (s j : ℕ) (y : Version) (note : CommitNote) → Lives f.ring s j y (Committed note) → stamp_of c stamp s y ≡ note.time → stamp_of c after s y ≡ note.time
+  still : (s j : ℕ) (y : Version) (note : CommitNote) → Lives f.ring s j y (Committed note) → stamp_of c stamp s y ≡ note.time
+      → stamp_of c after s y ≡ note.time
   still s j y note lives made =
       dite (here? s (index_of c y.first))
       (λ e. after_here s (index_of c y.first) e.0 e.1 ∙ sym (same_time s j y note lives e.0 e.1))
@@ -124,9 +134,12 @@ module _ (starts : State → Type 0) (allows : List ℕ → State → Writes →
   stamped_after s j y st lives =
       dite (here? s (index_of c y.first))
       (λ e. go st lives (not_else s j y st lives e.0 e.1) (λ note l. after_here s (index_of c y.first) e.0 e.1 ∙ sym (same_time s j y note l e.0 e.1)))
-      (λ ne. subst (λ (n : ℕ). StampedAs (m Clock) s (index_of c y.first) n y.first st) (sym (after_else s (index_of c y.first) ne)) (k.stamps.live s j y st lives))
+      (λ ne. subst (λ (n : ℕ). StampedAs (m Clock) s (index_of c y.first) n y.first st) (sym (after_else s (index_of c y.first) ne))
+      (k.stamps.live s j y st lives))
     where
-      go : (st : Status) → Lives f.ring s j y st → ¬ (IsHeldOrAborted st) → ((note : CommitNote) → Lives f.ring s j y (Committed note) → stamp_of c after s y ≡ note.time) → StampedAs (m Clock) s (index_of c y.first) (stamp_of c after s y) y.first st
+      go : (st : Status) → Lives f.ring s j y st → ¬ (IsHeldOrAborted st)
+          → ((note : CommitNote) → Lives f.ring s j y (Committed note) → stamp_of c after s y ≡ note.time)
+          → StampedAs (m Clock) s (index_of c y.first) (stamp_of c after s y) y.first st
       go Held l out made = absurd (out tt)
       go (Aborted dead) l out made = absurd (out tt)
       go (Committed note) l out made = inl (made note l)
@@ -148,7 +161,8 @@ module _ (starts : State → Type 0) (allows : List ℕ → State → Writes →
       (⊎_elim (λ none. inr (inl none))
       (λ (made : stamp (clock_seat_of w) (clock_slot_of w) ≡ clock_time_of w).
       dite (here? (clock_seat_of w) (clock_slot_of w))
-      (λ e. let u : stamp (clock_seat_of w) (clock_slot_of w) ≡ unset = (λ i. stamp (e.0 i) (e.1 i)) ∙ won in let v = unset_is in let low = small_word w was in absurd (omega arith))
+      (λ e. let u : stamp (clock_seat_of w) (clock_slot_of w) ≡ unset = (λ i. stamp (e.0 i) (e.1 i)) ∙ won in let v = unset_is in let low =
+      small_word w was in absurd (omega arith))
       (λ ne. inr (inr (after_else (clock_seat_of w) (clock_slot_of w) ne ∙ made)))))
 
   helped_after : HelpedWords (m Clock) after f.heard
@@ -172,7 +186,8 @@ module _ (starts : State → Type 0) (allows : List ℕ → State → Writes →
         live = r.live;
         gone = λ none e.
             dite (here? (clock_seat_of g.word) (clock_slot_of g.word))
-            (λ here. let now = after_here (clock_seat_of g.word) (clock_slot_of g.word) here.0 here.1 in let low = small_word word is.was in let u = r.unset_is in omega arith)
+            (λ here. let now = after_here (clock_seat_of g.word) (clock_slot_of g.word) here.0 here.1 in let low = small_word word is.was in let u =
+            r.unset_is in omega arith)
             (λ ne. r.gone none (sym (after_else (clock_seat_of g.word) (clock_slot_of g.word) ne) ∙ e));
       }
 
@@ -192,9 +207,9 @@ module _ (starts : State → Type 0) (allows : List ℕ → State → Writes →
       let unfinished : UnstampedIsUnfinished c after f.section f.ring =
       λ s j x note lives ne. k.unstamped_is_unfinished s j x note lives (λ made. ne (still s j x note lives made)) in
       let named : NamedCommit c h after f.section f.ring = λ s inside n at mode.
-          let r = k.named_commit s inside n at mode in
-          let place : stamp_of c after s r.version ≡ after s (index_of c n.first) = ap (λ p. after s (index_of c p)) r.first_is in
-          let before : stamp_of c stamp s r.version ≡ stamp s (index_of c n.first) = ap (λ p. stamp s (index_of c p)) r.first_is in
-          same_named r r.note r.last r.nothing r.lives r.time_is
-          (λ was_made. sym place ∙ still s (index_of c n.first) r.version r.note r.lives (before ∙ r.stamped was_made ∙ sym r.time_is) ∙ r.time_is) in
+      let r = k.named_commit s inside n at mode in
+      let place : stamp_of c after s r.version ≡ after s (index_of c n.first) = ap (λ p. after s (index_of c p)) r.first_is in
+      let before : stamp_of c stamp s r.version ≡ stamp s (index_of c n.first) = ap (λ p. stamp s (index_of c p)) r.first_is in
+      same_named r r.note r.last r.nothing r.lives r.time_is
+      (λ was_made. sym place ∙ still s (index_of c n.first) r.version r.note r.lives (before ∙ r.stamped was_made ∙ sym r.time_is) ∙ r.time_is) in
       assumption (stamps_after, helped_after, past, stamped, below, falls_after, found_after, unfinished, named, k)

@@ -1,5 +1,7 @@
--- load SUPER: a time found there is that of the object's next write, from which on the version is dead; where none is found, no write of the object comes before the watermark.
-use Rattle.std.proofs.Common.{◌≡◌, ◌≢◌, ◌⊎◌, ℕ, ◌+◌, ◌-◌, ◌/◌, ◌==◌, ◌<◌, ◌≤◌, Bool, true, false, cond, List, length, refl, sym, ap, ◌∙◌, subst, inl, inr, ⊎_elim, arith, Option, Some, None}
+-- load SUPER: a time found there is that of the object's next write, from which on the version is dead; where none is found, no write of the object comes
+-- before the watermark.
+use Rattle.std.proofs.Common.{◌≡◌, ◌≢◌, ◌⊎◌, ℕ, ◌+◌, ◌-◌, ◌/◌, ◌==◌, ◌<◌, ◌≤◌, Bool, true, false, cond}
+use Rattle.std.proofs.Common.{List, length, refl, sym, ap, ◌∙◌, subst, inl, inr, ⊎_elim, arith, Option, Some, None}
 use Rattle.std.proofs.lemmas.Bool.{eqb-false}
 use Rattle.std.specs.Prelude.{slice_get, Contains}
 use Rattle.std.proofs.lemmas.Option.{slice_get_within}
@@ -43,16 +45,18 @@ use Rattle.mv_core.proofs.SeenMore.{sees_more}
 use Rattle.mv_core.proofs.MoreSeen.{more_seen}
 use Rattle.mv_core.proofs.StampLoads.{seen_to, seen_by_all, slice_get-front}
 use Rattle.mv_core.proofs.Slots.{Matches, match_weaker, match_put, slots_after, live_within}
-use Rattle.mv_core.proofs.Matching.{Alike, AlikeOrCut, alike_or_cut, alike_self}
+use Rattle.mv_core.proofs.Matching.{LivesOn, Alike, alike_self, alike_committed}
 use Rattle.mv_core.proofs.MatchedFacts.{same_stamp_facts}
 use Rattle.mv_core.proofs.InPlace.{in_place_put, in_place_facts}
 use Rattle.mv_core.proofs.Counts.{held_same}
 
 -- the note differs in its death alone
-pub super_keeps : (note : CommitNote) (found : ℕ) → ((super_note note found).time ≡ note.time) × ((super_note note found).cut ≡ note.cut) × ((super_note note found).linked ≡ note.linked)
+pub super_keeps : (note : CommitNote) (found : ℕ) → ((super_note note found).time ≡ note.time) × ((super_note note found).cut ≡ note.cut)
+    × ((super_note note found).linked ≡ note.linked)
 super_keeps note found = go (found == 0)
   where
-    go : (b : Bool) → ((cond b note (record note { dead = Some found })).time ≡ note.time) × ((cond b note (record note { dead = Some found })).cut ≡ note.cut) × ((cond b note (record note { dead = Some found })).linked ≡ note.linked)
+    go : (b : Bool) → ((cond b note (record note { dead = Some found })).time ≡ note.time) × ((cond b note (record note { dead = Some found })).cut ≡ note.cut)
+        × ((cond b note (record note { dead = Some found })).linked ≡ note.linked)
     go true = (refl, refl, refl)
     go false = (refl, refl, refl)
 
@@ -72,7 +76,8 @@ super_none note found none e = go (found == 0) refl
     go true is = none
     go false is = absurd (eqb-false found 0 is e)
 
-module _ (starts : State → Type 0) (allows : List ℕ → State → Writes → Type 0) (c : Config) (start : State) (m : Memory) (h : List Entry) (f : Faces) (k : Facts starts allows c start m h f)
+module _ (starts : State → Type 0) (allows : List ℕ → State → Writes → Type 0) (c : Config) (start : State) (m : Memory) (h : List Entry) (f : Faces)
+    (k : Facts starts allows c start m h f)
     (n slot : ℕ) (x : Version) (note : CommitNote) (lives : Lives f.ring n slot x (Committed note)) (no_death : note.dead ≡ None) where
   abbrev found : ℕ
   found = m (Super n slot)
@@ -90,10 +95,12 @@ module _ (starts : State → Type 0) (allows : List ℕ → State → Writes →
   within = live_within (f.ring n) slot x (Committed note) lives
 
   alike : Matches Alike f.ring rings
-  alike = match_put Alike alike_self f.ring n slot (Live x (Committed new)) loaded refl within refl x (Committed note) x (Committed new) lives refl (let same = (super_keeps note found).1 in (refl, (super_keeps note found).0, λ cut. same ∙ cut), (super_keeps note found).1)
+  alike = match_put Alike alike_self f.ring n slot (Live x (Committed new)) loaded refl within refl x (Committed note) x (Committed new) lives refl
+      (alike_committed x note new (super_keeps note found).0 (super_keeps note found).1)
 
   -- what holds of the slot, and of each other, holds of all
-  all_slots : (P : ℕ → ℕ → Slot → Type 0) → P n slot (Live x (Committed new)) → ((s j : ℕ) → ¬ ((s ≡ n) × (j ≡ slot)) → P s j (slot_at (f.ring s) j)) → (s j : ℕ) → P s j (slot_at (rings s) j)
+  all_slots : (P : ℕ → ℕ → Slot → Type 0) → P n slot (Live x (Committed new)) → ((s j : ℕ) → ¬ ((s ≡ n) × (j ≡ slot)) → P s j (slot_at (f.ring s) j))
+      → (s j : ℕ) → P s j (slot_at (rings s) j)
   all_slots = slots_after f.ring n slot (Live x (Committed new)) loaded refl within
 
   -- a time found is that of the next write
@@ -141,8 +148,10 @@ module _ (starts : State → Type 0) (allows : List ℕ → State → Writes →
       right
 
   -- the version that a link names is as before, or it is this one
-  names_was : (link : ℕ) (y : Version) (su : Status) → (names : Names rings link y su) → (Names f.ring link y su) ⊎ ((su ≡ Committed new) × Names f.ring link x (Committed note))
-  names_was link y su names = all_slots (λ t i z. z ≡ Live y su → t ≡ names.seat → i ≡ names.slot → (Names f.ring link y su) ⊎ ((su ≡ Committed new) × Names f.ring link x (Committed note)))
+  names_was : (link : ℕ) (y : Version) (su : Status) → (names : Names rings link y su)
+      → (Names f.ring link y su) ⊎ ((su ≡ Committed new) × Names f.ring link x (Committed note))
+  names_was link y su names = all_slots (λ t i z. z ≡ Live y su → t ≡ names.seat → i ≡ names.slot → (Names f.ring link y su) ⊎
+      ((su ≡ Committed new) × Names f.ring link x (Committed note)))
       (λ e at_seat at_slot.
       let one = live_once (Live x (Committed new)) x y (Committed new) su refl e in
       inr (sym one.1, record { seat = n; slot = slot; lives = lives; is = names.is ∙ ap (λ t. link_of t y.position) (sym at_seat) ∙ ap (λ (v : Version). link_of n v.position) (sym one.0) }))
@@ -152,16 +161,21 @@ module _ (starts : State → Type 0) (allows : List ℕ → State → Writes →
   -- where a walk stands at it, it is right for the walk
   right_here : (s t : ℕ) (stand : Stand) → f.time s ≡ Some t → f.walk s ≡ At stand → Names f.ring stand.link x (Committed note) → IsRightFor c h t x note
   right_here s t stand e w names =
-      let r : StandsRight c start h (λ o i. m (Master o i)) f.ring t (At stand) = subst (StandsRight c start h (λ o i. m (Master o i)) f.ring t) w (k.walker_place s t e) in
+      let r : StandsRight c start h (λ o i. m (Master o i)) f.ring t (At stand) =
+      subst (StandsRight c start h (λ o i. m (Master o i)) f.ring t) w (k.walker_place s t e) in
       let one = names_once c h f.ring k.checked k.history.in_time k.positions stand.link r.0 x r.1 (Committed note) r.2 names in
-      subst (λ (v : Version). MayStandAt c start h (λ o i. m (Master o i)) f.ring t v (Committed note)) one.2 (subst (MayStandAt c start h (λ o i. m (Master o i)) f.ring t r.0) one.3 r.4)
+      subst (λ (v : Version). MayStandAt c start h (λ o i. m (Master o i)) f.ring t v (Committed note)) one.2
+      (subst (MayStandAt c start h (λ o i. m (Master o i)) f.ring t r.0) one.3 r.4)
 
-  right_below : (s t : ℕ) (stand : Stand) (a : Version) (dead : Option ℕ) → f.time s ≡ Some t → f.walk s ≡ At stand → Names f.ring stand.link a (Aborted dead) → Names f.ring a.previous x (Committed note) → IsRightFor c h t x note
+  right_below : (s t : ℕ) (stand : Stand) (a : Version) (dead : Option ℕ) → f.time s ≡ Some t → f.walk s ≡ At stand → Names f.ring stand.link a (Aborted dead)
+      → Names f.ring a.previous x (Committed note) → IsRightFor c h t x note
   right_below s t stand a dead e w names below =
-      let r : StandsRight c start h (λ o i. m (Master o i)) f.ring t (At stand) = subst (StandsRight c start h (λ o i. m (Master o i)) f.ring t) w (k.walker_place s t e) in
+      let r : StandsRight c start h (λ o i. m (Master o i)) f.ring t (At stand) =
+      subst (StandsRight c start h (λ o i. m (Master o i)) f.ring t) w (k.walker_place s t e) in
       let one = names_once c h f.ring k.checked k.history.in_time k.positions stand.link r.0 a r.1 (Aborted dead) r.2 names in
       let may : MayStandAt c start h (λ o i. m (Master o i)) f.ring t a (Aborted dead) =
-      subst (λ (v : Version). MayStandAt c start h (λ o i. m (Master o i)) f.ring t v (Aborted dead)) one.2 (subst (MayStandAt c start h (λ o i. m (Master o i)) f.ring t r.0) one.3 r.4) in
+      subst (λ (v : Version). MayStandAt c start h (λ o i. m (Master o i)) f.ring t v (Aborted dead)) one.2
+      (subst (MayStandAt c start h (λ o i. m (Master o i)) f.ring t r.0) one.3 r.4) in
       ⊎_elim
       (λ master. absurd (none_names_zero f.ring a.previous master.0 x (Committed note) below))
       (λ p.
@@ -177,7 +191,8 @@ module _ (starts : State → Type 0) (allows : List ℕ → State → Writes →
         (λ this. subst (IsBeforeDeath t) (sym this.0) (before_new t (right_here s t stand e w this.1)))
         (names_was stand.link y su names);
     below = λ s t stand a y dead su e w names below.
-        let old_names : Names f.ring stand.link a (Aborted dead) = record { seat = names.seat; slot = names.slot; lives = aborted_was names.seat names.slot a dead names.lives; is = names.is } in
+        let old_names : Names f.ring stand.link a (Aborted dead) =
+        record { seat = names.seat; slot = names.slot; lives = aborted_was names.seat names.slot a dead names.lives; is = names.is } in
         ⊎_elim
         (λ old. k.walker_before_death.below s t stand a y dead su e w old_names old)
         (λ this. subst (IsBeforeDeath t) (sym this.0) (before_new t (right_below s t stand a dead e w old_names this.1)))
@@ -204,7 +219,9 @@ module _ (starts : State → Type 0) (allows : List ℕ → State → Writes →
         (λ this.
         let d = super_dead note found dead no_death (ap (λ (q : CommitNote). q.dead) (sym this.4) ∙ e) in
         let time : o.time ≡ note.time = w.time_is ∙ ap (λ (q : CommitNote). q.time) this.3 in
-        subst (IsNextWrite c.base h y.object o.time) (sym d.0) (subst (λ (t : ℕ). IsNextWrite c.base h y.object t found) (sym time) (subst (λ (v : Version). IsNextWrite c.base h v.object note.time found) (sym this.2) (next_is d.1))))
+        subst (IsNextWrite c.base h y.object o.time) (sym d.0)
+        (subst (λ (t : ℕ). IsNextWrite c.base h y.object t found) (sym time)
+        (subst (λ (v : Version). IsNextWrite c.base h v.object note.time found) (sym this.2) (next_is d.1))))
         w.same_or;
   }
 
@@ -236,7 +253,8 @@ module _ (starts : State → Type 0) (allows : List ℕ → State → Writes →
                     ⊎_elim
                         (λ same. ap (λ (p : CommitNote). p.dead) same ∙ none.1)
                         (λ this.
-                        let zero_is : found ≡ 0 = subst (λ (t : ℕ). m (Super t slot) ≡ 0) this.0 (subst (λ (i : ℕ). m (Super below.seat i) ≡ 0) this.1 none.0) in
+                        let zero_is : found ≡ 0 = subst (λ (t : ℕ). m (Super t slot) ≡ 0) this.0
+                        (subst (λ (i : ℕ). m (Super below.seat i) ≡ 0) this.1 none.0) in
                         ap (λ (p : CommitNote). p.dead) this.4 ∙ super_none note found no_death zero_is)
                         a.same_or,
                   ),
@@ -270,11 +288,11 @@ module _ (starts : State → Type 0) (allows : List ℕ → State → Writes →
   super_facts sees =
       let seen = seen_put c f.past f.ring n slot loaded x (Committed new) refl within
       (λ dead e. let is = (super_dead note found dead no_death e).0 in (omega arith, λ _. omega arith)) k.deaths_seen in
-      let or_cut = match_weaker Alike AlikeOrCut f.ring rings alike_or_cut alike in
+      let on = match_weaker Alike LivesOn f.ring rings (λ y st z su a. a.0.0) alike in
       let stays = in_place_put f.ring n slot loaded x x (Committed note) (Committed new) lives refl in
-      assumption
-      (slot_words_after, deaths_after, seen, before_death_after, flag_after, death_after, dead_after, aborted_after,
-      in_place_facts starts allows c start m h f k rings or_cut stays, same_stamp_facts starts allows c start m h f k rings alike, k)
+      let in_place = in_place_facts starts allows c start m h f k rings on stays in
+      let same_stamp = same_stamp_facts starts allows c start m h f k rings alike in
+      assumption (slot_words_after, deaths_after, seen, before_death_after, flag_after, death_after, dead_after, aborted_after, in_place, same_stamp, k)
 
   -- a time found is in the history
   pub found_within : found ≤ c.base + length h
@@ -283,14 +301,16 @@ module _ (starts : State → Type 0) (allows : List ℕ → State → Writes →
       (λ ne. let next = next_is ne in (entry-within c.base h x.object found next.entry next.there).1)
 
   -- where none is found, no section is at or after a later write of the object
-  pub none_written : ((t : ℕ) (inside : Section) → f.section t ≡ Some inside → f.time t ≡ Some (time_in inside)) → note.cut ≡ false → found ≡ 0 → (t : ℕ) (e : Entry) → IsEntry c.base h t e → writes_to x.object e ≡ true → note.time < t → f.grace n < t
+  pub none_written : ((t : ℕ) (inside : Section) → f.section t ≡ Some inside → f.time t ≡ Some (time_in inside)) → note.cut ≡ false → found ≡ 0
+      → (t : ℕ) (e : Entry) → IsEntry c.base h t e → writes_to x.object e ≡ true → note.time < t → f.grace n < t
   none_written timed uncut none t e there writes late =
       let low = (commit_within c h f.ring k.write_sets n slot x note lives).0 in
       let last = latest-reaches c.base h x.object t e there writes in
       let next = next_write c.base h x.object note.time (omega arith) (omega arith) in
       let naming = k.successors.unfinished n slot x note lives uncut none next.0 next.1 in
       let named = k.named_commit naming.seat naming.inside naming.naming naming.in_section naming.mode in
-      let below : f.grace n ≤ time_in naming.inside = subst (NotAbove (f.grace n)) (timed naming.seat naming.inside naming.in_section) ((k.grace.views n).1 naming.seat) in
+      let below : f.grace n ≤ time_in naming.inside = subst (NotAbove (f.grace n)) (timed naming.seat naming.inside naming.in_section)
+      ((k.grace.views n).1 naming.seat) in
       let later = named.later in
       let is = naming.time_is in
       let none_between = next.1.none_between in
@@ -305,9 +325,11 @@ entry_of_history base h seen t e front is =
     let lt = slice_get_within seen (t - (base + 1)) e is.1 in
     (low, ap (λ l. slice_get l (t - (base + 1))) front.1 ∙ slice_get-front seen front.0 (t - (base + 1)) lt ∙ is.1)
 
-module _ (starts : State → Type 0) (allows : List ℕ → State → Writes → Type 0) (c : Config) (start : State) (v : View) (position : ℕ) (x : Version) (note : CommitNote) where
+module _ (starts : State → Type 0) (allows : List ℕ → State → Writes → Type 0) (c : Config) (start : State) (v : View) (position : ℕ) (x : Version)
+    (note : CommitNote) where
   pub super_loads : MayLoadSuper c v position x note
-      → Loads starts allows c start v (Super v.number (index_of c position)) (λ found w. (((w ≡ super_loaded c v position x note found w.past.seen) × SeesSuper c v x note found w.past.seen × (FoundEmpty v x.object note.time → found ≢ 0)) × RunsOn v w) × IsKept v w)
+      → Loads starts allows c start v (Super v.number (index_of c position)) (λ found w. (((w ≡ super_loaded c v position x note found w.past.seen)
+      × SeesSuper c v x note found w.past.seen × (FoundEmpty v x.object note.time → found ≢ 0)) × RunsOn v w) × IsKept v w)
   super_loads may m h seats k is own begins small =
       let n = v.number in
       let slot = index_of c position in
@@ -322,17 +344,23 @@ module _ (starts : State → Type 0) (allows : List ℕ → State → Writes →
       let seen = to.0 in
       let w : View = super_loaded c v position x note found seen in
       let p : Past = record v.past { seen = seen } in
-      let held : held_count w.ring ≡ held_count v.ring = held_same v.ring slot (Live x (Committed (super_note note found))) (live_within v.ring slot x (Committed note) may.own) (sym (ap is_held may.own)) in
+      let held : held_count w.ring ≡ held_count v.ring =
+      held_same v.ring slot (Live x (Committed (super_note note found))) (live_within v.ring slot x (Committed note) may.own) (sym (ap is_held may.own)) in
       let more : Facts starts allows c start m h (changed f n (record unchanged { past = Some p })) =
-      more_seen starts allows c start m h f k n p (sees_more starts allows c start (m Clock) h f.past n v.past (ap (λ (u : View). u.past) is) k.history seen to.1 to.2.more) (seen_by_all starts allows c start m h seats k v is seen to.2.more) (subst (λ (u : View). BeginsWith seen u.past.seen) (sym is) to.2.more) in
+      more_seen starts allows c start m h f k n p (sees_more starts allows c start (m Clock) h f.past n v.past
+      (ap (λ (u : View). u.past) is) k.history seen to.1 to.2.more) (seen_by_all starts allows c start m h seats k v is seen to.2.more)
+      (subst (λ (u : View). BeginsWith seen u.past.seen) (sym is) to.2.more) in
       let below : found ≡ 0 → (t : ℕ) (e : Entry) → IsEntry c.base v.past.seen t e → writes_to x.object e ≡ true → note.time < t → v.grace < t =
       λ none t e there writes late.
-      subst (λ (u : View). u.grace < t) is (none_written starts allows c start m h f k n slot x note lives may.no_death (λ s inside in_section. time_of_section (seats s).phase inside in_section) may.uncut none t e (entry_of_history c.base h v.past.seen t e front there) writes late) in
+      subst (λ (u : View). u.grace < t) is (none_written starts allows c start m h f k n slot x note lives may.no_death
+      (λ s inside in_section. time_of_section (seats s).phase inside in_section) may.uncut none t e
+      (entry_of_history c.base h v.past.seen t e front there) writes late) in
       let sees : SeesSuper c v x note found seen = record { more = to.2.more; time = to.2.time (omega arith); least = to.2.least; no_write = below } in
       let some : FoundEmpty v x.object note.time → found ≢ 0 =
       λ e. (k.succeeded_has_super n e.0 (subst (λ (u : View). Contains u.empty e.0) (sym is) e.1)).1 slot x note lives (sym e.2) e.3 may.uncut in (
         w,
-        settle starts allows c start m h seats n v w is (record unchanged { past = Some p; ring = Some (put_slot (seats n).ring slot (Live x (Committed (super_note note found)))) })
+        settle starts allows c start m h seats n v w is
+            (record unchanged { past = Some p; ring = Some (put_slot (seats n).ring slot (Live x (Committed (super_note note found)))) })
             (refl, refl, refl, refl, refl, refl, refl, ap (λ (r : Ring). put_slot r slot (Live x (Committed (super_note note found)))) (sym ring), refl, refl, refl)
             (super_facts starts allows c start m h (changed f n (record unchanged { past = Some p })) more n slot x note lives may.no_death
             (subst (λ (q : Past). found ≤ c.base + length q.seen) (sym (become_here f.past n p)) (to.2.time (omega arith)))),

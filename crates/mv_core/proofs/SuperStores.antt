@@ -1,5 +1,6 @@
 -- store SUPER: the version below one of the stamped commit gets the commit's time, and that it did is noted above.
-use Rattle.std.proofs.Common.{◌≡◌, ◌≢◌, ℕ, ◌≤◌, ◌==◌, ◌&&◌, Bool, true, false, cond, List, refl, sym, ap, ap₂, ◌∙◌, subst, ⊎_elim, arith, eq-eqb, eqb-true, Some}
+use Rattle.std.proofs.Common.{◌≡◌, ◌≢◌, ℕ, ◌≤◌, ◌==◌, ◌&&◌, Bool, true, false, cond, List}
+use Rattle.std.proofs.Common.{refl, sym, ap, ap₂, ◌∙◌, subst, ⊎_elim, arith, eq-eqb, eqb-true, Some}
 use mathlib.Core.Logic.{dite}
 use native.Mathlib.Decide.{ℕ_discrete}
 use Rattle.mv_history.specs.declared.Entry.{Entry}
@@ -37,14 +38,16 @@ use Rattle.mv_core.proofs.Links.{live_once, note_once, names_place}
 use Rattle.mv_core.proofs.Written.{commit_within, entry_once}
 use Rattle.mv_core.proofs.BelowCommit.{next_after, link_below, below_there, above_once}
 use Rattle.mv_core.proofs.Slots.{Matches, match_weaker}
-use Rattle.mv_core.proofs.Matching.{Alike, AlikeOrCut, alike_or_cut}
+use Rattle.mv_core.proofs.Matching.{LivesOn, Alike}
 use Rattle.mv_core.proofs.LinkedNotes as notes
 use Rattle.mv_core.proofs.Cuts.{same_death_facts}
 use Rattle.mv_core.proofs.MatchedFacts.{same_stamp_facts}
 use Rattle.mv_core.proofs.InPlace.{in_place_facts}
 
-module _ (starts : State → Type 0) (allows : List ℕ → State → Writes → Type 0) (c : Config) (start : State) (m : Memory) (h : List Entry) (f : Faces) (k : Facts starts allows c start m h f)
-    (n j : ℕ) (x : Version) (note : CommitNote) (lives : Lives f.ring n j x (Committed note)) (inside : Section) (naming : Naming) (there : f.section n ≡ Some inside) (timed : f.time n ≡ Some (time_in inside)) (mode : inside.mode ≡ Named naming)
+module _ (starts : State → Type 0) (allows : List ℕ → State → Writes → Type 0) (c : Config) (start : State) (m : Memory) (h : List Entry) (f : Faces)
+    (k : Facts starts allows c start m h f)
+    (n j : ℕ) (x : Version) (note : CommitNote) (lives : Lives f.ring n j x (Committed note)) (inside : Section) (naming : Naming)
+    (there : f.section n ≡ Some inside) (timed : f.time n ≡ Some (time_in inside)) (mode : inside.mode ≡ Named naming)
     (made : naming.stamped ≡ true) (of_commit : note.time ≡ naming.time) (unlinked : note.linked ≡ false) where
   abbrev t : ℕ
   t = naming.time
@@ -63,7 +66,8 @@ module _ (starts : State → Type 0) (allows : List ℕ → State → Writes →
 
   -- something is below, for what has nothing below counts as linked
   some_below : link ≢ 0
-  some_below zero_is = let linked = (k.successor_flag n j inside naming x note there mode lives of_commit).0 zero_is in let no_link : false ≡ true = sym unlinked ∙ linked in cc
+  some_below zero_is = let linked = (k.successor_flag n j inside naming x note there mode lives of_commit).0 zero_is in let no_link : false ≡ true =
+      sym unlinked ∙ linked in cc
 
   below : (y : Version) × (other : CommitNote) × Names f.ring link y (Committed other)
   below = below_there starts allows c start m h f k n j x note lives n (time_in inside) timed (let late = named.later in omega arith) some_below
@@ -85,7 +89,8 @@ module _ (starts : State → Type 0) (allows : List ℕ → State → Writes →
   is_next =
       let r = link_below starts allows c start m h f k n j x note lives y other below.2 in
       subst (λ (u : ℕ). IsNextWrite c.base h y.object other.time u) of_commit
-      (subst (λ (o : ℕ). IsNextWrite c.base h o other.time note.time) (sym r.0) (subst (λ (u : ℕ). IsNextWrite c.base h x.object u note.time) (sym r.1) (next_after starts allows c start m h f k n j x note lives)))
+      (subst (λ (o : ℕ). IsNextWrite c.base h o other.time note.time) (sym r.0)
+      (subst (λ (u : ℕ). IsNextWrite c.base h x.object u note.time) (sym r.1) (next_after starts allows c start m h f k n j x note lives)))
 
   abbrev super : ℕ → ℕ → ℕ
   super s i = m (Super s i)
@@ -132,10 +137,12 @@ module _ (starts : State → Type 0) (allows : List ℕ → State → Writes →
   all_stamped s i z d at time =
       let p = k.write_sets.commit s i z d at in
       let q = k.write_sets.commit n (index_of c naming.first) named.version named.note named.lives in
-      let same = entry_once c.base h t (Change p.commit) (Change q.commit) (subst (λ (u : ℕ). IsEntry c.base h u (Change p.commit)) time p.entry) (subst (λ (u : ℕ). IsEntry c.base h u (Change q.commit)) named.time_is q.entry) in
+      let same = entry_once c.base h t (Change p.commit) (Change q.commit) (subst (λ (u : ℕ). IsEntry c.base h u (Change p.commit)) time p.entry)
+      (subst (λ (u : ℕ). IsEntry c.base h u (Change q.commit)) named.time_is q.entry) in
       let one : p.commit ≡ q.commit = cc in
       let seat : s ≡ n = sym p.seat ∙ ap (λ d. d.seat) one ∙ q.seat in
-      let first : z.first ≡ naming.first = k.write_sets.once n i (index_of c naming.first) z named.version d named.note (subst (λ (u : ℕ). Lives f.ring u i z (Committed d)) seat at) named.lives (time ∙ sym named.time_is) ∙ named.first_is in
+      let first : z.first ≡ naming.first = k.write_sets.once n i (index_of c naming.first) z named.version d named.note
+      (subst (λ (u : ℕ). Lives f.ring u i z (Committed d)) seat at) named.lives (time ∙ sym named.time_is) ∙ named.first_is in
       (λ e. m (Stamp (seat e) (index_of c (first e)))) ∙ named.stamped made
 
   -- the time of a commit isn't 0
@@ -145,7 +152,8 @@ module _ (starts : State → Type 0) (allows : List ℕ → State → Writes →
   -- the version below is what is in its slot
   is_below : (s i : ℕ) (z : Version) (d : CommitNote) → Lives f.ring s i z (Committed d) → s ≡ s0 → i ≡ k0 → (z ≡ y) × (d ≡ other)
   is_below s i z d at e g =
-      let one = live_once (slot_at (f.ring s0) k0) z y (Committed d) (Committed other) (subst (λ (p : ℕ × ℕ). Lives f.ring p.0 p.1 z (Committed d)) (λ u. (e u, g u)) at) below_lives in
+      let one = live_once (slot_at (f.ring s0) k0) z y (Committed d) (Committed other)
+      (subst (λ (p : ℕ × ℕ). Lives f.ring p.0 p.1 z (Committed d)) (λ u. (e u, g u)) at) below_lives in
       (one.0, note_once d other one.1)
 
   next_now : (s i : ℕ) (z : Version) (d : CommitNote) → Lives f.ring s i z (Committed d) → super' s i ≢ 0 → IsNextWrite c.base h z.object d.time (super' s i)
@@ -161,7 +169,8 @@ module _ (starts : State → Type 0) (allows : List ℕ → State → Writes →
       let word = super_else s i ne in
       subst (λ (u : ℕ). IsNextWrite c.base h z.object d.time u) (sym word) (k.successors.next s i z d at (λ zero_is. some (word ∙ zero_is))))
 
-  stamped_now : (s i : ℕ) (z : Version) (d : CommitNote) → Lives f.ring s i z (Committed d) → (r l : ℕ) (w : Version) (q : CommitNote) → Lives f.ring r l w (Committed q) → q.time ≡ super' s i → stamp_of c (λ s i. m (Stamp s i)) r w ≡ q.time
+  stamped_now : (s i : ℕ) (z : Version) (d : CommitNote) → Lives f.ring s i z (Committed d) → (r l : ℕ) (w : Version) (q : CommitNote)
+      → Lives f.ring r l w (Committed q) → q.time ≡ super' s i → stamp_of c (λ s i. m (Stamp s i)) r w ≡ q.time
   stamped_now s i z d at r l w q there e =
       dite (here? s i)
       (λ here. let time : q.time ≡ t = e ∙ super_here s i here.0 here.1 in all_stamped r l w q there time ∙ sym time)
@@ -171,8 +180,10 @@ module _ (starts : State → Type 0) (allows : List ℕ → State → Writes →
   successors_after = record {
     held = λ s i z st at fate.
         let old = notes.was_uncommitted starts allows c start m h f k n j x note lives s i z st fate at in
-        other_slot s i (Live z st) old (λ v d e. let one = live_once (Live z st) z v st (Committed d) refl e in absurd (subst IsHeldOrAborted one.1 fate)) ∙ k.successors.held s i z st old fate;
-    next = λ s i z d at some. let w = notes.noted starts allows c start m h f k n j x note lives s i z d at in subst (λ (u : ℕ). IsNextWrite c.base h z.object u (super' s i)) (sym w.time) (next_now s i z w.was w.lives_was some);
+        other_slot s i (Live z st) old (λ v d e. let one = live_once (Live z st) z v st (Committed d) refl e in absurd (subst IsHeldOrAborted one.1 fate)) ∙
+        k.successors.held s i z st old fate;
+    next = λ s i z d at some. let w = notes.noted starts allows c start m h f k n j x note lives s i z d at in
+        subst (λ (u : ℕ). IsNextWrite c.base h z.object u (super' s i)) (sym w.time) (next_now s i z w.was w.lives_was some);
     stamped = λ s i z d at r l v q there e.
         let w = notes.noted starts allows c start m h f k n j x note lives s i z d at in
         let u = notes.noted starts allows c start m h f k n j x note lives r l v q there in
@@ -181,15 +192,19 @@ module _ (starts : State → Type 0) (allows : List ℕ → State → Writes →
         let w = notes.noted starts allows c start m h f k n j x note lives s i z d at in
         dite (here? s i)
         (λ here. absurd (some_time (sym (super_here s i here.0 here.1) ∙ none)))
-        (λ ne. k.successors.unfinished s i z w.was w.lives_was (sym w.cut ∙ uncut) (sym (super_else s i ne) ∙ none) next (subst (λ (u : ℕ). IsNextWrite c.base h z.object u next) w.time is));
-    built = λ s i b at. let old = notes.was_built starts allows c start m h f k n j x note lives s i b at in subst (IsStored b.successor) (sym (other_slot s i (Built b) old (λ v d e. absurd cc))) (k.successors.built s i b old);
+        (λ ne. k.successors.unfinished s i z w.was w.lives_was (sym w.cut ∙ uncut) (sym (super_else s i ne) ∙ none) next
+        (subst (λ (u : ℕ). IsNextWrite c.base h z.object u next) w.time is));
+    built = λ s i b at. let old = notes.was_built starts allows c start m h f k n j x note lives s i b at in subst (IsStored b.successor)
+        (sym (other_slot s i (Built b) old (λ v d e. absurd cc))) (k.successors.built s i b old);
   }
 
   -- a commit whose link leads to that version is this one
-  only_here : (s i : ℕ) (z v : Version) (d q : CommitNote) → Lives f.ring s i z (Committed d) → (a : Names f.ring z.previous v (Committed q)) → a.seat ≡ s0 → a.slot ≡ k0 → (s ≡ n) × (i ≡ j)
+  only_here : (s i : ℕ) (z v : Version) (d q : CommitNote) → Lives f.ring s i z (Committed d) → (a : Names f.ring z.previous v (Committed q)) → a.seat ≡ s0
+      → a.slot ≡ k0 → (s ≡ n) × (i ≡ j)
   only_here s i z v d q at a e g =
       let one = is_below a.seat a.slot v q a.lives e g in
-      let names : Names f.ring link v (Committed q) = subst (λ (p : Version × CommitNote). Names f.ring link p.0 (Committed p.1)) (λ u. (sym one.0 u, sym one.1 u)) below.2 in
+      let names : Names f.ring link v (Committed q) = subst (λ (p : Version × CommitNote). Names f.ring link p.0 (Committed p.1))
+      (λ u. (sym one.0 u, sym one.1 u)) below.2 in
       above_once starts allows c start m h f k s i n j z x v d note q at lives a names
 
   flags_after : SuccessorFlag super' f.section rings
@@ -226,9 +241,11 @@ module _ (starts : State → Type 0) (allows : List ℕ → State → Writes →
           let one : b ≡ inside = cc in
           let named : Named d ≡ Named naming = sym mode' ∙ ap (λ (q : Section). q.mode) one ∙ mode in cc
 
-      below_here : (s i : ℕ) (z v : Version) (d q : CommitNote) → Lives f.ring s i z (Committed d) → (a : Names f.ring z.previous v (Committed q)) → s ≡ n → i ≡ j → (a.seat ≡ s0) × (a.slot ≡ k0)
+      below_here : (s i : ℕ) (z v : Version) (d q : CommitNote) → Lives f.ring s i z (Committed d) → (a : Names f.ring z.previous v (Committed q)) → s ≡ n
+          → i ≡ j → (a.seat ≡ s0) × (a.slot ≡ k0)
       below_here s i z v d q at a e g =
-          let one = live_once (slot_at (f.ring n) j) z x (Committed d) (Committed note) (subst (λ (p : ℕ × ℕ). Lives f.ring p.0 p.1 z (Committed d)) (λ u. (e u, g u)) at) lives in
+          let one = live_once (slot_at (f.ring n) j) z x (Committed d) (Committed note)
+          (subst (λ (p : ℕ × ℕ). Lives f.ring p.0 p.1 z (Committed d)) (λ u. (e u, g u)) at) lives in
           let place = names_place c h f.ring k.checked k.history.in_time k.positions z.previous v (Committed q) a in
           let same : z.previous ≡ link = ap (λ (p : Version). p.previous) one.0 in
           (sym place.0 ∙ ap link_seat_of same, sym place.1 ∙ ap (slot_named c) same)
@@ -251,22 +268,25 @@ module _ (starts : State → Type 0) (allows : List ℕ → State → Writes →
       (let old : HoldsSlot (m (First n j)) (m (Prev n j)) (λ w. m (Data n j w)) (Live x (Committed note)) =
       subst (HoldsSlot (m (First n j)) (m (Prev n j)) (λ w. m (Data n j w))) lives (k.slot_words n j) in old)
       (λ s i ne. k.slot_words s i) in
-      let or_cut = match_weaker Alike AlikeOrCut f.ring rings alike_or_cut matches in
-      assumption
-      (slot_words, successors_after, flags_after, succeeded_after,
-      in_place_facts starts allows c start m h f k rings or_cut (notes.stays starts allows c start m h f k n j x note lives),
-      same_death_facts starts allows c start m h f k rings (notes.same_death starts allows c start m h f k n j x note lives),
-      same_stamp_facts starts allows c start m h f k rings matches, k)
+      let on = match_weaker Alike LivesOn f.ring rings (λ z st u su a. a.0.0) matches in
+      let same_death = notes.same_death starts allows c start m h f k n j x note lives in
+      let in_place = in_place_facts starts allows c start m h f k rings on (notes.stays starts allows c start m h f k n j x note lives) in
+      let same_death_kept = same_death_facts starts allows c start m h f k rings same_death in
+      let same_stamp = same_stamp_facts starts allows c start m h f k rings matches in
+      assumption (slot_words, successors_after, flags_after, succeeded_after, in_place, same_death_kept, same_stamp, k)
 
-module _ (starts : State → Type 0) (allows : List ℕ → State → Writes → Type 0) (c : Config) (start : State) (v : View) (link time k : ℕ) (x : Version) (note : CommitNote) (may : MayStoreSuper v link time k x note) where
-  pub super_stores : Stores starts allows c start v (Super (link_seat_of link) (slot_named c link)) time (λ w. ((w ≡ super_stored c v link time k x note) × RunsOn v w) × IsKept v w)
+module _ (starts : State → Type 0) (allows : List ℕ → State → Writes → Type 0) (c : Config) (start : State) (v : View) (link time k : ℕ) (x : Version)
+    (note : CommitNote) (may : MayStoreSuper v link time k x note) where
+  pub super_stores : Stores starts allows c start v (Super (link_seat_of link) (slot_named c link)) time (λ w. ((w ≡ super_stored c v link time k x note)
+      × RunsOn v w) × IsKept v w)
   super_stores m h seats facts is own begins =
       let n = v.number in
       let w : View = super_stored c v link time k x note in
       let phase = may.phase in
       let here : Lives (λ s. (seats s).ring) n k x (Committed note) = ap (λ (u : View). slot_at u.ring k) is ∙ may.own in
       let after = super_facts starts allows c start m h (faces_of seats) facts n k x note here may.inside may.naming
-      (section_is starts allows c start m h seats v may.inside facts is phase) (time_is starts allows c start m h seats v may.inside facts is phase) may.mode may.stamped (may.of_commit ∙ sym may.time_is) may.not_yet in
+      (section_is starts allows c start m h seats v may.inside facts is phase)
+      (time_is starts allows c start m h seats v may.inside facts is phase) may.mode may.stamped (may.of_commit ∙ sym may.time_is) may.not_yet in
       let r : Ring = put_slot (seats n).ring k (Live x (Committed (record note { linked = true }))) in
       let link_is = may.link_is in
       let time_now = may.time_is in (
@@ -274,6 +294,7 @@ module _ (starts : State → Type 0) (allows : List ℕ → State → Writes →
         h,
         settle starts allows c start (put m (Super (link_seat_of link) (slot_named c link)) time) h seats n v w is (record unchanged { ring = Some r })
             (refl, refl, refl, refl, refl, refl, refl, ap (λ (u : View). put_slot u.ring k (Live x (Committed (record note { linked = true })))) (sym is), refl, refl, refl)
-            (subst (λ (p : ℕ × ℕ). Facts starts allows c start (put m (Super (link_seat_of p.0) (slot_named c p.0)) p.1) h (changed (faces_of seats) n (record unchanged { ring = Some r }))) (λ i. (link_is i, time_now i)) after),
+            (subst (λ (p : ℕ × ℕ). Facts starts allows c start (put m (Super (link_seat_of p.0) (slot_named c p.0)) p.1) h
+            (changed (faces_of seats) n (record unchanged { ring = Some r }))) (λ i. (link_is i, time_now i)) after),
         ((refl, (λ t first a begun. (a, λ i at opens some. let one : Inside may.inside ≡ Inside i = sym phase ∙ at in let same : may.inside ≡ i = cc in let none : Named may.naming ≡ Open = sym may.mode ∙ ap (λ (q : Section). q.mode) same ∙ opens in absurd cc))), (refl, refl, refl, refl, refl, refl)),
       )

@@ -1,5 +1,7 @@
--- load CLOCK (take time): a section begins, whose time is the clock's, and its seat sees the whole history. Nothing that bounds the times of all sections is above the clock.
-use Rattle.std.proofs.Common.{◌≡◌, ◌<◌, ◌≢◌, ℕ, suc, ◌+◌, ◌≤◌, cond, count_by, List, [], ◌∷◌, length, refl, sym, ap, ◌∙◌, subst, inl, inr, le_refl, arith, Some, None, false}
+-- load CLOCK (take time): a section begins, whose time is the clock's, and its seat sees the whole history. Nothing that bounds the times of all sections is
+-- above the clock.
+use Rattle.std.proofs.Common.{◌≡◌, ◌<◌, ◌≢◌, ℕ, suc, ◌+◌, ◌≤◌, cond, count_by, List, [], ◌∷◌}
+use Rattle.std.proofs.Common.{length, refl, sym, ap, ◌∙◌, subst, inl, inr, le_refl, arith, Some, None, false}
 use Rattle.std.specs.Prelude.{Contains, slice_index_or}
 use Rattle.mv_history.specs.declared.Entry.{Entry}
 use Rattle.mv_history.specs.State.{State, Writes}
@@ -51,7 +53,8 @@ pub holds_none : (r : Ring) → HoldsNothing r → held_count r ≡ 0
 holds_none r none = none_counted r.slots none
 
 module _ (starts : State → Type 0) (allows : List ℕ → State → Writes → Type 0) (c : Config) (start : State) (v : View) (may : MayLoadTime v) where
-  pub time_loads : Loads starts allows c start v Clock (λ n w. (((h : List Entry) × IsWhole c v n h × (w ≡ time_loaded c v n h)) × IsWord c n × HoldsNothing w.ring) × IsKept v w)
+  pub time_loads : Loads starts allows c start v Clock (λ n w. (((h : List Entry) × IsWhole c v n h × (w ≡ time_loaded c v n h)) × IsWord c n
+      × HoldsNothing w.ring) × IsKept v w)
   time_loads m h seats old is own begins small =
       let clock = m Clock in
       let n = v.number in
@@ -70,16 +73,19 @@ module _ (starts : State → Type 0) (allows : List ℕ → State → Writes →
       let master : ℕ → ℕ → ℕ = λ o j. m (Master o j) in
       let sets = k.write_sets in
       let late : c.base + length h ≤ now = (let l = k.history.long in omega arith) in
-      let nothing : HoldsNothing (seats n).ring = λ j y lives. let r = k.open_section.held n j y lives in let e : None ≡ Some r.0 = sym no_section ∙ r.1 in absurd (cc) in
+      let nothing : HoldsNothing (seats n).ring = λ j y lives. let r = k.open_section.held n j y lives in let e : None ≡ Some r.0 =
+      sym no_section ∙ r.1 in absurd (cc) in
       let not_inside : (i : Section) → section_of (seats n).phase ≡ Some i → ⊥ = λ i e. let g : None ≡ Some i = sym no_section ∙ e in cc in
       let same_inside : (i : Section) → Some inside ≡ Some i → inside ≡ i = λ i e. cc in
       let unnamed : (i : Section) → Some inside ≡ Some i → IsUnnamed i.mode = λ i e. subst (λ (s : Section). IsUnnamed s.mode) (same_inside i e) tt in
       let this = this_word c clock k.loaded_words.clock_is in
-      let helped_done : (word : ℕ) → Contains (if_none clock) word → IsDone clock stamp word = if_none_all (IsDone clock stamp) clock (λ none. inr (inl none)) in
+      let helped_done : (word : ℕ) → Contains (if_none clock) word → IsDone clock stamp word =
+      if_none_all (IsDone clock stamp) clock (λ none. inr (inl none)) in
       let words_of_all = loaded_after c clock stamp f.heard n f.section (become f.section n (Some inside)) x refl
       (one_more_word (WasClock c clock) [] clock (λ u has. none_in u has) this)
       (if_none_all (WasClock c clock) clock (λ _. this))
-      (inside_after c clock stamp f.heard n f.section (Some inside) (λ i e. subst (λ (s : Section). WasClock c clock s.word) (same_inside i e) this) k.loaded_words)
+      (inside_after c clock stamp f.heard n f.section (Some inside)
+      (λ i e. subst (λ (s : Section). WasClock c clock s.word) (same_inside i e) this) k.loaded_words)
       k.loaded_words in
       let helped_all = helped_after c clock stamp f.heard n x helped_done k.helped_words in
       let front : BeginsWith h v.past.seen = subst (λ (u : View). BeginsWith h u.past.seen) is (old.history.seats n).seen in
@@ -93,10 +99,10 @@ module _ (starts : State → Type 0) (allows : List ℕ → State → Writes →
       let naming : (s j : ℕ) (y : Version) (note : CommitNote) → Lives f.ring s j y (Committed note) → note.cut ≡ false → m (Super s j) ≡ 0
       → (next : ℕ) → IsNextWrite c.base h y.object note.time next → IsNaming (become f.section n (Some inside)) next (λ _. Unit {0}) =
       λ s j y note lives uncut zero_is next is_next.
-          let by = k.successors.unfinished s j y note lives uncut zero_is next is_next in
-          let ne : by.seat ≢ n = λ e. not_inside by.inside (ap f.section (sym e) ∙ by.in_section) in
-          record { seat = by.seat; inside = by.inside; naming = by.naming; in_section = become_else f.section n (Some inside) by.seat ne ∙ by.in_section;
-          mode = by.mode; time_is = by.time_is; known = tt } in
+      let by = k.successors.unfinished s j y note lives uncut zero_is next is_next in
+      let ne : by.seat ≢ n = λ e. not_inside by.inside (ap f.section (sym e) ∙ by.in_section) in
+      let there = become_else f.section n (Some inside) by.seat ne ∙ by.in_section in
+      record { seat = by.seat; inside = by.inside; naming = by.naming; in_section = there; mode = by.mode; time_is = by.time_is; known = tt } in
       let unfinished = more.unfinished_more c h f.ring f.section n (Some inside) unnamed stamp (λ i naming e mode unset. not_inside i e)
       k.unstamped_is_unfinished in
       let opened = more.open_more c h f.ring f.section n (Some inside) unnamed nothing
@@ -114,31 +120,33 @@ module _ (starts : State → Type 0) (allows : List ℕ → State → Writes →
       (λ ne e. old.phases_and_scan.seen s u e) in
       let within : (s u : ℕ) → become f.time n (Some now) s ≡ Some u → s < c.seats =
       λ s u. by_seat s n (λ b. cond b (Some now) (f.time s) ≡ Some u → s < c.seats) (λ same e. subst (λ (x : ℕ). x < c.seats) (sym same) own)
-      (λ ne e. k.phases_and_scan.within s u e) in (
+      (λ ne e. k.phases_and_scan.within s u e) in
+      let begun = record unchanged { past = Some p; phase = Some (Inside inside); section = Some (Some inside); time = Some (Some now) } in (
         w,
         settle starts allows c start m h seats n v w is
-            (record unchanged { past = Some p; phase = Some (Inside inside); section = Some (Some inside); time = Some (Some now); heard = Some x;
-            walk = Some Nowhere; back = Some None })
+            (record begun { heard = Some x; walk = Some Nowhere; back = Some None })
             (ap (λ (u : View). record u.past { seen = h }) (sym is), refl, refl, refl, refl, refl, refl, refl, refl, refl, refl)
-            (assumption
-            (helped_all, marks, past_helped, naming, unfinished, opened, words_of_all, backs, scanning, outside, seen, within,
-            more.grace_more c start h f.ring sets f.time n (Some now) late clock (m Grace) f.grace f.scan k.history.long k.grace,
-            more.freshness_more c start h f.ring sets f.time n (Some now) late nothing k.lock_freshness,
-            more.master_more c start h f.ring sets f.time n (Some now) late master k.present_master,
-            more.foot_more c start h f.ring sets f.time n (Some now) late master k.chain_foot,
-            more.place_more c start h f.ring sets f.time n (Some now) late f.walk master k.walker_place,
-            more.before_death_more c start h f.ring sets f.time n (Some now) late f.walk k.walker_before_death,
-            more.knowledge_more c start h f.ring sets f.time n (Some now) late f.walk f.section f.heard (Some inside) x k.walker_knowledge,
-            more.falls_more c start h f.ring sets f.time n (Some now) late f.walk stamp k.walker_falls,
-            more.late_more c start h f.ring sets f.time n (Some now) late f.walk k.walker_late,
-            found_after c clock stamp f.heard n f.ring x refl k.found_stamp, more.named_more c h f.ring f.section n (Some inside) unnamed stamp k.named_commit,
-            more.flag_more c h f.ring f.section n (Some inside) unnamed super k.successor_flag,
-            more.cut_more c start h f.ring sets f.time n (Some now) late k.cut_is_old, k)),
+            (let grace_more = more.grace_more c start h f.ring sets f.time n (Some now) late clock (m Grace) f.grace f.scan k.history.long k.grace in
+            let freshness_more = more.freshness_more c start h f.ring sets f.time n (Some now) late nothing k.lock_freshness in
+            let master_more = more.master_more c start h f.ring sets f.time n (Some now) late master k.present_master in
+            let foot_more = more.foot_more c start h f.ring sets f.time n (Some now) late master k.chain_foot in
+            let place_more = more.place_more c start h f.ring sets f.time n (Some now) late f.walk master k.walker_place in
+            let before_death_more = more.before_death_more c start h f.ring sets f.time n (Some now) late f.walk k.walker_before_death in
+            let knowledge_more = more.knowledge_more c start h f.ring sets f.time n (Some now) late f.walk f.section f.heard (Some inside) x
+            k.walker_knowledge in
+            let falls_more = more.falls_more c start h f.ring sets f.time n (Some now) late f.walk stamp k.walker_falls in
+            let late_more = more.late_more c start h f.ring sets f.time n (Some now) late f.walk k.walker_late in
+            let found = found_after c clock stamp f.heard n f.ring x refl k.found_stamp in
+            let named_more = more.named_more c h f.ring f.section n (Some inside) unnamed stamp k.named_commit in
+            let flag_more = more.flag_more c h f.ring f.section n (Some inside) unnamed super k.successor_flag in
+            let cut_more = more.cut_more c start h f.ring sets f.time n (Some now) late k.cut_is_old in
+            assumption (k)),
         (((h, (front, k.history.long), refl), k.loaded_words.clock_is, subst (λ (u : View). HoldsNothing u.ring) is nothing), (refl, refl, refl, refl, refl, refl)),
       )
 
 -- what a pass has at run time in the section that begins
-pub time_runs : (c : Config) (v w : View) (word time first : ℕ) (h : List Entry) → w ≡ time_loaded c v word h → HoldsNothing w.ring → time ≡ clock_time_of word → IsTimed time w × IsBegun first w
+pub time_runs : (c : Config) (v w : View) (word time first : ℕ) (h : List Entry) → w ≡ time_loaded c v word h → HoldsNothing w.ring → time ≡ clock_time_of word
+    → IsTimed time w × IsBegun first w
 time_runs c v w word time first h e none is =
     let inside : Section = record { low = low_of v.phase; word = word; mode = Open } in
     let phase : w.phase ≡ Inside inside = ap (λ (u : View). u.phase) e in (

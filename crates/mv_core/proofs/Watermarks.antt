@@ -23,7 +23,8 @@ pub lower_not_above : (a b : ℕ) (t : Option ℕ) → b ≤ a → NotAbove a t 
 lower_not_above a b None le x = tt
 lower_not_above a b (Some u) le x = let l : a ≤ u = x in omega arith
 
-module _ (starts : State → Type 0) (allows : List ℕ → State → Writes → Type 0) (c : Config) (start : State) (m : Memory) (h : List Entry) (f : Faces) (k : Facts starts allows c start m h f) (n g : ℕ) (up : f.grace n ≤ g) (below : (g ≤ clock_time_of (m Clock)) × NotAboveAny g f.time) where
+module _ (starts : State → Type 0) (allows : List ℕ → State → Writes → Type 0) (c : Config) (start : State) (m : Memory) (h : List Entry) (f : Faces)
+    (k : Facts starts allows c start m h f) (n g : ℕ) (up : f.grace n ≤ g) (below : (g ≤ clock_time_of (m Clock)) × NotAboveAny g f.time) where
   abbrev t : Faces
   t = changed f n (record unchanged { grace = Some g })
 

@@ -13,7 +13,8 @@ use Rattle.mv_core.proofs.Frames.{become_all, unchanged, changed}
 use Rattle.mv_core.proofs.SeenDeaths.{sees_on}
 use Rattle.mv_core.proofs.SeenMore.{sees_more}
 
-module _ (starts : State → Type 0) (allows : List ℕ → State → Writes → Type 0) (c : Config) (start : State) (m : Memory) (h : List Entry) (f : Faces) (k : Facts starts allows c start m h f) (n : ℕ) where
+module _ (starts : State → Type 0) (allows : List ℕ → State → Writes → Type 0) (c : Config) (start : State) (m : Memory) (h : List Entry) (f : Faces)
+    (k : Facts starts allows c start m h f) (n : ℕ) where
   abbrev p : Past
   p = record (f.past n) { seen = h }
 

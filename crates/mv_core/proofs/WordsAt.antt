@@ -1,5 +1,6 @@
 -- The words of an object at a time are those of its last write up to then.
-use Rattle.std.proofs.Common.{◌≡◌, ℕ, zero, suc, ◌+◌, ◌-◌, ◌<◌, ◌≤◌, Bool, true, false, List, [], ◌∷◌, ◌++◌, length, take, drop, Some, slice_get, sym, refl, ap, ◌∙◌, subst, arith, take-suc}
+use Rattle.std.proofs.Common.{◌≡◌, ℕ, zero, suc, ◌+◌, ◌-◌, ◌<◌, ◌≤◌, Bool, true, false, List, []}
+use Rattle.std.proofs.Common.{◌∷◌, ◌++◌, length, take, drop, Some, slice_get, sym, refl, ap, ◌∙◌, subst, arith, take-suc}
 use Rattle.std.proofs.lemmas.Option.{slice_get_within, get_or_from_slice_get}
 use Rattle.mv_history.specs.declared.Entry.{Entry}
 use Rattle.mv_history.specs.declared.Commit.{Commit}
@@ -30,7 +31,8 @@ words-unwritten s (e ∷ es) o none =
     let parts = one_more-none (writes_to o e) (last_that (writes_to o) es) none in
     words-unwritten (written s (writes_of e)) es o parts.1 ∙ words-written_other s (writes_of e) o parts.0
 
-words-take : (s : State) (h : List Entry) (a b o : ℕ) → a ≤ b → last_that (writes_to o) (take b h) ≤ a → words_at (state_after s (take b h)) o ≡ words_at (state_after s (take a h)) o
+words-take : (s : State) (h : List Entry) (a b o : ℕ) → a ≤ b → last_that (writes_to o) (take b h) ≤ a
+    → words_at (state_after s (take b h)) o ≡ words_at (state_after s (take a h)) o
 words-take s h zero b o le within = words-unwritten s (take b h) o (omega arith)
 words-take s h (suc a) zero o le within = absurd (omega arith)
 words-take s [] (suc a) (suc b) o le within = refl
@@ -57,14 +59,16 @@ module _ (c : Config) (start : State) (h : List Entry) where
         let low = is.0 in
         let longer : t - c.base ≡ suc j = omega arith in
         let whole : take (suc j) h ≡ take j h ++ Change commit ∷ [] =
-        take-suc h j (Change commit) (slice_get_within h j (Change commit) is.1) ∙ ap (λ e. take j h ++ e ∷ []) (get_or_from_slice_get h j (Change commit) (Change commit) is.1) in
+        take-suc h j (Change commit) (slice_get_within h j (Change commit) is.1) ∙
+        ap (λ e. take j h ++ e ∷ []) (get_or_from_slice_get h j (Change commit) (Change commit) is.1) in
         ap (λ n. state_after start (take n h)) longer ∙ ap (state_after start) whole ∙ state_after-append start (take j h) (Change commit ∷ [])
 
     pub words_of-written : (i o : ℕ) (words : List ℕ) → slice_get commit.writes i ≡ Some (o, words) → words_of c start h t o ≡ words
     words_of-written i o words at =
         let before : State = state_after start (take (t - (c.base + 1)) h) in
         let there = get_or_from_slice_get commit.writes i (o, words) (o, words) at in
-        let range : o < length before = subst (λ n. o < n) (sym (length-state_after start (take (t - (c.base + 1)) h))) (next_is.within o (write_touches commit.writes i o words at)) in
+        let range : o < length before = subst (λ n. o < n) (sym (length-state_after start (take (t - (c.base + 1)) h)))
+        (next_is.within o (write_touches commit.writes i o words at)) in
         ap (λ s. words_at s o) state_is
         ∙ words-written_same before commit.writes i o (o, words) next_is.distinct (slice_get_within commit.writes i (o, words) at) (ap (λ w. w.0) there) range
         ∙ ap (λ w. w.1) there

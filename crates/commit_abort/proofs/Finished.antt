@@ -26,6 +26,7 @@ use Rattle.mv_core.proofs.Links.{live_once}
 use Rattle.mv_core.proofs.Commits.{new_note, committed_was}
 use Rattle.mv_core.proofs.HeldSet.{writes_length}
 use Rattle.mv_core.proofs.Slots.{slot_mapped}
+use Rattle.reader_marks.specs.Sections.{inside_of, section_in}
 use Rattle.seat_log.specs.declared.version.Note.{Note}
 use Rattle.seat_log.specs.Notes.{Noted, held_from, IsNoteAt, committed_noted}
 use Rattle.seat_log.specs.Stands.{version_of, Stands}
@@ -33,7 +34,7 @@ use Rattle.seat_log.proofs.NotedSlots.{noted_in, held_last, held_at}
 use Rattle.seat_log.proofs.PlainSteps.{LeavesLog, frees_left, cuts_left}
 use Rattle.seat_log.proofs.Ended.{HasEnded}
 use Rattle.seat_log.proofs.Commits.{commit_ends, ends_linked, stands_committed}
-use Rattle.commit_abort.specs.Finishes.{WonNaming, section_of_phase, section_in, first_of_mode, first_named, IsJustNamed, HasNamed, StampsIt, AreCommitted, IsLinkedToo, Tells, IsFinishStep, Finishes}
+use Rattle.commit_abort.specs.Finishes.{WonNaming, first_of_mode, first_named, IsJustNamed, HasNamed, StampsIt, AreCommitted, IsLinkedToo, Tells, IsFinishStep, Finishes}
 
 module _ (c : Config) (w : View) (l : Noted) (won : WonNaming) (k : IsJustNamed c w l won) where
   abbrev v : View
@@ -179,7 +180,7 @@ module _ (c : Config) (w : View) (l : Noted) (won : WonNaming) (k : IsJustNamed 
     named_phase = has_named
 
     now_in : section_in w ≡ record won.inside { mode = Named (record { time = t; first = set_first v.ring; stamped = false }) }
-    now_in = ap section_of_phase named_phase
+    now_in = ap inside_of named_phase
 
     pub may_stamp : HasNamed w first time (section_in w)
     may_stamp = named_phase ∙ (λ i. Inside (record (sym now_in i) { mode = Named (record { time = sym time_is i; first = sym at i; stamped = false }) }))
@@ -194,7 +195,7 @@ module _ (c : Config) (w : View) (l : Noted) (won : WonNaming) (k : IsJustNamed 
 
       pub may_tell_below : (x.phase ≡ Inside (record (section_in x) { mode = Named (record { time = time; first = first_named x; stamped = true }) })) × AreCommitted c x l time
       may_tell_below =
-          let inside : section_in x ≡ record won.inside { mode = Named (record { time = t; first = set_first v.ring; stamped = true }) } = ap section_of_phase now_stamps.phase in
+          let inside : section_in x ≡ record won.inside { mode = Named (record { time = t; first = set_first v.ring; stamped = true }) } = ap inside_of now_stamps.phase in
           let from : first_named x ≡ set_first v.ring = ap (λ (s : Section). first_of_mode s.mode) inside in (
             now_stamps.phase ∙ (λ i. Inside (record (sym inside i) { mode = Named (record { time = sym time_is i; first = sym from i; stamped = true }) })),
             subst (AreCommitted c x l) (sym time_is) (committed_still x now_stamps),

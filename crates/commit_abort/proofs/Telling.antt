@@ -27,9 +27,10 @@ use Rattle.mv_core.proofs.Slots.{slot_here, slot_else, live_within}
 use Rattle.seat_log.specs.declared.version.Note.{Note}
 use Rattle.seat_log.specs.Notes.{Noted, held_from, IsNoteAt}
 use Rattle.seat_log.specs.Stands.{version_of}
+use Rattle.seat_log.specs.Builds.{version_in, note_in}
 use Rattle.seat_log.proofs.Places.{get_within}
 use Rattle.seat_log.proofs.NotedSlots.{places_apart}
-use Rattle.commit_abort.specs.Finishes.{CommittedSlot, AreCommitted, IsLinkedToo, above_at, version_in, note_in, MayTell, TellsOne, Tells}
+use Rattle.commit_abort.specs.Finishes.{CommittedSlot, AreCommitted, IsLinkedToo, above_at, MayTell, TellsOne, Tells}
 
 module _ (c : Config) (v : View) (l : Noted) (time : ℕ) (k : AreCommitted c v l time) where
   -- the slot of a place in the log

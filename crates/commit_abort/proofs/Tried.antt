@@ -1,5 +1,5 @@
 -- What a commit knows after each of its steps.
-use Rattle.std.proofs.Common.{◌≡◌, ℕ, ◌+◌, ◌-◌, ◌<◌, ◌≤◌, if◌then◌else◌, Bool, false, List, [], ◌∷◌, ◌++◌, length, take, refl, sym, ap, ◌∙◌, subst, ⊎_elim, arith, append_assoc, All, Some, None}
+use Rattle.std.proofs.Common.{◌≡◌, ℕ, ◌+◌, ◌-◌, ◌<◌, ◌≤◌, if◌then◌else◌, Bool, false, List, [], ◌∷◌, ◌++◌, length, take, refl, sym, ap, ◌∙◌, subst, arith, append_assoc, All, Some, None}
 use Rattle.std.specs.Prelude.{Contains}
 use Rattle.std.proofs.Math.Logic.{∥∥₁_elim}
 use Rattle.std.proofs.Math.Bridge.{le_prop}
@@ -21,7 +21,7 @@ use Rattle.mv_core.specs.declared.view.View.{View}
 use Rattle.mv_core.specs.declared.view.Past.{Past}
 use Rattle.mv_core.specs.declared.view.Phase.TheVariants.{Inside}
 use Rattle.mv_core.specs.declared.view.Section.{Section}
-use Rattle.mv_core.specs.declared.view.Mode.TheVariants.{Open, Named}
+use Rattle.mv_core.specs.declared.view.Mode.TheVariants.{Open}
 use Rattle.mv_core.specs.Rings.{held_count, own_of}
 use Rattle.mv_core.specs.Views.{time_in}
 use Rattle.mv_core.specs.HistoryFacts.{BeginsWith}
@@ -31,18 +31,13 @@ use Rattle.mv_core.specs.Known.{Known}
 use Rattle.mv_core.specs.NameSteps.{LogTold, commit_of, MayNameCommit, commit_named}
 use Rattle.mv_core.proofs.Fronts.{begins_by, begins_long}
 use Rattle.commit_clock.specs.Helps.{HasLoaded, IsHelpStep, Helps}
+use Rattle.commit_clock.proofs.HelpedPhase.{still_open}
+use Rattle.commit_clock.proofs.HelpKinds.{help_kind}
 use Rattle.seat_log.specs.Notes.{Noted}
 use Rattle.seat_log.specs.Stands.{Stands}
 use Rattle.seat_log.proofs.PlainSteps.{LeavesLog, one_leaves, stands_left}
 use Rattle.commit_abort.specs.Commits.{MayCommit, LoadsClock, IsKept, IsAtEnd}
 use Rattle.commit_abort.specs.Finishes.{WonNaming, IsJustNamed}
-
--- what holds of each kind of step of a help holds of all
-help_kind : (P : StepKind → Type 0) → P LoadNamed → P LoadCheck → P SwapStamp → (k : StepKind) → IsHelpStep k → P k
-help_kind P a b d LoadNamed h = a
-help_kind P a b d LoadCheck h = b
-help_kind P a b d SwapStamp h = d
-help_kind P a b d _ h = absurd h
 
 -- steps with no commit exchange
 pub no_exchange : (steps : List Step) → All (λ s. is_commit_exchange s.kind ≡ false) steps → commit_exchanges steps ≡ []
@@ -81,18 +76,8 @@ module _ (c : Config) (v x : View) (word : ℕ) (h0 : List Entry) (whole : IsWho
       (ap (λ (u : View). u.past.rests) is) (load ∷ []) (ap (λ (u : View). u.trail) is) (one_leaves load (refl, refl))
 
   module _ (y : View) (helps : Helps c x y word) (open_is : inside.mode ≡ Open) where
-    phase_first : x.phase ≡ Inside inside
-    phase_first = ap (λ (u : View). u.phase) is ∙ phase
-
     pub phase_next : y.phase ≡ Inside inside
-    phase_next =
-        ⊎_elim
-        (λ same. same ∙ phase_first)
-        (λ own.
-        let both : Inside own.inside ≡ Inside inside = sym own.phase ∙ phase_first in
-        let one : own.inside ≡ inside = cc in
-        let other : Named own.naming ≡ Open = sym own.mode ∙ ap (λ (s : Section). s.mode) one ∙ open_is in absurd cc)
-        helps.phase
+    phase_next = still_open c x y word inside (ap (λ (u : View). u.phase) is ∙ phase) open_is helps
 
     pub ring_next : y.ring ≡ v.ring
     ring_next = ap (λ (u : View). u.ring) helps.rest ∙ ap (λ (u : View). u.ring) is

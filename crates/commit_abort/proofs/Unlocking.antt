@@ -23,12 +23,13 @@ use Rattle.mv_core.specs.Views.{IsUnnamed}
 use Rattle.mv_core.specs.Known.{Known}
 use Rattle.mv_core.specs.LockSteps.{MayUnlock, head_unlocked}
 use Rattle.mv_core.proofs.Slots.{slot_here, slot_else, live_within}
+use Rattle.reader_marks.specs.Sections.{inside_of}
 use Rattle.seat_log.specs.declared.version.Note.{Note}
 use Rattle.seat_log.specs.Notes.{Noted, held_from, IsNoteAt}
 use Rattle.seat_log.specs.Stands.{version_of, Stands}
+use Rattle.seat_log.specs.Builds.{version_in}
 use Rattle.seat_log.proofs.Places.{get_within}
 use Rattle.seat_log.proofs.NotedSlots.{apart, held_at}
-use Rattle.commit_abort.specs.Finishes.{version_in, section_of_phase}
 use Rattle.commit_abort.specs.Aborts.{IsOpen, HeldSlot, IsAbortedToo, Unlocks, held_in, MayGiveBack, GivesBack}
 
 module _ (c : Config) (v : View) (l : Noted) (inside : Section) (k : Stands c v l) (open_is : IsOpen v inside) where
@@ -63,7 +64,7 @@ module _ (c : Config) (v : View) (l : Noted) (inside : Section) (k : Stands c v 
     here = t.left i (omega arith) within ∙ before
 
     held_is : held_in w (slot_of i) ≡ record { slot = slot_of i; version = version_of n; inside = t.inside_now }
-    held_is = λ j. record { slot = slot_of i; version = version_in (here j); inside = section_of_phase (t.phase j) }
+    held_is = λ j. record { slot = slot_of i; version = version_in (here j); inside = inside_of (t.phase j) }
 
     pub may_give : (starts : State → Type 0) (allows : List ℕ → State → Writes → Type 0) → ∥ Known starts allows v ∥₁ → length v.start ≡ c.objects → MayGiveBack c w n (held_in w (slot_of i))
     may_give starts allows known objects =

@@ -17,9 +17,10 @@ use Rattle.mv_core.specs.Rings.{slot_at, index_of}
 use Rattle.mv_core.specs.Views.{heard_nothing, IsUnnamed}
 use Rattle.mv_core.specs.HistoryFacts.{BeginsWith}
 use Rattle.mv_core.specs.LockSteps.{MayUnlock, head_unlocked}
+use Rattle.reader_marks.specs.Sections.{section_in}
 use Rattle.seat_log.specs.declared.version.Note.{Note}
 use Rattle.seat_log.specs.Notes.{Noted, held_from}
-use Rattle.commit_abort.specs.Finishes.{section_in, version_in}
+use Rattle.seat_log.specs.Builds.{version_in}
 
 -- an open section
 pub record IsOpen (v : View) (inside : Section) : Type 0 where

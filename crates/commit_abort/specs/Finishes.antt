@@ -11,7 +11,6 @@ use Rattle.mv_core.specs.declared.ring.Version.{Version}
 use Rattle.mv_core.specs.declared.ring.Status.TheVariants.{Committed}
 use Rattle.mv_core.specs.declared.ring.CommitNote.{CommitNote}
 use Rattle.mv_core.specs.declared.view.View.{View}
-use Rattle.mv_core.specs.declared.view.Phase.{Phase}
 use Rattle.mv_core.specs.declared.view.Phase.TheVariants.{Outside, Inside}
 use Rattle.mv_core.specs.declared.view.Mode.{Mode}
 use Rattle.mv_core.specs.declared.view.Section.{Section}
@@ -21,9 +20,11 @@ use Rattle.mv_core.specs.Rings.{slot_at, index_of, HoldsNothing, held_count}
 use Rattle.mv_core.specs.Views.{heard_nothing}
 use Rattle.mv_core.specs.WalkSteps.{IsPackedOf, IsLinkOf}
 use Rattle.mv_core.specs.NameSteps.{LogTold, commit_named, MayStoreSuper, super_stored}
+use Rattle.reader_marks.specs.Sections.{section_in}
 use Rattle.seat_log.specs.declared.version.Note.{Note}
 use Rattle.seat_log.specs.Notes.{Noted, held_from, IsNoteAt}
 use Rattle.seat_log.specs.Stands.{version_of, Stands}
+use Rattle.seat_log.specs.Builds.{version_in, note_in}
 
 -- a won exchange of CLOCK for a commit: the view before it, its section, the tag, the word that was expected, and the whole history before it
 pub record WonNaming : Type 0 where
@@ -42,14 +43,7 @@ pub record IsJustNamed (c : Config) (w : View) (l : Noted) (won : WonNaming) : T
   pub stands : Stands c won.before l
   pub unbuilt : l.built ≡ None
 
--- the section that a view is in, and the first position of the commit that it has named; they tell nothing of a view in none
-abbrev pub section_of_phase : Phase → Section
-section_of_phase (Inside inside) = inside
-section_of_phase _ = record { low = 0; word = 0; mode = Open }
-
-abbrev pub section_in : View → Section
-section_in v = section_of_phase v.phase
-
+-- the first position of the commit that the section of a view has named; it tells nothing of one that has named none
 abbrev pub first_of_mode : Mode → ℕ
 first_of_mode (Named n) = n.first
 first_of_mode _ = 0
@@ -83,15 +77,6 @@ pub record AreCommitted (c : Config) (v : View) (l : Noted) (time : ℕ) : Type 
   pub round : length l.live ≤ c.slots
   pub wide : length v.ring.slots ≡ c.slots
   pub nothing : HoldsNothing v.ring
-
--- the version in a slot, and what is noted of its commit; they tell nothing of a slot without one
-abbrev pub version_in : Slot → Version
-version_in (Live x st) = x
-version_in _ = record { position = 0; first = 0; object = 0; previous = 0; words = [] }
-
-abbrev pub note_in : Slot → CommitNote
-note_in (Live x (Committed note)) = note
-note_in _ = record { time = 0; dead = None; cut = false; linked = false }
 
 -- a slot of the own log, the committed version that it has, and what is noted of its commit
 pub record CommittedSlot : Type 0 where

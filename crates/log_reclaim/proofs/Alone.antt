@@ -6,6 +6,7 @@ use Rattle.mv_history.specs.declared.Step.{Step}
 use Rattle.mv_layout.specs.declared.Config.{Config}
 use Rattle.mv_core.specs.declared.view.View.{View}
 use Rattle.mv_core.specs.Known.{Known}
+use Rattle.mv_core.proofs.OwnEntries.{own_seen}
 use Rattle.reader_marks.specs.declared.scanning.Watermark.{Watermark}
 use Rattle.seat_log.specs.declared.version.Note.{Note}
 use Rattle.seat_log.specs.Notes.{Noted, IsNoteAt}
@@ -18,7 +19,6 @@ use Rattle.log_reclaim.specs.Sweeps.{Sweeps, found_at}
 use Rattle.log_reclaim.specs.Tidies.{RestsSo}
 use Rattle.log_reclaim.proofs.ScanCauses.{low_known, marked_cause}
 use Rattle.log_reclaim.proofs.Reclaiming.{reclaims_number, reclaims_base}
-use Rattle.log_reclaim.proofs.Others.{own_seen}
 use Rattle.log_reclaim.proofs.TidyDeaths.{at_before, death_next}
 
 module _ (c : Config) (one : c.seats ≡ 1) where

@@ -11,6 +11,7 @@ use Rattle.mv_core.specs.declared.view.View.{View}
 use Rattle.mv_core.specs.Times.{latest, latest_at}
 use Rattle.mv_core.specs.Known.{Known}
 use Rattle.mv_core.proofs.Latest.{latest_at-mono, latest_at-latest}
+use Rattle.mv_core.proofs.Fronts.{latest_at-more}
 use Rattle.reader_marks.specs.declared.scanning.Watermark.{Watermark}
 use Rattle.seat_log.specs.declared.version.Note.{Note}
 use Rattle.seat_log.specs.Notes.{Noted, IsNoteAt, retired}
@@ -26,7 +27,6 @@ use Rattle.log_reclaim.specs.Tries.{MaySettle, Makes, LoadsSuper, TriesOne}
 use Rattle.log_reclaim.specs.Sweeps.{found_at, IsTableOf, SettlesOne}
 use Rattle.log_reclaim.proofs.Idle.{still_of}
 use Rattle.log_reclaim.proofs.Reclaiming.{makes_none, makes_on, reclaims_number, reclaims_base, reclaims_more}
-use Rattle.log_reclaim.proofs.Seen.{latest_at-more}
 use Rattle.log_reclaim.proofs.Untimed.{times_then, untimed_on}
 use Rattle.log_reclaim.proofs.OneNote.{position_is, place_is, one_note, committed}
 use Rattle.log_reclaim.proofs.FoundSeats.{found_set, table_set, found_here, found_else}

@@ -20,7 +20,8 @@ use Rattle.seat_log.specs.Stands.{Stands}
 use Rattle.seat_log.proofs.PlainSteps.{LeavesLog, stands_left}
 use Rattle.log_reclaim.specs.Parts.{NamesNoCommit, BeginsNoScan, LeavesClock, IsOtherKind, Reclaims, HasScanned}
 use Rattle.log_reclaim.specs.Tries.{Makes}
-use Rattle.log_reclaim.proofs.Reclaiming.{begins_long}
+use Rattle.mv_core.proofs.Fronts.{begins_long}
+use Rattle.log_reclaim.proofs.Reclaiming.{reclaims_outside}
 use Rattle.log_reclaim.proofs.ScanCauses.{after_clock_all}
 
 -- a load of GRACE
@@ -33,28 +34,13 @@ one_kind P s p = All-cons (λ (x : Step). P x.kind) s [] p (All-nil (λ (x : Ste
 module _ (c : Config) (v w : View) (found : ℕ) (is : w ≡ grace_loaded c v found) where
   pub grace_makes : MayLoadLow v → (v.walk ≡ Nowhere) × (v.back ≡ None) → Makes v w (grace_load c found ∷ [])
   grace_makes may still = record {
-    reclaims = record {
-      outside = ap (λ (x : View). x.phase) is ∙ may.outside;
-      no_scan = ap (λ (x : View). x.scan) is ∙ may.no_scan;
-      seen = ([], ap (λ (x : View). x.past.seen) is ∙ sym (append-nil v.past.seen));
-      mine = ap (λ (x : View). x.past.mine) is;
-      grace = (let e : w.grace ≡ max v.grace found = ap (λ (x : View). x.grace) is in omega arith);
-      trail = ap (λ (x : View). x.trail) is;
-      kinds = one_kind NamesNoCommit (grace_load c found) tt;
-      rest = is
-          ∙ (λ i. record v {
-            past = sym (ap (λ (x : View). x.past) is) i;
-            phase = may.outside i;
-            heard = sym (ap (λ (x : View). x.heard) is) i;
-            walk = still.0 i;
-            empty = sym (ap (λ (x : View). x.empty) is) i;
-            ring = sym (ap (λ (x : View). x.ring) is) i;
-            back = still.1 i;
-            scan = may.no_scan i;
-            grace = sym (ap (λ (x : View). x.grace) is) i;
-            trail = sym (ap (λ (x : View). x.trail) is) i;
-          });
-    };
+    reclaims = reclaims_outside v w (grace_load c found ∷ []) may still
+        (ap (λ (x : View). record x { past = w.past; heard = w.heard; empty = w.empty; ring = w.ring; grace = w.grace; trail = w.trail }) is)
+        ([], ap (λ (x : View). x.past.seen) is ∙ sym (append-nil v.past.seen))
+        (ap (λ (x : View). x.past.mine) is)
+        (let e : w.grace ≡ max v.grace found = ap (λ (x : View). x.grace) is in omega arith)
+        (ap (λ (x : View). x.trail) is)
+        (one_kind NamesNoCommit (grace_load c found) tt);
     rests = ap (λ (x : View). x.past.rests) is;
     kinds = one_kind IsOtherKind (grace_load c found) tt;
   }

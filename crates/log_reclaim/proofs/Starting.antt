@@ -25,19 +25,18 @@ use Rattle.mv_core.specs.Known.{Known}
 use Rattle.mv_core.proofs.Latest.{latest_at-latest}
 use Rattle.mv_core.proofs.Links.{link_some, live_once, note_once}
 use Rattle.reader_marks.specs.declared.scanning.Watermark.{Watermark}
-use Rattle.reader_marks.specs.Sections.{Begins, IsOpen}
+use Rattle.reader_marks.specs.Sections.{Begins, IsOpen, inside_of, section_in}
 use Rattle.seat_log.specs.declared.version.Note.{Note}
 use Rattle.seat_log.specs.Notes.{Noted, IsNoteAt, IsLog}
 use Rattle.seat_log.specs.Stands.{version_of, Stands}
 use Rattle.seat_log.proofs.Places.{get_within}
 use Rattle.seat_log.proofs.PlainSteps.{stands_entered}
 use Rattle.seat_log.proofs.Retired.{committed_at}
+use Rattle.seat_log.proofs.NotedSlots.{noted_in}
 use Rattle.log_reclaim.specs.declared.writing_back.Back.{Back}
 use Rattle.log_reclaim.specs.declared.writing_back.NoBack.{NoBack}
 use Rattle.log_reclaim.specs.declared.writing_back.NoBack.TheVariants.{Gone, Above}
 use Rattle.log_reclaim.specs.Backs.{IsCommitted, IsWriting, HasLooked, LeavesAt, HasLater, StartsSo}
-use Rattle.log_reclaim.proofs.NotedSlots.{note_of_slot}
-use Rattle.log_reclaim.proofs.Picks.{inside_of, section_in}
 
 -- the note of a place is one
 note_once_at : (l : Noted) (i j : ℕ) (x n : Note) → IsNoteAt l i x → IsNoteAt l j n → i ≡ j → x ≡ n
@@ -205,14 +204,14 @@ module _ (c : Config) (v e : View) (l : Noted) (position : ℕ) (x n : Note) (ti
           (λ held. absurd (b.nothing (slot_named c link) there.0 (there.2 ∙ ap (Live there.0) held)))
           (λ made.
           let top = there.2 ∙ ap (Live there.0) made.1 in
-          let m = note_of_slot c e l stands (slot_named c link) there.0 made.0 top in
+          let r = noted_in c e l stands (slot_named c link) there.0 (Committed made.0) top in
           let object_is : n.object ≡ x.object = ap (λ (z : Note). z.object) (sym same) in
           let apart : index_of c n.position ≢ slot_named c link =
           λ z. not_this (own_link some mine (version_of n) (Committed a.0) (ap (slot_at e.ring) (sym z) ∙ a.1) ∙ ap (λ (s : ℕ). link_of s n.position) number_is) in
           let less = last some mine there.0 made.0 top (index_of c n.position) (version_of n) a.0 a.1 object_is apart in
-          let time_is = m.4.2 in
+          let time_is = r.as_noted.2 in
           let own_time = a.2 in
-          record { index = m.0; other = m.1; at = m.2; object_is = ap (λ (z : Version). z.object) m.3 ∙ there.3 ∙ sym object_is; later = omega arith })
+          record { index = r.index; other = r.note; at = r.at; object_is = ap (λ (z : Version). z.object) (sym r.version_is) ∙ there.3 ∙ sym object_is; later = omega arith })
           there.4
 
       pub not_started : (mark : Watermark) (before after : ℕ) (r : NoBack) → x.time ≤ mark.time → (link ≡ 0 → r ≡ Gone) → (link ≢ 0 → r ≡ Above (link_seat_of link)) → StartsSo c v y l n mark before after (Err r)

@@ -16,17 +16,14 @@ use Rattle.mv_core.specs.declared.view.Walk.TheVariants.{Nowhere}
 use Rattle.mv_core.specs.HistoryFacts.{BeginsWith}
 use Rattle.seat_log.specs.Notes.{Noted, retired, back_noted}
 use Rattle.seat_log.specs.Stands.{Stands}
-use Rattle.seat_log.proofs.PlainSteps.{LeavesLog, stands_left}
+use Rattle.seat_log.proofs.PlainSteps.{kind_leaves, stands_left}
 use Rattle.log_reclaim.specs.declared.writing_back.Back.{Back}
 use Rattle.log_reclaim.specs.declared.writing_back.BackEnd.{BackEnd}
 use Rattle.log_reclaim.specs.declared.writing_back.BackEnd.TheVariants.{Cut, Above}
 use Rattle.log_reclaim.specs.Backs.{IsWriting, StoresWord, IsCutAt, IsUncut, FinishesSo}
 use Rattle.log_reclaim.specs.Parts.{NamesNoCommit, IsOtherKind, FindsSeat}
 use Rattle.log_reclaim.specs.Tries.{StoresAll}
-
--- a step that names no commit, is no other exchange on CLOCK, and begins no scan
-abbrev IsPlain : Step → Type 0
-IsPlain s = NamesNoCommit s.kind × IsOtherKind s.kind
+use Rattle.log_reclaim.proofs.Visits.{IsPlain}
 
 -- a store of a word of a write-back is one
 abbrev IsStore : Step → Type 0
@@ -89,7 +86,7 @@ module _ (c : Config) (v w : View) (b d : Back) (count before after : ℕ) (k : 
   pub stands_stored : (l : Noted) → Stands c v l → Stands c w l
   stands_stored l stands =
       stands_left c v w l stands (ap (λ (u : View). u.number) k.rest) (ap (λ (u : View). u.ring) k.rest) (ap (λ (u : View). u.past.mine) k.rest) (ap (λ (u : View). u.past.rests) k.rest) k.made k.trail
-      (All-weaker IsStore (λ s. LeavesLog s.kind) (λ s e. subst LeavesLog (sym e) (refl, refl)) k.made k.kinds)
+      (kind_leaves StoreMaster (refl, refl) k.made k.kinds)
 
   position_is : d.position ≡ b.position
   position_is = ap (λ (a : Back). a.position) k.same

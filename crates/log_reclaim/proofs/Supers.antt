@@ -26,10 +26,10 @@ use Rattle.mv_core.proofs.Latest.{last_that-le, latest_at-entry}
 use Rattle.seat_log.specs.declared.version.Note.{Note}
 use Rattle.seat_log.specs.Notes.{Noted, IsLive, retired}
 use Rattle.seat_log.specs.Stands.{version_of, Stands}
+use Rattle.seat_log.specs.Builds.{note_in}
 use Rattle.seat_log.proofs.Retired.{committed_at, may_load_super, noted_live, stands_found, stands_unfound}
 use Rattle.log_reclaim.specs.Parts.{NamesNoCommit, IsOtherKind}
 use Rattle.log_reclaim.specs.Tries.{IsUntimed, Makes, LoadsSuper}
-use Rattle.log_reclaim.proofs.Picks.{commit_in}
 use Rattle.log_reclaim.proofs.Idle.{still_of}
 
 -- a list that begins with another and is as long is that one
@@ -56,7 +56,7 @@ none_written base h o t g low none =
 
 module _ (c : Config) (v : View) (l : Noted) (position : ℕ) (n : Note) (k : Stands c v l) (u : IsUntimed l position n) where
   abbrev own : CommitNote
-  own = commit_in (slot_at v.ring (index_of c position))
+  own = note_in (slot_at v.ring (index_of c position))
 
   -- the position is that of the note
   pub position_is : position ≡ n.position
@@ -66,7 +66,7 @@ module _ (c : Config) (v : View) (l : Noted) (position : ℕ) (n : Note) (k : St
   committed = let a = committed_at c v l (position - l.freed) n k u.at u.committed in (a.0, a.1, a.2)
 
   own_is : own ≡ committed.0
-  own_is = ap (λ p. commit_in (slot_at v.ring (index_of c p))) position_is ∙ ap commit_in committed.1
+  own_is = ap (λ p. note_in (slot_at v.ring (index_of c p))) position_is ∙ ap note_in committed.1
 
   here : slot_at v.ring (index_of c n.position) ≡ Live (version_of n) (Committed own)
   here = committed.1 ∙ ap (λ (x : CommitNote). Live (version_of n) (Committed x)) (sym own_is)

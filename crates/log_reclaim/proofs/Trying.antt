@@ -12,6 +12,7 @@ use Rattle.mv_core.specs.declared.view.Walk.TheVariants.{Nowhere}
 use Rattle.mv_core.specs.EnterSteps.{MayLoadLow}
 use Rattle.mv_core.specs.ReclaimSteps.{FoundEmpty}
 use Rattle.mv_core.specs.Known.{Known}
+use Rattle.mv_core.proofs.Fronts.{begins_by, begins_long}
 use Rattle.reader_marks.specs.declared.scanning.Watermark.{Watermark}
 use Rattle.seat_log.specs.declared.version.Note.{Note}
 use Rattle.seat_log.specs.Notes.{Noted, retired, back_noted}
@@ -23,7 +24,7 @@ use Rattle.log_reclaim.specs.declared.writing_back.BackEnd.TheVariants.{Cut, Abo
 use Rattle.log_reclaim.specs.Parts.{FindsSeat}
 use Rattle.log_reclaim.specs.Backs.{HasLooked, LeavesAt, NamesSeat}
 use Rattle.log_reclaim.specs.Tries.{IsUntimed, Makes, LoadsSuper, StoresAll, TriesOne}
-use Rattle.log_reclaim.proofs.Reclaiming.{begins_by, begins_long, makes_none, makes_on, reclaims_number, reclaims_base, reclaims_may}
+use Rattle.log_reclaim.proofs.Reclaiming.{makes_none, makes_on, reclaims_number, reclaims_base, reclaims_may}
 use Rattle.log_reclaim.proofs.Idle.{still_of}
 use Rattle.log_reclaim.proofs.Untimed.{times_then}
 use Rattle.log_reclaim.proofs.Visits.{IsPlain, section_makes, looked_steps, looked_trail, looked_plain, looked_seen, looked_rest, looked_finds, head_step, left_steps, left_makes, left_has_step, left_empty}

@@ -4,8 +4,7 @@ use Rattle.std.proofs.lemmas.List.{take-append-drop}
 use Rattle.std.proofs.lemmas.List.Elements.{All-nil, All-cons, All-append, All-weaker, Contains-push, Contains-append_left}
 use Rattle.std.specs.Prelude.{All}
 use Rattle.mv_history.specs.declared.Step.{Step}
-use Rattle.mv_history.specs.declared.StepKind.{StepKind}
-use Rattle.mv_history.specs.declared.StepKind.TheVariants.{LoadLow, StoreMark, LoadTime, LoadNamed, LoadCheck, SwapStamp, LoadHead, ClearMark}
+use Rattle.mv_history.specs.declared.StepKind.TheVariants.{LoadHead, ClearMark}
 use Rattle.mv_layout.specs.declared.Config.{Config}
 use Rattle.mv_layout.specs.declared.Place.TheVariants.{Mark, Head}
 use Rattle.mv_layout.specs.Places.{place_of}
@@ -19,7 +18,9 @@ use Rattle.mv_core.specs.EnterSteps.{MayLoadLow, mark_cleared}
 use Rattle.mv_core.specs.ReclaimSteps.{FoundEmpty}
 use Rattle.mv_core.specs.WalkSteps.{empty_too, head_loaded}
 use Rattle.mv_core.specs.Views.{time_in, heard_nothing}
+use Rattle.mv_core.proofs.Fronts.{begins_by}
 use Rattle.reader_marks.specs.Sections.{IsEnterStep}
+use Rattle.reader_marks.proofs.EnterKinds.{enter_kind}
 use Rattle.seat_log.specs.Notes.{Noted}
 use Rattle.seat_log.specs.Stands.{is_free, is_won_cut, Stands}
 use Rattle.seat_log.proofs.BuildsOn.{unpassed}
@@ -28,21 +29,10 @@ use Rattle.seat_log.proofs.PlainSteps.{stands_entered, stands_unmarked}
 use Rattle.log_reclaim.specs.Parts.{NamesNoCommit, IsOtherKind, FindsSeat}
 use Rattle.log_reclaim.specs.Backs.{HasLooked}
 use Rattle.log_reclaim.specs.Tries.{Makes}
-use Rattle.log_reclaim.proofs.Reclaiming.{begins_by}
 
 -- a step that names no commit, is no other exchange on CLOCK, and begins no scan
 abbrev pub IsPlain : Step → Type 0
 IsPlain s = NamesNoCommit s.kind × IsOtherKind s.kind
-
--- the steps of entering a section are plain
-enter_plain : (kind : StepKind) → IsEnterStep kind → NamesNoCommit kind × IsOtherKind kind
-enter_plain LoadLow h = (tt, tt)
-enter_plain StoreMark h = (tt, tt)
-enter_plain LoadTime h = (tt, tt)
-enter_plain LoadNamed h = (tt, tt)
-enter_plain LoadCheck h = (tt, tt)
-enter_plain SwapStamp h = (tt, tt)
-enter_plain _ h = absurd h
 
 -- plain steps that end outside a section are a part of a reclaiming call
 pub section_makes : (v w : View) (made : List Step) → MayLoadLow v → w.phase ≡ Outside → BeginsWith w.past.seen v.past.seen → w.trail ≡ v.trail ++ made → All IsPlain made
@@ -86,7 +76,7 @@ module _ (c : Config) (v w : View) (object link : ℕ) (h : HasLooked c v w obje
   pub looked_plain : All IsPlain looked_steps
   looked_plain =
       All-append IsPlain h.begins.entered.steps (head_step ∷ [])
-      (All-weaker (λ (s : Step). IsEnterStep s.kind) IsPlain (λ s. enter_plain s.kind) h.begins.entered.steps h.begins.entered.kinds)
+      (All-weaker (λ (s : Step). IsEnterStep s.kind) IsPlain (λ s. enter_kind (λ k. NamesNoCommit k × IsOtherKind k) (tt, tt) (tt, tt) (tt, tt) (tt, tt) (tt, tt) (tt, tt) s.kind) h.begins.entered.steps h.begins.entered.kinds)
       (All-cons IsPlain head_step [] (tt, tt) (All-nil IsPlain))
 
   pub looked_seen : BeginsWith w.past.seen v.past.seen

@@ -9,11 +9,11 @@ use Rattle.mv_core.specs.declared.ring.Build.{Build}
 use Rattle.mv_core.specs.declared.view.View.{View}
 use Rattle.mv_core.specs.Rings.{slot_at, index_of, set_first}
 use Rattle.mv_core.specs.LockSteps.{nothing_built, build_in, StandsToLock, MayLock}
+use Rattle.seat_log.proofs.Noting.{built_next}
 use Rattle.seat_log.specs.declared.version.Note.{Note}
 use Rattle.seat_log.specs.Notes.{Noted, IsNextOf}
 use Rattle.seat_log.specs.Stands.{IsWhole, HasBuilt, Stands}
 use Rattle.seat_log.specs.Builds.{build_at}
-use Rattle.seat_log.proofs.Standing.{built_next}
 use Rattle.version_chain.specs.Walks.{MayWalk, section_in}
 use Rattle.version_chain.specs.Reads.{words_in}
 use Rattle.object_lock.specs.Locks.{HoldsObject, IsBuiltFor}

@@ -17,6 +17,7 @@ use Rattle.mv_core.specs.Rings.{HoldsNothing}
 use Rattle.mv_core.specs.HistoryFacts.{BeginsWith}
 use Rattle.mv_core.specs.EnterSteps.{IsWhole, low_loaded, mark_stored, time_loaded}
 use Rattle.commit_clock.specs.Helps.{IsHelpStep, StampsOwn, Helps, FindsClock}
+use Rattle.commit_clock.proofs.HelpedPhase.{still_open}
 use Rattle.reader_marks.specs.Sections.{IsEnterStep, EntersBy, Begins}
 
 help_enters : (k : StepKind) → IsHelpStep k → IsEnterStep k
@@ -41,12 +42,7 @@ module _ (c : Config) (v : View) (low word : ℕ) (h : List Entry) (w : View) (l
       ((f.1.0.0, is ∙ f.1.0.1), f.2 ∙ ap (λ (l : List Entry). record v.past { seen = l }) (sym is))
 
   phase_is : w.phase ≡ Inside inside
-  phase_is = ⊎_elim (λ e. e)
-      (λ (o : StampsOwn c (entered c v low word h) w word).
-      let e : Inside inside ≡ Inside o.inside = o.phase in
-      let same : inside ≡ o.inside = cc in
-      let f : Open ≡ Named o.naming = ap (λ (s : Section). s.mode) same ∙ o.mode in absurd (cc))
-      helps.phase
+  phase_is = still_open c (entered c v low word h) w word inside refl refl helps
 
   entered_by : EntersBy v.trail w.trail word
   entered_by =

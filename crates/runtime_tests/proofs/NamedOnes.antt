@@ -22,9 +22,9 @@ use Rattle.version_chain.specs.Walks.{section_in}
 use Rattle.commit_abort.specs.Commits.{MayCommit, Commits, IsKept}
 use Rattle.commit_abort.specs.Finishes.{Finishes}
 use Rattle.commit_abort.specs.Aborts.{IsOpen, Aborts}
+use Rattle.seat_log.proofs.PlainSteps.{stands_left, one_leaves}
 use Rattle.runtime_tests.specs.Clients.{IsOutside, IsInside, HasJustNamed}
-use Rattle.runtime_tests.proofs.Moved.{stands_plain, walks_in}
-use Rattle.runtime_tests.proofs.StepKinds.{one_plain}
+use Rattle.runtime_tests.proofs.Moved.{walks_in}
 
 -- rules that allow every commit
 abbrev pub allows_any : List ℕ → State → Writes → Type 0
@@ -67,7 +67,7 @@ name_lost c v w l word tag rival i names =
         no_back = ap (λ (u : View). u.back) is ∙ i.may.no_back;
       });
       no_scan = ap (λ (u : View). u.scan) is ∙ i.no_scan;
-      stands = stands_plain c v w l i.stands (ap (λ (u : View). u.number) is) (ap (λ (u : View). u.ring) is) (ap (λ (u : View). u.past.mine) is) (ap (λ (u : View). u.past.rests) is) (s ∷ []) (ap (λ (u : View). u.trail) is) (one_plain s (refl, refl));
+      stands = stands_left c v w l i.stands (ap (λ (u : View). u.number) is) (ap (λ (u : View). u.ring) is) (ap (λ (u : View). u.past.mine) is) (ap (λ (u : View). u.past.rests) is) (s ∷ []) (ap (λ (u : View). u.trail) is) (one_leaves s (refl, refl));
       unbuilt = i.unbuilt;
       helped = λ x e. absurd cc;
     }

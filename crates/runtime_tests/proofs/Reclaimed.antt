@@ -22,9 +22,8 @@ use Rattle.log_reclaim.specs.Parts.{Reclaims, Shrinks}
 use Rattle.log_reclaim.proofs.OneNote.{note_of, note_is, position_is, place_is}
 use Rattle.log_reclaim.proofs.Reclaiming.{reclaims_may}
 use Rattle.log_reclaim.proofs.Visits.{looked_rest, looked_stands, left_steps, left_makes, left_stands}
+use Rattle.seat_log.proofs.PlainSteps.{stands_left, one_leaves}
 use Rattle.runtime_tests.specs.Clients.{IsOutside, IsWritingBack}
-use Rattle.runtime_tests.proofs.Moved.{stands_plain}
-use Rattle.runtime_tests.proofs.StepKinds.{one_plain}
 
 -- slots were reclaimed
 pub reclaimed : (c : Config) (v w : View) (l m : Noted) (made : List Step) (freed : ℕ) → IsOutside c v l → Reclaims v w made → Shrinks l m freed → Stands c w m → IsOutside c w m
@@ -79,7 +78,7 @@ back_stored c v w l b d k is stores =
       opened = record { inside = is.inside; phase = is.phase; open_is = is.open_is; nothing = is.nothing };
       between = record {
         no_scan = ap (λ (u : View). u.scan) view ∙ e.no_scan;
-        stands = stands_plain c v w l e.stands (ap (λ (u : View). u.number) view) (ap (λ (u : View). u.ring) view) (ap (λ (u : View). u.past.mine) view) (ap (λ (u : View). u.past.rests) view) (s ∷ []) (ap (λ (u : View). u.trail) view) (one_plain s (refl, refl));
+        stands = stands_left c v w l e.stands (ap (λ (u : View). u.number) view) (ap (λ (u : View). u.ring) view) (ap (λ (u : View). u.past.mine) view) (ap (λ (u : View). u.past.rests) view) (s ∷ []) (ap (λ (u : View). u.trail) view) (one_leaves s (refl, refl));
         unbuilt = e.unbuilt;
       };
     }
@@ -104,6 +103,6 @@ back_given_up c v w l k is =
     let e = k.between in
     record {
       may = record { outside = ap (λ (u : View). u.phase) is; no_scan = ap (λ (u : View). u.scan) is ∙ e.no_scan };
-      stands = stands_plain c v w l e.stands (ap (λ (u : View). u.number) is) (ap (λ (u : View). u.ring) is) (ap (λ (u : View). u.past.mine) is) (ap (λ (u : View). u.past.rests) is) (s ∷ []) (ap (λ (u : View). u.trail) is) (one_plain s (refl, refl));
+      stands = stands_left c v w l e.stands (ap (λ (u : View). u.number) is) (ap (λ (u : View). u.ring) is) (ap (λ (u : View). u.past.mine) is) (ap (λ (u : View). u.past.rests) is) (s ∷ []) (ap (λ (u : View). u.trail) is) (one_leaves s (refl, refl));
       unbuilt = e.unbuilt;
     }

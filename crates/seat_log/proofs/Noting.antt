@@ -67,14 +67,42 @@ noted_again l m freed same few held k =
           held;
     }
 
--- the built version, and what isn't built
-built_is : (l : Noted) (n : Note) → l.built ≡ Some n → IsLog l → IsNextOf l n
-built_is l n e k = subst (λ o. IfSome o (IsNextOf l)) e k.built
+-- a log with notes of the same versions is one, where as many are held or none is any more
+again_is_log : (l m : Noted) → m.seat ≡ l.seat → m.slots ≡ l.slots → m.freed ≡ l.freed → m.back ≡ l.back → m.rests ≡ l.rests
+    → SameSets l.live m.live → (m.held ≡ l.held) ⊎ (m.held ≡ 0) → built_count m.built ≤ built_count l.built → IfSome m.built (IsNextOf m)
+    → m.commits + m.aborts + m.held ≤ next_of l → IsLog l → IsLog m
+again_is_log l m seat slots freed back rests same held few built sets k =
+    let long = same.long in
+    let number = k.seat in
+    let most = k.slots in
+    let room = k.room in
+    let some = k.held in
+    let positions = k.positions in
+    let backs = k.backs in
+    let rested = k.rests in record {
+      seat = omega arith;
+      slots = omega arith;
+      room = omega arith;
+      held = held_few;
+      notes = noted_again l m freed same k.held held k.notes;
+      built = built;
+      positions = omega arith;
+      sets = omega arith;
+      backs = omega arith;
+      rests = omega arith;
+    }
+  where
+    held_few : m.held ≤ length m.live
+    held_few = let long = same.long in let some = k.held in ⊎_elim (λ e. (omega arith)) (λ e. (omega arith)) held
+
+-- the note that is built
+pub built_next : (l : Noted) (n : Note) → l.built ≡ Some n → IsLog l → IsNextOf l n
+built_next l n e k = subst (λ o. IfSome o (IsNextOf l)) e k.built
 
 -- the built version becomes the last one that is held
 pub held_is_noted : (l : Noted) (n : Note) → l.built ≡ Some n → IsLog l → AreNoted (held_noted l)
 held_is_noted l n e k =
-    let is = built_is l n e k in
+    let is = built_next l n e k in
     let at : n.position ≡ l.freed + length l.live = is.0 in
     let first : n.first ≡ first_of l = is.1 in
     let few = k.held in
@@ -112,7 +140,7 @@ held_is_log l n e k =
     let one : built_count l.built ≡ 1 = ap built_count e in
     let room = k.room in
     let few = k.held in
-    let is = built_is l n e k in
+    let is = built_next l n e k in
     let at = is.0 in
     let small = is.4 in
     let sets = k.sets in
@@ -131,24 +159,10 @@ held_is_log l n e k =
 
 pub committed_is_log : (l : Noted) (time : ℕ) → 0 < l.held → l.built ≡ None → IsLog l → IsLog (committed_noted l time)
 committed_is_log l time some_held none k =
-    let f : Note → Note = λ n. record n { time = time } in
-    let same = from_same f (held_from l) l.live (λ n. (refl, refl)) in
-    let long = same.long in
-    let room = k.room in
-    let positions = k.positions in
+    let same = from_same (λ n. record n { time = time }) (held_from l) l.live (λ n. (refl, refl)) in
     let sets = k.sets in
-    let backs = k.backs in record {
-      seat = k.seat;
-      slots = k.slots;
-      room = omega arith;
-      held = omega arith;
-      notes = noted_again l (committed_noted l time) refl same k.held (inr refl) k.notes;
-      built = subst (λ o. IfSome o (IsNextOf (committed_noted l time))) (sym none) tt;
-      positions = omega arith;
-      sets = omega arith;
-      backs = omega arith;
-      rests = k.rests;
-    }
+    again_is_log l (committed_noted l time) refl refl refl refl refl same (inr refl) (omega arith)
+    (subst (λ o. IfSome o (IsNextOf (committed_noted l time))) (sym none) tt) (omega arith) k
 
 -- an abort of something counts one
 aborts_few : (held aborts : ℕ) → (if held == 0 then aborts else aborts + 1) ≤ aborts + held
@@ -160,25 +174,11 @@ aborts_few held aborts = go (held == 0) refl
 
 pub aborted_is_log : (l : Noted) (dead : ℕ) → l.built ≡ None → IsLog l → IsLog (aborted_noted l dead)
 aborted_is_log l dead none k =
-    let f : Note → Note = λ n. record n { dead = dead } in
-    let same = from_same f (held_from l) l.live (λ n. (refl, refl)) in
-    let long = same.long in
-    let room = k.room in
-    let positions = k.positions in
+    let same = from_same (λ n. record n { dead = dead }) (held_from l) l.live (λ n. (refl, refl)) in
     let sets = k.sets in
-    let backs = k.backs in
-    let few = aborts_few l.held l.aborts in record {
-      seat = k.seat;
-      slots = k.slots;
-      room = omega arith;
-      held = omega arith;
-      notes = noted_again l (aborted_noted l dead) refl same k.held (inr refl) k.notes;
-      built = subst (λ o. IfSome o (IsNextOf (aborted_noted l dead))) (sym none) tt;
-      positions = omega arith;
-      sets = omega arith;
-      backs = omega arith;
-      rests = k.rests;
-    }
+    let few = aborts_few l.held l.aborts in
+    again_is_log l (aborted_noted l dead) refl refl refl refl refl same (inr refl) (omega arith)
+    (subst (λ o. IfSome o (IsNextOf (aborted_noted l dead))) (sym none) tt) (omega arith) k
 
 -- where something was held the count goes up, and where nothing was it all stays
 pub abort_counts : (l : Noted) → l.held ≢ 0 → (if l.held == 0 then l.aborts else l.aborts + 1) ≡ l.aborts + 1
@@ -195,24 +195,8 @@ abort_of_nothing l dead none =
 -- one live version is noted otherwise, in its place
 pub renoted_is_log : (l : Noted) (f : Note → Note) (i : ℕ) → KeepsSet f → IsLog l → IsLog (record l { live = at_place f i l.live })
 renoted_is_log l f i keeps k =
-    let same = at_same f i l.live keeps in
-    let long = same.long in
-    let room = k.room in
-    let few = k.held in
-    let positions = k.positions in
-    let sets = k.sets in
-    let backs = k.backs in record {
-      seat = k.seat;
-      slots = k.slots;
-      room = omega arith;
-      held = omega arith;
-      notes = noted_again l (record l { live = at_place f i l.live }) refl same k.held (inl refl) k.notes;
-      built = next_again l.built k.built;
-      positions = omega arith;
-      sets = omega arith;
-      backs = omega arith;
-      rests = k.rests;
-    }
+    again_is_log l (record l { live = at_place f i l.live }) refl refl refl refl refl (at_same f i l.live keeps) (inl refl) (omega arith)
+    (next_again l.built k.built) k.sets k
   where
     next_again : (o : Option Note) → IfSome o (IsNextOf l) → IfSome o (IsNextOf (record l { live = at_place f i l.live }))
     next_again None a = tt

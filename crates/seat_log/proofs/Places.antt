@@ -1,5 +1,5 @@
 -- The notes from a place on, and one note, as loops and stores change them.
-use Rattle.std.proofs.Common.{◌≡◌, ◌≢◌, ◌⊎◌, ℕ, zero, suc, ◌+◌, ◌-◌, ◌<◌, ◌≤◌, List, [], ◌∷◌, ◌++◌, length, drop, refl, sym, ap, ◌∙◌, inl, inr, ⊎_elim, arith, Some, slice_get, slice_index_or}
+use Rattle.std.proofs.Common.{◌≡◌, ◌≢◌, ◌⊎◌, ℕ, zero, suc, ◌+◌, ◌-◌, ◌<◌, ◌≤◌, List, [], ◌∷◌, ◌++◌, length, drop, refl, sym, ap, ◌∙◌, subst, inl, inr, ⊎_elim, arith, Some, slice_get, slice_index_or}
 use Rattle.std.specs.Prelude.{slice_set}
 use Rattle.std.proofs.lemmas.List.{length-map, length-set}
 use Rattle.seat_log.specs.declared.version.Note.{Note}
@@ -90,14 +90,23 @@ pub record GoesFrom (f : Note → Note) (from : ℕ) (before : List Note) (i : �
 pub goes_first : (f : Note → Note) (from : ℕ) (before : List Note) → from ≤ length before → GoesFrom f from before from before
 goes_first f from before le = record { left = refl; long = refl; within = le }
 
--- each turn
-pub goes_on : (f : Note → Note) (from : ℕ) (before : List Note) (i : ℕ) (ns : List Note) (d : Note) → i < length ns → GoesFrom f from before i ns → GoesFrom f from before (i + 1) (slice_set ns i (f (slice_index_or ns i d)))
-goes_on f from before i ns d lt g = record {
-  left = ap (λ (j : ℕ). from_place f j (slice_set ns i (f (slice_index_or ns i d)))) (let e : i + 1 ≡ suc i = omega arith in e) ∙ sym (from_step f i ns d lt) ∙ g.left;
-  long = length-set ns i (f (slice_index_or ns i d)) ∙ g.long;
-  within = (let e = length-set ns i (f (slice_index_or ns i d)) in omega arith);
-}
+-- each turn, by the note that was there
+pub goes_on : (f : Note → Note) (from : ℕ) (before : List Note) (i : ℕ) (ns : List Note) (n : Note) → n ≡ slice_index_or ns i n → i < length before
+    → GoesFrom f from before i ns → GoesFrom f from before (i + 1) (slice_set ns i (f n))
+goes_on f from before i ns n there lt g =
+    let same = g.long in
+    let step = from_step f i ns n (omega arith) in
+    subst (λ (m : Note). GoesFrom f from before (i + 1) (slice_set ns i (f m))) (sym there) (record {
+      left = ap (λ (j : ℕ). from_place f j (slice_set ns i (f (slice_index_or ns i n)))) (let e : i + 1 ≡ suc i = omega arith in e) ∙ sym step ∙ g.left;
+      long = length-set ns i (f (slice_index_or ns i n)) ∙ g.long;
+      within = (let e = length-set ns i (f (slice_index_or ns i n)) in omega arith);
+    })
 
 -- and the end
-pub goes_last : (f : Note → Note) (from : ℕ) (before : List Note) (ns : List Note) → GoesFrom f from before (length ns) ns → ns ≡ from_place f from before
-goes_last f from before ns g = sym (from_end f ns) ∙ g.left
+pub goes_last : (f : Note → Note) (from : ℕ) (before : List Note) (i : ℕ) (ns : List Note) → length before ≤ i → GoesFrom f from before i ns
+    → ns ≡ from_place f from before
+goes_last f from before i ns late g =
+    let long = g.long in
+    let within = g.within in
+    let end : i ≡ length ns = omega arith in
+    sym (from_end f ns) ∙ ap (λ (j : ℕ). from_place f j ns) (sym end) ∙ g.left

@@ -13,9 +13,10 @@ use Rattle.seat_log.specs.declared.version.Note.{Note}
 use Rattle.seat_log.specs.Notes.{Noted, built_count, IsNoteAt, IsNextOf, IsHeld, with_word, without_previous, cleared, built_word, built_word_noted}
 use Rattle.seat_log.specs.Stands.{version_of, IsWhole, HasBuilt, Stands}
 use Rattle.seat_log.specs.Builds.{IsOpen, build_at, stored_next}
+use Rattle.seat_log.proofs.Noting.{built_next}
 use Rattle.seat_log.proofs.BuildsOn.{BuildsOn, builds_first}
 use Rattle.seat_log.proofs.NotedSlots.{note_there, held_at}
-use Rattle.seat_log.proofs.Standing.{may_build, stands_on, built_is_log, built_next}
+use Rattle.seat_log.proofs.Standing.{may_build, stands_on, built_is_log}
 
 module _ (c : Config) (v w : View) (l : Noted) (n : Note) (position field x : ℕ) (k : Stands c v l) (built : l.built ≡ Some n) (at : n.position ≡ position) (open_is : IsOpen v) (is : w ≡ stored_next c v position field x) where
   -- one more store into the built slot

@@ -135,10 +135,6 @@ built_is_log l o room is k = record {
     next_of_same None a = tt
     next_of_same (Some n) a = a
 
--- the note that is built
-pub built_next : (l : Noted) (n : Note) → l.built ≡ Some n → IsLog l → IsNextOf l n
-built_next l n e k = subst (λ o. IfSome o (IsNextOf l)) e k.built
-
 -- after a build
 pub stands_built : (c : Config) (v w : View) (l : Noted) (object previous : ℕ) (words : List ℕ) → Stands c v l → IsOpen v → length l.live < l.slots → length words ≡ 6 → next_of l < 2 ^ 57 → w ≡ slot_built c v (next_of l) (first_of l) previous words
     → Stands c w (built_noted l (next_note l object previous words))

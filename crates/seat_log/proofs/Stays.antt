@@ -20,9 +20,8 @@ use Rattle.seat_log.specs.declared.version.Note.{Note}
 use Rattle.seat_log.specs.Notes.{Noted, next_of, held_from, built_list, IsNextOf, held_noted}
 use Rattle.seat_log.specs.Stands.{version_of, IsAsNoted, HasNoted, HasBuilt, is_cut, cut_count, is_free, is_won_cut, writes_in, Stands}
 use Rattle.seat_log.proofs.Places.{push_before}
-use Rattle.seat_log.proofs.Noting.{held_is_log}
+use Rattle.seat_log.proofs.Noting.{built_next, held_is_log}
 use Rattle.seat_log.proofs.BuildsOn.{unpassed}
-use Rattle.seat_log.proofs.Standing.{built_next}
 
 -- after steps that leave the own log, its commits and its rests alone, and neither free a slot nor cut a chain
 pub stands_same : (c : Config) (v w : View) (l : Noted) → w.number ≡ v.number → w.ring ≡ v.ring → w.past.mine ≡ v.past.mine → w.past.rests ≡ v.past.rests → count_by is_free w.trail ≡ count_by is_free v.trail

@@ -5,10 +5,10 @@ use Rattle.seat_log.specs.declared.version.Note.{Note}
 use Rattle.seat_log.specs.Notes.{Noted, next_of, IsBuilt, IsHeld, with_word, at_place, built_word_noted, word_noted}
 use Rattle.seat_log.specs.Stands.{Stands}
 use Rattle.seat_log.specs.Builds.{ChangesLog}
+use Rattle.seat_log.proofs.Noting.{built_next}
 use Rattle.seat_log.proofs.Changes.{next_changes, word_changes}
 use Rattle.seat_log.specs.contracts.log.Log.{the_view}
 use Rattle.seat_log.proofs.Places.{at_set}
-use Rattle.seat_log.proofs.Standing.{built_next}
 use Rattle.seat_log.proofs.Rebuilding.{stands_built_word}
 use Rattle.seat_log.proofs.HeldWords.{may_word, stands_word}
 use Rattle.seat_log.proofs.building.put_word.Goals as goal

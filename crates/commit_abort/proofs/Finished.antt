@@ -89,7 +89,9 @@ module _ (c : Config) (w : View) (l : Noted) (won : WonNaming) (k : IsJustNamed 
     same_ring = ap (λ (u : View). u.ring) st.rest
 
     pub committed_still : AreCommitted c x l t
-    committed_still = subst (λ r. AreCommitted c (record x { ring = r }) l t) (sym same_ring) (let a = are_committed in record { each = a.each; only = a.only; round = a.round; wide = a.wide; nothing = a.nothing })
+    committed_still =
+        subst (λ r. AreCommitted c (record x { ring = r }) l t) (sym same_ring)
+        (let a = are_committed in record { each = a.each; only = a.only; round = a.round; wide = a.wide; nothing = a.nothing })
 
     module _ (y : View) (tells : Tells c x y l (length l.live)) where
       -- the section may end: nothing is held, the stamp was exchanged, and SUPER was stored below all
@@ -100,7 +102,9 @@ module _ (c : Config) (w : View) (l : Noted) (won : WonNaming) (k : IsJustNamed 
         nothing = λ j z live.
             ⊎_elim
             (λ same. committed_still.nothing j z (sym same ∙ live))
-            (λ more. let one = live_once (slot_at y.ring j) z more.0 Held (Committed (record more.1 { linked = true })) live more.3 in let other : Held ≡ Committed (record more.1 { linked = true }) = one.1 in cc)
+            (λ more.
+            let one = live_once (slot_at y.ring j) z more.0 Held (Committed (record more.1 { linked = true })) live more.3 in
+            let other : Held ≡ Committed (record more.1 { linked = true }) = one.1 in cc)
             (tells.more j);
         finished = (
           refl,
@@ -146,7 +150,9 @@ module _ (c : Config) (w : View) (l : Noted) (won : WonNaming) (k : IsJustNamed 
       }
         where
           rest_is : z ≡ record w { phase = Outside; heard = heard_nothing; walk = Nowhere; back = None; ring = z.ring; trail = z.trail }
-          rest_is = ap (λ (u : View). record u { phase = Outside; heard = heard_nothing; walk = Nowhere; back = None; ring = z.ring; trail = z.trail }) (tells.kept ∙ ap (λ (u : View). record u { ring = y.ring; trail = y.trail }) st.rest)
+          rest_is =
+              ap (λ (u : View). record u { phase = Outside; heard = heard_nothing; walk = Nowhere; back = None; ring = z.ring; trail = z.trail })
+              (tells.kept ∙ ap (λ (u : View). record u { ring = y.ring; trail = y.trail }) st.rest)
 
       same_number : z.number ≡ w.number
       same_number = ap (λ (u : View). u.number) tells.kept ∙ ap (λ (u : View). u.number) st.rest
@@ -193,9 +199,11 @@ module _ (c : Config) (w : View) (l : Noted) (won : WonNaming) (k : IsJustNamed 
         rest = stamps.rest;
       }
 
-      pub may_tell_below : (x.phase ≡ Inside (record (section_in x) { mode = Named (record { time = time; first = first_named x; stamped = true }) })) × AreCommitted c x l time
+      pub may_tell_below : (x.phase ≡ Inside (record (section_in x) { mode = Named (record { time = time; first = first_named x; stamped = true }) }))
+          × AreCommitted c x l time
       may_tell_below =
-          let inside : section_in x ≡ record won.inside { mode = Named (record { time = t; first = set_first v.ring; stamped = true }) } = ap inside_of now_stamps.phase in
+          let inside : section_in x ≡ record won.inside { mode = Named (record { time = t; first = set_first v.ring; stamped = true }) } =
+          ap inside_of now_stamps.phase in
           let from : first_named x ≡ set_first v.ring = ap (λ (s : Section). first_of_mode s.mode) inside in (
             now_stamps.phase ∙ (λ i. Inside (record (sym inside i) { mode = Named (record { time = sym time_is i; first = sym from i; stamped = true }) })),
             subst (AreCommitted c x l) (sym time_is) (committed_still x now_stamps),
@@ -208,5 +216,6 @@ module _ (c : Config) (w : View) (l : Noted) (won : WonNaming) (k : IsJustNamed 
         pub ended : (z : View) (m : Noted) → z ≡ mark_cleared c y → m ≡ committed_noted l time → Finishes w z (l.held + 2) × Stands c z m
         ended z m is noted = (
           subst (λ (u : View). Finishes w u (l.held + 2)) (sym is) (finishes x now_stamps y tells),
-          subst (Stands c z) (sym (noted ∙ ap (committed_noted l) time_is)) (subst (λ (u : View). Stands c u (committed_noted l t)) (sym is) (stands_after x now_stamps y tells)),
+          subst (Stands c z) (sym (noted ∙ ap (committed_noted l) time_is))
+              (subst (λ (u : View). Stands c u (committed_noted l t)) (sym is) (stands_after x now_stamps y tells)),
         )

@@ -74,4 +74,5 @@ pub record Aborts (v w : View) (most : ℕ) : Type 0 where
   pub outside : w.phase ≡ Outside
   pub seen : BeginsWith w.past.seen v.past.seen
   pub trail : (steps : List Step) × (w.trail ≡ v.trail ++ steps) × (length steps ≤ most) × All (λ s. IsAbortStep s.kind) steps
-  pub rest : w ≡ record v { past = record v.past { seen = w.past.seen }; phase = Outside; heard = heard_nothing; walk = Nowhere; back = None; ring = w.ring; trail = w.trail }
+  pub rest : w
+      ≡ record v { past = record v.past { seen = w.past.seen }; phase = Outside; heard = heard_nothing; walk = Nowhere; back = None; ring = w.ring; trail = w.trail }

@@ -72,8 +72,11 @@ named_in v = record { inside = section_in v; first = first_named v }
 
 -- the held versions of the log are committed at this time; those with something below aren't linked yet
 pub record AreCommitted (c : Config) (v : View) (l : Noted) (time : ℕ) : Type 0 where
-  pub each : (i : ℕ) (n : Note) → IsNoteAt l i n → held_from l ≤ i → (note : CommitNote) × (slot_at v.ring (index_of c (l.freed + i)) ≡ Live (version_of n) (Committed note)) × (note.time ≡ time) × (note.linked ≡ (n.previous == 0)) × IsLinkOf c n.previous
-  pub only : (k : ℕ) (x : Version) (note : CommitNote) → slot_at v.ring k ≡ Live x (Committed note) → note.time ≡ time → (i : ℕ) × (held_from l ≤ i) × (i < length l.live) × (k ≡ index_of c (l.freed + i))
+  pub each : (i : ℕ) (n : Note) → IsNoteAt l i n → held_from l ≤ i
+      → (note : CommitNote) × (slot_at v.ring (index_of c (l.freed + i)) ≡ Live (version_of n) (Committed note)) × (note.time ≡ time)
+      × (note.linked ≡ (n.previous == 0)) × IsLinkOf c n.previous
+  pub only : (k : ℕ) (x : Version) (note : CommitNote) → slot_at v.ring k ≡ Live x (Committed note) → note.time ≡ time
+      → (i : ℕ) × (held_from l ≤ i) × (i < length l.live) × (k ≡ index_of c (l.freed + i))
   pub round : length l.live ≤ c.slots
   pub wide : length v.ring.slots ≡ c.slots
   pub nothing : HoldsNothing v.ring
@@ -107,7 +110,8 @@ pub record Tells (c : Config) (v w : View) (l : Noted) (i : ℕ) : Type 0 where
   pub wide : length w.ring.slots ≡ length v.ring.slots
   pub next : w.ring.next ≡ v.ring.next
   pub more : (k : ℕ) → IsLinkedToo (slot_at v.ring k) (slot_at w.ring k)
-  pub told : (j : ℕ) (x : Version) (note : CommitNote) → held_from l ≤ j → j < i → slot_at w.ring (index_of c (l.freed + j)) ≡ Live x (Committed note) → note.linked ≡ true
+  pub told : (j : ℕ) (x : Version) (note : CommitNote) → held_from l ≤ j → j < i → slot_at w.ring (index_of c (l.freed + j)) ≡ Live x (Committed note)
+      → note.linked ≡ true
   pub left : (j : ℕ) → i ≤ j → j < length l.live → slot_at w.ring (index_of c (l.freed + j)) ≡ slot_at v.ring (index_of c (l.freed + j))
   pub trail : (steps : List Step) × (w.trail ≡ v.trail ++ steps) × (length steps + held_from l ≤ i) × All (λ s. s.kind ≡ StoreSuper) steps
 
@@ -118,7 +122,8 @@ IsFinishStep StoreSuper = Unit {0}
 IsFinishStep ClearMark = Unit {0}
 IsFinishStep _ = ⊥
 
--- The section has ended: the walk, the write-back and the clock words with it. Its log is committed, and the trail has at most so many steps more, each of a finish.
+-- The section has ended: the walk, the write-back and the clock words with it. Its log is committed, and the trail has at most so many steps more,
+-- each of a finish.
 pub record Finishes (v w : View) (most : ℕ) : Type 0 where
   pub outside : w.phase ≡ Outside
   pub trail : (steps : List Step) × (w.trail ≡ v.trail ++ steps) × (length steps ≤ most) × All (λ s. IsFinishStep s.kind) steps

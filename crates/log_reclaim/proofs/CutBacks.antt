@@ -79,7 +79,8 @@ module _ (c : Config) (v : View) (l : Noted) (b : Back) (k : Stands c v l) (is :
   may_cut six =
       subst (λ (t : Version × CommitNote). MayCutHead c v b.object b.position t.0 t.1) (sym picked)
       (record {
-        back = ⊎_elim (λ a. let none = a.0 in absurd (omega arith)) (λ a. a.1 ∙ ap (λ (s : ℕ). Some (record { object = b.object; position = b.position; stored = s; tried = false })) six) is.goes;
+        back = ⊎_elim (λ a. let none = a.0 in absurd (omega arith))
+            (λ a. a.1 ∙ ap (λ (s : ℕ). Some (record { object = b.object; position = b.position; stored = s; tried = false })) six) is.goes;
         own = is.own;
       })
 
@@ -169,7 +170,8 @@ module _ (c : Config) (v : View) (l : Noted) (b : Back) (k : Stands c v l) (is :
       lost_is : y ≡ mark_cleared c (cut_lost c v b.object b.position link)
       lost_is = left ∙ ap (mark_cleared c) lost
 
-      pub ends_uncut : (seat : ℕ) → seat ≡ link_seat_of link → link ≢ link_of v.number b.position → IsLinkOf c link → IsOfOther v link → IsUncut c v y l l b seat
+      pub ends_uncut : (seat : ℕ) → seat ≡ link_seat_of link → link ≢ link_of v.number b.position → IsLinkOf c link → IsOfOther v link
+          → IsUncut c v y l l b seat
       ends_uncut seat seat_is other packed of_other = record {
         link = link;
         some = of_other.0;

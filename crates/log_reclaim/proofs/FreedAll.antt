@@ -89,10 +89,13 @@ frees_none v l may still = record {
 module _ (c : Config) (v w : View) (l m : Noted) (made : List Step) (freed : ℕ) (k : FreesSome v w l m made freed) (t count : ℕ) (f : FreesSet m t count) where
   -- there are so many versions fewer
   fewer : length m.live + freed ≡ length l.live
-  fewer = let e : length m.live ≡ length (drop freed l.live) = ap (λ (n : Noted). length n.live) k.log in let d = length-drop freed l.live in let few = k.few in omega arith
+  fewer =
+      let e : length m.live ≡ length (drop freed l.live) = ap (λ (n : Noted). length n.live) k.log in
+      let d = length-drop freed l.live in let few = k.few in omega arith
 
   -- one set more
-  pub frees_more : (u : View) (n : Noted) → u ≡ slots_freed c w m.freed count → n ≡ freed_noted m count → (more : List Step) × FreesSome v u l n more (freed + count)
+  pub frees_more : (u : View) (n : Noted) → u ≡ slots_freed c w m.freed count → n ≡ freed_noted m count
+      → (more : List Step) × FreesSome v u l n more (freed + count)
   frees_more u n view log =
       let a = slots_view c w m.freed count in
       let one : FreesSlots w u a.0 = subst (λ (x : View). FreesSlots w x a.0) (sym view) a.1 in
@@ -122,7 +125,9 @@ none_dead m t count log f none some dead =
     ⊎_elim (λ a. a.1.outside 0 r.0 r.1 (omega arith) (let e : r.0.first ≡ m.freed = omega arith in e)) (λ b. b.0 dead) f
 
 -- no set more
-pub frees_end : (c : Config) (v w : View) (l m : Noted) (made : List Step) (freed t count : ℕ) → FreesSome v w l m made freed → IsLog m → FreesSet m t count → count ≡ 0 → (u : View) (n : Noted) → u ≡ slots_freed c w m.freed count → n ≡ freed_noted m count → (more : List Step) × FreesAll v u l n more t freed
+pub frees_end : (c : Config) (v w : View) (l m : Noted) (made : List Step) (freed t count : ℕ) → FreesSome v w l m made freed → IsLog m
+    → FreesSet m t count → count ≡ 0 → (u : View) (n : Noted) → u ≡ slots_freed c w m.freed count → n ≡ freed_noted m count
+    → (more : List Step) × FreesAll v u l n more t freed
 frees_end c v w l m made freed t count k log f none u n view is =
     let a = frees_more c v w l m made freed k t count f u n view is in
     let all : freed + count ≡ freed = omega arith in

@@ -57,7 +57,11 @@ reclaims_on v u w made more a b = record {
   grace = (let first = a.grace in let then = b.grace in omega arith);
   trail = b.trail ∙ ap (λ l. l ++ more) a.trail ∙ append_assoc v.trail made more;
   kinds = All-append (λ s. NamesNoCommit s.kind) made more a.kinds b.kinds;
-  rest = b.rest ∙ ap (λ (x : View). record x { past = w.past; phase = Outside; heard = w.heard; walk = Nowhere; empty = w.empty; ring = w.ring; back = None; scan = None; grace = w.grace; trail = w.trail }) a.rest;
+  rest = b.rest
+      ∙ ap
+      (λ (x : View).
+      record x { past = w.past; phase = Outside; heard = w.heard; walk = Nowhere; empty = w.empty; ring = w.ring; back = None; scan = None; grace = w.grace; trail = w.trail })
+      a.rest;
 }
 
 pub makes_on : (v u w : View) (made more : List Step) → Makes v u made → Makes u w more → Makes v w (made ++ more)

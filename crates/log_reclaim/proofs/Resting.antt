@@ -95,7 +95,9 @@ module _ (v : View) (may : MayLoadLow v) (still : (v.walk ≡ Nowhere) × (v.bac
       (All-weaker (λ (s : Step). IsRestStep s.kind) (λ s. NamesNoCommit s.kind) (λ s. names_none s.kind) made k.kinds)
 
   -- nothing was done: the last time was seen, or no version is dead only from above
-  pub rests_none : (starts : State → Type 0) (allows : List ℕ → State → Writes → Type 0) (l : Noted) (latest : ℕ) → ∥ Known starts allows v ∥₁ → latest ≤ v.base + length v.past.seen → (latest ≡ 35184372088831) ⊎ IsAnyAbove l latest false → (made : List Step) × RestsSo v v l l made latest
+  pub rests_none : (starts : State → Type 0) (allows : List ℕ → State → Writes → Type 0) (l : Noted) (latest : ℕ) → ∥ Known starts allows v ∥₁
+      → latest ≤ v.base + length v.past.seen → (latest ≡ 35184372088831) ⊎ IsAnyAbove l latest false
+      → (made : List Step) × RestsSo v v l l made latest
   rests_none starts allows l latest known within why =
       let high : v.base + length v.past.seen ≤ 35184372088831 = ∥∥₁_elim known le_prop (λ a. a.in_time) in (
         [],
@@ -109,7 +111,8 @@ module _ (v : View) (may : MayLoadLow v) (still : (v.walk ≡ Nowhere) × (v.bac
         },
       )
 
-module _ (c : Config) (v x : View) (word : ℕ) (h0 : List Entry) (whole : IsWhole c v word h0) (is : x ≡ check_loaded c v word h0) (may : MayLoadLow v) (still : (v.walk ≡ Nowhere) × (v.back ≡ None)) (y : View) (helps : Helps c x y word) where
+module _ (c : Config) (v x : View) (word : ℕ) (h0 : List Entry) (whole : IsWhole c v word h0) (is : x ≡ check_loaded c v word h0) (may : MayLoadLow v)
+    (still : (v.walk ≡ Nowhere) × (v.back ≡ None)) (y : View) (helps : Helps c x y word) where
   phase_first : x.phase ≡ Outside
   phase_first = ap (λ (u : View). u.phase) is ∙ may.outside
 
@@ -162,7 +165,8 @@ module _ (c : Config) (v x : View) (word : ℕ) (h0 : List Entry) (whole : IsWho
       (All-cons (λ s. LeavesLog s.kind) load helps.trail.0 (refl, refl) (kinds_leave IsHelpStep help_leaves helps.trail.0 helps.trail.3))
 
   -- the word loaded is of the last time
-  pub rests_at_end : (starts : State → Type 0) (allows : List ℕ → State → Writes → Type 0) (l : Noted) (latest : ℕ) → ∥ Known starts allows y ∥₁ → v.base ≡ c.base → clock_time_of word ≡ 35184372088831 → (made : List Step) × RestsSo v y l l made latest
+  pub rests_at_end : (starts : State → Type 0) (allows : List ℕ → State → Writes → Type 0) (l : Noted) (latest : ℕ) → ∥ Known starts allows y ∥₁
+      → v.base ≡ c.base → clock_time_of word ≡ 35184372088831 → (made : List Step) × RestsSo v y l l made latest
   rests_at_end starts allows l latest known base last =
       let high : y.base + length y.past.seen ≤ 35184372088831 = ∥∥₁_elim known le_prop (λ a. a.in_time) in
       let same : y.base ≡ v.base = ap (λ (u : View). u.base) listens_next.rest in
@@ -179,19 +183,24 @@ module _ (c : Config) (v x : View) (word : ℕ) (h0 : List Entry) (whole : IsWho
         },
       )
 
-  pub room : (starts : State → Type 0) (allows : List ℕ → State → Writes → Type 0) (l : Noted) → Stands c v l → ∥ Known starts allows y ∥₁ → l.rests + 1 < 2 ^ 63
+  pub room : (starts : State → Type 0) (allows : List ℕ → State → Writes → Type 0) (l : Noted) → Stands c v l → ∥ Known starts allows y ∥₁
+      → l.rests + 1 < 2 ^ 63
   room starts allows l k known = rests_room starts allows c y l (stands_helped l k) known
 
-  pub stands_done : (starts : State → Type 0) (allows : List ℕ → State → Writes → Type 0) (w : View) (l m : Noted) (h : List Entry) → Stands c v l → ∥ Known starts allows y ∥₁ → w ≡ rest_named c y word h → m ≡ rest_noted l → Stands c w m
+  pub stands_done : (starts : State → Type 0) (allows : List ℕ → State → Writes → Type 0) (w : View) (l m : Noted) (h : List Entry) → Stands c v l
+      → ∥ Known starts allows y ∥₁ → w ≡ rest_named c y word h → m ≡ rest_noted l → Stands c w m
   stands_done starts allows w l m h k known is_named noted =
-      subst (λ (p : View × Noted). Stands c p.0 p.1) (λ i. (sym is_named i, sym noted i)) (stands_rested c y l word h (stands_helped l k) (room starts allows l k known))
+      subst (λ (p : View × Noted). Stands c p.0 p.1) (λ i. (sym is_named i, sym noted i))
+      (stands_rested c y l word h (stands_helped l k) (room starts allows l k known))
 
   pub stands_lost : (w : View) (l : Noted) (found : ℕ) (h : List Entry) → Stands c v l → w ≡ rest_lost c y found h → Stands c w l
   stands_lost w l found h k is_lost = subst (λ (u : View). Stands c u l) (sym is_lost) (stands_unrested c y l found h (stands_helped l k))
 
   module _ (w : View) (latest : ℕ) (within : latest ≤ v.base + length v.past.seen) (base : v.base ≡ c.base) where
     -- an exchange of CLOCK was made after that, by which more than up to `latest` was seen
-    rests_by : (step : Step) (l m : Noted) → IsRestStep step.kind → Listens y w (step ∷ []) → (w.past.rests ≡ y.past.rests) ⊎ (w.past.rests ≡ y.past.rests + 1) → m ≡ record l { rests = m.rests } → latest < w.base + length w.past.seen → (made : List Step) × RestsSo v w l m made latest
+    rests_by : (step : Step) (l m : Noted) → IsRestStep step.kind → Listens y w (step ∷ [])
+        → (w.past.rests ≡ y.past.rests) ⊎ (w.past.rests ≡ y.past.rests + 1) → m ≡ record l { rests = m.rests } → latest < w.base + length w.past.seen
+        → (made : List Step) × RestsSo v w l m made latest
     rests_by step l m kind more once log late =
         let all = listens_then v y w steps (step ∷ []) listens_next more in (
           steps ++ step ∷ [],
@@ -208,7 +217,8 @@ module _ (c : Config) (v x : View) (word : ℕ) (h0 : List Entry) (whole : IsWho
     same_base : y.base ≡ v.base
     same_base = ap (λ (u : View). u.base) listens_next.rest
 
-    pub rests_done : (l m : Noted) (h : List Entry) → IsWhole c y word h → w ≡ rest_named c y word h → m ≡ rest_noted l → (made : List Step) × RestsSo v w l m made latest
+    pub rests_done : (l m : Noted) (h : List Entry) → IsWhole c y word h → w ≡ rest_named c y word h → m ≡ rest_noted l
+        → (made : List Step) × RestsSo v w l m made latest
     rests_done l m h now is_named noted =
         let step : Step = record { kind = NameRest; word = place_of c Clock; found = Some word; stored = Some (rest_word y word) } in
         let seen : w.past.seen ≡ h ++ Rest y.number ∷ [] = ap (λ (u : View). u.past.seen) is_named in
@@ -223,13 +233,15 @@ module _ (c : Config) (v x : View) (word : ℕ) (h0 : List Entry) (whole : IsWho
           mine = ap (λ (u : View). u.past.mine) is_named;
           trail = ap (λ (u : View). u.trail) is_named;
           kinds = All-cons (λ s. IsRestStep s.kind) step [] tt (All-nil (λ s. IsRestStep s.kind));
-          rest = is_named ∙ (λ i. record y { past = sym (ap (λ (u : View). u.past) is_named) i; heard = sym (ap (λ (u : View). u.heard) is_named) i; trail = sym (ap (λ (u : View). u.trail) is_named) i });
+          rest = is_named
+              ∙ (λ i. record y { past = sym (ap (λ (u : View). u.past) is_named) i; heard = sym (ap (λ (u : View). u.heard) is_named) i; trail = sym (ap (λ (u : View). u.trail) is_named) i });
         })
         (inr (ap (λ (u : View). u.past.rests) is_named))
         (noted ∙ ap (λ (n : ℕ). record l { rests = n }) (sym (ap (λ (k : Noted). k.rests) noted)))
         (omega arith)
 
-    pub rests_lost : (l : Noted) (found : ℕ) (h : List Entry) (rival : Rival) → IsLost c y word found rival h → w ≡ rest_lost c y found h → (made : List Step) × RestsSo v w l l made latest
+    pub rests_lost : (l : Noted) (found : ℕ) (h : List Entry) (rival : Rival) → IsLost c y word found rival h → w ≡ rest_lost c y found h
+        → (made : List Step) × RestsSo v w l l made latest
     rests_lost l found h rival lost is_lost =
         let step : Step = record { kind = NameRest; word = place_of c Clock; found = Some found; stored = None } in
         let seen : w.past.seen ≡ h = ap (λ (u : View). u.past.seen) is_lost in
@@ -246,7 +258,8 @@ module _ (c : Config) (v x : View) (word : ℕ) (h0 : List Entry) (whole : IsWho
           mine = ap (λ (u : View). u.past.mine) is_lost;
           trail = ap (λ (u : View). u.trail) is_lost;
           kinds = All-cons (λ s. IsRestStep s.kind) step [] tt (All-nil (λ s. IsRestStep s.kind));
-          rest = is_lost ∙ (λ i. record y { past = sym (ap (λ (u : View). u.past) is_lost) i; heard = sym (ap (λ (u : View). u.heard) is_lost) i; trail = sym (ap (λ (u : View). u.trail) is_lost) i });
+          rest = is_lost
+              ∙ (λ i. record y { past = sym (ap (λ (u : View). u.past) is_lost) i; heard = sym (ap (λ (u : View). u.heard) is_lost) i; trail = sym (ap (λ (u : View). u.trail) is_lost) i });
         })
         (inl (ap (λ (u : View). u.past.rests) is_lost))
         refl

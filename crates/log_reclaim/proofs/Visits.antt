@@ -35,7 +35,8 @@ abbrev pub IsPlain : Step → Type 0
 IsPlain s = NamesNoCommit s.kind × IsOtherKind s.kind
 
 -- plain steps that end outside a section are a part of a reclaiming call
-pub section_makes : (v w : View) (made : List Step) → MayLoadLow v → w.phase ≡ Outside → BeginsWith w.past.seen v.past.seen → w.trail ≡ v.trail ++ made → All IsPlain made
+pub section_makes : (v w : View) (made : List Step) → MayLoadLow v → w.phase ≡ Outside → BeginsWith w.past.seen v.past.seen
+    → w.trail ≡ v.trail ++ made → All IsPlain made
     → w ≡ record v { past = record v.past { seen = w.past.seen }; phase = Outside; heard = w.heard; walk = Nowhere; empty = w.empty; ring = w.ring; back = None; trail = w.trail } → Makes v w made
 section_makes v w made may outside seen trail kinds rest =
     let past : record v.past { seen = w.past.seen } ≡ w.past = sym (ap (λ (x : View). x.past) rest) in
@@ -48,7 +49,8 @@ section_makes v w made may outside seen trail kinds rest =
         grace = omega arith;
         trail = trail;
         kinds = All-weaker IsPlain (λ s. NamesNoCommit s.kind) (λ s p. p.0) made kinds;
-        rest = rest ∙ (λ i. record v { past = past i; phase = Outside; heard = w.heard; walk = Nowhere; empty = w.empty; ring = w.ring; back = None; scan = may.no_scan i; grace = grace i; trail = w.trail });
+        rest = rest
+            ∙ (λ i. record v { past = past i; phase = Outside; heard = w.heard; walk = Nowhere; empty = w.empty; ring = w.ring; back = None; scan = may.no_scan i; grace = grace i; trail = w.trail });
       };
       rests = ap (λ (x : View). x.past.rests) rest;
       kinds = All-weaker IsPlain (λ s. IsOtherKind s.kind) (λ s p. p.1) made kinds;
@@ -71,7 +73,8 @@ module _ (c : Config) (v w : View) (object link : ℕ) (h : HasLooked c v w obje
 
   pub looked_trail : w.trail ≡ v.trail ++ looked_steps
   looked_trail =
-      ap (λ (y : View). y.trail) h.looked ∙ ap (λ (l : List Step). l ++ head_step ∷ []) h.begins.entered.trail ∙ append_assoc v.trail h.begins.entered.steps (head_step ∷ [])
+      ap (λ (y : View). y.trail) h.looked ∙ ap (λ (l : List Step). l ++ head_step ∷ []) h.begins.entered.trail
+      ∙ append_assoc v.trail h.begins.entered.steps (head_step ∷ [])
 
   pub looked_plain : All IsPlain looked_steps
   looked_plain =
@@ -84,9 +87,13 @@ module _ (c : Config) (v w : View) (object link : ℕ) (h : HasLooked c v w obje
       subst (λ (y : View). BeginsWith y.past.seen v.past.seen) (sym h.looked)
       (begins_by e.past.seen (take h.begins.at e.past.seen) v.past.seen (drop h.begins.at e.past.seen, sym (take-append-drop h.begins.at e.past.seen)) h.begins.snapshot)
 
-  pub looked_rest : w ≡ record v { past = record v.past { seen = w.past.seen }; phase = w.phase; heard = w.heard; walk = w.walk; empty = w.empty; back = None; trail = w.trail }
+  pub looked_rest : w
+      ≡ record v { past = record v.past { seen = w.past.seen }; phase = w.phase; heard = w.heard; walk = w.walk; empty = w.empty; back = None; trail = w.trail }
   looked_rest =
-      subst (λ (y : View). y ≡ record v { past = record v.past { seen = y.past.seen }; phase = y.phase; heard = y.heard; walk = y.walk; empty = y.empty; back = None; trail = y.trail }) (sym h.looked)
+      subst
+      (λ (y : View).
+      y ≡ record v { past = record v.past { seen = y.past.seen }; phase = y.phase; heard = y.heard; walk = y.walk; empty = y.empty; back = None; trail = y.trail })
+      (sym h.looked)
       (ap (λ (y : View). record y { walk = x.walk; empty = x.empty; trail = x.trail }) h.begins.rest)
 
   pub looked_stands : (l : Noted) → Stands c v l → Stands c w l

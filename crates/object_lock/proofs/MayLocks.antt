@@ -19,7 +19,8 @@ use Rattle.version_chain.specs.Reads.{words_in}
 use Rattle.object_lock.specs.Locks.{HoldsObject, IsBuiltFor}
 use Rattle.object_lock.proofs.OwnNotes.{unheld_is}
 
-module _ (c : Config) (v : View) (l : Noted) (object previous position : ℕ) (s : Stands c v l) (is : IsBuiltFor l position object previous (words_in c v object)) where
+module _ (c : Config) (v : View) (l : Noted) (object previous position : ℕ) (s : Stands c v l)
+    (is : IsBuiltFor l position object previous (words_in c v object)) where
   abbrev n : Note
   n = is.0
 
@@ -50,7 +51,8 @@ module _ (c : Config) (v : View) (l : Noted) (object previous position : ℕ) (s
   pub small : position < 2 ^ 57
   small = let a = next_noted.4 in let b = is.2 in omega arith
 
-  pub may_lock : (write_max : ℕ) → MayWalk v → object < c.objects → StandsToLock v (section_in v) object previous → ¬ (HoldsObject l object) → l.held < write_max → MayLock c write_max v object previous position (build_at c v position) (section_in v)
+  pub may_lock : (write_max : ℕ) → MayWalk v → object < c.objects → StandsToLock v (section_in v) object previous → ¬ (HoldsObject l object)
+      → l.held < write_max → MayLock c write_max v object previous position (build_at c v position) (section_in v)
   may_lock write_max may range stands unheld few =
       let w = whole.2 in record {
         walking = may;

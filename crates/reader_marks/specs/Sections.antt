@@ -32,7 +32,8 @@ pub record EntersBy (before after : List Step) (word : ℕ) : Type 0 where
   pub kinds : All (λ s. IsEnterStep s.kind) steps
   pub takes : Contains steps (record { kind = LoadTime; word = 0; found = Some word; stored = None })
 
--- A section begins: it is open and past its help, holds nothing, walks nowhere and writes nothing back. Its time is base and the length of its snapshot, which begins with all that was seen before and is the first part of what is seen now. Nothing else changes.
+-- A section begins: it is open and past its help, holds nothing, walks nowhere and writes nothing back. Its time is base and the length of its
+-- snapshot, which begins with all that was seen before and is the first part of what is seen now. Nothing else changes.
 pub record Begins (c : Config) (v w : View) (time : ℕ) : Type 0 where
   pub inside : Section
   pub phase : w.phase ≡ Inside inside

@@ -31,20 +31,23 @@ begun : (c : Config) (v : View) (l : Noted) → IsOutside c v l → IsBetween c 
 begun c v l o = record { no_scan = o.may.no_scan; stands = o.stands; unbuilt = o.unbuilt }
 
 -- a step that leaves the log and the scan alone
-goes_on : (c : Config) (v w : View) (l : Noted) → IsBetween c v l → w.number ≡ v.number → w.ring ≡ v.ring → w.past.mine ≡ v.past.mine → w.past.rests ≡ v.past.rests → w.scan ≡ v.scan → (s : Step) → w.trail ≡ v.trail ++ s ∷ [] → LeavesLog s.kind → IsBetween c w l
+goes_on : (c : Config) (v w : View) (l : Noted) → IsBetween c v l → w.number ≡ v.number → w.ring ≡ v.ring → w.past.mine ≡ v.past.mine
+    → w.past.rests ≡ v.past.rests → w.scan ≡ v.scan → (s : Step) → w.trail ≡ v.trail ++ s ∷ [] → LeavesLog s.kind → IsBetween c w l
 goes_on c v w l e number ring mine rests scan s trail plain = record {
   no_scan = scan ∙ e.no_scan;
   stands = stands_left c v w l e.stands number ring mine rests (s ∷ []) trail (one_leaves s plain);
   unbuilt = e.unbuilt;
 }
 
-pub lowered : (c : Config) (v w : View) (l : Noted) (word low : ℕ) → IsOutside c v l → w ≡ low_loaded c v word → low ≡ clock_time_of word → low ≤ 35184372088831 → HasLowered c w l low
+pub lowered : (c : Config) (v w : View) (l : Noted) (word low : ℕ) → IsOutside c v l → w ≡ low_loaded c v word → low ≡ clock_time_of word
+    → low ≤ 35184372088831 → HasLowered c w l low
 lowered c v w l word low o is time within =
     let s : Step = record { kind = LoadLow; word = place_of c Clock; found = Some word; stored = None } in
     record {
       may = ap (λ (u : View). u.phase) is ∙ ap Lowered (sym time);
       within = within;
-      between = goes_on c v w l (begun c v l o) (ap (λ (u : View). u.number) is) (ap (λ (u : View). u.ring) is) (ap (λ (u : View). u.past.mine) is) (ap (λ (u : View). u.past.rests) is) (ap (λ (u : View). u.scan) is) s (ap (λ (u : View). u.trail) is) (refl, refl);
+      between = goes_on c v w l (begun c v l o) (ap (λ (u : View). u.number) is) (ap (λ (u : View). u.ring) is) (ap (λ (u : View). u.past.mine) is)
+          (ap (λ (u : View). u.past.rests) is) (ap (λ (u : View). u.scan) is) s (ap (λ (u : View). u.trail) is) (refl, refl);
     }
 
 pub marked : (c : Config) (v w : View) (l : Noted) (low : ℕ) → HasLowered c v l low → w ≡ mark_stored c v low → HasMarked c w l
@@ -52,10 +55,12 @@ marked c v w l low h is =
     let s : Step = record { kind = StoreMark; word = place_of c (Mark v.number); found = None; stored = Some (1 + low) } in
     record {
       may = (low, ap (λ (u : View). u.phase) is);
-      between = goes_on c v w l h.between (ap (λ (u : View). u.number) is) (ap (λ (u : View). u.ring) is) (ap (λ (u : View). u.past.mine) is) (ap (λ (u : View). u.past.rests) is) (ap (λ (u : View). u.scan) is) s (ap (λ (u : View). u.trail) is) (refl, refl);
+      between = goes_on c v w l h.between (ap (λ (u : View). u.number) is) (ap (λ (u : View). u.ring) is) (ap (λ (u : View). u.past.mine) is)
+          (ap (λ (u : View). u.past.rests) is) (ap (λ (u : View). u.scan) is) s (ap (λ (u : View). u.trail) is) (refl, refl);
     }
 
-pub taken : (c : Config) (v w : View) (l : Noted) (word : ℕ) (h : List Entry) → HasMarked c v l → w ≡ time_loaded c v word h → IsWord c word → HasTaken c w l word
+pub taken : (c : Config) (v w : View) (l : Noted) (word : ℕ) (h : List Entry) → HasMarked c v l → w ≡ time_loaded c v word h → IsWord c word
+    → HasTaken c w l word
 taken c v w l word h m is is_word =
     let s : Step = record { kind = LoadTime; word = place_of c Clock; found = Some word; stored = None } in
     record {
@@ -66,10 +71,13 @@ taken c v w l word h m is is_word =
       loaded = record {
         loaded = subst (λ (u : View). Contains u.heard.loaded word) (sym is) (Contains-push [] word);
         is_word = is_word;
-        none = λ e. subst (λ (u : View). Contains u.heard.helped word) (sym is) (subst (λ (b : Bool). Contains (cond b (word ∷ []) []) word) (sym (eq-eqb (clock_slot_of word) 8191 e)) (Contains-push [] word));
+        none = λ e.
+            subst (λ (u : View). Contains u.heard.helped word) (sym is)
+            (subst (λ (b : Bool). Contains (cond b (word ∷ []) []) word) (sym (eq-eqb (clock_slot_of word) 8191 e)) (Contains-push [] word));
       };
       no_back = ap (λ (u : View). u.back) is;
-      between = goes_on c v w l m.between (ap (λ (u : View). u.number) is) (ap (λ (u : View). u.ring) is) (ap (λ (u : View). u.past.mine) is) (ap (λ (u : View). u.past.rests) is) (ap (λ (u : View). u.scan) is) s (ap (λ (u : View). u.trail) is) (refl, refl);
+      between = goes_on c v w l m.between (ap (λ (u : View). u.number) is) (ap (λ (u : View). u.ring) is) (ap (λ (u : View). u.past.mine) is)
+          (ap (λ (u : View). u.past.rests) is) (ap (λ (u : View). u.scan) is) s (ap (λ (u : View). u.trail) is) (refl, refl);
     }
 
 pub helped : (c : Config) (v w : View) (l : Noted) (word : ℕ) → HasTaken c v l word → Helps c v w word → IsInside c w l None
@@ -81,7 +89,9 @@ helped c v w l word t helps = record {
     no_back = ap (λ (u : View). u.back) helps.rest ∙ t.no_back;
   });
   no_scan = ap (λ (u : View). u.scan) helps.rest ∙ t.between.no_scan;
-  stands = stands_left c v w l t.between.stands (ap (λ (u : View). u.number) helps.rest) (ap (λ (u : View). u.ring) helps.rest) (ap (λ (p : Past). p.mine) helps.past.2) (ap (λ (p : Past). p.rests) helps.past.2) helps.trail.0 helps.trail.1 (kinds_leave IsHelpStep help_leaves helps.trail.0 helps.trail.3);
+  stands = stands_left c v w l t.between.stands (ap (λ (u : View). u.number) helps.rest) (ap (λ (u : View). u.ring) helps.rest)
+      (ap (λ (p : Past). p.mine) helps.past.2) (ap (λ (p : Past). p.rests) helps.past.2) helps.trail.0 helps.trail.1
+      (kinds_leave IsHelpStep help_leaves helps.trail.0 helps.trail.3);
   unbuilt = t.between.unbuilt;
   helped = λ x e. absurd cc;
 }
@@ -93,19 +103,24 @@ one_unless false s leaves = one_leaves s leaves
 
 marks_plain : (c : Config) (own : ℕ) (marks : ℕ → ℕ) (n : ℕ) → AllLeaveLog (mark_steps c own marks n)
 marks_plain c own marks zero = All-nil (λ (t : Step). LeavesLog t.kind)
-marks_plain c own marks (suc n) = All-append (λ (t : Step). LeavesLog t.kind) (mark_steps c own marks n) (cond (n == own) [] (mark_step c n (marks n) ∷ [])) (marks_plain c own marks n) (one_unless (n == own) (mark_step c n (marks n)) (refl, refl))
+marks_plain c own marks (suc n) =
+    All-append (λ (t : Step). LeavesLog t.kind) (mark_steps c own marks n) (cond (n == own) [] (mark_step c n (marks n) ∷ []))
+    (marks_plain c own marks n) (one_unless (n == own) (mark_step c n (marks n)) (refl, refl))
 
 scan_plain : (c : Config) (own word : ℕ) (marks : ℕ → ℕ) (low found : ℕ) → AllLeaveLog (scan_steps c own word marks low found)
 scan_plain c own word marks low found =
     All-cons (λ (t : Step). LeavesLog t.kind) (scan_step c word) (mark_steps c own marks c.seats ++ grace_step c low found ∷ []) (refl, refl)
     (All-append (λ (t : Step). LeavesLog t.kind) (mark_steps c own marks c.seats) (grace_step c low found ∷ []) (marks_plain c own marks c.seats) (one_leaves (grace_step c low found) (refl, refl)))
 
-pub scanned : (c : Config) (v w : View) (l : Noted) (mark : Watermark) (clock before after : ℕ) → IsOutside c v l → Scans c v w mark clock before after → IsOutside c w l
+pub scanned : (c : Config) (v w : View) (l : Noted) (mark : Watermark) (clock before after : ℕ) → IsOutside c v l
+    → Scans c v w mark clock before after → IsOutside c w l
 scanned c v w l mark clock before after o s =
     let is = s.view in
     record {
       may = record { outside = ap (λ (u : View). u.phase) is ∙ o.may.outside; no_scan = ap (λ (u : View). u.scan) is };
-      stands = stands_left c v w l o.stands (ap (λ (u : View). u.number) is) (ap (λ (u : View). u.ring) is) (ap (λ (u : View). u.past.mine) is) (ap (λ (u : View). u.past.rests) is) (scan_steps c v.number s.word s.marks mark.low s.found) (ap (λ (u : View). u.trail) is) (scan_plain c v.number s.word s.marks mark.low s.found);
+      stands = stands_left c v w l o.stands (ap (λ (u : View). u.number) is) (ap (λ (u : View). u.ring) is) (ap (λ (u : View). u.past.mine) is)
+          (ap (λ (u : View). u.past.rests) is) (scan_steps c v.number s.word s.marks mark.low s.found) (ap (λ (u : View). u.trail) is)
+          (scan_plain c v.number s.word s.marks mark.low s.found);
       unbuilt = o.unbuilt;
     }
 
@@ -114,6 +129,7 @@ known c v w l time o is =
     let s : Step = record { kind = LoadGrace; word = place_of c Grace; found = Some time; stored = None } in
     record {
       may = record { outside = ap (λ (u : View). u.phase) is ∙ o.may.outside; no_scan = ap (λ (u : View). u.scan) is ∙ o.may.no_scan };
-      stands = stands_left c v w l o.stands (ap (λ (u : View). u.number) is) (ap (λ (u : View). u.ring) is) (ap (λ (u : View). u.past.mine) is) (ap (λ (u : View). u.past.rests) is) (s ∷ []) (ap (λ (u : View). u.trail) is) (one_leaves s (refl, refl));
+      stands = stands_left c v w l o.stands (ap (λ (u : View). u.number) is) (ap (λ (u : View). u.ring) is) (ap (λ (u : View). u.past.mine) is)
+          (ap (λ (u : View). u.past.rests) is) (s ∷ []) (ap (λ (u : View). u.trail) is) (one_leaves s (refl, refl));
       unbuilt = o.unbuilt;
     }

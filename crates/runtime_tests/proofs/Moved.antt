@@ -89,11 +89,13 @@ tried c v w l m word before after i t may stands unbuilt =
     still_inside c v w l m word i (ap (λ (u : View). u.scan) t.rest) (ap (λ (u : View). u.heard) t.rest) may stands unbuilt
 
 -- a lock was begun: a version of the object is built
-pub has_started : (c : Config) (v w : View) (l m : Noted) (word : Option ℕ) (before after : ℕ) (lock : StartedLock) → IsInside c v l word → Tries v w before after → IsStarted c w m lock → HasStarted c w m lock
+pub has_started : (c : Config) (v w : View) (l m : Noted) (word : Option ℕ) (before after : ℕ) (lock : StartedLock) → IsInside c v l word
+    → Tries v w before after → IsStarted c w m lock → HasStarted c w m lock
 has_started c v w l m word before after lock i t started = record { started = started; no_scan = ap (λ (u : View). u.scan) t.rest ∙ i.no_scan }
 
 -- and ended
-pub has_ended : (c : Config) (v w : View) (l m : Noted) (object before after : ℕ) (lock : StartedLock) (answer : LockAnswer) → HasStarted c v l lock → Outcome c v w m object answer before after → IsInside c w m None
+pub has_ended : (c : Config) (v w : View) (l m : Noted) (object before after : ℕ) (lock : StartedLock) (answer : LockAnswer) → HasStarted c v l lock
+    → Outcome c v w m object answer before after → IsInside c w m None
 has_ended c v w l m object before after lock answer k o = record {
   may = o.may;
   no_scan = ap (λ (u : View). u.scan) o.tries.rest ∙ k.no_scan;
@@ -108,7 +110,8 @@ written c v w l m word n i s may stands unbuilt =
     still_inside c v w l m word i (ap (λ (u : View). u.scan) s.rest) (ap (λ (u : View). u.heard) s.rest) may stands unbuilt
 
 -- CLOCK was loaded, and its word helped
-pub loaded : (c : Config) (v x y : View) (l : Noted) (old : Option ℕ) (word : ℕ) (h : List Entry) → IsInside c v l old → IsWhole c v word h → x ≡ check_loaded c v word h → HasLoaded c x word → Helps c x y word → IsInside c y l (Some word)
+pub loaded : (c : Config) (v x y : View) (l : Noted) (old : Option ℕ) (word : ℕ) (h : List Entry) → IsInside c v l old → IsWhole c v word h
+    → x ≡ check_loaded c v word h → HasLoaded c x word → Helps c x y word → IsInside c y l (Some word)
 loaded c v x y l old word h i whole is has helps =
     let inside : Section = section_in v in
     let back = ap (λ (u : View). u.back) helps.rest ∙ ap (λ (u : View). u.back) is ∙ i.may.no_back in
@@ -122,5 +125,7 @@ loaded c v x y l old word h i whole is has helps =
       no_scan = ap (λ (u : View). u.scan) helps.rest ∙ ap (λ (u : View). u.scan) is ∙ i.no_scan;
       stands = stands_next c v x word h whole is inside i.may.phase i.may.helped y helps i.may.open_is l i.stands;
       unbuilt = i.unbuilt;
-      helped = λ w e. let same : word ≡ w = cc in subst (λ n. Contains y.heard.loaded n × Contains y.heard.helped n) same (helps.still_loaded word has.loaded, helps.helped);
+      helped = λ w e.
+          let same : word ≡ w = cc in
+          subst (λ n. Contains y.heard.loaded n × Contains y.heard.helped n) same (helps.still_loaded word has.loaded, helps.helped);
     }

@@ -24,13 +24,15 @@ use Rattle.seat_log.proofs.PlainSteps.{stands_left, kinds_leave, one_leaves, hel
 use Rattle.runtime_tests.specs.Clients.{IsOutside, HasClock, HasHelpedClock}
 
 -- CLOCK was loaded
-pub clock_taken : (c : Config) (v w : View) (l : Noted) (word : ℕ) (h : List Entry) → IsOutside c v l → w ≡ check_loaded c v word h → HasLoaded c w word → HasClock c w l word
+pub clock_taken : (c : Config) (v w : View) (l : Noted) (word : ℕ) (h : List Entry) → IsOutside c v l → w ≡ check_loaded c v word h
+    → HasLoaded c w word → HasClock c w l word
 clock_taken c v w l word h o is loaded =
     let s : Step = record { kind = LoadCheck; word = place_of c Clock; found = Some word; stored = None } in
     record {
       outside = record {
         may = record { outside = ap (λ (u : View). u.phase) is ∙ o.may.outside; no_scan = ap (λ (u : View). u.scan) is ∙ o.may.no_scan };
-        stands = stands_left c v w l o.stands (ap (λ (u : View). u.number) is) (ap (λ (u : View). u.ring) is) (ap (λ (u : View). u.past.mine) is) (ap (λ (u : View). u.past.rests) is) (s ∷ []) (ap (λ (u : View). u.trail) is) (one_leaves s (refl, refl));
+        stands = stands_left c v w l o.stands (ap (λ (u : View). u.number) is) (ap (λ (u : View). u.ring) is) (ap (λ (u : View). u.past.mine) is)
+            (ap (λ (u : View). u.past.rests) is) (s ∷ []) (ap (λ (u : View). u.trail) is) (one_leaves s (refl, refl));
         unbuilt = o.unbuilt;
       };
       loaded = loaded;
@@ -43,7 +45,9 @@ clock_helped c v w l word k helps =
     record {
       outside = record {
         may = record { outside = still_outside c v w word o.may.outside helps; no_scan = ap (λ (u : View). u.scan) helps.rest ∙ o.may.no_scan };
-        stands = stands_left c v w l o.stands (ap (λ (u : View). u.number) helps.rest) (ap (λ (u : View). u.ring) helps.rest) (ap (λ (p : Past). p.mine) helps.past.2) (ap (λ (p : Past). p.rests) helps.past.2) helps.trail.0 helps.trail.1 (kinds_leave IsHelpStep help_leaves helps.trail.0 helps.trail.3);
+        stands = stands_left c v w l o.stands (ap (λ (u : View). u.number) helps.rest) (ap (λ (u : View). u.ring) helps.rest)
+            (ap (λ (p : Past). p.mine) helps.past.2) (ap (λ (p : Past). p.rests) helps.past.2) helps.trail.0 helps.trail.1
+            (kinds_leave IsHelpStep help_leaves helps.trail.0 helps.trail.3);
         unbuilt = o.unbuilt;
       };
       loaded = helps.still_loaded word k.loaded.loaded;
@@ -55,7 +59,8 @@ pub may_rest : (c : Config) (v : View) (l : Noted) (word : ℕ) → HasHelpedClo
 may_rest c v l word k room = record { outside = k.outside.may.outside; loaded = k.loaded; helped = k.helped; room = room }
 
 -- a rest was made, and is noted
-pub rested : (c : Config) (v w : View) (l m : Noted) (word time : ℕ) → HasHelpedClock c v l word → NamesRest c v word (Done time) w → l.rests + 1 < 2 ^ 63 → m ≡ rest_noted l → IsOutside c w m
+pub rested : (c : Config) (v w : View) (l m : Noted) (word time : ℕ) → HasHelpedClock c v l word → NamesRest c v word (Done time) w
+    → l.rests + 1 < 2 ^ 63 → m ≡ rest_noted l → IsOutside c w m
 rested c v w l m word time k names room noted =
     let o = k.outside in
     let is = names.1.2 in
@@ -66,7 +71,8 @@ rested c v w l m word time k names room noted =
     }
 
 -- or its exchange was lost
-pub rest_was_lost : (c : Config) (v w : View) (l : Noted) (word : ℕ) (rival : Rival) → HasHelpedClock c v l word → NamesRest c v word (Lost rival) w → IsOutside c w l
+pub rest_was_lost : (c : Config) (v w : View) (l : Noted) (word : ℕ) (rival : Rival) → HasHelpedClock c v l word → NamesRest c v word (Lost rival) w
+    → IsOutside c w l
 rest_was_lost c v w l word rival k names =
     let o = k.outside in
     let is = names.3 in

@@ -20,7 +20,8 @@ from_same f k ns keeps = record {
   long = length-from_place f k ns;
   before = λ i m e.
       let r = from_before f k i ns m e in
-      ⊎_elim (λ a. (r.0, r.1, ap (λ (n : Note). n.position) a.1 ∙ (keeps r.0).0, ap (λ (n : Note). n.first) a.1 ∙ (keeps r.0).1)) (λ b. (r.0, r.1, ap (λ (n : Note). n.position) b.1, ap (λ (n : Note). n.first) b.1)) r.2;
+      ⊎_elim (λ a. (r.0, r.1, ap (λ (n : Note). n.position) a.1 ∙ (keeps r.0).0, ap (λ (n : Note). n.first) a.1 ∙ (keeps r.0).1))
+      (λ b. (r.0, r.1, ap (λ (n : Note). n.position) b.1, ap (λ (n : Note). n.first) b.1)) r.2;
 }
 
 pub at_same : (f : Note → Note) (k : ℕ) (ns : List Note) → KeepsSet f → SameSets ns (at_place f k ns)
@@ -28,11 +29,13 @@ at_same f k ns keeps = record {
   long = length-at_place f k ns;
   before = λ i m e.
       let r = at_before f k i ns m e in
-      ⊎_elim (λ a. (r.0, r.1, ap (λ (n : Note). n.position) a.1 ∙ (keeps r.0).0, ap (λ (n : Note). n.first) a.1 ∙ (keeps r.0).1)) (λ b. (r.0, r.1, ap (λ (n : Note). n.position) b.1, ap (λ (n : Note). n.first) b.1)) r.2;
+      ⊎_elim (λ a. (r.0, r.1, ap (λ (n : Note). n.position) a.1 ∙ (keeps r.0).0, ap (λ (n : Note). n.first) a.1 ∙ (keeps r.0).1))
+      (λ b. (r.0, r.1, ap (λ (n : Note). n.position) b.1, ap (λ (n : Note). n.first) b.1)) r.2;
 }
 
 -- the notes stand so still, where as many are held or none is any more
-pub noted_again : (l m : Noted) → m.freed ≡ l.freed → SameSets l.live m.live → l.held ≤ length l.live → (m.held ≡ l.held) ⊎ (m.held ≡ 0) → AreNoted l → AreNoted m
+pub noted_again : (l m : Noted) → m.freed ≡ l.freed → SameSets l.live m.live → l.held ≤ length l.live → (m.held ≡ l.held) ⊎ (m.held ≡ 0) → AreNoted l
+    → AreNoted m
 noted_again l m freed same few held k =
     let long = same.long in record {
       position = λ i x e. let b = same.before i x e in let p = k.position i b.0 b.1 in let q = b.2 in omega arith;
@@ -114,7 +117,10 @@ held_is_noted l n e k =
       position = λ i m g. ⊎_elim (λ a. notes.position i m a.1) (λ b. ap (λ (x : Note). x.position) b.1 ∙ at ∙ ap (λ j. l.freed + j) (sym b.0)) (cases i m g);
       first = λ i m g.
           ⊎_elim (λ a. notes.first i m a.1)
-          (λ b. let f : m.first ≡ n.first = ap (λ (x : Note). x.first) b.1 in let p : m.position ≡ n.position = ap (λ (x : Note). x.position) b.1 in (omega arith, omega arith)) (cases i m g);
+          (λ b.
+          let f : m.first ≡ n.first = ap (λ (x : Note). x.first) b.1 in
+          let p : m.position ≡ n.position = ap (λ (x : Note). x.position) b.1 in (omega arith, omega arith))
+          (cases i m g);
       run = λ i j m other g d le order.
           ⊎_elim
           (λ a. ⊎_elim (λ b. notes.run i j m other a.1 b.1 le order) (λ b. let lt = a.0 in let z = b.0 in absurd (omega arith)) (cases j other d))
@@ -128,7 +134,9 @@ held_is_noted l n e k =
           let from : held_from (held_noted l) ≡ held_from l = omega arith in
           let firsts : first_of (held_noted l) ≡ first_of l = omega arith in
           ⊎_elim
-          (λ a. let h = notes.held i m a.1 in ((λ le2. h.0 (omega arith) ∙ sym firsts), (λ lt2. let q = h.1 (omega arith) in let r : m.first < first_of (held_noted l) = omega arith in r)))
+          (λ a.
+          let h = notes.held i m a.1 in
+          ((λ le2. h.0 (omega arith) ∙ sym firsts), (λ lt2. let q = h.1 (omega arith) in let r : m.first < first_of (held_noted l) = omega arith in r)))
           (λ b. ((λ le2. ap (λ (x : Note). x.first) b.1 ∙ first ∙ sym firsts), (λ lt2. let z = b.0 in absurd (omega arith))))
           (cases i m g);
     }

@@ -6,7 +6,8 @@ use Rattle.seat_log.specs.declared.version.Note.{Note}
 use Rattle.seat_log.specs.Notes.{from_place, at_place}
 
 -- one turn of a loop from a place on
-pub from_step : (f : Note → Note) (i : ℕ) (ns : List Note) (d : Note) → i < length ns → from_place f i ns ≡ from_place f (suc i) (slice_set ns i (f (slice_index_or ns i d)))
+pub from_step : (f : Note → Note) (i : ℕ) (ns : List Note) (d : Note) → i < length ns
+    → from_place f i ns ≡ from_place f (suc i) (slice_set ns i (f (slice_index_or ns i d)))
 from_step f zero [] d lt = absurd (omega arith)
 from_step f zero (n ∷ ns) d lt = refl
 from_step f (suc i) [] d lt = absurd (omega arith)
@@ -35,7 +36,8 @@ length-at_place f zero (n ∷ ns) = refl
 length-at_place f (suc i) (n ∷ ns) = ap suc (length-at_place f i ns)
 
 -- the note at a place from k on is f of the one before, and before k it is that one
-pub from_before : (f : Note → Note) (k i : ℕ) (ns : List Note) (m : Note) → slice_get (from_place f k ns) i ≡ Some m → (n : Note) × (slice_get ns i ≡ Some n) × (((k ≤ i) × (m ≡ f n)) ⊎ ((i < k) × (m ≡ n)))
+pub from_before : (f : Note → Note) (k i : ℕ) (ns : List Note) (m : Note) → slice_get (from_place f k ns) i ≡ Some m
+    → (n : Note) × (slice_get ns i ≡ Some n) × (((k ≤ i) × (m ≡ f n)) ⊎ ((i < k) × (m ≡ n)))
 from_before f zero i [] m e = absurd (cc)
 from_before f zero zero (n ∷ ns) m e = let g : Some (f n) ≡ Some m = e in (n, refl, inl (omega arith, cc))
 from_before f zero (suc i) (n ∷ ns) m e =
@@ -48,7 +50,8 @@ from_before f (suc k) (suc i) (n ∷ ns) m e =
     (r.0, r.1, ⊎_elim (λ a. let le = a.0 in inl (omega arith, a.1)) (λ b. let lt = b.0 in inr (omega arith, b.1)) r.2)
 
 -- the note at a changed place is f of the one before, and elsewhere it is that one
-pub at_before : (f : Note → Note) (k i : ℕ) (ns : List Note) (m : Note) → slice_get (at_place f k ns) i ≡ Some m → (n : Note) × (slice_get ns i ≡ Some n) × (((i ≡ k) × (m ≡ f n)) ⊎ ((i ≢ k) × (m ≡ n)))
+pub at_before : (f : Note → Note) (k i : ℕ) (ns : List Note) (m : Note) → slice_get (at_place f k ns) i ≡ Some m
+    → (n : Note) × (slice_get ns i ≡ Some n) × (((i ≡ k) × (m ≡ f n)) ⊎ ((i ≢ k) × (m ≡ n)))
 at_before f k i [] m e = absurd (cc)
 at_before f zero zero (n ∷ ns) m e = let g : Some (f n) ≡ Some m = e in (n, refl, inl (refl, cc))
 at_before f zero (suc i) (n ∷ ns) m e = (m, e, inr ((λ z. omega arith), refl))
@@ -58,7 +61,8 @@ at_before f (suc k) (suc i) (n ∷ ns) m e =
     (r.0, r.1, ⊎_elim (λ a. inl (ap suc a.0, a.1)) (λ b. inr ((λ z. b.0 (omega arith)), b.1)) r.2)
 
 -- the note at a place with one more at the end
-pub push_before : (ns : List Note) (y : Note) (i : ℕ) (m : Note) → slice_get (ns ++ y ∷ []) i ≡ Some m → ((i < length ns) × (slice_get ns i ≡ Some m)) ⊎ ((i ≡ length ns) × (m ≡ y))
+pub push_before : (ns : List Note) (y : Note) (i : ℕ) (m : Note) → slice_get (ns ++ y ∷ []) i ≡ Some m
+    → ((i < length ns) × (slice_get ns i ≡ Some m)) ⊎ ((i ≡ length ns) × (m ≡ y))
 push_before [] y zero m e = let g : Some y ≡ Some m = e in inr (refl, cc)
 push_before [] y (suc i) m e = absurd (cc)
 push_before (n ∷ ns) y zero m e = inl (omega arith, e)

@@ -14,7 +14,9 @@ pub now-word-requires-clause-may : goal.now-word-requires-clause-may
 now-word-requires-clause-may g c =
     let n = c.in_ok-shared.ensures.count in
     let l = c.in_ok-shared.passes.ok.0 in
-    subst MayLoadCheck (sym (new_may_enter c.in_ok-shared.shared _ c.in_ok-shared.ensures.each 1 c.index_mut-pass.result.now (omega arith) c.index_mut-pass.ensures.value).outside) tt
+    subst MayLoadCheck
+    (sym (new_may_enter c.in_ok-shared.shared _ c.in_ok-shared.ensures.each 1 c.index_mut-pass.result.now (omega arith) c.index_mut-pass.ensures.value).outside)
+    tt
 
 pub help_clock-loaded-requires-clause-of : goal.help_clock-loaded-requires-clause-of
 help_clock-loaded-requires-clause-of g c =

@@ -41,7 +41,8 @@ unnamed_finished v Open u = tt
 unnamed_finished v Aborting u = tt
 unnamed_finished v (Named n) u = absurd u
 
-module _ (c : Config) (v : View) (l : Noted) (inside : Section) (k : Stands c v l) (unbuilt : l.built ≡ None) (y : View) (u : Unlocks c v y l inside (length l.live)) where
+module _ (c : Config) (v : View) (l : Noted) (inside : Section) (k : Stands c v l) (unbuilt : l.built ≡ None) (y : View)
+    (u : Unlocks c v y l inside (length l.live)) where
   pub nothing : HoldsNothing y.ring
   nothing j x live =
       ⊎_elim
@@ -113,7 +114,10 @@ module _ (c : Config) (v : View) (l : Noted) (inside : Section) (k : Stands c v 
       outside = refl;
       seen = subst (λ p. BeginsWith h p.seen) past_same whole.0;
       trail = (steps, trail_is, (let more = length-append u.trail.0 (load ∷ clear ∷ []) in let few = u.trail.2 in let held = k.log.held in omega arith), all_steps IsAbortStep tt tt tt);
-      rest = ap (λ (q : View). record q { past = record q.past { seen = h }; phase = Outside; heard = heard_nothing; walk = Nowhere; back = None; ring = z.ring; trail = z.trail }) u.kept;
+      rest = ap
+          (λ (q : View).
+          record q { past = record q.past { seen = h }; phase = Outside; heard = heard_nothing; walk = Nowhere; back = None; ring = z.ring; trail = z.trail })
+          u.kept;
     }
 
     pub stands_timed : Stands c z (aborted_noted l dead)
@@ -138,14 +142,18 @@ module _ (c : Config) (v : View) (l : Noted) (inside : Section) (k : Stands c v 
     trail_is0 = ap (λ (q : List Step). q ++ (clear0 ∷ [])) u.trail.1 ∙ append_assoc v.trail u.trail.0 (clear0 ∷ [])
 
     all_steps0 : (P : StepKind → Type 0) → P UnlockHead → P ClearMark → All (λ s. P s.kind) steps0
-    all_steps0 P a d = All-push (λ s. P s.kind) u.trail.0 clear0 (All-weaker (λ s. s.kind ≡ UnlockHead) (λ s. P s.kind) (λ s e. subst P (sym e) a) u.trail.0 u.trail.3) d
+    all_steps0 P a d =
+        All-push (λ s. P s.kind) u.trail.0 clear0 (All-weaker (λ s. s.kind ≡ UnlockHead) (λ s. P s.kind) (λ s e. subst P (sym e) a) u.trail.0 u.trail.3) d
 
     pub aborts_none : Aborts v z0 (l.held + 2)
     aborts_none = record {
       outside = refl;
       seen = ([], ap (λ p. p.seen) past_same ∙ sym (append-nil v.past.seen));
       trail = (steps0, trail_is0, (let more = length-append u.trail.0 (clear0 ∷ []) in let few = u.trail.2 in let held = k.log.held in omega arith), all_steps0 IsAbortStep tt tt);
-      rest = ap (λ (q : View). record q { past = record q.past { seen = z0.past.seen }; phase = Outside; heard = heard_nothing; walk = Nowhere; back = None; ring = z0.ring; trail = z0.trail }) u.kept;
+      rest = ap
+          (λ (q : View).
+          record q { past = record q.past { seen = z0.past.seen }; phase = Outside; heard = heard_nothing; walk = Nowhere; back = None; ring = z0.ring; trail = z0.trail })
+          u.kept;
     }
 
     pub stands_none : (dead : ℕ) → Stands c z0 (aborted_noted l dead)
@@ -159,7 +167,8 @@ module _ (c : Config) (v : View) (l : Noted) (inside : Section) (k : Stands c v 
   pub clear_timed : (x : View) (word : ℕ) → (h : List Entry) × IsWhole c y word h × (x ≡ death_loaded c y word h) → MayClearMark x
   clear_timed x word t = subst MayClearMark (sym t.2) (may_end_timed word (clock_time_of word + 1) t.0 t.1 refl)
 
-  pub ended_timed : (x z : View) (m : Noted) (word dead : ℕ) → (h : List Entry) × IsWhole c y word h × (x ≡ death_loaded c y word h) → dead ≡ clock_time_of word + 1 → z ≡ mark_cleared c x → m ≡ aborted_noted l dead → Aborts v z (l.held + 2) × Stands c z m
+  pub ended_timed : (x z : View) (m : Noted) (word dead : ℕ) → (h : List Entry) × IsWhole c y word h × (x ≡ death_loaded c y word h)
+      → dead ≡ clock_time_of word + 1 → z ≡ mark_cleared c x → m ≡ aborted_noted l dead → Aborts v z (l.held + 2) × Stands c z m
   ended_timed x z m word dead t dead_is is noted =
       let at : z ≡ mark_cleared c (death_loaded c y word t.0) = is ∙ ap (mark_cleared c) t.2 in (
         subst (λ (q : View). Aborts v q (l.held + 2)) (sym at) (aborts_timed word dead t.0 t.1 dead_is),

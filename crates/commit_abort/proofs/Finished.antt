@@ -26,6 +26,7 @@ use Rattle.mv_core.proofs.Links.{live_once}
 use Rattle.mv_core.proofs.Commits.{new_note, committed_was}
 use Rattle.mv_core.proofs.HeldSet.{writes_length}
 use Rattle.mv_core.proofs.Slots.{slot_mapped}
+use Rattle.reader_marks.specs.Sections.{inside_of, section_in}
 use Rattle.seat_log.specs.declared.version.Note.{Note}
 use Rattle.seat_log.specs.Notes.{Noted, held_from, IsNoteAt, committed_noted}
 use Rattle.seat_log.specs.Stands.{version_of, Stands}
@@ -33,7 +34,7 @@ use Rattle.seat_log.proofs.NotedSlots.{noted_in, held_last, held_at}
 use Rattle.seat_log.proofs.PlainSteps.{LeavesLog, frees_left, cuts_left}
 use Rattle.seat_log.proofs.Ended.{HasEnded}
 use Rattle.seat_log.proofs.Commits.{commit_ends, ends_linked, stands_committed}
-use Rattle.commit_abort.specs.Finishes.{WonNaming, section_of_phase, section_in, first_of_mode, first_named, IsJustNamed, HasNamed, StampsIt, AreCommitted, IsLinkedToo, Tells, IsFinishStep, Finishes}
+use Rattle.commit_abort.specs.Finishes.{WonNaming, first_of_mode, first_named, IsJustNamed, HasNamed, StampsIt, AreCommitted, IsLinkedToo, Tells, IsFinishStep, Finishes}
 
 module _ (c : Config) (w : View) (l : Noted) (won : WonNaming) (k : IsJustNamed c w l won) where
   abbrev v : View
@@ -88,7 +89,9 @@ module _ (c : Config) (w : View) (l : Noted) (won : WonNaming) (k : IsJustNamed 
     same_ring = ap (λ (u : View). u.ring) st.rest
 
     pub committed_still : AreCommitted c x l t
-    committed_still = subst (λ r. AreCommitted c (record x { ring = r }) l t) (sym same_ring) (let a = are_committed in record { each = a.each; only = a.only; round = a.round; wide = a.wide; nothing = a.nothing })
+    committed_still =
+        subst (λ r. AreCommitted c (record x { ring = r }) l t) (sym same_ring)
+        (let a = are_committed in record { each = a.each; only = a.only; round = a.round; wide = a.wide; nothing = a.nothing })
 
     module _ (y : View) (tells : Tells c x y l (length l.live)) where
       -- the section may end: nothing is held, the stamp was exchanged, and SUPER was stored below all
@@ -99,7 +102,9 @@ module _ (c : Config) (w : View) (l : Noted) (won : WonNaming) (k : IsJustNamed 
         nothing = λ j z live.
             ⊎_elim
             (λ same. committed_still.nothing j z (sym same ∙ live))
-            (λ more. let one = live_once (slot_at y.ring j) z more.0 Held (Committed (record more.1 { linked = true })) live more.3 in let other : Held ≡ Committed (record more.1 { linked = true }) = one.1 in cc)
+            (λ more.
+            let one = live_once (slot_at y.ring j) z more.0 Held (Committed (record more.1 { linked = true })) live more.3 in
+            let other : Held ≡ Committed (record more.1 { linked = true }) = one.1 in cc)
             (tells.more j);
         finished = (
           refl,
@@ -145,7 +150,9 @@ module _ (c : Config) (w : View) (l : Noted) (won : WonNaming) (k : IsJustNamed 
       }
         where
           rest_is : z ≡ record w { phase = Outside; heard = heard_nothing; walk = Nowhere; back = None; ring = z.ring; trail = z.trail }
-          rest_is = ap (λ (u : View). record u { phase = Outside; heard = heard_nothing; walk = Nowhere; back = None; ring = z.ring; trail = z.trail }) (tells.kept ∙ ap (λ (u : View). record u { ring = y.ring; trail = y.trail }) st.rest)
+          rest_is =
+              ap (λ (u : View). record u { phase = Outside; heard = heard_nothing; walk = Nowhere; back = None; ring = z.ring; trail = z.trail })
+              (tells.kept ∙ ap (λ (u : View). record u { ring = y.ring; trail = y.trail }) st.rest)
 
       same_number : z.number ≡ w.number
       same_number = ap (λ (u : View). u.number) tells.kept ∙ ap (λ (u : View). u.number) st.rest
@@ -179,7 +186,7 @@ module _ (c : Config) (w : View) (l : Noted) (won : WonNaming) (k : IsJustNamed 
     named_phase = has_named
 
     now_in : section_in w ≡ record won.inside { mode = Named (record { time = t; first = set_first v.ring; stamped = false }) }
-    now_in = ap section_of_phase named_phase
+    now_in = ap inside_of named_phase
 
     pub may_stamp : HasNamed w first time (section_in w)
     may_stamp = named_phase ∙ (λ i. Inside (record (sym now_in i) { mode = Named (record { time = sym time_is i; first = sym at i; stamped = false }) }))
@@ -192,9 +199,11 @@ module _ (c : Config) (w : View) (l : Noted) (won : WonNaming) (k : IsJustNamed 
         rest = stamps.rest;
       }
 
-      pub may_tell_below : (x.phase ≡ Inside (record (section_in x) { mode = Named (record { time = time; first = first_named x; stamped = true }) })) × AreCommitted c x l time
+      pub may_tell_below : (x.phase ≡ Inside (record (section_in x) { mode = Named (record { time = time; first = first_named x; stamped = true }) }))
+          × AreCommitted c x l time
       may_tell_below =
-          let inside : section_in x ≡ record won.inside { mode = Named (record { time = t; first = set_first v.ring; stamped = true }) } = ap section_of_phase now_stamps.phase in
+          let inside : section_in x ≡ record won.inside { mode = Named (record { time = t; first = set_first v.ring; stamped = true }) } =
+          ap inside_of now_stamps.phase in
           let from : first_named x ≡ set_first v.ring = ap (λ (s : Section). first_of_mode s.mode) inside in (
             now_stamps.phase ∙ (λ i. Inside (record (sym inside i) { mode = Named (record { time = sym time_is i; first = sym from i; stamped = true }) })),
             subst (AreCommitted c x l) (sym time_is) (committed_still x now_stamps),
@@ -207,5 +216,6 @@ module _ (c : Config) (w : View) (l : Noted) (won : WonNaming) (k : IsJustNamed 
         pub ended : (z : View) (m : Noted) → z ≡ mark_cleared c y → m ≡ committed_noted l time → Finishes w z (l.held + 2) × Stands c z m
         ended z m is noted = (
           subst (λ (u : View). Finishes w u (l.held + 2)) (sym is) (finishes x now_stamps y tells),
-          subst (Stands c z) (sym (noted ∙ ap (committed_noted l) time_is)) (subst (λ (u : View). Stands c u (committed_noted l t)) (sym is) (stands_after x now_stamps y tells)),
+          subst (Stands c z) (sym (noted ∙ ap (committed_noted l) time_is))
+              (subst (λ (u : View). Stands c u (committed_noted l t)) (sym is) (stands_after x now_stamps y tells)),
         )

@@ -27,9 +27,10 @@ use Rattle.mv_core.proofs.Slots.{slot_here, slot_else, live_within}
 use Rattle.seat_log.specs.declared.version.Note.{Note}
 use Rattle.seat_log.specs.Notes.{Noted, held_from, IsNoteAt}
 use Rattle.seat_log.specs.Stands.{version_of}
+use Rattle.seat_log.specs.Builds.{version_in, note_in}
 use Rattle.seat_log.proofs.Places.{get_within}
 use Rattle.seat_log.proofs.NotedSlots.{places_apart}
-use Rattle.commit_abort.specs.Finishes.{CommittedSlot, AreCommitted, IsLinkedToo, above_at, version_in, note_in, MayTell, TellsOne, Tells}
+use Rattle.commit_abort.specs.Finishes.{CommittedSlot, AreCommitted, IsLinkedToo, above_at, MayTell, TellsOne, Tells}
 
 module _ (c : Config) (v : View) (l : Noted) (time : ℕ) (k : AreCommitted c v l time) where
   -- the slot of a place in the log
@@ -56,13 +57,16 @@ module _ (c : Config) (v : View) (l : Noted) (time : ℕ) (k : AreCommitted c v 
     within = get_within l.live i n at
 
     -- the version there, as it was committed
-    abbrev here : (note : CommitNote) × (slot_at w.ring (slot_of i) ≡ Live (version_of n) (Committed note)) × (note.time ≡ time) × (note.linked ≡ (n.previous == 0)) × IsLinkOf c n.previous
+    abbrev here : (note : CommitNote) × (slot_at w.ring (slot_of i) ≡ Live (version_of n) (Committed note)) × (note.time ≡ time)
+        × (note.linked ≡ (n.previous == 0)) × IsLinkOf c n.previous
     here = let a = k.each i n at from in (a.0, t.left i (omega arith) within ∙ a.1, a.2, a.3, a.4)
 
     above_is : above_at w (slot_of i) ≡ record { slot = slot_of i; version = version_of n; note = here.0 }
     above_is = λ j. record { slot = slot_of i; version = version_in (here.1 j); note = note_in (here.1 j) }
 
-    pub may_tell : (inside : Section) (first : ℕ) → v.phase ≡ Inside (record inside { mode = Named (record { time = time; first = first; stamped = true }) }) → MayTell c w n time (above_at w (slot_of i))
+    pub may_tell : (inside : Section) (first : ℕ)
+        → v.phase ≡ Inside (record inside { mode = Named (record { time = time; first = first; stamped = true }) })
+        → MayTell c w n time (above_at w (slot_of i))
     may_tell inside first phase some = (
       here.4 some,
       subst (λ (a : CommittedSlot). MayStoreSuper w n.previous time a.slot a.version a.note) (sym above_is) (record {
@@ -89,7 +93,9 @@ module _ (c : Config) (v : View) (l : Noted) (time : ℕ) (k : AreCommitted c v 
       told = λ j x note lo hi live.
           dite (ℕ_discrete j i)
           (λ e.
-          let one = live_once (slot_at w.ring (slot_of i)) x (version_of n) (Committed note) (Committed here.0) (subst (λ (p : ℕ). slot_at w.ring (slot_of p) ≡ Live x (Committed note)) e live) here.1 in
+          let one =
+          live_once (slot_at w.ring (slot_of i)) x (version_of n) (Committed note) (Committed here.0)
+          (subst (λ (p : ℕ). slot_at w.ring (slot_of p) ≡ Live x (Committed note)) e live) here.1 in
           ap (λ (q : CommitNote). q.linked) (note_once note here.0 one.1) ∙ here.3 ∙ eq-eqb n.previous 0 none)
           (λ ne. t.told j x note lo (omega arith) live);
       left = λ j lo hi. t.left j (omega arith) hi;
@@ -121,9 +127,13 @@ module _ (c : Config) (v : View) (l : Noted) (time : ℕ) (k : AreCommitted c v 
       told = λ j x note lo hi live.
           dite (ℕ_discrete j i)
           (λ e.
-          let one = live_once (slot_at next_view.ring (slot_of i)) x (version_of n) (Committed note) (Committed (record here.0 { linked = true })) (subst (λ (p : ℕ). slot_at next_view.ring (slot_of p) ≡ Live x (Committed note)) e live) slot_same in
+          let one =
+          live_once (slot_at next_view.ring (slot_of i)) x (version_of n) (Committed note) (Committed (record here.0 { linked = true }))
+          (subst (λ (p : ℕ). slot_at next_view.ring (slot_of p) ≡ Live x (Committed note)) e live) slot_same in
           ap (λ (q : CommitNote). q.linked) (note_once note (record here.0 { linked = true }) one.1))
-          (λ ne. t.told j x note lo (omega arith) (sym (slot_other (slot_of j) (apart j i (let lt = within in let le : j < length l.live = omega arith in le) within ne)) ∙ live));
+          (λ ne.
+          t.told j x note lo (omega arith)
+          (sym (slot_other (slot_of j) (apart j i (let lt = within in let le : j < length l.live = omega arith in le) within ne)) ∙ live));
       left = λ j lo hi. slot_other (slot_of j) (apart j i hi within (λ e. omega arith)) ∙ t.left j (omega arith) hi;
       trail =
           (let a = t.trail in

@@ -1,5 +1,5 @@
 -- What a commit knows after each of its steps.
-use Rattle.std.proofs.Common.{◌≡◌, ℕ, ◌+◌, ◌-◌, ◌<◌, ◌≤◌, if◌then◌else◌, Bool, false, List, [], ◌∷◌, ◌++◌, length, take, refl, sym, ap, ◌∙◌, subst, ⊎_elim, arith, append_assoc, All, Some, None}
+use Rattle.std.proofs.Common.{◌≡◌, ℕ, ◌+◌, ◌-◌, ◌<◌, ◌≤◌, if◌then◌else◌, Bool, false, List, [], ◌∷◌, ◌++◌, length, take, refl, sym, ap, ◌∙◌, subst, arith, append_assoc, All, Some, None}
 use Rattle.std.specs.Prelude.{Contains}
 use Rattle.std.proofs.Math.Logic.{∥∥₁_elim}
 use Rattle.std.proofs.Math.Bridge.{le_prop}
@@ -21,7 +21,7 @@ use Rattle.mv_core.specs.declared.view.View.{View}
 use Rattle.mv_core.specs.declared.view.Past.{Past}
 use Rattle.mv_core.specs.declared.view.Phase.TheVariants.{Inside}
 use Rattle.mv_core.specs.declared.view.Section.{Section}
-use Rattle.mv_core.specs.declared.view.Mode.TheVariants.{Open, Named}
+use Rattle.mv_core.specs.declared.view.Mode.TheVariants.{Open}
 use Rattle.mv_core.specs.Rings.{held_count, own_of}
 use Rattle.mv_core.specs.Views.{time_in}
 use Rattle.mv_core.specs.HistoryFacts.{BeginsWith}
@@ -31,25 +31,23 @@ use Rattle.mv_core.specs.Known.{Known}
 use Rattle.mv_core.specs.NameSteps.{LogTold, commit_of, MayNameCommit, commit_named}
 use Rattle.mv_core.proofs.Fronts.{begins_by, begins_long}
 use Rattle.commit_clock.specs.Helps.{HasLoaded, IsHelpStep, Helps}
+use Rattle.commit_clock.proofs.HelpedPhase.{still_open}
+use Rattle.commit_clock.proofs.HelpKinds.{help_kind}
 use Rattle.seat_log.specs.Notes.{Noted}
 use Rattle.seat_log.specs.Stands.{Stands}
 use Rattle.seat_log.proofs.PlainSteps.{LeavesLog, one_leaves, stands_left}
 use Rattle.commit_abort.specs.Commits.{MayCommit, LoadsClock, IsKept, IsAtEnd}
 use Rattle.commit_abort.specs.Finishes.{WonNaming, IsJustNamed}
 
--- what holds of each kind of step of a help holds of all
-help_kind : (P : StepKind → Type 0) → P LoadNamed → P LoadCheck → P SwapStamp → (k : StepKind) → IsHelpStep k → P k
-help_kind P a b d LoadNamed h = a
-help_kind P a b d LoadCheck h = b
-help_kind P a b d SwapStamp h = d
-help_kind P a b d _ h = absurd h
-
 -- steps with no commit exchange
 pub no_exchange : (steps : List Step) → All (λ s. is_commit_exchange s.kind ≡ false) steps → commit_exchanges steps ≡ []
 no_exchange [] all = refl
-no_exchange (s ∷ steps) all = ap (λ (b : Bool). if b then s ∷ commit_exchanges steps else commit_exchanges steps) (All-head (λ s. is_commit_exchange s.kind ≡ false) s steps all) ∙ no_exchange steps (All-tail (λ s. is_commit_exchange s.kind ≡ false) s steps all)
+no_exchange (s ∷ steps) all =
+    ap (λ (b : Bool). if b then s ∷ commit_exchanges steps else commit_exchanges steps) (All-head (λ s. is_commit_exchange s.kind ≡ false) s steps all)
+    ∙ no_exchange steps (All-tail (λ s. is_commit_exchange s.kind ≡ false) s steps all)
 
-module _ (c : Config) (v x : View) (word : ℕ) (h0 : List Entry) (whole : IsWhole c v word h0) (is : x ≡ check_loaded c v word h0) (inside : Section) (phase : v.phase ≡ Inside inside) (past_help : IsPastHelp v.heard inside) where
+module _ (c : Config) (v x : View) (word : ℕ) (h0 : List Entry) (whole : IsWhole c v word h0) (is : x ≡ check_loaded c v word h0) (inside : Section)
+    (phase : v.phase ≡ Inside inside) (past_help : IsPastHelp v.heard inside) where
   abbrev pub load : Step
   load = record { kind = LoadCheck; word = place_of c Clock; found = Some word; stored = None }
 
@@ -62,7 +60,9 @@ module _ (c : Config) (v x : View) (word : ℕ) (h0 : List Entry) (whole : IsWho
   }
 
   pub kept_first : IsKept v x inside
-  kept_first = subst (λ (u : View). IsKept v u inside) (sym is) (record { seen = whole.0; past_help = Contains-append_left v.heard.helped (if_none word ++ checked_helped v.heard.found word) inside.word past_help; rest = refl })
+  kept_first =
+      subst (λ (u : View). IsKept v u inside) (sym is)
+      (record { seen = whole.0; past_help = Contains-append_left v.heard.helped (if_none word ++ checked_helped v.heard.found word) inside.word past_help; rest = refl })
 
   pub at_end : clock_time_of word ≡ 35184372088831 → IsAtEnd c v x inside
   at_end last = record {
@@ -81,18 +81,8 @@ module _ (c : Config) (v x : View) (word : ℕ) (h0 : List Entry) (whole : IsWho
       (ap (λ (u : View). u.past.rests) is) (load ∷ []) (ap (λ (u : View). u.trail) is) (one_leaves load (refl, refl))
 
   module _ (y : View) (helps : Helps c x y word) (open_is : inside.mode ≡ Open) where
-    phase_first : x.phase ≡ Inside inside
-    phase_first = ap (λ (u : View). u.phase) is ∙ phase
-
     pub phase_next : y.phase ≡ Inside inside
-    phase_next =
-        ⊎_elim
-        (λ same. same ∙ phase_first)
-        (λ own.
-        let both : Inside own.inside ≡ Inside inside = sym own.phase ∙ phase_first in
-        let one : own.inside ≡ inside = cc in
-        let other : Named own.naming ≡ Open = sym own.mode ∙ ap (λ (s : Section). s.mode) one ∙ open_is in absurd cc)
-        helps.phase
+    phase_next = still_open c x y word inside (ap (λ (u : View). u.phase) is ∙ phase) open_is helps
 
     pub ring_next : y.ring ≡ v.ring
     ring_next = ap (λ (u : View). u.ring) helps.rest ∙ ap (λ (u : View). u.ring) is
@@ -111,7 +101,9 @@ module _ (c : Config) (v x : View) (word : ℕ) (h0 : List Entry) (whole : IsWho
     begins_next = begins_by helps.past.0 h0 v.past.seen begins_found whole.0
 
     pub helped_next : IsPastHelp y.heard inside
-    helped_next = helps.still_helped inside.word (subst (λ (u : View). Contains u.heard.helped inside.word) (sym is) (Contains-append_left v.heard.helped (if_none word ++ checked_helped v.heard.found word) inside.word past_help))
+    helped_next =
+        helps.still_helped inside.word
+        (subst (λ (u : View). Contains u.heard.helped inside.word) (sym is) (Contains-append_left v.heard.helped (if_none word ++ checked_helped v.heard.found word) inside.word past_help))
 
     abbrev pub steps_next : List Step
     steps_next = load ∷ helps.trail.0
@@ -121,19 +113,24 @@ module _ (c : Config) (v x : View) (word : ℕ) (h0 : List Entry) (whole : IsWho
 
     -- what holds of each kind of step of it holds of all
     pub kinds_next : (P : StepKind → Type 0) → P LoadNamed → P LoadCheck → P SwapStamp → All (λ s. P s.kind) steps_next
-    kinds_next P a b d = All-cons (λ s. P s.kind) load helps.trail.0 b (All-weaker (λ s. IsHelpStep s.kind) (λ s. P s.kind) (λ s. help_kind P a b d s.kind) helps.trail.0 helps.trail.3)
+    kinds_next P a b d =
+        All-cons (λ s. P s.kind) load helps.trail.0 b
+        (All-weaker (λ s. IsHelpStep s.kind) (λ s. P s.kind) (λ s. help_kind P a b d s.kind) helps.trail.0 helps.trail.3)
 
     pub stands_next : (l : Noted) → Stands c v l → Stands c y l
     stands_next l k =
         stands_left c v y l k number_next ring_next (ap (λ (p : Past). p.mine) past_next) (ap (λ (p : Past). p.rests) past_next) steps_next trail_next
         (kinds_next LeavesLog (refl, refl) (refl, refl) (refl, refl))
 
-    pub may_name : (starts : State → Type 0) (allows : List ℕ → State → Writes → Type 0) (tag : List ℕ) → MayCommit allows c v tag inside → HasLoaded c x word → clock_time_of word < 35184372088831 → ∥ Known starts allows v ∥₁ → v.base ≡ c.base → MayNameCommit allows c y word tag inside
+    pub may_name : (starts : State → Type 0) (allows : List ℕ → State → Writes → Type 0) (tag : List ℕ) → MayCommit allows c v tag inside
+        → HasLoaded c x word → clock_time_of word < 35184372088831 → ∥ Known starts allows v ∥₁ → v.base ≡ c.base
+        → MayNameCommit allows c y word tag inside
     may_name starts allows tag may has room known base =
         let seen : time_in inside ≤ v.base + length v.past.seen = ∥∥₁_elim known le_prop (λ a. (a.section inside phase).seen) in
         let n : ℕ = time_in inside - c.base in
         let from = begins_next in
-        let same : take n y.past.seen ≡ take n v.past.seen = ap (λ (p : Past). take n p.seen) past_next ∙ ap (take n) from.1 ∙ take-append-le n v.past.seen from.0 (omega arith) in
+        let same : take n y.past.seen ≡ take n v.past.seen =
+        ap (λ (p : Past). take n p.seen) past_next ∙ ap (take n) from.1 ∙ take-append-le n v.past.seen from.0 (omega arith) in
         let start : y.start ≡ v.start = ap (λ (u : View). u.start) helps.rest ∙ ap (λ (u : View). u.start) is in
         record {
           phase = phase_next;
@@ -149,10 +146,13 @@ module _ (c : Config) (v x : View) (word : ℕ) (h0 : List Entry) (whole : IsWho
 
     -- the commit is that of the section at the begin of the call
     pub commit_next : (tag : List ℕ) → commit_of c y inside tag ≡ commit_of c v inside tag
-    commit_next tag = λ i. record { seat = number_next i; number = length (past_next i).mine + 1; snapshot = time_in inside - c.base; tag = tag; writes = own_of c (ring_next i) }
+    commit_next tag =
+        λ i.
+        record { seat = number_next i; number = length (past_next i).mine + 1; snapshot = time_in inside - c.base; tag = tag; writes = own_of c (ring_next i) }
 
     -- the exchange was won: the pass has just named the commit
-    pub just_named : (l : Noted) (tag : List ℕ) (z : View) (time : ℕ) → Stands c v l → l.built ≡ None → 0 < held_count v.ring → LogTold c y word → (time ≡ clock_time_of word + 1) × ((h : List Entry) × IsWhole c y word h × (z ≡ commit_named c y inside tag word h))
+    pub just_named : (l : Noted) (tag : List ℕ) (z : View) (time : ℕ) → Stands c v l → l.built ≡ None → 0 < held_count v.ring → LogTold c y word
+        → (time ≡ clock_time_of word + 1) × ((h : List Entry) × IsWhole c y word h × (z ≡ commit_named c y inside tag word h))
         → (won : WonNaming) × IsJustNamed c z l won × (time ≡ clock_time_of won.word + 1)
     just_named l tag z time stands unbuilt some log named = (
       record { before = y; inside = inside; tag = tag; word = word; history = named.1.0 },

@@ -48,10 +48,12 @@ finish_kind ClearMark h = refl
 finish_kind _ h = absurd h
 
 -- one exchange among others that are none
-exchanges_one : (a b : List Step) (s : Step) → is_commit_exchange s.kind ≡ true → All (λ s. is_commit_exchange s.kind ≡ false) a → All (λ s. is_commit_exchange s.kind ≡ false) b → commit_exchanges (a ++ s ∷ b) ≡ s ∷ []
+exchanges_one : (a b : List Step) (s : Step) → is_commit_exchange s.kind ≡ true → All (λ s. is_commit_exchange s.kind ≡ false) a
+    → All (λ s. is_commit_exchange s.kind ≡ false) b → commit_exchanges (a ++ s ∷ b) ≡ s ∷ []
 exchanges_one [] b s is none_a none_b = ap (λ (q : Bool). if q then s ∷ commit_exchanges b else commit_exchanges b) is ∙ ap (λ l. s ∷ l) (no_exchange b none_b)
 exchanges_one (x ∷ a) b s is none_a none_b =
-    ap (λ (q : Bool). if q then x ∷ commit_exchanges (a ++ s ∷ b) else commit_exchanges (a ++ s ∷ b)) (All-head (λ s. is_commit_exchange s.kind ≡ false) x a none_a)
+    ap (λ (q : Bool). if q then x ∷ commit_exchanges (a ++ s ∷ b) else commit_exchanges (a ++ s ∷ b))
+    (All-head (λ s. is_commit_exchange s.kind ≡ false) x a none_a)
     ∙ exchanges_one a b s is (All-tail (λ s. is_commit_exchange s.kind ≡ false) x a none_a) none_b
 
 module _ (c : Config) (v x : View) (word : ℕ) (h0 : List Entry) (whole : IsWhole c v word h0) (is : x ≡ check_loaded c v word h0) (inside : Section) (phase : v.phase ≡ Inside inside) (past_help : IsPastHelp v.heard inside)
@@ -86,7 +88,8 @@ module _ (c : Config) (v x : View) (word : ℕ) (h0 : List Entry) (whole : IsWho
         old = (let le = begins_long h0 v.past.seen whole.0 in let all = whole.1 in omega arith);
       }
 
-  module _ (tag : List ℕ) (z w : View) (time held : ℕ) (h : List Entry) (time_is : time ≡ clock_time_of word + 1) (now : IsWhole c y word h) (named : z ≡ commit_named c y inside tag word h) (fin : Finishes z w (held + 2)) (held_is : held_count v.ring ≡ held) where
+  module _ (tag : List ℕ) (z w : View) (time held : ℕ) (h : List Entry) (time_is : time ≡ clock_time_of word + 1) (now : IsWhole c y word h)
+      (named : z ≡ commit_named c y inside tag word h) (fin : Finishes z w (held + 2)) (held_is : held_count v.ring ≡ held) where
     abbrev won : Step
     won = record { kind = NameCommit; word = place_of c Clock; found = Some word; stored = Some (commit_word c y word) }
 
@@ -104,14 +107,17 @@ module _ (c : Config) (v x : View) (word : ℕ) (h0 : List Entry) (whole : IsWho
           time_is = time_is;
           history = h;
           whole = (begins_by h y.past.seen v.past.seen now.0 seen_all, now.1);
-          past = same_past ∙ ap (λ (u : View). u.past) named ∙ (λ i. record (past i) { seen = h ++ Change (commit i) ∷ []; mine = (past i).mine ++ commit i ∷ [] });
+          past = same_past ∙ ap (λ (u : View). u.past) named
+              ∙ (λ i. record (past i) { seen = h ++ Change (commit i) ∷ []; mine = (past i).mine ++ commit i ∷ [] });
           steps = steps ++ won ∷ fin.trail.0;
           loads = loads w (won ∷ fin.trail.0) (held_count v.ring + 8)
               (fin.trail.1 ∙ ap (λ (u : View). u.trail ++ fin.trail.0) named ∙ ap (λ l. (l ++ won ∷ []) ++ fin.trail.0) trail ∙ append_assoc (v.trail ++ steps) (won ∷ []) fin.trail.0 ∙ append_assoc v.trail steps (won ∷ fin.trail.0))
               (let few = fin.trail.2 in omega arith);
           one_won = record { step = won; one = exchanges_one steps fin.trail.0 won refl none_tried (All-weaker (λ s. IsFinishStep s.kind) (λ s. is_commit_exchange s.kind ≡ false) (λ s. finish_kind s.kind) fin.trail.0 fin.trail.3); won = refl };
           outside = fin.outside;
-          rest = fin.rest ∙ (λ i. record z { past = sym same_past i; phase = Outside; heard = heard_nothing; walk = Nowhere; back = None; ring = w.ring; trail = w.trail })
+          rest =
+              fin.rest
+              ∙ (λ i. record z { past = sym same_past i; phase = Outside; heard = heard_nothing; walk = Nowhere; back = None; ring = w.ring; trail = w.trail })
               ∙ ap ended_of named ∙ ap ended_of helps.rest ∙ ap ended_of is;
         }
 
@@ -137,8 +143,10 @@ module _ (c : Config) (v x : View) (word : ℕ) (h0 : List Entry) (whole : IsWho
     kept : IsKept v w inside
     kept = record {
       seen = subst (λ l. BeginsWith l v.past.seen) (sym same_seen) begins;
-      past_help = subst (λ (u : View). IsPastHelp u.heard inside) (sym at) (Contains-append_left y.heard.helped (if_none found) inside.word (helped_next c v x word h0 whole is inside phase past_help y helps open_is));
-      rest = (λ i. record w { past = past_is i; phase = same_phase i }) ∙ ap kept_of at ∙ ap kept_of helps.rest ∙ ap kept_of is ∙ (λ i. record v { past = record v.past { seen = w.past.seen }; phase = sym phase i; heard = w.heard; trail = w.trail });
+      past_help = subst (λ (u : View). IsPastHelp u.heard inside) (sym at)
+          (Contains-append_left y.heard.helped (if_none found) inside.word (helped_next c v x word h0 whole is inside phase past_help y helps open_is));
+      rest = (λ i. record w { past = past_is i; phase = same_phase i }) ∙ ap kept_of at ∙ ap kept_of helps.rest ∙ ap kept_of is
+          ∙ (λ i. record v { past = record v.past { seen = w.past.seen }; phase = sym phase i; heard = w.heard; trail = w.trail });
     }
 
     pub stands_lost : (l : Noted) → Stands c v l → Stands c w l
@@ -147,7 +155,8 @@ module _ (c : Config) (v x : View) (word : ℕ) (h0 : List Entry) (whole : IsWho
         (ap (λ (u : View). u.ring) at) (ap (λ (u : View). u.past.mine) at) (ap (λ (u : View). u.past.rests) at) (tried ∷ [])
         (ap (λ (u : View). u.trail) at) (one_leaves tried (refl, refl))
 
-    module _ (starts : State → Type 0) (allows : List ℕ → State → Writes → Type 0) (known_x : ∥ Known starts allows x ∥₁) (known_w : ∥ Known starts allows w ∥₁) where
+    module _ (starts : State → Type 0) (allows : List ℕ → State → Writes → Type 0) (known_x : ∥ Known starts allows x ∥₁)
+        (known_w : ∥ Known starts allows w ∥₁) where
       made : (e : Entry) × IsEntry c.base h (clock_time_of found) e × (maker_of e ≡ clock_seat_of found)
       made = lost.overtaken.made (let long = whole.1 in omega arith)
 
@@ -160,7 +169,8 @@ module _ (c : Config) (v x : View) (word : ℕ) (h0 : List Entry) (whole : IsWho
           let rests : w.past.rests ≡ x.past.rests = ap (λ (p : Past). p.rests) past_is ∙ ap (λ (u : View). u.past.rests) (sym is) in
           let seen_x : x.past.seen ≡ h0 = ap (λ (u : View). u.past.seen) is in
           let more : BeginsWith h h0 =
-          begins_by h y.past.seen h0 lost.whole.0 (subst (λ l. BeginsWith l h0) (sym seen) (begins_found c v x word h0 whole is inside phase past_help y helps open_is)) in
+          begins_by h y.past.seen h0 lost.whole.0
+          (subst (λ l. BeginsWith l h0) (sym seen) (begins_found c v x word h0 whole is inside phase past_help y helps open_is)) in
           let i : ℕ = clock_time_of found - (c.base + 1) in
           let late : length x.past.seen ≤ i = (let at_x = ap length seen_x in let later = lost.overtaken.later in let long = whole.1 in omega arith) in
           other_maker starts allows x w known_x known_w (number_w ∙ sym number_x)
@@ -174,7 +184,8 @@ module _ (c : Config) (v x : View) (word : ℕ) (h0 : List Entry) (whole : IsWho
             kept = kept;
             word = word;
             steps = steps ++ tried ∷ [];
-            loads = loads w (tried ∷ []) 5 (ap (λ (u : View). u.trail) at ∙ ap (λ l. l ++ tried ∷ []) trail ∙ append_assoc v.trail steps (tried ∷ [])) (omega arith);
+            loads = loads w (tried ∷ []) 5 (ap (λ (u : View). u.trail) at ∙ ap (λ l. l ++ tried ∷ []) trail ∙ append_assoc v.trail steps (tried ∷ []))
+                (omega arith);
             one = ap length (exchanges_one steps [] tried refl none_tried (All-nil (λ s. is_commit_exchange s.kind ≡ false)));
             other = other_seat;
             later = subst (λ n. clock_time_of word < n) time_is lost.overtaken.later;

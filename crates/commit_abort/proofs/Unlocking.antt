@@ -23,12 +23,13 @@ use Rattle.mv_core.specs.Views.{IsUnnamed}
 use Rattle.mv_core.specs.Known.{Known}
 use Rattle.mv_core.specs.LockSteps.{MayUnlock, head_unlocked}
 use Rattle.mv_core.proofs.Slots.{slot_here, slot_else, live_within}
+use Rattle.reader_marks.specs.Sections.{inside_of}
 use Rattle.seat_log.specs.declared.version.Note.{Note}
 use Rattle.seat_log.specs.Notes.{Noted, held_from, IsNoteAt}
 use Rattle.seat_log.specs.Stands.{version_of, Stands}
+use Rattle.seat_log.specs.Builds.{version_in}
 use Rattle.seat_log.proofs.Places.{get_within}
 use Rattle.seat_log.proofs.NotedSlots.{apart, held_at}
-use Rattle.commit_abort.specs.Finishes.{version_in, section_of_phase}
 use Rattle.commit_abort.specs.Aborts.{IsOpen, HeldSlot, IsAbortedToo, Unlocks, held_in, MayGiveBack, GivesBack}
 
 module _ (c : Config) (v : View) (l : Noted) (inside : Section) (k : Stands c v l) (open_is : IsOpen v inside) where
@@ -63,13 +64,16 @@ module _ (c : Config) (v : View) (l : Noted) (inside : Section) (k : Stands c v 
     here = t.left i (omega arith) within ∙ before
 
     held_is : held_in w (slot_of i) ≡ record { slot = slot_of i; version = version_of n; inside = t.inside_now }
-    held_is = λ j. record { slot = slot_of i; version = version_in (here j); inside = section_of_phase (t.phase j) }
+    held_is = λ j. record { slot = slot_of i; version = version_in (here j); inside = inside_of (t.phase j) }
 
-    pub may_give : (starts : State → Type 0) (allows : List ℕ → State → Writes → Type 0) → ∥ Known starts allows v ∥₁ → length v.start ≡ c.objects → MayGiveBack c w n (held_in w (slot_of i))
+    pub may_give : (starts : State → Type 0) (allows : List ℕ → State → Writes → Type 0) → ∥ Known starts allows v ∥₁ → length v.start ≡ c.objects
+        → MayGiveBack c w n (held_in w (slot_of i))
     may_give starts allows known objects =
-        let range : n.object < length v.start = ∥∥₁_elim known le_prop (λ a. ((a.section inside open_is.phase).held (slot_of i) (version_of n) before).in_range) in (
+        let range : n.object < length v.start =
+        ∥∥₁_elim known le_prop (λ a. ((a.section inside open_is.phase).held (slot_of i) (version_of n) before).in_range) in (
           omega arith,
-          subst (λ (a : HeldSlot). MayUnlock w n.object n.previous a.slot a.version a.inside) (sym held_is) (record { phase = t.phase; unnamed = t.unnamed; held = here; object_is = refl; previous_is = refl }),
+          subst (λ (a : HeldSlot). MayUnlock w n.object n.previous a.slot a.version a.inside) (sym held_is)
+              (record { phase = t.phase; unnamed = t.unnamed; held = here; object_is = refl; previous_is = refl }),
         )
 
     abbrev next_view : View
@@ -99,7 +103,9 @@ module _ (c : Config) (v : View) (l : Noted) (inside : Section) (k : Stands c v 
       gone = λ j lo hi.
           dite (ℕ_discrete j i)
           (λ e. (version_of n, ap (λ p. slot_at next_view.ring (slot_of p)) e ∙ slot_same))
-          (λ ne. let a = t.gone j lo (omega arith) in (a.0, slot_other (slot_of j) (differ j i (let lt = within in let le : j < length l.live = omega arith in le) within ne) ∙ a.1));
+          (λ ne.
+          let a = t.gone j lo (omega arith) in
+          (a.0, slot_other (slot_of j) (differ j i (let lt = within in let le : j < length l.live = omega arith in le) within ne) ∙ a.1));
       left = λ j lo hi. slot_other (slot_of j) (differ j i hi within (λ e. omega arith)) ∙ t.left j (omega arith) hi;
       trail =
           (let a = t.trail in
@@ -110,4 +116,5 @@ module _ (c : Config) (v : View) (l : Noted) (inside : Section) (k : Stands c v 
 
     pub unlocks_more : (x : View) → GivesBack c w x n (held_in w (slot_of i)) → Unlocks c v x l inside (i + 1)
     unlocks_more x gives =
-        subst (λ (u : View). Unlocks c v u l inside (i + 1)) (sym (gives ∙ ap (λ (a : HeldSlot). head_unlocked c w n.object n.previous a.slot a.version a.inside) held_is)) unlocks_next
+        subst (λ (u : View). Unlocks c v u l inside (i + 1))
+        (sym (gives ∙ ap (λ (a : HeldSlot). head_unlocked c w n.object n.previous a.slot a.version a.inside) held_is)) unlocks_next

@@ -17,9 +17,10 @@ use Rattle.mv_core.specs.Rings.{slot_at, index_of}
 use Rattle.mv_core.specs.Views.{heard_nothing, IsUnnamed}
 use Rattle.mv_core.specs.HistoryFacts.{BeginsWith}
 use Rattle.mv_core.specs.LockSteps.{MayUnlock, head_unlocked}
+use Rattle.reader_marks.specs.Sections.{section_in}
 use Rattle.seat_log.specs.declared.version.Note.{Note}
 use Rattle.seat_log.specs.Notes.{Noted, held_from}
-use Rattle.commit_abort.specs.Finishes.{section_in, version_in}
+use Rattle.seat_log.specs.Builds.{version_in}
 
 -- an open section
 pub record IsOpen (v : View) (inside : Section) : Type 0 where
@@ -73,4 +74,5 @@ pub record Aborts (v w : View) (most : ℕ) : Type 0 where
   pub outside : w.phase ≡ Outside
   pub seen : BeginsWith w.past.seen v.past.seen
   pub trail : (steps : List Step) × (w.trail ≡ v.trail ++ steps) × (length steps ≤ most) × All (λ s. IsAbortStep s.kind) steps
-  pub rest : w ≡ record v { past = record v.past { seen = w.past.seen }; phase = Outside; heard = heard_nothing; walk = Nowhere; back = None; ring = w.ring; trail = w.trail }
+  pub rest : w
+      ≡ record v { past = record v.past { seen = w.past.seen }; phase = Outside; heard = heard_nothing; walk = Nowhere; back = None; ring = w.ring; trail = w.trail }

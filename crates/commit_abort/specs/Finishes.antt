@@ -11,7 +11,6 @@ use Rattle.mv_core.specs.declared.ring.Version.{Version}
 use Rattle.mv_core.specs.declared.ring.Status.TheVariants.{Committed}
 use Rattle.mv_core.specs.declared.ring.CommitNote.{CommitNote}
 use Rattle.mv_core.specs.declared.view.View.{View}
-use Rattle.mv_core.specs.declared.view.Phase.{Phase}
 use Rattle.mv_core.specs.declared.view.Phase.TheVariants.{Outside, Inside}
 use Rattle.mv_core.specs.declared.view.Mode.{Mode}
 use Rattle.mv_core.specs.declared.view.Section.{Section}
@@ -21,9 +20,11 @@ use Rattle.mv_core.specs.Rings.{slot_at, index_of, HoldsNothing, held_count}
 use Rattle.mv_core.specs.Views.{heard_nothing}
 use Rattle.mv_core.specs.WalkSteps.{IsPackedOf, IsLinkOf}
 use Rattle.mv_core.specs.NameSteps.{LogTold, commit_named, MayStoreSuper, super_stored}
+use Rattle.reader_marks.specs.Sections.{section_in}
 use Rattle.seat_log.specs.declared.version.Note.{Note}
 use Rattle.seat_log.specs.Notes.{Noted, held_from, IsNoteAt}
 use Rattle.seat_log.specs.Stands.{version_of, Stands}
+use Rattle.seat_log.specs.Builds.{version_in, note_in}
 
 -- a won exchange of CLOCK for a commit: the view before it, its section, the tag, the word that was expected, and the whole history before it
 pub record WonNaming : Type 0 where
@@ -42,14 +43,7 @@ pub record IsJustNamed (c : Config) (w : View) (l : Noted) (won : WonNaming) : T
   pub stands : Stands c won.before l
   pub unbuilt : l.built ≡ None
 
--- the section that a view is in, and the first position of the commit that it has named; they tell nothing of a view in none
-abbrev pub section_of_phase : Phase → Section
-section_of_phase (Inside inside) = inside
-section_of_phase _ = record { low = 0; word = 0; mode = Open }
-
-abbrev pub section_in : View → Section
-section_in v = section_of_phase v.phase
-
+-- the first position of the commit that the section of a view has named; it tells nothing of one that has named none
 abbrev pub first_of_mode : Mode → ℕ
 first_of_mode (Named n) = n.first
 first_of_mode _ = 0
@@ -78,20 +72,14 @@ named_in v = record { inside = section_in v; first = first_named v }
 
 -- the held versions of the log are committed at this time; those with something below aren't linked yet
 pub record AreCommitted (c : Config) (v : View) (l : Noted) (time : ℕ) : Type 0 where
-  pub each : (i : ℕ) (n : Note) → IsNoteAt l i n → held_from l ≤ i → (note : CommitNote) × (slot_at v.ring (index_of c (l.freed + i)) ≡ Live (version_of n) (Committed note)) × (note.time ≡ time) × (note.linked ≡ (n.previous == 0)) × IsLinkOf c n.previous
-  pub only : (k : ℕ) (x : Version) (note : CommitNote) → slot_at v.ring k ≡ Live x (Committed note) → note.time ≡ time → (i : ℕ) × (held_from l ≤ i) × (i < length l.live) × (k ≡ index_of c (l.freed + i))
+  pub each : (i : ℕ) (n : Note) → IsNoteAt l i n → held_from l ≤ i
+      → (note : CommitNote) × (slot_at v.ring (index_of c (l.freed + i)) ≡ Live (version_of n) (Committed note)) × (note.time ≡ time)
+      × (note.linked ≡ (n.previous == 0)) × IsLinkOf c n.previous
+  pub only : (k : ℕ) (x : Version) (note : CommitNote) → slot_at v.ring k ≡ Live x (Committed note) → note.time ≡ time
+      → (i : ℕ) × (held_from l ≤ i) × (i < length l.live) × (k ≡ index_of c (l.freed + i))
   pub round : length l.live ≤ c.slots
   pub wide : length v.ring.slots ≡ c.slots
   pub nothing : HoldsNothing v.ring
-
--- the version in a slot, and what is noted of its commit; they tell nothing of a slot without one
-abbrev pub version_in : Slot → Version
-version_in (Live x st) = x
-version_in _ = record { position = 0; first = 0; object = 0; previous = 0; words = [] }
-
-abbrev pub note_in : Slot → CommitNote
-note_in (Live x (Committed note)) = note
-note_in _ = record { time = 0; dead = None; cut = false; linked = false }
 
 -- a slot of the own log, the committed version that it has, and what is noted of its commit
 pub record CommittedSlot : Type 0 where
@@ -122,7 +110,8 @@ pub record Tells (c : Config) (v w : View) (l : Noted) (i : ℕ) : Type 0 where
   pub wide : length w.ring.slots ≡ length v.ring.slots
   pub next : w.ring.next ≡ v.ring.next
   pub more : (k : ℕ) → IsLinkedToo (slot_at v.ring k) (slot_at w.ring k)
-  pub told : (j : ℕ) (x : Version) (note : CommitNote) → held_from l ≤ j → j < i → slot_at w.ring (index_of c (l.freed + j)) ≡ Live x (Committed note) → note.linked ≡ true
+  pub told : (j : ℕ) (x : Version) (note : CommitNote) → held_from l ≤ j → j < i → slot_at w.ring (index_of c (l.freed + j)) ≡ Live x (Committed note)
+      → note.linked ≡ true
   pub left : (j : ℕ) → i ≤ j → j < length l.live → slot_at w.ring (index_of c (l.freed + j)) ≡ slot_at v.ring (index_of c (l.freed + j))
   pub trail : (steps : List Step) × (w.trail ≡ v.trail ++ steps) × (length steps + held_from l ≤ i) × All (λ s. s.kind ≡ StoreSuper) steps
 
@@ -133,7 +122,8 @@ IsFinishStep StoreSuper = Unit {0}
 IsFinishStep ClearMark = Unit {0}
 IsFinishStep _ = ⊥
 
--- The section has ended: the walk, the write-back and the clock words with it. Its log is committed, and the trail has at most so many steps more, each of a finish.
+-- The section has ended: the walk, the write-back and the clock words with it. Its log is committed, and the trail has at most so many steps more,
+-- each of a finish.
 pub record Finishes (v w : View) (most : ℕ) : Type 0 where
   pub outside : w.phase ≡ Outside
   pub trail : (steps : List Step) × (w.trail ≡ v.trail ++ steps) × (length steps ≤ most) × All (λ s. IsFinishStep s.kind) steps

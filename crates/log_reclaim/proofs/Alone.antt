@@ -6,6 +6,7 @@ use Rattle.mv_history.specs.declared.Step.{Step}
 use Rattle.mv_layout.specs.declared.Config.{Config}
 use Rattle.mv_core.specs.declared.view.View.{View}
 use Rattle.mv_core.specs.Known.{Known}
+use Rattle.mv_core.proofs.OwnEntries.{own_seen}
 use Rattle.reader_marks.specs.declared.scanning.Watermark.{Watermark}
 use Rattle.seat_log.specs.declared.version.Note.{Note}
 use Rattle.seat_log.specs.Notes.{Noted, IsNoteAt}
@@ -18,7 +19,6 @@ use Rattle.log_reclaim.specs.Sweeps.{Sweeps, found_at}
 use Rattle.log_reclaim.specs.Tidies.{RestsSo}
 use Rattle.log_reclaim.proofs.ScanCauses.{low_known, marked_cause}
 use Rattle.log_reclaim.proofs.Reclaiming.{reclaims_number, reclaims_base}
-use Rattle.log_reclaim.proofs.Others.{own_seen}
 use Rattle.log_reclaim.proofs.TidyDeaths.{at_before, death_next}
 
 module _ (c : Config) (one : c.seats ≡ 1) where
@@ -26,17 +26,21 @@ module _ (c : Config) (one : c.seats ≡ 1) where
   low_is_clock : (own : ℕ) → own < c.seats → (made : List Step) (mark : Watermark) (clock : ℕ) → HasScanned c own made mark clock → clock ≤ mark.low
   low_is_clock own mine made mark clock k =
       ⊎_elim
-      (λ lt. let r = marked_cause c own made mark clock k lt in let other = r.not_own in let in_range = r.in_range in absurd (other (let e : mark.seat ≡ own = omega arith in e)))
+      (λ lt.
+      let r = marked_cause c own made mark clock k lt in
+      let other = r.not_own in let in_range = r.in_range in absurd (other (let e : mark.seat ≡ own = omega arith in e)))
       (λ le. le)
       (cases_lt mark.low clock)
 
   -- no write-back is left untried, nor finds another seat's version
-  none_left : (w : View) → w.number < c.seats → (made : List Step) (mark : Watermark) (clock : ℕ) (n : Note) → clock ≤ mark.low → (above : Option ℕ) → TriedSo c w made mark clock n above → ⊥
+  none_left : (w : View) → w.number < c.seats → (made : List Step) (mark : Watermark) (clock : ℕ) (n : Note) → clock ≤ mark.low → (above : Option ℕ)
+      → TriedSo c w made mark clock n above → ⊥
   none_left w mine made mark clock n low None t = let lt = t.0 in omega arith
   none_left w mine made mark clock n low (Some seat) a = let in_range = a.in_range in a.not_own (let e : seat ≡ w.number = omega arith in e)
 
   module _ (starts : State → Type 0) (allows : List ℕ → State → Writes → Type 0) (v u x w : View) (k l m o : Noted) (made rested later : List Step) (first last : Scanned) (found unused : Found) (freed more : ℕ)
-      (sweep : Sweeps c v u k l made true first found freed) (rest : RestsSo u x l m rested first.latest) (again : Sweeps c x w m o later false last unused more)
+      (sweep : Sweeps c v u k l made true first found freed) (rest : RestsSo u x l m rested first.latest)
+      (again : Sweeps c x w m o later false last unused more)
       (stands : Stands c v k) (known : ∥ Known starts allows v ∥₁) (mine : v.number < c.seats) (early : v.base + length v.past.seen < 35184372088831) where
     number_u : u.number ≡ v.number
     number_u = reclaims_number v u made sweep.reclaims

@@ -16,11 +16,11 @@ use Rattle.seat_log.specs.declared.version.Note.{Note}
 use Rattle.seat_log.specs.Notes.{Noted, IsLog}
 use Rattle.seat_log.specs.Frees.{OldestIsDead, FreesSet, freed_noted, slots_freed}
 use Rattle.seat_log.proofs.FreedLogs.{few_freed}
-use Rattle.seat_log.proofs.Rebuilding.{note_there}
+use Rattle.seat_log.proofs.NotedSlots.{note_there}
 use Rattle.log_reclaim.specs.Parts.{NamesNoCommit, IsOtherKind}
 use Rattle.log_reclaim.specs.Tries.{Makes}
 use Rattle.log_reclaim.specs.Rounds.{FreesAll}
-use Rattle.log_reclaim.proofs.Reclaiming.{makes_none, makes_on, reclaims_may, reclaims_still}
+use Rattle.log_reclaim.proofs.Reclaiming.{reclaims_outside, makes_none, makes_on, reclaims_may, reclaims_still}
 
 -- one more is dropped after others
 drops : (a b : ℕ) (ns : List Note) → drop b (drop a ns) ≡ drop (a + b) ns
@@ -58,28 +58,13 @@ free_kind P p steps = All-weaker (λ (s : Step). s.kind ≡ StoreFree) (λ (s : 
 frees_makes : (v w : View) (steps : List Step) → MayLoadLow v → (v.walk ≡ Nowhere) × (v.back ≡ None) → FreesSlots v w steps → Makes v w steps
 frees_makes v w steps may still k =
     let e = k.view in record {
-      reclaims = record {
-        outside = ap (λ (x : View). x.phase) e ∙ may.outside;
-        no_scan = ap (λ (x : View). x.scan) e ∙ may.no_scan;
-        seen = ([], ap (λ (x : View). x.past.seen) e ∙ sym (append-nil v.past.seen));
-        mine = ap (λ (x : View). x.past.mine) e;
-        grace = (let same : w.grace ≡ v.grace = ap (λ (x : View). x.grace) e in omega arith);
-        trail = k.trail;
-        kinds = free_kind NamesNoCommit tt steps k.kinds;
-        rest = e
-            ∙ (λ i. record v {
-              past = sym (ap (λ (x : View). x.past) e) i;
-              phase = may.outside i;
-              heard = sym (ap (λ (x : View). x.heard) e) i;
-              walk = still.0 i;
-              empty = sym (ap (λ (x : View). x.empty) e) i;
-              ring = w.ring;
-              back = still.1 i;
-              scan = may.no_scan i;
-              grace = sym (ap (λ (x : View). x.grace) e) i;
-              trail = w.trail;
-            });
-      };
+      reclaims = reclaims_outside v w steps may still
+          (ap (λ (x : View). record x { past = w.past; heard = w.heard; empty = w.empty; ring = w.ring; grace = w.grace; trail = w.trail }) e)
+          ([], ap (λ (x : View). x.past.seen) e ∙ sym (append-nil v.past.seen))
+          (ap (λ (x : View). x.past.mine) e)
+          (let same : w.grace ≡ v.grace = ap (λ (x : View). x.grace) e in omega arith)
+          k.trail
+          (free_kind NamesNoCommit tt steps k.kinds);
       rests = ap (λ (x : View). x.past.rests) e;
       kinds = free_kind IsOtherKind tt steps k.kinds;
     }
@@ -104,10 +89,13 @@ frees_none v l may still = record {
 module _ (c : Config) (v w : View) (l m : Noted) (made : List Step) (freed : ℕ) (k : FreesSome v w l m made freed) (t count : ℕ) (f : FreesSet m t count) where
   -- there are so many versions fewer
   fewer : length m.live + freed ≡ length l.live
-  fewer = let e : length m.live ≡ length (drop freed l.live) = ap (λ (n : Noted). length n.live) k.log in let d = length-drop freed l.live in let few = k.few in omega arith
+  fewer =
+      let e : length m.live ≡ length (drop freed l.live) = ap (λ (n : Noted). length n.live) k.log in
+      let d = length-drop freed l.live in let few = k.few in omega arith
 
   -- one set more
-  pub frees_more : (u : View) (n : Noted) → u ≡ slots_freed c w m.freed count → n ≡ freed_noted m count → (more : List Step) × FreesSome v u l n more (freed + count)
+  pub frees_more : (u : View) (n : Noted) → u ≡ slots_freed c w m.freed count → n ≡ freed_noted m count
+      → (more : List Step) × FreesSome v u l n more (freed + count)
   frees_more u n view log =
       let a = slots_view c w m.freed count in
       let one : FreesSlots w u a.0 = subst (λ (x : View). FreesSlots w x a.0) (sym view) a.1 in
@@ -137,7 +125,9 @@ none_dead m t count log f none some dead =
     ⊎_elim (λ a. a.1.outside 0 r.0 r.1 (omega arith) (let e : r.0.first ≡ m.freed = omega arith in e)) (λ b. b.0 dead) f
 
 -- no set more
-pub frees_end : (c : Config) (v w : View) (l m : Noted) (made : List Step) (freed t count : ℕ) → FreesSome v w l m made freed → IsLog m → FreesSet m t count → count ≡ 0 → (u : View) (n : Noted) → u ≡ slots_freed c w m.freed count → n ≡ freed_noted m count → (more : List Step) × FreesAll v u l n more t freed
+pub frees_end : (c : Config) (v w : View) (l m : Noted) (made : List Step) (freed t count : ℕ) → FreesSome v w l m made freed → IsLog m
+    → FreesSet m t count → count ≡ 0 → (u : View) (n : Noted) → u ≡ slots_freed c w m.freed count → n ≡ freed_noted m count
+    → (more : List Step) × FreesAll v u l n more t freed
 frees_end c v w l m made freed t count k log f none u n view is =
     let a = frees_more c v w l m made freed k t count f u n view is in
     let all : freed + count ≡ freed = omega arith in

@@ -1,6 +1,5 @@
 pub mod Picks
 pub mod WritingWords
-pub mod NotedSlots
 pub mod Starting
 pub mod CutBacks
 pub mod StoringAll
@@ -12,7 +11,6 @@ pub mod EndCause
 pub mod MoreSteps
 pub mod Idle
 pub mod Reclaiming
-pub mod Seen
 pub mod Exchanges
 pub mod Untimed
 pub mod Supers

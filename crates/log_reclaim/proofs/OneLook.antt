@@ -11,6 +11,7 @@ use Rattle.mv_core.specs.declared.view.View.{View}
 use Rattle.mv_core.specs.Times.{latest, latest_at}
 use Rattle.mv_core.specs.Known.{Known}
 use Rattle.mv_core.proofs.Latest.{latest_at-mono, latest_at-latest}
+use Rattle.mv_core.proofs.Fronts.{latest_at-more}
 use Rattle.reader_marks.specs.declared.scanning.Watermark.{Watermark}
 use Rattle.seat_log.specs.declared.version.Note.{Note}
 use Rattle.seat_log.specs.Notes.{Noted, IsNoteAt, retired}
@@ -26,12 +27,13 @@ use Rattle.log_reclaim.specs.Tries.{MaySettle, Makes, LoadsSuper, TriesOne}
 use Rattle.log_reclaim.specs.Sweeps.{found_at, IsTableOf, SettlesOne}
 use Rattle.log_reclaim.proofs.Idle.{still_of}
 use Rattle.log_reclaim.proofs.Reclaiming.{makes_none, makes_on, reclaims_number, reclaims_base, reclaims_more}
-use Rattle.log_reclaim.proofs.Seen.{latest_at-more}
 use Rattle.log_reclaim.proofs.Untimed.{times_then, untimed_on}
 use Rattle.log_reclaim.proofs.OneNote.{position_is, place_is, one_note, committed}
 use Rattle.log_reclaim.proofs.FoundSeats.{found_set, table_set, found_here, found_else}
 
-module _ (starts : State → Type 0) (allows : List ℕ → State → Writes → Type 0) (c : Config) (v : View) (l : Noted) (mark : Watermark) (clock : ℕ) (known : ∥ Known starts allows v ∥₁) (base : v.base ≡ c.base) (k : Stands c v l) (may : MaySettle v l mark clock) (index : ℕ) (n : Note) (at : IsNoteAt l index n) where
+module _ (starts : State → Type 0) (allows : List ℕ → State → Writes → Type 0) (c : Config) (v : View) (l : Noted) (mark : Watermark) (clock : ℕ)
+    (known : ∥ Known starts allows v ∥₁) (base : v.base ≡ c.base) (k : Stands c v l) (may : MaySettle v l mark clock) (index : ℕ) (n : Note)
+    (at : IsNoteAt l index n) where
   -- a version with a time of death was left alone
   pub settles_timed : (back : Bool) (found : Found) → IsTableOf l found → n.dead ≢ 0 → SettlesOne c v v l l [] mark clock back found found index 0
   settles_timed back found table timed =
@@ -50,14 +52,18 @@ module _ (starts : State → Type 0) (allows : List ℕ → State → Writes →
       }
 
   -- it is noted as dead now
-  module _ (w : View) (m : Noted) (made : List Step) (back : Bool) (old found : Found) (dead backs top : ℕ) (some_time : 0 < dead) (log : m ≡ record (retired l n.position dead) { back = backs }) (makes : Makes v w made) (within : top ≤ w.base + length w.past.seen) (table : IsTableOf l found) (kept : (i : ℕ) → i ≢ index → found_at found (l.freed + i) ≡ found_at old (l.freed + i)) where
-    before : (i : ℕ) (x : Note) → IsNoteAt m i x → (y : Note) × IsNoteAt l i y × (((i ≡ n.position - l.freed) × (x ≡ record y { dead = dead })) ⊎ ((i ≢ n.position - l.freed) × (x ≡ y)))
+  module _ (w : View) (m : Noted) (made : List Step) (back : Bool) (old found : Found) (dead backs top : ℕ) (some_time : 0 < dead)
+      (log : m ≡ record (retired l n.position dead) { back = backs }) (makes : Makes v w made) (within : top ≤ w.base + length w.past.seen)
+      (table : IsTableOf l found) (kept : (i : ℕ) → i ≢ index → found_at found (l.freed + i) ≡ found_at old (l.freed + i)) where
+    before : (i : ℕ) (x : Note) → IsNoteAt m i x
+        → (y : Note) × IsNoteAt l i y × (((i ≡ n.position - l.freed) × (x ≡ record y { dead = dead })) ⊎ ((i ≢ n.position - l.freed) × (x ≡ y)))
     before i x is = at_before (λ (y : Note). record y { dead = dead }) (n.position - l.freed) i l.live x (subst (λ (z : Noted). IsNoteAt z i x) log is)
 
     here : (x : Note) → IsNoteAt m index x → x ≡ record n { dead = dead }
     here x is =
         let b = before index x is in
-        ⊎_elim (λ e. e.1 ∙ ap (λ (y : Note). record y { dead = dead }) (one_note c v l k index n at b.0 b.1)) (λ e. absurd (e.0 (sym (place_is c v l k index n at)))) b.2
+        ⊎_elim (λ e. e.1 ∙ ap (λ (y : Note). record y { dead = dead }) (one_note c v l k index n at b.0 b.1))
+        (λ e. absurd (e.0 (sym (place_is c v l k index n at)))) b.2
 
     pub settles_retired : n.dead ≡ 0 → DatedSo w made top back n (record n { dead = dead }) → SettlesOne c v w l m made mark clock back old found index top
     settles_retired none dated = record {
@@ -79,7 +85,8 @@ module _ (starts : State → Type 0) (allows : List ℕ → State → Writes →
     }
 
   -- it is left without one, for a reason
-  pub settles_kept : (w : View) (made : List Step) (back : Bool) (old found : Found) (top : ℕ) → Makes v w made → top ≤ w.base + length w.past.seen → IsTableOf l found → ((i : ℕ) → i ≢ index → found_at found (l.freed + i) ≡ found_at old (l.freed + i))
+  pub settles_kept : (w : View) (made : List Step) (back : Bool) (old found : Found) (top : ℕ) → Makes v w made → top ≤ w.base + length w.past.seen
+      → IsTableOf l found → ((i : ℕ) → i ≢ index → found_at found (l.freed + i) ≡ found_at old (l.freed + i))
       → StaysUntimed c w made mark clock back n (found_at found n.position) → SettlesOne c v w l l made mark clock back old found index top
   settles_kept w made back old found top makes within table kept why = record {
     reclaims = makes.reclaims;
@@ -89,14 +96,16 @@ module _ (starts : State → Type 0) (allows : List ℕ → State → Writes →
     long = refl;
     others = λ i m is ne. is;
     this = λ m is. (m, is, record { same = refl; once = λ e. refl }, inl refl);
-    untimed = λ m is none. subst (λ (x : Note). StaysUntimed c w made mark clock back x (found_at found x.position)) (sym (one_note c v l k index n at m is)) why;
+    untimed =
+        λ m is none. subst (λ (x : Note). StaysUntimed c w made mark clock back x (found_at found x.position)) (sym (one_note c v l k index n at m is)) why;
     table = table;
     kept = kept;
     within = within;
   }
 
   -- SUPER told a time of death
-  pub settles_found : (u : View) (m : Noted) (back : Bool) (found : Found) → IsTableOf l found → n.dead ≡ 0 → LoadsSuper c v u l m n true → (made : List Step) × SettlesOne c v u l m made mark clock back found found index 0
+  pub settles_found : (u : View) (m : Noted) (back : Bool) (found : Found) → IsTableOf l found → n.dead ≡ 0 → LoadsSuper c v u l m n true
+      → (made : List Step) × SettlesOne c v u l m made mark clock back found found index 0
   settles_found u m back found table none loads =
       let f = loads.some refl in
       (loads.step ∷ [], settles_retired u m (loads.step ∷ []) back found found loads.time l.back 0 f.0 f.1 loads.makes (omega arith) table (λ i ne. refl) none (inr (inl f.2)))
@@ -116,7 +125,8 @@ module _ (starts : State → Type 0) (allows : List ℕ → State → Writes →
           tried = λ e. absurd (cc);
         }
 
-    pub settles_unbacked : (m : Noted) (back : Bool) (found : Found) → IsTableOf l found → back ≡ false → m ≡ l → (made : List Step) × SettlesOne c v u l m made mark clock back found found index 0
+    pub settles_unbacked : (m : Noted) (back : Bool) (found : Found) → IsTableOf l found → back ≡ false → m ≡ l
+        → (made : List Step) × SettlesOne c v u l m made mark clock back found found index 0
     settles_unbacked m back found table off log =
         let l0 = loaded in (
           loads.step ∷ [],
@@ -161,13 +171,17 @@ module _ (starts : State → Type 0) (allows : List ℕ → State → Writes →
           (∥∥₁_elim known le_prop (λ f. let wr = (f.commits _ _ a.0 a.1).written in subst (λ (x : ℕ). x ≤ latest_at v.base v.past.seen o.object x) time (omega arith))) in
           let kept = latest_at-more v.base w.past.seen v.past.seen n.object r.seen o.time (omega arith) in
           let last = latest_at-latest v.base w.past.seen n.object o.time in
-          let none_low : latest_at v.base w.past.seen n.object mark.low ≤ n.time = subst (λ (b : ℕ). latest_at b w.past.seen n.object mark.low ≤ n.time) same still.unwritten in (
-            dite (dec_lt mark.low clock) (λ lt. lt) (λ ge. let up = latest_at-mono v.base w.past.seen n.object o.time mark.low (omega arith) in absurd (omega arith)),
+          let none_low : latest_at v.base w.past.seen n.object mark.low ≤ n.time =
+          subst (λ (b : ℕ). latest_at b w.past.seen n.object mark.low ≤ n.time) same still.unwritten in (
+            dite (dec_lt mark.low clock) (λ lt. lt)
+                (λ ge. let up = latest_at-mono v.base w.past.seen n.object o.time mark.low (omega arith) in absurd (omega arith)),
             subst (λ (b : ℕ). n.time < latest b w.past.seen n.object) (sym same) (omega arith),
           )
 
       why_none : (mark.time < n.time) ⊎ HasLater l n → TriedSo c w made mark clock n None
-      why_none d = ⊎_elim (λ young. let low = may.low in let early = may.early index n at in (omega arith, inl (omega arith))) (λ h. let both = later h in (both.0, inr both.1)) d
+      why_none d =
+          ⊎_elim (λ young. let low = may.low in let early = may.early index n at in (omega arith, inl (omega arith)))
+          (λ h. let both = later h in (both.0, inr both.1)) d
 
       why_some : (seat : ℕ) → FindsOther c u.number t.made n seat → TriedSo c w made mark clock n (Some seat)
       why_some seat f =
@@ -216,8 +230,10 @@ module _ (starts : State → Type 0) (allows : List ℕ → State → Writes →
         settles_tried =
             ⊎_elim
             (λ d. ⊎_elim
-            (λ s. settles_retired w m made true found then d.0 l.back tried.clock d.1 s.0 makes t.within (table_set l found index tried.above table) kept_else none (inr (inl s.1)))
-            (λ s. settles_retired w m made true found then d.0 (l.back + 1) tried.clock d.1 s.0 makes t.within (table_set l found index tried.above table) kept_else none (inr (inr (refl, s.1, times_then (loads.step ∷ []) t.made d.0 s.2))))
+            (λ s.
+            settles_retired w m made true found then d.0 l.back tried.clock d.1 s.0 makes t.within (table_set l found index tried.above table) kept_else none (inr (inl s.1)))
+            (λ s.
+            settles_retired w m made true found then d.0 (l.back + 1) tried.clock d.1 s.0 makes t.within (table_set l found index tried.above table) kept_else none (inr (inr (refl, s.1, times_then (loads.step ∷ []) t.made d.0 s.2))))
             d.3)
             (λ d. ⊎_elim (λ s. kept_for None s.0 d.0 (why_none s.1)) (λ s. kept_for (Some s.0) s.1 d.0 (why_some s.0 s.2)) d.1)
             t.fate

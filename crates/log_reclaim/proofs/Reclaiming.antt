@@ -1,36 +1,48 @@
 -- The parts of a reclaiming call, one after the other.
-use Rattle.std.proofs.Common.{◌≡◌, ◌≤◌, List, [], ◌++◌, length, refl, sym, ap, ◌∙◌, arith, append_assoc, append-nil, length-append, None}
+use Rattle.std.proofs.Common.{◌≡◌, ◌≤◌, List, [], ◌++◌, length, All, refl, sym, ap, ◌∙◌, arith, append_assoc, append-nil, None}
 use Rattle.std.proofs.lemmas.List.Elements.{All-nil, All-append}
-use Rattle.mv_history.specs.declared.Entry.{Entry}
 use Rattle.mv_history.specs.declared.Step.{Step}
 use Rattle.mv_core.specs.declared.view.View.{View}
 use Rattle.mv_core.specs.declared.view.Phase.TheVariants.{Outside}
 use Rattle.mv_core.specs.declared.view.Walk.TheVariants.{Nowhere}
 use Rattle.mv_core.specs.HistoryFacts.{BeginsWith}
 use Rattle.mv_core.specs.EnterSteps.{MayLoadLow}
+use Rattle.mv_core.proofs.Fronts.{begins_by, begins_long}
 use Rattle.log_reclaim.specs.Parts.{NamesNoCommit, IsOtherKind, Reclaims}
 use Rattle.log_reclaim.specs.Tries.{Makes}
 
--- a history that begins with one that begins with another begins with that
-pub begins_by : (a b d : List Entry) → BeginsWith a b → BeginsWith b d → BeginsWith a d
-begins_by a b d p q = (q.0 ++ p.0, p.1 ∙ ap (λ l. l ++ p.0) q.1 ∙ append_assoc d q.0 p.0)
-
--- and is no shorter
-pub begins_long : (a b : List Entry) → BeginsWith a b → length b ≤ length a
-begins_long a b p = let e = ap length p.1 in let f = length-append b p.0 in omega arith
+-- steps outside a section that change only what was seen and heard, the rests, the HEADs found empty, the own log, the watermark and the trail
+pub reclaims_outside : (v w : View) (made : List Step) → MayLoadLow v → (v.walk ≡ Nowhere) × (v.back ≡ None)
+    → w ≡ record v { past = w.past; heard = w.heard; empty = w.empty; ring = w.ring; grace = w.grace; trail = w.trail }
+    → BeginsWith w.past.seen v.past.seen → w.past.mine ≡ v.past.mine → v.grace ≤ w.grace → w.trail ≡ v.trail ++ made
+    → All (λ s. NamesNoCommit s.kind) made → Reclaims v w made
+reclaims_outside v w made may still is seen mine grace trail kinds = record {
+  outside = ap (λ (x : View). x.phase) is ∙ may.outside;
+  no_scan = ap (λ (x : View). x.scan) is ∙ may.no_scan;
+  seen = seen;
+  mine = mine;
+  grace = grace;
+  trail = trail;
+  kinds = kinds;
+  rest = is ∙ (λ i. record v {
+    past = w.past;
+    phase = may.outside i;
+    heard = w.heard;
+    walk = still.0 i;
+    empty = w.empty;
+    ring = w.ring;
+    back = still.1 i;
+    scan = may.no_scan i;
+    grace = w.grace;
+    trail = w.trail;
+  });
+}
 
 -- a pass outside a section that makes no step
 pub reclaims_none : (v : View) → MayLoadLow v → (v.walk ≡ Nowhere) × (v.back ≡ None) → Reclaims v v []
-reclaims_none v may still = record {
-  outside = may.outside;
-  no_scan = may.no_scan;
-  seen = ([], sym (append-nil v.past.seen));
-  mine = refl;
-  grace = (let e : v.grace ≤ v.grace = omega arith in e);
-  trail = sym (append-nil v.trail);
-  kinds = All-nil (λ s. NamesNoCommit s.kind);
-  rest = λ i. record v { phase = may.outside i; walk = still.0 i; back = still.1 i; scan = may.no_scan i };
-}
+reclaims_none v may still =
+    reclaims_outside v v [] may still refl ([], sym (append-nil v.past.seen)) refl (let e : v.grace ≤ v.grace = omega arith in e)
+    (sym (append-nil v.trail)) (All-nil (λ s. NamesNoCommit s.kind))
 
 pub makes_none : (v : View) → MayLoadLow v → (v.walk ≡ Nowhere) × (v.back ≡ None) → Makes v v []
 makes_none v may still = record { reclaims = reclaims_none v may still; rests = refl; kinds = All-nil (λ s. IsOtherKind s.kind) }
@@ -45,7 +57,11 @@ reclaims_on v u w made more a b = record {
   grace = (let first = a.grace in let then = b.grace in omega arith);
   trail = b.trail ∙ ap (λ l. l ++ more) a.trail ∙ append_assoc v.trail made more;
   kinds = All-append (λ s. NamesNoCommit s.kind) made more a.kinds b.kinds;
-  rest = b.rest ∙ ap (λ (x : View). record x { past = w.past; phase = Outside; heard = w.heard; walk = Nowhere; empty = w.empty; ring = w.ring; back = None; scan = None; grace = w.grace; trail = w.trail }) a.rest;
+  rest = b.rest
+      ∙ ap
+      (λ (x : View).
+      record x { past = w.past; phase = Outside; heard = w.heard; walk = Nowhere; empty = w.empty; ring = w.ring; back = None; scan = None; grace = w.grace; trail = w.trail })
+      a.rest;
 }
 
 pub makes_on : (v u w : View) (made more : List Step) → Makes v u made → Makes u w more → Makes v w (made ++ more)

@@ -18,22 +18,25 @@ use Rattle.mv_layout.specs.Words.{clock_time_of}
 use Rattle.mv_core.specs.declared.view.View.{View}
 use Rattle.mv_core.specs.declared.view.Past.{Past}
 use Rattle.mv_core.specs.declared.view.Phase.{Phase}
-use Rattle.mv_core.specs.declared.view.Phase.TheVariants.{Outside, Inside}
+use Rattle.mv_core.specs.declared.view.Phase.TheVariants.{Outside}
 use Rattle.mv_core.specs.declared.view.Walk.TheVariants.{Nowhere}
 use Rattle.mv_core.specs.HistoryFacts.{BeginsWith}
 use Rattle.mv_core.specs.EnterSteps.{IsWhole, MayLoadLow, check_loaded}
 use Rattle.mv_core.specs.NameSteps.{MayNameRest, rest_word, rest_named, rest_lost}
 use Rattle.mv_core.specs.Known.{Known}
+use Rattle.mv_core.proofs.Fronts.{begins_by, begins_long}
 use Rattle.commit_clock.specs.Helps.{HasLoaded, IsHelpStep, Helps}
+use Rattle.commit_clock.proofs.HelpedPhase.{still_outside}
+use Rattle.commit_clock.proofs.HelpKinds.{help_kind}
 use Rattle.commit_clock.specs.Names.{IsLost}
 use Rattle.seat_log.specs.Notes.{Noted, rest_noted}
 use Rattle.seat_log.specs.Stands.{Stands}
-use Rattle.seat_log.proofs.PlainSteps.{LeavesLog, stands_left}
+use Rattle.seat_log.proofs.PlainSteps.{LeavesLog, kinds_leave, help_leaves, stands_left}
 use Rattle.seat_log.proofs.Rested.{rests_room, stands_rested, stands_unrested}
 use Rattle.log_reclaim.specs.Parts.{NamesNoCommit, BeginsNoScan, LeavesClock, Reclaims}
 use Rattle.log_reclaim.specs.Tidies.{IsAnyAbove, RestsSo}
 use Rattle.log_reclaim.proofs.Exchanges.{none_exchanged, one_last}
-use Rattle.log_reclaim.proofs.Reclaiming.{begins_by, begins_long}
+use Rattle.log_reclaim.proofs.Reclaiming.{reclaims_outside}
 
 -- a step of a rest: it names no commit and begins no scan
 abbrev IsRestStep : StepKind → Type 0
@@ -43,37 +46,19 @@ IsRestStep SwapStamp = Unit {0}
 IsRestStep NameRest = Unit {0}
 IsRestStep _ = ⊥
 
-of_help : (k : StepKind) → IsHelpStep k → IsRestStep k
-of_help LoadNamed h = tt
-of_help LoadCheck h = tt
-of_help SwapStamp h = tt
-of_help _ h = absurd h
+-- what holds of each kind of step of a rest holds of a step of one
+rest_kind : (P : StepKind → Type 0) → P LoadNamed → P LoadCheck → P SwapStamp → P NameRest → (k : StepKind) → IsRestStep k → P k
+rest_kind P named check swap rest LoadNamed h = named
+rest_kind P named check swap rest LoadCheck h = check
+rest_kind P named check swap rest SwapStamp h = swap
+rest_kind P named check swap rest NameRest h = rest
+rest_kind P named check swap rest _ h = absurd h
 
 names_none : (k : StepKind) → IsRestStep k → NamesNoCommit k
-names_none LoadNamed h = tt
-names_none LoadCheck h = tt
-names_none SwapStamp h = tt
-names_none NameRest h = tt
-names_none _ h = absurd h
+names_none = rest_kind NamesNoCommit tt tt tt tt
 
 begins_none : (k : StepKind) → IsRestStep k → BeginsNoScan k
-begins_none LoadNamed h = tt
-begins_none LoadCheck h = tt
-begins_none SwapStamp h = tt
-begins_none NameRest h = tt
-begins_none _ h = absurd h
-
-leaves_clock : (k : StepKind) → IsHelpStep k → LeavesClock k
-leaves_clock LoadNamed h = tt
-leaves_clock LoadCheck h = tt
-leaves_clock SwapStamp h = tt
-leaves_clock _ h = absurd h
-
-leaves_log : (k : StepKind) → IsHelpStep k → LeavesLog k
-leaves_log LoadNamed h = (refl, refl)
-leaves_log LoadCheck h = (refl, refl)
-leaves_log SwapStamp h = (refl, refl)
-leaves_log _ h = absurd h
+begins_none = rest_kind BeginsNoScan tt tt tt tt
 
 -- steps that change only what was seen and heard, the rests, and the trail
 pub record Listens (v w : View) (made : List Step) : Type 0 where
@@ -103,30 +88,16 @@ listens_then u v w made more p q = record {
 
 module _ (v : View) (may : MayLoadLow v) (still : (v.walk ≡ Nowhere) × (v.back ≡ None)) where
   pub reclaims_listening : (w : View) (made : List Step) → Listens v w made → Reclaims v w made
-  reclaims_listening w made k = record {
-    outside = ap (λ (u : View). u.phase) k.rest ∙ may.outside;
-    no_scan = ap (λ (u : View). u.scan) k.rest ∙ may.no_scan;
-    seen = k.seen;
-    mine = k.mine;
-    grace = (let e = ap (λ (u : View). u.grace) k.rest in omega arith);
-    trail = k.trail;
-    kinds = All-weaker (λ (s : Step). IsRestStep s.kind) (λ s. NamesNoCommit s.kind) (λ s. names_none s.kind) made k.kinds;
-    rest = k.rest ∙ (λ i. record v {
-      past = w.past;
-      phase = may.outside i;
-      heard = w.heard;
-      walk = still.0 i;
-      empty = sym (ap (λ (u : View). u.empty) k.rest) i;
-      ring = sym (ap (λ (u : View). u.ring) k.rest) i;
-      back = still.1 i;
-      scan = may.no_scan i;
-      grace = sym (ap (λ (u : View). u.grace) k.rest) i;
-      trail = w.trail;
-    });
-  }
+  reclaims_listening w made k =
+      reclaims_outside v w made may still
+      (ap (λ (u : View). record u { past = w.past; heard = w.heard; empty = w.empty; ring = w.ring; grace = w.grace; trail = w.trail }) k.rest)
+      k.seen k.mine (let e = ap (λ (u : View). u.grace) k.rest in omega arith) k.trail
+      (All-weaker (λ (s : Step). IsRestStep s.kind) (λ s. NamesNoCommit s.kind) (λ s. names_none s.kind) made k.kinds)
 
   -- nothing was done: the last time was seen, or no version is dead only from above
-  pub rests_none : (starts : State → Type 0) (allows : List ℕ → State → Writes → Type 0) (l : Noted) (latest : ℕ) → ∥ Known starts allows v ∥₁ → latest ≤ v.base + length v.past.seen → (latest ≡ 35184372088831) ⊎ IsAnyAbove l latest false → (made : List Step) × RestsSo v v l l made latest
+  pub rests_none : (starts : State → Type 0) (allows : List ℕ → State → Writes → Type 0) (l : Noted) (latest : ℕ) → ∥ Known starts allows v ∥₁
+      → latest ≤ v.base + length v.past.seen → (latest ≡ 35184372088831) ⊎ IsAnyAbove l latest false
+      → (made : List Step) × RestsSo v v l l made latest
   rests_none starts allows l latest known within why =
       let high : v.base + length v.past.seen ≤ 35184372088831 = ∥∥₁_elim known le_prop (λ a. a.in_time) in (
         [],
@@ -140,12 +111,13 @@ module _ (v : View) (may : MayLoadLow v) (still : (v.walk ≡ Nowhere) × (v.bac
         },
       )
 
-module _ (c : Config) (v x : View) (word : ℕ) (h0 : List Entry) (whole : IsWhole c v word h0) (is : x ≡ check_loaded c v word h0) (may : MayLoadLow v) (still : (v.walk ≡ Nowhere) × (v.back ≡ None)) (y : View) (helps : Helps c x y word) where
+module _ (c : Config) (v x : View) (word : ℕ) (h0 : List Entry) (whole : IsWhole c v word h0) (is : x ≡ check_loaded c v word h0) (may : MayLoadLow v)
+    (still : (v.walk ≡ Nowhere) × (v.back ≡ None)) (y : View) (helps : Helps c x y word) where
   phase_first : x.phase ≡ Outside
   phase_first = ap (λ (u : View). u.phase) is ∙ may.outside
 
   phase_next : y.phase ≡ Outside
-  phase_next = ⊎_elim (λ same. same ∙ phase_first) (λ own. let both : Inside own.inside ≡ Outside = sym own.phase ∙ phase_first in absurd cc) helps.phase
+  phase_next = still_outside c x y word phase_first helps
 
   abbrev load : Step
   load = record { kind = LoadCheck; word = place_of c Clock; found = Some word; stored = None }
@@ -164,7 +136,7 @@ module _ (c : Config) (v x : View) (word : ℕ) (h0 : List Entry) (whole : IsWho
     seen = subst (λ (h : List Entry). BeginsWith h x.past.seen) (sym (ap (λ (p : Past). p.seen) helps.past.2)) helps.past.1;
     mine = ap (λ (p : Past). p.mine) helps.past.2;
     trail = helps.trail.1;
-    kinds = All-weaker (λ (s : Step). IsHelpStep s.kind) (λ s. IsRestStep s.kind) (λ s. of_help s.kind) helps.trail.0 helps.trail.3;
+    kinds = All-weaker (λ (s : Step). IsHelpStep s.kind) (λ s. IsRestStep s.kind) (λ s. help_kind IsRestStep tt tt tt s.kind) helps.trail.0 helps.trail.3;
     rest = helps.rest ∙ ap (λ (p : Phase). record x { past = y.past; phase = p; heard = y.heard; trail = y.trail }) (phase_next ∙ sym phase_first);
   }
 
@@ -178,7 +150,7 @@ module _ (c : Config) (v x : View) (word : ℕ) (h0 : List Entry) (whole : IsWho
   none_next : clock_exchanges steps ≡ []
   none_next =
       none_exchanged steps
-      (All-cons (λ s. LeavesClock s.kind) load helps.trail.0 tt (All-weaker (λ (s : Step). IsHelpStep s.kind) (λ s. LeavesClock s.kind) (λ s. leaves_clock s.kind) helps.trail.0 helps.trail.3))
+      (All-cons (λ s. LeavesClock s.kind) load helps.trail.0 tt (All-weaker (λ (s : Step). IsHelpStep s.kind) (λ s. LeavesClock s.kind) (λ s. help_kind LeavesClock tt tt tt s.kind) helps.trail.0 helps.trail.3))
 
   rests_next : y.past.rests ≡ v.past.rests
   rests_next = ap (λ (p : Past). p.rests) helps.past.2 ∙ ap (λ (u : View). u.past.rests) is
@@ -190,10 +162,11 @@ module _ (c : Config) (v x : View) (word : ℕ) (h0 : List Entry) (whole : IsWho
   stands_helped l k =
       let r = listens_next.rest in
       stands_left c v y l k (ap (λ (u : View). u.number) r) (ap (λ (u : View). u.ring) r) listens_next.mine rests_next steps listens_next.trail
-      (All-cons (λ s. LeavesLog s.kind) load helps.trail.0 (refl, refl) (All-weaker (λ (s : Step). IsHelpStep s.kind) (λ s. LeavesLog s.kind) (λ s. leaves_log s.kind) helps.trail.0 helps.trail.3))
+      (All-cons (λ s. LeavesLog s.kind) load helps.trail.0 (refl, refl) (kinds_leave IsHelpStep help_leaves helps.trail.0 helps.trail.3))
 
   -- the word loaded is of the last time
-  pub rests_at_end : (starts : State → Type 0) (allows : List ℕ → State → Writes → Type 0) (l : Noted) (latest : ℕ) → ∥ Known starts allows y ∥₁ → v.base ≡ c.base → clock_time_of word ≡ 35184372088831 → (made : List Step) × RestsSo v y l l made latest
+  pub rests_at_end : (starts : State → Type 0) (allows : List ℕ → State → Writes → Type 0) (l : Noted) (latest : ℕ) → ∥ Known starts allows y ∥₁
+      → v.base ≡ c.base → clock_time_of word ≡ 35184372088831 → (made : List Step) × RestsSo v y l l made latest
   rests_at_end starts allows l latest known base last =
       let high : y.base + length y.past.seen ≤ 35184372088831 = ∥∥₁_elim known le_prop (λ a. a.in_time) in
       let same : y.base ≡ v.base = ap (λ (u : View). u.base) listens_next.rest in
@@ -210,19 +183,24 @@ module _ (c : Config) (v x : View) (word : ℕ) (h0 : List Entry) (whole : IsWho
         },
       )
 
-  pub room : (starts : State → Type 0) (allows : List ℕ → State → Writes → Type 0) (l : Noted) → Stands c v l → ∥ Known starts allows y ∥₁ → l.rests + 1 < 2 ^ 63
+  pub room : (starts : State → Type 0) (allows : List ℕ → State → Writes → Type 0) (l : Noted) → Stands c v l → ∥ Known starts allows y ∥₁
+      → l.rests + 1 < 2 ^ 63
   room starts allows l k known = rests_room starts allows c y l (stands_helped l k) known
 
-  pub stands_done : (starts : State → Type 0) (allows : List ℕ → State → Writes → Type 0) (w : View) (l m : Noted) (h : List Entry) → Stands c v l → ∥ Known starts allows y ∥₁ → w ≡ rest_named c y word h → m ≡ rest_noted l → Stands c w m
+  pub stands_done : (starts : State → Type 0) (allows : List ℕ → State → Writes → Type 0) (w : View) (l m : Noted) (h : List Entry) → Stands c v l
+      → ∥ Known starts allows y ∥₁ → w ≡ rest_named c y word h → m ≡ rest_noted l → Stands c w m
   stands_done starts allows w l m h k known is_named noted =
-      subst (λ (p : View × Noted). Stands c p.0 p.1) (λ i. (sym is_named i, sym noted i)) (stands_rested c y l word h (stands_helped l k) (room starts allows l k known))
+      subst (λ (p : View × Noted). Stands c p.0 p.1) (λ i. (sym is_named i, sym noted i))
+      (stands_rested c y l word h (stands_helped l k) (room starts allows l k known))
 
   pub stands_lost : (w : View) (l : Noted) (found : ℕ) (h : List Entry) → Stands c v l → w ≡ rest_lost c y found h → Stands c w l
   stands_lost w l found h k is_lost = subst (λ (u : View). Stands c u l) (sym is_lost) (stands_unrested c y l found h (stands_helped l k))
 
   module _ (w : View) (latest : ℕ) (within : latest ≤ v.base + length v.past.seen) (base : v.base ≡ c.base) where
     -- an exchange of CLOCK was made after that, by which more than up to `latest` was seen
-    rests_by : (step : Step) (l m : Noted) → IsRestStep step.kind → Listens y w (step ∷ []) → (w.past.rests ≡ y.past.rests) ⊎ (w.past.rests ≡ y.past.rests + 1) → m ≡ record l { rests = m.rests } → latest < w.base + length w.past.seen → (made : List Step) × RestsSo v w l m made latest
+    rests_by : (step : Step) (l m : Noted) → IsRestStep step.kind → Listens y w (step ∷ [])
+        → (w.past.rests ≡ y.past.rests) ⊎ (w.past.rests ≡ y.past.rests + 1) → m ≡ record l { rests = m.rests } → latest < w.base + length w.past.seen
+        → (made : List Step) × RestsSo v w l m made latest
     rests_by step l m kind more once log late =
         let all = listens_then v y w steps (step ∷ []) listens_next more in (
           steps ++ step ∷ [],
@@ -239,7 +217,8 @@ module _ (c : Config) (v x : View) (word : ℕ) (h0 : List Entry) (whole : IsWho
     same_base : y.base ≡ v.base
     same_base = ap (λ (u : View). u.base) listens_next.rest
 
-    pub rests_done : (l m : Noted) (h : List Entry) → IsWhole c y word h → w ≡ rest_named c y word h → m ≡ rest_noted l → (made : List Step) × RestsSo v w l m made latest
+    pub rests_done : (l m : Noted) (h : List Entry) → IsWhole c y word h → w ≡ rest_named c y word h → m ≡ rest_noted l
+        → (made : List Step) × RestsSo v w l m made latest
     rests_done l m h now is_named noted =
         let step : Step = record { kind = NameRest; word = place_of c Clock; found = Some word; stored = Some (rest_word y word) } in
         let seen : w.past.seen ≡ h ++ Rest y.number ∷ [] = ap (λ (u : View). u.past.seen) is_named in
@@ -254,13 +233,15 @@ module _ (c : Config) (v x : View) (word : ℕ) (h0 : List Entry) (whole : IsWho
           mine = ap (λ (u : View). u.past.mine) is_named;
           trail = ap (λ (u : View). u.trail) is_named;
           kinds = All-cons (λ s. IsRestStep s.kind) step [] tt (All-nil (λ s. IsRestStep s.kind));
-          rest = is_named ∙ (λ i. record y { past = sym (ap (λ (u : View). u.past) is_named) i; heard = sym (ap (λ (u : View). u.heard) is_named) i; trail = sym (ap (λ (u : View). u.trail) is_named) i });
+          rest = is_named
+              ∙ (λ i. record y { past = sym (ap (λ (u : View). u.past) is_named) i; heard = sym (ap (λ (u : View). u.heard) is_named) i; trail = sym (ap (λ (u : View). u.trail) is_named) i });
         })
         (inr (ap (λ (u : View). u.past.rests) is_named))
         (noted ∙ ap (λ (n : ℕ). record l { rests = n }) (sym (ap (λ (k : Noted). k.rests) noted)))
         (omega arith)
 
-    pub rests_lost : (l : Noted) (found : ℕ) (h : List Entry) (rival : Rival) → IsLost c y word found rival h → w ≡ rest_lost c y found h → (made : List Step) × RestsSo v w l l made latest
+    pub rests_lost : (l : Noted) (found : ℕ) (h : List Entry) (rival : Rival) → IsLost c y word found rival h → w ≡ rest_lost c y found h
+        → (made : List Step) × RestsSo v w l l made latest
     rests_lost l found h rival lost is_lost =
         let step : Step = record { kind = NameRest; word = place_of c Clock; found = Some found; stored = None } in
         let seen : w.past.seen ≡ h = ap (λ (u : View). u.past.seen) is_lost in
@@ -277,7 +258,8 @@ module _ (c : Config) (v x : View) (word : ℕ) (h0 : List Entry) (whole : IsWho
           mine = ap (λ (u : View). u.past.mine) is_lost;
           trail = ap (λ (u : View). u.trail) is_lost;
           kinds = All-cons (λ s. IsRestStep s.kind) step [] tt (All-nil (λ s. IsRestStep s.kind));
-          rest = is_lost ∙ (λ i. record y { past = sym (ap (λ (u : View). u.past) is_lost) i; heard = sym (ap (λ (u : View). u.heard) is_lost) i; trail = sym (ap (λ (u : View). u.trail) is_lost) i });
+          rest = is_lost
+              ∙ (λ i. record y { past = sym (ap (λ (u : View). u.past) is_lost) i; heard = sym (ap (λ (u : View). u.heard) is_lost) i; trail = sym (ap (λ (u : View). u.trail) is_lost) i });
         })
         (inl (ap (λ (u : View). u.past.rests) is_lost))
         refl

@@ -20,7 +20,8 @@ use Rattle.seat_log.specs.Stands.{Stands}
 use Rattle.seat_log.proofs.PlainSteps.{LeavesLog, stands_left}
 use Rattle.log_reclaim.specs.Parts.{NamesNoCommit, BeginsNoScan, LeavesClock, IsOtherKind, Reclaims, HasScanned}
 use Rattle.log_reclaim.specs.Tries.{Makes}
-use Rattle.log_reclaim.proofs.Reclaiming.{begins_long}
+use Rattle.mv_core.proofs.Fronts.{begins_long}
+use Rattle.log_reclaim.proofs.Reclaiming.{reclaims_outside}
 use Rattle.log_reclaim.proofs.ScanCauses.{after_clock_all}
 
 -- a load of GRACE
@@ -33,35 +34,21 @@ one_kind P s p = All-cons (λ (x : Step). P x.kind) s [] p (All-nil (λ (x : Ste
 module _ (c : Config) (v w : View) (found : ℕ) (is : w ≡ grace_loaded c v found) where
   pub grace_makes : MayLoadLow v → (v.walk ≡ Nowhere) × (v.back ≡ None) → Makes v w (grace_load c found ∷ [])
   grace_makes may still = record {
-    reclaims = record {
-      outside = ap (λ (x : View). x.phase) is ∙ may.outside;
-      no_scan = ap (λ (x : View). x.scan) is ∙ may.no_scan;
-      seen = ([], ap (λ (x : View). x.past.seen) is ∙ sym (append-nil v.past.seen));
-      mine = ap (λ (x : View). x.past.mine) is;
-      grace = (let e : w.grace ≡ max v.grace found = ap (λ (x : View). x.grace) is in omega arith);
-      trail = ap (λ (x : View). x.trail) is;
-      kinds = one_kind NamesNoCommit (grace_load c found) tt;
-      rest = is
-          ∙ (λ i. record v {
-            past = sym (ap (λ (x : View). x.past) is) i;
-            phase = may.outside i;
-            heard = sym (ap (λ (x : View). x.heard) is) i;
-            walk = still.0 i;
-            empty = sym (ap (λ (x : View). x.empty) is) i;
-            ring = sym (ap (λ (x : View). x.ring) is) i;
-            back = still.1 i;
-            scan = may.no_scan i;
-            grace = sym (ap (λ (x : View). x.grace) is) i;
-            trail = sym (ap (λ (x : View). x.trail) is) i;
-          });
-    };
+    reclaims = reclaims_outside v w (grace_load c found ∷ []) may still
+        (ap (λ (x : View). record x { past = w.past; heard = w.heard; empty = w.empty; ring = w.ring; grace = w.grace; trail = w.trail }) is)
+        ([], ap (λ (x : View). x.past.seen) is ∙ sym (append-nil v.past.seen))
+        (ap (λ (x : View). x.past.mine) is)
+        (let e : w.grace ≡ max v.grace found = ap (λ (x : View). x.grace) is in omega arith)
+        (ap (λ (x : View). x.trail) is)
+        (one_kind NamesNoCommit (grace_load c found) tt);
     rests = ap (λ (x : View). x.past.rests) is;
     kinds = one_kind IsOtherKind (grace_load c found) tt;
   }
 
   pub grace_stands : (l : Noted) → Stands c v l → Stands c w l
   grace_stands l k =
-      stands_left c v w l k (ap (λ (x : View). x.number) is) (ap (λ (x : View). x.ring) is) (ap (λ (x : View). x.past.mine) is) (ap (λ (x : View). x.past.rests) is) (grace_load c found ∷ []) (ap (λ (x : View). x.trail) is)
+      stands_left c v w l k (ap (λ (x : View). x.number) is) (ap (λ (x : View). x.ring) is) (ap (λ (x : View). x.past.mine) is)
+      (ap (λ (x : View). x.past.rests) is) (grace_load c found ∷ []) (ap (λ (x : View). x.trail) is)
       (one_kind LeavesLog (grace_load c found) (refl, refl))
 
 module _ (c : Config) (v w : View) (mark : Watermark) (clock before after : ℕ) (k : Scans c v w mark clock before after) where
@@ -70,7 +57,9 @@ module _ (c : Config) (v w : View) (mark : Watermark) (clock before after : ℕ)
   steps_of = scan_steps c v.number k.word k.marks mark.low k.found
 
   steps_all : (P : StepKind → Type 0) → P LoadScan → P LoadMark → P RaiseGrace → All (λ (s : Step). P s.kind) steps_of
-  steps_all P a b d = All-cons (λ (s : Step). P s.kind) (scan_step c k.word) (mark_steps c v.number k.marks c.seats ++ grace_step c mark.low k.found ∷ []) a (after_clock_all P c v.number k.marks mark.low k.found b d)
+  steps_all P a b d =
+      All-cons (λ (s : Step). P s.kind) (scan_step c k.word) (mark_steps c v.number k.marks c.seats ++ grace_step c mark.low k.found ∷ []) a
+      (after_clock_all P c v.number k.marks mark.low k.found b d)
 
   pub scan_leaves : All (λ s. LeavesClock s.kind) steps_of
   scan_leaves = steps_all LeavesClock tt tt tt
@@ -91,7 +80,9 @@ module _ (c : Config) (v w : View) (mark : Watermark) (clock before after : ℕ)
       omega arith
 
   pub scan_later : v.base ≡ c.base → v.base + length v.past.seen ≤ clock
-  scan_later from = let e = scan_clock_is from in let base : w.base ≡ v.base = ap (λ (x : View). x.base) k.view in let more = begins_long w.past.seen v.past.seen scan_seen in omega arith
+  scan_later from =
+      let e = scan_clock_is from in
+      let base : w.base ≡ v.base = ap (λ (x : View). x.base) k.view in let more = begins_long w.past.seen v.past.seen scan_seen in omega arith
 
   pub scan_reclaims : MayLoadLow v → (v.walk ≡ Nowhere) × (v.back ≡ None) → Reclaims v w steps_of
   scan_reclaims may still =
@@ -124,7 +115,8 @@ module _ (c : Config) (v w : View) (mark : Watermark) (clock before after : ℕ)
   pub scan_stands : (l : Noted) → Stands c v l → Stands c w l
   scan_stands l s =
       let is = k.view in
-      stands_left c v w l s (ap (λ (x : View). x.number) is) (ap (λ (x : View). x.ring) is) (ap (λ (x : View). x.past.mine) is) scan_rests steps_of (ap (λ (x : View). x.trail) is) (steps_all LeavesLog (refl, refl) (refl, refl) (refl, refl))
+      stands_left c v w l s (ap (λ (x : View). x.number) is) (ap (λ (x : View). x.ring) is) (ap (λ (x : View). x.past.mine) is) scan_rests steps_of
+      (ap (λ (x : View). x.trail) is) (steps_all LeavesLog (refl, refl) (refl, refl) (refl, refl))
 
   pub scan_shown : HasScanned c v.number steps_of mark clock
   scan_shown = record {

@@ -25,26 +25,26 @@ use Rattle.mv_core.specs.Known.{Known}
 use Rattle.mv_core.proofs.Latest.{latest_at-latest}
 use Rattle.mv_core.proofs.Links.{link_some, live_once, note_once}
 use Rattle.reader_marks.specs.declared.scanning.Watermark.{Watermark}
-use Rattle.reader_marks.specs.Sections.{Begins, IsOpen}
+use Rattle.reader_marks.specs.Sections.{Begins, IsOpen, inside_of, section_in}
 use Rattle.seat_log.specs.declared.version.Note.{Note}
 use Rattle.seat_log.specs.Notes.{Noted, IsNoteAt, IsLog}
 use Rattle.seat_log.specs.Stands.{version_of, Stands}
 use Rattle.seat_log.proofs.Places.{get_within}
 use Rattle.seat_log.proofs.PlainSteps.{stands_entered}
 use Rattle.seat_log.proofs.Retired.{committed_at}
+use Rattle.seat_log.proofs.NotedSlots.{noted_in}
 use Rattle.log_reclaim.specs.declared.writing_back.Back.{Back}
 use Rattle.log_reclaim.specs.declared.writing_back.NoBack.{NoBack}
 use Rattle.log_reclaim.specs.declared.writing_back.NoBack.TheVariants.{Gone, Above}
 use Rattle.log_reclaim.specs.Backs.{IsCommitted, IsWriting, HasLooked, LeavesAt, HasLater, StartsSo}
-use Rattle.log_reclaim.proofs.NotedSlots.{note_of_slot}
-use Rattle.log_reclaim.proofs.Picks.{inside_of, section_in}
 
 -- the note of a place is one
 note_once_at : (l : Noted) (i j : ℕ) (x n : Note) → IsNoteAt l i x → IsNoteAt l j n → i ≡ j → x ≡ n
 note_once_at l i j x n a b e = let one : Some x ≡ Some n = sym a ∙ ap (slice_get l.live) e ∙ b in cc
 
 -- the note that is as far from the oldest as the position is that of the version
-pub same_note : (l : Noted) (position : ℕ) (oldest x n : Note) → IsLog l → IsCommitted l position n → IsNoteAt l 0 oldest → IsNoteAt l (position - oldest.position) x → x ≡ n
+pub same_note : (l : Noted) (position : ℕ) (oldest x n : Note) → IsLog l → IsCommitted l position n → IsNoteAt l 0 oldest
+    → IsNoteAt l (position - oldest.position) x → x ≡ n
 same_note l position oldest x n log live first there =
     let low = live.from in
     let base = log.notes.position 0 oldest first in
@@ -72,7 +72,8 @@ none_of None none = refl
 none_of (Some d) none = absurd (none d refl)
 
 -- the section has begun, in which HEAD is loaded
-module _ (c : Config) (v e : View) (l : Noted) (position : ℕ) (x n : Note) (time : ℕ) (k : Stands c v l) (live : IsCommitted l position n) (same : x ≡ n) (b : Begins c v e time) where
+module _ (c : Config) (v e : View) (l : Noted) (position : ℕ) (x n : Note) (time : ℕ) (k : Stands c v l) (live : IsCommitted l position n)
+    (same : x ≡ n) (b : Begins c v e time) where
   number_is : e.number ≡ v.number
   number_is = ap (λ (u : View). u.number) b.rest
 
@@ -91,7 +92,8 @@ module _ (c : Config) (v e : View) (l : Noted) (position : ℕ) (x n : Note) (ti
   pub may_look : MayLoadHead e (section_in e)
   may_look = subst (IsWalking e) (sym section_is) (record { phase = b.phase; open_is = b.open_is; helped = b.past_help; no_back = b.no_back })
 
-  pub object_within : (starts : State → Type 0) (allows : List ℕ → State → Writes → Type 0) → ∥ Known starts allows v ∥₁ → length v.start ≡ c.objects → x.object < c.objects
+  pub object_within : (starts : State → Type 0) (allows : List ℕ → State → Writes → Type 0) → ∥ Known starts allows v ∥₁ → length v.start ≡ c.objects
+      → x.object < c.objects
   object_within starts allows known objects =
       let a = committed_at c v l (position - l.freed) n k live.at live.committed in
       let range : n.object < length v.start = ∥∥₁_elim known le_prop (λ s. (s.commits (index_of c n.position) (version_of n) a.0 a.1).in_range) in
@@ -121,14 +123,17 @@ module _ (c : Config) (v e : View) (l : Noted) (position : ℕ) (x n : Note) (ti
           let some : link ≢ 0 = λ z. link_some v.number position (sym top ∙ z) in
           let there = own some (ap link_seat_of top ∙ link_seat_back v.number position small ∙ sym number_is) in
           let named : link_position_of link ≡ n.position = ap link_position_of top ∙ link_position_back v.number position small ∙ sym place in
-          let one = live_once (slot_at e.ring (index_of c n.position)) there.0 (version_of n) there.1 (Committed a.0) (ap (λ (p : ℕ). slot_at e.ring (index_of c p)) (sym named) ∙ there.2) a.1 in
+          let one =
+          live_once (slot_at e.ring (index_of c n.position)) there.0 (version_of n) there.1 (Committed a.0)
+          (ap (λ (p : ℕ). slot_at e.ring (index_of c p)) (sym named) ∙ there.2) a.1 in
           ⊎_elim
           (λ held. let clash : Held ≡ Committed a.0 = sym held ∙ one.1 in absurd (cc))
           (λ made. ap (λ (o : CommitNote). o.cut) (note_once a.0 made.0 (sym one.1 ∙ made.1)) ∙ made.2)
           there.4
 
       -- and it had no time of death, since no later write of its object was seen
-      no_death : (starts : State → Type 0) (allows : List ℕ → State → Writes → Type 0) → ∥ Known starts allows e ∥₁ → v.base ≡ c.base → IsLastSeen c e x.object link → (committed_at c e l (position - l.freed) n stands live.at live.committed).0.dead ≡ None
+      no_death : (starts : State → Type 0) (allows : List ℕ → State → Writes → Type 0) → ∥ Known starts allows e ∥₁ → v.base ≡ c.base
+          → IsLastSeen c e x.object link → (committed_at c e l (position - l.freed) n stands live.at live.committed).0.dead ≡ None
       no_death starts allows known base last =
           let a = committed_at c e l (position - l.freed) n stands live.at live.committed in
           let some : link ≢ 0 = λ z. link_some v.number position (sym top ∙ z) in
@@ -142,10 +147,12 @@ module _ (c : Config) (v e : View) (l : Noted) (position : ℕ) (x n : Note) (ti
           (λ d is.
           let next = λ (r : Known starts allows e). (r.commits (index_of c n.position) (version_of n) a.0 a.1).superseded d uncut is in
           let later : a.0.time < d = ∥∥₁_elim known le_prop (λ r. (next r).later) in
-          let reached : d ≤ latest e.base e.past.seen n.object = ∥∥₁_elim known le_prop (λ r. let written = (next r).written in let le = latest_at-latest e.base e.past.seen n.object d in omega arith) in
+          let reached : d ≤ latest e.base e.past.seen n.object =
+          ∥∥₁_elim known le_prop (λ r. let written = (next r).written in let le = latest_at-latest e.base e.past.seen n.object d in omega arith) in
           omega arith)
 
-      writing : n.time ≤ v.grace → x.object < c.objects → (committed_at c e l (position - l.freed) n stands live.at live.committed).0.dead ≡ None → IsWriting c w (record { object = x.object; position = position; words = x.words; stored = 0 })
+      writing : n.time ≤ v.grace → x.object < c.objects → (committed_at c e l (position - l.freed) n stands live.at live.committed).0.dead ≡ None
+          → IsWriting c w (record { object = x.object; position = position; words = x.words; stored = 0 })
       writing known in_range alive =
           let a = committed_at c e l (position - l.freed) n stands live.at live.committed in
           let some : link ≢ 0 = λ z. link_some v.number position (sym top ∙ z) in
@@ -176,10 +183,13 @@ module _ (c : Config) (v e : View) (l : Noted) (position : ℕ) (x n : Note) (ti
             small = omega arith;
             few = omega arith;
             goes =
-                inl (refl, b.no_back, (stands_on n.object link, stands_at n.object link some, refl, top ∙ (λ q. link_of (sym number_is q) (sym place q))), uncut, early);
+                inl
+                (refl, b.no_back, (stands_on n.object link, stands_at n.object link some, refl, top ∙ (λ q. link_of (sym number_is q) (sym place q))), uncut, early);
           })
 
-      pub started : (mark : Watermark) (before after : ℕ) → x.time ≤ mark.time → mark.time ≤ v.grace → x.object < c.objects → (starts : State → Type 0) (allows : List ℕ → State → Writes → Type 0) → ∥ Known starts allows e ∥₁ → v.base ≡ c.base → IsLastSeen c e x.object link
+      pub started : (mark : Watermark) (before after : ℕ) → x.time ≤ mark.time → mark.time ≤ v.grace → x.object < c.objects
+          → (starts : State → Type 0) (allows : List ℕ → State → Writes → Type 0) → ∥ Known starts allows e ∥₁ → v.base ≡ c.base
+          → IsLastSeen c e x.object link
           → StartsSo c v w l n mark before after (Ok (record { object = x.object; position = position; words = x.words; stored = 0 }))
       started mark before after early known in_range starts allows knows base last =
           let time_is : x.time ≡ n.time = ap (λ (z : Note). z.time) same in
@@ -188,7 +198,8 @@ module _ (c : Config) (v e : View) (l : Noted) (position : ℕ) (x n : Note) (ti
           (low, subst (HasLooked c v w n.object) (top ∙ ap (link_of v.number) (sym place)) looks, writing le in_range (no_death starts allows knows base last), (λ q. record { object = (same q).object; position = sym place q; words = (same q).words; stored = 0 }))
 
     -- it names another one, or is 0, and the section was left
-    module _ (y : View) (left : y ≡ mark_cleared c w) (other : link ≢ link_of v.number position) (own_link : IsOwnLink c e link) (last : IsLastOwn c e x.object link) where
+    module _ (y : View) (left : y ≡ mark_cleared c w) (other : link ≢ link_of v.number position) (own_link : IsOwnLink c e link)
+        (last : IsLastOwn c e x.object link) where
       not_this : link ≢ link_of v.number n.position
       not_this z = other (z ∙ ap (link_of v.number) place)
 
@@ -205,17 +216,19 @@ module _ (c : Config) (v e : View) (l : Noted) (position : ℕ) (x n : Note) (ti
           (λ held. absurd (b.nothing (slot_named c link) there.0 (there.2 ∙ ap (Live there.0) held)))
           (λ made.
           let top = there.2 ∙ ap (Live there.0) made.1 in
-          let m = note_of_slot c e l stands (slot_named c link) there.0 made.0 top in
+          let r = noted_in c e l stands (slot_named c link) there.0 (Committed made.0) top in
           let object_is : n.object ≡ x.object = ap (λ (z : Note). z.object) (sym same) in
           let apart : index_of c n.position ≢ slot_named c link =
-          λ z. not_this (own_link some mine (version_of n) (Committed a.0) (ap (slot_at e.ring) (sym z) ∙ a.1) ∙ ap (λ (s : ℕ). link_of s n.position) number_is) in
+          λ z.
+          not_this (own_link some mine (version_of n) (Committed a.0) (ap (slot_at e.ring) (sym z) ∙ a.1) ∙ ap (λ (s : ℕ). link_of s n.position) number_is) in
           let less = last some mine there.0 made.0 top (index_of c n.position) (version_of n) a.0 a.1 object_is apart in
-          let time_is = m.4.2 in
+          let time_is = r.as_noted.2 in
           let own_time = a.2 in
-          record { index = m.0; other = m.1; at = m.2; object_is = ap (λ (z : Version). z.object) m.3 ∙ there.3 ∙ sym object_is; later = omega arith })
+          record { index = r.index; other = r.note; at = r.at; object_is = ap (λ (z : Version). z.object) (sym r.version_is) ∙ there.3 ∙ sym object_is; later = omega arith })
           there.4
 
-      pub not_started : (mark : Watermark) (before after : ℕ) (r : NoBack) → x.time ≤ mark.time → (link ≡ 0 → r ≡ Gone) → (link ≢ 0 → r ≡ Above (link_seat_of link)) → StartsSo c v y l n mark before after (Err r)
+      pub not_started : (mark : Watermark) (before after : ℕ) (r : NoBack) → x.time ≤ mark.time → (link ≡ 0 → r ≡ Gone)
+          → (link ≢ 0 → r ≡ Above (link_seat_of link)) → StartsSo c v y l n mark before after (Err r)
       not_started mark before after r early gone above =
           let time_is : x.time ≡ n.time = ap (λ (z : Note). z.time) same in
           let low : n.time ≤ mark.time = omega arith in

@@ -16,17 +16,14 @@ use Rattle.mv_core.specs.declared.view.Walk.TheVariants.{Nowhere}
 use Rattle.mv_core.specs.HistoryFacts.{BeginsWith}
 use Rattle.seat_log.specs.Notes.{Noted, retired, back_noted}
 use Rattle.seat_log.specs.Stands.{Stands}
-use Rattle.seat_log.proofs.PlainSteps.{LeavesLog, stands_left}
+use Rattle.seat_log.proofs.PlainSteps.{kind_leaves, stands_left}
 use Rattle.log_reclaim.specs.declared.writing_back.Back.{Back}
 use Rattle.log_reclaim.specs.declared.writing_back.BackEnd.{BackEnd}
 use Rattle.log_reclaim.specs.declared.writing_back.BackEnd.TheVariants.{Cut, Above}
 use Rattle.log_reclaim.specs.Backs.{IsWriting, StoresWord, IsCutAt, IsUncut, FinishesSo}
 use Rattle.log_reclaim.specs.Parts.{NamesNoCommit, IsOtherKind, FindsSeat}
 use Rattle.log_reclaim.specs.Tries.{StoresAll}
-
--- a step that names no commit, is no other exchange on CLOCK, and begins no scan
-abbrev IsPlain : Step → Type 0
-IsPlain s = NamesNoCommit s.kind × IsOtherKind s.kind
+use Rattle.log_reclaim.proofs.Visits.{IsPlain}
 
 -- a store of a word of a write-back is one
 abbrev IsStore : Step → Type 0
@@ -65,20 +62,23 @@ two_more t made a b = append_assoc (t ++ made) (a ∷ []) (b ∷ []) ∙ append_
 
 -- what the end of a write-back may change of a view
 abbrev ended : View → View → View
-ended u y = record u { past = record u.past { seen = y.past.seen }; phase = Outside; heard = y.heard; walk = Nowhere; ring = y.ring; back = None; trail = y.trail }
+ended u y =
+    record u { past = record u.past { seen = y.past.seen }; phase = Outside; heard = y.heard; walk = Nowhere; ring = y.ring; back = None; trail = y.trail }
 
 module _ (c : Config) (v w : View) (b d : Back) (count before after : ℕ) (k : HasStored c v w b d count before after) where
   -- one more
   pub stored_more : (x : View) (e : Back) (then : ℕ) → IsWriting c x e → StoresWord c w x d e → then ≡ after + 1 → HasStored c v x b e (count + 1) before then
   stored_more x e then is stores one =
-      let step : Step = record { kind = StoreMaster; word = place_of c (Master d.object d.stored); found = None; stored = Some (slice_index d.words d.stored) } in
+      let step : Step =
+      record { kind = StoreMaster; word = place_of c (Master d.object d.stored); found = None; stored = Some (slice_index d.words d.stored) } in
       let all = k.steps in record {
         writing = is;
         same = stores.back ∙ ap (λ (a : Back). record a { stored = a.stored + 1 }) k.same;
         made = k.made ++ step ∷ [];
         trail = ap (λ (u : View). u.trail) stores.view ∙ ap (λ (t : List Step). t ++ step ∷ []) k.trail ∙ append_assoc v.trail k.made (step ∷ []);
         kinds = All-push IsStore k.made step k.kinds refl;
-        rest = stores.view ∙ (λ q. record w { back = (sym stores.view q).back; trail = (sym stores.view q).trail }) ∙ ap (λ (u : View). record u { back = x.back; trail = x.trail }) k.rest;
+        rest = stores.view ∙ (λ q. record w { back = (sym stores.view q).back; trail = (sym stores.view q).trail })
+            ∙ ap (λ (u : View). record u { back = x.back; trail = x.trail }) k.rest;
         steps = omega arith;
       }
 
@@ -88,8 +88,9 @@ module _ (c : Config) (v w : View) (b d : Back) (count before after : ℕ) (k : 
   -- the log stands for the pass
   pub stands_stored : (l : Noted) → Stands c v l → Stands c w l
   stands_stored l stands =
-      stands_left c v w l stands (ap (λ (u : View). u.number) k.rest) (ap (λ (u : View). u.ring) k.rest) (ap (λ (u : View). u.past.mine) k.rest) (ap (λ (u : View). u.past.rests) k.rest) k.made k.trail
-      (All-weaker IsStore (λ s. LeavesLog s.kind) (λ s e. subst LeavesLog (sym e) (refl, refl)) k.made k.kinds)
+      stands_left c v w l stands (ap (λ (u : View). u.number) k.rest) (ap (λ (u : View). u.ring) k.rest) (ap (λ (u : View). u.past.mine) k.rest)
+      (ap (λ (u : View). u.past.rests) k.rest) k.made k.trail
+      (kind_leaves StoreMaster (refl, refl) k.made k.kinds)
 
   position_is : d.position ≡ b.position
   position_is = ap (λ (a : Back). a.position) k.same
@@ -120,8 +121,10 @@ module _ (c : Config) (v w : View) (b d : Back) (count before after : ℕ) (k : 
           made = k.made ++ last;
           outside = ap (λ (u : View). u.phase) cut.view;
           seen = subst (λ (t : List Entry × List Entry). BeginsWith t.0 t.1) (λ q. (sym (ap (λ (u : View). u.past.seen) cut.view) q, seen_is q)) cut.whole.0;
-          trail = ap (λ (u : View). u.trail) cut.view ∙ ap (λ (t : List Step). ((t ++ first ∷ []) ++ second ∷ []) ++ third ∷ []) k.trail ∙ three_more v.trail k.made first second third;
-          kinds = All-append IsPlain k.made last plain (All-cons IsPlain first (second ∷ third ∷ []) (tt, tt) (All-cons IsPlain second (third ∷ []) (tt, tt) (All-cons IsPlain third [] (tt, tt) (All-nil IsPlain))));
+          trail = ap (λ (u : View). u.trail) cut.view ∙ ap (λ (t : List Step). ((t ++ first ∷ []) ++ second ∷ []) ++ third ∷ []) k.trail
+              ∙ three_more v.trail k.made first second third;
+          kinds = All-append IsPlain k.made last plain
+              (All-cons IsPlain first (second ∷ third ∷ []) (tt, tt) (All-cons IsPlain second (third ∷ []) (tt, tt) (All-cons IsPlain third [] (tt, tt) (All-nil IsPlain))));
           rest = rest;
           within = in_seen (ap (λ (u : View). u.base) rest);
           cut = λ e. (
@@ -139,7 +142,8 @@ module _ (c : Config) (v w : View) (b d : Back) (count before after : ℕ) (k : 
         let last : List Step = first ∷ second ∷ [] in
         let rest : y ≡ ended v y = un.view ∙ (λ q. ended w (sym un.view q)) ∙ ap (λ (u : View). ended u y) k.rest in
         let there : Contains (k.made ++ last) first = Contains-append_right k.made last first (0, omega arith, refl) in
-        let finds : FindsSeat c b.object seat first = record { kind = tt; word = ap (λ (o : ℕ). place_of c (Head o)) object_is; link = un.link; found = refl; some = un.some; seat_is = un.seat_is } in
+        let finds : FindsSeat c b.object seat first =
+        record { kind = tt; word = ap (λ (o : ℕ). place_of c (Head o)) object_is; link = un.link; found = refl; some = un.some; seat_is = un.seat_is } in
         record {
           made = k.made ++ last;
           outside = ap (λ (u : View). u.phase) un.view;

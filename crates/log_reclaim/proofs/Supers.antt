@@ -26,10 +26,10 @@ use Rattle.mv_core.proofs.Latest.{last_that-le, latest_at-entry}
 use Rattle.seat_log.specs.declared.version.Note.{Note}
 use Rattle.seat_log.specs.Notes.{Noted, IsLive, retired}
 use Rattle.seat_log.specs.Stands.{version_of, Stands}
+use Rattle.seat_log.specs.Builds.{note_in}
 use Rattle.seat_log.proofs.Retired.{committed_at, may_load_super, noted_live, stands_found, stands_unfound}
 use Rattle.log_reclaim.specs.Parts.{NamesNoCommit, IsOtherKind}
 use Rattle.log_reclaim.specs.Tries.{IsUntimed, Makes, LoadsSuper}
-use Rattle.log_reclaim.proofs.Picks.{commit_in}
 use Rattle.log_reclaim.proofs.Idle.{still_of}
 
 -- a list that begins with another and is as long is that one
@@ -43,7 +43,8 @@ same_long a b p le =
     none (x ∷ r) e = absurd (omega arith)
 
 -- where each write of an object after a time is after another time, its last write up to that isn't after the first
-none_written : (base : ℕ) (h : List Entry) (o t g : ℕ) → base < t → ((s : ℕ) (e : Entry) → (base < s) × (slice_get h (s - (base + 1)) ≡ Some e) → writes_to o e ≡ true → t < s → g < s) → latest_at base h o g ≤ t
+none_written : (base : ℕ) (h : List Entry) (o t g : ℕ) → base < t
+    → ((s : ℕ) (e : Entry) → (base < s) × (slice_get h (s - (base + 1)) ≡ Some e) → writes_to o e ≡ true → t < s → g < s) → latest_at base h o g ≤ t
 none_written base h o t g low none =
     dite (dec_le (latest_at base h o g) t)
     (λ le. le)
@@ -56,7 +57,7 @@ none_written base h o t g low none =
 
 module _ (c : Config) (v : View) (l : Noted) (position : ℕ) (n : Note) (k : Stands c v l) (u : IsUntimed l position n) where
   abbrev own : CommitNote
-  own = commit_in (slot_at v.ring (index_of c position))
+  own = note_in (slot_at v.ring (index_of c position))
 
   -- the position is that of the note
   pub position_is : position ≡ n.position
@@ -66,7 +67,7 @@ module _ (c : Config) (v : View) (l : Noted) (position : ℕ) (n : Note) (k : St
   committed = let a = committed_at c v l (position - l.freed) n k u.at u.committed in (a.0, a.1, a.2)
 
   own_is : own ≡ committed.0
-  own_is = ap (λ p. commit_in (slot_at v.ring (index_of c p))) position_is ∙ ap commit_in committed.1
+  own_is = ap (λ p. note_in (slot_at v.ring (index_of c p))) position_is ∙ ap note_in committed.1
 
   here : slot_at v.ring (index_of c n.position) ≡ Live (version_of n) (Committed own)
   here = committed.1 ∙ ap (λ (x : CommitNote). Live (version_of n) (Committed x)) (sym own_is)
@@ -97,7 +98,8 @@ module _ (c : Config) (v : View) (l : Noted) (position : ℕ) (n : Note) (k : St
     abbrev step : Step
     step = record { kind = LoadSuper; word = place_of c (Super v.number (index_of c n.position)); found = Some found; stored = None }
 
-    module _ (starts : State → Type 0) (allows : List ℕ → State → Writes → Type 0) (known : ∥ Known starts allows v ∥₁) (may : MayLoadLow v) (base : v.base ≡ c.base) (sees : SeesSuper c v (version_of n) own found w.past.seen) where
+    module _ (starts : State → Type 0) (allows : List ℕ → State → Writes → Type 0) (known : ∥ Known starts allows v ∥₁) (may : MayLoadLow v)
+        (base : v.base ≡ c.base) (sees : SeesSuper c v (version_of n) own found w.past.seen) where
       super_makes : Makes v w (step ∷ [])
       super_makes =
           let still = still_of starts allows v known may.outside in
@@ -124,11 +126,14 @@ module _ (c : Config) (v : View) (l : Noted) (position : ℕ) (n : Note) (k : St
       unwritten : found ≡ 0 → latest_at w.base w.past.seen n.object v.grace ≤ n.time
       unwritten none =
           let time = own_time in
-          let low : v.base < n.time = ∥∥₁_elim known le_prop (λ a. let after = (a.commits (index_of c n.position) (version_of n) own here).after in omega arith) in
+          let low : v.base < n.time =
+          ∥∥₁_elim known le_prop (λ a. let after = (a.commits (index_of c n.position) (version_of n) own here).after in omega arith) in
           let bound : latest_at v.base v.past.seen n.object v.grace ≤ n.time =
           none_written v.base v.past.seen n.object n.time v.grace low
-          (λ s e at writes late. sees.no_write none s e (subst (λ (b : ℕ). (b < s) × (slice_get v.past.seen (s - (b + 1)) ≡ Some e)) base at) writes (omega arith)) in
-          subst (λ (b : ℕ). latest_at b w.past.seen n.object v.grace ≤ n.time) (sym (ap (λ (x : View). x.base) view_is)) (subst (λ h. latest_at v.base h n.object v.grace ≤ n.time) (sym (same_seen none)) bound)
+          (λ s e at writes late.
+          sees.no_write none s e (subst (λ (b : ℕ). (b < s) × (slice_get v.past.seen (s - (b + 1)) ≡ Some e)) base at) writes (omega arith)) in
+          subst (λ (b : ℕ). latest_at b w.past.seen n.object v.grace ≤ n.time) (sym (ap (λ (x : View). x.base) view_is))
+          (subst (λ h. latest_at v.base h n.object v.grace ≤ n.time) (sym (same_seen none)) bound)
 
       pub loads_none : found ≡ 0 → LoadsSuper c v w l l n false
       loads_none none = record {
@@ -136,7 +141,8 @@ module _ (c : Config) (v : View) (l : Noted) (position : ℕ) (n : Note) (k : St
         step = step;
         makes = super_makes;
         grace = ap (λ (x : View). x.grace) view_is;
-        none = λ b. (none, refl, ap (λ (t : ℕ). record { kind = LoadSuper; word = place_of c (Super v.number (index_of c n.position)); found = Some t; stored = None }) none, unwritten none);
+        none = λ b.
+            (none, refl, ap (λ (t : ℕ). record { kind = LoadSuper; word = place_of c (Super v.number (index_of c n.position)); found = Some t; stored = None }) none, unwritten none);
         some = λ b. absurd (cc);
       }
 
@@ -147,7 +153,8 @@ module _ (c : Config) (v : View) (l : Noted) (position : ℕ) (n : Note) (k : St
         makes = super_makes;
         grace = ap (λ (x : View). x.grace) view_is;
         none = λ b. absurd (cc);
-        some = λ b. (some_time, log ∙ ap (λ p. retired l p found) position_is, subst (λ (b : ℕ). found ≤ b + length w.past.seen) (sym (ap (λ (x : View). x.base) view_is ∙ base)) sees.time);
+        some = λ b.
+            (some_time, log ∙ ap (λ p. retired l p found) position_is, subst (λ (b : ℕ). found ≤ b + length w.past.seen) (sym (ap (λ (x : View). x.base) view_is ∙ base)) sees.time);
       }
 
     -- a section that found HEAD of the object empty tells that a time is found

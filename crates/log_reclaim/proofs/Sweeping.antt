@@ -45,7 +45,8 @@ module _ (starts : State → Type 0) (allows : List ℕ → State → Writes →
 
   -- no commit of the log is later than the scan
   not_late : (i : ℕ) (n : Note) → IsNoteAt l i n → n.time ≤ clock
-  not_late i n at = let seen = time_seen c v l i n stands at starts allows known in let later = scan_later c v u mark clock before after scans base in omega arith
+  not_late i n at =
+      let seen = time_seen c v l i n stands at starts allows known in let later = scan_later c v u mark clock before after scans base in omega arith
 
   -- each version may be looked at then
   pub may_settle : IsKnown u mark → MaySettle u l mark clock
@@ -59,7 +60,8 @@ module _ (starts : State → Type 0) (allows : List ℕ → State → Writes →
         early = not_late;
       }
 
-  module _ (x w : View) (m n : Noted) (made more : List Step) (back : Bool) (found : Found) (top freed : ℕ) (is_known : IsKnown u mark) (settles : Settles c u x l m made mark clock back found top (length l.live)) (frees : FreesAll x w m n more mark.time freed) where
+  module _ (x w : View) (m n : Noted) (made more : List Step) (back : Bool) (found : Found) (top freed : ℕ) (is_known : IsKnown u mark)
+      (settles : Settles c u x l m made mark clock back found top (length l.live)) (frees : FreesAll x w m n more mark.time freed) where
     abbrev all : List Step
     all = steps ++ (made ++ more)
 
@@ -92,7 +94,8 @@ module _ (starts : State → Type 0) (allows : List ℕ → State → Writes →
         let seen = (may_settle is_known).seen in
         let more_seen = reclaims_more u x made settles.reclaims in
         let from = reclaims_base u x made settles.reclaims in
-        untimed_then c w steps (made ++ more) mark clock e back (found_at found e.position) (untimed_on c x w made more frees.makes.reclaims mark clock e back (found_at found e.position) (omega arith) (settles.untimed (freed + i) e there (omega arith) alive))
+        untimed_then c w steps (made ++ more) mark clock e back (found_at found e.position)
+        (untimed_on c x w made more frees.makes.reclaims mark clock e back (found_at found e.position) (omega arith) (settles.untimed (freed + i) e there (omega arith) alive))
 
     fewer : length n.live + freed ≡ length l.live
     fewer =
@@ -104,10 +107,13 @@ module _ (starts : State → Type 0) (allows : List ℕ → State → Writes →
 
     shrinks : Shrinks l n freed
     shrinks =
-        let is : n ≡ record l { live = drop freed m.live; freed = l.freed + freed; back = m.back } = frees.log ∙ ap (λ (y : Noted). record y { live = drop freed m.live; freed = y.freed + freed }) settles.log in record {
+        let is : n ≡ record l { live = drop freed m.live; freed = l.freed + freed; back = m.back } =
+        frees.log ∙ ap (λ (y : Noted). record y { live = drop freed m.live; freed = y.freed + freed }) settles.log in
+        record {
           few = fewer;
           notes = λ i e at. let r = was i e at in (r.0, r.1, r.2);
-          rest = is ∙ (λ i. record l { live = sym (ap (λ (y : Noted). y.live) is) i; freed = l.freed + freed; back = sym (ap (λ (y : Noted). y.back) is) i; rests = sym (ap (λ (y : Noted). y.rests) is) i });
+          rest = is
+              ∙ (λ i. record l { live = sym (ap (λ (y : Noted). y.live) is) i; freed = l.freed + freed; back = sym (ap (λ (y : Noted). y.back) is) i; rests = sym (ap (λ (y : Noted). y.rests) is) i });
         }
 
     entries : HasEntries n found
@@ -119,7 +125,8 @@ module _ (starts : State → Type 0) (allows : List ℕ → State → Writes →
         let slots = stands.log.slots in
         (omega arith, omega arith, settles.table.1)
 
-    pub sweeps : ∥ Known starts allows u ∥₁ → v.number < c.seats → All (λ e. maker_of e < c.seats) u.past.seen → Sweeps c v w l n all back (record { mark = mark; clock = clock; latest = top }) found freed
+    pub sweeps : ∥ Known starts allows u ∥₁ → v.number < c.seats → All (λ e. maker_of e < c.seats) u.past.seen
+        → Sweeps c v w l n all back (record { mark = mark; clock = clock; latest = top }) found freed
     sweeps known_then own makers =
         let start : w.base ≡ u.base = reclaims_base u w (made ++ more) then in
         let later = scan_later c v u mark clock before after scans base in
@@ -131,10 +138,12 @@ module _ (starts : State → Type 0) (allows : List ℕ → State → Writes →
         let within = settles.within in
         let grace = then.grace in record {
           reclaims = whole;
-          leaves = All-append (λ s. LeavesClock s.kind) steps (made ++ more) (scan_leaves c v u mark clock before after scans) (leaves_clock (made ++ more) then_other);
+          leaves = All-append (λ s. LeavesClock s.kind) steps (made ++ more) (scan_leaves c v u mark clock before after scans)
+              (leaves_clock (made ++ more) then_other);
           rests = frees.makes.rests ∙ settles.rests ∙ scan_rests c v u mark clock before after scans;
           shrinks = shrinks;
-          scan = scanned_more [] steps (made ++ more) c v.number mark clock (begins_none (made ++ more) then_other) (scan_shown c v u mark clock before after scans);
+          scan = scanned_more [] steps (made ++ more) c v.number mark clock (begins_none (made ++ more) then_other)
+              (scan_shown c v u mark clock before after scans);
           known = omega arith;
           after = later;
           before = omega arith;

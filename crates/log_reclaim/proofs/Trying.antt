@@ -12,6 +12,7 @@ use Rattle.mv_core.specs.declared.view.Walk.TheVariants.{Nowhere}
 use Rattle.mv_core.specs.EnterSteps.{MayLoadLow}
 use Rattle.mv_core.specs.ReclaimSteps.{FoundEmpty}
 use Rattle.mv_core.specs.Known.{Known}
+use Rattle.mv_core.proofs.Fronts.{begins_by, begins_long}
 use Rattle.reader_marks.specs.declared.scanning.Watermark.{Watermark}
 use Rattle.seat_log.specs.declared.version.Note.{Note}
 use Rattle.seat_log.specs.Notes.{Noted, retired, back_noted}
@@ -23,12 +24,13 @@ use Rattle.log_reclaim.specs.declared.writing_back.BackEnd.TheVariants.{Cut, Abo
 use Rattle.log_reclaim.specs.Parts.{FindsSeat}
 use Rattle.log_reclaim.specs.Backs.{HasLooked, LeavesAt, NamesSeat}
 use Rattle.log_reclaim.specs.Tries.{IsUntimed, Makes, LoadsSuper, StoresAll, TriesOne}
-use Rattle.log_reclaim.proofs.Reclaiming.{begins_by, begins_long, makes_none, makes_on, reclaims_number, reclaims_base, reclaims_may}
+use Rattle.log_reclaim.proofs.Reclaiming.{makes_none, makes_on, reclaims_number, reclaims_base, reclaims_may}
 use Rattle.log_reclaim.proofs.Idle.{still_of}
 use Rattle.log_reclaim.proofs.Untimed.{times_then}
 use Rattle.log_reclaim.proofs.Visits.{IsPlain, section_makes, looked_steps, looked_trail, looked_plain, looked_seen, looked_rest, looked_finds, head_step, left_steps, left_makes, left_has_step, left_empty}
 
-module _ (starts : State → Type 0) (allows : List ℕ → State → Writes → Type 0) (c : Config) (v : View) (l : Noted) (n : Note) (mark : Watermark) (known : ∥ Known starts allows v ∥₁) (may : MayLoadLow v) (base : v.base ≡ c.base) where
+module _ (starts : State → Type 0) (allows : List ℕ → State → Writes → Type 0) (c : Config) (v : View) (l : Noted) (n : Note) (mark : Watermark)
+    (known : ∥ Known starts allows v ∥₁) (may : MayLoadLow v) (base : v.base ≡ c.base) where
   -- the version is too young for the watermark
   pub tries_young : mark.time < n.time → TriesOne c v v l l n mark (record { above = None; clock = 0 })
   tries_young young = record {
@@ -107,7 +109,8 @@ module _ (starts : State → Type 0) (allows : List ℕ → State → Writes →
     }
 
   -- HEAD named the version, and all words were stored
-  module _ (u w : View) (m : Noted) (link : ℕ) (back : Back) (end : BackEnd) (time first : ℕ) (looked : HasLooked c v u n.object link) (s : StoresAll c u w l m back end time) (last : first ≡ c.base + length u.past.seen) where
+  module _ (u w : View) (m : Noted) (link : ℕ) (back : Back) (end : BackEnd) (time first : ℕ) (looked : HasLooked c v u n.object link)
+      (s : StoresAll c u w l m back end time) (last : first ≡ c.base + length u.past.seen) where
     abbrev all_steps : List Step
     all_steps = looked_steps c v u n.object link looked ++ s.made
 
@@ -138,7 +141,8 @@ module _ (starts : State → Type 0) (allows : List ℕ → State → Writes →
             time + 1,
             (omega arith),
             refl,
-            inr (cut.0 ∙ ap (λ p. back_noted (retired l p (time + 1))) at, (omega arith), times_then (looked_steps c v u n.object link looked) s.made (time + 1) cut.1),
+            inr
+                (cut.0 ∙ ap (λ p. back_noted (retired l p (time + 1))) at, (omega arith), times_then (looked_steps c v u n.object link looked) s.made (time + 1) cut.1),
           );
         }
 

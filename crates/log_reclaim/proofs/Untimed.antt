@@ -5,19 +5,21 @@ use Rattle.mv_history.specs.declared.Step.{Step}
 use Rattle.mv_layout.specs.declared.Config.{Config}
 use Rattle.mv_core.specs.declared.view.View.{View}
 use Rattle.mv_core.specs.Times.{latest, latest_at}
+use Rattle.mv_core.proofs.Fronts.{latest_at-more, latest-more}
 use Rattle.reader_marks.specs.declared.scanning.Watermark.{Watermark}
 use Rattle.seat_log.specs.declared.version.Note.{Note}
 use Rattle.log_reclaim.specs.Parts.{Reclaims, super_step, FindsAbove, TimesDeath}
 use Rattle.log_reclaim.specs.Untimed.{TriedSo, StaysUntimed, DatedSo}
-use Rattle.log_reclaim.proofs.Seen.{latest_at-more, latest-more}
 use Rattle.log_reclaim.proofs.Reclaiming.{reclaims_number, reclaims_base, reclaims_more}
 
 -- steps that time a death are among more steps
 pub times_first : (made more : List Step) (dead : ℕ) → TimesDeath made dead → TimesDeath (made ++ more) dead
-times_first made more dead t = record { step = t.step; there = Contains-append_left made more t.step t.there; kind = t.kind; clock = t.clock; word = t.word; found = t.found; dead_is = t.dead_is }
+times_first made more dead t =
+    record { step = t.step; there = Contains-append_left made more t.step t.there; kind = t.kind; clock = t.clock; word = t.word; found = t.found; dead_is = t.dead_is }
 
 pub times_then : (made more : List Step) (dead : ℕ) → TimesDeath more dead → TimesDeath (made ++ more) dead
-times_then made more dead t = record { step = t.step; there = Contains-append_right made more t.step t.there; kind = t.kind; clock = t.clock; word = t.word; found = t.found; dead_is = t.dead_is }
+times_then made more dead t =
+    record { step = t.step; there = Contains-append_right made more t.step t.there; kind = t.kind; clock = t.clock; word = t.word; found = t.found; dead_is = t.dead_is }
 
 -- and so are those that find another seat's version in HEAD
 pub above_first : (c : Config) (own : ℕ) (made more : List Step) (n : Note) (seat : ℕ) → FindsAbove c own made n seat → FindsAbove c own (made ++ more) n seat
@@ -51,12 +53,15 @@ module _ (c : Config) (u w : View) (made more : List Step) (r : Reclaims u w mor
     tried_on None t =
         let base = reclaims_base u w more r in
         (t.0, ⊎_elim inl (λ late. let later = latest-more u.base w.past.seen u.past.seen n.object r.seen in inr (subst (λ (b : ℕ). n.time < latest b w.past.seen n.object) (sym base) (omega arith))) t.1)
-    tried_on (Some seat) a = subst (λ (own : ℕ). FindsAbove c own (made ++ more) n seat) (sym (reclaims_number u w more r)) (above_first c u.number made more n seat a)
+    tried_on (Some seat) a =
+        subst (λ (own : ℕ). FindsAbove c own (made ++ more) n seat) (sym (reclaims_number u w more r)) (above_first c u.number made more n seat a)
 
-    pub untimed_on : (back : Bool) (above : Option ℕ) → mark.low ≤ u.base + length u.past.seen → StaysUntimed c u made mark clock back n above → StaysUntimed c w (made ++ more) mark clock back n above
+    pub untimed_on : (back : Bool) (above : Option ℕ) → mark.low ≤ u.base + length u.past.seen → StaysUntimed c u made mark clock back n above
+        → StaysUntimed c w (made ++ more) mark clock back n above
     untimed_on back above seen d = record {
       committed = d.committed;
-      super = Contains-append_left made more (super_step c w.number n) (subst (λ (own : ℕ). Contains made (super_step c own n)) (sym (reclaims_number u w more r)) d.super);
+      super = Contains-append_left made more (super_step c w.number n)
+          (subst (λ (own : ℕ). Contains made (super_step c own n)) (sym (reclaims_number u w more r)) d.super);
       unwritten =
           (let old = d.unwritten in
           let same = latest_at-more u.base w.past.seen u.past.seen n.object r.seen mark.low seen in
@@ -84,5 +89,7 @@ module _ (c : Config) (w : View) (made more : List Step) (mark : Watermark) (clo
     tried = λ b. tried_then above (d.tried b);
   }
 
-pub dated_then : (w : View) (made more : List Step) (most top : ℕ) (back : Bool) (old n : Note) → most ≤ top → DatedSo w more most back old n → DatedSo w (made ++ more) top back old n
-dated_then w made more most top back old n le d = ⊎_elim inl (λ e. inr (⊎_elim inl (λ b. let fits = b.1 in inr (b.0, omega arith, times_then made more n.dead b.2)) e)) d
+pub dated_then : (w : View) (made more : List Step) (most top : ℕ) (back : Bool) (old n : Note) → most ≤ top → DatedSo w more most back old n
+    → DatedSo w (made ++ more) top back old n
+dated_then w made more most top back old n le d =
+    ⊎_elim inl (λ e. inr (⊎_elim inl (λ b. let fits = b.1 in inr (b.0, omega arith, times_then made more n.dead b.2)) e)) d

@@ -4,8 +4,7 @@ use Rattle.std.proofs.lemmas.List.{take-append-drop}
 use Rattle.std.proofs.lemmas.List.Elements.{All-nil, All-cons, All-append, All-weaker, Contains-push, Contains-append_left}
 use Rattle.std.specs.Prelude.{All}
 use Rattle.mv_history.specs.declared.Step.{Step}
-use Rattle.mv_history.specs.declared.StepKind.{StepKind}
-use Rattle.mv_history.specs.declared.StepKind.TheVariants.{LoadLow, StoreMark, LoadTime, LoadNamed, LoadCheck, SwapStamp, LoadHead, ClearMark}
+use Rattle.mv_history.specs.declared.StepKind.TheVariants.{LoadHead, ClearMark}
 use Rattle.mv_layout.specs.declared.Config.{Config}
 use Rattle.mv_layout.specs.declared.Place.TheVariants.{Mark, Head}
 use Rattle.mv_layout.specs.Places.{place_of}
@@ -19,7 +18,9 @@ use Rattle.mv_core.specs.EnterSteps.{MayLoadLow, mark_cleared}
 use Rattle.mv_core.specs.ReclaimSteps.{FoundEmpty}
 use Rattle.mv_core.specs.WalkSteps.{empty_too, head_loaded}
 use Rattle.mv_core.specs.Views.{time_in, heard_nothing}
+use Rattle.mv_core.proofs.Fronts.{begins_by}
 use Rattle.reader_marks.specs.Sections.{IsEnterStep}
+use Rattle.reader_marks.proofs.EnterKinds.{enter_kind}
 use Rattle.seat_log.specs.Notes.{Noted}
 use Rattle.seat_log.specs.Stands.{is_free, is_won_cut, Stands}
 use Rattle.seat_log.proofs.BuildsOn.{unpassed}
@@ -28,24 +29,14 @@ use Rattle.seat_log.proofs.PlainSteps.{stands_entered, stands_unmarked}
 use Rattle.log_reclaim.specs.Parts.{NamesNoCommit, IsOtherKind, FindsSeat}
 use Rattle.log_reclaim.specs.Backs.{HasLooked}
 use Rattle.log_reclaim.specs.Tries.{Makes}
-use Rattle.log_reclaim.proofs.Reclaiming.{begins_by}
 
 -- a step that names no commit, is no other exchange on CLOCK, and begins no scan
 abbrev pub IsPlain : Step → Type 0
 IsPlain s = NamesNoCommit s.kind × IsOtherKind s.kind
 
--- the steps of entering a section are plain
-enter_plain : (kind : StepKind) → IsEnterStep kind → NamesNoCommit kind × IsOtherKind kind
-enter_plain LoadLow h = (tt, tt)
-enter_plain StoreMark h = (tt, tt)
-enter_plain LoadTime h = (tt, tt)
-enter_plain LoadNamed h = (tt, tt)
-enter_plain LoadCheck h = (tt, tt)
-enter_plain SwapStamp h = (tt, tt)
-enter_plain _ h = absurd h
-
 -- plain steps that end outside a section are a part of a reclaiming call
-pub section_makes : (v w : View) (made : List Step) → MayLoadLow v → w.phase ≡ Outside → BeginsWith w.past.seen v.past.seen → w.trail ≡ v.trail ++ made → All IsPlain made
+pub section_makes : (v w : View) (made : List Step) → MayLoadLow v → w.phase ≡ Outside → BeginsWith w.past.seen v.past.seen
+    → w.trail ≡ v.trail ++ made → All IsPlain made
     → w ≡ record v { past = record v.past { seen = w.past.seen }; phase = Outside; heard = w.heard; walk = Nowhere; empty = w.empty; ring = w.ring; back = None; trail = w.trail } → Makes v w made
 section_makes v w made may outside seen trail kinds rest =
     let past : record v.past { seen = w.past.seen } ≡ w.past = sym (ap (λ (x : View). x.past) rest) in
@@ -58,7 +49,8 @@ section_makes v w made may outside seen trail kinds rest =
         grace = omega arith;
         trail = trail;
         kinds = All-weaker IsPlain (λ s. NamesNoCommit s.kind) (λ s p. p.0) made kinds;
-        rest = rest ∙ (λ i. record v { past = past i; phase = Outside; heard = w.heard; walk = Nowhere; empty = w.empty; ring = w.ring; back = None; scan = may.no_scan i; grace = grace i; trail = w.trail });
+        rest = rest
+            ∙ (λ i. record v { past = past i; phase = Outside; heard = w.heard; walk = Nowhere; empty = w.empty; ring = w.ring; back = None; scan = may.no_scan i; grace = grace i; trail = w.trail });
       };
       rests = ap (λ (x : View). x.past.rests) rest;
       kinds = All-weaker IsPlain (λ s. IsOtherKind s.kind) (λ s p. p.1) made kinds;
@@ -81,12 +73,13 @@ module _ (c : Config) (v w : View) (object link : ℕ) (h : HasLooked c v w obje
 
   pub looked_trail : w.trail ≡ v.trail ++ looked_steps
   looked_trail =
-      ap (λ (y : View). y.trail) h.looked ∙ ap (λ (l : List Step). l ++ head_step ∷ []) h.begins.entered.trail ∙ append_assoc v.trail h.begins.entered.steps (head_step ∷ [])
+      ap (λ (y : View). y.trail) h.looked ∙ ap (λ (l : List Step). l ++ head_step ∷ []) h.begins.entered.trail
+      ∙ append_assoc v.trail h.begins.entered.steps (head_step ∷ [])
 
   pub looked_plain : All IsPlain looked_steps
   looked_plain =
       All-append IsPlain h.begins.entered.steps (head_step ∷ [])
-      (All-weaker (λ (s : Step). IsEnterStep s.kind) IsPlain (λ s. enter_plain s.kind) h.begins.entered.steps h.begins.entered.kinds)
+      (All-weaker (λ (s : Step). IsEnterStep s.kind) IsPlain (λ s. enter_kind (λ k. NamesNoCommit k × IsOtherKind k) (tt, tt) (tt, tt) (tt, tt) (tt, tt) (tt, tt) (tt, tt) s.kind) h.begins.entered.steps h.begins.entered.kinds)
       (All-cons IsPlain head_step [] (tt, tt) (All-nil IsPlain))
 
   pub looked_seen : BeginsWith w.past.seen v.past.seen
@@ -94,9 +87,13 @@ module _ (c : Config) (v w : View) (object link : ℕ) (h : HasLooked c v w obje
       subst (λ (y : View). BeginsWith y.past.seen v.past.seen) (sym h.looked)
       (begins_by e.past.seen (take h.begins.at e.past.seen) v.past.seen (drop h.begins.at e.past.seen, sym (take-append-drop h.begins.at e.past.seen)) h.begins.snapshot)
 
-  pub looked_rest : w ≡ record v { past = record v.past { seen = w.past.seen }; phase = w.phase; heard = w.heard; walk = w.walk; empty = w.empty; back = None; trail = w.trail }
+  pub looked_rest : w
+      ≡ record v { past = record v.past { seen = w.past.seen }; phase = w.phase; heard = w.heard; walk = w.walk; empty = w.empty; back = None; trail = w.trail }
   looked_rest =
-      subst (λ (y : View). y ≡ record v { past = record v.past { seen = y.past.seen }; phase = y.phase; heard = y.heard; walk = y.walk; empty = y.empty; back = None; trail = y.trail }) (sym h.looked)
+      subst
+      (λ (y : View).
+      y ≡ record v { past = record v.past { seen = y.past.seen }; phase = y.phase; heard = y.heard; walk = y.walk; empty = y.empty; back = None; trail = y.trail })
+      (sym h.looked)
       (ap (λ (y : View). record y { walk = x.walk; empty = x.empty; trail = x.trail }) h.begins.rest)
 
   pub looked_stands : (l : Noted) → Stands c v l → Stands c w l

@@ -12,9 +12,11 @@ use Rattle.mv_core.specs.declared.view.View.{View}
 use Rattle.mv_core.specs.declared.view.Section.{Section}
 use Rattle.mv_core.specs.Rings.{slot_at, index_of}
 use Rattle.mv_core.specs.ReclaimSteps.{MayStoreMaster, master_stored}
+use Rattle.reader_marks.specs.Sections.{inside_of}
+use Rattle.seat_log.specs.Builds.{version_in, note_in}
 use Rattle.log_reclaim.specs.declared.writing_back.Back.{Back}
 use Rattle.log_reclaim.specs.Backs.{IsWriting, StoresWord}
-use Rattle.log_reclaim.proofs.Picks.{inside_of, version_in, commit_in, position_of, back_in}
+use Rattle.log_reclaim.proofs.Picks.{position_of, back_in}
 
 module _ (c : Config) (v : View) (b : Back) (k : IsWriting c v b) where
   -- the position that the view gives is that of the write-back
@@ -28,12 +30,14 @@ module _ (c : Config) (v : View) (b : Back) (k : IsWriting c v b) where
   -- and so is all that it gives
   pub back_is : back_in c v ≡ (b.position, k.version, k.note, k.inside)
   back_is =
-      let slot : slot_at v.ring (index_of c (position_of v.back v.walk)) ≡ Live k.version (Committed k.note) = ap (λ p. slot_at v.ring (index_of c p)) position_is ∙ k.own in
+      let slot : slot_at v.ring (index_of c (position_of v.back v.walk)) ≡ Live k.version (Committed k.note) =
+      ap (λ p. slot_at v.ring (index_of c p)) position_is ∙ k.own in
       let section = ap inside_of k.phase in
-      (λ q. (position_is q, version_in (slot q), commit_in (slot q), section q))
+      (λ q. (position_is q, version_in (slot q), note_in (slot q), section q))
 
   -- the next word may be stored
-  pub may_store : (value : ℕ) → value ≡ slice_index b.words b.stored → b.stored < 6 → MayStoreMaster c v b.object b.stored value (back_in c v).0 (back_in c v).1 (back_in c v).2 (back_in c v).3
+  pub may_store : (value : ℕ) → value ≡ slice_index b.words b.stored → b.stored < 6
+      → MayStoreMaster c v b.object b.stored value (back_in c v).0 (back_in c v).1 (back_in c v).2 (back_in c v).3
   may_store value is left =
       subst (λ (t : ℕ × Version × CommitNote × Section). MayStoreMaster c v b.object b.stored value t.0 t.1 t.2 t.3) (sym back_is)
       (record {
@@ -49,7 +53,8 @@ module _ (c : Config) (v : View) (b : Back) (k : IsWriting c v b) where
         value_is = is ∙ ap (λ ws. slice_index ws b.stored) (sym k.words_is);
       })
 
-  module _ (w : View) (d : Back) (value : ℕ) (is : value ≡ slice_index b.words b.stored) (left : b.stored < 6) (view : w ≡ master_stored c v b.object b.stored value (back_in c v).0) (more : d ≡ record b { stored = b.stored + 1 }) where
+  module _ (w : View) (d : Back) (value : ℕ) (is : value ≡ slice_index b.words b.stored) (left : b.stored < 6)
+      (view : w ≡ master_stored c v b.object b.stored value (back_in c v).0) (more : d ≡ record b { stored = b.stored + 1 }) where
     -- the view after it
     pub stores_word : StoresWord c v w b d
     stores_word = record { view = view ∙ (λ q. master_stored c v b.object b.stored (is q) (position_is q)); back = more }

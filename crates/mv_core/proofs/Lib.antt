@@ -113,3 +113,4 @@ pub mod Chaining
 pub mod Placing
 pub mod Fronts
 pub mod OwnEntries
+pub mod NewPasses

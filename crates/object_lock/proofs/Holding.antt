@@ -67,14 +67,16 @@ pub record Carries (c : Config) (v w : View) : Type 0 where
   pub own : KeepsOwn c v w
 
 -- what a lock makes from then on it makes in all
-pub makes_before : (c : Config) (v w x : View) (object : ℕ) (answer : LockAnswer) → w.number ≡ v.number → w.phase ≡ v.phase → KeepsOwn c v w → LockMakes c w x object answer → LockMakes c v x object answer
+pub makes_before : (c : Config) (v w x : View) (object : ℕ) (answer : LockAnswer) → w.number ≡ v.number → w.phase ≡ v.phase → KeepsOwn c v w
+    → LockMakes c w x object answer → LockMakes c v x object answer
 makes_before c v w x object Held number phase own makes = (makes.0 ∙ ap (λ ws. ws ++ (object, words_in c x object) ∷ []) own.0, makes.1 ∙ own.1)
 makes_before c v w x object (Busy seat) number phase own makes = ((λ e. makes.0 (e ∙ sym number)), makes.1)
 makes_before c v w x object (Stale time) number phase own makes = (subst (λ (p : Phase). time_in (inside_of p) < time) phase makes.0, makes.1)
 makes_before c v w x object SetFull number phase own makes = absurd makes
 makes_before c v w x object LogFull number phase own makes = absurd makes
 
-pub outcome_before : (c : Config) (v w x : View) (l : Noted) (object : ℕ) (answer : LockAnswer) (first second third : ℕ) → Carries c v w → Tries v w first second → Outcome c w x l object answer second third → Outcome c v x l object answer first third
+pub outcome_before : (c : Config) (v w x : View) (l : Noted) (object : ℕ) (answer : LockAnswer) (first second third : ℕ) → Carries c v w
+    → Tries v w first second → Outcome c w x l object answer second third → Outcome c v x l object answer first third
 outcome_before c v w x l object answer first second third k tries o = record {
   may = o.may;
   stands = o.stands;
@@ -85,7 +87,8 @@ outcome_before c v w x l object answer first second third k tries o = record {
 }
 
 -- an exchange of HEAD
-module _ (c : Config) (v w : View) (l : Noted) (object previous position : ℕ) (may : MayWalk v) (s : Stands c v l) (is : IsBuiltFor l position object previous (words_in c v object)) where
+module _ (c : Config) (v w : View) (l : Noted) (object previous position : ℕ) (may : MayWalk v) (s : Stands c v l)
+    (is : IsBuiltFor l position object previous (words_in c v object)) where
   -- won: the version is held
   module _ (told : w ≡ head_locked c v (section_in v) object previous position) (own : OneMoreWrite c v (section_in v) object w) where
     abbrev step : Step
@@ -138,12 +141,14 @@ module _ (c : Config) (v w : View) (l : Noted) (object previous position : ℕ) 
 
     pub lost_stands : Stands c w l
     lost_stands =
-        stands_on c v w l (step_lost ∷ []) (ap (λ (u : View). u.number) told) (ap (λ (u : View). u.ring) told) (ap (λ (u : View). u.past.mine) told) (ap (λ (u : View). u.past.rests) told) (ap (λ (u : View). u.trail) told)
+        stands_on c v w l (step_lost ∷ []) (ap (λ (u : View). u.number) told) (ap (λ (u : View). u.ring) told) (ap (λ (u : View). u.past.mine) told)
+        (ap (λ (u : View). u.past.rests) told) (ap (λ (u : View). u.trail) told)
         (All-cons IsLocks step_lost [] tt (All-nil IsLocks)) s
 
     pub came_first : link ≢ 0 → IsLinkOf c link → link_seat_of link ≢ v.number → CameFirst c w object link
     came_first some packed other =
-        let at : w.walk ≡ place.At (record { object = object; link = link; first = None; stamp = None; passed = Nothing; late = true }) = ap (λ (u : View). u.walk) told ∙ sym (at_some object link Nothing true some) in
+        let at : w.walk ≡ place.At (record { object = object; link = link; first = None; stamp = None; passed = Nothing; late = true }) =
+        ap (λ (u : View). u.walk) told ∙ sym (at_some object link Nothing true some) in
         let stand = ap stand_of at in record {
           stands = record { stands = at ∙ ap place.At (sym stand); link_is = ap (λ (z : Stand). z.link) stand; packed = packed some };
           object_is = ap (λ (z : Stand). z.object) stand;
@@ -153,7 +158,8 @@ module _ (c : Config) (v w : View) (l : Noted) (object previous position : ℕ) 
         }
 
 -- PREV of the built version was cleared, where the walk stands at the master
-pub cleared_for : (c : Config) (v w : View) (l m : Noted) (object previous position : ℕ) → IsBuiltFor l position object previous (words_in c v object) → m ≡ cleared l → Carries c v w → IsBuiltFor m position object 0 (words_in c w object)
+pub cleared_for : (c : Config) (v w : View) (l m : Noted) (object previous position : ℕ) → IsBuiltFor l position object previous (words_in c v object)
+    → m ≡ cleared l → Carries c v w → IsBuiltFor m position object 0 (words_in c w object)
 cleared_for c v w l m object previous position is e k =
     let n : Note = is.0 in
     let words : words_in c v object ≡ words_in c w object = (λ i. words_of c (sym k.start i) (sym k.seen i) (time_in (inside_of (sym k.phase i))) object) in
@@ -178,7 +184,9 @@ module _ (c : Config) (v w : View) (n : ℕ) (b : BuildsBy v w n) where
   built_walk = ap (λ (u : View). u.walk) b.rest
 
 -- PREV of the built version was cleared, and HEAD exchanged once more
-module _ (c : Config) (v w x : View) (l m : Noted) (object previous position : ℕ) (may : MayWalk v) (s : Stands c v l) (is : IsBuiltFor l position object previous (words_in c v object)) (t : Stands c w m) (noted : m ≡ cleared l) (stored : w ≡ stored_next c v position 2 0) where
+module _ (c : Config) (v w x : View) (l m : Noted) (object previous position : ℕ) (may : MayWalk v) (s : Stands c v l)
+    (is : IsBuiltFor l position object previous (words_in c v object)) (t : Stands c w m) (noted : m ≡ cleared l)
+    (stored : w ≡ stored_next c v position 2 0) where
   stores : BuildsBy v w 1
   stores = subst (λ (u : View). BuildsBy v u 1) (sym stored) (builds_next c position v 2 0)
 
@@ -197,9 +205,11 @@ module _ (c : Config) (v w x : View) (l m : Noted) (object previous position : �
   pub cleared_tries : (before after : ℕ) → after ≡ before + 1 → Tries v w before after
   cleared_tries = built_tries c v w 1 stores
 
-  pub again_won : x ≡ head_locked c w (section_in w) object 0 position → OneMoreWrite c w (section_in w) object x → (q : Noted) (first second third : ℕ) → q ≡ held_noted m → second ≡ first + 1 → third ≡ second + 1 → Outcome c v x q object Held first third
+  pub again_won : x ≡ head_locked c w (section_in w) object 0 position → OneMoreWrite c w (section_in w) object x
+      → (q : Noted) (first second third : ℕ) → q ≡ held_noted m → second ≡ first + 1 → third ≡ second + 1 → Outcome c v x q object Held first third
   again_won told own q first second third q_is e f =
-      outcome_before c v w x q object Held first second third cleared_carries (cleared_tries first second e) (won_outcome c w x m object 0 position cleared_may t cleared_is told own q second third q_is f)
+      outcome_before c v w x q object Held first second third cleared_carries (cleared_tries first second e)
+      (won_outcome c w x m object 0 position cleared_may t cleared_is told own q second third q_is f)
 
   module _ (link : ℕ) (told : x ≡ lock_lost c w object link) where
     pub again_may : MayWalk x
@@ -211,7 +221,8 @@ module _ (c : Config) (v w x : View) (l m : Noted) (object previous position : �
     pub again_first : link ≢ 0 → IsLinkOf c link → link_seat_of link ≢ w.number → CameFirst c x object link
     again_first = came_first c w x m object 0 position cleared_may t cleared_is link told
 
-    pub again_lost : (y : View) (q : Noted) (answer : LockAnswer) (first second third last : ℕ) → second ≡ first + 1 → third ≡ second + 1 → Outcome c x y q object answer third last → Outcome c v y q object answer first last
+    pub again_lost : (y : View) (q : Noted) (answer : LockAnswer) (first second third last : ℕ) → second ≡ first + 1 → third ≡ second + 1
+        → Outcome c x y q object answer third last → Outcome c v y q object answer first last
     again_lost y q answer first second third last e f o =
         outcome_before c v w y q object answer first second last cleared_carries (cleared_tries first second e)
         (outcome_before c w x y q object answer second third last (lost_carries c w x m object 0 position cleared_may t cleared_is link told)

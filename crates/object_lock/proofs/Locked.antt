@@ -43,7 +43,8 @@ module _ (c : Config) (v : View) (l : Noted) (object : ℕ) (s : Stands c v l) w
   noted_is h =
       let at = get-map (held_notes l) (h.0 - held_from l) h.1 (get_left (held_from l) h.0 l.live h.1 h.3 h.2) in
       ap (λ (ws : Writes). touches ws object) (own_is c v l s)
-      ∙ subst (λ (o : ℕ). touches (map note_write (held_notes l)) o ≡ true) h.4 (write_touches (map note_write (held_notes l)) (h.0 - held_from l) h.1.object h.1.words at)
+      ∙ subst (λ (o : ℕ). touches (map note_write (held_notes l)) o ≡ true) h.4
+      (write_touches (map note_write (held_notes l)) (h.0 - held_from l) h.1.object h.1.words at)
 
   pub held_none : ¬ (HoldsObject l object) → {A : Type 0} → touches (own_of c v.ring) object ≡ true → A
   held_none none e = absurd (none (touched_is e))
@@ -70,7 +71,10 @@ module _ (c : Config) (v : View) (l : Noted) (object : ℕ) (s : Stands c v l) w
 -- the steps that looked at the top leave the log as it is
 module _ (c : Config) (v x : View) (l : Noted) (object before here : ℕ) (s : Stands c v l) (tries : Tries v x before here) (ring : x.ring ≡ v.ring) where
   pub top_stands : Stands c x l
-  top_stands = let t = tries.trail in stands_on c v x l t.0 (ap (λ (u : View). u.number) tries.rest) ring (ap (λ (u : View). u.past.mine) tries.rest) (ap (λ (u : View). u.past.rests) tries.rest) t.1 t.3 s
+  top_stands =
+      let t = tries.trail in
+      stands_on c v x l t.0 (ap (λ (u : View). u.number) tries.rest) ring (ap (λ (u : View). u.past.mine) tries.rest)
+      (ap (λ (u : View). u.past.rests) tries.rest) t.1 t.3 s
 
   pub top_keeps : KeepsOwn c v x
   top_keeps = (ap (own_of c) ring, ap spare_count ring)
@@ -99,7 +103,8 @@ module _ (c : Config) (v w : View) (keeps : KeepsOwn c v w) where
   all_answers x object SetFull room makes = absurd makes
   all_answers x object LogFull room makes = absurd makes
 
-  pub made_answers : (x : View) (object : ℕ) (answer : LockAnswer) → w.number ≡ v.number → w.phase ≡ v.phase → HasRoom c v → LockMakes c w x object answer → LockAnswers c v x object answer
+  pub made_answers : (x : View) (object : ℕ) (answer : LockAnswer) → w.number ≡ v.number → w.phase ≡ v.phase → HasRoom c v
+      → LockMakes c w x object answer → LockAnswers c v x object answer
   made_answers x object answer number phase room makes =
       all_answers x object answer room (makes_before c v w x object answer number phase keeps makes)
 
@@ -114,7 +119,8 @@ module _ (c : Config) (v w : View) (l m : Noted) (object : ℕ) (s : Stands c v 
 
   pub few_made : (answer : LockAnswer) → LockMakes c v w object answer → (answer ≢ Held → KeepsOwn c v w) → m.held ≤ c.write_max
   few_made Held makes keeps =
-      let long : length (own_of c w.ring) ≡ length (own_of c v.ring) + 1 = ap length makes.0 ∙ length-append (own_of c v.ring) ((object, words_in c w object) ∷ []) in
+      let long : length (own_of c w.ring) ≡ length (own_of c v.ring) + 1 =
+      ap length makes.0 ∙ length-append (own_of c v.ring) ((object, words_in c w object) ∷ []) in
       let a = own_long c v l s in
       let b = own_long c w m t in
       omega arith

@@ -9,17 +9,18 @@ use Rattle.mv_core.specs.declared.ring.Build.{Build}
 use Rattle.mv_core.specs.declared.view.View.{View}
 use Rattle.mv_core.specs.Rings.{slot_at, index_of, set_first}
 use Rattle.mv_core.specs.LockSteps.{nothing_built, build_in, StandsToLock, MayLock}
+use Rattle.seat_log.proofs.Noting.{built_next}
 use Rattle.seat_log.specs.declared.version.Note.{Note}
 use Rattle.seat_log.specs.Notes.{Noted, IsNextOf}
 use Rattle.seat_log.specs.Stands.{IsWhole, HasBuilt, Stands}
 use Rattle.seat_log.specs.Builds.{build_at}
-use Rattle.seat_log.proofs.Standing.{built_next}
 use Rattle.version_chain.specs.Walks.{MayWalk, section_in}
 use Rattle.version_chain.specs.Reads.{words_in}
 use Rattle.object_lock.specs.Locks.{HoldsObject, IsBuiltFor}
 use Rattle.object_lock.proofs.OwnNotes.{unheld_is}
 
-module _ (c : Config) (v : View) (l : Noted) (object previous position : ℕ) (s : Stands c v l) (is : IsBuiltFor l position object previous (words_in c v object)) where
+module _ (c : Config) (v : View) (l : Noted) (object previous position : ℕ) (s : Stands c v l)
+    (is : IsBuiltFor l position object previous (words_in c v object)) where
   abbrev n : Note
   n = is.0
 
@@ -50,7 +51,8 @@ module _ (c : Config) (v : View) (l : Noted) (object previous position : ℕ) (s
   pub small : position < 2 ^ 57
   small = let a = next_noted.4 in let b = is.2 in omega arith
 
-  pub may_lock : (write_max : ℕ) → MayWalk v → object < c.objects → StandsToLock v (section_in v) object previous → ¬ (HoldsObject l object) → l.held < write_max → MayLock c write_max v object previous position (build_at c v position) (section_in v)
+  pub may_lock : (write_max : ℕ) → MayWalk v → object < c.objects → StandsToLock v (section_in v) object previous → ¬ (HoldsObject l object)
+      → l.held < write_max → MayLock c write_max v object previous position (build_at c v position) (section_in v)
   may_lock write_max may range stands unheld few =
       let w = whole.2 in record {
         walking = may;

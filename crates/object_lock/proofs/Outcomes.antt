@@ -38,10 +38,12 @@ tries_on u v w first second third a b =
 -- FIRST and STAMP of the version that came first were loaded
 module _ (c : Config) (v x : View) (object link found : ℕ) (may : MayWalk v) (first : CameFirst c v object link) (looked : Looked c v x found) where
   abbrev of_first : Step
-  of_first = record { kind = LoadFirst; word = place_of c (First (link_seat_of (stand_in v).link) (slot_named c (stand_in v).link)); found = Some looked.first; stored = None }
+  of_first =
+      record { kind = LoadFirst; word = place_of c (First (link_seat_of (stand_in v).link) (slot_named c (stand_in v).link)); found = Some looked.first; stored = None }
 
   abbrev of_stamp : Step
-  of_stamp = record { kind = LoadStamp; word = place_of c (Stamp (link_seat_of (stand_in v).link) (index_of c looked.first)); found = Some found; stored = None }
+  of_stamp =
+      record { kind = LoadStamp; word = place_of c (Stamp (link_seat_of (stand_in v).link) (index_of c looked.first)); found = Some found; stored = None }
 
   two_steps : x.trail ≡ v.trail ++ of_first ∷ of_stamp ∷ []
   two_steps = ap (λ (u : View). u.trail) looked.view ∙ append_assoc v.trail (of_first ∷ []) (of_stamp ∷ [])
@@ -54,7 +56,8 @@ module _ (c : Config) (v x : View) (object link found : ℕ) (may : MayWalk v) (
 
   -- an unset stamp
   pub busy_cause : IsUnset found → IsRefused c v x object (Busy (link_seat_of link))
-  busy_cause unset = (first.other, found_held c (record v { trail = first.lost.0 }) v x LockHead object link found first.lost.1 first.stands.link_is looked unset)
+  busy_cause unset =
+      (first.other, found_held c (record v { trail = first.lost.0 }) v x LockHead object link found first.lost.1 first.stands.link_is looked unset)
 
   -- and a time
   pub stale_cause : found < 2 ^ 63 → IsRefused c v x object (Stale found)
@@ -63,11 +66,13 @@ module _ (c : Config) (v x : View) (object link found : ℕ) (may : MayWalk v) (
       let same : time_at x ≡ time_at v = ap time_at looked.view in
       ((omega arith), subst (λ (o : ℕ). IsWriteOf c x.past.seen o found) first.object_is (looked.says.write low))
 
-  pub lost_outcome : (l : Noted) (answer : LockAnswer) (before after : ℕ) → MayWalk x → Stands c v l → LockMakes c v x object answer → after ≡ before + 2 → Outcome c v x (dropped l) object answer before after
+  pub lost_outcome : (l : Noted) (answer : LockAnswer) (before after : ℕ) → MayWalk x → Stands c v l → LockMakes c v x object answer
+      → after ≡ before + 2 → Outcome c v x (dropped l) object answer before after
   lost_outcome l answer before after still s makes e =
       let ring : x.ring ≡ v.ring = ap (λ (u : View). u.ring) looked.view in record {
         may = still;
-        stands = stands_dropped c x l (stands_on c v x l (of_first ∷ of_stamp ∷ []) (ap (λ (u : View). u.number) looked.view) ring (ap (λ (u : View). u.past.mine) looked.view) (ap (λ (u : View). u.past.rests) looked.view) two_steps two_kinds s);
+        stands = stands_dropped c x l
+            (stands_on c v x l (of_first ∷ of_stamp ∷ []) (ap (λ (u : View). u.number) looked.view) ring (ap (λ (u : View). u.past.mine) looked.view) (ap (λ (u : View). u.past.rests) looked.view) two_steps two_kinds s);
         unbuilt = refl;
         makes = makes;
         keeps = λ _. (ap (own_of c) ring, ap spare_count ring);
@@ -75,11 +80,13 @@ module _ (c : Config) (v x : View) (object link found : ℕ) (may : MayWalk v) (
       }
 
   -- the answer for another log's notes and counter that are these
-  pub lost_busy : (l m : Noted) (seat before after : ℕ) → MayWalk x → Stands c v l → m ≡ dropped l → seat ≡ link_seat_of link → IsUnset found → after ≡ before + 2 → Outcome c v x m object (Busy seat) before after
+  pub lost_busy : (l m : Noted) (seat before after : ℕ) → MayWalk x → Stands c v l → m ≡ dropped l → seat ≡ link_seat_of link → IsUnset found
+      → after ≡ before + 2 → Outcome c v x m object (Busy seat) before after
   lost_busy l m seat before after still s is seat_is unset e =
       subst (λ (k : Noted). Outcome c v x k object (Busy seat) before after) (sym is)
       (subst (λ (q : ℕ). Outcome c v x (dropped l) object (Busy q) before after) (sym seat_is) (lost_outcome l (Busy (link_seat_of link)) before after still s (busy_cause unset) e))
 
-  pub lost_stale : (l m : Noted) (before after : ℕ) → MayWalk x → Stands c v l → m ≡ dropped l → found < 2 ^ 63 → after ≡ before + 2 → Outcome c v x m object (Stale found) before after
+  pub lost_stale : (l m : Noted) (before after : ℕ) → MayWalk x → Stands c v l → m ≡ dropped l → found < 2 ^ 63 → after ≡ before + 2
+      → Outcome c v x m object (Stale found) before after
   lost_stale l m before after still s is low e =
       subst (λ (k : Noted). Outcome c v x k object (Stale found) before after) (sym is) (lost_outcome l (Stale found) before after still s (stale_cause low) e)

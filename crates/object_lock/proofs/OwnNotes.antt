@@ -26,12 +26,17 @@ abbrev pub held_notes : Noted → List Note
 held_notes l = drop (held_from l) l.live
 
 -- the writes of positions are those of the notes that are so
-writes_noted : (c : Config) (r : Ring) (ns : List Note) (p : ℕ) → ((i : ℕ) (m : Note) → slice_get ns i ≡ Some m → write_of (slot_at r (index_of c (p + i))) ≡ note_write m) → writes_from c r p (length ns) ≡ map note_write ns
+writes_noted : (c : Config) (r : Ring) (ns : List Note) (p : ℕ)
+    → ((i : ℕ) (m : Note) → slice_get ns i ≡ Some m → write_of (slot_at r (index_of c (p + i))) ≡ note_write m)
+    → writes_from c r p (length ns) ≡ map note_write ns
 writes_noted c r [] p all = refl
 writes_noted c r (n ∷ ns) p all =
     let first = all 0 n refl in
-    let here : write_of (slot_at r (index_of c p)) ≡ note_write n = ap (λ (q : ℕ). write_of (slot_at r (index_of c q))) (let e : p ≡ p + 0 = omega arith in e) ∙ first in
-    let rest = writes_noted c r ns (p + 1) (λ i m at. ap (λ (q : ℕ). write_of (slot_at r (index_of c q))) (let e : p + 1 + i ≡ p + suc i = omega arith in e) ∙ all (suc i) m at) in
+    let here : write_of (slot_at r (index_of c p)) ≡ note_write n =
+    ap (λ (q : ℕ). write_of (slot_at r (index_of c q))) (let e : p ≡ p + 0 = omega arith in e) ∙ first in
+    let rest =
+    writes_noted c r ns (p + 1)
+    (λ i m at. ap (λ (q : ℕ). write_of (slot_at r (index_of c q))) (let e : p + 1 + i ≡ p + suc i = omega arith in e) ∙ all (suc i) m at) in
     (λ i. here i ∷ rest i)
 
 module _ (c : Config) (v : View) (l : Noted) (s : Stands c v l) where
@@ -49,7 +54,8 @@ module _ (c : Config) (v : View) (l : Noted) (s : Stands c v l) where
       ∙ writes_noted c v.ring (held_notes l) (l.freed + held_from l)
       (λ i m at.
       let there = s.live (held_from l + i) m (sym (get_dropped (held_from l) i l.live) ∙ at) in
-      ap (λ (q : ℕ). write_of (slot_at v.ring (index_of c q))) (let e : l.freed + held_from l + i ≡ l.freed + (held_from l + i) = omega arith in e) ∙ ap write_of there.lives)
+      ap (λ (q : ℕ). write_of (slot_at v.ring (index_of c q))) (let e : l.freed + held_from l + i ≡ l.freed + (held_from l + i) = omega arith in e)
+      ∙ ap write_of there.lives)
 
   pub own_long : length (own_of c v.ring) ≡ l.held
   own_long = ap length own_is ∙ length-map (held_notes l) note_write ∙ held_long

@@ -20,7 +20,8 @@ use Rattle.object_lock.specs.Writes.{IsHeldAt, with_words, Stores}
 use Rattle.object_lock.proofs.OwnNotes.{note_write, held_notes, own_is}
 
 -- what a section holds, with other words at the first place that has the object
-rewrites : (ms : List Note) (j : ℕ) (n : Note) (f : Note → Note) (o : ℕ) (words : List ℕ) → slice_get ms j ≡ Some n → n.object ≡ o → ((i : ℕ) (m : Note) → slice_get ms i ≡ Some m → i < j → m.object ≢ o) → note_write (f n) ≡ (o, words)
+rewrites : (ms : List Note) (j : ℕ) (n : Note) (f : Note → Note) (o : ℕ) (words : List ℕ) → slice_get ms j ≡ Some n → n.object ≡ o
+    → ((i : ℕ) (m : Note) → slice_get ms i ≡ Some m → i < j → m.object ≢ o) → note_write (f n) ≡ (o, words)
     → map note_write (at_place f j ms) ≡ rewritten (map note_write ms) o words
 rewrites [] j n f o words at is none same = absurd (cc)
 rewrites (m ∷ ms) zero n f o words at is none same =
@@ -30,7 +31,8 @@ rewrites (m ∷ ms) zero n f o words at is none same =
     ∙ sym (ap (λ (b : Bool). if b then (o, words) ∷ map note_write ms else note_write m ∷ rewritten (map note_write ms) o words) (eq-eqb m.object o here))
 rewrites (m ∷ ms) (suc j) n f o words at is none same =
     ap (λ ws. note_write m ∷ ws) (rewrites ms j n f o words at is (λ i k e lt. none (suc i) k e (omega arith)) same)
-    ∙ sym (ap (λ (b : Bool). if b then (o, words) ∷ map note_write ms else note_write m ∷ rewritten (map note_write ms) o words) (ne_eqb m.object o (none 0 m refl (omega arith))))
+    ∙ sym
+    (ap (λ (b : Bool). if b then (o, words) ∷ map note_write ms else note_write m ∷ rewritten (map note_write ms) o words) (ne_eqb m.object o (none 0 m refl (omega arith))))
 
 drop-at : (f : Note → Note) (d j : ℕ) (ns : List Note) → d ≤ j → drop d (at_place f j ns) ≡ at_place f (j - d) (drop d ns)
 drop-at f zero j ns le = ap (λ i. at_place f i ns) (let z : j ≡ j - 0 = omega arith in z)
@@ -50,7 +52,9 @@ at-same (suc j) (n ∷ ns) = ap (λ l. n ∷ l) (at-same j ns)
 
 -- six words in place of six
 six_words : (xs ws : List ℕ) → length xs ≡ 6 → length ws ≡ 6
-    → slice_set (slice_set (slice_set (slice_set (slice_set (slice_set xs 0 (slice_index ws 0)) 1 (slice_index ws 1)) 2 (slice_index ws 2)) 3 (slice_index ws 3)) 4 (slice_index ws 4)) 5 (slice_index ws 5) ≡ ws
+    → slice_set
+    (slice_set (slice_set (slice_set (slice_set (slice_set xs 0 (slice_index ws 0)) 1 (slice_index ws 1)) 2 (slice_index ws 2)) 3 (slice_index ws 3)) 4 (slice_index ws 4))
+    5 (slice_index ws 5) ≡ ws
 six_words (a ∷ b ∷ c ∷ d ∷ e ∷ f ∷ []) (g ∷ h ∷ i ∷ j ∷ k ∷ l ∷ []) p q = refl
 six_words [] ws p q = absurd (omega arith)
 six_words (a ∷ []) ws p q = absurd (omega arith)
@@ -80,7 +84,8 @@ wrote_none c v l place words s = record {
   stores = record { rest = refl; trail = ([], sym (append-nil v.trail), refl, All-nil (λ (s : Step). s.kind ≡ StoreData)) };
 }
 
-module _ (c : Config) (v w x : View) (l m k : Noted) (object position n value : ℕ) (words : List ℕ) (s : Stands c v l) (at : IsHeldAt l object position) (wrote : Wrote c v w l m at.place n words) where
+module _ (c : Config) (v w x : View) (l m k : Noted) (object position n value : ℕ) (words : List ℕ) (s : Stands c v l)
+    (at : IsHeldAt l object position) (wrote : Wrote c v w l m at.place n words) where
   place_is : position ≡ l.freed + at.place
   place_is = sym at.position_is ∙ s.log.notes.position at.place at.note at.there
 
@@ -101,7 +106,8 @@ module _ (c : Config) (v w x : View) (l m k : Noted) (object position n value : 
   told_one = record { kind = StoreData; word = place_of c (Data w.number (index_of c position) n); found = None; stored = Some value }
 
   -- one word more
-  pub wrote_more : value ≡ slice_index words n → Stands c x k → k ≡ word_noted m position n value → x ≡ word_stored c w position n value → Wrote c v x l k at.place (n + 1) words
+  pub wrote_more : value ≡ slice_index words n → Stands c x k → k ≡ word_noted m position n value → x ≡ word_stored c w position n value
+      → Wrote c v x l k at.place (n + 1) words
   wrote_more value_is t noted stored =
       let next : n + 1 ≡ suc n = omega arith in
       let freed : m.freed ≡ l.freed = ap (λ (q : Noted). q.freed) wrote.notes in
@@ -124,7 +130,8 @@ module _ (c : Config) (v w x : View) (l m k : Noted) (object position n value : 
       }
 
 -- all six were
-module _ (c : Config) (v w : View) (l m : Noted) (object position : ℕ) (words : List ℕ) (s : Stands c v l) (at : IsHeldAt l object position) (wrote : Wrote c v w l m at.place 6 words) (six : length words ≡ 6) where
+module _ (c : Config) (v w : View) (l m : Noted) (object position : ℕ) (words : List ℕ) (s : Stands c v l) (at : IsHeldAt l object position)
+    (wrote : Wrote c v w l m at.place 6 words) (six : length words ≡ 6) where
   pub all_written : own_of c w.ring ≡ rewritten (own_of c v.ring) object words
   all_written =
       let d = held_from l in

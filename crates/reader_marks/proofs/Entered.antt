@@ -17,6 +17,7 @@ use Rattle.mv_core.specs.Rings.{HoldsNothing}
 use Rattle.mv_core.specs.HistoryFacts.{BeginsWith}
 use Rattle.mv_core.specs.EnterSteps.{IsWhole, low_loaded, mark_stored, time_loaded}
 use Rattle.commit_clock.specs.Helps.{IsHelpStep, StampsOwn, Helps, FindsClock}
+use Rattle.commit_clock.proofs.HelpedPhase.{still_open}
 use Rattle.reader_marks.specs.Sections.{IsEnterStep, EntersBy, Begins}
 
 help_enters : (k : StepKind) → IsHelpStep k → IsEnterStep k
@@ -29,24 +30,22 @@ help_enters _ x = x
 abbrev entered : Config → View → ℕ → ℕ → List Entry → View
 entered c v low word h = time_loaded c (mark_stored c (low_loaded c v low) (clock_time_of low)) word h
 
-module _ (c : Config) (v : View) (low word : ℕ) (h : List Entry) (w : View) (last : Option ℕ) (whole : IsWhole c v word h) (helps : Helps c (entered c v low word h) w word) (finds : FindsClock c (entered c v low word h) w last) (none : clock_slot_of word ≡ 8191 → w ≡ entered c v low word h) where
+module _ (c : Config) (v : View) (low word : ℕ) (h : List Entry) (w : View) (last : Option ℕ) (whole : IsWhole c v word h)
+    (helps : Helps c (entered c v low word h) w word) (finds : FindsClock c (entered c v low word h) w last)
+    (none : clock_slot_of word ≡ 8191 → w ≡ entered c v low word h) where
   abbrev inside : Section
   inside = record { low = clock_time_of low; word = word; mode = Open }
 
   -- what the help found is no less than the history at the time taken
   seen_go : (o : Option ℕ) → FindsClock c (entered c v low word h) w o → BeginsWith w.past.seen h × (w.past ≡ record v.past { seen = w.past.seen })
-  seen_go None f = (([], ap (λ (p : Past). p.seen) f ∙ sym (append-nil h)), f ∙ ap (λ (l : List Entry). record v.past { seen = l }) (sym (ap (λ (p : Past). p.seen) f)))
+  seen_go None f =
+      (([], ap (λ (p : Past). p.seen) f ∙ sym (append-nil h)), f ∙ ap (λ (l : List Entry). record v.past { seen = l }) (sym (ap (λ (p : Past). p.seen) f)))
   seen_go (Some x) f =
       let is : w.past.seen ≡ f.0 = ap (λ (p : Past). p.seen) f.2 in
       ((f.1.0.0, is ∙ f.1.0.1), f.2 ∙ ap (λ (l : List Entry). record v.past { seen = l }) (sym is))
 
   phase_is : w.phase ≡ Inside inside
-  phase_is = ⊎_elim (λ e. e)
-      (λ (o : StampsOwn c (entered c v low word h) w word).
-      let e : Inside inside ≡ Inside o.inside = o.phase in
-      let same : inside ≡ o.inside = cc in
-      let f : Open ≡ Named o.naming = ap (λ (s : Section). s.mode) same ∙ o.mode in absurd (cc))
-      helps.phase
+  phase_is = still_open c (entered c v low word h) w word inside refl refl helps
 
   entered_by : EntersBy v.trail w.trail word
   entered_by =
@@ -58,7 +57,8 @@ module _ (c : Config) (v : View) (low word : ℕ) (h : List Entry) (w : View) (l
       let long : length (first ++ t.0) ≡ 3 + length t.0 = length-append first t.0 in
       let few = t.2 in record {
         steps = first ++ t.0;
-        trail = t.1 ∙ ap (λ (l : List Step). l ++ t.0) (append_assoc (v.trail ++ a ∷ []) (b ∷ []) (d ∷ []) ∙ append_assoc v.trail (a ∷ []) (b ∷ d ∷ [])) ∙ append_assoc v.trail first t.0;
+        trail = t.1 ∙ ap (λ (l : List Step). l ++ t.0) (append_assoc (v.trail ++ a ∷ []) (b ∷ []) (d ∷ []) ∙ append_assoc v.trail (a ∷ []) (b ∷ d ∷ []))
+            ∙ append_assoc v.trail first t.0;
         few = omega arith;
         three = λ e.
             let trail : List Step = (entered c v low word h).trail in
@@ -91,15 +91,18 @@ module _ (c : Config) (v : View) (low word : ℕ) (h : List Entry) (w : View) (l
       }
 
 -- the time of all that is seen is the greatest that was found
-last_found : (c : Config) (v w : View) (word : ℕ) (last : Option ℕ) → clock_time_of word ≡ c.base + length v.past.seen → FindsClock c v w last → (x : ℕ) → x ≡ unwrap_or last word → clock_time_of x ≡ c.base + length w.past.seen
+last_found : (c : Config) (v w : View) (word : ℕ) (last : Option ℕ) → clock_time_of word ≡ c.base + length v.past.seen → FindsClock c v w last
+    → (x : ℕ) → x ≡ unwrap_or last word → clock_time_of x ≡ c.base + length w.past.seen
 last_found c v w word None time finds x is = ap clock_time_of is ∙ time ∙ ap (λ (p : Past). c.base + length p.seen) (sym finds)
 last_found c v w word (Some y) time finds x is = ap clock_time_of is ∙ finds.1.1 ∙ ap (λ (p : Past). c.base + length p.seen) (sym finds.2)
 
 -- the section that the four calls of an `enter` begin
-pub begins : (c : Config) (v v1 v2 v3 w : View) (low mark word time : ℕ) (h : List Entry) (last : Option ℕ) → v1 ≡ low_loaded c v low → mark ≡ clock_time_of low → v2 ≡ mark_stored c v1 mark → IsWhole c v2 word h → v3 ≡ time_loaded c v2 word h
+pub begins : (c : Config) (v v1 v2 v3 w : View) (low mark word time : ℕ) (h : List Entry) (last : Option ℕ) → v1 ≡ low_loaded c v low
+    → mark ≡ clock_time_of low → v2 ≡ mark_stored c v1 mark → IsWhole c v2 word h → v3 ≡ time_loaded c v2 word h
     → HoldsNothing v3.ring → Helps c v3 w word → FindsClock c v3 w last → (clock_slot_of word ≡ 8191 → w ≡ v3) → time ≡ clock_time_of word → Begins c v w time
 begins c v v1 v2 v3 w low mark word time h last is1 marks is2 whole is3 nothing helps finds none times =
-    let marked : v2 ≡ mark_stored c (low_loaded c v low) (clock_time_of low) = is2 ∙ ap (λ (u : View). mark_stored c u mark) is1 ∙ ap (mark_stored c (low_loaded c v low)) marks in
+    let marked : v2 ≡ mark_stored c (low_loaded c v low) (clock_time_of low) =
+    is2 ∙ ap (λ (u : View). mark_stored c u mark) is1 ∙ ap (mark_stored c (low_loaded c v low)) marks in
     let same : v3 ≡ entered c v low word h = is3 ∙ ap (λ (u : View). time_loaded c u word h) marked in
     subst (Begins c v w) (sym times)
     (begins_go c v low word h w last (subst (λ (u : View). IsWhole c u word h) marked whole) (subst (λ (u : View). Helps c u w word) same helps) (subst (λ (u : View). FindsClock c u w last) same finds) (λ e. none e ∙ same) (subst (λ (u : View). HoldsNothing u.ring) same nothing))

@@ -1,2 +1,3 @@
 pub mod Entered
 pub mod Looking
+pub mod EnterKinds

@@ -6,6 +6,7 @@ use Rattle.mv_history.specs.declared.StepKind.TheVariants.{LoadLow, StoreMark, L
 use Rattle.mv_layout.specs.declared.Config.{Config}
 use Rattle.mv_layout.specs.Words.{clock_time_of, clock_slot_of}
 use Rattle.mv_core.specs.declared.view.View.{View}
+use Rattle.mv_core.specs.declared.view.Phase.{Phase}
 use Rattle.mv_core.specs.declared.view.Phase.TheVariants.{Inside}
 use Rattle.mv_core.specs.declared.view.Section.{Section}
 use Rattle.mv_core.specs.declared.view.Mode.TheVariants.{Open}
@@ -31,7 +32,8 @@ pub record EntersBy (before after : List Step) (word : ℕ) : Type 0 where
   pub kinds : All (λ s. IsEnterStep s.kind) steps
   pub takes : Contains steps (record { kind = LoadTime; word = 0; found = Some word; stored = None })
 
--- A section begins: it is open and past its help, holds nothing, walks nowhere and writes nothing back. Its time is base and the length of its snapshot, which begins with all that was seen before and is the first part of what is seen now. Nothing else changes.
+-- A section begins: it is open and past its help, holds nothing, walks nowhere and writes nothing back. Its time is base and the length of its
+-- snapshot, which begins with all that was seen before and is the first part of what is seen now. Nothing else changes.
 pub record Begins (c : Config) (v w : View) (time : ℕ) : Type 0 where
   pub inside : Section
   pub phase : w.phase ≡ Inside inside
@@ -46,6 +48,15 @@ pub record Begins (c : Config) (v w : View) (time : ℕ) : Type 0 where
   pub snapshot : BeginsWith (take at w.past.seen) v.past.seen
   pub entered : EntersBy v.trail w.trail inside.word
   pub rest : w ≡ record v { past = record v.past { seen = w.past.seen }; phase = w.phase; heard = w.heard; walk = Nowhere; back = None; trail = w.trail }
+
+-- the section of a phase; it tells nothing of a phase outside one
+abbrev pub inside_of : Phase → Section
+inside_of (Inside inside) = inside
+inside_of _ = record { low = 0; word = 0; mode = Open }
+
+-- the section that a view is in
+abbrev pub section_in : View → Section
+section_in v = inside_of v.phase
 
 -- an open section that holds nothing
 pub record IsOpen (v : View) : Type 0 where

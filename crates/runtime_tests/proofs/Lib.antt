@@ -1,5 +1,4 @@
 pub mod Begun
-pub mod StepKinds
 pub mod Moved
 pub mod Marked
 pub mod NamedOnes

@@ -18,32 +18,36 @@ use Rattle.mv_core.specs.Views.{low_of}
 use Rattle.mv_core.specs.SectionFacts.{IsWord}
 use Rattle.mv_core.specs.EnterSteps.{low_loaded, mark_stored, time_loaded}
 use Rattle.mv_core.specs.SeatSteps.{grace_loaded}
-use Rattle.commit_clock.specs.Helps.{StampsOwn, Helps}
+use Rattle.commit_clock.specs.Helps.{IsHelpStep, Helps}
 use Rattle.reader_marks.specs.declared.scanning.Watermark.{Watermark}
 use Rattle.reader_marks.specs.Scans.{mark_step, mark_steps, scan_step, grace_step, scan_steps, Scans}
 use Rattle.seat_log.specs.Notes.{Noted}
+use Rattle.commit_clock.proofs.HelpedPhase.{still_open}
+use Rattle.seat_log.proofs.PlainSteps.{LeavesLog, AllLeaveLog, stands_left, kinds_leave, one_leaves, help_leaves}
 use Rattle.runtime_tests.specs.Clients.{IsOutside, IsBetween, HasLowered, HasMarked, HasTaken, IsInside}
-use Rattle.runtime_tests.proofs.Moved.{stands_plain, walks_in}
-use Rattle.runtime_tests.proofs.StepKinds.{ArePlain, IsPlain, helps_plain, one_plain}
+use Rattle.runtime_tests.proofs.Moved.{walks_in}
 
 begun : (c : Config) (v : View) (l : Noted) → IsOutside c v l → IsBetween c v l
 begun c v l o = record { no_scan = o.may.no_scan; stands = o.stands; unbuilt = o.unbuilt }
 
 -- a step that leaves the log and the scan alone
-goes_on : (c : Config) (v w : View) (l : Noted) → IsBetween c v l → w.number ≡ v.number → w.ring ≡ v.ring → w.past.mine ≡ v.past.mine → w.past.rests ≡ v.past.rests → w.scan ≡ v.scan → (s : Step) → w.trail ≡ v.trail ++ s ∷ [] → IsPlain s.kind → IsBetween c w l
+goes_on : (c : Config) (v w : View) (l : Noted) → IsBetween c v l → w.number ≡ v.number → w.ring ≡ v.ring → w.past.mine ≡ v.past.mine
+    → w.past.rests ≡ v.past.rests → w.scan ≡ v.scan → (s : Step) → w.trail ≡ v.trail ++ s ∷ [] → LeavesLog s.kind → IsBetween c w l
 goes_on c v w l e number ring mine rests scan s trail plain = record {
   no_scan = scan ∙ e.no_scan;
-  stands = stands_plain c v w l e.stands number ring mine rests (s ∷ []) trail (one_plain s plain);
+  stands = stands_left c v w l e.stands number ring mine rests (s ∷ []) trail (one_leaves s plain);
   unbuilt = e.unbuilt;
 }
 
-pub lowered : (c : Config) (v w : View) (l : Noted) (word low : ℕ) → IsOutside c v l → w ≡ low_loaded c v word → low ≡ clock_time_of word → low ≤ 35184372088831 → HasLowered c w l low
+pub lowered : (c : Config) (v w : View) (l : Noted) (word low : ℕ) → IsOutside c v l → w ≡ low_loaded c v word → low ≡ clock_time_of word
+    → low ≤ 35184372088831 → HasLowered c w l low
 lowered c v w l word low o is time within =
     let s : Step = record { kind = LoadLow; word = place_of c Clock; found = Some word; stored = None } in
     record {
       may = ap (λ (u : View). u.phase) is ∙ ap Lowered (sym time);
       within = within;
-      between = goes_on c v w l (begun c v l o) (ap (λ (u : View). u.number) is) (ap (λ (u : View). u.ring) is) (ap (λ (u : View). u.past.mine) is) (ap (λ (u : View). u.past.rests) is) (ap (λ (u : View). u.scan) is) s (ap (λ (u : View). u.trail) is) (refl, refl);
+      between = goes_on c v w l (begun c v l o) (ap (λ (u : View). u.number) is) (ap (λ (u : View). u.ring) is) (ap (λ (u : View). u.past.mine) is)
+          (ap (λ (u : View). u.past.rests) is) (ap (λ (u : View). u.scan) is) s (ap (λ (u : View). u.trail) is) (refl, refl);
     }
 
 pub marked : (c : Config) (v w : View) (l : Noted) (low : ℕ) → HasLowered c v l low → w ≡ mark_stored c v low → HasMarked c w l
@@ -51,10 +55,12 @@ marked c v w l low h is =
     let s : Step = record { kind = StoreMark; word = place_of c (Mark v.number); found = None; stored = Some (1 + low) } in
     record {
       may = (low, ap (λ (u : View). u.phase) is);
-      between = goes_on c v w l h.between (ap (λ (u : View). u.number) is) (ap (λ (u : View). u.ring) is) (ap (λ (u : View). u.past.mine) is) (ap (λ (u : View). u.past.rests) is) (ap (λ (u : View). u.scan) is) s (ap (λ (u : View). u.trail) is) (refl, refl);
+      between = goes_on c v w l h.between (ap (λ (u : View). u.number) is) (ap (λ (u : View). u.ring) is) (ap (λ (u : View). u.past.mine) is)
+          (ap (λ (u : View). u.past.rests) is) (ap (λ (u : View). u.scan) is) s (ap (λ (u : View). u.trail) is) (refl, refl);
     }
 
-pub taken : (c : Config) (v w : View) (l : Noted) (word : ℕ) (h : List Entry) → HasMarked c v l → w ≡ time_loaded c v word h → IsWord c word → HasTaken c w l word
+pub taken : (c : Config) (v w : View) (l : Noted) (word : ℕ) (h : List Entry) → HasMarked c v l → w ≡ time_loaded c v word h → IsWord c word
+    → HasTaken c w l word
 taken c v w l word h m is is_word =
     let s : Step = record { kind = LoadTime; word = place_of c Clock; found = Some word; stored = None } in
     record {
@@ -65,22 +71,14 @@ taken c v w l word h m is is_word =
       loaded = record {
         loaded = subst (λ (u : View). Contains u.heard.loaded word) (sym is) (Contains-push [] word);
         is_word = is_word;
-        none = λ e. subst (λ (u : View). Contains u.heard.helped word) (sym is) (subst (λ (b : Bool). Contains (cond b (word ∷ []) []) word) (sym (eq-eqb (clock_slot_of word) 8191 e)) (Contains-push [] word));
+        none = λ e.
+            subst (λ (u : View). Contains u.heard.helped word) (sym is)
+            (subst (λ (b : Bool). Contains (cond b (word ∷ []) []) word) (sym (eq-eqb (clock_slot_of word) 8191 e)) (Contains-push [] word));
       };
       no_back = ap (λ (u : View). u.back) is;
-      between = goes_on c v w l m.between (ap (λ (u : View). u.number) is) (ap (λ (u : View). u.ring) is) (ap (λ (u : View). u.past.mine) is) (ap (λ (u : View). u.past.rests) is) (ap (λ (u : View). u.scan) is) s (ap (λ (u : View). u.trail) is) (refl, refl);
+      between = goes_on c v w l m.between (ap (λ (u : View). u.number) is) (ap (λ (u : View). u.ring) is) (ap (λ (u : View). u.past.mine) is)
+          (ap (λ (u : View). u.past.rests) is) (ap (λ (u : View). u.scan) is) s (ap (λ (u : View). u.trail) is) (refl, refl);
     }
-
--- an open section stays as it is under a help
-still_open : (c : Config) (v w : View) (word : ℕ) (inside : Section) → v.phase ≡ Inside inside → inside.mode ≡ Open → Helps c v w word → w.phase ≡ Inside inside
-still_open c v w word inside phase open_is helps =
-    ⊎_elim
-    (λ same. same ∙ phase)
-    (λ (own : StampsOwn c v w word).
-    let both : Inside own.inside ≡ Inside inside = sym own.phase ∙ phase in
-    let one : own.inside ≡ inside = cc in
-    let other : Named own.naming ≡ Open = sym own.mode ∙ ap (λ (s : Section). s.mode) one ∙ open_is in absurd cc)
-    helps.phase
 
 pub helped : (c : Config) (v w : View) (l : Noted) (word : ℕ) → HasTaken c v l word → Helps c v w word → IsInside c w l None
 helped c v w l word t helps = record {
@@ -91,31 +89,38 @@ helped c v w l word t helps = record {
     no_back = ap (λ (u : View). u.back) helps.rest ∙ t.no_back;
   });
   no_scan = ap (λ (u : View). u.scan) helps.rest ∙ t.between.no_scan;
-  stands = stands_plain c v w l t.between.stands (ap (λ (u : View). u.number) helps.rest) (ap (λ (u : View). u.ring) helps.rest) (ap (λ (p : Past). p.mine) helps.past.2) (ap (λ (p : Past). p.rests) helps.past.2) helps.trail.0 helps.trail.1 (helps_plain helps.trail.0 helps.trail.3);
+  stands = stands_left c v w l t.between.stands (ap (λ (u : View). u.number) helps.rest) (ap (λ (u : View). u.ring) helps.rest)
+      (ap (λ (p : Past). p.mine) helps.past.2) (ap (λ (p : Past). p.rests) helps.past.2) helps.trail.0 helps.trail.1
+      (kinds_leave IsHelpStep help_leaves helps.trail.0 helps.trail.3);
   unbuilt = t.between.unbuilt;
   helped = λ x e. absurd cc;
 }
 
--- the loads of the marks
-one_unless : (b : Bool) (s : Step) → IsPlain s.kind → ArePlain (cond b [] (s ∷ []))
-one_unless true s plain = All-nil (λ (t : Step). IsPlain t.kind)
-one_unless false s plain = one_plain s plain
+-- the loads of the marks leave the log alone
+one_unless : (b : Bool) (s : Step) → LeavesLog s.kind → AllLeaveLog (cond b [] (s ∷ []))
+one_unless true s leaves = All-nil (λ (t : Step). LeavesLog t.kind)
+one_unless false s leaves = one_leaves s leaves
 
-marks_plain : (c : Config) (own : ℕ) (marks : ℕ → ℕ) (n : ℕ) → ArePlain (mark_steps c own marks n)
-marks_plain c own marks zero = All-nil (λ (t : Step). IsPlain t.kind)
-marks_plain c own marks (suc n) = All-append (λ (t : Step). IsPlain t.kind) (mark_steps c own marks n) (cond (n == own) [] (mark_step c n (marks n) ∷ [])) (marks_plain c own marks n) (one_unless (n == own) (mark_step c n (marks n)) (refl, refl))
+marks_plain : (c : Config) (own : ℕ) (marks : ℕ → ℕ) (n : ℕ) → AllLeaveLog (mark_steps c own marks n)
+marks_plain c own marks zero = All-nil (λ (t : Step). LeavesLog t.kind)
+marks_plain c own marks (suc n) =
+    All-append (λ (t : Step). LeavesLog t.kind) (mark_steps c own marks n) (cond (n == own) [] (mark_step c n (marks n) ∷ []))
+    (marks_plain c own marks n) (one_unless (n == own) (mark_step c n (marks n)) (refl, refl))
 
-scan_plain : (c : Config) (own word : ℕ) (marks : ℕ → ℕ) (low found : ℕ) → ArePlain (scan_steps c own word marks low found)
+scan_plain : (c : Config) (own word : ℕ) (marks : ℕ → ℕ) (low found : ℕ) → AllLeaveLog (scan_steps c own word marks low found)
 scan_plain c own word marks low found =
-    All-cons (λ (t : Step). IsPlain t.kind) (scan_step c word) (mark_steps c own marks c.seats ++ grace_step c low found ∷ []) (refl, refl)
-    (All-append (λ (t : Step). IsPlain t.kind) (mark_steps c own marks c.seats) (grace_step c low found ∷ []) (marks_plain c own marks c.seats) (one_plain (grace_step c low found) (refl, refl)))
+    All-cons (λ (t : Step). LeavesLog t.kind) (scan_step c word) (mark_steps c own marks c.seats ++ grace_step c low found ∷ []) (refl, refl)
+    (All-append (λ (t : Step). LeavesLog t.kind) (mark_steps c own marks c.seats) (grace_step c low found ∷ []) (marks_plain c own marks c.seats) (one_leaves (grace_step c low found) (refl, refl)))
 
-pub scanned : (c : Config) (v w : View) (l : Noted) (mark : Watermark) (clock before after : ℕ) → IsOutside c v l → Scans c v w mark clock before after → IsOutside c w l
+pub scanned : (c : Config) (v w : View) (l : Noted) (mark : Watermark) (clock before after : ℕ) → IsOutside c v l
+    → Scans c v w mark clock before after → IsOutside c w l
 scanned c v w l mark clock before after o s =
     let is = s.view in
     record {
       may = record { outside = ap (λ (u : View). u.phase) is ∙ o.may.outside; no_scan = ap (λ (u : View). u.scan) is };
-      stands = stands_plain c v w l o.stands (ap (λ (u : View). u.number) is) (ap (λ (u : View). u.ring) is) (ap (λ (u : View). u.past.mine) is) (ap (λ (u : View). u.past.rests) is) (scan_steps c v.number s.word s.marks mark.low s.found) (ap (λ (u : View). u.trail) is) (scan_plain c v.number s.word s.marks mark.low s.found);
+      stands = stands_left c v w l o.stands (ap (λ (u : View). u.number) is) (ap (λ (u : View). u.ring) is) (ap (λ (u : View). u.past.mine) is)
+          (ap (λ (u : View). u.past.rests) is) (scan_steps c v.number s.word s.marks mark.low s.found) (ap (λ (u : View). u.trail) is)
+          (scan_plain c v.number s.word s.marks mark.low s.found);
       unbuilt = o.unbuilt;
     }
 
@@ -124,6 +129,7 @@ known c v w l time o is =
     let s : Step = record { kind = LoadGrace; word = place_of c Grace; found = Some time; stored = None } in
     record {
       may = record { outside = ap (λ (u : View). u.phase) is ∙ o.may.outside; no_scan = ap (λ (u : View). u.scan) is ∙ o.may.no_scan };
-      stands = stands_plain c v w l o.stands (ap (λ (u : View). u.number) is) (ap (λ (u : View). u.ring) is) (ap (λ (u : View). u.past.mine) is) (ap (λ (u : View). u.past.rests) is) (s ∷ []) (ap (λ (u : View). u.trail) is) (one_plain s (refl, refl));
+      stands = stands_left c v w l o.stands (ap (λ (u : View). u.number) is) (ap (λ (u : View). u.ring) is) (ap (λ (u : View). u.past.mine) is)
+          (ap (λ (u : View). u.past.rests) is) (s ∷ []) (ap (λ (u : View). u.trail) is) (one_leaves s (refl, refl));
       unbuilt = o.unbuilt;
     }

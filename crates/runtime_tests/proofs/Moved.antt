@@ -1,13 +1,10 @@
 -- Where each move leaves a client.
-use Rattle.std.proofs.Common.{◌≡◌, ℕ, List, [], ◌∷◌, ◌++◌, refl, sym, ap, ◌∙◌, subst, Option, Some, None}
+use Rattle.std.proofs.Common.{◌≡◌, ℕ, List, refl, sym, ap, ◌∙◌, subst, Option, Some, None}
 use Rattle.std.specs.Prelude.{Contains}
 use Rattle.mv_history.specs.declared.Entry.{Entry}
-use Rattle.mv_history.specs.declared.Step.{Step}
 use Rattle.mv_history.specs.declared.StepKind.{StepKind}
-use Rattle.mv_history.specs.declared.StepKind.TheVariants.{ClearMark}
+use Rattle.mv_history.specs.declared.StepKind.TheVariants.{LoadHead, LoadFirst, LoadStamp, LoadPrev}
 use Rattle.mv_layout.specs.declared.Config.{Config}
-use Rattle.mv_layout.specs.declared.Place.TheVariants.{Mark}
-use Rattle.mv_layout.specs.Places.{place_of}
 use Rattle.mv_core.specs.declared.view.View.{View}
 use Rattle.mv_core.specs.declared.view.Heard.{Heard}
 use Rattle.mv_core.specs.declared.view.Section.{Section}
@@ -18,21 +15,17 @@ use Rattle.commit_clock.specs.Helps.{HasLoaded, Helps}
 use Rattle.reader_marks.specs.Sections.{Begins, IsOpen}
 use Rattle.seat_log.specs.Notes.{Noted}
 use Rattle.seat_log.specs.Stands.{Stands}
-use Rattle.version_chain.specs.Walks.{inside_of, section_in, MayWalk, Walks}
+use Rattle.seat_log.proofs.PlainSteps.{LeavesLog, stands_left, stands_entered, stands_unmarked, kinds_leave, kind_leaves}
+use Rattle.version_chain.specs.Walks.{inside_of, section_in, MayWalk, IsWalkStep, Walks}
 use Rattle.version_chain.specs.Reads.{Reads}
 use Rattle.mv_history.specs.declared.answers.LockAnswer.{LockAnswer}
 use Rattle.object_lock.specs.declared.locking.StartedLock.{StartedLock}
 use Rattle.object_lock.specs.Locks.{IsStarted, Outcome}
 use Rattle.object_lock.specs.Tops.{Tries}
 use Rattle.object_lock.specs.Writes.{Stores}
-use Rattle.commit_abort.proofs.Tried.{stands_still, stands_next, phase_next, helped_next}
+use Rattle.commit_abort.proofs.Tried.{stands_next, phase_next, helped_next}
 use Rattle.runtime_tests.specs.Clients.{IsOutside, IsInside, HasStarted}
 use Rattle.runtime_tests.proofs.Begun.{may_walk}
-use Rattle.runtime_tests.proofs.StepKinds.{ArePlain, IsPlain, enters_plain, walks_plain, reads_plain, one_plain, none_free, none_cut}
-
--- the log stands after steps that leave it alone
-pub stands_plain : (c : Config) (v w : View) (l : Noted) → Stands c v l → w.number ≡ v.number → w.ring ≡ v.ring → w.past.mine ≡ v.past.mine → w.past.rests ≡ v.past.rests → (steps : List Step) → w.trail ≡ v.trail ++ steps → ArePlain steps → Stands c w l
-stands_plain c v w l k number ring mine rests steps trail plain = stands_still c v w l k number ring mine rests steps trail (none_free steps plain) (none_cut steps plain)
 
 pub walks_in : (w : View) (inside : Section) → IsWalking w inside → MayWalk w
 walks_in w inside walking = subst (IsWalking w) (sym (ap inside_of walking.phase)) walking
@@ -41,7 +34,7 @@ pub entered : (c : Config) (v w : View) (l : Noted) (time : ℕ) → IsOutside c
 entered c v w l time o b = record {
   may = may_walk c v w time b;
   no_scan = ap (λ (u : View). u.scan) b.rest ∙ o.may.no_scan;
-  stands = stands_plain c v w l o.stands (ap (λ (u : View). u.number) b.rest) (ap (λ (u : View). u.ring) b.rest) (ap (λ (u : View). u.past.mine) b.rest) (ap (λ (u : View). u.past.rests) b.rest) b.entered.steps b.entered.trail (enters_plain b.entered.steps b.entered.kinds);
+  stands = stands_entered c v w l time b o.stands;
   unbuilt = o.unbuilt;
   helped = λ x e. absurd cc;
 }
@@ -51,47 +44,58 @@ pub may_leave : (c : Config) (v : View) (l : Noted) (word : Option ℕ) → IsIn
 may_leave c v l word i none = record { inside = section_in v; phase = i.may.phase; open_is = i.may.open_is; nothing = none_held v.ring (i.stands.held ∙ none) }
 
 pub left : (c : Config) (v w : View) (l : Noted) (word : Option ℕ) → IsInside c v l word → w ≡ mark_cleared c v → IsOutside c w l
-left c v w l word i is =
-    let s : Step = record { kind = ClearMark; word = place_of c (Mark v.number); found = None; stored = Some 0 } in
-    record {
-      may = record { outside = ap (λ (u : View). u.phase) is; no_scan = ap (λ (u : View). u.scan) is ∙ i.no_scan };
-      stands = stands_plain c v w l i.stands (ap (λ (u : View). u.number) is) (ap (λ (u : View). u.ring) is) (ap (λ (u : View). u.past.mine) is) (ap (λ (u : View). u.past.rests) is) (s ∷ []) (ap (λ (u : View). u.trail) is) (one_plain s (refl, refl));
-      unbuilt = i.unbuilt;
-    }
-
-pub walked : (c : Config) (v w : View) (l : Noted) (word : Option ℕ) (before after : ℕ) → IsInside c v l word → Walks v w before after → MayWalk w → IsInside c w l word
-walked c v w l word before after i k may = record {
-  may = may;
-  no_scan = ap (λ (u : View). u.scan) k.rest ∙ i.no_scan;
-  stands = stands_plain c v w l i.stands (ap (λ (u : View). u.number) k.rest) (ap (λ (u : View). u.ring) k.rest) (ap (λ (u : View). u.past.mine) k.rest) (ap (λ (u : View). u.past.rests) k.rest) k.trail.0 k.trail.1 (walks_plain k.trail.0 k.trail.3);
+left c v w l word i is = record {
+  may = record { outside = ap (λ (u : View). u.phase) is; no_scan = ap (λ (u : View). u.scan) is ∙ i.no_scan };
+  stands = subst (λ (u : View). Stands c u l) (sym is) (stands_unmarked c v l i.stands);
   unbuilt = i.unbuilt;
-  helped = subst (λ (h : Heard). (x : ℕ) → word ≡ Some x → Contains h.loaded x × Contains h.helped x) (sym (ap (λ (u : View). u.heard) k.rest)) i.helped;
 }
 
-pub has_read : (c : Config) (kind : StepKind) → IsPlain kind → (v w : View) (l : Noted) (word : Option ℕ) → IsInside c v l word → Reads kind v w → MayWalk w → IsInside c w l word
-has_read c kind plain v w l word i r may = record {
-  may = may;
-  no_scan = ap (λ (u : View). u.scan) r.rest ∙ i.no_scan;
-  stands = stands_plain c v w l i.stands (ap (λ (u : View). u.number) r.rest) (ap (λ (u : View). u.ring) r.rest) (ap (λ (u : View). u.past.mine) r.rest) (ap (λ (u : View). u.past.rests) r.rest) r.trail.0 r.trail.1 (reads_plain kind plain r.trail.0 r.trail.3);
-  unbuilt = i.unbuilt;
-  helped = subst (λ (h : Heard). (x : ℕ) → word ≡ Some x → Contains h.loaded x × Contains h.helped x) (sym (ap (λ (u : View). u.heard) r.rest)) i.helped;
-}
+-- the steps of a walk leave the log alone
+walk_leaves : (k : StepKind) → IsWalkStep k → LeavesLog k
+walk_leaves LoadHead h = (refl, refl)
+walk_leaves LoadFirst h = (refl, refl)
+walk_leaves LoadStamp h = (refl, refl)
+walk_leaves LoadPrev h = (refl, refl)
+walk_leaves _ h = absurd h
 
-pub tried : (c : Config) (v w : View) (l m : Noted) (word : Option ℕ) (before after : ℕ) → IsInside c v l word → Tries v w before after → MayWalk w → Stands c w m → m.built ≡ None → IsInside c w m word
-tried c v w l m word before after i t may stands unbuilt = record {
+-- a section goes on after what leaves its scan and the clock words heard as they were
+still_inside : (c : Config) (v w : View) (l m : Noted) (word : Option ℕ) → IsInside c v l word → w.scan ≡ v.scan → w.heard ≡ v.heard → MayWalk w
+    → Stands c w m → m.built ≡ None → IsInside c w m word
+still_inside c v w l m word i scan heard may stands unbuilt = record {
   may = may;
-  no_scan = ap (λ (u : View). u.scan) t.rest ∙ i.no_scan;
+  no_scan = scan ∙ i.no_scan;
   stands = stands;
   unbuilt = unbuilt;
-  helped = subst (λ (h : Heard). (x : ℕ) → word ≡ Some x → Contains h.loaded x × Contains h.helped x) (sym (ap (λ (u : View). u.heard) t.rest)) i.helped;
+  helped = subst (λ (h : Heard). (x : ℕ) → word ≡ Some x → Contains h.loaded x × Contains h.helped x) (sym heard) i.helped;
 }
 
+pub walked : (c : Config) (v w : View) (l : Noted) (word : Option ℕ) (before after : ℕ) → IsInside c v l word → Walks v w before after → MayWalk w
+    → IsInside c w l word
+walked c v w l word before after i k may =
+    still_inside c v w l l word i (ap (λ (u : View). u.scan) k.rest) (ap (λ (u : View). u.heard) k.rest) may
+    (stands_left c v w l i.stands (ap (λ (u : View). u.number) k.rest) (ap (λ (u : View). u.ring) k.rest) (ap (λ (u : View). u.past.mine) k.rest)
+    (ap (λ (u : View). u.past.rests) k.rest) k.trail.0 k.trail.1 (kinds_leave IsWalkStep walk_leaves k.trail.0 k.trail.3)) i.unbuilt
+
+pub has_read : (c : Config) (kind : StepKind) → LeavesLog kind → (v w : View) (l : Noted) (word : Option ℕ) → IsInside c v l word → Reads kind v w
+    → MayWalk w → IsInside c w l word
+has_read c kind leaves v w l word i r may =
+    still_inside c v w l l word i (ap (λ (u : View). u.scan) r.rest) (ap (λ (u : View). u.heard) r.rest) may
+    (stands_left c v w l i.stands (ap (λ (u : View). u.number) r.rest) (ap (λ (u : View). u.ring) r.rest) (ap (λ (u : View). u.past.mine) r.rest)
+    (ap (λ (u : View). u.past.rests) r.rest) r.trail.0 r.trail.1 (kind_leaves kind leaves r.trail.0 r.trail.3)) i.unbuilt
+
+pub tried : (c : Config) (v w : View) (l m : Noted) (word : Option ℕ) (before after : ℕ) → IsInside c v l word → Tries v w before after → MayWalk w
+    → Stands c w m → m.built ≡ None → IsInside c w m word
+tried c v w l m word before after i t may stands unbuilt =
+    still_inside c v w l m word i (ap (λ (u : View). u.scan) t.rest) (ap (λ (u : View). u.heard) t.rest) may stands unbuilt
+
 -- a lock was begun: a version of the object is built
-pub has_started : (c : Config) (v w : View) (l m : Noted) (word : Option ℕ) (before after : ℕ) (lock : StartedLock) → IsInside c v l word → Tries v w before after → IsStarted c w m lock → HasStarted c w m lock
+pub has_started : (c : Config) (v w : View) (l m : Noted) (word : Option ℕ) (before after : ℕ) (lock : StartedLock) → IsInside c v l word
+    → Tries v w before after → IsStarted c w m lock → HasStarted c w m lock
 has_started c v w l m word before after lock i t started = record { started = started; no_scan = ap (λ (u : View). u.scan) t.rest ∙ i.no_scan }
 
 -- and ended
-pub has_ended : (c : Config) (v w : View) (l m : Noted) (object before after : ℕ) (lock : StartedLock) (answer : LockAnswer) → HasStarted c v l lock → Outcome c v w m object answer before after → IsInside c w m None
+pub has_ended : (c : Config) (v w : View) (l m : Noted) (object before after : ℕ) (lock : StartedLock) (answer : LockAnswer) → HasStarted c v l lock
+    → Outcome c v w m object answer before after → IsInside c w m None
 has_ended c v w l m object before after lock answer k o = record {
   may = o.may;
   no_scan = ap (λ (u : View). u.scan) o.tries.rest ∙ k.no_scan;
@@ -100,17 +104,14 @@ has_ended c v w l m object before after lock answer k o = record {
   helped = λ x e. absurd cc;
 }
 
-pub written : (c : Config) (v w : View) (l m : Noted) (word : Option ℕ) (n : ℕ) → IsInside c v l word → Stores v w n → MayWalk w → Stands c w m → m.built ≡ None → IsInside c w m word
-written c v w l m word n i s may stands unbuilt = record {
-  may = may;
-  no_scan = ap (λ (u : View). u.scan) s.rest ∙ i.no_scan;
-  stands = stands;
-  unbuilt = unbuilt;
-  helped = subst (λ (h : Heard). (x : ℕ) → word ≡ Some x → Contains h.loaded x × Contains h.helped x) (sym (ap (λ (u : View). u.heard) s.rest)) i.helped;
-}
+pub written : (c : Config) (v w : View) (l m : Noted) (word : Option ℕ) (n : ℕ) → IsInside c v l word → Stores v w n → MayWalk w → Stands c w m
+    → m.built ≡ None → IsInside c w m word
+written c v w l m word n i s may stands unbuilt =
+    still_inside c v w l m word i (ap (λ (u : View). u.scan) s.rest) (ap (λ (u : View). u.heard) s.rest) may stands unbuilt
 
 -- CLOCK was loaded, and its word helped
-pub loaded : (c : Config) (v x y : View) (l : Noted) (old : Option ℕ) (word : ℕ) (h : List Entry) → IsInside c v l old → IsWhole c v word h → x ≡ check_loaded c v word h → HasLoaded c x word → Helps c x y word → IsInside c y l (Some word)
+pub loaded : (c : Config) (v x y : View) (l : Noted) (old : Option ℕ) (word : ℕ) (h : List Entry) → IsInside c v l old → IsWhole c v word h
+    → x ≡ check_loaded c v word h → HasLoaded c x word → Helps c x y word → IsInside c y l (Some word)
 loaded c v x y l old word h i whole is has helps =
     let inside : Section = section_in v in
     let back = ap (λ (u : View). u.back) helps.rest ∙ ap (λ (u : View). u.back) is ∙ i.may.no_back in
@@ -124,5 +125,7 @@ loaded c v x y l old word h i whole is has helps =
       no_scan = ap (λ (u : View). u.scan) helps.rest ∙ ap (λ (u : View). u.scan) is ∙ i.no_scan;
       stands = stands_next c v x word h whole is inside i.may.phase i.may.helped y helps i.may.open_is l i.stands;
       unbuilt = i.unbuilt;
-      helped = λ w e. let same : word ≡ w = cc in subst (λ n. Contains y.heard.loaded n × Contains y.heard.helped n) same (helps.still_loaded word has.loaded, helps.helped);
+      helped = λ w e.
+          let same : word ≡ w = cc in
+          subst (λ n. Contains y.heard.loaded n × Contains y.heard.helped n) same (helps.still_loaded word has.loaded, helps.helped);
     }

@@ -22,9 +22,9 @@ use Rattle.version_chain.specs.Walks.{section_in}
 use Rattle.commit_abort.specs.Commits.{MayCommit, Commits, IsKept}
 use Rattle.commit_abort.specs.Finishes.{Finishes}
 use Rattle.commit_abort.specs.Aborts.{IsOpen, Aborts}
+use Rattle.seat_log.proofs.PlainSteps.{stands_left, one_leaves}
 use Rattle.runtime_tests.specs.Clients.{IsOutside, IsInside, HasJustNamed}
-use Rattle.runtime_tests.proofs.Moved.{stands_plain, walks_in}
-use Rattle.runtime_tests.proofs.StepKinds.{one_plain}
+use Rattle.runtime_tests.proofs.Moved.{walks_in}
 
 -- rules that allow every commit
 abbrev pub allows_any : List ℕ → State → Writes → Type 0
@@ -33,7 +33,8 @@ allows_any tag before writes = ⊤
 some_held : (c : Config) (v : View) (l : Noted) → Stands c v l → 0 < l.held → 0 < held_count v.ring
 some_held c v l k some = let e = k.held in omega arith
 
-pub may_name : (c : Config) (v : View) (l : Noted) (word : ℕ) (tag : List ℕ) → IsInside c v l (Some word) → 0 < l.held → clock_time_of word < 35184372088831 → MayNameCommit allows_any c v word tag (section_in v)
+pub may_name : (c : Config) (v : View) (l : Noted) (word : ℕ) (tag : List ℕ) → IsInside c v l (Some word) → 0 < l.held
+    → clock_time_of word < 35184372088831 → MayNameCommit allows_any c v word tag (section_in v)
 may_name c v l word tag i some room = record {
   phase = i.may.phase;
   open_is = i.may.open_is;
@@ -45,7 +46,8 @@ may_name c v l word tag i some room = record {
   fit = λ s drifts. tt;
 }
 
-pub just_named : (c : Config) (v w : View) (l : Noted) (word time : ℕ) (tag : List ℕ) → IsInside c v l (Some word) → 0 < l.held → clock_time_of word < 35184372088831 → NamesCommit c v (section_in v) tag word (Done time) w → LogTold c v word → HasJustNamed c w l time
+pub just_named : (c : Config) (v w : View) (l : Noted) (word time : ℕ) (tag : List ℕ) → IsInside c v l (Some word) → 0 < l.held
+    → clock_time_of word < 35184372088831 → NamesCommit c v (section_in v) tag word (Done time) w → LogTold c v word → HasJustNamed c w l time
 just_named c v w l word time tag i some room names log = record {
   won = record { before = v; inside = section_in v; tag = tag; word = word; history = names.1.0 };
   named = record { phase = i.may.phase; some = some_held c v l i.stands some; named = names.1.2; log = log; stands = i.stands; unbuilt = i.unbuilt };
@@ -54,7 +56,8 @@ just_named c v w l word time tag i some room names log = record {
   no_scan = ap (λ (u : View). u.scan) names.1.2 ∙ i.no_scan;
 }
 
-pub name_lost : (c : Config) (v w : View) (l : Noted) (word : ℕ) (tag : List ℕ) (rival : Rival) → IsInside c v l (Some word) → NamesCommit c v (section_in v) tag word (Lost rival) w → IsInside c w l None
+pub name_lost : (c : Config) (v w : View) (l : Noted) (word : ℕ) (tag : List ℕ) (rival : Rival) → IsInside c v l (Some word)
+    → NamesCommit c v (section_in v) tag word (Lost rival) w → IsInside c w l None
 name_lost c v w l word tag rival i names =
     let found = names.0 in
     let is = names.3 in
@@ -63,27 +66,33 @@ name_lost c v w l word tag rival i names =
       may = walks_in w (section_in v) (record {
         phase = ap (λ (u : View). u.phase) is ∙ i.may.phase;
         open_is = i.may.open_is;
-        helped = subst (λ (u : View). Contains u.heard.helped (section_in v).word) (sym is) (Contains-append_left v.heard.helped (if_none found) (section_in v).word i.may.helped);
+        helped = subst (λ (u : View). Contains u.heard.helped (section_in v).word) (sym is)
+            (Contains-append_left v.heard.helped (if_none found) (section_in v).word i.may.helped);
         no_back = ap (λ (u : View). u.back) is ∙ i.may.no_back;
       });
       no_scan = ap (λ (u : View). u.scan) is ∙ i.no_scan;
-      stands = stands_plain c v w l i.stands (ap (λ (u : View). u.number) is) (ap (λ (u : View). u.ring) is) (ap (λ (u : View). u.past.mine) is) (ap (λ (u : View). u.past.rests) is) (s ∷ []) (ap (λ (u : View). u.trail) is) (one_plain s (refl, refl));
+      stands = stands_left c v w l i.stands (ap (λ (u : View). u.number) is) (ap (λ (u : View). u.ring) is) (ap (λ (u : View). u.past.mine) is)
+          (ap (λ (u : View). u.past.rests) is) (s ∷ []) (ap (λ (u : View). u.trail) is) (one_leaves s (refl, refl));
       unbuilt = i.unbuilt;
       helped = λ x e. absurd cc;
     }
 
 -- outside again, where nothing is being built
-pub finished : (c : Config) (v w : View) (l m : Noted) (time most : ℕ) → HasJustNamed c v l time → Finishes v w most → m ≡ committed_noted l time → Stands c w m → IsOutside c w m
+pub finished : (c : Config) (v w : View) (l m : Noted) (time most : ℕ) → HasJustNamed c v l time → Finishes v w most → m ≡ committed_noted l time
+    → Stands c w m → IsOutside c w m
 finished c v w l m time most named ends noted stands = record {
   may = record { outside = ends.outside; no_scan = ap (λ (u : View). u.scan) ends.rest ∙ named.no_scan };
   stands = stands;
   unbuilt = ap (λ (k : Noted). k.built) noted ∙ named.named.unbuilt;
 }
 
-pub may_commit : (c : Config) (v : View) (l : Noted) (word : Option ℕ) (tag : List ℕ) → IsInside c v l word → 0 < l.held → MayCommit allows_any c v tag (section_in v)
-may_commit c v l word tag i some = record { phase = i.may.phase; open_is = i.may.open_is; past_help = i.may.helped; some_held = some_held c v l i.stands some; fit = λ s drifts. tt }
+pub may_commit : (c : Config) (v : View) (l : Noted) (word : Option ℕ) (tag : List ℕ) → IsInside c v l word → 0 < l.held
+    → MayCommit allows_any c v tag (section_in v)
+may_commit c v l word tag i some =
+    record { phase = i.may.phase; open_is = i.may.open_is; past_help = i.may.helped; some_held = some_held c v l i.stands some; fit = λ s drifts. tt }
 
-pub committed : (c : Config) (v w : View) (l m : Noted) (word : Option ℕ) (tag : List ℕ) (time : ℕ) → IsInside c v l word → Commits c v w (section_in v) tag time → m ≡ committed_noted l time → Stands c w m → IsOutside c w m
+pub committed : (c : Config) (v w : View) (l m : Noted) (word : Option ℕ) (tag : List ℕ) (time : ℕ) → IsInside c v l word
+    → Commits c v w (section_in v) tag time → m ≡ committed_noted l time → Stands c w m → IsOutside c w m
 committed c v w l m word tag time i ends noted stands = record {
   may = record { outside = ends.outside; no_scan = ap (λ (u : View). u.scan) ends.rest ∙ i.no_scan };
   stands = stands;
@@ -91,7 +100,8 @@ committed c v w l m word tag time i ends noted stands = record {
 }
 
 -- still in the section, where no commit was made
-pub kept : (c : Config) (v w : View) (l m : Noted) (word : Option ℕ) → IsInside c v l word → IsKept v w (section_in v) → m ≡ l → Stands c w m → IsInside c w m None
+pub kept : (c : Config) (v w : View) (l m : Noted) (word : Option ℕ) → IsInside c v l word → IsKept v w (section_in v) → m ≡ l → Stands c w m
+    → IsInside c w m None
 kept c v w l m word i is noted stands = record {
   may = walks_in w (section_in v) (record {
     phase = ap (λ (u : View). u.phase) is.rest ∙ i.may.phase;
@@ -108,7 +118,8 @@ kept c v w l m word i is noted stands = record {
 pub may_abort : (c : Config) (v : View) (l : Noted) (word : Option ℕ) → IsInside c v l word → IsOpen v (section_in v)
 may_abort c v l word i = record { phase = i.may.phase; open_is = i.may.open_is }
 
-pub aborted : (c : Config) (v w : View) (l m : Noted) (word : Option ℕ) (most dead : ℕ) → IsInside c v l word → Aborts v w most → m ≡ aborted_noted l dead → Stands c w m → IsOutside c w m
+pub aborted : (c : Config) (v w : View) (l m : Noted) (word : Option ℕ) (most dead : ℕ) → IsInside c v l word → Aborts v w most
+    → m ≡ aborted_noted l dead → Stands c w m → IsOutside c w m
 aborted c v w l m word most dead i ends noted stands = record {
   may = record { outside = ends.outside; no_scan = ap (λ (u : View). u.scan) ends.rest ∙ i.no_scan };
   stands = stands;

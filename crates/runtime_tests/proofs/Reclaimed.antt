@@ -22,12 +22,12 @@ use Rattle.log_reclaim.specs.Parts.{Reclaims, Shrinks}
 use Rattle.log_reclaim.proofs.OneNote.{note_of, note_is, position_is, place_is}
 use Rattle.log_reclaim.proofs.Reclaiming.{reclaims_may}
 use Rattle.log_reclaim.proofs.Visits.{looked_rest, looked_stands, left_steps, left_makes, left_stands}
+use Rattle.seat_log.proofs.PlainSteps.{stands_left, one_leaves}
 use Rattle.runtime_tests.specs.Clients.{IsOutside, IsWritingBack}
-use Rattle.runtime_tests.proofs.Moved.{stands_plain}
-use Rattle.runtime_tests.proofs.StepKinds.{one_plain}
 
 -- slots were reclaimed
-pub reclaimed : (c : Config) (v w : View) (l m : Noted) (made : List Step) (freed : ℕ) → IsOutside c v l → Reclaims v w made → Shrinks l m freed → Stands c w m → IsOutside c w m
+pub reclaimed : (c : Config) (v w : View) (l m : Noted) (made : List Step) (freed : ℕ) → IsOutside c v l → Reclaims v w made → Shrinks l m freed
+    → Stands c w m → IsOutside c w m
 reclaimed c v w l m made freed o reclaims shrinks stands = record {
   may = record { outside = reclaims.outside; no_scan = reclaims.no_scan };
   stands = stands;
@@ -35,7 +35,8 @@ reclaimed c v w l m made freed o reclaims shrinks stands = record {
 }
 
 -- a committed version of the log may be written back
-pub may_start : (c : Config) (v : View) (l : Noted) (index : ℕ) (n : Note) → Stands c v l → IsNoteAt l index n → 0 < n.time → IsCommitted l n.position (note_of l n.position)
+pub may_start : (c : Config) (v : View) (l : Noted) (index : ℕ) (n : Note) → Stands c v l → IsNoteAt l index n → 0 < n.time
+    → IsCommitted l n.position (note_of l n.position)
 may_start c v l index n k at committed =
     subst (IsCommitted l n.position) (sym (note_is c v l k index n at))
     (record {
@@ -45,7 +46,8 @@ may_start c v l index n k at committed =
     })
 
 -- a write-back has started
-pub back_started : (c : Config) (v w : View) (l : Noted) (object link : ℕ) (back : Back) → IsOutside c v l → HasLooked c v w object link → IsWriting c w back → IsWritingBack c w l
+pub back_started : (c : Config) (v w : View) (l : Noted) (object link : ℕ) (back : Back) → IsOutside c v l → HasLooked c v w object link
+    → IsWriting c w back → IsWritingBack c w l
 back_started c v w l object link back o looked is = record {
   opened = record { inside = is.inside; phase = is.phase; open_is = is.open_is; nothing = is.nothing };
   between = record {
@@ -64,7 +66,8 @@ back_refused c v w l n link o a = record {
 }
 
 -- none has started
-pub back_not_started : (c : Config) (v w : View) (l : Noted) (n : Note) (mark : Watermark) (before after : ℕ) (cause : NoBack) → IsOutside c v l → StartsSo c v w l n mark before after (Err cause) → IsOutside c w l
+pub back_not_started : (c : Config) (v w : View) (l : Noted) (n : Note) (mark : Watermark) (before after : ℕ) (cause : NoBack) → IsOutside c v l
+    → StartsSo c v w l n mark before after (Err cause) → IsOutside c w l
 back_not_started c v w l n mark before after Young o s = subst (λ (u : View). IsOutside c u l) (sym s.1) o
 back_not_started c v w l n mark before after Gone o s = back_refused c v w l n 0 o s.1
 back_not_started c v w l n mark before after (Above seat) o s = back_refused c v w l n s.1 o s.2
@@ -79,13 +82,15 @@ back_stored c v w l b d k is stores =
       opened = record { inside = is.inside; phase = is.phase; open_is = is.open_is; nothing = is.nothing };
       between = record {
         no_scan = ap (λ (u : View). u.scan) view ∙ e.no_scan;
-        stands = stands_plain c v w l e.stands (ap (λ (u : View). u.number) view) (ap (λ (u : View). u.ring) view) (ap (λ (u : View). u.past.mine) view) (ap (λ (u : View). u.past.rests) view) (s ∷ []) (ap (λ (u : View). u.trail) view) (one_plain s (refl, refl));
+        stands = stands_left c v w l e.stands (ap (λ (u : View). u.number) view) (ap (λ (u : View). u.ring) view) (ap (λ (u : View). u.past.mine) view)
+            (ap (λ (u : View). u.past.rests) view) (s ∷ []) (ap (λ (u : View). u.trail) view) (one_leaves s (refl, refl));
         unbuilt = e.unbuilt;
       };
     }
 
 -- it has ended
-pub back_ended : (c : Config) (v w : View) (l m : Noted) (back : Back) (ended : BackEnd) → IsWritingBack c v l → FinishesSo c v w l m back ended → Stands c w m → IsOutside c w m
+pub back_ended : (c : Config) (v w : View) (l m : Noted) (back : Back) (ended : BackEnd) → IsWritingBack c v l → FinishesSo c v w l m back ended
+    → Stands c w m → IsOutside c w m
 back_ended c v w l m back end.Cut k f stands = record {
   may = record { outside = ap (λ (u : View). u.phase) f.view; no_scan = ap (λ (u : View). u.scan) f.view ∙ k.between.no_scan };
   stands = stands;
@@ -104,6 +109,7 @@ back_given_up c v w l k is =
     let e = k.between in
     record {
       may = record { outside = ap (λ (u : View). u.phase) is; no_scan = ap (λ (u : View). u.scan) is ∙ e.no_scan };
-      stands = stands_plain c v w l e.stands (ap (λ (u : View). u.number) is) (ap (λ (u : View). u.ring) is) (ap (λ (u : View). u.past.mine) is) (ap (λ (u : View). u.past.rests) is) (s ∷ []) (ap (λ (u : View). u.trail) is) (one_plain s (refl, refl));
+      stands = stands_left c v w l e.stands (ap (λ (u : View). u.number) is) (ap (λ (u : View). u.ring) is) (ap (λ (u : View). u.past.mine) is)
+          (ap (λ (u : View). u.past.rests) is) (s ∷ []) (ap (λ (u : View). u.trail) is) (one_leaves s (refl, refl));
       unbuilt = e.unbuilt;
     }

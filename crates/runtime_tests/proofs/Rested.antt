@@ -1,5 +1,5 @@
 -- Where loading the clock outside a section, helping its word and naming a rest leave a client.
-use Rattle.std.proofs.Common.{◌≡◌, ℕ, ◌+◌, ◌^◌, ◌<◌, List, [], ◌∷◌, refl, sym, ap, ◌∙◌, subst, ⊎_elim, Some, None}
+use Rattle.std.proofs.Common.{◌≡◌, ℕ, ◌+◌, ◌^◌, ◌<◌, List, [], ◌∷◌, refl, sym, ap, ◌∙◌, subst, Some, None}
 use Rattle.mv_history.specs.declared.Entry.{Entry}
 use Rattle.mv_history.specs.declared.Step.{Step}
 use Rattle.mv_history.specs.declared.StepKind.TheVariants.{LoadCheck}
@@ -10,39 +10,33 @@ use Rattle.mv_layout.specs.Places.{place_of}
 use Rattle.mv_layout.specs.Words.{clock_time_of}
 use Rattle.mv_core.specs.declared.view.View.{View}
 use Rattle.mv_core.specs.declared.view.Past.{Past}
-use Rattle.mv_core.specs.declared.view.Phase.TheVariants.{Outside, Inside}
+use Rattle.mv_core.specs.declared.view.Phase.TheVariants.{Outside}
 use Rattle.mv_core.specs.EnterSteps.{check_loaded}
 use Rattle.mv_core.specs.NameSteps.{MayNameRest}
-use Rattle.commit_clock.specs.Helps.{HasLoaded, StampsOwn, Helps}
+use Rattle.commit_clock.specs.Helps.{HasLoaded, IsHelpStep, Helps}
 use Rattle.commit_clock.specs.Names.{NamesRest}
 use Rattle.commit_clock.specs.declared.naming.Named.TheVariants.{Done, Lost}
 use Rattle.seat_log.specs.Notes.{Noted, rest_noted}
 use Rattle.seat_log.specs.Stands.{Stands}
 use Rattle.seat_log.proofs.Rested.{stands_rested, stands_unrested}
+use Rattle.commit_clock.proofs.HelpedPhase.{still_outside}
+use Rattle.seat_log.proofs.PlainSteps.{stands_left, kinds_leave, one_leaves, help_leaves}
 use Rattle.runtime_tests.specs.Clients.{IsOutside, HasClock, HasHelpedClock}
-use Rattle.runtime_tests.proofs.Moved.{stands_plain}
-use Rattle.runtime_tests.proofs.StepKinds.{helps_plain, one_plain}
 
 -- CLOCK was loaded
-pub clock_taken : (c : Config) (v w : View) (l : Noted) (word : ℕ) (h : List Entry) → IsOutside c v l → w ≡ check_loaded c v word h → HasLoaded c w word → HasClock c w l word
+pub clock_taken : (c : Config) (v w : View) (l : Noted) (word : ℕ) (h : List Entry) → IsOutside c v l → w ≡ check_loaded c v word h
+    → HasLoaded c w word → HasClock c w l word
 clock_taken c v w l word h o is loaded =
     let s : Step = record { kind = LoadCheck; word = place_of c Clock; found = Some word; stored = None } in
     record {
       outside = record {
         may = record { outside = ap (λ (u : View). u.phase) is ∙ o.may.outside; no_scan = ap (λ (u : View). u.scan) is ∙ o.may.no_scan };
-        stands = stands_plain c v w l o.stands (ap (λ (u : View). u.number) is) (ap (λ (u : View). u.ring) is) (ap (λ (u : View). u.past.mine) is) (ap (λ (u : View). u.past.rests) is) (s ∷ []) (ap (λ (u : View). u.trail) is) (one_plain s (refl, refl));
+        stands = stands_left c v w l o.stands (ap (λ (u : View). u.number) is) (ap (λ (u : View). u.ring) is) (ap (λ (u : View). u.past.mine) is)
+            (ap (λ (u : View). u.past.rests) is) (s ∷ []) (ap (λ (u : View). u.trail) is) (one_leaves s (refl, refl));
         unbuilt = o.unbuilt;
       };
       loaded = loaded;
     }
-
--- a help outside a section leaves the pass there
-still_out : (c : Config) (v w : View) (word : ℕ) → v.phase ≡ Outside → Helps c v w word → w.phase ≡ Outside
-still_out c v w word out helps =
-    ⊎_elim
-    (λ same. same ∙ out)
-    (λ (own : StampsOwn c v w word). let both : Inside own.inside ≡ Outside = sym own.phase ∙ out in absurd cc)
-    helps.phase
 
 -- its word was helped
 pub clock_helped : (c : Config) (v w : View) (l : Noted) (word : ℕ) → HasClock c v l word → Helps c v w word → HasHelpedClock c w l word
@@ -50,8 +44,10 @@ clock_helped c v w l word k helps =
     let o = k.outside in
     record {
       outside = record {
-        may = record { outside = still_out c v w word o.may.outside helps; no_scan = ap (λ (u : View). u.scan) helps.rest ∙ o.may.no_scan };
-        stands = stands_plain c v w l o.stands (ap (λ (u : View). u.number) helps.rest) (ap (λ (u : View). u.ring) helps.rest) (ap (λ (p : Past). p.mine) helps.past.2) (ap (λ (p : Past). p.rests) helps.past.2) helps.trail.0 helps.trail.1 (helps_plain helps.trail.0 helps.trail.3);
+        may = record { outside = still_outside c v w word o.may.outside helps; no_scan = ap (λ (u : View). u.scan) helps.rest ∙ o.may.no_scan };
+        stands = stands_left c v w l o.stands (ap (λ (u : View). u.number) helps.rest) (ap (λ (u : View). u.ring) helps.rest)
+            (ap (λ (p : Past). p.mine) helps.past.2) (ap (λ (p : Past). p.rests) helps.past.2) helps.trail.0 helps.trail.1
+            (kinds_leave IsHelpStep help_leaves helps.trail.0 helps.trail.3);
         unbuilt = o.unbuilt;
       };
       loaded = helps.still_loaded word k.loaded.loaded;
@@ -63,7 +59,8 @@ pub may_rest : (c : Config) (v : View) (l : Noted) (word : ℕ) → HasHelpedClo
 may_rest c v l word k room = record { outside = k.outside.may.outside; loaded = k.loaded; helped = k.helped; room = room }
 
 -- a rest was made, and is noted
-pub rested : (c : Config) (v w : View) (l m : Noted) (word time : ℕ) → HasHelpedClock c v l word → NamesRest c v word (Done time) w → l.rests + 1 < 2 ^ 63 → m ≡ rest_noted l → IsOutside c w m
+pub rested : (c : Config) (v w : View) (l m : Noted) (word time : ℕ) → HasHelpedClock c v l word → NamesRest c v word (Done time) w
+    → l.rests + 1 < 2 ^ 63 → m ≡ rest_noted l → IsOutside c w m
 rested c v w l m word time k names room noted =
     let o = k.outside in
     let is = names.1.2 in
@@ -74,7 +71,8 @@ rested c v w l m word time k names room noted =
     }
 
 -- or its exchange was lost
-pub rest_was_lost : (c : Config) (v w : View) (l : Noted) (word : ℕ) (rival : Rival) → HasHelpedClock c v l word → NamesRest c v word (Lost rival) w → IsOutside c w l
+pub rest_was_lost : (c : Config) (v w : View) (l : Noted) (word : ℕ) (rival : Rival) → HasHelpedClock c v l word → NamesRest c v word (Lost rival) w
+    → IsOutside c w l
 rest_was_lost c v w l word rival k names =
     let o = k.outside in
     let is = names.3 in

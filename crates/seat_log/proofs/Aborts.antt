@@ -52,7 +52,7 @@ unlocked_else v u e k z is unheld =
     ⊎_elim (λ same. same ∙ is) (λ m. let held : true ≡ false = sym (ap is_held m.1) ∙ ap is_held is ∙ unheld in absurd (cc)) (e.each k)
 
 -- the time of death changes nothing of what is held, spare or cut
-held_timed : (d : ℕ) (z : Slot) → is_held (timed d z) ≡ is_held z
+pub held_timed : (d : ℕ) (z : Slot) → is_held (timed d z) ≡ is_held z
 held_timed d Free = refl
 held_timed d (Built b) = refl
 held_timed d (Freeing p q) = refl

@@ -80,9 +80,9 @@ commit_ends c v inside tag word h =
       spare = count_mapped is_spare (committed_slot t) (spare_same t) v.ring.slots;
       cuts = count_mapped is_cut (committed_slot t) (cut_same t) v.ring.slots;
       ended = λ k x e. (
-          Committed (record { time = t; dead = None; cut = false; linked = x.previous == 0 }),
-          slot_mapped (committed_slot t) refl v.ring k ∙ ap (committed_slot t) e,
-          λ n none dead. (refl, (omega arith), refl, noted_none n.dead dead, λ _. refl),
+        Committed (record { time = t; dead = None; cut = false; linked = x.previous == 0 }),
+        slot_mapped (committed_slot t) refl v.ring k ∙ ap (committed_slot t) e,
+        λ n none dead. (refl, (omega arith), refl, noted_none n.dead dead, λ _. refl),
       );
       kept = λ k x st e unheld. (st, stands_there k (Live x st) e unheld, λ n a. a);
       others = λ k z e none. stands_there k z e (unlived z none);

@@ -1,4 +1,5 @@
--- The log stands for the pass after a write-back: its exchange was tried, where it was won the clock was loaded for the time of death, and the section was left.
+-- The log stands for the pass after a write-back: its exchange was tried, where it was won the clock was loaded for the time of death, and the
+-- section was left.
 use Rattle.std.proofs.Common.{◌≡◌, ℕ, suc, ◌+◌, ◌-◌, ◌<◌, ◌≤◌, Bool, true, false, cond, count_by, List, [], ◌∷◌, ◌++◌, length, map, refl, sym, ap, ◌∙◌, arith, Some, None, slice_index_or}
 use Rattle.std.specs.Prelude.{slice_set}
 use Rattle.std.proofs.lemmas.List.{length-set, map-set}
@@ -55,7 +56,8 @@ cut_or_spare (z ∷ zs) =
     omega arith
 
 -- and fewer where one is neither
-less_cut : (r : Ring) (k : ℕ) → k < length r.slots → is_cut (slot_at r k) ≡ false → is_spare (slot_at r k) ≡ false → cut_count r + spare_count r < length r.slots
+less_cut : (r : Ring) (k : ℕ) → k < length r.slots → is_cut (slot_at r k) ≡ false → is_spare (slot_at r k) ≡ false
+    → cut_count r + spare_count r < length r.slots
 less_cut r k within uncut used =
     let cuts : cut_count (put_slot r k Free) ≡ cut_count r = count_same r k Free within is_cut (sym uncut) in
     let spares : spare_count (put_slot r k Free) ≡ spare_count r + 1 = count_more r k Free within is_spare used refl in
@@ -64,7 +66,8 @@ less_cut r k within uncut used =
     omega arith
 
 -- where a live version wasn't cut, fewer chains were cut than versions were ever in one
-pub cuts_room : (c : Config) (v : View) (l : Noted) (k : ℕ) (x : Version) (note : CommitNote) → Stands c v l → slot_at v.ring k ≡ Live x (Committed note) → note.cut ≡ false → l.back < next_of l
+pub cuts_room : (c : Config) (v : View) (l : Noted) (k : ℕ) (x : Version) (note : CommitNote) → Stands c v l
+    → slot_at v.ring k ≡ Live x (Committed note) → note.cut ≡ false → l.back < next_of l
 cuts_room c v l k x note s here uncut =
     let less = less_cut v.ring k (live_within v.ring k x (Committed note) here) (ap is_cut here ∙ uncut) (ap is_spare here) in
     let wide = s.wide in
@@ -73,7 +76,8 @@ cuts_room c v l k x note s here uncut =
     omega arith
 
 -- so one more may be counted after a committed version with no death was noted as dead
-pub note_cut_room : (c : Config) (v : View) (l : Noted) (i : ℕ) (n : Note) (dead : ℕ) → Stands c v l → IsNoteAt l i n → 0 < n.time → n.dead ≡ 0 → (retired l n.position dead).back < next_of (retired l n.position dead)
+pub note_cut_room : (c : Config) (v : View) (l : Noted) (i : ℕ) (n : Note) (dead : ℕ) → Stands c v l → IsNoteAt l i n → 0 < n.time → n.dead ≡ 0
+    → (retired l n.position dead).back < next_of (retired l n.position dead)
 note_cut_room c v l i n dead k is_note time alive =
     let a = committed_at c v l i n k is_note time in
     let room = cuts_room c v l (index_of c n.position) (version_of n) a.0 k a.1 (a.4 alive) in
@@ -85,7 +89,8 @@ map_kept : (f : Slot → Slot) (zs : List Slot) → ((k : ℕ) → f (slice_inde
 map_kept f [] kept = refl
 map_kept f (z ∷ zs) kept = λ i. kept 0 i ∷ map_kept f zs (λ k. kept (suc k)) i
 
-module _ (c : Config) (v : View) (l : Noted) (i : ℕ) (n : Note) (note : CommitNote) (k : Stands c v l) (is_note : IsNoteAt l i n) (here : slot_at v.ring (index_of c n.position) ≡ Live (version_of n) (Committed note)) (alive : n.dead ≡ 0) where
+module _ (c : Config) (v : View) (l : Noted) (i : ℕ) (n : Note) (note : CommitNote) (k : Stands c v l) (is_note : IsNoteAt l i n)
+    (here : slot_at v.ring (index_of c n.position) ≡ Live (version_of n) (Committed note)) (alive : n.dead ≡ 0) where
   within : index_of c n.position < length v.ring.slots
   within = live_within v.ring (index_of c n.position) (version_of n) (Committed note) here
 
@@ -107,7 +112,8 @@ module _ (c : Config) (v : View) (l : Noted) (i : ℕ) (n : Note) (note : Commit
         let old : map (timed d) v.ring.slots ≡ v.ring.slots = map_kept (timed d) v.ring.slots (λ j. unwaiting c v l d k j (slot_at v.ring j) refl) in
         let slots : map (timed d) (slice_set v.ring.slots s (Live (version_of n) (Committed cut))) ≡ slice_set (map (timed d) v.ring.slots) s (timed d (Live (version_of n) (Committed cut))) =
         map-set (timed d) v.ring.slots s (Live (version_of n) (Committed cut)) in
-        (λ q. record v.ring { slots = slots q }) ∙ (λ q. record v.ring { slots = slice_set (old q) s (Live (version_of n) (Committed (record note { dead = death q; cut = true }))) })
+        (λ q. record v.ring { slots = slots q })
+        ∙ (λ q. record v.ring { slots = slice_set (old q) s (Live (version_of n) (Committed (record note { dead = death q; cut = true }))) })
 
     -- the log stands for the pass after the version was written back, with its time of death and one write-back more
     pub stands_cut : Stands c (mark_cleared c (death_loaded c (head_cut c v n.object n.position (version_of n) note) word h)) (back_noted (retired l n.position (clock_time_of word + 1)))
@@ -119,7 +125,8 @@ module _ (c : Config) (v : View) (l : Noted) (i : ℕ) (n : Note) (note : Commit
         let w2 : View = death_loaded c w1 word h in
         let a = as_committed c v l i n k is_note note here in
         let uncut = (no_death c v l i n k is_note note here alive).1 in
-        let one_more : cut_count (put_slot v.ring s (Live (version_of n) (Committed new))) ≡ cut_count v.ring + 1 = count_more v.ring s (Live (version_of n) (Committed new)) within is_cut (ap is_cut here ∙ uncut) refl in
+        let one_more : cut_count (put_slot v.ring s (Live (version_of n) (Committed new))) ≡ cut_count v.ring + 1 =
+        count_more v.ring s (Live (version_of n) (Committed new)) within is_cut (ap is_cut here ∙ uncut) refl in
         let room = cuts_room c v l s (version_of n) note k here uncut in
         let old = k.cuts in
         let backs = k.backs in
@@ -140,8 +147,10 @@ module _ (c : Config) (v : View) (l : Noted) (i : ℕ) (n : Note) (note : Commit
 
 -- the log stands as it is after the exchange of a write-back was lost
 pub stands_cut_lost : (c : Config) (v : View) (l : Noted) (object position found : ℕ) → Stands c v l → Stands c (cut_lost c v object position found) l
-stands_cut_lost c v l object position found k = stands_same c v (cut_lost c v object position found) l refl refl refl refl (unpassed is_free v.trail _ refl) (unpassed is_won_cut v.trail _ refl) k
+stands_cut_lost c v l object position found k =
+    stands_same c v (cut_lost c v object position found) l refl refl refl refl (unpassed is_free v.trail _ refl) (unpassed is_won_cut v.trail _ refl) k
 
 -- and the section was left
-pub stands_uncut : (c : Config) (v : View) (l : Noted) (object position found : ℕ) → Stands c v l → Stands c (mark_cleared c (cut_lost c v object position found)) l
+pub stands_uncut : (c : Config) (v : View) (l : Noted) (object position found : ℕ) → Stands c v l
+    → Stands c (mark_cleared c (cut_lost c v object position found)) l
 stands_uncut c v l object position found k = stands_unmarked c (cut_lost c v object position found) l (stands_cut_lost c v l object position found k)

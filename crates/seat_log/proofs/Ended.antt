@@ -15,7 +15,8 @@ use Rattle.seat_log.specs.Stands.{version_of, IsAsNoted, HasNoted, HasBuilt, cut
 use Rattle.seat_log.proofs.Places.{get_within, from_before, length-from_place}
 use Rattle.seat_log.proofs.NotedSlots.{held_at}
 
--- What became of the own log when the held write set ended, and what is noted of each held version: no held one is left, each is in its slot with a status that its note says, the other versions are there with a status that says nothing else to a note, and the other slots are as they were.
+-- What became of the own log when the held write set ended, and what is noted of each held version: no held one is left, each is in its slot with a
+-- status that its note says, the other versions are there with a status that says nothing else to a note, and the other slots are as they were.
 pub record HasEnded (v w : View) (f : Note → Note) : Type 0 where
   pub number : w.number ≡ v.number
   pub next : w.ring.next ≡ v.ring.next

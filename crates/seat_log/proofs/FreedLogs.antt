@@ -29,7 +29,8 @@ le_shift a b i k e =
     (λ le. le-leb b (k + i) (omega arith) ∙ sym (le-leb a i le))
     (cases_lt i a)
 
-module _ (c : Config) (v : View) (l : Noted) (k t : ℕ) (s : Stands c v l) (set : IsOldestSet l k) (dead : (i : ℕ) (n : Note) → IsNoteAt l i n → i < k → IsDeadNote t n) where
+module _ (c : Config) (v : View) (l : Noted) (k t : ℕ) (s : Stands c v l) (set : IsOldestSet l k)
+    (dead : (i : ℕ) (n : Note) → IsNoteAt l i n → i < k → IsDeadNote t n) where
   abbrev f : ℕ
   f = l.freed
 
@@ -55,7 +56,8 @@ module _ (c : Config) (v : View) (l : Noted) (k t : ℕ) (s : Stands c v l) (set
           may_free = subst (MayFreeSlot v) (sym head.2.lives) (λ u y other is same.
               let r = noted_in c v l s u y other is in
               let own : r.note.first ≡ f = ap (λ (x : Version). x.first) (sym r.version_is) ∙ same ∙ first in
-              dead_by t v.grace (nat_le (held_from l) r.index) r.note other known (dead r.index r.note r.at (of_set c v l k t s set dead r.index r.note r.at own)) r.as_noted);
+              dead_by t v.grace (nat_le (held_from l) r.index) r.note other known
+              (dead r.index r.note r.at (of_set c v l k t s set dead r.index r.note r.at own)) r.as_noted);
         }
 
     module _ (w : View) (j : ℕ) (lt : j < k) (e : Freed c v w f k j) where
@@ -70,7 +72,8 @@ module _ (c : Config) (v : View) (l : Noted) (k t : ℕ) (s : Stands c v l) (set
           (λ b. go (slot_at v.ring u) refl b.1 (subst (λ (z : Slot). UsesPosition z p) b.0 uses))
           (e.each u)
         where
-          go : (z : Slot) → slot_at v.ring u ≡ z → ((x : Version) (st : Status) → slot_at v.ring u ≡ Live x st → f + k ≤ x.position) → UsesPosition z p → f + j ≤ p
+          go : (z : Slot) → slot_at v.ring u ≡ z → ((x : Version) (st : Status) → slot_at v.ring u ≡ Live x st → f + k ≤ x.position)
+              → UsesPosition z p → f + j ≤ p
           go Free is later uses = absurd uses
           go (Built b) is later uses = absurd uses
           go (Freeing q r) is later uses = absurd (s.none_freeing u q r is)
@@ -169,7 +172,8 @@ module _ (c : Config) (v : View) (l : Noted) (k t : ℕ) (s : Stands c v l) (set
 
     module _ (w : View) (e : Freed c v w f k k) where
       -- a slot that has something was as it is
-      unchanged : (u : ℕ) (z : Slot) → slot_at w.ring u ≡ z → (z ≢ Free) → (slot_at v.ring u ≡ z) × ((x : Version) (st : Status) → slot_at v.ring u ≡ Live x st → f + k ≤ x.position)
+      unchanged : (u : ℕ) (z : Slot) → slot_at w.ring u ≡ z → (z ≢ Free)
+          → (slot_at v.ring u ≡ z) × ((x : Version) (st : Status) → slot_at v.ring u ≡ Live x st → f + k ≤ x.position)
       unchanged u z is used =
           ⊎_elim
           (λ a. absurd (used (sym is ∙ ap (slot_at w.ring) a.2 ∙ e.gone a.0 a.1)))
@@ -269,14 +273,18 @@ stands_freed c v l t k s frees =
     let dead = dead_first l t k a.0 a.1 in
     ⊎_elim
     (λ none. stands_none c v l k none s)
-    (λ ne. let some : 0 < k = omega arith in stands_after c v l k t s a.1 dead some (slots_freed c v l.freed k) (freed_after c v l k t s a.1 dead k some (omega arith)))
+    (λ ne.
+    let some : 0 < k = omega arith in
+    stands_after c v l k t s a.1 dead some (slots_freed c v l.freed k) (freed_after c v l k t s a.1 dead k some (omega arith)))
     (cases_eq k 0))
     (λ b. stands_none c v l k b.1 s)
     frees
 
 -- and each of its slots may be, after those before it
-pub each_may_free : (c : Config) (v : View) (l : Noted) (t k : ℕ) → Stands c v l → v.phase ≡ Outside → t ≤ v.grace → FreesSet l t k → (j : ℕ) → j < k → MayStoreFree c (slots_freed c v l.freed j) (l.freed + j)
-each_may_free c v l t k s outside known frees j lt = ⊎_elim (λ a. may_free c v l k t s a.1 (dead_first l t k a.0 a.1) outside known j lt) (λ b. let e = b.1 in absurd (omega arith)) frees
+pub each_may_free : (c : Config) (v : View) (l : Noted) (t k : ℕ) → Stands c v l → v.phase ≡ Outside → t ≤ v.grace → FreesSet l t k → (j : ℕ) → j < k
+    → MayStoreFree c (slots_freed c v l.freed j) (l.freed + j)
+each_may_free c v l t k s outside known frees j lt =
+    ⊎_elim (λ a. may_free c v l k t s a.1 (dead_first l t k a.0 a.1) outside known j lt) (λ b. let e = b.1 in absurd (omega arith)) frees
 
 -- no more versions are freed than are live
 pub few_freed : (l : Noted) (t k : ℕ) → FreesSet l t k → k ≤ length l.live

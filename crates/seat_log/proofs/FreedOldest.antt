@@ -37,7 +37,8 @@ dead_by t g b n (Committed note) le dead a = let d = dead.1 in (n.dead, a.3 ∙ 
     some_death zero lt = absurd (omega arith)
     some_death (suc d) lt = refl
 
-module _ (c : Config) (v : View) (l : Noted) (k t : ℕ) (s : Stands c v l) (set : IsOldestSet l k) (dead : (i : ℕ) (n : Note) → IsNoteAt l i n → i < k → IsDeadNote t n) where
+module _ (c : Config) (v : View) (l : Noted) (k t : ℕ) (s : Stands c v l) (set : IsOldestSet l k)
+    (dead : (i : ℕ) (n : Note) → IsNoteAt l i n → i < k → IsDeadNote t n) where
   abbrev f : ℕ
   f = l.freed
 
@@ -86,7 +87,8 @@ module _ (c : Config) (v : View) (l : Noted) (k t : ℕ) (s : Stands c v l) (set
     mid_in i lt =
         let few = set.few in
         let a = noted_at c v l s i (omega arith) in
-        mid_is (at i) ∙ ap (freeing_slot f) a.2.lives ∙ freeing_in f (version_of a.0) a.2.status (set.inside i a.0 a.1 lt) ∙ ap (λ p. Freeing p f) (s.log.notes.position i a.0 a.1)
+        mid_is (at i) ∙ ap (freeing_slot f) a.2.lives ∙ freeing_in f (version_of a.0) a.2.status (set.inside i a.0 a.1 lt)
+        ∙ ap (λ p. Freeing p f) (s.log.notes.position i a.0 a.1)
 
     within : at 0 < length mid.slots
     within = slot_within mid (at 0) (λ free. let e : Freeing (f + 0) f ≡ Free = sym (mid_in 0 some) ∙ free in absurd (cc))
@@ -94,12 +96,20 @@ module _ (c : Config) (v : View) (l : Noted) (k t : ℕ) (s : Stands c v l) (set
     abbrev first_ring : Ring
     first_ring = put_slot mid (at 0) Free
 
-    other_slot : (u : ℕ) (z : Slot) → slot_at v.ring u ≡ z → freeing_slot f z ≡ z → ((x : Version) (st : Status) → z ≡ Live x st → f + k ≤ x.position) → (u ≢ at 0) → ((i : ℕ) × (i < k) × (u ≡ at i)) ⊎ ((slot_at first_ring u ≡ slot_at v.ring u) × ((x : Version) (st : Status) → slot_at v.ring u ≡ Live x st → f + k ≤ x.position))
-    other_slot u z is same later ne = inr (slot_else mid (at 0) u Free ne ∙ mid_is u ∙ ap (freeing_slot f) is ∙ same ∙ sym is, λ x st e. later x st (sym is ∙ e))
+    other_slot : (u : ℕ) (z : Slot) → slot_at v.ring u ≡ z → freeing_slot f z ≡ z → ((x : Version) (st : Status) → z ≡ Live x st → f + k ≤ x.position)
+        → (u ≢ at 0)
+        → ((i : ℕ) × (i < k) × (u ≡ at i)) ⊎ ((slot_at first_ring u ≡ slot_at v.ring u) × ((x : Version) (st : Status) → slot_at v.ring u ≡ Live x st → f + k ≤ x.position))
+    other_slot u z is same later ne =
+        inr (slot_else mid (at 0) u Free ne ∙ mid_is u ∙ ap (freeing_slot f) is ∙ same ∙ sym is, λ x st e. later x st (sym is ∙ e))
 
-    first_each : (u : ℕ) (z : Slot) → slot_at v.ring u ≡ z → ((i : ℕ) × (i < k) × (u ≡ at i)) ⊎ ((slot_at first_ring u ≡ slot_at v.ring u) × ((x : Version) (st : Status) → slot_at v.ring u ≡ Live x st → f + k ≤ x.position))
-    first_each u Free is = other_slot u Free is refl (λ x st e. absurd (cc)) (λ e. let g : Free ≡ Live (version_of head.0) head.2.status = sym is ∙ ap (slot_at v.ring) e ∙ here in absurd (cc))
-    first_each u (Built b) is = other_slot u (Built b) is refl (λ x st e. absurd (cc)) (λ e. let g : Built b ≡ Live (version_of head.0) head.2.status = sym is ∙ ap (slot_at v.ring) e ∙ here in absurd (cc))
+    first_each : (u : ℕ) (z : Slot) → slot_at v.ring u ≡ z
+        → ((i : ℕ) × (i < k) × (u ≡ at i)) ⊎ ((slot_at first_ring u ≡ slot_at v.ring u) × ((x : Version) (st : Status) → slot_at v.ring u ≡ Live x st → f + k ≤ x.position))
+    first_each u Free is =
+        other_slot u Free is refl (λ x st e. absurd (cc))
+        (λ e. let g : Free ≡ Live (version_of head.0) head.2.status = sym is ∙ ap (slot_at v.ring) e ∙ here in absurd (cc))
+    first_each u (Built b) is =
+        other_slot u (Built b) is refl (λ x st e. absurd (cc))
+        (λ e. let g : Built b ≡ Live (version_of head.0) head.2.status = sym is ∙ ap (slot_at v.ring) e ∙ here in absurd (cc))
     first_each u (Freeing p q) is = absurd (s.none_freeing u p q is)
     first_each u (Live x st) is =
         let r = noted_in c v l s u x st is in
@@ -109,22 +119,26 @@ module _ (c : Config) (v : View) (l : Noted) (k t : ℕ) (s : Stands c v l) (set
         (λ le.
         let p = r.position_is in
         let ne : x.first ≢ f = λ e. set.outside r.index r.note r.at le (ap (λ (y : Version). y.first) (sym r.version_is) ∙ e) in
-        other_slot u (Live x st) is (freeing_out f x st ne) (λ y su e. let same : x ≡ y = (let g : Live x st ≡ Live y su = e in cc) in let q = ap (λ (z : Version). z.position) same in omega arith)
+        other_slot u (Live x st) is (freeing_out f x st ne)
+        (λ y su e. let same : x ≡ y = (let g : Live x st ≡ Live y su = e in cc) in let q = ap (λ (z : Version). z.position) same in omega arith)
         (λ e. let zero_is = apart c v l s r.index 0 r.within (omega arith) (sym r.slot_is ∙ e) in omega arith))
         (cases_lt r.index k)
 
     -- the first store makes all of them slots that are being freed
     first_freed : Freed c v (free_stored c v (f + 0)) f k 1
     first_freed =
-        let ring_is : freed_ring v.ring (at 0) (slot_at v.ring (at 0)) ≡ first_ring = ap (freed_ring v.ring (at 0)) here ∙ ap (λ g. put_slot (record v.ring { slots = map (freeing_slot g) v.ring.slots }) (at 0) Free) head_first in
+        let ring_is : freed_ring v.ring (at 0) (slot_at v.ring (at 0)) ≡ first_ring =
+        ap (freed_ring v.ring (at 0)) here ∙ ap (λ g. put_slot (record v.ring { slots = map (freeing_slot g) v.ring.slots }) (at 0) Free) head_first in
         let few = set.few in
         subst (λ (r : Ring). Freed c v (record v { ring = r; trail = told c v StoreFree (Stamp v.number (at 0)) None (Some 0) }) f k 1) (sym ring_is)
         (record {
           changes = refl;
           next = refl;
           wide = length-set mid.slots (at 0) Free ∙ length-map v.ring.slots (freeing_slot f);
-          held = count_same mid (at 0) Free within is_held (sym (ap is_held (mid_in 0 some))) ∙ count_at is_held (freeing_slot f) v.ring.slots (λ u. held_freeing u (slot_at v.ring u) refl);
-          spare = count_more mid (at 0) Free within is_spare (ap is_spare (mid_in 0 some)) refl ∙ ap (λ n. n + 1) (count_mapped is_spare (freeing_slot f) (spare_freeing f) v.ring.slots);
+          held = count_same mid (at 0) Free within is_held (sym (ap is_held (mid_in 0 some)))
+              ∙ count_at is_held (freeing_slot f) v.ring.slots (λ u. held_freeing u (slot_at v.ring u) refl);
+          spare = count_more mid (at 0) Free within is_spare (ap is_spare (mid_in 0 some)) refl
+              ∙ ap (λ n. n + 1) (count_mapped is_spare (freeing_slot f) (spare_freeing f) v.ring.slots);
           cuts = (let a = cuts_freeing f v.ring.slots in
               let b = count_same mid (at 0) Free within is_cut (sym (ap is_cut (mid_in 0 some))) in
               let d = count_less mid (at 0) Free within is_going (ap is_going (mid_in 0 some)) refl in omega arith);
@@ -160,13 +174,15 @@ module _ (c : Config) (v : View) (l : Noted) (k t : ℕ) (s : Stands c v l) (set
           cuts = (let a = e.cuts in
               let b = count_same w.ring (at j) Free next_within is_cut (sym (ap is_cut freed_here)) in
               let d = count_less w.ring (at j) Free next_within is_going (ap is_going freed_here) refl in omega arith);
-          frees = passed is_free w.trail _ refl ∙ (let b = e.frees in let q : count_by is_free w.trail + 1 ≡ count_by is_free v.trail + (j + 1) = omega arith in q);
+          frees =
+              passed is_free w.trail _ refl ∙ (let b = e.frees in let q : count_by is_free w.trail + 1 ≡ count_by is_free v.trail + (j + 1) = omega arith in q);
           backs = unpassed is_won_cut w.trail _ refl ∙ e.backs;
           gone = λ i b.
               dite (ℕ_discrete i j)
               (λ same. ap (λ n. slot_at next_ring (at n)) same ∙ slot_here w.ring (at j) Free next_within)
               (λ ne. slot_else w.ring (at j) (at i) Free (λ g. let z = apart c v l s i j (omega arith) (omega arith) g in ne z) ∙ e.gone i (omega arith));
-          going = λ i le b. slot_else w.ring (at j) (at i) Free (λ g. let z = apart c v l s i j (omega arith) (omega arith) g in omega arith) ∙ e.going i (omega arith) b;
+          going = λ i le b.
+              slot_else w.ring (at j) (at i) Free (λ g. let z = apart c v l s i j (omega arith) (omega arith) g in omega arith) ∙ e.going i (omega arith) b;
           each = λ u.
               dite (ℕ_discrete u (at j))
               (λ same. inl (j, lt, same))

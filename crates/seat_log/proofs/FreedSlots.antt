@@ -40,14 +40,17 @@ pub none_going : (zs : List Slot) → ((t p f : ℕ) → slice_index_or zs t Fre
 none_going [] none = refl
 none_going (Free ∷ zs) none = let more = sum_by-cons (λ y. one_if (is_going y)) Free zs in let rest = none_going zs (λ t. none (suc t)) in omega arith
 none_going (Built b ∷ zs) none = let more = sum_by-cons (λ y. one_if (is_going y)) (Built b) zs in let rest = none_going zs (λ t. none (suc t)) in omega arith
-none_going (Live x st ∷ zs) none = let more = sum_by-cons (λ y. one_if (is_going y)) (Live x st) zs in let rest = none_going zs (λ t. none (suc t)) in omega arith
+none_going (Live x st ∷ zs) none =
+    let more = sum_by-cons (λ y. one_if (is_going y)) (Live x st) zs in let rest = none_going zs (λ t. none (suc t)) in omega arith
 none_going (Freeing p f ∷ zs) none = absurd (none 0 p f refl)
 
 -- as many pass a test after a map that changes it of no slot that is there
-pub count_at : (p : Slot → Bool) (g : Slot → Slot) (zs : List Slot) → ((t : ℕ) → p (g (slice_index_or zs t Free)) ≡ p (slice_index_or zs t Free)) → count_by p (map g zs) ≡ count_by p zs
+pub count_at : (p : Slot → Bool) (g : Slot → Slot) (zs : List Slot) → ((t : ℕ) → p (g (slice_index_or zs t Free)) ≡ p (slice_index_or zs t Free))
+    → count_by p (map g zs) ≡ count_by p zs
 count_at p g [] same = refl
 count_at p g (z ∷ zs) same =
-    sum_by-cons (λ y. one_if (p y)) (g z) (map g zs) ∙ (λ i. one_if (same 0 i) + count_at p g zs (λ t. same (suc t)) i) ∙ sym (sum_by-cons (λ y. one_if (p y)) z zs)
+    sum_by-cons (λ y. one_if (p y)) (g z) (map g zs) ∙ (λ i. one_if (same 0 i) + count_at p g zs (λ t. same (suc t)) i)
+    ∙ sym (sum_by-cons (λ y. one_if (p y)) z zs)
 
 -- a version of the set becomes one that is being freed
 pub freeing_in : (f : ℕ) (x : Version) (st : Status) → x.first ≡ f → freeing_slot f (Live x st) ≡ Freeing x.position f
@@ -68,7 +71,8 @@ spare_freeing f (Built b) = refl
 spare_freeing f (Freeing p q) = refl
 spare_freeing f (Live x st) = spare_if (x.first == f) x.position x.first x st
 
-cut_if : (b : Bool) (p q : ℕ) (x : Version) (st : Status) → one_if (is_cut (Live x st)) ≤ one_if (is_cut (cond b (Freeing p q) (Live x st))) + one_if (is_going (cond b (Freeing p q) (Live x st)))
+cut_if : (b : Bool) (p q : ℕ) (x : Version) (st : Status)
+    → one_if (is_cut (Live x st)) ≤ one_if (is_cut (cond b (Freeing p q) (Live x st))) + one_if (is_going (cond b (Freeing p q) (Live x st)))
 cut_if true p q x Held = omega arith
 cut_if true p q x (Aborted d) = omega arith
 cut_if true p q x (Committed note) = at_most note.cut
@@ -94,7 +98,8 @@ cuts_freeing f (z ∷ zs) =
     let one = cut_freeing f z in
     let rest = cuts_freeing f zs in omega arith
 
--- The first j slots of the oldest write set of k versions from the position f on are free, and the others of the set are being freed; nothing else of the log has changed.
+-- The first j slots of the oldest write set of k versions from the position f on are free, and the others of the set are being freed; nothing else of
+-- the log has changed.
 pub record Freed (c : Config) (v w : View) (f k j : ℕ) : Type 0 where
   pub changes : w ≡ record v { ring = w.ring; trail = w.trail }
   pub next : w.ring.next ≡ v.ring.next
@@ -106,4 +111,5 @@ pub record Freed (c : Config) (v w : View) (f k j : ℕ) : Type 0 where
   pub backs : count_by is_won_cut w.trail ≡ count_by is_won_cut v.trail
   pub gone : (i : ℕ) → i < j → slot_at w.ring (index_of c (f + i)) ≡ Free
   pub going : (i : ℕ) → j ≤ i → i < k → slot_at w.ring (index_of c (f + i)) ≡ Freeing (f + i) f
-  pub each : (t : ℕ) → ((i : ℕ) × (i < k) × (t ≡ index_of c (f + i))) ⊎ ((slot_at w.ring t ≡ slot_at v.ring t) × ((x : Version) (st : Status) → slot_at v.ring t ≡ Live x st → f + k ≤ x.position))
+  pub each : (t : ℕ)
+      → ((i : ℕ) × (i < k) × (t ≡ index_of c (f + i))) ⊎ ((slot_at w.ring t ≡ slot_at v.ring t) × ((x : Version) (st : Status) → slot_at v.ring t ≡ Live x st → f + k ≤ x.position))

@@ -103,16 +103,20 @@ module _ (c : Config) (v : View) (l : Noted) (position word value : ℕ) (k : St
               let status : Held ≡ old.status = cc in
               let as_noted : IsAsNoted (nat_le (held_from l) i) r.0 Held = subst (IsAsNoted (nat_le (held_from l) i) r.0) (sym status) old.as_noted in
               let with_new : IsAsNoted (nat_le (held_from l) i) (with_word word value r.0) Held = as_noted in
-              let noted_new : IsAsNoted (nat_le (held_from l) i) a Held = subst (λ (b : Note). IsAsNoted (nat_le (held_from l) i) b Held) (sym y.1) with_new in record {
+              let noted_new : IsAsNoted (nat_le (held_from l) i) a Held = subst (λ (b : Note). IsAsNoted (nat_le (held_from l) i) b Held) (sym y.1) with_new in
+              record {
                 status = Held;
-                lives = ap (slot_at (data_stored c v position word value (version_of m)).ring) there ∙ slot_here v.ring s z in_log ∙ ap (λ (b : Note). Live (version_of b) Held) new_is;
+                lives = ap (slot_at (data_stored c v position word value (version_of m)).ring) there ∙ slot_here v.ring s z in_log
+                    ∙ ap (λ (b : Note). Live (version_of b) Held) new_is;
                 as_noted = subst (λ j. IsAsNoted (nat_le j i) a Held) (sym same_head) noted_new;
               })
               (λ y.
               let in_range = get_within l.live i r.0 r.1 in record {
                 status = old.status;
-                lives = slot_else v.ring s (index_of c (l.freed + i)) z (else_slot i in_range y.0) ∙ old.lives ∙ ap (λ (b : Note). Live (version_of b) old.status) (sym y.1);
-                as_noted = subst (λ j. IsAsNoted (nat_le j i) a old.status) (sym same_head) (subst (λ (b : Note). IsAsNoted (nat_le (held_from l) i) b old.status) (sym y.1) old.as_noted);
+                lives = slot_else v.ring s (index_of c (l.freed + i)) z (else_slot i in_range y.0) ∙ old.lives
+                    ∙ ap (λ (b : Note). Live (version_of b) old.status) (sym y.1);
+                as_noted = subst (λ j. IsAsNoted (nat_le j i) a old.status) (sym same_head)
+                    (subst (λ (b : Note). IsAsNoted (nat_le (held_from l) i) b old.status) (sym y.1) old.as_noted);
               })
               r.2;
           all = λ j x st e.
@@ -133,16 +137,21 @@ module _ (c : Config) (v : View) (l : Noted) (position word value : ℕ) (k : St
         }
       where
         -- what isn't a version was there before
-        was : (j : ℕ) (y : Slot) → (Live (version_of (with_word word value m)) Held ≢ y) → slot_at (data_stored c v position word value (version_of m)).ring j ≡ y → slot_at v.ring j ≡ y
+        was : (j : ℕ) (y : Slot) → (Live (version_of (with_word word value m)) Held ≢ y)
+            → slot_at (data_stored c v position word value (version_of m)).ring j ≡ y → slot_at v.ring j ≡ y
         was j y other e =
             dite (ℕ_discrete j (index_of c position))
-            (λ at_s. absurd (other (sym (slot_here v.ring (index_of c position) (Live (version_of (with_word word value m)) Held) within) ∙ ap (slot_at (data_stored c v position word value (version_of m)).ring) (sym at_s) ∙ e)))
+            (λ at_s.
+            absurd
+            (other (sym (slot_here v.ring (index_of c position) (Live (version_of (with_word word value m)) Held) within) ∙ ap (slot_at (data_stored c v position word value (version_of m)).ring) (sym at_s) ∙ e)))
             (λ ne. sym (slot_else v.ring (index_of c position) j (Live (version_of (with_word word value m)) Held) ne) ∙ e)
 
         built_still : (o : Option Note) → HasBuilt c v.ring o → HasBuilt c (data_stored c v position word value (version_of m)).ring o
         built_still None a = tt
         built_still (Some b) a =
-            let ne : index_of c v.ring.next ≢ index_of c position = λ e. let f : Built a.0 ≡ Live (version_of m) Held = sym a.1 ∙ ap (slot_at v.ring) e ∙ here in absurd (cc) in
+            let ne : index_of c v.ring.next ≢ index_of c position =
+            λ e. let f : Built a.0 ≡ Live (version_of m) Held = sym a.1 ∙ ap (slot_at v.ring) e ∙ here in
+            absurd (cc) in
             (a.0, slot_else v.ring (index_of c position) (index_of c v.ring.next) (Live (version_of (with_word word value m)) Held) ne ∙ a.1, a.2)
 
   -- the log stands for it

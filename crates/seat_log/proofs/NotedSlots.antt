@@ -79,7 +79,8 @@ module _ (c : Config) (v : View) (l : Noted) (k : Stands c v l) where
   held_last t x r = leb-true (held_from l) r.index r.as_noted.0
 
   -- and what is noted there is held
-  pub held_at : (i : ℕ) (n : Note) → IsNoteAt l i n → held_from l ≤ i → (slot_at v.ring (index_of c (l.freed + i)) ≡ Live (version_of n) Held) × (n.time ≡ 0) × (n.dead ≡ 0)
+  pub held_at : (i : ℕ) (n : Note) → IsNoteAt l i n → held_from l ≤ i
+      → (slot_at v.ring (index_of c (l.freed + i)) ≡ Live (version_of n) Held) × (n.time ≡ 0) × (n.dead ≡ 0)
   held_at i n is from =
       let h = k.live i n is in
       let held = held_status n h.status (subst (λ b. IsAsNoted b n h.status) (le-leb (held_from l) i from) h.as_noted) in

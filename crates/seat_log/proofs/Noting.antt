@@ -20,7 +20,8 @@ from_same f k ns keeps = record {
   long = length-from_place f k ns;
   before = λ i m e.
       let r = from_before f k i ns m e in
-      ⊎_elim (λ a. (r.0, r.1, ap (λ (n : Note). n.position) a.1 ∙ (keeps r.0).0, ap (λ (n : Note). n.first) a.1 ∙ (keeps r.0).1)) (λ b. (r.0, r.1, ap (λ (n : Note). n.position) b.1, ap (λ (n : Note). n.first) b.1)) r.2;
+      ⊎_elim (λ a. (r.0, r.1, ap (λ (n : Note). n.position) a.1 ∙ (keeps r.0).0, ap (λ (n : Note). n.first) a.1 ∙ (keeps r.0).1))
+      (λ b. (r.0, r.1, ap (λ (n : Note). n.position) b.1, ap (λ (n : Note). n.first) b.1)) r.2;
 }
 
 pub at_same : (f : Note → Note) (k : ℕ) (ns : List Note) → KeepsSet f → SameSets ns (at_place f k ns)
@@ -28,11 +29,13 @@ at_same f k ns keeps = record {
   long = length-at_place f k ns;
   before = λ i m e.
       let r = at_before f k i ns m e in
-      ⊎_elim (λ a. (r.0, r.1, ap (λ (n : Note). n.position) a.1 ∙ (keeps r.0).0, ap (λ (n : Note). n.first) a.1 ∙ (keeps r.0).1)) (λ b. (r.0, r.1, ap (λ (n : Note). n.position) b.1, ap (λ (n : Note). n.first) b.1)) r.2;
+      ⊎_elim (λ a. (r.0, r.1, ap (λ (n : Note). n.position) a.1 ∙ (keeps r.0).0, ap (λ (n : Note). n.first) a.1 ∙ (keeps r.0).1))
+      (λ b. (r.0, r.1, ap (λ (n : Note). n.position) b.1, ap (λ (n : Note). n.first) b.1)) r.2;
 }
 
 -- the notes stand so still, where as many are held or none is any more
-pub noted_again : (l m : Noted) → m.freed ≡ l.freed → SameSets l.live m.live → l.held ≤ length l.live → (m.held ≡ l.held) ⊎ (m.held ≡ 0) → AreNoted l → AreNoted m
+pub noted_again : (l m : Noted) → m.freed ≡ l.freed → SameSets l.live m.live → l.held ≤ length l.live → (m.held ≡ l.held) ⊎ (m.held ≡ 0) → AreNoted l
+    → AreNoted m
 noted_again l m freed same few held k =
     let long = same.long in record {
       position = λ i x e. let b = same.before i x e in let p = k.position i b.0 b.1 in let q = b.2 in omega arith;
@@ -67,14 +70,42 @@ noted_again l m freed same few held k =
           held;
     }
 
--- the built version, and what isn't built
-built_is : (l : Noted) (n : Note) → l.built ≡ Some n → IsLog l → IsNextOf l n
-built_is l n e k = subst (λ o. IfSome o (IsNextOf l)) e k.built
+-- a log with notes of the same versions is one, where as many are held or none is any more
+again_is_log : (l m : Noted) → m.seat ≡ l.seat → m.slots ≡ l.slots → m.freed ≡ l.freed → m.back ≡ l.back → m.rests ≡ l.rests
+    → SameSets l.live m.live → (m.held ≡ l.held) ⊎ (m.held ≡ 0) → built_count m.built ≤ built_count l.built → IfSome m.built (IsNextOf m)
+    → m.commits + m.aborts + m.held ≤ next_of l → IsLog l → IsLog m
+again_is_log l m seat slots freed back rests same held few built sets k =
+    let long = same.long in
+    let number = k.seat in
+    let most = k.slots in
+    let room = k.room in
+    let some = k.held in
+    let positions = k.positions in
+    let backs = k.backs in
+    let rested = k.rests in record {
+      seat = omega arith;
+      slots = omega arith;
+      room = omega arith;
+      held = held_few;
+      notes = noted_again l m freed same k.held held k.notes;
+      built = built;
+      positions = omega arith;
+      sets = omega arith;
+      backs = omega arith;
+      rests = omega arith;
+    }
+  where
+    held_few : m.held ≤ length m.live
+    held_few = let long = same.long in let some = k.held in ⊎_elim (λ e. (omega arith)) (λ e. (omega arith)) held
+
+-- the note that is built
+pub built_next : (l : Noted) (n : Note) → l.built ≡ Some n → IsLog l → IsNextOf l n
+built_next l n e k = subst (λ o. IfSome o (IsNextOf l)) e k.built
 
 -- the built version becomes the last one that is held
 pub held_is_noted : (l : Noted) (n : Note) → l.built ≡ Some n → IsLog l → AreNoted (held_noted l)
 held_is_noted l n e k =
-    let is = built_is l n e k in
+    let is = built_next l n e k in
     let at : n.position ≡ l.freed + length l.live = is.0 in
     let first : n.first ≡ first_of l = is.1 in
     let few = k.held in
@@ -86,7 +117,10 @@ held_is_noted l n e k =
       position = λ i m g. ⊎_elim (λ a. notes.position i m a.1) (λ b. ap (λ (x : Note). x.position) b.1 ∙ at ∙ ap (λ j. l.freed + j) (sym b.0)) (cases i m g);
       first = λ i m g.
           ⊎_elim (λ a. notes.first i m a.1)
-          (λ b. let f : m.first ≡ n.first = ap (λ (x : Note). x.first) b.1 in let p : m.position ≡ n.position = ap (λ (x : Note). x.position) b.1 in (omega arith, omega arith)) (cases i m g);
+          (λ b.
+          let f : m.first ≡ n.first = ap (λ (x : Note). x.first) b.1 in
+          let p : m.position ≡ n.position = ap (λ (x : Note). x.position) b.1 in (omega arith, omega arith))
+          (cases i m g);
       run = λ i j m other g d le order.
           ⊎_elim
           (λ a. ⊎_elim (λ b. notes.run i j m other a.1 b.1 le order) (λ b. let lt = a.0 in let z = b.0 in absurd (omega arith)) (cases j other d))
@@ -100,7 +134,9 @@ held_is_noted l n e k =
           let from : held_from (held_noted l) ≡ held_from l = omega arith in
           let firsts : first_of (held_noted l) ≡ first_of l = omega arith in
           ⊎_elim
-          (λ a. let h = notes.held i m a.1 in ((λ le2. h.0 (omega arith) ∙ sym firsts), (λ lt2. let q = h.1 (omega arith) in let r : m.first < first_of (held_noted l) = omega arith in r)))
+          (λ a.
+          let h = notes.held i m a.1 in
+          ((λ le2. h.0 (omega arith) ∙ sym firsts), (λ lt2. let q = h.1 (omega arith) in let r : m.first < first_of (held_noted l) = omega arith in r)))
           (λ b. ((λ le2. ap (λ (x : Note). x.first) b.1 ∙ first ∙ sym firsts), (λ lt2. let z = b.0 in absurd (omega arith))))
           (cases i m g);
     }
@@ -112,7 +148,7 @@ held_is_log l n e k =
     let one : built_count l.built ≡ 1 = ap built_count e in
     let room = k.room in
     let few = k.held in
-    let is = built_is l n e k in
+    let is = built_next l n e k in
     let at = is.0 in
     let small = is.4 in
     let sets = k.sets in
@@ -131,24 +167,10 @@ held_is_log l n e k =
 
 pub committed_is_log : (l : Noted) (time : ℕ) → 0 < l.held → l.built ≡ None → IsLog l → IsLog (committed_noted l time)
 committed_is_log l time some_held none k =
-    let f : Note → Note = λ n. record n { time = time } in
-    let same = from_same f (held_from l) l.live (λ n. (refl, refl)) in
-    let long = same.long in
-    let room = k.room in
-    let positions = k.positions in
+    let same = from_same (λ n. record n { time = time }) (held_from l) l.live (λ n. (refl, refl)) in
     let sets = k.sets in
-    let backs = k.backs in record {
-      seat = k.seat;
-      slots = k.slots;
-      room = omega arith;
-      held = omega arith;
-      notes = noted_again l (committed_noted l time) refl same k.held (inr refl) k.notes;
-      built = subst (λ o. IfSome o (IsNextOf (committed_noted l time))) (sym none) tt;
-      positions = omega arith;
-      sets = omega arith;
-      backs = omega arith;
-      rests = k.rests;
-    }
+    again_is_log l (committed_noted l time) refl refl refl refl refl same (inr refl) (omega arith)
+    (subst (λ o. IfSome o (IsNextOf (committed_noted l time))) (sym none) tt) (omega arith) k
 
 -- an abort of something counts one
 aborts_few : (held aborts : ℕ) → (if held == 0 then aborts else aborts + 1) ≤ aborts + held
@@ -160,25 +182,11 @@ aborts_few held aborts = go (held == 0) refl
 
 pub aborted_is_log : (l : Noted) (dead : ℕ) → l.built ≡ None → IsLog l → IsLog (aborted_noted l dead)
 aborted_is_log l dead none k =
-    let f : Note → Note = λ n. record n { dead = dead } in
-    let same = from_same f (held_from l) l.live (λ n. (refl, refl)) in
-    let long = same.long in
-    let room = k.room in
-    let positions = k.positions in
+    let same = from_same (λ n. record n { dead = dead }) (held_from l) l.live (λ n. (refl, refl)) in
     let sets = k.sets in
-    let backs = k.backs in
-    let few = aborts_few l.held l.aborts in record {
-      seat = k.seat;
-      slots = k.slots;
-      room = omega arith;
-      held = omega arith;
-      notes = noted_again l (aborted_noted l dead) refl same k.held (inr refl) k.notes;
-      built = subst (λ o. IfSome o (IsNextOf (aborted_noted l dead))) (sym none) tt;
-      positions = omega arith;
-      sets = omega arith;
-      backs = omega arith;
-      rests = k.rests;
-    }
+    let few = aborts_few l.held l.aborts in
+    again_is_log l (aborted_noted l dead) refl refl refl refl refl same (inr refl) (omega arith)
+    (subst (λ o. IfSome o (IsNextOf (aborted_noted l dead))) (sym none) tt) (omega arith) k
 
 -- where something was held the count goes up, and where nothing was it all stays
 pub abort_counts : (l : Noted) → l.held ≢ 0 → (if l.held == 0 then l.aborts else l.aborts + 1) ≡ l.aborts + 1
@@ -195,24 +203,8 @@ abort_of_nothing l dead none =
 -- one live version is noted otherwise, in its place
 pub renoted_is_log : (l : Noted) (f : Note → Note) (i : ℕ) → KeepsSet f → IsLog l → IsLog (record l { live = at_place f i l.live })
 renoted_is_log l f i keeps k =
-    let same = at_same f i l.live keeps in
-    let long = same.long in
-    let room = k.room in
-    let few = k.held in
-    let positions = k.positions in
-    let sets = k.sets in
-    let backs = k.backs in record {
-      seat = k.seat;
-      slots = k.slots;
-      room = omega arith;
-      held = omega arith;
-      notes = noted_again l (record l { live = at_place f i l.live }) refl same k.held (inl refl) k.notes;
-      built = next_again l.built k.built;
-      positions = omega arith;
-      sets = omega arith;
-      backs = omega arith;
-      rests = k.rests;
-    }
+    again_is_log l (record l { live = at_place f i l.live }) refl refl refl refl refl (at_same f i l.live keeps) (inl refl) (omega arith)
+    (next_again l.built k.built) k.sets k
   where
     next_again : (o : Option Note) → IfSome o (IsNextOf l) → IfSome o (IsNextOf (record l { live = at_place f i l.live }))
     next_again None a = tt

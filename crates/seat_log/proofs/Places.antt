@@ -1,12 +1,13 @@
 -- The notes from a place on, and one note, as loops and stores change them.
-use Rattle.std.proofs.Common.{◌≡◌, ◌≢◌, ◌⊎◌, ℕ, zero, suc, ◌+◌, ◌-◌, ◌<◌, ◌≤◌, List, [], ◌∷◌, ◌++◌, length, drop, refl, sym, ap, ◌∙◌, inl, inr, ⊎_elim, arith, Some, slice_get, slice_index_or}
+use Rattle.std.proofs.Common.{◌≡◌, ◌≢◌, ◌⊎◌, ℕ, zero, suc, ◌+◌, ◌-◌, ◌<◌, ◌≤◌, List, [], ◌∷◌, ◌++◌, length, drop, refl, sym, ap, ◌∙◌, subst, inl, inr, ⊎_elim, arith, Some, slice_get, slice_index_or}
 use Rattle.std.specs.Prelude.{slice_set}
 use Rattle.std.proofs.lemmas.List.{length-map, length-set}
 use Rattle.seat_log.specs.declared.version.Note.{Note}
 use Rattle.seat_log.specs.Notes.{from_place, at_place}
 
 -- one turn of a loop from a place on
-pub from_step : (f : Note → Note) (i : ℕ) (ns : List Note) (d : Note) → i < length ns → from_place f i ns ≡ from_place f (suc i) (slice_set ns i (f (slice_index_or ns i d)))
+pub from_step : (f : Note → Note) (i : ℕ) (ns : List Note) (d : Note) → i < length ns
+    → from_place f i ns ≡ from_place f (suc i) (slice_set ns i (f (slice_index_or ns i d)))
 from_step f zero [] d lt = absurd (omega arith)
 from_step f zero (n ∷ ns) d lt = refl
 from_step f (suc i) [] d lt = absurd (omega arith)
@@ -35,7 +36,8 @@ length-at_place f zero (n ∷ ns) = refl
 length-at_place f (suc i) (n ∷ ns) = ap suc (length-at_place f i ns)
 
 -- the note at a place from k on is f of the one before, and before k it is that one
-pub from_before : (f : Note → Note) (k i : ℕ) (ns : List Note) (m : Note) → slice_get (from_place f k ns) i ≡ Some m → (n : Note) × (slice_get ns i ≡ Some n) × (((k ≤ i) × (m ≡ f n)) ⊎ ((i < k) × (m ≡ n)))
+pub from_before : (f : Note → Note) (k i : ℕ) (ns : List Note) (m : Note) → slice_get (from_place f k ns) i ≡ Some m
+    → (n : Note) × (slice_get ns i ≡ Some n) × (((k ≤ i) × (m ≡ f n)) ⊎ ((i < k) × (m ≡ n)))
 from_before f zero i [] m e = absurd (cc)
 from_before f zero zero (n ∷ ns) m e = let g : Some (f n) ≡ Some m = e in (n, refl, inl (omega arith, cc))
 from_before f zero (suc i) (n ∷ ns) m e =
@@ -48,7 +50,8 @@ from_before f (suc k) (suc i) (n ∷ ns) m e =
     (r.0, r.1, ⊎_elim (λ a. let le = a.0 in inl (omega arith, a.1)) (λ b. let lt = b.0 in inr (omega arith, b.1)) r.2)
 
 -- the note at a changed place is f of the one before, and elsewhere it is that one
-pub at_before : (f : Note → Note) (k i : ℕ) (ns : List Note) (m : Note) → slice_get (at_place f k ns) i ≡ Some m → (n : Note) × (slice_get ns i ≡ Some n) × (((i ≡ k) × (m ≡ f n)) ⊎ ((i ≢ k) × (m ≡ n)))
+pub at_before : (f : Note → Note) (k i : ℕ) (ns : List Note) (m : Note) → slice_get (at_place f k ns) i ≡ Some m
+    → (n : Note) × (slice_get ns i ≡ Some n) × (((i ≡ k) × (m ≡ f n)) ⊎ ((i ≢ k) × (m ≡ n)))
 at_before f k i [] m e = absurd (cc)
 at_before f zero zero (n ∷ ns) m e = let g : Some (f n) ≡ Some m = e in (n, refl, inl (refl, cc))
 at_before f zero (suc i) (n ∷ ns) m e = (m, e, inr ((λ z. omega arith), refl))
@@ -58,7 +61,8 @@ at_before f (suc k) (suc i) (n ∷ ns) m e =
     (r.0, r.1, ⊎_elim (λ a. inl (ap suc a.0, a.1)) (λ b. inr ((λ z. b.0 (omega arith)), b.1)) r.2)
 
 -- the note at a place with one more at the end
-pub push_before : (ns : List Note) (y : Note) (i : ℕ) (m : Note) → slice_get (ns ++ y ∷ []) i ≡ Some m → ((i < length ns) × (slice_get ns i ≡ Some m)) ⊎ ((i ≡ length ns) × (m ≡ y))
+pub push_before : (ns : List Note) (y : Note) (i : ℕ) (m : Note) → slice_get (ns ++ y ∷ []) i ≡ Some m
+    → ((i < length ns) × (slice_get ns i ≡ Some m)) ⊎ ((i ≡ length ns) × (m ≡ y))
 push_before [] y zero m e = let g : Some y ≡ Some m = e in inr (refl, cc)
 push_before [] y (suc i) m e = absurd (cc)
 push_before (n ∷ ns) y zero m e = inl (omega arith, e)
@@ -90,14 +94,23 @@ pub record GoesFrom (f : Note → Note) (from : ℕ) (before : List Note) (i : �
 pub goes_first : (f : Note → Note) (from : ℕ) (before : List Note) → from ≤ length before → GoesFrom f from before from before
 goes_first f from before le = record { left = refl; long = refl; within = le }
 
--- each turn
-pub goes_on : (f : Note → Note) (from : ℕ) (before : List Note) (i : ℕ) (ns : List Note) (d : Note) → i < length ns → GoesFrom f from before i ns → GoesFrom f from before (i + 1) (slice_set ns i (f (slice_index_or ns i d)))
-goes_on f from before i ns d lt g = record {
-  left = ap (λ (j : ℕ). from_place f j (slice_set ns i (f (slice_index_or ns i d)))) (let e : i + 1 ≡ suc i = omega arith in e) ∙ sym (from_step f i ns d lt) ∙ g.left;
-  long = length-set ns i (f (slice_index_or ns i d)) ∙ g.long;
-  within = (let e = length-set ns i (f (slice_index_or ns i d)) in omega arith);
-}
+-- each turn, by the note that was there
+pub goes_on : (f : Note → Note) (from : ℕ) (before : List Note) (i : ℕ) (ns : List Note) (n : Note) → n ≡ slice_index_or ns i n → i < length before
+    → GoesFrom f from before i ns → GoesFrom f from before (i + 1) (slice_set ns i (f n))
+goes_on f from before i ns n there lt g =
+    let same = g.long in
+    let step = from_step f i ns n (omega arith) in
+    subst (λ (m : Note). GoesFrom f from before (i + 1) (slice_set ns i (f m))) (sym there) (record {
+      left = ap (λ (j : ℕ). from_place f j (slice_set ns i (f (slice_index_or ns i n)))) (let e : i + 1 ≡ suc i = omega arith in e) ∙ sym step ∙ g.left;
+      long = length-set ns i (f (slice_index_or ns i n)) ∙ g.long;
+      within = (let e = length-set ns i (f (slice_index_or ns i n)) in omega arith);
+    })
 
 -- and the end
-pub goes_last : (f : Note → Note) (from : ℕ) (before : List Note) (ns : List Note) → GoesFrom f from before (length ns) ns → ns ≡ from_place f from before
-goes_last f from before ns g = sym (from_end f ns) ∙ g.left
+pub goes_last : (f : Note → Note) (from : ℕ) (before : List Note) (i : ℕ) (ns : List Note) → length before ≤ i → GoesFrom f from before i ns
+    → ns ≡ from_place f from before
+goes_last f from before i ns late g =
+    let long = g.long in
+    let within = g.within in
+    let end : i ≡ length ns = omega arith in
+    sym (from_end f ns) ∙ ap (λ (j : ℕ). from_place f j ns) (sym end) ∙ g.left

@@ -5,13 +5,14 @@ use Rattle.std.proofs.lemmas.List.Elements.{All-nil, All-cons, All-head, All-tai
 use Rattle.std.proofs.lemmas.List.Sums.{sum_by-cons, sum_by-append}
 use Rattle.mv_history.specs.declared.Step.{Step}
 use Rattle.mv_history.specs.declared.StepKind.{StepKind}
-use Rattle.mv_history.specs.declared.StepKind.TheVariants.{LoadLow, StoreMark, LoadTime, LoadNamed, LoadCheck, SwapStamp}
 use Rattle.mv_layout.specs.declared.Config.{Config}
 use Rattle.mv_core.specs.declared.view.View.{View}
 use Rattle.mv_core.specs.EnterSteps.{mark_cleared}
 use Rattle.mv_core.proofs.Counts.{one_if}
 use Rattle.commit_clock.specs.Helps.{IsHelpStep}
+use Rattle.commit_clock.proofs.HelpKinds.{help_kind}
 use Rattle.reader_marks.specs.Sections.{IsEnterStep, Begins}
+use Rattle.reader_marks.proofs.EnterKinds.{enter_kind}
 use Rattle.seat_log.specs.Notes.{Noted}
 use Rattle.seat_log.specs.Stands.{is_free_kind, is_cut_kind, is_free, is_won_cut, Stands}
 use Rattle.seat_log.proofs.BuildsOn.{unpassed}
@@ -74,20 +75,11 @@ one_leaves s leaves = All-cons (λ (t : Step). LeavesLog t.kind) s [] leaves (Al
 
 -- the steps of entering a section leave the log alone
 enter_leaves : (kind : StepKind) → IsEnterStep kind → LeavesLog kind
-enter_leaves LoadLow h = (refl, refl)
-enter_leaves StoreMark h = (refl, refl)
-enter_leaves LoadTime h = (refl, refl)
-enter_leaves LoadNamed h = (refl, refl)
-enter_leaves LoadCheck h = (refl, refl)
-enter_leaves SwapStamp h = (refl, refl)
-enter_leaves _ h = absurd h
+enter_leaves = enter_kind LeavesLog (refl, refl) (refl, refl) (refl, refl) (refl, refl) (refl, refl) (refl, refl)
 
 -- and those of a help
 pub help_leaves : (kind : StepKind) → IsHelpStep kind → LeavesLog kind
-help_leaves LoadNamed h = (refl, refl)
-help_leaves LoadCheck h = (refl, refl)
-help_leaves SwapStamp h = (refl, refl)
-help_leaves _ h = absurd h
+help_leaves = help_kind LeavesLog (refl, refl) (refl, refl) (refl, refl)
 
 -- after a section was entered
 pub stands_entered : (c : Config) (v w : View) (l : Noted) (time : ℕ) → Begins c v w time → Stands c v l → Stands c w l

@@ -13,11 +13,13 @@ use Rattle.seat_log.specs.declared.version.Note.{Note}
 use Rattle.seat_log.specs.Notes.{Noted, built_count, IsNoteAt, IsNextOf, IsHeld, with_word, without_previous, cleared, built_word, built_word_noted}
 use Rattle.seat_log.specs.Stands.{version_of, IsWhole, HasBuilt, Stands}
 use Rattle.seat_log.specs.Builds.{IsOpen, build_at, stored_next}
+use Rattle.seat_log.proofs.Noting.{built_next}
 use Rattle.seat_log.proofs.BuildsOn.{BuildsOn, builds_first}
 use Rattle.seat_log.proofs.NotedSlots.{note_there, held_at}
-use Rattle.seat_log.proofs.Standing.{may_build, stands_on, built_is_log, built_next}
+use Rattle.seat_log.proofs.Standing.{may_build, stands_on, built_is_log}
 
-module _ (c : Config) (v w : View) (l : Noted) (n : Note) (position field x : ℕ) (k : Stands c v l) (built : l.built ≡ Some n) (at : n.position ≡ position) (open_is : IsOpen v) (is : w ≡ stored_next c v position field x) where
+module _ (c : Config) (v w : View) (l : Noted) (n : Note) (position field x : ℕ) (k : Stands c v l) (built : l.built ≡ Some n)
+    (at : n.position ≡ position) (open_is : IsOpen v) (is : w ≡ stored_next c v position field x) where
   -- one more store into the built slot
   stands_field : (m : Note) → ((b : Build) → IsWhole b n → IsWhole (built_too b field x) m) → IsNextOf l m → Stands c w (record l { built = Some m })
   stands_field m again next =
@@ -31,14 +33,17 @@ module _ (c : Config) (v w : View) (l : Noted) (n : Note) (position field x : �
       let b : Build = built_too o.0 field x in
       let same : build_at c v position ≡ o.0 = ap (λ z. unwrap_or (build_in z) nothing_built) (ap (λ p. slot_at v.ring (index_of c p)) here ∙ o.1) in
       let on : BuildsOn c v w position b =
-      subst (λ (a : Build). BuildsOn c v w position (built_too a field x)) same (subst (λ (u : View). BuildsOn c v u position (built_too (build_at c v position) field x)) (sym is) (builds_first c v position field x may.within)) in
+      subst (λ (a : Build). BuildsOn c v w position (built_too a field x)) same
+      (subst (λ (u : View). BuildsOn c v u position (built_too (build_at c v position) field x)) (sym is) (builds_first c v position field x may.within)) in
       let whole : IsWhole b m = again o.0 o.2 in
       let long : length b.words ≡ 6 = ap length whole.words ∙ length-map m.words Some ∙ whole.wide in
       let still : w.ring.next ≡ position = ap (λ (u : View). u.ring.next) on.rest ∙ sym here in
-      stands_on c v w l position b k room here on (Some m) (built_is_log l (Some m) (omega arith) next k.log) long (b, ap (λ p. slot_at w.ring (index_of c p)) still ∙ on.here, whole)
+      stands_on c v w l position b k room here on (Some m) (built_is_log l (Some m) (omega arith) next k.log) long
+      (b, ap (λ p. slot_at w.ring (index_of c p)) still ∙ on.here, whole)
 
 -- PREV of the built version is 0
-pub stands_cleared : (c : Config) (v w : View) (l : Noted) (n : Note) (position : ℕ) → Stands c v l → l.built ≡ Some n → n.position ≡ position → IsOpen v → w ≡ stored_next c v position 2 0 → Stands c w (cleared l)
+pub stands_cleared : (c : Config) (v w : View) (l : Noted) (n : Note) (position : ℕ) → Stands c v l → l.built ≡ Some n → n.position ≡ position
+    → IsOpen v → w ≡ stored_next c v position 2 0 → Stands c w (cleared l)
 stands_cleared c v w l n position k built at open_is is =
     let m : Note = record n { previous = 0 } in
     let next = built_next l n built k.log in
@@ -54,7 +59,8 @@ map-set (w ∷ ws) zero x = refl
 map-set (w ∷ ws) (suc i) x = ap (λ l. Some w ∷ l) (map-set ws i x)
 
 -- a data word of the built version is another one
-pub stands_built_word : (c : Config) (v w : View) (l : Noted) (n : Note) (position word value : ℕ) → Stands c v l → l.built ≡ Some n → n.position ≡ position → IsOpen v → w ≡ stored_next c v position (4 + word) value → Stands c w (built_word_noted l word value)
+pub stands_built_word : (c : Config) (v w : View) (l : Noted) (n : Note) (position word value : ℕ) → Stands c v l → l.built ≡ Some n
+    → n.position ≡ position → IsOpen v → w ≡ stored_next c v position (4 + word) value → Stands c w (built_word_noted l word value)
 stands_built_word c v w l n position word value k built at open_is is =
     let m : Note = with_word word value n in
     let next = built_next l n built k.log in

@@ -16,7 +16,8 @@ use Rattle.seat_log.proofs.Noting.{counted_is_log}
 use Rattle.seat_log.proofs.Stays.{stands_same}
 
 -- one more rest may be counted: what was seen has fewer entries
-pub rests_room : (starts : State → Type 0) (allows : List ℕ → State → Writes → Type 0) (c : Config) (v : View) (l : Noted) → Stands c v l → ∥ Known starts allows v ∥₁ → l.rests + 1 < 2 ^ 63
+pub rests_room : (starts : State → Type 0) (allows : List ℕ → State → Writes → Type 0) (c : Config) (v : View) (l : Noted) → Stands c v l
+    → ∥ Known starts allows v ∥₁ → l.rests + 1 < 2 ^ 63
 rests_room starts allows c v l k known =
     let own = own_seen starts allows v known in
     let rests = k.rests in
@@ -24,7 +25,8 @@ rests_room starts allows c v l k known =
     omega arith
 
 -- the log stands for the pass after a rest, with one more
-pub stands_rested : (c : Config) (v : View) (l : Noted) (word : ℕ) (h : List Entry) → Stands c v l → l.rests + 1 < 2 ^ 63 → Stands c (rest_named c v word h) (rest_noted l)
+pub stands_rested : (c : Config) (v : View) (l : Noted) (word : ℕ) (h : List Entry) → Stands c v l → l.rests + 1 < 2 ^ 63
+    → Stands c (rest_named c v word h) (rest_noted l)
 stands_rested c v l word h k room = record {
   seat = k.seat;
   slots = k.slots;
@@ -49,4 +51,5 @@ stands_rested c v l word h k room = record {
 
 -- and as it is after one whose exchange was lost
 pub stands_unrested : (c : Config) (v : View) (l : Noted) (found : ℕ) (h : List Entry) → Stands c v l → Stands c (rest_lost c v found h) l
-stands_unrested c v l found h k = stands_same c v (rest_lost c v found h) l refl refl refl refl (unpassed is_free v.trail _ refl) (unpassed is_won_cut v.trail _ refl) k
+stands_unrested c v l found h k =
+    stands_same c v (rest_lost c v found h) l refl refl refl refl (unpassed is_free v.trail _ refl) (unpassed is_won_cut v.trail _ refl) k

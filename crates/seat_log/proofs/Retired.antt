@@ -1,4 +1,5 @@
--- The log stands for the pass after a load of SUPER: a committed version is noted as dead where a time was found. What its log notes of a committed version, and the log after such a version is noted otherwise.
+-- The log stands for the pass after a load of SUPER: a committed version is noted as dead where a time was found. What its log notes of a committed
+-- version, and the log after such a version is noted otherwise.
 use Rattle.std.proofs.Common.{◌≡◌, ◌≢◌, ℕ, zero, suc, ◌+◌, ◌-◌, ◌<◌, ◌≤◌, nat_le, Bool, false, cond, count_by, List, length, refl, sym, ap, ◌∙◌, subst, ⊎_elim, arith, Option, Some, None, slice_get}
 use Rattle.std.proofs.lemmas.Bool.{ne_eqb}
 use Rattle.std.proofs.lemmas.List.{length-set, set-get_or}
@@ -43,30 +44,38 @@ module _ (c : Config) (v : View) (l : Noted) (i : ℕ) (n : Note) (k : Stands c 
   noted_live = let at = place_is in let lt = get_within l.live i n is_note in (omega arith, omega arith)
 
   -- a committed version is noted so, with its time and its death
-  pub as_committed : (note : CommitNote) → slot_at v.ring (index_of c n.position) ≡ Live (version_of n) (Committed note) → IsAsNoted (nat_le (held_from l) i) n (Committed note)
+  pub as_committed : (note : CommitNote) → slot_at v.ring (index_of c n.position) ≡ Live (version_of n) (Committed note)
+      → IsAsNoted (nat_le (held_from l) i) n (Committed note)
   as_committed note here =
       let h = k.live i n is_note in
       let lives : slot_at v.ring (index_of c n.position) ≡ Live (version_of n) h.status = ap (λ p. slot_at v.ring (index_of c p)) (sym place_is) ∙ h.lives in
-      subst (IsAsNoted (nat_le (held_from l) i) n) (live_once (slot_at v.ring (index_of c n.position)) (version_of n) (version_of n) h.status (Committed note) lives here).1 h.as_noted
+      subst (IsAsNoted (nat_le (held_from l) i) n)
+      (live_once (slot_at v.ring (index_of c n.position)) (version_of n) (version_of n) h.status (Committed note) lives here).1 h.as_noted
 
   -- a version that is noted with a time is committed at it, in its slot, with the death that is noted, and was not cut where none is
-  pub committed_at : 0 < n.time → (note : CommitNote) × (slot_at v.ring (index_of c n.position) ≡ Live (version_of n) (Committed note)) × (note.time ≡ n.time) × (note.dead ≡ death_of n.dead) × (n.dead ≡ 0 → note.cut ≡ false)
+  pub committed_at : 0 < n.time
+      → (note : CommitNote) × (slot_at v.ring (index_of c n.position) ≡ Live (version_of n) (Committed note)) × (note.time ≡ n.time)
+      × (note.dead ≡ death_of n.dead) × (n.dead ≡ 0 → note.cut ≡ false)
   committed_at time =
       let h = k.live i n is_note in
       let s = committed_status (nat_le (held_from l) i) n h.status h.as_noted time in
-      let here : slot_at v.ring (index_of c n.position) ≡ Live (version_of n) (Committed s.0) = ap (λ p. slot_at v.ring (index_of c p)) (sym place_is) ∙ h.lives ∙ ap (Live (version_of n)) s.1 in
+      let here : slot_at v.ring (index_of c n.position) ≡ Live (version_of n) (Committed s.0) =
+      ap (λ p. slot_at v.ring (index_of c p)) (sym place_is) ∙ h.lives ∙ ap (Live (version_of n)) s.1 in
       let a = as_committed s.0 here in
       (s.0, here, sym a.2, a.3, a.4)
 
   -- without a death it waits for none
-  pub no_death : (note : CommitNote) → slot_at v.ring (index_of c n.position) ≡ Live (version_of n) (Committed note) → n.dead ≡ 0 → (note.dead ≡ None) × (note.cut ≡ false)
+  pub no_death : (note : CommitNote) → slot_at v.ring (index_of c n.position) ≡ Live (version_of n) (Committed note) → n.dead ≡ 0
+      → (note.dead ≡ None) × (note.cut ≡ false)
   no_death note here alive = let a = as_committed note here in (a.3 ∙ ap death_of alive, a.4 alive)
 
   -- SUPER of it may be loaded
-  pub may_load_super : (note : CommitNote) → slot_at v.ring (index_of c n.position) ≡ Live (version_of n) (Committed note) → n.dead ≡ 0 → MayLoadSuper c v n.position (version_of n) note
+  pub may_load_super : (note : CommitNote) → slot_at v.ring (index_of c n.position) ≡ Live (version_of n) (Committed note) → n.dead ≡ 0
+      → MayLoadSuper c v n.position (version_of n) note
   may_load_super note here alive = let a = no_death note here alive in record { own = here; position_is = refl; no_death = a.0; uncut = a.1 }
 
--- The slot of a noted version has another note of its commit, and the log notes another death of it and another count of write-backs; nothing else of the log has changed.
+-- The slot of a noted version has another note of its commit, and the log notes another death of it and another count of write-backs; nothing else of
+-- the log has changed.
 pub record Renotes (c : Config) (v w : View) (l : Noted) (n : Note) (new : CommitNote) (dead back : ℕ) : Type 0 where
   pub number : w.number ≡ v.number
   pub ring : w.ring ≡ put_slot v.ring (index_of c n.position) (Live (version_of n) (Committed new))
@@ -80,7 +89,9 @@ pub record Renotes (c : Config) (v w : View) (l : Noted) (n : Note) (new : Commi
   pub death : new.dead ≡ death_of dead
   pub uncut : dead ≡ 0 → new.cut ≡ false
 
-module _ (c : Config) (v w : View) (l : Noted) (i : ℕ) (n : Note) (note new : CommitNote) (dead back : ℕ) (k : Stands c v l) (is_note : IsNoteAt l i n) (here : slot_at v.ring (index_of c n.position) ≡ Live (version_of n) (Committed note)) (e : Renotes c v w l n new dead back) where
+module _ (c : Config) (v w : View) (l : Noted) (i : ℕ) (n : Note) (note new : CommitNote) (dead back : ℕ) (k : Stands c v l)
+    (is_note : IsNoteAt l i n) (here : slot_at v.ring (index_of c n.position) ≡ Live (version_of n) (Committed note))
+    (e : Renotes c v w l n new dead back) where
   abbrev m : Noted
   m = record (retired l n.position dead) { back = back }
 
@@ -124,7 +135,9 @@ module _ (c : Config) (v w : View) (l : Noted) (i : ℕ) (n : Note) (note new : 
   built_still : (o : Option Note) → HasBuilt c v.ring o → HasBuilt c put o
   built_still None a = tt
   built_still (Some b) a =
-      let ne : index_of c v.ring.next ≢ index_of c n.position = λ same. let f : Built a.0 ≡ Live (version_of n) (Committed note) = sym a.1 ∙ ap (slot_at v.ring) same ∙ here in absurd (cc) in
+      let ne : index_of c v.ring.next ≢ index_of c n.position =
+      λ same. let f : Built a.0 ≡ Live (version_of n) (Committed note) = sym a.1 ∙ ap (slot_at v.ring) same ∙ here in
+      absurd (cc) in
       (a.0, slot_else v.ring (index_of c n.position) (index_of c v.ring.next) z ne ∙ a.1, a.2)
 
   noted_then : (j : ℕ) (a : Note) → IsNoteAt m j a → HasNoted c put (m.freed + j) (nat_le (held_from m) j) a
@@ -143,16 +156,20 @@ module _ (c : Config) (v w : View) (l : Noted) (i : ℕ) (n : Note) (note new : 
       let flag : nat_le (held_from m) j ≡ nat_le (held_from l) i = (λ q. nat_le (heads q) (at_i q)) in
       record {
         status = Committed new;
-        lives = ap (λ p. slot_at put (index_of c p)) there ∙ slot_here v.ring (index_of c n.position) z within ∙ ap (λ (b : Note). Live (version_of b) (Committed new)) new_is;
-        as_noted = subst (λ b. IsAsNoted b a (Committed new)) (sym flag) (subst (λ (b : Note). IsAsNoted (nat_le (held_from l) i) b (Committed new)) new_is noted);
+        lives = ap (λ p. slot_at put (index_of c p)) there ∙ slot_here v.ring (index_of c n.position) z within
+            ∙ ap (λ (b : Note). Live (version_of b) (Committed new)) new_is;
+        as_noted =
+            subst (λ b. IsAsNoted b a (Committed new)) (sym flag) (subst (λ (b : Note). IsAsNoted (nat_le (held_from l) i) b (Committed new)) new_is noted);
       })
       (λ y.
       let in_range = get_within l.live j r.0 r.1 in
       let ne : j ≢ i = λ at_i. y.0 (at_i ∙ sym at_is) in
       record {
         status = old.status;
-        lives = slot_else v.ring (index_of c n.position) (index_of c (l.freed + j)) z (else_slot j in_range ne) ∙ old.lives ∙ ap (λ (b : Note). Live (version_of b) old.status) (sym y.1);
-        as_noted = subst (λ q. IsAsNoted (nat_le q j) a old.status) (sym heads) (subst (λ (b : Note). IsAsNoted (nat_le (held_from l) j) b old.status) (sym y.1) old.as_noted);
+        lives = slot_else v.ring (index_of c n.position) (index_of c (l.freed + j)) z (else_slot j in_range ne) ∙ old.lives
+            ∙ ap (λ (b : Note). Live (version_of b) old.status) (sym y.1);
+        as_noted = subst (λ q. IsAsNoted (nat_le q j) a old.status) (sym heads)
+            (subst (λ (b : Note). IsAsNoted (nat_le (held_from l) j) b old.status) (sym y.1) old.as_noted);
       })
       r.2
 
@@ -165,7 +182,8 @@ module _ (c : Config) (v w : View) (l : Noted) (i : ℕ) (n : Note) (note new : 
         seat = k.seat ∙ sym e.number;
         slots = k.slots;
         wide = length-set v.ring.slots s z ∙ k.wide;
-        log = counted_is_log (retired l n.position dead) back l.rests (let few = e.few in omega arith) k.log.rests (renoted_is_log l (λ (x : Note). record x { dead = dead }) (n.position - l.freed) (λ a. (refl, refl)) k.log);
+        log = counted_is_log (retired l n.position dead) back l.rests (let few = e.few in omega arith) k.log.rests
+            (renoted_is_log l (λ (x : Note). record x { dead = dead }) (n.position - l.freed) (λ a. (refl, refl)) k.log);
         next = k.next ∙ sym next;
         held = count_same v.ring s z within is_held (sym (ap is_held here)) ∙ k.held;
         live = noted_then;
@@ -188,7 +206,9 @@ module _ (c : Config) (v w : View) (l : Noted) (i : ℕ) (n : Note) (note new : 
 
   -- the log stands for the pass after it
   pub stands_renoted : Stands c w (record (retired l n.position dead) { back = back })
-  stands_renoted = stands_same c (record w { ring = put_slot v.ring (index_of c n.position) (Live (version_of n) (Committed new)) }) w m refl e.ring refl refl refl refl put_stands
+  stands_renoted =
+      stands_same c (record w { ring = put_slot v.ring (index_of c n.position) (Live (version_of n) (Committed new)) }) w m refl e.ring refl refl refl
+      refl put_stands
 
 -- a time that is a death
 pub death_is : (t : ℕ) → 0 < t → death_of t ≡ Some t
@@ -205,7 +225,8 @@ unfound_note note = refl
 
 module _ (c : Config) (v : View) (l : Noted) (i : ℕ) (n : Note) (note : CommitNote) (found : ℕ) (seen : List Entry) (k : Stands c v l) where
   -- the log stands for the pass after a load of SUPER of a version with no death, with the death that was found
-  pub stands_found : IsNoteAt l i n → slot_at v.ring (index_of c n.position) ≡ Live (version_of n) (Committed note) → n.dead ≡ 0 → 0 < found → Stands c (super_loaded c v n.position (version_of n) note found seen) (retired l n.position found)
+  pub stands_found : IsNoteAt l i n → slot_at v.ring (index_of c n.position) ≡ Live (version_of n) (Committed note) → n.dead ≡ 0 → 0 < found
+      → Stands c (super_loaded c v n.position (version_of n) note found seen) (retired l n.position found)
   stands_found is_note here alive some_time =
       let s = index_of c n.position in
       let new : CommitNote = record note { dead = Some found } in
@@ -218,7 +239,8 @@ module _ (c : Config) (v : View) (l : Noted) (i : ℕ) (n : Note) (note : Commit
         rests = refl;
         frees = unpassed is_free v.trail _ refl;
         backs = k.backs ∙ sym (unpassed is_won_cut v.trail _ refl);
-        cuts = subst (λ q. l.back ≤ l.freed + q) (sym (count_same v.ring s (Live (version_of n) (Committed new)) in_range is_cut (sym (ap is_cut here)))) k.cuts;
+        cuts =
+            subst (λ q. l.back ≤ l.freed + q) (sym (count_same v.ring s (Live (version_of n) (Committed new)) in_range is_cut (sym (ap is_cut here)))) k.cuts;
         few = k.log.backs;
         time = a.2;
         death = sym (death_is found some_time);
@@ -226,10 +248,14 @@ module _ (c : Config) (v : View) (l : Noted) (i : ℕ) (n : Note) (note : Commit
       })
 
   -- and as it is where none was found
-  pub stands_unfound : slot_at v.ring (index_of c n.position) ≡ Live (version_of n) (Committed note) → found ≡ 0 → Stands c (super_loaded c v n.position (version_of n) note found seen) l
+  pub stands_unfound : slot_at v.ring (index_of c n.position) ≡ Live (version_of n) (Committed note) → found ≡ 0
+      → Stands c (super_loaded c v n.position (version_of n) note found seen) l
   stands_unfound here none =
       let s = index_of c n.position in
       let same : super_note note found ≡ note = ap (super_note note) none ∙ unfound_note note in
-      let slot : Live (version_of n) (Committed (super_note note found)) ≡ slot_at v.ring s = ap (λ (x : CommitNote). Live (version_of n) (Committed x)) same ∙ sym here in
-      let ring : put_slot v.ring s (Live (version_of n) (Committed (super_note note found))) ≡ v.ring = ap (put_slot v.ring s) slot ∙ (λ q. record v.ring { slots = set-get_or v.ring.slots s Free q }) in
-      stands_same c v (super_loaded c v n.position (version_of n) note found seen) l refl ring refl refl (unpassed is_free v.trail _ refl) (unpassed is_won_cut v.trail _ refl) k
+      let slot : Live (version_of n) (Committed (super_note note found)) ≡ slot_at v.ring s =
+      ap (λ (x : CommitNote). Live (version_of n) (Committed x)) same ∙ sym here in
+      let ring : put_slot v.ring s (Live (version_of n) (Committed (super_note note found))) ≡ v.ring =
+      ap (put_slot v.ring s) slot ∙ (λ q. record v.ring { slots = set-get_or v.ring.slots s Free q }) in
+      stands_same c v (super_loaded c v n.position (version_of n) note found seen) l refl ring refl refl (unpassed is_free v.trail _ refl)
+      (unpassed is_won_cut v.trail _ refl) k

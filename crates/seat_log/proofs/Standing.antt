@@ -62,8 +62,10 @@ module _ (c : Config) (v : View) (l : Noted) (k : Stands c v l) where
       absurd (cc)
 
 -- the counts are those of the view after a build
-module _ (c : Config) (v w : View) (l : Noted) (position : ℕ) (b : Build) (k : Stands c v l) (room : length l.live < l.slots) (at : position ≡ v.ring.next) (on : BuildsOn c v w position b) where
-  spare_was : (test : Slot → Bool) → ((a d : Build) → test (Built a) ≡ test (Built d)) → test Free ≡ test (Built nothing_built) → (a : Build) → test (Built a) ≡ test (slot_at v.ring (index_of c position))
+module _ (c : Config) (v w : View) (l : Noted) (position : ℕ) (b : Build) (k : Stands c v l) (room : length l.live < l.slots)
+    (at : position ≡ v.ring.next) (on : BuildsOn c v w position b) where
+  spare_was : (test : Slot → Bool) → ((a d : Build) → test (Built a) ≡ test (Built d)) → test Free ≡ test (Built nothing_built) → (a : Build)
+      → test (Built a) ≡ test (slot_at v.ring (index_of c position))
   spare_was test same free a = go (slot_at v.ring (index_of c position)) refl
     where
       go : (z : Slot) → slot_at v.ring (index_of c position) ≡ z → test (Built a) ≡ test z
@@ -96,7 +98,9 @@ module _ (c : Config) (v w : View) (l : Noted) (position : ℕ) (b : Build) (k :
     none_freeing = λ j p first e. k.none_freeing j p first (was j (Freeing p first) (λ a f. let g : Built a ≡ Freeing p first = f in absurd (cc)) e);
     builds = λ j a e.
         dite (ℕ_discrete j (index_of c position))
-        (λ here. let same : Built b ≡ Built a = sym on.here ∙ sym (ap (slot_at w.ring) here) ∙ e in let one : b ≡ a = cc in subst (λ (d : Build). length d.words ≡ 6) one long)
+        (λ here.
+        let same : Built b ≡ Built a = sym on.here ∙ sym (ap (slot_at w.ring) here) ∙ e in
+        let one : b ≡ a = cc in subst (λ (d : Build). length d.words ≡ 6) one long)
         (λ ne. k.builds j a (sym (on.others j ne) ∙ e));
     built = has;
     spare = ap (λ n. n + length l.live) (on.counts is_spare (spare_was is_spare (λ a d. refl) refl)) ∙ k.spare;
@@ -135,12 +139,9 @@ built_is_log l o room is k = record {
     next_of_same None a = tt
     next_of_same (Some n) a = a
 
--- the note that is built
-pub built_next : (l : Noted) (n : Note) → l.built ≡ Some n → IsLog l → IsNextOf l n
-built_next l n e k = subst (λ o. IfSome o (IsNextOf l)) e k.built
-
 -- after a build
-pub stands_built : (c : Config) (v w : View) (l : Noted) (object previous : ℕ) (words : List ℕ) → Stands c v l → IsOpen v → length l.live < l.slots → length words ≡ 6 → next_of l < 2 ^ 57 → w ≡ slot_built c v (next_of l) (first_of l) previous words
+pub stands_built : (c : Config) (v w : View) (l : Noted) (object previous : ℕ) (words : List ℕ) → Stands c v l → IsOpen v → length l.live < l.slots
+    → length words ≡ 6 → next_of l < 2 ^ 57 → w ≡ slot_built c v (next_of l) (first_of l) previous words
     → Stands c w (built_noted l (next_note l object previous words))
 stands_built c v w l object previous words k open_is room long small is =
     let position : ℕ = next_of l in

@@ -20,12 +20,12 @@ use Rattle.seat_log.specs.declared.version.Note.{Note}
 use Rattle.seat_log.specs.Notes.{Noted, next_of, held_from, built_list, IsNextOf, held_noted}
 use Rattle.seat_log.specs.Stands.{version_of, IsAsNoted, HasNoted, HasBuilt, is_cut, cut_count, is_free, is_won_cut, writes_in, Stands}
 use Rattle.seat_log.proofs.Places.{push_before}
-use Rattle.seat_log.proofs.Noting.{held_is_log}
+use Rattle.seat_log.proofs.Noting.{built_next, held_is_log}
 use Rattle.seat_log.proofs.BuildsOn.{unpassed}
-use Rattle.seat_log.proofs.Standing.{built_next}
 
 -- after steps that leave the own log, its commits and its rests alone, and neither free a slot nor cut a chain
-pub stands_same : (c : Config) (v w : View) (l : Noted) → w.number ≡ v.number → w.ring ≡ v.ring → w.past.mine ≡ v.past.mine → w.past.rests ≡ v.past.rests → count_by is_free w.trail ≡ count_by is_free v.trail
+pub stands_same : (c : Config) (v w : View) (l : Noted) → w.number ≡ v.number → w.ring ≡ v.ring → w.past.mine ≡ v.past.mine
+    → w.past.rests ≡ v.past.rests → count_by is_free w.trail ≡ count_by is_free v.trail
     → count_by is_won_cut w.trail ≡ count_by is_won_cut v.trail → Stands c v l → Stands c w l
 stands_same c v w l number ring mine rests frees backs k = record {
   seat = k.seat ∙ sym number;
@@ -50,7 +50,8 @@ stands_same c v w l number ring mine rests frees backs k = record {
 }
 
 -- after a won lock of the built version, with what it was built with
-module _ (c : Config) (v : View) (l : Noted) (n : Note) (inside : Section) (k : Stands c v l) (built : l.built ≡ Some n) (words : n.words ≡ words_of c v.start v.past.seen (time_in inside) n.object) where
+module _ (c : Config) (v : View) (l : Noted) (n : Note) (inside : Section) (k : Stands c v l) (built : l.built ≡ Some n)
+    (words : n.words ≡ words_of c v.start v.past.seen (time_in inside) n.object) where
   abbrev s : ℕ
   s = index_of c n.position
 
@@ -92,14 +93,16 @@ module _ (c : Config) (v : View) (l : Noted) (n : Note) (inside : Section) (k : 
             ⊎_elim
             (λ a.
             let h = k.live i m a.1 in
-            let ne : index_of c (l.freed + i) ≢ s = λ f. let g : Built o.0 ≡ Live (version_of m) h.status = sym here ∙ ap (slot_at v.ring) (sym f) ∙ h.lives in absurd (cc) in
+            let ne : index_of c (l.freed + i) ≢ s = λ f. let g : Built o.0 ≡ Live (version_of m) h.status = sym here ∙ ap (slot_at v.ring) (sym f) ∙ h.lives in
+            absurd (cc) in
             record { status = h.status; lives = slot_else v.ring s (index_of c (l.freed + i)) z ne ∙ h.lives; as_noted = subst (λ j. IsAsNoted (nat_le j i) m h.status) (sym from) h.as_noted })
             (λ b.
             let there : l.freed + i ≡ n.position = ap (λ j. l.freed + j) b.0 ∙ sym is.0 in
             let flag : nat_le (held_from (held_noted l)) i ≡ true = le-leb (held_from (held_noted l)) i (let q = b.0 in omega arith) in
             record {
               status = Held;
-              lives = ap (λ p. slot_at (put_slot v.ring (index_of c n.position) z) (index_of c p)) there ∙ slot_here v.ring s z within ∙ z_is ∙ ap (λ (x : Note). Live (version_of x) Held) (sym b.1);
+              lives = ap (λ p. slot_at (put_slot v.ring (index_of c n.position) z) (index_of c p)) there ∙ slot_here v.ring s z within ∙ z_is
+                  ∙ ap (λ (x : Note). Live (version_of x) Held) (sym b.1);
               as_noted = (flag, ap (λ (x : Note). x.time) b.1 ∙ is.2, ap (λ (x : Note). x.dead) b.1 ∙ is.3);
             })
             (push_before l.live n i m (ap (λ ns. slice_get ns i) (sym live) ∙ e));
@@ -120,8 +123,10 @@ module _ (c : Config) (v : View) (l : Noted) (n : Note) (inside : Section) (k : 
         all_used = λ none. let all = k.all_used none in (omega arith);
       }
     where
-      was : (z : Slot) (within : index_of c n.position < length v.ring.slots) (j : ℕ) (y : Slot) → (z ≢ y) → slot_at (put_slot v.ring (index_of c n.position) z) j ≡ y → slot_at v.ring j ≡ y
+      was : (z : Slot) (within : index_of c n.position < length v.ring.slots) (j : ℕ) (y : Slot) → (z ≢ y)
+          → slot_at (put_slot v.ring (index_of c n.position) z) j ≡ y → slot_at v.ring j ≡ y
       was z within j y other e =
           dite (ℕ_discrete j (index_of c n.position))
-          (λ at_s. absurd (other (sym (slot_here v.ring (index_of c n.position) z within) ∙ ap (slot_at (put_slot v.ring (index_of c n.position) z)) (sym at_s) ∙ e)))
+          (λ at_s.
+          absurd (other (sym (slot_here v.ring (index_of c n.position) z within) ∙ ap (slot_at (put_slot v.ring (index_of c n.position) z)) (sym at_s) ∙ e)))
           (λ ne. sym (slot_else v.ring (index_of c n.position) j z ne) ∙ e)

@@ -1,11 +1,13 @@
 -- Building a version in the next slot of the own log: what the calls need of the view, and what they make of it.
-use Rattle.std.specs.Prelude.{◌≡◌, ℕ, zero, suc, ◌+◌, ◌<◌, ◌==◌, if◌then◌else◌, List, [], length, Some, unwrap_or, slice_index}
+use Rattle.std.specs.Prelude.{◌≡◌, ℕ, zero, suc, ◌+◌, ◌<◌, ◌==◌, if◌then◌else◌, false, List, [], length, Some, None, unwrap_or, slice_index}
 use Rattle.mv_layout.specs.declared.Config.{Config}
 use Rattle.mv_layout.specs.Words.{unset_of}
 use Rattle.mv_core.specs.declared.ring.Build.{Build}
 use Rattle.mv_core.specs.declared.ring.Slot.{Slot}
 use Rattle.mv_core.specs.declared.ring.Slot.TheVariants.{Live}
 use Rattle.mv_core.specs.declared.ring.Version.{Version}
+use Rattle.mv_core.specs.declared.ring.Status.TheVariants.{Committed}
+use Rattle.mv_core.specs.declared.ring.CommitNote.{CommitNote}
 use Rattle.mv_core.specs.declared.view.View.{View}
 use Rattle.mv_core.specs.declared.view.Phase.TheVariants.{Inside}
 use Rattle.mv_core.specs.declared.view.Section.{Section}
@@ -62,6 +64,11 @@ first_in v = set_first v.ring
 abbrev pub version_in : Slot → Version
 version_in (Live x st) = x
 version_in _ = record { position = 0; first = 0; object = 0; previous = 0; words = [] }
+
+-- what is noted of the commit of the version in a slot; it tells nothing of another slot
+abbrev pub note_in : Slot → CommitNote
+note_in (Live x (Committed note)) = note
+note_in _ = record { time = 0; dead = None; cut = false; linked = false }
 
 -- the version at a position of the own log
 abbrev pub version_at : Config → View → ℕ → Version

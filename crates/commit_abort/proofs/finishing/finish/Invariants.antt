@@ -1,5 +1,6 @@
 use Rattle.mv_core.specs.Passes.{view}
-use Rattle.commit_abort.specs.Finishes.{section_in, named_in}
+use Rattle.reader_marks.specs.Sections.{section_in}
+use Rattle.commit_abort.specs.Finishes.{named_in}
 use Rattle.commit_abort.proofs.finishing.finish.Given as goal
 
 abbrev pub ghost-stamp_own : goal.ghost-stamp_own

@@ -21,7 +21,9 @@ tell_one-requires g c κs within =
           search rules,
           (
             search rules,
-            λ n at. may_tell (config_of c.args.shared.now) (view c.args.pass.now) c.args.log.now c.args.time c.requires.1.1.1.1 (view c.loop-index.pass) c.loop-index.index n at from c.loop-index.invariant.tells g.at.inside g.at.first c.requires.1.1.1.0,
+            λ n at.
+                may_tell (config_of c.args.shared.now) (view c.args.pass.now) c.args.log.now c.args.time c.requires.1.1.1.1 (view c.loop-index.pass)
+                c.loop-index.index n at from c.loop-index.invariant.tells g.at.inside g.at.first c.requires.1.1.1.0,
           ),
         ),
       ),
@@ -35,7 +37,9 @@ loop-index-preserved g c =
     let lt = c.loop-index-test.true in
     let from : held_from c.args.log.now ≤ c.loop-index.index = omega arith in
     let n = note_there c.args.log.now.live c.loop-index.index (omega arith) in
-    let more = tells_more (config_of c.args.shared.now) (view c.args.pass.now) c.args.log.now c.args.time c.requires.1.1.1.1 (view c.loop-index.pass) c.loop-index.index n.0 n.1 from c.loop-index.invariant.tells (view c.tell_one.new.pass) _ _ (c.tell_one.ensures.tells n.0 n.1) in
+    let more =
+    tells_more (config_of c.args.shared.now) (view c.args.pass.now) c.args.log.now c.args.time c.requires.1.1.1.1 (view c.loop-index.pass)
+    c.loop-index.index n.0 n.1 from c.loop-index.invariant.tells (view c.tell_one.new.pass) _ _ (c.tell_one.ensures.tells n.0 n.1) in
     let one = more.1 in
     let cost = c.loop-index.invariant.cost in
     record { of = search rules; same = search rules; tells = more.0; cost = omega arith }

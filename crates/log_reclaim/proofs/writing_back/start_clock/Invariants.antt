@@ -1,5 +1,5 @@
 use Rattle.mv_core.specs.Passes.{view}
-use Rattle.log_reclaim.proofs.Picks.{section_in}
+use Rattle.reader_marks.specs.Sections.{section_in}
 use Rattle.log_reclaim.proofs.writing_back.start_clock.Given as goal
 
 abbrev pub ghost-load_head : goal.ghost-load_head

@@ -21,5 +21,7 @@ loop-index-preserved g c =
     let lt = c.loop-index-test.true in
     let from : held_from c.args.log.now ≤ c.loop-index.index = omega arith in
     let n = note_there c.args.log.now.live c.loop-index.index (omega arith) in
-    let more = tells_more (config_of c.args.shared.now) (view c.args.pass.now) c.args.log.now c.args.time c.requires.1.1.1.0 (view c.loop-index.pass) c.loop-index.index n.0 n.1 from c.loop-index.invariant.tells (view c.tell_one.new.pass) _ _ (c.tell_one.ensures.tells n.0 n.1) in
+    let more =
+    tells_more (config_of c.args.shared.now) (view c.args.pass.now) c.args.log.now c.args.time c.requires.1.1.1.0 (view c.loop-index.pass)
+    c.loop-index.index n.0 n.1 from c.loop-index.invariant.tells (view c.tell_one.new.pass) _ _ (c.tell_one.ensures.tells n.0 n.1) in
     record { of = search rules; same = search rules; tells = more.0 }

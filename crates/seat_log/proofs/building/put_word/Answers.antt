@@ -5,10 +5,10 @@ use Rattle.seat_log.specs.declared.version.Note.{Note}
 use Rattle.seat_log.specs.Notes.{Noted, next_of, IsBuilt, IsHeld, with_word, at_place, built_word_noted, word_noted}
 use Rattle.seat_log.specs.Stands.{Stands}
 use Rattle.seat_log.specs.Builds.{ChangesLog}
+use Rattle.seat_log.proofs.Noting.{built_next}
 use Rattle.seat_log.proofs.Changes.{next_changes, word_changes}
 use Rattle.seat_log.specs.contracts.log.Log.{the_view}
 use Rattle.seat_log.proofs.Places.{at_set}
-use Rattle.seat_log.proofs.Standing.{built_next}
 use Rattle.seat_log.proofs.Rebuilding.{stands_built_word}
 use Rattle.seat_log.proofs.HeldWords.{may_word, stands_word}
 use Rattle.seat_log.proofs.building.put_word.Goals as goal
@@ -20,12 +20,14 @@ returns-then-position-log-clause-stands g c =
     let e = c.len.ensures in
     let next : next_of (the_view c.log.inside) ≡ next_of c.args.log.now = ap next_of c.log.view_is in
     let there : IsBuilt c.args.log.now c.args.position = ⊎_elim (λ b. b) (λ h. let low = h.1 in absurd (omega arith)) c.requires.there in
-    subst (λ (o : Option Note). Stands (config_of c.args.shared.now) (view c.store_next.new.pass) (record (the_view c.log.inside) { built = o })) (sym c.built_with_word-log-inside.ensures)
+    subst (λ (o : Option Note). Stands (config_of c.args.shared.now) (view c.store_next.new.pass) (record (the_view c.log.inside) { built = o }))
+    (sym c.built_with_word-log-inside.ensures)
     (subst (λ (m : Noted). Stands (config_of c.args.shared.now) (view c.store_next.new.pass) (built_word_noted m c.args.word c.args.value)) (sym c.log.view_is)
     (stands_built_word (config_of c.args.shared.now) (view c.args.pass.now) (view c.store_next.new.pass) c.args.log.now there.0 c.args.position c.args.word c.args.value c.requires.stands there.1 there.2 c.requires.open c.store_next.ensures.view))
 
 -- where nothing is built there, the version is held
-held_at : (c : Noted) (position freed len : ℕ) → IsBuilt c position ⊎ IsHeld c position → ((n : Note) → c.built ≡ Some n → n.position ≡ next_of c) → next_of c ≡ freed + len → (position ≡ freed + len → ⊥) → IsHeld c position
+held_at : (c : Noted) (position freed len : ℕ) → IsBuilt c position ⊎ IsHeld c position → ((n : Note) → c.built ≡ Some n → n.position ≡ next_of c)
+    → next_of c ≡ freed + len → (position ≡ freed + len → ⊥) → IsHeld c position
 held_at l position freed len there built next ne = ⊎_elim (λ b. absurd (ne (sym b.2 ∙ built b.0 b.1 ∙ next))) (λ h. h) there
 
 pub store_data-requires : goal.store_data-requires
@@ -33,8 +35,11 @@ store_data-requires g c =
     let long = c.log.inside.live.ok.0 in
     let e = c.len.ensures in
     let next : next_of (the_view c.log.inside) ≡ next_of c.args.log.now = ap next_of c.log.view_is in
-    let held : IsHeld c.args.log.now c.args.position = held_at c.args.log.now c.args.position c.log.inside.freed c.len.result c.requires.there (λ n b. (built_next c.args.log.now n b c.requires.stands.log).0) (omega arith) c.if-position-log.false in
-    λ lives in_lives. (in_lives.0, (in_lives.1, (c.requires.of, may_word (config_of c.args.shared.now) (view c.args.pass.now) c.args.log.now c.args.position c.args.word c.args.value c.requires.stands held c.requires.open c.requires.range)))
+    let held : IsHeld c.args.log.now c.args.position =
+    held_at c.args.log.now c.args.position c.log.inside.freed c.len.result c.requires.there
+    (λ n b. (built_next c.args.log.now n b c.requires.stands.log).0) (omega arith) c.if-position-log.false in
+    λ lives in_lives.
+    (in_lives.0, (in_lives.1, (c.requires.of, may_word (config_of c.args.shared.now) (view c.args.pass.now) c.args.log.now c.args.position c.args.word c.args.value c.requires.stands held c.requires.open c.requires.range)))
 
 module _ (g : _) (c : goal.After-log-2-1 g) where
   held : IsHeld c.args.log.now c.args.position
@@ -42,9 +47,11 @@ module _ (g : _) (c : goal.After-log-2-1 g) where
       let long = c.log.inside.live.ok.0 in
       let e = c.len.ensures in
       let next : next_of (the_view c.log.inside) ≡ next_of c.args.log.now = ap next_of c.log.view_is in
-      held_at c.args.log.now c.args.position c.log.inside.freed c.len.result c.requires.there (λ n b. (built_next c.args.log.now n b c.requires.stands.log).0) (omega arith) c.if-position-log.false
+      held_at c.args.log.now c.args.position c.log.inside.freed c.len.result c.requires.there
+      (λ n b. (built_next c.args.log.now n b c.requires.stands.log).0) (omega arith) c.if-position-log.false
 
-  items : slice_set c.log.inside.live.items (c.args.position - c.log.inside.freed) c.with_word.result ≡ at_place (with_word c.args.word c.args.value) (c.args.position - c.log.inside.freed) c.log.inside.live.items
+  items : slice_set c.log.inside.live.items (c.args.position - c.log.inside.freed) c.with_word.result
+      ≡ at_place (with_word c.args.word c.args.value) (c.args.position - c.log.inside.freed) c.log.inside.live.items
   items =
       let few = c.log.invariant.1.held in
       let h : IsHeld (the_view c.log.inside) c.args.position = subst (λ (m : Noted). IsHeld m c.args.position) (sym c.log.view_is) held in
@@ -75,7 +82,10 @@ returns-clause-held g c = λ h. (
 
 pub returns-then-position-log-clause-rest : goal.returns-then-position-log-clause-rest
 returns-then-position-log-clause-rest g c =
-    subst (λ (w : View). ChangesLog (view c.args.pass.now) w) (sym c.store_next.ensures.view) (next_changes (config_of c.args.shared.now) (view c.args.pass.now) c.args.position (4 + c.args.word) c.args.value)
+    subst (λ (w : View). ChangesLog (view c.args.pass.now) w) (sym c.store_next.ensures.view)
+    (next_changes (config_of c.args.shared.now) (view c.args.pass.now) c.args.position (4 + c.args.word) c.args.value)
 
 pub returns-clause-rest : goal.returns-clause-rest
-returns-clause-rest g c = subst (λ (w : View). ChangesLog (view c.args.pass.now) w) (sym c.store_data.ensures.view) (word_changes (config_of c.args.shared.now) (view c.args.pass.now) c.args.position c.args.word c.args.value)
+returns-clause-rest g c =
+    subst (λ (w : View). ChangesLog (view c.args.pass.now) w) (sym c.store_data.ensures.view)
+    (word_changes (config_of c.args.shared.now) (view c.args.pass.now) c.args.position c.args.word c.args.value)

@@ -1,7 +1,7 @@
 use Rattle.std.proofs.Common.{◌≡◌, sym, ◌∙◌, subst, arith, ap}
-use Rattle.atomic_table.proofs.Lists.{at_index}
 use Rattle.mv_core.specs.declared.view.View.{View}
 use Rattle.mv_core.specs.Passes.{view, config_of, start_of}
+use Rattle.mv_core.proofs.NewPasses.{new_is_of, new_view_is, new_may_enter}
 use Rattle.mv_layout.specs.declared.Config.{Config}
 use Rattle.mv_layout.specs.Limits.{Checked}
 use Rattle.seat_log.specs.Notes.{Noted, nothing_noted}
@@ -11,18 +11,15 @@ use Rattle.seat_log.proofs.tests.first_section.Goals as goal
 
 pub build_again-built-requires-clause-of : goal.build_again-built-requires-clause-of
 build_again-built-requires-clause-of g c =
-    let p = c.index_mut.result.now in
     let n = c.in_ok-shared.ensures.count in
     let l = c.in_ok-shared.passes.ok.0 in
-    (c.in_ok-shared.ensures.each 0 p (at_index c.in_ok-shared.passes.items 0 p (omega arith) c.index_mut.ensures.value)).0
+    new_is_of c.in_ok-shared.shared _ c.in_ok-shared.ensures.each 0 c.index_mut.result.now (omega arith) c.index_mut.ensures.value
 
 pub build_again-built-requires-clause-may : goal.build_again-built-requires-clause-may
 build_again-built-requires-clause-may g c =
-    let p = c.index_mut.result.now in
     let n = c.in_ok-shared.ensures.count in
     let l = c.in_ok-shared.passes.ok.0 in
-    let is = (c.in_ok-shared.ensures.each 0 p (at_index c.in_ok-shared.passes.items 0 p (omega arith) c.index_mut.ensures.value)).2 in
-    record { outside = ap (λ (v : View). v.phase) is; no_scan = ap (λ (v : View). v.scan) is }
+    new_may_enter c.in_ok-shared.shared _ c.in_ok-shared.ensures.each 0 c.index_mut.result.now (omega arith) c.index_mut.ensures.value
 
 pub build_again-built-requires-clause-stands : goal.build_again-built-requires-clause-stands
 build_again-built-requires-clause-stands g c =
@@ -30,7 +27,7 @@ build_again-built-requires-clause-stands g c =
     let n = c.in_ok-shared.ensures.count in
     let l = c.in_ok-shared.passes.ok.0 in
     let d : Config = config_of c.in_ok-shared.shared in
-    let is = (c.in_ok-shared.ensures.each 0 p (at_index c.in_ok-shared.passes.items 0 p (omega arith) c.index_mut.ensures.value)).2 in
+    let is = new_view_is c.in_ok-shared.shared _ c.in_ok-shared.ensures.each 0 p (omega arith) c.index_mut.ensures.value in
     let about = c.in_ok-shared.ensures.about.0 in
     let checked : Checked d = subst Checked (sym c.in_ok-shared.shared.about) c.in_ok-shared.shared.checked in
     let some_seats = checked.seats.0 in

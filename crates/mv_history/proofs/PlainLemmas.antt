@@ -1,19 +1,18 @@
 -- Lemmas on the plain store's lists.
-use Rattle.std.proofs.Common.{◌≡◌, ◌≢◌, ℕ, zero, suc, ◌+◌, ◌-◌, ◌<◌, ◌≤◌, true, false, ◌||◌, List, [], ◌∷◌, ◌++◌, length, get_or, take, drop, set, map, refl, sym, ap, ◌∙◌, ⊎_elim, arith, length-append, length-take, length-take-le}
+use Rattle.std.proofs.Common.{◌≡◌, ◌≢◌, ℕ, zero, suc, ◌+◌, ◌-◌, ◌<◌, ◌≤◌, true, false, ◌||◌, List, [], ◌∷◌, ◌++◌, length, get_or, take, set, map, refl, sym, ap, ◌∙◌, ⊎_elim, arith, length-append, length-take}
 use Rattle.std.specs.Prelude.{Some, slice_get}
 use Rattle.std.proofs.lemmas.Bool.{or_cases}
 use Rattle.std.proofs.lemmas.Bool.Decides.{nat_tests}
-use Rattle.std.proofs.lemmas.List.{length-map, map_push, take_more, drop_all, take_at, take_all, take-append-le, drop-append-le, length-drop}
+use Rattle.std.proofs.lemmas.List.{length-map, map_push, take_more, drop_all, take_at, take_all}
 use Rattle.std.proofs.lemmas.List.Elements.{All-push}
 use Rattle.mv_history.specs.declared.history.TheConstants.{LAST}
-use Rattle.mv_history.specs.declared.plain_commit.TheConstants.{WRITE_MAX}
-use Rattle.mv_history.specs.declared.plain_commit.PlainCommit.{PlainCommit}
+use Rattle.mv_history.specs.declared.plain_history.TheConstants.{WRITE_MAX}
 use Rattle.mv_history.specs.State.{State, Writes, Commit, Change, written, touches, state_after, rewritten, rests_of}
 use Rattle.mv_history.specs.Legal.{are_distinct, AreWithin, IsNext, IsWords, AreWords, AreWrites}
 use Rattle.mv_history.specs.WordsLaws.{AreWrites-rewritten}
 use Rattle.mv_history.specs.Meaning.{Seat, IsSeat, IsSection, state_of, words_at}
 use Rattle.mv_history.specs.Calls.{Continues, GoesOn, Rewrites, Locks, Commits, commit_by}
-use Rattle.mv_history.specs.Plain.{total_of, commits_from, plain_seat, plain_section, IsPlain}
+use Rattle.mv_history.specs.Plain.{plain_seat, plain_section, IsPlain}
 use Rattle.mv_history.proofs.Writing.{length-state_after, length-written, words-written_other, words-written_same, touches_at, touches-append, written-append, state_after-append, set-rewritten, length-rewritten, are_distinct-rewritten, touches-rewritten, are_distinct-push, commits_of-append}
 use Rattle.mv_history.proofs.Histories.{IsLegal-push, IsAllowed-push, NoneWrites-nil, NoneBy-nil, no_split}
 
@@ -47,40 +46,16 @@ pub own_rewritten : (own : Writes) (held i o : ℕ) (words : List ℕ) → i < l
 own_rewritten own held i o words l e f =
     take_set_in own held i (o, words) (omega (arith, length-take held own)) ∙ set-rewritten (take held own) i o words (0, []) l e f
 
--- one commit more, with its writes after the others'
-pub commits_from-push : (n m : ℕ) (cs : List PlainCommit) (ws : Writes) (c : PlainCommit) (own : Writes) → total_of cs ≡ length ws → c.count ≡ length own → m ≡ n + length (commits_from n cs ws) → commits_from n (cs ++ c ∷ []) (ws ++ own) ≡ commits_from n cs ws ++ record { seat = 0; number = m + 1; snapshot = m; tag = c.tag; writes = own } ∷ []
-commits_from-push n m [] [] c own t e k =
-    let same : m ≡ n = omega arith in
-    let whole : take c.count own ≡ own = take_all c.count own (omega (arith, e)) in
-    rw (same, whole) refl
-commits_from-push n m [] (w ∷ ws) c own t e k = absurd (omega arith)
-commits_from-push n m (d ∷ ds) ws c own t e k =
-    let fits : d.count ≤ length ws = omega arith in
-    let rest : total_of ds ≡ length (drop d.count ws) = omega (arith, length-drop d.count ws) in
-    let more : commits_from (n + 1) (ds ++ c ∷ []) (drop d.count ws ++ own) ≡ commits_from (n + 1) ds (drop d.count ws) ++ record { seat = 0; number = m + 1; snapshot = m; tag = c.tag; writes = own } ∷ [] =
-    commits_from-push (n + 1) m ds (drop d.count ws) c own rest e (omega arith) in
-    rw (take-append-le d.count ws own fits, drop-append-le d.count ws own fits) (ap (λ cs. record { seat = 0; number = n + 1; snapshot = n; tag = d.tag; writes = take d.count ws } ∷ cs) more)
-
--- the lists after one commit more, whose writes were put behind the others'
-pub commits_added : (start : State) (base last : ℕ) (cs more : List PlainCommit) (ws rest : Writes) (tag : List ℕ) (held i : ℕ) (own : Writes) → total_of cs ≡ length ws → held ≤ length own → i ≡ held → more ≡ cs ++ record { tag = tag; count = held } ∷ [] → rest ≡ ws ++ take i own → commits_from 0 more rest ≡ commits_from 0 cs ws ++ commit_by (plain_section start (commits_from 0 cs ws) base last (take held own)) tag ∷ []
-commits_added start base last cs more ws rest tag held i own t few e m r =
-    rw (m, r, e)
-    (commits_from-push 0 (length (commits_from 0 cs ws)) cs ws (record { tag = tag; count = held }) (take held own) t (sym (length-take-le held own few)) (omega arith))
-
-pub length-commits_from : (n : ℕ) (cs : List PlainCommit) (ws : Writes) → length (commits_from n cs ws) ≡ length cs
-length-commits_from n [] ws = refl
-length-commits_from n (c ∷ cs) ws = ap suc (length-commits_from (n + 1) cs (drop c.count ws))
-
-pub total_of-push : (cs : List PlainCommit) (c : PlainCommit) → total_of (cs ++ c ∷ []) ≡ total_of cs + c.count
-total_of-push [] c = omega arith
-total_of-push (d ∷ ds) c = omega (arith, total_of-push ds c)
-
 pub rests_of-map : (cs : List Commit) → rests_of 0 (map (λ c. Change c) cs) ≡ 0
 rests_of-map [] = refl
 rests_of-map (c ∷ cs) = rests_of-map cs
 
 pub length-current : (start words : State) (commits : List Commit) → words ≡ state_after start (map (λ c. Change c) commits) → length words ≡ length start
 length-current start words commits now = ap length now ∙ length-state_after start (map (λ c. Change c) commits)
+
+-- the time after one more commit
+pub clock_pushed : (time base : ℕ) (commits : List Commit) (c : Commit) → time ≡ base + length commits → time + 1 ≡ base + length (commits ++ c ∷ [])
+clock_pushed time base commits c e = omega (arith, e, length-append commits (c ∷ []))
 
 -- the state after one more commit
 pub current_pushed : (start words more : State) (commits : List Commit) (c : Commit) → words ≡ state_after start (map (λ c. Change c) commits) → more ≡ written words c.writes → more ≡ state_after start (map (λ c. Change c) (commits ++ c ∷ []))
@@ -238,4 +213,4 @@ IsPlain-plain_seat start commits base last spare = record { number = refl; write
 pub seen-is_plain : (old new : Seat) → IsPlain old → IsPlain new → new.mine ≡ old.mine → new.seen ≡ old.seen
 seen-is_plain old new p q same = q.seen ∙ ap (λ cs. map (λ c. Change c) cs) same ∙ sym p.seen
 
-pub ruleset plain = (length-commits_from, length-written, words-written_other, words-written_same, touches_at, touches-append, length-rewritten)
+pub ruleset plain = (length-written, words-written_other, words-written_same, touches_at, touches-append, length-rewritten)

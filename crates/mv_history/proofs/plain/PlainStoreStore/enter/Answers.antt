@@ -1,6 +1,6 @@
 use Rattle.std.proofs.Common.{refl, [], arith}
 use Rattle.std.proofs.lemmas.List.Elements.{All-nil}
-use Rattle.mv_history.specs.declared.plain_commit.TheConstants.{WRITE_MAX}
+use Rattle.mv_history.specs.declared.plain_history.TheConstants.{WRITE_MAX}
 use Rattle.mv_history.specs.PlainMeaning.{commits_in}
 use Rattle.mv_history.proofs.PlainLemmas.{section_is}
 use Rattle.mv_history.proofs.plain.PlainStoreStore.enter.Goals as goal

@@ -37,7 +37,9 @@ pub struct PlainStore<P: Protocol> {
     ghost current: { words.items ≡ state_after start.value.items (map (λ c. Change c) (commits_of_history history.value)) },
     ghost few: { vec_len words ≤ 65535 },
     ghost clock: { time ≡ base + length (commits_of_history history.value) },
-    ghost lawful: { IsSeat P.start P.allowed (plain_seat start.value.items (commits_of_history history.value) base last WRITE_MAX) } by { IsSeat-prop P.start P.allowed P.one_start P.one_allowed (plain_seat start.value.items (commits_of_history history.value) base last WRITE_MAX) },
+    ghost lawful: { IsSeat P.start P.allowed
+        (plain_seat start.value.items (commits_of_history history.value) base last WRITE_MAX) } by { IsSeat-prop P.start P.allowed P.one_start P.one_allowed
+            (plain_seat start.value.items (commits_of_history history.value) base last WRITE_MAX) },
 }
 
 impl<P: Protocol> Drop for PlainStore<P> {
@@ -158,7 +160,8 @@ impl<P: Protocol> PlainStore<P> {
         ensures start { result.start.value.items ≡ self.start.value.items }
         ensures base { result.base ≡ self.base }
         ensures last { result.last ≡ self.last }
-        ensures commits { commits_in result ≡ commits_in self ++ commit_by (plain_section self.start.value.items (commits_in self) self.base self.last (take held own)) tag ∷ [] }
+        ensures commits { let here = plain_section self.start.value.items (commits_in self) self.base self.last (take held own) in
+            commits_in result ≡ commits_in self ++ commit_by here tag ∷ [] }
     {
         let PlainStore {
             start,

@@ -22,7 +22,10 @@ pub struct PlainSection<P: Protocol> {
     pub(crate) held: usize,
     ghost whole: { length own ≡ WRITE_MAX },
     ghost few: { held ≤ WRITE_MAX },
-    ghost lawful: { IsSection P.start P.allowed (plain_section store.start.value.items (commits_of_history store.history.value) store.base store.last (take held own)) } by { IsSection-prop P.start P.allowed P.one_start P.one_allowed (plain_section store.start.value.items (commits_of_history store.history.value) store.base store.last (take held own)) },
+    ghost lawful: { IsSection P.start P.allowed
+        (plain_section store.start.value.items (commits_of_history store.history.value) store.base store.last (take held own)) } by { IsSection-prop
+            P.start P.allowed P.one_start P.one_allowed
+            (plain_section store.start.value.items (commits_of_history store.history.value) store.base store.last (take held own)) },
 }
 
 // What the type of words says, as a fact.

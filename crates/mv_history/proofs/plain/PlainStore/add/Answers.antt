@@ -14,8 +14,16 @@ index_mut-requires g c =
     let i = c.loop-i.i in
     let held = c.args.held in
     let few : length (take held c.args.own) ≡ held = length-take-le held c.args.own (omega arith) in
-    let within = c.requires.lawful.within (get_or c.args.own i (0, [])).0 (touches_at (take held c.args.own) i _ (0, []) (omega arith) (ap (λ w. w.0) (get_or-take held c.args.own i (0, []) c.loop-i-test.true))) in
-    omega (arith, within, c.loop-i.words.ok.0, ap length c.loop-i.invariant, length-written s.words.items (take i c.args.own), length-current s.start.value.items s.words.items (commits_in s) s.current)
+    let within = c.requires.lawful.within (get_or c.args.own i (0, [])).0
+    (touches_at (take held c.args.own) i _ (0, []) (omega arith) (ap (λ w. w.0) (get_or-take held c.args.own i (0, []) c.loop-i-test.true))) in
+    omega (
+      arith,
+      within,
+      c.loop-i.words.ok.0,
+      ap length c.loop-i.invariant,
+      length-written s.words.items (take i c.args.own),
+      length-current s.start.value.items s.words.items (commits_in s) s.current,
+    )
 
 pub loop-i-preserved : goal.loop-i-preserved
 loop-i-preserved g c =
@@ -33,7 +41,9 @@ invariant_of-result-clause-lawful g c =
     let s = c.args.self in
     let few : length (take c.args.held c.args.own) ≡ c.args.held = length-take-le c.args.held c.args.own (omega arith) in
     rw (c.of.ensures)
-    (seat_pushed g.P.Protocol.start g.P.Protocol.allowed s.start.value.items (commits_in s) s.base s.last c.args.tag (take c.args.held c.args.own) c.requires.lawful (omega arith) (omega (arith, c.requires.time, s.clock)) (subst (λ z. g.P.Protocol.allowed c.args.tag z (take c.args.held c.args.own)) s.current c.requires.allowed))
+    (seat_pushed g.P.Protocol.start g.P.Protocol.allowed s.start.value.items (commits_in s) s.base s.last c.args.tag
+    (take c.args.held c.args.own) c.requires.lawful (omega arith) (omega (arith, c.requires.time, s.clock))
+    (subst (λ z. g.P.Protocol.allowed c.args.tag z (take c.args.held c.args.own)) s.current c.requires.allowed))
 
 pub invariant_of-result-clause-clock : goal.invariant_of-result-clause-clock
 invariant_of-result-clause-clock g c =

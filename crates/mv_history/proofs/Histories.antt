@@ -6,7 +6,8 @@ use Rattle.mv_history.specs.State.{State, Writes, Commit, Entry, Change, state_a
 use Rattle.mv_history.specs.Legal.{NoneWrites, NoneBy, IsNext, IsLegal, IsAllowed}
 
 -- what holds at each place of a list, and of one more element, holds at each place of the longer list
-pub splits_push : {X : Type 0} (P : List X → X → Type 0) (xs : List X) (x : X) → ((front back : List X) (e : X) → xs ≡ front ++ e ∷ back → P front e) → P xs x → (front back : List X) (e : X) → xs ++ x ∷ [] ≡ front ++ e ∷ back → P front e
+pub splits_push : {X : Type 0} (P : List X → X → Type 0) (xs : List X) (x : X) → ((front back : List X) (e : X) → xs ≡ front ++ e ∷ back → P front e)
+    → P xs x → (front back : List X) (e : X) → xs ++ x ∷ [] ≡ front ++ e ∷ back → P front e
 splits_push P [] x old new [] back e eq = let same : x ≡ e = cc in subst (λ z. P [] z) same new
 splits_push P [] x old new (f ∷ []) back e eq = absurd (cc)
 splits_push P [] x old new (f ∷ (g ∷ front)) back e eq = absurd (cc)
@@ -35,7 +36,8 @@ IsLegal-push n history c legal next front back c' eq =
     (λ d r. let same : c ≡ d = cc in subst (λ z. IsNext n history z) same next)
     front back (Change c') eq c' refl
 
-pub IsAllowed-push : (allowed : List ℕ → State → Writes → Type 0) (start : State) (history : List Entry) (c : Commit) → IsAllowed allowed start history → allowed c.tag (state_after start history) c.writes → IsAllowed allowed start (history ++ Change c ∷ [])
+pub IsAllowed-push : (allowed : List ℕ → State → Writes → Type 0) (start : State) (history : List Entry) (c : Commit) → IsAllowed allowed start history
+    → allowed c.tag (state_after start history) c.writes → IsAllowed allowed start (history ++ Change c ∷ [])
 IsAllowed-push allowed start history c old new front back c' eq =
     splits_push (λ fr e. (d : Commit) → e ≡ Change d → allowed d.tag (state_after start fr) d.writes) history (Change c)
     (λ fr bk e q d r. old fr bk d (q ∙ ap (λ z. fr ++ z ∷ bk) r))
@@ -47,7 +49,8 @@ pub IsLegal-front : (n : ℕ) (xs ys : List Entry) → IsLegal n (xs ++ ys) → 
 IsLegal-front n xs ys legal front back c eq = legal front (back ++ ys) c (ap (λ zs. zs ++ ys) eq ∙ append_assoc front (Change c ∷ back) ys)
 
 -- a prefix of an allowed history is allowed
-pub IsAllowed-front : (allowed : List ℕ → State → Writes → Type 0) (start : State) (xs ys : List Entry) → IsAllowed allowed start (xs ++ ys) → IsAllowed allowed start xs
+pub IsAllowed-front : (allowed : List ℕ → State → Writes → Type 0) (start : State) (xs ys : List Entry) → IsAllowed allowed start (xs ++ ys)
+    → IsAllowed allowed start xs
 IsAllowed-front allowed start xs ys h front back c eq = h front (back ++ ys) c (ap (λ zs. zs ++ ys) eq ∙ append_assoc front (Change c ∷ back) ys)
 
 -- among no entries none writes, and none is by a seat

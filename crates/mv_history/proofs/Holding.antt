@@ -19,19 +19,23 @@ written-set_other s (w ∷ ws) o words n =
     ap (λ u. written u ws) (set_comm s o w.0 words w.1 apart) ∙ written-set_other (set s w.0 w.1) ws o words later
 
 -- an object whose words among the writes are others is set to these
-pub written-rewritten : (s : State) (ws : Writes) (o : ℕ) (words : List ℕ) → are_distinct ws ≡ true → touches ws o ≡ true → written s (rewritten ws o words) ≡ set (written s ws) o words
+pub written-rewritten : (s : State) (ws : Writes) (o : ℕ) (words : List ℕ) → are_distinct ws ≡ true → touches ws o ≡ true
+    → written s (rewritten ws o words) ≡ set (written s ws) o words
 written-rewritten s [] o words d t = absurd (cc)
 written-rewritten s (w ∷ ws) o words d t = go (eqb w.0 o) refl t (written-rewritten (set s w.0 w.1) ws o words parts.1)
   where
     parts : (not (touches ws w.0) ≡ true) × (are_distinct ws ≡ true)
     parts = and_parts (not (touches ws w.0)) (are_distinct ws) d
 
-    go : (b : Bool) → eqb w.0 o ≡ b → b || touches ws o ≡ true → (touches ws o ≡ true → written (set s w.0 w.1) (rewritten ws o words) ≡ set (written (set s w.0 w.1) ws) o words) → written s (cond b ((o, words) ∷ ws) (w ∷ rewritten ws o words)) ≡ set (written (set s w.0 w.1) ws) o words
+    go : (b : Bool) → eqb w.0 o ≡ b → b || touches ws o ≡ true
+        → (touches ws o ≡ true → written (set s w.0 w.1) (rewritten ws o words) ≡ set (written (set s w.0 w.1) ws) o words)
+        → written s (cond b ((o, words) ∷ ws) (w ∷ rewritten ws o words)) ≡ set (written (set s w.0 w.1) ws) o words
     go false e h r = r h
     go true e h r =
         let same : w.0 ≡ o = grind (arith, nat_tests) in
         let apart : touches ws o ≡ false = ap (touches ws) (sym same) ∙ not-true (touches ws w.0) parts.0 in
-        written-set_other s ws o words apart ∙ sym (set-set (written s ws) o w.1 words) ∙ ap (λ u. set u o words) (sym (written-set_other s ws o w.1 apart) ∙ ap (λ n. written (set s n w.1) ws) (sym same))
+        written-set_other s ws o words apart ∙ sym (set-set (written s ws) o w.1 words)
+        ∙ ap (λ u. set u o words) (sym (written-set_other s ws o w.1 apart) ∙ ap (λ n. written (set s n w.1) ws) (sym same))
 
 -- a section that is as before reads what it read
 pub state_of-as_before : (a b : InSection) → a.at ≤ length a.seat.seen → IsAsBefore a b → state_of b ≡ state_of a
@@ -47,7 +51,8 @@ state_of-locks a b o l p =
     ∙ set-get_or (state_of a) o []
 
 -- a write sets the words of its object alone
-pub state_of-rewrites : (a b : InSection) (o : ℕ) (words : List ℕ) → a.at ≤ length a.seat.seen → are_distinct a.own ≡ true → Holds a o → Rewrites a b o words → state_of b ≡ set (state_of a) o words
+pub state_of-rewrites : (a b : InSection) (o : ℕ) (words : List ℕ) → a.at ≤ length a.seat.seen → are_distinct a.own ≡ true → Holds a o
+    → Rewrites a b o words → state_of b ≡ set (state_of a) o words
 state_of-rewrites a b o words l d h p =
     ap (written (snapshot_of b)) p.own
     ∙ ap (λ u. written u (rewritten a.own o words)) (snapshot_of-later a b p.seat.continues p.at l)

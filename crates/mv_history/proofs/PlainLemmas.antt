@@ -1,20 +1,64 @@
 -- Lemmas on the plain store's lists.
-use Rattle.std.proofs.Common.{◌≡◌, ◌≢◌, ℕ, zero, suc, ◌+◌, ◌-◌, ◌<◌, ◌≤◌, true, false, ◌||◌, List, [], ◌∷◌, ◌++◌, length, get_or, take, drop, set, map, refl, sym, ap, ◌∙◌, ⊎_elim, arith, length-append, length-take, length-take-le}
+use Rattle.std.proofs.Common.{
+  ◌≡◌,
+  ◌≢◌,
+  ℕ,
+  zero,
+  suc,
+  ◌+◌,
+  ◌-◌,
+  ◌<◌,
+  ◌≤◌,
+  true,
+  false,
+  ◌||◌,
+  List,
+  [],
+  ◌∷◌,
+  ◌++◌,
+  length,
+  get_or,
+  take,
+  set,
+  map,
+  refl,
+  sym,
+  ap,
+  ◌∙◌,
+  ⊎_elim,
+  arith,
+  length-append,
+  length-take,
+}
 use Rattle.std.specs.Prelude.{Some, slice_get}
 use Rattle.std.proofs.lemmas.Bool.{or_cases}
 use Rattle.std.proofs.lemmas.Bool.Decides.{nat_tests}
-use Rattle.std.proofs.lemmas.List.{length-map, map_push, take_more, drop_all, take_at, take_all, take-append-le, drop-append-le, length-drop}
+use Rattle.std.proofs.lemmas.List.{length-map, map_push, take_more, drop_all, take_at, take_all}
 use Rattle.std.proofs.lemmas.List.Elements.{All-push}
 use Rattle.mv_history.specs.declared.history.TheConstants.{LAST}
-use Rattle.mv_history.specs.declared.plain_commit.TheConstants.{WRITE_MAX}
-use Rattle.mv_history.specs.declared.plain_commit.PlainCommit.{PlainCommit}
+use Rattle.mv_history.specs.declared.plain_history.TheConstants.{WRITE_MAX}
 use Rattle.mv_history.specs.State.{State, Writes, Commit, Change, written, touches, state_after, rewritten, rests_of}
 use Rattle.mv_history.specs.Legal.{are_distinct, AreWithin, IsNext, IsWords, AreWords, AreWrites}
 use Rattle.mv_history.specs.WordsLaws.{AreWrites-rewritten}
 use Rattle.mv_history.specs.Meaning.{Seat, IsSeat, IsSection, state_of, words_at}
 use Rattle.mv_history.specs.Calls.{Continues, GoesOn, Rewrites, Locks, Commits, commit_by}
-use Rattle.mv_history.specs.Plain.{total_of, commits_from, plain_seat, plain_section, IsPlain}
-use Rattle.mv_history.proofs.Writing.{length-state_after, length-written, words-written_other, words-written_same, touches_at, touches-append, written-append, state_after-append, set-rewritten, length-rewritten, are_distinct-rewritten, touches-rewritten, are_distinct-push, commits_of-append}
+use Rattle.mv_history.specs.Plain.{plain_seat, plain_section, IsPlain}
+use Rattle.mv_history.proofs.Writing.{
+  length-state_after,
+  length-written,
+  words-written_other,
+  words-written_same,
+  touches_at,
+  touches-append,
+  written-append,
+  state_after-append,
+  set-rewritten,
+  length-rewritten,
+  are_distinct-rewritten,
+  touches-rewritten,
+  are_distinct-push,
+  commits_of-append,
+}
 use Rattle.mv_history.proofs.Histories.{IsLegal-push, IsAllowed-push, NoneWrites-nil, NoneBy-nil, no_split}
 
 pub slice_get_at : {X : Type 0} (xs : List X) (x : X) (i : ℕ) → i ≡ length xs → slice_get (xs ++ x ∷ []) i ≡ Some x
@@ -23,11 +67,13 @@ slice_get_at [] x (suc i) e = absurd (omega arith)
 slice_get_at (y ∷ xs) x zero e = absurd (omega arith)
 slice_get_at (y ∷ xs) x (suc i) e = slice_get_at xs x i (omega arith)
 
-pub touches_more : (ws : Writes) (i o : ℕ) (d : ℕ × List ℕ) → i < length ws → touches (take i ws) o ≡ false → (get_or ws i d).0 ≢ o → touches (take (i + 1) ws) o ≡ false
+pub touches_more : (ws : Writes) (i o : ℕ) (d : ℕ × List ℕ) → i < length ws → touches (take i ws) o ≡ false → (get_or ws i d).0 ≢ o
+    → touches (take (i + 1) ws) o ≡ false
 touches_more ws i o d l f n =
     rw (take_more ws i d l, touches-append (take i ws) (get_or ws i d ∷ []) o) (grind (arith, nat_tests))
 
-pub written_more : (s : State) (ws : Writes) (i : ℕ) (d : ℕ × List ℕ) → i < length ws → written s (take (i + 1) ws) ≡ set (written s (take i ws)) (get_or ws i d).0 (get_or ws i d).1
+pub written_more : (s : State) (ws : Writes) (i : ℕ) (d : ℕ × List ℕ) → i < length ws
+    → written s (take (i + 1) ws) ≡ set (written s (take i ws)) (get_or ws i d).0 (get_or ws i d).1
 written_more s ws i d l = rw (take_more ws i d l) (written-append s (take i ws) (get_or ws i d ∷ []))
 
 pub AreWithin-push : (ws : Writes) (o : ℕ) (words : List ℕ) (n : ℕ) → AreWithin ws n → o < n → AreWithin (ws ++ (o, words) ∷ []) n
@@ -43,37 +89,10 @@ take_set_in (x ∷ xs) (suc n) zero y l = refl
 take_set_in (x ∷ xs) (suc n) (suc i) y l = ap (λ zs. x ∷ zs) (take_set_in xs n i y (omega arith))
 
 -- a write to the place of a held object
-pub own_rewritten : (own : Writes) (held i o : ℕ) (words : List ℕ) → i < length (take held own) → (get_or (take held own) i (0, [])).0 ≡ o → touches (take i (take held own)) o ≡ false → take held (set own i (o, words)) ≡ rewritten (take held own) o words
+pub own_rewritten : (own : Writes) (held i o : ℕ) (words : List ℕ) → i < length (take held own) → (get_or (take held own) i (0, [])).0 ≡ o
+    → touches (take i (take held own)) o ≡ false → take held (set own i (o, words)) ≡ rewritten (take held own) o words
 own_rewritten own held i o words l e f =
     take_set_in own held i (o, words) (omega (arith, length-take held own)) ∙ set-rewritten (take held own) i o words (0, []) l e f
-
--- one commit more, with its writes after the others'
-pub commits_from-push : (n m : ℕ) (cs : List PlainCommit) (ws : Writes) (c : PlainCommit) (own : Writes) → total_of cs ≡ length ws → c.count ≡ length own → m ≡ n + length (commits_from n cs ws) → commits_from n (cs ++ c ∷ []) (ws ++ own) ≡ commits_from n cs ws ++ record { seat = 0; number = m + 1; snapshot = m; tag = c.tag; writes = own } ∷ []
-commits_from-push n m [] [] c own t e k =
-    let same : m ≡ n = omega arith in
-    let whole : take c.count own ≡ own = take_all c.count own (omega (arith, e)) in
-    rw (same, whole) refl
-commits_from-push n m [] (w ∷ ws) c own t e k = absurd (omega arith)
-commits_from-push n m (d ∷ ds) ws c own t e k =
-    let fits : d.count ≤ length ws = omega arith in
-    let rest : total_of ds ≡ length (drop d.count ws) = omega (arith, length-drop d.count ws) in
-    let more : commits_from (n + 1) (ds ++ c ∷ []) (drop d.count ws ++ own) ≡ commits_from (n + 1) ds (drop d.count ws) ++ record { seat = 0; number = m + 1; snapshot = m; tag = c.tag; writes = own } ∷ [] =
-    commits_from-push (n + 1) m ds (drop d.count ws) c own rest e (omega arith) in
-    rw (take-append-le d.count ws own fits, drop-append-le d.count ws own fits) (ap (λ cs. record { seat = 0; number = n + 1; snapshot = n; tag = d.tag; writes = take d.count ws } ∷ cs) more)
-
--- the lists after one commit more, whose writes were put behind the others'
-pub commits_added : (start : State) (base last : ℕ) (cs more : List PlainCommit) (ws rest : Writes) (tag : List ℕ) (held i : ℕ) (own : Writes) → total_of cs ≡ length ws → held ≤ length own → i ≡ held → more ≡ cs ++ record { tag = tag; count = held } ∷ [] → rest ≡ ws ++ take i own → commits_from 0 more rest ≡ commits_from 0 cs ws ++ commit_by (plain_section start (commits_from 0 cs ws) base last (take held own)) tag ∷ []
-commits_added start base last cs more ws rest tag held i own t few e m r =
-    rw (m, r, e)
-    (commits_from-push 0 (length (commits_from 0 cs ws)) cs ws (record { tag = tag; count = held }) (take held own) t (sym (length-take-le held own few)) (omega arith))
-
-pub length-commits_from : (n : ℕ) (cs : List PlainCommit) (ws : Writes) → length (commits_from n cs ws) ≡ length cs
-length-commits_from n [] ws = refl
-length-commits_from n (c ∷ cs) ws = ap suc (length-commits_from (n + 1) cs (drop c.count ws))
-
-pub total_of-push : (cs : List PlainCommit) (c : PlainCommit) → total_of (cs ++ c ∷ []) ≡ total_of cs + c.count
-total_of-push [] c = omega arith
-total_of-push (d ∷ ds) c = omega (arith, total_of-push ds c)
 
 pub rests_of-map : (cs : List Commit) → rests_of 0 (map (λ c. Change c) cs) ≡ 0
 rests_of-map [] = refl
@@ -82,10 +101,16 @@ rests_of-map (c ∷ cs) = rests_of-map cs
 pub length-current : (start words : State) (commits : List Commit) → words ≡ state_after start (map (λ c. Change c) commits) → length words ≡ length start
 length-current start words commits now = ap length now ∙ length-state_after start (map (λ c. Change c) commits)
 
+-- the time after one more commit
+pub clock_pushed : (time base : ℕ) (commits : List Commit) (c : Commit) → time ≡ base + length commits → time + 1 ≡ base + length (commits ++ c ∷ [])
+clock_pushed time base commits c e = omega (arith, e, length-append commits (c ∷ []))
+
 -- the state after one more commit
-pub current_pushed : (start words more : State) (commits : List Commit) (c : Commit) → words ≡ state_after start (map (λ c. Change c) commits) → more ≡ written words c.writes → more ≡ state_after start (map (λ c. Change c) (commits ++ c ∷ []))
+pub current_pushed : (start words more : State) (commits : List Commit) (c : Commit) → words ≡ state_after start (map (λ c. Change c) commits)
+    → more ≡ written words c.writes → more ≡ state_after start (map (λ c. Change c) (commits ++ c ∷ []))
 current_pushed start words more commits c now e =
-    e ∙ ap (λ s. written s c.writes) now ∙ sym (rw (map_push (λ c. Change c) commits c) (state_after-append start (map (λ c. Change c) commits) (Change c ∷ [])))
+    e ∙ ap (λ s. written s c.writes) now
+    ∙ sym (rw (map_push (λ c. Change c) commits c) (state_after-append start (map (λ c. Change c) commits) (Change c ∷ [])))
 
 module _ (starts : State → Type 0) (allows : List ℕ → State → Writes → Type 0) (start : State) where
   pub opens : (base last : ℕ) → starts start → AreWords start → base ≤ last → last ≤ LAST → IsSeat starts allows (plain_seat start [] base last WRITE_MAX)
@@ -103,9 +128,11 @@ module _ (starts : State → Type 0) (allows : List ℕ → State → Writes →
 module _ (starts : State → Type 0) (allows : List ℕ → State → Writes → Type 0) (start : State) (commits : List Commit) (base last : ℕ) where
   -- no law speaks of the free slots
   pub IsSeat-spare : (n m : ℕ) → IsSeat starts allows (plain_seat start commits base last n) → IsSeat starts allows (plain_seat start commits base last m)
-  IsSeat-spare n m h = record { start = h.start; words = h.words; legal = h.legal; allowed = h.allowed; mine = h.mine; rests = h.rests; time = h.time; last = h.last }
+  IsSeat-spare n m h =
+      record { start = h.start; words = h.words; legal = h.legal; allowed = h.allowed; mine = h.mine; rests = h.rests; time = h.time; last = h.last }
 
-  pub section_is : (own : Writes) (n : ℕ) → IsSeat starts allows (plain_seat start commits base last n) → are_distinct own ≡ true → AreWithin own (length start) → AreWrites own → length own ≤ WRITE_MAX → IsSection starts allows (plain_section start commits base last own)
+  pub section_is : (own : Writes) (n : ℕ) → IsSeat starts allows (plain_seat start commits base last n) → are_distinct own ≡ true
+      → AreWithin own (length start) → AreWrites own → length own ≤ WRITE_MAX → IsSection starts allows (plain_section start commits base last own)
   section_is own n h distinct within words few =
       let none = drop_all (length commits) (map (λ c. Change c) commits) (omega (arith, length-map commits (λ c. Change c))) in
       record {
@@ -119,7 +146,8 @@ module _ (starts : State → Type 0) (allows : List ℕ → State → Writes →
         in_order = NoneBy-nil 0 _ none;
       }
 
-  pub section_rewritten : (own : Writes) (o : ℕ) (words : List ℕ) → IsWords words → IsSection starts allows (plain_section start commits base last own) → IsSection starts allows (plain_section start commits base last (rewritten own o words))
+  pub section_rewritten : (own : Writes) (o : ℕ) (words : List ℕ) → IsWords words → IsSection starts allows (plain_section start commits base last own)
+      → IsSection starts allows (plain_section start commits base last (rewritten own o words))
   section_rewritten own o words k h =
       section_is (rewritten own o words) (WRITE_MAX - length own) h.seat
       (are_distinct-rewritten own o words ∙ h.distinct)
@@ -127,7 +155,9 @@ module _ (starts : State → Type 0) (allows : List ℕ → State → Writes →
       (AreWrites-rewritten own o words h.words k)
       (rw length-rewritten h.held)
 
-  pub section_pushed : (own : Writes) (o : ℕ) (words : List ℕ) → IsWords words → IsSection starts allows (plain_section start commits base last own) → touches own o ≡ false → o < length start → length own < WRITE_MAX → IsSection starts allows (plain_section start commits base last (own ++ (o, words) ∷ []))
+  pub section_pushed : (own : Writes) (o : ℕ) (words : List ℕ) → IsWords words → IsSection starts allows (plain_section start commits base last own)
+      → touches own o ≡ false → o < length start → length own < WRITE_MAX
+      → IsSection starts allows (plain_section start commits base last (own ++ (o, words) ∷ []))
   section_pushed own o words k h free within few =
       section_is (own ++ (o, words) ∷ []) (WRITE_MAX - length own) h.seat
       (are_distinct-push own o words h.distinct free)
@@ -136,7 +166,9 @@ module _ (starts : State → Type 0) (allows : List ℕ → State → Writes →
       (omega (arith, length-append own ((o, words) ∷ [])))
 
   -- a commit of the section is the next entry
-  pub seat_pushed : (tag : List ℕ) (own : Writes) → IsSection starts allows (plain_section start commits base last own) → 0 < length own → base + length commits < last → allows tag (state_after start (map (λ c. Change c) commits)) own → IsSeat starts allows (plain_seat start (commits ++ commit_by (plain_section start commits base last own) tag ∷ []) base last WRITE_MAX)
+  pub seat_pushed : (tag : List ℕ) (own : Writes) → IsSection starts allows (plain_section start commits base last own) → 0 < length own
+      → base + length commits < last → allows tag (state_after start (map (λ c. Change c) commits)) own
+      → IsSeat starts allows (plain_seat start (commits ++ commit_by (plain_section start commits base last own) tag ∷ []) base last WRITE_MAX)
   seat_pushed tag own h some time allowed =
       let c : Commit = commit_by (plain_section start commits base last own) tag in
       let more = map_push (λ c. Change c) commits c in
@@ -184,7 +216,8 @@ module _ (start : State) (commits : List Commit) (base last : ℕ) where
     names_no_commit = refl;
   }
 
-  pub rewrites : (own : Writes) (o : ℕ) (words : List ℕ) → Rewrites (plain_section start commits base last own) (plain_section start commits base last (rewritten own o words)) o words
+  pub rewrites : (own : Writes) (o : ℕ) (words : List ℕ)
+      → Rewrites (plain_section start commits base last own) (plain_section start commits base last (rewritten own o words)) o words
   rewrites own o words = record {
     seat = record {
       continues = continues (WRITE_MAX - length own) (WRITE_MAX - length (rewritten own o words));
@@ -196,7 +229,8 @@ module _ (start : State) (commits : List Commit) (base last : ℕ) where
     own = refl;
   }
 
-  pub locks : (own : Writes) (o : ℕ) (words : List ℕ) → length own < WRITE_MAX → words ≡ words_at (state_of (plain_section start commits base last own)) o → Locks (plain_section start commits base last own) (plain_section start commits base last (own ++ (o, words) ∷ [])) o
+  pub locks : (own : Writes) (o : ℕ) (words : List ℕ) → length own < WRITE_MAX → words ≡ words_at (state_of (plain_section start commits base last own)) o
+      → Locks (plain_section start commits base last own) (plain_section start commits base last (own ++ (o, words) ∷ [])) o
   locks own o words few e = record {
     continues = continues (WRITE_MAX - length own) (WRITE_MAX - length (own ++ (o, words) ∷ []));
     mine = refl;
@@ -206,7 +240,8 @@ module _ (start : State) (commits : List Commit) (base last : ℕ) where
     own = ap (λ w. own ++ (o, w) ∷ []) e;
   }
 
-  pub commits_by : (tag : List ℕ) (own : Writes) (time : ℕ) → time ≡ base + length commits + 1 → Commits (plain_section start commits base last own) tag (plain_seat start (commits ++ commit_by (plain_section start commits base last own) tag ∷ []) base last WRITE_MAX) time
+  pub commits_by : (tag : List ℕ) (own : Writes) (time : ℕ) → time ≡ base + length commits + 1 → Commits (plain_section start commits base last own) tag
+      (plain_seat start (commits ++ commit_by (plain_section start commits base last own) tag ∷ []) base last WRITE_MAX) time
   commits_by tag own time at =
       let c : Commit = commit_by (plain_section start commits base last own) tag in
       let more = map_push (λ c. Change c) commits c in
@@ -238,4 +273,4 @@ IsPlain-plain_seat start commits base last spare = record { number = refl; write
 pub seen-is_plain : (old new : Seat) → IsPlain old → IsPlain new → new.mine ≡ old.mine → new.seen ≡ old.seen
 seen-is_plain old new p q same = q.seen ∙ ap (λ cs. map (λ c. Change c) cs) same ∙ sym p.seen
 
-pub ruleset plain = (length-commits_from, length-written, words-written_other, words-written_same, touches_at, touches-append, length-rewritten)
+pub ruleset plain = (length-written, words-written_other, words-written_same, touches_at, touches-append, length-rewritten)

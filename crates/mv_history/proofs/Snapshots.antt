@@ -28,20 +28,25 @@ pub snapshot_of-goes_on : (a b : InSection) → GoesOn a b → a.at ≤ length a
 snapshot_of-goes_on a b g l = snapshot_of-later a b g.continues g.at l
 
 -- the objects of a snapshot have their words
-pub AreWords-snapshot_of : (starts : State → Type 0) (allows : List ℕ → State → Writes → Type 0) (s : InSection) → IsSection starts allows s → AreWords (snapshot_of s)
+pub AreWords-snapshot_of : (starts : State → Type 0) (allows : List ℕ → State → Writes → Type 0) (s : InSection) → IsSection starts allows s
+    → AreWords (snapshot_of s)
 AreWords-snapshot_of starts allows s h =
     let front : IsLegal (length s.seat.start) (take s.at s.seat.seen) =
     IsLegal-front (length s.seat.start) (take s.at s.seat.seen) (drop s.at s.seat.seen) (rw (take-append-drop s.at s.seat.seen) h.seat.legal) in
     AreWords-state_after (length s.seat.start) [] (take s.at s.seat.seen) s.seat.start front h.seat.words
 
 -- an object that none of the entries writes keeps its words
-pub words-none_writes : (s : State) (ws : Writes) (es : List Entry) (o : ℕ) → NoneWrites ws es → touches ws o ≡ true → words_at (state_after s es) o ≡ words_at s o
+pub words-none_writes : (s : State) (ws : Writes) (es : List Entry) (o : ℕ) → NoneWrites ws es → touches ws o ≡ true
+    → words_at (state_after s es) o ≡ words_at s o
 words-none_writes s ws [] o h t = refl
 words-none_writes s ws (e ∷ es) o h t =
-    words-none_writes (written s (writes_of e)) ws es o (All-tail (λ x. AreApart ws (writes_of x)) e es h) t ∙ words-written_other s (writes_of e) o (All-head (λ x. AreApart ws (writes_of x)) e es h o t)
+    words-none_writes (written s (writes_of e)) ws es o (All-tail (λ x. AreApart ws (writes_of x)) e es h) t
+    ∙ words-written_other s (writes_of e) o (All-head (λ x. AreApart ws (writes_of x)) e es h o t)
 
 -- A held object has, just before the commit, the words of the snapshot.
-pub words-before_commit : (starts : State → Type 0) (allows : List ℕ → State → Writes → Type 0) (old : InSection) (tag : List ℕ) (new : Seat) (time o : ℕ) → IsSeat starts allows new → IsSection starts allows old → Commits old tag new time → touches old.own o ≡ true → words_at (state_at new.start new.seen (time - (new.base + 1))) o ≡ words_at (snapshot_of old) o
+pub words-before_commit : (starts : State → Type 0) (allows : List ℕ → State → Writes → Type 0) (old : InSection) (tag : List ℕ) (new : Seat) (time o : ℕ)
+    → IsSeat starts allows new → IsSection starts allows old → Commits old tag new time → touches old.own o ≡ true
+    → words_at (state_at new.start new.seen (time - (new.base + 1))) o ≡ words_at (snapshot_of old) o
 words-before_commit starts allows old tag new time o lawful section commits held =
     let i : ℕ = time - (new.base + 1) in
     let front : List Entry = take i new.seen in
@@ -52,5 +57,7 @@ words-before_commit starts allows old tag new time o lawful section commits held
     let past : old.at ≤ i = omega (arith, next.past, short) in
     let parts : take old.at front ++ drop old.at front ≡ front = take-append-drop old.at front in
     let from : state_after new.start front ≡ state_after (state_at new.start new.seen old.at) (drop old.at front) =
-    ap (λ h. state_after new.start h) (sym parts) ∙ state_after-append new.start (take old.at front) (drop old.at front) ∙ ap (λ h. state_after (state_after new.start h) (drop old.at front)) (take-take old.at i new.seen past) in
-    ap (λ s. words_at s o) from ∙ words-none_writes _ old.own (drop old.at front) o next.unwritten held ∙ ap (λ s. words_at s o) (state_at-later commits.continues old.at section.at)
+    ap (λ h. state_after new.start h) (sym parts) ∙ state_after-append new.start (take old.at front) (drop old.at front)
+    ∙ ap (λ h. state_after (state_after new.start h) (drop old.at front)) (take-take old.at i new.seen past) in
+    ap (λ s. words_at s o) from ∙ words-none_writes _ old.own (drop old.at front) o next.unwritten held
+    ∙ ap (λ s. words_at s o) (state_at-later commits.continues old.at section.at)

@@ -49,10 +49,12 @@ pub call_trail-call_trail : {a b c : Seat} → Continues a b → Continues b c �
 call_trail-call_trail {a} {b} {c} p q =
     let short : length a.trail ≤ length b.trail =
     omega (arith, ap length p.trail, length-take (length a.trail) b.trail) in
-    ap (λ l. drop (length a.trail) l) (sym (front-whole b.trail c.trail q.trail)) ∙ drop-append-le (length a.trail) b.trail (drop (length b.trail) c.trail) short
+    ap (λ l. drop (length a.trail) l) (sym (front-whole b.trail c.trail q.trail))
+    ∙ drop-append-le (length a.trail) b.trail (drop (length b.trail) c.trail) short
 
 -- the commit exchanges of two calls are those of the one and then those of the other
-pub commit_exchanges-call_trail : {a b c : Seat} → Continues a b → Continues b c → commit_exchanges (call_trail a c) ≡ commit_exchanges (call_trail a b) ++ commit_exchanges (call_trail b c)
+pub commit_exchanges-call_trail : {a b c : Seat} → Continues a b → Continues b c
+    → commit_exchanges (call_trail a c) ≡ commit_exchanges (call_trail a b) ++ commit_exchanges (call_trail b c)
 commit_exchanges-call_trail {a} {b} {c} p q =
     ap commit_exchanges (call_trail-call_trail p q) ∙ filter-append (λ s. is_commit_exchange s.kind) (call_trail a b) (call_trail b c)
 

@@ -42,7 +42,8 @@ IsNext-prop objects before c x y =
 IsLegal-prop : (objects : ℕ) (history : List Entry) → IsProp (IsLegal objects history)
 IsLegal-prop objects history = hlevel (props, IsNext-prop)
 
-module _ (starts : State → Type 0) (allows : List ℕ → State → Writes → Type 0) (one_start : (s : State) → IsProp (starts s)) (one_allowed : (t : List ℕ) (s : State) (w : Writes) → IsProp (allows t s w)) where
+module _ (starts : State → Type 0) (allows : List ℕ → State → Writes → Type 0) (one_start : (s : State) → IsProp (starts s))
+    (one_allowed : (t : List ℕ) (s : State) (w : Writes) → IsProp (allows t s w)) where
   IsAllowed-prop : (start : State) (history : List Entry) → IsProp (IsAllowed allows start history)
   IsAllowed-prop start history = hlevel (props, one_allowed)
 

@@ -1,20 +1,16 @@
 -- What the plain store's fields stand for.
-use Rattle.std.specs.Prelude.{◌≡◌, ℕ, ◌+◌, ◌-◌, List, [], ◌∷◌, length, map, take, drop}
-use Rattle.mv_history.specs.declared.plain_commit.TheConstants.{WRITE_MAX}
-use Rattle.mv_history.specs.declared.plain_commit.PlainCommit.{PlainCommit}
+use Rattle.std.specs.Prelude.{◌≡◌, ℕ, ◌+◌, ◌-◌, List, [], ◌∷◌, ◌++◌, length, map, take}
+use Rattle.mv_history.specs.declared.plain_history.TheConstants.{WRITE_MAX}
+use Rattle.mv_history.specs.declared.plain_history.PlainHistory.{PlainHistory, Opened, Then'}
 use Rattle.mv_history.specs.State.{State, Writes, Commit, Change}
 use Rattle.mv_history.specs.Meaning.{Seat, InSection}
 
--- how many writes the commits have
-abbrev pub total_of : List PlainCommit → ℕ
-total_of [] = 0
-total_of (c ∷ cs) = c.count + total_of cs
-
--- The commits of seat 0 from the (n + 1)-th on, each on all before it, whose writes stand one after another.
-abbrev pub commits_from : ℕ → List PlainCommit → Writes → List Commit
-commits_from n [] ws = []
-commits_from n (c ∷ cs) ws =
-    record { seat = 0; number = n + 1; snapshot = n; tag = c.tag; writes = take c.count ws } ∷ commits_from (n + 1) cs (drop c.count ws)
+-- the commits of seat 0, each on all before it
+abbrev pub commits_of_history : PlainHistory → List Commit
+commits_of_history Opened = []
+commits_of_history (Then' _ before tag own held) =
+    let commits = commits_of_history before in
+    commits ++ record { seat = 0; number = length commits + 1; snapshot = length commits; tag = tag; writes = take held own } ∷ []
 
 -- the one seat of a plain store, which made each commit of the history, with so many free slots
 abbrev pub plain_seat : State → List Commit → ℕ → ℕ → ℕ → Seat

@@ -11,12 +11,14 @@ use Rattle.mv_history.specs.declared.plain.PlainStore.{PlainStore}
 use Rattle.mv_history.specs.declared.plain_section.PlainSection.{PlainSection}
 
 -- the snapshot of the whole history is the state after it
-pub state_at-whole : (start : State) (commits : List Commit) → state_at start (map (λ c. Change c) commits) (length commits) ≡ state_after start (map (λ c. Change c) commits)
+pub state_at-whole : (start : State) (commits : List Commit)
+    → state_at start (map (λ c. Change c) commits) (length commits) ≡ state_after start (map (λ c. Change c) commits)
 state_at-whole start commits =
     ap (λ h. state_after start h) (take_all (length commits) (map (λ c. Change c) commits) (omega (arith, length-map commits (λ c. Change c))))
 
 -- a plain store's state is the state after its commits
-pub plain_state : {P : _} {rules : _} (s : PlainStore P rules) → s.words.items ≡ state_at s.start.value.items (map (λ c. Change c) (commits_in s)) (length (commits_in s))
+pub plain_state : {P : _} {rules : _} (s : PlainStore P rules)
+    → s.words.items ≡ state_at s.start.value.items (map (λ c. Change c) (commits_in s)) (length (commits_in s))
 plain_state s = s.current ∙ sym (state_at-whole s.start.value.items (commits_in s))
 
 pub plain_reads : {P : _} {rules : _} (s : PlainSection P rules) → written s.store.words.items (take s.held s.own) ≡ state_of (section_of s)

@@ -1,15 +1,15 @@
 -- What the plain store and its section mean.
 use Rattle.std.specs.Prelude.{List, take}
-use Rattle.mv_history.specs.declared.plain_commit.TheConstants.{WRITE_MAX}
+use Rattle.mv_history.specs.declared.plain_history.TheConstants.{WRITE_MAX}
 use Rattle.mv_history.specs.State.{Commit}
 use Rattle.mv_history.specs.Meaning.{Seat, InSection}
-use Rattle.mv_history.specs.Plain.{commits_from, plain_seat, plain_section}
+use Rattle.mv_history.specs.Plain.{commits_of_history, plain_seat, plain_section}
 use Rattle.mv_history.specs.declared.plain.PlainStore.{PlainStore}
 use Rattle.mv_history.specs.declared.plain_section.PlainSection.{PlainSection}
 
--- the commits that a plain store keeps
+-- the commits of a plain store
 abbrev pub commits_in : {P : _} {rules : _} → PlainStore P rules → List Commit
-commits_in s = commits_from 0 s.commits.items s.writes.items
+commits_in s = commits_of_history s.history.value
 
 -- the seat that a plain store is
 abbrev pub seat_of : {P : _} {rules : _} → PlainStore P rules → Seat

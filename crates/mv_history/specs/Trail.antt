@@ -1,5 +1,5 @@
 -- Which steps of a trail are exchanges on CLOCK.
-use Rattle.std.specs.Prelude.{◌≡◌, Bool, true, false, List, [], ◌∷◌, filter, IsSome}
+use Rattle.std.specs.Prelude.{◌≡◌, Bool, true, false, List, [], ◌∷◌, filter, IsSome, IsNone}
 pub use Rattle.mv_history.specs.declared.trail.Step.{Step}
 use Rattle.mv_history.specs.declared.trail.StepKind.{StepKind}
 use Rattle.mv_history.specs.declared.trail.StepKind.TheVariants.{NameCommit, NameRest}
@@ -28,3 +28,9 @@ pub record IsOneWon (steps : List Step) : Type 0 where
   pub step : Step
   pub one : steps ≡ step ∷ []
   pub won : IsSome step.stored
+
+-- the steps are one, which is a lost exchange
+pub record IsOneLost (steps : List Step) : Type 0 where
+  pub step : Step
+  pub one : steps ≡ step ∷ []
+  pub lost : IsNone step.stored

@@ -11,7 +11,8 @@ AreWrites-rewritten [] o words h k = h
 AreWrites-rewritten (w ∷ ws) o words h k =
     cond_both (eqb w.0 o) ((o, words) ∷ ws) (w ∷ rewritten ws o words) AreWrites
     (λ _. All-cons (λ v. IsWords v.1) (o, words) ws k (All-tail (λ v. IsWords v.1) w ws h))
-    (λ _. All-cons (λ v. IsWords v.1) w (rewritten ws o words) (All-head (λ v. IsWords v.1) w ws h) (AreWrites-rewritten ws o words (All-tail (λ v. IsWords v.1) w ws h) k))
+    (λ _. All-cons (λ v. IsWords v.1) w (rewritten ws o words) (All-head (λ v. IsWords v.1) w ws h)
+    (AreWrites-rewritten ws o words (All-tail (λ v. IsWords v.1) w ws h) k))
 
 pub AreWords-written : (s : State) (ws : Writes) → AreWords s → AreWrites ws → AreWords (written s ws)
 AreWords-written s [] h k = h
@@ -23,4 +24,5 @@ AreWords-state_after n front [] s legal h = h
 AreWords-state_after n front (Rest by ∷ es) s legal h =
     AreWords-state_after n (front ++ Rest by ∷ []) es s (rw append_assoc legal) h
 AreWords-state_after n front (Change c ∷ es) s legal h =
-    AreWords-state_after n (front ++ Change c ∷ []) es (written s c.writes) (rw append_assoc legal) (AreWords-written s c.writes h (legal front es c refl).words)
+    AreWords-state_after n (front ++ Change c ∷ []) es (written s c.writes) (rw append_assoc legal)
+    (AreWords-written s c.writes h (legal front es c refl).words)

@@ -31,13 +31,15 @@
 //!   only a store can show, as that a step of the call found a lock, are members of the traits which
 //!   each store defines.
 //! - A seat's *trail* lists its atomic steps, each a [`Step`] of a [`StepKind`]. A call of
-//!   `try_commit` has at most one exchange on CLOCK for a commit in its trail, and exactly one, won,
-//!   where it is done; no other call has any, and an abort has no exchange on CLOCK at all.
+//!   `try_commit` has at most one exchange on CLOCK for a commit in its trail. Where the store tells
+//!   its trail, it has exactly one where it is done, won, and where it is overtaken, lost. No other
+//!   call has any, and an abort has no exchange on CLOCK at all.
 //!
 //! The traits are those of multi-version read-log-update: MV-RLU is by Kim, Mathew, Kashyap,
 //! Ramanathan and Min (ASPLOS 2019), and extends RLU, by Matveev, Shavit, Felber and Marlier
 //! (SOSP 2015). They say nothing of logs, version chains or reclamation, so a store may be plain:
-//! [`PlainStore`] has one seat and a list, and refuses nothing but a full write set and the last time.
+//! [`PlainStore`] has one seat and the words of its objects, and refuses nothing but a full write set
+//! and the last time.
 //!
 //! # Place
 //!
@@ -53,7 +55,7 @@
 mod answers;
 mod history;
 mod plain;
-mod plain_commit;
+mod plain_history;
 mod plain_section;
 mod rules;
 mod section;

@@ -1,56 +1,54 @@
-// The plain store: one seat, and the history as a list.
-ghost use Rattle.std.specs.Prelude.{◌≡◌, ◌+◌, ◌*◌, ◌<◌, ◌≤◌, [], ◌∷◌, ◌++◌, length, map, take, vec_capacity, vec_len, IfOk};
-ghost use Rattle.mv_history.specs.declared.plain_commit.TheConstants.{WRITE_MAX};
+// The plain store: one seat, and the words of each object.
+ghost use Rattle.std.specs.Prelude.{◌≡◌, ◌+◌, ◌<◌, ◌≤◌, [], ◌∷◌, ◌++◌, length, map, take, vec_len, IfOk};
+ghost use Rattle.mv_history.specs.declared.plain_history.TheConstants.{WRITE_MAX};
 ghost use Rattle.mv_history.specs.State.{Change, state_after};
 ghost use Rattle.mv_history.specs.Legal.{AreWords};
 ghost use Rattle.mv_history.specs.Laws.{IsSeat-prop};
-ghost use Rattle.mv_history.specs.Meaning.{IsSeat, IsSection, words_at};
-ghost use Rattle.mv_history.specs.Plain.{total_of, commits_from, plain_seat, plain_section};
+ghost use Rattle.mv_history.specs.Meaning.{Seat, InSection, IsSeat, IsSection, words_at};
+ghost use Rattle.mv_history.specs.Plain.{commits_of_history, plain_seat, plain_section};
 
 use crate::answers::Room;
 use crate::history::{LAST, Tag, Words};
-use crate::plain_commit::{PlainCommit, WRITE_MAX};
+use crate::plain_history::{PlainHistory, WRITE_MAX};
 use crate::plain_section::PlainSection;
 use crate::rules::Protocol;
+use crate::section::Section;
 use crate::store::Store;
 use std::alloc::{AllocError, Global};
 use std::marker::PhantomData;
 use std::snapshot::Snapshot;
 
-/// The slow store: one seat, of number 0, that keeps the state and the list of its commits.
+/// The slow store: one seat, of number 0, that keeps the words of its objects.
 ///
 /// Nobody else commits, so it never answers `Busy`, `Stale`, `LogFull`, `Again` or `Short`, and it
 /// makes no rests. `write_max` is 16, and its trail is empty. It may be let go.
 ///
-/// The commits stand in two lists, both reserved by `new`, since no other call takes memory: a tag
-/// and a count, of 40 bytes, for each commit, and the writes of all of them, one after another, of
-/// 56 bytes each. Room for a commit reserves 16 writes, so room for 65,536 commits reserves 61 MB
-/// of addresses; memory is used only for commits that are made, and for the writes that they have.
+/// It has 48 bytes for each object, which `new` takes, and nothing for a commit: the opening state
+/// and the history are only for clauses.
 pub struct PlainStore<P: Protocol> {
-    // Only clauses read the opening state.
+    // Only clauses read these two.
     pub(crate) start: Snapshot<Vec<Words>>,
+    pub(crate) history: Snapshot<PlainHistory>,
     pub(crate) words: Vec<Words>,
-    pub(crate) commits: Vec<PlainCommit>,
-    pub(crate) writes: Vec<(u32, Words)>,
+    pub(crate) time: u64,
     pub(crate) base: u64,
     pub(crate) last: u64,
     pub(crate) rules: PhantomData<P>,
-    ghost current: { words.items ≡ state_after start.value.items (map (λ c. Change c) (commits_from 0 commits.items writes.items)) },
+    ghost current: { words.items ≡ state_after start.value.items (map (λ c. Change c) (commits_of_history history.value)) },
     ghost few: { vec_len words ≤ 65535 },
-    ghost total: { total_of commits.items ≡ length writes.items },
-    ghost small: { length writes.items ≤ WRITE_MAX * length commits.items },
-    ghost room: { last ≤ base + vec_capacity commits },
-    ghost wide: { WRITE_MAX * last ≤ WRITE_MAX * base + vec_capacity writes },
-    ghost lawful: { IsSeat P.start P.allowed (plain_seat start.value.items (commits_from 0 commits.items writes.items) base last WRITE_MAX) } by { IsSeat-prop P.start P.allowed P.one_start P.one_allowed (plain_seat start.value.items (commits_from 0 commits.items writes.items) base last WRITE_MAX) },
+    ghost clock: { time ≡ base + length (commits_of_history history.value) },
+    ghost lawful: { IsSeat P.start P.allowed
+        (plain_seat start.value.items (commits_of_history history.value) base last WRITE_MAX) } by { IsSeat-prop P.start P.allowed P.one_start P.one_allowed
+            (plain_seat start.value.items (commits_of_history history.value) base last WRITE_MAX) },
 }
 
 impl<P: Protocol> Drop for PlainStore<P> {
     fn drop(self) {
         let PlainStore {
             start: _,
+            history: _,
             words: _,
-            commits: _,
-            writes: _,
+            time: _,
             base: _,
             last: _,
             rules: _,
@@ -112,6 +110,10 @@ impl<P: Protocol> PlainStore<P> {
 
     /// Opens a store with these objects, its history empty, at the printed time `base`, with room
     /// for `room` commits. Its `last` is `base + room`. It refuses only for want of memory.
+    ///
+    /// What a store's refusals show is the store's to say. Of a plain store nothing shows that a call
+    /// may refuse for want of room or for what another seat does, so `Busy`, `Stale`, `LogFull`,
+    /// `Again` and `Short` can't come, and the snapshot of each section is the whole history.
     pub fn new(
         alloc: Global,
         start: &[Words],
@@ -122,17 +124,17 @@ impl<P: Protocol> PlainStore<P> {
         requires few { length start.now ≤ 65535 }
         requires lawful { P.start start.now }
         requires time { base + room ≤ LAST }
-        ensures { IfOk result (λ s. ⟦<PlainStore<P> as Store>⟧.seat_of s ≡ plain_seat start.now [] base (base + room) 16) }
+        ensures opens { IfOk result (λ s. ⟦<PlainStore<P> as Store>⟧.seat_of s ≡ plain_seat start.now [] base (base + room) 16) }
+        ensures never_refuses { ¬ ⟦<PlainSection<P> as Section>⟧.may_refuse }
+        ensures whole_snapshot { (old : Seat) (new : InSection) → ⟦<PlainStore<P> as Store>⟧.took old new → new.at ≡ length old.seen }
     {
         have_width(start);
         let words = Vec::from_slice(alloc, start)?;
-        let commits = Vec::with_capacity(alloc, room as usize)?;
-        let writes = Vec::with_capacity(alloc, room as usize * WRITE_MAX)?;
         Ok(PlainStore {
             start: Snapshot::of(&words),
+            history: Snapshot::of(&PlainHistory::Opened),
             words,
-            commits,
-            writes,
+            time: base,
             base,
             last: base + room as u64,
             rules: PhantomData,
@@ -153,32 +155,37 @@ impl<P: Protocol> PlainStore<P> {
         requires whole { length own ≡ WRITE_MAX }
         requires few { held ≤ WRITE_MAX }
         requires lawful { IsSection P.start P.allowed (plain_section self.start.value.items (commits_in self) self.base self.last (take held own)) }
-        requires time { self.base + vec_len self.commits < self.last }
+        requires time { self.time < self.last }
         requires allowed { P.allowed tag self.words.items (take held own) }
         ensures start { result.start.value.items ≡ self.start.value.items }
         ensures base { result.base ≡ self.base }
         ensures last { result.last ≡ self.last }
-        ensures commits { commits_in result ≡ commits_in self ++ commit_by (plain_section self.start.value.items (commits_in self) self.base self.last (take held own)) tag ∷ [] }
+        ensures commits { let here = plain_section self.start.value.items (commits_in self) self.base self.last (take held own) in
+            commits_in result ≡ commits_in self ++ commit_by here tag ∷ [] }
     {
         let PlainStore {
             start,
+            history,
             mut words,
-            mut commits,
-            mut writes,
+            time,
             base,
             last,
             rules,
         } = self;
         for i in 0..held {
             words[own[i].0 as usize] = own[i].1;
-            writes.push_reserved(own[i]);
         }
-        commits.push_reserved(PlainCommit { tag, count: held });
+        let more = PlainHistory::Then {
+            before: history,
+            tag,
+            own,
+            held,
+        };
         PlainStore {
             start,
+            history: Snapshot::of(&more),
             words,
-            commits,
-            writes,
+            time: time + 1,
             base,
             last,
             rules,

@@ -1,16 +1,16 @@
 // The section of the plain store.
 ghost use Rattle.std.specs.Prelude.{◌≡◌, ◌<◌, ◌≤◌, false, [], length, take, IfSome, IfNone, slice_index_or};
-ghost use Rattle.mv_history.specs.declared.plain_commit.TheConstants.{WRITE_MAX};
+ghost use Rattle.mv_history.specs.declared.plain_history.TheConstants.{WRITE_MAX};
 ghost use Rattle.mv_history.specs.State.{touches};
 ghost use Rattle.mv_history.specs.Legal.{IsWords};
 ghost use Rattle.mv_history.specs.Laws.{IsSection-prop};
 ghost use Rattle.mv_history.specs.Meaning.{IsSection};
-ghost use Rattle.mv_history.specs.Plain.{commits_from, plain_section};
+ghost use Rattle.mv_history.specs.Plain.{commits_of_history, plain_section};
 
 use crate::answers::{CommitAnswer, LockAnswer};
 use crate::history::{Tag, Words};
 use crate::plain::PlainStore;
-use crate::plain_commit::WRITE_MAX;
+use crate::plain_history::WRITE_MAX;
 use crate::rules::Protocol;
 use crate::section::Section;
 use crate::view::View;
@@ -22,7 +22,10 @@ pub struct PlainSection<P: Protocol> {
     pub(crate) held: usize,
     ghost whole: { length own ≡ WRITE_MAX },
     ghost few: { held ≤ WRITE_MAX },
-    ghost lawful: { IsSection P.start P.allowed (plain_section store.start.value.items (commits_from 0 store.commits.items store.writes.items) store.base store.last (take held own)) } by { IsSection-prop P.start P.allowed P.one_start P.one_allowed (plain_section store.start.value.items (commits_from 0 store.commits.items store.writes.items) store.base store.last (take held own)) },
+    ghost lawful: { IsSection P.start P.allowed
+        (plain_section store.start.value.items (commits_of_history store.history.value) store.base store.last (take held own)) } by { IsSection-prop
+            P.start P.allowed P.one_start P.one_allowed
+            (plain_section store.start.value.items (commits_of_history store.history.value) store.base store.last (take held own)) },
 }
 
 // What the type of words says, as a fact.
@@ -113,7 +116,7 @@ impl<P: Protocol> Section for PlainSection<P> {
     ghost back_lawful = { λ b. b.lawful };
 
     fn at(&self) -> u64 {
-        self.store.base + self.store.commits.len() as u64
+        self.store.time
     }
 
     fn last(&self) -> u64 {

@@ -2,7 +2,7 @@
 ghost use Rattle.std.specs.Prelude.{◌≡◌, ◌≢◌, ◌↔◌, ℕ, ◌+◌, ◌-◌, ◌<◌, ◌≤◌, [], length, ⊤};
 ghost use Rattle.mv_history.specs.State.{touches};
 ghost use Rattle.mv_history.specs.Drift.{IsFit};
-ghost use Rattle.mv_history.specs.Trail.{commit_exchanges, IsOneWon};
+ghost use Rattle.mv_history.specs.Trail.{commit_exchanges, IsOneWon, IsOneLost};
 ghost use Rattle.mv_history.specs.Meaning.{Seat, InSection, snapshot_of, state_of, Holds, Lacks, IsWorn, IsSeat, IsSection};
 ghost use Rattle.mv_history.specs.Calls.{call_trail, IsAsBefore, GoesOn, IsSetFull, IsLogFull, Locks, Rewrites, Leaves, Commits, IsStale, Overtakes};
 
@@ -94,7 +94,8 @@ pub trait Section: View + Sized {
         ensures again { Holds (section self.old) object → (result ≡ Held) × (section self.new ≡ section self.old) }
         ensures set_full { (result ≡ SetFull) ↔ (Lacks (section self.old) object × IsSetFull (section self.old)) }
         ensures log_full { (result ≡ LogFull) ↔ (Lacks (section self.old) object × ¬ IsSetFull (section self.old) × IsLogFull (section self.old)) }
-        ensures busy { (seat : ℕ) → result ≡ Busy seat → may_refuse × (seat ≢ (section self.old).seat.number) × found_held (section self.old) (section self.new) object seat }
+        ensures busy { (seat : ℕ) → result ≡ Busy seat →
+            may_refuse × (seat ≢ (section self.old).seat.number) × found_held (section self.old) (section self.new) object seat }
         ensures stale { (time : ℕ) → result ≡ Stale time → may_refuse × IsStale (section self.new) object time }
         ensures held { result ≡ Held → Lacks (section self.old) object → Locks (section self.old) (section self.new) object }
 
@@ -115,16 +116,20 @@ pub trait Section: View + Sized {
     /// - `End` exactly where the time that this call loaded is `last`, so that no time is left; the
     ///   section comes back as before.
     ///
-    /// The call exchanges CLOCK for a commit at most once, and exactly once, won, where it is `Done`.
+    /// The call exchanges CLOCK for a commit at most once. Where the store tells its trail, it does so
+    /// exactly once for `Done` and for `Again`, and wins or loses as the answer says.
     fn try_commit(self, tag: Tag) -> CommitAnswer<Self::Back, Self>
         requires some { 0 < length (section self).own }
         requires fit { IsFit Self.Rules.allowed (snapshot_of (section self)) tag (section self).own }
         ensures done { OnDone result (λ back time. Commits (section self) tag (stands back) time × loaded (section self) (stands back) (time - 1)) }
-        ensures again { OnAgain result (λ left rival. may_refuse × IsAsBefore (section self) (section left) × Overtakes (section self) (section left) rival.seat rival.time (loaded (section self) (section left).seat)) }
-        ensures end { OnEnd result (λ left. IsAsBefore (section self) (section left) × IsWorn (section left).seat × loaded (section self) (section left).seat (section left).seat.last) }
+        ensures again { OnAgain result (λ left rival. may_refuse × IsAsBefore (section self) (section left)
+            × Overtakes (section self) (section left) rival.seat rival.time (loaded (section self) (section left).seat)) }
+        ensures end { OnEnd result (λ left. IsAsBefore (section self) (section left) × IsWorn (section left).seat
+            × loaded (section self) (section left).seat (section left).seat.last) }
 
         ensures at_most_one { length (commit_exchanges (call_trail (section self).seat (seat_after stands section result))) ≤ 1 }
-        ensures one_won { OnDone result (λ back time. has_trail → IsOneWon (commit_exchanges (call_trail (section self).seat (stands back)))) };
+        ensures one_won { OnDone result (λ back time. has_trail → IsOneWon (commit_exchanges (call_trail (section self).seat (stands back)))) }
+        ensures one_lost { OnAgain result (λ left rival. has_trail → IsOneLost (commit_exchanges (call_trail (section self).seat (section left).seat))) };
 
     /// Gives up what is held, and adds no entry. It may be called with nothing held, and never refuses.
     fn abort(self) -> Self::Back

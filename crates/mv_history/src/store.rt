@@ -53,7 +53,8 @@ pub trait Store: Sized {
     fn prepare(&mut self) -> Room
         ensures prepares { Prepares (seat_of self.old) (seat_of self.new) }
         ensures enough { result ≡ Enough → (seat_of self.new).write_max ≤ (seat_of self.new).spare }
-        ensures short { (holder : Holder) → result ≡ Short holder → Self.Open.may_refuse × ((seat_of self.new).spare < (seat_of self.new).write_max) × holds_back (seat_of self.old) (seat_of self.new) holder };
+        ensures short { (holder : Holder) → result ≡ Short holder →
+            Self.Open.may_refuse × ((seat_of self.new).spare < (seat_of self.new).write_max) × holds_back (seat_of self.old) (seat_of self.new) holder };
 
     /// Begins a section, which holds nothing. Its snapshot is the whole history at one step of this
     /// call, with all that the seat had seen. It never refuses.

@@ -51,7 +51,8 @@ fn plain_store_end(rt: HostRuntime) -> Result<(), Fail> {
 
 #[test]
 fn an_abort_leaves_nothing(rt: HostRuntime) -> Result<(), Fail> {
-    let mut store = PlainStore::<AnyRules>::new(rt.alloc(), &VACANT, 0, 65_536)?;
+    let room = 4_294_967_295;
+    let mut store = PlainStore::<AnyRules>::new(rt.alloc(), &VACANT, 0, room)?;
     assert_eq!(rt;
         (store.seat(), store.write_max(), store.prepare()),
         (0, 16, Room::Enough)
@@ -59,7 +60,7 @@ fn an_abort_leaves_nothing(rt: HostRuntime) -> Result<(), Fail> {
     let mut section = store.enter();
     assert_eq!(rt;
         (section.at(), section.last(), section.write_max()),
-        (0, 65_536, 16)
+        (0, room as u64, 16)
     );
     assert_eq!(rt; section.objects(), 182);
     assert_eq!(rt; section.try_lock(3), LockAnswer::Held);

@@ -1,5 +1,5 @@
 -- One command over a store whose seat alone commits.
-use Rattle.std.proofs.Common.{◌≡◌, ℕ, ◌+◌, ◌-◌, ◌<◌, ◌≤◌, ◌==◌, false, [], ◌∷◌, ◌++◌, length, map, take, Some, refl, sym, ap, ◌∙◌, arith, length-append}
+use Rattle.std.proofs.Common.{◌≡◌, ℕ, ◌+◌, ◌-◌, ◌<◌, ◌≤◌, ◌==◌, Bool, true, false, not, ◌&&◌, if◌then◌else◌, [], ◌∷◌, ◌++◌, length, map, take, Some, refl, sym, ap, ◌∙◌, arith, length-append}
 use Rattle.std.proofs.lemmas.List.{take_all, map-append}
 use Rattle.std.proofs.lemmas.Bool.Decides.{nat_tests}
 use Rattle.std.proofs.lemmas.Option.{slice_get_within}
@@ -9,9 +9,10 @@ use Rattle.mv_history.specs.State.{State, Writes, written, state_after, state_at
 use Rattle.mv_history.specs.Meaning.{Seat, InSection, IsSeat, snapshot_of, state_of}
 use Rattle.mv_history.specs.Calls.{Continues, Enters}
 use Rattle.mv_history.proofs.Writing.{length-state_after}
+use Rattle.set_script.specs.Catalogue.{Maps}
 use Rattle.set_script.specs.CatalogueOf.{catalogue_of}
 use Rattle.set_script.specs.Lawful.{IsLawful, IsOpening}
-use Rattle.set_script.specs.Replies.{changes}
+use Rattle.set_script.specs.Replies.{applies, overflows, changes, reply}
 use Rattle.set_script.specs.Rules.{capacity as capacity_of, IsSetCommit}
 use Rattle.set_script.specs.Tags.{tag_of, command_of}
 use Rattle.set_script.specs.declared.commands.Command.{Command}
@@ -19,16 +20,23 @@ use Rattle.set_script.specs.declared.commands.Command.TheVariants.{Add, Put, Del
 use Rattle.set_script.specs.declared.commands.Place.{Place}
 use Rattle.set_script.specs.declared.commands.Place.TheVariants.{Commit, Read}
 use Rattle.set_script.specs.declared.commands.Reply.{Reply}
+use Rattle.set_script.specs.declared.commands.Reply.TheVariants.{Yes, No, Full, Worn}
 use Rattle.set_script.proofs.Times.{lawful_after, commit_makes}
 use Rattle.list_set.specs.declared.answers.Cause.{Cause}
 use Rattle.list_set.specs.declared.answers.Cause.TheVariants.{Busy, Stale, Rival, LogFull}
 use Rattle.set_catalog.specs.declared.answer.Attempt.{Attempt}
 use Rattle.set_catalog.specs.declared.answer.Attempt.TheVariants.{Done, Again}
 use Rattle.set_catalog.specs.Attempts.{state_of_time, IsDoneBy, IsRead, Attempted}
+use Rattle.set_catalog.specs.Causes.{Causes, causes}
+use Rattle.set_catalog.proofs.Outcomes.{read_continues, read_within}
 use Rattle.set_catalog.specs.Plans.{PlanOf}
 use Rattle.mvrlu_run.specs.declared.running.TheConstants.{ROOM}
 use Rattle.mvrlu_run.specs.Run.{capacity}
 use Rattle.mvrlu_run.specs.Ready.{state_now, IsReady, Runs}
+
+-- what the causes of the plain store mean
+abbrev pub plain : Causes
+plain = causes ⊥ ⊥ (λ old new. new.at ≡ length old.seen) (λ old new holder. ⊥) (λ old new object seat. ⊥) (λ old new time. time ≡ old.seat.base + length old.seat.seen)
 
 -- nobody else commits: all that the seat has seen is its own
 abbrev pub IsAlone : Seat → Type 0
@@ -59,12 +67,14 @@ not_equal : (m n : ℕ) → m < n → (m == n) ≡ false
 not_equal m n l = grind (arith, nat_tests)
 
 -- A command that changes nothing is a read of all that was seen.
-pub reads : (s t : Seat) (command : Command) (answer : Reply) (time : ℕ) → IsReady s → length s.seen < ROOM → IsAlone s → IsAlone t → IsRead s t command answer time → Runs s t command (Read time) answer
+pub reads : (s t : Seat) (command : Command) (answer : Reply) (time : ℕ) → IsReady s → length s.seen < ROOM → IsAlone s → IsAlone t
+    → IsRead plain s t command answer time → Runs s t command (Read time) answer
 reads s t command answer time r early alone alone' read =
-    let c = read.continues in
+    let c = read_continues plain s t command answer time read in
+    let within = read_within plain s t command answer time read in
     let r' = ready_after s t r c in
     let seen : t.seen ≡ s.seen = alone' ∙ ap (λ cs. map (λ d. Change d) cs) read.mine ∙ sym alone in
-    let is : time ≡ length s.seen = omega (arith, read.from, read.upto, r.base, r'.base, ap length seen) in
+    let is : time ≡ length s.seen = omega (arith, within, r.base, r'.base, ap length seen) in
     let at : state_of_time t time ≡ state_now s = before s t (time - t.base) c (omega (arith, is, r'.base)) in
     let last : (time == t.last) ≡ false = not_equal time t.last (omega (arith, is, early, r'.last)) in
     let end : (time == LAST) ≡ false = not_equal time LAST (omega (arith, is, early)) in
@@ -80,6 +90,12 @@ reads s t command answer time r early alone alone' read =
       leaves = ap catalogue_of (ap (state_after t.start) seen ∙ ap (λ z. state_after z s.seen) c.start);
     }
 
+-- the reply of a change is yes only where there is one
+change_yes : (a o : Bool) → (if a then (if o then Full else (if false then Worn else Yes)) else No) ≡ Yes → a && not o && not false ≡ true
+change_yes true false e = refl
+change_yes true true e = absurd (cc)
+change_yes false o e = absurd (cc)
+
 -- the tag of a command that changes something stands for it
 tagged : (command : Command) (s : State) (ws : Writes) → PlanOf command s ws → command_of (tag_of command) ≡ Some command
 tagged (Add name key) s ws p = refl
@@ -91,6 +107,18 @@ tagged (Move source target key) s ws p = refl
 tagged (Pair first second key) s ws p = absurd p
 tagged (Size name) s ws p = absurd p
 tagged (Next name key) s ws p = absurd p
+
+-- a command that may change something changes it where the reply is yes
+changes_by : (command : Command) (s : State) (ws : Writes) (c : Maps) → PlanOf command s ws → reply command c capacity false ≡ Yes → changes command c capacity false ≡ true
+changes_by (Add name key) s ws c p e = change_yes (applies (Add name key) c) (overflows (Add name key) c capacity) e
+changes_by (Put name key value) s ws c p e = change_yes (applies (Put name key value) c) (overflows (Put name key value) c capacity) e
+changes_by (Del name key) s ws c p e = change_yes (applies (Del name key) c) (overflows (Del name key) c capacity) e
+changes_by (Has name key) s ws c p e = absurd p
+changes_by (Get name key) s ws c p e = absurd p
+changes_by (Move source target key) s ws c p e = change_yes (applies (Move source target key) c) (overflows (Move source target key) c capacity) e
+changes_by (Pair first second key) s ws c p e = absurd p
+changes_by (Size name) s ws c p e = absurd p
+changes_by (Next name key) s ws c p e = absurd p
 
 -- A command that changes something is the next commit.
 pub commits : (s t : Seat) (command : Command) (answer : Reply) (time : ℕ) → IsReady s → IsSeat IsOpening IsSetCommit t → IsAlone s → IsAlone t → IsDoneBy s t command answer time → Runs s t command (Commit time) answer
@@ -112,7 +140,7 @@ commits s t command answer time r seat alone alone' done =
       answers = record {
         at = is;
         right = done.answers ∙ rw (at, room) refl;
-        stands = tt;
+        stands = changes_by command _ _ (catalogue_of (state_now s)) done.plan (sym (rw (old, room) refl) ∙ made.answer);
       };
       time = omega (arith, is, long);
       leaves = ap catalogue_of (sym new) ∙ made.leaves ∙ rw (old, room) refl;
@@ -120,8 +148,7 @@ commits s t command answer time r seat alone alone' done =
 
 -- what an attempt over the plain store leaves
 abbrev pub AttemptedAlone : Seat → Seat → Command → Attempt → Type 0
-AttemptedAlone s t command attempt =
-    Attempted ⊥ (λ old new object seat. ⊥) (λ old new time. time ≡ old.seat.base + length old.seat.seen) (λ old new holder. ⊥) s t command attempt
+AttemptedAlone s t command attempt = Attempted plain s t command attempt
 
 -- A command ran at the place that its attempt names.
 pub runs : (s t : Seat) (command : Command) (answer : Reply) (place : Place) → IsReady s → length s.seen < ROOM → IsSeat IsOpening IsSetCommit t → IsAlone s → IsAlone t → AttemptedAlone s t command (Done answer place) → Runs s t command place answer

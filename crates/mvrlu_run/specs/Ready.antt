@@ -38,4 +38,4 @@ pub record IsOpen (s : Seat) : Type 0 where
 
 -- The commands ran, with these lines, and the sets stand in this state.
 abbrev pub IsRun : List Command → List Line → State → Type 0
-IsRun commands lines s = LegalRun (commands ∷ []) lines capacity (catalogue_of s)
+IsRun commands lines s = LegalRun (commands ∷ []) lines 0 capacity (catalogue_of s)

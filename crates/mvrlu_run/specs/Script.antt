@@ -13,14 +13,15 @@ use Rattle.mvrlu_run.specs.declared.finish.Finish.TheVariants.{Script, Memory}
 use Rattle.mvrlu_run.specs.declared.finish.TheConstants.{MOST_BYTES}
 use Rattle.mvrlu_run.specs.Run.{capacity}
 
--- The bytes are a script within the limits, and this is the text of a legal run of its commands, with the sets as they are at the end.
+-- The bytes are a script within the limits, and this is the text of a legal run of its commands from the time 0 on, with
+-- the sets as they are at the end.
 pub record IsTextOf (bytes text : List ℕ) : Type 0 where
   pub short : length bytes ≤ MOST_BYTES
   pub commands : List Command
   pub parses : parsed bytes ≡ Ok commands
   pub lines : List Line
   pub end : Maps
-  pub legal : LegalRun (commands ∷ []) lines capacity end
+  pub legal : LegalRun (commands ∷ []) lines 0 capacity end
   pub ordered : IsOrdered lines
   pub is : text ≡ text_of_run lines end []
 

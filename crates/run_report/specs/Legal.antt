@@ -44,9 +44,9 @@ abbrev pub is_last : Place → Bool
 is_last (Commit time) = false
 is_last (Read time) = time == LAST
 
--- a commit may change the catalogue, and a read has nothing to change
+-- a commit changes the catalogue there, and a read has nothing to change
 abbrev pub MayStand : Place → Command → Maps → ℕ → Type 0
-MayStand (Commit time) command c capacity = Unit {0}
+MayStand (Commit time) command c capacity = changes command c capacity false ≡ true
 MayStand (Read time) command c capacity = changes command c capacity (is_last (Read time)) ≡ false
 
 -- the catalogue after a place: a commit makes its command's change, and a read makes none
@@ -65,19 +65,27 @@ Replays scripts capacity c (line ∷ lines) end =
 abbrev pub EachPair : (Line → Line → Type 0) → List Line → Type 0
 EachPair R lines = All (λ a. All (R a) lines) lines
 
--- the later command of a script has no earlier time
+-- a place may come after a time: a commit is later, and a read is no earlier
+abbrev pub Follows : ℕ → Place → Type 0
+Follows before (Commit time) = before < time
+Follows before (Read time) = before ≤ time
+
+-- the later command of a script follows the time of the earlier one
 abbrev pub IsInTime : Line → Line → Type 0
-IsInTime a b = a.seat ≡ b.seat → a.number < b.number → time_of a.place ≤ time_of b.place
+IsInTime a b = a.seat ≡ b.seat → a.number < b.number → Follows (time_of a.place) b.place
 
 -- commits of one time are one line
 abbrev pub IsAlone : Line → Line → Type 0
 IsAlone a b = IsTrue (is_commit a.place) → IsTrue (is_commit b.place) → time_of a.place ≡ time_of b.place → id_of a ≡ id_of b
 
--- The lines are a legal run of the scripts, with room for this many nodes, that leaves these maps. They stand in any order.
-pub record LegalRun (scripts : List (List Command)) (lines : List Line) (capacity : ℕ) (end : Maps) : Type 0 where
+-- The lines are a legal run of the scripts from this printed time on, with room for this many nodes, that leaves these
+-- maps. They stand in any order.
+pub record LegalRun (scripts : List (List Command)) (lines : List Line) (base capacity : ℕ) (end : Maps) : Type 0 where
   -- each command of each script has exactly one line, with its seat and number, and there are no others
   pub once : IsPermutation (ids_of 0 scripts) (map id_of lines)
-  -- along a script the times never fall
+  -- a commit is later than the printed time of the opening state, and a read is no earlier
+  pub from_base : All (λ line. Follows base line.place) lines
+  -- along a script the times never fall, and a commit is later than the line before it
   pub in_time : EachPair IsInTime lines
   -- no two commit lines have the same time
   pub alone : EachPair IsAlone lines

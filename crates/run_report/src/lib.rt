@@ -4,13 +4,14 @@
 //! effect, and its reply. A place is a commit or a read of the one history, with its printed time. Lines are ordered by
 //! time, commits before reads, then by seat, then by number; [`order`] puts them so.
 //!
-//! **Legal runs.** `LegalRun scripts lines capacity end` (specs/Legal.antt) says of lines in any order:
+//! **Legal runs.** `LegalRun scripts lines base capacity end` (specs/Legal.antt) says of lines in any order:
 //!
 //! 1. each command of each script has exactly one line, and there are no others;
-//! 2. along a script the times never fall;
+//! 2. along a script the times never fall, and a commit's time is later than that of the line before it, or than `base`
+//!    where it is the first; no read is of a time before `base`;
 //! 3. no two commit lines have the same time;
-//! 4. the replay of the ordered lines, from 30 empty maps, gives each line's reply and ends in `end`. A commit makes its
-//!    command's change. A read makes none, and its command has nothing to change there.
+//! 4. the replay of the ordered lines, from 30 empty maps, gives each line's reply and ends in `end`. A commit's command
+//!    changes something there, and the change is made. A read's command has nothing to change there.
 //!
 //! Point 4 is what a reader of the text can check with the scripts alone: one catalogue, changed by one commit after
 //! another, gives every reply.

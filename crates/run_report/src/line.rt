@@ -26,7 +26,8 @@ pub struct Line {
 pub fn order(lines: &mut Vec<Line>)
     ensures permutation { IsPermutation lines.old.items lines.new.items }
     ensures ordered { IsOrdered lines.new.items }
-    ensures legal { (scripts : List (List Command)) (capacity : ℕ) (end : Maps) → LegalRun scripts lines.old.items capacity end → LegalRun scripts lines.new.items capacity end }
+    ensures legal { (scripts : List (List Command)) (base capacity : ℕ) (end : Maps) →
+        LegalRun scripts lines.old.items base capacity end → LegalRun scripts lines.new.items base capacity end }
 {
     lines.sort_unstable_by_key(Line::order_key);
 }

@@ -1,9 +1,10 @@
 -- Hints that were tried.
-use Rattle.std.proofs.Common.{◌≡◌, ℕ, ◌<◌, ◌≤◌, ◌⊎◌, inl, inr, List, [], ◌∷◌, ◌++◌, All, Option, Some, None, IfSome, refl, sym, ap, ◌∙◌, append_assoc, subst, arith}
+use Rattle.std.proofs.Common.{◌≡◌, ℕ, ◌<◌, ◌≤◌, ◌⊎◌, inl, inr, List, [], ◌∷◌, ◌++◌, All, Option, Some, None, IfSome, IfNone, refl, sym, ap, ◌∙◌, append_assoc, subst, arith}
 use Rattle.std.proofs.lemmas.List.{append-nil}
 use Rattle.std.proofs.lemmas.List.Elements.{All-nil, All-cons, All-append, All-weaker, Contains-append_left, Contains-append_right}
 use Rattle.mv_history.specs.State.{State}
-use Rattle.set_catalog.specs.Hinted.{Hinted}
+use Rattle.set_catalog.specs.Hinted.{Hinted, TakesHints}
+use Rattle.set_catalog.specs.declared.picks.Picked.{Picked}
 use Rattle.set_script.specs.Objects.{first_node}
 use Rattle.set_catalog.specs.Picks.{IsVacant, TriesFor, AllTried, TriesHints}
 
@@ -43,6 +44,12 @@ tries_beside s old mid new but o a e = record {
   };
   hinted = inr (ap (λ (h : Hinted). h.objects) e ∙ a.none);
 }
+
+-- a pick takes the hints that it tries, and all of them where it finds too few
+pub picked_taken : (s : State) (old new : Hinted) (r : Option Picked)
+    → IfSome r (λ p. TriesHints s old new p.first p.second) → IfNone r (new.objects ≡ []) → new.room ≡ old.room → TakesHints old new
+picked_taken s old new (Some p) some none room = record { room = room; gone = some.gone; parts = some.tries.parts }
+picked_taken s old new None some none room = record { room = room; gone = old.objects; parts = ap (λ xs. xs ++ old.objects) (sym none) }
 
 front_empty : (xs ys zs : List ℕ) → xs ≡ ys ++ zs → xs ≡ [] → ys ≡ []
 front_empty xs [] zs e n = refl

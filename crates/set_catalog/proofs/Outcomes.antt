@@ -6,8 +6,10 @@ use Rattle.mv_history.specs.declared.history.Commit.{Commit}
 use Rattle.mv_history.specs.declared.history.Entry.TheVariants.{Change}
 use Rattle.mv_history.specs.declared.answers.Holder.{Holder}
 use Rattle.mv_history.specs.Meaning.{Seat, InSection, IsSeat, IsWorn, snapshot_of, state_of}
-use Rattle.mv_history.specs.Calls.{Continues, IsAsBefore, GoesOn, Prepares, Enters, Leaves, Commits, IsEntryAt, Overtakes, commit_by}
-use Rattle.mv_history.proofs.Steps.{Continues-Continues, Waits-Waits, NamesNoCommit-NamesNoCommit, GoesOn-GoesOn, length-seen, state_at-later, IsWorn-later}
+use Rattle.mv_history.specs.Trail.{commit_exchanges, IsOneLost}
+use Rattle.mv_history.specs.Calls.{call_trail, Continues, IsAsBefore, GoesOn, Prepares, Enters, Leaves, Commits, IsEntryAt, Overtakes, commit_by}
+use Rattle.mv_history.proofs.Steps.{Continues-Continues, GoesOn-GoesOn, length-seen, state_at-later, IsWorn-later}
+use Rattle.mv_history.proofs.Snapshots.{snapshot_of-goes_on}
 use Rattle.mv_history.proofs.Holding.{state_of-as_before}
 use Rattle.mv_history.proofs.Histories.{split_at}
 use Rattle.set_script.specs.CatalogueOf.{catalogue_of}
@@ -26,11 +28,13 @@ use Rattle.list_set.specs.Calls.{IsCause}
 use Rattle.set_catalog.specs.Replies.{reply_in, changes_in}
 use Rattle.set_catalog.specs.Plans.{PlanOf, Locks}
 use Rattle.set_catalog.specs.Steps.{most_locks, HasSpace, IsReady, Stops}
-use Rattle.set_catalog.specs.Attempts.{state_of_time, IsDoneBy, IsRead, IsWhy, GivesUpIn, GivesUp, Attempted, AttemptedIn, IsReadBy}
+use Rattle.set_catalog.specs.Attempts.{state_of_time, IsDoneBy, IsRead, IsStopped, IsWhy, GivesUpIn, GivesUp, Attempted, AttemptedIn, IsReadBy}
+use Rattle.set_catalog.specs.Causes.{Causes}
 use Rattle.set_catalog.specs.declared.answer.Attempt.{Attempt}
 use Rattle.set_catalog.specs.declared.answer.Attempt.TheVariants.{Done, Again}
 use Rattle.set_script.specs.declared.commands.Place.TheVariants.{Commit as AtCommit, Read}
 use Rattle.set_catalog.proofs.LawfulTimes.{reads_snapshot}
+use Rattle.set_catalog.proofs.Rooms.{stops_named, stops_after}
 
 -- the tag of a command that changes something stands for it
 tag_stands : (command : Command) (s : State) (last : Bool) → changes_in command s last ≡ true → command_of (tag_of command) ≡ Some command
@@ -77,31 +81,51 @@ done_by found locked new command time none le lo law changing ready made =
     }
 
 -- A section that was left after a look.
-pub read_by : (old : Seat) (entered found : InSection) (new : Seat) (command : Command) (answer : Reply) (last : Bool) → Continues old entered.seat → entered.seat.mine ≡ old.mine → length old.seen ≤ entered.at → entered.own ≡ [] → entered.at ≤ length entered.seat.seen → IsAsBefore entered found → Leaves found new → last ≡ (entered.seat.base + entered.at == entered.seat.last) → answer ≡ reply_in command (state_of entered) last → changes_in command (state_of entered) last ≡ false → IsRead old new command answer (entered.seat.base + entered.at)
-read_by old entered found new command answer last came mine from none le same left is answers unchanging =
+pub read_by : (k : Causes) (old before : Seat) (entered found : InSection) (new : Seat) (command : Command) (answer : Reply) (last : Bool)
+    → Continues old before → before.mine ≡ old.mine → Enters before entered → k.took before entered → entered.at ≤ length entered.seat.seen
+    → IsAsBefore entered found → Leaves found new → last ≡ (entered.seat.base + entered.at == entered.seat.last)
+    → answer ≡ reply_in command (state_of entered) last → changes_in command (state_of entered) last ≡ false
+    → IsRead k old new command answer (entered.seat.base + entered.at)
+read_by k old before entered found new command answer last came mine e took le same left is answers unchanging =
     let goes : Continues entered.seat new = Continues-Continues same.seat.continues left.continues in
-    let base : new.base ≡ entered.seat.base = goes.base in
-    let base0 : entered.seat.base ≡ old.base = came.base in
-    let grew : length entered.seat.seen ≤ length new.seen = length-seen goes in
-    let at : entered.seat.base + entered.at - new.base ≡ entered.at = omega arith in
+    let at : entered.seat.base + entered.at - new.base ≡ entered.at = omega (arith, goes.base) in
     let state : state_of entered ≡ state_of_time new (entered.seat.base + entered.at) =
-    reads_snapshot entered none ∙ sym (state_at-later goes entered.at le) ∙ ap (λ (n : ℕ). state_at new.start new.seen n) (sym at) in
+    reads_snapshot entered e.own ∙ sym (state_at-later goes entered.at le) ∙ ap (λ (n : ℕ). state_at new.start new.seen n) (sym at) in
     let when : last ≡ (entered.seat.base + entered.at == new.last) =
     is ∙ ap (λ (n : ℕ). entered.seat.base + entered.at == n) (sym goes.last) in
     record {
-      continues = Continues-Continues came goes;
-      mine = left.mine ∙ same.seat.mine ∙ mine;
-      from = omega arith;
-      upto = omega arith;
+      mine = left.mine ∙ same.seat.mine ∙ e.seat.mine ∙ mine;
+      before = before;
+      comes = came;
+      entered = entered;
+      enters = record { enters = e; took = took; at = le; continues = goes };
+      time_is = refl;
       answers = answers ∙ ap (λ (s : State). reply_in command s last) state ∙ ap (reply_in command (state_of_time new (entered.seat.base + entered.at))) when;
       unchanging = sym (ap (λ (s : State). changes_in command s last) state ∙ ap (changes_in command (state_of_time new (entered.seat.base + entered.at))) when) ∙ unchanging;
     }
 
+-- no read forgets what was seen, and its time is one of the call
+pub read_continues : (k : Causes) (old new : Seat) (command : Command) (answer : Reply) (time : ℕ) → IsRead k old new command answer time → Continues old new
+read_continues k old new command answer time r =
+    Continues-Continues r.comes (Continues-Continues r.enters.enters.seat.continues r.enters.continues)
+
+pub read_within : (k : Causes) (old new : Seat) (command : Command) (answer : Reply) (time : ℕ) → IsRead k old new command answer time
+    → (old.base + length old.seen ≤ time) × (time ≤ new.base + length new.seen)
+read_within k old new command answer time r =
+    let e = r.enters.enters in
+    let base : r.entered.seat.base ≡ old.base = e.seat.continues.base ∙ r.comes.base in
+    let same : new.base ≡ r.entered.seat.base = r.enters.continues.base in
+    let grew : length old.seen ≤ length r.before.seen = length-seen r.comes in
+    let later : length r.entered.seat.seen ≤ length new.seen = length-seen r.enters.continues in
+    (omega (arith, r.time_is, e.at), omega (arith, r.time_is, r.enters.at))
+
 -- A change that was given up in its section.
-pub stopped_in : (may_refuse : Type 0) (found_held : InSection → InSection → ℕ → ℕ → Type 0) (loaded : InSection → Seat → ℕ → Type 0) (found left : InSection) (new : Seat) (command : Command) (cause : Cause) → found.own ≡ [] → Stops may_refuse found_held (Locks command (state_of found)) found left cause → Leaves left new → GivesUpIn may_refuse found_held loaded found new command cause
-stopped_in may_refuse found_held loaded found left new command cause none x gone =
+pub stopped_in : (k : Causes) (found left : InSection) (new : Seat) (command : Command) (cause : Cause)
+    → found.own ≡ [] → Stops k.may_refuse k.found_held (Locks command (state_of found)) found left cause → Leaves left new
+    → GivesUpIn k found new command cause
+stopped_in k found left new command cause none x gone =
     let named : Locks command (snapshot_of found) x.object = subst (λ (s : State). Locks command s x.object) (reads_snapshot found none) x.named in
-    let y : Stops may_refuse found_held (Locks command (snapshot_of found)) found left cause = record { object = x.object; named = named; before = x.before; goes_on = x.goes_on; refused = x.refused } in
+    let y : Stops k.may_refuse k.found_held (Locks command (snapshot_of found)) found left cause = record { object = x.object; named = named; before = x.before; goes_on = x.goes_on; refused = x.refused } in
     let goes : GoesOn found left = GoesOn-GoesOn x.goes_on x.refused.goes_on in
     record {
       continues = Continues-Continues goes.continues gone.continues;
@@ -109,17 +133,33 @@ stopped_in may_refuse found_held loaded found left new command cause none x gone
       why = why cause y x.refused.why;
     }
   where
-    why : (c : Cause) → Stops may_refuse found_held (Locks command (snapshot_of found)) found left c → IsCause may_refuse found_held x.before left x.object c → IsWhy may_refuse found_held loaded (λ holder. ⊥) command found c
-    why (Busy object seat) y q = (left, y)
-    why (Stale object time) y q = (left, y)
+    why : (c : Cause) → Stops k.may_refuse k.found_held (Locks command (snapshot_of found)) found left c → IsCause k.may_refuse k.found_held x.before left x.object c → IsWhy k (λ holder. ⊥) command found new c
+    why (Busy object seat) y q = (left, y, gone.continues)
+    why (Stale object time) y q = (left, y, gone.continues)
     why (Rival rival) y q = absurd q
     why (LogFull holder) y q = absurd q
 
-pub overtaken_in : (may_refuse : Type 0) (found_held : InSection → InSection → ℕ → ℕ → Type 0) (loaded : InSection → Seat → ℕ → Type 0) (found locked left : InSection) (new : Seat) (command : Command) (rival : RivalEntry) → may_refuse → IsReady command found locked → IsAsBefore locked left → Overtakes locked left rival.seat rival.time (loaded locked left.seat) → Leaves left new → GivesUpIn may_refuse found_held loaded found new command (Rival rival)
-overtaken_in may_refuse found_held loaded found locked left new command rival may ready same over gone = record {
+pub overtaken_in : (k : Causes) (found locked left : InSection) (new : Seat) (command : Command) (rival : RivalEntry)
+    → found.own ≡ [] → k.may_refuse → IsReady command found locked → IsAsBefore locked left
+    → Overtakes locked left rival.seat rival.time (k.loaded locked left.seat)
+    → (k.has_trail → IsOneLost (commit_exchanges (call_trail locked.seat left.seat))) → Leaves left new
+    → GivesUpIn k found new command (Rival rival)
+overtaken_in k found locked left new command rival none may ready same over lost gone = record {
   continues = Continues-Continues ready.goes_on.continues (Continues-Continues same.seat.continues gone.continues);
   mine = gone.mine ∙ same.seat.mine ∙ ready.goes_on.mine;
-  why = (may, record { before = locked; after = left; goes_on = ready.goes_on; overtakes = over });
+  why = (
+    may,
+    record {
+      before = locked;
+      goes_on = ready.goes_on;
+      plan = subst (λ (s : State). PlanOf command s locked.own) (reads_snapshot found none) ready.plan;
+      after = left;
+      as_before = same;
+      overtakes = over;
+      lost = lost;
+      continues = gone.continues;
+    },
+  );
 }
 
 -- a section of a worn seat is at the last time
@@ -135,19 +175,18 @@ pub worn_left : (locked left : InSection) (new : Seat) → IsAsBefore locked lef
 worn_left locked left new same worn gone most = IsWorn-later gone.continues worn most
 
 -- What was read after a change that came too late.
-pub read_after : (a b new : Seat) (command : Command) (answer : Reply) (time : ℕ) → Continues a b → b.mine ≡ a.mine → IsRead b new command answer time → IsRead a new command answer time
-read_after a b new command answer time came mine r =
-    let grew : length a.seen ≤ length b.seen = length-seen came in
-    let base : b.base ≡ a.base = came.base in
-    let from : b.base + length b.seen ≤ time = r.from in
-    record {
-      continues = Continues-Continues came r.continues;
-      mine = r.mine ∙ mine;
-      from = omega arith;
-      upto = r.upto;
-      answers = r.answers;
-      unchanging = r.unchanging;
-    }
+pub read_after : (k : Causes) (a b new : Seat) (command : Command) (answer : Reply) (time : ℕ)
+    → Continues a b → b.mine ≡ a.mine → IsRead k b new command answer time → IsRead k a new command answer time
+read_after k a b new command answer time came mine r = record {
+  mine = r.mine ∙ mine;
+  before = r.before;
+  comes = Continues-Continues came r.comes;
+  entered = r.entered;
+  enters = r.enters;
+  time_is = r.time_is;
+  answers = r.answers;
+  unchanging = r.unchanging;
+}
 
 pub done_after : (a b new : Seat) (command : Command) (answer : Reply) (time : ℕ) → Continues a b → b.mine ≡ a.mine → IsDoneBy b new command answer time → IsDoneBy a new command answer time
 done_after a b new command answer time came mine d =
@@ -175,19 +214,15 @@ open_early command s true e = absurd (true≢false (sym e ∙ at_last (applies c
     at_last true false = refl
     at_last false b = refl
 
--- a look after entering
-pub enters_look : (s : Seat) (entered found : InSection) → Enters s entered → IsAsBefore entered found → GoesOn entered found → Enters s found
-enters_look s entered found e same goes = record {
-  seat = Waits-Waits e.seat same.seat;
-  at = let l : length s.seen ≤ entered.at = e.at in omega (arith, same.at);
-  own = same.own ∙ e.own;
-  names_no_commit = NamesNoCommit-NamesNoCommit e.seat.continues same.seat.continues e.names_no_commit goes.names_no_commit;
-}
-
 -- The same, at the time that the section answered.
-pub read_at : (old : Seat) (entered found : InSection) (new : Seat) (command : Command) (answer : Reply) (last : Bool) (time : ℕ) → Continues old entered.seat → entered.seat.mine ≡ old.mine → length old.seen ≤ entered.at → entered.own ≡ [] → entered.at ≤ length entered.seat.seen → IsAsBefore entered found → Leaves found new → last ≡ (entered.seat.base + entered.at == entered.seat.last) → answer ≡ reply_in command (state_of entered) last → changes_in command (state_of entered) last ≡ false → time ≡ entered.seat.base + entered.at → IsRead old new command answer time
-read_at old entered found new command answer last time came mine from none le same left is answers unchanging e =
-    subst (λ (t : ℕ). IsRead old new command answer t) (sym e) (read_by old entered found new command answer last came mine from none le same left is answers unchanging)
+pub read_at : (k : Causes) (old before : Seat) (entered found : InSection) (new : Seat) (command : Command) (answer : Reply) (last : Bool) (time : ℕ)
+    → Continues old before → before.mine ≡ old.mine → Enters before entered → k.took before entered → entered.at ≤ length entered.seat.seen
+    → IsAsBefore entered found → Leaves found new → last ≡ (entered.seat.base + entered.at == entered.seat.last)
+    → answer ≡ reply_in command (state_of entered) last → changes_in command (state_of entered) last ≡ false → time ≡ entered.seat.base + entered.at
+    → IsRead k old new command answer time
+read_at k old before entered found new command answer last time came mine e took le same left is answers unchanging at =
+    subst (λ (t : ℕ). IsRead k old new command answer t) (sym at)
+    (read_by k old before entered found new command answer last came mine e took le same left is answers unchanging)
 
 -- nothing is held, and there is room, where enough was made
 pub space_found : (prepared : Seat) (entered found : InSection) → Enters prepared entered → IsAsBefore entered found → most_locks ≤ prepared.write_max → prepared.write_max ≤ prepared.spare → HasSpace found
@@ -198,73 +233,110 @@ space_found prepared entered found e same most enough = record {
 }
 
 -- A read in place of a commit is an answer of the section.
-pub answered_after : (may_refuse : Type 0) (found_held : InSection → InSection → ℕ → ℕ → Type 0) (loaded : InSection → Seat → ℕ → Type 0) (a : InSection) (b new : Seat) (command : Command) (attempt : Attempt) → Continues a.seat b → b.mine ≡ a.seat.mine → IsReadBy b new command attempt → AttemptedIn may_refuse found_held loaded a new command attempt
-answered_after may_refuse found_held loaded a b new command (Done answer (AtCommit time)) came mine r = absurd r
-answered_after may_refuse found_held loaded a b new command (Done answer (Read time)) came mine r =
-    read_after a.seat b new command answer time came mine r
-answered_after may_refuse found_held loaded a b new command (Again cause) came mine r = absurd r
+pub answered_after : (k : Causes) (a : InSection) (b new : Seat) (command : Command) (attempt : Attempt)
+    → Continues a.seat b → b.mine ≡ a.seat.mine → IsReadBy k b new command attempt → AttemptedIn k a new command attempt
+answered_after k a b new command (Done answer (AtCommit time)) came mine r = absurd r
+answered_after k a b new command (Done answer (Read time)) came mine r = read_after k a.seat b new command answer time came mine r
+answered_after k a b new command (Again cause) came mine r = absurd r
+
+-- what a section gave up after a look, it gave up as it was entered
+why_earlier : (k : Causes) (held_back : Holder → Type 0) (entered found : InSection) (new : Seat) (command : Command) (cause : Cause)
+    → GoesOn entered found → entered.at ≤ length entered.seat.seen
+    → IsWhy k (λ holder. ⊥) command found new cause → IsWhy k held_back command entered new cause
+why_earlier k held_back entered found new command cause goes le w = go cause w
+  where
+    same : snapshot_of found ≡ snapshot_of entered
+    same = snapshot_of-goes_on entered found goes le
+
+    stop : (c : Cause) → IsStopped k command found new c → IsStopped k command entered new c
+    stop c w =
+        let named = stops_named k.may_refuse k.found_held _ (Locks command (snapshot_of entered)) found w.0 c (λ o n. subst (λ (s : State). Locks command s o) same n) w.1 in
+        (w.0, stops_after k.may_refuse k.found_held _ entered found w.0 c goes named, w.2)
+
+    go : (c : Cause) → IsWhy k (λ holder. ⊥) command found new c → IsWhy k held_back command entered new c
+    go (Busy object seat) w = stop (Busy object seat) w
+    go (Stale object time) w = stop (Stale object time) w
+    go (Rival rival) w = (
+      w.0,
+      record {
+        before = w.1.before;
+        goes_on = GoesOn-GoesOn goes w.1.goes_on;
+        plan = subst (λ (s : State). PlanOf command s w.1.before.own) same w.1.plan;
+        after = w.1.after;
+        as_before = w.1.as_before;
+        overtakes = w.1.overtakes;
+        lost = w.1.lost;
+        continues = w.1.continues;
+      },
+    )
+    go (LogFull holder) w = absurd w.1
 
 -- What was answered in a section is the answer of the attempt that entered it.
-pub attempted_by : (may_refuse : Type 0) (found_held : InSection → InSection → ℕ → ℕ → Type 0) (loaded : InSection → Seat → ℕ → Type 0) (holds_back : Seat → Seat → Holder → Type 0) (old prepared : Seat) (found : InSection) (new : Seat) (command : Command) (attempt : Attempt) → Prepares old prepared → Enters prepared found → found.seat.base + found.at < found.seat.last → changes_in command (snapshot_of found) false ≡ true → AttemptedIn may_refuse found_held loaded found new command attempt → Attempted may_refuse found_held loaded holds_back old new command attempt
-attempted_by may_refuse found_held loaded holds_back old prepared found new command (Done answer (AtCommit time)) p e early changing r =
-    done_after old found.seat new command answer time (Continues-Continues p.continues e.seat.continues) (e.seat.mine ∙ p.mine) r
-attempted_by may_refuse found_held loaded holds_back old prepared found new command (Done answer (Read time)) p e early changing r =
-    read_after old found.seat new command answer time (Continues-Continues p.continues e.seat.continues) (e.seat.mine ∙ p.mine) r
-attempted_by may_refuse found_held loaded holds_back old prepared found new command (Again cause) p e early changing r = record {
-  continues = Continues-Continues p.continues (Continues-Continues e.seat.continues r.continues);
-  mine = r.mine ∙ e.seat.mine ∙ p.mine;
+pub attempted_by : (k : Causes) (old prepared : Seat) (entered found : InSection) (new : Seat) (command : Command) (attempt : Attempt)
+    → Prepares old prepared → Enters prepared entered → k.took prepared entered → entered.at ≤ length entered.seat.seen
+    → IsAsBefore entered found → GoesOn entered found
+    → entered.seat.base + entered.at < entered.seat.last → changes_in command (snapshot_of entered) false ≡ true
+    → AttemptedIn k found new command attempt → Attempted k old new command attempt
+attempted_by k old prepared entered found new command (Done answer (AtCommit time)) p e took le same goes early changing r =
+    done_after old found.seat new command answer time (Continues-Continues p.continues (Continues-Continues e.seat.continues goes.continues)) (goes.mine ∙ e.seat.mine ∙ p.mine) r
+attempted_by k old prepared entered found new command (Done answer (Read time)) p e took le same goes early changing r =
+    read_after k old found.seat new command answer time (Continues-Continues p.continues (Continues-Continues e.seat.continues goes.continues)) (goes.mine ∙ e.seat.mine ∙ p.mine) r
+attempted_by k old prepared entered found new command (Again cause) p e took le same goes early changing r = record {
+  mine = r.mine ∙ goes.mine ∙ e.seat.mine ∙ p.mine;
   prepared = prepared;
   prepares = p;
-  entered = found;
-  enters = e;
+  entered = entered;
+  enters = record { enters = e; took = took; at = le; continues = Continues-Continues goes.continues r.continues };
   early = early;
   changing = changing;
-  why = why cause r.why;
+  why = why_earlier k (k.holds_back old prepared) entered found new command cause goes le r.why;
 }
-  where
-    why : (c : Cause) → IsWhy may_refuse found_held loaded (λ holder. ⊥) command found c → IsWhy may_refuse found_held loaded (holds_back old prepared) command found c
-    why (Busy object seat) w = w
-    why (Stale object time) w = w
-    why (Rival rival) w = w
-    why (LogFull holder) w = absurd w.1
 
 -- no room was made
-pub short_by : (may_refuse : Type 0) (found_held : InSection → InSection → ℕ → ℕ → Type 0) (loaded : InSection → Seat → ℕ → Type 0) (holds_back : Seat → Seat → Holder → Type 0) (old prepared : Seat) (found : InSection) (new : Seat) (command : Command) (holder : Holder) → Prepares old prepared → Enters prepared found → found.seat.base + found.at < found.seat.last → changes_in command (snapshot_of found) false ≡ true → may_refuse → holds_back old prepared holder → Leaves found new → GivesUp may_refuse found_held loaded holds_back old new command (LogFull holder)
-short_by may_refuse found_held loaded holds_back old prepared found new command holder p e early changing may held gone = record {
-  continues = Continues-Continues p.continues (Continues-Continues e.seat.continues gone.continues);
-  mine = gone.mine ∙ e.seat.mine ∙ p.mine;
+pub short_by : (k : Causes) (old prepared : Seat) (entered found : InSection) (new : Seat) (command : Command) (holder : Holder)
+    → Prepares old prepared → Enters prepared entered → k.took prepared entered → entered.at ≤ length entered.seat.seen → GoesOn entered found
+    → entered.seat.base + entered.at < entered.seat.last → changes_in command (snapshot_of entered) false ≡ true
+    → k.may_refuse → k.holds_back old prepared holder → Leaves found new → GivesUp k old new command (LogFull holder)
+short_by k old prepared entered found new command holder p e took le goes early changing may held gone = record {
+  mine = gone.mine ∙ goes.mine ∙ e.seat.mine ∙ p.mine;
   prepared = prepared;
   prepares = p;
-  entered = found;
-  enters = e;
+  entered = entered;
+  enters = record { enters = e; took = took; at = le; continues = Continues-Continues goes.continues gone.continues };
   early = early;
   changing = changing;
   why = (may, held);
 }
 
 -- a section in which something is to be changed is not at the last time
-pub early_found : (entered found : InSection) (command : Command) (time last : ℕ) → IsAsBefore entered found → entered.at ≤ length entered.seat.seen → entered.seat.base + length entered.seat.seen ≤ entered.seat.last → time ≡ entered.seat.base + entered.at → last ≡ entered.seat.last → changes_in command (state_of entered) (time == last) ≡ true → found.seat.base + found.at < found.seat.last
-early_found entered found command time last same le most et el changing =
+pub early_found : (entered : InSection) (command : Command) (time last : ℕ)
+    → entered.at ≤ length entered.seat.seen → entered.seat.base + length entered.seat.seen ≤ entered.seat.last
+    → time ≡ entered.seat.base + entered.at → last ≡ entered.seat.last → changes_in command (state_of entered) (time == last) ≡ true
+    → entered.seat.base + entered.at < entered.seat.last
+early_found entered command time last le most et el changing =
     let not_last : (time == last) ≡ false = open_early command (state_of entered) (time == last) changing in
     let apart : time ≢ last = grind (arith, nat_tests) in
-    omega (arith, same.seat.continues.base, same.seat.continues.last, same.at)
+    omega arith
 
-pub changing_found : (entered found : InSection) (command : Command) (last : Bool) → IsAsBefore entered found → entered.own ≡ [] → entered.at ≤ length entered.seat.seen → changes_in command (state_of entered) last ≡ true → (changes_in command (state_of found) false ≡ true) × (changes_in command (snapshot_of found) false ≡ true)
+-- and the change is one of its snapshot, and of what it reads after a look
+pub changing_found : (entered found : InSection) (command : Command) (last : Bool)
+    → IsAsBefore entered found → entered.own ≡ [] → entered.at ≤ length entered.seat.seen → changes_in command (state_of entered) last ≡ true
+    → (changes_in command (state_of found) false ≡ true) × (changes_in command (snapshot_of entered) false ≡ true)
 changing_found entered found command last same none le changing =
     let e : state_of found ≡ state_of entered = state_of-as_before entered found le same in
     let not_last : last ≡ false = open_early command (state_of entered) last changing in
-    let here : changes_in command (state_of found) false ≡ true =
-    ap (λ (s : State). changes_in command s false) e ∙ ap (changes_in command (state_of entered)) (sym not_last) ∙ changing in
-    (here, ap (λ (s : State). changes_in command s false) (sym (reads_snapshot found (same.own ∙ none))) ∙ here)
+    let here : changes_in command (state_of entered) false ≡ true = ap (changes_in command (state_of entered)) (sym not_last) ∙ changing in
+    (ap (λ (s : State). changes_in command s false) e ∙ here, ap (λ (s : State). changes_in command s false) (sym (reads_snapshot entered none)) ∙ here)
 
 -- The reply of a look that changes nothing.
-pub settled_by : (old prepared : Seat) (entered found : InSection) (new : Seat) (command : Command) (answer : Reply) (s : State) (time last : ℕ) → Prepares old prepared → Enters prepared entered → entered.at ≤ length entered.seat.seen → IsAsBefore entered found → Leaves found new → s ≡ state_of entered → time ≡ entered.seat.base + entered.at → last ≡ entered.seat.last → answer ≡ reply_in command s (time == last) → changes_in command s (time == last) ≡ false → IsRead old new command answer time
-settled_by old prepared entered found new command answer s time last p e le same left here et el answers unchanging =
-    let grew : length old.seen ≤ length prepared.seen = length-seen p.continues in
-    let from : length prepared.seen ≤ entered.at = e.at in
+pub settled_by : (k : Causes) (old prepared : Seat) (entered found : InSection) (new : Seat) (command : Command) (answer : Reply) (s : State) (time last : ℕ)
+    → Prepares old prepared → Enters prepared entered → k.took prepared entered → entered.at ≤ length entered.seat.seen
+    → IsAsBefore entered found → Leaves found new → s ≡ state_of entered → time ≡ entered.seat.base + entered.at → last ≡ entered.seat.last
+    → answer ≡ reply_in command s (time == last) → changes_in command s (time == last) ≡ false → IsRead k old new command answer time
+settled_by k old prepared entered found new command answer s time last p e took le same left here et el answers unchanging =
     let when : (time == last) ≡ (entered.seat.base + entered.at == entered.seat.last) =
     ap (λ (n : ℕ). n == last) et ∙ ap (λ (n : ℕ). entered.seat.base + entered.at == n) el in
-    read_at old entered found new command answer (time == last) time (Continues-Continues p.continues e.seat.continues) (e.seat.mine ∙ p.mine) (omega arith) e.own le same left when
+    read_at k old prepared entered found new command answer (time == last) time p.continues p.mine e took le same left when
     (answers ∙ ap (λ (u : State). reply_in command u (time == last)) here)
     (ap (λ (u : State). changes_in command u (time == last)) (sym here) ∙ unchanging)
     et

@@ -29,3 +29,9 @@ objects_of (Some objects) = objects.items
 abbrev pub HasRoom : Option (Vec ℕ Global) → ℕ → Type 0
 HasRoom None room = room ≡ 0
 HasRoom (Some objects) room = (vec_len objects ≤ room) × (room ≤ vec_capacity objects) × (room < 2 ^ 32)
+
+-- hints were taken from the end, and none was added
+pub record TakesHints (old new : Hinted) : Type 0 where
+  pub room : new.room ≡ old.room
+  pub gone : List ℕ
+  pub parts : old.objects ≡ new.objects ++ gone

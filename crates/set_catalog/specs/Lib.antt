@@ -6,4 +6,5 @@ pub mod Replies
 pub mod Findings
 pub mod Plans
 pub mod Steps
+pub mod Causes
 pub mod Attempts

@@ -1,5 +1,5 @@
 -- What a command locks and writes in a state: the objects, in the order of locking, with their new words.
-use Rattle.std.specs.Prelude.{ℕ, ◌≡◌, ◌≢◌, ◌+◌, ◌-◌, ◌*◌, ◌%◌, ◌<◌, ◌≤◌, ◌⊎◌, nat_lt, true, ⊤, if◌then◌else◌}
+use Rattle.std.specs.Prelude.{ℕ, ◌≡◌, ◌≢◌, ◌+◌, ◌-◌, ◌*◌, ◌%◌, ◌<◌, ◌≤◌, ◌⊎◌, nat_lt, true, if◌then◌else◌}
 use Rattle.mv_history.specs.State.{State, Writes, written, touches}
 use Rattle.set_script.specs.declared.commands.Command.{Command}
 use Rattle.set_script.specs.declared.commands.Command.TheVariants.{Add, Put, Del, Move}
@@ -74,7 +74,7 @@ Locks (Del name key) s o = DelLocks s name key o
 Locks (Move source target key) s o = DelLocks s source key o ⊎ MoveLocks s source target key o
 Locks command s o = ⊥
 
--- a del left these objects vacant, the second of them 0 where there is but one
+-- a del left these objects vacant, the second of them 0 where there is but one; of another command none is told
 abbrev pub GoneBy : Command → State → Writes → ℕ → ℕ → Type 0
 GoneBy (Del name key) s ws node inner = DelPlan s name key node inner ws
-GoneBy command s ws node inner = ⊤
+GoneBy command s ws node inner = (node ≡ 0) × (inner ≡ 0)

@@ -5,6 +5,8 @@ ghost use Rattle.mv_history.specs.Calls.{Continues, NamesNoCommit};
 ghost use Rattle.set_script.specs.CatalogueOf.{catalogue_of};
 ghost use Rattle.set_script.specs.Lawful.{IsLawful};
 ghost use Rattle.set_script.specs.Tags.{tag_of};
+ghost use Rattle.set_catalog.specs.Causes.{causes};
+ghost use Rattle.set_catalog.specs.Hinted.{TakesHints};
 ghost use Rattle.set_catalog.specs.Needs.{wanted, AreEnough};
 ghost use Rattle.set_catalog.specs.Replies.{reply_in, changes_in};
 ghost use Rattle.set_catalog.specs.Steps.{most_locks, HasSpace};
@@ -23,7 +25,8 @@ use set_script::{Command, Place, Reply, SetRules};
 /// Attempts a command, as [`attempt_with`] does with no hints.
 pub fn attempt<S: Store<Rules = SetRules>>(store: S, command: &Command) -> (S, Attempt)
     requires most { most_locks ≤ (S.seat_of store).write_max }
-    ensures attempted { Attempted S.Open.may_refuse S.Open.found_held S.Open.loaded S.holds_back (S.seat_of store) (S.seat_of result.0) command.now result.1 }
+    ensures attempted { let shows = causes S.Open.may_refuse S.Open.has_trail S.took S.holds_back S.Open.found_held S.Open.loaded in
+        Attempted shows (S.seat_of store) (S.seat_of result.0) command.now result.1 }
     ensures at_most_one { TriesOne (S.seat_of store) (S.seat_of result.0) }
 {
     attempt_with(store, &mut Hints::none(), command)
@@ -32,17 +35,20 @@ pub fn attempt<S: Store<Rules = SetRules>>(store: S, command: &Command) -> (S, A
 /// Attempts a command in one section of the store, and gives the store back.
 ///
 /// It needs a `write_max` of at least 5. Vacant objects are looked for among the hints first; the
-/// objects that a del left vacant are noted once it is done. It never waits or tries again by
-/// itself, and takes no memory.
+/// objects that a del left vacant are noted once it is done, and no hint is added that wasn't
+/// vacant in this call. It never waits or tries again by itself, and takes no memory.
 ///
 /// - `Done` at a `Place::Commit`: the command changed the catalogue, by one commit of that printed
 ///   time, and the reply is that of the catalogue just before it.
-/// - `Done` at a `Place::Read`: the command changes nothing at that printed time, and the reply is
-///   that of the catalogue there: `No` or what was asked for, `Full` where there are too few vacant
-///   nodes, and `Worn` where no time is left for the change.
-/// - `Again`: the command would change something, and a lock or the commit was refused, or the
-///   seat's log had no room for a write set. No commit was made, nothing is held, and the seat is
-///   outside a section; rests may have been made for room.
+/// - `Done` at a `Place::Read`: the command changes nothing at that printed time, which is that of a
+///   section that this call entered, and the reply is that of the catalogue there: `No` or what was
+///   asked for, `Full` where there are too few vacant nodes, and `Worn` where no time is left for
+///   the change.
+/// - `Again`: the command would change something at the time of the section that this call entered,
+///   which isn't the last one. A lock of an object that it locks or the commit was refused, for an
+///   entry or a seat that was met in this call; or this call's `prepare` found no room for a write
+///   set in the seat's log. No commit was made, nothing is held, and the seat is outside a section;
+///   rests may have been made for room.
 ///
 /// At the last time `try_commit` can't commit any more; the attempt then answers in a new section
 /// what the command comes to there.
@@ -52,8 +58,9 @@ pub fn attempt_with<S: Store<Rules = SetRules>>(
     command: &Command,
 ) -> (S, Attempt)
     requires most { most_locks ≤ (S.seat_of store).write_max }
-    ensures attempted { Attempted S.Open.may_refuse S.Open.found_held S.Open.loaded S.holds_back (S.seat_of store) (S.seat_of result.0) command.now result.1 }
-    ensures noted { HintsAfter command.now hints.old hints.new (S.seat_of result.0) result.1 }
+    ensures attempted { let shows = causes S.Open.may_refuse S.Open.has_trail S.took S.holds_back S.Open.found_held S.Open.loaded in
+        Attempted shows (S.seat_of store) (S.seat_of result.0) command.now result.1 }
+    ensures noted { HintsAfter command.now hints.old hints.new (S.seat_of store) (S.seat_of result.0) result.1 }
     ensures at_most_one { TriesOne (S.seat_of store) (S.seat_of result.0) }
 {
     let mut store = store;
@@ -84,8 +91,9 @@ fn commit_change<S: Store<Rules = SetRules>>(
     requires changing { changes_in command.now (state_of (S.Open.section section)) false ≡ true }
     requires enough { AreEnough (state_of (S.Open.section section)) (wanted command.now (catalogue_of (state_of (S.Open.section section)))) picked.first picked.second }
     requires space { HasSpace (S.Open.section section) }
-    ensures attempted { AttemptedIn S.Open.may_refuse S.Open.found_held S.Open.loaded (S.Open.section section) (S.seat_of result.0) command.now result.1 }
-    ensures noted { HintsAfter command.now hints.old hints.new (S.seat_of result.0) result.1 }
+    ensures attempted { let shows = causes S.Open.may_refuse S.Open.has_trail S.took S.holds_back S.Open.found_held S.Open.loaded in
+        AttemptedIn shows (S.Open.section section) (S.seat_of result.0) command.now result.1 }
+    ensures noted { HintsAfter command.now hints.old hints.new (S.Open.section section).seat (S.seat_of result.0) result.1 }
     ensures continues { Continues (S.Open.section section).seat (S.seat_of result.0) }
     ensures at_most_one { TriesOne (S.Open.section section).seat (S.seat_of result.0) }
 {
@@ -116,7 +124,9 @@ fn answer_at_last<S: Store<Rules = SetRules>>(
     command: &Command,
 ) -> (S, Attempt)
     requires worn { IsWorn (S.seat_of store) }
-    ensures read { IsReadBy (S.seat_of store) (S.seat_of result.0) command.now result.1 }
+    ensures read { let shows = causes S.Open.may_refuse S.Open.has_trail S.took S.holds_back S.Open.found_held S.Open.loaded in
+        IsReadBy shows (S.seat_of store) (S.seat_of result.0) command.now result.1 }
+    ensures hints { TakesHints hints.old hints.new }
     ensures none { NamesNoCommit (S.seat_of store) (S.seat_of result.0) }
     ensures continues { Continues (S.seat_of store) (S.seat_of result.0) }
 {
@@ -131,6 +141,7 @@ fn last_reply<V: View>(view: &mut V, hints: &mut Hints, command: &Command) -> Re
     requires lawful { IsLawful (V.state view.old) }
     ensures reply { result ≡ reply_in command.now (V.state view.old) true }
     ensures unchanging { changes_in command.now (V.state view.old) true ≡ false }
+    ensures hints { TakesHints hints.old hints.new }
     ensures as_before { V.as_before view.old view.new }
 {
     match find(view, hints, command, true) {

@@ -6,6 +6,7 @@ ghost use Rattle.set_script.specs.Replies.{applies as applies_to};
 ghost use Rattle.set_script.specs.Lawful.{IsLawful};
 ghost use Rattle.set_script.specs.Rules.{IsInRange};
 ghost use Rattle.set_script.specs.declared.commands.Reply.TheVariants.{Yes, No};
+ghost use Rattle.set_catalog.specs.Hinted.{TakesHints};
 ghost use Rattle.set_catalog.specs.Picks.{vacant_nodes};
 ghost use Rattle.set_catalog.specs.Needs.{AreEnough, may_change, taken as taken_in, freed as freed_in, wanted as wanted_for};
 ghost use Rattle.set_catalog.specs.Findings.{IsFound};
@@ -29,7 +30,7 @@ pub enum Finding {
 pub fn find<V: View>(view: &mut V, hints: &mut Hints, command: &Command, last: bool) -> Finding
     requires lawful { IsLawful (V.state view.old) }
     ensures found { IsFound command.now (V.state view.old) last result }
-    ensures room { hints.new.room ≡ hints.old.room }
+    ensures hints { TakesHints hints.old hints.new }
     ensures untouched { wanted_for command.now (catalogue_of (V.state view.old)) ≡ 0 → hints.new ≡ hints.old }
     ensures as_before { V.as_before view.old view.new }
 {
@@ -98,7 +99,7 @@ fn find_change<V: View>(view: &mut V, hints: &mut Hints, command: &Command, last
     requires range { IsInRange command.now }
     requires change { may_change command.now ≡ true }
     ensures found { IsFound command.now (V.state view.old) last result }
-    ensures room { hints.new.room ≡ hints.old.room }
+    ensures hints { TakesHints hints.old hints.new }
     ensures untouched { wanted_for command.now (catalogue_of (V.state view.old)) ≡ 0 → hints.new ≡ hints.old }
     ensures as_before { V.as_before view.old view.new }
 {
@@ -119,7 +120,7 @@ fn vacant_for<V: View>(view: &mut V, hints: &mut Hints, want: u32) -> Option<Pic
     requires lawful { IsLawful (V.state view.old) }
     ensures none { MatchOption result (vacant_nodes (V.state view.old) < want) (λ p. want ≤ vacant_nodes (V.state view.old)) }
     ensures enough { IfSome result (λ p. AreEnough (V.state view.old) want p.first p.second) }
-    ensures room { hints.new.room ≡ hints.old.room }
+    ensures hints { TakesHints hints.old hints.new }
     ensures untouched { want ≡ 0 → hints.new ≡ hints.old }
     ensures as_before { V.as_before view.old view.new }
 {

@@ -28,7 +28,9 @@ pub struct Gone {
 }
 
 impl Gone {
-    pub fn nothing() -> Gone {
+    pub fn nothing() -> Gone
+        ensures { (result.node ≡ 0) × (result.inner ≡ 0) }
+    {
         Gone { node: 0, inner: 0 }
     }
 

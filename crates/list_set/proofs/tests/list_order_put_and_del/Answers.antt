@@ -7,7 +7,7 @@ use Rattle.list_set.proofs.tests.list_order_put_and_del.Goals as goal
 
 pub change_some-requires-clause-filled : goal.change_some-requires-clause-filled
 change_some-requires-clause-filled g c =
-    let e = c.in_ok-store.ensures in
+    let e = c.in_ok-store.ensures.opens in
     filled_none _ _ c.enter-section.ensures.enters c.enter-section.ensures.took (ap (λ (s : Seat). s.seen) e)
     (subst (λ (s : Seat). IsOpening s.start) (sym e) (opening_zeros 186 (omega arith) (omega arith)))
     (ap (λ (s : Seat). length s.start) e)

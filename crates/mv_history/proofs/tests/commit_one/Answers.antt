@@ -5,4 +5,10 @@ use Rattle.mv_history.proofs.tests.commit_one.Goals as goal
 pub try_lock-requires : goal.try_lock-requires
 try_lock-requires g c =
     let section = c.enter-section.result in
-    omega (arith, c.requires.in_range, ap length (g.met.S.Open.Section.reads section), length-state_of (g.S.Open.Section.section section), ap length c.enter-section.ensures.enters.seat.continues.start)
+    omega (
+      arith,
+      c.requires.in_range,
+      ap length (g.met.S.Open.Section.reads section),
+      length-state_of (g.S.Open.Section.section section),
+      ap length c.enter-section.ensures.enters.seat.continues.start,
+    )

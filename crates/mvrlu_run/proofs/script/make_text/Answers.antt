@@ -27,7 +27,7 @@ returns g c =
       parses = c.in-Ok.ensures.exact;
       lines = c.order.new.lines.items;
       end = c.in-Ok-end.end;
-      legal = c.order.ensures.legal (c.in-Ok.commands.items ∷ []) capacity c.in-Ok-end.end (rw end ran);
+      legal = c.order.ensures.legal (c.in-Ok.commands.items ∷ []) 0 capacity c.in-Ok-end.end (rw end ran);
       ordered = c.order.ensures.ordered;
       is = c.in-Ok-render.ensures ∙ ap (λ lines. text_of_run lines c.in-Ok-end.end []) c.deref-2.ensures.value;
     }

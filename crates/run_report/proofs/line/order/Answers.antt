@@ -9,4 +9,4 @@ pub returns-clause-ordered : goal.returns-clause-ordered
 returns-clause-ordered c = c.sort_unstable_by_key.ensures.sorted order_key (answers_always _ _ _ (λ f a r g called. search rules))
 
 pub returns-clause-legal : goal.returns-clause-legal
-returns-clause-legal c scripts capacity end legal = legal_permuted scripts _ _ capacity end c.sort_unstable_by_key.ensures.permutation legal
+returns-clause-legal c scripts base capacity end legal = legal_permuted scripts _ _ base capacity end c.sort_unstable_by_key.ensures.permutation legal

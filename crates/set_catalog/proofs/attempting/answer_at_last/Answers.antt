@@ -1,9 +1,10 @@
-use Rattle.std.proofs.Common.{sym, subst, ap, ◌∙◌, true}
+use Rattle.std.proofs.Common.{refl, sym, subst, ap, ◌∙◌, true}
 use Rattle.mv_history.specs.State.{State}
 use Rattle.mv_history.specs.Meaning.{Seat}
 use Rattle.mv_history.specs.Calls.{Leaves}
 use Rattle.set_script.specs.Lawful.{IsLawful}
 use Rattle.set_catalog.specs.Replies.{reply_in, changes_in}
+use Rattle.mv_history.specs.CallLaws.{Continues-itself}
 use Rattle.mv_history.proofs.Steps.{Continues-Continues, NamesNoCommit-NamesNoCommit}
 use Rattle.set_catalog.proofs.Exchanges.{leave_none}
 use Rattle.set_catalog.proofs.LawfulTimes.{lawful_read}
@@ -23,12 +24,13 @@ returns g c =
     let goes = g.met.S.Open.Section.goes_on _ _ c.last_reply-reply.ensures.as_before in
     let left = subst (λ (s : Seat). Leaves (g.S.Open.Section.section c.last_reply-reply.new.view) s) (g.met.S.Store.same_seat _) c.leave.ensures in
     record {
-      read = read_at _ _ _ _ _ _ _ _ e.seat.continues e.seat.mine e.at e.own law.at (g.met.S.Open.Section.others_stay _ _ c.last_reply-reply.ensures.as_before)
+      read = read_at _ _ _ _ _ _ _ _ _ _ (Continues-itself _) refl e c.enter-section.ensures.took law.at (g.met.S.Open.Section.others_stay _ _ c.last_reply-reply.ensures.as_before)
           (subst (λ (s : Seat). Leaves (g.S.Open.Section.section c.last_reply-reply.new.view) s) (g.met.S.Store.same_seat _) c.leave.ensures)
           (worn_enters _ _ c.requires.worn e law.at law.seat.time)
           (c.last_reply-reply.ensures.reply ∙ ap (λ (s : State). reply_in c.args.command.now s true) here)
           (ap (λ (s : State). changes_in c.args.command.now s true) (sym here) ∙ c.last_reply-reply.ensures.unchanging)
           c.at.ensures;
+      hints = c.last_reply-reply.ensures.hints;
       none = leave_none _ _ _ (Continues-Continues e.seat.continues goes.continues) (NamesNoCommit-NamesNoCommit e.seat.continues goes.continues e.names_no_commit goes.names_no_commit) left;
       continues = Continues-Continues e.seat.continues (Continues-Continues goes.continues left.continues);
     }

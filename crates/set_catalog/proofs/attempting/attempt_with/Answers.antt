@@ -7,8 +7,8 @@ use Rattle.set_catalog.specs.Replies.{changes_in}
 use Rattle.set_catalog.proofs.LawfulTimes.{lawful_read}
 use Rattle.mv_history.proofs.Steps.{Continues-Continues, NamesNoCommit-NamesNoCommit}
 use Rattle.set_catalog.proofs.Exchanges.{leave_none, none_one, one_before}
-use Rattle.set_catalog.proofs.NotedGone.{hints_after}
-use Rattle.set_catalog.proofs.Outcomes.{enters_look, attempted_by, short_by, early_found, changing_found, space_found, settled_by}
+use Rattle.set_catalog.proofs.NotedGone.{hints_after, kept_taken}
+use Rattle.set_catalog.proofs.Outcomes.{attempted_by, short_by, early_found, changing_found, space_found, settled_by}
 use Rattle.set_catalog.proofs.attempting.attempt_with.Goals as goal
 
 pub find-requires : goal.find-requires
@@ -35,10 +35,10 @@ commit_change-requires-clause-space g c =
 
 pub returns-in-Settled : goal.returns-in-Settled
 returns-in-Settled g c = record {
-  attempted = settled_by _ _ _ _ _ _ _ _ _ _ c.prepare-room.ensures.prepares c.enter-section.ensures.enters (g.met.S.Open.Section.lawful _).at (g.met.S.Open.Section.others_stay _ _ c.find.ensures.as_before)
+  attempted = settled_by _ _ _ _ _ _ _ _ _ _ _ c.prepare-room.ensures.prepares c.enter-section.ensures.enters c.enter-section.ensures.took (g.met.S.Open.Section.lawful _).at (g.met.S.Open.Section.others_stay _ _ c.find.ensures.as_before)
       (subst (λ (s : Seat). Leaves (g.S.Open.Section.section c.find.new.view) s) (g.met.S.Store.same_seat _) c.leave.ensures)
       (g.met.S.Open.Section.reads _) c.at-time.ensures c.last.ensures c.in-Settled.ensures.found.0 c.in-Settled.ensures.found.1;
-  noted = tt;
+  noted = kept_taken _ _ _ _ c.find.ensures.hints;
   at_most_one = (let p = c.prepare-room.ensures.prepares in let e = c.enter-section.ensures.enters in let goes = g.met.S.Open.Section.goes_on _ _ c.find.ensures.as_before in let through = Continues-Continues p.continues (Continues-Continues e.seat.continues goes.continues) in let quiet = NamesNoCommit-NamesNoCommit p.continues (Continues-Continues e.seat.continues goes.continues) p.names_no_commit (NamesNoCommit-NamesNoCommit e.seat.continues goes.continues e.names_no_commit goes.names_no_commit) in none_one (g.S.Store.seat_of c.args.store) (g.S.Store.seat_of c.leave.result) (leave_none _ _ _ through quiet (subst (λ (s : Seat). Leaves (g.S.Open.Section.section c.find.new.view) s) (g.met.S.Store.same_seat _) c.leave.ensures)));
 }
 
@@ -49,11 +49,11 @@ returns-in-Enough g c =
     let law = g.met.S.Open.Section.lawful c.enter-section.result in
     let changing = ap (λ (s : State). changes_in c.args.command.now s (c.at-time.result == c.last.result)) (sym (g.met.S.Open.Section.reads c.enter-section.result)) ∙ c.in-Open.ensures.found.0 in
     record {
-      attempted = attempted_by _ _ _ _ _ _ _ _ _ _ c.prepare-room.ensures.prepares (enters_look _ _ _ e same (g.met.S.Open.Section.goes_on _ _ c.find.ensures.as_before))
-          (early_found _ _ _ _ _ same law.at law.seat.time c.at-time.ensures c.last.ensures changing)
+      attempted = attempted_by _ _ _ _ _ _ _ _ c.prepare-room.ensures.prepares e c.enter-section.ensures.took law.at same (g.met.S.Open.Section.goes_on _ _ c.find.ensures.as_before)
+          (early_found (g.S.Open.Section.section c.enter-section.result) _ _ _ law.at law.seat.time c.at-time.ensures c.last.ensures changing)
           (changing_found _ _ _ _ same e.own law.at changing).1
           c.commit_change.ensures.attempted;
-      noted = hints_after _ _ _ _ _ _ _ c.find.ensures.untouched c.commit_change.ensures.noted;
+      noted = hints_after _ _ _ _ _ _ _ _ _ (Continues-Continues c.prepare-room.ensures.prepares.continues (Continues-Continues e.seat.continues (g.met.S.Open.Section.goes_on _ _ c.find.ensures.as_before).continues)) c.find.ensures.hints c.find.ensures.untouched c.commit_change.ensures.noted;
       at_most_one = (let p = c.prepare-room.ensures.prepares in let e = c.enter-section.ensures.enters in let goes = g.met.S.Open.Section.goes_on _ _ c.find.ensures.as_before in let through = Continues-Continues p.continues (Continues-Continues e.seat.continues goes.continues) in let quiet = NamesNoCommit-NamesNoCommit p.continues (Continues-Continues e.seat.continues goes.continues) p.names_no_commit (NamesNoCommit-NamesNoCommit e.seat.continues goes.continues e.names_no_commit goes.names_no_commit) in one_before through c.commit_change.ensures.continues quiet c.commit_change.ensures.at_most_one);
     }
 
@@ -65,11 +65,11 @@ returns-in-Short g c =
     let changing = ap (λ (s : State). changes_in c.args.command.now s (c.at-time.result == c.last.result)) (sym (g.met.S.Open.Section.reads c.enter-section.result)) ∙ c.in-Open.ensures.found.0 in
     let short = c.in-Short.ensures.short c.in-Short.holder refl in
     record {
-      attempted = short_by _ _ _ _ _ _ _ _ _ _ c.prepare-room.ensures.prepares (enters_look _ _ _ e same (g.met.S.Open.Section.goes_on _ _ c.find.ensures.as_before))
-          (early_found _ _ _ _ _ same law.at law.seat.time c.at-time.ensures c.last.ensures changing)
+      attempted = short_by _ _ _ _ _ _ _ _ c.prepare-room.ensures.prepares e c.enter-section.ensures.took law.at (g.met.S.Open.Section.goes_on _ _ c.find.ensures.as_before)
+          (early_found (g.S.Open.Section.section c.enter-section.result) _ _ _ law.at law.seat.time c.at-time.ensures c.last.ensures changing)
           (changing_found _ _ _ _ same e.own law.at changing).1
           short.0 short.2
           (subst (λ (s : Seat). Leaves (g.S.Open.Section.section c.find.new.view) s) (g.met.S.Store.same_seat _) c.leave-in-Short.ensures);
-      noted = tt;
+      noted = kept_taken _ _ _ _ c.find.ensures.hints;
       at_most_one = (let p = c.prepare-room.ensures.prepares in let e = c.enter-section.ensures.enters in let goes = g.met.S.Open.Section.goes_on _ _ c.find.ensures.as_before in let through = Continues-Continues p.continues (Continues-Continues e.seat.continues goes.continues) in let quiet = NamesNoCommit-NamesNoCommit p.continues (Continues-Continues e.seat.continues goes.continues) p.names_no_commit (NamesNoCommit-NamesNoCommit e.seat.continues goes.continues e.names_no_commit goes.names_no_commit) in none_one (g.S.Store.seat_of c.args.store) (g.S.Store.seat_of c.leave-in-Short.result) (leave_none _ _ _ through quiet (subst (λ (s : Seat). Leaves (g.S.Open.Section.section c.find.new.view) s) (g.met.S.Store.same_seat _) c.leave-in-Short.ensures)));
     }

@@ -1,19 +1,19 @@
-use Rattle.std.proofs.Common.{ℕ, List, subst, ◌∙◌}
+use Rattle.std.proofs.Common.{ℕ, List, refl, subst, ◌∙◌}
 use Rattle.mv_history.specs.Meaning.{Seat}
 use Rattle.mv_history.specs.Calls.{Leaves, Commits}
 use Rattle.mv_history.proofs.Steps.{Continues-Continues, GoesOn-GoesOn, NamesNoCommit-NamesNoCommit}
 use Rattle.set_catalog.specs.Attempts.{TriesOne}
 use Rattle.set_catalog.proofs.Exchanges.{leave_none, leaves_none, none_one, one_before, one_after}
 use Rattle.set_script.specs.Tags.{tag_of}
-use Rattle.set_catalog.proofs.NotedGone.{noted_by, read_noted}
+use Rattle.set_catalog.proofs.NotedGone.{noted_by, kept_same, read_noted}
 use Rattle.set_catalog.proofs.Outcomes.{done_by, stopped_in, overtaken_in, worn_left, answered_after}
 use Rattle.set_catalog.proofs.attempting.commit_change.Goals as goal
 
 pub returns-in-Err : goal.returns-in-Err
 returns-in-Err g c = record {
-  attempted = stopped_in _ _ _ _ _ _ _ _ c.requires.space.own c.in-Err.ensures.refused
+  attempted = stopped_in _ _ _ _ _ _ c.requires.space.own c.in-Err.ensures.refused
       (subst (λ (s : Seat). Leaves (g.S.Open.Section.section c.change.new.section) s) (g.met.S.Store.same_seat _) c.abort.ensures);
-  noted = tt;
+  noted = kept_same _ _ _ _ refl;
   at_most_one = (let x = c.in-Err.ensures.refused in let goes = GoesOn-GoesOn x.goes_on x.refused.goes_on in none_one (g.S.Open.Section.section c.args.section).seat (g.S.Store.seat_of c.abort.result) (leave_none _ _ _ goes.continues goes.names_no_commit (subst (λ (s : Seat). Leaves (g.S.Open.Section.section c.change.new.section) s) (g.met.S.Store.same_seat _) c.abort.ensures)));
   continues = (let x = c.in-Err.ensures.refused in Continues-Continues (GoesOn-GoesOn x.goes_on x.refused.goes_on).continues (subst (λ (s : Seat). Leaves (g.S.Open.Section.section c.change.new.section) s) (g.met.S.Store.same_seat _) c.abort.ensures).continues);
 }
@@ -40,9 +40,9 @@ returns-in-Done g c =
 
 pub returns-in-Again : goal.returns-in-Again
 returns-in-Again g c = record {
-  attempted = overtaken_in _ _ _ _ _ _ _ _ _ c.in-Again.ensures.again.0 c.in-Ok.ensures.ready c.in-Again.ensures.again.1 c.in-Again.ensures.again.2
+  attempted = overtaken_in _ _ _ _ _ _ _ c.requires.space.own c.in-Again.ensures.again.0 c.in-Ok.ensures.ready c.in-Again.ensures.again.1 c.in-Again.ensures.again.2 c.in-Again.ensures.one_lost
       (subst (λ (s : Seat). Leaves (g.S.Open.Section.section c.in-Again.section) s) (g.met.S.Store.same_seat _) c.abort-in-Again.ensures);
-  noted = tt;
+  noted = kept_same _ _ _ _ refl;
   at_most_one = (let ready = c.in-Ok.ensures.ready.goes_on in let same = c.in-Again.ensures.again.1 in let gone = (subst (λ (s : Seat). Leaves (g.S.Open.Section.section c.in-Again.section) s) (g.met.S.Store.same_seat _) c.abort-in-Again.ensures) in one_before ready.continues (Continues-Continues same.seat.continues gone.continues) ready.names_no_commit (one_after same.seat.continues gone.continues c.in-Again.ensures.at_most_one (leaves_none _ _ gone)));
   continues = (let same = c.in-Again.ensures.again.1 in let gone = (subst (λ (s : Seat). Leaves (g.S.Open.Section.section c.in-Again.section) s) (g.met.S.Store.same_seat _) c.abort-in-Again.ensures) in Continues-Continues c.in-Ok.ensures.ready.goes_on.continues (Continues-Continues same.seat.continues gone.continues));
 }
@@ -53,11 +53,11 @@ returns-in-End g c =
     let ready = c.in-Ok.ensures.ready in
     let same = c.in-End.ensures.end.0 in
     record {
-      attempted = answered_after _ _ _ _ _ _ _ _
+      attempted = answered_after _ _ _ _ _ _
           (Continues-Continues ready.goes_on.continues (Continues-Continues same.seat.continues gone.continues))
           (gone.mine ∙ same.seat.mine ∙ ready.goes_on.mine)
           c.answer_at_last.ensures.read;
-      noted = read_noted _ _ _ _ _ _ c.answer_at_last.ensures.read;
+      noted = read_noted _ _ _ _ _ _ _ _ c.answer_at_last.ensures.hints c.answer_at_last.ensures.read;
       at_most_one = (let last = c.answer_at_last.ensures in one_before ready.goes_on.continues (Continues-Continues same.seat.continues (Continues-Continues gone.continues last.continues)) ready.goes_on.names_no_commit (one_after same.seat.continues (Continues-Continues gone.continues last.continues) c.in-End.ensures.at_most_one (NamesNoCommit-NamesNoCommit gone.continues last.continues (leaves_none _ _ gone) last.none)));
       continues = Continues-Continues ready.goes_on.continues (Continues-Continues same.seat.continues (Continues-Continues gone.continues c.answer_at_last.ensures.continues));
     }

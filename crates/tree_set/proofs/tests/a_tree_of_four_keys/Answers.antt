@@ -7,7 +7,7 @@ use Rattle.tree_set.proofs.tests.a_tree_of_four_keys.Goals as goal
 
 pub fill-requires-clause-filled : goal.fill-requires-clause-filled
 fill-requires-clause-filled g c =
-    let e = c.in_ok-store.ensures in
+    let e = c.in_ok-store.ensures.opens in
     filled_none _ _ 171 (omega arith) c.enter-section.ensures.enters c.enter-section.ensures.took (ap (λ (s : Seat). s.seen) e)
     (subst (λ (s : Seat). IsOpening s.start) (sym e) (opening_zeros 200 (omega arith) (omega arith)))
     (ap (λ (s : Seat). length s.start) e)

@@ -13,4 +13,6 @@ index-requires g c =
 pub returns : goal.returns
 returns g c =
     let s = c.args.self.now in
-    get_or_read s.words.items c.args.object c.index.result.now (omega (arith, c.requires, length-current s.start.value.items s.words.items (commits_in s) s.current)) c.index.ensures [] ∙ ap (λ w. words_at w c.args.object) s.current
+    get_or_read s.words.items c.args.object c.index.result.now
+    (omega (arith, c.requires, length-current s.start.value.items s.words.items (commits_in s) s.current)) c.index.ensures [] ∙ ap
+    (λ w. words_at w c.args.object) s.current

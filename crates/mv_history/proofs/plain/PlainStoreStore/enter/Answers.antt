@@ -1,6 +1,6 @@
 use Rattle.std.proofs.Common.{refl, [], arith}
 use Rattle.std.proofs.lemmas.List.Elements.{All-nil}
-use Rattle.mv_history.specs.declared.plain_commit.TheConstants.{WRITE_MAX}
+use Rattle.mv_history.specs.declared.plain_history.TheConstants.{WRITE_MAX}
 use Rattle.mv_history.specs.PlainMeaning.{commits_in}
 use Rattle.mv_history.proofs.PlainLemmas.{section_is}
 use Rattle.mv_history.proofs.plain.PlainStoreStore.enter.Goals as goal
@@ -8,4 +8,5 @@ use Rattle.mv_history.proofs.plain.PlainStoreStore.enter.Goals as goal
 pub invariant_of-result-clause-lawful : goal.invariant_of-result-clause-lawful
 invariant_of-result-clause-lawful g c =
     let s = c.args.self in
-    section_is g.P.Protocol.start g.P.Protocol.allowed s.start.value.items (commits_in s) s.base s.last [] WRITE_MAX s.lawful refl (λ o t. absurd (cc)) (All-nil _) (omega arith)
+    section_is g.P.Protocol.start g.P.Protocol.allowed s.start.value.items (commits_in s) s.base s.last [] WRITE_MAX s.lawful refl (λ o t. absurd (cc))
+    (All-nil _) (omega arith)

@@ -17,9 +17,12 @@ invariant_of-self-clause-lawful g c =
     let short : length (take s.held s.own) ≡ s.held = length-take-le s.held s.own (omega arith) in
     let there : c.args.object < length s.store.words.items =
     omega (arith, length-written s.store.words.items (take s.held s.own)) in
-    let words = subst (λ w. IsWords w) (sym (get_or_read s.store.words.items c.args.object c.index.result.now there c.index.ensures [])) (AreWords-plain s.store c.args.object [] there) in
+    let words = subst (λ w. IsWords w) (sym (get_or_read s.store.words.items c.args.object c.index.result.now there c.index.ensures []))
+    (AreWords-plain s.store c.args.object [] there) in
     rw (take_more_set s.own s.held (c.args.object, c.index.result.now) room)
-    (section_pushed g.P.Protocol.start g.P.Protocol.allowed s.store.start.value.items (commits_in s.store) s.store.base s.store.last (take s.held s.own) c.args.object c.index.result.now words s.lawful free (omega (arith, there, length-current s.store.start.value.items s.store.words.items (commits_in s.store) s.store.current)) (omega arith))
+    (section_pushed g.P.Protocol.start g.P.Protocol.allowed s.store.start.value.items (commits_in s.store) s.store.base s.store.last
+    (take s.held s.own) c.args.object c.index.result.now words s.lawful free
+    (omega (arith, there, length-current s.store.start.value.items s.store.words.items (commits_in s.store) s.store.current)) (omega arith))
 
 pub returns-clause-held : goal.returns-clause-held
 returns-clause-held g c _ free =
@@ -29,4 +32,6 @@ returns-clause-held g c _ free =
     let there : c.args.object < length s.store.words.items =
     omega (arith, length-written s.store.words.items (take s.held s.own)) in
     rw (take_more_set s.own s.held (c.args.object, c.index.result.now) room)
-    (locks s.store.start.value.items (commits_in s.store) s.store.base s.store.last (take s.held s.own) c.args.object c.index.result.now (omega arith) (get_or_read s.store.words.items c.args.object c.index.result.now there c.index.ensures [] ∙ sym (ap (λ w. words_at w c.args.object) (sym (plain_reads s)) ∙ words-written_other s.store.words.items (take s.held s.own) c.args.object free)))
+    (locks s.store.start.value.items (commits_in s.store) s.store.base s.store.last (take s.held s.own) c.args.object c.index.result.now (omega arith)
+    (get_or_read s.store.words.items c.args.object c.index.result.now there c.index.ensures []
+    ∙ sym (ap (λ w. words_at w c.args.object) (sym (plain_reads s)) ∙ words-written_other s.store.words.items (take s.held s.own) c.args.object free)))

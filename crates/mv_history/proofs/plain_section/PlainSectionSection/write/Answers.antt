@@ -8,7 +8,8 @@ invariant_of-self-clause-lawful g c =
     let s = c.args.self.now in
     let found = c.in-Some.ensures.found in
     let own = own_rewritten s.own s.held c.in-Some.i c.args.object c.args.words found.0 found.1 found.2 in
-    rw own (section_rewritten g.P.Protocol.start g.P.Protocol.allowed s.store.start.value.items (commits_in s.store) s.store.base s.store.last (take s.held s.own) c.args.object c.args.words c.has_width.ensures s.lawful)
+    rw own (section_rewritten g.P.Protocol.start g.P.Protocol.allowed s.store.start.value.items (commits_in s.store) s.store.base s.store.last
+    (take s.held s.own) c.args.object c.args.words c.has_width.ensures s.lawful)
 
 pub returns-in-Some-clause-rewrites : goal.returns-in-Some-clause-rewrites
 returns-in-Some-clause-rewrites g c =

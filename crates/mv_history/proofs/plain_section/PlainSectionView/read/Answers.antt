@@ -7,5 +7,6 @@ pub returns-in-Some-clause-words : goal.returns-in-Some-clause-words
 returns-in-Some-clause-words g c =
     let s = c.args.self.now in
     let found = c.in-Some.ensures.found in
-    let there = words-written_same s.store.words.items (take s.held s.own) c.in-Some.i c.args.object (0, []) s.lawful.distinct found.0 found.1 (omega (arith, c.requires, length-written s.store.words.items (take s.held s.own))) in
+    let there = words-written_same s.store.words.items (take s.held s.own) c.in-Some.i c.args.object (0, []) s.lawful.distinct found.0 found.1
+    (omega (arith, c.requires, length-written s.store.words.items (take s.held s.own))) in
     sym (there ∙ rw (get_or-take s.held s.own c.in-Some.i (0, []) (omega (arith, found.0, length-take s.held s.own))) refl)

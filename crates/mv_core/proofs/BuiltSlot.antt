@@ -27,7 +27,7 @@ use Rattle.mv_core.specs.LockSteps.{nothing_built, build_in}
 use Rattle.mv_core.specs.Rule.{Facts}
 use Rattle.mv_core.proofs.Frames.{unchanged, changed}
 use Rattle.mv_core.proofs.Slots.{Matches, match_weaker, match_unlived, slots_after, wide_after, next_after, here_or_else}
-use Rattle.mv_core.proofs.Matching.{LivesOn}
+use Rattle.mv_core.proofs.Matching.{LivesOn, on_place}
 use Rattle.mv_core.proofs.Cuts.{Steady, steady_self}
 use Rattle.mv_core.proofs.MatchedFacts.{steady_facts}
 use Rattle.mv_core.proofs.MatchedSets as set
@@ -223,7 +223,8 @@ module _ (starts : State → Type 0) (allows : List ℕ → State → Writes →
         let helped_words : HelpedWords (m Clock) stamp f.heard = λ s word has. done_after word (k.helped_words s word has) in
         let successors = stamped.successors_match c h f.ring rings on (λ s j. m (Super s j)) super same_super (λ s j. m (Stamp s j)) stamp same_stamp
         f.section supers_built k.successors in
-        let positions = set.positions_match c h f.ring rings on (wide_after f.ring n slot (Built new) built refl within) freeing_back freeing_forth
+        let positions = set.positions_match LivesOn on_place c h f.ring rings on
+        (wide_after f.ring n slot (Built new) built refl within) freeing_back freeing_forth
         built_next k.positions in
         let succeeded = stamped.succeeded_match c h f.ring rings on (λ s j. m (Super s j)) super same_super f.empty k.succeeded_has_super in
         let freeing : (s j p first : ℕ) → slot_at (rings s) j ≡ Freeing p first → c.base + p / c.slots < f.grace s =

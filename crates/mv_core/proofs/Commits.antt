@@ -1,8 +1,8 @@
--- The logs after all that one seat holds is committed at one time. What is live then was live before; what was held by that seat is committed, with no death, uncut, and linked where nothing is below it.
-use Rattle.std.proofs.Common.{◌≡◌, ◌≢◌, ◌⊎◌, ℕ, ◌<◌, ◌==◌, false, List, [], ◌∷◌, map, length, refl, sym, ap, ◌∙◌, subst, inl, inr, ⊎_elim, suc, Option, None}
+-- The logs after all that one seat holds is committed at one time. What is live then was live before; what was held by that seat is committed, with no death,
+-- uncut, and linked where nothing is below it.
+use Rattle.std.proofs.Common.{◌≡◌, ◌≢◌, ◌⊎◌, ℕ, ◌<◌, ◌==◌, false, List, [], ◌∷◌, map, refl, sym, ap, ◌∙◌, subst, inl, inr, ⊎_elim, suc, Option, None}
 use Rattle.std.specs.Prelude.{slice_index_or}
 use Rattle.std.proofs.Math.ListN.{get_or-map}
-use Rattle.std.proofs.lemmas.List.{length-map}
 use mathlib.Core.Logic.{dite}
 use native.Mathlib.Decide.{ℕ_discrete}
 use Rattle.mv_layout.specs.declared.Config.{Config}
@@ -14,9 +14,12 @@ use Rattle.mv_core.specs.declared.ring.Version.{Version}
 use Rattle.mv_core.specs.declared.ring.Status.{Status}
 use Rattle.mv_core.specs.declared.ring.Status.TheVariants.{Held, Aborted, Committed}
 use Rattle.mv_core.specs.declared.ring.CommitNote.{CommitNote}
-use Rattle.mv_core.specs.Rings.{slot_at, index_of, HoldsNothing, Lives, Names, IsGone, IsVersion, NoneUncut, IsTop, InUse, HasFirst}
+use Rattle.mv_core.specs.Rings.{slot_at, index_of, HoldsNothing, Lives, Names, IsGone, IsVersion, NoneUncut, IsTop, HasFirst}
 use Rattle.mv_core.specs.Views.{become}
 use Rattle.mv_core.specs.NameSteps.{committed_slot}
+use Rattle.mv_core.proofs.Slots.{Matches}
+use Rattle.mv_core.proofs.Matching.{SameVersion}
+use Rattle.mv_core.proofs.InPlace.{IsUnlived, StaysInPlace, in_place_map}
 use Rattle.mv_core.proofs.Frames.{become_here, become_else, become_all}
 use Rattle.mv_core.proofs.Links.{live_once}
 
@@ -29,7 +32,8 @@ abbrev pub committed_ring : ℕ → Ring → Ring
 committed_ring t r = record r { slots = map (committed_slot t) r.slots }
 
 -- a version that is live afterwards was live before
-pub committed_was : (t : ℕ) (slot : Slot) (x : Version) (st : Status) → committed_slot t slot ≡ Live x st → (old : Status) × (slot ≡ Live x old) × (((old ≡ st) × (st ≢ Held)) ⊎ ((old ≡ Held) × (st ≡ Committed (new_note t x))))
+pub committed_was : (t : ℕ) (slot : Slot) (x : Version) (st : Status) → committed_slot t slot ≡ Live x st
+    → (old : Status) × (slot ≡ Live x old) × (((old ≡ st) × (st ≢ Held)) ⊎ ((old ≡ Held) × (st ≡ Committed (new_note t x))))
 committed_was t Free x st e = absurd cc
 committed_was t (Built b) x st e = absurd cc
 committed_was t (Freeing p f) x st e = absurd cc
@@ -41,29 +45,20 @@ committed_was t (Live y (Aborted d)) x st e =
 committed_was t (Live y (Committed n)) x st e =
     (st, e, inl (refl, λ held. let one = live_once (Live y (Committed n)) y x (Committed n) st refl e in let no_held : Committed n ≡ Held = one.1 ∙ held in absurd cc))
 
-free_was : (t : ℕ) (slot : Slot) → committed_slot t slot ≡ Free → slot ≡ Free
-free_was t Free e = refl
-free_was t (Built b) e = e
-free_was t (Freeing p f) e = e
-free_was t (Live y Held) e = absurd cc
-free_was t (Live y (Aborted d)) e = absurd cc
-free_was t (Live y (Committed n)) e = absurd cc
+-- a slot with no live version stays as it is
+unlived_same : (t : ℕ) (slot : Slot) → IsUnlived slot → committed_slot t slot ≡ slot
+unlived_same t Free unlived = refl
+unlived_same t (Built b) unlived = refl
+unlived_same t (Freeing p f) unlived = refl
+unlived_same t (Live x st) unlived = absurd unlived
 
-built_was : (t : ℕ) (slot : Slot) (b : Build) → committed_slot t slot ≡ Built b → slot ≡ Built b
-built_was t Free b e = e
-built_was t (Built d) b e = e
-built_was t (Freeing p f) b e = e
-built_was t (Live y Held) b e = absurd cc
-built_was t (Live y (Aborted d)) b e = absurd cc
-built_was t (Live y (Committed n)) b e = absurd cc
-
-freeing_was : (t : ℕ) (slot : Slot) (p first : ℕ) → committed_slot t slot ≡ Freeing p first → slot ≡ Freeing p first
-freeing_was t Free p first e = e
-freeing_was t (Built b) p first e = e
-freeing_was t (Freeing q f) p first e = e
-freeing_was t (Live y Held) p first e = absurd cc
-freeing_was t (Live y (Aborted d)) p first e = absurd cc
-freeing_was t (Live y (Committed n)) p first e = absurd cc
+unlived_was : (t : ℕ) (slot : Slot) → IsUnlived (committed_slot t slot) → IsUnlived slot
+unlived_was t Free unlived = tt
+unlived_was t (Built b) unlived = tt
+unlived_was t (Freeing p f) unlived = tt
+unlived_was t (Live x Held) unlived = absurd unlived
+unlived_was t (Live x (Aborted d)) unlived = absurd unlived
+unlived_was t (Live x (Committed n)) unlived = absurd unlived
 
 -- where nothing is held the log is as it was
 none_committed : (t : ℕ) (slots : List Slot) → ((k : ℕ) (x : Version) → slice_index_or slots k Free ≢ Live x Held) → map (committed_slot t) slots ≡ slots
@@ -85,16 +80,14 @@ module _ (rings : ℕ → Ring) (n t : ℕ) where
 
   slot_here : (s k : ℕ) → s ≡ n → slot_at (after s) k ≡ committed_slot t (slot_at (rings s) k)
   slot_here s k e =
-      ap (λ r. slot_at r k) (ap after e ∙ become_here rings n (committed_ring t (rings n))) ∙ get_or-map (committed_slot t) (rings n).slots k Free ∙ ap (λ u. committed_slot t (slot_at (rings u) k)) (sym e)
+      ap (λ r. slot_at r k) (ap after e ∙ become_here rings n (committed_ring t (rings n))) ∙ get_or-map (committed_slot t) (rings n).slots k Free ∙
+      ap (λ u. committed_slot t (slot_at (rings u) k)) (sym e)
 
   slot_else : (s k : ℕ) → s ≢ n → slot_at (after s) k ≡ slot_at (rings s) k
   slot_else s k ne = ap (λ r. slot_at r k) (become_else rings n (committed_ring t (rings n)) s ne)
 
   pub next_same : (s : ℕ) → (after s).next ≡ (rings s).next
   next_same = become_all (λ s r. r.next ≡ (rings s).next) rings n (committed_ring t (rings n)) refl (λ s ne. refl)
-
-  pub wide_same : (s : ℕ) → length (after s).slots ≡ length (rings s).slots
-  wide_same = become_all (λ s r. length r.slots ≡ length (rings s).slots) rings n (committed_ring t (rings n)) (length-map (rings n).slots (committed_slot t)) (λ s ne. refl)
 
   -- how a version that is live afterwards was before
   pub record Was (s k : ℕ) (x : Version) (st : Status) : Type 0 where
@@ -105,7 +98,8 @@ module _ (rings : ℕ → Ring) (n t : ℕ) where
   pub was : (s k : ℕ) (x : Version) (st : Status) → Lives after s k x st → Was s k x st
   was s k x st lives =
       dite (ℕ_discrete s n)
-      (λ e. let r = committed_was t (slot_at (rings s) k) x st (sym (slot_here s k e) ∙ lives) in record { old = r.0; lives = r.1; how = ⊎_elim (λ a. inl a.0) (λ b. inr (e, b.0, b.1)) r.2 })
+      (λ e. let r = committed_was t (slot_at (rings s) k) x st
+      (sym (slot_here s k e) ∙ lives) in record { old = r.0; lives = r.1; how = ⊎_elim (λ a. inl a.0) (λ b. inr (e, b.0, b.1)) r.2 })
       (λ ne. record { old = st; lives = sym (slot_else s k ne) ∙ lives; how = inl refl })
 
   pub was_held : (s k : ℕ) (x : Version) → Lives after s k x Held → (s ≢ n) × Lives rings s k x Held
@@ -121,7 +115,8 @@ module _ (rings : ℕ → Ring) (n t : ℕ) where
       let r = was s k x (Aborted dead) lives in
       ⊎_elim (λ e. subst (Lives rings s k x) e r.lives) (λ b. let none : Aborted dead ≡ Committed (new_note t x) = b.2 in absurd cc) r.how
 
-  pub was_committed : (s k : ℕ) (x : Version) (note : CommitNote) → Lives after s k x (Committed note) → Lives rings s k x (Committed note) ⊎ ((s ≡ n) × Lives rings n k x Held × (note ≡ new_note t x))
+  pub was_committed : (s k : ℕ) (x : Version) (note : CommitNote) → Lives after s k x (Committed note)
+      → Lives rings s k x (Committed note) ⊎ ((s ≡ n) × Lives rings n k x Held × (note ≡ new_note t x))
   was_committed s k x note lives =
       let r = was s k x (Committed note) lives in
       ⊎_elim (λ e. inl (subst (Lives rings s k x) e r.lives))
@@ -163,22 +158,26 @@ module _ (rings : ℕ → Ring) (n t : ℕ) where
   still_lives s k x (Aborted dead) lives = (Aborted dead, still_aborted s k x dead lives)
   still_lives s k x Held lives = ⊎_elim (λ held. (Held, held)) (λ new. (Committed (new_note t x), new)) (held_becomes s k x lives)
 
-  pub was_free : (s k : ℕ) → slot_at (after s) k ≡ Free → slot_at (rings s) k ≡ Free
-  was_free s k at = dite (ℕ_discrete s n) (λ e. free_was t (slot_at (rings s) k) (sym (slot_here s k e) ∙ at)) (λ ne. sym (slot_else s k ne) ∙ at)
+  -- each version stays, and each slot with none
+  pub same_versions : Matches SameVersion rings after
+  same_versions = record {
+    forth = λ s k x st lives. let a = still_lives s k x st lives in (x, a.0, a.1, refl);
+    back = λ s k x st lives. let w = was s k x st lives in (x, w.old, w.lives, refl);
+    next = next_same;
+  }
+
+  pub others_stay : StaysInPlace rings after
+  others_stay = in_place_map rings n (committed_slot t) refl (unlived_same t) (unlived_was t)
 
   pub was_built : (s k : ℕ) (b : Build) → slot_at (after s) k ≡ Built b → slot_at (rings s) k ≡ Built b
-  was_built s k b at = dite (ℕ_discrete s n) (λ e. built_was t (slot_at (rings s) k) b (sym (slot_here s k e) ∙ at)) (λ ne. sym (slot_else s k ne) ∙ at)
-
-  pub was_freeing : (s k p first : ℕ) → slot_at (after s) k ≡ Freeing p first → slot_at (rings s) k ≡ Freeing p first
-  was_freeing s k p first at = dite (ℕ_discrete s n) (λ e. freeing_was t (slot_at (rings s) k) p first (sym (slot_here s k e) ∙ at)) (λ ne. sym (slot_else s k ne) ∙ at)
-
-  still_freeing : (s k p first : ℕ) → slot_at (rings s) k ≡ Freeing p first → slot_at (after s) k ≡ Freeing p first
-  still_freeing s k p first at = dite (ℕ_discrete s n) (λ e. slot_here s k e ∙ ap (committed_slot t) at) (λ ne. slot_else s k ne ∙ at)
+  was_built s k b = others_stay.back s k (Built b) tt
 
   -- what holds of each slot and of it committed holds of each slot afterwards
-  pub all_slots : (P : ℕ → ℕ → Slot → Type 0) → ((s k : ℕ) (slot : Slot) → P s k slot → P s k (committed_slot t slot)) → ((s k : ℕ) → P s k (slot_at (rings s) k)) → (s k : ℕ) → P s k (slot_at (after s) k)
+  pub all_slots : (P : ℕ → ℕ → Slot → Type 0) → ((s k : ℕ) (slot : Slot) → P s k slot → P s k (committed_slot t slot))
+      → ((s k : ℕ) → P s k (slot_at (rings s) k)) → (s k : ℕ) → P s k (slot_at (after s) k)
   all_slots P keep all s k =
-      dite (ℕ_discrete s n) (λ e. subst (P s k) (sym (slot_here s k e)) (keep s k (slot_at (rings s) k) (all s k))) (λ ne. subst (P s k) (sym (slot_else s k ne)) (all s k))
+      dite (ℕ_discrete s n) (λ e. subst (P s k) (sym (slot_here s k e)) (keep s k (slot_at (rings s) k) (all s k)))
+      (λ ne. subst (P s k) (sym (slot_else s k ne)) (all s k))
 
   -- the seat holds nothing any more
   pub nothing_held : HoldsNothing (after n)
@@ -209,14 +208,6 @@ module _ (rings : ℕ → Ring) (n t : ℕ) where
 
   pub still_top : (o u link : ℕ) → u ≢ t → IsTop rings o u link → IsTop after o u link
   still_top o u link ne = ⊎_elim (λ a. inl (a.0, a.1, still_version o u link a.0 a.1 a.2, a.3)) (λ b. inr (b.0, still_none_uncut o u ne b.1))
-
-  pub still_in_use : (c : Config) (s p : ℕ) → InUse rings c s p → InUse after c s p
-  still_in_use c s p =
-      ⊎_elim (λ a. let r = still_lives s (index_of c p) a.0 a.1 a.2 in inl (a.0, r.0, r.1, a.3)) (λ b. inr (b.0, still_freeing s (index_of c p) p b.0 b.1))
-
-  pub was_in_use : (c : Config) (s p : ℕ) → InUse after c s p → InUse rings c s p
-  was_in_use c s p =
-      ⊎_elim (λ a. let r = was s (index_of c p) a.0 a.1 a.2 in inl (a.0, r.old, r.lives, a.3)) (λ b. inr (b.0, was_freeing s (index_of c p) p b.0 b.1))
 
   pub still_first : (c : Config) (s : ℕ) (x : Version) → HasFirst rings c s x → HasFirst after c s x
   still_first c s x a =

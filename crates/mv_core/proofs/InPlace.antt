@@ -18,8 +18,8 @@ use Rattle.mv_core.specs.SetFacts.{Stamps, Successors, Positions}
 use Rattle.mv_core.specs.WalkFacts.{SucceededHasSuper}
 use Rattle.mv_core.specs.ReclaimFacts.{next_in}
 use Rattle.mv_core.specs.Rule.{Facts}
-use Rattle.mv_core.proofs.Slots.{Matches, live_within, slots_after, wide_after, mapped, slots_mapped, wide_mapped}
-use Rattle.mv_core.proofs.Matching.{LivesOn}
+use Rattle.mv_core.proofs.Slots.{Becomes, Matches, live_within, slots_after, wide_after, mapped, slots_mapped, wide_mapped}
+use Rattle.mv_core.proofs.Matching.{KeepsPlace, LivesOn, on_place}
 use Rattle.mv_core.proofs.MatchedSets as set
 use Rattle.mv_core.proofs.MatchedStamps as stamped
 
@@ -59,33 +59,46 @@ in_place_map rings n f free same was = record {
   forth = λ s i z unlived. slots_mapped rings n f free (λ s i w. slot_at (rings s) i ≡ z → w ≡ z) (λ i e. ap f e ∙ same z unlived) (λ s i ne e. e) s i;
 }
 
--- the facts that stay, and what of positions-and-grace reads slots with no live version
-pub record InPlaceFacts (c : Config) (m : Memory) (h : List Entry) (f : Faces) (rings : ℕ → Ring) : Type 0 where
-  pub stamps : Stamps c (m Clock) (λ s j. m (Stamp s j)) rings
+-- positions, and what of positions-and-grace reads places
+pub record PlaceFacts (c : Config) (h : List Entry) (f : Faces) (rings : ℕ → Ring) : Type 0 where
   pub positions : Positions c h rings
-  pub successors : Successors c h (λ s j. m (Stamp s j)) (λ s j. m (Super s j)) f.section rings
-  pub succeeded : SucceededHasSuper c h (λ s j. m (Super s j)) f.empty rings
+  pub live : (s j : ℕ) (x : Version) (st : Status) → Lives rings s j x st → c.base + x.position / c.slots ≤ f.grace s
   pub free : (s j : ℕ) → j < c.slots → slot_at (rings s) j ≡ Free → c.base + next_in c (rings s) j / c.slots ≤ f.grace s
   pub built : (s j : ℕ) (b : Build) → slot_at (rings s) j ≡ Built b → c.base + (rings s).next / c.slots ≤ f.grace s
   pub freeing : (s j p first : ℕ) → slot_at (rings s) j ≡ Freeing p first → c.base + p / c.slots < f.grace s
 
-pub in_place_facts : (starts : State → Type 0) (allows : List ℕ → State → Writes
-    → Type 0) (c : Config) (start : State) (m : Memory) (h : List Entry) (f : Faces)
-    → Facts starts allows c start m h f → (rings : ℕ → Ring) → Matches LivesOn f.ring rings → StaysInPlace f.ring rings → InPlaceFacts c m h f rings
-in_place_facts starts allows c start m h f k rings on stays =
-    let stamp : ℕ → ℕ → ℕ = λ s j. m (Stamp s j) in
-    let super : ℕ → ℕ → ℕ = λ s j. m (Super s j) in
-    let built_back : (s j : ℕ) (b : Build) → slot_at (rings s) j ≡ Built b → slot_at (f.ring s) j ≡ Built b = λ s j b. stays.back s j (Built b) tt in
-    let next_is : (s : ℕ) → (rings s).next ≡ (f.ring s).next = on.next in record {
-      stamps = stamped.stamps_match c h f.ring rings on stamp stamp (λ s j x st l. refl) (m Clock)
-          (λ s j b e. k.stamps.built s j b (built_back s j b e)) k.stamps;
-      positions = set.positions_match c h f.ring rings on stays.wide (λ s j p first. stays.back s j (Freeing p first) tt)
-          (λ s j p first. stays.forth s j (Freeing p first) tt) (λ s j b e. k.positions.built s j b (built_back s j b e)) k.positions;
-      successors = stamped.successors_match c h f.ring rings on super super (λ s j x st l. refl) stamp stamp (λ s j x st l. refl) f.section
-          (λ s j b e. k.successors.built s j b (built_back s j b e)) k.successors;
-      succeeded = stamped.succeeded_match c h f.ring rings on super super (λ s j x st l. refl) f.empty k.succeeded_has_super;
-      free = λ s j low e. subst (λ (p : ℕ). c.base + (p + (j + c.slots - p % c.slots) % c.slots) / c.slots ≤ f.grace s) (sym (next_is s))
-          (k.positions_and_grace.free s j low (stays.back s j Free tt e));
-      built = λ s j b e. subst (λ (p : ℕ). c.base + p / c.slots ≤ f.grace s) (sym (next_is s)) (k.positions_and_grace.built s j b (built_back s j b e));
-      freeing = λ s j p first e. k.positions_and_grace.freeing s j p first (stays.back s j (Freeing p first) tt e);
-    }
+-- and the facts that stay where each version lives on
+pub record InPlaceFacts (c : Config) (m : Memory) (h : List Entry) (f : Faces) (rings : ℕ → Ring) : Type 0 where
+  pub place : PlaceFacts c h f rings
+  pub stamps : Stamps c (m Clock) (λ s j. m (Stamp s j)) rings
+  pub successors : Successors c h (λ s j. m (Stamp s j)) (λ s j. m (Super s j)) f.section rings
+  pub succeeded : SucceededHasSuper c h (λ s j. m (Super s j)) f.empty rings
+
+module _ (starts : State → Type 0) (allows : List ℕ → State → Writes → Type 0) (c : Config) (start : State) (m : Memory) (h : List Entry) (f : Faces)
+    (k : Facts starts allows c start m h f) (rings : ℕ → Ring) where
+  pub place_facts : (R : Becomes) → KeepsPlace R → Matches R f.ring rings → StaysInPlace f.ring rings → PlaceFacts c h f rings
+  place_facts R places same stays =
+      let next_is : (s : ℕ) → (rings s).next ≡ (f.ring s).next = same.next in record {
+        positions = set.positions_match R places c h f.ring rings same stays.wide (λ s j p first. stays.back s j (Freeing p first) tt)
+            (λ s j p first. stays.forth s j (Freeing p first) tt) (λ s j b e. k.positions.built s j b (stays.back s j (Built b) tt e)) k.positions;
+        live = λ s j x st lives.
+            let b = same.back s j x st lives in
+            subst (λ (p : ℕ). c.base + p / c.slots ≤ f.grace s) (sym (places b.0 b.1 x st b.3).position) (k.positions_and_grace.live s j b.0 b.1 b.2);
+        free = λ s j low e. subst (λ (p : ℕ). c.base + (p + (j + c.slots - p % c.slots) % c.slots) / c.slots ≤ f.grace s) (sym (next_is s))
+            (k.positions_and_grace.free s j low (stays.back s j Free tt e));
+        built = λ s j b e. subst (λ (p : ℕ). c.base + p / c.slots ≤ f.grace s) (sym (next_is s))
+            (k.positions_and_grace.built s j b (stays.back s j (Built b) tt e));
+        freeing = λ s j p first e. k.positions_and_grace.freeing s j p first (stays.back s j (Freeing p first) tt e);
+      }
+
+  pub in_place_facts : Matches LivesOn f.ring rings → StaysInPlace f.ring rings → InPlaceFacts c m h f rings
+  in_place_facts on stays =
+      let stamp : ℕ → ℕ → ℕ = λ s j. m (Stamp s j) in
+      let super : ℕ → ℕ → ℕ = λ s j. m (Super s j) in record {
+        place = place_facts LivesOn on_place on stays;
+        stamps = stamped.stamps_match c h f.ring rings on stamp stamp (λ s j x st l. refl) (m Clock)
+            (λ s j b e. k.stamps.built s j b (stays.back s j (Built b) tt e)) k.stamps;
+        successors = stamped.successors_match c h f.ring rings on super super (λ s j x st l. refl) stamp stamp (λ s j x st l. refl) f.section
+            (λ s j b e. k.successors.built s j b (stays.back s j (Built b) tt e)) k.successors;
+        succeeded = stamped.succeeded_match c h f.ring rings on super super (λ s j x st l. refl) f.empty k.succeeded_has_super;
+      }

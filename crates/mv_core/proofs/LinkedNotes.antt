@@ -1,5 +1,5 @@
 -- That SUPER was stored below a commit is noted above it: the facts that read notes but not SUPER.
-use Rattle.std.proofs.Common.{◌≡◌, ◌⊎◌, ℕ, ◌<◌, true, List, length, refl, sym, ap, ◌∙◌, subst, inl, inr, Option}
+use Rattle.std.proofs.Common.{◌≡◌, ◌⊎◌, ℕ, ◌<◌, true, List, length, refl, sym, ap, ◌∙◌, subst, inl, inr}
 use Rattle.mv_history.specs.declared.Entry.{Entry}
 use Rattle.mv_history.specs.State.{State, Writes}
 use Rattle.mv_layout.specs.declared.Config.{Config}
@@ -10,7 +10,7 @@ use Rattle.mv_core.specs.declared.ring.Slot.TheVariants.{Built, Live}
 use Rattle.mv_core.specs.declared.ring.Build.{Build}
 use Rattle.mv_core.specs.declared.ring.Version.{Version}
 use Rattle.mv_core.specs.declared.ring.Status.{Status}
-use Rattle.mv_core.specs.declared.ring.Status.TheVariants.{Aborted, Committed}
+use Rattle.mv_core.specs.declared.ring.Status.TheVariants.{Committed}
 use Rattle.mv_core.specs.declared.ring.CommitNote.{CommitNote}
 use Rattle.mv_core.specs.Rings.{slot_at, put_slot, Lives}
 use Rattle.mv_core.specs.Views.{Faces, become}
@@ -82,9 +82,6 @@ module _ (starts : State → Type 0) (allows : List ℕ → State → Writes →
       })
       (λ s i ne e. record { was = d; lives_was = e; time = refl; dead = refl; cut = refl; linked = inl refl; linked_here = λ a b. absurd (ne (a, b)) })
       s i
-
-  pub was_aborted : (s i : ℕ) (z : Version) (d : Option ℕ) → Lives rings s i z (Aborted d) → Lives f.ring s i z (Aborted d)
-  was_aborted s i z d = all_slots (λ s i slot. slot ≡ Live z (Aborted d) → slot_at (f.ring s) i ≡ Live z (Aborted d)) (λ e. absurd cc) (λ s i ne e. e) s i
 
   pub was_uncommitted : (s i : ℕ) (z : Version) (st : Status) → IsHeldOrAborted st → Lives rings s i z st → Lives f.ring s i z st
   was_uncommitted s i z st fate = all_slots (λ s i slot. slot ≡ Live z st → slot_at (f.ring s) i ≡ Live z st)

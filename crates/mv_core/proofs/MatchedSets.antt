@@ -18,11 +18,51 @@ use Rattle.mv_core.specs.SetFacts.{WriteSets, IsHeldOrAborted, InHeldSet, InSet,
 use Rattle.mv_core.specs.SectionFacts.{LockFreshness, OpenSection}
 use Rattle.mv_core.specs.ChainFacts.{HeadIsTop, HeldLink, LinksBelow, CommitLink, AbortedLink, PresentMaster, IsGrounded, ChainFoot}
 use Rattle.mv_core.specs.ReclaimFacts.{FreedIsOld, CutIsOld}
-use Rattle.mv_core.proofs.Slots.{Matches, match_weaker}
-use Rattle.mv_core.proofs.Matching.{LivesOn, AlikeOrCut, SameCut, on_place, alike_place, uncommitted_forth}
+use Rattle.mv_core.proofs.Slots.{Becomes, Matches, match_weaker}
+use Rattle.mv_core.proofs.Matching.{KeepsPlace, LivesOn, AlikeOrCut, SameCut, on_place, alike_place, uncommitted_forth}
 use Rattle.mv_core.proofs.Matching.{uncommitted_back, still_held, unnamed_back, gone_forth, first_forth, set_forth}
 use Rattle.mv_core.proofs.Matching.{use_forth, use_back, held_back, aborted_back, committed_back, committed_forth}
 use Rattle.mv_core.proofs.Matching.{names_committed_forth, version_back, version_forth, none_holds_back, none_uncut_back, top_forth}
+
+module _ (R : Becomes) (places : KeepsPlace R) (c : Config) (h : List Entry) (before after : ℕ → Ring) (k : Matches R before after) where
+  -- positions, where each log has as many slots, what is freed stays, and a built slot is for the next position
+  pub positions_match : ((s : ℕ) → length (after s).slots ≡ length (before s).slots)
+      → ((s j p first : ℕ) → slot_at (after s) j ≡ Freeing p first → slot_at (before s) j ≡ Freeing p first)
+      → ((s j p first : ℕ) → slot_at (before s) j ≡ Freeing p first → slot_at (after s) j ≡ Freeing p first)
+      → ((s j : ℕ) (b : Build) → slot_at (after s) j ≡ Built b → index_of c (before s).next ≡ j) → Positions c h before → Positions c h after
+  positions_match wide freeing freeing_still built old = record {
+    wide = λ s. wide s ∙ old.wide s;
+    within = λ s j y su lives. let b = k.back s j y su lives in old.within s j b.0 b.1 b.2;
+    live = λ s j y su lives.
+        let b = k.back s j y su lives in
+        let position = (places b.0 b.1 y su b.3).position in
+        let next = k.next s in
+        let p = old.live s j b.0 b.1 b.2 in
+        let low = p.1 in
+        let high = p.2 in
+        (ap (index_of c) position ∙ p.0, omega arith, omega arith);
+    freeing = λ s j p first e.
+        let q = old.freeing s j p first (freeing s j p first e) in
+        let next = k.next s in
+        let low = q.1 in
+        let high = q.2 in
+        (q.0, omega arith, omega arith);
+    oldest = λ s j p first e.
+        let a = old.oldest s j p first (freeing s j p first e) in (
+          a.0,
+          λ l y su lives.
+              let b = k.back s l y su lives in
+              let position = (places b.0 b.1 y su b.3).position in
+              let lt = a.1 l b.0 b.1 b.2 in
+              omega arith,
+        );
+    built = λ s j b e. ap (index_of c) (k.next s) ∙ built s j b e;
+    no_gap = λ s p q in_use le lt.
+        let next = k.next s in
+        use_forth R places before after k freeing_still c s q
+        (old.no_gap s p q (use_back R places before after k freeing c s p in_use) le (omega arith));
+    bound = λ s. let next = k.next s in let le = old.bound s in omega arith;
+  }
 
 module _ (c : Config) (h : List Entry) (before after : ℕ → Ring) (k : Matches LivesOn before after) where
   -- nothing is held still
@@ -79,45 +119,6 @@ module _ (c : Config) (h : List Entry) (before after : ℕ → Ring) (k : Matche
         let r = w.held s j b.0 b.1 p (omega arith) (omega arith) in
         subst (λ (i : ℕ). InHeldSet c after s i p IsHeldOrAborted) (sym first)
         (set_forth LivesOn on_place before after k IsHeldOrAborted IsHeldOrAborted uncommitted_forth c s b.0.first p r);
-  }
-
-  -- positions, where each log has as many slots, what is freed stays, and a built slot is for the next position
-  pub positions_match : ((s : ℕ) → length (after s).slots ≡ length (before s).slots)
-      → ((s j p first : ℕ) → slot_at (after s) j ≡ Freeing p first → slot_at (before s) j ≡ Freeing p first)
-      → ((s j p first : ℕ) → slot_at (before s) j ≡ Freeing p first → slot_at (after s) j ≡ Freeing p first)
-      → ((s j : ℕ) (b : Build) → slot_at (after s) j ≡ Built b → index_of c (before s).next ≡ j) → Positions c h before → Positions c h after
-  positions_match wide freeing freeing_still built old = record {
-    wide = λ s. wide s ∙ old.wide s;
-    within = λ s j y su lives. let b = k.back s j y su lives in old.within s j b.0 b.1 b.2;
-    live = λ s j y su lives.
-        let b = k.back s j y su lives in
-        let position = (on_place b.0 b.1 y su b.3).position in
-        let next = k.next s in
-        let p = old.live s j b.0 b.1 b.2 in
-        let low = p.1 in
-        let high = p.2 in
-        (ap (index_of c) position ∙ p.0, omega arith, omega arith);
-    freeing = λ s j p first e.
-        let q = old.freeing s j p first (freeing s j p first e) in
-        let next = k.next s in
-        let low = q.1 in
-        let high = q.2 in
-        (q.0, omega arith, omega arith);
-    oldest = λ s j p first e.
-        let a = old.oldest s j p first (freeing s j p first e) in (
-          a.0,
-          λ l y su lives.
-              let b = k.back s l y su lives in
-              let position = (on_place b.0 b.1 y su b.3).position in
-              let lt = a.1 l b.0 b.1 b.2 in
-              omega arith,
-        );
-    built = λ s j b e. ap (index_of c) (k.next s) ∙ built s j b e;
-    no_gap = λ s p q in_use le lt.
-        let next = k.next s in
-        use_forth LivesOn on_place before after k freeing_still c s q
-        (old.no_gap s p q (use_back LivesOn on_place before after k freeing c s p in_use) le (omega arith));
-    bound = λ s. let next = k.next s in let le = old.bound s in omega arith;
   }
 
   pub freshness_match : (time : ℕ → Option ℕ) → LockFreshness c h time before → LockFreshness c h time after

@@ -90,6 +90,13 @@ module _ (R : Becomes) (places : KeepsPlace R) (before after : ℕ → Ring) (k 
       let at = places r.version r.status f.0 f.1 f.3 in
       record { version = f.0; status = f.1; lives = f.2; position_is = at.position ∙ r.position_is; first_is = at.first ∙ r.first_is; known = goes_on r.version r.status f.0 f.1 f.3 r.known }
 
+-- the version is the same
+abbrev pub SameVersion : Becomes
+SameVersion x st y su = y ≡ x
+
+pub version_place : KeepsPlace SameVersion
+version_place x st y su a = same_place x y a
+
 -- A version lives on: a held one in its place, or as an aborted one with no death noted, and a committed one of its time, and cut if it was; the words of a
 -- held one, and what its owner noted besides, may change.
 abbrev pub LivesOn : Becomes

@@ -1,5 +1,6 @@
 -- One more entry, of what its seat holds: the slots, the positions, the write sets, and what is noted of dead and cut versions.
-use Rattle.std.proofs.Common.{◌≡◌, ◌≢◌, ℕ, ◌+◌, ◌-◌, ◌*◌, ◌/◌, ◌%◌, ◌<◌, ◌≤◌, true, false, List, [], ◌∷◌, ◌++◌, length, refl, sym, ap, ◌∙◌, subst, inl, inr, ⊎_elim, arith, mul-le-mul, length-append, Option, Some, None}
+use Rattle.std.proofs.Common.{◌≡◌, ◌≢◌, ℕ, ◌+◌, ◌*◌, ◌<◌, ◌≤◌, true, false, List, [], ◌∷◌, ◌++◌, length}
+use Rattle.std.proofs.Common.{refl, sym, ap, ◌∙◌, subst, inl, inr, ⊎_elim, arith, mul-le-mul, length-append, Option, Some, None}
 use Rattle.mv_history.specs.declared.Entry.{Entry}
 use Rattle.mv_history.specs.declared.Entry.TheVariants.{Change}
 use Rattle.mv_history.specs.State.{State, Writes}
@@ -21,6 +22,8 @@ use Rattle.mv_core.specs.SetFacts.{HoldsSlot, SlotWords, StampedAs, stamp_of, St
 use Rattle.mv_core.specs.ReclaimFacts.{Deaths, DeathSeen, DeathsSeen, DeathAfterWrite, CutIsOld, PositionsAndGrace}
 use Rattle.mv_core.specs.NameSteps.{committed_slot}
 use Rattle.mv_core.specs.Rule.{Facts}
+use Rattle.mv_core.proofs.Matching.{SameVersion, version_place}
+use Rattle.mv_core.proofs.InPlace.{PlaceFacts, place_facts}
 use Rattle.mv_core.proofs.Longer.{new_time, longer_long, entry-longer, next_write-longer}
 use Rattle.mv_core.proofs.Commits as logs
 use Rattle.mv_core.proofs.Commits.{new_note}
@@ -36,7 +39,8 @@ held_words t first prev data_word (Live x Held) k = k
 held_words t first prev data_word (Live x (Aborted d)) k = k
 held_words t first prev data_word (Live x (Committed note)) k = k
 
-module _ (starts : State → Type 0) (allows : List ℕ → State → Writes → Type 0) (c : Config) (start : State) (m : Memory) (h : List Entry) (f : Faces) (k : Facts starts allows c start m h f) (n : ℕ) (e : Entry) where
+module _ (starts : State → Type 0) (allows : List ℕ → State → Writes → Type 0) (c : Config) (start : State) (m : Memory) (h : List Entry) (f : Faces)
+    (k : Facts starts allows c start m h f) (n : ℕ) (e : Entry) where
   abbrev t : ℕ
   t = new_time c.base h e
 
@@ -50,7 +54,8 @@ module _ (starts : State → Type 0) (allows : List ℕ → State → Writes →
   stamp s j = m (Stamp s j)
 
   pub words_after : SlotWords (λ s j. m (First s j)) (λ s j. m (Prev s j)) (λ s j w. m (Data s j w)) rings
-  words_after = logs.all_slots f.ring n t (λ s j slot. HoldsSlot (m (First s j)) (m (Prev s j)) (λ w. m (Data s j w)) slot) (λ s j slot. held_words t (m (First s j)) (m (Prev s j)) (λ w. m (Data s j w)) slot) k.slot_words
+  words_after = logs.all_slots f.ring n t (λ s j slot. HoldsSlot (m (First s j)) (m (Prev s j)) (λ w. m (Data s j w)) slot)
+      (λ s j slot. held_words t (m (First s j)) (m (Prev s j)) (λ w. m (Data s j w)) slot) k.slot_words
 
   -- each commit of before is stamped, so those of the new entry alone are not
   pub stamps_after : (clock : ℕ) → ((s j : ℕ) (x : Version) (note : CommitNote) → Lives f.ring s j x (Committed note) → stamp_of c stamp s x ≡ note.time)
@@ -98,7 +103,8 @@ module _ (starts : State → Type 0) (allows : List ℕ → State → Writes →
     commit = λ s j x note lives.
         ⊎_elim
         (λ old. old_commit s x note (k.write_sets.commit s j x note old))
-        (λ new. let seat_is = sym new.0 in let note_is = sym new.2 in subst (λ (p : ℕ × CommitNote). CommitOf c later rings p.0 x p.1) (λ i. (seat_is i, note_is i)) (new_set.commit j x new.1))
+        (λ new. let seat_is = sym new.0 in let note_is = sym new.2 in subst (λ (p : ℕ × CommitNote). CommitOf c later rings p.0 x p.1)
+        (λ i. (seat_is i, note_is i)) (new_set.commit j x new.1))
         (logs.was_committed f.ring n t s j x note lives);
     once = λ s j l x y a b lx ly same.
         ⊎_elim
@@ -125,7 +131,8 @@ module _ (starts : State → Type 0) (allows : List ℕ → State → Writes →
         held_too s x.first p w.0 r;
   }
     where
-      apart : (s j l : ℕ) (x y : Version) (st : Status) (note : CommitNote) → Lives rings s j x st → IsHeldOrAborted st → Lives rings s l y (Committed note) → x.first ≢ y.first
+      apart : (s j l : ℕ) (x y : Version) (st : Status) (note : CommitNote) → Lives rings s j x st → IsHeldOrAborted st → Lives rings s l y (Committed note)
+          → x.first ≢ y.first
       apart s j l x y (Committed other) note lx fate ly same = absurd fate
       apart s j l x y Held note lx fate ly same =
           let w = logs.was_held f.ring n t s j x lx in
@@ -140,39 +147,30 @@ module _ (starts : State → Type 0) (allows : List ℕ → State → Writes →
       held_too s first p ne r = go r.status r.lives r.known
         where
           go : (st : Status) → Lives f.ring s (index_of c p) r.version st → IsHeldOrAborted st → InHeldSet c rings s first p IsHeldOrAborted
-          go Held lives fate = record { version = r.version; status = Held; lives = logs.still_held f.ring n t s (index_of c p) r.version ne lives; position_is = r.position_is; first_is = r.first_is; known = tt }
-          go (Aborted dead) lives fate = record { version = r.version; status = Aborted dead; lives = logs.still_aborted f.ring n t s (index_of c p) r.version dead lives; position_is = r.position_is; first_is = r.first_is; known = tt }
+          go Held lives fate =
+              record { version = r.version; status = Held; lives = logs.still_held f.ring n t s (index_of c p) r.version ne lives; position_is = r.position_is; first_is = r.first_is; known = tt }
+          go (Aborted dead) lives fate =
+              record { version = r.version; status = Aborted dead; lives = logs.still_aborted f.ring n t s (index_of c p) r.version dead lives; position_is = r.position_is; first_is = r.first_is; known = tt }
           go (Committed note) lives fate = absurd fate
 
+  place : PlaceFacts c h f rings
+  place = place_facts starts allows c start m h f k rings SameVersion version_place (logs.same_versions f.ring n t) (logs.others_stay f.ring n t)
+
   pub positions_after : Positions c later rings
-  positions_after = record {
-    wide = λ s. logs.wide_same f.ring n t s ∙ k.positions.wide s;
-    within = λ s j x st lives. let r = logs.was f.ring n t s j x st lives in k.positions.within s j x r.old r.lives;
-    live = λ s j x st lives.
-        let r = logs.was f.ring n t s j x st lives in
-        let p = k.positions.live s j x r.old r.lives in
-        let same = sym (logs.next_same f.ring n t s) in
-        (p.0, subst (λ (u : ℕ). x.position < u) same p.1, subst (λ (u : ℕ). u ≤ x.position + c.slots) same p.2);
-    freeing = λ s j q first at.
-        let p = k.positions.freeing s j q first (logs.was_freeing f.ring n t s j q first at) in
-        let same = sym (logs.next_same f.ring n t s) in
-        (p.0, subst (λ (u : ℕ). q < u) same p.1, subst (λ (u : ℕ). u ≤ q + c.slots) same p.2);
-    oldest = λ s j q first at.
-        let a = k.positions.oldest s j q first (logs.was_freeing f.ring n t s j q first at) in
-        (a.0, λ l x st lives. let r = logs.was f.ring n t s l x st lives in a.1 l x r.old r.lives);
-    built = λ s j b at. ap (index_of c) (logs.next_same f.ring n t s) ∙ k.positions.built s j b (logs.was_built f.ring n t s j b at);
-    no_gap = λ s p q used le lt. logs.still_in_use f.ring n t c s q (k.positions.no_gap s p q (logs.was_in_use f.ring n t c s p used) le (subst (λ (u : ℕ). q < u) (logs.next_same f.ring n t s) lt));
-    bound = λ s.
-        let b = k.positions.bound s in
-        let long = length-append h (e ∷ []) in
-        let more : c.slots * (length h + 1) ≤ c.slots * (length later + 1) = mul-le-mul (let r : c.slots ≤ c.slots = omega arith in r) (let le : length h + 1 ≤ length later + 1 = omega arith in le) in
-        let same = logs.next_same f.ring n t s in
-        omega arith;
-  }
+  positions_after =
+      let bound : (s : ℕ) → (rings s).next ≤ c.slots * (length later + 1) = λ s.
+      let b = k.positions.bound s in
+      let long = length-append h (e ∷ []) in
+      let more : c.slots * (length h + 1) ≤ c.slots * (length later + 1) =
+      mul-le-mul (let r : c.slots ≤ c.slots = omega arith in r) (let le : length h + 1 ≤ length later + 1 = omega arith in le) in
+      let same = logs.next_same f.ring n t s in
+      omega arith in
+      assumption (bound, place.positions)
 
   pub deaths_after : Deaths c later rings
   deaths_after = record {
-    aborted = λ s j dead x lives. let d = k.deaths.aborted s j dead x (logs.was_aborted f.ring n t s j x (Some dead) lives) in let long = longer_long c.base h e in omega arith;
+    aborted = λ s j dead x lives. let d = k.deaths.aborted s j dead x (logs.was_aborted f.ring n t s j x (Some dead) lives) in let long =
+        longer_long c.base h e in omega arith;
     cut = λ s j dead x note lives cut is.
         ⊎_elim
         (λ old. let d = k.deaths.cut s j dead x note old cut is in let long = longer_long c.base h e in omega arith)
@@ -190,7 +188,8 @@ module _ (starts : State → Type 0) (allows : List ℕ → State → Writes →
   deaths_seen_after past more s j x st lives =
       let r = logs.was f.ring n t s j x st lives in
       ⊎_elim
-      (λ same. seen_later (c.base + length (f.past s).seen) (c.base + length (past s).seen) st (omega (arith, more s)) (k.deaths_seen s j x st (subst (Lives f.ring s j x) same r.lives)))
+      (λ same. seen_later (c.base + length (f.past s).seen) (c.base + length (past s).seen) st (omega (arith, more s))
+      (k.deaths_seen s j x st (subst (Lives f.ring s j x) same r.lives)))
       (λ new. subst (DeathSeen (c.base + length (past s).seen)) (sym new.2) (none_noted (c.base + length (past s).seen) (Committed (new_note t x)) refl))
       r.how
 
@@ -210,11 +209,10 @@ module _ (starts : State → Type 0) (allows : List ℕ → State → Writes →
 
   pub grace_after : PositionsAndGrace c f.grace rings
   grace_after = record {
-    live = λ s j x st lives. let r = logs.was f.ring n t s j x st lives in k.positions_and_grace.live s j x r.old r.lives;
-    free = λ s j lt at.
-        subst (λ (u : ℕ). c.base + (u + (j + c.slots - u % c.slots) % c.slots) / c.slots ≤ f.grace s) (sym (logs.next_same f.ring n t s)) (k.positions_and_grace.free s j lt (logs.was_free f.ring n t s j at));
-    built = λ s j b at. subst (λ (u : ℕ). c.base + u / c.slots ≤ f.grace s) (sym (logs.next_same f.ring n t s)) (k.positions_and_grace.built s j b (logs.was_built f.ring n t s j b at));
-    freeing = λ s j p first at. k.positions_and_grace.freeing s j p first (logs.was_freeing f.ring n t s j p first at);
+    live = place.live;
+    free = place.free;
+    built = place.built;
+    freeing = place.freeing;
     commit = λ s j x note lives.
         ⊎_elim
         (λ old. k.positions_and_grace.commit s j x note old)

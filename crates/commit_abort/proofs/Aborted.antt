@@ -1,5 +1,5 @@
 -- A section that gave up what it held may end, and so it has when its mark is cleared.
-use Rattle.std.proofs.Common.{◌≡◌, ℕ, ◌+◌, ◌≤◌, List, [], ◌∷◌, ◌++◌, length, refl, sym, ap, ◌∙◌, subst, ⊎_elim, arith, append-nil, append_assoc, length-append, All, Some, None}
+use Rattle.std.proofs.Common.{◌≡◌, ℕ, ◌+◌, List, [], ◌∷◌, ◌++◌, length, refl, sym, ap, ◌∙◌, subst, ⊎_elim, arith, append-nil, append_assoc, length-append, All, Some, None}
 use Rattle.std.proofs.lemmas.List.Elements.{All-push, All-weaker}
 use Rattle.mv_history.specs.declared.Step.{Step}
 use Rattle.mv_history.specs.declared.StepKind.{StepKind}
@@ -9,8 +9,6 @@ use Rattle.mv_layout.specs.declared.Config.{Config}
 use Rattle.mv_layout.specs.declared.Place.TheVariants.{Clock, Mark}
 use Rattle.mv_layout.specs.Places.{place_of}
 use Rattle.mv_layout.specs.Words.{clock_time_of}
-use Rattle.mv_core.specs.declared.ring.Slot.TheVariants.{Live}
-use Rattle.mv_core.specs.declared.ring.Version.{Version}
 use Rattle.mv_core.specs.declared.ring.Status.TheVariants.{Held, Aborted}
 use Rattle.mv_core.specs.declared.view.View.{View}
 use Rattle.mv_core.specs.declared.view.Phase.TheVariants.{Outside}
@@ -113,7 +111,12 @@ module _ (c : Config) (v : View) (l : Noted) (inside : Section) (k : Stands c v 
     aborts_timed = record {
       outside = refl;
       seen = subst (λ p. BeginsWith h p.seen) past_same whole.0;
-      trail = (steps, trail_is, (let more = length-append u.trail.0 (load ∷ clear ∷ []) in let few = u.trail.2 in let held = k.log.held in omega arith), all_steps IsAbortStep tt tt tt);
+      trail = (
+        steps,
+        trail_is,
+        (let more = length-append u.trail.0 (load ∷ clear ∷ []) in let few = u.trail.2 in let held = k.log.held in omega arith),
+        all_steps IsAbortStep tt tt tt,
+      );
       rest = ap
           (λ (q : View).
           record q { past = record q.past { seen = h }; phase = Outside; heard = heard_nothing; walk = Nowhere; back = None; ring = z.ring; trail = z.trail })
@@ -149,10 +152,23 @@ module _ (c : Config) (v : View) (l : Noted) (inside : Section) (k : Stands c v 
     aborts_none = record {
       outside = refl;
       seen = ([], ap (λ p. p.seen) past_same ∙ sym (append-nil v.past.seen));
-      trail = (steps0, trail_is0, (let more = length-append u.trail.0 (clear0 ∷ []) in let few = u.trail.2 in let held = k.log.held in omega arith), all_steps0 IsAbortStep tt tt);
+      trail = (
+        steps0,
+        trail_is0,
+        (let more = length-append u.trail.0 (clear0 ∷ []) in let few = u.trail.2 in let held = k.log.held in omega arith),
+        all_steps0 IsAbortStep tt tt,
+      );
       rest = ap
           (λ (q : View).
-          record q { past = record q.past { seen = z0.past.seen }; phase = Outside; heard = heard_nothing; walk = Nowhere; back = None; ring = z0.ring; trail = z0.trail })
+          record q {
+            past = record q.past { seen = z0.past.seen };
+            phase = Outside;
+            heard = heard_nothing;
+            walk = Nowhere;
+            back = None;
+            ring = z0.ring;
+            trail = z0.trail;
+          })
           u.kept;
     }
 

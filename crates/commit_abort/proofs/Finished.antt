@@ -67,8 +67,13 @@ module _ (c : Config) (w : View) (l : Noted) (won : WonNaming) (k : IsJustNamed 
   are_committed : AreCommitted c w l t
   are_committed = record {
     each = λ i n at from.
-        let lives = (held_at c v l k.stands i n at from).0 in
-        (new_note t (version_of n), slot_now (index_of c (l.freed + i)) ∙ ap (committed_slot t) lives, refl, refl, k.log.links (index_of c (l.freed + i)) (version_of n) lives);
+        let lives = (held_at c v l k.stands i n at from).0 in (
+          new_note t (version_of n),
+          slot_now (index_of c (l.freed + i)) ∙ ap (committed_slot t) lives,
+          refl,
+          refl,
+          k.log.links (index_of c (l.freed + i)) (version_of n) lives,
+        );
     only = λ j x note live time.
         let was = committed_was t (slot_at v.ring j) x (Committed note) (sym (slot_now j) ∙ live) in
         ⊎_elim
@@ -145,7 +150,12 @@ module _ (c : Config) (w : View) (l : Noted) (won : WonNaming) (k : IsJustNamed 
       pub finishes : Finishes w z (l.held + 2)
       finishes = record {
         outside = refl;
-        trail = (steps, trail_is, (let long = length-append tells.trail.0 (record { kind = ClearMark; word = place_of c (Mark y.number); found = None; stored = Some 0 } ∷ []) in let few = tells.trail.2 in let held = k.stands.log.held in omega arith), all_steps IsFinishStep tt tt tt);
+        trail = (
+          steps,
+          trail_is,
+          (let long = length-append tells.trail.0 (record { kind = ClearMark; word = place_of c (Mark y.number); found = None; stored = Some 0 } ∷ []) in let few = tells.trail.2 in let held = k.stands.log.held in omega arith),
+          all_steps IsFinishStep tt tt tt,
+        );
         rest = rest_is;
       }
         where

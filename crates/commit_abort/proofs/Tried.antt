@@ -156,6 +156,13 @@ module _ (c : Config) (v x : View) (word : ℕ) (h0 : List Entry) (whole : IsWho
         → (won : WonNaming) × IsJustNamed c z l won × (time ≡ clock_time_of won.word + 1)
     just_named l tag z time stands unbuilt some log named = (
       record { before = y; inside = inside; tag = tag; word = word; history = named.1.0 },
-      record { phase = phase_next; some = subst (λ (r : Ring). 0 < held_count r) (sym ring_next) some; named = named.1.2; log = log; stands = stands_next l stands; unbuilt = unbuilt },
+      record {
+        phase = phase_next;
+        some = subst (λ (r : Ring). 0 < held_count r) (sym ring_next) some;
+        named = named.1.2;
+        log = log;
+        stands = stands_next l stands;
+        unbuilt = unbuilt;
+      },
       named.0,
     )

@@ -4,7 +4,6 @@ use Rattle.std.specs.Prelude.{slice_get}
 use Rattle.std.proofs.lemmas.List.Elements.{All-nil, All-head, All-tail, All-weaker, Contains-append_left}
 use Rattle.mv_history.specs.declared.Entry.{Entry}
 use Rattle.mv_history.specs.declared.Entry.TheVariants.{Change}
-use Rattle.mv_history.specs.declared.Commit.{Commit}
 use Rattle.mv_history.specs.declared.Step.{Step}
 use Rattle.mv_history.specs.declared.StepKind.{StepKind}
 use Rattle.mv_history.specs.declared.StepKind.TheVariants.{NameCommit, SwapStamp, StoreSuper, ClearMark}
@@ -56,7 +55,8 @@ exchanges_one (x ∷ a) b s is none_a none_b =
     (All-head (λ s. is_commit_exchange s.kind ≡ false) x a none_a)
     ∙ exchanges_one a b s is (All-tail (λ s. is_commit_exchange s.kind ≡ false) x a none_a) none_b
 
-module _ (c : Config) (v x : View) (word : ℕ) (h0 : List Entry) (whole : IsWhole c v word h0) (is : x ≡ check_loaded c v word h0) (inside : Section) (phase : v.phase ≡ Inside inside) (past_help : IsPastHelp v.heard inside)
+module _ (c : Config) (v x : View) (word : ℕ) (h0 : List Entry) (whole : IsWhole c v word h0) (is : x ≡ check_loaded c v word h0) (inside : Section)
+    (phase : v.phase ≡ Inside inside) (past_help : IsPastHelp v.heard inside)
     (y : View) (helps : Helps c x y word) (open_is : inside.mode ≡ Open) where
   abbrev steps : List Step
   steps = steps_next c v x word h0 whole is inside phase past_help y helps open_is
@@ -113,7 +113,12 @@ module _ (c : Config) (v x : View) (word : ℕ) (h0 : List Entry) (whole : IsWho
           loads = loads w (won ∷ fin.trail.0) (held_count v.ring + 8)
               (fin.trail.1 ∙ ap (λ (u : View). u.trail ++ fin.trail.0) named ∙ ap (λ l. (l ++ won ∷ []) ++ fin.trail.0) trail ∙ append_assoc (v.trail ++ steps) (won ∷ []) fin.trail.0 ∙ append_assoc v.trail steps (won ∷ fin.trail.0))
               (let few = fin.trail.2 in omega arith);
-          one_won = record { step = won; one = exchanges_one steps fin.trail.0 won refl none_tried (All-weaker (λ s. IsFinishStep s.kind) (λ s. is_commit_exchange s.kind ≡ false) (λ s. finish_kind s.kind) fin.trail.0 fin.trail.3); won = refl };
+          one_won = record {
+            step = won;
+            one = exchanges_one steps fin.trail.0 won refl none_tried
+                (All-weaker (λ s. IsFinishStep s.kind) (λ s. is_commit_exchange s.kind ≡ false) (λ s. finish_kind s.kind) fin.trail.0 fin.trail.3);
+            won = refl;
+          };
           outside = fin.outside;
           rest =
               fin.rest
@@ -189,5 +194,9 @@ module _ (c : Config) (v x : View) (word : ℕ) (h0 : List Entry) (whole : IsWho
             one = ap length (exchanges_one steps [] tried refl none_tried (All-nil (λ s. is_commit_exchange s.kind ≡ false)));
             other = other_seat;
             later = subst (λ n. clock_time_of word < n) time_is lost.overtaken.later;
-            entry = (made.0, subst (λ (p : List Entry × ℕ). IsEntry c.base p.0 p.1 made.0) (λ i. (sym same_seen i, time_is i)) made.1, made.2 ∙ ap (λ (r : Rival). r.seat) (sym lost.rival_is));
+            entry = (
+              made.0,
+              subst (λ (p : List Entry × ℕ). IsEntry c.base p.0 p.1 made.0) (λ i. (sym same_seen i, time_is i)) made.1,
+              made.2 ∙ ap (λ (r : Rival). r.seat) (sym lost.rival_is),
+            );
           }

@@ -13,7 +13,6 @@ use Rattle.mv_layout.specs.declared.Config.{Config}
 use Rattle.mv_layout.specs.declared.Place.TheVariants.{Head}
 use Rattle.mv_layout.specs.Places.{place_of}
 use Rattle.mv_core.specs.declared.ring.Slot.TheVariants.{Live}
-use Rattle.mv_core.specs.declared.ring.Version.{Version}
 use Rattle.mv_core.specs.declared.ring.Status.TheVariants.{Held, Aborted}
 use Rattle.mv_core.specs.declared.view.View.{View}
 use Rattle.mv_core.specs.declared.view.Section.{Section}

@@ -76,8 +76,12 @@ module _ (starts : State → Type 0) (allows : List ℕ → State → Writes →
           let b = before i x is in
           ⊎_elim (λ e. absurd (ne (e.0 ∙ place_is c v l k index n at))) (λ e. subst (IsNoteAt l i) (sym e.1) b.1) b.2;
       this = λ x is.
-          let e = sym (here x is) in
-          (n, at, record { same = subst (λ (y : Note). y ≡ record n { dead = y.dead }) e refl; once = λ some. absurd (omega arith) }, subst (DatedSo w made top back n) e dated);
+          let e = sym (here x is) in (
+            n,
+            at,
+            record { same = subst (λ (y : Note). y ≡ record n { dead = y.dead }) e refl; once = λ some. absurd (omega arith) },
+            subst (DatedSo w made top back n) e dated,
+          );
       untimed = λ x is alive. let d : x.dead ≡ dead = ap (λ (y : Note). y.dead) (here x is) in absurd (omega arith);
       table = table;
       kept = kept;
@@ -107,8 +111,10 @@ module _ (starts : State → Type 0) (allows : List ℕ → State → Writes →
   pub settles_found : (u : View) (m : Noted) (back : Bool) (found : Found) → IsTableOf l found → n.dead ≡ 0 → LoadsSuper c v u l m n true
       → (made : List Step) × SettlesOne c v u l m made mark clock back found found index 0
   settles_found u m back found table none loads =
-      let f = loads.some refl in
-      (loads.step ∷ [], settles_retired u m (loads.step ∷ []) back found found loads.time l.back 0 f.0 f.1 loads.makes (omega arith) table (λ i ne. refl) none (inr (inl f.2)))
+      let f = loads.some refl in (
+        loads.step ∷ [],
+        settles_retired u m (loads.step ∷ []) back found found loads.time l.back 0 f.0 f.1 loads.makes (omega arith) table (λ i ne. refl) none (inr (inl f.2)),
+      )
 
   -- SUPER was 0
   module _ (u : View) (loads : LoadsSuper c v u l l n false) (none : n.dead ≡ 0) where

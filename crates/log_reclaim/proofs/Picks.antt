@@ -26,5 +26,9 @@ position_of None _ = 0
 
 -- the version whose words are written back, by its position, with what is noted of its commit and the section
 abbrev pub back_in : Config → View → ℕ × Version × CommitNote × Section
-back_in c v =
-    (position_of v.back v.walk, version_in (slot_at v.ring (index_of c (position_of v.back v.walk))), note_in (slot_at v.ring (index_of c (position_of v.back v.walk))), section_in v)
+back_in c v = (
+  position_of v.back v.walk,
+  version_in (slot_at v.ring (index_of c (position_of v.back v.walk))),
+  note_in (slot_at v.ring (index_of c (position_of v.back v.walk))),
+  section_in v,
+)

@@ -60,7 +60,18 @@ reclaims_on v u w made more a b = record {
   rest = b.rest
       ∙ ap
       (λ (x : View).
-      record x { past = w.past; phase = Outside; heard = w.heard; walk = Nowhere; empty = w.empty; ring = w.ring; back = None; scan = None; grace = w.grace; trail = w.trail })
+      record x {
+        past = w.past;
+        phase = Outside;
+        heard = w.heard;
+        walk = Nowhere;
+        empty = w.empty;
+        ring = w.ring;
+        back = None;
+        scan = None;
+        grace = w.grace;
+        trail = w.trail;
+      })
       a.rest;
 }
 

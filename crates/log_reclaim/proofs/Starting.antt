@@ -183,8 +183,13 @@ module _ (c : Config) (v e : View) (l : Noted) (position : ℕ) (x n : Note) (ti
             small = omega arith;
             few = omega arith;
             goes =
-                inl
-                (refl, b.no_back, (stands_on n.object link, stands_at n.object link some, refl, top ∙ (λ q. link_of (sym number_is q) (sym place q))), uncut, early);
+                inl (
+                  refl,
+                  b.no_back,
+                  (stands_on n.object link, stands_at n.object link some, refl, top ∙ (λ q. link_of (sym number_is q) (sym place q))),
+                  uncut,
+                  early,
+                );
           })
 
       pub started : (mark : Watermark) (before after : ℕ) → x.time ≤ mark.time → mark.time ≤ v.grace → x.object < c.objects
@@ -194,8 +199,12 @@ module _ (c : Config) (v e : View) (l : Noted) (position : ℕ) (x n : Note) (ti
       started mark before after early known in_range starts allows knows base last =
           let time_is : x.time ≡ n.time = ap (λ (z : Note). z.time) same in
           let le : n.time ≤ v.grace = omega arith in
-          let low : n.time ≤ mark.time = omega arith in
-          (low, subst (HasLooked c v w n.object) (top ∙ ap (link_of v.number) (sym place)) looks, writing le in_range (no_death starts allows knows base last), (λ q. record { object = (same q).object; position = sym place q; words = (same q).words; stored = 0 }))
+          let low : n.time ≤ mark.time = omega arith in (
+            low,
+            subst (HasLooked c v w n.object) (top ∙ ap (link_of v.number) (sym place)) looks,
+            writing le in_range (no_death starts allows knows base last),
+            (λ q. record { object = (same q).object; position = sym place q; words = (same q).words; stored = 0 }),
+          )
 
     -- it names another one, or is 0, and the section was left
     module _ (y : View) (left : y ≡ mark_cleared c w) (other : link ≢ link_of v.number position) (own_link : IsOwnLink c e link)
@@ -224,7 +233,13 @@ module _ (c : Config) (v e : View) (l : Noted) (position : ℕ) (x n : Note) (ti
           let less = last some mine there.0 made.0 top (index_of c n.position) (version_of n) a.0 a.1 object_is apart in
           let time_is = r.as_noted.2 in
           let own_time = a.2 in
-          record { index = r.index; other = r.note; at = r.at; object_is = ap (λ (z : Version). z.object) (sym r.version_is) ∙ there.3 ∙ sym object_is; later = omega arith })
+          record {
+            index = r.index;
+            other = r.note;
+            at = r.at;
+            object_is = ap (λ (z : Version). z.object) (sym r.version_is) ∙ there.3 ∙ sym object_is;
+            later = omega arith;
+          })
           there.4
 
       pub not_started : (mark : Watermark) (before after : ℕ) (r : NoBack) → x.time ≤ mark.time → (link ≡ 0 → r ≡ Gone)

@@ -129,7 +129,15 @@ module _ (c : Config) (v w : View) (b d : Back) (count before after : ℕ) (k : 
           within = in_seen (ap (λ (u : View). u.base) rest);
           cut = λ e. (
             cut.log ∙ (λ q. back_noted (retired l (position_is q) (at.1 q + 1))),
-            record { step = second; there = Contains-append_right k.made last second (1, omega arith, refl); kind = refl; clock = refl; word = cut.word; found = refl; dead_is = ap (λ (t : ℕ). t + 1) (sym at.1) },
+            record {
+              step = second;
+              there = Contains-append_right k.made last second (1, omega arith, refl);
+              kind = refl;
+              clock = refl;
+              word = cut.word;
+              found = refl;
+              dead_is = ap (λ (t : ℕ). t + 1) (sym at.1);
+            },
           );
           above = λ seat e. let clash : Cut ≡ Above seat = e in absurd (cc);
         }

@@ -141,8 +141,12 @@ module _ (c : Config) (v : View) (l : Noted) (position : ℕ) (n : Note) (k : St
         step = step;
         makes = super_makes;
         grace = ap (λ (x : View). x.grace) view_is;
-        none = λ b.
-            (none, refl, ap (λ (t : ℕ). record { kind = LoadSuper; word = place_of c (Super v.number (index_of c n.position)); found = Some t; stored = None }) none, unwritten none);
+        none = λ b. (
+          none,
+          refl,
+          ap (λ (t : ℕ). record { kind = LoadSuper; word = place_of c (Super v.number (index_of c n.position)); found = Some t; stored = None }) none,
+          unwritten none,
+        );
         some = λ b. absurd (cc);
       }
 
@@ -153,8 +157,11 @@ module _ (c : Config) (v : View) (l : Noted) (position : ℕ) (n : Note) (k : St
         makes = super_makes;
         grace = ap (λ (x : View). x.grace) view_is;
         none = λ b. absurd (cc);
-        some = λ b.
-            (some_time, log ∙ ap (λ p. retired l p found) position_is, subst (λ (b : ℕ). found ≤ b + length w.past.seen) (sym (ap (λ (x : View). x.base) view_is ∙ base)) sees.time);
+        some = λ b. (
+          some_time,
+          log ∙ ap (λ p. retired l p found) position_is,
+          subst (λ (b : ℕ). found ≤ b + length w.past.seen) (sym (ap (λ (x : View). x.base) view_is ∙ base)) sees.time,
+        );
       }
 
     -- a section that found HEAD of the object empty tells that a time is found

@@ -141,8 +141,11 @@ module _ (starts : State → Type 0) (allows : List ℕ → State → Writes →
             time + 1,
             (omega arith),
             refl,
-            inr
-                (cut.0 ∙ ap (λ p. back_noted (retired l p (time + 1))) at, (omega arith), times_then (looked_steps c v u n.object link looked) s.made (time + 1) cut.1),
+            inr (
+              cut.0 ∙ ap (λ p. back_noted (retired l p (time + 1))) at,
+              (omega arith),
+              times_then (looked_steps c v u n.object link looked) s.made (time + 1) cut.1,
+            ),
           );
         }
 

@@ -15,11 +15,27 @@ use Rattle.log_reclaim.proofs.Reclaiming.{reclaims_number, reclaims_base, reclai
 -- steps that time a death are among more steps
 pub times_first : (made more : List Step) (dead : ℕ) → TimesDeath made dead → TimesDeath (made ++ more) dead
 times_first made more dead t =
-    record { step = t.step; there = Contains-append_left made more t.step t.there; kind = t.kind; clock = t.clock; word = t.word; found = t.found; dead_is = t.dead_is }
+    record {
+      step = t.step;
+      there = Contains-append_left made more t.step t.there;
+      kind = t.kind;
+      clock = t.clock;
+      word = t.word;
+      found = t.found;
+      dead_is = t.dead_is;
+    }
 
 pub times_then : (made more : List Step) (dead : ℕ) → TimesDeath more dead → TimesDeath (made ++ more) dead
 times_then made more dead t =
-    record { step = t.step; there = Contains-append_right made more t.step t.there; kind = t.kind; clock = t.clock; word = t.word; found = t.found; dead_is = t.dead_is }
+    record {
+      step = t.step;
+      there = Contains-append_right made more t.step t.there;
+      kind = t.kind;
+      clock = t.clock;
+      word = t.word;
+      found = t.found;
+      dead_is = t.dead_is;
+    }
 
 -- and so are those that find another seat's version in HEAD
 pub above_first : (c : Config) (own : ℕ) (made more : List Step) (n : Note) (seat : ℕ) → FindsAbove c own made n seat → FindsAbove c own (made ++ more) n seat
@@ -51,8 +67,14 @@ module _ (c : Config) (u w : View) (made more : List Step) (r : Reclaims u w mor
   module _ (mark : Watermark) (clock : ℕ) (n : Note) where
     tried_on : (above : Option ℕ) → TriedSo c u made mark clock n above → TriedSo c w (made ++ more) mark clock n above
     tried_on None t =
-        let base = reclaims_base u w more r in
-        (t.0, ⊎_elim inl (λ late. let later = latest-more u.base w.past.seen u.past.seen n.object r.seen in inr (subst (λ (b : ℕ). n.time < latest b w.past.seen n.object) (sym base) (omega arith))) t.1)
+        let base = reclaims_base u w more r in (
+          t.0,
+          ⊎_elim inl
+              (λ late.
+              let later = latest-more u.base w.past.seen u.past.seen n.object r.seen in
+              inr (subst (λ (b : ℕ). n.time < latest b w.past.seen n.object) (sym base) (omega arith)))
+              t.1,
+        )
     tried_on (Some seat) a =
         subst (λ (own : ℕ). FindsAbove c own (made ++ more) n seat) (sym (reclaims_number u w more r)) (above_first c u.number made more n seat a)
 

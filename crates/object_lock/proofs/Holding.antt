@@ -1,5 +1,5 @@
 -- The parts of a lock, from the build on: what each leaves, and how the outcome of one is that of all.
-use Rattle.std.proofs.Common.{◌≡◌, ◌≢◌, ℕ, ◌+◌, ◌-◌, ◌<◌, true, [], ◌∷◌, ◌++◌, length, map, drop, refl, sym, ap, ◌∙◌, subst, append-nil, length-append, inl, arith, Option, Some, None}
+use Rattle.std.proofs.Common.{◌≡◌, ◌≢◌, ℕ, ◌+◌, ◌-◌, ◌<◌, true, [], ◌∷◌, ◌++◌, length, map, drop, refl, sym, ap, ◌∙◌, subst, append-nil, inl, arith, Some, None}
 use Rattle.std.proofs.lemmas.List.Elements.{All-nil, All-cons}
 use Rattle.mv_history.specs.declared.Step.{Step}
 use Rattle.mv_history.specs.declared.StepKind.TheVariants.{LockHead}
@@ -172,13 +172,23 @@ module _ (c : Config) (v w : View) (n : ℕ) (b : BuildsBy v w n) where
 
   pub built_carries : KeepsOwn c v w → Carries c v w
   built_carries own =
-      record { number = ap (λ (u : View). u.number) b.rest; start = ap (λ (u : View). u.start) b.rest; seen = ap (λ (u : View). u.past.seen) b.rest; phase = ap (λ (u : View). u.phase) b.rest; own = own }
+      record {
+        number = ap (λ (u : View). u.number) b.rest;
+        start = ap (λ (u : View). u.start) b.rest;
+        seen = ap (λ (u : View). u.past.seen) b.rest;
+        phase = ap (λ (u : View). u.phase) b.rest;
+        own = own;
+      }
 
   pub built_tries : (before after : ℕ) → after ≡ before + n → Tries v w before after
   built_tries before after e =
       let s = b.steps in
       let long = s.2 in
-      record { seen = ([], ap (λ (u : View). u.past.seen) b.rest ∙ sym (append-nil v.past.seen)); trail = (s.0, s.1, (omega arith), s.3); rest = ap (rest_of w) b.rest }
+      record {
+        seen = ([], ap (λ (u : View). u.past.seen) b.rest ∙ sym (append-nil v.past.seen));
+        trail = (s.0, s.1, (omega arith), s.3);
+        rest = ap (rest_of w) b.rest;
+      }
 
   pub built_walk : w.walk ≡ v.walk
   built_walk = ap (λ (u : View). u.walk) b.rest

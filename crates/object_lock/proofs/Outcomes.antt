@@ -39,7 +39,12 @@ tries_on u v w first second third a b =
 module _ (c : Config) (v x : View) (object link found : ℕ) (may : MayWalk v) (first : CameFirst c v object link) (looked : Looked c v x found) where
   abbrev of_first : Step
   of_first =
-      record { kind = LoadFirst; word = place_of c (First (link_seat_of (stand_in v).link) (slot_named c (stand_in v).link)); found = Some looked.first; stored = None }
+      record {
+        kind = LoadFirst;
+        word = place_of c (First (link_seat_of (stand_in v).link) (slot_named c (stand_in v).link));
+        found = Some looked.first;
+        stored = None;
+      }
 
   abbrev of_stamp : Step
   of_stamp =

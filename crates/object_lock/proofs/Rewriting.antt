@@ -125,7 +125,12 @@ module _ (c : Config) (v w x : View) (l m k : Noted) (object position n value : 
             ∙ ap (λ j. record l { live = at_place (with_words words j) at.place l.live }) (sym next);
         stores = record {
           rest = ap (λ (u : View). record u { ring = x.ring; trail = x.trail }) stored ∙ ap (λ (u : View). record u { ring = x.ring; trail = x.trail }) b.rest;
-          trail = (r.0 ++ told_one ∷ [], ap (λ (u : View). u.trail) stored ∙ ap (λ (ts : List Step). ts ++ told_one ∷ []) r.1 ∙ append_assoc v.trail r.0 (told_one ∷ []), (omega arith), All-push (λ (z : Step). z.kind ≡ StoreData) r.0 told_one r.3 refl);
+          trail = (
+            r.0 ++ told_one ∷ [],
+            ap (λ (u : View). u.trail) stored ∙ ap (λ (ts : List Step). ts ++ told_one ∷ []) r.1 ∙ append_assoc v.trail r.0 (told_one ∷ []),
+            (omega arith),
+            All-push (λ (z : Step). z.kind ≡ StoreData) r.0 told_one r.3 refl,
+          );
         };
       }
 

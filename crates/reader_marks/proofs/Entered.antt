@@ -1,5 +1,5 @@
 -- The views that the steps of an `enter` leave.
-use Rattle.std.proofs.Common.{◌≡◌, ℕ, ◌+◌, List, [], ◌∷◌, ◌++◌, length, take, sym, refl, ap, ◌∙◌, subst, ⊎_elim, append-nil, append_assoc, length-append, arith, Option, Some, None, unwrap_or}
+use Rattle.std.proofs.Common.{◌≡◌, ℕ, ◌+◌, List, [], ◌∷◌, ◌++◌, length, take, sym, refl, ap, ◌∙◌, subst, append-nil, append_assoc, length-append, arith, Option, Some, None, unwrap_or}
 use Rattle.std.proofs.Math.Seq.{take-append_seam}
 use Rattle.std.proofs.lemmas.List.Elements.{All-nil, All-cons, All-append, All-weaker}
 use Rattle.mv_history.specs.declared.Entry.{Entry}
@@ -12,11 +12,11 @@ use Rattle.mv_core.specs.declared.view.View.{View}
 use Rattle.mv_core.specs.declared.view.Past.{Past}
 use Rattle.mv_core.specs.declared.view.Phase.TheVariants.{Inside}
 use Rattle.mv_core.specs.declared.view.Section.{Section}
-use Rattle.mv_core.specs.declared.view.Mode.TheVariants.{Open, Named}
+use Rattle.mv_core.specs.declared.view.Mode.TheVariants.{Open}
 use Rattle.mv_core.specs.Rings.{HoldsNothing}
 use Rattle.mv_core.specs.HistoryFacts.{BeginsWith}
 use Rattle.mv_core.specs.EnterSteps.{IsWhole, low_loaded, mark_stored, time_loaded}
-use Rattle.commit_clock.specs.Helps.{IsHelpStep, StampsOwn, Helps, FindsClock}
+use Rattle.commit_clock.specs.Helps.{IsHelpStep, Helps, FindsClock}
 use Rattle.commit_clock.proofs.HelpedPhase.{still_open}
 use Rattle.reader_marks.specs.Sections.{IsEnterStep, EntersBy, Begins}
 

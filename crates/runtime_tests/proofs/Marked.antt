@@ -1,5 +1,5 @@
 -- Where the parts of an `enter` leave a client, and the watermarks that it finds.
-use Rattle.std.proofs.Common.{◌≡◌, ℕ, zero, suc, ◌+◌, ◌==◌, ◌≤◌, Bool, true, false, cond, List, [], ◌∷◌, ◌++◌, refl, sym, ap, ◌∙◌, subst, ⊎_elim, eq-eqb, Some, None}
+use Rattle.std.proofs.Common.{◌≡◌, ℕ, zero, suc, ◌+◌, ◌==◌, ◌≤◌, Bool, true, false, cond, List, [], ◌∷◌, ◌++◌, refl, sym, ap, ◌∙◌, subst, eq-eqb, Some, None}
 use Rattle.std.specs.Prelude.{Contains}
 use Rattle.std.proofs.lemmas.List.Elements.{All-nil, All-cons, All-append, Contains-push}
 use Rattle.mv_history.specs.declared.Entry.{Entry}
@@ -11,9 +11,8 @@ use Rattle.mv_layout.specs.Places.{place_of}
 use Rattle.mv_layout.specs.Words.{clock_time_of, clock_slot_of}
 use Rattle.mv_core.specs.declared.view.View.{View}
 use Rattle.mv_core.specs.declared.view.Past.{Past}
-use Rattle.mv_core.specs.declared.view.Phase.TheVariants.{Lowered, Inside}
-use Rattle.mv_core.specs.declared.view.Section.{Section}
-use Rattle.mv_core.specs.declared.view.Mode.TheVariants.{Open, Named}
+use Rattle.mv_core.specs.declared.view.Phase.TheVariants.{Lowered}
+use Rattle.mv_core.specs.declared.view.Mode.TheVariants.{Open}
 use Rattle.mv_core.specs.Views.{low_of}
 use Rattle.mv_core.specs.SectionFacts.{IsWord}
 use Rattle.mv_core.specs.EnterSteps.{low_loaded, mark_stored, time_loaded}

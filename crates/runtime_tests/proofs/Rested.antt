@@ -10,7 +10,6 @@ use Rattle.mv_layout.specs.Places.{place_of}
 use Rattle.mv_layout.specs.Words.{clock_time_of}
 use Rattle.mv_core.specs.declared.view.View.{View}
 use Rattle.mv_core.specs.declared.view.Past.{Past}
-use Rattle.mv_core.specs.declared.view.Phase.TheVariants.{Outside}
 use Rattle.mv_core.specs.EnterSteps.{check_loaded}
 use Rattle.mv_core.specs.NameSteps.{MayNameRest}
 use Rattle.commit_clock.specs.Helps.{HasLoaded, IsHelpStep, Helps}

@@ -1,16 +1,14 @@
 -- The own log after an abort: each held version was taken out of its chain, and then the clock was loaded for their time of death.
-use Rattle.std.proofs.Common.{◌≡◌, ◌≢◌, ◌⊎◌, ℕ, zero, suc, ◌+◌, ◌<◌, ◌==◌, if◌then◌else◌, Bool, true, false, cond, count_by, List, length, refl, sym, ap, ◌∙◌, ⊎_elim, arith, Option, Some, None}
+use Rattle.std.proofs.Common.{◌≡◌, ◌⊎◌, ℕ, zero, suc, ◌+◌, ◌==◌, if◌then◌else◌, Bool, true, false, cond, count_by, List, length, refl, sym, ap, ◌∙◌, ⊎_elim, arith, Option, Some, None}
 use Rattle.std.proofs.lemmas.List.{length-map}
 use mathlib.Core.Logic.{dite}
 use native.Mathlib.Decide.{ℕ_discrete}
-use Rattle.mv_history.specs.declared.Commit.{Commit}
 use Rattle.mv_history.specs.declared.Entry.{Entry}
 use Rattle.mv_layout.specs.declared.Config.{Config}
 use Rattle.mv_layout.specs.Words.{clock_time_of}
 use Rattle.mv_core.specs.declared.ring.Slot.{Slot}
 use Rattle.mv_core.specs.declared.ring.Slot.TheVariants.{Free, Built, Live, Freeing}
 use Rattle.mv_core.specs.declared.ring.Version.{Version}
-use Rattle.mv_core.specs.declared.ring.Status.{Status}
 use Rattle.mv_core.specs.declared.ring.Status.TheVariants.{Held, Aborted, Committed}
 use Rattle.mv_core.specs.declared.ring.CommitNote.{CommitNote}
 use Rattle.mv_core.specs.declared.view.View.{View}
@@ -23,11 +21,10 @@ use Rattle.mv_core.proofs.Taking.{holds_none}
 use Rattle.mv_core.proofs.DeathNotes.{note_cut, note_uncut}
 use Rattle.seat_log.specs.declared.version.Note.{Note}
 use Rattle.seat_log.specs.Notes.{Noted, next_of, aborted_noted}
-use Rattle.seat_log.specs.Stands.{death_of, IsAsNoted, is_cut, is_free, is_won_cut, writes_in, Stands}
+use Rattle.seat_log.specs.Stands.{death_of, is_cut, is_free, is_won_cut, writes_in, Stands}
 use Rattle.seat_log.proofs.BuildsOn.{unpassed}
 use Rattle.seat_log.proofs.SlotCounts.{count_alike, unlived}
 use Rattle.seat_log.proofs.NotedSlots.{noted_in}
-use Rattle.seat_log.proofs.Places.{length-from_place}
 use Rattle.seat_log.proofs.Noting.{aborted_is_log, abort_counts}
 use Rattle.seat_log.proofs.Ended.{HasEnded, stands_ended}
 
@@ -123,8 +120,11 @@ abort_ends c v u l word h s e nothing =
             λ n time dead. (refl, time, (omega arith), refl),
           ))
           (e.each k);
-      kept = λ k x st is unheld.
-          (st, slot_mapped (timed d) refl u.ring k ∙ ap (timed d) (unlocked_else v u e k (Live x st) is unheld) ∙ unwaiting c v l d s k (Live x st) is, λ n a. a);
+      kept = λ k x st is unheld. (
+        st,
+        slot_mapped (timed d) refl u.ring k ∙ ap (timed d) (unlocked_else v u e k (Live x st) is unheld) ∙ unwaiting c v l d s k (Live x st) is,
+        λ n a. a,
+      );
       others = λ k z is none. slot_mapped (timed d) refl u.ring k ∙ ap (timed d) (unlocked_else v u e k z is (unlived z none)) ∙ unwaiting c v l d s k z is;
       frees = unpassed is_free u.trail _ refl ∙ e.frees;
       backs = unpassed is_won_cut u.trail _ refl ∙ e.backs;

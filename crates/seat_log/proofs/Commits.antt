@@ -1,5 +1,5 @@
 -- The own log after a commit was named: its held write set has ended.
-use Rattle.std.proofs.Common.{◌≡◌, ◌≢◌, ◌⊎◌, ℕ, ◌+◌, ◌<◌, ◌==◌, Bool, true, false, count_by, List, [], ◌∷◌, ◌++◌, length, map, refl, sym, ap, ◌∙◌, subst, ⊎_elim, arith, length-append, Option, None}
+use Rattle.std.proofs.Common.{◌≡◌, ◌⊎◌, ℕ, ◌+◌, ◌<◌, ◌==◌, Bool, true, false, count_by, List, [], ◌∷◌, ◌++◌, length, map, refl, sym, ap, ◌∙◌, subst, ⊎_elim, arith, length-append, Option, None}
 use Rattle.std.proofs.lemmas.List.{length-map}
 use Rattle.std.proofs.lemmas.List.Sums.{sum_by-cons, sum_by-append}
 use Rattle.mv_history.specs.declared.Commit.{Commit}
@@ -20,12 +20,11 @@ use Rattle.mv_core.proofs.Links.{live_once}
 use Rattle.mv_core.proofs.Slots.{slot_mapped}
 use Rattle.mv_core.proofs.Counts.{one_if, count_mapped}
 use Rattle.seat_log.specs.declared.version.Note.{Note}
-use Rattle.seat_log.specs.Notes.{Noted, next_of, committed_noted}
+use Rattle.seat_log.specs.Notes.{Noted, committed_noted}
 use Rattle.seat_log.specs.Stands.{death_of, IsAsNoted, is_cut, is_free, is_won_cut, writes_in, Stands}
 use Rattle.seat_log.proofs.BuildsOn.{unpassed}
 use Rattle.seat_log.proofs.SlotCounts.{count_alike, unlived}
 use Rattle.seat_log.proofs.Noting.{committed_is_log}
-use Rattle.seat_log.proofs.Places.{length-from_place}
 use Rattle.seat_log.proofs.Ended.{HasEnded, stands_ended}
 
 -- a committed slot is as spare and as cut as it was

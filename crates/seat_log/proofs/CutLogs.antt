@@ -1,11 +1,10 @@
 -- The log stands for the pass after a write-back: its exchange was tried, where it was won the clock was loaded for the time of death, and the
 -- section was left.
-use Rattle.std.proofs.Common.{◌≡◌, ℕ, suc, ◌+◌, ◌-◌, ◌<◌, ◌≤◌, Bool, true, false, cond, count_by, List, [], ◌∷◌, ◌++◌, length, map, refl, sym, ap, ◌∙◌, arith, Some, None, slice_index_or}
+use Rattle.std.proofs.Common.{◌≡◌, ℕ, suc, ◌+◌, ◌-◌, ◌<◌, ◌≤◌, Bool, true, false, count_by, List, [], ◌∷◌, length, map, refl, sym, ap, ◌∙◌, arith, Some, None, slice_index_or}
 use Rattle.std.specs.Prelude.{slice_set}
 use Rattle.std.proofs.lemmas.List.{length-set, map-set}
-use Rattle.std.proofs.lemmas.List.Sums.{sum_by-cons, sum_by-append}
+use Rattle.std.proofs.lemmas.List.Sums.{sum_by-cons}
 use Rattle.mv_history.specs.declared.Entry.{Entry}
-use Rattle.mv_history.specs.declared.Step.{Step}
 use Rattle.mv_layout.specs.declared.Config.{Config}
 use Rattle.mv_layout.specs.Words.{clock_time_of}
 use Rattle.mv_core.specs.declared.ring.Ring.{Ring}
@@ -96,8 +95,13 @@ module _ (c : Config) (v : View) (l : Noted) (i : ℕ) (n : Note) (note : Commit
 
   -- once its chain was cut the version waits for its time of death
   pub waits_for_death : MayLoadDeath (head_cut c v n.object n.position (version_of n) note)
-  waits_for_death =
-      (index_of c n.position, version_of n, Committed (record note { cut = true }), slot_here v.ring (index_of c n.position) (Live (version_of n) (Committed (record note { cut = true }))) within, (refl, (no_death c v l i n k is_note note here alive).0))
+  waits_for_death = (
+    index_of c n.position,
+    version_of n,
+    Committed (record note { cut = true }),
+    slot_here v.ring (index_of c n.position) (Live (version_of n) (Committed (record note { cut = true }))) within,
+    (refl, (no_death c v l i n k is_note note here alive).0),
+  )
 
   module _ (word : ℕ) (h : List Entry) where
     -- the load of the clock times this version alone

@@ -1,5 +1,5 @@
 -- The log stands for the pass after its held write set has ended: committed, or aborted.
-use Rattle.std.proofs.Common.{◌≡◌, ◌≢◌, ℕ, ◌+◌, ◌<◌, ◌≤◌, nat_le, false, true, count_by, length, refl, sym, ap, ◌∙◌, subst, ⊎_elim, arith, None, slice_get}
+use Rattle.std.proofs.Common.{◌≡◌, ◌≢◌, ℕ, ◌+◌, ◌≤◌, nat_le, false, true, count_by, length, refl, sym, ap, ◌∙◌, subst, ⊎_elim, arith, None, slice_get}
 use Rattle.std.proofs.lemmas.Bool.{lt-leb}
 use Rattle.mv_layout.specs.declared.Config.{Config}
 use Rattle.mv_core.specs.declared.ring.Slot.{Slot}

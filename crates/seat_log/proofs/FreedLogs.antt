@@ -1,5 +1,5 @@
 -- The log stands for the pass after its oldest write set was freed.
-use Rattle.std.proofs.Common.{◌≡◌, ◌≢◌, ℕ, zero, suc, ◌+◌, ◌-◌, ◌<◌, ◌≤◌, nat_le, Bool, true, false, List, [], ◌∷◌, length, drop, refl, sym, ap, ◌∙◌, subst, ⊎_elim, arith, le-leb, length-drop, Option, Some, None, slice_get}
+use Rattle.std.proofs.Common.{◌≡◌, ◌≢◌, ℕ, zero, suc, ◌+◌, ◌-◌, ◌<◌, ◌≤◌, nat_le, Bool, length, refl, sym, ap, ◌∙◌, subst, ⊎_elim, arith, le-leb, length-drop, Option, Some, None}
 use Rattle.std.proofs.lemmas.Bool.{cases_lt, cases_eq, lt-leb}
 use Rattle.std.specs.Prelude.{IfSome}
 use Rattle.mv_layout.specs.declared.Config.{Config}
@@ -233,7 +233,11 @@ module _ (c : Config) (v : View) (l : Noted) (k t : ℕ) (s : Stands c v l) (set
                 let old = s.live (k + i) n is' in
                 let place : index_of c (m.freed + i) ≡ at (k + i) = ap (index_of c) (let a : l.freed + k + i ≡ l.freed + (k + i) = omega arith in a) in
                 let flag : nat_le (held_from l) (k + i) ≡ nat_le (held_from m) i = le_shift (held_from m) (held_from l) i k (omega arith) in
-                record { status = old.status; lives = ap (slot_at w.ring) place ∙ still_lives i lt ∙ old.lives; as_noted = subst (λ (b : Bool). IsAsNoted b n old.status) flag old.as_noted };
+                record {
+                  status = old.status;
+                  lives = ap (slot_at w.ring) place ∙ still_lives i lt ∙ old.lives;
+                  as_noted = subst (λ (b : Bool). IsAsNoted b n old.status) flag old.as_noted;
+                };
             all = λ u x st is.
                 let b = unchanged u (Live x st) is (λ g. absurd (cc)) in
                 let r = noted_in c v l s u x st b.0 in

@@ -1,5 +1,5 @@
 -- What is in the slots of the own log while its oldest write set is freed, slot by slot.
-use Rattle.std.proofs.Common.{◌≡◌, ◌≢◌, ◌⊎◌, ℕ, suc, ◌+◌, ◌<◌, ◌≤◌, ◌==◌, nat_le, Bool, true, false, cond, count_by, List, [], ◌∷◌, ◌++◌, length, map, refl, sym, ap, ◌∙◌, subst, arith, eq-eqb, ne_eqb, slice_index_or}
+use Rattle.std.proofs.Common.{◌≡◌, ◌≢◌, ◌⊎◌, ℕ, suc, ◌+◌, ◌<◌, ◌≤◌, ◌==◌, Bool, true, false, cond, count_by, List, [], ◌∷◌, ◌++◌, length, map, refl, sym, ap, ◌∙◌, arith, eq-eqb, ne_eqb, slice_index_or}
 use Rattle.std.proofs.lemmas.List.Sums.{sum_by-cons, sum_by-append}
 use Rattle.mv_history.specs.declared.Step.{Step}
 use Rattle.mv_layout.specs.declared.Config.{Config}
@@ -12,12 +12,8 @@ use Rattle.mv_core.specs.declared.ring.Status.TheVariants.{Held, Aborted, Commit
 use Rattle.mv_core.specs.declared.view.View.{View}
 use Rattle.mv_core.specs.Rings.{slot_at, index_of, held_count, is_spare, spare_count}
 use Rattle.mv_core.specs.ReclaimSteps.{freeing_slot}
-use Rattle.mv_core.proofs.Links.{live_once}
 use Rattle.mv_core.proofs.Counts.{one_if}
-use Rattle.seat_log.specs.declared.version.Note.{Note}
-use Rattle.seat_log.specs.Notes.{Noted, held_from, IsNoteAt}
-use Rattle.seat_log.specs.Stands.{version_of, IsAsNoted, HasNoted, is_cut, cut_count, is_free, is_won_cut, Stands}
-use Rattle.seat_log.specs.Frees.{IsOldestSet}
+use Rattle.seat_log.specs.Stands.{is_cut, cut_count, is_free, is_won_cut}
 
 -- a step that passes a test
 pub passed : (test : Step → Bool) (steps : List Step) (s : Step) → test s ≡ true → count_by test (steps ++ s ∷ []) ≡ count_by test steps + 1

@@ -1,5 +1,5 @@
 -- The log stands for the pass after a word of the built version was stored again, and after one of a held version was.
-use Rattle.std.proofs.Common.{◌≡◌, ℕ, zero, suc, ◌+◌, ◌-◌, ◌<◌, ◌≤◌, List, [], ◌∷◌, length, map, refl, sym, ap, ◌∙◌, subst, arith, Option, Some, slice_get}
+use Rattle.std.proofs.Common.{◌≡◌, ℕ, zero, suc, ◌+◌, ◌-◌, ◌<◌, List, [], ◌∷◌, length, map, refl, sym, ap, ◌∙◌, subst, arith, Option, Some}
 use Rattle.std.specs.Prelude.{slice_set, unwrap_or}
 use Rattle.std.proofs.lemmas.List.{length-map, length-set}
 use Rattle.mv_layout.specs.declared.Config.{Config}

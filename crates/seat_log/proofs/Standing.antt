@@ -93,7 +93,11 @@ module _ (c : Config) (v w : View) (l : Noted) (position : ℕ) (b : Build) (k :
     held = on.counts is_held (spare_was is_held (λ a d. refl) refl) ∙ k.held;
     live = λ i n is.
         let a = k.live i n is in
-        record { status = a.status; lives = on.others (index_of c (l.freed + i)) (λ e. live_else c v l k i n is room (e ∙ slot_is)) ∙ a.lives; as_noted = a.as_noted };
+        record {
+          status = a.status;
+          lives = on.others (index_of c (l.freed + i)) (λ e. live_else c v l k i n is room (e ∙ slot_is)) ∙ a.lives;
+          as_noted = a.as_noted;
+        };
     all = λ j x st e. k.all j x st (was j (Live x st) (λ a f. let g : Built a ≡ Live x st = f in absurd (cc)) e);
     none_freeing = λ j p first e. k.none_freeing j p first (was j (Freeing p first) (λ a f. let g : Built a ≡ Freeing p first = f in absurd (cc)) e);
     builds = λ j a e.

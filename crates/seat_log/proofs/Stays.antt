@@ -95,7 +95,11 @@ module _ (c : Config) (v : View) (l : Noted) (n : Note) (inside : Section) (k : 
             let h = k.live i m a.1 in
             let ne : index_of c (l.freed + i) ≢ s = λ f. let g : Built o.0 ≡ Live (version_of m) h.status = sym here ∙ ap (slot_at v.ring) (sym f) ∙ h.lives in
             absurd (cc) in
-            record { status = h.status; lives = slot_else v.ring s (index_of c (l.freed + i)) z ne ∙ h.lives; as_noted = subst (λ j. IsAsNoted (nat_le j i) m h.status) (sym from) h.as_noted })
+            record {
+              status = h.status;
+              lives = slot_else v.ring s (index_of c (l.freed + i)) z ne ∙ h.lives;
+              as_noted = subst (λ j. IsAsNoted (nat_le j i) m h.status) (sym from) h.as_noted;
+            })
             (λ b.
             let there : l.freed + i ≡ n.position = ap (λ j. l.freed + j) b.0 ∙ sym is.0 in
             let flag : nat_le (held_from (held_noted l)) i ≡ true = le-leb (held_from (held_noted l)) i (let q = b.0 in omega arith) in

@@ -10,8 +10,18 @@ tell_one-requires g c κs within =
     let held = c.held.ensures.held in
     let all = c.live.ensures in
     let low = c.loop-index.auto.index in
-    let from : held_from c.args.log.now ≤ c.loop-index.index = omega arith in
-    (search rules, (search rules, (search rules, λ n at. may_tell (config_of c.args.shared.now) (view c.args.pass.now) c.args.log.now c.args.time c.requires.1.1.1.0 (view c.loop-index.pass) c.loop-index.index n at from c.loop-index.invariant.tells g.at.inside g.at.first c.requires.1.1.0)))
+    let from : held_from c.args.log.now ≤ c.loop-index.index = omega arith in (
+      search rules,
+      (
+        search rules,
+        (
+          search rules,
+          λ n at.
+              may_tell (config_of c.args.shared.now) (view c.args.pass.now) c.args.log.now c.args.time c.requires.1.1.1.0 (view c.loop-index.pass)
+              c.loop-index.index n at from c.loop-index.invariant.tells g.at.inside g.at.first c.requires.1.1.0,
+        ),
+      ),
+    )
 
 pub loop-index-preserved : goal.loop-index-preserved
 loop-index-preserved g c =

@@ -13,8 +13,18 @@ unlock_one-requires g c κs within =
     let low = c.loop-index.auto.index in
     let from : held_from c.args.log.now ≤ c.loop-index.index = omega arith in
     let objects : length (view c.args.pass.now).start ≡ (config_of c.args.shared.now).objects =
-    ap length c.requires.1.0.3 ∙ c.args.shared.now.opening ∙ ap (λ (d : Config). d.objects) (sym c.args.shared.now.about) in
-    (search rules, (search rules, (search rules, λ n at. may_give (config_of c.args.shared.now) (view c.args.pass.now) c.args.log.now g.inside c.requires.1.1.1.0 c.requires.1.1.0 (view c.loop-index.pass) c.loop-index.index n at from c.loop-index.invariant.unlocks _ _ c.args.pass.now.known objects)))
+    ap length c.requires.1.0.3 ∙ c.args.shared.now.opening ∙ ap (λ (d : Config). d.objects) (sym c.args.shared.now.about) in (
+      search rules,
+      (
+        search rules,
+        (
+          search rules,
+          λ n at.
+              may_give (config_of c.args.shared.now) (view c.args.pass.now) c.args.log.now g.inside c.requires.1.1.1.0 c.requires.1.1.0
+              (view c.loop-index.pass) c.loop-index.index n at from c.loop-index.invariant.unlocks _ _ c.args.pass.now.known objects,
+        ),
+      ),
+    )
 
 pub loop-index-preserved : goal.loop-index-preserved
 loop-index-preserved g c =

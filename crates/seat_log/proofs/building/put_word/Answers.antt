@@ -38,8 +38,17 @@ store_data-requires g c =
     let held : IsHeld c.args.log.now c.args.position =
     held_at c.args.log.now c.args.position c.log.inside.freed c.len.result c.requires.there
     (λ n b. (built_next c.args.log.now n b c.requires.stands.log).0) (omega arith) c.if-position-log.false in
-    λ lives in_lives.
-    (in_lives.0, (in_lives.1, (c.requires.of, may_word (config_of c.args.shared.now) (view c.args.pass.now) c.args.log.now c.args.position c.args.word c.args.value c.requires.stands held c.requires.open c.requires.range)))
+    λ lives in_lives. (
+      in_lives.0,
+      (
+        in_lives.1,
+        (
+          c.requires.of,
+          may_word (config_of c.args.shared.now) (view c.args.pass.now) c.args.log.now c.args.position c.args.word c.args.value c.requires.stands held
+              c.requires.open c.requires.range,
+        ),
+      ),
+    )
 
 module _ (g : _) (c : goal.After-log-2-1 g) where
   held : IsHeld c.args.log.now c.args.position

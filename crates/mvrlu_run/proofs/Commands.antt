@@ -1,5 +1,32 @@
 -- One command over a store whose seat alone commits.
-use Rattle.std.proofs.Common.{◌≡◌, ℕ, ◌+◌, ◌-◌, ◌<◌, ◌≤◌, ◌==◌, Bool, true, false, not, ◌&&◌, if◌then◌else◌, [], ◌∷◌, ◌++◌, length, map, take, Some, refl, sym, ap, ◌∙◌, arith, length-append}
+use Rattle.std.proofs.Common.{
+  ◌≡◌,
+  ℕ,
+  ◌+◌,
+  ◌-◌,
+  ◌<◌,
+  ◌≤◌,
+  ◌==◌,
+  Bool,
+  true,
+  false,
+  not,
+  ◌&&◌,
+  if◌then◌else◌,
+  [],
+  ◌∷◌,
+  ◌++◌,
+  length,
+  map,
+  take,
+  Some,
+  refl,
+  sym,
+  ap,
+  ◌∙◌,
+  arith,
+  length-append,
+}
 use Rattle.std.proofs.lemmas.List.{take_all, map-append}
 use Rattle.std.proofs.lemmas.Bool.Decides.{nat_tests}
 use Rattle.std.proofs.lemmas.Option.{slice_get_within}
@@ -36,7 +63,8 @@ use Rattle.mvrlu_run.specs.Ready.{state_now, IsReady, Runs}
 
 -- what the causes of the plain store mean
 abbrev pub plain : Causes
-plain = causes ⊥ ⊥ (λ old new. new.at ≡ length old.seen) (λ old new holder. ⊥) (λ old new object seat. ⊥) (λ old new time. time ≡ old.seat.base + length old.seat.seen)
+plain = causes ⊥ ⊥ (λ old new. new.at ≡ length old.seen) (λ old new holder. ⊥) (λ old new object seat. ⊥)
+    (λ old new time. time ≡ old.seat.base + length old.seat.seen)
 
 -- nobody else commits: all that the seat has seen is its own
 abbrev pub IsAlone : Seat → Type 0
@@ -109,7 +137,8 @@ tagged (Size name) s ws p = absurd p
 tagged (Next name key) s ws p = absurd p
 
 -- a command that may change something changes it where the reply is yes
-changes_by : (command : Command) (s : State) (ws : Writes) (c : Maps) → PlanOf command s ws → reply command c capacity false ≡ Yes → changes command c capacity false ≡ true
+changes_by : (command : Command) (s : State) (ws : Writes) (c : Maps) → PlanOf command s ws → reply command c capacity false ≡ Yes
+    → changes command c capacity false ≡ true
 changes_by (Add name key) s ws c p e = change_yes (applies (Add name key) c) (overflows (Add name key) c capacity) e
 changes_by (Put name key value) s ws c p e = change_yes (applies (Put name key value) c) (overflows (Put name key value) c capacity) e
 changes_by (Del name key) s ws c p e = change_yes (applies (Del name key) c) (overflows (Del name key) c capacity) e
@@ -121,12 +150,14 @@ changes_by (Size name) s ws c p e = absurd p
 changes_by (Next name key) s ws c p e = absurd p
 
 -- A command that changes something is the next commit.
-pub commits : (s t : Seat) (command : Command) (answer : Reply) (time : ℕ) → IsReady s → IsSeat IsOpening IsSetCommit t → IsAlone s → IsAlone t → IsDoneBy s t command answer time → Runs s t command (Commit time) answer
+pub commits : (s t : Seat) (command : Command) (answer : Reply) (time : ℕ) → IsReady s → IsSeat IsOpening IsSetCommit t → IsAlone s → IsAlone t
+    → IsDoneBy s t command answer time → Runs s t command (Commit time) answer
 commits s t command answer time r seat alone alone' done =
     let c = done.continues in
     let r' = ready_after s t r c in
     let entry = Change done.commit in
-    let seen : t.seen ≡ s.seen ++ entry ∷ [] = alone' ∙ ap (λ cs. map (λ d. Change d) cs) done.mine ∙ map-append (λ d. Change d) s.mine (done.commit ∷ []) ∙ ap (λ es. es ++ entry ∷ []) (sym alone) in
+    let seen : t.seen ≡ s.seen ++ entry ∷ [] = alone' ∙ ap (λ cs. map (λ d. Change d) cs) done.mine ∙ map-append (λ d. Change d) s.mine (done.commit ∷ [])
+    ∙ ap (λ es. es ++ entry ∷ []) (sym alone) in
     let long : length t.seen ≡ length s.seen + 1 = ap length seen ∙ length-append s.seen (entry ∷ []) in
     let within = slice_get_within t.seen (time - (t.base + 1)) entry done.entry.there in
     let is : time ≡ length s.seen + 1 = omega (arith, within, long, done.later, r.base, r'.base) in
@@ -151,7 +182,8 @@ abbrev pub AttemptedAlone : Seat → Seat → Command → Attempt → Type 0
 AttemptedAlone s t command attempt = Attempted plain s t command attempt
 
 -- A command ran at the place that its attempt names.
-pub runs : (s t : Seat) (command : Command) (answer : Reply) (place : Place) → IsReady s → length s.seen < ROOM → IsSeat IsOpening IsSetCommit t → IsAlone s → IsAlone t → AttemptedAlone s t command (Done answer place) → Runs s t command place answer
+pub runs : (s t : Seat) (command : Command) (answer : Reply) (place : Place) → IsReady s → length s.seen < ROOM → IsSeat IsOpening IsSetCommit t → IsAlone s
+    → IsAlone t → AttemptedAlone s t command (Done answer place) → Runs s t command place answer
 runs s t command answer (Commit time) r early seat alone alone' done = commits s t command answer time r seat alone alone' done
 runs s t command answer (Read time) r early seat alone alone' read = reads s t command answer time r early alone alone' read
 

@@ -1,5 +1,29 @@
 -- Bytes that are written and read in parts.
-use Rattle.std.proofs.Common.{◌≡◌, ◌≤◌, ◌+◌, ◌-◌, ℕ, List, [], ◌++◌, length, take, drop, Option, None, Some, refl, sym, ap, ◌∙◌, arith, append_assoc, length-drop, length-take, length-append}
+use Rattle.std.proofs.Common.{
+  ◌≡◌,
+  ◌≤◌,
+  ◌+◌,
+  ◌-◌,
+  ℕ,
+  List,
+  [],
+  ◌++◌,
+  length,
+  take,
+  drop,
+  Option,
+  None,
+  Some,
+  refl,
+  sym,
+  ap,
+  ◌∙◌,
+  arith,
+  append_assoc,
+  length-drop,
+  length-take,
+  length-append,
+}
 use Rattle.std.specs.Io.KnownBytes.{Appends, Consumes, IsAtEnd}
 use Rattle.std.proofs.lemmas.List.{append-nil, take_all, take-append-le}
 use Rattle.std.proofs.Math.Seq.{take-add, take-append-add}
@@ -27,7 +51,8 @@ left_at_first None name left h = tt
 left_at_first (Some texts) name None h = absurd h
 left_at_first (Some texts) name (Some left) h = h
 
-pub left_more : (t : Option Texts) (name got bs : List ℕ) (left next : Option (List ℕ)) → LeftOf t name got left → Consumes left next bs → LeftOf t name (got ++ bs) next
+pub left_more : (t : Option Texts) (name got bs : List ℕ) (left next : Option (List ℕ)) → LeftOf t name got left → Consumes left next bs
+    → LeftOf t name (got ++ bs) next
 left_more None name got bs left next h k = tt
 left_more (Some texts) name got bs None next h k = absurd h
 left_more (Some texts) name got bs (Some left) None h k = absurd k
@@ -38,7 +63,8 @@ left_end None name got left h e = tt
 left_end (Some texts) name got None h e = absurd h
 left_end (Some texts) name got (Some left) h e = (got, h ∙ ap Some (ap (λ z. got ++ z) e ∙ append-nil got), refl)
 
-pub left_some : (t : Option Texts) (name got : List ℕ) (left : Option (List ℕ)) → LeftOf t name got left → Says t name (λ text. (rest : List ℕ) × (text ≡ got ++ rest))
+pub left_some : (t : Option Texts) (name got : List ℕ) (left : Option (List ℕ)) → LeftOf t name got left
+    → Says t name (λ text. (rest : List ℕ) × (text ≡ got ++ rest))
 left_some None name got left h = tt
 left_some (Some texts) name got None h = absurd h
 left_some (Some texts) name got (Some left) h = (got ++ left, h, (left, refl))
@@ -50,7 +76,8 @@ says_map (Some texts) name P Q f h = (h.0, h.1, f h.0 h.2)
 pub part_is : (bytes : List ℕ) (s n : ℕ) → take n (take (length bytes - s) (drop s bytes)) ≡ take n (drop s bytes)
 part_is bytes s n = ap (take n) (take_all (length bytes - s) (drop s bytes) (omega (arith, length-drop s bytes)))
 
-pub sent_more : (a b c : Option (List ℕ)) (bytes : List ℕ) (s n : ℕ) → Appends a b (take s bytes) → Appends b c (take n (take (length bytes - s) (drop s bytes))) → Appends a c (take (s + n) bytes)
+pub sent_more : (a b c : Option (List ℕ)) (bytes : List ℕ) (s n : ℕ) → Appends a b (take s bytes)
+    → Appends b c (take n (take (length bytes - s) (drop s bytes))) → Appends a c (take (s + n) bytes)
 sent_more a b c bytes s n p q =
     let q2 : Appends b c (take n (drop s bytes)) = rw part_is at q in
     rw (take-add s n bytes) (grows_more a b c (take s bytes) (take n (drop s bytes)) p q2)

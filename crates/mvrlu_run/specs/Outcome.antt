@@ -24,7 +24,8 @@ pub record Outside : Type 0 where
 
 -- files and output at one moment, from what their types say
 abbrev pub outside : {F O : Type 0} → (F → Option Texts) → (F → Bool) → (F → ℕ) → F → (O → Option (List ℕ)) → (O → ℕ) → O → Outside
-outside texts steady file_faults files written out_faults out = record { texts = texts files; steady = steady files; file_faults = file_faults files; out = written out; out_faults = out_faults out }
+outside texts steady file_faults files written out_faults out =
+    record { texts = texts files; steady = steady files; file_faults = file_faults files; out = written out; out_faults = out_faults out }
 
 -- the text of a run of the script was written, whole
 abbrev pub Writes : Outside → Outside → List ℕ → Type 0
@@ -74,8 +75,10 @@ pub record IsGiven (words : List (List ℕ)) (old : Outside) (script : List ℕ)
 -- What a call is sure to answer where the text of the FILE is told and no call of the files failed, but for want of memory.
 pub record IsComplete (words : List (List ℕ)) (old new : Outside) (status : ℕ) : Type 0 where
   -- a script is run, and its text is written where no write failed
-  pub script : (bytes : List ℕ) (commands : List Command) → IsGiven words old bytes → length bytes ≤ MOST_BYTES → parsed bytes ≡ Ok commands → ¬ Rose old.file_faults new.file_faults → ¬ Rose old.out_faults new.out_faults → (status ≡ 0) ⊎ (status ≡ 7)
+  pub script : (bytes : List ℕ) (commands : List Command) → IsGiven words old bytes → length bytes ≤ MOST_BYTES → parsed bytes ≡ Ok commands
+      → ¬ Rose old.file_faults new.file_faults → ¬ Rose old.out_faults new.out_faults → (status ≡ 0) ⊎ (status ≡ 7)
   -- the first faulty line is answered
-  pub fault : (bytes : List ℕ) (line : ℕ) (kind : FaultKind) → IsGiven words old bytes → IsRefused bytes line kind → ¬ Rose old.file_faults new.file_faults → (status ≡ fault_status kind) ⊎ (status ≡ 7)
+  pub fault : (bytes : List ℕ) (line : ℕ) (kind : FaultKind) → IsGiven words old bytes → IsRefused bytes line kind → ¬ Rose old.file_faults new.file_faults
+      → (status ≡ fault_status kind) ⊎ (status ≡ 7)
   -- one byte too many is answered
   pub bytes : (bytes : List ℕ) → IsGiven words old bytes → MOST_BYTES < length bytes → ¬ Rose old.file_faults new.file_faults → (status ≡ 4) ⊎ (status ≡ 7)

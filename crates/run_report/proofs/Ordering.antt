@@ -28,7 +28,8 @@ later_not_ahead a b later = later_key (time_of b.place) (rank_of b.place) b.seat
 
 -- nor is a read that no time, seat or number is above
 pub read_not_ahead : (a b : Line) (time : ℕ) → b.place ≡ Read time → time_of a.place ≤ time → a.seat ≤ b.seat → a.number ≤ b.number → is_ahead b a ≡ false
-read_not_ahead a b time is_read times seats numbers = rw is_read (no_lower_key time 1 b.seat b.number (time_of a.place) (rank_of a.place) a.seat a.number times (rank_low a.place) seats numbers)
+read_not_ahead a b time is_read times seats numbers =
+    rw is_read (no_lower_key time 1 b.seat b.number (time_of a.place) (rank_of a.place) a.seat a.number times (rank_low a.place) seats numbers)
 
 -- lines in order stay so where a line comes at their end that is ahead of none
 pub ordered_push : (lines : List Line) (line : Line) → IsOrdered lines → All (λ a. is_ahead line a ≡ false) lines → IsOrdered (lines ++ line ∷ [])

@@ -9,9 +9,12 @@ use Rattle.run_report.specs.Legal.{EachPair}
 
 -- lines in another order
 pub pairs_permuted : (R : Line → Line → Type 0) (lines others : List Line) → IsPermutation lines others → EachPair R lines → EachPair R others
-pairs_permuted R lines others same pairs = All-permutation (λ a. All (R a) others) lines others same (λ k d lt. All-permutation (R _) lines others same (pairs k d lt))
+pairs_permuted R lines others same pairs =
+    All-permutation (λ a. All (R a) others) lines others same (λ k d lt. All-permutation (R _) lines others same (pairs k d lt))
 
 -- a line more
-pub pairs_push : (R : Line → Line → Type 0) (lines : List Line) (line : Line) → EachPair R lines → All (λ a. R a line) lines → All (R line) lines → R line line → EachPair R (lines ++ line ∷ [])
+pub pairs_push : (R : Line → Line → Type 0) (lines : List Line) (line : Line) → EachPair R lines → All (λ a. R a line) lines → All (R line) lines
+    → R line line → EachPair R (lines ++ line ∷ [])
 pairs_push R lines line pairs before after itself =
-    All-push (λ a. All (R a) (lines ++ line ∷ [])) lines line (λ k d lt. All-push (R _) lines line (pairs k d lt) (before k d lt)) (All-push (R line) lines line after itself)
+    All-push (λ a. All (R a) (lines ++ line ∷ [])) lines line (λ k d lt. All-push (R _) lines line (pairs k d lt) (before k d lt))
+    (All-push (R line) lines line after itself)

@@ -1,5 +1,30 @@
 -- Legal runs: their lines in any order, and the run of one script, told line by line.
-use Rattle.std.proofs.Common.{◌≡◌, ℕ, suc, ◌+◌, ◌<◌, ◌≤◌, ◌==◌, true, false, IsTrue, List, [], ◌∷◌, ◌++◌, length, take, map, Some, refl, sym, ◌∙◌, ap, add-one, arith}
+use Rattle.std.proofs.Common.{
+  ◌≡◌,
+  ℕ,
+  suc,
+  ◌+◌,
+  ◌<◌,
+  ◌≤◌,
+  ◌==◌,
+  true,
+  false,
+  IsTrue,
+  List,
+  [],
+  ◌∷◌,
+  ◌++◌,
+  length,
+  take,
+  map,
+  Some,
+  refl,
+  sym,
+  ◌∙◌,
+  ap,
+  add-one,
+  arith,
+}
 use Rattle.std.specs.List.{All, slice_get}
 use Rattle.std.specs.List.Sorted.{IsPermutation}
 use Rattle.std.proofs.lemmas.List.{append-nil, map-append, take_more, take_all, length-take-le}
@@ -66,20 +91,24 @@ follows_earlier : (early late : ℕ) (place : Place) → early ≤ late → Foll
 follows_earlier early late (Commit time) le f = omega arith
 follows_earlier early late (Read time) le f = omega arith
 
-ids_push : (commands : List Command) (seat number next : ℕ) (command : Command) → next ≡ number + length commands → ids_from seat number (commands ++ command ∷ []) ≡ ids_from seat number commands ++ (seat, next) ∷ []
+ids_push : (commands : List Command) (seat number next : ℕ) (command : Command) → next ≡ number + length commands
+    → ids_from seat number (commands ++ command ∷ []) ≡ ids_from seat number commands ++ (seat, next) ∷ []
 ids_push [] seat number next command is =
     let same : number ≡ next = omega (arith, is) in
     rw same refl
-ids_push (first ∷ commands) seat number next command is = ap (λ (ms : List (ℕ × ℕ)). (seat, number) ∷ ms) (ids_push commands seat (suc number) next command (omega (arith, is)))
+ids_push (first ∷ commands) seat number next command is =
+    ap (λ (ms : List (ℕ × ℕ)). (seat, number) ∷ ms) (ids_push commands seat (suc number) next command (omega (arith, is)))
 
 -- the next command has its line
 module _ (script : List Command) (base capacity done : ℕ) (lines : List Line) (time : ℕ) (c : Maps) (line : Line) (command : Command)
-    (told : IsTold script base capacity done lines time c) (is : slice_get script done ≡ Some command) (seat : line.seat ≡ 0) (number : line.number ≡ done + 1) where
+    (told : IsTold script base capacity done lines time c) (is : slice_get script done ≡ Some command) (seat : line.seat ≡ 0)
+    (number : line.number ≡ done + 1) where
   ids_more : map id_of (lines ++ line ∷ []) ≡ ids_from 0 1 (take (done + 1) script)
   ids_more =
       let within : done < length script = slice_get_within script done command is in
       let id : id_of line ≡ (0, done + 1) = rw (seat, number) refl in
-      map-append id_of lines (line ∷ []) ∙ rw (told.ids, id, take_more script done command within) (sym (ids_push (take done script) 0 1 (done + 1) _ (rw (length-take-le done script (omega arith)) (omega arith))))
+      map-append id_of lines (line ∷ []) ∙ rw (told.ids, id, take_more script done command within)
+      (sym (ids_push (take done script) 0 1 (done + 1) _ (rw (length-take-le done script (omega arith)) (omega arith))))
 
   command_is : command_of (script ∷ []) line ≡ Some command
   command_is = rw (seat, number, add-one done) is
@@ -95,7 +124,8 @@ module _ (script : List Command) (base capacity done : ℕ) (lines : List Line) 
       record {
         ids = ids_more;
         from = let low : base ≤ time = told.from in omega arith;
-        earlier = All-push (IsEarlier (done + 1) now) lines line (of_each (IsEarlier (done + 1) now) (λ a e. (e.0, omega (arith, e.1), omega (arith, e.2)))) (seat, omega (arith, number), omega (arith, at));
+        earlier = All-push (IsEarlier (done + 1) now) lines line (of_each (IsEarlier (done + 1) now) (λ a e. (e.0, omega (arith, e.1), omega (arith, e.2))))
+            (seat, omega (arith, number), omega (arith, at));
         from_base = All-push (λ l. Follows base l.place) lines line told.from_base (follows_earlier base time line.place told.from follows);
         in_time = pairs_push IsInTime lines line told.in_time
             (of_each (λ a. IsInTime a line) (λ a e same below. follows_earlier (time_of a.place) time line.place e.2 follows))
@@ -118,14 +148,16 @@ module _ (script : List Command) (base capacity done : ℕ) (lines : List Line) 
       (replays_push (script ∷ []) capacity lines empty c _ line command told.replays command_is (rw place replied) (rw place stands) (rw place refl))
 
   -- a read, not earlier than any so far, of a command that has nothing to change
-  pub told_read : (now : ℕ) → line.place ≡ Read now → time ≤ now → line.reply ≡ reply command c capacity (now == LAST) → changes command c capacity (now == LAST) ≡ false
+  pub told_read : (now : ℕ) → line.place ≡ Read now → time ≤ now → line.reply ≡ reply command c capacity (now == LAST)
+      → changes command c capacity (now == LAST) ≡ false
       → IsTold script base capacity (done + 1) (lines ++ line ∷ []) now c
   told_read now place le replied stands =
       let at : time_of line.place ≡ now = rw place refl in
       grown now c at le (rw place le)
       (of_each (λ a. IsAlone a line) (λ a e first second same. absurd (no_commit second)))
       (of_each (IsAlone line) (λ a e first second same. absurd (no_commit first)))
-      (of_each (λ a. is_ahead line a ≡ false) (λ a e. read_not_ahead a line now place (omega (arith, e.2)) (omega (arith, e.0, seat)) (omega (arith, e.1, number))))
+      (of_each (λ a. is_ahead line a ≡ false)
+      (λ a e. read_not_ahead a line now place (omega (arith, e.2)) (omega (arith, e.0, seat)) (omega (arith, e.1, number))))
       (replays_push (script ∷ []) capacity lines empty c c line command told.replays command_is (rw place replied) (rw place stands) (rw place refl))
     where
       no_commit : IsTrue (is_commit line.place) → ⊥

@@ -1,5 +1,27 @@
 -- When the lines of a run are legal: each command has its line, and the replay from empty maps gives every reply.
-use Rattle.std.specs.Prelude.{◌≡◌, ℕ, zero, suc, ◌<◌, ◌≤◌, ◌==◌, Bool, true, false, IsTrue, List, [], ◌∷◌, ◌++◌, map, All, Option, None, slice_get, slice_index_or}
+use Rattle.std.specs.Prelude.{
+  ◌≡◌,
+  ℕ,
+  zero,
+  suc,
+  ◌<◌,
+  ◌≤◌,
+  ◌==◌,
+  Bool,
+  true,
+  false,
+  IsTrue,
+  List,
+  [],
+  ◌∷◌,
+  ◌++◌,
+  map,
+  All,
+  Option,
+  None,
+  slice_get,
+  slice_index_or,
+}
 use Rattle.std.specs.Option.{IsSomeAnd}
 use Rattle.std.specs.List.Sorted.{IsPermutation}
 use Rattle.mv_history.specs.declared.history.TheConstants.{LAST}
@@ -59,7 +81,8 @@ abbrev pub Replays : List (List Command) → ℕ → Maps → List Line → Maps
 Replays scripts capacity c [] end = c ≡ end
 Replays scripts capacity c (line ∷ lines) end =
     IsSomeAnd (command_of scripts line)
-    (λ command. (line.reply ≡ reply command c capacity (is_last line.place)) × MayStand line.place command c capacity × Replays scripts capacity (after line.place command c capacity) lines end)
+    (λ command. (line.reply ≡ reply command c capacity (is_last line.place)) × MayStand line.place command c capacity
+    × Replays scripts capacity (after line.place command c capacity) lines end)
 
 -- every line stands so to every line
 abbrev pub EachPair : (Line → Line → Type 0) → List Line → Type 0

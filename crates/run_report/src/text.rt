@@ -3,7 +3,18 @@ ghost use Rattle.std.specs.Prelude.{◌≡◌, ◌++◌, ◌<◌, IfOk, OnOk, le
 ghost use Rattle.std.specs.List.{flat_map, zip};
 ghost use Rattle.set_script.specs.Catalogue.{map_of, IsCatalogue};
 ghost use Rattle.set_script.specs.GrammarLaws.{name_text};
-ghost use Rattle.run_report.specs.Text.{text_of_line, text_of_place, text_of_answer, text_of_reply, text_of_key, text_of_set, text_of_sets, text_of_table, text_of_tables, text_of_run};
+ghost use Rattle.run_report.specs.Text.{
+  text_of_line,
+  text_of_place,
+  text_of_answer,
+  text_of_reply,
+  text_of_key,
+  text_of_set,
+  text_of_sets,
+  text_of_table,
+  text_of_tables,
+  text_of_run,
+};
 
 use crate::line::Line;
 use mv_history::LogTable;

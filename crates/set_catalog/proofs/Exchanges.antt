@@ -5,9 +5,9 @@ use Rattle.mv_history.specs.declared.trail.StepKind.{StepKind}
 use Rattle.mv_history.specs.declared.trail.StepKind.TheVariants.{NameCommit}
 use Rattle.mv_history.specs.Trail.{is_commit_exchange, is_clock_exchange, commit_exchanges, clock_exchanges}
 use Rattle.mv_history.specs.Meaning.{Seat, InSection}
-use Rattle.mv_history.specs.Calls.{call_trail, Continues, Leaves, NamesNoCommit}
+use Rattle.mv_history.specs.Calls.{call_trail, Continues, GoesOn, Prepares, Enters, Leaves, NamesNoCommit}
 use Rattle.set_catalog.specs.Attempts.{TriesOne}
-use Rattle.mv_history.proofs.Steps.{NamesNoCommit-NamesNoCommit, commit_exchanges-call_trail}
+use Rattle.mv_history.proofs.Steps.{Continues-Continues, NamesNoCommit-NamesNoCommit, commit_exchanges-call_trail}
 
 commit_is_clock : (k : StepKind) → is_commit_exchange k ≡ true → is_clock_exchange k ≡ true
 commit_is_clock NameCommit e = refl
@@ -18,7 +18,8 @@ none_for_commit : (steps : List Step) → clock_exchanges steps ≡ [] → commi
 none_for_commit [] e = refl
 none_for_commit (x ∷ xs) e = go (is_commit_exchange x.kind) refl (is_clock_exchange x.kind) refl e (none_for_commit xs)
   where
-    go : (a : Bool) → is_commit_exchange x.kind ≡ a → (b : Bool) → is_clock_exchange x.kind ≡ b → cond b (x ∷ clock_exchanges xs) (clock_exchanges xs) ≡ [] → (clock_exchanges xs ≡ [] → commit_exchanges xs ≡ []) → cond a (x ∷ commit_exchanges xs) (commit_exchanges xs) ≡ []
+    go : (a : Bool) → is_commit_exchange x.kind ≡ a → (b : Bool) → is_clock_exchange x.kind ≡ b → cond b (x ∷ clock_exchanges xs) (clock_exchanges xs) ≡ []
+        → (clock_exchanges xs ≡ [] → commit_exchanges xs ≡ []) → cond a (x ∷ commit_exchanges xs) (commit_exchanges xs) ≡ []
     go a p true q e r = absurd (cc)
     go false p false q e r = r e
     go true p false q e r = absurd (true≢false (sym (commit_is_clock x.kind p) ∙ q))
@@ -43,3 +44,21 @@ one_after {a} {b} {c} p q o n =
 -- calls that try none, one after another, and then leave
 pub leave_none : (a : Seat) (found : InSection) (new : Seat) → Continues a found.seat → NamesNoCommit a found.seat → Leaves found new → NamesNoCommit a new
 leave_none a found new p n l = NamesNoCommit-NamesNoCommit p l.continues n (leaves_none found new l)
+
+-- so they try one at most
+pub left_one : {a : Seat} {found : InSection} {new : Seat} → Continues a found.seat → NamesNoCommit a found.seat → Leaves found new → TriesOne a new
+left_one {a} {found} {new} p n l = none_one a new (leave_none a found new p n l)
+
+-- Room was made, a section entered and looked into: what was seen stays, and no commit was tried.
+pub record LooksIn (old : Seat) (found : InSection) : Type 0 where
+  pub continues : Continues old found.seat
+  pub quiet : NamesNoCommit old found.seat
+
+pub looks_in : {old prepared : Seat} {entered found : InSection} → Prepares old prepared → Enters prepared entered → GoesOn entered found → LooksIn old found
+looks_in {old} {prepared} {entered} {found} p e goes =
+    let inside : Continues prepared found.seat = Continues-Continues e.seat.continues goes.continues in
+    record {
+      continues = Continues-Continues p.continues inside;
+      quiet = NamesNoCommit-NamesNoCommit p.continues inside p.names_no_commit
+          (NamesNoCommit-NamesNoCommit e.seat.continues goes.continues e.names_no_commit goes.names_no_commit);
+    }

@@ -1,5 +1,30 @@
 -- Hints that were tried.
-use Rattle.std.proofs.Common.{◌≡◌, ℕ, ◌<◌, ◌≤◌, ◌⊎◌, inl, inr, List, [], ◌∷◌, ◌++◌, All, Option, Some, None, IfSome, IfNone, refl, sym, ap, ◌∙◌, append_assoc, subst, arith}
+use Rattle.std.proofs.Common.{
+  ◌≡◌,
+  ℕ,
+  ◌<◌,
+  ◌≤◌,
+  ◌⊎◌,
+  inl,
+  inr,
+  List,
+  [],
+  ◌∷◌,
+  ◌++◌,
+  All,
+  Option,
+  Some,
+  None,
+  IfSome,
+  IfNone,
+  refl,
+  sym,
+  ap,
+  ◌∙◌,
+  append_assoc,
+  subst,
+  arith,
+}
 use Rattle.std.proofs.lemmas.List.{append-nil}
 use Rattle.std.proofs.lemmas.List.Elements.{All-nil, All-cons, All-append, All-weaker, Contains-append_left, Contains-append_right}
 use Rattle.mv_history.specs.State.{State}
@@ -21,7 +46,8 @@ hint_loop_start s h but =
     record { room = refl; gone = []; parts = sym (append-nil h.objects); wrong = All-nil (λ o. IsVacant s o → o ≡ but) }
 
 -- one hint more was tried
-pub hint_loop_more : (s : State) (old h new : Hinted) (but object : ℕ) → HintLoop s old h but → new.room ≡ h.room → h.objects ≡ new.objects ++ object ∷ [] → (IsVacant s object → object ≡ but) → HintLoop s old new but
+pub hint_loop_more : (s : State) (old h new : Hinted) (but object : ℕ) → HintLoop s old h but → new.room ≡ h.room → h.objects ≡ new.objects ++ object ∷ []
+    → (IsVacant s object → object ≡ but) → HintLoop s old new but
 hint_loop_more s old h new but object l room e w = record {
   room = room ∙ l.room;
   gone = object ∷ l.gone;
@@ -56,21 +82,24 @@ front_empty xs [] zs e n = refl
 front_empty xs (y ∷ ys) zs e n = absurd (cc)
 
 -- hints were tried for one object, and then for another one
-pub tries_twice : (s t : State) (old mid new : Hinted) (but first second : ℕ) → but < first_node → TriesFor s old mid but first → t ≡ s → TriesFor t mid new first second → TriesHints s old new first second
-tries_twice s t old mid new but first second low f same g0 = let g : TriesFor s mid new first second = subst (λ (u : State). TriesFor u mid new first second) same g0 in record {
-  gone = g.gone ++ f.gone;
-  tries = record {
-    room = g.tries.room ∙ f.tries.room;
-    parts = f.tries.parts ∙ ap (λ xs. xs ++ f.gone) g.tries.parts ∙ append_assoc new.objects g.gone f.gone;
-    wrong = All-append (λ o. IsVacant s o → (o ≡ first) ⊎ (o ≡ second)) g.gone f.gone g.tries.wrong
-        (All-weaker (λ o. IsVacant s o → (o ≡ but) ⊎ (o ≡ first)) (λ o. IsVacant s o → (o ≡ first) ⊎ (o ≡ second)) (λ o h v. inl (node_first o v (h v))) f.gone f.tries.wrong);
-  };
-  first_hinted = elim f.hinted [
-    | inl i ↦ inl (Contains-append_right g.gone f.gone first i)
-    | inr n ↦ inr (front_empty mid.objects new.objects g.gone g.tries.parts n)
-  ];
-  second_hinted = inr (elim g.hinted [ inl i ↦ inl (Contains-append_left g.gone f.gone second i) | inr n ↦ inr n ]);
-}
+pub tries_twice : (s t : State) (old mid new : Hinted) (but first second : ℕ) → but < first_node → TriesFor s old mid but first → t ≡ s
+    → TriesFor t mid new first second → TriesHints s old new first second
+tries_twice s t old mid new but first second low f same g0 = let g : TriesFor s mid new first second =
+    subst (λ (u : State). TriesFor u mid new first second) same g0 in record {
+      gone = g.gone ++ f.gone;
+      tries = record {
+        room = g.tries.room ∙ f.tries.room;
+        parts = f.tries.parts ∙ ap (λ xs. xs ++ f.gone) g.tries.parts ∙ append_assoc new.objects g.gone f.gone;
+        wrong = All-append (λ o. IsVacant s o → (o ≡ first) ⊎ (o ≡ second)) g.gone f.gone g.tries.wrong
+            (All-weaker (λ o. IsVacant s o → (o ≡ but) ⊎ (o ≡ first)) (λ o. IsVacant s o → (o ≡ first) ⊎ (o ≡ second))
+            (λ o h v. inl (node_first o v (h v))) f.gone f.tries.wrong);
+      };
+      first_hinted = elim f.hinted [
+        | inl i ↦ inl (Contains-append_right g.gone f.gone first i)
+        | inr n ↦ inr (front_empty mid.objects new.objects g.gone g.tries.parts n)
+      ];
+      second_hinted = inr (elim g.hinted [ inl i ↦ inl (Contains-append_left g.gone f.gone second i) | inr n ↦ inr n ]);
+    }
   where
     node_first : (o : ℕ) → IsVacant s o → (o ≡ but) ⊎ (o ≡ first) → o ≡ first
     node_first o v (inl e) = let l : first_node ≤ o = v.node in absurd (omega arith)

@@ -67,8 +67,10 @@ noted_by found locked new (Add name key) time node inner old hints le r m g e = 
 noted_by found locked new (Put name key value) time node inner old hints le r m g e = kept_same old hints found.seat new (none_noted old hints node inner g e)
 noted_by found locked new (Has name key) time node inner old hints le r m g e = kept_same old hints found.seat new (none_noted old hints node inner g e)
 noted_by found locked new (Get name key) time node inner old hints le r m g e = kept_same old hints found.seat new (none_noted old hints node inner g e)
-noted_by found locked new (Move source target key) time node inner old hints le r m g e = kept_same old hints found.seat new (none_noted old hints node inner g e)
-noted_by found locked new (Pair first second key) time node inner old hints le r m g e = kept_same old hints found.seat new (none_noted old hints node inner g e)
+noted_by found locked new (Move source target key) time node inner old hints le r m g e =
+    kept_same old hints found.seat new (none_noted old hints node inner g e)
+noted_by found locked new (Pair first second key) time node inner old hints le r m g e =
+    kept_same old hints found.seat new (none_noted old hints node inner g e)
 noted_by found locked new (Size name) time node inner old hints le r m g e = kept_same old hints found.seat new (none_noted old hints node inner g e)
 noted_by found locked new (Next name key) time node inner old hints le r m g e = kept_same old hints found.seat new (none_noted old hints node inner g e)
 

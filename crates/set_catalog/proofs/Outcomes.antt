@@ -1,5 +1,34 @@
 -- What an attempt leaves, from what its calls do.
-use Rattle.std.proofs.Common.{◌≡◌, ◌≢◌, ℕ, suc, ◌+◌, ◌-◌, ◌<◌, ◌≤◌, ◌==◌, Bool, true, false, not, ◌&&◌, [], ◌∷◌, ◌++◌, length, take, drop, Some, refl, sym, ap, ◌∙◌, subst, arith, true≢false}
+use Rattle.std.proofs.Common.{
+  ◌≡◌,
+  ◌≢◌,
+  ℕ,
+  suc,
+  ◌+◌,
+  ◌-◌,
+  ◌<◌,
+  ◌≤◌,
+  ◌==◌,
+  Bool,
+  true,
+  false,
+  not,
+  ◌&&◌,
+  [],
+  ◌∷◌,
+  ◌++◌,
+  length,
+  take,
+  drop,
+  Some,
+  refl,
+  sym,
+  ap,
+  ◌∙◌,
+  subst,
+  arith,
+  true≢false,
+}
 use Rattle.std.proofs.lemmas.Bool.Decides.{nat_tests}
 use Rattle.mv_history.specs.State.{State, written, state_after, state_at}
 use Rattle.mv_history.specs.declared.history.Commit.{Commit}
@@ -49,7 +78,8 @@ tag_stands (Size name) s last e = absurd (true≢false (sym e))
 tag_stands (Next name key) s last e = absurd (true≢false (sym e))
 
 -- The reply of a commit on the state just before it.
-reply_before : (s : Seat) (command : Command) (c : Commit) (time : ℕ) → IsSeat IsOpening IsSetCommit s → IsEntryAt s time (Change c) → c.tag ≡ tag_of command → command_of (tag_of command) ≡ Some command → Yes ≡ reply_in command (state_of_time s (time - 1)) false
+reply_before : (s : Seat) (command : Command) (c : Commit) (time : ℕ) → IsSeat IsOpening IsSetCommit s → IsEntryAt s time (Change c)
+    → c.tag ≡ tag_of command → command_of (tag_of command) ≡ Some command → Yes ≡ reply_in command (state_of_time s (time - 1)) false
 reply_before s command c time law entry tagged stands =
     let i : ℕ = time - (s.base + 1) in
     let front = take (time - (s.base + 1)) s.seen in
@@ -57,11 +87,14 @@ reply_before s command c time law entry tagged stands =
     let ok : IsSetCommit c.tag (state_after s.start (take (time - (s.base + 1)) s.seen)) c.writes =
     law.allowed (take (time - (s.base + 1)) s.seen) (drop (suc (time - (s.base + 1))) s.seen) c split in
     let at : time - (s.base + 1) ≡ time - 1 - s.base = let l : s.base < time = entry.later in omega arith in
-    let makes = subst (λ u. MakesSome u (state_after s.start (take (time - (s.base + 1)) s.seen)) (written (state_after s.start (take (time - (s.base + 1)) s.seen)) c.writes)) (ap command_of tagged ∙ stands) ok.makes in
+    let makes = subst (λ u. MakesSome u (state_after s.start (take (time - (s.base + 1)) s.seen))
+    (written (state_after s.start (take (time - (s.base + 1)) s.seen)) c.writes)) (ap command_of tagged ∙ stands) ok.makes in
     sym (ap (λ (n : ℕ). reply_in command (state_at s.start s.seen n) false) (sym at) ∙ makes.answer)
 
 -- A commit of what a section was to write.
-pub done_by : (found locked : InSection) (new : Seat) (command : Command) (time : ℕ) → found.own ≡ [] → found.at ≤ length found.seat.seen → locked.at ≤ length locked.seat.seen → IsSeat IsOpening IsSetCommit new → changes_in command (state_of found) false ≡ true → IsReady command found locked → Commits locked (tag_of command) new time → IsDoneBy found.seat new command Yes time
+pub done_by : (found locked : InSection) (new : Seat) (command : Command) (time : ℕ) → found.own ≡ [] → found.at ≤ length found.seat.seen
+    → locked.at ≤ length locked.seat.seen → IsSeat IsOpening IsSetCommit new → changes_in command (state_of found) false ≡ true
+    → IsReady command found locked → Commits locked (tag_of command) new time → IsDoneBy found.seat new command Yes time
 done_by found locked new command time none le lo law changing ready made =
     let goes : Continues found.seat locked.seat = ready.goes_on.continues in
     let grew : length found.seat.seen ≤ length locked.seat.seen = length-seen goes in
@@ -101,7 +134,9 @@ read_by k old before entered found new command answer last came mine e took le s
       enters = record { enters = e; took = took; at = le; continues = goes };
       time_is = refl;
       answers = answers ∙ ap (λ (s : State). reply_in command s last) state ∙ ap (reply_in command (state_of_time new (entered.seat.base + entered.at))) when;
-      unchanging = sym (ap (λ (s : State). changes_in command s last) state ∙ ap (changes_in command (state_of_time new (entered.seat.base + entered.at))) when) ∙ unchanging;
+      unchanging =
+          sym (ap (λ (s : State). changes_in command s last) state ∙ ap (changes_in command (state_of_time new (entered.seat.base + entered.at))) when)
+          ∙ unchanging;
     }
 
 -- no read forgets what was seen, and its time is one of the call
@@ -125,7 +160,8 @@ pub stopped_in : (k : Causes) (found left : InSection) (new : Seat) (command : C
     → GivesUpIn k found new command cause
 stopped_in k found left new command cause none x gone =
     let named : Locks command (snapshot_of found) x.object = subst (λ (s : State). Locks command s x.object) (reads_snapshot found none) x.named in
-    let y : Stops k.may_refuse k.found_held (Locks command (snapshot_of found)) found left cause = record { object = x.object; named = named; before = x.before; goes_on = x.goes_on; refused = x.refused } in
+    let y : Stops k.may_refuse k.found_held (Locks command (snapshot_of found)) found left cause =
+    record { object = x.object; named = named; before = x.before; goes_on = x.goes_on; refused = x.refused } in
     let goes : GoesOn found left = GoesOn-GoesOn x.goes_on x.refused.goes_on in
     record {
       continues = Continues-Continues goes.continues gone.continues;
@@ -133,7 +169,8 @@ stopped_in k found left new command cause none x gone =
       why = why cause y x.refused.why;
     }
   where
-    why : (c : Cause) → Stops k.may_refuse k.found_held (Locks command (snapshot_of found)) found left c → IsCause k.may_refuse k.found_held x.before left x.object c → IsWhy k (λ holder. ⊥) command found new c
+    why : (c : Cause) → Stops k.may_refuse k.found_held (Locks command (snapshot_of found)) found left c
+        → IsCause k.may_refuse k.found_held x.before left x.object c → IsWhy k (λ holder. ⊥) command found new c
     why (Busy object seat) y q = (left, y, gone.continues)
     why (Stale object time) y q = (left, y, gone.continues)
     why (Rival rival) y q = absurd q
@@ -163,7 +200,8 @@ overtaken_in k found locked left new command rival none may ready same over lost
 }
 
 -- a section of a worn seat is at the last time
-pub worn_enters : (s : Seat) (entered : InSection) → IsWorn s → Enters s entered → entered.at ≤ length entered.seat.seen → entered.seat.base + length entered.seat.seen ≤ entered.seat.last → true ≡ (entered.seat.base + entered.at == entered.seat.last)
+pub worn_enters : (s : Seat) (entered : InSection) → IsWorn s → Enters s entered → entered.at ≤ length entered.seat.seen
+    → entered.seat.base + length entered.seat.seen ≤ entered.seat.last → true ≡ (entered.seat.base + entered.at == entered.seat.last)
 worn_enters s entered worn enters le most =
     let base : entered.seat.base ≡ s.base = enters.seat.continues.base in
     let last : entered.seat.last ≡ s.last = enters.seat.continues.last in
@@ -171,7 +209,8 @@ worn_enters s entered worn enters le most =
     let e : entered.seat.base + entered.at ≡ entered.seat.last = omega arith in
     grind (arith, nat_tests)
 
-pub worn_left : (locked left : InSection) (new : Seat) → IsAsBefore locked left → IsWorn left.seat → Leaves left new → new.base + length new.seen ≤ new.last → IsWorn new
+pub worn_left : (locked left : InSection) (new : Seat) → IsAsBefore locked left → IsWorn left.seat → Leaves left new → new.base + length new.seen ≤ new.last
+    → IsWorn new
 worn_left locked left new same worn gone most = IsWorn-later gone.continues worn most
 
 -- What was read after a change that came too late.
@@ -188,7 +227,8 @@ read_after k a b new command answer time came mine r = record {
   unchanging = r.unchanging;
 }
 
-pub done_after : (a b new : Seat) (command : Command) (answer : Reply) (time : ℕ) → Continues a b → b.mine ≡ a.mine → IsDoneBy b new command answer time → IsDoneBy a new command answer time
+pub done_after : (a b new : Seat) (command : Command) (answer : Reply) (time : ℕ) → Continues a b → b.mine ≡ a.mine → IsDoneBy b new command answer time
+    → IsDoneBy a new command answer time
 done_after a b new command answer time came mine d =
     let grew : length a.seen ≤ length b.seen = length-seen came in
     let base : b.base ≡ a.base = came.base in
@@ -225,7 +265,8 @@ read_at k old before entered found new command answer last time came mine e took
     (read_by k old before entered found new command answer last came mine e took le same left is answers unchanging)
 
 -- nothing is held, and there is room, where enough was made
-pub space_found : (prepared : Seat) (entered found : InSection) → Enters prepared entered → IsAsBefore entered found → most_locks ≤ prepared.write_max → prepared.write_max ≤ prepared.spare → HasSpace found
+pub space_found : (prepared : Seat) (entered found : InSection) → Enters prepared entered → IsAsBefore entered found → most_locks ≤ prepared.write_max
+    → prepared.write_max ≤ prepared.spare → HasSpace found
 space_found prepared entered found e same most enough = record {
   own = same.own ∙ e.own;
   spare = omega (arith, same.seat.spare, e.seat.spare);
@@ -250,7 +291,8 @@ why_earlier k held_back entered found new command cause goes le w = go cause w
 
     stop : (c : Cause) → IsStopped k command found new c → IsStopped k command entered new c
     stop c w =
-        let named = stops_named k.may_refuse k.found_held _ (Locks command (snapshot_of entered)) found w.0 c (λ o n. subst (λ (s : State). Locks command s o) same n) w.1 in
+        let named = stops_named k.may_refuse k.found_held _ (Locks command (snapshot_of entered)) found w.0 c
+        (λ o n. subst (λ (s : State). Locks command s o) same n) w.1 in
         (w.0, stops_after k.may_refuse k.found_held _ entered found w.0 c goes named, w.2)
 
     go : (c : Cause) → IsWhy k (λ holder. ⊥) command found new c → IsWhy k held_back command entered new c
@@ -278,9 +320,11 @@ pub attempted_by : (k : Causes) (old prepared : Seat) (entered found : InSection
     → entered.seat.base + entered.at < entered.seat.last → changes_in command (snapshot_of entered) false ≡ true
     → AttemptedIn k found new command attempt → Attempted k old new command attempt
 attempted_by k old prepared entered found new command (Done answer (AtCommit time)) p e took le same goes early changing r =
-    done_after old found.seat new command answer time (Continues-Continues p.continues (Continues-Continues e.seat.continues goes.continues)) (goes.mine ∙ e.seat.mine ∙ p.mine) r
+    done_after old found.seat new command answer time (Continues-Continues p.continues (Continues-Continues e.seat.continues goes.continues))
+    (goes.mine ∙ e.seat.mine ∙ p.mine) r
 attempted_by k old prepared entered found new command (Done answer (Read time)) p e took le same goes early changing r =
-    read_after k old found.seat new command answer time (Continues-Continues p.continues (Continues-Continues e.seat.continues goes.continues)) (goes.mine ∙ e.seat.mine ∙ p.mine) r
+    read_after k old found.seat new command answer time (Continues-Continues p.continues (Continues-Continues e.seat.continues goes.continues))
+    (goes.mine ∙ e.seat.mine ∙ p.mine) r
 attempted_by k old prepared entered found new command (Again cause) p e took le same goes early changing r = record {
   mine = r.mine ∙ goes.mine ∙ e.seat.mine ∙ p.mine;
   prepared = prepared;

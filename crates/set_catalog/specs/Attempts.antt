@@ -131,7 +131,8 @@ pub record KeepsHints (hints after : Hinted) (old new : Seat) : Type 0 where
 -- where a del was done, the objects that it left vacant were noted, and nothing else changed
 abbrev pub NotesGone : Command → Hinted → Hinted → Seat → Seat → ℕ → Type 0
 NotesGone (Del name key) hints after old new time =
-    (c : Commit) × (node : ℕ) × (inner : ℕ) × IsEntryAt new time (Change c) × DelPlan (state_at new.start new.seen c.snapshot) name key node inner c.writes × (after ≡ gone_noted hints node inner)
+    (c : Commit) × (node : ℕ) × (inner : ℕ) × IsEntryAt new time (Change c) × DelPlan (state_at new.start new.seen c.snapshot) name key node inner c.writes
+    × (after ≡ gone_noted hints node inner)
 NotesGone command hints after old new time = KeepsHints hints after old new
 
 -- What an attempt leaves of the hints.

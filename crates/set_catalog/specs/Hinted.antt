@@ -1,5 +1,26 @@
 -- What hints are seen as.
-use Rattle.std.specs.Prelude.{ℕ, ◌≡◌, ◌<◌, ◌≤◌, ◌^◌, nat_lt, ◌==◌, if◌then◌else◌, List, [], ◌∷◌, ◌++◌, length, drop, Option, Some, None, Vec, vec_len, vec_capacity}
+use Rattle.std.specs.Prelude.{
+  ℕ,
+  ◌≡◌,
+  ◌<◌,
+  ◌≤◌,
+  ◌^◌,
+  nat_lt,
+  ◌==◌,
+  if◌then◌else◌,
+  List,
+  [],
+  ◌∷◌,
+  ◌++◌,
+  length,
+  drop,
+  Option,
+  Some,
+  None,
+  Vec,
+  vec_len,
+  vec_capacity,
+}
 use Rattle.std.specs.declared.alloc.Global.{Global}
 
 -- at most `room` object numbers, in the order in which they were noted

@@ -89,7 +89,8 @@ fn commit_change<S: Store<Rules = SetRules>>(
 ) -> (S, Attempt)
     requires lawful { IsLawful (state_of (S.Open.section section)) }
     requires changing { changes_in command.now (state_of (S.Open.section section)) false ≡ true }
-    requires enough { AreEnough (state_of (S.Open.section section)) (wanted command.now (catalogue_of (state_of (S.Open.section section)))) picked.first picked.second }
+    requires enough { AreEnough (state_of (S.Open.section section))
+        (wanted command.now (catalogue_of (state_of (S.Open.section section)))) picked.first picked.second }
     requires space { HasSpace (S.Open.section section) }
     ensures attempted { let shows = causes S.Open.may_refuse S.Open.has_trail S.took S.holds_back S.Open.found_held S.Open.loaded in
         AttemptedIn shows (S.Open.section section) (S.seat_of result.0) command.now result.1 }

@@ -11,7 +11,8 @@ loop-count-preserved g c =
     let len = length-take-le c.loop-count.count c.loop-count.buffer i.within in
     record {
       within = front_within (take c.loop-count.count c.loop-count.buffer) c.read.new.into _ c.loop-count.count c.in_ok-got.got len b.0;
-      left = rw (front_more (take c.loop-count.count c.loop-count.buffer) c.read.new.into _ c.loop-count.count c.in_ok-got.got len b.0) (left_more _ _ _ _ _ _ i.left t.0);
+      left = rw (front_more (take c.loop-count.count c.loop-count.buffer) c.read.new.into _ c.loop-count.count c.in_ok-got.got len b.0)
+          (left_more _ _ _ _ _ _ i.left t.0);
       is_open = c.in_ok-got.ensures.opened;
       texts = c.in_ok-got.ensures.texts ∙ i.texts;
       steady = c.in_ok-got.ensures.steady ∙ i.steady;

@@ -10,4 +10,5 @@ unreachable-requires c =
 pub returns : goal.returns
 returns c =
     let store = c.attempt_with-store.result.0 in
-    runs (seat_of c.args.store) (seat_of store) _ _ _ c.requires.ready c.requires.time store.lawful refl refl (rw c.in-Done.is at c.attempt_with-store.ensures.attempted)
+    runs (seat_of c.args.store) (seat_of store) _ _ _ c.requires.ready c.requires.time store.lawful refl refl
+    (rw c.in-Done.is at c.attempt_with-store.ensures.attempted)

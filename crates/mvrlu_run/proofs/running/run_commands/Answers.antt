@@ -8,7 +8,8 @@ pub loop-command-preserved : goal.loop-command-preserved
 loop-command-preserved g c =
     let before = c.loop-command.invariant in
     let ran = c.run_command-next.ensures in
-    let is = slice_get_read c.args.commands.now _ c.loop-command.number c.command-item.result refl (omega (arith, before.number, c.loop-command-test.true)) (rw before.number c.command-item.is) in
+    let is = slice_get_read c.args.commands.now _ c.loop-command.number c.command-item.result refl (omega (arith, before.number, c.loop-command-test.true))
+    (rw before.number c.command-item.is) in
     record {
       number = omega (arith, before.number);
       ready = ran.ready;

@@ -12,13 +12,15 @@ use Rattle.mvrlu_run.proofs.script.make_text.Goals as goal
 pub read_all-end-requires : goal.read_all-end-requires
 read_all-end-requires g c =
     let store = c.in-Ok-run_commands.store in
-    let reads = plain_reads c.enter-section.result ∙ last_section (seat_of store) (section_of c.enter-section.result) c.enter-section.ensures.enters c.enter-section.ensures.took in
+    let reads = plain_reads c.enter-section.result
+    ∙ last_section (seat_of store) (section_of c.enter-section.result) c.enter-section.ensures.enters c.enter-section.ensures.took in
     record { lawful = subst IsLawful (sym reads) (lawful_now (seat_of store) store.lawful) }
 
 pub returns : goal.returns
 returns g c =
     let store = c.in-Ok-run_commands.store in
-    let reads = plain_reads c.enter-section.result ∙ last_section (seat_of store) (section_of c.enter-section.result) c.enter-section.ensures.enters c.enter-section.ensures.took in
+    let reads = plain_reads c.enter-section.result
+    ∙ last_section (seat_of store) (section_of c.enter-section.result) c.enter-section.ensures.enters c.enter-section.ensures.took in
     let end : c.in-Ok-end.end ≡ catalogue_of (state_now (seat_of store)) = c.in-Ok-end.ensures.catalogue ∙ ap catalogue_of reads in
     let ran = rw c.deref.ensures.value at c.in-Ok-run_commands.ensures in
     record {

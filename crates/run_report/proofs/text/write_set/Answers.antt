@@ -4,4 +4,5 @@ use Rattle.run_report.proofs.text.write_set.Goals as goal
 
 pub returns-clause-text : goal.returns-clause-text
 returns-clause-text c =
-    set_told c.args.name _ _ _ _ _ _ _ _ c.keys-keys.ensures.keys c.values.ensures.values (search rules) c.in_ok-write_name.ensures c.in_ok-write_keys.ensures c.push_str.ensures.bytes
+    set_told c.args.name _ _ _ _ _ _ _ _ c.keys-keys.ensures.keys c.values.ensures.values
+    (search rules) c.in_ok-write_name.ensures c.in_ok-write_keys.ensures c.push_str.ensures.bytes

@@ -24,13 +24,14 @@ returns g c =
     let goes = g.met.S.Open.Section.goes_on _ _ c.last_reply-reply.ensures.as_before in
     let left = subst (λ (s : Seat). Leaves (g.S.Open.Section.section c.last_reply-reply.new.view) s) (g.met.S.Store.same_seat _) c.leave.ensures in
     record {
-      read = read_at _ _ _ _ _ _ _ _ _ _ (Continues-itself _) refl e c.enter-section.ensures.took law.at (g.met.S.Open.Section.others_stay _ _ c.last_reply-reply.ensures.as_before)
-          (subst (λ (s : Seat). Leaves (g.S.Open.Section.section c.last_reply-reply.new.view) s) (g.met.S.Store.same_seat _) c.leave.ensures)
+      read = read_at _ _ _ _ _ _ _ _ _ _ (Continues-itself _) refl e c.enter-section.ensures.took law.at
+          (g.met.S.Open.Section.others_stay _ _ c.last_reply-reply.ensures.as_before) left
           (worn_enters _ _ c.requires.worn e law.at law.seat.time)
           (c.last_reply-reply.ensures.reply ∙ ap (λ (s : State). reply_in c.args.command.now s true) here)
           (ap (λ (s : State). changes_in c.args.command.now s true) (sym here) ∙ c.last_reply-reply.ensures.unchanging)
           c.at.ensures;
       hints = c.last_reply-reply.ensures.hints;
-      none = leave_none _ _ _ (Continues-Continues e.seat.continues goes.continues) (NamesNoCommit-NamesNoCommit e.seat.continues goes.continues e.names_no_commit goes.names_no_commit) left;
+      none = leave_none _ _ _ (Continues-Continues e.seat.continues goes.continues)
+          (NamesNoCommit-NamesNoCommit e.seat.continues goes.continues e.names_no_commit goes.names_no_commit) left;
       continues = Continues-Continues e.seat.continues (Continues-Continues goes.continues left.continues);
     }

@@ -5,8 +5,7 @@ use Rattle.mv_history.specs.Calls.{Leaves}
 use Rattle.set_script.specs.Lawful.{IsLawful}
 use Rattle.set_catalog.specs.Replies.{changes_in}
 use Rattle.set_catalog.proofs.LawfulTimes.{lawful_read}
-use Rattle.mv_history.proofs.Steps.{Continues-Continues, NamesNoCommit-NamesNoCommit}
-use Rattle.set_catalog.proofs.Exchanges.{leave_none, none_one, one_before}
+use Rattle.set_catalog.proofs.Exchanges.{one_before, left_one, looks_in}
 use Rattle.set_catalog.proofs.NotedGone.{hints_after, kept_taken}
 use Rattle.set_catalog.proofs.Outcomes.{attempted_by, short_by, early_found, changing_found, space_found, settled_by}
 use Rattle.set_catalog.proofs.attempting.attempt_with.Goals as goal
@@ -24,7 +23,8 @@ commit_change-requires-clause-lawful g c =
 pub commit_change-requires-clause-changing : goal.commit_change-requires-clause-changing
 commit_change-requires-clause-changing g c =
     let here = g.met.S.Open.Section.reads c.enter-section.result in
-    (changing_found _ _ _ _ (g.met.S.Open.Section.others_stay _ _ c.find.ensures.as_before) c.enter-section.ensures.enters.own (g.met.S.Open.Section.lawful _).at
+    let same = g.met.S.Open.Section.others_stay _ _ c.find.ensures.as_before in
+    (changing_found _ _ _ _ same c.enter-section.ensures.enters.own (g.met.S.Open.Section.lawful _).at
     (ap (λ (s : State). changes_in c.args.command.now s (c.at-time.result == c.last.result)) (sym here) ∙ c.in-Open.ensures.found.0)).0
 
 pub commit_change-requires-clause-space : goal.commit_change-requires-clause-space
@@ -34,42 +34,57 @@ commit_change-requires-clause-space g c =
     (c.in-Enough.ensures.enough refl)
 
 pub returns-in-Settled : goal.returns-in-Settled
-returns-in-Settled g c = record {
-  attempted = settled_by _ _ _ _ _ _ _ _ _ _ _ c.prepare-room.ensures.prepares c.enter-section.ensures.enters c.enter-section.ensures.took (g.met.S.Open.Section.lawful _).at (g.met.S.Open.Section.others_stay _ _ c.find.ensures.as_before)
-      (subst (λ (s : Seat). Leaves (g.S.Open.Section.section c.find.new.view) s) (g.met.S.Store.same_seat _) c.leave.ensures)
-      (g.met.S.Open.Section.reads _) c.at-time.ensures c.last.ensures c.in-Settled.ensures.found.0 c.in-Settled.ensures.found.1;
-  noted = kept_taken _ _ _ _ c.find.ensures.hints;
-  at_most_one = (let p = c.prepare-room.ensures.prepares in let e = c.enter-section.ensures.enters in let goes = g.met.S.Open.Section.goes_on _ _ c.find.ensures.as_before in let through = Continues-Continues p.continues (Continues-Continues e.seat.continues goes.continues) in let quiet = NamesNoCommit-NamesNoCommit p.continues (Continues-Continues e.seat.continues goes.continues) p.names_no_commit (NamesNoCommit-NamesNoCommit e.seat.continues goes.continues e.names_no_commit goes.names_no_commit) in none_one (g.S.Store.seat_of c.args.store) (g.S.Store.seat_of c.leave.result) (leave_none _ _ _ through quiet (subst (λ (s : Seat). Leaves (g.S.Open.Section.section c.find.new.view) s) (g.met.S.Store.same_seat _) c.leave.ensures)));
-}
+returns-in-Settled g c =
+    let p = c.prepare-room.ensures.prepares in
+    let e = c.enter-section.ensures.enters in
+    let looks = looks_in p e (g.met.S.Open.Section.goes_on _ _ c.find.ensures.as_before) in
+    let left = subst (λ (s : Seat). Leaves (g.S.Open.Section.section c.find.new.view) s) (g.met.S.Store.same_seat _) c.leave.ensures in
+    record {
+      attempted = settled_by _ _ _ _ _ _ _ _ _ _ _ p e c.enter-section.ensures.took (g.met.S.Open.Section.lawful _).at
+          (g.met.S.Open.Section.others_stay _ _ c.find.ensures.as_before) left
+          (g.met.S.Open.Section.reads _) c.at-time.ensures c.last.ensures c.in-Settled.ensures.found.0 c.in-Settled.ensures.found.1;
+      noted = kept_taken _ _ _ _ c.find.ensures.hints;
+      at_most_one = left_one looks.continues looks.quiet left;
+    }
 
 pub returns-in-Enough : goal.returns-in-Enough
 returns-in-Enough g c =
-    let same = g.met.S.Open.Section.others_stay _ _ c.find.ensures.as_before in
+    let p = c.prepare-room.ensures.prepares in
     let e = c.enter-section.ensures.enters in
+    let same = g.met.S.Open.Section.others_stay _ _ c.find.ensures.as_before in
+    let goes = g.met.S.Open.Section.goes_on _ _ c.find.ensures.as_before in
+    let looks = looks_in p e goes in
     let law = g.met.S.Open.Section.lawful c.enter-section.result in
-    let changing = ap (λ (s : State). changes_in c.args.command.now s (c.at-time.result == c.last.result)) (sym (g.met.S.Open.Section.reads c.enter-section.result)) ∙ c.in-Open.ensures.found.0 in
+    let changing =
+    ap (λ (s : State). changes_in c.args.command.now s (c.at-time.result == c.last.result)) (sym (g.met.S.Open.Section.reads c.enter-section.result))
+    ∙ c.in-Open.ensures.found.0 in
     record {
-      attempted = attempted_by _ _ _ _ _ _ _ _ c.prepare-room.ensures.prepares e c.enter-section.ensures.took law.at same (g.met.S.Open.Section.goes_on _ _ c.find.ensures.as_before)
+      attempted = attempted_by _ _ _ _ _ _ _ _ p e c.enter-section.ensures.took law.at same goes
           (early_found (g.S.Open.Section.section c.enter-section.result) _ _ _ law.at law.seat.time c.at-time.ensures c.last.ensures changing)
           (changing_found _ _ _ _ same e.own law.at changing).1
           c.commit_change.ensures.attempted;
-      noted = hints_after _ _ _ _ _ _ _ _ _ (Continues-Continues c.prepare-room.ensures.prepares.continues (Continues-Continues e.seat.continues (g.met.S.Open.Section.goes_on _ _ c.find.ensures.as_before).continues)) c.find.ensures.hints c.find.ensures.untouched c.commit_change.ensures.noted;
-      at_most_one = (let p = c.prepare-room.ensures.prepares in let e = c.enter-section.ensures.enters in let goes = g.met.S.Open.Section.goes_on _ _ c.find.ensures.as_before in let through = Continues-Continues p.continues (Continues-Continues e.seat.continues goes.continues) in let quiet = NamesNoCommit-NamesNoCommit p.continues (Continues-Continues e.seat.continues goes.continues) p.names_no_commit (NamesNoCommit-NamesNoCommit e.seat.continues goes.continues e.names_no_commit goes.names_no_commit) in one_before through c.commit_change.ensures.continues quiet c.commit_change.ensures.at_most_one);
+      noted = hints_after _ _ _ _ _ _ _ _ _ looks.continues c.find.ensures.hints c.find.ensures.untouched c.commit_change.ensures.noted;
+      at_most_one = one_before looks.continues c.commit_change.ensures.continues looks.quiet c.commit_change.ensures.at_most_one;
     }
 
 pub returns-in-Short : goal.returns-in-Short
 returns-in-Short g c =
-    let same = g.met.S.Open.Section.others_stay _ _ c.find.ensures.as_before in
+    let p = c.prepare-room.ensures.prepares in
     let e = c.enter-section.ensures.enters in
+    let same = g.met.S.Open.Section.others_stay _ _ c.find.ensures.as_before in
+    let goes = g.met.S.Open.Section.goes_on _ _ c.find.ensures.as_before in
+    let looks = looks_in p e goes in
     let law = g.met.S.Open.Section.lawful c.enter-section.result in
-    let changing = ap (λ (s : State). changes_in c.args.command.now s (c.at-time.result == c.last.result)) (sym (g.met.S.Open.Section.reads c.enter-section.result)) ∙ c.in-Open.ensures.found.0 in
+    let left = subst (λ (s : Seat). Leaves (g.S.Open.Section.section c.find.new.view) s) (g.met.S.Store.same_seat _) c.leave-in-Short.ensures in
+    let changing =
+    ap (λ (s : State). changes_in c.args.command.now s (c.at-time.result == c.last.result)) (sym (g.met.S.Open.Section.reads c.enter-section.result))
+    ∙ c.in-Open.ensures.found.0 in
     let short = c.in-Short.ensures.short c.in-Short.holder refl in
     record {
-      attempted = short_by _ _ _ _ _ _ _ _ c.prepare-room.ensures.prepares e c.enter-section.ensures.took law.at (g.met.S.Open.Section.goes_on _ _ c.find.ensures.as_before)
+      attempted = short_by _ _ _ _ _ _ _ _ p e c.enter-section.ensures.took law.at goes
           (early_found (g.S.Open.Section.section c.enter-section.result) _ _ _ law.at law.seat.time c.at-time.ensures c.last.ensures changing)
           (changing_found _ _ _ _ same e.own law.at changing).1
-          short.0 short.2
-          (subst (λ (s : Seat). Leaves (g.S.Open.Section.section c.find.new.view) s) (g.met.S.Store.same_seat _) c.leave-in-Short.ensures);
+          short.0 short.2 left;
       noted = kept_taken _ _ _ _ c.find.ensures.hints;
-      at_most_one = (let p = c.prepare-room.ensures.prepares in let e = c.enter-section.ensures.enters in let goes = g.met.S.Open.Section.goes_on _ _ c.find.ensures.as_before in let through = Continues-Continues p.continues (Continues-Continues e.seat.continues goes.continues) in let quiet = NamesNoCommit-NamesNoCommit p.continues (Continues-Continues e.seat.continues goes.continues) p.names_no_commit (NamesNoCommit-NamesNoCommit e.seat.continues goes.continues e.names_no_commit goes.names_no_commit) in none_one (g.S.Store.seat_of c.args.store) (g.S.Store.seat_of c.leave-in-Short.result) (leave_none _ _ _ through quiet (subst (λ (s : Seat). Leaves (g.S.Open.Section.section c.find.new.view) s) (g.met.S.Store.same_seat _) c.leave-in-Short.ensures)));
+      at_most_one = left_one looks.continues looks.quiet left;
     }

@@ -3,20 +3,23 @@ use Rattle.mv_history.specs.Meaning.{Seat}
 use Rattle.mv_history.specs.Calls.{Leaves, Commits}
 use Rattle.mv_history.proofs.Steps.{Continues-Continues, GoesOn-GoesOn, NamesNoCommit-NamesNoCommit}
 use Rattle.set_catalog.specs.Attempts.{TriesOne}
-use Rattle.set_catalog.proofs.Exchanges.{leave_none, leaves_none, none_one, one_before, one_after}
+use Rattle.set_catalog.proofs.Exchanges.{leaves_none, left_one, one_before, one_after}
 use Rattle.set_script.specs.Tags.{tag_of}
 use Rattle.set_catalog.proofs.NotedGone.{noted_by, kept_same, read_noted}
 use Rattle.set_catalog.proofs.Outcomes.{done_by, stopped_in, overtaken_in, worn_left, answered_after}
 use Rattle.set_catalog.proofs.attempting.commit_change.Goals as goal
 
 pub returns-in-Err : goal.returns-in-Err
-returns-in-Err g c = record {
-  attempted = stopped_in _ _ _ _ _ _ c.requires.space.own c.in-Err.ensures.refused
-      (subst (λ (s : Seat). Leaves (g.S.Open.Section.section c.change.new.section) s) (g.met.S.Store.same_seat _) c.abort.ensures);
-  noted = kept_same _ _ _ _ refl;
-  at_most_one = (let x = c.in-Err.ensures.refused in let goes = GoesOn-GoesOn x.goes_on x.refused.goes_on in none_one (g.S.Open.Section.section c.args.section).seat (g.S.Store.seat_of c.abort.result) (leave_none _ _ _ goes.continues goes.names_no_commit (subst (λ (s : Seat). Leaves (g.S.Open.Section.section c.change.new.section) s) (g.met.S.Store.same_seat _) c.abort.ensures)));
-  continues = (let x = c.in-Err.ensures.refused in Continues-Continues (GoesOn-GoesOn x.goes_on x.refused.goes_on).continues (subst (λ (s : Seat). Leaves (g.S.Open.Section.section c.change.new.section) s) (g.met.S.Store.same_seat _) c.abort.ensures).continues);
-}
+returns-in-Err g c =
+    let x = c.in-Err.ensures.refused in
+    let goes = GoesOn-GoesOn x.goes_on x.refused.goes_on in
+    let left = subst (λ (s : Seat). Leaves (g.S.Open.Section.section c.change.new.section) s) (g.met.S.Store.same_seat _) c.abort.ensures in
+    record {
+      attempted = stopped_in _ _ _ _ _ _ c.requires.space.own x left;
+      noted = kept_same _ _ _ _ refl;
+      at_most_one = left_one goes.continues goes.names_no_commit left;
+      continues = Continues-Continues goes.continues left.continues;
+    }
 
 pub answer_at_last-requires : goal.answer_at_last-requires
 answer_at_last-requires g c = record {
@@ -27,37 +30,51 @@ answer_at_last-requires g c = record {
 
 pub returns-in-Done : goal.returns-in-Done
 returns-in-Done g c =
-    let made = subst (λ (s : Seat). Commits (g.S.Open.Section.section c.change.new.section) (tag_of c.args.command.now) s c.in-Done.time) (g.met.S.Store.same_seat _)
-    (subst (λ (t : List ℕ). Commits (g.S.Open.Section.section c.change.new.section) t (g.S.Open.Section.stands c.in-Done.store) c.in-Done.time) c.tag.ensures c.in-Done.ensures.done.0) in
+    let own = g.S.Open.Section.section c.change.new.section in
+    let tagged = subst (λ (t : List ℕ). Commits own t (g.S.Open.Section.stands c.in-Done.store) c.in-Done.time) c.tag.ensures c.in-Done.ensures.done.0 in
+    let made = subst (λ (s : Seat). Commits own (tag_of c.args.command.now) s c.in-Done.time) (g.met.S.Store.same_seat _) tagged in
     let held = g.met.S.Open.Section.lawful c.change.new.section in
     let ready = c.in-Ok.ensures.ready.goes_on in
     record {
-      attempted = done_by _ _ _ _ _ c.requires.space.own (g.met.S.Open.Section.lawful c.args.section).at held.at (g.met.S.Store.lawful c.in-Done.store) c.requires.changing c.in-Ok.ensures.ready made;
+      attempted = done_by _ _ _ _ _ c.requires.space.own (g.met.S.Open.Section.lawful c.args.section).at held.at
+          (g.met.S.Store.lawful c.in-Done.store) c.requires.changing c.in-Ok.ensures.ready made;
       noted = noted_by _ _ _ _ _ _ _ _ _ held.at c.in-Ok.ensures.ready made c.in-Ok.ensures.gone c.note.ensures;
-      at_most_one = one_before ready.continues made.continues ready.names_no_commit (subst (λ (s : Seat). TriesOne (g.S.Open.Section.section c.change.new.section).seat s) (g.met.S.Store.same_seat _) c.in-Done.ensures.at_most_one);
+      at_most_one = one_before ready.continues made.continues ready.names_no_commit
+          (subst (λ (s : Seat). TriesOne own.seat s) (g.met.S.Store.same_seat _) c.in-Done.ensures.at_most_one);
       continues = Continues-Continues ready.continues made.continues;
     }
 
 pub returns-in-Again : goal.returns-in-Again
-returns-in-Again g c = record {
-  attempted = overtaken_in _ _ _ _ _ _ _ c.requires.space.own c.in-Again.ensures.again.0 c.in-Ok.ensures.ready c.in-Again.ensures.again.1 c.in-Again.ensures.again.2 c.in-Again.ensures.one_lost
-      (subst (λ (s : Seat). Leaves (g.S.Open.Section.section c.in-Again.section) s) (g.met.S.Store.same_seat _) c.abort-in-Again.ensures);
-  noted = kept_same _ _ _ _ refl;
-  at_most_one = (let ready = c.in-Ok.ensures.ready.goes_on in let same = c.in-Again.ensures.again.1 in let gone = (subst (λ (s : Seat). Leaves (g.S.Open.Section.section c.in-Again.section) s) (g.met.S.Store.same_seat _) c.abort-in-Again.ensures) in one_before ready.continues (Continues-Continues same.seat.continues gone.continues) ready.names_no_commit (one_after same.seat.continues gone.continues c.in-Again.ensures.at_most_one (leaves_none _ _ gone)));
-  continues = (let same = c.in-Again.ensures.again.1 in let gone = (subst (λ (s : Seat). Leaves (g.S.Open.Section.section c.in-Again.section) s) (g.met.S.Store.same_seat _) c.abort-in-Again.ensures) in Continues-Continues c.in-Ok.ensures.ready.goes_on.continues (Continues-Continues same.seat.continues gone.continues));
-}
+returns-in-Again g c =
+    let ready = c.in-Ok.ensures.ready in
+    let again = c.in-Again.ensures.again in
+    let same = again.1.seat.continues in
+    let left = subst (λ (s : Seat). Leaves (g.S.Open.Section.section c.in-Again.section) s) (g.met.S.Store.same_seat _) c.abort-in-Again.ensures in
+    let after = Continues-Continues same left.continues in
+    record {
+      attempted = overtaken_in _ _ _ _ _ _ _ c.requires.space.own again.0 ready again.1 again.2 c.in-Again.ensures.one_lost left;
+      noted = kept_same _ _ _ _ refl;
+      at_most_one = one_before ready.goes_on.continues after ready.goes_on.names_no_commit
+          (one_after same left.continues c.in-Again.ensures.at_most_one (leaves_none _ _ left));
+      continues = Continues-Continues ready.goes_on.continues after;
+    }
 
 pub returns-in-End : goal.returns-in-End
 returns-in-End g c =
-    let gone = subst (λ (s : Seat). Leaves (g.S.Open.Section.section c.in-End.section) s) (g.met.S.Store.same_seat _) c.abort-in-End.ensures in
     let ready = c.in-Ok.ensures.ready in
     let same = c.in-End.ensures.end.0 in
+    let left = subst (λ (s : Seat). Leaves (g.S.Open.Section.section c.in-End.section) s) (g.met.S.Store.same_seat _) c.abort-in-End.ensures in
+    let last = c.answer_at_last.ensures in
+    let after = Continues-Continues left.continues last.continues in
+    let quiet = NamesNoCommit-NamesNoCommit left.continues last.continues (leaves_none _ _ left) last.none in
+    let whole = Continues-Continues same.seat.continues after in
     record {
       attempted = answered_after _ _ _ _ _ _
-          (Continues-Continues ready.goes_on.continues (Continues-Continues same.seat.continues gone.continues))
-          (gone.mine ∙ same.seat.mine ∙ ready.goes_on.mine)
-          c.answer_at_last.ensures.read;
-      noted = read_noted _ _ _ _ _ _ _ _ c.answer_at_last.ensures.hints c.answer_at_last.ensures.read;
-      at_most_one = (let last = c.answer_at_last.ensures in one_before ready.goes_on.continues (Continues-Continues same.seat.continues (Continues-Continues gone.continues last.continues)) ready.goes_on.names_no_commit (one_after same.seat.continues (Continues-Continues gone.continues last.continues) c.in-End.ensures.at_most_one (NamesNoCommit-NamesNoCommit gone.continues last.continues (leaves_none _ _ gone) last.none)));
-      continues = Continues-Continues ready.goes_on.continues (Continues-Continues same.seat.continues (Continues-Continues gone.continues c.answer_at_last.ensures.continues));
+          (Continues-Continues ready.goes_on.continues (Continues-Continues same.seat.continues left.continues))
+          (left.mine ∙ same.seat.mine ∙ ready.goes_on.mine)
+          last.read;
+      noted = read_noted _ _ _ _ _ _ _ _ last.hints last.read;
+      at_most_one = one_before ready.goes_on.continues whole ready.goes_on.names_no_commit
+          (one_after same.seat.continues after c.in-End.ensures.at_most_one quiet);
+      continues = Continues-Continues ready.goes_on.continues whole;
     }

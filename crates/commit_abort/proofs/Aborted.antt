@@ -17,12 +17,12 @@ use Rattle.mv_core.specs.declared.view.Mode.{Mode}
 use Rattle.mv_core.specs.declared.view.Mode.TheVariants.{Open, Aborting, Named}
 use Rattle.mv_core.specs.declared.view.Walk.TheVariants.{Nowhere}
 use Rattle.mv_core.specs.Rings.{slot_at, HoldsNothing}
-use Rattle.mv_core.specs.Views.{heard_nothing, IsUnnamed}
+use Rattle.mv_core.specs.Views.{no_clocks, IsUnnamed}
 use Rattle.mv_core.specs.HistoryFacts.{BeginsWith}
 use Rattle.mv_core.specs.EnterSteps.{IsWhole, IsFinished, MayClearMark, mark_cleared}
 use Rattle.mv_core.specs.LockSteps.{death_loaded}
-use Rattle.mv_core.proofs.LockedLog.{none_held}
-use Rattle.mv_core.proofs.Links.{live_once}
+use Rattle.mv_core.proofs.kinds.locking.lock_head.LockedLog.{none_held}
+use Rattle.mv_core.proofs.logs.Links.{live_once}
 use Rattle.seat_log.specs.declared.version.Note.{Note}
 use Rattle.seat_log.specs.Notes.{Noted, aborted_noted}
 use Rattle.seat_log.specs.Stands.{is_free, is_won_cut, Stands}
@@ -119,7 +119,7 @@ module _ (c : Config) (v : View) (l : Noted) (inside : Section) (k : Stands c v 
       );
       rest = ap
           (λ (q : View).
-          record q { past = record q.past { seen = h }; phase = Outside; heard = heard_nothing; walk = Nowhere; back = None; ring = z.ring; trail = z.trail })
+          record q { past = record q.past { seen = h }; phase = Outside; clocks = no_clocks; walk = Nowhere; back = None; ring = z.ring; trail = z.trail })
           u.kept;
     }
 
@@ -163,7 +163,7 @@ module _ (c : Config) (v : View) (l : Noted) (inside : Section) (k : Stands c v 
           record q {
             past = record q.past { seen = z0.past.seen };
             phase = Outside;
-            heard = heard_nothing;
+            clocks = no_clocks;
             walk = Nowhere;
             back = None;
             ring = z0.ring;

@@ -18,14 +18,14 @@ use Rattle.mv_core.specs.declared.view.Phase.TheVariants.{Outside, Inside}
 use Rattle.mv_core.specs.declared.view.Section.{Section}
 use Rattle.mv_core.specs.declared.view.Mode.TheVariants.{Named}
 use Rattle.mv_core.specs.declared.view.Walk.TheVariants.{Nowhere}
-use Rattle.mv_core.specs.Views.{heard_nothing}
+use Rattle.mv_core.specs.Views.{no_clocks}
 use Rattle.mv_core.specs.Rings.{slot_at, index_of, held_count, set_first}
 use Rattle.mv_core.specs.NameSteps.{commit_of, committed_slot, commit_named}
 use Rattle.mv_core.specs.EnterSteps.{MayClearMark, mark_cleared}
-use Rattle.mv_core.proofs.Links.{live_once}
-use Rattle.mv_core.proofs.Commits.{new_note, committed_was}
-use Rattle.mv_core.proofs.HeldSet.{writes_length}
-use Rattle.mv_core.proofs.Slots.{slot_mapped}
+use Rattle.mv_core.proofs.logs.Links.{live_once}
+use Rattle.mv_core.proofs.kinds.naming.entry.CommittedLogs.{new_note, committed_was}
+use Rattle.mv_core.proofs.logs.HeldSet.{writes_length}
+use Rattle.mv_core.proofs.logs.Slots.{slot_mapped}
 use Rattle.reader_marks.specs.Sections.{inside_of, section_in}
 use Rattle.seat_log.specs.declared.version.Note.{Note}
 use Rattle.seat_log.specs.Notes.{Noted, held_from, IsNoteAt, committed_noted}
@@ -159,9 +159,9 @@ module _ (c : Config) (w : View) (l : Noted) (won : WonNaming) (k : IsJustNamed 
         rest = rest_is;
       }
         where
-          rest_is : z ≡ record w { phase = Outside; heard = heard_nothing; walk = Nowhere; back = None; ring = z.ring; trail = z.trail }
+          rest_is : z ≡ record w { phase = Outside; clocks = no_clocks; walk = Nowhere; back = None; ring = z.ring; trail = z.trail }
           rest_is =
-              ap (λ (u : View). record u { phase = Outside; heard = heard_nothing; walk = Nowhere; back = None; ring = z.ring; trail = z.trail })
+              ap (λ (u : View). record u { phase = Outside; clocks = no_clocks; walk = Nowhere; back = None; ring = z.ring; trail = z.trail })
               (tells.kept ∙ ap (λ (u : View). record u { ring = y.ring; trail = y.trail }) st.rest)
 
       same_number : z.number ≡ w.number

@@ -20,8 +20,8 @@ use Rattle.mv_core.specs.declared.view.Mode.TheVariants.{Named}
 use Rattle.mv_core.specs.Rings.{slot_at, index_of}
 use Rattle.mv_core.specs.WalkSteps.{IsLinkOf, slot_named}
 use Rattle.mv_core.specs.NameSteps.{MayStoreSuper, super_stored}
-use Rattle.mv_core.proofs.Links.{live_once, note_once}
-use Rattle.mv_core.proofs.Slots.{slot_here, slot_else, live_within}
+use Rattle.mv_core.proofs.logs.Links.{live_once, note_once}
+use Rattle.mv_core.proofs.logs.Slots.{slot_here, slot_else, live_within}
 use Rattle.seat_log.specs.declared.version.Note.{Note}
 use Rattle.seat_log.specs.Notes.{Noted, held_from, IsNoteAt}
 use Rattle.seat_log.specs.Stands.{version_of}

@@ -29,7 +29,7 @@ use Rattle.mv_core.specs.SectionFacts.{IsPastHelp}
 use Rattle.mv_core.specs.EnterSteps.{IsWhole, if_none, checked_helped, check_loaded}
 use Rattle.mv_core.specs.Known.{Known}
 use Rattle.mv_core.specs.NameSteps.{LogTold, commit_of, MayNameCommit, commit_named}
-use Rattle.mv_core.proofs.Fronts.{begins_by, begins_long}
+use Rattle.mv_core.proofs.history.Fronts.{begins_by, begins_long}
 use Rattle.commit_clock.specs.Helps.{HasLoaded, IsHelpStep, Helps}
 use Rattle.commit_clock.proofs.HelpedPhase.{still_open}
 use Rattle.commit_clock.proofs.HelpKinds.{help_kind}
@@ -47,7 +47,7 @@ no_exchange (s ∷ steps) all =
     ∙ no_exchange steps (All-tail (λ s. is_commit_exchange s.kind ≡ false) s steps all)
 
 module _ (c : Config) (v x : View) (word : ℕ) (h0 : List Entry) (whole : IsWhole c v word h0) (is : x ≡ check_loaded c v word h0) (inside : Section)
-    (phase : v.phase ≡ Inside inside) (past_help : IsPastHelp v.heard inside) where
+    (phase : v.phase ≡ Inside inside) (past_help : IsPastHelp v.clocks inside) where
   abbrev pub load : Step
   load = record { kind = LoadCheck; word = place_of c Clock; found = Some word; stored = None }
 
@@ -62,7 +62,7 @@ module _ (c : Config) (v x : View) (word : ℕ) (h0 : List Entry) (whole : IsWho
   pub kept_first : IsKept v x inside
   kept_first =
       subst (λ (u : View). IsKept v u inside) (sym is)
-      (record { seen = whole.0; past_help = Contains-append_left v.heard.helped (if_none word ++ checked_helped v.heard.found word) inside.word past_help; rest = refl })
+      (record { seen = whole.0; past_help = Contains-append_left v.clocks.helped (if_none word ++ checked_helped v.clocks.found word) inside.word past_help; rest = refl })
 
   pub at_end : clock_time_of word ≡ 35184372088831 → IsAtEnd c v x inside
   at_end last = record {
@@ -100,10 +100,10 @@ module _ (c : Config) (v x : View) (word : ℕ) (h0 : List Entry) (whole : IsWho
     pub begins_next : BeginsWith helps.past.0 v.past.seen
     begins_next = begins_by helps.past.0 h0 v.past.seen begins_found whole.0
 
-    pub helped_next : IsPastHelp y.heard inside
+    pub helped_next : IsPastHelp y.clocks inside
     helped_next =
         helps.still_helped inside.word
-        (subst (λ (u : View). Contains u.heard.helped inside.word) (sym is) (Contains-append_left v.heard.helped (if_none word ++ checked_helped v.heard.found word) inside.word past_help))
+        (subst (λ (u : View). Contains u.clocks.helped inside.word) (sym is) (Contains-append_left v.clocks.helped (if_none word ++ checked_helped v.clocks.found word) inside.word past_help))
 
     abbrev pub steps_next : List Step
     steps_next = load ∷ helps.trail.0

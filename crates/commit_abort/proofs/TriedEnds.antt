@@ -22,14 +22,14 @@ use Rattle.mv_core.specs.declared.view.Mode.TheVariants.{Open}
 use Rattle.mv_core.specs.declared.view.Walk.TheVariants.{Nowhere}
 use Rattle.mv_core.specs.Rings.{held_count}
 use Rattle.mv_core.specs.Times.{IsEntry}
-use Rattle.mv_core.specs.Views.{heard_nothing}
+use Rattle.mv_core.specs.Views.{no_clocks}
 use Rattle.mv_core.specs.HistoryFacts.{BeginsWith}
 use Rattle.mv_core.specs.SectionFacts.{IsPastHelp}
 use Rattle.mv_core.specs.EnterSteps.{IsWhole, if_none, check_loaded}
 use Rattle.mv_core.specs.Known.{Known}
 use Rattle.mv_core.specs.NameSteps.{commit_word, commit_named, commit_lost}
-use Rattle.mv_core.proofs.Fronts.{begins_by, begins_long}
-use Rattle.mv_core.proofs.OwnEntries.{other_maker}
+use Rattle.mv_core.proofs.history.Fronts.{begins_by, begins_long}
+use Rattle.mv_core.proofs.history.OwnEntries.{other_maker}
 use Rattle.commit_clock.specs.Helps.{Helps}
 use Rattle.commit_clock.specs.Names.{IsLost}
 use Rattle.seat_log.specs.Notes.{Noted}
@@ -56,7 +56,7 @@ exchanges_one (x ∷ a) b s is none_a none_b =
     ∙ exchanges_one a b s is (All-tail (λ s. is_commit_exchange s.kind ≡ false) x a none_a) none_b
 
 module _ (c : Config) (v x : View) (word : ℕ) (h0 : List Entry) (whole : IsWhole c v word h0) (is : x ≡ check_loaded c v word h0) (inside : Section)
-    (phase : v.phase ≡ Inside inside) (past_help : IsPastHelp v.heard inside)
+    (phase : v.phase ≡ Inside inside) (past_help : IsPastHelp v.clocks inside)
     (y : View) (helps : Helps c x y word) (open_is : inside.mode ≡ Open) where
   abbrev steps : List Step
   steps = steps_next c v x word h0 whole is inside phase past_help y helps open_is
@@ -97,7 +97,7 @@ module _ (c : Config) (v x : View) (word : ℕ) (h0 : List Entry) (whole : IsWho
     same_past = ap (λ (u : View). u.past) fin.rest
 
     abbrev ended_of : View → View
-    ended_of u = record u { past = w.past; phase = Outside; heard = heard_nothing; walk = Nowhere; back = None; ring = w.ring; trail = w.trail }
+    ended_of u = record u { past = w.past; phase = Outside; clocks = no_clocks; walk = Nowhere; back = None; ring = w.ring; trail = w.trail }
 
     pub committed : Commits c v w inside tag time
     committed =
@@ -122,7 +122,7 @@ module _ (c : Config) (v x : View) (word : ℕ) (h0 : List Entry) (whole : IsWho
           outside = fin.outside;
           rest =
               fin.rest
-              ∙ (λ i. record z { past = sym same_past i; phase = Outside; heard = heard_nothing; walk = Nowhere; back = None; ring = w.ring; trail = w.trail })
+              ∙ (λ i. record z { past = sym same_past i; phase = Outside; clocks = no_clocks; walk = Nowhere; back = None; ring = w.ring; trail = w.trail })
               ∙ ap ended_of named ∙ ap ended_of helps.rest ∙ ap ended_of is;
         }
 
@@ -143,15 +143,15 @@ module _ (c : Config) (v x : View) (word : ℕ) (h0 : List Entry) (whole : IsWho
     begins = begins_by h y.past.seen v.past.seen lost.whole.0 seen_all
 
     abbrev kept_of : View → View
-    kept_of u = record u { past = record v.past { seen = w.past.seen }; phase = Inside inside; heard = w.heard; trail = w.trail }
+    kept_of u = record u { past = record v.past { seen = w.past.seen }; phase = Inside inside; clocks = w.clocks; trail = w.trail }
 
     kept : IsKept v w inside
     kept = record {
       seen = subst (λ l. BeginsWith l v.past.seen) (sym same_seen) begins;
-      past_help = subst (λ (u : View). IsPastHelp u.heard inside) (sym at)
-          (Contains-append_left y.heard.helped (if_none found) inside.word (helped_next c v x word h0 whole is inside phase past_help y helps open_is));
+      past_help = subst (λ (u : View). IsPastHelp u.clocks inside) (sym at)
+          (Contains-append_left y.clocks.helped (if_none found) inside.word (helped_next c v x word h0 whole is inside phase past_help y helps open_is));
       rest = (λ i. record w { past = past_is i; phase = same_phase i }) ∙ ap kept_of at ∙ ap kept_of helps.rest ∙ ap kept_of is
-          ∙ (λ i. record v { past = record v.past { seen = w.past.seen }; phase = sym phase i; heard = w.heard; trail = w.trail });
+          ∙ (λ i. record v { past = record v.past { seen = w.past.seen }; phase = sym phase i; clocks = w.clocks; trail = w.trail });
     }
 
     pub stands_lost : (l : Noted) → Stands c v l → Stands c w l

@@ -21,7 +21,7 @@ use Rattle.mv_core.specs.Rings.{slot_at, index_of}
 use Rattle.mv_core.specs.Views.{IsUnnamed}
 use Rattle.mv_core.specs.Known.{Known}
 use Rattle.mv_core.specs.LockSteps.{MayUnlock, head_unlocked}
-use Rattle.mv_core.proofs.Slots.{slot_here, slot_else, live_within}
+use Rattle.mv_core.proofs.logs.Slots.{slot_here, slot_else, live_within}
 use Rattle.reader_marks.specs.Sections.{inside_of}
 use Rattle.seat_log.specs.declared.version.Note.{Note}
 use Rattle.seat_log.specs.Notes.{Noted, held_from, IsNoteAt}

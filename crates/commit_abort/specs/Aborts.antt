@@ -14,7 +14,7 @@ use Rattle.mv_core.specs.declared.view.Section.{Section}
 use Rattle.mv_core.specs.declared.view.Mode.TheVariants.{Open}
 use Rattle.mv_core.specs.declared.view.Walk.TheVariants.{Nowhere}
 use Rattle.mv_core.specs.Rings.{slot_at, index_of}
-use Rattle.mv_core.specs.Views.{heard_nothing, IsUnnamed}
+use Rattle.mv_core.specs.Views.{no_clocks, IsUnnamed}
 use Rattle.mv_core.specs.HistoryFacts.{BeginsWith}
 use Rattle.mv_core.specs.LockSteps.{MayUnlock, head_unlocked}
 use Rattle.reader_marks.specs.Sections.{section_in}
@@ -75,4 +75,4 @@ pub record Aborts (v w : View) (most : ℕ) : Type 0 where
   pub seen : BeginsWith w.past.seen v.past.seen
   pub trail : (steps : List Step) × (w.trail ≡ v.trail ++ steps) × (length steps ≤ most) × All (λ s. IsAbortStep s.kind) steps
   pub rest : w
-      ≡ record v { past = record v.past { seen = w.past.seen }; phase = Outside; heard = heard_nothing; walk = Nowhere; back = None; ring = w.ring; trail = w.trail }
+      ≡ record v { past = record v.past { seen = w.past.seen }; phase = Outside; clocks = no_clocks; walk = Nowhere; back = None; ring = w.ring; trail = w.trail }

@@ -17,7 +17,7 @@ use Rattle.mv_core.specs.declared.view.Mode.TheVariants.{Open}
 use Rattle.mv_core.specs.declared.view.Walk.TheVariants.{Nowhere}
 use Rattle.mv_core.specs.Rings.{held_count, own_of}
 use Rattle.mv_core.specs.Times.{IsEntry}
-use Rattle.mv_core.specs.Views.{heard_nothing, time_in}
+use Rattle.mv_core.specs.Views.{no_clocks, time_in}
 use Rattle.mv_core.specs.HistoryFacts.{BeginsWith}
 use Rattle.mv_core.specs.SectionFacts.{IsPastHelp}
 use Rattle.mv_core.specs.EnterSteps.{IsWhole}
@@ -30,7 +30,7 @@ use Rattle.commit_abort.specs.declared.committing.Ended.TheVariants.{Done, Again
 pub record MayCommit (allows : List ℕ → State → Writes → Type 0) (c : Config) (v : View) (tag : List ℕ) (inside : Section) : Type 0 where
   pub phase : v.phase ≡ Inside inside
   pub open_is : inside.mode ≡ Open
-  pub past_help : IsPastHelp v.heard inside
+  pub past_help : IsPastHelp v.clocks inside
   pub some_held : 0 < held_count v.ring
   pub fit : IsFit allows (state_at v.start v.past.seen (time_in inside - c.base)) tag (own_of c v.ring)
 
@@ -52,13 +52,13 @@ pub record Commits (c : Config) (v w : View) (inside : Section) (tag : List ℕ)
   pub loads : LoadsClock c v w word (held_count v.ring + 8) steps
   pub one_won : IsOneWon (commit_exchanges steps)
   pub outside : w.phase ≡ Outside
-  pub rest : w ≡ record v { past = w.past; phase = Outside; heard = heard_nothing; walk = Nowhere; back = None; ring = w.ring; trail = w.trail }
+  pub rest : w ≡ record v { past = w.past; phase = Outside; clocks = no_clocks; walk = Nowhere; back = None; ring = w.ring; trail = w.trail }
 
 -- the section is as before, but that more was seen, more clock words were loaded and helped, and the trail is longer
 pub record IsKept (v w : View) (inside : Section) : Type 0 where
   pub seen : BeginsWith w.past.seen v.past.seen
-  pub past_help : IsPastHelp w.heard inside
-  pub rest : w ≡ record v { past = record v.past { seen = w.past.seen }; heard = w.heard; trail = w.trail }
+  pub past_help : IsPastHelp w.clocks inside
+  pub rest : w ≡ record v { past = record v.past { seen = w.past.seen }; clocks = w.clocks; trail = w.trail }
 
 -- another seat made the entry of the rival's time after this call had loaded the clock; the one commit exchange of this call was lost
 pub record IsOvertakenBy (c : Config) (v w : View) (inside : Section) (rival : Rival) : Type 0 where

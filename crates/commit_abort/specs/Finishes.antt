@@ -17,7 +17,7 @@ use Rattle.mv_core.specs.declared.view.Section.{Section}
 use Rattle.mv_core.specs.declared.view.Mode.TheVariants.{Named}
 use Rattle.mv_core.specs.declared.view.Walk.TheVariants.{Nowhere}
 use Rattle.mv_core.specs.Rings.{slot_at, index_of, HoldsNothing, held_count}
-use Rattle.mv_core.specs.Views.{heard_nothing}
+use Rattle.mv_core.specs.Views.{no_clocks}
 use Rattle.mv_core.specs.WalkSteps.{IsPackedOf, IsLinkOf}
 use Rattle.mv_core.specs.NameSteps.{LogTold, commit_named, MayStoreSuper, super_stored}
 use Rattle.reader_marks.specs.Sections.{section_in}
@@ -59,7 +59,7 @@ HasNamed v first time inside = v.phase ≡ Inside (record inside { mode = Named 
 pub record StampsIt (v w : View) (first time : ℕ) (inside : Section) : Type 0 where
   pub phase : w.phase ≡ Inside (record inside { mode = Named (record { time = time; first = first; stamped = true }) })
   pub trail : (s : Step) × (w.trail ≡ v.trail ++ s ∷ []) × (s.kind ≡ SwapStamp)
-  pub rest : w ≡ record v { phase = w.phase; heard = w.heard; trail = w.trail }
+  pub rest : w ≡ record v { phase = w.phase; clocks = w.clocks; trail = w.trail }
 
 -- the section of a pass, and the first position of the commit that it has named
 pub record NamedSection : Type 0 where
@@ -127,4 +127,4 @@ IsFinishStep _ = ⊥
 pub record Finishes (v w : View) (most : ℕ) : Type 0 where
   pub outside : w.phase ≡ Outside
   pub trail : (steps : List Step) × (w.trail ≡ v.trail ++ steps) × (length steps ≤ most) × All (λ s. IsFinishStep s.kind) steps
-  pub rest : w ≡ record v { phase = Outside; heard = heard_nothing; walk = Nowhere; back = None; ring = w.ring; trail = w.trail }
+  pub rest : w ≡ record v { phase = Outside; clocks = no_clocks; walk = Nowhere; back = None; ring = w.ring; trail = w.trail }

@@ -40,7 +40,7 @@ fn stamp_own<P: Protocol, L: Ledger>(
 
 // Stores the commit's time into SUPER of the version below the one that is noted at this index, if
 // there is one.
-fn tell_one<P: Protocol, L: Ledger>(
+fn store_super_below<P: Protocol, L: Ledger>(
     shared: &Shared<P>,
     pass: &mut Pass<P>,
     log: &Log,
@@ -62,7 +62,7 @@ fn tell_one<P: Protocol, L: Ledger>(
 }
 
 // Stores the commit's time into SUPER below each version of the write set, in the order of locking.
-fn tell_below<P: Protocol, L: Ledger>(
+fn store_supers<P: Protocol, L: Ledger>(
     shared: &Shared<P>,
     pass: &mut Pass<P>,
     log: &Log,
@@ -79,7 +79,7 @@ fn tell_below<P: Protocol, L: Ledger>(
 {
     let count = live(log);
     for index in count - held(log)..count {
-        tell_one(shared, pass, log, index, time, steps);
+        store_super_below(shared, pass, log, index, time, steps);
     }
 }
 
@@ -106,7 +106,7 @@ pub fn finish<P: Protocol, L: Ledger>(
 {
     let first = note(log, live(log) - held(log)).first;
     stamp_own(shared, pass, first, time, steps);
-    tell_below(shared, pass, log, time, steps);
+    store_supers(shared, pass, log, time, steps);
     shared.clear_mark(pass, steps);
     note_commit(log, time);
 }

@@ -8,21 +8,21 @@ use Rattle.mv_history.specs.declared.Step.{Step}
 use Rattle.mv_layout.specs.declared.Config.{Config}
 use Rattle.mv_layout.specs.Words.{clock_slot_of}
 use Rattle.mv_core.specs.declared.view.View.{View}
-use Rattle.mv_core.specs.declared.view.Heard.{Heard}
+use Rattle.mv_core.specs.declared.view.LoadedClocks.{LoadedClocks}
 use Rattle.mv_core.specs.HistoryFacts.{BeginsWith}
 use Rattle.mv_core.specs.SectionFacts.{IsWord}
-use Rattle.mv_core.specs.EnterSteps.{if_none, helped_too, named_heard, named_loaded, checked_helped, check_loaded, stamp_swapped}
-use Rattle.mv_core.proofs.StampSwap.{IsOwn, phase_after, own_says}
+use Rattle.mv_core.specs.EnterSteps.{if_none, helped_too, named_clocks, named_loaded, checked_helped, check_loaded, stamp_swapped}
+use Rattle.mv_core.proofs.kinds.helping.stamp.SwapStamp.{IsOwn, phase_after, own_says}
 use Rattle.commit_clock.specs.Helps.{HasLoaded, IsHelpStep, Helps}
 
 -- a word that a load of CLOCK has just found
 pub loaded_now : (c : Config) (v w : View) (word : ℕ) (h : List Entry) → w ≡ check_loaded c v word h → IsWord c word → HasLoaded c w word
 loaded_now c v w word h is is_word = record {
-  loaded = subst (λ (u : View). Contains u.heard.loaded word) (sym is) (Contains-push v.heard.loaded word);
+  loaded = subst (λ (u : View). Contains u.clocks.loaded word) (sym is) (Contains-push v.clocks.loaded word);
   is_word = is_word;
-  none = λ e. subst (λ (u : View). Contains u.heard.helped word) (sym is)
-      (Contains-append_right v.heard.helped (if_none word ++ checked_helped v.heard.found word) word
-      (Contains-append_left (if_none word) (checked_helped v.heard.found word) word (subst (λ (b : Bool). Contains (cond b (word ∷ []) []) word) (sym (eq-eqb (clock_slot_of word) 8191 e)) (Contains-push [] word))));
+  none = λ e. subst (λ (u : View). Contains u.clocks.helped word) (sym is)
+      (Contains-append_right v.clocks.helped (if_none word ++ checked_helped v.clocks.found word) word
+      (Contains-append_left (if_none word) (checked_helped v.clocks.found word) word (subst (λ (b : Bool). Contains (cond b (word ∷ []) []) word) (sym (eq-eqb (clock_slot_of word) 8191 e)) (Contains-push [] word))));
 }
 
 -- a trail with at most so many steps more, all of a help
@@ -55,11 +55,11 @@ module _ (c : Config) (v : View) (word : ℕ) where
   -- the stamp wasn't unset
   pub helps_set : (w : View) (found : ℕ) → w ≡ named_loaded c v word found → found < 2 ^ 63 → Helps c v w word
   helps_set w found is low =
-      let set : named_heard v.heard word found ≡ helped_too v.heard word = ap (λ (b : Bool). cond b (record v.heard { found = Some (record { word = word; unset = found; checked = false }) }) (helped_too v.heard word)) (lt-leb 9223372036854775808 found low) in
+      let set : named_clocks v.clocks word found ≡ helped_too v.clocks word = ap (λ (b : Bool). cond b (record v.clocks { found = Some (record { word = word; unset = found; checked = false }) }) (helped_too v.clocks word)) (lt-leb 9223372036854775808 found low) in
       subst (λ (u : View). Helps c v u word) (sym is) (record {
-        helped = subst (λ (x : Heard). Contains x.helped word) (sym set) (Contains-push v.heard.helped word);
-        still_helped = λ x a. subst (λ (y : Heard). Contains y.helped x) (sym set) (Contains-append_left v.heard.helped (word ∷ []) x a);
-        still_loaded = λ x a. subst (λ (y : Heard). Contains y.loaded x) (sym set) a;
+        helped = subst (λ (x : LoadedClocks). Contains x.helped word) (sym set) (Contains-push v.clocks.helped word);
+        still_helped = λ x a. subst (λ (y : LoadedClocks). Contains y.helped x) (sym set) (Contains-append_left v.clocks.helped (word ∷ []) x a);
+        still_loaded = λ x a. subst (λ (y : LoadedClocks). Contains y.loaded x) (sym set) a;
         phase = inl refl;
         past = (v.past.seen, ([], sym (append-nil v.past.seen)), refl);
         trail = grows_one 2 v.trail v.trail _ tt (grows_none 2 v.trail);
@@ -67,25 +67,25 @@ module _ (c : Config) (v : View) (word : ℕ) where
       })
 
   module _ (found : ℕ) (big : 2 ^ 63 ≤ found) where
-    -- what is heard after an unset stamp was found
-    abbrev kept : Heard
-    kept = record v.heard { found = Some (record { word = word; unset = found; checked = false }) }
+    -- what is noted after an unset stamp was found
+    abbrev kept : LoadedClocks
+    kept = record v.clocks { found = Some (record { word = word; unset = found; checked = false }) }
 
-    kept_is : named_heard v.heard word found ≡ kept
-    kept_is = ap (λ (b : Bool). cond b kept (helped_too v.heard word)) (le-leb 9223372036854775808 found big)
+    kept_is : named_clocks v.clocks word found ≡ kept
+    kept_is = ap (λ (b : Bool). cond b kept (helped_too v.clocks word)) (le-leb 9223372036854775808 found big)
 
     abbrev keeping : View
-    keeping = record (named_loaded c v word found) { heard = kept }
+    keeping = record (named_loaded c v word found) { clocks = kept }
 
     -- the clock has another word
     pub helps_gone : (w x : View) (clock : ℕ) (h : List Entry) → w ≡ named_loaded c v word found → BeginsWith h w.past.seen → x ≡ check_loaded c w clock h → clock ≢ word → Helps c v x word
     helps_gone w x clock h is front is' ne =
-        let same : x ≡ check_loaded c keeping clock h = is' ∙ ap (λ (u : View). check_loaded c u clock h) is ∙ ap (λ (y : Heard). check_loaded c (record (named_loaded c v word found) { heard = y }) clock h) kept_is in
+        let same : x ≡ check_loaded c keeping clock h = is' ∙ ap (λ (u : View). check_loaded c u clock h) is ∙ ap (λ (y : LoadedClocks). check_loaded c (record (named_loaded c v word found) { clocks = y }) clock h) kept_is in
         let one : Contains (cond (word == clock) [] (word ∷ [])) word = subst (λ (b : Bool). Contains (cond b [] (word ∷ [])) word) (sym (ne_eqb word clock (λ e. ne (sym e)))) (Contains-push [] word) in
         subst (λ (u : View). Helps c v u word) (sym same) (record {
-          helped = Contains-append_right v.heard.helped (if_none clock ++ cond (word == clock) [] (word ∷ [])) word (Contains-append_right (if_none clock) (cond (word == clock) [] (word ∷ [])) word one);
-          still_helped = λ y a. Contains-append_left v.heard.helped (if_none clock ++ cond (word == clock) [] (word ∷ [])) y a;
-          still_loaded = λ y a. Contains-append_left v.heard.loaded (clock ∷ []) y a;
+          helped = Contains-append_right v.clocks.helped (if_none clock ++ cond (word == clock) [] (word ∷ [])) word (Contains-append_right (if_none clock) (cond (word == clock) [] (word ∷ [])) word one);
+          still_helped = λ y a. Contains-append_left v.clocks.helped (if_none clock ++ cond (word == clock) [] (word ∷ [])) y a;
+          still_loaded = λ y a. Contains-append_left v.clocks.loaded (clock ∷ []) y a;
           phase = inl refl;
           past = (h, subst (λ (u : View). BeginsWith h u.past.seen) is front, refl);
           trail = grows_one 2 v.trail _ _ tt (grows_one 1 v.trail v.trail _ tt (grows_none 1 v.trail));
@@ -95,14 +95,14 @@ module _ (c : Config) (v : View) (word : ℕ) where
     -- the clock has the word, and the exchange was made
     pub helps_stamped : (w x y : View) (clock there : ℕ) (h : List Entry) → w ≡ named_loaded c v word found → BeginsWith h w.past.seen → x ≡ check_loaded c w clock h → y ≡ stamp_swapped c x word found there → Helps c v y word
     helps_stamped w x y clock there h is front is' is'' =
-        let before : x ≡ check_loaded c keeping clock h = is' ∙ ap (λ (u : View). check_loaded c u clock h) is ∙ ap (λ (y : Heard). check_loaded c (record (named_loaded c v word found) { heard = y }) clock h) kept_is in
+        let before : x ≡ check_loaded c keeping clock h = is' ∙ ap (λ (u : View). check_loaded c u clock h) is ∙ ap (λ (y : LoadedClocks). check_loaded c (record (named_loaded c v word found) { clocks = y }) clock h) kept_is in
         let same : y ≡ stamp_swapped c (check_loaded c keeping clock h) word found there = is'' ∙ ap (λ (u : View). stamp_swapped c u word found there) before in
         let old : View = check_loaded c keeping clock h in
         let new : View = stamp_swapped c old word found there in
         subst (λ (u : View). Helps c v u word) (sym same) (record {
-          helped = Contains-push old.heard.helped word;
-          still_helped = λ z a. Contains-append_left old.heard.helped (word ∷ []) z (Contains-append_left v.heard.helped (if_none clock ++ checked_helped kept.found clock) z a);
-          still_loaded = λ z a. Contains-append_left v.heard.loaded (clock ∷ []) z a;
+          helped = Contains-push old.clocks.helped word;
+          still_helped = λ z a. Contains-append_left old.clocks.helped (word ∷ []) z (Contains-append_left v.clocks.helped (if_none clock ++ checked_helped kept.found clock) z a);
+          still_loaded = λ z a. Contains-append_left v.clocks.loaded (clock ∷ []) z a;
           phase = ⊎_elim inl
               (λ (o : IsOwn c v.number word found v.phase). inr (record { inside = o.inside; naming = o.naming; phase = o.phase_is; mode = o.mode_is; word_is = (own_says c v.number word found o.naming o.own).0; after = o.after_is }))
               (phase_after c v.number word found v.phase);

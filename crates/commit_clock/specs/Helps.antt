@@ -18,9 +18,9 @@ use Rattle.mv_core.specs.EnterSteps.{IsWhole}
 
 -- the pass has loaded the word; it is a packed clock word, and counts as helped where it names no commit
 pub record HasLoaded (c : Config) (v : View) (word : ℕ) : Type 0 where
-  pub loaded : Contains v.heard.loaded word
+  pub loaded : Contains v.clocks.loaded word
   pub is_word : IsWord c word
-  pub none : clock_slot_of word ≡ 8191 → Contains v.heard.helped word
+  pub none : clock_slot_of word ≡ 8191 → Contains v.clocks.helped word
 
 -- a step of a help
 abbrev pub IsHelpStep : StepKind → Type 0
@@ -40,13 +40,13 @@ pub record StampsOwn (c : Config) (v w : View) (word : ℕ) : Type 0 where
 
 -- A help of a word leaves of a view: the word is helped, no loaded or helped word is forgotten, the phase stays but in a section that has named this very commit, the trail has at most three steps more, more may have been seen, and nothing else changes.
 pub record Helps (c : Config) (v w : View) (word : ℕ) : Type 0 where
-  pub helped : Contains w.heard.helped word
-  pub still_helped : (x : ℕ) → Contains v.heard.helped x → Contains w.heard.helped x
-  pub still_loaded : (x : ℕ) → Contains v.heard.loaded x → Contains w.heard.loaded x
+  pub helped : Contains w.clocks.helped word
+  pub still_helped : (x : ℕ) → Contains v.clocks.helped x → Contains w.clocks.helped x
+  pub still_loaded : (x : ℕ) → Contains v.clocks.loaded x → Contains w.clocks.loaded x
   pub phase : (w.phase ≡ v.phase) ⊎ StampsOwn c v w word
   pub past : (h : List Entry) × BeginsWith h v.past.seen × (w.past ≡ record v.past { seen = h })
   pub trail : (steps : List Step) × (w.trail ≡ v.trail ++ steps) × (length steps ≤ 3) × All (λ s. IsHelpStep s.kind) steps
-  pub rest : w ≡ record v { past = w.past; phase = w.phase; heard = w.heard; trail = w.trail }
+  pub rest : w ≡ record v { past = w.past; phase = w.phase; clocks = w.clocks; trail = w.trail }
 
 -- the whole history is seen of the step that found this word in CLOCK, and what was seen stays where none did
 abbrev pub FindsClock : Config → View → View → Option ℕ → Type 0

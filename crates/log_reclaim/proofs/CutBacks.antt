@@ -14,10 +14,10 @@ use Rattle.mv_core.specs.EnterSteps.{IsWhole, mark_cleared}
 use Rattle.mv_core.specs.WalkSteps.{IsLinkOf}
 use Rattle.mv_core.specs.LockSteps.{timed, MayLoadDeath, death_loaded}
 use Rattle.mv_core.specs.ReclaimSteps.{MayCutHead, head_cut, cut_lost, IsOfOther}
-use Rattle.mv_core.proofs.Slots.{live_within}
-use Rattle.mv_core.proofs.Counts.{held_same, held_mapped}
-use Rattle.mv_core.proofs.Taking.{holds_none}
-use Rattle.mv_core.proofs.LockedLog.{none_held}
+use Rattle.mv_core.proofs.logs.Slots.{live_within}
+use Rattle.mv_core.proofs.logs.Counts.{held_same, held_mapped}
+use Rattle.mv_core.proofs.kinds.entering.LoadTime.{holds_none}
+use Rattle.mv_core.proofs.kinds.locking.lock_head.LockedLog.{none_held}
 use Rattle.reader_marks.specs.Sections.{IsOpen}
 use Rattle.seat_log.specs.declared.version.Note.{Note}
 use Rattle.seat_log.specs.Notes.{Noted, next_of, IsLive, retired, back_noted}

@@ -59,7 +59,7 @@ frees_makes : (v w : View) (steps : List Step) → MayLoadLow v → (v.walk ≡ 
 frees_makes v w steps may still k =
     let e = k.view in record {
       reclaims = reclaims_outside v w steps may still
-          (ap (λ (x : View). record x { past = w.past; heard = w.heard; empty = w.empty; ring = w.ring; grace = w.grace; trail = w.trail }) e)
+          (ap (λ (x : View). record x { past = w.past; clocks = w.clocks; empty = w.empty; ring = w.ring; grace = w.grace; trail = w.trail }) e)
           ([], ap (λ (x : View). x.past.seen) e ∙ sym (append-nil v.past.seen))
           (ap (λ (x : View). x.past.mine) e)
           (let same : w.grace ≡ v.grace = ap (λ (x : View). x.grace) e in omega arith)

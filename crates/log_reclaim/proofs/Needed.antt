@@ -16,7 +16,7 @@ use Rattle.mv_core.specs.Known.{Known}
 use Rattle.mv_core.specs.Rings.{slot_at, index_of}
 use Rattle.mv_core.specs.Times.{latest, latest_at, IsNextIn}
 use Rattle.mv_core.specs.ReclaimFacts.{death_in}
-use Rattle.mv_core.proofs.Latest.{latest_at-mono, latest_at-own, entry-within, next_write}
+use Rattle.mv_core.proofs.history.Latest.{latest_at-mono, latest_at-own, entry-within, next_write}
 use Rattle.seat_log.specs.declared.version.Note.{Note}
 use Rattle.seat_log.specs.Notes.{Noted, held_from, IsNoteAt}
 use Rattle.seat_log.specs.Stands.{version_of, IsAsNoted, Stands}

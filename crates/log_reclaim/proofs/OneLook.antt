@@ -10,8 +10,8 @@ use Rattle.mv_layout.specs.declared.Config.{Config}
 use Rattle.mv_core.specs.declared.view.View.{View}
 use Rattle.mv_core.specs.Times.{latest, latest_at}
 use Rattle.mv_core.specs.Known.{Known}
-use Rattle.mv_core.proofs.Latest.{latest_at-mono, latest_at-latest}
-use Rattle.mv_core.proofs.Fronts.{latest_at-more}
+use Rattle.mv_core.proofs.history.Latest.{latest_at-mono, latest_at-latest}
+use Rattle.mv_core.proofs.history.Fronts.{latest_at-more}
 use Rattle.reader_marks.specs.declared.scanning.Watermark.{Watermark}
 use Rattle.seat_log.specs.declared.version.Note.{Note}
 use Rattle.seat_log.specs.Notes.{Noted, IsNoteAt, retired}

@@ -6,7 +6,7 @@ use Rattle.mv_history.specs.State.{State, Writes}
 use Rattle.mv_core.specs.declared.view.View.{View}
 use Rattle.mv_core.specs.HistoryFacts.{BeginsWith}
 use Rattle.mv_core.specs.Known.{Known}
-use Rattle.mv_core.proofs.OwnEntries.{other_maker}
+use Rattle.mv_core.proofs.history.OwnEntries.{other_maker}
 use Rattle.log_reclaim.specs.Holders.{IsOthers}
 
 module _ (starts : State → Type 0) (allows : List ℕ → State → Writes → Type 0) (v w : View) (before : ∥ Known starts allows v ∥₁)

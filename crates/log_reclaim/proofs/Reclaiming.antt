@@ -7,13 +7,13 @@ use Rattle.mv_core.specs.declared.view.Phase.TheVariants.{Outside}
 use Rattle.mv_core.specs.declared.view.Walk.TheVariants.{Nowhere}
 use Rattle.mv_core.specs.HistoryFacts.{BeginsWith}
 use Rattle.mv_core.specs.EnterSteps.{MayLoadLow}
-use Rattle.mv_core.proofs.Fronts.{begins_by, begins_long}
+use Rattle.mv_core.proofs.history.Fronts.{begins_by, begins_long}
 use Rattle.log_reclaim.specs.Parts.{NamesNoCommit, IsOtherKind, Reclaims}
 use Rattle.log_reclaim.specs.Tries.{Makes}
 
--- steps outside a section that change only what was seen and heard, the rests, the HEADs found empty, the own log, the watermark and the trail
+-- steps outside a section that change only what was seen, the clock words that were loaded, the rests, the HEADs found empty, the own log, the watermark and the trail
 pub reclaims_outside : (v w : View) (made : List Step) → MayLoadLow v → (v.walk ≡ Nowhere) × (v.back ≡ None)
-    → w ≡ record v { past = w.past; heard = w.heard; empty = w.empty; ring = w.ring; grace = w.grace; trail = w.trail }
+    → w ≡ record v { past = w.past; clocks = w.clocks; empty = w.empty; ring = w.ring; grace = w.grace; trail = w.trail }
     → BeginsWith w.past.seen v.past.seen → w.past.mine ≡ v.past.mine → v.grace ≤ w.grace → w.trail ≡ v.trail ++ made
     → All (λ s. NamesNoCommit s.kind) made → Reclaims v w made
 reclaims_outside v w made may still is seen mine grace trail kinds = record {
@@ -27,7 +27,7 @@ reclaims_outside v w made may still is seen mine grace trail kinds = record {
   rest = is ∙ (λ i. record v {
     past = w.past;
     phase = may.outside i;
-    heard = w.heard;
+    clocks = w.clocks;
     walk = still.0 i;
     empty = w.empty;
     ring = w.ring;
@@ -63,7 +63,7 @@ reclaims_on v u w made more a b = record {
       record x {
         past = w.past;
         phase = Outside;
-        heard = w.heard;
+        clocks = w.clocks;
         walk = Nowhere;
         empty = w.empty;
         ring = w.ring;

@@ -24,7 +24,7 @@ use Rattle.mv_core.specs.HistoryFacts.{BeginsWith}
 use Rattle.mv_core.specs.EnterSteps.{IsWhole, MayLoadLow, check_loaded}
 use Rattle.mv_core.specs.NameSteps.{MayNameRest, rest_word, rest_named, rest_lost}
 use Rattle.mv_core.specs.Known.{Known}
-use Rattle.mv_core.proofs.Fronts.{begins_by, begins_long}
+use Rattle.mv_core.proofs.history.Fronts.{begins_by, begins_long}
 use Rattle.commit_clock.specs.Helps.{HasLoaded, IsHelpStep, Helps}
 use Rattle.commit_clock.proofs.HelpedPhase.{still_outside}
 use Rattle.commit_clock.proofs.HelpKinds.{help_kind}
@@ -60,13 +60,13 @@ names_none = rest_kind NamesNoCommit tt tt tt tt
 begins_none : (k : StepKind) → IsRestStep k → BeginsNoScan k
 begins_none = rest_kind BeginsNoScan tt tt tt tt
 
--- steps that change only what was seen and heard, the rests, and the trail
+-- steps that change only what was seen, the clock words that were loaded, the rests, and the trail
 pub record Listens (v w : View) (made : List Step) : Type 0 where
   pub seen : BeginsWith w.past.seen v.past.seen
   pub mine : w.past.mine ≡ v.past.mine
   pub trail : w.trail ≡ v.trail ++ made
   pub kinds : All (λ s. IsRestStep s.kind) made
-  pub rest : w ≡ record v { past = w.past; heard = w.heard; trail = w.trail }
+  pub rest : w ≡ record v { past = w.past; clocks = w.clocks; trail = w.trail }
 
 listens_none : (v : View) → Listens v v []
 listens_none v = record {
@@ -83,14 +83,14 @@ listens_then u v w made more p q = record {
   mine = q.mine ∙ p.mine;
   trail = q.trail ∙ ap (λ l. l ++ more) p.trail ∙ append_assoc u.trail made more;
   kinds = All-append (λ s. IsRestStep s.kind) made more p.kinds q.kinds;
-  rest = q.rest ∙ ap (λ (x : View). record x { past = w.past; heard = w.heard; trail = w.trail }) p.rest;
+  rest = q.rest ∙ ap (λ (x : View). record x { past = w.past; clocks = w.clocks; trail = w.trail }) p.rest;
 }
 
 module _ (v : View) (may : MayLoadLow v) (still : (v.walk ≡ Nowhere) × (v.back ≡ None)) where
   pub reclaims_listening : (w : View) (made : List Step) → Listens v w made → Reclaims v w made
   reclaims_listening w made k =
       reclaims_outside v w made may still
-      (ap (λ (u : View). record u { past = w.past; heard = w.heard; empty = w.empty; ring = w.ring; grace = w.grace; trail = w.trail }) k.rest)
+      (ap (λ (u : View). record u { past = w.past; clocks = w.clocks; empty = w.empty; ring = w.ring; grace = w.grace; trail = w.trail }) k.rest)
       k.seen k.mine (let e = ap (λ (u : View). u.grace) k.rest in omega arith) k.trail
       (All-weaker (λ (s : Step). IsRestStep s.kind) (λ s. NamesNoCommit s.kind) (λ s. names_none s.kind) made k.kinds)
 
@@ -137,7 +137,7 @@ module _ (c : Config) (v x : View) (word : ℕ) (h0 : List Entry) (whole : IsWho
     mine = ap (λ (p : Past). p.mine) helps.past.2;
     trail = helps.trail.1;
     kinds = All-weaker (λ (s : Step). IsHelpStep s.kind) (λ s. IsRestStep s.kind) (λ s. help_kind IsRestStep tt tt tt s.kind) helps.trail.0 helps.trail.3;
-    rest = helps.rest ∙ ap (λ (p : Phase). record x { past = y.past; phase = p; heard = y.heard; trail = y.trail }) (phase_next ∙ sym phase_first);
+    rest = helps.rest ∙ ap (λ (p : Phase). record x { past = y.past; phase = p; clocks = y.clocks; trail = y.trail }) (phase_next ∙ sym phase_first);
   }
 
   abbrev steps : List Step
@@ -234,7 +234,7 @@ module _ (c : Config) (v x : View) (word : ℕ) (h0 : List Entry) (whole : IsWho
           trail = ap (λ (u : View). u.trail) is_named;
           kinds = All-cons (λ s. IsRestStep s.kind) step [] tt (All-nil (λ s. IsRestStep s.kind));
           rest = is_named
-              ∙ (λ i. record y { past = sym (ap (λ (u : View). u.past) is_named) i; heard = sym (ap (λ (u : View). u.heard) is_named) i; trail = sym (ap (λ (u : View). u.trail) is_named) i });
+              ∙ (λ i. record y { past = sym (ap (λ (u : View). u.past) is_named) i; clocks = sym (ap (λ (u : View). u.clocks) is_named) i; trail = sym (ap (λ (u : View). u.trail) is_named) i });
         })
         (inr (ap (λ (u : View). u.past.rests) is_named))
         (noted ∙ ap (λ (n : ℕ). record l { rests = n }) (sym (ap (λ (k : Noted). k.rests) noted)))
@@ -259,7 +259,7 @@ module _ (c : Config) (v x : View) (word : ℕ) (h0 : List Entry) (whole : IsWho
           trail = ap (λ (u : View). u.trail) is_lost;
           kinds = All-cons (λ s. IsRestStep s.kind) step [] tt (All-nil (λ s. IsRestStep s.kind));
           rest = is_lost
-              ∙ (λ i. record y { past = sym (ap (λ (u : View). u.past) is_lost) i; heard = sym (ap (λ (u : View). u.heard) is_lost) i; trail = sym (ap (λ (u : View). u.trail) is_lost) i });
+              ∙ (λ i. record y { past = sym (ap (λ (u : View). u.past) is_lost) i; clocks = sym (ap (λ (u : View). u.clocks) is_lost) i; trail = sym (ap (λ (u : View). u.trail) is_lost) i });
         })
         (inl (ap (λ (u : View). u.past.rests) is_lost))
         refl

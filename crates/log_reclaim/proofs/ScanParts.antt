@@ -20,7 +20,7 @@ use Rattle.seat_log.specs.Stands.{Stands}
 use Rattle.seat_log.proofs.PlainSteps.{LeavesLog, stands_left}
 use Rattle.log_reclaim.specs.Parts.{NamesNoCommit, BeginsNoScan, LeavesClock, IsOtherKind, Reclaims, HasScanned}
 use Rattle.log_reclaim.specs.Tries.{Makes}
-use Rattle.mv_core.proofs.Fronts.{begins_long}
+use Rattle.mv_core.proofs.history.Fronts.{begins_long}
 use Rattle.log_reclaim.proofs.Reclaiming.{reclaims_outside}
 use Rattle.log_reclaim.proofs.ScanCauses.{after_clock_all}
 
@@ -35,7 +35,7 @@ module _ (c : Config) (v w : View) (found : ℕ) (is : w ≡ grace_loaded c v fo
   pub grace_makes : MayLoadLow v → (v.walk ≡ Nowhere) × (v.back ≡ None) → Makes v w (grace_load c found ∷ [])
   grace_makes may still = record {
     reclaims = reclaims_outside v w (grace_load c found ∷ []) may still
-        (ap (λ (x : View). record x { past = w.past; heard = w.heard; empty = w.empty; ring = w.ring; grace = w.grace; trail = w.trail }) is)
+        (ap (λ (x : View). record x { past = w.past; clocks = w.clocks; empty = w.empty; ring = w.ring; grace = w.grace; trail = w.trail }) is)
         ([], ap (λ (x : View). x.past.seen) is ∙ sym (append-nil v.past.seen))
         (ap (λ (x : View). x.past.mine) is)
         (let e : w.grace ≡ max v.grace found = ap (λ (x : View). x.grace) is in omega arith)
@@ -98,7 +98,7 @@ module _ (c : Config) (v w : View) (mark : Watermark) (clock before after : ℕ)
             ∙ (λ i. record v {
               past = sym (ap (λ (x : View). x.past) is) i;
               phase = may.outside i;
-              heard = sym (ap (λ (x : View). x.heard) is) i;
+              clocks = sym (ap (λ (x : View). x.clocks) is) i;
               walk = still.0 i;
               empty = sym (ap (λ (x : View). x.empty) is) i;
               ring = sym (ap (λ (x : View). x.ring) is) i;

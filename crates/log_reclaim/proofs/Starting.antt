@@ -22,8 +22,8 @@ use Rattle.mv_core.specs.Times.{latest}
 use Rattle.mv_core.specs.EnterSteps.{mark_cleared}
 use Rattle.mv_core.specs.WalkSteps.{slot_named, IsLinkOf, IsOwnTop, IsOwnLink, IsLastOwn, IsLastSeen, IsWalking, MayLoadHead, stand_at, head_loaded}
 use Rattle.mv_core.specs.Known.{Known}
-use Rattle.mv_core.proofs.Latest.{latest_at-latest}
-use Rattle.mv_core.proofs.Links.{link_some, live_once, note_once}
+use Rattle.mv_core.proofs.history.Latest.{latest_at-latest}
+use Rattle.mv_core.proofs.logs.Links.{link_some, live_once, note_once}
 use Rattle.reader_marks.specs.declared.scanning.Watermark.{Watermark}
 use Rattle.reader_marks.specs.Sections.{Begins, IsOpen, inside_of, section_in}
 use Rattle.seat_log.specs.declared.version.Note.{Note}

@@ -63,7 +63,7 @@ two_more t made a b = append_assoc (t ++ made) (a ∷ []) (b ∷ []) ∙ append_
 -- what the end of a write-back may change of a view
 abbrev ended : View → View → View
 ended u y =
-    record u { past = record u.past { seen = y.past.seen }; phase = Outside; heard = y.heard; walk = Nowhere; ring = y.ring; back = None; trail = y.trail }
+    record u { past = record u.past { seen = y.past.seen }; phase = Outside; clocks = y.clocks; walk = Nowhere; ring = y.ring; back = None; trail = y.trail }
 
 module _ (c : Config) (v w : View) (b d : Back) (count before after : ℕ) (k : HasStored c v w b d count before after) where
   -- one more

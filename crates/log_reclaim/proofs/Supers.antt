@@ -22,7 +22,7 @@ use Rattle.mv_core.specs.EnterSteps.{MayLoadLow}
 use Rattle.mv_core.specs.ReclaimSteps.{MayLoadSuper, super_loaded, SeesSuper, FoundEmpty}
 use Rattle.mv_core.specs.HistoryFacts.{BeginsWith}
 use Rattle.mv_core.specs.Known.{Known}
-use Rattle.mv_core.proofs.Latest.{last_that-le, latest_at-entry}
+use Rattle.mv_core.proofs.history.Latest.{last_that-le, latest_at-entry}
 use Rattle.seat_log.specs.declared.version.Note.{Note}
 use Rattle.seat_log.specs.Notes.{Noted, IsLive, retired}
 use Rattle.seat_log.specs.Stands.{version_of, Stands}

@@ -12,7 +12,7 @@ use Rattle.mv_core.specs.declared.view.Walk.TheVariants.{Nowhere}
 use Rattle.mv_core.specs.EnterSteps.{MayLoadLow}
 use Rattle.mv_core.specs.ReclaimSteps.{FoundEmpty}
 use Rattle.mv_core.specs.Known.{Known}
-use Rattle.mv_core.proofs.Fronts.{begins_by, begins_long}
+use Rattle.mv_core.proofs.history.Fronts.{begins_by, begins_long}
 use Rattle.reader_marks.specs.declared.scanning.Watermark.{Watermark}
 use Rattle.seat_log.specs.declared.version.Note.{Note}
 use Rattle.seat_log.specs.Notes.{Noted, retired, back_noted}
@@ -120,8 +120,8 @@ module _ (starts : State → Type 0) (allows : List ℕ → State → Writes →
         section_makes v w all_steps may s.outside (begins_by w.past.seen u.past.seen v.past.seen s.seen (looked_seen c v u n.object link looked))
         (s.trail ∙ ap (λ (l : List Step). l ++ s.made) (looked_trail c v u n.object link looked) ∙ append_assoc v.trail (looked_steps c v u n.object link looked) s.made)
         (All-append IsPlain (looked_steps c v u n.object link looked) s.made (looked_plain c v u n.object link looked) s.kinds)
-        (s.rest ∙ ap (λ (x : View). record x { past = record x.past { seen = w.past.seen }; phase = Outside; heard = w.heard; walk = Nowhere; ring = w.ring; back = None; trail = w.trail }) before
-        ∙ (let empty : u.empty ≡ w.empty = sym (ap (λ (x : View). x.empty) s.rest) in λ i. record v { past = record v.past { seen = w.past.seen }; phase = Outside; heard = w.heard; walk = Nowhere; empty = empty i; ring = w.ring; back = None; trail = w.trail }))
+        (s.rest ∙ ap (λ (x : View). record x { past = record x.past { seen = w.past.seen }; phase = Outside; clocks = w.clocks; walk = Nowhere; ring = w.ring; back = None; trail = w.trail }) before
+        ∙ (let empty : u.empty ≡ w.empty = sym (ap (λ (x : View). x.empty) s.rest) in λ i. record v { past = record v.past { seen = w.past.seen }; phase = Outside; clocks = w.clocks; walk = Nowhere; empty = empty i; ring = w.ring; back = None; trail = w.trail }))
 
     all_within : max first time ≤ w.base + length w.past.seen
     all_within =

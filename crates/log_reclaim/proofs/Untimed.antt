@@ -5,7 +5,7 @@ use Rattle.mv_history.specs.declared.Step.{Step}
 use Rattle.mv_layout.specs.declared.Config.{Config}
 use Rattle.mv_core.specs.declared.view.View.{View}
 use Rattle.mv_core.specs.Times.{latest, latest_at}
-use Rattle.mv_core.proofs.Fronts.{latest_at-more, latest-more}
+use Rattle.mv_core.proofs.history.Fronts.{latest_at-more, latest-more}
 use Rattle.reader_marks.specs.declared.scanning.Watermark.{Watermark}
 use Rattle.seat_log.specs.declared.version.Note.{Note}
 use Rattle.log_reclaim.specs.Parts.{Reclaims, super_step, FindsAbove, TimesDeath}

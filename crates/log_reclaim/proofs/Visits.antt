@@ -17,8 +17,8 @@ use Rattle.mv_core.specs.HistoryFacts.{BeginsWith}
 use Rattle.mv_core.specs.EnterSteps.{MayLoadLow, mark_cleared}
 use Rattle.mv_core.specs.ReclaimSteps.{FoundEmpty}
 use Rattle.mv_core.specs.WalkSteps.{empty_too, head_loaded}
-use Rattle.mv_core.specs.Views.{time_in, heard_nothing}
-use Rattle.mv_core.proofs.Fronts.{begins_by}
+use Rattle.mv_core.specs.Views.{time_in, no_clocks}
+use Rattle.mv_core.proofs.history.Fronts.{begins_by}
 use Rattle.reader_marks.specs.Sections.{IsEnterStep}
 use Rattle.reader_marks.proofs.EnterKinds.{enter_kind}
 use Rattle.seat_log.specs.Notes.{Noted}
@@ -37,7 +37,7 @@ IsPlain s = NamesNoCommit s.kind × IsOtherKind s.kind
 -- plain steps that end outside a section are a part of a reclaiming call
 pub section_makes : (v w : View) (made : List Step) → MayLoadLow v → w.phase ≡ Outside → BeginsWith w.past.seen v.past.seen
     → w.trail ≡ v.trail ++ made → All IsPlain made
-    → w ≡ record v { past = record v.past { seen = w.past.seen }; phase = Outside; heard = w.heard; walk = Nowhere; empty = w.empty; ring = w.ring; back = None; trail = w.trail } → Makes v w made
+    → w ≡ record v { past = record v.past { seen = w.past.seen }; phase = Outside; clocks = w.clocks; walk = Nowhere; empty = w.empty; ring = w.ring; back = None; trail = w.trail } → Makes v w made
 section_makes v w made may outside seen trail kinds rest =
     let past : record v.past { seen = w.past.seen } ≡ w.past = sym (ap (λ (x : View). x.past) rest) in
     let grace : v.grace ≡ w.grace = sym (ap (λ (x : View). x.grace) rest) in record {
@@ -50,7 +50,7 @@ section_makes v w made may outside seen trail kinds rest =
         trail = trail;
         kinds = All-weaker IsPlain (λ s. NamesNoCommit s.kind) (λ s p. p.0) made kinds;
         rest = rest
-            ∙ (λ i. record v { past = past i; phase = Outside; heard = w.heard; walk = Nowhere; empty = w.empty; ring = w.ring; back = None; scan = may.no_scan i; grace = grace i; trail = w.trail });
+            ∙ (λ i. record v { past = past i; phase = Outside; clocks = w.clocks; walk = Nowhere; empty = w.empty; ring = w.ring; back = None; scan = may.no_scan i; grace = grace i; trail = w.trail });
       };
       rests = ap (λ (x : View). x.past.rests) rest;
       kinds = All-weaker IsPlain (λ s. IsOtherKind s.kind) (λ s p. p.1) made kinds;
@@ -88,11 +88,11 @@ module _ (c : Config) (v w : View) (object link : ℕ) (h : HasLooked c v w obje
       (begins_by e.past.seen (take h.begins.at e.past.seen) v.past.seen (drop h.begins.at e.past.seen, sym (take-append-drop h.begins.at e.past.seen)) h.begins.snapshot)
 
   pub looked_rest : w
-      ≡ record v { past = record v.past { seen = w.past.seen }; phase = w.phase; heard = w.heard; walk = w.walk; empty = w.empty; back = None; trail = w.trail }
+      ≡ record v { past = record v.past { seen = w.past.seen }; phase = w.phase; clocks = w.clocks; walk = w.walk; empty = w.empty; back = None; trail = w.trail }
   looked_rest =
       subst
       (λ (y : View).
-      y ≡ record v { past = record v.past { seen = y.past.seen }; phase = y.phase; heard = y.heard; walk = y.walk; empty = y.empty; back = None; trail = y.trail })
+      y ≡ record v { past = record v.past { seen = y.past.seen }; phase = y.phase; clocks = y.clocks; walk = y.walk; empty = y.empty; back = None; trail = y.trail })
       (sym h.looked)
       (ap (λ (y : View). record y { walk = x.walk; empty = x.empty; trail = x.trail }) h.begins.rest)
 
@@ -132,8 +132,8 @@ module _ (c : Config) (v w : View) (object link : ℕ) (h : HasLooked c v w obje
         (section_makes v y left_steps may refl looked_seen
         (ap (λ (l : List Step). l ++ clear_step ∷ []) looked_trail ∙ append_assoc v.trail looked_steps (clear_step ∷ []))
         (All-append IsPlain looked_steps (clear_step ∷ []) looked_plain (All-cons IsPlain clear_step [] (tt, tt) (All-nil IsPlain)))
-        (ap (λ (z : View). record z { phase = Outside; heard = heard_nothing; walk = Nowhere; back = None; trail = y.trail }) looked_rest
-        ∙ (λ i. record v { past = record v.past { seen = w.past.seen }; phase = Outside; heard = heard_nothing; walk = Nowhere; empty = w.empty; ring = ring i; back = None; trail = y.trail })))
+        (ap (λ (z : View). record z { phase = Outside; clocks = no_clocks; walk = Nowhere; back = None; trail = y.trail }) looked_rest
+        ∙ (λ i. record v { past = record v.past { seen = w.past.seen }; phase = Outside; clocks = no_clocks; walk = Nowhere; empty = w.empty; ring = ring i; back = None; trail = y.trail })))
 
     pub left_stands : (l : Noted) → Stands c v l → Stands c u l
     left_stands l k = subst (λ (y : View). Stands c y l) (sym left) (stands_unmarked c w l (looked_stands l k))

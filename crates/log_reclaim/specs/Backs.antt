@@ -38,7 +38,7 @@ pub record IsWriting (c : Config) (v : View) (back : Back) : Type 0 where
   pub inside : Section
   pub phase : v.phase ≡ Inside inside
   pub open_is : inside.mode ≡ Open
-  pub past_help : IsPastHelp v.heard inside
+  pub past_help : IsPastHelp v.clocks inside
   pub nothing : HoldsNothing v.ring
   pub version : Version
   pub note : CommitNote

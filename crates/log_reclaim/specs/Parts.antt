@@ -49,7 +49,7 @@ pub record Reclaims (v w : View) (made : List Step) : Type 0 where
   pub grace : v.grace ≤ w.grace
   pub trail : w.trail ≡ v.trail ++ made
   pub kinds : All (λ s. NamesNoCommit s.kind) made
-  pub rest : w ≡ record v { past = w.past; phase = Outside; heard = w.heard; walk = Nowhere; empty = w.empty; ring = w.ring; back = None; scan = None; grace = w.grace; trail = w.trail }
+  pub rest : w ≡ record v { past = w.past; phase = Outside; clocks = w.clocks; walk = Nowhere; empty = w.empty; ring = w.ring; back = None; scan = None; grace = w.grace; trail = w.trail }
 
 -- the same note, but for a time of death where there was none
 pub record DiesFrom (old n : Note) : Type 0 where

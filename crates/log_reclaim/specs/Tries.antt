@@ -57,7 +57,7 @@ pub record StoresAll (c : Config) (v w : View) (l m : Noted) (back : Back) (end 
   pub seen : BeginsWith w.past.seen v.past.seen
   pub trail : w.trail ≡ v.trail ++ made
   pub kinds : All (λ s. NamesNoCommit s.kind × IsOtherKind s.kind) made
-  pub rest : w ≡ record v { past = record v.past { seen = w.past.seen }; phase = Outside; heard = w.heard; walk = Nowhere; ring = w.ring; back = None; trail = w.trail }
+  pub rest : w ≡ record v { past = record v.past { seen = w.past.seen }; phase = Outside; clocks = w.clocks; walk = Nowhere; ring = w.ring; back = None; trail = w.trail }
   pub within : time ≤ w.base + length w.past.seen
   pub cut : end ≡ Cut → (m ≡ back_noted (retired l back.position (time + 1))) × TimesDeath made (time + 1)
   pub above : (seat : ℕ) → end ≡ Above seat → (m ≡ l) × (seat ≢ v.number) × (seat < c.seats) × ((s : Step) × Contains made s × FindsSeat c back.object seat s)

@@ -15,7 +15,7 @@ use Rattle.mv_core.specs.declared.view.Walk.TheVariants.{At}
 use Rattle.mv_core.specs.declared.view.Stand.{Stand}
 use Rattle.mv_core.specs.Rings.{Lives}
 use Rattle.mv_core.specs.Times.{latest, latest_at, words_of, AreThe, NotAboveAny}
-use Rattle.mv_core.specs.Views.{Faces}
+use Rattle.mv_core.specs.Views.{ViewParts}
 use Rattle.mv_core.specs.SetFacts.{stamp_of}
 
 -- a version with its status, in a slot of a seat's log
@@ -105,7 +105,7 @@ IsLater t (Aborted dead) = ⊥
 IsLater t (Committed note) = t < note.time
 
 -- the section of seat j, of time t, reaches a link: the HEAD of an object, the link at which it stands, or one got from these by following PREV, each time out of a version whose stamp is unset or above t
-pub record ReachesLink (c : Config) (m : Memory) (f : Faces) (j t link : ℕ) : Type 0 where
+pub record ReachesLink (c : Config) (m : Memory) (f : ViewParts) (j t link : ℕ) : Type 0 where
   pub in_section : f.time j ≡ Some t
   pub from : ℕ
   pub begins : ((o : ℕ) × (from ≡ m (Head o))) ⊎ ((stand : Stand) × (f.walk j ≡ At stand) × (from ≡ stand.link))
@@ -113,14 +113,14 @@ pub record ReachesLink (c : Config) (m : Memory) (f : Faces) (j t link : ℕ) : 
   pub leads : LeadsBy m f.ring (λ p. GoesOn t (stamp_of c (λ s k. m (Stamp s k)) p.seat p.version)) from passed link
 
 -- it reaches a version: it reaches a link that names it
-abbrev pub Reaches : Config → Memory → Faces → ℕ → ℕ → Placed → Type 0
+abbrev pub Reaches : Config → Memory → ViewParts → ℕ → ℕ → Placed → Type 0
 Reaches c m f j t p = (link : ℕ) × ReachesLink c m f j t link × IsLinked m f.ring link p
 
 -- from HEAD of the object one gets to the link by versions alone that are held, or committed later than t
 abbrev pub IsUnderLater : Memory → (ℕ → Ring) → ℕ → ℕ → ℕ → Type 0
 IsUnderLater m rings o t link = (above : List Placed) × LeadsBy m rings (λ p. IsLater t p.status) (m (Head o)) above link
 
-module _ (c : Config) (start : State) (m : Memory) (h : List Entry) (f : Faces) where
+module _ (c : Config) (start : State) (m : Memory) (h : List Entry) (f : ViewParts) where
   -- the version was cut from its chain, and has its object's words of time t
   pub record IsCutFor (t o : ℕ) (p : Placed) : Type 0 where
     pub note : CommitNote

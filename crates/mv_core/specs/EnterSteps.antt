@@ -18,10 +18,10 @@ use Rattle.mv_core.specs.declared.view.Mode.{Mode}
 use Rattle.mv_core.specs.declared.view.Mode.TheVariants.{Open, Aborting, Named}
 use Rattle.mv_core.specs.declared.view.Naming.{Naming}
 use Rattle.mv_core.specs.declared.view.Walk.TheVariants.{Nowhere}
-use Rattle.mv_core.specs.declared.view.Heard.{Heard}
+use Rattle.mv_core.specs.declared.view.LoadedClocks.{LoadedClocks}
 use Rattle.mv_core.specs.declared.view.FoundStamp.{FoundStamp}
 use Rattle.mv_core.specs.Rings.{slot_at, index_of, HoldsNothing}
-use Rattle.mv_core.specs.Views.{heard_nothing, low_of, names_none, told}
+use Rattle.mv_core.specs.Views.{no_clocks, low_of, names_none, with_step}
 use Rattle.mv_core.specs.HistoryFacts.{BeginsWith}
 
 -- h is the whole history where CLOCK is this word: it begins with all that was seen, and is as long as the word says
@@ -43,7 +43,7 @@ pub record MayLoadLow (v : View) : Type 0 where
 
 -- it gives the low time; clock words are forgotten
 abbrev pub low_loaded : Config → View → ℕ → View
-low_loaded c v word = record v { phase = Lowered (clock_time_of word); heard = heard_nothing; trail = told c v LoadLow Clock (Some word) None }
+low_loaded c v word = record v { phase = Lowered (clock_time_of word); clocks = no_clocks; trail = with_step c v LoadLow Clock (Some word) None }
 
 -- store MARK: a low time was loaded
 abbrev pub MayStoreMark : View → ℕ → Type 0
@@ -51,7 +51,7 @@ MayStoreMark v low = v.phase ≡ Lowered low
 
 -- the mark is stored for that low time
 abbrev pub mark_stored : Config → View → ℕ → View
-mark_stored c v low = record v { phase = Marked low; trail = told c v StoreMark (Mark v.number) None (Some (1 + low)) }
+mark_stored c v low = record v { phase = Marked low; trail = with_step c v StoreMark (Mark v.number) None (Some (1 + low)) }
 
 -- load CLOCK (take time): the mark was stored
 abbrev pub MayLoadTime : View → Type 0
@@ -62,30 +62,30 @@ abbrev pub time_loaded : Config → View → ℕ → List Entry → View
 time_loaded c v word h = record v {
   phase = Inside (record { low = low_of v.phase; word = word; mode = Open });
   past = record v.past { seen = h };
-  heard = record { loaded = word ∷ []; helped = if_none word; found = None };
+  clocks = record { loaded = word ∷ []; helped = if_none word; found = None };
   walk = Nowhere;
   back = None;
-  trail = told c v LoadTime Clock (Some word) None;
+  trail = with_step c v LoadTime Clock (Some word) None;
 }
 
 -- the word is helped, and no unset stamp is kept
-abbrev pub helped_too : Heard → ℕ → Heard
-helped_too heard word = record heard { helped = heard.helped ++ word ∷ []; found = None }
+abbrev pub helped_too : LoadedClocks → ℕ → LoadedClocks
+helped_too clocks word = record clocks { helped = clocks.helped ++ word ∷ []; found = None }
 
 -- load STAMP named: of a clock word that was loaded and names a commit
 pub record MayLoadNamed (v : View) (word : ℕ) : Type 0 where
-  pub loaded : Contains v.heard.loaded word
+  pub loaded : Contains v.clocks.loaded word
   pub names : clock_slot_of word ≢ 8191
 
 -- an unset stamp is kept, and else the word is helped
-abbrev pub named_heard : Heard → ℕ → ℕ → Heard
-named_heard heard word found =
-    if leb 9223372036854775808 found then record heard { found = Some (record { word = word; unset = found; checked = false }) } else helped_too heard word
+abbrev pub named_clocks : LoadedClocks → ℕ → ℕ → LoadedClocks
+named_clocks clocks word found =
+    if leb 9223372036854775808 found then record clocks { found = Some (record { word = word; unset = found; checked = false }) } else helped_too clocks word
 
--- what was found there is heard
+-- what was found there is noted
 abbrev pub named_loaded : Config → View → ℕ → ℕ → View
 named_loaded c v word found =
-    record v { heard = named_heard v.heard word found; trail = told c v LoadNamed (stamp_place word) (Some found) None }
+    record v { clocks = named_clocks v.clocks word found; trail = with_step c v LoadNamed (stamp_place word) (Some found) None }
 
 -- load CLOCK (check): outside or in a section
 abbrev pub MayLoadCheck : Phase → Type 0
@@ -104,20 +104,20 @@ abbrev pub checked_helped : Option FoundStamp → ℕ → List ℕ
 checked_helped None word = []
 checked_helped (Some f) word = if f.word == word then [] else f.word ∷ []
 
--- what is heard of the clock's word
-abbrev pub checked_heard : Heard → ℕ → Heard
-checked_heard heard word = record {
-  loaded = heard.loaded ++ word ∷ [];
-  helped = heard.helped ++ (if_none word ++ checked_helped heard.found word);
-  found = checked_found heard.found word;
+-- what is noted of the clock's word
+abbrev pub checked_clocks : LoadedClocks → ℕ → LoadedClocks
+checked_clocks clocks word = record {
+  loaded = clocks.loaded ++ word ∷ [];
+  helped = clocks.helped ++ (if_none word ++ checked_helped clocks.found word);
+  found = checked_found clocks.found word;
 }
 
 -- the whole history h is seen, and the word is loaded
 abbrev pub check_loaded : Config → View → ℕ → List Entry → View
 check_loaded c v word h = record v {
   past = record v.past { seen = h };
-  heard = checked_heard v.heard word;
-  trail = told c v LoadCheck Clock (Some word) None;
+  clocks = checked_clocks v.clocks word;
+  trail = with_step c v LoadCheck Clock (Some word) None;
 }
 
 -- the clock word is that of the commit that this seat's section has named, and this its unset stamp
@@ -128,7 +128,7 @@ IsOwnNaming c v word unset =
 -- compare_exchange STAMP: the unset stamp was found for the word, which was in the clock afterwards, or both are of the own commit
 abbrev pub MayStamp : Config → View → ℕ → ℕ → Type 0
 MayStamp c v word unset =
-    (v.heard.found ≡ Some (record { word = word; unset = unset; checked = true })) ⊎ IsOwnNaming c v word unset
+    (v.clocks.found ≡ Some (record { word = word; unset = unset; checked = true })) ⊎ IsOwnNaming c v word unset
 
 -- whether the word and the unset stamp are those of the named commit of this seat
 abbrev pub is_own : Config → ℕ → Naming → ℕ → ℕ → Bool
@@ -155,8 +155,8 @@ stored_if found old new = if found == old then Some new else None
 abbrev pub stamp_swapped : Config → View → ℕ → ℕ → ℕ → View
 stamp_swapped c v word unset found = record v {
   phase = stamped_phase c v.number v.phase word unset;
-  heard = helped_too v.heard word;
-  trail = told c v SwapStamp (stamp_place word) (Some found) (stored_if found unset (clock_time_of word));
+  clocks = helped_too v.clocks word;
+  trail = with_step c v SwapStamp (stamp_place word) (Some found) (stored_if found unset (clock_time_of word));
 }
 
 -- store MARK 0: in a section that holds nothing; where it named a commit, the stamp's exchange and each SUPER are done
@@ -177,8 +177,8 @@ pub record MayClearMark (v : View) : Type 0 where
 abbrev pub mark_cleared : Config → View → View
 mark_cleared c v = record v {
   phase = Outside;
-  heard = heard_nothing;
+  clocks = no_clocks;
   walk = Nowhere;
   back = None;
-  trail = told c v ClearMark (Mark v.number) None (Some 0);
+  trail = with_step c v ClearMark (Mark v.number) None (Some 0);
 }

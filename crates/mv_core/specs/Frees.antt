@@ -17,18 +17,18 @@ use Rattle.mv_core.specs.declared.view.Mode.TheVariants.{Named}
 use Rattle.mv_core.specs.declared.view.Naming.{Naming}
 use Rattle.mv_core.specs.Rings.{slot_at, index_of, Lives, IsVersion}
 use Rattle.mv_core.specs.Times.{writes_to, IsEntry}
-use Rattle.mv_core.specs.Views.{Faces}
+use Rattle.mv_core.specs.Views.{ViewParts}
 use Rattle.mv_core.specs.ReclaimSteps.{IsDeadBy, free_stored}
 use Rattle.mv_core.specs.Chains.{ReachesLink, Reaches}
 
 -- the commit that CLOCK names, where it is of this seat, begins after the position
-abbrev pub ClockIsAfter : Memory → Faces → ℕ → ℕ → Type 0
+abbrev pub ClockIsAfter : Memory → ViewParts → ℕ → ℕ → Type 0
 ClockIsAfter m f s p =
     clock_slot_of (m Clock) ≢ 8191 → clock_seat_of (m Clock) ≡ s
     → (x : Version) × (note : CommitNote) × Lives f.ring s (clock_slot_of (m Clock)) x (Committed note) × (x.position ≡ x.first) × (p < x.first)
 
 -- a position of a seat's log whose slot is being freed: the set was freed from its first position on; each live version is of a later set, so none of this one is live; no section that named a commit named this set, and CLOCK names none up to here; no section reaches a link up to here; and the round of the position is below the seat's watermark
-pub record FreeingIs (c : Config) (m : Memory) (f : Faces) (s p first : ℕ) : Type 0 where
+pub record FreeingIs (c : Config) (m : Memory) (f : ViewParts) (s p first : ℕ) : Type 0 where
   pub after_first : first < p
   pub later_sets : (k : ℕ) (x : Version) (st : Status) → Lives f.ring s k x st → p < x.first
   pub named_later : (inside : Section) (n : Naming) → f.section s ≡ Some inside → inside.mode ≡ Named n → p < n.first
@@ -37,7 +37,7 @@ pub record FreeingIs (c : Config) (m : Memory) (f : Faces) (s p first : ℕ) : T
   pub round : c.base + p / c.slots < f.grace s
 
 -- what is being freed is so; no section reaches a version that is dead by its seat's watermark; and each write of the history has its version still, or its time is below the watermark of the seat that made it
-pub record FreesHold (c : Config) (m : Memory) (h : List Entry) (f : Faces) : Type 0 where
+pub record FreesHold (c : Config) (m : Memory) (h : List Entry) (f : ViewParts) : Type 0 where
   pub freeing : (s k p first : ℕ) → slot_at (f.ring s) k ≡ Freeing p first → FreeingIs c m f s p first
   pub dead : (s k : ℕ) (x : Version) (st : Status) → Lives f.ring s k x st → IsDeadBy (f.grace s) st → (j t : ℕ) → ¬ (Reaches c m f j t (record { seat = s; slot = k; version = x; status = st }))
   pub old : (t o : ℕ) (e : Entry) → IsEntry c.base h t e → writes_to o e ≡ true → ((link : ℕ) × (x : Version) × (note : CommitNote) × IsVersion f.ring o t link x note) ⊎ (t < f.grace (maker_of e))

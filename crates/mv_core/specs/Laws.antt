@@ -16,6 +16,6 @@ use Rattle.mv_core.specs.Rule.{Ruled}
 -- helped-commit: once a seat has helped a clock word, the stamp of each live commit up to the word's time is that commit's time
 abbrev pub HelpedAreStamped : (State → Type 0) → (List ℕ → State → Writes → Type 0) → Type 0
 HelpedAreStamped starts allows =
-    (key : Opening) (s : table.State (List ℕ) View) (r : Ruled starts allows key s) (seat word : ℕ) → Contains (r.seats seat).heard.helped word
+    (key : Opening) (s : table.State (List ℕ) View) (r : Ruled starts allows key s) (seat word : ℕ) → Contains (r.seats seat).clocks.helped word
     → (t k : ℕ) (x : Version) (note : CommitNote) → Lives (λ u. (r.seats u).ring) t k x (Committed note) → note.time ≤ clock_time_of word
     → slice_index s.words (place_of key.config (Stamp t (index_of key.config x.first))) ≡ note.time

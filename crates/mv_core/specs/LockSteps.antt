@@ -21,7 +21,7 @@ use Rattle.mv_core.specs.declared.view.Stand.{Stand}
 use Rattle.mv_core.specs.declared.view.Passed.TheVariants.{Nothing}
 use Rattle.mv_core.specs.Rings.{slot_at, index_of, put_slot, held_count, spare_count, set_first, own_of}
 use Rattle.mv_core.specs.Times.{words_of}
-use Rattle.mv_core.specs.Views.{time_in, IsUnnamed, told}
+use Rattle.mv_core.specs.Views.{time_in, IsUnnamed, with_step}
 use Rattle.mv_core.specs.WalkSteps.{IsWalking, stand_at}
 
 -- the word of a slot by its offset: FIRST 0, STAMP 1, PREV 2, SUPER 3, DATA word w 4 + w
@@ -72,7 +72,7 @@ pub record MayStoreBuilt (c : Config) (v : View) (position field x : ℕ) (b : B
 abbrev pub built_stored : Config → View → ℕ → ℕ → ℕ → Build → View
 built_stored c v position field x b = record v {
   ring = put_slot v.ring (index_of c position) (Built (built_too b field x));
-  trail = told c v StoreBuilt (field_place v.number (index_of c position) field) None (Some x);
+  trail = with_step c v StoreBuilt (field_place v.number (index_of c position) field) None (Some x);
 }
 
 -- store DATA of a held slot: in an open section, of a position that is held
@@ -88,7 +88,7 @@ pub record MayStoreData (c : Config) (v : View) (position word : ℕ) (x : Versi
 abbrev pub data_stored : Config → View → ℕ → ℕ → ℕ → Version → View
 data_stored c v position word value x = record v {
   ring = put_slot v.ring (index_of c position) (Live (record x { words = slice_set x.words word value }) Held);
-  trail = told c v StoreData (Data v.number (index_of c position) word) None (Some value);
+  trail = with_step c v StoreData (Data v.number (index_of c position) word) None (Some value);
 }
 
 -- the walk stands where a lock may be put: at the master, or at a version whose time, which it found, is not above the section's
@@ -126,13 +126,13 @@ locked_version c v inside object previous position = record {
 abbrev pub head_locked : Config → View → Section → ℕ → ℕ → ℕ → View
 head_locked c v inside object previous position = record v {
   ring = record (put_slot v.ring (index_of c position) (Live (locked_version c v inside object previous position) Held)) { next = position + 1 };
-  trail = told c v LockHead (Head object) (Some previous) (Some (link_of v.number position));
+  trail = with_step c v LockHead (Head object) (Some previous) (Some (link_of v.number position));
 }
 
 -- lost: the walk stands at the link found
 abbrev pub lock_lost : Config → View → ℕ → ℕ → View
 lock_lost c v object link =
-    record v { walk = stand_at object link Nothing true; trail = told c v LockHead (Head object) (Some link) None }
+    record v { walk = stand_at object link Nothing true; trail = with_step c v LockHead (Head object) (Some link) None }
 
 -- what the exchange tells
 abbrev pub LockTold : Config → View → Section → ℕ → ℕ → ℕ → ℕ → View → Type 0
@@ -157,7 +157,7 @@ abbrev pub head_unlocked : Config → View → ℕ → ℕ → ℕ → Version �
 head_unlocked c v object previous k x inside = record v {
   phase = Inside (record inside { mode = Aborting });
   ring = put_slot v.ring k (Live x (Aborted None));
-  trail = told c v UnlockHead (Head object) None (Some previous);
+  trail = with_step c v UnlockHead (Head object) None (Some previous);
 }
 
 -- the time of death where none was noted of an aborted or cut version
@@ -193,5 +193,5 @@ abbrev pub death_loaded : Config → View → ℕ → List Entry → View
 death_loaded c v word h = record v {
   past = record v.past { seen = h };
   ring = record v.ring { slots = map (timed (clock_time_of word + 1)) v.ring.slots };
-  trail = told c v LoadDeath Clock (Some word) None;
+  trail = with_step c v LoadDeath Clock (Some word) None;
 }

@@ -21,7 +21,7 @@ use Rattle.mv_core.specs.declared.view.Mode.TheVariants.{Open, Named}
 use Rattle.mv_core.specs.declared.view.Naming.{Naming}
 use Rattle.mv_core.specs.Rings.{slot_at, index_of, put_slot, held_count, set_first, own_of}
 use Rattle.mv_core.specs.Times.{IsEntry}
-use Rattle.mv_core.specs.Views.{time_in, told}
+use Rattle.mv_core.specs.Views.{time_in, with_step}
 use Rattle.mv_core.specs.SectionFacts.{IsPastHelp}
 use Rattle.mv_core.specs.EnterSteps.{IsWhole, if_none}
 use Rattle.mv_core.specs.WalkSteps.{IsLinkOf, slot_named}
@@ -49,10 +49,10 @@ commit_word c v word = clock_of (clock_time_of word + 1) v.number (index_of c (s
 pub record MayNameCommit (allows : List ℕ → State → Writes → Type 0) (c : Config) (v : View) (word : ℕ) (tag : List ℕ) (inside : Section) : Type 0 where
   pub phase : v.phase ≡ Inside inside
   pub open_is : inside.mode ≡ Open
-  pub past_help : IsPastHelp v.heard inside
+  pub past_help : IsPastHelp v.clocks inside
   pub some_held : 0 < held_count v.ring
-  pub loaded : Contains v.heard.loaded word
-  pub helped : Contains v.heard.helped word
+  pub loaded : Contains v.clocks.loaded word
+  pub helped : Contains v.clocks.helped word
   pub room : clock_time_of word < 35184372088831
   pub fit : IsFit allows (state_at v.start v.past.seen (time_in inside - c.base)) tag (own_of c v.ring)
 
@@ -67,15 +67,15 @@ commit_named c v inside tag word h = record v {
   past = record v.past { seen = h ++ Change (commit_of c v inside tag) ∷ []; mine = v.past.mine ++ commit_of c v inside tag ∷ [] };
   phase = Inside (record inside { mode = Named (record { time = clock_time_of word + 1; first = set_first v.ring; stamped = false }) });
   ring = record v.ring { slots = map (committed_slot (clock_time_of word + 1)) v.ring.slots };
-  trail = told c v NameCommit Clock (Some word) (Some (commit_word c v word));
+  trail = with_step c v NameCommit Clock (Some word) (Some (commit_word c v word));
 }
 
 -- lost to the word found, which is loaded, as the whole history h is seen
 abbrev pub commit_lost : Config → View → ℕ → List Entry → View
 commit_lost c v found h = record v {
   past = record v.past { seen = h };
-  heard = record v.heard { loaded = v.heard.loaded ++ found ∷ []; helped = v.heard.helped ++ if_none found };
-  trail = told c v NameCommit Clock (Some found) None;
+  clocks = record v.clocks { loaded = v.clocks.loaded ++ found ∷ []; helped = v.clocks.helped ++ if_none found };
+  trail = with_step c v NameCommit Clock (Some found) None;
 }
 
 -- an exchange that expected this word found that of a later entry, which ends the history, and is by the seat that the word found names
@@ -106,7 +106,7 @@ pub record MayStoreSuper (v : View) (link time k : ℕ) (x : Version) (note : Co
 abbrev pub super_stored : Config → View → ℕ → ℕ → ℕ → Version → CommitNote → View
 super_stored c v link time k x note = record v {
   ring = put_slot v.ring k (Live x (Committed (record note { linked = true })));
-  trail = told c v StoreSuper (Super (link_seat_of link) (slot_named c link)) None (Some time);
+  trail = with_step c v StoreSuper (Super (link_seat_of link) (slot_named c link)) None (Some time);
 }
 
 -- the clock word of a rest, after this one
@@ -116,23 +116,23 @@ rest_word v word = clock_of (clock_time_of word + 1) v.number 8191
 -- compare_exchange CLOCK (rest): outside, the word was loaded and helped, and a time is left
 pub record MayNameRest (v : View) (word : ℕ) : Type 0 where
   pub outside : v.phase ≡ Outside
-  pub loaded : Contains v.heard.loaded word
-  pub helped : Contains v.heard.helped word
+  pub loaded : Contains v.clocks.loaded word
+  pub helped : Contains v.clocks.helped word
   pub room : clock_time_of word < 35184372088831
 
 -- won, over the whole history h that was there
 abbrev pub rest_named : Config → View → ℕ → List Entry → View
 rest_named c v word h = record v {
   past = record v.past { seen = h ++ Rest v.number ∷ []; rests = v.past.rests + 1 };
-  trail = told c v NameRest Clock (Some word) (Some (rest_word v word));
+  trail = with_step c v NameRest Clock (Some word) (Some (rest_word v word));
 }
 
 -- lost to the word found, which is loaded, as the whole history h is seen
 abbrev pub rest_lost : Config → View → ℕ → List Entry → View
 rest_lost c v found h = record v {
   past = record v.past { seen = h };
-  heard = record v.heard { loaded = v.heard.loaded ++ found ∷ []; helped = v.heard.helped ++ if_none found };
-  trail = told c v NameRest Clock (Some found) None;
+  clocks = record v.clocks { loaded = v.clocks.loaded ++ found ∷ []; helped = v.clocks.helped ++ if_none found };
+  trail = with_step c v NameRest Clock (Some found) None;
 }
 
 -- what the exchange tells

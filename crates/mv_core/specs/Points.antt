@@ -24,7 +24,7 @@ use Rattle.mv_core.specs.declared.view.Stand.{Stand}
 use Rattle.mv_core.specs.declared.shared.Opening.{Opening}
 use Rattle.mv_core.specs.Rings.{slot_at, Lives, index_of}
 use Rattle.mv_core.specs.Times.{latest_at, words_of, AreThe, NotAboveAny}
-use Rattle.mv_core.specs.Views.{Faces, faces_of}
+use Rattle.mv_core.specs.Views.{ViewParts, parts_of}
 use Rattle.mv_core.specs.HistoryFacts.{History}
 use Rattle.mv_core.specs.SetFacts.{stamp_of, SlotWords, Stamps, WriteSets, Successors, Positions}
 use Rattle.mv_core.specs.SectionFacts.{Marks, StampedPastHelp, HelpedWords, LockFreshness}
@@ -53,53 +53,53 @@ pub record AreThePasts (vs : List View) (past : ℕ → Past) : Type 0 where
   pub notes : (id : ℕ) (v : View) (n : Note) → get_elem? vs id ≡ some v → v.spent ≡ false → Contains v.notes n → past n.number ≡ n.past
 
 -- write-sets: the words of each slot are those of its version or of what was built there; a committed set has the writes of one commit, and a held one goes on to the next position; each set is a run of positions, whose versions were all committed, or are held or aborted; a set's stamp is its commit's time, or unset while the clock names the commit or there is none; and a clock word that was helped is done
-pub record WriteSetsHold (c : Config) (m : Memory) (h : List Entry) (f : Faces) : Type 0 where
+pub record WriteSetsHold (c : Config) (m : Memory) (h : List Entry) (f : ViewParts) : Type 0 where
   pub words : SlotWords (λ s k. m (First s k)) (λ s k. m (Prev s k)) (λ s k i. m (Data s k i)) f.ring
   pub stamps : Stamps c (m Clock) (λ s k. m (Stamp s k)) f.ring
   pub sets : WriteSets c h f.ring
   pub whole : SetsAreWhole c m f
-  pub helped : HelpedWords (m Clock) (λ s k. m (Stamp s k)) f.heard
+  pub helped : HelpedWords (m Clock) (λ s k. m (Stamp s k)) f.clocks
 
 -- marks: each seat has the mark of its phase, and a section that is past its help finds each live commit up to its time stamped
-pub record MarksHold (c : Config) (m : Memory) (f : Faces) : Type 0 where
+pub record MarksHold (c : Config) (m : Memory) (f : ViewParts) : Type 0 where
   pub marks : Marks (m Clock) (λ s. m (Mark s)) f.phase
-  pub stamped : StampedPastHelp c (λ s k. m (Stamp s k)) f.section f.heard f.ring
+  pub stamped : StampedPastHelp c (λ s k. m (Stamp s k)) f.section f.clocks f.ring
 
 -- grace: no watermark is above the time of a section or the clock's, and a running scan keeps below what it scanned
-abbrev pub GraceHolds : Memory → Faces → Type 0
+abbrev pub GraceHolds : Memory → ViewParts → Type 0
 GraceHolds m f = section.Grace (m Clock) (m Grace) f.time f.grace f.scan
 
 -- lock-freshness: the object of a held version was last written at or before its section's time
-abbrev pub LocksAreFresh : Config → List Entry → Faces → Type 0
+abbrev pub LocksAreFresh : Config → List Entry → ViewParts → Type 0
 LocksAreFresh c h f = LockFreshness c h f.time f.ring
 
 -- successors: SUPER is 0 or the time of the next write of the version's object
-abbrev pub SuccessorsHold : Config → Memory → List Entry → Faces → Type 0
+abbrev pub SuccessorsHold : Config → Memory → List Entry → ViewParts → Type 0
 SuccessorsHold c m h f = Successors c h (λ s k. m (Stamp s k)) (λ s k. m (Super s k)) f.section f.ring
 
 -- deaths: a noted time of death is the next write of the version's object, or of a version out of its chain at most one above the clock
-abbrev pub DeathsHold : Config → List Entry → Faces → Type 0
+abbrev pub DeathsHold : Config → List Entry → ViewParts → Type 0
 DeathsHold c h f = Deaths c h f.ring
 
 -- reachable-links, of positions: a live slot has its own position among the last ones used, with no gap, and a built one the next
-abbrev pub PositionsRunOn : Config → List Entry → Faces → Type 0
+abbrev pub PositionsRunOn : Config → List Entry → ViewParts → Type 0
 PositionsRunOn c h f = Positions c h f.ring
 
 -- positions-bounded: a seat has used at most this many positions
-abbrev pub PositionsAreBounded : Config → Memory → Faces → Type 0
+abbrev pub PositionsAreBounded : Config → Memory → ViewParts → Type 0
 PositionsAreBounded c m f = (s : ℕ) → (f.ring s).next ≤ c.slots * (clock_time_of (m Clock) - c.base + 1)
 
 -- helped-commit: a live commit before the clock's time is stamped, so each won exchange of the clock comes after the stamp of the commit before
-abbrev pub EarlierAreStamped : Config → Memory → Faces → Type 0
+abbrev pub EarlierAreStamped : Config → Memory → ViewParts → Type 0
 EarlierAreStamped c m f =
     (s k : ℕ) (x : Version) (note : CommitNote) → Lives f.ring s k x (Committed note) → note.time < clock_time_of (m Clock) → stamp_of c (λ t l. m (Stamp t l)) s x ≡ note.time
 
 -- stalled-write-back: between its first store into an object's master and its leave, a seat is the only one
-abbrev pub OneWritesBack : Faces → Type 0
+abbrev pub OneWritesBack : ViewParts → Type 0
 OneWritesBack f = (s t : ℕ) (a b : WriteBack) → f.back s ≡ Some a → f.back t ≡ Some b → a.object ≡ b.object → s ≡ t
 
 -- the one chain of an object: at most as many versions as there are slots, its latest writes, under perhaps one held version, ending grounded or loose
-pub record ChainIs (c : Config) (start : State) (m : Memory) (h : List Entry) (f : Faces) (o : ℕ) : Type 0 where
+pub record ChainIs (c : Config) (start : State) (m : Memory) (h : List Entry) (f : ViewParts) (o : ℕ) : Type 0 where
   pub versions : List Placed
   pub is : IsChain m f.ring o versions
   pub once : (others : List Placed) → IsChain m f.ring o others → others ≡ versions
@@ -108,38 +108,38 @@ pub record ChainIs (c : Config) (start : State) (m : Memory) (h : List Entry) (f
   pub ends : IsGrounded m f.ring c start h f.time o versions ⊎ IsLoose m f.ring c start h f.time versions
 
 -- chains: each object has one
-abbrev pub ChainsHold : Config → State → Memory → List Entry → Faces → Type 0
+abbrev pub ChainsHold : Config → State → Memory → List Entry → ViewParts → Type 0
 ChainsHold c start m h f = (o : ℕ) → ChainIs c start m h f o
 
 -- reachable-links: a link that a section reaches is 0 or names a live version, in the slot of its position
-abbrev pub ReachedAreLive : Config → Memory → Faces → Type 0
+abbrev pub ReachedAreLive : Config → Memory → ViewParts → Type 0
 ReachedAreLive c m f =
     (j t link : ℕ) → ReachesLink c m f j t link → link ≢ 0 → (p : Placed) × IsLinked m f.ring link p × (index_of c p.version.position ≡ p.slot)
 
 -- no-slot-reuse: while a section reaches the link of a position, its slot has the version of that very position, so it isn't built again
-abbrev pub ReachedAreKept : Config → Memory → Faces → Type 0
+abbrev pub ReachedAreKept : Config → Memory → ViewParts → Type 0
 ReachedAreKept c m f =
     (j t link s position : ℕ) → ReachesLink c m f j t link → position < 2 ^ 57 → link ≡ link_of s position
     → (x : Version) × (st : Status) × Lives f.ring s (index_of c position) x st × (x.position ≡ position)
 
 -- walkers-and-deaths, of deaths: a noted time of death of a version is above the time of each section that stands at the version or reaches it
-abbrev pub ReachedBeforeDeath : Config → Memory → Faces → Type 0
+abbrev pub ReachedBeforeDeath : Config → Memory → ViewParts → Type 0
 ReachedBeforeDeath c m f = (j t : ℕ) (p : Placed) → Reaches c m f j t p → IsBeforeDeath t p.status
 
 -- walkers-and-deaths, of places: a walk stands at a chained version above which all are held or later than its section's time, at one that was cut and has the words of that time, at an aborted one over such a one, or at a master with those words
-abbrev pub WalksStandRight : Config → State → Memory → List Entry → Faces → Type 0
+abbrev pub WalksStandRight : Config → State → Memory → List Entry → ViewParts → Type 0
 WalksStandRight c start m h f =
     ((j t : ℕ) (stand : Stand) → f.time j ≡ Some t → f.walk j ≡ At stand → IsRightLink c start m h f t stand.object stand.link ⊎ IsAbortedOver c start m h f t stand.object stand.link)
     × ((j t o : ℕ) → f.time j ≡ Some t → f.walk j ≡ walk.Master o → IsRightMaster c start m h f t o)
 
 -- master-read: a section at an object's master finds there the words of the state at its time, and no seat is then between its first store there and its exchange of HEAD
-abbrev pub MastersAreRead : Config → State → Memory → List Entry → Faces → Type 0
+abbrev pub MastersAreRead : Config → State → Memory → List Entry → ViewParts → Type 0
 MastersAreRead c start m h f =
     (j t o : ℕ) → f.time j ≡ Some t → f.walk j ≡ walk.Master o
     → AreThe (λ i. m (Master o i)) (words_of c start h t o) × ((s : ℕ) (b : WriteBack) → f.back s ≡ Some b → b.object ≡ o → b.tried ≡ true)
 
 -- who writes back is in a section, and the version is its object's last write up to that section's time, not above any section's; until the exchange of HEAD all above it in its chain are held or later than that section, and the words stored so far are its own
-pub record BackIs (c : Config) (m : Memory) (h : List Entry) (f : Faces) (s : ℕ) (b : WriteBack) : Type 0 where
+pub record BackIs (c : Config) (m : Memory) (h : List Entry) (f : ViewParts) (s : ℕ) (b : WriteBack) : Type 0 where
   pub at : ℕ
   pub in_section : f.time s ≡ Some at
   pub version : Version
@@ -153,13 +153,13 @@ pub record BackIs (c : Config) (m : Memory) (h : List Entry) (f : Faces) (s : �
   pub words : b.tried ≡ false → (i : ℕ) → i < b.stored → m (Master b.object i) ≡ slice_index version.words i
 
 -- write-back: this holds of each
-abbrev pub BacksHold : Config → Memory → List Entry → Faces → Type 0
+abbrev pub BacksHold : Config → Memory → List Entry → ViewParts → Type 0
 BacksHold c m h f = (s : ℕ) (b : WriteBack) → f.back s ≡ Some b → BackIs c m h f s b
 
 module _ (starts : State → Type 0) (allows : List ℕ → State → Writes → Type 0) where
   -- in each state that the rule allows, this holds of the words by name, of the history and of the seats' views
-  abbrev pub InEachState : (Config → State → Memory → List Entry → Faces → Type 0) → Type 0
-  InEachState P = (key : Opening) (s : table.State (List ℕ) View) (r : Ruled starts allows key s) → P key.config key.start.value.items r.memory r.history (faces_of r.seats)
+  abbrev pub InEachState : (Config → State → Memory → List Entry → ViewParts → Type 0) → Type 0
+  InEachState P = (key : Opening) (s : table.State (List ℕ) View) (r : Ruled starts allows key s) → P key.config key.start.value.items r.memory r.history (parts_of r.seats)
 
   -- history: it is legal and allowed, its length is the clock's time less base, each seat has seen a part of it and one all of it, the clock names its last entry, and each seat knows its own commits and rests; the seats' numbers differ, each entry is of one of them, and what a seat knows is in its view or its note
   abbrev pub HistoryPoint : Type 0
@@ -175,7 +175,7 @@ module _ (starts : State → Type 0) (allows : List ℕ → State → Writes →
   abbrev pub FreesPoint : Type 0
   FreesPoint =
       (key : Opening) (s : table.State (List ℕ) View) (r : Ruled starts allows key s)
-      → FreesHold key.config r.memory r.history (faces_of r.seats)
+      → FreesHold key.config r.memory r.history (parts_of r.seats)
       × ((n position : ℕ) (x : Version) (st : Status) → MayStoreFree key.config (r.seats n) position → slot_at (r.seats n).ring (index_of key.config position) ≡ Live x st → FirstFree key.config (r.seats n) position x)
 
   -- marks, in each such state

@@ -15,7 +15,7 @@ use Rattle.mv_core.specs.declared.view.Past.{Past}
 use Rattle.mv_core.specs.declared.view.Section.{Section}
 use Rattle.mv_core.specs.declared.view.Mode.TheVariants.{Open, Named}
 use Rattle.mv_core.specs.declared.view.Naming.{Naming}
-use Rattle.mv_core.specs.declared.view.Heard.{Heard}
+use Rattle.mv_core.specs.declared.view.LoadedClocks.{LoadedClocks}
 use Rattle.mv_core.specs.declared.view.WriteBack.{WriteBack}
 use Rattle.mv_core.specs.Rings.{slot_at, index_of, HoldsNothing, Lives, Names, IsVersion}
 use Rattle.mv_core.specs.Times.{writes_to, latest_at, IsEntry, IsNextWrite, NotAboveAny}
@@ -71,9 +71,9 @@ SuccessorFlag super section rings =
     × ((y : Version) (other : CommitNote) (below : Names rings x.previous y (Committed other)) → (note.linked ≡ true → super below.seat below.slot ≡ n.time) × (note.linked ≡ false → (super below.seat below.slot ≡ 0) × (other.dead ≡ None)))
 
 -- what a write-back is of: a live committed version of the object in the own log, the object's last write up to that section's time, not above any section's time nor the watermark; until its exchange it isn't cut, and the words stored so far are its own
-pub record IsWrittenBack (c : Config) (h : List Entry) (master : ℕ → ℕ → ℕ) (time : ℕ → Option ℕ) (ring : ℕ → Ring) (s : ℕ) (heard : Heard) (grace : ℕ) (b : WriteBack) (inside : Section) : Type 0 where
+pub record IsWrittenBack (c : Config) (h : List Entry) (master : ℕ → ℕ → ℕ) (time : ℕ → Option ℕ) (ring : ℕ → Ring) (s : ℕ) (clocks : LoadedClocks) (grace : ℕ) (b : WriteBack) (inside : Section) : Type 0 where
   pub mode : inside.mode ≡ Open
-  pub helped : IsPastHelp heard inside
+  pub helped : IsPastHelp clocks inside
   pub nothing : HoldsNothing (ring s)
   pub version : Version
   pub note : CommitNote
@@ -88,9 +88,9 @@ pub record IsWrittenBack (c : Config) (h : List Entry) (master : ℕ → ℕ →
   pub words : b.tried ≡ false → (i : ℕ) → i < b.stored → master b.object i ≡ slice_index version.words i
 
 -- write-back, with words-written and uncut-while-writing: who writes back is in such a section
-abbrev pub WriteBacks : Config → List Entry → (ℕ → ℕ → ℕ) → (ℕ → Option Section) → (ℕ → Option ℕ) → (ℕ → Heard) → (ℕ → ℕ) → (ℕ → Option WriteBack) → (ℕ → Ring) → Type 0
-WriteBacks c h master section time heard grace back rings =
-    (s : ℕ) (b : WriteBack) → back s ≡ Some b → (inside : Section) × (section s ≡ Some inside) × IsWrittenBack c h master time rings s (heard s) (grace s) b inside
+abbrev pub WriteBacks : Config → List Entry → (ℕ → ℕ → ℕ) → (ℕ → Option Section) → (ℕ → Option ℕ) → (ℕ → LoadedClocks) → (ℕ → ℕ) → (ℕ → Option WriteBack) → (ℕ → Ring) → Type 0
+WriteBacks c h master section time clocks grace back rings =
+    (s : ℕ) (b : WriteBack) → back s ≡ Some b → (inside : Section) × (section s ≡ Some inside) × IsWrittenBack c h master time rings s (clocks s) (grace s) b inside
 
 -- the least position from `next` on that has this slot
 abbrev pub next_in : Config → Ring → ℕ → ℕ

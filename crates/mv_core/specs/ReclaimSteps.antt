@@ -23,7 +23,7 @@ use Rattle.mv_core.specs.declared.view.EmptyHead.{EmptyHead}
 use Rattle.mv_core.specs.declared.view.WriteBack.{WriteBack}
 use Rattle.mv_core.specs.Rings.{slot_at, index_of, put_slot, HoldsNothing}
 use Rattle.mv_core.specs.Times.{writes_to, IsEntry}
-use Rattle.mv_core.specs.Views.{told}
+use Rattle.mv_core.specs.Views.{with_step}
 use Rattle.mv_core.specs.HistoryFacts.{BeginsWith}
 use Rattle.mv_core.specs.SectionFacts.{IsPastHelp}
 
@@ -51,7 +51,7 @@ scan_loaded c v word h = record v {
   past = record v.past { seen = h };
   scan = scan_on c (clock_time_of word) (clock_time_of word) (other_from v.number 0);
   grace = grace_on c v.grace (clock_time_of word) (other_from v.number 0);
-  trail = told c v LoadScan Clock (Some word) None;
+  trail = with_step c v LoadScan Clock (Some word) None;
 }
 
 -- load MARK: of the seat that the running scan comes to next
@@ -69,7 +69,7 @@ abbrev pub mark_loaded : Config → View → ℕ → Scan → ℕ → View
 mark_loaded c v seat scan mark = record v {
   scan = scan_on c scan.clock (least_with scan.least mark) (other_from v.number (seat + 1));
   grace = grace_on c v.grace (least_with scan.least mark) (other_from v.number (seat + 1));
-  trail = told c v LoadMark (Mark seat) (Some mark) None;
+  trail = with_step c v LoadMark (Mark seat) (Some mark) None;
 }
 
 -- load SUPER: of an own committed version that has no time of death and wasn't cut
@@ -92,7 +92,7 @@ abbrev pub super_loaded : Config → View → ℕ → Version → CommitNote →
 super_loaded c v position x note found seen = record v {
   past = record v.past { seen = seen };
   ring = put_slot v.ring (index_of c position) (Live x (Committed (super_note note found)));
-  trail = told c v LoadSuper (Super v.number (index_of c position)) (Some found) None;
+  trail = with_step c v LoadSuper (Super v.number (index_of c position)) (Some found) None;
 }
 
 -- what is seen after it: at least up to a time that was found; and where none was, no write of the object is known between the version's time and the watermark
@@ -112,7 +112,7 @@ GoesToWord v object i position x note =
 pub record MayStoreMaster (c : Config) (v : View) (object i value position : ℕ) (x : Version) (note : CommitNote) (inside : Section) : Type 0 where
   pub phase : v.phase ≡ Inside inside
   pub open_is : inside.mode ≡ Open
-  pub past_help : IsPastHelp v.heard inside
+  pub past_help : IsPastHelp v.clocks inside
   pub nothing : HoldsNothing v.ring
   pub own : slot_at v.ring (index_of c position) ≡ Live x (Committed note)
   pub position_is : x.position ≡ position
@@ -125,7 +125,7 @@ pub record MayStoreMaster (c : Config) (v : View) (object i value position : ℕ
 abbrev pub master_stored : Config → View → ℕ → ℕ → ℕ → ℕ → View
 master_stored c v object i value position = record v {
   back = Some (record { object = object; position = position; stored = i + 1; tried = false });
-  trail = told c v StoreMaster (Master object i) None (Some value);
+  trail = with_step c v StoreMaster (Master object i) None (Some value);
 }
 
 -- compare_exchange HEAD (cut): all words of the write-back were stored, and no exchange was tried
@@ -142,13 +142,13 @@ abbrev pub head_cut : Config → View → ℕ → ℕ → Version → CommitNote
 head_cut c v object position x note = record v {
   back = cut_tried object position;
   ring = put_slot v.ring (index_of c position) (Live x (Committed (record note { cut = true })));
-  trail = told c v CutHead (Head object) (Some (link_of v.number position)) (Some 0);
+  trail = with_step c v CutHead (Head object) (Some (link_of v.number position)) (Some 0);
 }
 
 -- lost to the link found
 abbrev pub cut_lost : Config → View → ℕ → ℕ → ℕ → View
 cut_lost c v object position found =
-    record v { back = cut_tried object position; trail = told c v CutHead (Head object) (Some found) None }
+    record v { back = cut_tried object position; trail = with_step c v CutHead (Head object) (Some found) None }
 
 -- what the exchange tells
 abbrev pub CutTold : Config → View → ℕ → ℕ → Version → CommitNote → ℕ → View → Type 0
@@ -202,5 +202,5 @@ freed_ring r k slot = put_slot r k Free
 abbrev pub free_stored : Config → View → ℕ → View
 free_stored c v position = record v {
   ring = freed_ring v.ring (index_of c position) (slot_at v.ring (index_of c position));
-  trail = told c v StoreFree (Stamp v.number (index_of c position)) None (Some 0);
+  trail = with_step c v StoreFree (Stamp v.number (index_of c position)) None (Some 0);
 }

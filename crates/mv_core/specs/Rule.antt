@@ -14,7 +14,7 @@ use Rattle.mv_core.specs.declared.view.View.{View}
 use Rattle.mv_core.specs.declared.view.Note.{Note}
 use Rattle.mv_core.specs.declared.view.Phase.TheVariants.{Outside}
 use Rattle.mv_core.specs.declared.shared.Opening.{Opening}
-use Rattle.mv_core.specs.Views.{new_view, Faces, faces_of, become}
+use Rattle.mv_core.specs.Views.{new_view, ViewParts, parts_of, set_at}
 use Rattle.mv_core.specs.HistoryFacts.{History}
 use Rattle.mv_core.specs.SetFacts.{SlotWords, Stamps, WriteSets, Successors, BelowIsStamped, UnstampedIsUnfinished, Positions}
 use Rattle.mv_core.specs.SectionFacts.{Marks, StampedPastHelp, LoadedWords, HelpedWords, FoundStamps, LockFreshness, NamedCommit, OpenSection, PhasesAndScan}
@@ -61,15 +61,15 @@ IsKept v w = (w.number ≡ v.number) × (w.start ≡ v.start) × (w.base ≡ v.b
 
 module _ (starts : State → Type 0) (allows : List ℕ → State → Writes → Type 0) where
   -- every fact, over the words by name, a history, and the views of the seats by number
-  pub record Facts (c : Config) (start : State) (m : Memory) (h : List Entry) (f : Faces) : Type 0 where
+  pub record Facts (c : Config) (start : State) (m : Memory) (h : List Entry) (f : ViewParts) : Type 0 where
     pub checked : Checked c
     pub history : History starts allows c start (m Clock) h f.past
     pub slot_words : SlotWords (λ s k. m (First s k)) (λ s k. m (Prev s k)) (λ s k w. m (Data s k w)) f.ring
     pub stamps : Stamps c (m Clock) (λ s k. m (Stamp s k)) f.ring
     pub write_sets : WriteSets c h f.ring
-    pub helped_words : HelpedWords (m Clock) (λ s k. m (Stamp s k)) f.heard
+    pub helped_words : HelpedWords (m Clock) (λ s k. m (Stamp s k)) f.clocks
     pub marks : Marks (m Clock) (λ s. m (Mark s)) f.phase
-    pub stamped_past_help : StampedPastHelp c (λ s k. m (Stamp s k)) f.section f.heard f.ring
+    pub stamped_past_help : StampedPastHelp c (λ s k. m (Stamp s k)) f.section f.clocks f.ring
     pub grace : section.Grace (m Clock) (m Grace) f.time f.grace f.scan
     pub lock_freshness : LockFreshness c h f.time f.ring
     pub successors : Successors c h (λ s k. m (Stamp s k)) (λ s k. m (Super s k)) f.section f.ring
@@ -84,21 +84,21 @@ module _ (starts : State → Type 0) (allows : List ℕ → State → Writes →
     pub chain_foot : ChainFoot c start h (λ o w. m (Master o w)) f.time f.ring
     pub walker_place : WalkerPlace c start h (λ o w. m (Master o w)) f.time f.walk f.ring
     pub walker_before_death : WalkerBeforeDeath f.time f.walk f.ring
-    pub walker_knowledge : WalkerKnowledge f.section f.time f.heard f.walk f.ring
+    pub walker_knowledge : WalkerKnowledge f.section f.time f.clocks f.walk f.ring
     pub below_is_stamped : BelowIsStamped c (λ s k. m (Stamp s k)) f.ring
     pub walker_falls : WalkerFalls c (λ s k. m (Stamp s k)) f.walk f.ring
     pub walker_late : WalkerLate f.time f.walk f.ring
-    pub found_stamp : FoundStamps c (m Clock) (λ s k. m (Stamp s k)) f.heard f.ring
+    pub found_stamp : FoundStamps c (m Clock) (λ s k. m (Stamp s k)) f.clocks f.ring
     pub unstamped_is_unfinished : UnstampedIsUnfinished c (λ s k. m (Stamp s k)) f.section f.ring
     pub named_commit : NamedCommit c h (λ s k. m (Stamp s k)) f.section f.ring
     pub open_section : OpenSection c h f.section f.ring
     pub successor_flag : SuccessorFlag (λ s k. m (Super s k)) f.section f.ring
     pub succeeded_has_super : SucceededHasSuper c h (λ s k. m (Super s k)) f.empty f.ring
-    pub loaded_words : LoadedWords c (m Clock) f.section f.heard
+    pub loaded_words : LoadedWords c (m Clock) f.section f.clocks
     pub freed_is_old : FreedIsOld c (m Clock) h f.grace f.ring
     pub cut_is_old : CutIsOld f.time f.ring
     pub death_after_write : DeathAfterWrite f.ring
-    pub write_back : WriteBacks c h (λ o w. m (Master o w)) f.section f.time f.heard f.grace f.back f.ring
+    pub write_back : WriteBacks c h (λ o w. m (Master o w)) f.section f.time f.clocks f.grace f.back f.ring
     pub positions_and_grace : PositionsAndGrace c f.grace f.ring
     pub phases_and_scan : PhasesAndScan c f.past f.phase f.time f.walk f.back f.scan
 
@@ -110,28 +110,28 @@ module _ (starts : State → Type 0) (allows : List ℕ → State → Writes →
     pub shows : Shows key.config s.words memory
     pub slotless : length s.homes ≡ 0
     pub seated : Seated key.config key.start.value.items s.views seats
-    pub facts : Facts key.config key.start.value.items memory history (faces_of seats)
+    pub facts : Facts key.config key.start.value.items memory history (parts_of seats)
 
   module _ (c : Config) (start : State) (v : View) (p : Place) where
     -- What a load of p shows: whatever the words, the history and the other views are, the seat has a new view that keeps all facts.
     abbrev pub Loads : (ℕ → View → Type 0) → Type 0
-    Loads tells = (m : Memory) (h : List Entry) (seats : ℕ → View) → Facts c start m h (faces_of seats) → seats v.number ≡ v → v.number < c.seats → v.start ≡ start → m p < 2 ^ 64
-        → (w : View) × Facts c start m h (faces_of (become seats v.number w)) × tells (m p) w
+    Loads tells = (m : Memory) (h : List Entry) (seats : ℕ → View) → Facts c start m h (parts_of seats) → seats v.number ≡ v → v.number < c.seats → v.start ≡ start → m p < 2 ^ 64
+        → (w : View) × Facts c start m h (parts_of (set_at seats v.number w)) × tells (m p) w
 
     -- the same of a store of n into p, which may lengthen the history
     abbrev pub Stores : ℕ → (View → Type 0) → Type 0
-    Stores n tells = (m : Memory) (h : List Entry) (seats : ℕ → View) → Facts c start m h (faces_of seats) → seats v.number ≡ v → v.number < c.seats → v.start ≡ start
-        → (w : View) × (longer : List Entry) × Facts c start (put m p n) longer (faces_of (become seats v.number w)) × tells w
+    Stores n tells = (m : Memory) (h : List Entry) (seats : ℕ → View) → Facts c start m h (parts_of seats) → seats v.number ≡ v → v.number < c.seats → v.start ≡ start
+        → (w : View) × (longer : List Entry) × Facts c start (put m p n) longer (parts_of (set_at seats v.number w)) × tells w
 
     -- the same of an exchange of p from `old` to `new`, which is won where p is `old`
     abbrev pub Swaps : ℕ → ℕ → (ℕ → View → Type 0) → Type 0
     Swaps old new tells =
-        ((m : Memory) (h : List Entry) (seats : ℕ → View) → Facts c start m h (faces_of seats) → seats v.number ≡ v → v.number < c.seats → v.start ≡ start → m p ≡ old
-        → (w : View) × (longer : List Entry) × Facts c start (put m p new) longer (faces_of (become seats v.number w)) × tells old w)
-        × ((m : Memory) (h : List Entry) (seats : ℕ → View) → Facts c start m h (faces_of seats) → seats v.number ≡ v → v.number < c.seats → v.start ≡ start → m p ≢ old → m p < 2 ^ 64
-        → (w : View) × Facts c start m h (faces_of (become seats v.number w)) × tells (m p) w)
+        ((m : Memory) (h : List Entry) (seats : ℕ → View) → Facts c start m h (parts_of seats) → seats v.number ≡ v → v.number < c.seats → v.start ≡ start → m p ≡ old
+        → (w : View) × (longer : List Entry) × Facts c start (put m p new) longer (parts_of (set_at seats v.number w)) × tells old w)
+        × ((m : Memory) (h : List Entry) (seats : ℕ → View) → Facts c start m h (parts_of seats) → seats v.number ≡ v → v.number < c.seats → v.start ≡ start → m p ≢ old → m p < 2 ^ 64
+        → (w : View) × Facts c start m h (parts_of (set_at seats v.number w)) × tells (m p) w)
 
     -- the same of a fetch_max of p by n
     abbrev pub Raises : ℕ → (ℕ → View → Type 0) → Type 0
-    Raises n tells = (m : Memory) (h : List Entry) (seats : ℕ → View) → Facts c start m h (faces_of seats) → seats v.number ≡ v → v.number < c.seats → v.start ≡ start → m p < 2 ^ 64
-        → (w : View) × Facts c start (put m p (max (m p) n)) h (faces_of (become seats v.number w)) × tells (m p) w
+    Raises n tells = (m : Memory) (h : List Entry) (seats : ℕ → View) → Facts c start m h (parts_of seats) → seats v.number ≡ v → v.number < c.seats → v.start ≡ start → m p < 2 ^ 64
+        → (w : View) × Facts c start (put m p (max (m p) n)) h (parts_of (set_at seats v.number w)) × tells (m p) w

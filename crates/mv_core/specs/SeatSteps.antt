@@ -7,12 +7,12 @@ use Rattle.mv_layout.specs.declared.Place.TheVariants.{Clock, Grace}
 use Rattle.mv_core.specs.declared.view.View.{View}
 use Rattle.mv_core.specs.declared.view.Note.{Note}
 use Rattle.mv_core.specs.declared.view.Phase.TheVariants.{Outside}
-use Rattle.mv_core.specs.Views.{new_view, told}
+use Rattle.mv_core.specs.Views.{new_view, with_step}
 use Rattle.mv_core.specs.EnterSteps.{if_none}
 
 -- making a seat: the maker has made one more
 abbrev pub made_one : Config → View → View
-made_one c v = record v { made = v.made + 1; trail = told c v MakeSeat Clock None None }
+made_one c v = record v { made = v.made + 1; trail = with_step c v MakeSeat Clock None None }
 
 -- and the seat that is made has made no step
 abbrev pub newly_made : Config → View → View
@@ -33,7 +33,7 @@ note_of v = record { number = v.number; past = v.past; ring = v.ring }
 abbrev pub joined : Config → View → View → View
 joined c v other = record v {
   notes = v.notes ++ note_of other ∷ other.notes;
-  trail = told c v JoinSeat Clock None None;
+  trail = with_step c v JoinSeat Clock None None;
 }
 
 -- load CLOCK after a join
@@ -44,14 +44,14 @@ MayLoadJoined v = v.notes ≢ []
 abbrev pub joined_loaded : Config → View → ℕ → List Entry → View
 joined_loaded c v word h = record v {
   past = record v.past { seen = h };
-  heard = record v.heard { loaded = v.heard.loaded ++ word ∷ []; helped = v.heard.helped ++ if_none word };
-  trail = told c v LoadJoined Clock (Some word) None;
+  clocks = record v.clocks { loaded = v.clocks.loaded ++ word ∷ []; helped = v.clocks.helped ++ if_none word };
+  trail = with_step c v LoadJoined Clock (Some word) None;
 }
 
 -- load GRACE: what it found is known
 abbrev pub grace_loaded : Config → View → ℕ → View
 grace_loaded c v found =
-    record v { grace = max v.grace found; trail = told c v LoadGrace Grace (Some found) None }
+    record v { grace = max v.grace found; trail = with_step c v LoadGrace Grace (Some found) None }
 
 -- fetch_max GRACE: by a time not above the watermark
 abbrev pub MayRaiseGrace : View → ℕ → Type 0
@@ -60,4 +60,4 @@ MayRaiseGrace v time = time ≤ v.grace
 -- what it found is known, and the greater of the two is stored
 abbrev pub grace_raised : Config → View → ℕ → ℕ → View
 grace_raised c v time found =
-    record v { grace = max v.grace found; trail = told c v RaiseGrace Grace (Some found) (Some (max found time)) }
+    record v { grace = max v.grace found; trail = with_step c v RaiseGrace Grace (Some found) (Some (max found time)) }

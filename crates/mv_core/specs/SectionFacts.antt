@@ -14,7 +14,7 @@ use Rattle.mv_core.specs.declared.view.Phase.TheVariants.{Outside, Lowered, Mark
 use Rattle.mv_core.specs.declared.view.Section.{Section}
 use Rattle.mv_core.specs.declared.view.Mode.TheVariants.{Open, Named}
 use Rattle.mv_core.specs.declared.view.Naming.{Naming}
-use Rattle.mv_core.specs.declared.view.Heard.{Heard}
+use Rattle.mv_core.specs.declared.view.LoadedClocks.{LoadedClocks}
 use Rattle.mv_core.specs.declared.view.FoundStamp.{FoundStamp}
 use Rattle.mv_core.specs.declared.view.Scan.{Scan}
 use Rattle.mv_core.specs.declared.view.Walk.{Walk}
@@ -37,13 +37,13 @@ abbrev pub Marks : ℕ → (ℕ → ℕ) → (ℕ → Phase) → Type 0
 Marks clock mark phase = (s : ℕ) → MarkedAs clock (mark s) (phase s)
 
 -- a section is past its help: its clock word was helped, or names no commit
-abbrev pub IsPastHelp : Heard → Section → Type 0
-IsPastHelp heard inside = Contains heard.helped inside.word
+abbrev pub IsPastHelp : LoadedClocks → Section → Type 0
+IsPastHelp clocks inside = Contains clocks.helped inside.word
 
 -- stamped-past-help: where a section is past its help, every live commit up to its time is stamped
-abbrev pub StampedPastHelp : Config → (ℕ → ℕ → ℕ) → (ℕ → Option Section) → (ℕ → Heard) → (ℕ → Ring) → Type 0
-StampedPastHelp c stamp section heard rings =
-    (s : ℕ) (inside : Section) → section s ≡ Some inside → IsPastHelp (heard s) inside
+abbrev pub StampedPastHelp : Config → (ℕ → ℕ → ℕ) → (ℕ → Option Section) → (ℕ → LoadedClocks) → (ℕ → Ring) → Type 0
+StampedPastHelp c stamp section clocks rings =
+    (s : ℕ) (inside : Section) → section s ≡ Some inside → IsPastHelp (clocks s) inside
     → (t k : ℕ) (x : Version) (note : CommitNote) → Lives rings t k x (Committed note) → note.time ≤ time_in inside → stamp_of c stamp t x ≡ note.time
 
 -- the clock word names a seat and a slot of the domain, or no commit
@@ -57,11 +57,11 @@ pub record WasClock (c : Config) (clock word : ℕ) : Type 0 where
   pub is_word : IsWord c word
 
 -- loaded-words: each clock word that a view has was in the clock
-pub record LoadedWords (c : Config) (clock : ℕ) (section : ℕ → Option Section) (heard : ℕ → Heard) : Type 0 where
+pub record LoadedWords (c : Config) (clock : ℕ) (section : ℕ → Option Section) (clocks : ℕ → LoadedClocks) : Type 0 where
   pub clock_is : IsWord c clock
-  pub loaded : (s word : ℕ) → Contains (heard s).loaded word → WasClock c clock word
-  pub helped : (s word : ℕ) → Contains (heard s).helped word → WasClock c clock word
-  pub found : (s : ℕ) (f : FoundStamp) → (heard s).found ≡ Some f → WasClock c clock f.word × (clock_slot_of f.word ≢ 8191)
+  pub loaded : (s word : ℕ) → Contains (clocks s).loaded word → WasClock c clock word
+  pub helped : (s word : ℕ) → Contains (clocks s).helped word → WasClock c clock word
+  pub found : (s : ℕ) (f : FoundStamp) → (clocks s).found ≡ Some f → WasClock c clock f.word × (clock_slot_of f.word ≢ 8191)
   pub inside : (s : ℕ) (inside : Section) → section s ≡ Some inside → WasClock c clock inside.word
 
 -- a clock word is no longer in the clock, names no commit, or names one that is stamped
@@ -70,8 +70,8 @@ IsDone clock stamp word =
     (clock ≢ word) ⊎ ((clock_slot_of word ≡ 8191) ⊎ (stamp (clock_seat_of word) (clock_slot_of word) ≡ clock_time_of word))
 
 -- helped-words: each clock word that a view says it helped is done
-abbrev pub HelpedWords : ℕ → (ℕ → ℕ → ℕ) → (ℕ → Heard) → Type 0
-HelpedWords clock stamp heard = (s word : ℕ) → Contains (heard s).helped word → IsDone clock stamp word
+abbrev pub HelpedWords : ℕ → (ℕ → ℕ → ℕ) → (ℕ → LoadedClocks) → Type 0
+HelpedWords clock stamp clocks = (s word : ℕ) → Contains (clocks s).helped word → IsDone clock stamp word
 
 -- the commit that a clock word names is live, this is its first version, and this its unset stamp
 pub record IsNamedCommit (rings : ℕ → Ring) (word : ℕ) (unset : ℕ) : Type 0 where
@@ -92,9 +92,9 @@ pub record IsFound (c : Config) (stamp : ℕ → ℕ → ℕ) (rings : ℕ → R
   pub gone : ((x : Version) (st : Status) → Lives rings (clock_seat_of f.word) (clock_slot_of f.word) x st → x.position ≢ position) → stamp (clock_seat_of f.word) (clock_slot_of f.word) ≢ f.unset
 
 -- found-stamp: an unset stamp that a view found is the commit's own while the clock has its word, and is what it seems once the word was checked
-pub record FoundStamps (c : Config) (clock : ℕ) (stamp : ℕ → ℕ → ℕ) (heard : ℕ → Heard) (rings : ℕ → Ring) : Type 0 where
-  pub now : (s : ℕ) (f : FoundStamp) → (heard s).found ≡ Some f → clock ≡ f.word → IsNamedCommit rings f.word f.unset
-  pub checked : (s : ℕ) (f : FoundStamp) → (heard s).found ≡ Some f → f.checked ≡ true → IsFound c stamp rings f
+pub record FoundStamps (c : Config) (clock : ℕ) (stamp : ℕ → ℕ → ℕ) (clocks : ℕ → LoadedClocks) (rings : ℕ → Ring) : Type 0 where
+  pub now : (s : ℕ) (f : FoundStamp) → (clocks s).found ≡ Some f → clock ≡ f.word → IsNamedCommit rings f.word f.unset
+  pub checked : (s : ℕ) (f : FoundStamp) → (clocks s).found ≡ Some f → f.checked ≡ true → IsFound c stamp rings f
 
 -- a running scan: its least time is not above its clock, which is not above the clock, nor above the time of any section that it has scanned
 abbrev pub ScanIs : ℕ → (ℕ → Option ℕ) → Option Scan → Type 0

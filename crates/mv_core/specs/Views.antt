@@ -15,7 +15,7 @@ use Rattle.mv_core.specs.declared.view.Phase.TheVariants.{Outside, Lowered, Mark
 use Rattle.mv_core.specs.declared.view.Section.{Section}
 use Rattle.mv_core.specs.declared.view.Mode.{Mode}
 use Rattle.mv_core.specs.declared.view.Mode.TheVariants.{Open, Aborting, Named}
-use Rattle.mv_core.specs.declared.view.Heard.{Heard}
+use Rattle.mv_core.specs.declared.view.LoadedClocks.{LoadedClocks}
 use Rattle.mv_core.specs.declared.view.Walk.{Walk}
 use Rattle.mv_core.specs.declared.view.Walk.TheVariants.{Nowhere}
 use Rattle.mv_core.specs.declared.view.EmptyHead.{EmptyHead}
@@ -23,9 +23,9 @@ use Rattle.mv_core.specs.declared.view.WriteBack.{WriteBack}
 use Rattle.mv_core.specs.declared.view.Scan.{Scan}
 use Rattle.mv_core.specs.Rings.{empty_ring}
 
--- no clock word was heard
-abbrev pub heard_nothing : Heard
-heard_nothing = record { loaded = []; helped = []; found = None }
+-- no clock word was loaded
+abbrev pub no_clocks : LoadedClocks
+no_clocks = record { loaded = []; helped = []; found = None }
 
 -- the view of the seat of this number, which has made no step
 abbrev pub new_view : Config → State → ℕ → ℕ → View
@@ -36,7 +36,7 @@ new_view c start number made = record {
   trail = [];
   past = record { seen = []; mine = []; rests = 0 };
   phase = Outside;
-  heard = heard_nothing;
+  clocks = no_clocks;
   walk = Nowhere;
   empty = [];
   ring = empty_ring c;
@@ -57,7 +57,7 @@ spent_view = record {
   trail = [];
   past = record { seen = []; mine = []; rests = 0 };
   phase = Outside;
-  heard = heard_nothing;
+  clocks = no_clocks;
   walk = Nowhere;
   empty = [];
   ring = record { slots = []; next = 0 };
@@ -105,17 +105,17 @@ abbrev pub names_none : ℕ → Bool
 names_none word = clock_slot_of word == 8191
 
 -- the trail with one more step
-abbrev pub told : Config → View → StepKind → Place → Option ℕ → Option ℕ → List Step
-told c v kind place found stored =
+abbrev pub with_step : Config → View → StepKind → Place → Option ℕ → Option ℕ → List Step
+with_step c v kind place found stored =
     v.trail ++ record { kind = kind; word = place_of c place; found = found; stored = stored } ∷ []
 
 -- What the facts read of all views, each part by the number of its seat.
-pub record Faces : Type 0 where
+pub record ViewParts : Type 0 where
   pub past : ℕ → Past
   pub phase : ℕ → Phase
   pub section : ℕ → Option Section
   pub time : ℕ → Option ℕ
-  pub heard : ℕ → Heard
+  pub clocks : ℕ → LoadedClocks
   pub walk : ℕ → Walk
   pub empty : ℕ → List EmptyHead
   pub ring : ℕ → Ring
@@ -124,13 +124,13 @@ pub record Faces : Type 0 where
   pub grace : ℕ → ℕ
 
 -- the parts of these views
-abbrev pub faces_of : (ℕ → View) → Faces
-faces_of seats = record {
+abbrev pub parts_of : (ℕ → View) → ViewParts
+parts_of seats = record {
   past = λ s. (seats s).past;
   phase = λ s. (seats s).phase;
   section = λ s. section_of (seats s).phase;
   time = λ s. time_of (seats s).phase;
-  heard = λ s. (seats s).heard;
+  clocks = λ s. (seats s).clocks;
   walk = λ s. (seats s).walk;
   empty = λ s. (seats s).empty;
   ring = λ s. (seats s).ring;
@@ -140,5 +140,5 @@ faces_of seats = record {
 }
 
 -- what the seat s has becomes x, and all others stay
-abbrev pub become : {A : Type 0} → (ℕ → A) → ℕ → A → ℕ → A
-become f s x t = cond (t == s) x (f t)
+abbrev pub set_at : {A : Type 0} → (ℕ → A) → ℕ → A → ℕ → A
+set_at f s x t = cond (t == s) x (f t)

@@ -10,7 +10,7 @@ use Rattle.mv_core.specs.declared.ring.Status.{Status}
 use Rattle.mv_core.specs.declared.ring.Status.TheVariants.{Held, Aborted, Committed}
 use Rattle.mv_core.specs.declared.ring.CommitNote.{CommitNote}
 use Rattle.mv_core.specs.declared.view.Section.{Section}
-use Rattle.mv_core.specs.declared.view.Heard.{Heard}
+use Rattle.mv_core.specs.declared.view.LoadedClocks.{LoadedClocks}
 use Rattle.mv_core.specs.declared.view.Walk.{Walk}
 use Rattle.mv_core.specs.declared.view.Walk.TheVariants.{Nowhere, At, Master}
 use Rattle.mv_core.specs.declared.view.Stand.{Stand}
@@ -64,8 +64,8 @@ pub record WalkerBeforeDeath (time : ℕ → Option ℕ) (walk : ℕ → Walk) (
   pub below : (s t : ℕ) (stand : Stand) (x y : Version) (dead : Option ℕ) (st : Status) → time s ≡ Some t → walk s ≡ At stand → Names rings stand.link x (Aborted dead) → Names rings x.previous y st → IsBeforeDeath t st
 
 -- walker-knowledge: who stands somewhere is past the help; the FIRST found is that version's, a time found is that of its commit, and an unset stamp found means that it isn't committed at or before the section's time
-pub record WalkerKnowledge (section : ℕ → Option Section) (time : ℕ → Option ℕ) (heard : ℕ → Heard) (walk : ℕ → Walk) (rings : ℕ → Ring) : Type 0 where
-  pub helped : (s : ℕ) (inside : Section) → section s ≡ Some inside → walk s ≢ Nowhere → IsPastHelp (heard s) inside
+pub record WalkerKnowledge (section : ℕ → Option Section) (time : ℕ → Option ℕ) (clocks : ℕ → LoadedClocks) (walk : ℕ → Walk) (rings : ℕ → Ring) : Type 0 where
+  pub helped : (s : ℕ) (inside : Section) → section s ≡ Some inside → walk s ≢ Nowhere → IsPastHelp (clocks s) inside
   pub first : (s first : ℕ) (stand : Stand) (x : Version) (st : Status) → walk s ≡ At stand → stand.first ≡ Some first → Names rings stand.link x st → first ≡ x.first
   pub stamp : (s found : ℕ) (stand : Stand) (x : Version) (st : Status) → walk s ≡ At stand → stand.stamp ≡ Some found → found < 2 ^ 63 → Names rings stand.link x st → (note : CommitNote) × (st ≡ Committed note) × (note.time ≡ found)
   pub unset : (s t found : ℕ) (stand : Stand) (x : Version) (note : CommitNote) → time s ≡ Some t → walk s ≡ At stand → stand.stamp ≡ Some found → IsUnset found → Names rings stand.link x (Committed note) → t < note.time

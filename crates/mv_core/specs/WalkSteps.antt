@@ -22,7 +22,7 @@ use Rattle.mv_core.specs.declared.view.Passed.TheVariants.{Nothing, Unset, Time}
 use Rattle.mv_core.specs.declared.view.EmptyHead.{EmptyHead}
 use Rattle.mv_core.specs.Rings.{slot_at, index_of}
 use Rattle.mv_core.specs.Times.{words_of, writes_to, latest, IsEntry}
-use Rattle.mv_core.specs.Views.{time_in, told}
+use Rattle.mv_core.specs.Views.{time_in, with_step}
 use Rattle.mv_core.specs.HistoryFacts.{BeginsWith}
 use Rattle.mv_core.specs.SectionFacts.{IsPastHelp}
 use Rattle.mv_core.specs.WalkFacts.{HasPassed, IsBelowPassed}
@@ -69,7 +69,7 @@ IsOwnTime c v link found =
 pub record IsWalking (v : View) (inside : Section) : Type 0 where
   pub phase : v.phase ≡ Inside inside
   pub open_is : inside.mode ≡ Open
-  pub helped : IsPastHelp v.heard inside
+  pub helped : IsPastHelp v.clocks inside
   pub no_back : v.back ≡ None
 
 -- where a walk over the object goes that found this link
@@ -90,7 +90,7 @@ abbrev pub head_loaded : Config → View → Section → ℕ → ℕ → View
 head_loaded c v inside object link = record v {
   walk = stand_at object link Nothing false;
   empty = empty_too v.empty object (time_in inside) link;
-  trail = told c v LoadHead (Head object) (Some link) None;
+  trail = with_step c v LoadHead (Head object) (Some link) None;
 }
 
 -- load FIRST: the walk stands at the link
@@ -102,7 +102,7 @@ pub record MayLoadFirst (v : View) (link : ℕ) (stand : Stand) : Type 0 where
 abbrev pub first_loaded : Config → View → Stand → ℕ → View
 first_loaded c v stand found = record v {
   walk = walk.At (record stand { first = Some found; stamp = None });
-  trail = told c v LoadFirst (First (link_seat_of stand.link) (slot_named c stand.link)) (Some found) None;
+  trail = with_step c v LoadFirst (First (link_seat_of stand.link) (slot_named c stand.link)) (Some found) None;
 }
 
 -- load STAMP: the walk stands at the link and found that FIRST
@@ -133,7 +133,7 @@ abbrev pub stamp_loaded : Config → View → Stand → ℕ → ℕ → List Ent
 stamp_loaded c v stand first found seen = record v {
   past = record v.past { seen = seen };
   walk = walk.At (record stand { stamp = Some found });
-  trail = told c v LoadStamp (Stamp (link_seat_of stand.link) (index_of c first)) (Some found) None;
+  trail = with_step c v LoadStamp (Stamp (link_seat_of stand.link) (index_of c first)) (Some found) None;
 }
 
 -- load PREV: the walk stands at the link and found its stamp unset or above the section's time
@@ -161,7 +161,7 @@ passed_too passed (Some found) = if leb 9223372036854775808 found then passed_un
 abbrev pub prev_loaded : Config → View → Stand → ℕ → View
 prev_loaded c v stand link = record v {
   walk = stand_at stand.object link (passed_too stand.passed stand.stamp) false;
-  trail = told c v LoadPrev (Prev (link_seat_of stand.link) (slot_named c stand.link)) (Some link) None;
+  trail = with_step c v LoadPrev (Prev (link_seat_of stand.link) (slot_named c stand.link)) (Some link) None;
 }
 
 -- load DATA: the walk stands at the link and found its stamp to be a time not above the section's
@@ -177,7 +177,7 @@ pub record MayLoadData (v : View) (link word : ℕ) (stand : Stand) (inside : Se
 -- a load that only joins the trail
 abbrev pub data_loaded : Config → View → Stand → ℕ → ℕ → View
 data_loaded c v stand word found =
-    record v { trail = told c v LoadData (Data (link_seat_of stand.link) (slot_named c stand.link) word) (Some found) None }
+    record v { trail = with_step c v LoadData (Data (link_seat_of stand.link) (slot_named c stand.link) word) (Some found) None }
 
 -- load MASTER: the walk stands at the master of the object
 pub record MayLoadMaster (v : View) (object word : ℕ) (inside : Section) : Type 0 where
@@ -188,7 +188,7 @@ pub record MayLoadMaster (v : View) (object word : ℕ) (inside : Section) : Typ
 -- a load that only joins the trail
 abbrev pub master_loaded : Config → View → ℕ → ℕ → ℕ → View
 master_loaded c v object word found =
-    record v { trail = told c v LoadMaster (Master object word) (Some found) None }
+    record v { trail = with_step c v LoadMaster (Master object word) (Some found) None }
 
 -- the words of the object in the state that the section reads
 abbrev pub words_read : Config → View → Section → ℕ → List ℕ

@@ -10,7 +10,7 @@ use Rattle.mv_core.specs.declared.ring.Status.TheVariants.{Held, Aborted, Commit
 use Rattle.mv_core.specs.declared.view.Section.{Section}
 use Rattle.mv_core.specs.declared.view.Mode.TheVariants.{Open, Aborting}
 use Rattle.mv_core.specs.Rings.{index_of, Lives}
-use Rattle.mv_core.specs.Views.{Faces}
+use Rattle.mv_core.specs.Views.{ViewParts}
 use Rattle.mv_core.specs.SetFacts.{InHeldSet}
 
 -- the versions of one write set: both were committed, at the same time, or neither was
@@ -32,7 +32,7 @@ IsAborted (Aborted dead) = Unit {0}
 IsAborted (Committed note) = ⊥
 
 -- the seat of a held version is in a section, open or aborting; HEAD of the object links to the version; and each position from the first of the write set to the last one used has a version of the set, which is held, or was aborted where the section aborts
-pub record HeldIs (c : Config) (m : Memory) (f : Faces) (s : ℕ) (x : Version) : Type 0 where
+pub record HeldIs (c : Config) (m : Memory) (f : ViewParts) (s : ℕ) (x : Version) : Type 0 where
   pub inside : Section
   pub in_section : f.section s ≡ Some inside
   pub mode : (inside.mode ≡ Open) ⊎ (inside.mode ≡ Aborting)
@@ -40,13 +40,13 @@ pub record HeldIs (c : Config) (m : Memory) (f : Faces) (s : ℕ) (x : Version) 
   pub all : (p : ℕ) → x.first ≤ p → p < (f.ring s).next → InHeldSet c f.ring s x.first p (λ st. (st ≡ Held) ⊎ (IsAborted st × (inside.mode ≡ Aborting)))
 
 -- each version in the write set of an aborted one was aborted too, or is held while the section of its seat aborts
-abbrev pub AbortedIs : Faces → ℕ → Version → Type 0
+abbrev pub AbortedIs : ViewParts → ℕ → Version → Type 0
 AbortedIs f s x =
     (k : ℕ) (y : Version) (st : Status) → Lives f.ring s k y st → y.first ≡ x.first
     → IsAborted st ⊎ ((st ≡ Held) × ((inside : Section) × (f.section s ≡ Some inside) × (inside.mode ≡ Aborting)))
 
 -- after a live version comes the next position to be used, or a live version, of the same write set or of one that begins there
-pub record GoesOnWith (c : Config) (f : Faces) (s : ℕ) (x : Version) : Type 0 where
+pub record GoesOnWith (c : Config) (f : ViewParts) (s : ℕ) (x : Version) : Type 0 where
   pub version : Version
   pub status : Status
   pub lives : Lives f.ring s (index_of c (x.position + 1)) version status
@@ -54,7 +54,7 @@ pub record GoesOnWith (c : Config) (f : Faces) (s : ℕ) (x : Version) : Type 0 
   pub set_is : (version.first ≡ x.first) ⊎ (version.first ≡ version.position)
 
 -- Each write set is a run of positions: from its first one on each has a live version of the set, and what comes after it begins another set. Its versions have one fate: all were committed at one time, or each is held or aborted.
-pub record SetsAreWhole (c : Config) (m : Memory) (f : Faces) : Type 0 where
+pub record SetsAreWhole (c : Config) (m : Memory) (f : ViewParts) : Type 0 where
   pub begins : (s k : ℕ) (x : Version) (st : Status) → Lives f.ring s k x st → (x.first ≤ x.position) × ((p : ℕ) → x.first ≤ p → p ≤ x.position → InHeldSet c f.ring s x.first p (HaveOneFate st))
   pub goes_on : (s k : ℕ) (x : Version) (st : Status) → Lives f.ring s k x st → x.position + 1 < (f.ring s).next → GoesOnWith c f s x
   pub one_fate : (s k l : ℕ) (x y : Version) (st su : Status) → Lives f.ring s k x st → Lives f.ring s l y su → y.first ≡ x.first → HaveOneFate st su

@@ -40,8 +40,9 @@
 //! | opening | the words of a domain, and the making of its seats |
 //!
 //! **How it is proved.** A step writes one word at most and changes its own view alone, so it keeps
-//! each fact that reads neither. proofs/Frames.antt says this once; a kind of step is one lemma that
-//! answers for the facts left. turns.rt has the step over the table itself, once for all kinds.
+//! each fact that reads neither. `proofs/frames/FrameLaw.antt` says this once; a kind of step is a
+//! file or a folder under `proofs/kinds`, which answers for the facts left. turns.rt has the step over
+//! the table itself, once for all kinds.
 //!
 //! The crate stands on `atomic_table`, which keeps words and views under one rule; on `mv_history`,
 //! which has histories, the client's rules and trails; and on `mv_layout`, which has the places and

@@ -83,7 +83,7 @@ pub struct Scan {
 
 /// The clock words that were loaded, those of them that were helped, and an unset stamp that was
 /// found for one.
-pub struct Heard {
+pub struct LoadedClocks {
     pub loaded: LinkedList<u64>,
     pub helped: LinkedList<u64>,
     pub found: Option<FoundStamp>,
@@ -128,7 +128,7 @@ pub struct View {
     pub trail: LinkedList<Step>,
     pub past: Past,
     pub phase: Phase,
-    pub heard: Heard,
+    pub clocks: LoadedClocks,
     pub walk: Walk,
     pub empty: LinkedList<EmptyHead>,
     pub ring: Ring,

@@ -8,7 +8,7 @@ use Rattle.mv_core.specs.declared.view.Walk.TheVariants as place
 use Rattle.mv_core.specs.Times.{words_of}
 use Rattle.mv_core.specs.Views.{time_in}
 use Rattle.mv_core.specs.LockSteps.{StandsToLock, lock_lost}
-use Rattle.mv_core.proofs.WalkOn.{at_zero}
+use Rattle.mv_core.proofs.kinds.walking.WalkOn.{at_zero}
 use Rattle.seat_log.specs.Notes.{Noted, next_of, first_of, next_note, built_noted}
 use Rattle.seat_log.specs.Stands.{Stands}
 use Rattle.seat_log.specs.Builds.{slot_built, build_cost}

@@ -13,7 +13,7 @@ use Rattle.mv_core.specs.declared.view.View.{View}
 use Rattle.mv_core.specs.declared.view.Phase.{Phase}
 use Rattle.mv_core.specs.declared.view.Phase.TheVariants.{Inside}
 use Rattle.mv_core.specs.declared.view.Section.{Section}
-use Rattle.mv_core.specs.declared.view.Heard.{Heard}
+use Rattle.mv_core.specs.declared.view.LoadedClocks.{LoadedClocks}
 use Rattle.mv_core.specs.declared.view.Passed.TheVariants.{Nothing}
 use Rattle.mv_core.specs.declared.view.Walk.TheVariants as place
 use Rattle.mv_core.specs.Rings.{own_of, spare_count}
@@ -23,7 +23,7 @@ use Rattle.mv_core.specs.declared.view.Stand.{Stand}
 use Rattle.mv_core.specs.SectionFacts.{IsPastHelp}
 use Rattle.mv_core.specs.LockSteps.{StandsToLock, head_locked, lock_lost, OneMoreWrite}
 use Rattle.mv_core.specs.WalkSteps.{IsLinkOf}
-use Rattle.mv_core.proofs.WalkOn.{at_some}
+use Rattle.mv_core.proofs.kinds.walking.WalkOn.{at_some}
 use Rattle.seat_log.specs.declared.version.Note.{Note}
 use Rattle.seat_log.specs.Notes.{Noted, held_noted, cleared, without_previous}
 use Rattle.seat_log.specs.Stands.{Stands}
@@ -39,13 +39,13 @@ use Rattle.object_lock.proofs.Outcomes.{tries_on}
 use Rattle.object_lock.proofs.OwnNotes.{note_write, held_notes, own_is}
 use Rattle.object_lock.proofs.Stood.{stands_on}
 
--- a section may walk on where its phase, the clock words it heard and its write-back stay
-pub may_same : (v w : View) → w.phase ≡ v.phase → w.heard ≡ v.heard → w.back ≡ v.back → MayWalk v → MayWalk w
-may_same v w phase heard back may =
+-- a section may walk on where its phase, the clock words it loaded and its write-back stay
+pub may_same : (v w : View) → w.phase ≡ v.phase → w.clocks ≡ v.clocks → w.back ≡ v.back → MayWalk v → MayWalk w
+may_same v w phase clocks back may =
     let inside : section_in w ≡ section_in v = ap inside_of phase in record {
       phase = phase ∙ may.phase ∙ sym (ap Inside inside);
       open_is = ap (λ (s : Section). s.mode) inside ∙ may.open_is;
-      helped = subst (λ (s : Section). IsPastHelp w.heard s) (sym inside) (subst (λ (h : Heard). IsPastHelp h (section_in v)) (sym heard) may.helped);
+      helped = subst (λ (s : Section). IsPastHelp w.clocks s) (sym inside) (subst (λ (h : LoadedClocks). IsPastHelp h (section_in v)) (sym clocks) may.helped);
       no_back = back ∙ may.no_back;
     }
 
@@ -107,7 +107,7 @@ module _ (c : Config) (v w : View) (l : Noted) (object previous position : ℕ) 
         (λ i. head_locked c v (section_in v) (is.3 i) (is.4 i) (is.2 i)) ∙ sym told in
         let stands = stands_locked c v l is.0 (section_in v) s is.1 (is.5 ∙ ap (words_in c v) (sym is.3)) in
         subst (λ (k : Noted). Outcome c v w k object Held before after) (sym noted) (record {
-          may = may_same v w (ap (λ (u : View). u.phase) told) (ap (λ (u : View). u.heard) told) (ap (λ (u : View). u.back) told) may;
+          may = may_same v w (ap (λ (u : View). u.phase) told) (ap (λ (u : View). u.clocks) told) (ap (λ (u : View). u.back) told) may;
           stands = subst (λ (u : View). Stands c u (held_noted l)) at stands;
           unbuilt = refl;
           makes = (own.0 ∙ ap (λ ws. own_of c v.ring ++ (object, ws) ∷ []) (sym (ap (λ (u : View). words_in c u object) told)), own.1);
@@ -137,7 +137,7 @@ module _ (c : Config) (v w : View) (l : Noted) (object previous position : ℕ) 
     }
 
     pub lost_may : MayWalk w
-    lost_may = may_same v w (ap (λ (u : View). u.phase) told) (ap (λ (u : View). u.heard) told) (ap (λ (u : View). u.back) told) may
+    lost_may = may_same v w (ap (λ (u : View). u.phase) told) (ap (λ (u : View). u.clocks) told) (ap (λ (u : View). u.back) told) may
 
     pub lost_stands : Stands c w l
     lost_stands =
@@ -168,7 +168,7 @@ cleared_for c v w l m object previous position is e k =
 -- stores into the slot that is being built
 module _ (c : Config) (v w : View) (n : ℕ) (b : BuildsBy v w n) where
   pub built_may : MayWalk v → MayWalk w
-  built_may may = may_same v w (ap (λ (u : View). u.phase) b.rest) (ap (λ (u : View). u.heard) b.rest) (ap (λ (u : View). u.back) b.rest) may
+  built_may may = may_same v w (ap (λ (u : View). u.phase) b.rest) (ap (λ (u : View). u.clocks) b.rest) (ap (λ (u : View). u.back) b.rest) may
 
   pub built_carries : KeepsOwn c v w → Carries c v w
   built_carries own =

@@ -7,7 +7,7 @@ use Rattle.mv_history.specs.declared.answers.LockAnswer.TheVariants.{Held, Busy,
 use Rattle.mv_layout.specs.declared.Config.{Config}
 use Rattle.mv_core.specs.declared.view.View.{View}
 use Rattle.mv_core.specs.Rings.{own_of, spare_count}
-use Rattle.mv_core.proofs.Written.{write_there, write_touches}
+use Rattle.mv_core.proofs.logs.Written.{write_there, write_touches}
 use Rattle.seat_log.specs.declared.version.Note.{Note}
 use Rattle.seat_log.specs.Notes.{Noted, built_count, held_from}
 use Rattle.seat_log.specs.Stands.{Stands}

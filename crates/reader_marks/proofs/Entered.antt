@@ -87,7 +87,7 @@ module _ (c : Config) (v : View) (low word : ℕ) (h : List Entry) (w : View) (l
         within = omega arith;
         snapshot = (whole.0.0, front ∙ whole.0.1);
         entered = entered_by;
-        rest = helps.rest ∙ ap (λ (p : Past). record (entered c v low word h) { past = p; phase = w.phase; heard = w.heard; trail = w.trail }) seen.1;
+        rest = helps.rest ∙ ap (λ (p : Past). record (entered c v low word h) { past = p; phase = w.phase; clocks = w.clocks; trail = w.trail }) seen.1;
       }
 
 -- the time of all that is seen is the greatest that was found

@@ -38,7 +38,7 @@ pub record Begins (c : Config) (v w : View) (time : ℕ) : Type 0 where
   pub inside : Section
   pub phase : w.phase ≡ Inside inside
   pub open_is : inside.mode ≡ Open
-  pub past_help : IsPastHelp w.heard inside
+  pub past_help : IsPastHelp w.clocks inside
   pub nothing : HoldsNothing w.ring
   pub no_back : w.back ≡ None
   pub at : ℕ
@@ -47,7 +47,7 @@ pub record Begins (c : Config) (v w : View) (time : ℕ) : Type 0 where
   pub within : at ≤ length w.past.seen
   pub snapshot : BeginsWith (take at w.past.seen) v.past.seen
   pub entered : EntersBy v.trail w.trail inside.word
-  pub rest : w ≡ record v { past = record v.past { seen = w.past.seen }; phase = w.phase; heard = w.heard; walk = Nowhere; back = None; trail = w.trail }
+  pub rest : w ≡ record v { past = record v.past { seen = w.past.seen }; phase = w.phase; clocks = w.clocks; walk = Nowhere; back = None; trail = w.trail }
 
 -- the section of a phase; it tells nothing of a phase outside one
 abbrev pub inside_of : Phase → Section

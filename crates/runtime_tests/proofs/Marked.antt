@@ -68,10 +68,10 @@ taken c v w l word h m is is_word =
       open_is = refl;
       word_is = refl;
       loaded = record {
-        loaded = subst (λ (u : View). Contains u.heard.loaded word) (sym is) (Contains-push [] word);
+        loaded = subst (λ (u : View). Contains u.clocks.loaded word) (sym is) (Contains-push [] word);
         is_word = is_word;
         none = λ e.
-            subst (λ (u : View). Contains u.heard.helped word) (sym is)
+            subst (λ (u : View). Contains u.clocks.helped word) (sym is)
             (subst (λ (b : Bool). Contains (cond b (word ∷ []) []) word) (sym (eq-eqb (clock_slot_of word) 8191 e)) (Contains-push [] word));
       };
       no_back = ap (λ (u : View). u.back) is;
@@ -84,7 +84,7 @@ helped c v w l word t helps = record {
   may = walks_in w t.inside (record {
     phase = still_open c v w word t.inside t.phase_is t.open_is helps;
     open_is = t.open_is;
-    helped = subst (Contains w.heard.helped) (sym t.word_is) helps.helped;
+    helped = subst (Contains w.clocks.helped) (sym t.word_is) helps.helped;
     no_back = ap (λ (u : View). u.back) helps.rest ∙ t.no_back;
   });
   no_scan = ap (λ (u : View). u.scan) helps.rest ∙ t.between.no_scan;

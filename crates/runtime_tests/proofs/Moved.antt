@@ -6,11 +6,11 @@ use Rattle.mv_history.specs.declared.StepKind.{StepKind}
 use Rattle.mv_history.specs.declared.StepKind.TheVariants.{LoadHead, LoadFirst, LoadStamp, LoadPrev}
 use Rattle.mv_layout.specs.declared.Config.{Config}
 use Rattle.mv_core.specs.declared.view.View.{View}
-use Rattle.mv_core.specs.declared.view.Heard.{Heard}
+use Rattle.mv_core.specs.declared.view.LoadedClocks.{LoadedClocks}
 use Rattle.mv_core.specs.declared.view.Section.{Section}
 use Rattle.mv_core.specs.EnterSteps.{IsWhole, check_loaded, mark_cleared}
 use Rattle.mv_core.specs.WalkSteps.{IsWalking}
-use Rattle.mv_core.proofs.LockedLog.{none_held}
+use Rattle.mv_core.proofs.kinds.locking.lock_head.LockedLog.{none_held}
 use Rattle.commit_clock.specs.Helps.{HasLoaded, Helps}
 use Rattle.reader_marks.specs.Sections.{Begins, IsOpen}
 use Rattle.seat_log.specs.Notes.{Noted}
@@ -59,34 +59,34 @@ walk_leaves LoadPrev h = (refl, refl)
 walk_leaves _ h = absurd h
 
 -- a section goes on after what leaves its scan and the clock words heard as they were
-still_inside : (c : Config) (v w : View) (l m : Noted) (word : Option ℕ) → IsInside c v l word → w.scan ≡ v.scan → w.heard ≡ v.heard → MayWalk w
+still_inside : (c : Config) (v w : View) (l m : Noted) (word : Option ℕ) → IsInside c v l word → w.scan ≡ v.scan → w.clocks ≡ v.clocks → MayWalk w
     → Stands c w m → m.built ≡ None → IsInside c w m word
-still_inside c v w l m word i scan heard may stands unbuilt = record {
+still_inside c v w l m word i scan clocks may stands unbuilt = record {
   may = may;
   no_scan = scan ∙ i.no_scan;
   stands = stands;
   unbuilt = unbuilt;
-  helped = subst (λ (h : Heard). (x : ℕ) → word ≡ Some x → Contains h.loaded x × Contains h.helped x) (sym heard) i.helped;
+  helped = subst (λ (h : LoadedClocks). (x : ℕ) → word ≡ Some x → Contains h.loaded x × Contains h.helped x) (sym clocks) i.helped;
 }
 
 pub walked : (c : Config) (v w : View) (l : Noted) (word : Option ℕ) (before after : ℕ) → IsInside c v l word → Walks v w before after → MayWalk w
     → IsInside c w l word
 walked c v w l word before after i k may =
-    still_inside c v w l l word i (ap (λ (u : View). u.scan) k.rest) (ap (λ (u : View). u.heard) k.rest) may
+    still_inside c v w l l word i (ap (λ (u : View). u.scan) k.rest) (ap (λ (u : View). u.clocks) k.rest) may
     (stands_left c v w l i.stands (ap (λ (u : View). u.number) k.rest) (ap (λ (u : View). u.ring) k.rest) (ap (λ (u : View). u.past.mine) k.rest)
     (ap (λ (u : View). u.past.rests) k.rest) k.trail.0 k.trail.1 (kinds_leave IsWalkStep walk_leaves k.trail.0 k.trail.3)) i.unbuilt
 
 pub has_read : (c : Config) (kind : StepKind) → LeavesLog kind → (v w : View) (l : Noted) (word : Option ℕ) → IsInside c v l word → Reads kind v w
     → MayWalk w → IsInside c w l word
 has_read c kind leaves v w l word i r may =
-    still_inside c v w l l word i (ap (λ (u : View). u.scan) r.rest) (ap (λ (u : View). u.heard) r.rest) may
+    still_inside c v w l l word i (ap (λ (u : View). u.scan) r.rest) (ap (λ (u : View). u.clocks) r.rest) may
     (stands_left c v w l i.stands (ap (λ (u : View). u.number) r.rest) (ap (λ (u : View). u.ring) r.rest) (ap (λ (u : View). u.past.mine) r.rest)
     (ap (λ (u : View). u.past.rests) r.rest) r.trail.0 r.trail.1 (kind_leaves kind leaves r.trail.0 r.trail.3)) i.unbuilt
 
 pub tried : (c : Config) (v w : View) (l m : Noted) (word : Option ℕ) (before after : ℕ) → IsInside c v l word → Tries v w before after → MayWalk w
     → Stands c w m → m.built ≡ None → IsInside c w m word
 tried c v w l m word before after i t may stands unbuilt =
-    still_inside c v w l m word i (ap (λ (u : View). u.scan) t.rest) (ap (λ (u : View). u.heard) t.rest) may stands unbuilt
+    still_inside c v w l m word i (ap (λ (u : View). u.scan) t.rest) (ap (λ (u : View). u.clocks) t.rest) may stands unbuilt
 
 -- a lock was begun: a version of the object is built
 pub has_started : (c : Config) (v w : View) (l m : Noted) (word : Option ℕ) (before after : ℕ) (lock : StartedLock) → IsInside c v l word
@@ -107,7 +107,7 @@ has_ended c v w l m object before after lock answer k o = record {
 pub written : (c : Config) (v w : View) (l m : Noted) (word : Option ℕ) (n : ℕ) → IsInside c v l word → Stores v w n → MayWalk w → Stands c w m
     → m.built ≡ None → IsInside c w m word
 written c v w l m word n i s may stands unbuilt =
-    still_inside c v w l m word i (ap (λ (u : View). u.scan) s.rest) (ap (λ (u : View). u.heard) s.rest) may stands unbuilt
+    still_inside c v w l m word i (ap (λ (u : View). u.scan) s.rest) (ap (λ (u : View). u.clocks) s.rest) may stands unbuilt
 
 -- CLOCK was loaded, and its word helped
 pub loaded : (c : Config) (v x y : View) (l : Noted) (old : Option ℕ) (word : ℕ) (h : List Entry) → IsInside c v l old → IsWhole c v word h
@@ -127,5 +127,5 @@ loaded c v x y l old word h i whole is has helps =
       unbuilt = i.unbuilt;
       helped = λ w e.
           let same : word ≡ w = cc in
-          subst (λ n. Contains y.heard.loaded n × Contains y.heard.helped n) same (helps.still_loaded word has.loaded, helps.helped);
+          subst (λ n. Contains y.clocks.loaded n × Contains y.clocks.helped n) same (helps.still_loaded word has.loaded, helps.helped);
     }

@@ -66,8 +66,8 @@ name_lost c v w l word tag rival i names =
       may = walks_in w (section_in v) (record {
         phase = ap (λ (u : View). u.phase) is ∙ i.may.phase;
         open_is = i.may.open_is;
-        helped = subst (λ (u : View). Contains u.heard.helped (section_in v).word) (sym is)
-            (Contains-append_left v.heard.helped (if_none found) (section_in v).word i.may.helped);
+        helped = subst (λ (u : View). Contains u.clocks.helped (section_in v).word) (sym is)
+            (Contains-append_left v.clocks.helped (if_none found) (section_in v).word i.may.helped);
         no_back = ap (λ (u : View). u.back) is ∙ i.may.no_back;
       });
       no_scan = ap (λ (u : View). u.scan) is ∙ i.no_scan;

@@ -63,7 +63,7 @@ pub record HasTaken (c : Config) (v : View) (l : Noted) (word : ℕ) : Type 0 wh
 
 -- the word of CLOCK, if one is kept, was loaded and helped
 abbrev pub HasHelped : View → Option ℕ → Type 0
-HasHelped v word = (w : ℕ) → word ≡ Some w → Contains v.heard.loaded w × Contains v.heard.helped w
+HasHelped v word = (w : ℕ) → word ≡ Some w → Contains v.clocks.loaded w × Contains v.clocks.helped w
 
 -- in an open section past its help
 pub record IsInside (c : Config) (v : View) (l : Noted) (word : Option ℕ) : Type 0 where
@@ -94,8 +94,8 @@ pub record HasClock (c : Config) (v : View) (l : Noted) (word : ℕ) : Type 0 wh
 -- and was helped too
 pub record HasHelpedClock (c : Config) (v : View) (l : Noted) (word : ℕ) : Type 0 where
   pub outside : IsOutside c v l
-  pub loaded : Contains v.heard.loaded word
-  pub helped : Contains v.heard.helped word
+  pub loaded : Contains v.clocks.loaded word
+  pub helped : Contains v.clocks.helped word
 
 -- in an open section that holds nothing, in which a version is written back
 pub record IsWritingBack (c : Config) (v : View) (l : Noted) : Type 0 where

@@ -113,7 +113,7 @@ fn stamp_own<L: Ledger>(
 }
 
 // Stores SUPER below the version that is noted at this index, if there is one below it.
-fn tell_one<L: Ledger>(
+fn store_super_below<L: Ledger>(
     shared: &Shared<AnyRules>,
     pass: &mut Pass<AnyRules>,
     log: &Log,
@@ -135,7 +135,7 @@ fn tell_one<L: Ledger>(
 }
 
 // Stores SUPER below the first versions of the write set, in the order of locking.
-fn tell_first<L: Ledger>(
+fn store_first_supers<L: Ledger>(
     shared: &Shared<AnyRules>,
     pass: &mut Pass<AnyRules>,
     log: &Log,
@@ -152,7 +152,7 @@ fn tell_first<L: Ledger>(
 {
     let from = live(log) - held(log);
     for index in from..from + count {
-        tell_one(shared, pass, log, index, time, steps);
+        store_super_below(shared, pass, log, index, time, steps);
     }
 }
 
@@ -176,7 +176,7 @@ pub(crate) fn first_of_finish<L: Ledger>(
     }
     let first = note(log, live(log) - held(log)).first;
     stamp_own(shared, pass, first, time, steps);
-    tell_first(shared, pass, log, time, (count - 1).min(held(log)), steps);
+    store_first_supers(shared, pass, log, time, (count - 1).min(held(log)), steps);
 }
 
 // Gives HEAD back of the object that is noted at this index, and is held.

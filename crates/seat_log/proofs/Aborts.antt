@@ -14,11 +14,11 @@ use Rattle.mv_core.specs.declared.ring.CommitNote.{CommitNote}
 use Rattle.mv_core.specs.declared.view.View.{View}
 use Rattle.mv_core.specs.Rings.{slot_at, is_held, is_spare, HoldsNothing}
 use Rattle.mv_core.specs.LockSteps.{dead_if, timed, death_loaded}
-use Rattle.mv_core.proofs.Links.{live_once}
-use Rattle.mv_core.proofs.Slots.{slot_mapped}
-use Rattle.mv_core.proofs.Counts.{count_mapped}
-use Rattle.mv_core.proofs.Taking.{holds_none}
-use Rattle.mv_core.proofs.DeathNotes.{note_cut, note_uncut}
+use Rattle.mv_core.proofs.logs.Links.{live_once}
+use Rattle.mv_core.proofs.logs.Slots.{slot_mapped}
+use Rattle.mv_core.proofs.logs.Counts.{count_mapped}
+use Rattle.mv_core.proofs.kinds.entering.LoadTime.{holds_none}
+use Rattle.mv_core.proofs.kinds.building.DeathNotes.{note_cut, note_uncut}
 use Rattle.seat_log.specs.declared.version.Note.{Note}
 use Rattle.seat_log.specs.Notes.{Noted, next_of, aborted_noted}
 use Rattle.seat_log.specs.Stands.{death_of, is_cut, is_free, is_won_cut, writes_in, Stands}

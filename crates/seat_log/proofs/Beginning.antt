@@ -9,7 +9,7 @@ use Rattle.mv_core.specs.declared.ring.Slot.TheVariants.{Free, Built, Live, Free
 use Rattle.mv_core.specs.declared.view.View.{View}
 use Rattle.mv_core.specs.Rings.{slot_at, is_held, is_spare, empty_ring}
 use Rattle.mv_core.specs.Start.{starting_view}
-use Rattle.mv_core.proofs.Starting.{all_free}
+use Rattle.mv_core.proofs.kinds.opening.Starting.{all_free}
 use Rattle.seat_log.specs.Notes.{nothing_noted}
 use Rattle.seat_log.specs.Stands.{is_free, is_won_cut, writes_in, Stands}
 

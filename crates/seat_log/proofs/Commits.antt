@@ -16,9 +16,9 @@ use Rattle.mv_core.specs.declared.view.View.{View}
 use Rattle.mv_core.specs.declared.view.Section.{Section}
 use Rattle.mv_core.specs.Rings.{slot_at, is_held, is_spare}
 use Rattle.mv_core.specs.NameSteps.{committed_slot, commit_named}
-use Rattle.mv_core.proofs.Links.{live_once}
-use Rattle.mv_core.proofs.Slots.{slot_mapped}
-use Rattle.mv_core.proofs.Counts.{one_if, count_mapped}
+use Rattle.mv_core.proofs.logs.Links.{live_once}
+use Rattle.mv_core.proofs.logs.Slots.{slot_mapped}
+use Rattle.mv_core.proofs.logs.Counts.{one_if, count_mapped}
 use Rattle.seat_log.specs.declared.version.Note.{Note}
 use Rattle.seat_log.specs.Notes.{Noted, committed_noted}
 use Rattle.seat_log.specs.Stands.{death_of, IsAsNoted, is_cut, is_free, is_won_cut, writes_in, Stands}

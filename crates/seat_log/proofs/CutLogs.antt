@@ -18,8 +18,8 @@ use Rattle.mv_core.specs.Rings.{slot_at, index_of, put_slot, is_spare, spare_cou
 use Rattle.mv_core.specs.EnterSteps.{mark_cleared}
 use Rattle.mv_core.specs.LockSteps.{dead_if, timed, MayLoadDeath, death_loaded}
 use Rattle.mv_core.specs.ReclaimSteps.{head_cut, cut_lost}
-use Rattle.mv_core.proofs.Slots.{slot_here, live_within}
-use Rattle.mv_core.proofs.Counts.{one_if, count_same, count_more}
+use Rattle.mv_core.proofs.logs.Slots.{slot_here, live_within}
+use Rattle.mv_core.proofs.logs.Counts.{one_if, count_same, count_more}
 use Rattle.seat_log.specs.declared.version.Note.{Note}
 use Rattle.seat_log.specs.Notes.{Noted, next_of, IsNoteAt, retired, back_noted}
 use Rattle.seat_log.specs.Stands.{version_of, is_cut, cut_count, is_free, is_won_cut, Stands}

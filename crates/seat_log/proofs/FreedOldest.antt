@@ -15,10 +15,10 @@ use Rattle.mv_core.specs.declared.ring.Status.{Status}
 use Rattle.mv_core.specs.declared.ring.Status.TheVariants.{Held, Aborted, Committed}
 use Rattle.mv_core.specs.declared.view.View.{View}
 use Rattle.mv_core.specs.Rings.{slot_at, index_of, put_slot, is_held, is_spare}
-use Rattle.mv_core.specs.Views.{told}
+use Rattle.mv_core.specs.Views.{with_step}
 use Rattle.mv_core.specs.ReclaimSteps.{IsDeadBy, freeing_slot, freed_ring, free_stored}
-use Rattle.mv_core.proofs.Slots.{slot_here, slot_else, slot_mapped, slot_within}
-use Rattle.mv_core.proofs.Counts.{count_same, count_more, count_less, count_mapped}
+use Rattle.mv_core.proofs.logs.Slots.{slot_here, slot_else, slot_mapped, slot_within}
+use Rattle.mv_core.proofs.logs.Counts.{count_same, count_more, count_less, count_mapped}
 use Rattle.seat_log.specs.declared.version.Note.{Note}
 use Rattle.seat_log.specs.Notes.{Noted, held_from, IsNoteAt}
 use Rattle.seat_log.specs.Stands.{version_of, death_of, IsAsNoted, HasNoted, is_cut, is_free, is_won_cut, Stands}
@@ -130,7 +130,7 @@ module _ (c : Config) (v : View) (l : Noted) (k t : ℕ) (s : Stands c v l) (set
         let ring_is : freed_ring v.ring (at 0) (slot_at v.ring (at 0)) ≡ first_ring =
         ap (freed_ring v.ring (at 0)) here ∙ ap (λ g. put_slot (record v.ring { slots = map (freeing_slot g) v.ring.slots }) (at 0) Free) head_first in
         let few = set.few in
-        subst (λ (r : Ring). Freed c v (record v { ring = r; trail = told c v StoreFree (Stamp v.number (at 0)) None (Some 0) }) f k 1) (sym ring_is)
+        subst (λ (r : Ring). Freed c v (record v { ring = r; trail = with_step c v StoreFree (Stamp v.number (at 0)) None (Some 0) }) f k 1) (sym ring_is)
         (record {
           changes = refl;
           next = refl;
@@ -164,9 +164,9 @@ module _ (c : Config) (v : View) (l : Noted) (k t : ℕ) (s : Stands c v l) (set
     next_freed =
         let ring_is : freed_ring w.ring (at j) (slot_at w.ring (at j)) ≡ next_ring = ap (freed_ring w.ring (at j)) freed_here in
         let few = set.few in
-        subst (λ (r : Ring). Freed c v (record w { ring = r; trail = told c w StoreFree (Stamp w.number (at j)) None (Some 0) }) f k (j + 1)) (sym ring_is)
+        subst (λ (r : Ring). Freed c v (record w { ring = r; trail = with_step c w StoreFree (Stamp w.number (at j)) None (Some 0) }) f k (j + 1)) (sym ring_is)
         (record {
-          changes = ap (λ (u : View). record u { ring = next_ring; trail = told c w StoreFree (Stamp w.number (at j)) None (Some 0) }) e.changes;
+          changes = ap (λ (u : View). record u { ring = next_ring; trail = with_step c w StoreFree (Stamp w.number (at j)) None (Some 0) }) e.changes;
           next = e.next;
           wide = length-set w.ring.slots (at j) Free ∙ e.wide;
           held = count_same w.ring (at j) Free next_within is_held (sym (ap is_held freed_here)) ∙ e.held;

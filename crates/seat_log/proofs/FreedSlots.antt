@@ -12,7 +12,7 @@ use Rattle.mv_core.specs.declared.ring.Status.TheVariants.{Held, Aborted, Commit
 use Rattle.mv_core.specs.declared.view.View.{View}
 use Rattle.mv_core.specs.Rings.{slot_at, index_of, held_count, is_spare, spare_count}
 use Rattle.mv_core.specs.ReclaimSteps.{freeing_slot}
-use Rattle.mv_core.proofs.Counts.{one_if}
+use Rattle.mv_core.proofs.logs.Counts.{one_if}
 use Rattle.seat_log.specs.Stands.{is_cut, cut_count, is_free, is_won_cut}
 
 -- a step that passes a test

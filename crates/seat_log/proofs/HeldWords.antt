@@ -11,8 +11,8 @@ use Rattle.mv_core.specs.declared.ring.Status.TheVariants.{Held}
 use Rattle.mv_core.specs.declared.view.View.{View}
 use Rattle.mv_core.specs.Rings.{slot_at, index_of, is_held, is_spare}
 use Rattle.mv_core.specs.LockSteps.{data_stored, MayStoreData}
-use Rattle.mv_core.proofs.Slots.{slot_here, slot_else, live_within}
-use Rattle.mv_core.proofs.Counts.{count_same}
+use Rattle.mv_core.proofs.logs.Slots.{slot_here, slot_else, live_within}
+use Rattle.mv_core.proofs.logs.Counts.{count_same}
 use Rattle.seat_log.specs.declared.version.Note.{Note}
 use Rattle.seat_log.specs.Notes.{Noted, next_of, held_from, IsNoteAt, IsHeld, with_word, word_noted}
 use Rattle.seat_log.specs.Stands.{version_of, IsAsNoted, HasBuilt, is_cut, is_free, is_won_cut, writes_in, Stands}

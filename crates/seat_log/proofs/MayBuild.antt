@@ -10,8 +10,8 @@ use Rattle.mv_core.specs.declared.ring.Build.{Build}
 use Rattle.mv_core.specs.declared.view.View.{View}
 use Rattle.mv_core.specs.Rings.{slot_at, index_of, is_held}
 use Rattle.mv_core.specs.LockSteps.{nothing_built, build_in, built_too, FitsField, MayStoreBuilt, built_stored}
-use Rattle.mv_core.proofs.Slots.{slot_here}
-use Rattle.mv_core.proofs.Counts.{held_same}
+use Rattle.mv_core.proofs.logs.Slots.{slot_here}
+use Rattle.mv_core.proofs.logs.Counts.{held_same}
 use Rattle.seat_log.specs.Builds.{build_at, stored_next, words_stored, begun, linked, slot_built, MayBuild, first_in}
 
 -- what is in a slot that may be built isn't held

@@ -8,8 +8,8 @@ use Rattle.mv_core.specs.declared.ring.Status.{Status}
 use Rattle.mv_core.specs.declared.ring.Status.TheVariants.{Held, Aborted, Committed}
 use Rattle.mv_core.specs.declared.view.View.{View}
 use Rattle.mv_core.specs.Rings.{slot_at, index_of}
-use Rattle.mv_core.proofs.Links.{live_once}
-use Rattle.mv_core.proofs.HeldSet.{slots_apart}
+use Rattle.mv_core.proofs.logs.Links.{live_once}
+use Rattle.mv_core.proofs.logs.HeldSet.{slots_apart}
 use Rattle.seat_log.specs.declared.version.Note.{Note}
 use Rattle.seat_log.specs.Notes.{Noted, held_from, IsNoteAt}
 use Rattle.seat_log.specs.Stands.{version_of, IsAsNoted, HasNoted, Stands}

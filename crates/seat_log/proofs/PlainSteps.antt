@@ -8,7 +8,7 @@ use Rattle.mv_history.specs.declared.StepKind.{StepKind}
 use Rattle.mv_layout.specs.declared.Config.{Config}
 use Rattle.mv_core.specs.declared.view.View.{View}
 use Rattle.mv_core.specs.EnterSteps.{mark_cleared}
-use Rattle.mv_core.proofs.Counts.{one_if}
+use Rattle.mv_core.proofs.logs.Counts.{one_if}
 use Rattle.commit_clock.specs.Helps.{IsHelpStep}
 use Rattle.commit_clock.proofs.HelpKinds.{help_kind}
 use Rattle.reader_marks.specs.Sections.{IsEnterStep, Begins}

@@ -8,7 +8,7 @@ use Rattle.mv_layout.specs.declared.Config.{Config}
 use Rattle.mv_core.specs.declared.view.View.{View}
 use Rattle.mv_core.specs.Known.{Known}
 use Rattle.mv_core.specs.NameSteps.{rest_named, rest_lost}
-use Rattle.mv_core.proofs.OwnEntries.{own_seen}
+use Rattle.mv_core.proofs.history.OwnEntries.{own_seen}
 use Rattle.seat_log.specs.Notes.{Noted, rest_noted}
 use Rattle.seat_log.specs.Stands.{is_free, is_won_cut, Stands}
 use Rattle.seat_log.proofs.BuildsOn.{unpassed}

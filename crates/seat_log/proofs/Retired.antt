@@ -16,9 +16,9 @@ use Rattle.mv_core.specs.declared.ring.CommitNote.{CommitNote}
 use Rattle.mv_core.specs.declared.view.View.{View}
 use Rattle.mv_core.specs.Rings.{slot_at, index_of, put_slot, is_held, is_spare}
 use Rattle.mv_core.specs.ReclaimSteps.{MayLoadSuper, super_note, super_loaded}
-use Rattle.mv_core.proofs.Links.{live_once}
-use Rattle.mv_core.proofs.Slots.{slot_here, slot_else, live_within}
-use Rattle.mv_core.proofs.Counts.{count_same}
+use Rattle.mv_core.proofs.logs.Links.{live_once}
+use Rattle.mv_core.proofs.logs.Slots.{slot_here, slot_else, live_within}
+use Rattle.mv_core.proofs.logs.Counts.{count_same}
 use Rattle.seat_log.specs.declared.version.Note.{Note}
 use Rattle.seat_log.specs.Notes.{Noted, next_of, held_from, IsNoteAt, IsLive, retired}
 use Rattle.seat_log.specs.Stands.{version_of, death_of, IsAsNoted, HasNoted, HasBuilt, is_cut, cut_count, is_free, is_won_cut, writes_in, Stands}

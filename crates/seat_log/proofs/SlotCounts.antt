@@ -6,7 +6,7 @@ use Rattle.mv_core.specs.declared.ring.Slot.TheVariants.{Free, Built, Live, Free
 use Rattle.mv_core.specs.declared.ring.Version.{Version}
 use Rattle.mv_core.specs.declared.ring.Status.{Status}
 use Rattle.mv_core.specs.Rings.{is_held}
-use Rattle.mv_core.proofs.Counts.{one_if}
+use Rattle.mv_core.proofs.logs.Counts.{one_if}
 
 -- as many pass it
 pub count_alike : (p : Slot → Bool) (xs ys : List Slot) → length xs ≡ length ys

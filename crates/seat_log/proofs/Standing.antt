@@ -11,7 +11,7 @@ use Rattle.mv_core.specs.declared.ring.Build.{Build}
 use Rattle.mv_core.specs.declared.view.View.{View}
 use Rattle.mv_core.specs.Rings.{slot_at, index_of, is_held, is_spare}
 use Rattle.mv_core.specs.LockSteps.{nothing_built, build_in}
-use Rattle.mv_core.proofs.HeldSet.{slots_apart}
+use Rattle.mv_core.proofs.logs.HeldSet.{slots_apart}
 use Rattle.seat_log.specs.declared.version.Note.{Note}
 use Rattle.seat_log.specs.Notes.{Noted, next_of, first_of, built_count, IsNoteAt, IsNextOf, IsLog, next_note, built_noted, dropped}
 use Rattle.seat_log.specs.Stands.{version_of, HasBuilt, is_cut, writes_in, Stands}

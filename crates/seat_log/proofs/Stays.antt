@@ -14,8 +14,8 @@ use Rattle.mv_core.specs.Rings.{slot_at, index_of, put_slot, is_held, held_count
 use Rattle.mv_core.specs.Times.{words_of}
 use Rattle.mv_core.specs.Views.{time_in}
 use Rattle.mv_core.specs.LockSteps.{locked_version, head_locked}
-use Rattle.mv_core.proofs.Slots.{slot_here, slot_else, slot_within}
-use Rattle.mv_core.proofs.Counts.{count_same, count_less, held_more}
+use Rattle.mv_core.proofs.logs.Slots.{slot_here, slot_else, slot_within}
+use Rattle.mv_core.proofs.logs.Counts.{count_same, count_less, held_more}
 use Rattle.seat_log.specs.declared.version.Note.{Note}
 use Rattle.seat_log.specs.Notes.{Noted, next_of, held_from, built_list, IsNextOf, held_noted}
 use Rattle.seat_log.specs.Stands.{version_of, IsAsNoted, HasNoted, HasBuilt, is_cut, cut_count, is_free, is_won_cut, writes_in, Stands}

@@ -164,7 +164,7 @@ pub fn build<P: Protocol, L: Ledger>(
 }
 
 // The built version with PREV 0.
-fn clear_note(built: Option<Note>) -> Option<Note>
+fn clear_note_previous(built: Option<Note>) -> Option<Note>
     ensures { result ≡ without_previous built }
 {
     let mut note = built?;
@@ -192,7 +192,7 @@ pub fn clear_previous<P: Protocol, L: Ledger>(
     ensures step { steps.new ≡ steps.old + 1 }
 {
     store_next(shared, pass, position, PREV, 0, steps);
-    log.built = clear_note(log.built);
+    log.built = clear_note_previous(log.built);
 }
 
 // The version with another data word.

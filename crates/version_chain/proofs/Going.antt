@@ -8,7 +8,7 @@ use Rattle.mv_history.specs.declared.StepKind.{StepKind}
 use Rattle.mv_core.specs.declared.view.View.{View}
 use Rattle.mv_core.specs.declared.view.Phase.TheVariants.{Inside}
 use Rattle.mv_core.specs.declared.view.Section.{Section}
-use Rattle.mv_core.specs.declared.view.Heard.{Heard}
+use Rattle.mv_core.specs.declared.view.LoadedClocks.{LoadedClocks}
 use Rattle.mv_core.specs.WalkSteps.{head_loaded, first_loaded, stamp_loaded, prev_loaded}
 use Rattle.mv_core.specs.SectionFacts.{IsPastHelp}
 use Rattle.version_chain.specs.Reads.{Reads}
@@ -27,42 +27,42 @@ walks_on u v w first second third a b = record {
   rest = b.rest ∙ ap (λ (x : View). record x { past = record x.past { seen = w.past.seen }; walk = w.walk; empty = w.empty; trail = w.trail }) a.rest;
 }
 
--- a section may walk on where its phase, the clock words it heard and its write-back stay
-may_still : (v w : View) → w.phase ≡ v.phase → w.heard ≡ v.heard → w.back ≡ v.back → MayWalk v → MayWalk w
-may_still v w phase heard back may =
+-- a section may walk on where its phase, the clock words it loaded and its write-back stay
+may_still : (v w : View) → w.phase ≡ v.phase → w.clocks ≡ v.clocks → w.back ≡ v.back → MayWalk v → MayWalk w
+may_still v w phase clocks back may =
     let inside : section_in w ≡ section_in v = ap inside_of phase in record {
       phase = phase ∙ may.phase ∙ sym (ap Inside inside);
       open_is = ap (λ (s : Section). s.mode) inside ∙ may.open_is;
-      helped = subst (λ (s : Section). IsPastHelp w.heard s) (sym inside) (subst (λ (h : Heard). IsPastHelp h (section_in v)) (sym heard) may.helped);
+      helped = subst (λ (s : Section). IsPastHelp w.clocks s) (sym inside) (subst (λ (h : LoadedClocks). IsPastHelp h (section_in v)) (sym clocks) may.helped);
       no_back = back ∙ may.no_back;
     }
 
 -- so it may after a walk
 pub may_walk_on : (v w : View) (before after : ℕ) → Walks v w before after → MayWalk v → MayWalk w
 may_walk_on v w before after walks may =
-    may_still v w (ap (λ (u : View). u.phase) walks.rest) (ap (λ (u : View). u.heard) walks.rest) (ap (λ (u : View). u.back) walks.rest) may
+    may_still v w (ap (λ (u : View). u.phase) walks.rest) (ap (λ (u : View). u.clocks) walks.rest) (ap (λ (u : View). u.back) walks.rest) may
 
 -- and after a reader
 pub may_read_on : (kind : StepKind) (v w : View) → Reads kind v w → MayWalk v → MayWalk w
 may_read_on kind v w reads may =
-    may_still v w (ap (λ (u : View). u.phase) reads.rest) (ap (λ (u : View). u.heard) reads.rest) (ap (λ (u : View). u.back) reads.rest) may
+    may_still v w (ap (λ (u : View). u.phase) reads.rest) (ap (λ (u : View). u.clocks) reads.rest) (ap (λ (u : View). u.back) reads.rest) may
 
 -- after FIRST and STAMP of a version were loaded
 pub may_looked : (c : Config) (v w x : View) (first found : ℕ) (seen : List Entry) → w ≡ first_loaded c v (stand_in v) first → x ≡ stamp_loaded c w (stand_in w) first found seen → MayWalk v → MayWalk x
 may_looked c v w x first found seen firsts stamps may =
     may_still v x
     (ap (λ (u : View). u.phase) stamps ∙ ap (λ (u : View). u.phase) firsts)
-    (ap (λ (u : View). u.heard) stamps ∙ ap (λ (u : View). u.heard) firsts)
+    (ap (λ (u : View). u.clocks) stamps ∙ ap (λ (u : View). u.clocks) firsts)
     (ap (λ (u : View). u.back) stamps ∙ ap (λ (u : View). u.back) firsts)
     may
 
 -- and after PREV was
 pub may_passed : (c : Config) (v w : View) (link : ℕ) → w ≡ prev_loaded c v (stand_in v) link → MayWalk v → MayWalk w
-may_passed c v w link is may = may_still v w (ap (λ (u : View). u.phase) is) (ap (λ (u : View). u.heard) is) (ap (λ (u : View). u.back) is) may
+may_passed c v w link is may = may_still v w (ap (λ (u : View). u.phase) is) (ap (λ (u : View). u.clocks) is) (ap (λ (u : View). u.back) is) may
 
 -- after HEAD was loaded
 pub may_started : (c : Config) (v w : View) (object link : ℕ) → w ≡ head_loaded c v (section_in v) object link → MayWalk v → MayWalk w
-may_started c v w object link is may = may_still v w (ap (λ (u : View). u.phase) is) (ap (λ (u : View). u.heard) is) (ap (λ (u : View). u.back) is) may
+may_started c v w object link is may = may_still v w (ap (λ (u : View). u.phase) is) (ap (λ (u : View). u.clocks) is) (ap (λ (u : View). u.back) is) may
 
 -- a walk leaves the length of the snapshot
 pub same_snapshot : (c : Config) (v w : View) (before after : ℕ) → Walks v w before after → snapshot_length c w ≡ snapshot_length c v

@@ -6,5 +6,5 @@ use Rattle.commit_abort.proofs.finishing.finish.Given as goal
 abbrev pub ghost-stamp_own : goal.ghost-stamp_own
 ghost-stamp_own g a = section_in (view a.pass.now)
 
-abbrev pub ghost-tell_below : goal.ghost-tell_below
-ghost-tell_below g a = named_in (view a.pass.now)
+abbrev pub ghost-store_supers : goal.ghost-store_supers
+ghost-store_supers g a = named_in (view a.pass.now)

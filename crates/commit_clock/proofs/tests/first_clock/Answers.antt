@@ -1,7 +1,7 @@
 use Rattle.std.proofs.Common.{◌<◌, ℕ, sym, ◌∙◌, subst, arith}
 use Rattle.mv_core.specs.declared.view.View.{View}
 use Rattle.mv_core.specs.EnterSteps.{MayLoadCheck}
-use Rattle.mv_core.proofs.NewPasses.{new_is_of, new_may_enter}
+use Rattle.mv_core.proofs.kinds.opening.NewPasses.{new_is_of, new_may_enter}
 use Rattle.commit_clock.proofs.tests.first_clock.Goals as goal
 
 pub now-word-requires-clause-of : goal.now-word-requires-clause-of

@@ -1,5 +1,5 @@
 use Rattle.std.proofs.Common.{arith, ◌∙◌}
-use Rattle.mv_core.proofs.NewPasses.{new_is_of, new_may_enter}
+use Rattle.mv_core.proofs.kinds.opening.NewPasses.{new_is_of, new_may_enter}
 use Rattle.commit_clock.proofs.tests.first_rests.Goals as goal
 
 pub two_rests-requires-clause-one : goal.two_rests-requires-clause-one

@@ -1,11 +1,10 @@
 use Rattle.std.proofs.Common.{arith, sym, subst}
 use Rattle.atomic_table.specs.Table.{Joins}
-use Rattle.mv_layout.specs.declared.Config.{Config}
-use Rattle.mv_core.specs.Views.{spent_view}
+use Rattle.mv_core.proofs.Terms.{Config, spent_view}
 use Rattle.mv_core.specs.SeatSteps.{joined}
 use Rattle.mv_core.specs.Rule.{Ruled}
-use Rattle.mv_core.proofs.Turning.{unspent_of}
-use Rattle.mv_core.proofs.JoinedSeats.{seats_join}
+use Rattle.mv_core.proofs.frames.Turning.{unspent_of}
+use Rattle.mv_core.proofs.kinds.joining.Join.{seats_join}
 use Rattle.mv_core.proofs.joining.join_as.Goals as goal
 
 pub join_seat-requires : goal.join_seat-requires

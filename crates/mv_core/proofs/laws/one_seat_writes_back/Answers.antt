@@ -1,4 +1,4 @@
-use Rattle.mv_core.proofs.PointsHold.{one_writes_back}
+use Rattle.mv_core.proofs.points.PointsHold.{one_writes_back}
 use Rattle.mv_core.proofs.laws.one_seat_writes_back.Goals as goal
 
 pub returns : goal.returns

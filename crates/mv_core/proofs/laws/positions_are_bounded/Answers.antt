@@ -1,4 +1,4 @@
-use Rattle.mv_core.proofs.PointsHold.{positions_bounded_law}
+use Rattle.mv_core.proofs.points.PointsHold.{positions_bounded_law}
 use Rattle.mv_core.proofs.laws.positions_are_bounded.Goals as goal
 
 pub returns : goal.returns

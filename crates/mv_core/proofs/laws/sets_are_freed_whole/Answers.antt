@@ -1,4 +1,4 @@
-use Rattle.mv_core.proofs.PointsHold.{frees_law}
+use Rattle.mv_core.proofs.points.PointsHold.{frees_law}
 use Rattle.mv_core.proofs.laws.sets_are_freed_whole.Goals as goal
 
 pub returns : goal.returns

@@ -3,8 +3,8 @@ use Rattle.atomic_table.specs.Table.{Splits}
 use Rattle.mv_layout.specs.declared.Config.{Config}
 use Rattle.mv_core.specs.SeatSteps.{made_one, newly_made}
 use Rattle.mv_core.specs.Rule.{Ruled}
-use Rattle.mv_core.proofs.Turning.{unspent_of}
-use Rattle.mv_core.proofs.Seats.{seat_splits}
+use Rattle.mv_core.proofs.frames.Turning.{unspent_of}
+use Rattle.mv_core.proofs.kinds.opening.MakeSeat.{seat_splits}
 use Rattle.mv_core.proofs.opening.split_as.Goals as goal
 
 pub split_seat-requires : goal.split_seat-requires

@@ -1,7 +1,7 @@
 use Rattle.std.proofs.Common.{rules, sym, ◌∙◌}
 use Rattle.mv_core.specs.Known.{RunsOn}
 use Rattle.mv_core.specs.Passes.{view}
-use Rattle.mv_core.proofs.Turning.{unspent_of, load_allows}
+use Rattle.mv_core.proofs.frames.Turning.{unspent_of, load_allows}
 use Rattle.mv_core.proofs.turns.load_as.Goals as goal
 
 pub load-requires : goal.load-requires

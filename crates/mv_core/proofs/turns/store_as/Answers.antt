@@ -1,7 +1,7 @@
 use Rattle.std.proofs.Common.{rules, sym, ◌∙◌}
 use Rattle.mv_core.specs.Known.{RunsOn}
 use Rattle.mv_core.specs.Passes.{view}
-use Rattle.mv_core.proofs.Turning.{unspent_of, store_allows}
+use Rattle.mv_core.proofs.frames.Turning.{unspent_of, store_allows}
 use Rattle.mv_core.proofs.turns.store_as.Goals as goal
 
 pub store-requires : goal.store-requires

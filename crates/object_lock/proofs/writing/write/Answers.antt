@@ -40,7 +40,7 @@ loop-word-preserved g c =
 pub returns-clause-may : goal.returns-clause-may
 returns-clause-may g c =
     let r = c.loop-word.invariant.2.stores.rest in
-    may_same (view c.args.pass.now) (view c.loop-word.pass) (ap (λ (u : View). u.phase) r) (ap (λ (u : View). u.heard) r) (ap (λ (u : View). u.back) r) c.requires.may
+    may_same (view c.args.pass.now) (view c.loop-word.pass) (ap (λ (u : View). u.phase) r) (ap (λ (u : View). u.clocks) r) (ap (λ (u : View). u.back) r) c.requires.may
 
 pub returns-clause-own : goal.returns-clause-own
 returns-clause-own g c =

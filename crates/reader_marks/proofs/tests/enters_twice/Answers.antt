@@ -1,5 +1,5 @@
 use Rattle.std.proofs.Common.{arith}
-use Rattle.mv_core.proofs.NewPasses.{new_is_of, new_may_enter}
+use Rattle.mv_core.proofs.kinds.opening.NewPasses.{new_is_of, new_may_enter}
 use Rattle.reader_marks.proofs.tests.enters_twice.Goals as goal
 
 pub two_sections-requires-clause-of : goal.two_sections-requires-clause-of

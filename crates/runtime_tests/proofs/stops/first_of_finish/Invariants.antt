@@ -6,5 +6,5 @@ use Rattle.runtime_tests.proofs.stops.first_of_finish.Given as goal
 abbrev pub ghost-stamp_own : goal.ghost-stamp_own
 ghost-stamp_own g a = section_in (view a.pass.now)
 
-abbrev pub ghost-tell_first : goal.ghost-tell_first
-ghost-tell_first g a = named_in (view a.pass.now)
+abbrev pub ghost-store_first_supers : goal.ghost-store_first_supers
+ghost-store_first_supers g a = named_in (view a.pass.now)

@@ -1,7 +1,7 @@
 use Rattle.std.proofs.Common.{◌≡◌, sym, ◌∙◌, subst, arith, ap}
 use Rattle.mv_core.specs.declared.view.View.{View}
 use Rattle.mv_core.specs.Passes.{view, config_of, start_of}
-use Rattle.mv_core.proofs.NewPasses.{new_is_of, new_view_is, new_may_enter}
+use Rattle.mv_core.proofs.kinds.opening.NewPasses.{new_is_of, new_view_is, new_may_enter}
 use Rattle.mv_layout.specs.declared.Config.{Config}
 use Rattle.mv_layout.specs.Limits.{Checked}
 use Rattle.seat_log.specs.Notes.{Noted, nothing_noted}

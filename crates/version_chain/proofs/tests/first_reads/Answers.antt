@@ -1,5 +1,5 @@
 use Rattle.std.proofs.Common.{arith}
-use Rattle.mv_core.proofs.NewPasses.{new_is_of, new_may_enter}
+use Rattle.mv_core.proofs.kinds.opening.NewPasses.{new_is_of, new_may_enter}
 use Rattle.version_chain.proofs.tests.first_reads.Goals as goal
 
 pub read_twice-requires-clause-of : goal.read_twice-requires-clause-of

@@ -1,5 +1,5 @@
 use Rattle.mv_core.specs.Passes.{view}
-use Rattle.mv_core.proofs.Clearing.{mark_clears}
+use Rattle.mv_core.proofs.kinds.entering.ClearMark.{mark_clears}
 use Rattle.mv_core.proofs.shared.Shared.clear_mark.Goals as goal
 
 pub store_as-requires-clause-rule : goal.store_as-requires-clause-rule

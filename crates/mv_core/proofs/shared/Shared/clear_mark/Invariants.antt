@@ -1,6 +1,5 @@
 use Rattle.std.proofs.Common.{◌≡◌}
-use Rattle.mv_layout.specs.declared.Place.TheVariants.{Mark}
-use Rattle.mv_core.specs.Passes.{view, config_of}
+use Rattle.mv_core.proofs.Terms.{Mark, view, config_of}
 use Rattle.mv_core.specs.EnterSteps.{mark_cleared}
 use Rattle.mv_core.proofs.shared.Shared.clear_mark.Given as goal
 

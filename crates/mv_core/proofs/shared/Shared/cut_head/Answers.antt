@@ -1,7 +1,6 @@
 use Rattle.std.proofs.Common.{ap, ◌∙◌}
-use Rattle.mv_layout.specs.Words.{link_of}
-use Rattle.mv_core.specs.Passes.{view}
-use Rattle.mv_core.proofs.CutSwap.{cut_swaps}
+use Rattle.mv_core.proofs.Terms.{link_of, view}
+use Rattle.mv_core.proofs.kinds.reclaiming.cut_head.CutHead.{cut_swaps}
 use Rattle.mv_core.proofs.shared.Shared.cut_head.Goals as goal
 
 pub swap_as-found-requires-clause-rule : goal.swap_as-found-requires-clause-rule

@@ -1,7 +1,5 @@
 use Rattle.std.proofs.Common.{◌≢◌}
-use Rattle.mv_layout.specs.declared.Place.TheVariants.{Head}
-use Rattle.mv_layout.specs.Words.{link_of}
-use Rattle.mv_core.specs.Passes.{view, config_of}
+use Rattle.mv_core.proofs.Terms.{Head, link_of, view, config_of}
 use Rattle.mv_core.specs.WalkSteps.{IsLinkOf}
 use Rattle.mv_core.specs.ReclaimSteps.{CutTold, IsOfOther}
 use Rattle.mv_core.proofs.shared.Shared.cut_head.Given as goal

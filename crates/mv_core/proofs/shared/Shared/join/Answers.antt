@@ -1,6 +1,6 @@
 use Rattle.std.proofs.Common.{sym, ◌∙◌}
 use Rattle.mv_core.specs.Passes.{view, config_of}
-use Rattle.mv_core.proofs.JoinedSeats.{joined_stays}
+use Rattle.mv_core.proofs.kinds.joining.Join.{joined_stays}
 use Rattle.mv_core.proofs.shared.Shared.join.Goals as goal
 
 pub invariant_of-pass : goal.invariant_of-pass

@@ -1,5 +1,5 @@
 use Rattle.mv_core.specs.Passes.{view}
-use Rattle.mv_core.proofs.CheckedClock.{check_loads}
+use Rattle.mv_core.proofs.kinds.helping.LoadCheck.{check_loads}
 use Rattle.mv_core.proofs.shared.Shared.load_check.Goals as goal
 
 pub load_as-requires-clause-rule : goal.load_as-requires-clause-rule

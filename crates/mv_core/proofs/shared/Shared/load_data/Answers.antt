@@ -1,4 +1,4 @@
-use Rattle.mv_core.proofs.DataLoads.{data_loads}
+use Rattle.mv_core.proofs.kinds.walking.LoadData.{data_loads}
 use Rattle.mv_core.proofs.shared.Shared.load_data.Goals as goal
 
 pub load_as-requires-clause-rule : goal.load_as-requires-clause-rule

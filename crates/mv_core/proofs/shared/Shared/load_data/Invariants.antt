@@ -1,7 +1,5 @@
 use Rattle.std.proofs.Common.{◌≡◌, length}
-use Rattle.mv_layout.specs.Words.{link_seat_of}
-use Rattle.mv_layout.specs.declared.Place.TheVariants.{Data}
-use Rattle.mv_core.specs.Passes.{view, config_of}
+use Rattle.mv_core.proofs.Terms.{link_seat_of, Data, view, config_of}
 use Rattle.mv_core.specs.WalkSteps.{slot_named, data_loaded, words_read, word_read}
 use Rattle.mv_core.proofs.shared.Shared.load_data.Given as goal
 

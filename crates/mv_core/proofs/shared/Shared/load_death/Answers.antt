@@ -1,5 +1,5 @@
 use Rattle.mv_core.specs.Passes.{view}
-use Rattle.mv_core.proofs.DeathLoads.{death_loads}
+use Rattle.mv_core.proofs.kinds.building.LoadDeath.{death_loads}
 use Rattle.mv_core.proofs.shared.Shared.load_death.Goals as goal
 
 pub load_as-requires-clause-rule : goal.load_as-requires-clause-rule

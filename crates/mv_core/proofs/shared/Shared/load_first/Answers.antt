@@ -1,4 +1,4 @@
-use Rattle.mv_core.proofs.FirstLoads.{first_loads}
+use Rattle.mv_core.proofs.kinds.walking.LoadFirst.{first_loads}
 use Rattle.mv_core.proofs.shared.Shared.load_first.Goals as goal
 
 pub load_as-requires-clause-rule : goal.load_as-requires-clause-rule

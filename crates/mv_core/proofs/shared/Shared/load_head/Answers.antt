@@ -1,4 +1,4 @@
-use Rattle.mv_core.proofs.HeadLoads.{head_loads}
+use Rattle.mv_core.proofs.kinds.walking.LoadHead.{head_loads}
 use Rattle.mv_core.proofs.shared.Shared.load_head.Goals as goal
 
 pub load_as-requires-clause-rule : goal.load_as-requires-clause-rule

@@ -1,6 +1,5 @@
 use Rattle.std.proofs.Common.{◌≡◌}
-use Rattle.mv_layout.specs.declared.Place.TheVariants.{Head}
-use Rattle.mv_core.specs.Passes.{view, config_of}
+use Rattle.mv_core.proofs.Terms.{Head, view, config_of}
 use Rattle.mv_core.specs.WalkSteps.{IsLinkOf, IsOwnTop, IsOwnLink, IsLastOwn, IsLastSeen, head_loaded}
 use Rattle.mv_core.proofs.shared.Shared.load_head.Given as goal
 

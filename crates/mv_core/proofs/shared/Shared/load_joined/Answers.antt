@@ -1,5 +1,5 @@
 use Rattle.mv_core.specs.Passes.{view}
-use Rattle.mv_core.proofs.JoinedLoads.{joined_loads}
+use Rattle.mv_core.proofs.kinds.joining.LoadJoined.{joined_loads}
 use Rattle.mv_core.proofs.shared.Shared.load_joined.Goals as goal
 
 pub load_as-requires-clause-rule : goal.load_as-requires-clause-rule

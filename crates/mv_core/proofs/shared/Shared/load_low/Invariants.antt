@@ -1,6 +1,5 @@
 use Rattle.std.proofs.Common.{◌≡◌}
-use Rattle.mv_layout.specs.declared.Place.TheVariants.{Clock}
-use Rattle.mv_core.specs.Passes.{view, config_of}
+use Rattle.mv_core.proofs.Terms.{Clock, view, config_of}
 use Rattle.mv_core.specs.SectionFacts.{IsWord}
 use Rattle.mv_core.specs.EnterSteps.{low_loaded}
 use Rattle.mv_core.proofs.shared.Shared.load_low.Given as goal

@@ -1,5 +1,5 @@
 use Rattle.mv_core.specs.Passes.{view}
-use Rattle.mv_core.proofs.Scans.{mark_loads}
+use Rattle.mv_core.proofs.kinds.reclaiming.Scans.{mark_loads}
 use Rattle.mv_core.proofs.shared.Shared.load_mark.Goals as goal
 
 pub load_as-requires-clause-rule : goal.load_as-requires-clause-rule

@@ -1,7 +1,5 @@
 use Rattle.std.proofs.Common.{◌≡◌, Some}
-use Rattle.mv_layout.specs.declared.Place.TheVariants.{Mark}
-use Rattle.mv_core.specs.declared.view.Scan.{Scan}
-use Rattle.mv_core.specs.Passes.{view, config_of}
+use Rattle.mv_core.proofs.Terms.{Mark, Scan, view, config_of}
 use Rattle.mv_core.specs.ReclaimSteps.{mark_loaded}
 use Rattle.mv_core.proofs.shared.Shared.load_mark.Given as goal
 

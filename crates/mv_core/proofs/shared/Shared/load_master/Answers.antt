@@ -1,4 +1,4 @@
-use Rattle.mv_core.proofs.Looking.{master_loads}
+use Rattle.mv_core.proofs.kinds.walking.LoadMaster.{master_loads}
 use Rattle.mv_core.proofs.shared.Shared.load_master.Goals as goal
 
 pub load_as-requires-clause-rule : goal.load_as-requires-clause-rule

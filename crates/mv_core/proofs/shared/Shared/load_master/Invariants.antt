@@ -1,6 +1,5 @@
 use Rattle.std.proofs.Common.{◌≡◌, length}
-use Rattle.mv_layout.specs.declared.Place.TheVariants.{Master}
-use Rattle.mv_core.specs.Passes.{view, config_of}
+use Rattle.mv_core.proofs.Terms.{Master, view, config_of}
 use Rattle.mv_core.specs.WalkSteps.{master_loaded, words_read, word_read}
 use Rattle.mv_core.proofs.shared.Shared.load_master.Given as goal
 

@@ -1,4 +1,4 @@
-use Rattle.mv_core.proofs.PrevLoads.{prev_loads}
+use Rattle.mv_core.proofs.kinds.walking.LoadPrev.{prev_loads}
 use Rattle.mv_core.proofs.shared.Shared.load_prev.Goals as goal
 
 pub load_as-requires-clause-rule : goal.load_as-requires-clause-rule

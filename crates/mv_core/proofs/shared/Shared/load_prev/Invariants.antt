@@ -1,7 +1,5 @@
 use Rattle.std.proofs.Common.{◌≡◌}
-use Rattle.mv_layout.specs.Words.{link_seat_of}
-use Rattle.mv_layout.specs.declared.Place.TheVariants.{Prev}
-use Rattle.mv_core.specs.Passes.{view, config_of}
+use Rattle.mv_core.proofs.Terms.{link_seat_of, Prev, view, config_of}
 use Rattle.mv_core.specs.WalkSteps.{IsLinkOf, slot_named, prev_loaded}
 use Rattle.mv_core.proofs.shared.Shared.load_prev.Given as goal
 

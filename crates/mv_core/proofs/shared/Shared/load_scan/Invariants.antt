@@ -1,9 +1,6 @@
 use Rattle.std.proofs.Common.{◌≡◌, ◌<◌, List}
 use Rattle.std.specs.Prelude.{All}
-use Rattle.mv_history.specs.declared.Entry.{Entry}
-use Rattle.mv_history.specs.State.{maker_of}
-use Rattle.mv_layout.specs.declared.Place.TheVariants.{Clock}
-use Rattle.mv_core.specs.Passes.{view, config_of}
+use Rattle.mv_core.proofs.Terms.{Entry, maker_of, Clock, view, config_of}
 use Rattle.mv_core.specs.SectionFacts.{IsWord}
 use Rattle.mv_core.specs.EnterSteps.{IsWhole}
 use Rattle.mv_core.specs.ReclaimSteps.{scan_loaded}

@@ -1,4 +1,4 @@
-use Rattle.mv_core.proofs.StampLoads.{stamp_loads}
+use Rattle.mv_core.proofs.kinds.walking.LoadStamp.{stamp_loads}
 use Rattle.mv_core.proofs.shared.Shared.load_stamp.Goals as goal
 
 pub load_as-requires-clause-rule : goal.load_as-requires-clause-rule

@@ -1,8 +1,5 @@
 use Rattle.std.proofs.Common.{◌≡◌}
-use Rattle.mv_layout.specs.Words.{link_seat_of}
-use Rattle.mv_layout.specs.declared.Place.TheVariants.{Stamp}
-use Rattle.mv_core.specs.Passes.{view, config_of}
-use Rattle.mv_core.specs.Rings.{index_of}
+use Rattle.mv_core.proofs.Terms.{link_seat_of, Stamp, view, config_of, index_of}
 use Rattle.mv_core.specs.WalkSteps.{StampSays, IsOwnTime, stamp_loaded}
 use Rattle.mv_core.proofs.shared.Shared.load_stamp.Given as goal
 

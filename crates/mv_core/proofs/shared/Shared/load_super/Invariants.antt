@@ -1,7 +1,5 @@
 use Rattle.std.proofs.Common.{◌≡◌, ◌≢◌}
-use Rattle.mv_layout.specs.declared.Place.TheVariants.{Super}
-use Rattle.mv_core.specs.Rings.{index_of}
-use Rattle.mv_core.specs.Passes.{view, config_of}
+use Rattle.mv_core.proofs.Terms.{Super, index_of, view, config_of}
 use Rattle.mv_core.specs.ReclaimSteps.{super_loaded, SeesSuper, FoundEmpty}
 use Rattle.mv_core.proofs.shared.Shared.load_super.Given as goal
 

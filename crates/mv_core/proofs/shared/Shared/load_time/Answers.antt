@@ -1,6 +1,6 @@
 use Rattle.std.proofs.Common.{sym, ◌∙◌}
 use Rattle.mv_core.specs.Passes.{view, config_of}
-use Rattle.mv_core.proofs.Taking.{time_loads, time_runs}
+use Rattle.mv_core.proofs.kinds.entering.LoadTime.{time_loads, time_runs}
 use Rattle.mv_core.proofs.shared.Shared.load_time.Goals as goal
 
 pub load_alone-word-requires-clause-rule : goal.load_alone-word-requires-clause-rule

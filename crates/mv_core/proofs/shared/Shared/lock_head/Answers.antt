@@ -1,7 +1,6 @@
 use Rattle.std.proofs.Common.{ap, ◌∙◌}
-use Rattle.mv_layout.specs.Words.{link_of}
-use Rattle.mv_core.specs.Passes.{view}
-use Rattle.mv_core.proofs.LockSwap.{lock_swaps}
+use Rattle.mv_core.proofs.Terms.{link_of, view}
+use Rattle.mv_core.proofs.kinds.locking.lock_head.LockHead.{lock_swaps}
 use Rattle.mv_core.proofs.shared.Shared.lock_head.Goals as goal
 
 pub swap_alone-found-requires-clause-rule : goal.swap_alone-found-requires-clause-rule

@@ -1,7 +1,5 @@
 use Rattle.std.proofs.Common.{◌≡◌, ◌≢◌}
-use Rattle.mv_layout.specs.declared.Place.TheVariants.{Head}
-use Rattle.mv_layout.specs.Words.{link_seat_of}
-use Rattle.mv_core.specs.Passes.{config_of}
+use Rattle.mv_core.proofs.Terms.{Head, link_seat_of, config_of}
 use Rattle.mv_core.specs.WalkSteps.{IsLinkOf}
 use Rattle.mv_core.specs.LockSteps.{LockTold, OneMoreWrite}
 use Rattle.mv_core.proofs.shared.Shared.lock_head.Given as goal

@@ -1,11 +1,7 @@
 use Rattle.std.proofs.Common.{rules, arith, ◌≡◌, ◌+◌, ℕ, List, length, sym, ap, ◌∙◌, subst}
-use mathlib.Core.Option.{some}
-use lib.ListN.{get_elem?}
-use Rattle.mv_core.specs.declared.view.View.{View}
+use Rattle.mv_core.proofs.Terms.{some, get_elem?, View, new_view, view, IsOf, config_of, start_of}
 use Rattle.mv_core.specs.declared.shared.Pass.{Pass}
-use Rattle.mv_core.specs.Views.{new_view}
-use Rattle.mv_core.specs.Passes.{view, IsOf, config_of, start_of}
-use Rattle.mv_core.proofs.Seats.{each_pushed}
+use Rattle.mv_core.proofs.kinds.opening.MakeSeat.{each_pushed}
 use Rattle.mv_core.proofs.shared.Shared.make_all.Goals as goal
 
 pub loop-number-preserved : goal.loop-number-preserved

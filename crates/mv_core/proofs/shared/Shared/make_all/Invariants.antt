@@ -1,10 +1,7 @@
 use Rattle.std.proofs.Common.{◌≡◌, ◌+◌, ◌<◌, ◌≤◌, ℕ, vec_len}
-use mathlib.Core.Option.{some}
-use lib.ListN.{get_elem?}
+use Rattle.mv_core.proofs.Terms.{some, get_elem?, new_view, view, IsOf, config_of, start_of}
 use Rattle.mv_core.specs.declared.shared.Pass.{Pass}
-use Rattle.mv_core.specs.Views.{new_view}
 use Rattle.mv_core.specs.Start.{maker_view}
-use Rattle.mv_core.specs.Passes.{view, IsOf, config_of, start_of}
 use Rattle.mv_core.proofs.shared.Shared.make_all.Given as goal
 
 abbrev pub invariant-loop-number : goal.invariant-loop-number

@@ -1,8 +1,6 @@
 use Rattle.std.proofs.Common.{sym, ap, ◌∙◌, subst}
-use Rattle.mv_layout.specs.Limits.{Checked}
-use Rattle.mv_core.specs.declared.view.View.{View}
-use Rattle.mv_core.specs.Passes.{view, config_of}
-use Rattle.mv_core.proofs.Seats.{maker_stays, made_begins}
+use Rattle.mv_core.proofs.Terms.{Checked, View, view, config_of}
+use Rattle.mv_core.proofs.kinds.opening.MakeSeat.{maker_stays, made_begins}
 use Rattle.mv_core.proofs.shared.Shared.make_seat.Goals as goal
 
 pub invariant_of-first : goal.invariant_of-first

@@ -1,7 +1,6 @@
 use Rattle.std.proofs.Common.{sym, ap, ◌∙◌}
-use Rattle.mv_layout.specs.declared.Config.{Config}
-use Rattle.mv_core.specs.Passes.{view, config_of}
-use Rattle.mv_core.proofs.CommitSwap.{commit_swaps, named_word}
+use Rattle.mv_core.proofs.Terms.{Config, view, config_of}
+use Rattle.mv_core.proofs.kinds.naming.name_commit.NameCommit.{commit_swaps, named_word}
 use Rattle.mv_core.proofs.shared.Shared.name_commit.Goals as goal
 
 pub swap_as-found-requires-clause-rule : goal.swap_as-found-requires-clause-rule

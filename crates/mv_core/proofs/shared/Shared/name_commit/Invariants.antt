@@ -1,5 +1,4 @@
-use Rattle.mv_layout.specs.declared.Place.TheVariants.{Clock}
-use Rattle.mv_core.specs.Passes.{view, config_of}
+use Rattle.mv_core.proofs.Terms.{Clock, view, config_of}
 use Rattle.mv_core.specs.SectionFacts.{IsWord}
 use Rattle.mv_core.specs.NameSteps.{LogTold, CommitTold}
 use Rattle.mv_core.proofs.shared.Shared.name_commit.Given as goal

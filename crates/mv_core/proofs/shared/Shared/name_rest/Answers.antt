@@ -1,7 +1,6 @@
 use Rattle.std.proofs.Common.{◌+◌, ◌∙◌}
-use Rattle.mv_layout.specs.Words.{clock_of}
-use Rattle.mv_core.specs.Passes.{view}
-use Rattle.mv_core.proofs.RestSwap.{rest_swaps}
+use Rattle.mv_core.proofs.Terms.{clock_of, view}
+use Rattle.mv_core.proofs.kinds.naming.NameRest.{rest_swaps}
 use Rattle.mv_core.proofs.shared.Shared.name_rest.Goals as goal
 
 pub swap_as-found-requires-clause-rule : goal.swap_as-found-requires-clause-rule

@@ -1,9 +1,8 @@
 use Rattle.std.proofs.Common.{◌≡◌, List, length, sym, ap, ◌∙◌, subst}
-use Rattle.mv_history.specs.State.{State}
+use Rattle.mv_core.proofs.Terms.{State, Shows}
 use Rattle.mv_history.specs.Legal.{AreWords}
-use Rattle.mv_layout.specs.Places.{Shows}
 use Rattle.mv_core.specs.Start.{opening_memory}
-use Rattle.mv_core.proofs.Seats.{opened, first_begins}
+use Rattle.mv_core.proofs.kinds.opening.MakeSeat.{opened, first_begins}
 use Rattle.mv_core.proofs.shared.Shared.open.Goals as goal
 
 pub of_words-requires : goal.of_words-requires

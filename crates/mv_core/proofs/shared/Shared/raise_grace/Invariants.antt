@@ -1,6 +1,5 @@
 use Rattle.std.proofs.Common.{◌≡◌}
-use Rattle.mv_layout.specs.declared.Place.TheVariants.{Grace}
-use Rattle.mv_core.specs.Passes.{view, config_of}
+use Rattle.mv_core.proofs.Terms.{Grace, view, config_of}
 use Rattle.mv_core.specs.SeatSteps.{grace_raised}
 use Rattle.mv_core.proofs.shared.Shared.raise_grace.Given as goal
 

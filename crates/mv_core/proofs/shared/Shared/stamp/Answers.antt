@@ -1,5 +1,5 @@
 use Rattle.mv_core.specs.Passes.{view}
-use Rattle.mv_core.proofs.StampSwap.{stamp_swaps}
+use Rattle.mv_core.proofs.kinds.helping.stamp.SwapStamp.{stamp_swaps}
 use Rattle.mv_core.proofs.shared.Shared.stamp.Goals as goal
 
 pub swap_as-found-requires-clause-rule : goal.swap_as-found-requires-clause-rule

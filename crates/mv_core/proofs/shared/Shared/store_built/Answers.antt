@@ -1,5 +1,5 @@
 use Rattle.mv_core.specs.Passes.{view}
-use Rattle.mv_core.proofs.BuildStores.{built_stores}
+use Rattle.mv_core.proofs.kinds.building.StoreBuilt.{built_stores}
 use Rattle.mv_core.proofs.shared.Shared.store_built.Goals as goal
 
 pub store_as-requires-clause-rule : goal.store_as-requires-clause-rule

@@ -1,6 +1,5 @@
 use Rattle.std.proofs.Common.{◌≡◌, ◌<◌, ◌^◌}
-use Rattle.mv_core.specs.Rings.{index_of}
-use Rattle.mv_core.specs.Passes.{view, config_of}
+use Rattle.mv_core.proofs.Terms.{index_of, view, config_of}
 use Rattle.mv_core.specs.LockSteps.{field_place, built_stored}
 use Rattle.mv_core.proofs.shared.Shared.store_built.Given as goal
 

@@ -1,5 +1,5 @@
 use Rattle.mv_core.specs.Passes.{view}
-use Rattle.mv_core.proofs.DataStores.{data_stores}
+use Rattle.mv_core.proofs.kinds.building.StoreData.{data_stores}
 use Rattle.mv_core.proofs.shared.Shared.store_data.Goals as goal
 
 pub store_as-requires-clause-rule : goal.store_as-requires-clause-rule

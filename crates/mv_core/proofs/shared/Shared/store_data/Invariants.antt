@@ -1,7 +1,5 @@
 use Rattle.std.proofs.Common.{◌≡◌}
-use Rattle.mv_layout.specs.declared.Place.TheVariants.{Data}
-use Rattle.mv_core.specs.Rings.{index_of}
-use Rattle.mv_core.specs.Passes.{view, config_of}
+use Rattle.mv_core.proofs.Terms.{Data, index_of, view, config_of}
 use Rattle.mv_core.specs.LockSteps.{data_stored}
 use Rattle.mv_core.proofs.shared.Shared.store_data.Given as goal
 

@@ -1,5 +1,5 @@
 use Rattle.mv_core.specs.Passes.{view}
-use Rattle.mv_core.proofs.FreeStores.{free_stores}
+use Rattle.mv_core.proofs.kinds.reclaiming.store_free.StoreFree.{free_stores}
 use Rattle.mv_core.proofs.shared.Shared.store_free.Goals as goal
 
 pub store_as-requires-clause-rule : goal.store_as-requires-clause-rule

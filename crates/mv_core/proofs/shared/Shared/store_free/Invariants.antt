@@ -1,7 +1,5 @@
 use Rattle.std.proofs.Common.{◌≡◌}
-use Rattle.mv_layout.specs.declared.Place.TheVariants.{Stamp}
-use Rattle.mv_core.specs.Rings.{index_of}
-use Rattle.mv_core.specs.Passes.{view, config_of}
+use Rattle.mv_core.proofs.Terms.{Stamp, index_of, view, config_of}
 use Rattle.mv_core.specs.ReclaimSteps.{free_stored}
 use Rattle.mv_core.proofs.shared.Shared.store_free.Given as goal
 

@@ -1,5 +1,5 @@
 use Rattle.mv_core.specs.Passes.{view}
-use Rattle.mv_core.proofs.Marking.{mark_stores}
+use Rattle.mv_core.proofs.kinds.entering.StoreMark.{mark_stores}
 use Rattle.mv_core.proofs.shared.Shared.store_mark.Goals as goal
 
 pub store_as-requires-clause-rule : goal.store_as-requires-clause-rule

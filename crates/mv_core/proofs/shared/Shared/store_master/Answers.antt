@@ -1,5 +1,5 @@
 use Rattle.mv_core.specs.Passes.{view}
-use Rattle.mv_core.proofs.MasterStores.{master_stores}
+use Rattle.mv_core.proofs.kinds.reclaiming.StoreMaster.{master_stores}
 use Rattle.mv_core.proofs.shared.Shared.store_master.Goals as goal
 
 pub store_as-requires-clause-rule : goal.store_as-requires-clause-rule

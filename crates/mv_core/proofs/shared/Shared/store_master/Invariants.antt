@@ -1,6 +1,5 @@
 use Rattle.std.proofs.Common.{◌≡◌}
-use Rattle.mv_layout.specs.declared.Place.TheVariants.{Master}
-use Rattle.mv_core.specs.Passes.{view, config_of}
+use Rattle.mv_core.proofs.Terms.{Master, view, config_of}
 use Rattle.mv_core.specs.ReclaimSteps.{master_stored}
 use Rattle.mv_core.proofs.shared.Shared.store_master.Given as goal
 

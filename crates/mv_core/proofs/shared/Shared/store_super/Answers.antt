@@ -1,5 +1,5 @@
 use Rattle.mv_core.specs.Passes.{view}
-use Rattle.mv_core.proofs.SuperStores.{super_stores}
+use Rattle.mv_core.proofs.kinds.naming.StoreSuper.{super_stores}
 use Rattle.mv_core.proofs.shared.Shared.store_super.Goals as goal
 
 pub store_as-requires-clause-rule : goal.store_as-requires-clause-rule

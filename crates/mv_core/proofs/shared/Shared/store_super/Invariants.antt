@@ -1,7 +1,5 @@
 use Rattle.std.proofs.Common.{◌≡◌}
-use Rattle.mv_layout.specs.declared.Place.TheVariants.{Super}
-use Rattle.mv_layout.specs.Words.{link_seat_of}
-use Rattle.mv_core.specs.Passes.{view, config_of}
+use Rattle.mv_core.proofs.Terms.{Super, link_seat_of, view, config_of}
 use Rattle.mv_core.specs.WalkSteps.{slot_named}
 use Rattle.mv_core.specs.NameSteps.{super_stored}
 use Rattle.mv_core.proofs.shared.Shared.store_super.Given as goal

@@ -1,5 +1,5 @@
 use Rattle.mv_core.specs.Passes.{view}
-use Rattle.mv_core.proofs.UnlockStored.{unlock_stores}
+use Rattle.mv_core.proofs.kinds.locking.unlock_head.UnlockHead.{unlock_stores}
 use Rattle.mv_core.proofs.shared.Shared.unlock_head.Goals as goal
 
 pub store_as-requires-clause-rule : goal.store_as-requires-clause-rule

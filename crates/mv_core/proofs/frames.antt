@@ -1,0 +1,20 @@
+-- What a step keeps: of the rule, of the list of views, of a log and of a history.
+pub mod FrameLaw
+pub mod Turning
+pub mod Seating
+pub mod SeatsThere
+pub mod ClocksLoaded
+pub mod ClockLoads
+pub mod SuperSeen
+pub mod SectionBounds
+pub mod Sections
+pub mod CommittedKept
+pub mod Matching
+pub mod MatchedSets
+pub mod MatchedStamps
+pub mod MatchedWalks
+pub mod MatchedFacts
+pub mod InPlace
+pub mod KeptRecords
+pub mod Watermarks
+pub mod Scanning

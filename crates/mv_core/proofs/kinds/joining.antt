@@ -1,0 +1,3 @@
+-- Joining a seat.
+pub mod Join
+pub mod LoadJoined

@@ -1,0 +1,337 @@
+-- Joining a seat: its view is spent, and the seat that is left has a note of it.
+use Rattle.std.proofs.Common.{◌≡◌, ◌≢◌, ◌⊎◌, ℕ, zero, suc, ◌+◌, ◌<◌, ◌≤◌, true, false, List, [], ◌∷◌, ◌++◌, length, set, sym, refl, ap, ◌∙◌, subst, inl, inr, ⊎_elim, arith, All}
+use Rattle.std.specs.Prelude.{Contains}
+use Rattle.std.proofs.lemmas.List.Elements.{All-append, All-cons, Contains-append_cases, Contains-append_left, Contains-append_right}
+use Rattle.std.proofs.Math.Logic.{∥∥₁_map}
+use Rattle.mv_core.proofs.Terms.{dite, some, some-injective, some-ne-none, ℕ_discrete, get_elem?, State, Writes, Config, View, Note, Outside, Inside}
+use Rattle.mv_core.proofs.Terms.{new_view, spent_view, set_at}
+use Rattle.atomic_table.specs.Table.{Joins}
+use Rattle.atomic_table.proofs.Lists.{at_set, set_here, set_else}
+use Rattle.mv_core.specs.declared.shared.Opening.{Opening}
+use Rattle.mv_core.proofs.FactTerms.{Known, RunsOn, IsNoted, IsThere, Seated, Ruled}
+use Rattle.mv_core.specs.SeatSteps.{MayJoin, note_of, joined}
+use Rattle.mv_core.proofs.frames.FrameLaw.{set_at_here, set_at_else, set_at_all, unread}
+use Rattle.mv_core.proofs.points.KnownLogs.{commit_still}
+use Rattle.mv_core.proofs.frames.SeatsThere.{at_within, named_still}
+
+-- where an element of a list stands that is put together of two and one between them
+record After {A : Type 0} (zs : List A) (n : ℕ) (i : ℕ) (a : A) : Type 0 where
+  step : ℕ
+  place : i ≡ n + suc step
+  there : get_elem? zs step ≡ some a
+
+between : {A : Type 0} (xs zs : List A) (y a : A) (i : ℕ) → get_elem? (xs ++ y ∷ zs) i ≡ some a → (get_elem? xs i ≡ some a) ⊎ (((i ≡ length xs) × (y ≡ a)) ⊎ After zs (length xs) i a)
+between [] zs y a zero e = inr (inl (refl, some-injective y a e))
+between [] zs y a (suc i) e = inr (inr (record { step = i; place = omega arith; there = e }))
+between (x ∷ xs) zs y a zero e = inl e
+between (x ∷ xs) zs y a (suc i) e =
+    ⊎_elim inl
+    (λ r. inr (⊎_elim (λ here. inl (ap suc here.0, here.1)) (λ after. inr (record { step = after.step; place = (let is = after.place in omega arith); there = after.there })) r))
+    (between xs zs y a i e)
+
+-- an element at a place is one of the list
+at_contains : {A : Type 0} (xs : List A) (i : ℕ) (a : A) → get_elem? xs i ≡ some a → Contains xs a
+at_contains [] i a e = absurd (some-ne-none a (sym e))
+at_contains (x ∷ xs) zero a e = (zero, omega arith, some-injective x a e)
+at_contains (x ∷ xs) (suc i) a e = let r = at_contains xs i a e in let lt = r.1 in (suc r.0, omega arith, r.2)
+
+-- an element of a list that is put together of two and one between them
+contains_between : {A : Type 0} (xs zs : List A) (y a : A) → Contains (xs ++ y ∷ zs) a → (Contains xs a) ⊎ ((y ≡ a) ⊎ Contains zs a)
+contains_between xs zs y a has = ⊎_elim inl (λ r. inr (first_or zs y a r)) (Contains-append_cases xs (y ∷ zs) a has)
+  where
+    first_or : {A : Type 0} (zs : List A) (y a : A) → Contains (y ∷ zs) a → (y ≡ a) ⊎ Contains zs a
+    first_or zs y a (zero, lt, e) = inl e
+    first_or zs y a (suc i, lt, e) = inr (i, omega (arith, lt), e)
+
+module _ (c : Config) (start : State) (vs : List View) (seats : ℕ → View) (id o : ℕ) (v w : View) (k : Seated c start vs seats) (at : get_elem? vs id ≡ some v) (other_at : get_elem? vs o ≡ some w) (other : o ≢ id)
+    (unspent : v.spent ≡ false) (other_unspent : w.spent ≡ false) (may : MayJoin v w) where
+  abbrev u : View
+  u = joined c v w
+
+  abbrev list : List View
+  list = set (set vs id u) o spent_view
+
+  -- an unspent view afterwards is the joined one, or another as before
+  data Which (i : ℕ) (y : View) : Type 0 where
+    joined_is : i ≡ id → u ≡ y → Which i y
+    other_is : i ≢ id → i ≢ o → get_elem? vs i ≡ some y → Which i y
+
+  which : (i : ℕ) (y : View) → get_elem? list i ≡ some y → y.spent ≡ false → Which i y
+  which i y e un =
+      ⊎_elim
+      (λ gone. let spent : true ≡ false = ap (λ (z : View). z.spent) gone.1 ∙ un in absurd (cc))
+      (λ r. ⊎_elim (λ t. joined_is t.0 t.1) (λ t. other_is t.0 r.0 t.1) (at_set vs id i u y r.1))
+      (at_set (set vs id u) o i spent_view y e)
+
+  here : seats v.number ≡ v
+  here = (k.there id v at unspent).0
+
+  -- what it was
+  record Was (i : ℕ) (y : View) : Type 0 where
+    view : View
+    place : get_elem? vs i ≡ some view
+    left : i ≢ o
+    number_is : y.number ≡ view.number
+    made_is : y.made ≡ view.made
+    still : view.spent ≡ false
+
+  was : (i : ℕ) (y : View) → get_elem? list i ≡ some y → y.spent ≡ false → Was i y
+  was i y e un = go (which i y e un)
+    where
+      go : Which i y → Was i y
+      go (joined_is a b) = record {
+        view = v;
+        place = subst (λ (j : ℕ). get_elem? vs j ≡ some v) (sym a) at;
+        left = λ same. other (sym same ∙ a);
+        number_is = ap (λ (z : View). z.number) (sym b);
+        made_is = ap (λ (z : View). z.made) (sym b);
+        still = unspent;
+      }
+      go (other_is a b d) = record { view = y; place = d; left = b; number_is = refl; made_is = refl; still = un }
+
+  -- whose note is in a view afterwards: it was in that view, or in that of the joined seat, or it is the note of that seat
+  data Noted (i : ℕ) (y : View) (n : Note) : Type 0 where
+    as_before : (a : Was i y) → Contains a.view.notes n → Noted i y n
+    of_joined : i ≡ id → note_of w ≡ n → Noted i y n
+    of_its : i ≡ id → Contains w.notes n → Noted i y n
+
+  noted : (i : ℕ) (y : View) (n : Note) → get_elem? list i ≡ some y → y.spent ≡ false → Contains y.notes n → Noted i y n
+  noted i y n e un has = go (which i y e un)
+    where
+      go : Which i y → Noted i y n
+      go (joined_is a b) =
+          ⊎_elim
+          (λ old. as_before (record {
+            view = v;
+            place = subst (λ (j : ℕ). get_elem? vs j ≡ some v) (sym a) at;
+            left = λ same. other (sym same ∙ a);
+            number_is = ap (λ (z : View). z.number) (sym b);
+            made_is = ap (λ (z : View). z.made) (sym b);
+            still = unspent;
+          }) old)
+          (λ r. ⊎_elim (λ new. of_joined a new) (λ its. of_its a its) r)
+          (contains_between v.notes w.notes (note_of w) n (subst (λ (z : View). Contains z.notes n) (sym b) has))
+      go (other_is a b d) = as_before (record { view = y; place = d; left = b; number_is = refl; made_is = refl; still = un }) has
+
+  -- the seat of such a note is neither the one that is left nor any that is unspent
+  noted_apart : (i j : ℕ) (y z : View) (n : Note) → Noted i y n → Was j z → z.number ≢ n.number
+  noted_apart i j y z n (as_before a has) b same = k.gone i j a.view b.view n a.place b.place a.still b.still has (sym b.number_is ∙ same)
+  noted_apart i j y z n (of_joined a is) b same = b.left (k.apart j o b.view w b.place other_at b.still other_unspent (sym b.number_is ∙ same ∙ ap (λ (m : Note). m.number) (sym is)))
+  noted_apart i j y z n (of_its a has) b same = k.gone o j w b.view n other_at b.place other_unspent b.still has (sym b.number_is ∙ same)
+
+  joined_was : Was id u
+  joined_was = record { view = v; place = at; left = λ same. other (sym same); number_is = refl; made_is = refl; still = unspent }
+
+  noted_before : (i : ℕ) (y : View) (n : Note) → Noted i y n → IsNoted seats n
+  noted_before i y n (as_before a has) = k.noted i a.view n a.place a.still has
+  noted_before i y n (of_joined a is) =
+      let there = (k.there o w other_at other_unspent).0 in
+      subst (IsNoted seats) is (record {
+        number = ap (λ (z : View). z.number) there;
+        past = ap (λ (z : View). z.past) there;
+        ring = ap (λ (z : View). z.ring) there;
+        outside = ap (λ (z : View). z.phase) there ∙ may.other_outside;
+        no_scan = ap (λ (z : View). z.scan) there ∙ may.other_no_scan;
+      })
+  noted_before i y n (of_its a has) = k.noted o w n other_at other_unspent has
+
+  noted_after : (i : ℕ) (y : View) (n : Note) → get_elem? list i ≡ some y → y.spent ≡ false → Contains y.notes n → IsNoted (set_at seats v.number u) n
+  noted_after i y n e un has =
+      let from = noted i y n e un has in
+      let same : set_at seats v.number u n.number ≡ seats n.number = set_at_else seats v.number u n.number (λ is. noted_apart i id y u n from joined_was (sym is)) in
+      let r = noted_before i y n from in record {
+        number = ap (λ (z : View). z.number) same ∙ r.number;
+        past = ap (λ (z : View). z.past) same ∙ r.past;
+        ring = ap (λ (z : View). z.ring) same ∙ r.ring;
+        outside = ap (λ (z : View). z.phase) same ∙ r.outside;
+        no_scan = ap (λ (z : View). z.scan) same ∙ r.no_scan;
+      }
+
+  there_after : (i : ℕ) (y : View) → get_elem? list i ≡ some y → y.spent ≡ false → (set_at seats v.number u y.number ≡ y) × (y.number < c.seats)
+  there_after i y e un = go (which i y e un)
+    where
+      go : Which i y → (set_at seats v.number u y.number ≡ y) × (y.number < c.seats)
+      go (joined_is a b) = subst (λ (z : View). (set_at seats v.number u z.number ≡ z) × (z.number < c.seats)) b (set_at_here seats v.number u, (k.there id v at unspent).1)
+      go (other_is a b d) =
+          let r = k.there i y d un in
+          (set_at_else seats v.number u y.number (λ same. a (k.apart i id y v d at un unspent same)) ∙ r.0, r.1)
+
+  -- where a note stands in a view
+  data NotedAt (i : ℕ) (y : View) (p : ℕ) (n : Note) : Type 0 where
+    at_before : (a : Was i y) → get_elem? a.view.notes p ≡ some n → NotedAt i y p n
+    at_joined : i ≡ id → p ≡ length v.notes → note_of w ≡ n → NotedAt i y p n
+    at_its : i ≡ id → After w.notes (length v.notes) p n → NotedAt i y p n
+
+  noted_at : (i : ℕ) (y : View) (p : ℕ) (n : Note) → get_elem? list i ≡ some y → y.spent ≡ false → get_elem? y.notes p ≡ some n → NotedAt i y p n
+  noted_at i y p n e un there = go (which i y e un)
+    where
+      go : Which i y → NotedAt i y p n
+      go (joined_is a b) =
+          ⊎_elim
+          (λ old. at_before (record {
+            view = v;
+            place = subst (λ (j : ℕ). get_elem? vs j ≡ some v) (sym a) at;
+            left = λ same. other (sym same ∙ a);
+            number_is = ap (λ (z : View). z.number) (sym b);
+            made_is = ap (λ (z : View). z.made) (sym b);
+            still = unspent;
+          }) old)
+          (λ r. ⊎_elim (λ new. at_joined a new.0 new.1) (λ its. at_its a its) r)
+          (between v.notes w.notes (note_of w) n p (subst (λ (z : View). get_elem? z.notes p ≡ some n) (sym b) there))
+      go (other_is a b d) = at_before (record { view = y; place = d; left = b; number_is = refl; made_is = refl; still = un }) there
+
+  once_of : (i j p q : ℕ) (y z : View) (m n : Note) → NotedAt i y p m → NotedAt j z q n → m.number ≡ n.number → (i ≡ j) × (p ≡ q)
+  once_of i j p q y z m n (at_before a e) (at_before b f) same = k.once i j p q a.view b.view m n a.place b.place a.still b.still e f same
+  once_of i j p q y z m n (at_before a e) (at_joined b f is) same =
+      absurd (k.gone i o a.view w m a.place other_at a.still other_unspent (at_contains a.view.notes p m e) (ap (λ (l : Note). l.number) is ∙ sym same))
+  once_of i j p q y z m n (at_before a e) (at_its b f) same = absurd (a.left (k.once i o p f.step a.view w m n a.place other_at a.still other_unspent e f.there same).0)
+  once_of i j p q y z m n (at_joined a e is) (at_before b f) same =
+      absurd (k.gone j o b.view w n b.place other_at b.still other_unspent (at_contains b.view.notes q n f) (ap (λ (l : Note). l.number) is ∙ same))
+  once_of i j p q y z m n (at_joined a e is) (at_joined b f js) same = (a ∙ sym b, e ∙ sym f)
+  once_of i j p q y z m n (at_joined a e is) (at_its b f) same =
+      absurd (k.gone o o w w n other_at other_at other_unspent other_unspent (at_contains w.notes f.step n f.there) (ap (λ (l : Note). l.number) is ∙ same))
+  once_of i j p q y z m n (at_its a e) (at_before b f) same = absurd (b.left (sym (k.once o j e.step q w b.view m n other_at b.place other_unspent b.still e.there f same).0))
+  once_of i j p q y z m n (at_its a e) (at_joined b f is) same =
+      absurd (k.gone o o w w m other_at other_at other_unspent other_unspent (at_contains w.notes e.step m e.there) (ap (λ (l : Note). l.number) is ∙ sym same))
+  once_of i j p q y z m n (at_its a e) (at_its b f) same =
+      let one = (k.once o o e.step f.step w w m n other_at other_at other_unspent other_unspent e.there f.there same).1 in
+      (a ∙ sym b, e.place ∙ ap (λ t. length v.notes + suc t) one ∙ sym f.place)
+
+  -- the seats that a maker made are below those to come
+  maker_after : (i : ℕ) (y : View) → get_elem? list i ≡ some y → y.spent ≡ false → 0 < y.made → (y.number ≡ 0) × ((s : ℕ) → y.made ≤ s → set_at seats v.number u s ≡ new_view c start s 0)
+  maker_after i y e un some_made =
+      let a = was i y e un in
+      let more : 0 < a.view.made = subst (λ (t : ℕ). 0 < t) a.made_is some_made in
+      let old = k.maker i a.view a.place a.still more in
+      let below = (k.made i id a.view v a.place at a.still unspent more).0 in
+      let made_is = a.made_is in (
+        a.number_is ∙ old.0,
+        λ s le. set_at_else seats v.number u s (λ same. omega arith) ∙ old.1 s (omega arith),
+      )
+
+  made_after : (i j : ℕ) (y z : View) → get_elem? list i ≡ some y → get_elem? list j ≡ some z → y.spent ≡ false → z.spent ≡ false → 0 < y.made → (z.number < y.made) × All (λ n. n.number < y.made) z.notes
+  made_after i j y z e f un vn some_made =
+      let a = was i y e un in
+      let more : 0 < a.view.made = subst (λ (t : ℕ). 0 < t) a.made_is some_made in
+      let low : (l : ℕ) (x : View) → get_elem? vs l ≡ some x → x.spent ≡ false → (x.number < a.view.made) × All (λ n. n.number < a.view.made) x.notes = λ l x there still. k.made i l a.view x a.place there a.still still more in
+      subst (λ (t : ℕ). (z.number < t) × All (λ n. n.number < t) z.notes) (sym a.made_is) (go low (which j z f vn))
+    where
+      go : {t : ℕ} → ((l : ℕ) (x : View) → get_elem? vs l ≡ some x → x.spent ≡ false → (x.number < t) × All (λ n. n.number < t) x.notes) → Which j z → (z.number < t) × All (λ n. n.number < t) z.notes
+      go {t} low (joined_is a b) =
+          let own = low id v at unspent in
+          let its = low o w other_at other_unspent in
+          subst (λ (x : View). (x.number < t) × All (λ n. n.number < t) x.notes) b (own.0, All-append (λ (n : Note). n.number < t) v.notes (note_of w ∷ w.notes) own.1 (All-cons (λ (n : Note). n.number < t) (note_of w) w.notes its.0 its.1))
+      go low (other_is a b d) = low j z d vn
+
+  own_after : (s : ℕ) → ((set_at seats v.number u s).number ≡ s) × ((set_at seats v.number u s).start ≡ start) × ((set_at seats v.number u s).base ≡ c.base)
+  own_after =
+      set_at_all (λ s x. (x.number ≡ s) × (x.start ≡ start) × (x.base ≡ c.base)) seats v.number u
+      (let r = k.own v.number in (refl, sym (ap (λ (x : View). x.start) here) ∙ r.1, sym (ap (λ (x : View). x.base) here) ∙ r.2))
+      (λ s ne. k.own s)
+
+  u_place : get_elem? list id ≡ some u
+  u_place = set_else (set vs id u) o id spent_view (λ e. other (sym e)) ∙ set_here vs id u (at_within vs id v at)
+
+  old_noted : (n : Note) → Contains v.notes n → Contains u.notes n
+  old_noted n has = Contains-append_left v.notes (note_of w ∷ w.notes) n has
+
+  new_noted : (n : Note) → (note_of w ≡ n) ⊎ Contains w.notes n → Contains u.notes n
+  new_noted n which =
+      Contains-append_right v.notes (note_of w ∷ w.notes) n
+      (⊎_elim (λ own. (zero, omega arith, own)) (λ its. let lt = its.1 in (suc its.0, omega arith, its.2)) which)
+
+  -- each seat that had a view or a note has one: that of the joined seat is a note now
+  there_joined : (s : ℕ) → IsThere vs s → IsThere list s
+  there_joined s t =
+      dite (ℕ_discrete t.id o)
+      (λ e.
+      let same : t.holder ≡ w = some-injective t.holder w (sym t.place ∙ ap (get_elem? vs) e ∙ other_at) in
+      let named : (w.number ≡ s) ⊎ ((n : Note) × Contains w.notes n × (n.number ≡ s)) = subst (λ (z : View). (z.number ≡ s) ⊎ ((n : Note) × Contains z.notes n × (n.number ≡ s))) same t.named in
+      record {
+        id = id;
+        holder = u;
+        place = u_place;
+        unspent = unspent;
+        named = inr (⊎_elim (λ own. (note_of w, new_noted (note_of w) (inl refl), own)) (λ its. (its.0, new_noted its.0 (inr its.1), its.2)) named);
+      })
+      (λ ne.
+      dite (ℕ_discrete t.id id)
+      (λ here.
+      let same : t.holder ≡ v = some-injective t.holder v (sym t.place ∙ ap (get_elem? vs) here ∙ at) in
+      record {
+        id = id;
+        holder = u;
+        place = u_place;
+        unspent = unspent;
+        named = named_still v u s refl old_noted (subst (λ (z : View). (z.number ≡ s) ⊎ ((n : Note) × Contains z.notes n × (n.number ≡ s))) same t.named);
+      })
+      (λ away. record {
+        id = t.id;
+        holder = t.holder;
+        place = set_else (set vs id u) o t.id spent_view ne ∙ set_else vs id t.id u away ∙ t.place;
+        unspent = t.unspent;
+        named = t.named;
+      }))
+
+  all_after : (s : ℕ) → IsThere list s ⊎ (set_at seats v.number u s ≡ new_view c start s 0)
+  all_after s =
+      ⊎_elim
+      (λ t. inl (there_joined s t))
+      (λ new.
+      dite (ℕ_discrete s v.number)
+      (λ e. inl (record { id = id; holder = u; place = u_place; unspent = unspent; named = inl (sym e) }))
+      (λ ne. inr (set_at_else seats v.number u s ne ∙ new)))
+      (k.all s)
+
+  pub seated_joined : Seated c start list (set_at seats v.number u)
+  seated_joined = record {
+    own = own_after;
+    there = there_after;
+    apart = λ i j y z e f un vn same.
+        let a = was i y e un in
+        let b = was j z f vn in
+        k.apart i j a.view b.view a.place b.place a.still b.still (sym a.number_is ∙ same ∙ b.number_is);
+    noted = noted_after;
+    gone = λ i j y z n e f un vn has. noted_apart i j y z n (noted i y n e un has) (was j z f vn);
+    once = λ i j p q y z m n e f un vn g l. once_of i j p q y z m n (noted_at i y p m e un g) (noted_at j z q n f vn l);
+    maker = maker_after;
+    made = made_after;
+    all = all_after;
+  }
+
+-- the join of two seats keeps the rule
+pub seats_join : (starts : State → Type 0) (allows : List ℕ → State → Writes → Type 0) (key : Opening) (id o : ℕ) (v w : View) → v.spent ≡ false → w.spent ≡ false → MayJoin v w → Joins (Ruled starts allows key) id v o w (joined key.config v w) spent_view
+seats_join starts allows key id o v w unspent other_unspent may s r at other other_at =
+    let there : get_elem? s.views o ≡ some w = ⊎_elim (λ t. absurd (other t.0)) (λ t. t.1) (at_set s.views id o (joined key.config v w) w other_at) in
+    record {
+      memory = r.memory;
+      history = r.history;
+      seats = set_at r.seats v.number (joined key.config v w);
+      shows = r.shows;
+      slotless = r.slotless;
+      seated = seated_joined key.config key.start.value.items s.views r.seats id o v w r.seated at there other unspent other_unspent may;
+      facts = unread starts allows key.config key.start.value.items r.memory r.history r.seats v.number v (joined key.config v w) (r.seated.there id v at unspent).0 (refl, refl, refl, refl, refl, refl, refl, refl, refl, refl, refl) r.facts;
+    }
+
+-- the pass that is left is as it was
+pub joined_stays : (starts : State → Type 0) (allows : List ℕ → State → Writes → Type 0) (c : Config) (v w j : View) → MayJoin v w → j ≡ joined c v w → (j.number ≡ v.number) × RunsOn v j × (∥ Known starts allows v ∥₁ → ∥ Known starts allows j ∥₁)
+joined_stays starts allows c v w j may e =
+    subst (λ (x : View). (x.number ≡ v.number) × RunsOn v x × (∥ Known starts allows v ∥₁ → ∥ Known starts allows x ∥₁)) (sym e) (
+      refl,
+      (λ time first a b. (a, b)),
+      λ k. ∥∥₁_map k (λ a. record {
+        unspent = a.unspent;
+        opening = a.opening;
+        words = a.words;
+        legal = a.legal;
+        allowed = a.allowed;
+        mine = a.mine;
+        rests = a.rests;
+        in_time = a.in_time;
+        section = λ inside at. let out : Outside ≡ Inside inside = sym may.outside ∙ at in absurd (cc);
+        idle = a.idle;
+        still = a.still;
+        commits = λ i x note there. commit_still v x note (joined c v w).trail v.made (joined c v w).notes (a.commits i x note there);
+        deaths = a.deaths;
+      }),
+    )

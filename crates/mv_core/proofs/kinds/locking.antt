@@ -1,0 +1,3 @@
+-- Locking and aborting.
+pub mod lock_head
+pub mod unlock_head

@@ -1,0 +1,7 @@
+-- compare_exchange HEAD (lock).
+pub mod Lockable
+pub mod NextPosition
+pub mod OwnWrites
+pub mod LockedLog
+pub mod LockWon
+pub mod LockHead

@@ -1,0 +1,3 @@
+-- store HEAD (abort).
+pub mod UnlockedLog
+pub mod UnlockHead

@@ -1,0 +1,3 @@
+-- compare_exchange CLOCK (commit).
+pub mod NextCommit
+pub mod NameCommit

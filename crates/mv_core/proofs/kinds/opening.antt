@@ -1,0 +1,5 @@
+-- A new domain and its seats.
+pub mod NewPasses
+pub mod Laying
+pub mod Starting
+pub mod MakeSeat

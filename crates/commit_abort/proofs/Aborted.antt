@@ -1,5 +1,6 @@
 -- A section that gave up what it held may end, and so it has when its mark is cleared.
-use Rattle.std.proofs.Common.{◌≡◌, ℕ, ◌+◌, List, [], ◌∷◌, ◌++◌, length, refl, sym, ap, ◌∙◌, subst, ⊎_elim, arith, append-nil, append_assoc, length-append, All, Some, None}
+use Rattle.std.proofs.Common.{◌≡◌, ℕ, ◌+◌, List, [], ◌∷◌, ◌++◌, length, refl, sym, ap, ◌∙◌, subst, ⊎_elim, arith}
+use Rattle.std.proofs.Common.{append-nil, append_assoc, length-append, All, Some, None}
 use Rattle.std.proofs.lemmas.List.Elements.{All-push, All-weaker}
 use Rattle.mv_history.specs.declared.Step.{Step}
 use Rattle.mv_history.specs.declared.StepKind.{StepKind}
@@ -105,7 +106,9 @@ module _ (c : Config) (v : View) (l : Noted) (inside : Section) (k : Stands c v 
 
     all_steps : (P : StepKind → Type 0) → P UnlockHead → P LoadDeath → P ClearMark → All (λ s. P s.kind) steps
     all_steps P a b d = subst (All (λ s. P s.kind)) (append_assoc u.trail.0 (load ∷ []) (clear ∷ []))
-        (All-push (λ s. P s.kind) (u.trail.0 ++ load ∷ []) clear (All-push (λ s. P s.kind) u.trail.0 load (All-weaker (λ s. s.kind ≡ UnlockHead) (λ s. P s.kind) (λ s e. subst P (sym e) a) u.trail.0 u.trail.3) b) d)
+        (All-push (λ s. P s.kind) (u.trail.0 ++ load ∷ []) clear
+        (All-push (λ s. P s.kind) u.trail.0 load (All-weaker (λ s. s.kind ≡ UnlockHead) (λ s. P s.kind) (λ s e. subst P (sym e) a) u.trail.0 u.trail.3) b)
+        d)
 
     pub aborts_timed : Aborts v z (l.held + 2)
     aborts_timed = record {

@@ -1,5 +1,6 @@
 -- What a commit that was just named needs to be finished, from what held before it.
-use Rattle.std.proofs.Common.{◌≡◌, ℕ, ◌+◌, ◌<◌, ◌≤◌, ◌^◌, true, false, List, [], ◌∷◌, ◌++◌, length, refl, sym, ap, ◌∙◌, subst, ⊎_elim, arith, append_assoc, length-append, All, Some, None}
+use Rattle.std.proofs.Common.{◌≡◌, ℕ, ◌+◌, ◌<◌, ◌≤◌, ◌^◌, true, false, List, [], ◌∷◌, ◌++◌, length, refl, sym, ap}
+use Rattle.std.proofs.Common.{◌∙◌, subst, ⊎_elim, arith, append_assoc, length-append, All, Some, None}
 use Rattle.std.proofs.lemmas.List.{length-map}
 use Rattle.std.proofs.lemmas.List.Elements.{All-cons, All-push, All-weaker}
 use Rattle.mv_history.specs.declared.Step.{Step}
@@ -34,7 +35,8 @@ use Rattle.seat_log.proofs.NotedSlots.{noted_in, held_last, held_at}
 use Rattle.seat_log.proofs.PlainSteps.{LeavesLog, frees_left, cuts_left}
 use Rattle.seat_log.proofs.Ended.{HasEnded}
 use Rattle.seat_log.proofs.Commits.{commit_ends, ends_linked, stands_committed}
-use Rattle.commit_abort.specs.Finishes.{WonNaming, first_of_mode, first_named, IsJustNamed, HasNamed, StampsIt, AreCommitted, IsLinkedToo, Tells, IsFinishStep, Finishes}
+use Rattle.commit_abort.specs.Finishes.{WonNaming, first_of_mode, first_named, IsJustNamed, HasNamed, StampsIt, AreCommitted, IsLinkedToo, Tells}
+use Rattle.commit_abort.specs.Finishes.{IsFinishStep, Finishes}
 
 module _ (c : Config) (w : View) (l : Noted) (won : WonNaming) (k : IsJustNamed c w l won) where
   abbrev v : View
@@ -145,7 +147,8 @@ module _ (c : Config) (w : View) (l : Noted) (won : WonNaming) (k : IsJustNamed 
       all_steps : (P : StepKind → Type 0) → P SwapStamp → P StoreSuper → P ClearMark → All (λ s. P s.kind) steps
       all_steps P a b d =
           All-cons (λ s. P s.kind) st.trail.0 _ (subst P (sym st.trail.2) a)
-          (All-push (λ s. P s.kind) tells.trail.0 _ (All-weaker (λ s. s.kind ≡ StoreSuper) (λ s. P s.kind) (λ s e. subst P (sym e) b) tells.trail.0 tells.trail.3) d)
+          (All-push (λ s. P s.kind) tells.trail.0 _
+          (All-weaker (λ s. s.kind ≡ StoreSuper) (λ s. P s.kind) (λ s e. subst P (sym e) b) tells.trail.0 tells.trail.3) d)
 
       pub finishes : Finishes w z (l.held + 2)
       finishes = record {
@@ -153,7 +156,8 @@ module _ (c : Config) (w : View) (l : Noted) (won : WonNaming) (k : IsJustNamed 
         trail = (
           steps,
           trail_is,
-          (let long = length-append tells.trail.0 (record { kind = ClearMark; word = place_of c (Mark y.number); found = None; stored = Some 0 } ∷ []) in let few = tells.trail.2 in let held = k.stands.log.held in omega arith),
+          (let long = length-append tells.trail.0 (record { kind = ClearMark; word = place_of c (Mark y.number); found = None; stored = Some 0 } ∷ []) in
+              let few = tells.trail.2 in let held = k.stands.log.held in omega arith),
           all_steps IsFinishStep tt tt tt,
         );
         rest = rest_is;

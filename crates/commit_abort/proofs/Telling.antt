@@ -1,5 +1,6 @@
 -- SUPER is stored below one version of a committed write set after another.
-use Rattle.std.proofs.Common.{◌≡◌, ◌≢◌, ℕ, ◌+◌, ◌<◌, ◌≤◌, ◌==◌, true, List, [], ◌∷◌, ◌++◌, length, refl, sym, ap, ◌∙◌, subst, inl, inr, arith, eq-eqb, ne_eqb, append-nil, append_assoc, length-append, Some, None}
+use Rattle.std.proofs.Common.{◌≡◌, ◌≢◌, ℕ, ◌+◌, ◌<◌, ◌≤◌, ◌==◌, true, List, [], ◌∷◌, ◌++◌, length, refl}
+use Rattle.std.proofs.Common.{sym, ap, ◌∙◌, subst, inl, inr, arith, eq-eqb, ne_eqb, append-nil, append_assoc, length-append, Some, None}
 use Rattle.std.proofs.lemmas.List.{length-set}
 use Rattle.std.proofs.lemmas.List.Elements.{All-nil, All-push}
 use mathlib.Core.Logic.{dite}
@@ -137,8 +138,12 @@ module _ (c : Config) (v : View) (l : Noted) (time : ℕ) (k : AreCommitted c v 
           (let a = t.trail in
           let few = a.2 in
           let s : Step = step_of in
-          let long = length-append a.0 (s ∷ []) in
-          (a.0 ++ s ∷ [], ap (λ (q : List Step). q ++ s ∷ []) a.1 ∙ append_assoc v.trail a.0 (s ∷ []), omega arith, All-push (λ s. s.kind ≡ StoreSuper) a.0 s a.3 refl));
+          let long = length-append a.0 (s ∷ []) in (
+            a.0 ++ s ∷ [],
+            ap (λ (q : List Step). q ++ s ∷ []) a.1 ∙ append_assoc v.trail a.0 (s ∷ []),
+            omega arith,
+            All-push (λ s. s.kind ≡ StoreSuper) a.0 s a.3 refl,
+          ));
     }
       where
         step_of : Step

@@ -1,5 +1,6 @@
 -- What a commit knows after each of its steps.
-use Rattle.std.proofs.Common.{◌≡◌, ℕ, ◌+◌, ◌-◌, ◌<◌, ◌≤◌, if◌then◌else◌, Bool, false, List, [], ◌∷◌, ◌++◌, length, take, refl, sym, ap, ◌∙◌, subst, arith, append_assoc, All, Some, None}
+use Rattle.std.proofs.Common.{◌≡◌, ℕ, ◌+◌, ◌-◌, ◌<◌, ◌≤◌, if◌then◌else◌, Bool, false, List, [], ◌∷◌, ◌++◌}
+use Rattle.std.proofs.Common.{length, take, refl, sym, ap, ◌∙◌, subst, arith, append_assoc, All, Some, None}
 use Rattle.std.specs.Prelude.{Contains}
 use Rattle.std.proofs.Math.Logic.{∥∥₁_elim}
 use Rattle.std.proofs.Math.Bridge.{le_prop}
@@ -62,7 +63,11 @@ module _ (c : Config) (v x : View) (word : ℕ) (h0 : List Entry) (whole : IsWho
   pub kept_first : IsKept v x inside
   kept_first =
       subst (λ (u : View). IsKept v u inside) (sym is)
-      (record { seen = whole.0; past_help = Contains-append_left v.clocks.helped (if_none word ++ checked_helped v.clocks.found word) inside.word past_help; rest = refl })
+      (record {
+        seen = whole.0;
+        past_help = Contains-append_left v.clocks.helped (if_none word ++ checked_helped v.clocks.found word) inside.word past_help;
+        rest = refl;
+      })
 
   pub at_end : clock_time_of word ≡ 35184372088831 → IsAtEnd c v x inside
   at_end last = record {
@@ -103,7 +108,8 @@ module _ (c : Config) (v x : View) (word : ℕ) (h0 : List Entry) (whole : IsWho
     pub helped_next : IsPastHelp y.clocks inside
     helped_next =
         helps.still_helped inside.word
-        (subst (λ (u : View). Contains u.clocks.helped inside.word) (sym is) (Contains-append_left v.clocks.helped (if_none word ++ checked_helped v.clocks.found word) inside.word past_help))
+        (subst (λ (u : View). Contains u.clocks.helped inside.word) (sym is)
+        (Contains-append_left v.clocks.helped (if_none word ++ checked_helped v.clocks.found word) inside.word past_help))
 
     abbrev pub steps_next : List Step
     steps_next = load ∷ helps.trail.0

@@ -1,5 +1,6 @@
 -- What a commit answers after its exchange of CLOCK, won or lost.
-use Rattle.std.proofs.Common.{◌≡◌, ◌≢◌, ℕ, ◌+◌, ◌-◌, ◌<◌, ◌≤◌, if◌then◌else◌, Bool, true, false, List, [], ◌∷◌, ◌++◌, length, refl, sym, ap, ◌∙◌, subst, arith, append_assoc, length-append, All, Some, None}
+use Rattle.std.proofs.Common.{◌≡◌, ◌≢◌, ℕ, ◌+◌, ◌-◌, ◌<◌, ◌≤◌, if◌then◌else◌, Bool, true, false, List, []}
+use Rattle.std.proofs.Common.{◌∷◌, ◌++◌, length, refl, sym, ap, ◌∙◌, subst, arith, append_assoc, length-append, All, Some, None}
 use Rattle.std.specs.Prelude.{slice_get}
 use Rattle.std.proofs.lemmas.List.Elements.{All-nil, All-head, All-tail, All-weaker, Contains-append_left}
 use Rattle.mv_history.specs.declared.Entry.{Entry}
@@ -37,7 +38,8 @@ use Rattle.seat_log.specs.Stands.{Stands}
 use Rattle.seat_log.proofs.PlainSteps.{one_leaves, stands_left}
 use Rattle.commit_abort.specs.Finishes.{IsFinishStep, Finishes}
 use Rattle.commit_abort.specs.Commits.{LoadsClock, Commits, IsKept, IsOvertakenBy}
-use Rattle.commit_abort.proofs.Tried.{no_exchange, steps_next, trail_next, kinds_next, past_next, phase_next, helped_next, begins_next, begins_found, commit_next, number_next, stands_next}
+use Rattle.commit_abort.proofs.Tried.{no_exchange, steps_next, trail_next, kinds_next, past_next, phase_next, helped_next, begins_next, begins_found}
+use Rattle.commit_abort.proofs.Tried.{commit_next, number_next, stands_next}
 
 -- no step of a finish is a commit exchange
 finish_kind : (k : StepKind) → IsFinishStep k → is_commit_exchange k ≡ false
@@ -111,7 +113,8 @@ module _ (c : Config) (v x : View) (word : ℕ) (h0 : List Entry) (whole : IsWho
               ∙ (λ i. record (past i) { seen = h ++ Change (commit i) ∷ []; mine = (past i).mine ++ commit i ∷ [] });
           steps = steps ++ won ∷ fin.trail.0;
           loads = loads w (won ∷ fin.trail.0) (held_count v.ring + 8)
-              (fin.trail.1 ∙ ap (λ (u : View). u.trail ++ fin.trail.0) named ∙ ap (λ l. (l ++ won ∷ []) ++ fin.trail.0) trail ∙ append_assoc (v.trail ++ steps) (won ∷ []) fin.trail.0 ∙ append_assoc v.trail steps (won ∷ fin.trail.0))
+              (fin.trail.1 ∙ ap (λ (u : View). u.trail ++ fin.trail.0) named ∙ ap (λ l. (l ++ won ∷ []) ++ fin.trail.0) trail
+              ∙ append_assoc (v.trail ++ steps) (won ∷ []) fin.trail.0 ∙ append_assoc v.trail steps (won ∷ fin.trail.0))
               (let few = fin.trail.2 in omega arith);
           one_won = record {
             step = won;

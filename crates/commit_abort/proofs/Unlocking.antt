@@ -1,5 +1,6 @@
 -- HEAD is given back of one held version after another.
-use Rattle.std.proofs.Common.{◌≡◌, ◌≢◌, ℕ, ◌+◌, ◌<◌, ◌≤◌, List, [], ◌∷◌, ◌++◌, length, refl, sym, ap, ◌∙◌, subst, inl, inr, arith, append-nil, append_assoc, length-append, Some, None}
+use Rattle.std.proofs.Common.{◌≡◌, ◌≢◌, ℕ, ◌+◌, ◌<◌, ◌≤◌, List, [], ◌∷◌, ◌++◌, length, refl, sym, ap, ◌∙◌}
+use Rattle.std.proofs.Common.{subst, inl, inr, arith, append-nil, append_assoc, length-append, Some, None}
 use Rattle.std.proofs.Math.Logic.{∥∥₁_elim}
 use Rattle.std.proofs.Math.Bridge.{le_prop}
 use Rattle.std.proofs.lemmas.List.{length-set}
@@ -109,8 +110,12 @@ module _ (c : Config) (v : View) (l : Noted) (inside : Section) (k : Stands c v 
       trail =
           (let a = t.trail in
           let few = a.2 in
-          let long = length-append a.0 (step ∷ []) in
-          (a.0 ++ step ∷ [], ap (λ (q : List Step). q ++ step ∷ []) a.1 ∙ append_assoc v.trail a.0 (step ∷ []), omega arith, All-push (λ s. s.kind ≡ UnlockHead) a.0 step a.3 refl));
+          let long = length-append a.0 (step ∷ []) in (
+            a.0 ++ step ∷ [],
+            ap (λ (q : List Step). q ++ step ∷ []) a.1 ∙ append_assoc v.trail a.0 (step ∷ []),
+            omega arith,
+            All-push (λ s. s.kind ≡ UnlockHead) a.0 step a.3 refl,
+          ));
     }
 
     pub unlocks_more : (x : View) → GivesBack c w x n (held_in w (slot_of i)) → Unlocks c v x l inside (i + 1)

@@ -75,4 +75,12 @@ pub record Aborts (v w : View) (most : ℕ) : Type 0 where
   pub seen : BeginsWith w.past.seen v.past.seen
   pub trail : (steps : List Step) × (w.trail ≡ v.trail ++ steps) × (length steps ≤ most) × All (λ s. IsAbortStep s.kind) steps
   pub rest : w
-      ≡ record v { past = record v.past { seen = w.past.seen }; phase = Outside; clocks = no_clocks; walk = Nowhere; back = None; ring = w.ring; trail = w.trail }
+      ≡ record v {
+        past = record v.past { seen = w.past.seen };
+        phase = Outside;
+        clocks = no_clocks;
+        walk = Nowhere;
+        back = None;
+        ring = w.ring;
+        trail = w.trail;
+      }

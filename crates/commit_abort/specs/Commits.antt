@@ -41,7 +41,8 @@ pub record LoadsClock (c : Config) (v w : View) (word most : ℕ) (steps : List 
   pub loaded : Contains steps (record { kind = LoadCheck; word = 0; found = Some word; stored = None })
   pub old : c.base + length v.past.seen ≤ clock_time_of word
 
--- The section's commit, of exactly what it held, is the entry of this time, which is the next after that of the word loaded; it is the last of the seat's commits, and the one commit exchange of this call was won. The section has ended.
+-- The section's commit, of exactly what it held, is the entry of this time, which is the next after that of the word loaded; it
+-- is the last of the seat's commits, and the one commit exchange of this call was won. The section has ended.
 pub record Commits (c : Config) (v w : View) (inside : Section) (tag : List ℕ) (time : ℕ) : Type 0 where
   pub word : ℕ
   pub time_is : time ≡ clock_time_of word + 1

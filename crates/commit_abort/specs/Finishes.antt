@@ -1,5 +1,6 @@
 -- Finishing a commit that its section has named: what the calls need of the view and of the log, and what they leave.
-use Rattle.std.specs.Prelude.{◌≡◌, ◌≢◌, ◌⊎◌, ℕ, ◌+◌, ◌<◌, ◌≤◌, ◌==◌, true, false, List, [], ◌∷◌, ◌++◌, length, All, None}
+use Rattle.std.specs.Prelude.{◌≡◌, ◌≢◌, ◌⊎◌, ℕ, ◌+◌, ◌<◌, ◌≤◌, ◌==◌, true, false, List, [], ◌∷◌, ◌++◌}
+use Rattle.std.specs.Prelude.{length, All, None}
 use Rattle.mv_history.specs.declared.Entry.{Entry}
 use Rattle.mv_history.specs.declared.Step.{Step}
 use Rattle.mv_history.specs.declared.StepKind.{StepKind}
@@ -102,7 +103,8 @@ pub record TellsOne (c : Config) (v w : View) (n : Note) (time before after : �
 
 -- what is in a slot, and is there still, but that SUPER may have been stored below it
 abbrev pub IsLinkedToo : Slot → Slot → Type 0
-IsLinkedToo a b = (b ≡ a) ⊎ ((x : Version) × (note : CommitNote) × (a ≡ Live x (Committed note)) × (b ≡ Live x (Committed (record note { linked = true }))))
+IsLinkedToo a b =
+    (b ≡ a) ⊎ ((x : Version) × (note : CommitNote) × (a ≡ Live x (Committed note)) × (b ≡ Live x (Committed (record note { linked = true }))))
 
 -- SUPER was stored below each of the held versions before this place in the log, and nothing else changed but the trail
 pub record Tells (c : Config) (v w : View) (l : Noted) (i : ℕ) : Type 0 where
@@ -110,7 +112,8 @@ pub record Tells (c : Config) (v w : View) (l : Noted) (i : ℕ) : Type 0 where
   pub wide : length w.ring.slots ≡ length v.ring.slots
   pub next : w.ring.next ≡ v.ring.next
   pub more : (k : ℕ) → IsLinkedToo (slot_at v.ring k) (slot_at w.ring k)
-  pub told : (j : ℕ) (x : Version) (note : CommitNote) → held_from l ≤ j → j < i → slot_at w.ring (index_of c (l.freed + j)) ≡ Live x (Committed note)
+  pub told : (j : ℕ) (x : Version) (note : CommitNote) → held_from l ≤ j → j < i
+      → slot_at w.ring (index_of c (l.freed + j)) ≡ Live x (Committed note)
       → note.linked ≡ true
   pub left : (j : ℕ) → i ≤ j → j < length l.live → slot_at w.ring (index_of c (l.freed + j)) ≡ slot_at v.ring (index_of c (l.freed + j))
   pub trail : (steps : List Step) × (w.trail ≡ v.trail ++ steps) × (length steps + held_from l ≤ i) × All (λ s. s.kind ≡ StoreSuper) steps

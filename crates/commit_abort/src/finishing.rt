@@ -8,7 +8,8 @@ ghost use Rattle.mv_core.specs.Passes.{view, IsOf, IsSame, config_of};
 ghost use Rattle.seat_log.specs.declared.version.Note.{Note};
 ghost use Rattle.seat_log.specs.Notes.{IsNoteAt, committed_noted};
 ghost use Rattle.seat_log.specs.Stands.{Stands};
-ghost use Rattle.commit_abort.specs.Finishes.{WonNaming, IsJustNamed, HasNamed, StampsIt, CommittedSlot, NamedSection, AreCommitted, MayTell, TellsOne, Tells, Finishes};
+ghost use Rattle.commit_abort.specs.Finishes.{WonNaming, IsJustNamed, HasNamed, StampsIt, CommittedSlot, NamedSection, AreCommitted, MayTell};
+ghost use Rattle.commit_abort.specs.Finishes.{TellsOne, Tells, Finishes};
 
 use mv_core::{Pass, Shared, Steps};
 use mv_history::Protocol;
@@ -53,7 +54,8 @@ fn store_super_below<P: Protocol, L: Ledger>(
     requires range { index < length log.now.live }
     requires may { (n : Note) → IsNoteAt log.now index n → MayTell (config_of shared.now) (view pass.old) n time above }
     ensures same { IsSame pass.old pass.new }
-    ensures tells { (n : Note) → IsNoteAt log.now index n → TellsOne (config_of shared.now) (view pass.old) (view pass.new) n time steps.old steps.new above }
+    ensures tells { (n : Note) → IsNoteAt log.now index n
+        → TellsOne (config_of shared.now) (view pass.old) (view pass.new) n time steps.old steps.new above }
 {
     let above = note(log, index);
     if above.previous != 0 {

@@ -1,5 +1,7 @@
 -- The views that the steps of a help leave.
-use Rattle.std.proofs.Common.{◌≡◌, ◌≢◌, ℕ, ◌+◌, ◌<◌, ◌≤◌, ◌^◌, ◌==◌, Bool, false, cond, List, [], ◌∷◌, ◌++◌, length, sym, refl, ap, ◌∙◌, subst, ⊎_elim, inl, inr, append-nil, append_assoc, length-append, le-leb, eq-eqb, ne_eqb, arith, All, Some}
+use Rattle.std.proofs.Common.{◌≡◌, ◌≢◌, ℕ, ◌+◌, ◌<◌, ◌≤◌, ◌^◌, ◌==◌, Bool, false, cond, List, [], ◌∷◌}
+use Rattle.std.proofs.Common.{◌++◌, length, sym, refl, ap, ◌∙◌, subst, ⊎_elim, inl, inr, append-nil, append_assoc, length-append, le-leb}
+use Rattle.std.proofs.Common.{eq-eqb, ne_eqb, arith, All, Some}
 use Rattle.std.proofs.lemmas.Bool.{lt-leb}
 use Rattle.std.specs.Prelude.{Contains}
 use Rattle.std.proofs.lemmas.List.Elements.{Contains-append_left, Contains-append_right, Contains-push, All-nil, All-push}
@@ -22,7 +24,8 @@ loaded_now c v w word h is is_word = record {
   is_word = is_word;
   none = λ e. subst (λ (u : View). Contains u.clocks.helped word) (sym is)
       (Contains-append_right v.clocks.helped (if_none word ++ checked_helped v.clocks.found word) word
-      (Contains-append_left (if_none word) (checked_helped v.clocks.found word) word (subst (λ (b : Bool). Contains (cond b (word ∷ []) []) word) (sym (eq-eqb (clock_slot_of word) 8191 e)) (Contains-push [] word))));
+      (Contains-append_left (if_none word) (checked_helped v.clocks.found word) word
+      (subst (λ (b : Bool). Contains (cond b (word ∷ []) []) word) (sym (eq-eqb (clock_slot_of word) 8191 e)) (Contains-push [] word))));
 }
 
 -- a trail with at most so many steps more, all of a help
@@ -55,7 +58,9 @@ module _ (c : Config) (v : View) (word : ℕ) where
   -- the stamp wasn't unset
   pub helps_set : (w : View) (found : ℕ) → w ≡ named_loaded c v word found → found < 2 ^ 63 → Helps c v w word
   helps_set w found is low =
-      let set : named_clocks v.clocks word found ≡ helped_too v.clocks word = ap (λ (b : Bool). cond b (record v.clocks { found = Some (record { word = word; unset = found; checked = false }) }) (helped_too v.clocks word)) (lt-leb 9223372036854775808 found low) in
+      let set : named_clocks v.clocks word found ≡ helped_too v.clocks word =
+      ap (λ (b : Bool). cond b (record v.clocks { found = Some (record { word = word; unset = found; checked = false }) }) (helped_too v.clocks word))
+      (lt-leb 9223372036854775808 found low) in
       subst (λ (u : View). Helps c v u word) (sym is) (record {
         helped = subst (λ (x : LoadedClocks). Contains x.helped word) (sym set) (Contains-push v.clocks.helped word);
         still_helped = λ x a. subst (λ (y : LoadedClocks). Contains y.helped x) (sym set) (Contains-append_left v.clocks.helped (word ∷ []) x a);
@@ -78,12 +83,17 @@ module _ (c : Config) (v : View) (word : ℕ) where
     keeping = record (named_loaded c v word found) { clocks = kept }
 
     -- the clock has another word
-    pub helps_gone : (w x : View) (clock : ℕ) (h : List Entry) → w ≡ named_loaded c v word found → BeginsWith h w.past.seen → x ≡ check_loaded c w clock h → clock ≢ word → Helps c v x word
+    pub helps_gone : (w x : View) (clock : ℕ) (h : List Entry) → w ≡ named_loaded c v word found → BeginsWith h w.past.seen → x ≡ check_loaded c w clock h
+        → clock ≢ word → Helps c v x word
     helps_gone w x clock h is front is' ne =
-        let same : x ≡ check_loaded c keeping clock h = is' ∙ ap (λ (u : View). check_loaded c u clock h) is ∙ ap (λ (y : LoadedClocks). check_loaded c (record (named_loaded c v word found) { clocks = y }) clock h) kept_is in
-        let one : Contains (cond (word == clock) [] (word ∷ [])) word = subst (λ (b : Bool). Contains (cond b [] (word ∷ [])) word) (sym (ne_eqb word clock (λ e. ne (sym e)))) (Contains-push [] word) in
+        let same : x ≡ check_loaded c keeping clock h =
+        is' ∙ ap (λ (u : View). check_loaded c u clock h) is
+        ∙ ap (λ (y : LoadedClocks). check_loaded c (record (named_loaded c v word found) { clocks = y }) clock h) kept_is in
+        let one : Contains (cond (word == clock) [] (word ∷ [])) word =
+        subst (λ (b : Bool). Contains (cond b [] (word ∷ [])) word) (sym (ne_eqb word clock (λ e. ne (sym e)))) (Contains-push [] word) in
         subst (λ (u : View). Helps c v u word) (sym same) (record {
-          helped = Contains-append_right v.clocks.helped (if_none clock ++ cond (word == clock) [] (word ∷ [])) word (Contains-append_right (if_none clock) (cond (word == clock) [] (word ∷ [])) word one);
+          helped = Contains-append_right v.clocks.helped (if_none clock ++ cond (word == clock) [] (word ∷ [])) word
+              (Contains-append_right (if_none clock) (cond (word == clock) [] (word ∷ [])) word one);
           still_helped = λ y a. Contains-append_left v.clocks.helped (if_none clock ++ cond (word == clock) [] (word ∷ [])) y a;
           still_loaded = λ y a. Contains-append_left v.clocks.loaded (clock ∷ []) y a;
           phase = inl refl;
@@ -93,18 +103,32 @@ module _ (c : Config) (v : View) (word : ℕ) where
         })
 
     -- the clock has the word, and the exchange was made
-    pub helps_stamped : (w x y : View) (clock there : ℕ) (h : List Entry) → w ≡ named_loaded c v word found → BeginsWith h w.past.seen → x ≡ check_loaded c w clock h → y ≡ stamp_swapped c x word found there → Helps c v y word
+    pub helps_stamped : (w x y : View) (clock there : ℕ) (h : List Entry) → w ≡ named_loaded c v word found → BeginsWith h w.past.seen
+        → x ≡ check_loaded c w clock h → y ≡ stamp_swapped c x word found there → Helps c v y word
     helps_stamped w x y clock there h is front is' is'' =
-        let before : x ≡ check_loaded c keeping clock h = is' ∙ ap (λ (u : View). check_loaded c u clock h) is ∙ ap (λ (y : LoadedClocks). check_loaded c (record (named_loaded c v word found) { clocks = y }) clock h) kept_is in
-        let same : y ≡ stamp_swapped c (check_loaded c keeping clock h) word found there = is'' ∙ ap (λ (u : View). stamp_swapped c u word found there) before in
+        let before : x ≡ check_loaded c keeping clock h =
+        is' ∙ ap (λ (u : View). check_loaded c u clock h) is
+        ∙ ap (λ (y : LoadedClocks). check_loaded c (record (named_loaded c v word found) { clocks = y }) clock h) kept_is in
+        let same : y ≡ stamp_swapped c (check_loaded c keeping clock h) word found there =
+        is'' ∙ ap (λ (u : View). stamp_swapped c u word found there) before in
         let old : View = check_loaded c keeping clock h in
         let new : View = stamp_swapped c old word found there in
         subst (λ (u : View). Helps c v u word) (sym same) (record {
           helped = Contains-push old.clocks.helped word;
-          still_helped = λ z a. Contains-append_left old.clocks.helped (word ∷ []) z (Contains-append_left v.clocks.helped (if_none clock ++ checked_helped kept.found clock) z a);
+          still_helped =
+              λ z a. Contains-append_left old.clocks.helped (word ∷ []) z
+              (Contains-append_left v.clocks.helped (if_none clock ++ checked_helped kept.found clock) z a);
           still_loaded = λ z a. Contains-append_left v.clocks.loaded (clock ∷ []) z a;
           phase = ⊎_elim inl
-              (λ (o : IsOwn c v.number word found v.phase). inr (record { inside = o.inside; naming = o.naming; phase = o.phase_is; mode = o.mode_is; word_is = (own_says c v.number word found o.naming o.own).0; after = o.after_is }))
+              (λ (o : IsOwn c v.number word found v.phase).
+              inr (record {
+                inside = o.inside;
+                naming = o.naming;
+                phase = o.phase_is;
+                mode = o.mode_is;
+                word_is = (own_says c v.number word found o.naming o.own).0;
+                after = o.after_is;
+              }))
               (phase_after c v.number word found v.phase);
           past = (h, subst (λ (u : View). BeginsWith h u.past.seen) is front, refl);
           trail = grows_one 2 v.trail _ _ tt (grows_one 1 v.trail _ _ tt (grows_one 0 v.trail v.trail _ tt (grows_none 0 v.trail)));

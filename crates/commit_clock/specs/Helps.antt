@@ -38,7 +38,8 @@ pub record StampsOwn (c : Config) (v w : View) (word : ℕ) : Type 0 where
   pub word_is : word ≡ clock_of naming.time v.number (index_of c naming.first)
   pub after : w.phase ≡ Inside (record inside { mode = Named (record naming { stamped = true }) })
 
--- A help of a word leaves of a view: the word is helped, no loaded or helped word is forgotten, the phase stays but in a section that has named this very commit, the trail has at most three steps more, more may have been seen, and nothing else changes.
+-- A help of a word leaves of a view: the word is helped, no loaded or helped word is forgotten, the phase stays but in a section
+-- that has named this very commit, the trail has at most three steps more, more may have been seen, and nothing else changes.
 pub record Helps (c : Config) (v w : View) (word : ℕ) : Type 0 where
   pub helped : Contains w.clocks.helped word
   pub still_helped : (x : ℕ) → Contains v.clocks.helped x → Contains w.clocks.helped x

@@ -22,7 +22,8 @@ pub record IsLost (c : Config) (v : View) (word found : ℕ) (rival : Rival) (h 
 
 -- the commit of what the section holds was named at the next time after the word's, over the whole history that was there; or CLOCK had another word
 abbrev pub NamesCommit : Config → View → Section → List ℕ → ℕ → Named → View → Type 0
-NamesCommit c v inside tag word (Done time) w = (time ≡ clock_time_of word + 1) × ((h : List Entry) × IsWhole c v word h × (w ≡ commit_named c v inside tag word h))
+NamesCommit c v inside tag word (Done time) w =
+    (time ≡ clock_time_of word + 1) × ((h : List Entry) × IsWhole c v word h × (w ≡ commit_named c v inside tag word h))
 NamesCommit c v inside tag word (Lost rival) w = (found : ℕ) × (h : List Entry) × IsLost c v word found rival h × (w ≡ commit_lost c v found h)
 
 -- what a commit that was named tells of the own log before

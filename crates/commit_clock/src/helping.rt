@@ -21,7 +21,8 @@ pub fn now<P: Protocol, L: Ledger>(
     requires of { IsOf shared.now pass.old }
     requires may { MayLoadCheck (view pass.old).phase }
     ensures same { IsSame pass.old pass.new }
-    ensures view { (h : List Entry) × IsWhole (config_of shared.now) (view pass.old) result h × (view pass.new ≡ check_loaded (config_of shared.now) (view pass.old) result h) }
+    ensures view { (h : List Entry) × IsWhole (config_of shared.now) (view pass.old) result h
+        × (view pass.new ≡ check_loaded (config_of shared.now) (view pass.old) result h) }
     ensures loaded { HasLoaded (config_of shared.now) (view pass.new) result }
     ensures step { steps.new ≡ steps.old + 1 }
 {

@@ -1,5 +1,6 @@
 -- The buckets of a set together have as many keys as the set.
-use Rattle.std.proofs.Common.{◌≡◌, ◌≢◌, ℕ, zero, suc, ◌+◌, ◌-◌, ◌*◌, ◌^◌, ◌<◌, ◌≤◌, ◌⊎◌, inl, inr, Bool, true, false, cond, List, [], ◌∷◌, length, drop, refl, sym, ap, ◌∙◌, subst, arith, length-drop}
+use Rattle.std.proofs.Common.{◌≡◌, ◌≢◌, ℕ, zero, suc, ◌+◌, ◌-◌, ◌*◌, ◌^◌, ◌<◌, ◌≤◌, ◌⊎◌, inl, inr, Bool}
+use Rattle.std.proofs.Common.{true, false, cond, List, [], ◌∷◌, length, drop, refl, sym, ap, ◌∙◌, subst, arith, length-drop}
 use Rattle.std.proofs.lemmas.Bool.{cases_eq, false_from_ne_true}
 use Rattle.mv_history.specs.State.{State}
 use Rattle.mv_history.specs.Meaning.{words_at}
@@ -18,7 +19,8 @@ use Rattle.hash_set.proofs.SetMaps.{bucket_low, bucket_name, bucket_is}
 length-map_at : (s : State) (head : ℕ) → IsLawful s → head < 170 → length (map_at s head) ≡ tally (is_key_at head) (drop 180 s)
 length-map_at s head l lh = length-map_among (is_key_at head) (drop 180 s) (λ i j a b e.
     (let q : 180 + i ≡ 180 + j = owned_key_once s head l lh (180 + i) (180 + j) (omega arith) (omega arith)
-    (ap (word 0) (sym (node_at s i)) ∙ (is_key_at-from head (words_at (drop 180 s) i) a).0) (ap (word 0) (sym (node_at s j)) ∙ (is_key_at-from head (words_at (drop 180 s) j) b).0)
+    (ap (word 0) (sym (node_at s i)) ∙ (is_key_at-from head (words_at (drop 180 s) i) a).0)
+    (ap (word 0) (sym (node_at s j)) ∙ (is_key_at-from head (words_at (drop 180 s) j) b).0)
     (ap (word 2) (sym (node_at s i)) ∙ e ∙ ap (word 2) (node_at s j)) in omega arith))
 
 length-map_in : (s : State) (name : ℕ) → IsLawful s → name < 20 → length (map_in s name) ≡ tally (is_key_of name) (drop 180 s)
@@ -62,7 +64,9 @@ picks-one set (suc n) i w lt e = go (cases_eq i n) (λ m. picks-one set n i w m 
     own = (is_key_at-from (bucket_at set i) w e).0
 
     other : (j : ℕ) → j ≢ i → is_key_at (bucket_at set j) w ≡ false
-    other j ne = false_from_ne_true (is_key_at (bucket_at set j) w) (λ t. ne (let q : word 0 w ≡ suc (bucket_at set j) = (is_key_at-from (bucket_at set j) w t).0 in omega (arith, own)))
+    other j ne =
+        false_from_ne_true (is_key_at (bucket_at set j) w)
+        (λ t. ne (let q : word 0 w ≡ suc (bucket_at set j) = (is_key_at-from (bucket_at set j) w t).0 in omega (arith, own)))
 
     go : (i ≡ n) ⊎ (i ≢ n) → (i < n → picks set n w ≡ 1) → picks set n w + cond (is_key_at (bucket_at set n) w) 1 0 ≡ 1
     go (inl q) _ =
@@ -119,7 +123,8 @@ count_bound s set (suc n) l ls le =
     let b : length (map_at s (bucket_at set n)) ≤ 65535 = bucket_bound s (bucket_at set n) l (bucket_low set n ls (omega arith)) in omega arith
 
 -- The loop over the buckets, whose views read alike.
-pub count_step : (s t : State) (set i head count here : ℕ) → t ≡ s → count ≡ count_in s set i → head ≡ bucket_at set i → here ≡ length (map_at t head) → count + here ≡ count_in s set (i + 1)
+pub count_step : (s t : State) (set i head count here : ℕ) → t ≡ s → count ≡ count_in s set i → head ≡ bucket_at set i → here ≡ length (map_at t head)
+    → count + here ≡ count_in s set (i + 1)
 count_step s t set i head count here same so_far e f =
     let more : suc i ≡ i + 1 = omega arith in
     let there : here ≡ length (map_at s (bucket_at set i)) = f ∙ ap (λ (u : State). length (map_at u head)) same ∙ ap (λ (u : ℕ). length (map_at s u)) e in
@@ -128,5 +133,6 @@ count_step s t set i head count here same so_far e f =
 pub count_fits : (s : State) (set i count : ℕ) → IsLawful s → set < 10 → i ≤ 16 → count ≡ count_in s set i → count < 2 ^ 64
 count_fits s set i count l ls le e = let b = count_bound s set i l ls le in omega arith
 
-pub count_end : (s : State) (set i count : ℕ) → IsLawful s → set < 10 → 16 ≤ i → i ≤ 16 → count ≡ count_in s set i → count ≡ length (map_of (10 + set) (catalogue_of s))
+pub count_end : (s : State) (set i count : ℕ) → IsLawful s → set < 10 → 16 ≤ i → i ≤ 16 → count ≡ count_in s set i
+    → count ≡ length (map_of (10 + set) (catalogue_of s))
 count_end s set i count l ls ge le e = let whole : i ≡ 16 = omega arith in e ∙ ap (count_in s set) whole ∙ count_all s set l ls

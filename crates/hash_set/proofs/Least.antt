@@ -1,5 +1,6 @@
 -- The least of the next keys of the buckets is the next key of the set.
-use Rattle.std.proofs.Common.{◌≡◌, ℕ, zero, suc, ◌+◌, ◌<◌, ◌≤◌, ◌⊎◌, inl, inr, Bool, true, false, cond, ltb, ltb-true, ltb-false, refl, sym, ap, ◌∙◌, subst, arith, Option, Some, None}
+use Rattle.std.proofs.Common.{◌≡◌, ℕ, zero, suc, ◌+◌, ◌<◌, ◌≤◌, ◌⊎◌, inl, inr, Bool, true, false, cond, ltb, ltb-true}
+use Rattle.std.proofs.Common.{ltb-false, refl, sym, ap, ◌∙◌, subst, arith, Option, Some, None}
 use Rattle.std.proofs.lemmas.Bool.{cases_eq}
 use Rattle.mv_history.specs.State.{State}
 use Rattle.mv_history.specs.Meaning.{words_at}
@@ -32,14 +33,22 @@ later : (s : State) (set n u : ℕ) → InBuckets s set n u → InBuckets s set 
 later s set n u (i, lt, h) = (i, omega arith, h)
 
 -- one bucket more
-lesser_is : (s : State) (set n k : ℕ) (left right : Option ℕ) → IsLeastOf s set n k left → next_key k (map_at s (bucket_at set n)) ≡ right → IsLeastOf s set (suc n) k (lesser_of left right)
+lesser_is : (s : State) (set n k : ℕ) (left right : Option ℕ) → IsLeastOf s set n k left → next_key k (map_at s (bucket_at set n)) ≡ right
+    → IsLeastOf s set (suc n) k (lesser_of left right)
 lesser_is s set n k None None f e =
     λ u i. elim (earlier s set n u i) [ inl a ↦ f u a | inr h ↦ none_from k (map_at s (bucket_at set n)) e u h ]
 lesser_is s set n k None (Some j) f e =
-    let l : IsLeast k (map_at s (bucket_at set n)) j = least_from k (map_at s (bucket_at set n)) j (IsMap-map_among (is_key_at (bucket_at set n)) _) e in
-    ((n, omega arith, l.has), l.from, λ u i le. elim (earlier s set n u i) [ inl a ↦ (let lt : u < k = f u a in absurd (omega arith)) | inr h ↦ l.least u h le ])
-lesser_is s set n k (Some j) None f e =
-    (later s set n j f.0, f.1, λ u i le. elim (earlier s set n u i) [ inl a ↦ f.2 u a le | inr h ↦ (let lt : u < k = none_from k (map_at s (bucket_at set n)) e u h in absurd (omega arith)) ])
+    let l : IsLeast k (map_at s (bucket_at set n)) j = least_from k (map_at s (bucket_at set n)) j (IsMap-map_among (is_key_at (bucket_at set n)) _) e in (
+      (n, omega arith, l.has),
+      l.from,
+      λ u i le. elim (earlier s set n u i) [ inl a ↦ (let lt : u < k = f u a in absurd (omega arith)) | inr h ↦ l.least u h le ],
+    )
+lesser_is s set n k (Some j) None f e = (
+  later s set n j f.0,
+  f.1,
+  λ u i le. elim (earlier s set n u i)
+      [ inl a ↦ f.2 u a le | inr h ↦ (let lt : u < k = none_from k (map_at s (bucket_at set n)) e u h in absurd (omega arith)) ],
+)
 lesser_is s set n k (Some i) (Some j) f e = go (ltb j i) refl
   where
     l : IsLeast k (map_at s (bucket_at set n)) j
@@ -61,14 +70,16 @@ least_is s set k (suc n) = lesser_is s set n k (least_in s set k n) (next_key k 
 pub buckets_from : (s : State) (set u : ℕ) → set < 10 → InBuckets s set 16 u → has_key u (map_in s (10 + set)) ≡ true
 buckets_from s set u ls (i, lt, h) =
     let m = map_at-holds s (bucket_at set i) u h in
-    holds-map_in s (10 + set) u (m.0, m.1, subst (λ (n : ℕ). is_key_of n (words_at s m.0) ≡ true) (bucket_name set i ls lt) (at_named (bucket_at set i) (words_at s m.0) m.2), m.3)
+    holds-map_in s (10 + set) u
+    (m.0, m.1, subst (λ (n : ℕ). is_key_of n (words_at s m.0) ≡ true) (bucket_name set i ls lt) (at_named (bucket_at set i) (words_at s m.0) m.2), m.3)
 
 pub buckets_to : (s : State) (set u : ℕ) → IsLawful s → set < 10 → has_key u (map_in s (10 + set)) ≡ true → InBuckets s set 16 u
 buckets_to s set u l ls h =
     let m = map_in-holds s (10 + set) u h in
     let g = home s (10 + set) m.0 l m.1 m.2 in
     let n = bucket_is set g.0 ls g.1.named in
-    let there : has_key u (map_at s g.0) ≡ true = holds-map_at s g.0 u (m.0, m.1, is_key_at-to g.0 (words_at s m.0) g.1.own (is_key-from (10 + set) (words_at s m.0) m.2).1, m.3) in
+    let there : has_key u (map_at s g.0) ≡ true =
+    holds-map_at s g.0 u (m.0, m.1, is_key_at-to g.0 (words_at s m.0) g.1.own (is_key-from (10 + set) (words_at s m.0) m.2).1, m.3) in
     (n.0, n.1, ap (λ (v : ℕ). has_key u (map_at s v)) n.2 ∙ there)
 
 -- The least of the next keys of the sixteen buckets is the next key of the set.
@@ -85,12 +96,15 @@ least_all s set k l ls =
     })
 
 -- The loop over the buckets, whose views read alike.
-pub least_step : (s t : State) (set k i head : ℕ) (least next lesser : Option ℕ) → t ≡ s → least ≡ least_in s set k i → head ≡ bucket_at set i → next ≡ next_key k (map_at t head) → lesser ≡ lesser_of least next → lesser ≡ least_in s set k (i + 1)
+pub least_step : (s t : State) (set k i head : ℕ) (least next lesser : Option ℕ) → t ≡ s → least ≡ least_in s set k i → head ≡ bucket_at set i
+    → next ≡ next_key k (map_at t head) → lesser ≡ lesser_of least next → lesser ≡ least_in s set k (i + 1)
 least_step s t set k i head least next lesser same so_far e f g =
     let more : suc i ≡ i + 1 = omega arith in
-    let there : next ≡ next_key k (map_at s (bucket_at set i)) = f ∙ ap (λ (u : State). next_key k (map_at u head)) same ∙ ap (λ (u : ℕ). next_key k (map_at s u)) e in
+    let there : next ≡ next_key k (map_at s (bucket_at set i)) =
+    f ∙ ap (λ (u : State). next_key k (map_at u head)) same ∙ ap (λ (u : ℕ). next_key k (map_at s u)) e in
     g ∙ ap (λ (u : Option ℕ). lesser_of u next) so_far ∙ ap (lesser_of (least_in s set k i)) there ∙ ap (least_in s set k) more
 
-pub least_end : (s : State) (set k i : ℕ) (least : Option ℕ) → IsLawful s → set < 10 → 16 ≤ i → i ≤ 16 → least ≡ least_in s set k i → least ≡ next_key k (map_of (10 + set) (catalogue_of s))
+pub least_end : (s : State) (set k i : ℕ) (least : Option ℕ) → IsLawful s → set < 10 → 16 ≤ i → i ≤ 16 → least ≡ least_in s set k i
+    → least ≡ next_key k (map_of (10 + set) (catalogue_of s))
 least_end s set k i least l ls ge le e =
     let whole : i ≡ 16 = omega arith in e ∙ ap (least_in s set k) whole ∙ least_all s set k l ls

@@ -42,11 +42,13 @@ head_fits set key ls fit = (fit, λ ge. omega arith)
 module _ (s : State) (set key : ℕ) (l : IsLawful s) (ls : set < 10) (fit : key < 2 ^ 32) where
   pub set_has : has_key key (map_of (10 + set) (catalogue_of s)) ≡ has_key key (map_at s (head_of set key))
   set_has =
-      ap (λ (n : ℕ). has_key key (map_of n (catalogue_of s))) (sym (head_name set key ls)) ∙ map_of-has s (head_of set key) key l (head_low set key ls) (head_fits set key ls fit)
+      ap (λ (n : ℕ). has_key key (map_of n (catalogue_of s))) (sym (head_name set key ls))
+      ∙ map_of-has s (head_of set key) key l (head_low set key ls) (head_fits set key ls fit)
 
   pub set_value : value_of key (map_of (10 + set) (catalogue_of s)) ≡ value_of key (map_at s (head_of set key))
   set_value =
-      ap (λ (n : ℕ). value_of key (map_of n (catalogue_of s))) (sym (head_name set key ls)) ∙ map_of-value s (head_of set key) key l (head_low set key ls) (head_fits set key ls fit)
+      ap (λ (n : ℕ). value_of key (map_of n (catalogue_of s))) (sym (head_name set key ls))
+      ∙ map_of-value s (head_of set key) key l (head_low set key ls) (head_fits set key ls fit)
 
 -- From what the bucket answers, whose head the code computes.
 module _ (s : State) (set key head : ℕ) (l : IsLawful s) (ls : set < 10) (fit : key < 2 ^ 32) (e : head ≡ head_of set key) where
@@ -63,7 +65,8 @@ module _ (s : State) (set key head : ℕ) (l : IsLawful s) (ls : set < 10) (fit 
 pub takes_at : (a c : InSection) (set key head node : ℕ) → head ≡ head_of set key → Takes a c head key node → Takes a c (head_of set key) key node
 takes_at a c set key head node e t = subst (λ (h : ℕ). Takes a c h key node) e t
 
-pub takes_catalogue : (a c : InSection) (set key head node : ℕ) → set < 10 → head ≡ head_of set key → Takes a c head key node → catalogue_of (state_of c) ≡ without_key (10 + set) key (catalogue_of (state_of a))
+pub takes_catalogue : (a c : InSection) (set key head node : ℕ) → set < 10 → head ≡ head_of set key → Takes a c head key node
+    → catalogue_of (state_of c) ≡ without_key (10 + set) key (catalogue_of (state_of a))
 takes_catalogue a c set key head node ls e t =
     let there : Takes a c (head_of set key) key node = takes_at a c set key head node e t in
     there.catalogue ∙ ap (λ (n : ℕ). without_key n key (catalogue_of (state_of a))) (head_name set key ls)

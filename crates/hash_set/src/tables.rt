@@ -98,12 +98,16 @@ pub fn add_in<S: Section>(section: &mut S, set: u32, key: u32, value: u64, node:
     requires node_in { 180 ≤ node }
     requires in_range { node < length (state_of (S.section section.old)) }
     requires vacant { owner (state_of (S.section section.old)) node ≡ 0 }
-    requires room { (previous : ℕ) → IsAddPlace (state_of (S.section section.old)) (head_of set key) key previous → HasRoom (S.section section.old) (previous ∷ node ∷ []) }
+    requires room { (previous : ℕ) → IsAddPlace (state_of (S.section section.old)) (head_of set key) key previous
+        → HasRoom (S.section section.old) (previous ∷ node ∷ []) }
     ensures no { (result ≡ No) ↔ (has_key key (map_of (10 + set) (catalogue_of (state_of (S.section section.old)))) ≡ true) }
     ensures unchanged { result ≡ No → S.as_before section.old section.new }
     ensures yes { result ≡ Yes → Adds (S.section section.old) (S.section section.new) (head_of set key) key value node }
-    ensures catalogue { result ≡ Yes → catalogue_of (state_of (S.section section.new)) ≡ with_key (10 + set) key value (catalogue_of (state_of (S.section section.old))) }
-    ensures again { (cause : Cause) → result ≡ Again cause → (previous : ℕ) × IsAddPlace (state_of (S.section section.old)) (head_of set key) key previous × Refuses S.may_refuse S.found_held (S.section section.old) (S.section section.new) (previous ∷ node ∷ []) cause }
+    ensures catalogue { result ≡ Yes
+        → catalogue_of (state_of (S.section section.new)) ≡ with_key (10 + set) key value (catalogue_of (state_of (S.section section.old))) }
+    ensures again { (cause : Cause) → result ≡ Again cause
+        → (previous : ℕ) × IsAddPlace (state_of (S.section section.old)) (head_of set key) key previous
+        × Refuses S.may_refuse S.found_held (S.section section.old) (S.section section.new) (previous ∷ node ∷ []) cause }
 {
     let head = bucket_of(set, key);
     list_set::add_in(section, head, key, value, node)
@@ -125,12 +129,15 @@ pub fn put_in<S: Section>(section: &mut S, set: u32, key: u32, value: u64) -> Se
     requires set_in { set < 10 }
     requires lawful { IsLawful (state_of (S.section section.old)) }
     requires present { has_key key (map_of (10 + set) (catalogue_of (state_of (S.section section.old)))) ≡ true }
-    requires room { (node : ℕ) → IsPutPlace (state_of (S.section section.old)) (head_of set key) key node → HasRoom (S.section section.old) (node ∷ []) }
+    requires room { (node : ℕ) → IsPutPlace (state_of (S.section section.old)) (head_of set key) key node
+        → HasRoom (S.section section.old) (node ∷ []) }
     ensures no { (result ≡ No) ↔ (value_of key (map_of (10 + set) (catalogue_of (state_of (S.section section.old)))) ≡ Some value) }
     ensures unchanged { result ≡ No → S.as_before section.old section.new }
     ensures yes { result ≡ Yes → Puts (S.section section.old) (S.section section.new) (head_of set key) key value }
-    ensures catalogue { result ≡ Yes → catalogue_of (state_of (S.section section.new)) ≡ with_key (10 + set) key value (catalogue_of (state_of (S.section section.old))) }
-    ensures again { (cause : Cause) → result ≡ Again cause → (node : ℕ) × IsPutPlace (state_of (S.section section.old)) (head_of set key) key node × Refuses S.may_refuse S.found_held (S.section section.old) (S.section section.new) (node ∷ []) cause }
+    ensures catalogue { result ≡ Yes
+        → catalogue_of (state_of (S.section section.new)) ≡ with_key (10 + set) key value (catalogue_of (state_of (S.section section.old))) }
+    ensures again { (cause : Cause) → result ≡ Again cause → (node : ℕ) × IsPutPlace (state_of (S.section section.old)) (head_of set key) key node
+        × Refuses S.may_refuse S.found_held (S.section section.old) (S.section section.new) (node ∷ []) cause }
 {
     let head = bucket_of(set, key);
     list_set::put_in(section, head, key, value)
@@ -152,12 +159,17 @@ pub fn put_in<S: Section>(section: &mut S, set: u32, key: u32, value: u64) -> Se
 pub fn del_in<S: Section>(section: &mut S, set: u32, key: u32) -> Removed
     requires set_in { set < 10 }
     requires lawful { IsLawful (state_of (S.section section.old)) }
-    requires room { (previous node : ℕ) → IsDelPlace (state_of (S.section section.old)) (head_of set key) key previous node → HasRoom (S.section section.old) (previous ∷ node ∷ []) }
+    requires room { (previous node : ℕ) → IsDelPlace (state_of (S.section section.old)) (head_of set key) key previous node
+        → HasRoom (S.section section.old) (previous ∷ node ∷ []) }
     ensures absent { (result ≡ Absent) ↔ (has_key key (map_of (10 + set) (catalogue_of (state_of (S.section section.old)))) ≡ false) }
     ensures unchanged { result ≡ Absent → S.as_before section.old section.new }
-    ensures took { (node inner : ℕ) → result ≡ Took node inner → (inner ≡ 0) × Takes (S.section section.old) (S.section section.new) (head_of set key) key node }
-    ensures catalogue { (node inner : ℕ) → result ≡ Took node inner → catalogue_of (state_of (S.section section.new)) ≡ without_key (10 + set) key (catalogue_of (state_of (S.section section.old))) }
-    ensures again { (cause : Cause) → result ≡ DelAgain cause → (previous node : ℕ) × IsDelPlace (state_of (S.section section.old)) (head_of set key) key previous node × Refuses S.may_refuse S.found_held (S.section section.old) (S.section section.new) (previous ∷ node ∷ []) cause }
+    ensures took { (node inner : ℕ) → result ≡ Took node inner
+        → (inner ≡ 0) × Takes (S.section section.old) (S.section section.new) (head_of set key) key node }
+    ensures catalogue { (node inner : ℕ) → result ≡ Took node inner
+        → catalogue_of (state_of (S.section section.new)) ≡ without_key (10 + set) key (catalogue_of (state_of (S.section section.old))) }
+    ensures again { (cause : Cause) → result ≡ DelAgain cause
+        → (previous node : ℕ) × IsDelPlace (state_of (S.section section.old)) (head_of set key) key previous node
+        × Refuses S.may_refuse S.found_held (S.section section.old) (S.section section.new) (previous ∷ node ∷ []) cause }
 {
     let head = bucket_of(set, key);
     list_set::del_in(section, head, key)

@@ -1,5 +1,6 @@
 -- The steps of a count along a list.
-use Rattle.std.proofs.Common.{◌≡◌, ◌≢◌, ℕ, suc, ◌+◌, ◌-◌, ◌^◌, ◌<◌, ◌≤◌, Bool, true, false, cond, eqb, List, [], ◌∷◌, ◌++◌, length, refl, sym, ap, ◌∙◌, subst, arith, append_assoc, append-nil, length-append}
+use Rattle.std.proofs.Common.{◌≡◌, ◌≢◌, ℕ, suc, ◌+◌, ◌-◌, ◌^◌, ◌<◌, ◌≤◌, Bool, true, false, cond, eqb, List, []}
+use Rattle.std.proofs.Common.{◌∷◌, ◌++◌, length, refl, sym, ap, ◌∙◌, subst, arith, append_assoc, append-nil, length-append}
 use Rattle.mv_history.specs.State.{State}
 use Rattle.mv_history.specs.Meaning.{words_at}
 use Rattle.set_script.specs.CatalogueOf.{map_at}
@@ -60,7 +61,8 @@ module _ (s t : State) (head node n : ℕ) (w : List ℕ) (same : t ≡ s) (c : 
       let left = count_falls e in
       let r = c.room in go c.front c.rest c.list c.here c.count (omega arith)
     where
-      go : (front rest : Nodes) → IsList s head (front ++ rest) → node ≡ first_of rest → n ≡ length front → n + 1 + walk_left s (word 3 w) ≤ 2 ^ 32 → IsCount s head (word 3 w) (n + 1)
+      go : (front rest : Nodes) → IsList s head (front ++ rest) → node ≡ first_of rest → n ≡ length front → n + 1 + walk_left s (word 3 w) ≤ 2 ^ 32
+          → IsCount s head (word 3 w) (n + 1)
       go front [] l z k room = absurd (more z)
       go front (b ∷ rest) l z k room =
           let lk : Links s head (b ∷ rest) = Links-right s head front (b ∷ rest) l.links in

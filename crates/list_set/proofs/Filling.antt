@@ -24,15 +24,19 @@ filled_room s n o p f lt =
     room_for_two s o p (let a = f.spare in omega arith) (let a = f.held in let b = f.most in omega arith)
 
 -- an add fills one more
-pub filled_more : (old new : InSection) (head k v node n m : ℕ) → head < 170 → IsFilled old n → node ≡ 180 + n → m ≡ n + 1 → Adds old new head k v node → IsFilled new m
+pub filled_more : (old new : InSection) (head k v node n m : ℕ) → head < 170 → IsFilled old n → node ≡ 180 + n → m ≡ n + 1
+    → Adds old new head k v node → IsFilled new m
 filled_more old new head k v node n m lh f here more a =
-    let apart : a.previous ≢ node = place_not_vacant (state_of old) head a.previous node (omega arith) a.place.within (omega arith) (f.vacant node (omega arith)) in
+    let apart : a.previous ≢ node =
+    place_not_vacant (state_of old) head a.previous node (omega arith) a.place.within (omega arith) (f.vacant node (omega arith)) in
     let two : count_unheld old.own (a.previous ∷ node ∷ []) ≤ 2 = count_unheld-two old.own a.previous node in
     record {
       lawful = a.lawful;
       objects = adds-length old new head k v node a ∙ f.objects;
-      vacant = λ o lo. (ap (word 0) (adds-others old new head k v node lh a o (omega arith) (f.vacant o (omega arith)) (omega arith)) ∙ f.vacant o (omega arith));
-      held = let x = rewritten-held old new (add_writes (state_of old) head k v a.previous node) (two_distinct a.previous node apart) a.change in let y = f.held in omega arith;
+      vacant = λ o lo.
+          (ap (word 0) (adds-others old new head k v node lh a o (omega arith) (f.vacant o (omega arith)) (omega arith)) ∙ f.vacant o (omega arith));
+      held = let x = rewritten-held old new (add_writes (state_of old) head k v a.previous node) (two_distinct a.previous node apart) a.change in let y =
+          f.held in omega arith;
       spare = let x = a.change.holds.spare in let y = f.spare in omega arith;
       most = let x = a.change.holds.goes_on.continues.write_max in let y = f.most in omega arith;
     }
@@ -72,12 +76,14 @@ filled_put old new head k v n m f more p =
     }
 
 -- what is left of it after a del, in the words of views: from `a`, filled, by `b`, which reads the same, to `c` after the del
-pub filled_less : (a b c : InSection) (s t u : State) (head k node n : ℕ) → IsFilled a n → s ≡ state_of a → t ≡ s → t ≡ state_of b → u ≡ state_of c → Takes b c head k node → IsLawful u × (length u ≡ 186)
+pub filled_less : (a b c : InSection) (s t u : State) (head k node n : ℕ) → IsFilled a n → s ≡ state_of a → t ≡ s → t ≡ state_of b → u ≡ state_of c
+    → Takes b c head k node → IsLawful u × (length u ≡ 186)
 filled_less a b c s t u head k node n f ea same eb ec take =
     (subst (λ (v : State). IsLawful v) (sym ec) take.lawful, ap length ec ∙ takes-length b c head k node take ∙ ap length (sym eb ∙ same ∙ ea) ∙ f.objects)
 
 -- a section over a store whose objects are all zero
-pub filled_none : (old : Seat) (new : InSection) → Enters old new → new.at ≡ length old.seen → old.seen ≡ [] → IsOpening old.start → length old.start ≡ 186 → 16 ≤ old.spare → 16 ≤ old.write_max → IsFilled new 0
+pub filled_none : (old : Seat) (new : InSection) → Enters old new → new.at ≡ length old.seen → old.seen ≡ [] → IsOpening old.start → length old.start ≡ 186
+    → 16 ≤ old.spare → 16 ≤ old.write_max → IsFilled new 0
 filled_none old new e whole none zero size spare most =
     let here : state_of new ≡ old.start = state-entered old new e whole ∙ ap (state_after old.start) none in
     let own : length new.own ≡ 0 = ap length e.own in

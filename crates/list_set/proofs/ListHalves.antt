@@ -46,7 +46,8 @@ still_in s s' head p e (inl q) = inl q
 still_in s s' head p e (inr g) = inr (g.0, ap (word 0) e ∙ g.1)
 
 -- The place of an add stays where others leave its predecessor, since the node behind keeps its key.
-pub add_place_stays : (s s' : State) (ws : Writes) (head k p : ℕ) → head < 170 → KeepsOf head s s' ws → words_at s' p ≡ words_at s p → IsAddPlace s head k p → IsAddPlace s' head k p
+pub add_place_stays : (s s' : State) (ws : Writes) (head k p : ℕ) → head < 170 → KeepsOf head s s' ws → words_at s' p ≡ words_at s p → IsAddPlace s head k p
+    → IsAddPlace s' head k p
 add_place_stays s s' ws head k p lh keeps e a = record {
   within = still_in s s' head p e a.within;
   below = elim a.below [ inl z ↦ inl z | inr lt ↦ (let f : key s' p ≡ key s p = ap (word 2) e in inr (omega arith)) ];
@@ -56,7 +57,8 @@ add_place_stays s s' ws head k p lh keeps e a = record {
     same : link s' p ≡ link s p
     same = ap (word 3) e
 
-    above : (link s p ≡ 0) ⊎ (k < key s (link s p)) → (link s p ≡ 0) ⊎ ((180 ≤ link s p) × (owner s (link s p) ≡ suc head)) → (link s' p ≡ 0) ⊎ ((180 ≤ link s' p) × (owner s' (link s' p) ≡ suc head)) → (link s' p ≡ 0) ⊎ (k < key s' (link s' p))
+    above : (link s p ≡ 0) ⊎ (k < key s (link s p)) → (link s p ≡ 0) ⊎ ((180 ≤ link s p) × (owner s (link s p) ≡ suc head))
+        → (link s' p ≡ 0) ⊎ ((180 ≤ link s' p) × (owner s' (link s' p) ≡ suc head)) → (link s' p ≡ 0) ⊎ (k < key s' (link s' p))
     above (inl z) _ _ = inl (same ∙ z)
     above (inr lt) (inl z) _ = inl (same ∙ z)
     above (inr lt) (inr g) (inl z) = inl z
@@ -65,15 +67,18 @@ add_place_stays s s' ws head k p lh keeps e a = record {
         let f : key s' (link s' p) ≡ key s' (link s p) = ap (key s') same in inr (omega arith)
 
 -- a change within a list leaves every search of every tree
-ends_elsewhere : (s s' : State) (ws : Writes) (head : ℕ) → head < 170 → IsWithin s s' head → (r k l : ℕ) → 170 ≤ r → r < 180 → EndsAt s r k l → touches ws l ≡ false → EndsAt s' r k l
+ends_elsewhere : (s s' : State) (ws : Writes) (head : ℕ) → head < 170 → IsWithin s s' head → (r k l : ℕ) → 170 ≤ r → r < 180 → EndsAt s r k l
+    → touches ws l ≡ false → EndsAt s' r k l
 ends_elsewhere s s' ws head lh w r k l r0 r1 e out = ends_stay s s' head r k l (omega arith) w (omega arith) r1 e
 
 -- What an add does.
-pub add_half : (s : State) (head k v p n : ℕ) → IsLawful s → head < 170 → FitsHead head k → IsAddPlace s head k p → 180 ≤ n → n < length s → owner s n ≡ 0 → Half s (written s (add_writes s head k v p n)) (add_writes s head k v p n) head (Lacks k) (put k v)
+pub add_half : (s : State) (head k v p n : ℕ) → IsLawful s → head < 170 → FitsHead head k → IsAddPlace s head k p → 180 ≤ n → n < length s → owner s n ≡ 0
+    → Half s (written s (add_writes s head k v p n)) (add_writes s head k v p n) head (Lacks k) (put k v)
 add_half s head k v p n l lh fit a ln lr vac =
     let s' : State = written s (add_writes s head k v p n) in
     let c : Added s s' head p (record { object = n; key = k; value = v }) (link s p) =
-    add_writes_do s head p (record { object = n; key = k; value = v }) (place_in_range s head p l lh a.within) lr (place_not_vacant s head p n (omega arith) a.within ln vac) in
+    add_writes_do s head p (record { object = n; key = k; value = v }) (place_in_range s head p l lh a.within) lr
+    (place_not_vacant s head p n (omega arith) a.within ln vac) in
     let w : IsWithin s s' head = added_within s s' head p (record { object = n; key = k; value = v }) (link s p) c a.within ln vac in
     record {
       within = w;
@@ -87,7 +92,8 @@ add_half s head k v p n l lh fit a ln lr vac =
       leaves = add_catalogue s head k v p n l lh fit a ln lr vac;
     }
   where
-    keys : (s' : State) → Added s s' head p (record { object = n; key = k; value = v }) (link s p) → (o : ℕ) → owner s o ≢ 0 → (o ≡ p) ⊎ (o ≢ p) → (o ≡ n) ⊎ (o ≢ n) → (kind s' o ≡ kind s o) × (key s' o ≡ key s o)
+    keys : (s' : State) → Added s s' head p (record { object = n; key = k; value = v }) (link s p) → (o : ℕ) → owner s o ≢ 0 → (o ≡ p) ⊎ (o ≢ p)
+        → (o ≡ n) ⊎ (o ≢ n) → (kind s' o ≡ kind s o) × (key s' o ≡ key s o)
     keys s' c o some (inl e) _ =
         let f : words_at s' o ≡ relink (words_at s o) n = ap (words_at s') e ∙ c.before ∙ ap (λ u. relink (words_at s u) n) (sym e) in
         (ap (word 1) f ∙ kind-relink (words_at s o) n, ap (word 2) f ∙ key-relink (words_at s o) n)
@@ -95,13 +101,15 @@ add_half s head k v p n l lh fit a ln lr vac =
     keys s' c o some (inr a) (inr b) = let f = c.others o a b in (ap (word 1) f, ap (word 2) f)
 
 -- a node's value in the map of the list's name
-pub node_has : (s : State) (head k n : ℕ) → IsLawful s → head < 170 → 180 ≤ n → owner s n ≡ suc head → key s n ≡ k → value_of k (map_of (name_of head) (catalogue_of s)) ≡ Some (value s n)
+pub node_has : (s : State) (head k n : ℕ) → IsLawful s → head < 170 → 180 ≤ n → owner s n ≡ suc head → key s n ≡ k
+    → value_of k (map_of (name_of head) (catalogue_of s)) ≡ Some (value s n)
 node_has s head k n l lh lo own has =
     let fit : FitsHead head k = subst (λ j. FitsHead head j) has (owned_fits s head n l lh lo own) in
     map_of-value s head k l lh fit ∙ ap (λ j. value_of j (map_at s head)) (sym has) ∙ node_value s head n l lh lo own
 
 -- What a del does.
-pub del_half : (s : State) (head k v p n : ℕ) → IsLawful s → head < 170 → IsDelPlace s head k p n → value s n ≡ v → Half s (written s (del_writes s p n)) (del_writes s p n) head (Has k v) (take_out k)
+pub del_half : (s : State) (head k v p n : ℕ) → IsLawful s → head < 170 → IsDelPlace s head k p n → value s n ≡ v
+    → Half s (written s (del_writes s p n)) (del_writes s p n) head (Has k v) (take_out k)
 del_half s head k v p n l lh d val =
     let m : Removal s head k p n = removal s head k p n l lh d in
     let s' : State = written s (del_writes s p n) in
@@ -119,7 +127,8 @@ del_half s head k v p n l lh d val =
       leaves = del_catalogue s head k p n l lh d;
     }
   where
-    keys : (s' : State) → Taken s s' p n (link s n) → (o : ℕ) → owner s o ≢ 0 → owner s' o ≡ owner s o → (o ≡ p) ⊎ (o ≢ p) → (o ≡ n) ⊎ (o ≢ n) → (kind s' o ≡ kind s o) × (key s' o ≡ key s o)
+    keys : (s' : State) → Taken s s' p n (link s n) → (o : ℕ) → owner s o ≢ 0 → owner s' o ≡ owner s o → (o ≡ p) ⊎ (o ≢ p) → (o ≡ n) ⊎ (o ≢ n)
+        → (kind s' o ≡ kind s o) × (key s' o ≡ key s o)
     keys s' c o some same (inl e) _ =
         let f : words_at s' o ≡ relink (words_at s o) (link s n) = ap (words_at s') e ∙ c.before ∙ ap (λ u. relink (words_at s u) (link s n)) (sym e) in
         (ap (word 1) f ∙ kind-relink (words_at s o) (link s n), ap (word 2) f ∙ key-relink (words_at s o) (link s n))
@@ -127,7 +136,8 @@ del_half s head k v p n l lh d val =
     keys s' c o some same (inr a) (inr b) = let f = c.others o a b in (ap (word 1) f, ap (word 2) f)
 
 -- What a put of a key that is there does.
-pub put_half : (s : State) (head k v n : ℕ) → IsLawful s → head < 170 → IsPutPlace s head k n → value s n ≢ v → Half s (written s (put_writes s n v)) (put_writes s n v) head (HasOther k v) (put k v)
+pub put_half : (s : State) (head k v n : ℕ) → IsLawful s → head < 170 → IsPutPlace s head k n → value s n ≢ v
+    → Half s (written s (put_writes s n v)) (put_writes s n v) head (HasOther k v) (put k v)
 put_half s head k v n l lh p ne =
     let s' : State = written s (put_writes s n v) in
     let c : Revalued s s' n v = put_writes_do s n v (put_in_range s head k n p) in
@@ -141,7 +151,10 @@ put_half s head k v n l lh p ne =
         keys = λ o some same. keys s' c o (cases_eq o n);
         ends = λ r j e r0 r1. ends_elsewhere s s' (put_writes s n v) head lh w r j e r0 r1;
       };
-      fits = (has_key-some k (value s n) (map_of (name_of head) (catalogue_of s)) has, has_entry-other k (value s n) v (map_of (name_of head) (catalogue_of s)) has ne);
+      fits = (
+        has_key-some k (value s n) (map_of (name_of head) (catalogue_of s)) has,
+        has_entry-other k (value s n) v (map_of (name_of head) (catalogue_of s)) has ne,
+      );
       leaves = put_catalogue s head k v n l lh p;
     }
   where

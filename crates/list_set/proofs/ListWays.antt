@@ -29,7 +29,8 @@ list_add_way head k v p n lh fit = record {
   names = λ s. refl;
   stays = λ s s' ws keeps out kept a. add_place_stays s s' ws head k p lh keeps (kept p (inl refl)) a;
   same = λ s s' kept. ap (λ (w : List ℕ). (p, relink w n) ∷ (n, list_words head k v (word 3 w)) ∷ []) (kept p (inl refl));
-  distinct = λ s l a vac. distinct-pair p n (relink (words_at s p) n) (list_words head k v (link s p)) (let m = vac n (inl refl) in place_not_vacant s head p n (omega arith) a.within m.0 m.2);
+  distinct = λ s l a vac. distinct-pair p n (relink (words_at s p) n) (list_words head k v (link s p))
+      (let m = vac n (inl refl) in place_not_vacant s head p n (omega arith) a.within m.0 m.2);
   owned = λ s l a o i. elim i [ inl e ↦ subst (λ u. IsAt s head u) (sym e) a.within | inr e ↦ absurd e ];
   half = λ s l a vac. (let m = vac n (inl refl) in add_half s head k v p n l lh fit a m.0 m.1 m.2);
 }
@@ -58,7 +59,9 @@ list_del_way head k v p n lh = record {
     }
 
     same : (s s' : State) → words_at s' p ≡ words_at s p → words_at s' n ≡ words_at s n → del_writes s' p n ≡ del_writes s p n
-    same s s' e f = ap (λ (w : List ℕ). (p, relink w (word 3 (words_at s' n))) ∷ (n, no_words) ∷ []) e ∙ ap (λ (w : List ℕ). (p, relink (words_at s p) (word 3 w)) ∷ (n, no_words) ∷ []) f
+    same s s' e f =
+        ap (λ (w : List ℕ). (p, relink w (word 3 (words_at s' n))) ∷ (n, no_words) ∷ []) e
+        ∙ ap (λ (w : List ℕ). (p, relink (words_at s p) (word 3 w)) ∷ (n, no_words) ∷ []) f
 
     owned : (s : State) → IsLawful s → IsDelPlace s head k p n → (o : ℕ) → IsIn o (p ∷ n ∷ []) → IsAt s head o
     owned s l d o (inl e) = subst (λ u. IsAt s head u) (sym e) d.within
@@ -89,17 +92,20 @@ list_put_way head k v n lh = record {
 -- What the calls leave.
 module _ (old new : InSection) (head k : ℕ) (lh : head < 170) (l : IsLawful (state_of old)) where
   -- an add that answered `Yes`
-  pub adds_added : (v node : ℕ) → FitsHead head k → 180 ≤ node → node < length (state_of old) → owner (state_of old) node ≡ 0 → Adds old new head k v node → KeyAdded old new head k v
+  pub adds_added : (v node : ℕ) → FitsHead head k → 180 ≤ node → node < length (state_of old) → owner (state_of old) node ≡ 0 → Adds old new head k v node
+      → KeyAdded old new head k v
   unfolding list_add_way
   adds_added v node fit lo lt vac a = record {
     way = list_add_way head k v a.previous node lh fit;
     place = a.place;
-    vacant = λ o i. elim i [ inl e ↦ subst (λ u. (180 ≤ u) × (u < length (state_of old)) × (owner (state_of old) u ≡ 0)) (sym e) (lo, lt, vac) | inr e ↦ absurd e ];
+    vacant = λ o i.
+        elim i [ inl e ↦ subst (λ u. (180 ≤ u) × (u < length (state_of old)) × (owner (state_of old) u ≡ 0)) (sym e) (lo, lt, vac) | inr e ↦ absurd e ];
     writes = a.change;
   }
 
   -- a del that answered `Took`, of a key with this value
-  pub takes_removed : (v node : ℕ) → value_of k (map_of (name_of head) (catalogue_of (state_of old))) ≡ Some v → Takes old new head k node → KeyRemoved old new head k v
+  pub takes_removed : (v node : ℕ) → value_of k (map_of (name_of head) (catalogue_of (state_of old))) ≡ Some v → Takes old new head k node
+      → KeyRemoved old new head k v
   unfolding list_del_way
   takes_removed v node has t =
       let m : Removal (state_of old) head k t.previous node = removal (state_of old) head k t.previous node l lh t.place in
@@ -112,7 +118,8 @@ module _ (old new : InSection) (head k : ℕ) (lh : head < 170) (l : IsLawful (s
       }
 
   -- a put that answered `Yes`, of a key that didn't have this value
-  pub puts_updated : (v : ℕ) → (value_of k (map_of (name_of head) (catalogue_of (state_of old))) ≡ Some v → ⊥) → Puts old new head k v → KeyUpdated old new head k v
+  pub puts_updated : (v : ℕ) → (value_of k (map_of (name_of head) (catalogue_of (state_of old))) ≡ Some v → ⊥) → Puts old new head k v
+      → KeyUpdated old new head k v
   unfolding list_put_way
   puts_updated v lacks p = record {
     way = list_put_way head k v p.node lh;

@@ -1,5 +1,6 @@
 -- The writes of a section, after locks and writes.
-use Rattle.std.proofs.Common.{◌≡◌, ◌≢◌, ℕ, suc, ◌+◌, ◌<◌, Bool, true, false, cond, eqb, not, ◌||◌, List, [], ◌∷◌, ◌++◌, length, get_or, take, drop, refl, sym, ap, ◌∙◌, arith, length-append, append_assoc, take-suc}
+use Rattle.std.proofs.Common.{◌≡◌, ◌≢◌, ℕ, suc, ◌+◌, ◌<◌, Bool, true, false, cond, eqb, not, ◌||◌, List, [], ◌∷◌}
+use Rattle.std.proofs.Common.{◌++◌, length, get_or, take, drop, refl, sym, ap, ◌∙◌, arith, length-append, append_assoc, take-suc}
 use Rattle.std.proofs.lemmas.List.{take-append-drop}
 use Rattle.std.proofs.lemmas.Bool.{not-true, and_parts}
 use Rattle.std.proofs.lemmas.Bool.Decides.{nat_tests}
@@ -22,7 +23,8 @@ touches-with_locks s own [] p = or_false (touches own p)
     or_false true = refl
     or_false false = refl
 touches-with_locks s own (x ∷ xs) p =
-    touches-with_locks s (with_lock s own x.0) xs p ∙ ap (λ (b : Bool). b || touches xs p) (touches-with_lock s own x.0 p) ∙ or_assoc (touches own p) (eqb x.0 p) (touches xs p)
+    touches-with_locks s (with_lock s own x.0) xs p ∙ ap (λ (b : Bool). b || touches xs p) (touches-with_lock s own x.0 p)
+    ∙ or_assoc (touches own p) (eqb x.0 p) (touches xs p)
 
 pub touches-with_writes : (own xs : Writes) (p : ℕ) → touches (with_writes own xs) p ≡ touches own p
 touches-with_writes own [] p = refl
@@ -36,14 +38,16 @@ length-with_lock s ws o = go (touches ws o)
     go false = length-append ws ((o, words_at s o) ∷ []) ∙ omega arith
 
 -- one object more, held or not, leaves the count of others that are not held
-count-with_lock : (s : State) (own xs : Writes) (o : ℕ) → touches xs o ≡ false → count_unheld (with_lock s own o) (objects_of xs) ≡ count_unheld own (objects_of xs)
+count-with_lock : (s : State) (own xs : Writes) (o : ℕ) → touches xs o ≡ false
+    → count_unheld (with_lock s own o) (objects_of xs) ≡ count_unheld own (objects_of xs)
 count-with_lock s own [] o n = refl
 count-with_lock s own (x ∷ xs) o n =
     let e : touches (with_lock s own o) x.0 ≡ touches own x.0 = touches-with_lock s own o x.0 ∙ grind (arith, nat_tests) in
     let r = count-with_lock s own xs o (grind (arith, nat_tests)) in
     ap (λ (b : Bool). cond b 0 1 + count_unheld (with_lock s own o) (objects_of xs)) e ∙ ap (λ (c : ℕ). cond (touches own x.0) 0 1 + c) r
 
-pub length-with_locks : (s : State) (own xs : Writes) → are_distinct xs ≡ true → length (with_locks s own (objects_of xs)) ≡ length own + count_unheld own (objects_of xs)
+pub length-with_locks : (s : State) (own xs : Writes) → are_distinct xs ≡ true
+    → length (with_locks s own (objects_of xs)) ≡ length own + count_unheld own (objects_of xs)
 length-with_locks s own [] d = omega arith
 length-with_locks s own (x ∷ xs) d =
     let parts = and_parts (not (touches xs x.0)) (are_distinct xs) d in
@@ -52,7 +56,8 @@ length-with_locks s own (x ∷ xs) d =
     let c = count-with_lock s own xs x.0 (not-true (touches xs x.0) parts.0) in omega arith
 
 -- whether an object is held is the same after locks of others
-pub count-with_locks : (s : State) (own xs : Writes) (o : ℕ) → touches xs o ≡ false → count_unheld (with_locks s own (objects_of xs)) (o ∷ []) ≡ count_unheld own (o ∷ [])
+pub count-with_locks : (s : State) (own xs : Writes) (o : ℕ) → touches xs o ≡ false
+    → count_unheld (with_locks s own (objects_of xs)) (o ∷ []) ≡ count_unheld own (o ∷ [])
 count-with_locks s own xs o n =
     let e : touches (with_locks s own (objects_of xs)) o ≡ touches own o = touches-with_locks s own xs o ∙ grind (arith, nat_tests) in
     ap (λ (b : Bool). cond b 0 1 + 0) e
@@ -62,7 +67,8 @@ pub objects_of-append : (xs ys : Writes) → objects_of (xs ++ ys) ≡ objects_o
 objects_of-append [] ys = refl
 objects_of-append (x ∷ xs) ys = ap (λ (os : List ℕ). x.0 ∷ os) (objects_of-append xs ys)
 
-pub with_locks-push : (s : State) (own xs : Writes) (x : ℕ × List ℕ) → with_locks s own (objects_of (xs ++ x ∷ [])) ≡ with_lock s (with_locks s own (objects_of xs)) x.0
+pub with_locks-push : (s : State) (own xs : Writes) (x : ℕ × List ℕ)
+    → with_locks s own (objects_of (xs ++ x ∷ [])) ≡ with_lock s (with_locks s own (objects_of xs)) x.0
 with_locks-push s own [] x = refl
 with_locks-push s own (y ∷ xs) x = with_locks-push s (with_lock s own y.0) xs x
 
@@ -77,7 +83,8 @@ count-append own (x ∷ xs) ys = let r = count-append own xs ys in omega arith
 -- The writes at a place.
 pub at_place : (ws : Writes) (i : ℕ) (d : ℕ × List ℕ) → i < length ws → ws ≡ take i ws ++ get_or ws i d ∷ drop (suc i) ws
 at_place ws i d lt =
-    sym (take-append-drop (suc i) ws) ∙ ap (λ (u : Writes). u ++ drop (suc i) ws) (take-suc ws i d lt) ∙ append_assoc (take i ws) (get_or ws i d ∷ []) (drop (suc i) ws)
+    sym (take-append-drop (suc i) ws) ∙ ap (λ (u : Writes). u ++ drop (suc i) ws) (take-suc ws i d lt)
+    ∙ append_assoc (take i ws) (get_or ws i d ∷ []) (drop (suc i) ws)
 
 pub distinct_front : (xs ys : Writes) → are_distinct (xs ++ ys) ≡ true → are_distinct xs ≡ true
 distinct_front [] ys d = refl

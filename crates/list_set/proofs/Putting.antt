@@ -1,5 +1,6 @@
 -- A put at its place keeps the state lawful, and gives its key another value in the catalogue.
-use Rattle.std.proofs.Common.{◌≡◌, ◌≢◌, ℕ, suc, ◌<◌, ◌≤◌, ◌⊎◌, inl, inr, Bool, true, cond, eqb, eq-eqb, ne_eqb, List, [], ◌∷◌, length, refl, sym, ap, ◌∙◌, arith, get_or-set_other, get_or-set_same, length-set}
+use Rattle.std.proofs.Common.{◌≡◌, ◌≢◌, ℕ, suc, ◌<◌, ◌≤◌, ◌⊎◌, inl, inr, Bool, true, cond, eqb, eq-eqb, ne_eqb, List}
+use Rattle.std.proofs.Common.{[], ◌∷◌, length, refl, sym, ap, ◌∙◌, arith, get_or-set_other, get_or-set_same, length-set}
 use Rattle.std.proofs.lemmas.Bool.{cases_eq}
 use Rattle.mv_history.specs.State.{State, written}
 use Rattle.mv_history.specs.Meaning.{words_at}
@@ -105,9 +106,11 @@ put_lawful s head k v n l lh p =
     let m = l.lists head lh in
     let c : Revalued s (written s (put_writes s n v)) n v = put_writes_do s n v (put_in_range s head k n p) in
     lawful_by_list s (written s (put_writes s n v)) head (put_node n v m.0) lh (length-set s n (revalue (words_at s n) v))
-    (put_within s (written s (put_writes s n v)) head n v p.is_node p.own c) l (put_list s (written s (put_writes s n v)) head n v m.0 (omega arith) p.is_node c m.1)
+    (put_within s (written s (put_writes s n v)) head n v p.is_node p.own c) l
+    (put_list s (written s (put_writes s n v)) head n v m.0 (omega arith) p.is_node c m.1)
 
-pub put_catalogue : (s : State) (head k v n : ℕ) → IsLawful s → head < 170 → IsPutPlace s head k n → catalogue_of (written s (put_writes s n v)) ≡ with_key (name_of head) k v (catalogue_of s)
+pub put_catalogue : (s : State) (head k v n : ℕ) → IsLawful s → head < 170 → IsPutPlace s head k n
+    → catalogue_of (written s (put_writes s n v)) ≡ with_key (name_of head) k v (catalogue_of s)
 put_catalogue s head k v n l lh p =
     catalogue_set s (written s (put_writes s n v)) (name_of head) (put k v (map_of (name_of head) (catalogue_of s))) (name_bound head (omega arith)) others here
   where

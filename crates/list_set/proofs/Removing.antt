@@ -1,5 +1,6 @@
 -- A del at its place keeps the state lawful, and takes its key out of the catalogue.
-use Rattle.std.proofs.Common.{◌≡◌, ◌≢◌, ℕ, suc, ◌<◌, ◌≤◌, ◌⊎◌, inl, inr, true, false, [], ◌∷◌, ◌++◌, length, set, refl, sym, ap, ◌∙◌, subst, arith, get_or-set_other, get_or-set_same, length-set}
+use Rattle.std.proofs.Common.{◌≡◌, ◌≢◌, ℕ, suc, ◌<◌, ◌≤◌, ◌⊎◌, inl, inr, true, false, [], ◌∷◌, ◌++◌, length}
+use Rattle.std.proofs.Common.{set, refl, sym, ap, ◌∙◌, subst, arith, get_or-set_other, get_or-set_same, length-set}
 use Rattle.std.proofs.lemmas.Bool.{cases_eq, false_from_ne_true}
 use Rattle.mv_history.specs.State.{State, written}
 use Rattle.mv_history.specs.Meaning.{words_at}
@@ -25,10 +26,13 @@ pub record IsPartedAt (s : State) (head p : ℕ) (x : Node) (fs bs : Nodes) : Ty
   pub last : last_of head fs ≡ p
   pub leads : link s x.object ≡ first_of bs
 
-part_del : (s : State) (head k p n : ℕ) (ns : Nodes) → IsList s head ns → IsDelPlace s head k p n → (fs : Nodes) × (bs : Nodes) × (x : Node) × (x.object ≡ n) × IsPartedAt s head p x fs bs
-part_del s head k p n ns l d = let r = part_at s head p ns l d.within in go r.0 r.1 (whole_list s head ns (r.0 ++ r.1) r.2.whole l) r.2.last (sym d.behind ∙ r.2.leads)
+part_del : (s : State) (head k p n : ℕ) (ns : Nodes) → IsList s head ns → IsDelPlace s head k p n
+    → (fs : Nodes) × (bs : Nodes) × (x : Node) × (x.object ≡ n) × IsPartedAt s head p x fs bs
+part_del s head k p n ns l d =
+    let r = part_at s head p ns l d.within in go r.0 r.1 (whole_list s head ns (r.0 ++ r.1) r.2.whole l) r.2.last (sym d.behind ∙ r.2.leads)
   where
-    go : (fs bs : Nodes) → IsList s head (fs ++ bs) → last_of head fs ≡ p → n ≡ first_of bs → (gs : Nodes) × (cs : Nodes) × (x : Node) × (x.object ≡ n) × IsPartedAt s head p x gs cs
+    go : (fs bs : Nodes) → IsList s head (fs ++ bs) → last_of head fs ≡ p → n ≡ first_of bs
+        → (gs : Nodes) × (cs : Nodes) × (x : Node) × (x.object ≡ n) × IsPartedAt s head p x gs cs
     go fs [] m e q = absurd (d.some q)
     go fs (b ∷ bs) m e q =
         let lk : Links s head (b ∷ bs) = Links-right s head fs (b ∷ bs) m.links in
@@ -38,7 +42,8 @@ del_apart : (s : State) (head p : ℕ) (x : Node) (fs bs : Nodes) → head < 180
 del_apart s head p x [] bs lh m e =
     let g : 180 ≤ x.object = m.list.links.0 in let q : head ≡ p = m.last in omega arith
 del_apart s head p x (y ∷ fs) bs lh m e =
-    let low : key s p < x.key = front_below s head (y ∷ fs) bs x m.list.links m.list.rising p (subst (λ (u : ℕ). IsAmong u (y ∷ fs)) m.last (last_among y fs)) in
+    let low : key s p < x.key =
+    front_below s head (y ∷ fs) bs x m.list.links m.list.rising p (subst (λ (u : ℕ). IsAmong u (y ∷ fs)) m.last (last_among y fs)) in
     let lk : Links s head (x ∷ bs) = Links-right s head (y ∷ fs) (x ∷ bs) m.list.links in
     let is : key s x.object ≡ x.key = ap (word 2) lk.2 in
     let z : key s p ≡ key s x.object = ap (key s) e in omega arith
@@ -47,13 +52,15 @@ pub del_writes_do : (s : State) (p n : ℕ) → p < length s → n < length s �
 del_writes_do s p n lp ln apart = record {
   before = get_or-set_other (set s p (relink (words_at s p) (link s n))) n p no_words [] apart ∙ get_or-set_same s p (relink (words_at s p) (link s n)) [] lp;
   gone = get_or-set_same (set s p (relink (words_at s p) (link s n))) n no_words [] (omega (arith, length-set s p (relink (words_at s p) (link s n))));
-  others = λ o a b. get_or-set_other (set s p (relink (words_at s p) (link s n))) n o no_words [] b ∙ get_or-set_other s p o (relink (words_at s p) (link s n)) [] a;
+  others = λ o a b. get_or-set_other (set s p (relink (words_at s p) (link s n))) n o no_words [] b
+      ∙ get_or-set_other s p o (relink (words_at s p) (link s n)) [] a;
 }
 
 pub taken_within : (s s' : State) (head p n next : ℕ) → Taken s s' p n next → IsInList s head p → 180 ≤ n → owner s n ≡ suc head → IsWithin s s' head
 taken_within s s' head p n next c i ln own o = go (cases_eq o p) (cases_eq o n) i
   where
-    go : (o ≡ p) ⊎ (o ≢ p) → (o ≡ n) ⊎ (o ≢ n) → IsInList s head p → (words_at s' o ≡ words_at s o) ⊎ ((o ≡ head) ⊎ ((180 ≤ o) × IsOf s head o × IsOf s' head o))
+    go : (o ≡ p) ⊎ (o ≢ p) → (o ≡ n) ⊎ (o ≢ n) → IsInList s head p
+        → (words_at s' o ≡ words_at s o) ⊎ ((o ≡ head) ⊎ ((180 ≤ o) × IsOf s head o × IsOf s' head o))
     go (inr a) (inr b) _ = inl (c.others o a b)
     go (inl e) _ (inl q) = inr (inl (e ∙ q))
     go (inl e) _ (inr g) =
@@ -106,9 +113,11 @@ pub del_present : (s : State) (head k p n : ℕ) → IsLawful s → head < 170 �
 del_present s head k p n l lh d =
     let m = removal s head k p n l lh d in holds-map_at s head k (n, m.node, m.picked, d.has)
 
-pub del_catalogue : (s : State) (head k p n : ℕ) → IsLawful s → head < 170 → IsDelPlace s head k p n → catalogue_of (written s (del_writes s p n)) ≡ without_key (name_of head) k (catalogue_of s)
+pub del_catalogue : (s : State) (head k p n : ℕ) → IsLawful s → head < 170 → IsDelPlace s head k p n
+    → catalogue_of (written s (del_writes s p n)) ≡ without_key (name_of head) k (catalogue_of s)
 del_catalogue s head k p n l lh d =
-    catalogue_set s (written s (del_writes s p n)) (name_of head) (take_out k (map_of (name_of head) (catalogue_of s))) (name_bound head (omega arith)) others here
+    catalogue_set s (written s (del_writes s p n)) (name_of head) (take_out k (map_of (name_of head) (catalogue_of s)))
+    (name_bound head (omega arith)) others here
   where
     m : Removal s head k p n
     m = removal s head k p n l lh d
@@ -127,7 +136,8 @@ del_catalogue s head k p n l lh d =
 
     others : (name : ℕ) → name ≢ name_of head → map_in (written s (del_writes s p n)) name ≡ map_in s name
     others name ne =
-        map_in-none (set s p (relink (words_at s p) (link s n))) name n no_words m.node (is_key-other name head (words_at (set s p (relink (words_at s p) (link s n))) n) own_t ne) (vacant name) ∙ map_in-relink s name p (link s n)
+        map_in-none (set s p (relink (words_at s p) (link s n))) name n no_words m.node
+        (is_key-other name head (words_at (set s p (relink (words_at s p) (link s n))) n) own_t ne) (vacant name) ∙ map_in-relink s name p (link s n)
 
     key_t : key (set s p (relink (words_at s p) (link s n))) n ≡ k
     key_t = ap (word 2) at_n ∙ d.has
@@ -138,7 +148,8 @@ del_catalogue s head k p n l lh d =
     is_n : (o : ℕ) → 180 ≤ o → is_key_of (name_of head) (words_at s o) ≡ true → key s o ≡ k → o ≡ n
     is_n o lo t e = key_once s (name_of head) l (name_low head lh) o n lo m.node t (picked) (e ∙ sym d.has)
 
-    other : (o : ℕ) → 180 ≤ o → is_key_of (name_of head) (words_at (written s (del_writes s p n)) o) ≡ true → key (written s (del_writes s p n)) o ≡ k → (o ≡ n) ⊎ (o ≢ n) → (o ≡ p) ⊎ (o ≢ p) → ⊥
+    other : (o : ℕ) → 180 ≤ o → is_key_of (name_of head) (words_at (written s (del_writes s p n)) o) ≡ true → key (written s (del_writes s p n)) o ≡ k
+        → (o ≡ n) ⊎ (o ≢ n) → (o ≡ p) ⊎ (o ≢ p) → ⊥
     other o lo t e (inl q) _ =
         let f = (is_key-from (name_of head) (words_at (written s (del_writes s p n)) o) t).0 in
         let z : owner (written s (del_writes s p n)) o ≡ 0 = ap (owner (written s (del_writes s p n))) q ∙ ap (word 0) c.gone in omega arith
@@ -147,16 +158,20 @@ del_catalogue s head k p n l lh d =
     other o lo t e (inr q) (inl r) =
         let w : words_at (written s (del_writes s p n)) o ≡ relink (words_at s p) (link s n) = ap (words_at (written s (del_writes s p n))) r ∙ c.before in
         q (is_n o lo
-        (ap (λ u. is_key_of (name_of head) (words_at s u)) r ∙ sym (is_key-relink (name_of head) (words_at s p) (link s n)) ∙ ap (is_key_of (name_of head)) (sym w) ∙ t)
+        (ap (λ u. is_key_of (name_of head) (words_at s u)) r ∙ sym (is_key-relink (name_of head) (words_at s p) (link s n))
+        ∙ ap (is_key_of (name_of head)) (sym w) ∙ t)
         (ap (key s) r ∙ sym (key-relink (words_at s p) (link s n)) ∙ ap (word 2) (sym w) ∙ e))
 
     -- no other node of the list has the key
     gone : has_key k (map_in (written s (del_writes s p n)) (name_of head)) ≡ false
-    gone = false_from_ne_true (has_key k (map_in (written s (del_writes s p n)) (name_of head))) (λ h. (let u = map_in-holds (written s (del_writes s p n)) (name_of head) k h in other u.0 u.1 u.2 u.3 (cases_eq u.0 n) (cases_eq u.0 p)))
+    gone = false_from_ne_true (has_key k (map_in (written s (del_writes s p n)) (name_of head)))
+        (λ h. (let u = map_in-holds (written s (del_writes s p n)) (name_of head) k h in other u.0 u.1 u.2 u.3 (cases_eq u.0 n) (cases_eq u.0 p)))
 
     here : map_in (written s (del_writes s p n)) (name_of head) ≡ take_out k (map_of (name_of head) (catalogue_of s))
     here =
-        map_in-less (set s p (relink (words_at s p) (link s n))) (name_of head) n no_words m.node (omega (arith, m.node_in, length-set s p (relink (words_at s p) (link s n))))
-        (ap (is_key_of (name_of head)) at_n ∙ picked) (vacant (name_of head)) (ap (λ j. has_key j (map_in (written s (del_writes s p n)) (name_of head))) key_t ∙ gone)
+        map_in-less (set s p (relink (words_at s p) (link s n))) (name_of head) n no_words m.node
+        (omega (arith, m.node_in, length-set s p (relink (words_at s p) (link s n))))
+        (ap (is_key_of (name_of head)) at_n ∙ picked) (vacant (name_of head))
+        (ap (λ j. has_key j (map_in (written s (del_writes s p n)) (name_of head))) key_t ∙ gone)
         ∙ ap (λ j. take_out j (map_in (set s p (relink (words_at s p) (link s n))) (name_of head))) key_t
         ∙ ap (take_out k) (map_in-relink s (name_of head) p (link s n) ∙ sym (map_of-catalogue_of s (name_of head) (name_bound head (omega arith))))

@@ -40,7 +40,8 @@ abbrev pub KeyUpdated : InSection → InSection → ℕ → ℕ → ℕ → Type
 KeyUpdated old new head k v = Changed old new head (HasOther k v) (put k v)
 
 -- what was made stays through calls that change nothing
-pub rewritten_later : (a b c : InSection) (os : List ℕ) (ws : Writes) → b.at ≤ length b.seat.seen → IsAsBefore b c → GoesOn b c → Rewritten a b os ws → Rewritten a c os ws
+pub rewritten_later : (a b c : InSection) (os : List ℕ) (ws : Writes) → b.at ≤ length b.seat.seen → IsAsBefore b c → GoesOn b c → Rewritten a b os ws
+    → Rewritten a c os ws
 rewritten_later a b c os ws le same goes r = record {
   holds = record {
     goes_on = GoesOn-GoesOn r.holds.goes_on goes;
@@ -51,7 +52,8 @@ rewritten_later a b c os ws le same goes r = record {
   state = state_of-as_before b c le same ∙ r.state;
 }
 
-pub changed_later : {Fits : Map → Type 0} {change : Map → Map} (a b c : InSection) (head : ℕ) → b.at ≤ length b.seat.seen → IsAsBefore b c → GoesOn b c → Changed a b head Fits change → Changed a c head Fits change
+pub changed_later : {Fits : Map → Type 0} {change : Map → Map} (a b c : InSection) (head : ℕ) → b.at ≤ length b.seat.seen → IsAsBefore b c → GoesOn b c
+    → Changed a b head Fits change → Changed a c head Fits change
 changed_later a b c head le same goes d = record {
   way = d.way;
   place = d.place;
@@ -69,17 +71,21 @@ lawful_begun a h none = subst IsLawful (sym (reads_snapshot a none)) (lawful_sna
 
 -- A section that wrote an object holds something.
 pub rewritten_some : (a b : InSection) (o : ℕ) (os : List ℕ) (ws : Writes) → Rewritten a b (o ∷ os) ws → 0 < length b.own
-rewritten_some a b o os ws r = some b.own (ap (λ u. touches u o) r.holds.own ∙ touches-with_writes (with_locks (state_of a) a.own (o ∷ os)) ws o ∙ touches-with_locks (state_of a) a.own (o ∷ os) o (inr (inl refl)))
+rewritten_some a b o os ws r =
+    some b.own (ap (λ u. touches u o) r.holds.own ∙ touches-with_writes (with_locks (state_of a) a.own (o ∷ os)) ws o
+    ∙ touches-with_locks (state_of a) a.own (o ∷ os) o (inr (inl refl)))
   where
     some : (own : Writes) → touches own o ≡ true → 0 < length own
     some [] t = absurd (cc)
     some (w ∷ own) t = omega arith
 
-module _ {Fits : Map → Type 0} {change : Map → Map} (old new : InSection) (head : ℕ) (none : old.own ≡ []) (l : IsLawful (state_of old)) (d : Changed old new head Fits change) where
+module _ {Fits : Map → Type 0} {change : Map → Map} (old new : InSection) (head : ℕ) (none : old.own ≡ []) (l : IsLawful (state_of old))
+    (d : Changed old new head Fits change) where
   -- after one change of a section that held nothing, exactly what it writes is held
   pub own_one : new.own ≡ d.way.writes (state_of old)
   own_one =
-      d.writes.holds.own ∙ ap (λ u. with_writes (with_locks (state_of old) u (d.way.objects ++ d.way.fresh)) (d.way.writes (state_of old))) none ∙ way_own head d.way (state_of old) l d.place d.vacant
+      d.writes.holds.own ∙ ap (λ u. with_writes (with_locks (state_of old) u (d.way.objects ++ d.way.fresh)) (d.way.writes (state_of old))) none
+      ∙ way_own head d.way (state_of old) l d.place d.vacant
 
   pub snapshot_one : snapshot_of new ≡ state_of old
   snapshot_one = d.writes.holds.snapshot ∙ sym (reads_snapshot old none)
@@ -111,7 +117,8 @@ module _ (old new : InSection) (head k v : ℕ) (lh : head < 180) (lk : k < 2 ^ 
       fit_one old new head none l d (tag_of (Del (name_of head) k)) (del_fit head k v d.way (state_of old) lh lk l d.place d.vacant)
 
 -- A move: a del, and then an add of the key with its value to a set of another name.
-pub moved_fit : (old mid new : InSection) (h g k v : ℕ) → h < 180 → g < 180 → name_of h ≢ name_of g → k < 2 ^ 32 → old.own ≡ [] → IsLawful (state_of old) → KeyRemoved old mid h k v → KeyAdded mid new g k v → IsFit IsSetCommit (snapshot_of new) (tag_of (Move (name_of h) (name_of g) k)) new.own
+pub moved_fit : (old mid new : InSection) (h g k v : ℕ) → h < 180 → g < 180 → name_of h ≢ name_of g → k < 2 ^ 32 → old.own ≡ [] → IsLawful (state_of old)
+    → KeyRemoved old mid h k v → KeyAdded mid new g k v → IsFit IsSetCommit (snapshot_of new) (tag_of (Move (name_of h) (name_of g) k)) new.own
 moved_fit old mid new h g k v lh lg apart lk none l d a =
     let s : State = state_of old in
     let t : State = written (state_of old) (d.way.writes (state_of old)) in
@@ -123,4 +130,5 @@ moved_fit old mid new h g k v lh lg apart lk none l d a =
     ∙ ap (λ u. with_writes (with_locks u mid.own (a.way.objects ++ a.way.fresh)) (a.way.writes u)) same
     ∙ ap (λ w. with_writes (with_locks t w (a.way.objects ++ a.way.fresh)) (a.way.writes t)) (own_one old mid h none l d) in
     let snapshot : snapshot_of new ≡ s = a.writes.holds.snapshot ∙ snapshot_one old mid h none l d in
-    subst (λ u. IsFit IsSetCommit u (tag_of (Move (name_of h) (name_of g) k)) new.own) (sym snapshot) (subst (λ w. IsFit IsSetCommit s (tag_of (Move (name_of h) (name_of g) k)) w) (sym own) fit)
+    subst (λ u. IsFit IsSetCommit u (tag_of (Move (name_of h) (name_of g) k)) new.own) (sym snapshot)
+    (subst (λ w. IsFit IsSetCommit s (tag_of (Move (name_of h) (name_of g) k)) w) (sym own) fit)

@@ -1,5 +1,7 @@
 -- The steps of a search along a list.
-use Rattle.std.proofs.Common.{◌≡◌, ◌≢◌, ℕ, suc, ◌-◌, ◌^◌, ◌<◌, ◌≤◌, ◌⊎◌, inl, inr, Bool, true, false, cond, not, ◌&&◌, eqb, List, [], ◌∷◌, ◌++◌, length, refl, sym, ap, ◌∙◌, subst, arith, ne_eqb, lt-ltb, le-ltb, append_assoc, Some, None}
+use Rattle.std.proofs.Common.{◌≡◌, ◌≢◌, ℕ, suc, ◌-◌, ◌^◌, ◌<◌, ◌≤◌, ◌⊎◌, inl, inr, Bool, true, false, cond, not}
+use Rattle.std.proofs.Common.{◌&&◌, eqb, List, [], ◌∷◌, ◌++◌, length, refl, sym, ap, ◌∙◌, subst, arith, ne_eqb, lt-ltb, le-ltb}
+use Rattle.std.proofs.Common.{append_assoc, Some, None}
 use Rattle.mv_history.specs.State.{State}
 use Rattle.mv_history.specs.Meaning.{words_at}
 use Rattle.set_script.specs.Catalogue.{has_key, value_of, next_key}
@@ -28,10 +30,12 @@ pub record IsAhead (s : State) (head k node : ℕ) (front : Nodes) (b : Node) (r
   pub has : key s node ≡ b.key
   pub leads : link s node ≡ first_of rest
 
-pub walk_next : (s : State) (head k node : ℕ) → IsWalk s head k node → node ≢ 0 → (b : Node) × (rest : Nodes) × (front : Nodes) × IsAhead s head k node front b rest
+pub walk_next : (s : State) (head k node : ℕ) → IsWalk s head k node → node ≢ 0
+    → (b : Node) × (rest : Nodes) × (front : Nodes) × IsAhead s head k node front b rest
 walk_next s head k node w n = go w.front w.rest w.list w.under w.here
   where
-    go : (front rest : Nodes) → IsList s head (front ++ rest) → IsUnder k front → node ≡ first_of rest → (b : Node) × (rest : Nodes) × (front : Nodes) × IsAhead s head k node front b rest
+    go : (front rest : Nodes) → IsList s head (front ++ rest) → IsUnder k front → node ≡ first_of rest
+        → (b : Node) × (rest : Nodes) × (front : Nodes) × IsAhead s head k node front b rest
     go front [] l u e = absurd (n e)
     go front (b ∷ rest) l u e =
         let lk : Links s head (b ∷ rest) = Links-right s head front (b ∷ rest) l.links in (
@@ -83,7 +87,8 @@ pub walk_falls : (s : State) (head k node : ℕ) → IsWalk s head k node → no
 walk_falls s head k node w n =
     let r = walk_next s head k node w n in go r.0 r.1 r.3.links r.3.rising r.3.has r.3.leads
   where
-    go : (b : Node) (rest : Nodes) → Links s head (b ∷ rest) → IsRising (b ∷ rest) → key s node ≡ b.key → link s node ≡ first_of rest → walk_left s (link s node) < walk_left s node
+    go : (b : Node) (rest : Nodes) → Links s head (b ∷ rest) → IsRising (b ∷ rest) → key s node ≡ b.key → link s node ≡ first_of rest
+        → walk_left s (link s node) < walk_left s node
     go b [] l r e f =
         let a : walk_left s (link s node) ≡ 0 = ap (walk_left s) f ∙ left_end s in
         let c : walk_left s node ≡ 2 ^ 32 - key s node = left_at s node n in
@@ -138,7 +143,8 @@ module _ (s : State) (head k node : ℕ) (w : IsWalk s head k node) (n : node �
       go : (t : Bool) → eqb there.0.key k ≡ t → has_key k (entries_of (there.0 ∷ there.1)) ≡ eqb (key s node) k
       go true q = ap (λ (u : Bool). cond u true (has_key k (entries_of there.1))) q ∙ sym (ap (λ j. eqb j k) key_is ∙ q)
       go false q =
-          ap (λ (u : Bool). cond u true (has_key k (entries_of there.1))) q ∙ has_key-above k (entries_of there.1) (IsAboveKey-entries k there.1 above) ∙ sym (ap (λ j. eqb j k) key_is ∙ q)
+          ap (λ (u : Bool). cond u true (has_key k (entries_of there.1))) q ∙ has_key-above k (entries_of there.1) (IsAboveKey-entries k there.1 above)
+          ∙ sym (ap (λ j. eqb j k) key_is ∙ q)
 
   walk_value : value_of k (map_at s head) ≡ cond (eqb (key s node) k) (Some (value s node)) None
   walk_value =
@@ -149,19 +155,22 @@ module _ (s : State) (head k node : ℕ) (w : IsWalk s head k node) (n : node �
           ap (λ (u : Bool). cond u (Some there.0.value) (value_of k (entries_of there.1))) q ∙ ap Some (sym value_is)
           ∙ sym (ap (λ (u : Bool). cond u (Some (value s node)) None) (ap (λ j. eqb j k) key_is ∙ q))
       go false q =
-          ap (λ (u : Bool). cond u (Some there.0.value) (value_of k (entries_of there.1))) q ∙ value_of-above k (entries_of there.1) (IsAboveKey-entries k there.1 above)
+          ap (λ (u : Bool). cond u (Some there.0.value) (value_of k (entries_of there.1))) q
+          ∙ value_of-above k (entries_of there.1) (IsAboveKey-entries k there.1 above)
           ∙ sym (ap (λ (u : Bool). cond u (Some (value s node)) None) (ap (λ j. eqb j k) key_is ∙ q))
 
   walk_least : next_key k (map_at s head) ≡ Some (key s node)
   walk_least =
       ap (next_key k) map_is ∙ next_key-behind k there.2 (there.0 ∷ there.1) there.3.under
-      ∙ ap (λ (b : Bool). cond b (next_key k (entries_of there.1)) (Some there.0.key)) (le-ltb there.0.key k (let e = key_is in omega arith)) ∙ ap Some (sym key_is)
+      ∙ ap (λ (b : Bool). cond b (next_key k (entries_of there.1)) (Some there.0.key)) (le-ltb there.0.key k (let e = key_is in omega arith))
+      ∙ ap Some (sym key_is)
 
 -- and at the end
 walk_whole : (s : State) (head k node : ℕ) → IsWalk s head k node → node ≡ 0 → (front : Nodes) × IsUnder k front × (map_at s head ≡ entries_of (front ++ []))
 walk_whole s head k node w z = go w.front w.rest w.list w.under (sym z ∙ w.here)
   where
-    go : (front rest : Nodes) → IsList s head (front ++ rest) → IsUnder k front → 0 ≡ first_of rest → (front : Nodes) × IsUnder k front × (map_at s head ≡ entries_of (front ++ []))
+    go : (front rest : Nodes) → IsList s head (front ++ rest) → IsUnder k front → 0 ≡ first_of rest
+        → (front : Nodes) × IsUnder k front × (map_at s head ≡ entries_of (front ++ []))
     go front [] l u e = (front, u, map_at-list s head (front ++ []) l)
     go front (b ∷ rest) l u e = let g : 180 ≤ b.object = (Links-right s head front (b ∷ rest) l.links).0 in absurd (omega arith)
 
@@ -194,12 +203,14 @@ spot_start s t head k w l lh e f = record {
 pub ahead_in_range : (s t : State) (head k previous : ℕ) (words : List ℕ) → IsSpotLoop s t head k previous words → word 3 words ≢ 0 → word 3 words < length t
 ahead_in_range s t head k previous words i n = subst (λ (v : State). word 3 words < length v) (sym i.same) (walk_in_range s head k (word 3 words) i.walk n)
 
-pub ahead_fits : (s t : State) (head k previous : ℕ) (words : List ℕ) → IsLawful s → IsSpotLoop s t head k previous words → word 3 words ≢ 0 → word 3 words < 2 ^ 32
+pub ahead_fits : (s t : State) (head k previous : ℕ) (words : List ℕ) → IsLawful s → IsSpotLoop s t head k previous words → word 3 words ≢ 0
+    → word 3 words < 2 ^ 32
 ahead_fits s t head k previous words l i n =
     let few : length s ≤ 65535 = l.few in let lt : word 3 words < length s = walk_in_range s head k (word 3 words) i.walk n in omega arith
 
 -- The words `next` are those of the node that `words` lead to.
-module _ (s t : State) (head k previous : ℕ) (words next : List ℕ) (i : IsSpotLoop s t head k previous words) (n : word 3 words ≢ 0) (e : next ≡ words_at t (word 3 words)) where
+module _ (s t : State) (head k previous : ℕ) (words next : List ℕ) (i : IsSpotLoop s t head k previous words) (n : word 3 words ≢ 0)
+    (e : next ≡ words_at t (word 3 words)) where
   read : next ≡ words_at s (word 3 words)
   read = e ∙ ap (λ (v : State). words_at v (word 3 words)) i.same
 
@@ -255,10 +266,12 @@ module _ (s t : State) (head k previous : ℕ) (words next : List ℕ) (i : IsSp
             ap (λ (u : Bool). cond u (Some (word 5 next)) None) test ∙ ap (λ (v : List ℕ). cond (eqb (key s (word 3 words)) k) (Some (word 5 v)) None) read
             ∙ sym (walk_value s head k (word 3 words) i.walk n above);
         least =
-            ap (λ (u : Bool). cond u None (Some (word 2 next))) (ne_eqb (word 3 words) 0 n) ∙ ap Some ky ∙ sym (walk_least s head k (word 3 words) i.walk n above);
+            ap (λ (u : Bool). cond u None (Some (word 2 next))) (ne_eqb (word 3 words) 0 n) ∙ ap Some ky
+            ∙ sym (walk_least s head k (word 3 words) i.walk n above);
       }
 
-pub spot_end : (s t : State) (head k previous : ℕ) (words : List ℕ) → IsSpotLoop s t head k previous words → word 3 words ≡ 0 → IsSpot s head k previous words 0 (0 ∷ 0 ∷ 0 ∷ 0 ∷ 0 ∷ 0 ∷ [])
+pub spot_end : (s t : State) (head k previous : ℕ) (words : List ℕ) → IsSpotLoop s t head k previous words → word 3 words ≡ 0
+    → IsSpot s head k previous words 0 (0 ∷ 0 ∷ 0 ∷ 0 ∷ 0 ∷ 0 ∷ [])
 spot_end s t head k previous words i e =
     let w = walk_whole s head k (word 3 words) i.walk e in
     record {

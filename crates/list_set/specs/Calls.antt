@@ -50,14 +50,16 @@ IsCause may_refuse found_held old new o (Rival rival) = ⊥
 IsCause may_refuse found_held old new o (LogFull holder) = ⊥
 
 -- The object is not held, and its lock was refused, which left the section as it was.
-pub record IsRefused (may_refuse : Type 0) (found_held : InSection → InSection → ℕ → ℕ → Type 0) (old new : InSection) (object : ℕ) (cause : Cause) : Type 0 where
+pub record IsRefused (may_refuse : Type 0) (found_held : InSection → InSection → ℕ → ℕ → Type 0) (old new : InSection) (object : ℕ)
+    (cause : Cause) : Type 0 where
   pub unheld : Lacks old object
   pub goes_on : GoesOn old new
   pub as_before : IsAsBefore old new
   pub why : IsCause may_refuse found_held old new object cause
 
 -- What a refusal leaves: of these objects it holds those before the one whose lock was refused, and its state is as before.
-pub record Refuses (may_refuse : Type 0) (found_held : InSection → InSection → ℕ → ℕ → Type 0) (old new : InSection) (objects : List ℕ) (cause : Cause) : Type 0 where
+pub record Refuses (may_refuse : Type 0) (found_held : InSection → InSection → ℕ → ℕ → Type 0) (old new : InSection) (objects : List ℕ)
+    (cause : Cause) : Type 0 where
   pub held : List ℕ
   pub object : ℕ
   pub rest : List ℕ

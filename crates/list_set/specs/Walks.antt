@@ -1,5 +1,6 @@
 -- A walk along a list that looks for a key.
-use Rattle.std.specs.Prelude.{ℕ, suc, ◌≡◌, ◌+◌, ◌-◌, ◌^◌, ◌<◌, ◌≤◌, ◌⊎◌, ◌==◌, ◌&&◌, not, ⊤, List, [], ◌∷◌, ◌++◌, length, slice_index_or, Some, None, if◌then◌else◌}
+use Rattle.std.specs.Prelude.{ℕ, suc, ◌≡◌, ◌+◌, ◌-◌, ◌^◌, ◌<◌, ◌≤◌, ◌⊎◌, ◌==◌, ◌&&◌, not, ⊤, List, []}
+use Rattle.std.specs.Prelude.{◌∷◌, ◌++◌, length, slice_index_or, Some, None, if◌then◌else◌}
 use Rattle.mv_history.specs.State.{State}
 use Rattle.mv_history.specs.Meaning.{words_at}
 use Rattle.set_script.specs.Catalogue.{has_key, value_of, next_key}

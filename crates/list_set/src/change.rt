@@ -13,7 +13,9 @@ use mv_history::{LockAnswer, Section, Words};
 fn hold<S: Section>(section: &mut S, object: u32) -> Result<(), Cause>
     requires in_range { object < length (state_of (S.section section.old)) }
     requires room { HasRoom (S.section section.old) (object ∷ []) }
-    ensures held { OnOk result (HoldsMore (S.section section.old) (S.section section.new) (object ∷ []) (with_locks (state_of (S.section section.old)) (S.section section.old).own (object ∷ []))) }
+    ensures held { OnOk result
+        (HoldsMore (S.section section.old) (S.section section.new) (object ∷ [])
+        (with_locks (state_of (S.section section.old)) (S.section section.old).own (object ∷ []))) }
     ensures refused { IfErr result (λ cause. IsRefused S.may_refuse S.found_held (S.section section.old) (S.section section.new) object cause) }
 {
     match section.try_lock(object) {

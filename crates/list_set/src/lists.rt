@@ -105,11 +105,13 @@ pub fn add_in<S: Section>(section: &mut S, head: u32, key: u32, value: u64, node
     requires node_in { 180 ≤ node }
     requires in_range { node < length (state_of (S.section section.old)) }
     requires vacant { owner (state_of (S.section section.old)) node ≡ 0 }
-    requires room { (previous : ℕ) → IsAddPlace (state_of (S.section section.old)) head key previous → HasRoom (S.section section.old) (previous ∷ node ∷ []) }
+    requires room { (previous : ℕ) → IsAddPlace (state_of (S.section section.old)) head key previous
+        → HasRoom (S.section section.old) (previous ∷ node ∷ []) }
     ensures no { (result ≡ No) ↔ (has_key key (map_at (state_of (S.section section.old)) head) ≡ true) }
     ensures unchanged { result ≡ No → S.as_before section.old section.new }
     ensures yes { result ≡ Yes → Adds (S.section section.old) (S.section section.new) head key value node }
-    ensures again { (cause : Cause) → result ≡ Again cause → (previous : ℕ) × IsAddPlace (state_of (S.section section.old)) head key previous × Refuses S.may_refuse S.found_held (S.section section.old) (S.section section.new) (previous ∷ node ∷ []) cause }
+    ensures again { (cause : Cause) → result ≡ Again cause → (previous : ℕ) × IsAddPlace (state_of (S.section section.old)) head key previous
+        × Refuses S.may_refuse S.found_held (S.section section.old) (S.section section.new) (previous ∷ node ∷ []) cause }
 {
     let spot = find(section, head, key);
     if spot.has(key) {
@@ -144,7 +146,8 @@ pub fn put_in<S: Section>(section: &mut S, head: u32, key: u32, value: u64) -> S
     ensures no { (result ≡ No) ↔ (value_of key (map_at (state_of (S.section section.old)) head) ≡ Some value) }
     ensures unchanged { result ≡ No → S.as_before section.old section.new }
     ensures yes { result ≡ Yes → Puts (S.section section.old) (S.section section.new) head key value }
-    ensures again { (cause : Cause) → result ≡ Again cause → (node : ℕ) × IsPutPlace (state_of (S.section section.old)) head key node × Refuses S.may_refuse S.found_held (S.section section.old) (S.section section.new) (node ∷ []) cause }
+    ensures again { (cause : Cause) → result ≡ Again cause → (node : ℕ) × IsPutPlace (state_of (S.section section.old)) head key node
+        × Refuses S.may_refuse S.found_held (S.section section.old) (S.section section.new) (node ∷ []) cause }
 {
     let spot = find(section, head, key);
     let mut words = spot.node_words;
@@ -177,11 +180,14 @@ pub fn put_in<S: Section>(section: &mut S, head: u32, key: u32, value: u64) -> S
 pub fn del_in<S: Section>(section: &mut S, head: u32, key: u32) -> Removed
     requires head_in { head < 170 }
     requires lawful { IsLawful (state_of (S.section section.old)) }
-    requires room { (previous node : ℕ) → IsDelPlace (state_of (S.section section.old)) head key previous node → HasRoom (S.section section.old) (previous ∷ node ∷ []) }
+    requires room { (previous node : ℕ) → IsDelPlace (state_of (S.section section.old)) head key previous node
+        → HasRoom (S.section section.old) (previous ∷ node ∷ []) }
     ensures absent { (result ≡ Absent) ↔ (has_key key (map_at (state_of (S.section section.old)) head) ≡ false) }
     ensures unchanged { result ≡ Absent → S.as_before section.old section.new }
     ensures took { (node inner : ℕ) → result ≡ Took node inner → (inner ≡ 0) × Takes (S.section section.old) (S.section section.new) head key node }
-    ensures again { (cause : Cause) → result ≡ DelAgain cause → (previous node : ℕ) × IsDelPlace (state_of (S.section section.old)) head key previous node × Refuses S.may_refuse S.found_held (S.section section.old) (S.section section.new) (previous ∷ node ∷ []) cause }
+    ensures again { (cause : Cause) → result ≡ DelAgain cause
+        → (previous node : ℕ) × IsDelPlace (state_of (S.section section.old)) head key previous node
+        × Refuses S.may_refuse S.found_held (S.section section.old) (S.section section.new) (previous ∷ node ∷ []) cause }
 {
     let spot = find(section, head, key);
     if !spot.has(key) {

@@ -21,11 +21,14 @@ all_own n (Rest by ∷ es) one all =
 all_own n (Change c ∷ es) one all =
     let first = All-head (λ e. maker_of e < 1) (Change c) es all in
     let rest = all_own n es one (All-tail (λ e. maker_of e < 1) (Change c) es all) in
-    let is : length (commits_of n (Change c ∷ es)) ≡ length (c ∷ commits_of n es) = ap (λ (b : Bool). length (if b then c ∷ commits_of n es else commits_of n es)) (eq-eqb c.seat n (omega arith)) in
+    let is : length (commits_of n (Change c ∷ es)) ≡ length (c ∷ commits_of n es) =
+    ap (λ (b : Bool). length (if b then c ∷ commits_of n es else commits_of n es)) (eq-eqb c.seat n (omega arith)) in
     omega arith
 
-pub alone_seen : (starts : State → Type 0) (allows : List ℕ → State → Writes → Type 0) (w : View) (seats : ℕ) → ∥ Known starts allows w ∥₁ → w.number < seats → All (λ e. maker_of e < seats) w.past.seen → seats ≡ 1 → length w.past.seen ≡ length w.past.mine + w.past.rests
+pub alone_seen : (starts : State → Type 0) (allows : List ℕ → State → Writes → Type 0) (w : View) (seats : ℕ) → ∥ Known starts allows w ∥₁ → w.number < seats
+    → All (λ e. maker_of e < seats) w.past.seen → seats ≡ 1 → length w.past.seen ≡ length w.past.mine + w.past.rests
 alone_seen starts allows w seats known own makers one =
     let all : All (λ e. maker_of e < 1) w.past.seen = subst (λ (n : ℕ). All (λ e. maker_of e < n) w.past.seen) one makers in
     let sum = all_own w.number w.past.seen (omega arith) all in
-    ∥∥₁_elim known (hlevel props) (λ a. let mine : length w.past.mine ≡ length (commits_of w.number w.past.seen) = ap length a.mine in let rests = a.rests in omega arith)
+    ∥∥₁_elim known (hlevel props) (λ a. let mine : length w.past.mine ≡ length (commits_of w.number w.past.seen) = ap length a.mine in
+    let rests = a.rests in omega arith)

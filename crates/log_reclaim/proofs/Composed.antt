@@ -16,7 +16,8 @@ shrinks_then k l m freed more p q = record {
   notes = λ i n at.
       let b = q.notes i n at in
       let a = p.notes (i + more) b.0 b.1 in
-      let there : IsNoteAt k (i + (freed + more)) a.0 = subst (λ (j : ℕ). IsNoteAt k j a.0) (let e : i + more + freed ≡ i + (freed + more) = omega arith in e) a.1 in
+      let there : IsNoteAt k (i + (freed + more)) a.0 =
+      subst (λ (j : ℕ). IsNoteAt k j a.0) (let e : i + more + freed ≡ i + (freed + more) = omega arith in e) a.1 in
       (a.0, there, dies_then a.0 b.0 n a.2 b.2);
   rest = (let far : l.freed + more ≡ k.freed + (freed + more) = (let e = ap (λ (x : Noted). x.freed) p.rest in omega arith) in
       q.rest ∙ ap (λ (x : Noted). record x { live = m.live; freed = l.freed + more; back = m.back; rests = m.rests }) p.rest

@@ -158,7 +158,10 @@ module _ (c : Config) (v : View) (l : Noted) (b : Back) (k : Stands c v l) (is :
         unfolding cut_view
         stands_then =
             subst (λ (t : View × Noted). Stands c t.0 t.1)
-            (sym (λ q. ((left ∙ ap (mark_cleared c) (loaded.2 ∙ ap (λ (u : View). death_loaded c u word loaded.0) cut_is)) q, (log ∙ ap (λ (p : ℕ). back_noted (retired l p (clock_time_of word + 1))) (sym place)) q)))
+            (sym (λ q. (
+              (left ∙ ap (mark_cleared c) (loaded.2 ∙ ap (λ (u : View). death_loaded c u word loaded.0) cut_is)) q,
+              (log ∙ ap (λ (p : ℕ). back_noted (retired l p (clock_time_of word + 1))) (sym place)) q,
+            )))
             (stands_cut c v l noted.index n is.note k noted.at here alive word loaded.0)
 
   -- the exchange was lost to a link

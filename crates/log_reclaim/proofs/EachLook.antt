@@ -23,11 +23,15 @@ use Rattle.log_reclaim.proofs.Reclaiming.{reclaims_none, reclaims_on, reclaims_m
 use Rattle.log_reclaim.proofs.Untimed.{untimed_on, untimed_then, dated_on, dated_then}
 
 -- a death that comes from none but the steps after it comes from where the first did
-dated_both : (w : View) (made : List Step) (top : ℕ) (back : Bool) (old was n : Note) → DatedSo w made top back old was → DatedSo w made top back was n → DatedSo w made top back old n
-dated_both w made top back old was n a b = ⊎_elim (λ same. subst (λ d. (d ≡ old.dead) ⊎ ((d ≤ w.base + length w.past.seen) ⊎ ((back ≡ true) × (d ≤ top + 1) × TimesDeath made d))) (sym same) a) inr b
+dated_both : (w : View) (made : List Step) (top : ℕ) (back : Bool) (old was n : Note) → DatedSo w made top back old was → DatedSo w made top back was n
+    → DatedSo w made top back old n
+dated_both w made top back old was n a b =
+    ⊎_elim (λ same. subst (λ d. (d ≡ old.dead) ⊎ ((d ≤ w.base + length w.past.seen) ⊎ ((back ≡ true) × (d ≤ top + 1) × TimesDeath made d))) (sym same) a) inr b
 
 -- before the first
-pub settles_first : (starts : State → Type 0) (allows : List ℕ → State → Writes → Type 0) (c : Config) (v : View) (l : Noted) (mark : Watermark) (clock : ℕ) (back : Bool) (found : Found) → ∥ Known starts allows v ∥₁ → MaySettle v l mark clock → IsTableOf l found → Settles c v v l l [] mark clock back found clock 0
+pub settles_first : (starts : State → Type 0) (allows : List ℕ → State → Writes → Type 0) (c : Config) (v : View) (l : Noted) (mark : Watermark) (clock : ℕ)
+    (back : Bool) (found : Found) → ∥ Known starts allows v ∥₁ → MaySettle v l mark clock → IsTableOf l found
+    → Settles c v v l l [] mark clock back found clock 0
 settles_first starts allows c v l mark clock back found known may table = record {
   reclaims = reclaims_none v may.outside (still_of starts allows v known may.outside.outside);
   rests = refl;
@@ -43,7 +47,9 @@ settles_first starts allows c v l mark clock back found known may table = record
 }
 
 -- what has been looked at so far, and one version more
-module _ (c : Config) (v u w : View) (l m p : Noted) (made more : List Step) (mark : Watermark) (clock : ℕ) (back : Bool) (old found : Found) (top one index : ℕ) (may : MaySettle v l mark clock) (k : Stands c w p) (s : Settles c v u l m made mark clock back old top index) (o : SettlesOne c u w m p more mark clock back old found index one) where
+module _ (c : Config) (v u w : View) (l m p : Noted) (made more : List Step) (mark : Watermark) (clock : ℕ) (back : Bool) (old found : Found)
+    (top one index : ℕ) (may : MaySettle v l mark clock) (k : Stands c w p) (s : Settles c v u l m made mark clock back old top index)
+    (o : SettlesOne c u w m p more mark clock back old found index one) where
   low_seen : mark.low ≤ u.base + length u.past.seen
   low_seen =
       let same = reclaims_base v u made s.reclaims in
@@ -66,13 +72,15 @@ module _ (c : Config) (v u w : View) (l m p : Noted) (made more : List Step) (ma
         b.0,
         b.1,
         dies_then b.0 t.0 n b.2 t.2,
-        dated_both w (made ++ more) (max top one) back b.0 t.0 n (dated_on c u w made more o.reclaims top (max top one) back b.0 t.0 (omega arith) b.3) (dated_then w made more one (max top one) back t.0 n (omega arith) t.3),
+        dated_both w (made ++ more) (max top one) back b.0 t.0 n (dated_on c u w made more o.reclaims top (max top one) back b.0 t.0 (omega arith) b.3)
+            (dated_then w made more one (max top one) back t.0 n (omega arith) t.3),
       )
 
   notes_now : (i : ℕ) (n : Note) → IsNoteAt p i n → (a : Note) × IsNoteAt l i a × DiesFrom a n × DatedSo w (made ++ more) (max top one) back a n
   notes_now i n at =
       dite (ℕ_discrete i index)
-      (λ e. subst (λ j. (a : Note) × IsNoteAt l j a × DiesFrom a n × DatedSo w (made ++ more) (max top one) back a n) (sym e) (note_here n (subst (λ j. IsNoteAt p j n) e at)))
+      (λ e. subst (λ j. (a : Note) × IsNoteAt l j a × DiesFrom a n × DatedSo w (made ++ more) (max top one) back a n) (sym e)
+      (note_here n (subst (λ j. IsNoteAt p j n) e at)))
       (λ ne. note_else i n at ne)
 
   -- the log's oldest position stays
@@ -87,7 +95,8 @@ module _ (c : Config) (v u w : View) (l m p : Noted) (made more : List Step) (ma
       let before = s.untimed i n (o.others i n at ne) (omega arith) none in
       let place : n.position ≡ m.freed + i = k.log.notes.position i n at ∙ ap (λ f. f + i) (ap (λ (x : Noted). x.freed) o.log) in
       let same : found_at old n.position ≡ found_at found n.position = ap (found_at old) place ∙ sym (o.kept i ne) ∙ ap (found_at found) (sym place) in
-      subst (StaysUntimed c w (made ++ more) mark clock back n) same (untimed_on c u w made more o.reclaims mark clock n back (found_at old n.position) low_seen before))
+      subst (StaysUntimed c w (made ++ more) mark clock back n) same
+      (untimed_on c u w made more o.reclaims mark clock n back (found_at old n.position) low_seen before))
 
   top_seen : max top one ≤ w.base + length w.past.seen
   top_seen =
@@ -113,7 +122,8 @@ module _ (c : Config) (v u w : View) (l m p : Noted) (made more : List Step) (ma
   }
 
 -- the next version may be looked at
-pub settles_may : (c : Config) (v w : View) (l p : Noted) (made : List Step) (mark : Watermark) (clock : ℕ) (back : Bool) (found : Found) (top done : ℕ) → MaySettle v l mark clock → Settles c v w l p made mark clock back found top done → MaySettle w p mark clock
+pub settles_may : (c : Config) (v w : View) (l p : Noted) (made : List Step) (mark : Watermark) (clock : ℕ) (back : Bool) (found : Found) (top done : ℕ)
+    → MaySettle v l mark clock → Settles c v w l p made mark clock back found top done → MaySettle w p mark clock
 settles_may c v w l p made mark clock back found top done may s = record {
   outside = reclaims_may v w made s.reclaims;
   known = (let grace = s.reclaims.grace in let was = may.known in omega arith);
@@ -124,5 +134,6 @@ settles_may c v w l p made mark clock back found top done may s = record {
 }
 
 -- and the table is the log's
-pub settles_table : (c : Config) (v w : View) (l p : Noted) (made : List Step) (mark : Watermark) (clock : ℕ) (back : Bool) (found : Found) (top done : ℕ) → Settles c v w l p made mark clock back found top done → IsTableOf p found
+pub settles_table : (c : Config) (v w : View) (l p : Noted) (made : List Step) (mark : Watermark) (clock : ℕ) (back : Bool) (found : Found) (top done : ℕ)
+    → Settles c v w l p made mark clock back found top done → IsTableOf p found
 settles_table c v w l p made mark clock back found top done s = (s.table.0 ∙ sym (ap (λ (x : Noted). x.freed) s.log), s.table.1)

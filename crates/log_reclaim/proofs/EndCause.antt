@@ -19,15 +19,19 @@ use Rattle.log_reclaim.proofs.ScanCauses.{end_found}
 use Rattle.log_reclaim.proofs.Needed.{death_known}
 
 -- no time is above the last
-pub time_in_range : (starts : State → Type 0) (allows : List ℕ → State → Writes → Type 0) (w : View) → ∥ Known starts allows w ∥₁ → w.base + length w.past.seen ≤ 35184372088831
+pub time_in_range : (starts : State → Type 0) (allows : List ℕ → State → Writes → Type 0) (w : View) → ∥ Known starts allows w ∥₁
+    → w.base + length w.past.seen ≤ 35184372088831
 time_in_range starts allows w known = ∥∥₁_elim known le_prop (λ a. a.in_time)
 
 -- a load of CLOCK that timed a death after the last time found that
 timed_found : (made : List Step) (dead : ℕ) → TimesDeath made dead → dead ≡ 35184372088832 → FindsLast made
-timed_found made dead t is = record { step = t.step; there = t.there; clock = t.clock; word = t.word; found = t.found; last = (let e = t.dead_is in omega arith) }
+timed_found made dead t is =
+    record { step = t.step; there = t.there; clock = t.clock; word = t.word; found = t.found; last = (let e = t.dead_is in omega arith) }
 
-module _ (starts : State → Type 0) (allows : List ℕ → State → Writes → Type 0) (c : Config) (v w : View) (l m : Noted) (made : List Step) (back : Bool) (scanned : Scanned) (found : Found) (freed : ℕ)
-    (k : Sweeps c v w l m made back scanned found freed) (stands : Stands c v l) (before : ∥ Known starts allows v ∥₁) (after : ∥ Known starts allows w ∥₁) where
+module _ (starts : State → Type 0) (allows : List ℕ → State → Writes → Type 0) (c : Config) (v w : View) (l m : Noted) (made : List Step) (back : Bool)
+    (scanned : Scanned) (found : Found) (freed : ℕ)
+    (k : Sweeps c v w l m made back scanned found freed) (stands : Stands c v l) (before : ∥ Known starts allows v ∥₁)
+    (after : ∥ Known starts allows w ∥₁) where
   pub end_cause : (i : ℕ) (n : Note) → IsNoteAt m i n → 35184372088831 < n.dead → FindsLast made
   end_cause i n at late =
       let r = k.notes i n at in

@@ -37,14 +37,16 @@ none_exchanged (s ∷ made) h =
 
 -- the exchanges of two parts are those of the one and those of the other
 exchanges_both : (made more : List Step) → length (clock_exchanges (made ++ more)) ≡ length (clock_exchanges made) + length (clock_exchanges more)
-exchanges_both made more = ap length (filter-append (λ (s : Step). is_clock_exchange s.kind) made more) ∙ length-append (clock_exchanges made) (clock_exchanges more)
+exchanges_both made more =
+    ap length (filter-append (λ (s : Step). is_clock_exchange s.kind) made more) ∙ length-append (clock_exchanges made) (clock_exchanges more)
 
 -- none in two parts
 pub none_both : (made more : List Step) → clock_exchanges made ≡ [] → clock_exchanges more ≡ [] → length (clock_exchanges (made ++ more)) ≤ 1
 none_both made more a b = let both = exchanges_both made more in let first = ap length a in let then = ap length b in omega arith
 
 -- at most one in a part between two that have none
-pub one_between : (made rested later : List Step) → clock_exchanges made ≡ [] → length (clock_exchanges rested) ≤ 1 → clock_exchanges later ≡ [] → length (clock_exchanges (made ++ rested ++ later)) ≤ 1
+pub one_between : (made rested later : List Step) → clock_exchanges made ≡ [] → length (clock_exchanges rested) ≤ 1 → clock_exchanges later ≡ []
+    → length (clock_exchanges (made ++ rested ++ later)) ≤ 1
 one_between made rested later a one b =
     let all = exchanges_both (made ++ rested) later in
     let both = exchanges_both made rested in

@@ -22,32 +22,53 @@ use Rattle.log_reclaim.proofs.Sweeping.{left_at}
 
 module _ (v w : View) (l m : Noted) (made : List Step) (t freed : ℕ) (k : FreesAll v w l m made t freed) where
   frees_long : length m.live + freed ≡ length l.live
-  frees_long = let e : length m.live ≡ length (drop freed l.live) = ap (λ (y : Noted). length y.live) k.log in let d = length-drop freed l.live in let few = k.few in omega arith
+  frees_long = let e : length m.live ≡ length (drop freed l.live) = ap (λ (y : Noted). length y.live) k.log in let d = length-drop freed l.live in let few =
+      k.few in omega arith
 
   pub frees_shrinks : Shrinks l m freed
   frees_shrinks = record {
     few = frees_long;
-    notes = λ i n at. (n, subst (λ (j : ℕ). IsNoteAt l j n) (let q : freed + i ≡ i + freed = omega arith in q) (left_at l m freed i n k.log at), record { same = λ _. n; once = λ _ _. n.dead });
-    rest = k.log ∙ (λ i. record l { live = sym (ap (λ (y : Noted). y.live) k.log) i; freed = l.freed + freed; back = sym (ap (λ (y : Noted). y.back) k.log) i; rests = sym (ap (λ (y : Noted). y.rests) k.log) i });
+    notes = λ i n at. (
+      n,
+      subst (λ (j : ℕ). IsNoteAt l j n) (let q : freed + i ≡ i + freed = omega arith in q) (left_at l m freed i n k.log at),
+      record { same = λ _. n; once = λ _ _. n.dead },
+    );
+    rest = k.log
+        ∙ (λ i. record l {
+          live = sym (ap (λ (y : Noted). y.live) k.log) i;
+          freed = l.freed + freed;
+          back = sym (ap (λ (y : Noted). y.back) k.log) i;
+          rests = sym (ap (λ (y : Noted). y.rests) k.log) i;
+        });
   }
 
 -- the frees left nothing
-pub sweeps_all : (c : Config) (v g w : View) (l m : Noted) (one made : List Step) (t freed : ℕ) → Makes v g one → FreesAll g w l m made t freed → length m.live ≡ 0 → SweepsAll c v w l m (one ++ made) freed
+pub sweeps_all : (c : Config) (v g w : View) (l m : Noted) (one made : List Step) (t freed : ℕ) → Makes v g one → FreesAll g w l m made t freed
+    → length m.live ≡ 0 → SweepsAll c v w l m (one ++ made) freed
 sweeps_all c v g w l m one made t freed load k empty =
     let all = makes_on v g w one made load k.makes in
-    record { reclaims = all.reclaims; leaves = leaves_clock (one ++ made) all.kinds; rests = all.rests; shrinks = frees_shrinks g w l m made t freed k; empty = empty }
+    record {
+      reclaims = all.reclaims;
+      leaves = leaves_clock (one ++ made) all.kinds;
+      rests = all.rests;
+      shrinks = frees_shrinks g w l m made t freed k;
+      empty = empty;
+    }
 
 -- they left something, and then the round scanned
-module _ (c : Config) (v g x w : View) (l k m : Noted) (one made more : List Step) (t freed : ℕ) (back : Bool) (scanned : Scanned) (found : Found) (then : ℕ) (load : Makes v g one) (frees : FreesAll g x l k made t freed) (s : Sweeps c x w k m more back scanned found then) where
+module _ (c : Config) (v g x w : View) (l k m : Noted) (one made more : List Step) (t freed : ℕ) (back : Bool) (scanned : Scanned) (found : Found) (then : ℕ)
+    (load : Makes v g one) (frees : FreesAll g x l k made t freed) (s : Sweeps c x w k m more back scanned found then) where
   first : Makes v x (one ++ made)
   first = makes_on v g x one made load frees.makes
 
-  before : (i : ℕ) (n : Note) → IsNoteAt m i n → (old : Note) × IsNoteAt l (i + (freed + then)) old × DiesFrom old n × DatedSo w (one ++ made ++ more) scanned.latest back old n
+  before : (i : ℕ) (n : Note) → IsNoteAt m i n → (old : Note) × IsNoteAt l (i + (freed + then)) old × DiesFrom old n
+      × DatedSo w (one ++ made ++ more) scanned.latest back old n
   before i n at =
       let a = s.notes i n at in
       let le : scanned.latest ≤ scanned.latest = omega arith in (
         a.0,
-        subst (λ (j : ℕ). IsNoteAt l j a.0) (let q : freed + (i + then) ≡ i + (freed + then) = omega arith in q) (left_at l k freed (i + then) a.0 frees.log a.1),
+        subst (λ (j : ℕ). IsNoteAt l j a.0) (let q : freed + (i + then) ≡ i + (freed + then) = omega arith in q)
+            (left_at l k freed (i + then) a.0 frees.log a.1),
         a.2,
         dated_then w (one ++ made) more scanned.latest scanned.latest back a.0 n le a.3,
       )
@@ -62,7 +83,8 @@ module _ (c : Config) (v g x w : View) (l k m : Noted) (one made more : List Ste
         leaves = All-append (λ s. LeavesClock s.kind) (one ++ made) more (leaves_clock (one ++ made) first.kinds) s.leaves;
         rests = s.rests ∙ first.rests;
         shrinks = shrinks_then l k m freed then (frees_shrinks g x l k made t freed frees) s.shrinks;
-        scan = scanned_then (one ++ made) more c v.number scanned.mark scanned.clock (subst (λ (n : ℕ). HasScanned c n more scanned.mark scanned.clock) (reclaims_number v x (one ++ made) r) s.scan);
+        scan = scanned_then (one ++ made) more c v.number scanned.mark scanned.clock
+            (subst (λ (n : ℕ). HasScanned c n more scanned.mark scanned.clock) (reclaims_number v x (one ++ made) r) s.scan);
         known = s.known;
         after = omega arith;
         before = s.before;

@@ -14,7 +14,8 @@ found_set found index above = record found { seats = slice_set found.seats index
 module _ (l : Noted) (found : Found) (index : ℕ) (above : Option ℕ) (table : IsTableOf l found) where
   -- the entry of a place
   read_is : (f : Found) (i : ℕ) → f.base ≡ l.freed → found_at f (l.freed + i) ≡ get_or f.seats i None
-  read_is f i base = unwrap_or-slice_get f.seats (l.freed + i - f.base) None ∙ ap (λ j. get_or f.seats j None) (let e : l.freed + i - f.base ≡ i = omega arith in e)
+  read_is f i base =
+      unwrap_or-slice_get f.seats (l.freed + i - f.base) None ∙ ap (λ j. get_or f.seats j None) (let e : l.freed + i - f.base ≡ i = omega arith in e)
 
   pub table_set : IsTableOf l (found_set found index above)
   table_set = (table.0, length-set found.seats index above ∙ table.1)

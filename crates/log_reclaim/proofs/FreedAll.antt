@@ -1,5 +1,6 @@
 -- Freeing the oldest write set, one after another.
-use Rattle.std.proofs.Common.{◌≡◌, ℕ, zero, suc, ◌+◌, ◌<◌, ◌≤◌, List, [], ◌∷◌, ◌++◌, length, drop, All, refl, sym, ap, ◌∙◌, subst, ⊎_elim, arith, append-nil, append_assoc, length-drop, Some, None}
+use Rattle.std.proofs.Common.{◌≡◌, ℕ, zero, suc, ◌+◌, ◌<◌, ◌≤◌, List, [], ◌∷◌, ◌++◌, length, drop, All, refl, sym, ap}
+use Rattle.std.proofs.Common.{◌∙◌, subst, ⊎_elim, arith, append-nil, append_assoc, length-drop, Some, None}
 use Rattle.std.proofs.lemmas.List.Elements.{All-nil, All-push, All-append, All-weaker}
 use Rattle.mv_history.specs.declared.Step.{Step}
 use Rattle.mv_history.specs.declared.StepKind.{StepKind}
@@ -110,7 +111,8 @@ module _ (c : Config) (v w : View) (l m : Noted) (made : List Step) (freed : ℕ
           few = omega arith;
           log = log
               ∙ ap (λ (x : Noted). freed_noted x count) k.log
-              ∙ (λ i. record l { live = drops freed count l.live i; freed = (let e : l.freed + freed + count ≡ l.freed + (freed + count) = omega arith in e) i });
+              ∙ (λ i. record l
+              { live = drops freed count l.live i; freed = (let e : l.freed + freed + count ≡ l.freed + (freed + count) = omega arith in e) i });
         },
       )
 

@@ -16,7 +16,9 @@ module _ (Causes : Holder → Type 0) (first last : Scanned) (back : Bool) (foun
     (untimed : n.dead ≡ 0 → back ≡ true → Causes (untimed_holder first n (found_at found n.position)))
     (unwritten : n.dead ≡ 0 → back ≡ false → Causes (Fresh n.time)) where
   by_tests : (late above some wrote : Bool) → nat_lt 35184372088831 n.dead ≡ late → nat_lt last.clock n.dead ≡ above → nat_lt 0 n.dead ≡ some → back ≡ wrote
-      → Causes (if late then End else (if above then Fresh n.dead else (if some then by_mark_of last.mark else (if wrote then untimed_holder first n (found_at found n.position) else Fresh n.time))))
+      → Causes (if late then End
+      else (if above then Fresh n.dead
+      else (if some then by_mark_of last.mark else (if wrote then untimed_holder first n (found_at found n.position) else Fresh n.time))))
   by_tests true above some wrote p q r s = ends (ltb-true 35184372088831 n.dead p)
   by_tests false true some wrote p q r s = fresh (ltb-true last.clock n.dead q) (ltb-false 35184372088831 n.dead p)
   by_tests false false true wrote p q r s = marked (ltb-true 0 n.dead r) (ltb-false last.clock n.dead q)

@@ -12,5 +12,6 @@ use Rattle.mv_core.specs.Known.{Known}
 still_once : (v : View) → IsProp ((v.walk ≡ Nowhere) × (v.back ≡ None))
 still_once v = hlevel (props, ⊎_set)
 
-pub still_of : (starts : State → Type 0) (allows : List ℕ → State → Writes → Type 0) (v : View) → ∥ Known starts allows v ∥₁ → v.phase ≡ Outside → (v.walk ≡ Nowhere) × (v.back ≡ None)
+pub still_of : (starts : State → Type 0) (allows : List ℕ → State → Writes → Type 0) (v : View) → ∥ Known starts allows v ∥₁ → v.phase ≡ Outside
+    → (v.walk ≡ Nowhere) × (v.back ≡ None)
 still_of starts allows v known out = ∥∥₁_elim known (still_once v) (λ a. a.still out)

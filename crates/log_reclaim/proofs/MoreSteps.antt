@@ -40,7 +40,8 @@ module _ (before made after : List Step) where
     }
 
     -- and it is the last one where none does
-    pub scanned_more : (mark : Watermark) (clock : ℕ) → All (λ s. BeginsNoScan s.kind) after → HasScanned c own made mark clock → HasScanned c own (before ++ made ++ after) mark clock
+    pub scanned_more : (mark : Watermark) (clock : ℕ) → All (λ s. BeginsNoScan s.kind) after → HasScanned c own made mark clock
+        → HasScanned c own (before ++ made ++ after) mark clock
     scanned_more mark clock none k = record {
       word = k.word;
       clock_is = k.clock_is;
@@ -68,6 +69,8 @@ module _ (before made after : List Step) where
   }
 
 -- other steps were made before a scan
-pub scanned_then : (before made : List Step) (c : Config) (own : ℕ) (mark : Watermark) (clock : ℕ) → HasScanned c own made mark clock → HasScanned c own (before ++ made) mark clock
+pub scanned_then : (before made : List Step) (c : Config) (own : ℕ) (mark : Watermark) (clock : ℕ) → HasScanned c own made mark clock
+    → HasScanned c own (before ++ made) mark clock
 scanned_then before made c own mark clock k =
-    subst (λ (l : List Step). HasScanned c own l mark clock) (append-nil (before ++ made)) (scanned_more before made [] c own mark clock (All-nil (λ s. BeginsNoScan s.kind)) k)
+    subst (λ (l : List Step). HasScanned c own l mark clock) (append-nil (before ++ made))
+    (scanned_more before made [] c own mark clock (All-nil (λ s. BeginsNoScan s.kind)) k)

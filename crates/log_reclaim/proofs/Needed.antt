@@ -31,8 +31,15 @@ next_once base h o t next = hlevel props
 pub next_seen : (base : ℕ) (h : List Entry) (o t : ℕ) → base ≤ t → t < latest base h o → (next : ℕ) × IsNextIn base h o t next
 next_seen base h o t low late =
     let n = next_write base h o t low late in
-    let w = n.1 in
-    (n.0, record { later = w.later; within = (entry-within base h o n.0 w.entry w.there).1; written = latest_at-own base h o n.0 w.entry w.there w.writes; none_between = w.none_between })
+    let w = n.1 in (
+      n.0,
+      record {
+        later = w.later;
+        within = (entry-within base h o n.0 w.entry w.there).1;
+        written = latest_at-own base h o n.0 w.entry w.there w.writes;
+        none_between = w.none_between;
+      },
+    )
 
 -- and it is after a time up to which there is none
 pub next_above : (base : ℕ) (h : List Entry) (o t next low : ℕ) → IsNextIn base h o t next → latest_at base h o low ≤ t → low < next
@@ -79,10 +86,14 @@ module _ (c : Config) (w : View) (l : Noted) (i : ℕ) (n : Note) (k : Stands c 
         (λ none. omega arith)
         (cases_lt 0 n.time)
 
-    next_of_death : (note : CommitNote) → slot_at w.ring (index_of c n.position) ≡ Live (version_of n) (Committed note) → note.cut ≡ false → note.dead ≡ Some n.dead → IsNextIn w.base w.past.seen n.object note.time n.dead
-    next_of_death note lives uncut dead = ∥∥₁_elim known (next_once w.base w.past.seen n.object note.time n.dead) (λ a. (a.commits (index_of c n.position) (version_of n) note lives).superseded n.dead uncut dead)
+    next_of_death : (note : CommitNote) → slot_at w.ring (index_of c n.position) ≡ Live (version_of n) (Committed note) → note.cut ≡ false
+        → note.dead ≡ Some n.dead → IsNextIn w.base w.past.seen n.object note.time n.dead
+    next_of_death note lives uncut dead =
+        ∥∥₁_elim known (next_once w.base w.past.seen n.object note.time n.dead)
+        (λ a. (a.commits (index_of c n.position) (version_of n) note lives).superseded n.dead uncut dead)
 
-    needed : (held : Bool) (st : Status) → slot_at w.ring (index_of c n.position) ≡ Live (version_of n) st → 0 < n.dead → IsAsNoted held n st → Needs w (version_of n) st n.dead
+    needed : (held : Bool) (st : Status) → slot_at w.ring (index_of c n.position) ≡ Live (version_of n) st → 0 < n.dead → IsAsNoted held n st
+        → Needs w (version_of n) st n.dead
     needed held Held lives some noted = let none = noted.2 in absurd (omega arith)
     needed held (Aborted dead) lives some noted = noted.3
     needed held (Committed note) lives some noted = go note.cut refl
@@ -101,8 +112,10 @@ module _ (c : Config) (w : View) (l : Noted) (i : ℕ) (n : Note) (k : Stands c 
       pub needs_more_timed : (low : ℕ) → low < n.dead → OldestNeedsMore c w l low
       needs_more_timed low lt = (n.dead, needs_of_note (omega arith), lt)
 
-      -- one without needs the next write of its object that was seen, or else its own time: more than a low time up to which no later write was seen, where that is below its own time or a later write was seen
-      pub needs_more_untimed : (low : ℕ) → n.dead ≡ 0 → 0 < n.time → latest_at w.base w.past.seen n.object low ≤ n.time → (low < n.time) ⊎ (n.time < latest w.base w.past.seen n.object) → OldestNeedsMore c w l low
+      -- one without needs the next write of its object that was seen, or else its own time: more than a low time up to which no
+      -- later write was seen, where that is below its own time or a later write was seen
+      pub needs_more_untimed : (low : ℕ) → n.dead ≡ 0 → 0 < n.time → latest_at w.base w.past.seen n.object low ≤ n.time
+          → (low < n.time) ⊎ (n.time < latest w.base w.past.seen n.object) → OldestNeedsMore c w l low
       needs_more_untimed low alive committed unwritten above =
           let a = committed_at c w l i n k at committed in
           let uncut = a.4 alive in

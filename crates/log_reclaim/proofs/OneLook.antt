@@ -1,5 +1,6 @@
 -- What looking at one version of the log leaves, by what a load of SUPER and a try to write it back leave.
-use Rattle.std.proofs.Common.{◌≡◌, ◌≢◌, ◌⊎◌, ℕ, ◌+◌, ◌-◌, ◌<◌, ◌≤◌, Bool, true, false, List, [], ◌∷◌, length, refl, sym, ap, ◌∙◌, subst, inl, inr, ⊎_elim, arith, Option, Some, None}
+use Rattle.std.proofs.Common.{◌≡◌, ◌≢◌, ◌⊎◌, ℕ, ◌+◌, ◌-◌, ◌<◌, ◌≤◌, Bool, true, false, List, [], ◌∷◌}
+use Rattle.std.proofs.Common.{length, refl, sym, ap, ◌∙◌, subst, inl, inr, ⊎_elim, arith, Option, Some, None}
 use Rattle.std.proofs.Math.Logic.{∥∥₁_elim}
 use Rattle.std.proofs.Math.Bridge.{le_prop}
 use mathlib.Core.Logic.{dite}
@@ -138,7 +139,13 @@ module _ (starts : State → Type 0) (allows : List ℕ → State → Writes →
           loads.step ∷ [],
           subst (λ (z : Noted). SettlesOne c v u l z (loads.step ∷ []) mark clock back found found index 0) (sym log)
               (settles_kept u (loads.step ∷ []) back found found 0 loads.makes (omega arith) table (λ i ne. refl)
-              (record { committed = l0.committed; super = l0.super; unwritten = l0.unwritten; tried = λ e. let f : true ≡ false = sym e ∙ off in absurd (cc) })),
+              (record {
+                committed = l0.committed;
+                super = l0.super;
+                unwritten = l0.unwritten;
+                tried = λ e. let f : true ≡ false = sym e
+                    ∙ off in absurd (cc);
+              })),
         )
 
     -- and a write-back was tried
@@ -174,7 +181,8 @@ module _ (starts : State → Type 0) (allows : List ℕ → State → Writes →
           let after = h.later in
           let written : o.time ≤ latest_at v.base v.past.seen n.object o.time =
           subst (λ (x : ℕ). o.time ≤ latest_at v.base v.past.seen x o.time) h.object_is
-          (∥∥₁_elim known le_prop (λ f. let wr = (f.commits _ _ a.0 a.1).written in subst (λ (x : ℕ). x ≤ latest_at v.base v.past.seen o.object x) time (omega arith))) in
+          (∥∥₁_elim known le_prop
+          (λ f. let wr = (f.commits _ _ a.0 a.1).written in subst (λ (x : ℕ). x ≤ latest_at v.base v.past.seen o.object x) time (omega arith))) in
           let kept = latest_at-more v.base w.past.seen v.past.seen n.object r.seen o.time (omega arith) in
           let last = latest_at-latest v.base w.past.seen n.object o.time in
           let none_low : latest_at v.base w.past.seen n.object mark.low ≤ n.time =
@@ -237,9 +245,11 @@ module _ (starts : State → Type 0) (allows : List ℕ → State → Writes →
             ⊎_elim
             (λ d. ⊎_elim
             (λ s.
-            settles_retired w m made true found then d.0 l.back tried.clock d.1 s.0 makes t.within (table_set l found index tried.above table) kept_else none (inr (inl s.1)))
+            settles_retired w m made true found then d.0 l.back tried.clock d.1 s.0 makes t.within (table_set l found index tried.above table) kept_else
+            none (inr (inl s.1)))
             (λ s.
-            settles_retired w m made true found then d.0 (l.back + 1) tried.clock d.1 s.0 makes t.within (table_set l found index tried.above table) kept_else none (inr (inr (refl, s.1, times_then (loads.step ∷ []) t.made d.0 s.2))))
+            settles_retired w m made true found then d.0 (l.back + 1) tried.clock d.1 s.0 makes t.within (table_set l found index tried.above table) kept_else
+            none (inr (inr (refl, s.1, times_then (loads.step ∷ []) t.made d.0 s.2))))
             d.3)
             (λ d. ⊎_elim (λ s. kept_for None s.0 d.0 (why_none s.1)) (λ s. kept_for (Some s.0) s.1 d.0 (why_some s.0 s.2)) d.1)
             t.fate

@@ -59,8 +59,10 @@ module _ (c : Config) (v : View) (l : Noted) (k : Stands c v l) (index : ℕ) (n
   pub note_same : (m : Noted) → m ≡ l → note_of m n.position ≡ n
   note_same m same = ap (λ z. note_of z n.position) same ∙ note_is
 
-  pub tries_is : (u w : View) (m z : Noted) (mark : Watermark) (tried : Tried) → m ≡ l → TriesOne c u w m z (note_of m n.position) mark tried → TriesOne c u w l z n mark tried
-  tries_is u w m z mark tried same t = subst (λ (y : Noted). TriesOne c u w y z n mark tried) same (subst (λ (x : Note). TriesOne c u w m z x mark tried) (note_same m same) t)
+  pub tries_is : (u w : View) (m z : Noted) (mark : Watermark) (tried : Tried) → m ≡ l → TriesOne c u w m z (note_of m n.position) mark tried
+      → TriesOne c u w l z n mark tried
+  tries_is u w m z mark tried same t =
+      subst (λ (y : Noted). TriesOne c u w y z n mark tried) same (subst (λ (x : Note). TriesOne c u w m z x mark tried) (note_same m same) t)
 
   -- what that call needs of the view
   pub may_try : (u : View) (m : Noted) (found : Bool) → LoadsSuper c v u l m n found → MayLoadLow u
@@ -88,4 +90,5 @@ module _ (c : Config) (v : View) (l : Noted) (k : Stands c v l) (index : ℕ) (n
     }
 
     pub untimed_same : (m : Noted) → m ≡ l → n.dead ≡ 0 → IsUntimed m n.position (note_of m n.position)
-    untimed_same m same none = subst (λ (z : Noted). IsUntimed z n.position (note_of z n.position)) (sym same) (subst (IsUntimed l n.position) (sym note_is) (untimed none))
+    untimed_same m same none =
+        subst (λ (z : Noted). IsUntimed z n.position (note_of z n.position)) (sym same) (subst (IsUntimed l n.position) (sym note_is) (untimed none))

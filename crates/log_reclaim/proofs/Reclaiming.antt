@@ -11,7 +11,8 @@ use Rattle.mv_core.proofs.history.Fronts.{begins_by, begins_long}
 use Rattle.log_reclaim.specs.Parts.{NamesNoCommit, IsOtherKind, Reclaims}
 use Rattle.log_reclaim.specs.Tries.{Makes}
 
--- steps outside a section that change only what was seen, the clock words that were loaded, the rests, the HEADs found empty, the own log, the watermark and the trail
+-- steps outside a section that change only what was seen, the clock words that were loaded, the rests, the HEADs found empty, the
+-- own log, the watermark and the trail
 pub reclaims_outside : (v w : View) (made : List Step) → MayLoadLow v → (v.walk ≡ Nowhere) × (v.back ≡ None)
     → w ≡ record v { past = w.past; clocks = w.clocks; empty = w.empty; ring = w.ring; grace = w.grace; trail = w.trail }
     → BeginsWith w.past.seen v.past.seen → w.past.mine ≡ v.past.mine → v.grace ≤ w.grace → w.trail ≡ v.trail ++ made

@@ -1,5 +1,6 @@
 -- One try of a rest: the clock is loaded, its word is helped, and the next entry is named as a rest.
-use Rattle.std.proofs.Common.{◌≡◌, ◌⊎◌, ℕ, ◌+◌, ◌^◌, ◌<◌, ◌≤◌, false, List, [], ◌∷◌, ◌++◌, length, All, refl, sym, ap, ◌∙◌, subst, inl, inr, ⊎_elim, arith, append-nil, append_assoc, length-append, Some, None}
+use Rattle.std.proofs.Common.{◌≡◌, ◌⊎◌, ℕ, ◌+◌, ◌^◌, ◌<◌, ◌≤◌, false, List, [], ◌∷◌, ◌++◌, length, All}
+use Rattle.std.proofs.Common.{refl, sym, ap, ◌∙◌, subst, inl, inr, ⊎_elim, arith, append-nil, append_assoc, length-append, Some, None}
 use Rattle.std.proofs.Math.Logic.{∥∥₁_elim}
 use Rattle.std.proofs.Math.Bridge.{le_prop}
 use Rattle.std.proofs.lemmas.List.Elements.{All-nil, All-cons, All-append, All-weaker}
@@ -150,7 +151,8 @@ module _ (c : Config) (v x : View) (word : ℕ) (h0 : List Entry) (whole : IsWho
   none_next : clock_exchanges steps ≡ []
   none_next =
       none_exchanged steps
-      (All-cons (λ s. LeavesClock s.kind) load helps.trail.0 tt (All-weaker (λ (s : Step). IsHelpStep s.kind) (λ s. LeavesClock s.kind) (λ s. help_kind LeavesClock tt tt tt s.kind) helps.trail.0 helps.trail.3))
+      (All-cons (λ s. LeavesClock s.kind) load helps.trail.0 tt
+      (All-weaker (λ (s : Step). IsHelpStep s.kind) (λ s. LeavesClock s.kind) (λ s. help_kind LeavesClock tt tt tt s.kind) helps.trail.0 helps.trail.3))
 
   rests_next : y.past.rests ≡ v.past.rests
   rests_next = ap (λ (p : Past). p.rests) helps.past.2 ∙ ap (λ (u : View). u.past.rests) is
@@ -234,7 +236,11 @@ module _ (c : Config) (v x : View) (word : ℕ) (h0 : List Entry) (whole : IsWho
           trail = ap (λ (u : View). u.trail) is_named;
           kinds = All-cons (λ s. IsRestStep s.kind) step [] tt (All-nil (λ s. IsRestStep s.kind));
           rest = is_named
-              ∙ (λ i. record y { past = sym (ap (λ (u : View). u.past) is_named) i; clocks = sym (ap (λ (u : View). u.clocks) is_named) i; trail = sym (ap (λ (u : View). u.trail) is_named) i });
+              ∙ (λ i. record y {
+                past = sym (ap (λ (u : View). u.past) is_named) i;
+                clocks = sym (ap (λ (u : View). u.clocks) is_named) i;
+                trail = sym (ap (λ (u : View). u.trail) is_named) i;
+              });
         })
         (inr (ap (λ (u : View). u.past.rests) is_named))
         (noted ∙ ap (λ (n : ℕ). record l { rests = n }) (sym (ap (λ (k : Noted). k.rests) noted)))
@@ -259,7 +265,11 @@ module _ (c : Config) (v x : View) (word : ℕ) (h0 : List Entry) (whole : IsWho
           trail = ap (λ (u : View). u.trail) is_lost;
           kinds = All-cons (λ s. IsRestStep s.kind) step [] tt (All-nil (λ s. IsRestStep s.kind));
           rest = is_lost
-              ∙ (λ i. record y { past = sym (ap (λ (u : View). u.past) is_lost) i; clocks = sym (ap (λ (u : View). u.clocks) is_lost) i; trail = sym (ap (λ (u : View). u.trail) is_lost) i });
+              ∙ (λ i. record y {
+                past = sym (ap (λ (u : View). u.past) is_lost) i;
+                clocks = sym (ap (λ (u : View). u.clocks) is_lost) i;
+                trail = sym (ap (λ (u : View). u.trail) is_lost) i;
+              });
         })
         (inl (ap (λ (u : View). u.past.rests) is_lost))
         refl

@@ -27,7 +27,8 @@ use Rattle.log_reclaim.proofs.ScanCauses.{low_known, marked_cause, fresh_cause}
 use Rattle.log_reclaim.proofs.EndCause.{end_cause}
 use Rattle.log_reclaim.proofs.HolderCases.{by_cases}
 
-module _ (starts : State → Type 0) (allows : List ℕ → State → Writes → Type 0) (c : Config) (v w : View) (l m : Noted) (made : List Step) (back : Bool) (scanned : Scanned) (found : Found) (freed : ℕ) (k : Sweeps c v w l m made back scanned found freed) where
+module _ (starts : State → Type 0) (allows : List ℕ → State → Writes → Type 0) (c : Config) (v w : View) (l m : Noted) (made : List Step) (back : Bool)
+    (scanned : Scanned) (found : Found) (freed : ℕ) (k : Sweeps c v w l m made back scanned found freed) where
   scan : HasScanned c w.number made scanned.mark scanned.clock
   scan = subst (λ (own : ℕ). HasScanned c own made scanned.mark scanned.clock) (sym (reclaims_number v w made k.reclaims)) k.scan
 
@@ -35,7 +36,14 @@ module _ (starts : State → Type 0) (allows : List ℕ → State → Writes →
   pub round_swept : SweptSo c w m made back
   round_swept =
       ⊎_elim
-      (λ some. inr (record { mark = scanned.mark; clock = scanned.clock; scan = scan; kept = k.kept some; untimed = λ i n at alive. (found_at found n.position, k.untimed i n at alive) }))
+      (λ some. inr
+      (record {
+        mark = scanned.mark;
+        clock = scanned.clock;
+        scan = scan;
+        kept = k.kept some;
+        untimed = λ i n at alive. (found_at found n.position, k.untimed i n at alive);
+      }))
       (λ none. inl (omega arith))
       (cases_lt 0 (length m.live))
 
@@ -47,22 +55,35 @@ module _ (starts : State → Type 0) (allows : List ℕ → State → Writes →
           let low = low_known c w.number made scanned.mark scanned.clock scan in
           ⊎_elim (λ lt. omega arith) (λ le. absurd (alive (some, le))) (cases_lt scanned.mark.time n.dead)
 
-      untimed : (above : Option ℕ) → StaysUntimed c w made scanned.mark scanned.clock back n above → n.dead ≡ 0 → back ≡ true → RoundHolds c w m made back (untimed_holder scanned n above)
+      untimed : (above : Option ℕ) → StaysUntimed c w made scanned.mark scanned.clock back n above → n.dead ≡ 0 → back ≡ true
+          → RoundHolds c w m made back (untimed_holder scanned n above)
       untimed None u none wrote =
-          let t = u.tried wrote in
-          (marked_cause c w.number made scanned.mark scanned.clock scan t.0, needs_more_untimed c w m i n stands at starts allows after oldest scanned.mark.low none u.committed u.unwritten t.1)
+          let t = u.tried wrote in (
+            marked_cause c w.number made scanned.mark scanned.clock scan t.0,
+            needs_more_untimed c w m i n stands at starts allows after oldest scanned.mark.low none u.committed u.unwritten t.1,
+          )
       untimed (Some seat) u none wrote = record { index = i; note = n; at = at; oldest = oldest; object_is = λ _. n.object; finds = u.tried wrote }
 
       cause : RoundHolds c w m made back (holder_of scanned scanned back found n)
       cause =
           by_cases (RoundHolds c w m made back) scanned scanned back found n
-          (λ late. (end_cause starts allows c v w l m made back scanned found freed k stood before after i n at late, needs_more_timed c w m i n stands at starts allows after oldest 35184372088831 late))
-          (λ above within. inl (fresh_cause c w.number made scanned.mark scanned.clock scan n.dead above, needs_of_note c w m i n stands at starts allows after oldest (omega arith)))
+          (λ late. (
+            end_cause starts allows c v w l m made back scanned found freed k stood before after i n at late,
+            needs_more_timed c w m i n stands at starts allows after oldest 35184372088831 late,
+          ))
+          (λ above within.
+          inl (
+            fresh_cause c w.number made scanned.mark scanned.clock scan n.dead above,
+            needs_of_note c w m i n stands at starts allows after oldest (omega arith),
+          ))
           (λ some within.
-          let lt = above_low some in
-          (marked_cause c w.number made scanned.mark scanned.clock scan (omega arith), needs_more_timed c w m i n stands at starts allows after oldest scanned.mark.low lt))
+          let lt = above_low some in (
+            marked_cause c w.number made scanned.mark scanned.clock scan (omega arith),
+            needs_more_timed c w m i n stands at starts allows after oldest scanned.mark.low lt,
+          ))
           (λ none wrote. untimed (found_at found n.position) (k.untimed i n at none) none wrote)
-          (λ none unwritten. inr (unwritten, record { index = i; note = n; at = at; oldest = oldest; time_is = λ _. n.time; super = (k.untimed i n at none).super }))
+          (λ none unwritten.
+          inr (unwritten, record { index = i; note = n; at = at; oldest = oldest; time_is = λ _. n.time; super = (k.untimed i n at none).super }))
 
     -- the holder that it answers has its cause in its steps
     pub round_holds : (held : Option Holder) → IsHolder m scanned scanned back found held → HeldSo (RoundHolds c w m made back) m held
@@ -73,9 +94,13 @@ module _ (starts : State → Type 0) (allows : List ℕ → State → Writes →
         (omega arith, subst (λ (h : Holder). RoundHolds c w m made back h) (sym is.2) (cause due.0 is.0 due.1 due.2 due.3))
 
     -- all that it leaves where it scanned
-    pub round_scanned : (held : Option Holder) → IsHolder m scanned scanned back found held → Reclaims v w made × SweptSo c w m made back × HeldSo (RoundHolds c w m made back) m held × (clock_exchanges made ≡ [])
+    pub round_scanned : (held : Option Holder) → IsHolder m scanned scanned back found held
+        → Reclaims v w made × SweptSo c w m made back × HeldSo (RoundHolds c w m made back) m held × (clock_exchanges made ≡ [])
     round_scanned held is = (k.reclaims, round_swept, round_holds held is, none_exchanged made k.leaves)
 
 -- and where the log was empty before that
-pub round_emptied : (c : Config) (v w : View) (l m : Noted) (made : List Step) (back : Bool) (freed : ℕ) → SweepsAll c v w l m made freed → (held : Option Holder) → held ≡ None → Reclaims v w made × SweptSo c w m made back × HeldSo (RoundHolds c w m made back) m held × (clock_exchanges made ≡ [])
-round_emptied c v w l m made back freed k held none = (k.reclaims, inl k.empty, subst (HeldSo (RoundHolds c w m made back) m) (sym none) k.empty, none_exchanged made k.leaves)
+pub round_emptied : (c : Config) (v w : View) (l m : Noted) (made : List Step) (back : Bool) (freed : ℕ) → SweepsAll c v w l m made freed
+    → (held : Option Holder) → held ≡ None → Reclaims v w made × SweptSo c w m made back × HeldSo (RoundHolds c w m made back) m held
+    × (clock_exchanges made ≡ [])
+round_emptied c v w l m made back freed k held none =
+    (k.reclaims, inl k.empty, subst (HeldSo (RoundHolds c w m made back) m) (sym none) k.empty, none_exchanged made k.leaves)

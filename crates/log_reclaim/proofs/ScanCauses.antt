@@ -1,5 +1,7 @@
 -- What the steps of a scan show: whose mark was read, which times are after the scan, and the last time where the scan found it.
-use Rattle.std.proofs.Common.{◌≡◌, ◌≢◌, ℕ, zero, suc, ◌+◌, ◌<◌, ◌≤◌, ◌==◌, if◌then◌else◌, Bool, true, false, List, [], ◌∷◌, ◌++◌, All, Contains, refl, sym, ap, ◌∙◌, subst, ⊎_elim, arith, append_assoc, Some, None}
+use Rattle.std.proofs.Common.{◌≡◌, ◌≢◌, ℕ, zero, suc, ◌+◌, ◌<◌, ◌≤◌, ◌==◌, if◌then◌else◌, Bool, true, false}
+use Rattle.std.proofs.Common.{List, [], ◌∷◌, ◌++◌, All, Contains, refl, sym, ap, ◌∙◌, subst, ⊎_elim, arith, append_assoc, Some}
+use Rattle.std.proofs.Common.{None}
 use Rattle.std.proofs.lemmas.Bool.{cases_lt, ne_eqb}
 use Rattle.std.proofs.lemmas.List.Elements.{All-nil, All-cons, All-append, Contains-append_left, Contains-append_right}
 use Rattle.mv_history.specs.declared.Step.{Step}
@@ -20,8 +22,11 @@ mark_there c own marks (suc n) seat lt ne =
     (λ le.
     let same : seat ≡ n = omega arith in
     let differs : n ≢ own = λ e. ne (same ∙ e) in
-    let one : Contains (here n) (mark_step c n (marks n)) = subst (λ (b : Bool). Contains (if b then [] else mark_step c n (marks n) ∷ []) (mark_step c n (marks n))) (sym (ne_eqb n own differs)) (0, omega arith, refl) in
-    Contains-append_right (mark_steps c own marks n) (here n) (mark_step c seat (marks seat)) (subst (λ (s : ℕ). Contains (here n) (mark_step c s (marks s))) (sym same) one))
+    let one : Contains (here n) (mark_step c n (marks n)) =
+    subst (λ (b : Bool). Contains (if b then [] else mark_step c n (marks n) ∷ []) (mark_step c n (marks n))) (sym (ne_eqb n own differs))
+    (0, omega arith, refl) in
+    Contains-append_right (mark_steps c own marks n) (here n) (mark_step c seat (marks seat))
+    (subst (λ (s : ℕ). Contains (here n) (mark_step c s (marks s))) (sym same) one))
     (cases_lt seat n)
   where
     here : ℕ → List Step
@@ -35,12 +40,15 @@ one_or_none P false s p = All-cons (λ (x : Step). P x.kind) s [] p (All-nil (λ
 marks_all : (P : StepKind → Type 0) (c : Config) (own : ℕ) (marks : ℕ → ℕ) (n : ℕ) → P LoadMark → All (λ (s : Step). P s.kind) (mark_steps c own marks n)
 marks_all P c own marks zero p = All-nil (λ (s : Step). P s.kind)
 marks_all P c own marks (suc n) p =
-    All-append (λ (s : Step). P s.kind) (mark_steps c own marks n) (if n == own then [] else mark_step c n (marks n) ∷ []) (marks_all P c own marks n p) (one_or_none P (n == own) (mark_step c n (marks n)) p)
+    All-append (λ (s : Step). P s.kind) (mark_steps c own marks n) (if n == own then [] else mark_step c n (marks n) ∷ []) (marks_all P c own marks n p)
+    (one_or_none P (n == own) (mark_step c n (marks n)) p)
 
 -- what holds of a load of MARK and of a raise of GRACE holds of all steps of a scan after its first
-pub after_clock_all : (P : StepKind → Type 0) (c : Config) (own : ℕ) (marks : ℕ → ℕ) (low found : ℕ) → P LoadMark → P RaiseGrace → All (λ (s : Step). P s.kind) (mark_steps c own marks c.seats ++ grace_step c low found ∷ [])
+pub after_clock_all : (P : StepKind → Type 0) (c : Config) (own : ℕ) (marks : ℕ → ℕ) (low found : ℕ) → P LoadMark → P RaiseGrace
+    → All (λ (s : Step). P s.kind) (mark_steps c own marks c.seats ++ grace_step c low found ∷ [])
 after_clock_all P c own marks low found p q =
-    All-append (λ (s : Step). P s.kind) (mark_steps c own marks c.seats) (grace_step c low found ∷ []) (marks_all P c own marks c.seats p) (All-cons (λ (s : Step). P s.kind) (grace_step c low found) [] q (All-nil (λ (s : Step). P s.kind)))
+    All-append (λ (s : Step). P s.kind) (mark_steps c own marks c.seats) (grace_step c low found ∷ []) (marks_all P c own marks c.seats p)
+    (All-cons (λ (s : Step). P s.kind) (grace_step c low found) [] q (All-nil (λ (s : Step). P s.kind)))
 
 module _ (c : Config) (own : ℕ) (made : List Step) (mark : Watermark) (clock : ℕ) (k : HasScanned c own made mark clock) where
   abbrev steps : List Step
@@ -49,7 +57,8 @@ module _ (c : Config) (own : ℕ) (made : List Step) (mark : Watermark) (clock :
   -- a step of the scan is one of those made
   scan_there : (s : Step) → Contains steps s → Contains made s
   scan_there s there =
-      subst (λ (all : List Step). Contains all s) (sym k.made_is) (Contains-append_left (k.before ++ steps) k.after s (Contains-append_right k.before steps s there))
+      subst (λ (all : List Step). Contains all s) (sym k.made_is)
+      (Contains-append_left (k.before ++ steps) k.after s (Contains-append_right k.before steps s there))
 
   -- its low time isn't above the clock's, nor above its watermark
   pub low_below : mark.low ≤ clock
@@ -74,7 +83,9 @@ module _ (c : Config) (own : ℕ) (made : List Step) (mark : Watermark) (clock :
           let differs : mark.seat ≢ own = λ e. let none : k.marks mark.seat ≡ 0 = ap k.marks e ∙ k.own_is in omega arith in
           let marks : List Step = mark_steps c own k.marks c.seats in
           let load : Step = mark_step c mark.seat (k.marks mark.seat) in
-          let there : Contains steps load = Contains-append_left (scan_step c k.word ∷ marks) (grace_step c mark.low k.found ∷ []) load (Contains-append_right (scan_step c k.word ∷ []) marks load (mark_there c own k.marks c.seats mark.seat first.0 differs)) in
+          let there : Contains steps load =
+          Contains-append_left (scan_step c k.word ∷ marks) (grace_step c mark.low k.found ∷ []) load
+          (Contains-append_right (scan_step c k.word ∷ []) marks load (mark_there c own k.marks c.seats mark.seat first.0 differs)) in
           record { not_own = differs; in_range = first.0; read = subst (λ (m : ℕ). Contains made (mark_step c mark.seat m)) found (scan_there load there) }
 
   -- a time above the clock's is after the scan

@@ -1,5 +1,6 @@
 -- A write-back starts: what its steps ask is so, and what they leave where HEAD names the version, and where it doesn't.
-use Rattle.std.proofs.Common.{◌≡◌, ◌≢◌, ℕ, ◌-◌, ◌<◌, ◌≤◌, ◌^◌, Bool, false, cond, List, length, refl, sym, ap, ◌∙◌, subst, ⊎_elim, inl, arith, Option, Some, None, Err, Ok, slice_get}
+use Rattle.std.proofs.Common.{◌≡◌, ◌≢◌, ℕ, ◌-◌, ◌<◌, ◌≤◌, ◌^◌, Bool, false, cond, List, length, refl, sym, ap}
+use Rattle.std.proofs.Common.{◌∙◌, subst, ⊎_elim, inl, arith, Option, Some, None, Err, Ok, slice_get}
 use Rattle.std.proofs.Math.Logic.{∥∥₁_elim}
 use Rattle.std.proofs.Math.Bridge.{le_prop}
 use Rattle.std.proofs.lemmas.Bool.{ne_eqb}

@@ -1,5 +1,6 @@
 -- The words of a write-back are stored one after another, and it ends.
-use Rattle.std.proofs.Common.{◌≡◌, ◌≢◌, ℕ, ◌+◌, ◌<◌, ◌≤◌, List, [], ◌∷◌, ◌++◌, length, refl, sym, ap, ◌∙◌, subst, arith, append_assoc, append-nil, Some, None, All, Contains}
+use Rattle.std.proofs.Common.{◌≡◌, ◌≢◌, ℕ, ◌+◌, ◌<◌, ◌≤◌, List, [], ◌∷◌, ◌++◌, length, refl, sym, ap, ◌∙◌}
+use Rattle.std.proofs.Common.{subst, arith, append_assoc, append-nil, Some, None, All, Contains}
 use Rattle.std.specs.Prelude.{slice_index}
 use Rattle.std.proofs.lemmas.List.Elements.{All-nil, All-cons, All-push, All-append, All-weaker, Contains-append_right}
 use Rattle.mv_history.specs.declared.Entry.{Entry}
@@ -124,7 +125,8 @@ module _ (c : Config) (v w : View) (b d : Back) (count before after : ℕ) (k : 
           trail = ap (λ (u : View). u.trail) cut.view ∙ ap (λ (t : List Step). ((t ++ first ∷ []) ++ second ∷ []) ++ third ∷ []) k.trail
               ∙ three_more v.trail k.made first second third;
           kinds = All-append IsPlain k.made last plain
-              (All-cons IsPlain first (second ∷ third ∷ []) (tt, tt) (All-cons IsPlain second (third ∷ []) (tt, tt) (All-cons IsPlain third [] (tt, tt) (All-nil IsPlain))));
+              (All-cons IsPlain first (second ∷ third ∷ []) (tt, tt)
+              (All-cons IsPlain second (third ∷ []) (tt, tt) (All-cons IsPlain third [] (tt, tt) (All-nil IsPlain))));
           rest = rest;
           within = in_seen (ap (λ (u : View). u.base) rest);
           cut = λ e. (

@@ -1,5 +1,6 @@
 -- A load of SUPER of a version without a time of death: what it needs, and what it leaves.
-use Rattle.std.proofs.Common.{◌≡◌, ℕ, ◌+◌, ◌-◌, ◌<◌, ◌≤◌, true, false, List, [], ◌∷◌, ◌++◌, length, refl, sym, ap, ◌∙◌, subst, ⊎_elim, arith, append-nil, length-append, length-take, Some, None, take, slice_get}
+use Rattle.std.proofs.Common.{◌≡◌, ℕ, ◌+◌, ◌-◌, ◌<◌, ◌≤◌, true, false, List, [], ◌∷◌, ◌++◌, length, refl, sym, ap}
+use Rattle.std.proofs.Common.{◌∙◌, subst, ⊎_elim, arith, append-nil, length-append, length-take, Some, None, take, slice_get}
 use Rattle.std.proofs.Math.Logic.{∥∥₁_elim}
 use Rattle.std.proofs.Math.Bridge.{le_prop}
 use Rattle.std.proofs.lemmas.List.Elements.{All-nil, All-cons}
@@ -90,7 +91,8 @@ module _ (c : Config) (v : View) (l : Noted) (position : ℕ) (n : Note) (k : St
     pub super_stands : (m : Noted) → 0 < found → m ≡ retired l position found → Stands c w m
     super_stands m some_time log =
         subst (Stands c w) (sym (log ∙ ap (λ p. retired l p found) position_is))
-        (subst (λ x. Stands c x (retired l n.position found)) (sym view_is) (stands_found c v l (position - l.freed) n own found w.past.seen k u.at here u.untimed some_time))
+        (subst (λ x. Stands c x (retired l n.position found)) (sym view_is)
+        (stands_found c v l (position - l.freed) n own found w.past.seen k u.at here u.untimed some_time))
 
     pub super_stands_none : found ≡ 0 → Stands c w l
     super_stands_none none = subst (λ x. Stands c x l) (sym view_is) (stands_unfound c v l (position - l.freed) n own found w.past.seen k here none)

@@ -36,7 +36,8 @@ pub left_at : (m n : Noted) (k i : ℕ) (e : Note) → n ≡ freed_noted m k →
 left_at m n k i e is at = sym (get_dropped k i m.live) ∙ ap (λ (y : Noted). slice_get y.live i) (sym is) ∙ at
 
 module _ (starts : State → Type 0) (allows : List ℕ → State → Writes → Type 0) (c : Config) (v u : View) (l : Noted) (mark : Watermark) (clock before after : ℕ)
-    (base : v.base ≡ c.base) (may : MayLoadLow v) (stands : Stands c v l) (known : ∥ Known starts allows v ∥₁) (scans : Scans c v u mark clock before after) where
+    (base : v.base ≡ c.base) (may : MayLoadLow v) (stands : Stands c v l) (known : ∥ Known starts allows v ∥₁)
+    (scans : Scans c v u mark clock before after) where
   abbrev steps : List Step
   steps = steps_of c v u mark clock before after scans
 
@@ -95,7 +96,8 @@ module _ (starts : State → Type 0) (allows : List ℕ → State → Writes →
         let more_seen = reclaims_more u x made settles.reclaims in
         let from = reclaims_base u x made settles.reclaims in
         untimed_then c w steps (made ++ more) mark clock e back (found_at found e.position)
-        (untimed_on c x w made more frees.makes.reclaims mark clock e back (found_at found e.position) (omega arith) (settles.untimed (freed + i) e there (omega arith) alive))
+        (untimed_on c x w made more frees.makes.reclaims mark clock e back (found_at found e.position) (omega arith)
+        (settles.untimed (freed + i) e there (omega arith) alive))
 
     fewer : length n.live + freed ≡ length l.live
     fewer =
@@ -113,7 +115,12 @@ module _ (starts : State → Type 0) (allows : List ℕ → State → Writes →
           few = fewer;
           notes = λ i e at. let r = was i e at in (r.0, r.1, r.2);
           rest = is
-              ∙ (λ i. record l { live = sym (ap (λ (y : Noted). y.live) is) i; freed = l.freed + freed; back = sym (ap (λ (y : Noted). y.back) is) i; rests = sym (ap (λ (y : Noted). y.rests) is) i });
+              ∙ (λ i. record l {
+                live = sym (ap (λ (y : Noted). y.live) is) i;
+                freed = l.freed + freed;
+                back = sym (ap (λ (y : Noted). y.back) is) i;
+                rests = sym (ap (λ (y : Noted). y.rests) is) i;
+              });
         }
 
     entries : HasEntries n found

@@ -1,5 +1,6 @@
 -- A round with write-backs, one try of a rest unless the log is empty, and a round without: what they leave together.
-use Rattle.std.proofs.Common.{◌≡◌, ◌⊎◌, ℕ, ◌+◌, ◌<◌, ◌≤◌, Bool, true, false, List, [], ◌∷◌, ◌++◌, length, refl, sym, ap, ◌∙◌, subst, inl, inr, arith, slice_get, Option, Some, None}
+use Rattle.std.proofs.Common.{◌≡◌, ◌⊎◌, ℕ, ◌+◌, ◌<◌, ◌≤◌, Bool, true, false, List, [], ◌∷◌, ◌++◌, length, refl}
+use Rattle.std.proofs.Common.{sym, ap, ◌∙◌, subst, inl, inr, arith, slice_get, Option, Some, None}
 use Rattle.mv_history.specs.State.{State, Writes}
 use Rattle.mv_history.specs.Trail.{clock_exchanges}
 use Rattle.mv_history.specs.declared.Step.{Step}
@@ -38,7 +39,8 @@ HeldBy o (Some first) (Some last) found held = IsHolder o first last true found 
 pub between_none : (c : Config) (u x : View) (l m : Noted) (first : Option Scanned) → first ≡ None → x ≡ u → m ≡ l → Between c u x l m first
 between_none c u x l m first is same kept = subst (Between c u x l m) (sym is) (same, kept)
 
-pub between_some : (c : Config) (u x y : View) (l m n : Noted) (first : Option Scanned) (scanned : Scanned) → first ≡ Some scanned → x ≡ y → m ≡ n → (rested : List Step) × RestsSo u y l n rested scanned.latest → Stands c y n → Between c u x l m first
+pub between_some : (c : Config) (u x y : View) (l m n : Noted) (first : Option Scanned) (scanned : Scanned) → first ≡ Some scanned → x ≡ y → m ≡ n
+    → (rested : List Step) × RestsSo u y l n rested scanned.latest → Stands c y n → Between c u x l m first
 between_some c u x y l m n first scanned is same kept rest stands =
     subst (Between c u x l m) (sym is) (
       rest.0,
@@ -46,15 +48,18 @@ between_some c u x y l m n first scanned is same kept rest stands =
       subst (λ (p : View × Noted). Stands c p.0 p.1) (λ i. (sym same i, sym kept i)) stands,
     )
 
-pub held_by_none : (o : Noted) (first last : Option Scanned) (found : Found) (held : Option Holder) → (first ≡ None) ⊎ (last ≡ None) → held ≡ None → HeldBy o first last found held
+pub held_by_none : (o : Noted) (first last : Option Scanned) (found : Found) (held : Option Holder) → (first ≡ None) ⊎ (last ≡ None) → held ≡ None
+    → HeldBy o first last found held
 held_by_none o None last found held none is = is
 held_by_none o (Some first) None found held none is = is
 held_by_none o (Some first) (Some last) found held (inl none) is = absurd cc
 held_by_none o (Some first) (Some last) found held (inr none) is = absurd cc
 
-pub held_by_some : (o : Noted) (first last : Option Scanned) (found : Found) (held answer : Option Holder) (one two : Scanned) → first ≡ Some one → last ≡ Some two → held ≡ answer → IsHolder o one two true found answer → HeldBy o first last found held
+pub held_by_some : (o : Noted) (first last : Option Scanned) (found : Found) (held answer : Option Holder) (one two : Scanned) → first ≡ Some one
+    → last ≡ Some two → held ≡ answer → IsHolder o one two true found answer → HeldBy o first last found held
 held_by_some o first last found held answer one two is also is_held h =
-    subst (λ (p : Option Scanned × Option Scanned). HeldBy o p.0 p.1 found held) (λ i. (sym is i, sym also i)) (subst (IsHolder o one two true found) (sym is_held) h)
+    subst (λ (p : Option Scanned × Option Scanned). HeldBy o p.0 p.1 found held) (λ i. (sym is i, sym also i))
+    (subst (IsHolder o one two true found) (sym is_held) h)
 
 no_notes : {X : Type 0} (xs : List X) → length xs ≡ 0 → xs ≡ []
 no_notes [] e = refl
@@ -73,7 +78,8 @@ module _ (c : Config) (v w : View) (l m : Noted) (made : List Step) (back : Bool
   shrinks_of None k = k.shrinks
   shrinks_of (Some scanned) k = k.shrinks
 
-  swept_of : (starts : State → Type 0) (allows : List ℕ → State → Writes → Type 0) (scanned : Option Scanned) → SweepsSo c v w l m made back found freed scanned → SweptSo c w m made back
+  swept_of : (starts : State → Type 0) (allows : List ℕ → State → Writes → Type 0) (scanned : Option Scanned)
+      → SweepsSo c v w l m made back found freed scanned → SweptSo c w m made back
   swept_of starts allows None k = inl k.empty
   swept_of starts allows (Some scanned) k = round_swept starts allows c v w l m made back scanned found freed k
 
@@ -94,10 +100,14 @@ shrinks_rested l m o more is k =
 module _ (c : Config) (v u x w : View) (k l m o : Noted) (made later : List Step) (found unused : Found) (freed more : ℕ) (first last : Option Scanned)
     (sweep : SweepsSo c v u k l made true found freed first) (between : Between c u x l m first) (again : SweepsSo c x w m o later false unused more last) where
   pub tidy_shrinks : Shrinks k o (freed + more)
-  tidy_shrinks = shrinks_then k l o freed more (shrinks_of c v u k l made true found freed first sweep) (shrinks_rested l m o more (rests_alone c u x l m first between) (shrinks_of c x w m o later false unused more last again))
+  tidy_shrinks =
+      shrinks_then k l o freed more (shrinks_of c v u k l made true found freed first sweep)
+      (shrinks_rested l m o more (rests_alone c u x l m first between) (shrinks_of c x w m o later false unused more last again))
 
-module _ (starts : State → Type 0) (allows : List ℕ → State → Writes → Type 0) (c : Config) (v u x w : View) (k l m o : Noted) (made later : List Step) (found unused : Found) (freed more : ℕ)
-    (stands : Stands c v k) (stands_w : Stands c w o) (known : ∥ Known starts allows v ∥₁) (known_x : ∥ Known starts allows x ∥₁) (known_w : ∥ Known starts allows w ∥₁) where
+module _ (starts : State → Type 0) (allows : List ℕ → State → Writes → Type 0) (c : Config) (v u x w : View) (k l m o : Noted) (made later : List Step)
+    (found unused : Found) (freed more : ℕ)
+    (stands : Stands c v k) (stands_w : Stands c w o) (known : ∥ Known starts allows v ∥₁) (known_x : ∥ Known starts allows x ∥₁)
+    (known_w : ∥ Known starts allows w ∥₁) where
   -- a log that is empty after the first round is so after the last
   still_empty : SweepsAll c v u k l made freed → m ≡ l → (last : Option Scanned) → SweepsSo c x w m o later false unused more last → length o.live ≡ 0
   still_empty sweep same last again =
@@ -109,8 +119,10 @@ module _ (starts : State → Type 0) (allows : List ℕ → State → Writes →
   none_held : (held : Option Holder) (causes : Holder → Type 0) → held ≡ None → length o.live ≡ 0 → HeldSo causes o held
   none_held held causes none empty = subst (HeldSo causes o) (sym none) empty
 
-  pub tidied : (first last : Option Scanned) → SweepsSo c v u k l made true found freed first → Between c u x l m first → SweepsSo c x w m o later false unused more last → (held : Option Holder) → HeldBy o first last found held
-      → (steps : List Step) × Reclaims v w steps × SweptSo c w o steps false × HeldSo (TidyHolds c w o steps) o held × (length (clock_exchanges steps) ≤ 1) × WritesBackSo c w o steps
+  pub tidied : (first last : Option Scanned) → SweepsSo c v u k l made true found freed first → Between c u x l m first
+      → SweepsSo c x w m o later false unused more last → (held : Option Holder) → HeldBy o first last found held
+      → (steps : List Step) × Reclaims v w steps × SweptSo c w o steps false × HeldSo (TidyHolds c w o steps) o held × (length (clock_exchanges steps) ≤ 1)
+      × WritesBackSo c w o steps
   tidied None last sweep between again held by =
       let r = reclaims_of c x w m o later false unused more last again in
       let empty = still_empty sweep between.1 last again in (
@@ -135,13 +147,17 @@ module _ (starts : State → Type 0) (allows : List ℕ → State → Writes →
         steps,
         reclaims_on v x w (made ++ between.0) later (reclaims_on v u x made between.0 sweep.reclaims between.1.reclaims) again.reclaims,
         swept_then c w o (made ++ between.0) later false (round_swept starts allows c x w m o later false last unused more again),
-        tidy_holds starts allows c v u x w k l m o made between.0 later first last found unused freed more sweep between.1 again stands between.2 stands_w known known_x known_w held by,
+        tidy_holds starts allows c v u x w k l m o made between.0 later first last found unused freed more sweep between.1 again stands between.2 stands_w
+            known known_x known_w held by,
         one_between made between.0 later (none_exchanged made sweep.leaves) between.1.few (none_exchanged later again.leaves),
-        inr (tidy_tried starts allows c v u x w k l m o made between.0 later first last found unused freed more sweep between.1 again stands between.2 stands_w known known_x known_w),
+        inr (tidy_tried starts allows c v u x w k l m o made between.0 later first last found unused freed more sweep between.1 again stands between.2
+            stands_w known known_x known_w),
       )
 
-  pub tidy_alone : (first last : Option Scanned) → SweepsSo c v u k l made true found freed first → Between c u x l m first → SweepsSo c x w m o later false unused more last → v.number < c.seats → c.seats ≡ 1 → v.base + length v.past.seen < 35184372088831 → o.live ≡ []
+  pub tidy_alone : (first last : Option Scanned) → SweepsSo c v u k l made true found freed first → Between c u x l m first
+      → SweepsSo c x w m o later false unused more last → v.number < c.seats → c.seats ≡ 1 → v.base + length v.past.seen < 35184372088831 → o.live ≡ []
   tidy_alone None last sweep between again mine one early = no_notes o.live (still_empty sweep between.1 last again)
   tidy_alone (Some first) None sweep between again mine one early = no_notes o.live again.empty
   tidy_alone (Some first) (Some last) sweep between again mine one early =
-      no_notes o.live (none_alive c one starts allows v u x w k l m o made between.0 later first last found unused freed more sweep between.1 again stands known mine early)
+      no_notes o.live
+      (none_alive c one starts allows v u x w k l m o made between.0 later first last found unused freed more sweep between.1 again stands known mine early)

@@ -1,5 +1,6 @@
 -- The cause of each holder that a tidy answers, in its own steps.
-use Rattle.std.proofs.Common.{◌≡◌, ℕ, ◌<◌, ◌≤◌, true, false, List, [], ◌++◌, length, refl, sym, ◌∙◌, subst, ⊎_elim, arith, append-nil, append_assoc, Option, Some, None}
+use Rattle.std.proofs.Common.{◌≡◌, ℕ, ◌<◌, ◌≤◌, true, false, List, [], ◌++◌, length, refl, sym, ◌∙◌, subst, ⊎_elim}
+use Rattle.std.proofs.Common.{arith, append-nil, append_assoc, Option, Some, None}
 use Rattle.std.proofs.lemmas.Bool.{cases_lt}
 use Rattle.std.proofs.lemmas.List.Elements.{All-nil}
 use Rattle.std.proofs.lemmas.Option.{slice_get_within}
@@ -35,9 +36,11 @@ use Rattle.log_reclaim.proofs.TidyDeaths.{untimed_first, death_others}
 dead_above : (time : ℕ) (n : Note) → (IsDeadNote time n → ⊥) → 0 < n.dead → time < n.dead
 dead_above time n alive some = ⊎_elim (λ lt. lt) (λ le. absurd (alive (some, le))) (cases_lt time n.dead)
 
-module _ (starts : State → Type 0) (allows : List ℕ → State → Writes → Type 0) (c : Config) (v u x w : View) (k l m o : Noted) (made rested later : List Step) (first last : Scanned) (found unused : Found) (freed more : ℕ)
+module _ (starts : State → Type 0) (allows : List ℕ → State → Writes → Type 0) (c : Config) (v u x w : View) (k l m o : Noted) (made rested later : List Step)
+    (first last : Scanned) (found unused : Found) (freed more : ℕ)
     (sweep : Sweeps c v u k l made true first found freed) (rest : RestsSo u x l m rested first.latest) (again : Sweeps c x w m o later false last unused more)
-    (stands : Stands c v k) (stands_x : Stands c x m) (stands_w : Stands c w o) (known : ∥ Known starts allows v ∥₁) (known_x : ∥ Known starts allows x ∥₁) (known_w : ∥ Known starts allows w ∥₁) where
+    (stands : Stands c v k) (stands_x : Stands c x m) (stands_w : Stands c w o) (known : ∥ Known starts allows v ∥₁) (known_x : ∥ Known starts allows x ∥₁)
+    (known_w : ∥ Known starts allows w ∥₁) where
   abbrev steps : List Step
   steps = made ++ rested ++ later
 
@@ -58,7 +61,8 @@ module _ (starts : State → Type 0) (allows : List ℕ → State → Writes →
       let low = low_below c v.number made first.mark first.clock sweep.scan in
       let before = sweep.before in
       of_first (λ s. StaysUntimed c w s first.mark first.clock true n (found_at found n.position))
-      (untimed_on c u w made (rested ++ later) (reclaims_on u x w rested later rest.reclaims again.reclaims) first.mark first.clock n true (found_at found n.position) (omega arith) d)
+      (untimed_on c u w made (rested ++ later) (reclaims_on u x w rested later rest.reclaims again.reclaims) first.mark first.clock n true
+      (found_at found n.position) (omega arith) d)
 
   -- so the write-backs of the first round were tried
   pub tidy_tried : HasTried c w o steps
@@ -74,14 +78,19 @@ module _ (starts : State → Type 0) (allows : List ℕ → State → Writes →
   module _ (i : ℕ) (n : Note) (at : IsNoteAt o i n) (oldest : n.first ≡ o.freed) (alive : IsDeadNote last.mark.time n → ⊥) where
     ends : 35184372088831 < n.dead → TidyHolds c w o steps End
     ends late = (
-      of_last FindsLast (last_found_more (made ++ rested) later [] (end_cause starts allows c x w m o later false last unused more again stands_x known_x known_w i n at late)),
+      of_last FindsLast
+          (last_found_more (made ++ rested) later []
+          (end_cause starts allows c x w m o later false last unused more again stands_x known_x known_w i n at late)),
       needs_more_timed c w o i n stands_w at starts allows known_w oldest 35184372088831 late,
     )
 
     fresh : last.clock < n.dead → n.dead ≤ 35184372088831 → TidyHolds c w o steps (Fresh n.dead)
     fresh late in_time = (
-      of_last (λ s. IsAfterScan c s n.dead) (after_scan_more (made ++ rested) later [] c n.dead (All-nil (λ (s : Step). BeginsNoScan s.kind)) (fresh_cause c x.number later last.mark last.clock again.scan n.dead late)),
-      death_others starts allows c v u k l made first found freed sweep stands known x m rested rest w o later last unused more again known_x known_w i n at late in_time,
+      of_last (λ s. IsAfterScan c s n.dead)
+          (after_scan_more (made ++ rested) later [] c n.dead (All-nil (λ (s : Step). BeginsNoScan s.kind))
+          (fresh_cause c x.number later last.mark last.clock again.scan n.dead late)),
+      death_others starts allows c v u k l made first found freed sweep stands known x m rested rest w o later last unused more again known_x known_w i
+          n at late in_time,
       needs_of_note c w o i n stands_w at starts allows known_w oldest (omega arith),
     )
 
@@ -91,16 +100,19 @@ module _ (starts : State → Type 0) (allows : List ℕ → State → Writes →
         let low = low_known c x.number later last.mark last.clock again.scan in (
           of_last (λ s. ReadsMark c w.number s last.mark.seat last.mark.low)
               (subst (λ (own : ℕ). ReadsMark c own (steps ++ []) last.mark.seat last.mark.low) (sym (reclaims_number x w later again.reclaims))
-              (reads_mark_more (made ++ rested) later [] c x.number last.mark.seat last.mark.low (marked_cause c x.number later last.mark last.clock again.scan (omega arith)))),
+              (reads_mark_more (made ++ rested) later [] c x.number last.mark.seat last.mark.low
+              (marked_cause c x.number later last.mark last.clock again.scan (omega arith)))),
           needs_more_timed c w o i n stands_w at starts allows known_w oldest last.mark.low (omega arith),
         )
 
-    untimed_as : (above : Option ℕ) → n.dead ≡ 0 → StaysUntimed c w steps first.mark first.clock true n above → TidyHolds c w o steps (untimed_holder first n above)
+    untimed_as : (above : Option ℕ) → n.dead ≡ 0 → StaysUntimed c w steps first.mark first.clock true n above
+        → TidyHolds c w o steps (untimed_holder first n above)
     untimed_as None none d =
         let t = d.tried refl in (
           of_first (λ s. ReadsMark c w.number s first.mark.seat first.mark.low)
               (subst (λ (own : ℕ). ReadsMark c own (made ++ (rested ++ later)) first.mark.seat first.mark.low) (sym number_first)
-              (reads_mark_more [] made (rested ++ later) c v.number first.mark.seat first.mark.low (marked_cause c v.number made first.mark first.clock sweep.scan t.0))),
+              (reads_mark_more [] made (rested ++ later) c v.number first.mark.seat first.mark.low
+              (marked_cause c v.number made first.mark first.clock sweep.scan t.0))),
           needs_more_untimed c w o i n stands_w at starts allows known_w oldest first.mark.low none d.committed d.unwritten t.1,
         )
     untimed_as (Some seat) none d = record { index = i; note = n; at = at; oldest = oldest; object_is = refl; finds = d.tried refl }

@@ -26,7 +26,8 @@ untimed_same old n dies none =
     let was : old.dead ≡ 0 = ⊎_elim (λ some. let e = dies.once some in absurd (omega arith)) (λ le. omega arith) (cases_lt 0 old.dead) in
     dies.same ∙ ap (λ (t : ℕ). record old { dead = t }) (none ∙ sym was)
 
-module _ (starts : State → Type 0) (allows : List ℕ → State → Writes → Type 0) (c : Config) (v u : View) (k l : Noted) (made : List Step) (first : Scanned) (found : Found) (freed : ℕ)
+module _ (starts : State → Type 0) (allows : List ℕ → State → Writes → Type 0) (c : Config) (v u : View) (k l : Noted) (made : List Step) (first : Scanned)
+    (found : Found) (freed : ℕ)
     (sweep : Sweeps c v u k l made true first found freed) (stands : Stands c v k) (known : ∥ Known starts allows v ∥₁) where
   -- after the first round each was seen, or is at most one above the clock
   pub death_first : (i : ℕ) (n : Note) → IsNoteAt l i n → (n.dead ≤ u.base + length u.past.seen) ⊎ (n.dead ≤ first.latest + 1)
@@ -46,7 +47,8 @@ module _ (starts : State → Type 0) (allows : List ℕ → State → Writes →
     at_before i n at = ap (λ (q : Noted). slice_get q.live i) (sym rest.log) ∙ at
 
     -- after the rest each was seen, or the last time was
-    pub death_next : (i : ℕ) (n : Note) → IsNoteAt m i n → (n.dead ≤ x.base + length x.past.seen) ⊎ ((x.base + length x.past.seen ≡ 35184372088831) × (x.past.rests ≡ u.past.rests))
+    pub death_next : (i : ℕ) (n : Note) → IsNoteAt m i n
+        → (n.dead ≤ x.base + length x.past.seen) ⊎ ((x.base + length x.past.seen ≡ 35184372088831) × (x.past.rests ≡ u.past.rests))
     death_next i n at =
         let was = at_before i n at in
         let base = reclaims_base u x rested rest.reclaims in
@@ -57,7 +59,8 @@ module _ (starts : State → Type 0) (allows : List ℕ → State → Writes →
         (λ moved. ⊎_elim (λ late. inl (⊎_elim (λ seen. omega arith) (λ one. omega arith) (death_first i n was))) inr moved)
         rest.dated
 
-    module _ (w : View) (o : Noted) (later : List Step) (last : Scanned) (unused : Found) (more : ℕ) (again : Sweeps c x w m o later false last unused more) where
+    module _ (w : View) (o : Noted) (later : List Step) (last : Scanned) (unused : Found) (more : ℕ)
+        (again : Sweeps c x w m o later false last unused more) where
       -- of a version that has none after the last round it is known why from the first
       pub untimed_first : (i : ℕ) (n : Note) → IsNoteAt o i n → n.dead ≡ 0 → StaysUntimed c u made first.mark first.clock true n (found_at found n.position)
       untimed_first i n at none =
@@ -76,8 +79,10 @@ module _ (starts : State → Type 0) (allows : List ℕ → State → Writes →
           r.3
 
       -- and so is of another seat's entry
-      pub death_others : ∥ Known starts allows x ∥₁ → ∥ Known starts allows w ∥₁ → (i : ℕ) (n : Note) → IsNoteAt o i n → last.clock < n.dead → n.dead ≤ 35184372088831 → IsOthers w n.dead
+      pub death_others : ∥ Known starts allows x ∥₁ → ∥ Known starts allows w ∥₁ → (i : ℕ) (n : Note) → IsNoteAt o i n → last.clock < n.dead
+          → n.dead ≤ 35184372088831 → IsOthers w n.dead
       death_others known_x known_w i n at late in_time =
           let r = again.reclaims in
           let after = again.after in
-          others_meanwhile starts allows x w known_x known_w (reclaims_number x w later r) (reclaims_base x w later r) r.seen r.mine again.rests n.dead (omega arith) (death_last i n at late in_time)
+          others_meanwhile starts allows x w known_x known_w (reclaims_number x w later r) (reclaims_base x w later r) r.seen r.mine again.rests n.dead
+          (omega arith) (death_last i n at late in_time)

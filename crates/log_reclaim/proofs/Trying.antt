@@ -1,5 +1,6 @@
 -- What a try to write a version back comes to, by what its parts leave.
-use Rattle.std.proofs.Common.{◌≡◌, ◌≢◌, ℕ, ◌+◌, ◌-◌, ◌<◌, ◌≤◌, max, true, List, [], ◌∷◌, ◌++◌, length, refl, sym, ap, ◌∙◌, subst, inl, inr, arith, append_assoc, Some, None}
+use Rattle.std.proofs.Common.{◌≡◌, ◌≢◌, ℕ, ◌+◌, ◌-◌, ◌<◌, ◌≤◌, max, true, List, [], ◌∷◌, ◌++◌, length, refl}
+use Rattle.std.proofs.Common.{sym, ap, ◌∙◌, subst, inl, inr, arith, append_assoc, Some, None}
 use Rattle.std.proofs.Math.Logic.{∥∥₁_elim}
 use Rattle.std.proofs.Math.Bridge.{le_prop}
 use Rattle.std.proofs.lemmas.List.Elements.{All-append, Contains-append_right}
@@ -27,7 +28,8 @@ use Rattle.log_reclaim.specs.Tries.{IsUntimed, Makes, LoadsSuper, StoresAll, Tri
 use Rattle.log_reclaim.proofs.Reclaiming.{makes_none, makes_on, reclaims_number, reclaims_base, reclaims_may}
 use Rattle.log_reclaim.proofs.Idle.{still_of}
 use Rattle.log_reclaim.proofs.Untimed.{times_then}
-use Rattle.log_reclaim.proofs.Visits.{IsPlain, section_makes, looked_steps, looked_trail, looked_plain, looked_seen, looked_rest, looked_finds, head_step, left_steps, left_makes, left_has_step, left_empty}
+use Rattle.log_reclaim.proofs.Visits.{IsPlain, section_makes, looked_steps, looked_trail, looked_plain, looked_seen, looked_rest, looked_finds}
+use Rattle.log_reclaim.proofs.Visits.{head_step, left_steps, left_makes, left_has_step, left_empty}
 
 module _ (starts : State → Type 0) (allows : List ℕ → State → Writes → Type 0) (c : Config) (v : View) (l : Noted) (n : Note) (mark : Watermark)
     (known : ∥ Known starts allows v ∥₁) (may : MayLoadLow v) (base : v.base ≡ c.base) where
@@ -73,7 +75,8 @@ module _ (starts : State → Type 0) (allows : List ℕ → State → Writes →
         let found = loads.some refl in record {
           made = steps ++ loads.step ∷ [];
           makes = makes_on v u w steps (loads.step ∷ []) makes loads.makes;
-          within = (let fits = within in let more = begins_long w.past.seen u.past.seen loads.makes.reclaims.seen in let same = reclaims_base u w (loads.step ∷ []) loads.makes.reclaims in omega arith);
+          within = (let fits = within in let more = begins_long w.past.seen u.past.seen loads.makes.reclaims.seen in
+              let same = reclaims_base u w (loads.step ∷ []) loads.makes.reclaims in omega arith);
           fate = inl (loads.time, found.0, refl, inl (found.1, found.2));
         }
 
@@ -118,10 +121,30 @@ module _ (starts : State → Type 0) (allows : List ℕ → State → Writes →
     all_makes =
         let before = looked_rest c v u n.object link looked in
         section_makes v w all_steps may s.outside (begins_by w.past.seen u.past.seen v.past.seen s.seen (looked_seen c v u n.object link looked))
-        (s.trail ∙ ap (λ (l : List Step). l ++ s.made) (looked_trail c v u n.object link looked) ∙ append_assoc v.trail (looked_steps c v u n.object link looked) s.made)
+        (s.trail ∙ ap (λ (l : List Step). l ++ s.made) (looked_trail c v u n.object link looked)
+        ∙ append_assoc v.trail (looked_steps c v u n.object link looked) s.made)
         (All-append IsPlain (looked_steps c v u n.object link looked) s.made (looked_plain c v u n.object link looked) s.kinds)
-        (s.rest ∙ ap (λ (x : View). record x { past = record x.past { seen = w.past.seen }; phase = Outside; clocks = w.clocks; walk = Nowhere; ring = w.ring; back = None; trail = w.trail }) before
-        ∙ (let empty : u.empty ≡ w.empty = sym (ap (λ (x : View). x.empty) s.rest) in λ i. record v { past = record v.past { seen = w.past.seen }; phase = Outside; clocks = w.clocks; walk = Nowhere; empty = empty i; ring = w.ring; back = None; trail = w.trail }))
+        (s.rest ∙ ap
+        (λ (x : View). record x {
+          past = record x.past { seen = w.past.seen };
+          phase = Outside;
+          clocks = w.clocks;
+          walk = Nowhere;
+          ring = w.ring;
+          back = None;
+          trail = w.trail;
+        }) before
+        ∙ (let empty : u.empty ≡ w.empty = sym (ap (λ (x : View). x.empty) s.rest) in
+        λ i. record v {
+          past = record v.past { seen = w.past.seen };
+          phase = Outside;
+          clocks = w.clocks;
+          walk = Nowhere;
+          empty = empty i;
+          ring = w.ring;
+          back = None;
+          trail = w.trail;
+        }))
 
     all_within : max first time ≤ w.base + length w.past.seen
     all_within =

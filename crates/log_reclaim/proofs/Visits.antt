@@ -1,5 +1,6 @@
 -- A section that reclaiming enters and leaves: its steps, what they leave of the view and of the log, and what was found in HEAD.
-use Rattle.std.proofs.Common.{◌≡◌, ◌≢◌, ℕ, ◌+◌, ◌≤◌, List, [], ◌∷◌, ◌++◌, length, take, drop, refl, sym, ap, ◌∙◌, subst, arith, append_assoc, length-append, length-take, Some, None, Contains}
+use Rattle.std.proofs.Common.{◌≡◌, ◌≢◌, ℕ, ◌+◌, ◌≤◌, List, [], ◌∷◌, ◌++◌, length, take, drop, refl, sym, ap}
+use Rattle.std.proofs.Common.{◌∙◌, subst, arith, append_assoc, length-append, length-take, Some, None, Contains}
 use Rattle.std.proofs.lemmas.List.{take-append-drop}
 use Rattle.std.proofs.lemmas.List.Elements.{All-nil, All-cons, All-append, All-weaker, Contains-push, Contains-append_left}
 use Rattle.std.specs.Prelude.{All}
@@ -37,7 +38,16 @@ IsPlain s = NamesNoCommit s.kind × IsOtherKind s.kind
 -- plain steps that end outside a section are a part of a reclaiming call
 pub section_makes : (v w : View) (made : List Step) → MayLoadLow v → w.phase ≡ Outside → BeginsWith w.past.seen v.past.seen
     → w.trail ≡ v.trail ++ made → All IsPlain made
-    → w ≡ record v { past = record v.past { seen = w.past.seen }; phase = Outside; clocks = w.clocks; walk = Nowhere; empty = w.empty; ring = w.ring; back = None; trail = w.trail } → Makes v w made
+    → w ≡ record v {
+      past = record v.past { seen = w.past.seen };
+      phase = Outside;
+      clocks = w.clocks;
+      walk = Nowhere;
+      empty = w.empty;
+      ring = w.ring;
+      back = None;
+      trail = w.trail;
+    } → Makes v w made
 section_makes v w made may outside seen trail kinds rest =
     let past : record v.past { seen = w.past.seen } ≡ w.past = sym (ap (λ (x : View). x.past) rest) in
     let grace : v.grace ≡ w.grace = sym (ap (λ (x : View). x.grace) rest) in record {
@@ -50,7 +60,18 @@ section_makes v w made may outside seen trail kinds rest =
         trail = trail;
         kinds = All-weaker IsPlain (λ s. NamesNoCommit s.kind) (λ s p. p.0) made kinds;
         rest = rest
-            ∙ (λ i. record v { past = past i; phase = Outside; clocks = w.clocks; walk = Nowhere; empty = w.empty; ring = w.ring; back = None; scan = may.no_scan i; grace = grace i; trail = w.trail });
+            ∙ (λ i. record v {
+              past = past i;
+              phase = Outside;
+              clocks = w.clocks;
+              walk = Nowhere;
+              empty = w.empty;
+              ring = w.ring;
+              back = None;
+              scan = may.no_scan i;
+              grace = grace i;
+              trail = w.trail;
+            });
       };
       rests = ap (λ (x : View). x.past.rests) rest;
       kinds = All-weaker IsPlain (λ s. IsOtherKind s.kind) (λ s p. p.1) made kinds;
@@ -79,27 +100,47 @@ module _ (c : Config) (v w : View) (object link : ℕ) (h : HasLooked c v w obje
   pub looked_plain : All IsPlain looked_steps
   looked_plain =
       All-append IsPlain h.begins.entered.steps (head_step ∷ [])
-      (All-weaker (λ (s : Step). IsEnterStep s.kind) IsPlain (λ s. enter_kind (λ k. NamesNoCommit k × IsOtherKind k) (tt, tt) (tt, tt) (tt, tt) (tt, tt) (tt, tt) (tt, tt) s.kind) h.begins.entered.steps h.begins.entered.kinds)
+      (All-weaker (λ (s : Step). IsEnterStep s.kind) IsPlain
+      (λ s. enter_kind (λ k. NamesNoCommit k × IsOtherKind k) (tt, tt) (tt, tt) (tt, tt) (tt, tt) (tt, tt) (tt, tt) s.kind) h.begins.entered.steps
+      h.begins.entered.kinds)
       (All-cons IsPlain head_step [] (tt, tt) (All-nil IsPlain))
 
   pub looked_seen : BeginsWith w.past.seen v.past.seen
   looked_seen =
       subst (λ (y : View). BeginsWith y.past.seen v.past.seen) (sym h.looked)
-      (begins_by e.past.seen (take h.begins.at e.past.seen) v.past.seen (drop h.begins.at e.past.seen, sym (take-append-drop h.begins.at e.past.seen)) h.begins.snapshot)
+      (begins_by e.past.seen (take h.begins.at e.past.seen) v.past.seen (drop h.begins.at e.past.seen, sym (take-append-drop h.begins.at e.past.seen))
+      h.begins.snapshot)
 
   pub looked_rest : w
-      ≡ record v { past = record v.past { seen = w.past.seen }; phase = w.phase; clocks = w.clocks; walk = w.walk; empty = w.empty; back = None; trail = w.trail }
+      ≡ record v {
+        past = record v.past { seen = w.past.seen };
+        phase = w.phase;
+        clocks = w.clocks;
+        walk = w.walk;
+        empty = w.empty;
+        back = None;
+        trail = w.trail;
+      }
   looked_rest =
       subst
       (λ (y : View).
-      y ≡ record v { past = record v.past { seen = y.past.seen }; phase = y.phase; clocks = y.clocks; walk = y.walk; empty = y.empty; back = None; trail = y.trail })
+      y ≡ record v {
+        past = record v.past { seen = y.past.seen };
+        phase = y.phase;
+        clocks = y.clocks;
+        walk = y.walk;
+        empty = y.empty;
+        back = None;
+        trail = y.trail;
+      })
       (sym h.looked)
       (ap (λ (y : View). record y { walk = x.walk; empty = x.empty; trail = x.trail }) h.begins.rest)
 
   pub looked_stands : (l : Noted) → Stands c v l → Stands c w l
   looked_stands l k =
       subst (λ (y : View). Stands c y l) (sym h.looked)
-      (stands_same c e x l refl refl refl refl (unpassed is_free e.trail _ refl) (unpassed is_won_cut e.trail _ refl) (stands_entered c v e l h.time h.begins k))
+      (stands_same c e x l refl refl refl refl (unpassed is_free e.trail _ refl) (unpassed is_won_cut e.trail _ refl)
+      (stands_entered c v e l h.time h.begins k))
 
   -- the time of the section isn't below any that was seen before
   pub looked_late : v.base ≡ c.base → v.base + length v.past.seen ≤ time_in h.begins.inside
@@ -133,7 +174,16 @@ module _ (c : Config) (v w : View) (object link : ℕ) (h : HasLooked c v w obje
         (ap (λ (l : List Step). l ++ clear_step ∷ []) looked_trail ∙ append_assoc v.trail looked_steps (clear_step ∷ []))
         (All-append IsPlain looked_steps (clear_step ∷ []) looked_plain (All-cons IsPlain clear_step [] (tt, tt) (All-nil IsPlain)))
         (ap (λ (z : View). record z { phase = Outside; clocks = no_clocks; walk = Nowhere; back = None; trail = y.trail }) looked_rest
-        ∙ (λ i. record v { past = record v.past { seen = w.past.seen }; phase = Outside; clocks = no_clocks; walk = Nowhere; empty = w.empty; ring = ring i; back = None; trail = y.trail })))
+        ∙ (λ i. record v {
+          past = record v.past { seen = w.past.seen };
+          phase = Outside;
+          clocks = no_clocks;
+          walk = Nowhere;
+          empty = w.empty;
+          ring = ring i;
+          back = None;
+          trail = y.trail;
+        })))
 
     pub left_stands : (l : Noted) → Stands c v l → Stands c u l
     left_stands l k = subst (λ (y : View). Stands c y l) (sym left) (stands_unmarked c w l (looked_stands l k))

@@ -33,7 +33,9 @@ pub record IsCommitted (l : Noted) (position : ℕ) (n : Note) : Type 0 where
   pub at : IsNoteAt l (position - l.freed) n
   pub committed : 0 < n.time
 
--- The write-back is under way in the view: in an open section past its help that holds nothing, of an own committed version that has no time of death, wasn't cut, and whose time isn't above the pass's watermark; so many of its words were stored, and its exchange of HEAD wasn't tried.
+-- The write-back is under way in the view: in an open section past its help that holds nothing, of an own committed version that
+-- has no time of death, wasn't cut, and whose time isn't above the pass's watermark; so many of its words were stored, and its
+-- exchange of HEAD wasn't tried.
 pub record IsWriting (c : Config) (v : View) (back : Back) : Type 0 where
   pub inside : Section
   pub phase : v.phase ≡ Inside inside

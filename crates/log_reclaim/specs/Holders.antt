@@ -1,5 +1,6 @@
 -- Who holds the oldest write set of a log, and the cause of each.
-use Rattle.std.specs.Prelude.{◌≡◌, ◌≢◌, ◌⊎◌, ℕ, ◌+◌, ◌<◌, ◌≤◌, Bool, true, false, List, ◌∷◌, ◌++◌, length, Contains, All, Option, Some, None}
+use Rattle.std.specs.Prelude.{◌≡◌, ◌≢◌, ◌⊎◌, ℕ, ◌+◌, ◌<◌, ◌≤◌, Bool, true, false, List, ◌∷◌, ◌++◌, length}
+use Rattle.std.specs.Prelude.{Contains, All, Option, Some, None}
 use Rattle.mv_history.specs.declared.Entry.{Entry}
 use Rattle.mv_history.specs.declared.Step.{Step}
 use Rattle.mv_history.specs.declared.answers.Holder.{Holder}
@@ -20,7 +21,9 @@ use Rattle.seat_log.specs.Notes.{Noted, IsNoteAt}
 use Rattle.seat_log.specs.Stands.{version_of}
 use Rattle.log_reclaim.specs.Parts.{BeginsNoScan, super_step, FindsAbove}
 
--- The watermark that a version needs: one that was aborted or cut needs its noted time of death, the one above the clock that its owner loaded afterwards; a committed one whose object has a later write in what was seen needs the time of the next; any other its own time.
+-- The watermark that a version needs: one that was aborted or cut needs its noted time of death, the one above the clock that its
+-- owner loaded afterwards; a committed one whose object has a later write in what was seen needs the time of the next; any other
+-- its own time.
 abbrev pub Needs : View → Version → Status → ℕ → Type 0
 Needs v x Held t = ⊥
 Needs v x (Aborted dead) t = dead ≡ Some t
@@ -98,7 +101,8 @@ TidyHolds c w l made (Above object seat) = OldestIsUnder c w.number l made objec
 TidyHolds c w l made (Fresh time) = IsAfterScan c made time × IsOthers w time × OldestNeeds c w l time
 TidyHolds c w l made End = FindsLast made × OldestNeedsMore c w l 35184372088831
 
--- The same of a round: there `Fresh` comes where a version needs a time above the scan's clock, or, in a round that writes nothing back, where one has no later write.
+-- The same of a round: there `Fresh` comes where a version needs a time above the scan's clock, or, in a round that writes
+-- nothing back, where one has no later write.
 abbrev pub RoundHolds : Config → View → Noted → List Step → Bool → Holder → Type 0
 RoundHolds c w l made back (Mark seat low) = ReadsMark c w.number made seat low × OldestNeedsMore c w l low
 RoundHolds c w l made back (Above object seat) = OldestIsUnder c w.number l made object seat

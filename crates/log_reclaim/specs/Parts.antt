@@ -40,7 +40,9 @@ IsOtherKind NameCommit = ⊥
 IsOtherKind NameRest = ⊥
 IsOtherKind _ = Unit {0}
 
--- The pass is outside a section, as before, with no scan running. What was seen is only longer, the own commits are as before, the watermark isn't lower, and the trail is longer by these steps; nothing else has changed but the rests, the clock words heard, the HEADs found empty and the own log.
+-- The pass is outside a section, as before, with no scan running. What was seen is only longer, the own commits are as before,
+-- the watermark isn't lower, and the trail is longer by these steps; nothing else has changed but the rests, the clock words
+-- heard, the HEADs found empty and the own log.
 pub record Reclaims (v w : View) (made : List Step) : Type 0 where
   pub outside : w.phase ≡ Outside
   pub no_scan : w.scan ≡ None
@@ -49,7 +51,18 @@ pub record Reclaims (v w : View) (made : List Step) : Type 0 where
   pub grace : v.grace ≤ w.grace
   pub trail : w.trail ≡ v.trail ++ made
   pub kinds : All (λ s. NamesNoCommit s.kind) made
-  pub rest : w ≡ record v { past = w.past; phase = Outside; clocks = w.clocks; walk = Nowhere; empty = w.empty; ring = w.ring; back = None; scan = None; grace = w.grace; trail = w.trail }
+  pub rest : w ≡ record v {
+    past = w.past;
+    phase = Outside;
+    clocks = w.clocks;
+    walk = Nowhere;
+    empty = w.empty;
+    ring = w.ring;
+    back = None;
+    scan = None;
+    grace = w.grace;
+    trail = w.trail;
+  }
 
 -- the same note, but for a time of death where there was none
 pub record DiesFrom (old n : Note) : Type 0 where

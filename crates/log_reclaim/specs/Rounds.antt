@@ -17,7 +17,8 @@ use Rattle.log_reclaim.specs.Parts.{HasScanned}
 use Rattle.log_reclaim.specs.Tries.{Makes}
 use Rattle.log_reclaim.specs.Untimed.{StaysUntimed}
 
--- So many slots were freed, by one step each, and the oldest write set that is left isn't dead by that time. Of the view nothing has changed but the log and the trail.
+-- So many slots were freed, by one step each, and the oldest write set that is left isn't dead by that time. Of the view nothing
+-- has changed but the log and the trail.
 pub record FreesAll (v w : View) (l m : Noted) (made : List Step) (time freed : ℕ) : Type 0 where
   pub makes : Makes v w made
   pub kinds : All (λ s. s.kind ≡ StoreFree) made
@@ -40,7 +41,9 @@ abbrev pub untimed_holder : Scanned → Note → Option ℕ → Holder
 untimed_holder first n None = by_mark_of first.mark
 untimed_holder first n (Some seat) = Above n.object seat
 
--- The holder by the version that is due: the last time is reached; it is dead from a time above the last scan's clock; it is dead from a time above the last scan's watermark; it is untimed after a round that wrote nothing back; or a write-back left it untimed.
+-- The holder by the version that is due: the last time is reached; it is dead from a time above the last scan's clock; it is dead
+-- from a time above the last scan's watermark; it is untimed after a round that wrote nothing back; or a write-back left it
+-- untimed.
 abbrev pub holder_of : Scanned → Scanned → Bool → Found → Note → Holder
 holder_of first last back found n =
     if nat_lt 35184372088831 n.dead then End
@@ -55,7 +58,8 @@ IsHolder l first last back found None = OldestIsDead l last.mark.time
 IsHolder l first last back found (Some holder) =
     (n : Note) × IsDue l last.mark.time (Some n) × (holder ≡ holder_of first last back found n)
 
--- After a round the log is empty, or the round's scan found a watermark by which the oldest write set isn't dead, and of each version without a time of death it is known why it has none.
+-- After a round the log is empty, or the round's scan found a watermark by which the oldest write set isn't dead, and of each
+-- version without a time of death it is known why it has none.
 pub record HasLeft (c : Config) (w : View) (l : Noted) (made : List Step) (back : Bool) : Type 0 where
   pub mark : Watermark
   pub clock : ℕ

@@ -25,8 +25,10 @@ IsTableOf l found = (found.base ≡ l.freed) × (length found.seats ≡ 4096)
 abbrev pub HasEntries : Noted → Found → Type 0
 HasEntries l found = (found.base ≤ l.freed) × (length l.live + l.freed ≤ found.base + 4096) × (length found.seats ≡ 4096)
 
--- A round has looked at the first `done` versions of the log: of each that still has no time of death it is known why; the others are as before. `top` is the greatest time that it found in CLOCK.
-pub record Settles (c : Config) (v w : View) (l m : Noted) (made : List Step) (mark : Watermark) (clock : ℕ) (back : Bool) (found : Found) (top done : ℕ) : Type 0 where
+-- A round has looked at the first `done` versions of the log: of each that still has no time of death it is known why; the others
+-- are as before. `top` is the greatest time that it found in CLOCK.
+pub record Settles (c : Config) (v w : View) (l m : Noted) (made : List Step) (mark : Watermark) (clock : ℕ) (back : Bool) (found : Found)
+    (top done : ℕ) : Type 0 where
   pub reclaims : Reclaims v w made
   pub rests : w.past.rests ≡ v.past.rests
   pub kinds : All (λ s. IsOtherKind s.kind) made
@@ -40,7 +42,8 @@ pub record Settles (c : Config) (v w : View) (l m : Noted) (made : List Step) (m
   pub within : top ≤ w.base + length w.past.seen
 
 -- one version was looked at
-pub record SettlesOne (c : Config) (v w : View) (l m : Noted) (made : List Step) (mark : Watermark) (clock : ℕ) (back : Bool) (old found : Found) (index top : ℕ) : Type 0 where
+pub record SettlesOne (c : Config) (v w : View) (l m : Noted) (made : List Step) (mark : Watermark) (clock : ℕ) (back : Bool) (old found : Found)
+    (index top : ℕ) : Type 0 where
   pub reclaims : Reclaims v w made
   pub rests : w.past.rests ≡ v.past.rests
   pub kinds : All (λ s. IsOtherKind s.kind) made
@@ -53,7 +56,8 @@ pub record SettlesOne (c : Config) (v w : View) (l m : Noted) (made : List Step)
   pub kept : (i : ℕ) → (i ≡ index → ⊥) → found_at found (l.freed + i) ≡ found_at old (l.freed + i)
   pub within : top ≤ w.base + length w.past.seen
 
--- A round that had to scan: it found this watermark, freed so many slots, looked at each version, and made no exchange on CLOCK. The oldest write set that is left isn't dead by that watermark.
+-- A round that had to scan: it found this watermark, freed so many slots, looked at each version, and made no exchange on CLOCK.
+-- The oldest write set that is left isn't dead by that watermark.
 pub record Sweeps (c : Config) (v w : View) (l m : Noted) (made : List Step) (back : Bool) (scanned : Scanned) (found : Found) (freed : ℕ) : Type 0 where
   pub reclaims : Reclaims v w made
   pub leaves : All (λ s. LeavesClock s.kind) made
@@ -66,7 +70,8 @@ pub record Sweeps (c : Config) (v w : View) (l m : Noted) (made : List Step) (ba
   pub early : (i : ℕ) (n : Note) → IsNoteAt m i n → n.time ≤ scanned.clock
   pub from : scanned.clock ≤ scanned.latest
   pub within : scanned.latest ≤ w.base + length w.past.seen
-  pub notes : (i : ℕ) (n : Note) → IsNoteAt m i n → (old : Note) × IsNoteAt l (i + freed) old × DiesFrom old n × DatedSo w made scanned.latest back old n
+  pub notes : (i : ℕ) (n : Note) → IsNoteAt m i n → (old : Note) × IsNoteAt l (i + freed) old × DiesFrom old n
+      × DatedSo w made scanned.latest back old n
   pub untimed : (i : ℕ) (n : Note) → IsNoteAt m i n → n.dead ≡ 0 → StaysUntimed c w made scanned.mark scanned.clock back n (found_at found n.position)
   pub kept : 0 < length m.live → OldestIsDead m scanned.mark.time → ⊥
   pub table : HasEntries m found

@@ -19,7 +19,8 @@ IsAnyAbove l time false = (i : ℕ) (n : Note) → IsNoteAt l i n → n.dead ≤
 abbrev pub RestsOnce : View → View → Type 0
 RestsOnce v w = (w.past.rests ≡ v.past.rests) ⊎ (w.past.rests ≡ v.past.rests + 1)
 
--- At most one rest was made, and counted, by at most one exchange on CLOCK, won or lost; nothing else was noted. Afterwards no version was dead from above `latest`, or more was seen than up to it, or the last time was seen, and no rest was made.
+-- At most one rest was made, and counted, by at most one exchange on CLOCK, won or lost; nothing else was noted. Afterwards no
+-- version was dead from above `latest`, or more was seen than up to it, or the last time was seen, and no rest was made.
 pub record RestsSo (v w : View) (l m : Noted) (made : List Step) (latest : ℕ) : Type 0 where
   pub reclaims : Reclaims v w made
   pub kinds : All (λ s. BeginsNoScan s.kind) made
@@ -31,7 +32,8 @@ pub record RestsSo (v w : View) (l m : Noted) (made : List Step) (latest : ℕ) 
       ⊎ ((latest < w.base + length w.past.seen)
       ⊎ ((w.base + length w.past.seen ≡ 35184372088831) × (w.past.rests ≡ v.past.rests)))
 
--- A scan among these steps found a watermark, and of each version that the log has without a time of death it is known why a write-back by that watermark left it so.
+-- A scan among these steps found a watermark, and of each version that the log has without a time of death it is known why a
+-- write-back by that watermark left it so.
 pub record HasTried (c : Config) (w : View) (l : Noted) (made : List Step) : Type 0 where
   pub mark : Watermark
   pub clock : ℕ

@@ -1,5 +1,6 @@
 -- Looking at one version of the log: what the parts need, and what each of them leaves.
-use Rattle.std.specs.Prelude.{◌≡◌, ◌≢◌, ◌⊎◌, ℕ, ◌+◌, ◌-◌, ◌<◌, ◌≤◌, Bool, true, false, List, [], ◌∷◌, ◌++◌, length, All, Contains, Some, None}
+use Rattle.std.specs.Prelude.{◌≡◌, ◌≢◌, ◌⊎◌, ℕ, ◌+◌, ◌-◌, ◌<◌, ◌≤◌, Bool, true, false, List, [], ◌∷◌}
+use Rattle.std.specs.Prelude.{◌++◌, length, All, Contains, Some, None}
 use Rattle.mv_history.specs.declared.Step.{Step}
 use Rattle.mv_layout.specs.declared.Config.{Config}
 use Rattle.mv_core.specs.declared.view.View.{View}
@@ -19,7 +20,8 @@ use Rattle.log_reclaim.specs.declared.writing_back.BackEnd.TheVariants.{Cut, Abo
 use Rattle.log_reclaim.specs.Backs.{HasLater}
 use Rattle.log_reclaim.specs.Parts.{NamesNoCommit, IsOtherKind, Reclaims, super_step, FindsSeat, FindsOther, TimesDeath}
 
--- The pass is outside a section, with no scan running, and knows the watermark of a scan that found this time in CLOCK; all of that history was seen, and no commit of the log is later.
+-- The pass is outside a section, with no scan running, and knows the watermark of a scan that found this time in CLOCK; all of
+-- that history was seen, and no commit of the log is later.
 pub record MaySettle (v : View) (l : Noted) (mark : Watermark) (clock : ℕ) : Type 0 where
   pub outside : MayLoadLow v
   pub known : IsKnown v mark
@@ -41,7 +43,8 @@ pub record Makes (v w : View) (made : List Step) : Type 0 where
   pub rests : w.past.rests ≡ v.past.rests
   pub kinds : All (λ s. IsOtherKind s.kind) made
 
--- SUPER was loaded: a time found is noted as the time of death, and was seen; where 0 was found, nothing was noted, and no write of the object after the version's and up to the pass's watermark was seen
+-- SUPER was loaded: a time found is noted as the time of death, and was seen; where 0 was found, nothing was noted, and no write
+-- of the object after the version's and up to the pass's watermark was seen
 pub record LoadsSuper (c : Config) (v w : View) (l m : Noted) (n : Note) (found : Bool) : Type 0 where
   pub time : ℕ
   pub step : Step
@@ -50,19 +53,31 @@ pub record LoadsSuper (c : Config) (v w : View) (l m : Noted) (n : Note) (found 
   pub none : found ≡ false → (time ≡ 0) × (m ≡ l) × (step ≡ super_step c v.number n) × (latest_at w.base w.past.seen n.object v.grace ≤ n.time)
   pub some : found ≡ true → (0 < time) × (m ≡ retired l n.position time) × (time ≤ w.base + length w.past.seen)
 
--- A write-back that was begun stored all words and ended: the version was cut and is noted as dead after the time found in CLOCK, or HEAD was found to name another seat's version and nothing was noted.
+-- A write-back that was begun stored all words and ended: the version was cut and is noted as dead after the time found in CLOCK,
+-- or HEAD was found to name another seat's version and nothing was noted.
 pub record StoresAll (c : Config) (v w : View) (l m : Noted) (back : Back) (end : BackEnd) (time : ℕ) : Type 0 where
   pub made : List Step
   pub outside : w.phase ≡ Outside
   pub seen : BeginsWith w.past.seen v.past.seen
   pub trail : w.trail ≡ v.trail ++ made
   pub kinds : All (λ s. NamesNoCommit s.kind × IsOtherKind s.kind) made
-  pub rest : w ≡ record v { past = record v.past { seen = w.past.seen }; phase = Outside; clocks = w.clocks; walk = Nowhere; ring = w.ring; back = None; trail = w.trail }
+  pub rest : w ≡ record v {
+    past = record v.past { seen = w.past.seen };
+    phase = Outside;
+    clocks = w.clocks;
+    walk = Nowhere;
+    ring = w.ring;
+    back = None;
+    trail = w.trail;
+  }
   pub within : time ≤ w.base + length w.past.seen
   pub cut : end ≡ Cut → (m ≡ back_noted (retired l back.position (time + 1))) × TimesDeath made (time + 1)
-  pub above : (seat : ℕ) → end ≡ Above seat → (m ≡ l) × (seat ≢ v.number) × (seat < c.seats) × ((s : Step) × Contains made s × FindsSeat c back.object seat s)
+  pub above : (seat : ℕ) → end ≡ Above seat → (m ≡ l) × (seat ≢ v.number) × (seat < c.seats)
+      × ((s : Step) × Contains made s × FindsSeat c back.object seat s)
 
--- A write-back was tried of the version of a note in which SUPER was found 0. Either it is noted from when on it is dead: from a time that was seen, or after the time that the write-back found in CLOCK; or it is as before: it is too young for the watermark, or the log has a later commit of its object, or another seat's version was found in HEAD.
+-- A write-back was tried of the version of a note in which SUPER was found 0. Either it is noted from when on it is dead: from a
+-- time that was seen, or after the time that the write-back found in CLOCK; or it is as before: it is too young for the
+-- watermark, or the log has a later commit of its object, or another seat's version was found in HEAD.
 pub record TriesOne (c : Config) (v w : View) (l m : Noted) (n : Note) (mark : Watermark) (tried : Tried) : Type 0 where
   pub made : List Step
   pub makes : Makes v w made

@@ -8,19 +8,22 @@ use Rattle.reader_marks.specs.declared.scanning.Watermark.{Watermark}
 use Rattle.seat_log.specs.declared.version.Note.{Note}
 use Rattle.log_reclaim.specs.Parts.{super_step, FindsAbove, TimesDeath}
 
--- Why a write-back left a version without a time of death, by which seat's version it found in HEAD, if another's. Where none was found, the low time is below the clock's, and below the version's time or under a later write of the object.
+-- Why a write-back left a version without a time of death, by which seat's version it found in HEAD, if another's. Where none was
+-- found, the low time is below the clock's, and below the version's time or under a later write of the object.
 abbrev pub TriedSo : Config → View → List Step → Watermark → ℕ → Note → Option ℕ → Type 0
 TriedSo c w made mark clock n None = (mark.low < clock) × ((mark.low < n.time) ⊎ (n.time < latest w.base w.past.seen n.object))
 TriedSo c w made mark clock n (Some seat) = FindsAbove c w.number made n seat
 
--- A committed version has no time of death after a round with this watermark: one of the round's steps found SUPER 0 in it, no write of its object after its own and up to the low time was seen, and where the round writes back it tried so.
+-- A committed version has no time of death after a round with this watermark: one of the round's steps found SUPER 0 in it, no
+-- write of its object after its own and up to the low time was seen, and where the round writes back it tried so.
 pub record StaysUntimed (c : Config) (w : View) (made : List Step) (mark : Watermark) (clock : ℕ) (back : Bool) (n : Note) (above : Option ℕ) : Type 0 where
   pub committed : 0 < n.time
   pub super : Contains made (super_step c w.number n)
   pub unwritten : latest_at w.base w.past.seen n.object mark.low ≤ n.time
   pub tried : back ≡ true → TriedSo c w made mark clock n above
 
--- Where a time of death comes from that a note has after these steps: it was noted before; or it was seen; or a load of CLOCK among these steps, that of a write-back, found the time before it, which is at most `most`.
+-- Where a time of death comes from that a note has after these steps: it was noted before; or it was seen; or a load of CLOCK
+-- among these steps, that of a write-back, found the time before it, which is at most `most`.
 abbrev pub DatedSo : View → List Step → ℕ → Bool → Note → Note → Type 0
 DatedSo w made most back old n =
     (n.dead ≡ old.dead)

@@ -227,7 +227,9 @@ pub fn round<P: Protocol, L: Ledger>(
     ensures live { result.live ≡ length log.new.live }
     ensures shrinks { Shrinks log.old log.new result.freed }
     ensures rests { (view pass.new).past.rests ≡ (view pass.old).past.rests }
-    ensures reclaims { (made : List Step) × Reclaims (view pass.old) (view pass.new) made × SweptSo (config_of shared.now) (view pass.new) log.new made back × HeldSo (RoundHolds (config_of shared.now) (view pass.new) log.new made back) log.new result.held × (clock_exchanges made ≡ []) }
+    ensures reclaims { (made : List Step) × Reclaims (view pass.old) (view pass.new) made
+        × SweptSo (config_of shared.now) (view pass.new) log.new made back
+        × HeldSo (RoundHolds (config_of shared.now) (view pass.new) log.new made back) log.new result.held × (clock_exchanges made ≡ []) }
     ensures cost { steps.new ≤ steps.old + (4 + (config_of shared.now).seats + 20 * (config_of shared.now).slots) }
 {
     let mut found = Found::new(0);

@@ -184,7 +184,9 @@ fn settle<P: Protocol, L: Ledger>(
     requires table { IsTableOf log.old found.old }
     ensures same { IsSame pass.old pass.new }
     ensures stands { Stands (config_of shared.now) (view pass.new) log.new }
-    ensures settles { (clock : ℕ) → MaySettle (view pass.old) log.old mark.now clock → (made : List Step) × SettlesOne (config_of shared.now) (view pass.old) (view pass.new) log.old log.new made mark.now clock back found.old found.new index result }
+    ensures settles { (clock : ℕ) → MaySettle (view pass.old) log.old mark.now clock
+        → (made : List Step) × SettlesOne (config_of shared.now) (view pass.old) (view pass.new) log.old log.new made mark.now clock back
+        found.old found.new index result }
     ensures cost { steps.new ≤ steps.old + 18 }
 {
     let version = note(log, index);
@@ -217,7 +219,8 @@ pub(crate) fn settle_all<P: Protocol, L: Ledger>(
     requires table { IsTableOf log.old found.old }
     ensures same { IsSame pass.old pass.new }
     ensures stands { Stands (config_of shared.now) (view pass.new) log.new }
-    ensures settles { (made : List Step) × Settles (config_of shared.now) (view pass.old) (view pass.new) log.old log.new made mark.now clock back found.new result (length log.old.live) }
+    ensures settles { (made : List Step) × Settles (config_of shared.now) (view pass.old) (view pass.new) log.old log.new made mark.now clock back found.new
+        result (length log.old.live) }
     ensures cost { steps.new ≤ steps.old + 18 * length log.old.live }
 {
     let mut top = clock;

@@ -103,7 +103,10 @@ pub fn tidy<P: Protocol, L: Ledger>(
     ensures live { result.live ≡ length log.new.live }
     ensures shrinks { Shrinks log.old log.new result.freed }
     ensures rests { RestsOnce (view pass.old) (view pass.new) }
-    ensures reclaims { (made : List Step) × Reclaims (view pass.old) (view pass.new) made × SweptSo (config_of shared.now) (view pass.new) log.new made false × HeldSo (TidyHolds (config_of shared.now) (view pass.new) log.new made) log.new result.held × (length (clock_exchanges made) ≤ 1) × WritesBackSo (config_of shared.now) (view pass.new) log.new made }
+    ensures reclaims { (made : List Step) × Reclaims (view pass.old) (view pass.new) made
+        × SweptSo (config_of shared.now) (view pass.new) log.new made false
+        × HeldSo (TidyHolds (config_of shared.now) (view pass.new) log.new made) log.new result.held × (length (clock_exchanges made) ≤ 1)
+        × WritesBackSo (config_of shared.now) (view pass.new) log.new made }
     ensures alone { (config_of shared.now).seats ≡ 1 → (view pass.old).base + length (view pass.old).past.seen < 35184372088831 → log.new.live ≡ [] }
     ensures cost { steps.new ≤ steps.old + (2 * (4 + (config_of shared.now).seats + 20 * (config_of shared.now).slots) + 8) }
 {

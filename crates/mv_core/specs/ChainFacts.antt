@@ -37,7 +37,8 @@ CommitLink c h rings =
 abbrev pub AbortedLink : (ℕ → Ring) → Type 0
 AbortedLink rings =
     (s k : ℕ) (x : Version) (dead : Option ℕ) → Lives rings s k x (Aborted dead)
-    → (x.previous ≡ 0) ⊎ (IsGone rings x.previous ⊎ ((y : Version) × (note : CommitNote) × Names rings x.previous y (Committed note) × (y.object ≡ x.object)))
+    → (x.previous ≡ 0)
+    ⊎ (IsGone rings x.previous ⊎ ((y : Version) × (note : CommitNote) × Names rings x.previous y (Committed note) × (y.object ≡ x.object)))
 
 -- present-master: where an object's top is 0, its master is the present state, and its last write isn't above any section's time
 abbrev pub PresentMaster : Config → State → List Entry → (ℕ → ℕ → ℕ) → (ℕ → Option ℕ) → (ℕ → Ring) → Type 0
@@ -47,7 +48,8 @@ PresentMaster c start h master time rings =
 -- the master is the state before a version's commit, and the write before it isn't above any section's time
 abbrev pub IsGrounded : Config → State → List Entry → (ℕ → ℕ → ℕ) → (ℕ → Option ℕ) → Version → CommitNote → Type 0
 IsGrounded c start h master time x note =
-    (x.previous ≡ 0) × AreThe (master x.object) (words_of c start h (note.time - 1) x.object) × NotAboveAny (latest_at c.base h x.object (note.time - 1)) time
+    (x.previous ≡ 0) × AreThe (master x.object) (words_of c start h (note.time - 1) x.object)
+    × NotAboveAny (latest_at c.base h x.object (note.time - 1)) time
 
 -- chain-foot: under a committed version whose previous link names no live version, its time isn't above any section's, or it is grounded
 abbrev pub ChainFoot : Config → State → List Entry → (ℕ → ℕ → ℕ) → (ℕ → Option ℕ) → (ℕ → Ring) → Type 0

@@ -45,13 +45,16 @@ time_before c h (Some t) = t - 1
 abbrev pub AreWritesFrom : Config → List Entry → ℕ → ℕ → List Placed → Type 0
 AreWritesFrom c h o time [] = Unit {0}
 AreWritesFrom c h o time (p ∷ ps) =
-    (p.version.object ≡ o) × ((note : CommitNote) × (p.status ≡ Committed note) × (note.cut ≡ false) × (note.time ≡ time) × AreWritesFrom c h o (latest_at c.base h o (time - 1)) ps)
+    (p.version.object ≡ o)
+    × ((note : CommitNote) × (p.status ≡ Committed note) × (note.cut ≡ false) × (note.time ≡ time)
+    × AreWritesFrom c h o (latest_at c.base h o (time - 1)) ps)
 
 -- the object's latest writes, under perhaps one held version
 abbrev pub AreLatest : Config → List Entry → ℕ → List Placed → Type 0
 AreLatest c h o ps =
     AreWritesFrom c h o (latest c.base h o) ps
-    ⊎ ((p : Placed) × (below : List Placed) × (ps ≡ p ∷ below) × (p.version.object ≡ o) × (p.status ≡ Held) × AreWritesFrom c h o (latest c.base h o) below)
+    ⊎ ((p : Placed) × (below : List Placed) × (ps ≡ p ∷ below) × (p.version.object ≡ o) × (p.status ≡ Held)
+    × AreWritesFrom c h o (latest c.base h o) below)
 
 -- what follows is over the words by name and the logs of all seats
 module _ (m : Memory) (rings : ℕ → Ring) where
@@ -104,7 +107,8 @@ IsLater t Held = Unit {0}
 IsLater t (Aborted dead) = ⊥
 IsLater t (Committed note) = t < note.time
 
--- the section of seat j, of time t, reaches a link: the HEAD of an object, the link at which it stands, or one got from these by following PREV, each time out of a version whose stamp is unset or above t
+-- the section of seat j, of time t, reaches a link: the HEAD of an object, the link at which it stands, or one got from these by
+-- following PREV, each time out of a version whose stamp is unset or above t
 pub record ReachesLink (c : Config) (m : Memory) (f : ViewParts) (j t link : ℕ) : Type 0 where
   pub in_section : f.time j ≡ Some t
   pub from : ℕ
@@ -134,7 +138,8 @@ module _ (c : Config) (start : State) (m : Memory) (h : List Entry) (f : ViewPar
 
   -- the object's chain is grounded, and the master has the words of time t
   abbrev pub IsRightMaster : ℕ → ℕ → Type 0
-  IsRightMaster t o = AreThe (λ i. m (Master o i)) (words_of c start h t o) × ((ps : List Placed) × IsChain m f.ring o ps × IsGrounded m f.ring c start h f.time o ps)
+  IsRightMaster t o =
+      AreThe (λ i. m (Master o i)) (words_of c start h t o) × ((ps : List Placed) × IsChain m f.ring o ps × IsGrounded m f.ring c start h f.time o ps)
 
   -- the link names an aborted version of the object whose PREV is such a link, or 0 with such a master
   pub record IsAbortedOver (t o link : ℕ) : Type 0 where

@@ -1,5 +1,6 @@
 -- Entering and leaving a section, and helping a named commit: what each kind of step asks of its own view, and what it makes of it.
-use Rattle.std.specs.Prelude.{◌≡◌, ◌≢◌, ◌⊎◌, ℕ, ◌+◌, ◌==◌, ◌&&◌, ◌||◌, leb, Bool, true, false, if◌then◌else◌, List, [], ◌∷◌, ◌++◌, length, Contains, Option, Some, None}
+use Rattle.std.specs.Prelude.{◌≡◌, ◌≢◌, ◌⊎◌, ℕ, ◌+◌, ◌==◌, ◌&&◌, ◌||◌, leb, Bool, true, false}
+use Rattle.std.specs.Prelude.{if◌then◌else◌, List, [], ◌∷◌, ◌++◌, length, Contains, Option, Some, None}
 use Rattle.mv_history.specs.declared.Entry.{Entry}
 use Rattle.mv_history.specs.declared.StepKind.TheVariants.{LoadLow, StoreMark, LoadTime, LoadNamed, LoadCheck, SwapStamp, ClearMark}
 use Rattle.mv_layout.specs.declared.Config.{Config}
@@ -123,7 +124,8 @@ check_loaded c v word h = record v {
 -- the clock word is that of the commit that this seat's section has named, and this its unset stamp
 abbrev pub IsOwnNaming : Config → View → ℕ → ℕ → Type 0
 IsOwnNaming c v word unset =
-    (inside : Section) × (n : Naming) × (v.phase ≡ Inside inside) × (inside.mode ≡ Named n) × (word ≡ clock_of n.time v.number (index_of c n.first)) × (unset ≡ unset_of n.first)
+    (inside : Section) × (n : Naming) × (v.phase ≡ Inside inside) × (inside.mode ≡ Named n)
+    × (word ≡ clock_of n.time v.number (index_of c n.first)) × (unset ≡ unset_of n.first)
 
 -- compare_exchange STAMP: the unset stamp was found for the word, which was in the clock afterwards, or both are of the own commit
 abbrev pub MayStamp : Config → View → ℕ → ℕ → Type 0
@@ -164,7 +166,8 @@ abbrev pub IsFinished : View → Mode → Type 0
 IsFinished v Open = Unit {0}
 IsFinished v Aborting = Unit {0}
 IsFinished v (Named n) =
-    (n.stamped ≡ true) × ((k : ℕ) (x : Version) (note : CommitNote) → slot_at v.ring k ≡ Live x (Committed note) → note.time ≡ n.time → note.linked ≡ true)
+    (n.stamped ≡ true)
+    × ((k : ℕ) (x : Version) (note : CommitNote) → slot_at v.ring k ≡ Live x (Committed note) → note.time ≡ n.time → note.linked ≡ true)
 
 -- the condition of it
 pub record MayClearMark (v : View) : Type 0 where

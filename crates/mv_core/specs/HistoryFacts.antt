@@ -25,8 +25,10 @@ pub record KnowsPast (h : List Entry) (seat : ℕ) (p : Past) : Type 0 where
   pub mine : p.mine ≡ commits_of seat h
   pub rests : p.rests ≡ rests_of seat h
 
--- history: it is legal and allowed, its length is the clock's time less base, each seat knows a part of it and one all of it, and the clock names its last entry
-pub record History (starts : State → Type 0) (allows : List ℕ → State → Writes → Type 0) (c : Config) (start : State) (clock : ℕ) (h : List Entry) (past : ℕ → Past) : Type 0 where
+-- history: it is legal and allowed, its length is the clock's time less base, each seat knows a part of it and one all of it, and
+-- the clock names its last entry
+pub record History (starts : State → Type 0) (allows : List ℕ → State → Writes → Type 0) (c : Config) (start : State) (clock : ℕ) (h : List Entry)
+    (past : ℕ → Past) : Type 0 where
   pub opening : starts start
   pub sized : length start ≡ c.objects
   pub words : AreWords start

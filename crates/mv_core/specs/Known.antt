@@ -30,7 +30,8 @@ pub record KnownSection (v : View) (inside : Section) : Type 0 where
   pub held : (k : ℕ) (x : Version) → slot_at v.ring k ≡ Live x Held → KnownHeld v inside x
   pub apart : (k l : ℕ) (x y : Version) → slot_at v.ring k ≡ Live x Held → slot_at v.ring l ≡ Live y Held → x.object ≡ y.object → k ≡ l
 
--- what a pass knows of a committed version of its own log: its object is one of the domain, it has six words, its write was seen, and a death noted while it isn't cut is that of the next write of its object that was seen
+-- what a pass knows of a committed version of its own log: its object is one of the domain, it has six words, its write was seen,
+-- and a death noted while it isn't cut is that of the next write of its object that was seen
 pub record KnownCommit (v : View) (x : Version) (note : CommitNote) : Type 0 where
   pub in_range : x.object < length v.start
   pub wide : length x.words ≡ 6
@@ -39,7 +40,9 @@ pub record KnownCommit (v : View) (x : Version) (note : CommitNote) : Type 0 whe
   pub written : latest_at v.base v.past.seen x.object note.time ≡ note.time
   pub superseded : (dead : ℕ) → note.cut ≡ false → note.dead ≡ Some dead → IsNextIn v.base v.past.seen x.object note.time dead
 
--- the opening state is lawful, what was seen is legal and allowed and has all its own commits and rests, its time is in range, outside a section it holds nothing, walks nowhere and writes nothing back, and of its section and of the versions of its own log it knows this
+-- the opening state is lawful, what was seen is legal and allowed and has all its own commits and rests, its time is in range,
+-- outside a section it holds nothing, walks nowhere and writes nothing back, and of its section and of the versions of its own
+-- log it knows this
 pub record Known (starts : State → Type 0) (allows : List ℕ → State → Writes → Type 0) (v : View) : Type 0 where
   pub unspent : v.spent ≡ false
   pub opening : starts v.start
@@ -53,7 +56,8 @@ pub record Known (starts : State → Type 0) (allows : List ℕ → State → Wr
   pub idle : v.phase ≡ Outside → HoldsNothing v.ring
   pub still : v.phase ≡ Outside → (v.walk ≡ Nowhere) × (v.back ≡ None)
   pub commits : (k : ℕ) (x : Version) (note : CommitNote) → slot_at v.ring k ≡ Live x (Committed note) → KnownCommit v x note
-  pub deaths : (k : ℕ) (x : Version) (st : Status) (dead : ℕ) → slot_at v.ring k ≡ Live x st → death_in st ≡ Some dead → dead ≤ v.base + length v.past.seen + 1
+  pub deaths : (k : ℕ) (x : Version) (st : Status) (dead : ℕ) → slot_at v.ring k ≡ Live x st → death_in st ≡ Some dead
+      → dead ≤ v.base + length v.past.seen + 1
 
 -- in a section this is its time
 abbrev pub IsTimed : ℕ → View → Type 0

@@ -1,5 +1,6 @@
 -- Locking, writing and aborting: what each kind of step asks of its own view, and what it makes of it.
-use Rattle.std.specs.Prelude.{◌≡◌, ◌≢◌, ◌⊎◌, ℕ, zero, suc, ◌+◌, ◌<◌, ◌≤◌, true, cond, List, [], ◌∷◌, ◌++◌, map, replicate, Option, Some, None, slice_set}
+use Rattle.std.specs.Prelude.{◌≡◌, ◌≢◌, ◌⊎◌, ℕ, zero, suc, ◌+◌, ◌<◌, ◌≤◌, true, cond, List, [], ◌∷◌, ◌++◌}
+use Rattle.std.specs.Prelude.{map, replicate, Option, Some, None, slice_set}
 use Rattle.mv_history.specs.declared.Entry.{Entry}
 use Rattle.mv_history.specs.declared.StepKind.TheVariants.{StoreBuilt, StoreData, LockHead, UnlockHead, LoadDeath}
 use Rattle.mv_layout.specs.declared.Config.{Config}
@@ -95,7 +96,8 @@ data_stored c v position word value x = record v {
 abbrev pub StandsToLock : View → Section → ℕ → ℕ → Type 0
 StandsToLock v inside object previous =
     ((v.walk ≡ walk.Master object) × (previous ≡ 0))
-    ⊎ ((stand : Stand) × (found : ℕ) × (v.walk ≡ walk.At stand) × (stand.object ≡ object) × (stand.link ≡ previous) × (stand.stamp ≡ Some found) × (found ≤ time_in inside))
+    ⊎ ((stand : Stand) × (found : ℕ) × (v.walk ≡ walk.At stand) × (stand.object ≡ object) × (stand.link ≡ previous)
+    × (stand.stamp ≡ Some found) × (found ≤ time_in inside))
 
 -- compare_exchange HEAD (lock): an open section past its help stands there, doesn't hold the object, has room in its write set, and built the slot whole
 pub record MayLock (c : Config) (write_max : ℕ) (v : View) (object previous position : ℕ) (b : Build) (inside : Section) : Type 0 where
@@ -142,7 +144,8 @@ LockTold c v inside object previous position found w =
 -- a lock adds one write to those that the section holds, of the words that it reads, and takes a spare slot
 abbrev pub OneMoreWrite : Config → View → Section → ℕ → View → Type 0
 OneMoreWrite c v inside object w =
-    (own_of c w.ring ≡ own_of c v.ring ++ (object, words_of c v.start v.past.seen (time_in inside) object) ∷ []) × (spare_count w.ring + 1 ≡ spare_count v.ring)
+    (own_of c w.ring ≡ own_of c v.ring ++ (object, words_of c v.start v.past.seen (time_in inside) object) ∷ [])
+    × (spare_count w.ring + 1 ≡ spare_count v.ring)
 
 -- store HEAD (abort): in a section that named nothing and holds the object with this previous link
 pub record MayUnlock (v : View) (object previous : ℕ) (k : ℕ) (x : Version) (inside : Section) : Type 0 where

@@ -1,5 +1,6 @@
 -- Naming the next entry of the history: what each kind of step asks of its own view, and what it makes of it.
-use Rattle.std.specs.Prelude.{◌≡◌, ◌≢◌, ℕ, ◌+◌, ◌-◌, ◌<◌, ◌≤◌, ◌==◌, true, false, List, [], ◌∷◌, ◌++◌, length, map, Contains, Some, None}
+use Rattle.std.specs.Prelude.{◌≡◌, ◌≢◌, ℕ, ◌+◌, ◌-◌, ◌<◌, ◌≤◌, ◌==◌, true, false, List, [], ◌∷◌, ◌++◌}
+use Rattle.std.specs.Prelude.{length, map, Contains, Some, None}
 use Rattle.mv_history.specs.declared.Commit.{Commit}
 use Rattle.mv_history.specs.declared.Entry.{Entry}
 use Rattle.mv_history.specs.declared.Entry.TheVariants.{Rest, Change}
@@ -45,8 +46,10 @@ pub record LogTold (c : Config) (v : View) (found : ℕ) : Type 0 where
 abbrev pub commit_word : Config → View → ℕ → ℕ
 commit_word c v word = clock_of (clock_time_of word + 1) v.number (index_of c (set_first v.ring))
 
--- compare_exchange CLOCK (commit): an open section past its help holds something, the word was loaded and helped, a time is left, and the drift condition holds of the tag
-pub record MayNameCommit (allows : List ℕ → State → Writes → Type 0) (c : Config) (v : View) (word : ℕ) (tag : List ℕ) (inside : Section) : Type 0 where
+-- compare_exchange CLOCK (commit): an open section past its help holds something, the word was loaded and helped, a time is left,
+-- and the drift condition holds of the tag
+pub record MayNameCommit (allows : List ℕ → State → Writes → Type 0) (c : Config) (v : View) (word : ℕ) (tag : List ℕ)
+    (inside : Section) : Type 0 where
   pub phase : v.phase ≡ Inside inside
   pub open_is : inside.mode ≡ Open
   pub past_help : IsPastHelp v.clocks inside

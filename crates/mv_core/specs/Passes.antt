@@ -25,8 +25,11 @@ module _ {P : Type 0} where
   start_of s = s.table.shared.key.start.value.items
 
 -- the seat of a pass of this domain
-abbrev pub IsSeatOf : {P : Type 0} → (State → Type 0) → (List ℕ → State → Writes → Type 0) → Shared P → table_seat.Seat (List ℕ) View → Type 0
-IsSeatOf starts allows s seat = (seat.table_id ≡ s.table.shared.table_id) × (seat.me.0.start ≡ start_of s) × (seat.me.0.base ≡ (config_of s).base) × ∥ Known starts allows seat.me.0 ∥₁
+abbrev pub IsSeatOf : {P : Type 0} → (State → Type 0) → (List ℕ → State → Writes → Type 0) → Shared P
+    → table_seat.Seat (List ℕ) View → Type 0
+IsSeatOf starts allows s seat =
+    (seat.table_id ≡ s.table.shared.table_id) × (seat.me.0.start ≡ start_of s) × (seat.me.0.base ≡ (config_of s).base)
+    × ∥ Known starts allows seat.me.0 ∥₁
 
 -- the name of a domain, which no other domain has
 abbrev pub home_of : TableId → List ℕ
@@ -59,12 +62,17 @@ module _ {P : Type 0} {g : Ghosts P} where
 
   -- the pass is of this domain
   abbrev pub IsOf : Shared P → Pass P g → Type 0
-  IsOf s p = (p.seat.table_id ≡ s.table.shared.table_id) × (p.number < s.table.shared.key.config.seats) × ((view p).base ≡ s.table.shared.key.config.base) × ((view p).start ≡ s.table.shared.key.start.value.items) × (p.write_max ≡ s.table.shared.key.config.write_max)
+  IsOf s p = (p.seat.table_id ≡ s.table.shared.table_id) × (p.number < s.table.shared.key.config.seats)
+      × ((view p).base ≡ s.table.shared.key.config.base) × ((view p).start ≡ s.table.shared.key.start.value.items)
+      × (p.write_max ≡ s.table.shared.key.config.write_max)
 
   -- a step leaves these as they are
   abbrev pub IsSame : Pass P g → Pass P g → Type 0
-  IsSame p q = (q.seat.table_id ≡ p.seat.table_id) × (q.number ≡ p.number) × (q.write_max ≡ p.write_max) × ((view q).base ≡ (view p).base) × ((view q).start ≡ (view p).start) × ((view q).notes ≡ (view p).notes)
+  IsSame p q =
+      (q.seat.table_id ≡ p.seat.table_id) × (q.number ≡ p.number) × (q.write_max ≡ p.write_max) × ((view q).base ≡ (view p).base)
+      × ((view q).start ≡ (view p).start) × ((view q).notes ≡ (view p).notes)
 
   -- the passes of a new domain: in order of number, each with the view with which that seat begins
   abbrev pub AreNew : Shared P → List (Pass P g) → Type 0
-  AreNew s ps = (k : ℕ) (p : Pass P g) → get_elem? ps k ≡ some p → IsOf s p × (p.number ≡ k) × (view p ≡ starting_view (config_of s) (start_of s) k)
+  AreNew s ps =
+      (k : ℕ) (p : Pass P g) → get_elem? ps k ≡ some p → IsOf s p × (p.number ≡ k) × (view p ≡ starting_view (config_of s) (start_of s) k)

@@ -1,5 +1,6 @@
 -- The points of the protocol as they hold between any two steps, each over the words of the table, the history and the views.
-use Rattle.std.specs.Prelude.{◌≡◌, ◌≢◌, ◌⊎◌, ℕ, ◌+◌, ◌-◌, ◌*◌, ◌^◌, ◌<◌, ◌≤◌, true, false, List, length, Contains, Some, slice_index}
+use Rattle.std.specs.Prelude.{◌≡◌, ◌≢◌, ◌⊎◌, ℕ, ◌+◌, ◌-◌, ◌*◌, ◌^◌, ◌<◌, ◌≤◌, true, false, List, length}
+use Rattle.std.specs.Prelude.{Contains, Some, slice_index}
 use mathlib.Core.Option.{some}
 use lib.ListN.{get_elem?}
 use Rattle.atomic_table.specs.Table as table
@@ -31,7 +32,8 @@ use Rattle.mv_core.specs.SectionFacts.{Marks, StampedPastHelp, HelpedWords, Lock
 use Rattle.mv_core.specs.SectionFacts as section
 use Rattle.mv_core.specs.ReclaimFacts.{Deaths}
 use Rattle.mv_core.specs.WalkFacts.{IsBeforeDeath}
-use Rattle.mv_core.specs.Chains.{Placed, IsLinked, AreLatest, IsChain, IsGrounded, IsLoose, ReachesLink, Reaches, IsUnderLater, IsRightLink, IsRightMaster, IsAbortedOver}
+use Rattle.mv_core.specs.Chains.{Placed, IsLinked, AreLatest, IsChain, IsGrounded, IsLoose, ReachesLink, Reaches, IsUnderLater, IsRightLink}
+use Rattle.mv_core.specs.Chains.{IsRightMaster, IsAbortedOver}
 use Rattle.mv_core.specs.ReclaimSteps.{MayStoreFree}
 use Rattle.mv_core.specs.WholeSets.{SetsAreWhole}
 use Rattle.mv_core.specs.Frees.{FreesHold, FirstFree}
@@ -39,9 +41,12 @@ use Rattle.mv_core.specs.Rule.{IsThere, Ruled}
 
 -- the numbers of the unspent views and of the notes of joined seats all differ
 pub record AllDiffer (vs : List View) : Type 0 where
-  pub views : (i j : ℕ) (v w : View) → get_elem? vs i ≡ some v → get_elem? vs j ≡ some w → v.spent ≡ false → w.spent ≡ false → v.number ≡ w.number → i ≡ j
-  pub joined : (i j : ℕ) (v w : View) (n : Note) → get_elem? vs i ≡ some v → get_elem? vs j ≡ some w → v.spent ≡ false → w.spent ≡ false → Contains v.notes n → w.number ≢ n.number
-  pub notes : (i j a b : ℕ) (v w : View) (m n : Note) → get_elem? vs i ≡ some v → get_elem? vs j ≡ some w → v.spent ≡ false → w.spent ≡ false → get_elem? v.notes a ≡ some m → get_elem? w.notes b ≡ some n → m.number ≡ n.number → (i ≡ j) × (a ≡ b)
+  pub views : (i j : ℕ) (v w : View) → get_elem? vs i ≡ some v → get_elem? vs j ≡ some w → v.spent ≡ false → w.spent ≡ false
+      → v.number ≡ w.number → i ≡ j
+  pub joined : (i j : ℕ) (v w : View) (n : Note) → get_elem? vs i ≡ some v → get_elem? vs j ≡ some w → v.spent ≡ false → w.spent ≡ false
+      → Contains v.notes n → w.number ≢ n.number
+  pub notes : (i j a b : ℕ) (v w : View) (m n : Note) → get_elem? vs i ≡ some v → get_elem? vs j ≡ some w → v.spent ≡ false
+      → w.spent ≡ false → get_elem? v.notes a ≡ some m → get_elem? w.notes b ≡ some n → m.number ≡ n.number → (i ≡ j) × (a ≡ b)
 
 -- each entry of a history is of a seat that has an unspent view among these, or a note in one
 abbrev pub EntriesAreNamed : List View → List Entry → Type 0
@@ -52,7 +57,10 @@ pub record AreThePasts (vs : List View) (past : ℕ → Past) : Type 0 where
   pub views : (id : ℕ) (v : View) → get_elem? vs id ≡ some v → v.spent ≡ false → past v.number ≡ v.past
   pub notes : (id : ℕ) (v : View) (n : Note) → get_elem? vs id ≡ some v → v.spent ≡ false → Contains v.notes n → past n.number ≡ n.past
 
--- write-sets: the words of each slot are those of its version or of what was built there; a committed set has the writes of one commit, and a held one goes on to the next position; each set is a run of positions, whose versions were all committed, or are held or aborted; a set's stamp is its commit's time, or unset while the clock names the commit or there is none; and a clock word that was helped is done
+-- write-sets: the words of each slot are those of its version or of what was built there; a committed set has the writes of one
+-- commit, and a held one goes on to the next position; each set is a run of positions, whose versions were all committed, or are
+-- held or aborted; a set's stamp is its commit's time, or unset while the clock names the commit or there is none; and a clock
+-- word that was helped is done
 pub record WriteSetsHold (c : Config) (m : Memory) (h : List Entry) (f : ViewParts) : Type 0 where
   pub words : SlotWords (λ s k. m (First s k)) (λ s k. m (Prev s k)) (λ s k i. m (Data s k i)) f.ring
   pub stamps : Stamps c (m Clock) (λ s k. m (Stamp s k)) f.ring
@@ -92,7 +100,8 @@ PositionsAreBounded c m f = (s : ℕ) → (f.ring s).next ≤ c.slots * (clock_t
 -- helped-commit: a live commit before the clock's time is stamped, so each won exchange of the clock comes after the stamp of the commit before
 abbrev pub EarlierAreStamped : Config → Memory → ViewParts → Type 0
 EarlierAreStamped c m f =
-    (s k : ℕ) (x : Version) (note : CommitNote) → Lives f.ring s k x (Committed note) → note.time < clock_time_of (m Clock) → stamp_of c (λ t l. m (Stamp t l)) s x ≡ note.time
+    (s k : ℕ) (x : Version) (note : CommitNote) → Lives f.ring s k x (Committed note) → note.time < clock_time_of (m Clock)
+    → stamp_of c (λ t l. m (Stamp t l)) s x ≡ note.time
 
 -- stalled-write-back: between its first store into an object's master and its leave, a seat is the only one
 abbrev pub OneWritesBack : ViewParts → Type 0
@@ -126,19 +135,24 @@ ReachedAreKept c m f =
 abbrev pub ReachedBeforeDeath : Config → Memory → ViewParts → Type 0
 ReachedBeforeDeath c m f = (j t : ℕ) (p : Placed) → Reaches c m f j t p → IsBeforeDeath t p.status
 
--- walkers-and-deaths, of places: a walk stands at a chained version above which all are held or later than its section's time, at one that was cut and has the words of that time, at an aborted one over such a one, or at a master with those words
+-- walkers-and-deaths, of places: a walk stands at a chained version above which all are held or later than its section's time, at
+-- one that was cut and has the words of that time, at an aborted one over such a one, or at a master with those words
 abbrev pub WalksStandRight : Config → State → Memory → List Entry → ViewParts → Type 0
 WalksStandRight c start m h f =
-    ((j t : ℕ) (stand : Stand) → f.time j ≡ Some t → f.walk j ≡ At stand → IsRightLink c start m h f t stand.object stand.link ⊎ IsAbortedOver c start m h f t stand.object stand.link)
+    ((j t : ℕ) (stand : Stand) → f.time j ≡ Some t → f.walk j ≡ At stand
+    → IsRightLink c start m h f t stand.object stand.link ⊎ IsAbortedOver c start m h f t stand.object stand.link)
     × ((j t o : ℕ) → f.time j ≡ Some t → f.walk j ≡ walk.Master o → IsRightMaster c start m h f t o)
 
--- master-read: a section at an object's master finds there the words of the state at its time, and no seat is then between its first store there and its exchange of HEAD
+-- master-read: a section at an object's master finds there the words of the state at its time, and no seat is then between its
+-- first store there and its exchange of HEAD
 abbrev pub MastersAreRead : Config → State → Memory → List Entry → ViewParts → Type 0
 MastersAreRead c start m h f =
     (j t o : ℕ) → f.time j ≡ Some t → f.walk j ≡ walk.Master o
     → AreThe (λ i. m (Master o i)) (words_of c start h t o) × ((s : ℕ) (b : WriteBack) → f.back s ≡ Some b → b.object ≡ o → b.tried ≡ true)
 
--- who writes back is in a section, and the version is its object's last write up to that section's time, not above any section's; until the exchange of HEAD all above it in its chain are held or later than that section, and the words stored so far are its own
+-- who writes back is in a section, and the version is its object's last write up to that section's time, not above any section's;
+-- until the exchange of HEAD all above it in its chain are held or later than that section, and the words stored so far are its
+-- own
 pub record BackIs (c : Config) (m : Memory) (h : List Entry) (f : ViewParts) (s : ℕ) (b : WriteBack) : Type 0 where
   pub at : ℕ
   pub in_section : f.time s ≡ Some at
@@ -159,13 +173,17 @@ BacksHold c m h f = (s : ℕ) (b : WriteBack) → f.back s ≡ Some b → BackIs
 module _ (starts : State → Type 0) (allows : List ℕ → State → Writes → Type 0) where
   -- in each state that the rule allows, this holds of the words by name, of the history and of the seats' views
   abbrev pub InEachState : (Config → State → Memory → List Entry → ViewParts → Type 0) → Type 0
-  InEachState P = (key : Opening) (s : table.State (List ℕ) View) (r : Ruled starts allows key s) → P key.config key.start.value.items r.memory r.history (parts_of r.seats)
+  InEachState P = (key : Opening) (s : table.State (List ℕ) View) (r : Ruled starts allows key s)
+      → P key.config key.start.value.items r.memory r.history (parts_of r.seats)
 
-  -- history: it is legal and allowed, its length is the clock's time less base, each seat has seen a part of it and one all of it, the clock names its last entry, and each seat knows its own commits and rests; the seats' numbers differ, each entry is of one of them, and what a seat knows is in its view or its note
+  -- history: it is legal and allowed, its length is the clock's time less base, each seat has seen a part of it and one all of
+  -- it, the clock names its last entry, and each seat knows its own commits and rests; the seats' numbers differ, each entry is
+  -- of one of them, and what a seat knows is in its view or its note
   abbrev pub HistoryPoint : Type 0
   HistoryPoint =
       (key : Opening) (s : table.State (List ℕ) View) (r : Ruled starts allows key s)
-      → History starts allows key.config key.start.value.items (r.memory Clock) r.history (λ n. (r.seats n).past) × AllDiffer s.views × EntriesAreNamed s.views r.history × AreThePasts s.views (λ n. (r.seats n).past)
+      → History starts allows key.config key.start.value.items (r.memory Clock) r.history (λ n. (r.seats n).past) × AllDiffer s.views
+      × EntriesAreNamed s.views r.history × AreThePasts s.views (λ n. (r.seats n).past)
 
   -- write-sets, in each such state
   abbrev pub WriteSetsPoint : Type 0
@@ -176,7 +194,8 @@ module _ (starts : State → Type 0) (allows : List ℕ → State → Writes →
   FreesPoint =
       (key : Opening) (s : table.State (List ℕ) View) (r : Ruled starts allows key s)
       → FreesHold key.config r.memory r.history (parts_of r.seats)
-      × ((n position : ℕ) (x : Version) (st : Status) → MayStoreFree key.config (r.seats n) position → slot_at (r.seats n).ring (index_of key.config position) ≡ Live x st → FirstFree key.config (r.seats n) position x)
+      × ((n position : ℕ) (x : Version) (st : Status) → MayStoreFree key.config (r.seats n) position
+      → slot_at (r.seats n).ring (index_of key.config position) ≡ Live x st → FirstFree key.config (r.seats n) position x)
 
   -- marks, in each such state
   abbrev pub MarksPoint : Type 0

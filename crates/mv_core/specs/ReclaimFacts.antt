@@ -1,5 +1,6 @@
 -- What holds of versions that are dead, cut, freed or written back.
-use Rattle.std.specs.Prelude.{◌≡◌, ◌≢◌, ◌⊎◌, ℕ, ◌+◌, ◌-◌, ◌/◌, ◌%◌, ◌<◌, ◌≤◌, true, false, List, length, Option, Some, None, slice_index}
+use Rattle.std.specs.Prelude.{◌≡◌, ◌≢◌, ◌⊎◌, ℕ, ◌+◌, ◌-◌, ◌/◌, ◌%◌, ◌<◌, ◌≤◌, true, false, List, length}
+use Rattle.std.specs.Prelude.{Option, Some, None, slice_index}
 use Rattle.mv_history.specs.declared.Entry.{Entry}
 use Rattle.mv_history.specs.State.{maker_of}
 use Rattle.mv_layout.specs.declared.Config.{Config}
@@ -25,8 +26,10 @@ use Rattle.mv_core.specs.SectionFacts.{IsPastHelp}
 -- deaths: a noted death of an aborted or cut version is at most one above the clock, and that of another committed one is the next write of its object
 pub record Deaths (c : Config) (h : List Entry) (rings : ℕ → Ring) : Type 0 where
   pub aborted : (s k dead : ℕ) (x : Version) → Lives rings s k x (Aborted (Some dead)) → dead ≤ c.base + length h + 1
-  pub cut : (s k dead : ℕ) (x : Version) (note : CommitNote) → Lives rings s k x (Committed note) → note.cut ≡ true → note.dead ≡ Some dead → dead ≤ c.base + length h + 1
-  pub superseded : (s k dead : ℕ) (x : Version) (note : CommitNote) → Lives rings s k x (Committed note) → note.cut ≡ false → note.dead ≡ Some dead → IsNextWrite c.base h x.object note.time dead
+  pub cut : (s k dead : ℕ) (x : Version) (note : CommitNote) → Lives rings s k x (Committed note) → note.cut ≡ true → note.dead ≡ Some dead
+      → dead ≤ c.base + length h + 1
+  pub superseded : (s k dead : ℕ) (x : Version) (note : CommitNote) → Lives rings s k x (Committed note) → note.cut ≡ false
+      → note.dead ≡ Some dead → IsNextWrite c.base h x.object note.time dead
 
 -- the death that is noted in a status
 abbrev pub death_in : Status → Option ℕ
@@ -55,23 +58,32 @@ DeathAfterWrite rings =
 
 -- freed-is-old: the time of a write whose version isn't live any more is below the watermark of the seat that made it, and the commit that CLOCK names is live
 pub record FreedIsOld (c : Config) (clock : ℕ) (h : List Entry) (grace : ℕ → ℕ) (rings : ℕ → Ring) : Type 0 where
-  pub writes : (t o : ℕ) (e : Entry) → IsEntry c.base h t e → writes_to o e ≡ true → ((link : ℕ) × (x : Version) × (note : CommitNote) × IsVersion rings o t link x note) ⊎ (t < grace (maker_of e))
-  pub named : clock_slot_of clock ≢ 8191 → (x : Version) × (note : CommitNote) × Lives rings (clock_seat_of clock) (clock_slot_of clock) x (Committed note) × (x.position ≡ x.first) × (note.time ≡ clock_time_of clock)
+  pub writes : (t o : ℕ) (e : Entry) → IsEntry c.base h t e → writes_to o e ≡ true
+      → ((link : ℕ) × (x : Version) × (note : CommitNote) × IsVersion rings o t link x note) ⊎ (t < grace (maker_of e))
+  pub named : clock_slot_of clock ≢ 8191
+      → (x : Version) × (note : CommitNote) × Lives rings (clock_seat_of clock) (clock_slot_of clock) x (Committed note) × (x.position ≡ x.first)
+      × (note.time ≡ clock_time_of clock)
 
 -- cut-is-old: the time of a cut version isn't above any section's
 abbrev pub CutIsOld : (ℕ → Option ℕ) → (ℕ → Ring) → Type 0
 CutIsOld time rings =
     (s k : ℕ) (x : Version) (note : CommitNote) → Lives rings s k x (Committed note) → note.cut ≡ true → NotAboveAny note.time time
 
--- successor-flag: under a commit that isn't finished, the version below is uncut, and its SUPER is that commit's time where the view says so, and else 0, with no death noted there
+-- successor-flag: under a commit that isn't finished, the version below is uncut, and its SUPER is that commit's time where the
+-- view says so, and else 0, with no death noted there
 abbrev pub SuccessorFlag : (ℕ → ℕ → ℕ) → (ℕ → Option Section) → (ℕ → Ring) → Type 0
 SuccessorFlag super section rings =
-    (s k : ℕ) (inside : Section) (n : Naming) (x : Version) (note : CommitNote) → section s ≡ Some inside → inside.mode ≡ Named n → Lives rings s k x (Committed note) → note.time ≡ n.time
+    (s k : ℕ) (inside : Section) (n : Naming) (x : Version) (note : CommitNote) → section s ≡ Some inside → inside.mode ≡ Named n
+    → Lives rings s k x (Committed note) → note.time ≡ n.time
     → (x.previous ≡ 0 → note.linked ≡ true)
-    × ((y : Version) (other : CommitNote) (below : Names rings x.previous y (Committed other)) → (note.linked ≡ true → super below.seat below.slot ≡ n.time) × (note.linked ≡ false → (super below.seat below.slot ≡ 0) × (other.dead ≡ None)))
+    × ((y : Version) (other : CommitNote) (below : Names rings x.previous y (Committed other))
+    → (note.linked ≡ true → super below.seat below.slot ≡ n.time)
+    × (note.linked ≡ false → (super below.seat below.slot ≡ 0) × (other.dead ≡ None)))
 
--- what a write-back is of: a live committed version of the object in the own log, the object's last write up to that section's time, not above any section's time nor the watermark; until its exchange it isn't cut, and the words stored so far are its own
-pub record IsWrittenBack (c : Config) (h : List Entry) (master : ℕ → ℕ → ℕ) (time : ℕ → Option ℕ) (ring : ℕ → Ring) (s : ℕ) (clocks : LoadedClocks) (grace : ℕ) (b : WriteBack) (inside : Section) : Type 0 where
+-- what a write-back is of: a live committed version of the object in the own log, the object's last write up to that section's
+-- time, not above any section's time nor the watermark; until its exchange it isn't cut, and the words stored so far are its own
+pub record IsWrittenBack (c : Config) (h : List Entry) (master : ℕ → ℕ → ℕ) (time : ℕ → Option ℕ) (ring : ℕ → Ring) (s : ℕ)
+    (clocks : LoadedClocks) (grace : ℕ) (b : WriteBack) (inside : Section) : Type 0 where
   pub mode : inside.mode ≡ Open
   pub helped : IsPastHelp clocks inside
   pub nothing : HoldsNothing (ring s)
@@ -88,9 +100,11 @@ pub record IsWrittenBack (c : Config) (h : List Entry) (master : ℕ → ℕ →
   pub words : b.tried ≡ false → (i : ℕ) → i < b.stored → master b.object i ≡ slice_index version.words i
 
 -- write-back, with words-written and uncut-while-writing: who writes back is in such a section
-abbrev pub WriteBacks : Config → List Entry → (ℕ → ℕ → ℕ) → (ℕ → Option Section) → (ℕ → Option ℕ) → (ℕ → LoadedClocks) → (ℕ → ℕ) → (ℕ → Option WriteBack) → (ℕ → Ring) → Type 0
+abbrev pub WriteBacks : Config → List Entry → (ℕ → ℕ → ℕ) → (ℕ → Option Section) → (ℕ → Option ℕ) → (ℕ → LoadedClocks)
+    → (ℕ → ℕ) → (ℕ → Option WriteBack) → (ℕ → Ring) → Type 0
 WriteBacks c h master section time clocks grace back rings =
-    (s : ℕ) (b : WriteBack) → back s ≡ Some b → (inside : Section) × (section s ≡ Some inside) × IsWrittenBack c h master time rings s (clocks s) (grace s) b inside
+    (s : ℕ) (b : WriteBack) → back s ≡ Some b → (inside : Section) × (section s ≡ Some inside)
+    × IsWrittenBack c h master time rings s (clocks s) (grace s) b inside
 
 -- the least position from `next` on that has this slot
 abbrev pub next_in : Config → Ring → ℕ → ℕ
@@ -103,5 +117,6 @@ pub record PositionsAndGrace (c : Config) (grace : ℕ → ℕ) (rings : ℕ →
   pub built : (s k : ℕ) (b : Build) → slot_at (rings s) k ≡ Built b → c.base + (rings s).next / c.slots ≤ grace s
   pub freeing : (s k p first : ℕ) → slot_at (rings s) k ≡ Freeing p first → c.base + p / c.slots < grace s
   pub commit : (s k : ℕ) (x : Version) (note : CommitNote) → Lives rings s k x (Committed note) → c.base + x.position / c.slots < note.time
-  pub dead : (s k t : ℕ) (x : Version) (note : CommitNote) → Lives rings s k x (Committed note) → note.dead ≡ Some t → c.base + x.position / c.slots < t
+  pub dead : (s k t : ℕ) (x : Version) (note : CommitNote) → Lives rings s k x (Committed note) → note.dead ≡ Some t
+      → c.base + x.position / c.slots < t
   pub aborted : (s k t : ℕ) (x : Version) → Lives rings s k x (Aborted (Some t)) → c.base + x.position / c.slots < t

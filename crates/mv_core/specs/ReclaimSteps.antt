@@ -1,5 +1,6 @@
 -- Reclaiming the slots of a log: what each kind of step asks of its own view, and what it makes of it.
-use Rattle.std.specs.Prelude.{◌≡◌, ◌≢◌, ◌⊎◌, ℕ, ◌+◌, ◌-◌, ◌<◌, ◌≤◌, ◌==◌, nat_lt, min, max, true, false, if◌then◌else◌, List, length, map, Contains, Option, Some, None, slice_index}
+use Rattle.std.specs.Prelude.{◌≡◌, ◌≢◌, ◌⊎◌, ℕ, ◌+◌, ◌-◌, ◌<◌, ◌≤◌, ◌==◌, nat_lt, min, max, true, false}
+use Rattle.std.specs.Prelude.{if◌then◌else◌, List, length, map, Contains, Option, Some, None, slice_index}
 use Rattle.mv_history.specs.declared.Entry.{Entry}
 use Rattle.mv_history.specs.declared.StepKind.TheVariants.{LoadScan, LoadMark, LoadSuper, StoreMaster, CutHead, StoreFree}
 use Rattle.mv_layout.specs.declared.Config.{Config}
@@ -105,7 +106,9 @@ pub record SeesSuper (c : Config) (v : View) (x : Version) (note : CommitNote) (
 -- the write-back that stores the word i next: one begins at the own version that the walk stands at, whose time the watermark has reached
 abbrev pub GoesToWord : View → ℕ → ℕ → ℕ → Version → CommitNote → Type 0
 GoesToWord v object i position x note =
-    ((i ≡ 0) × (v.back ≡ None) × ((stand : Stand) × (v.walk ≡ walk.At stand) × (stand.object ≡ object) × (stand.link ≡ link_of v.number position)) × (note.cut ≡ false) × (note.time ≤ v.grace))
+    ((i ≡ 0) × (v.back ≡ None)
+    × ((stand : Stand) × (v.walk ≡ walk.At stand) × (stand.object ≡ object) × (stand.link ≡ link_of v.number position)) × (note.cut ≡ false)
+    × (note.time ≤ v.grace))
     ⊎ ((0 < i) × (v.back ≡ Some (record { object = object; position = position; stored = i; tried = false })))
 
 -- store MASTER: in an open section past its help that holds nothing, the next word of such a version
@@ -153,7 +156,8 @@ cut_lost c v object position found =
 -- what the exchange tells
 abbrev pub CutTold : Config → View → ℕ → ℕ → Version → CommitNote → ℕ → View → Type 0
 CutTold c v object position x note found w =
-    (found ≡ link_of v.number position → w ≡ head_cut c v object position x note) × (found ≢ link_of v.number position → w ≡ cut_lost c v object position found)
+    (found ≡ link_of v.number position → w ≡ head_cut c v object position x note)
+    × (found ≢ link_of v.number position → w ≡ cut_lost c v object position found)
 
 -- the word isn't 0, and is a link to the log of another seat
 abbrev pub IsOfOther : View → ℕ → Type 0

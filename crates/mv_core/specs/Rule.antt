@@ -43,16 +43,22 @@ pub record IsThere (vs : List View) (s : ℕ) : Type 0 where
   pub unspent : holder.spent ≡ false
   pub named : (holder.number ≡ s) ⊎ ((n : Note) × Contains holder.notes n × (n.number ≡ s))
 
--- The views of the table are those of the seats: each unspent one is that of its number, each note is of a joined seat, no number is twice, and a seat that isn't made yet is new, while each other one has a view or a note.
+-- The views of the table are those of the seats: each unspent one is that of its number, each note is of a joined seat, no number
+-- is twice, and a seat that isn't made yet is new, while each other one has a view or a note.
 pub record Seated (c : Config) (start : State) (vs : List View) (seats : ℕ → View) : Type 0 where
   pub own : (s : ℕ) → ((seats s).number ≡ s) × ((seats s).start ≡ start) × ((seats s).base ≡ c.base)
   pub there : (id : ℕ) (v : View) → get_elem? vs id ≡ some v → v.spent ≡ false → (seats v.number ≡ v) × (v.number < c.seats)
-  pub apart : (i j : ℕ) (v w : View) → get_elem? vs i ≡ some v → get_elem? vs j ≡ some w → v.spent ≡ false → w.spent ≡ false → v.number ≡ w.number → i ≡ j
+  pub apart : (i j : ℕ) (v w : View) → get_elem? vs i ≡ some v → get_elem? vs j ≡ some w → v.spent ≡ false → w.spent ≡ false
+      → v.number ≡ w.number → i ≡ j
   pub noted : (id : ℕ) (v : View) (n : Note) → get_elem? vs id ≡ some v → v.spent ≡ false → Contains v.notes n → IsNoted seats n
-  pub gone : (i j : ℕ) (v w : View) (n : Note) → get_elem? vs i ≡ some v → get_elem? vs j ≡ some w → v.spent ≡ false → w.spent ≡ false → Contains v.notes n → w.number ≢ n.number
-  pub once : (i j a b : ℕ) (v w : View) (m n : Note) → get_elem? vs i ≡ some v → get_elem? vs j ≡ some w → v.spent ≡ false → w.spent ≡ false → get_elem? v.notes a ≡ some m → get_elem? w.notes b ≡ some n → m.number ≡ n.number → (i ≡ j) × (a ≡ b)
-  pub maker : (id : ℕ) (v : View) → get_elem? vs id ≡ some v → v.spent ≡ false → 0 < v.made → (v.number ≡ 0) × ((s : ℕ) → v.made ≤ s → seats s ≡ new_view c start s 0)
-  pub made : (i j : ℕ) (v w : View) → get_elem? vs i ≡ some v → get_elem? vs j ≡ some w → v.spent ≡ false → w.spent ≡ false → 0 < v.made → (w.number < v.made) × All (λ n. n.number < v.made) w.notes
+  pub gone : (i j : ℕ) (v w : View) (n : Note) → get_elem? vs i ≡ some v → get_elem? vs j ≡ some w → v.spent ≡ false → w.spent ≡ false
+      → Contains v.notes n → w.number ≢ n.number
+  pub once : (i j a b : ℕ) (v w : View) (m n : Note) → get_elem? vs i ≡ some v → get_elem? vs j ≡ some w → v.spent ≡ false → w.spent ≡ false
+      → get_elem? v.notes a ≡ some m → get_elem? w.notes b ≡ some n → m.number ≡ n.number → (i ≡ j) × (a ≡ b)
+  pub maker : (id : ℕ) (v : View) → get_elem? vs id ≡ some v → v.spent ≡ false → 0 < v.made
+      → (v.number ≡ 0) × ((s : ℕ) → v.made ≤ s → seats s ≡ new_view c start s 0)
+  pub made : (i j : ℕ) (v w : View) → get_elem? vs i ≡ some v → get_elem? vs j ≡ some w → v.spent ≡ false → w.spent ≡ false → 0 < v.made
+      → (w.number < v.made) × All (λ n. n.number < v.made) w.notes
   pub all : (s : ℕ) → IsThere vs s ⊎ (seats s ≡ new_view c start s 0)
 
 -- what a step keeps of its seat's view besides
@@ -115,23 +121,28 @@ module _ (starts : State → Type 0) (allows : List ℕ → State → Writes →
   module _ (c : Config) (start : State) (v : View) (p : Place) where
     -- What a load of p shows: whatever the words, the history and the other views are, the seat has a new view that keeps all facts.
     abbrev pub Loads : (ℕ → View → Type 0) → Type 0
-    Loads tells = (m : Memory) (h : List Entry) (seats : ℕ → View) → Facts c start m h (parts_of seats) → seats v.number ≡ v → v.number < c.seats → v.start ≡ start → m p < 2 ^ 64
+    Loads tells = (m : Memory) (h : List Entry) (seats : ℕ → View) → Facts c start m h (parts_of seats) → seats v.number ≡ v → v.number < c.seats
+        → v.start ≡ start → m p < 2 ^ 64
         → (w : View) × Facts c start m h (parts_of (set_at seats v.number w)) × tells (m p) w
 
     -- the same of a store of n into p, which may lengthen the history
     abbrev pub Stores : ℕ → (View → Type 0) → Type 0
-    Stores n tells = (m : Memory) (h : List Entry) (seats : ℕ → View) → Facts c start m h (parts_of seats) → seats v.number ≡ v → v.number < c.seats → v.start ≡ start
+    Stores n tells = (m : Memory) (h : List Entry) (seats : ℕ → View) → Facts c start m h (parts_of seats) → seats v.number ≡ v
+        → v.number < c.seats → v.start ≡ start
         → (w : View) × (longer : List Entry) × Facts c start (put m p n) longer (parts_of (set_at seats v.number w)) × tells w
 
     -- the same of an exchange of p from `old` to `new`, which is won where p is `old`
     abbrev pub Swaps : ℕ → ℕ → (ℕ → View → Type 0) → Type 0
     Swaps old new tells =
-        ((m : Memory) (h : List Entry) (seats : ℕ → View) → Facts c start m h (parts_of seats) → seats v.number ≡ v → v.number < c.seats → v.start ≡ start → m p ≡ old
+        ((m : Memory) (h : List Entry) (seats : ℕ → View) → Facts c start m h (parts_of seats) → seats v.number ≡ v → v.number < c.seats
+        → v.start ≡ start → m p ≡ old
         → (w : View) × (longer : List Entry) × Facts c start (put m p new) longer (parts_of (set_at seats v.number w)) × tells old w)
-        × ((m : Memory) (h : List Entry) (seats : ℕ → View) → Facts c start m h (parts_of seats) → seats v.number ≡ v → v.number < c.seats → v.start ≡ start → m p ≢ old → m p < 2 ^ 64
+        × ((m : Memory) (h : List Entry) (seats : ℕ → View) → Facts c start m h (parts_of seats) → seats v.number ≡ v → v.number < c.seats
+        → v.start ≡ start → m p ≢ old → m p < 2 ^ 64
         → (w : View) × Facts c start m h (parts_of (set_at seats v.number w)) × tells (m p) w)
 
     -- the same of a fetch_max of p by n
     abbrev pub Raises : ℕ → (ℕ → View → Type 0) → Type 0
-    Raises n tells = (m : Memory) (h : List Entry) (seats : ℕ → View) → Facts c start m h (parts_of seats) → seats v.number ≡ v → v.number < c.seats → v.start ≡ start → m p < 2 ^ 64
+    Raises n tells = (m : Memory) (h : List Entry) (seats : ℕ → View) → Facts c start m h (parts_of seats) → seats v.number ≡ v
+        → v.number < c.seats → v.start ≡ start → m p < 2 ^ 64
         → (w : View) × Facts c start (put m p (max (m p) n)) h (parts_of (set_at seats v.number w)) × tells (m p) w

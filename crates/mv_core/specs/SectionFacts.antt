@@ -44,7 +44,8 @@ IsPastHelp clocks inside = Contains clocks.helped inside.word
 abbrev pub StampedPastHelp : Config → (ℕ → ℕ → ℕ) → (ℕ → Option Section) → (ℕ → LoadedClocks) → (ℕ → Ring) → Type 0
 StampedPastHelp c stamp section clocks rings =
     (s : ℕ) (inside : Section) → section s ≡ Some inside → IsPastHelp (clocks s) inside
-    → (t k : ℕ) (x : Version) (note : CommitNote) → Lives rings t k x (Committed note) → note.time ≤ time_in inside → stamp_of c stamp t x ≡ note.time
+    → (t k : ℕ) (x : Version) (note : CommitNote) → Lives rings t k x (Committed note) → note.time ≤ time_in inside
+    → stamp_of c stamp t x ≡ note.time
 
 -- the clock word names a seat and a slot of the domain, or no commit
 abbrev pub IsWord : Config → ℕ → Type 0
@@ -82,14 +83,17 @@ pub record IsNamedCommit (rings : ℕ → Ring) (word : ℕ) (unset : ℕ) : Typ
   pub time_is : note.time ≡ clock_time_of word
   pub unset_is : unset ≡ unset_of version.first
 
--- an unset stamp that was found for a clock word is of a used position in the slot that the word names; if that position is live it is the commit that the word names, and if not, the stamp there is another
+-- an unset stamp that was found for a clock word is of a used position in the slot that the word names; if that position is live
+-- it is the commit that the word names, and if not, the stamp there is another
 pub record IsFound (c : Config) (stamp : ℕ → ℕ → ℕ) (rings : ℕ → Ring) (f : FoundStamp) : Type 0 where
   pub position : ℕ
   pub unset_is : f.unset ≡ unset_of position
   pub slot_is : index_of c position ≡ clock_slot_of f.word
   pub used : position < (rings (clock_seat_of f.word)).next
-  pub live : (x : Version) (st : Status) → Lives rings (clock_seat_of f.word) (clock_slot_of f.word) x st → x.position ≡ position → (x.first ≡ position) × ((note : CommitNote) × (st ≡ Committed note) × (note.time ≡ clock_time_of f.word))
-  pub gone : ((x : Version) (st : Status) → Lives rings (clock_seat_of f.word) (clock_slot_of f.word) x st → x.position ≢ position) → stamp (clock_seat_of f.word) (clock_slot_of f.word) ≢ f.unset
+  pub live : (x : Version) (st : Status) → Lives rings (clock_seat_of f.word) (clock_slot_of f.word) x st → x.position ≡ position
+      → (x.first ≡ position) × ((note : CommitNote) × (st ≡ Committed note) × (note.time ≡ clock_time_of f.word))
+  pub gone : ((x : Version) (st : Status) → Lives rings (clock_seat_of f.word) (clock_slot_of f.word) x st → x.position ≢ position)
+      → stamp (clock_seat_of f.word) (clock_slot_of f.word) ≢ f.unset
 
 -- found-stamp: an unset stamp that a view found is the commit's own while the clock has its word, and is what it seems once the word was checked
 pub record FoundStamps (c : Config) (clock : ℕ) (stamp : ℕ → ℕ → ℕ) (clocks : ℕ → LoadedClocks) (rings : ℕ → Ring) : Type 0 where
@@ -131,15 +135,19 @@ abbrev pub NamedCommit : Config → List Entry → (ℕ → ℕ → ℕ) → (�
 NamedCommit c h stamp section rings =
     (s : ℕ) (inside : Section) (n : Naming) → section s ≡ Some inside → inside.mode ≡ Named n → NamedIs c h stamp rings s inside n
 
--- open-section: the seat of a section that has named nothing made no entry after its time; held slots exist only there, in one write set, which is whole while the section is open
+-- open-section: the seat of a section that has named nothing made no entry after its time; held slots exist only there, in one
+-- write set, which is whole while the section is open
 pub record OpenSection (c : Config) (h : List Entry) (section : ℕ → Option Section) (rings : ℕ → Ring) : Type 0 where
   pub own : (s : ℕ) (inside : Section) → section s ≡ Some inside → IsUnnamed inside.mode → last_own c.base h s ≤ time_in inside
   pub held : (s k : ℕ) (x : Version) → Lives rings s k x Held → (inside : Section) × (section s ≡ Some inside) × IsUnnamed inside.mode
   pub one_set : (s k l : ℕ) (x y : Version) → Lives rings s k x Held → Lives rings s l y Held → x.first ≡ y.first
-  pub whole : (s k : ℕ) (x : Version) (inside : Section) → Lives rings s k x Held → section s ≡ Some inside → inside.mode ≡ Open → (p : ℕ) → x.first ≤ p → p < (rings s).next → InHeldSet c rings s x.first p (λ st. st ≡ Held)
+  pub whole : (s k : ℕ) (x : Version) (inside : Section) → Lives rings s k x Held → section s ≡ Some inside → inside.mode ≡ Open → (p : ℕ)
+      → x.first ≤ p → p < (rings s).next → InHeldSet c rings s x.first p (λ st. st ≡ Held)
 
--- phases-and-scan: a scan runs only outside; outside a section there is no walk and no write-back; a section's time was seen; sections are of the domain's seats
-pub record PhasesAndScan (c : Config) (past : ℕ → Past) (phase : ℕ → Phase) (time : ℕ → Option ℕ) (walk : ℕ → Walk) (back : ℕ → Option WriteBack) (scan : ℕ → Option Scan) : Type 0 where
+-- phases-and-scan: a scan runs only outside; outside a section there is no walk and no write-back; a section's time was seen;
+-- sections are of the domain's seats
+pub record PhasesAndScan (c : Config) (past : ℕ → Past) (phase : ℕ → Phase) (time : ℕ → Option ℕ) (walk : ℕ → Walk)
+    (back : ℕ → Option WriteBack) (scan : ℕ → Option Scan) : Type 0 where
   pub scanning : (s : ℕ) (running : Scan) → scan s ≡ Some running → phase s ≡ Outside
   pub outside : (s : ℕ) → time s ≡ None → (walk s ≡ Nowhere) × (back s ≡ None)
   pub seen : (s t : ℕ) → time s ≡ Some t → t ≤ c.base + length (past s).seen

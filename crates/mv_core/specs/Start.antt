@@ -39,5 +39,6 @@ pub record Laid (c : Config) (start : State) (words : List ℕ) (objects laid : 
   pub wide : length words ≡ total c
   pub clock : slice_index words 0 ≡ clock_of c.base 0 8191
   pub grace : slice_index words 1 ≡ c.base
-  pub master : (o w : ℕ) → o < c.objects → w < 6 → (o < objects) ⊎ ((o ≡ objects) × (w < laid)) → slice_index words (place_of c (Master o w)) ≡ slice_index (words_at start o) w
+  pub master : (o w : ℕ) → o < c.objects → w < 6 → (o < objects) ⊎ ((o ≡ objects) × (w < laid))
+      → slice_index words (place_of c (Master o w)) ≡ slice_index (words_at start o) w
   pub blank : (p : Place) → IsPlace c p → IsBlank p → slice_index words (place_of c p) ≡ 0

@@ -1,5 +1,6 @@
 -- Where the walks of sections stand, and what they know.
-use Rattle.std.specs.Prelude.{◌≡◌, ◌≢◌, ◌⊎◌, ℕ, ◌+◌, ◌<◌, ◌≤◌, ◌^◌, true, false, List, length, Option, Some, None, Contains}
+use Rattle.std.specs.Prelude.{◌≡◌, ◌≢◌, ◌⊎◌, ℕ, ◌+◌, ◌<◌, ◌≤◌, ◌^◌, true, false, List, length, Option, Some}
+use Rattle.std.specs.Prelude.{None, Contains}
 use Rattle.mv_history.specs.declared.Entry.{Entry}
 use Rattle.mv_history.specs.State.{State}
 use Rattle.mv_layout.specs.declared.Config.{Config}
@@ -60,15 +61,22 @@ IsBeforeDeath t (Committed note) = (dead : ℕ) → note.dead ≡ Some dead → 
 
 -- walker-before-death: a section's time is below the noted death of the version it stands at, and of one that an aborted version there links to
 pub record WalkerBeforeDeath (time : ℕ → Option ℕ) (walk : ℕ → Walk) (rings : ℕ → Ring) : Type 0 where
-  pub here : (s t : ℕ) (stand : Stand) (x : Version) (st : Status) → time s ≡ Some t → walk s ≡ At stand → Names rings stand.link x st → IsBeforeDeath t st
-  pub below : (s t : ℕ) (stand : Stand) (x y : Version) (dead : Option ℕ) (st : Status) → time s ≡ Some t → walk s ≡ At stand → Names rings stand.link x (Aborted dead) → Names rings x.previous y st → IsBeforeDeath t st
+  pub here : (s t : ℕ) (stand : Stand) (x : Version) (st : Status) → time s ≡ Some t → walk s ≡ At stand → Names rings stand.link x st
+      → IsBeforeDeath t st
+  pub below : (s t : ℕ) (stand : Stand) (x y : Version) (dead : Option ℕ) (st : Status) → time s ≡ Some t → walk s ≡ At stand
+      → Names rings stand.link x (Aborted dead) → Names rings x.previous y st → IsBeforeDeath t st
 
--- walker-knowledge: who stands somewhere is past the help; the FIRST found is that version's, a time found is that of its commit, and an unset stamp found means that it isn't committed at or before the section's time
-pub record WalkerKnowledge (section : ℕ → Option Section) (time : ℕ → Option ℕ) (clocks : ℕ → LoadedClocks) (walk : ℕ → Walk) (rings : ℕ → Ring) : Type 0 where
+-- walker-knowledge: who stands somewhere is past the help; the FIRST found is that version's, a time found is that of its commit,
+-- and an unset stamp found means that it isn't committed at or before the section's time
+pub record WalkerKnowledge (section : ℕ → Option Section) (time : ℕ → Option ℕ) (clocks : ℕ → LoadedClocks) (walk : ℕ → Walk)
+    (rings : ℕ → Ring) : Type 0 where
   pub helped : (s : ℕ) (inside : Section) → section s ≡ Some inside → walk s ≢ Nowhere → IsPastHelp (clocks s) inside
-  pub first : (s first : ℕ) (stand : Stand) (x : Version) (st : Status) → walk s ≡ At stand → stand.first ≡ Some first → Names rings stand.link x st → first ≡ x.first
-  pub stamp : (s found : ℕ) (stand : Stand) (x : Version) (st : Status) → walk s ≡ At stand → stand.stamp ≡ Some found → found < 2 ^ 63 → Names rings stand.link x st → (note : CommitNote) × (st ≡ Committed note) × (note.time ≡ found)
-  pub unset : (s t found : ℕ) (stand : Stand) (x : Version) (note : CommitNote) → time s ≡ Some t → walk s ≡ At stand → stand.stamp ≡ Some found → IsUnset found → Names rings stand.link x (Committed note) → t < note.time
+  pub first : (s first : ℕ) (stand : Stand) (x : Version) (st : Status) → walk s ≡ At stand → stand.first ≡ Some first
+      → Names rings stand.link x st → first ≡ x.first
+  pub stamp : (s found : ℕ) (stand : Stand) (x : Version) (st : Status) → walk s ≡ At stand → stand.stamp ≡ Some found → found < 2 ^ 63
+      → Names rings stand.link x st → (note : CommitNote) × (st ≡ Committed note) × (note.time ≡ found)
+  pub unset : (s t found : ℕ) (stand : Stand) (x : Version) (note : CommitNote) → time s ≡ Some t → walk s ≡ At stand → stand.stamp ≡ Some found
+      → IsUnset found → Names rings stand.link x (Committed note) → t < note.time
 
 -- a version's time is below the least that a walk has passed
 abbrev pub IsBelowPassed : ℕ → Passed → Type 0
@@ -82,18 +90,25 @@ HasPassed Nothing = ⊥
 HasPassed Unset = Unit {0}
 HasPassed (Time least) = Unit {0}
 
--- walker-falls: a walk that has passed a version stands at a committed and stamped one whose time is below all that it passed, and the stamp found there isn't unset; so it ends
+-- walker-falls: a walk that has passed a version stands at a committed and stamped one whose time is below all that it passed,
+-- and the stamp found there isn't unset; so it ends
 pub record WalkerFalls (c : Config) (stamp : ℕ → ℕ → ℕ) (walk : ℕ → Walk) (rings : ℕ → Ring) : Type 0 where
-  pub stamped : (s : ℕ) (stand : Stand) (x : Version) (st : Status) → walk s ≡ At stand → HasPassed stand.passed → (names : Names rings stand.link x st) → (note : CommitNote) × (st ≡ Committed note) × (stamp_of c stamp names.seat x ≡ note.time) × IsBelowPassed note.time stand.passed
+  pub stamped : (s : ℕ) (stand : Stand) (x : Version) (st : Status) → walk s ≡ At stand → HasPassed stand.passed
+      → (names : Names rings stand.link x st) → (note : CommitNote) × (st ≡ Committed note) × (stamp_of c stamp names.seat x ≡ note.time)
+      × IsBelowPassed note.time stand.passed
   pub found : (s found : ℕ) (stand : Stand) → walk s ≡ At stand → HasPassed stand.passed → stand.stamp ≡ Some found → found < 2 ^ 63
 
 -- walker-late: where a lost exchange of a lock put a walk, the version isn't committed at or before the section's time
 abbrev pub WalkerLate : (ℕ → Option ℕ) → (ℕ → Walk) → (ℕ → Ring) → Type 0
 WalkerLate time walk rings =
-    (s t : ℕ) (stand : Stand) (x : Version) (note : CommitNote) → time s ≡ Some t → walk s ≡ At stand → stand.late ≡ true → Names rings stand.link x (Committed note) → t < note.time
+    (s t : ℕ) (stand : Stand) (x : Version) (note : CommitNote) → time s ≡ Some t → walk s ≡ At stand → stand.late ≡ true
+    → Names rings stand.link x (Committed note) → t < note.time
 
--- succeeded-has-super: a section that found an object's HEAD empty had a time of the history, and SUPER of each own live version of the object up to that time that wasn't cut isn't 0
+-- succeeded-has-super: a section that found an object's HEAD empty had a time of the history, and SUPER of each own live version
+-- of the object up to that time that wasn't cut isn't 0
 abbrev pub SucceededHasSuper : Config → List Entry → (ℕ → ℕ → ℕ) → (ℕ → List EmptyHead) → (ℕ → Ring) → Type 0
 SucceededHasSuper c h super empty rings =
     (s : ℕ) (e : EmptyHead) → Contains (empty s) e
-    → (e.time ≤ c.base + length h) × ((k : ℕ) (x : Version) (note : CommitNote) → Lives rings s k x (Committed note) → x.object ≡ e.object → note.time ≤ e.time → note.cut ≡ false → super s k ≢ 0)
+    → (e.time ≤ c.base + length h)
+    × ((k : ℕ) (x : Version) (note : CommitNote) → Lives rings s k x (Committed note) → x.object ≡ e.object → note.time ≤ e.time
+    → note.cut ≡ false → super s k ≢ 0)

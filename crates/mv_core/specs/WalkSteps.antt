@@ -1,5 +1,6 @@
 -- Walking a version chain: what each kind of step asks of its own view, and what it makes of it.
-use Rattle.std.specs.Prelude.{◌≡◌, ◌≢◌, ◌⊎◌, ℕ, ◌+◌, ◌<◌, ◌≤◌, ◌^◌, ◌==◌, leb, Bool, true, false, if◌then◌else◌, List, [], ◌∷◌, ◌++◌, length, Option, Some, None, slice_index}
+use Rattle.std.specs.Prelude.{◌≡◌, ◌≢◌, ◌⊎◌, ℕ, ◌+◌, ◌<◌, ◌≤◌, ◌^◌, ◌==◌, leb, Bool, true, false}
+use Rattle.std.specs.Prelude.{if◌then◌else◌, List, [], ◌∷◌, ◌++◌, length, Option, Some, None, slice_index}
 use Rattle.mv_history.specs.declared.Entry.{Entry}
 use Rattle.mv_history.specs.declared.StepKind.TheVariants.{LoadHead, LoadFirst, LoadStamp, LoadPrev, LoadData, LoadMaster}
 use Rattle.mv_layout.specs.declared.Config.{Config}
@@ -42,28 +43,33 @@ slot_named c link = index_of c (link_position_of link)
 -- the link isn't to the own log, or names a version of the object there that is held, or is committed and wasn't cut
 abbrev pub IsOwnTop : Config → View → ℕ → ℕ → Type 0
 IsOwnTop c v object link =
-    link ≢ 0 → link_seat_of link ≡ v.number → (x : Version) × (st : Status) × (slot_at v.ring (slot_named c link) ≡ Live x st) × (x.object ≡ object) × ((st ≡ Held) ⊎ ((note : CommitNote) × (st ≡ Committed note) × (note.cut ≡ false)))
+    link ≢ 0 → link_seat_of link ≡ v.number → (x : Version) × (st : Status) × (slot_at v.ring (slot_named c link) ≡ Live x st)
+    × (x.object ≡ object) × ((st ≡ Held) ⊎ ((note : CommitNote) × (st ≡ Committed note) × (note.cut ≡ false)))
 
 -- where the link is to the own log, it is that of the version in the slot that it names
 abbrev pub IsOwnLink : Config → View → ℕ → Type 0
 IsOwnLink c v link =
-    link ≢ 0 → link_seat_of link ≡ v.number → (x : Version) (st : Status) → slot_at v.ring (slot_named c link) ≡ Live x st → link ≡ link_of v.number x.position
+    link ≢ 0 → link_seat_of link ≡ v.number → (x : Version) (st : Status) → slot_at v.ring (slot_named c link) ≡ Live x st
+    → link ≡ link_of v.number x.position
 
 -- where the link names a committed version of the own log, each other one of the object there that is committed has a lesser time
 abbrev pub IsLastOwn : Config → View → ℕ → ℕ → Type 0
 IsLastOwn c v object link =
     link ≢ 0 → link_seat_of link ≡ v.number → (x : Version) (note : CommitNote) → slot_at v.ring (slot_named c link) ≡ Live x (Committed note)
-    → (k : ℕ) (y : Version) (other : CommitNote) → slot_at v.ring k ≡ Live y (Committed other) → y.object ≡ object → k ≢ slot_named c link → other.time < note.time
+    → (k : ℕ) (y : Version) (other : CommitNote) → slot_at v.ring k ≡ Live y (Committed other) → y.object ≡ object → k ≢ slot_named c link
+    → other.time < note.time
 
 -- where the link names a committed version of the own log, no later write of the object was seen
 abbrev pub IsLastSeen : Config → View → ℕ → ℕ → Type 0
 IsLastSeen c v object link =
-    link ≢ 0 → link_seat_of link ≡ v.number → (x : Version) (note : CommitNote) → slot_at v.ring (slot_named c link) ≡ Live x (Committed note) → latest c.base v.past.seen object ≤ note.time
+    link ≢ 0 → link_seat_of link ≡ v.number → (x : Version) (note : CommitNote) → slot_at v.ring (slot_named c link) ≡ Live x (Committed note)
+    → latest c.base v.past.seen object ≤ note.time
 
 -- a stamp of the own log that was found is a time, where the version there is committed
 abbrev pub IsOwnTime : Config → View → ℕ → ℕ → Type 0
 IsOwnTime c v link found =
-    link_seat_of link ≡ v.number → (x : Version) (note : CommitNote) → slot_at v.ring (slot_named c link) ≡ Live x (Committed note) → (inside : Section) → v.phase ≡ Inside inside → inside.mode ≡ Open → found < 2 ^ 63
+    link_seat_of link ≡ v.number → (x : Version) (note : CommitNote) → slot_at v.ring (slot_named c link) ≡ Live x (Committed note)
+    → (inside : Section) → v.phase ≡ Inside inside → inside.mode ≡ Open → found < 2 ^ 63
 
 -- an open section past its help, with no write-back under way
 pub record IsWalking (v : View) (inside : Section) : Type 0 where
@@ -121,7 +127,8 @@ pub record SeesStamp (c : Config) (v : View) (found : ℕ) (seen : List Entry) :
 abbrev pub IsWriteOf : Config → List Entry → ℕ → ℕ → Type 0
 IsWriteOf c seen object time = (e : Entry) × IsEntry c.base seen time e × (writes_to object e ≡ true)
 
--- what a stamp tells: a time is that of a write of the object, which was seen; below versions that the walk has passed it is one, and less than theirs; and where a lost exchange of a lock put the walk it is none up to the section's time
+-- what a stamp tells: a time is that of a write of the object, which was seen; below versions that the walk has passed it is one,
+-- and less than theirs; and where a lost exchange of a lock put the walk it is none up to the section's time
 pub record StampSays (c : Config) (v : View) (stand : Stand) (found : ℕ) (seen : List Entry) : Type 0 where
   pub sees : SeesStamp c v found seen
   pub write : found < 2 ^ 63 → IsWriteOf c seen stand.object found

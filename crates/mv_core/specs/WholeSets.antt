@@ -31,13 +31,16 @@ IsAborted Held = ⊥
 IsAborted (Aborted dead) = Unit {0}
 IsAborted (Committed note) = ⊥
 
--- the seat of a held version is in a section, open or aborting; HEAD of the object links to the version; and each position from the first of the write set to the last one used has a version of the set, which is held, or was aborted where the section aborts
+-- the seat of a held version is in a section, open or aborting; HEAD of the object links to the version; and each position from
+-- the first of the write set to the last one used has a version of the set, which is held, or was aborted where the section
+-- aborts
 pub record HeldIs (c : Config) (m : Memory) (f : ViewParts) (s : ℕ) (x : Version) : Type 0 where
   pub inside : Section
   pub in_section : f.section s ≡ Some inside
   pub mode : (inside.mode ≡ Open) ⊎ (inside.mode ≡ Aborting)
   pub top : m (Head x.object) ≡ link_of s x.position
-  pub all : (p : ℕ) → x.first ≤ p → p < (f.ring s).next → InHeldSet c f.ring s x.first p (λ st. (st ≡ Held) ⊎ (IsAborted st × (inside.mode ≡ Aborting)))
+  pub all : (p : ℕ) → x.first ≤ p → p < (f.ring s).next
+      → InHeldSet c f.ring s x.first p (λ st. (st ≡ Held) ⊎ (IsAborted st × (inside.mode ≡ Aborting)))
 
 -- each version in the write set of an aborted one was aborted too, or is held while the section of its seat aborts
 abbrev pub AbortedIs : ViewParts → ℕ → Version → Type 0
@@ -53,10 +56,13 @@ pub record GoesOnWith (c : Config) (f : ViewParts) (s : ℕ) (x : Version) : Typ
   pub position_is : version.position ≡ x.position + 1
   pub set_is : (version.first ≡ x.first) ⊎ (version.first ≡ version.position)
 
--- Each write set is a run of positions: from its first one on each has a live version of the set, and what comes after it begins another set. Its versions have one fate: all were committed at one time, or each is held or aborted.
+-- Each write set is a run of positions: from its first one on each has a live version of the set, and what comes after it begins
+-- another set. Its versions have one fate: all were committed at one time, or each is held or aborted.
 pub record SetsAreWhole (c : Config) (m : Memory) (f : ViewParts) : Type 0 where
-  pub begins : (s k : ℕ) (x : Version) (st : Status) → Lives f.ring s k x st → (x.first ≤ x.position) × ((p : ℕ) → x.first ≤ p → p ≤ x.position → InHeldSet c f.ring s x.first p (HaveOneFate st))
+  pub begins : (s k : ℕ) (x : Version) (st : Status) → Lives f.ring s k x st
+      → (x.first ≤ x.position) × ((p : ℕ) → x.first ≤ p → p ≤ x.position → InHeldSet c f.ring s x.first p (HaveOneFate st))
   pub goes_on : (s k : ℕ) (x : Version) (st : Status) → Lives f.ring s k x st → x.position + 1 < (f.ring s).next → GoesOnWith c f s x
-  pub one_fate : (s k l : ℕ) (x y : Version) (st su : Status) → Lives f.ring s k x st → Lives f.ring s l y su → y.first ≡ x.first → HaveOneFate st su
+  pub one_fate : (s k l : ℕ) (x y : Version) (st su : Status) → Lives f.ring s k x st → Lives f.ring s l y su → y.first ≡ x.first
+      → HaveOneFate st su
   pub held : (s k : ℕ) (x : Version) → Lives f.ring s k x Held → HeldIs c m f s x
   pub aborted : (s k : ℕ) (x : Version) (dead : Option ℕ) → Lives f.ring s k x (Aborted dead) → AbortedIs f s x

@@ -74,7 +74,8 @@ impl<P: Protocol> Shared<P> {
         requires of { IsOf self.now pass.old }
         requires may { MayLoadDeath (view pass.old) }
         ensures same { IsSame pass.old pass.new }
-        ensures view { (h : List Entry) × IsWhole (config_of self.now) (view pass.old) result h × (view pass.new ≡ death_loaded (config_of self.now) (view pass.old) result h) }
+        ensures view { (h : List Entry) × IsWhole (config_of self.now) (view pass.old) result h
+            × (view pass.new ≡ death_loaded (config_of self.now) (view pass.old) result h) }
         ensures word { IsWord (config_of self.now) result }
         ensures step { steps.new ≡ steps.old + 1 }
     {

@@ -42,7 +42,8 @@ impl<P: Protocol> Shared<P> {
         requires of { IsOf self.now pass.old }
         requires may { MayLoadCheck (view pass.old).phase }
         ensures same { IsSame pass.old pass.new }
-        ensures view { (h : List Entry) × IsWhole (config_of self.now) (view pass.old) result h × (view pass.new ≡ check_loaded (config_of self.now) (view pass.old) result h) }
+        ensures view { (h : List Entry) × IsWhole (config_of self.now) (view pass.old) result h
+            × (view pass.new ≡ check_loaded (config_of self.now) (view pass.old) result h) }
         ensures word { IsWord (config_of self.now) result }
         ensures step { steps.new ≡ steps.old + 1 }
     {

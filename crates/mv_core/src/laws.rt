@@ -3,7 +3,10 @@
 //! shared words and of the seats' views that the rule allows, and the rule holds after each step.
 //! They are the invariants of MV-RLU (Kim, Mathew, Kashyap, Ramanathan and Min, ASPLOS 2019,
 //! sections 3 and 4), of the subject that stands in brackets at each.
-ghost use Rattle.mv_core.specs.Points.{HistoryPoint, WriteSetsPoint, FreesPoint, MarksPoint, GracePoint, LockFreshnessPoint, SuccessorsPoint, DeathsPoint, PositionsPoint, PositionsBoundedPoint, EarlierStampedPoint, OneWriteBackPoint, ReachableLinksPoint, NoSlotReusePoint, BeforeDeathPoint, ChainsPoint, WalkersPoint, MasterReadPoint, WriteBackPoint};
+ghost use Rattle.mv_core.specs.Points.{HistoryPoint, WriteSetsPoint, FreesPoint, MarksPoint, GracePoint, LockFreshnessPoint, SuccessorsPoint};
+ghost use Rattle.mv_core.specs.Points.{DeathsPoint, PositionsPoint, PositionsBoundedPoint, EarlierStampedPoint, OneWriteBackPoint};
+ghost use Rattle.mv_core.specs.Points.{ReachableLinksPoint, NoSlotReusePoint, BeforeDeathPoint, ChainsPoint, WalkersPoint, MasterReadPoint};
+ghost use Rattle.mv_core.specs.Points.{WriteBackPoint};
 
 use mv_history::Protocol;
 

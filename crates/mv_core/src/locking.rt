@@ -47,7 +47,8 @@ impl<P: Protocol> Shared<P> {
         ensures swap { IsSwap previous result }
         ensures own { found_by previous result ≡ previous → OneMoreWrite (config_of self.now) (view pass.old) what.1 object (view pass.new) }
         ensures link { found_by previous result ≢ previous → IsLinkOf (config_of self.now) (found_by previous result) }
-        ensures other { found_by previous result ≢ previous → found_by previous result ≢ 0 → link_seat_of (found_by previous result) ≢ (view pass.old).number }
+        ensures other { found_by previous result ≢ previous → found_by previous result ≢ 0
+            → link_seat_of (found_by previous result) ≢ (view pass.old).number }
         ensures step { steps.new ≡ steps.old + 1 }
     {
         let place = head_place(&self.config, object);

@@ -26,7 +26,8 @@ impl<P: Protocol> Shared<P> {
         requires of { IsOf self.now pass.old }
         requires may { MayLoadScan (view pass.old) }
         ensures same { IsSame pass.old pass.new }
-        ensures view { (h : List Entry) × IsWhole (config_of self.now) (view pass.old) result h × (view pass.new ≡ scan_loaded (config_of self.now) (view pass.old) result h) }
+        ensures view { (h : List Entry) × IsWhole (config_of self.now) (view pass.old) result h
+            × (view pass.new ≡ scan_loaded (config_of self.now) (view pass.old) result h) }
         ensures word { IsWord (config_of self.now) result }
         ensures makers { All (λ e. maker_of e < (config_of self.now).seats) (view pass.new).past.seen }
         ensures step { steps.new ≡ steps.old + 1 }

@@ -83,7 +83,8 @@ fn split_as<P: Protocol, D: Domain>(
     requires config { D.config ≡ config_of shared.now }
     requires of { IsSeatOf P.start P.allowed shared.now seat.old }
     requires maker { (0 < seat.old.me.0.made) × (seat.old.me.0.made < (config_of shared.now).seats) }
-    ensures maker { (seat.new.table_id ≡ seat.old.table_id) × (seat.new.me.0 ≡ made_one (config_of shared.now) seat.old.me.0) × (seat.new.me.1 ≡ seat.old.me.1) }
+    ensures maker { (seat.new.table_id ≡ seat.old.table_id) × (seat.new.me.0 ≡ made_one (config_of shared.now) seat.old.me.0)
+        × (seat.new.me.1 ≡ seat.old.me.1) }
     ensures made { (result.table_id ≡ seat.old.table_id) × (result.me.0 ≡ newly_made (config_of shared.now) seat.old.me.0) × (result.me.1 ≡ []) }
 {
     shared.table.shared.split_seat::<Making<D>>(seat)

@@ -4,7 +4,8 @@ ghost use Rattle.mv_core.specs.declared.ring.Version.{Version};
 ghost use Rattle.mv_core.specs.declared.ring.CommitNote.{CommitNote};
 ghost use Rattle.mv_core.specs.declared.view.Section.{Section};
 ghost use Rattle.mv_core.specs.Passes.{view, IsOf, IsSame, config_of};
-ghost use Rattle.mv_core.specs.ReclaimSteps.{MayLoadSuper, super_loaded, SeesSuper, FoundEmpty, MayStoreMaster, master_stored, MayCutHead, CutTold, IsOfOther, MayStoreFree, free_stored};
+ghost use Rattle.mv_core.specs.ReclaimSteps.{MayLoadSuper, super_loaded, SeesSuper, FoundEmpty, MayStoreMaster, master_stored, MayCutHead, CutTold};
+ghost use Rattle.mv_core.specs.ReclaimSteps.{IsOfOther, MayStoreFree, free_stored};
 ghost use Rattle.mv_core.specs.Swaps.{found_by, IsSwap};
 ghost use Rattle.mv_core.specs.WalkSteps.{IsLinkOf};
 ghost use Rattle.mv_layout.specs.Words.{link_of};
@@ -87,10 +88,13 @@ impl<P: Protocol> Shared<P> {
         requires position { position < 2 ^ 57 }
         requires may { MayCutHead (config_of self.now) (view pass.old) object position back.0 back.1 }
         ensures same { IsSame pass.old pass.new }
-        ensures view { CutTold (config_of self.now) (view pass.old) object position back.0 back.1 (found_by (link_of (view pass.old).number position) result) (view pass.new) }
+        ensures view { CutTold (config_of self.now) (view pass.old) object position back.0 back.1
+            (found_by (link_of (view pass.old).number position) result) (view pass.new) }
         ensures swap { IsSwap (link_of (view pass.old).number position) result }
-        ensures link { found_by (link_of (view pass.old).number position) result ≢ link_of (view pass.old).number position → IsLinkOf (config_of self.now) (found_by (link_of (view pass.old).number position) result) }
-        ensures other { found_by (link_of (view pass.old).number position) result ≢ link_of (view pass.old).number position → IsOfOther (view pass.old) (found_by (link_of (view pass.old).number position) result) }
+        ensures link { found_by (link_of (view pass.old).number position) result ≢ link_of (view pass.old).number position
+            → IsLinkOf (config_of self.now) (found_by (link_of (view pass.old).number position) result) }
+        ensures other { found_by (link_of (view pass.old).number position) result ≢ link_of (view pass.old).number position
+            → IsOfOther (view pass.old) (found_by (link_of (view pass.old).number position) result) }
         ensures step { steps.new ≡ steps.old + 1 }
     {
         let place = head_place(&self.config, object);

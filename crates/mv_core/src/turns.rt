@@ -67,7 +67,8 @@ pub(crate) fn load_as<P: Protocol, J: Turn, L: Ledger, T>(
 ) -> u64
     requires of { IsOf shared.now pass.old }
     requires place { IsPlace (config_of shared.now) J.place × (index ≡ place_of (config_of shared.now) J.place) }
-    requires rule { Loads P.start P.allowed (config_of shared.now) (start_of shared.now) (view pass.old) J.place (λ n w. (J.tells n w × RunsOn (view pass.old) w) × IsKept (view pass.old) w) }
+    requires rule { Loads P.start P.allowed (config_of shared.now) (start_of shared.now) (view pass.old) J.place
+        (λ n w. (J.tells n w × RunsOn (view pass.old) w) × IsKept (view pass.old) w) }
     ensures same { IsSame pass.old pass.new }
     ensures tells { J.tells result (view pass.new) }
     ensures step { steps.new ≡ steps.old + 1 }
@@ -91,7 +92,8 @@ pub(crate) fn store_as<P: Protocol, J: Turn, L: Ledger, T>(
 )
     requires of { IsOf shared.now pass.old }
     requires place { IsPlace (config_of shared.now) J.place × (index ≡ place_of (config_of shared.now) J.place) }
-    requires rule { Stores P.start P.allowed (config_of shared.now) (start_of shared.now) (view pass.old) J.place new (λ w. (J.tells new w × RunsOn (view pass.old) w) × IsKept (view pass.old) w) }
+    requires rule { Stores P.start P.allowed (config_of shared.now) (start_of shared.now) (view pass.old) J.place new
+        (λ w. (J.tells new w × RunsOn (view pass.old) w) × IsKept (view pass.old) w) }
     ensures same { IsSame pass.old pass.new }
     ensures tells { J.tells new (view pass.new) }
     ensures step { steps.new ≡ steps.old + 1 }
@@ -116,7 +118,8 @@ pub(crate) fn swap_as<P: Protocol, J: Turn, L: Ledger, T>(
 ) -> u64
     requires of { IsOf shared.now pass.old }
     requires place { IsPlace (config_of shared.now) J.place × (index ≡ place_of (config_of shared.now) J.place) }
-    requires rule { Swaps P.start P.allowed (config_of shared.now) (start_of shared.now) (view pass.old) J.place old new (λ n w. (J.tells n w × RunsOn (view pass.old) w) × IsKept (view pass.old) w) }
+    requires rule { Swaps P.start P.allowed (config_of shared.now) (start_of shared.now) (view pass.old) J.place old new
+        (λ n w. (J.tells n w × RunsOn (view pass.old) w) × IsKept (view pass.old) w) }
     ensures same { IsSame pass.old pass.new }
     ensures tells { J.tells result (view pass.new) }
     ensures step { steps.new ≡ steps.old + 1 }
@@ -140,7 +143,8 @@ pub(crate) fn raise_as<P: Protocol, J: Turn, L: Ledger, T>(
 ) -> u64
     requires of { IsOf shared.now pass.old }
     requires place { IsPlace (config_of shared.now) J.place × (index ≡ place_of (config_of shared.now) J.place) }
-    requires rule { Raises P.start P.allowed (config_of shared.now) (start_of shared.now) (view pass.old) J.place by (λ n w. (J.tells n w × RunsOn (view pass.old) w) × IsKept (view pass.old) w) }
+    requires rule { Raises P.start P.allowed (config_of shared.now) (start_of shared.now) (view pass.old) J.place by
+        (λ n w. (J.tells n w × RunsOn (view pass.old) w) × IsKept (view pass.old) w) }
     ensures same { IsSame pass.old pass.new }
     ensures tells { J.tells result (view pass.new) }
     ensures step { steps.new ≡ steps.old + 1 }

@@ -1,5 +1,6 @@
 -- What the calls of stores and sections do to a seat and a section.
-use Rattle.std.specs.Prelude.{◌≡◌, ◌≢◌, ℕ, ◌+◌, ◌-◌, ◌<◌, ◌≤◌, true, List, [], ◌∷◌, ◌++◌, length, take, drop, Some, slice_get}
+use Rattle.std.specs.Prelude.{◌≡◌, ◌≢◌, ℕ, ◌+◌, ◌-◌, ◌<◌, ◌≤◌, true, List, [], ◌∷◌, ◌++◌, length, take}
+use Rattle.std.specs.Prelude.{drop, Some, slice_get}
 use Rattle.mv_history.specs.State.{Commit, Entry, Change, touches, maker_of, rewritten}
 use Rattle.mv_history.specs.Trail.{Step, commit_exchanges, clock_exchanges}
 use Rattle.mv_history.specs.Meaning.{Seat, InSection, state_of, words_at}

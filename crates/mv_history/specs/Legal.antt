@@ -1,5 +1,6 @@
 -- Which histories are legal, and which are allowed under a client's rules.
-use Rattle.std.specs.Prelude.{◌≡◌, ◌≢◌, ℕ, ◌+◌, ◌<◌, ◌≤◌, true, false, Bool, not, ◌&&◌, List, [], ◌∷◌, ◌++◌, length, drop, All}
+use Rattle.std.specs.Prelude.{◌≡◌, ◌≢◌, ℕ, ◌+◌, ◌<◌, ◌≤◌, true, false, Bool, not, ◌&&◌, List, [], ◌∷◌, ◌++◌}
+use Rattle.std.specs.Prelude.{length, drop, All}
 use Rattle.mv_history.specs.declared.history.TheConstants.{WORDS}
 use Rattle.mv_history.specs.State.{State, Writes, Commit, Entry, Change, touches, maker_of, writes_of, state_after, commits_of}
 

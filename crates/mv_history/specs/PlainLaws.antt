@@ -26,7 +26,8 @@ plain_reads s = ap (λ w. written w (take s.held s.own)) (plain_state s.store)
 
 pub AreWords-plain : {P : _} {rules : _} (s : PlainStore P rules) → AreWords s.words.items
 AreWords-plain s =
-    rw (s.current) (AreWords-state_after (length s.start.value.items) [] (map (λ c. Change c) (commits_in s)) s.start.value.items s.lawful.legal s.lawful.words)
+    rw (s.current)
+    (AreWords-state_after (length s.start.value.items) [] (map (λ c. Change c) (commits_in s)) s.start.value.items s.lawful.legal s.lawful.words)
 
 pub plain_words : {P : _} {rules : _} (s : PlainSection P rules) → AreWords (written s.store.words.items (take s.held s.own))
 plain_words s = AreWords-written s.store.words.items (take s.held s.own) (AreWords-plain s.store) s.lawful.words

@@ -1,5 +1,7 @@
 -- Distinct words stand at distinct places, and a write to one leaves the others.
-use Rattle.std.proofs.Common.{◌≡◌, ℕ, suc, ◌+◌, ◌*◌, ◌<◌, ◌≤◌, ◌==◌, ◌&&◌, Bool, true, false, cond, List, set, get_or, sym, refl, ap, ◌∙◌, arith, length-set, get_or-set_other, get_or-set_same, mul-le-mul_right, eqb-true, eq-eqb, suc-mul}
+use Rattle.std.proofs.Common.{◌≡◌, ℕ, suc, ◌+◌, ◌*◌, ◌<◌, ◌≤◌, ◌==◌, ◌&&◌, Bool, true, false, cond, List, set}
+use Rattle.std.proofs.Common.{get_or, sym, refl, ap, ◌∙◌, arith, length-set, get_or-set_other, get_or-set_same, mul-le-mul_right, eqb-true}
+use Rattle.std.proofs.Common.{eq-eqb, suc-mul}
 use native.Mathlib.Decide.{dec_lt}
 use Rattle.mv_layout.specs.declared.config.Config.{Config}
 use Rattle.mv_layout.specs.declared.places.Place.{Place}
@@ -47,7 +49,8 @@ one_place c (Stamp s i) (Stamp t j) k a b e = let r = same_row s t i j c.slots (
 one_place c (Prev s i) (Prev t j) k a b e = let r = same_row s t i j c.slots (omega arith) a.1 b.1 in two (s == t) (i == j) (eq-eqb s t r.0) (eq-eqb i j r.1)
 one_place c (Super s i) (Super t j) k a b e = let r = same_row s t i j c.slots (omega arith) a.1 b.1 in two (s == t) (i == j) (eq-eqb s t r.0) (eq-eqb i j r.1)
 one_place c (Data s i w) (Data t j x) k a b e =
-    let r = same_row s t i j c.slots (omega arith) a.1 b.1 in two (s == t) ((i == j) && (w == x)) (eq-eqb s t r.0) (two (i == j) (w == x) (eq-eqb i j r.1) (eq-eqb w x (omega arith)))
+    let r = same_row s t i j c.slots (omega arith) a.1 b.1 in
+    two (s == t) ((i == j) && (w == x)) (eq-eqb s t r.0) (two (i == j) (w == x) (eq-eqb i j r.1) (eq-eqb w x (omega arith)))
 one_place c _ _ k a b e = absurd (omega arith)
 
 both : (a b : Bool) → (a && b) ≡ true → (a ≡ true) × (b ≡ true)
@@ -65,16 +68,21 @@ same_is (First s k) (First t l) e = let b = both (s == t) (k == l) e in λ i. Fi
 same_is (Stamp s k) (Stamp t l) e = let b = both (s == t) (k == l) e in λ i. Stamp (eqb-true s t b.0 i) (eqb-true k l b.1 i)
 same_is (Prev s k) (Prev t l) e = let b = both (s == t) (k == l) e in λ i. Prev (eqb-true s t b.0 i) (eqb-true k l b.1 i)
 same_is (Super s k) (Super t l) e = let b = both (s == t) (k == l) e in λ i. Super (eqb-true s t b.0 i) (eqb-true k l b.1 i)
-same_is (Data s k w) (Data t l x) e = let b = both (s == t) ((k == l) && (w == x)) e in let d = both (k == l) (w == x) b.1 in λ i. Data (eqb-true s t b.0 i) (eqb-true k l d.0 i) (eqb-true w x d.1 i)
+same_is (Data s k w) (Data t l x) e =
+    let b = both (s == t) ((k == l) && (w == x)) e in let d =
+    both (k == l) (w == x) b.1 in λ i. Data (eqb-true s t b.0 i) (eqb-true k l d.0 i) (eqb-true w x d.1 i)
 same_is _ _ e = absurd cc
 
 -- the words after a write show the memory after it
-put_go : (c : Config) (ws : List ℕ) (m : Memory) (p q : Place) (n : ℕ) → Checked c → Shows c ws m → IsPlace c p → IsPlace c q → (b : Bool) → same p q ≡ b → get_or (set ws (place_of c p) n) (place_of c q) 0 ≡ cond b n (m q)
+put_go : (c : Config) (ws : List ℕ) (m : Memory) (p q : Place) (n : ℕ) → Checked c → Shows c ws m → IsPlace c p → IsPlace c q → (b : Bool) → same p q ≡ b
+    → get_or (set ws (place_of c p) n) (place_of c q) 0 ≡ cond b n (m q)
 put_go c ws m p q n k s hp hq true e =
     let is : place_of c q ≡ place_of c p = ap (place_of c) (sym (same_is p q e)) in let b = in_table c p k hp in
     ap (λ (i : ℕ). get_or (set ws (place_of c p) n) i 0) is ∙ get_or-set_same ws (place_of c p) n 0 (omega (arith, s.wide))
 put_go c ws m p q n k s hp hq false e =
-    get_or-set_other ws (place_of c p) (place_of c q) n 0 (λ (is : place_of c q ≡ place_of c p). let t = one_place c p q k hp hq (sym is) in absurd cc) ∙ s.each q hq
+    get_or-set_other ws (place_of c p) (place_of c q) n 0 (λ (is : place_of c q ≡ place_of c p). let t = one_place c p q k hp hq (sym is) in absurd cc)
+    ∙ s.each q hq
 
-pub shows_put : (c : Config) (ws : List ℕ) (m : Memory) (p : Place) (n : ℕ) → Checked c → Shows c ws m → IsPlace c p → Shows c (set ws (place_of c p) n) (put m p n)
+pub shows_put : (c : Config) (ws : List ℕ) (m : Memory) (p : Place) (n : ℕ) → Checked c → Shows c ws m → IsPlace c p
+    → Shows c (set ws (place_of c p) n) (put m p n)
 shows_put c ws m p n k s hp = record { wide = length-set ws (place_of c p) n ∙ s.wide; each = λ q hq. put_go c ws m p q n k s hp hq (same p q) refl }

@@ -1,7 +1,8 @@
 // Packing numbers into words. `2^13` is 8,192, `2^19` is 524,288, `2^57` is 144,115,188,075,855,872
 // and `2^63` is 9,223,372,036,854,775,808.
 ghost use Rattle.std.specs.Prelude.{◌≡◌, ℕ, ◌+◌, ◌-◌, ◌^◌, ◌<◌, ◌≤◌, IsTrue, ◌↔◌};
-ghost use Rattle.mv_layout.specs.Words.{clock_of, clock_time_of, clock_seat_of, clock_slot_of, link_of, link_seat_of, link_position_of, IsLink, unset_of, unset_position_of, IsUnset};
+ghost use Rattle.mv_layout.specs.Words.{clock_of, clock_time_of, clock_seat_of, clock_slot_of, link_of, link_seat_of, link_position_of, IsLink};
+ghost use Rattle.mv_layout.specs.Words.{unset_of, unset_position_of, IsUnset};
 
 use crate::config::LAST;
 

@@ -23,7 +23,8 @@ pub record Outside : Type 0 where
   pub out_faults : ℕ
 
 -- files and output at one moment, from what their types say
-abbrev pub outside : {F O : Type 0} → (F → Option Texts) → (F → Bool) → (F → ℕ) → F → (O → Option (List ℕ)) → (O → ℕ) → O → Outside
+abbrev pub outside : {F O : Type 0} → (F → Option Texts) → (F → Bool) → (F → ℕ) → F → (O → Option (List ℕ))
+    → (O → ℕ) → O → Outside
 outside texts steady file_faults files written out_faults out =
     record { texts = texts files; steady = steady files; file_faults = file_faults files; out = written out; out_faults = out_faults out }
 
@@ -57,7 +58,8 @@ NeverRead Read words old = (file : List ℕ) → file_of words ≡ Some file →
 NeverRead _ words old = ⊤
 
 -- what became of a call: one way to end, with its status, its cause and its line
-pub record Outcome (words : List (List ℕ)) (old new : Outside) (err err_new : Option (List ℕ)) (err_faults err_faults_new : ℕ) (status : ℕ) : Type 0 where
+pub record Outcome (words : List (List ℕ)) (old new : Outside) (err err_new : Option (List ℕ)) (err_faults err_faults_new : ℕ)
+    (status : ℕ) : Type 0 where
   pub finish : Finish
   pub status_is : status ≡ status_of finish
   pub cause : Cause finish words old new
@@ -78,7 +80,9 @@ pub record IsComplete (words : List (List ℕ)) (old new : Outside) (status : �
   pub script : (bytes : List ℕ) (commands : List Command) → IsGiven words old bytes → length bytes ≤ MOST_BYTES → parsed bytes ≡ Ok commands
       → ¬ Rose old.file_faults new.file_faults → ¬ Rose old.out_faults new.out_faults → (status ≡ 0) ⊎ (status ≡ 7)
   -- the first faulty line is answered
-  pub fault : (bytes : List ℕ) (line : ℕ) (kind : FaultKind) → IsGiven words old bytes → IsRefused bytes line kind → ¬ Rose old.file_faults new.file_faults
+  pub fault : (bytes : List ℕ) (line : ℕ) (kind : FaultKind) → IsGiven words old bytes → IsRefused bytes line kind
+      → ¬ Rose old.file_faults new.file_faults
       → (status ≡ fault_status kind) ⊎ (status ≡ 7)
   -- one byte too many is answered
-  pub bytes : (bytes : List ℕ) → IsGiven words old bytes → MOST_BYTES < length bytes → ¬ Rose old.file_faults new.file_faults → (status ≡ 4) ⊎ (status ≡ 7)
+  pub bytes : (bytes : List ℕ) → IsGiven words old bytes → MOST_BYTES < length bytes → ¬ Rose old.file_faults new.file_faults
+      → (status ≡ 4) ⊎ (status ≡ 7)

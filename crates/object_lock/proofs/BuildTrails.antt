@@ -1,5 +1,6 @@
 -- What building a version leaves of a view, and which steps it makes.
-use Rattle.std.proofs.Common.{◌≡◌, ℕ, zero, suc, ◌+◌, ◌==◌, if◌then◌else◌, true, false, List, [], ◌∷◌, ◌++◌, length, refl, sym, ap, ◌∙◌, subst, append-nil, append_assoc, length-append, arith, All}
+use Rattle.std.proofs.Common.{◌≡◌, ℕ, zero, suc, ◌+◌, ◌==◌, if◌then◌else◌, true, false, List, [], ◌∷◌, ◌++◌, length}
+use Rattle.std.proofs.Common.{refl, sym, ap, ◌∙◌, subst, append-nil, append_assoc, length-append, arith, All}
 use Rattle.std.specs.Prelude.{slice_index}
 use Rattle.std.proofs.lemmas.List.Elements.{All-nil, All-cons, All-append}
 use Rattle.mv_history.specs.declared.Step.{Step}
@@ -38,13 +39,17 @@ module _ (c : Config) (position : ℕ) where
   builds_words v words zero = builds_none v
   builds_words v words (suc i) =
       subst (BuildsBy v (stored_next c (words_stored c v position words i) position (4 + i) (slice_index words i))) (let e : i + 1 ≡ suc i = omega arith in e)
-      (builds_on v (words_stored c v position words i) _ i 1 (builds_words v words i) (builds_next (words_stored c v position words i) (4 + i) (slice_index words i)))
+      (builds_on v (words_stored c v position words i) _ i 1 (builds_words v words i)
+      (builds_next (words_stored c v position words i) (4 + i) (slice_index words i)))
 
   builds_begun : (v : View) (first : ℕ) → BuildsBy v (begun c v position first) (if first == position then 2 else 1)
   unfolding begun
   builds_begun v first =
-      elim (first == position) as (λ b. BuildsBy v (if b then stored_next c (stored_next c v position 0 first) position 1 (unset_of position) else stored_next c v position 0 first) (if b then 2 else 1)) [
-        | true ↦ builds_on v (stored_next c v position 0 first) _ 1 1 (builds_next v 0 first) (builds_next (stored_next c v position 0 first) 1 (unset_of position))
+      elim (first == position) as
+      (λ b. BuildsBy v (if b then stored_next c (stored_next c v position 0 first) position 1 (unset_of position) else stored_next c v position 0 first)
+      (if b then 2 else 1)) [
+        | true ↦ builds_on v (stored_next c v position 0 first) _ 1 1 (builds_next v 0 first)
+            (builds_next (stored_next c v position 0 first) 1 (unset_of position))
         | false ↦ builds_next v 0 first
       ]
 
@@ -63,4 +68,5 @@ module _ (c : Config) (position : ℕ) where
       let y : View = stored_next c x position 3 0 in
       let n : ℕ = if first == position then 2 else 1 in
       let links = builds_on v x y (n + 1) 1 (builds_on v w x n 1 (builds_begun v first) (builds_next w 2 previous)) (builds_next x 3 0) in
-      subst (BuildsBy v (words_stored c y position words 6)) (cost_is first) (builds_on v y (words_stored c y position words 6) (n + 1 + 1) 6 links (builds_words y words 6))
+      subst (BuildsBy v (words_stored c y position words 6)) (cost_is first)
+      (builds_on v y (words_stored c y position words 6) (n + 1 + 1) 6 links (builds_words y words 6))

@@ -24,12 +24,14 @@ pub words_carried : (c : Config) (v w : View) (object : ℕ) → Carries c v w �
 words_carried c v w object k = λ i. words_of c (k.start i) (k.seen i) (time_in (inside_of (k.phase i))) object
 
 -- where a lock may be put
-pub lock_carried : (v w : View) (object previous : ℕ) → w.walk ≡ v.walk → w.phase ≡ v.phase → StandsToLock v (section_in v) object previous → StandsToLock w (section_in w) object previous
+pub lock_carried : (v w : View) (object previous : ℕ) → w.walk ≡ v.walk → w.phase ≡ v.phase → StandsToLock v (section_in v) object previous
+    → StandsToLock w (section_in w) object previous
 lock_carried v w object previous walk phase =
     let same : time_at w ≡ time_at v = ap (λ p. time_in (inside_of p)) phase in
     ⊎_elim (λ a. inl (walk ∙ a.0, a.1)) (λ a. inr (a.0, a.1, walk ∙ a.2, a.3, a.4, a.5, (let le = a.6 in omega arith)))
 
-module _ (c : Config) (v w : View) (l m : Noted) (object previous position : ℕ) (words : List ℕ) (may : MayWalk v) (s : Stands c v l) (t : Stands c w m) (noted : m ≡ built_noted l (next_note l object previous words))
+module _ (c : Config) (v w : View) (l m : Noted) (object previous position : ℕ) (words : List ℕ) (may : MayWalk v) (s : Stands c v l) (t : Stands c w m)
+    (noted : m ≡ built_noted l (next_note l object previous words))
     (built : w ≡ slot_built c v (next_of l) (first_of l) previous words) (at : position ≡ next_of l) (words_are : words ≡ words_in c v object) where
   stores : BuildsBy v w (build_cost (next_of l) (first_of l))
   stores = subst (λ (u : View). BuildsBy v u (build_cost (next_of l) (first_of l))) (sym built) (builds_slot c (next_of l) v (first_of l) previous words)
@@ -38,13 +40,23 @@ module _ (c : Config) (v w : View) (l m : Noted) (object previous position : ℕ
   first_may = built_may c v w (build_cost (next_of l) (first_of l)) stores may
 
   pub first_carries : Carries c v w
-  first_carries = built_carries c v w (build_cost (next_of l) (first_of l)) stores (own_kept c v w l m s t (ap (λ (q : Noted). q.live) noted) (ap (λ (q : Noted). q.held) noted))
+  first_carries =
+      built_carries c v w (build_cost (next_of l) (first_of l)) stores
+      (own_kept c v w l m s t (ap (λ (q : Noted). q.live) noted) (ap (λ (q : Noted). q.held) noted))
 
   pub first_tries : (before after : ℕ) → after ≡ before + build_cost (next_of l) (first_of l) → Tries v w before after
   first_tries = built_tries c v w (build_cost (next_of l) (first_of l)) stores
 
   pub first_is : IsBuiltFor m position object previous (words_in c w object)
-  first_is = (next_note l object previous words, ap (λ (q : Noted). q.built) noted, sym at, refl, refl, words_are ∙ sym (words_carried c v w object first_carries))
+  first_is = (
+    next_note l object previous words,
+    ap (λ (q : Noted). q.built) noted,
+    sym at,
+    refl,
+    refl,
+    words_are
+        ∙ sym (words_carried c v w object first_carries),
+  )
 
   pub first_lock : StandsToLock v (section_in v) object previous → StandsToLock w (section_in w) object previous
   first_lock = lock_carried v w object previous (built_walk c v w (build_cost (next_of l) (first_of l)) stores) (first_carries.phase)
@@ -56,7 +68,8 @@ module _ (c : Config) (v w : View) (l m : Noted) (object previous position : ℕ
   first_few most = subst (λ (q : Noted). q.held < most) (sym noted)
 
 -- HEAD was exchanged, and another came first
-module _ (c : Config) (v w : View) (l : Noted) (object previous position : ℕ) (may : MayWalk v) (s : Stands c v l) (is : IsBuiltFor l position object previous (words_in c v object)) (link : ℕ) (told : w ≡ lock_lost c v object link) where
+module _ (c : Config) (v w : View) (l : Noted) (object previous position : ℕ) (may : MayWalk v) (s : Stands c v l)
+    (is : IsBuiltFor l position object previous (words_in c v object)) (link : ℕ) (told : w ≡ lock_lost c v object link) where
   then_carries : Carries c v w
   then_carries = lost_carries c v w l object previous position may s is link told
 
@@ -66,7 +79,8 @@ module _ (c : Config) (v w : View) (l : Noted) (object previous position : ℕ) 
   pub then_master : link ≡ 0 → w.walk ≡ place.Master object
   then_master zero = ap (λ (u : View). u.walk) told ∙ sym (at_zero object link Nothing true zero)
 
-  pub then_lost : (x : View) (q : Noted) (answer : LockAnswer) (first second last : ℕ) → second ≡ first + 1 → Outcome c w x q object answer second last → Outcome c v x q object answer first last
+  pub then_lost : (x : View) (q : Noted) (answer : LockAnswer) (first second last : ℕ) → second ≡ first + 1 → Outcome c w x q object answer second last
+      → Outcome c v x q object answer first last
   then_lost x q answer first second last e o =
       outcome_before c v w x q object answer first second last then_carries
       (subst (Tries v w first) (sym e) (lost_tries c v w l object previous position may s is link told first)) o

@@ -1,5 +1,6 @@
 -- What `lock` answers: whether the section holds the object, whether it may hold one more, and what came of looking at the top and of building.
-use Rattle.std.proofs.Common.{◌≡◌, ◌≢◌, ℕ, zero, suc, ◌+◌, ◌-◌, ◌<◌, ◌≤◌, true, false, List, [], ◌∷◌, length, map, length-append, refl, sym, ap, ◌∙◌, subst, arith, Bool, Some, None}
+use Rattle.std.proofs.Common.{◌≡◌, ◌≢◌, ℕ, zero, suc, ◌+◌, ◌-◌, ◌<◌, ◌≤◌, true, false, List, [], ◌∷◌, length}
+use Rattle.std.proofs.Common.{map, length-append, refl, sym, ap, ◌∙◌, subst, arith, Bool, Some, None}
 use Rattle.std.specs.Prelude.{slice_get}
 use Rattle.mv_history.specs.State.{Writes, touches}
 use Rattle.mv_history.specs.declared.answers.LockAnswer.{LockAnswer}

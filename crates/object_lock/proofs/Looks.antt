@@ -1,5 +1,6 @@
 -- What was found on top of a chain: by a load of HEAD, and of FIRST and STAMP of the version there.
-use Rattle.std.proofs.Common.{◌≡◌, ◌≢◌, ℕ, ◌+◌, ◌<◌, ◌≤◌, ◌^◌, List, [], ◌∷◌, ◌++◌, length, refl, sym, ap, ◌∙◌, subst, ⊎_elim, inr, append_assoc, length-append, arith, false, Some, None, All}
+use Rattle.std.proofs.Common.{◌≡◌, ◌≢◌, ℕ, ◌+◌, ◌<◌, ◌≤◌, ◌^◌, List, [], ◌∷◌, ◌++◌, length, refl, sym, ap}
+use Rattle.std.proofs.Common.{◌∙◌, subst, ⊎_elim, inr, append_assoc, length-append, arith, false, Some, None, All}
 use Rattle.std.proofs.lemmas.List.Elements.{All-nil, All-cons, All-append}
 use Rattle.mv_history.specs.declared.Step.{Step}
 use Rattle.mv_history.specs.declared.StepKind.{StepKind}
@@ -27,7 +28,8 @@ use Rattle.version_chain.proofs.Standing.{stands_here}
 use Rattle.object_lock.specs.Tops.{IsUnheld, StandsOn, Looked, IsLockStep, Tries, FoundHeld}
 
 -- the loads of FIRST and STAMP
-pub looked_at : (c : Config) (v w x : View) (link first found : ℕ) → StandsOn c v link → w ≡ first_loaded c v (stand_in v) first → x ≡ stamp_loaded c w (stand_in w) first found x.past.seen
+pub looked_at : (c : Config) (v w x : View) (link first found : ℕ) → StandsOn c v link → w ≡ first_loaded c v (stand_in v) first
+    → x ≡ stamp_loaded c w (stand_in w) first found x.past.seen
     → StampSays c w (stand_in w) found x.past.seen → IsOwnTime c w link found → Looked c v x found
 looked_at c v w x link first found stands firsts stamps says own =
     let at : stand_in w ≡ with_first (stand_in v) first = ap stand_in firsts in
@@ -35,7 +37,8 @@ looked_at c v w x link first found stands firsts stamps says own =
       first = first;
       view = stamps ∙ (λ i. stamp_loaded c (firsts i) (at i) first found x.past.seen);
       says = subst (λ (p : View × Stand). StampSays c p.0 p.1 found x.past.seen) (λ i. (firsts i, at i)) says;
-      own = subst (λ (l : ℕ). IsOwnTime c (first_loaded c v (stand_in v) first) l found) (sym stands.link_is) (subst (λ (u : View). IsOwnTime c u link found) firsts own);
+      own = subst (λ (l : ℕ). IsOwnTime c (first_loaded c v (stand_in v) first) l found) (sym stands.link_is)
+          (subst (λ (u : View). IsOwnTime c u link found) firsts own);
     }
 
 -- the view z with all that a lock may change as it is in y
@@ -51,7 +54,8 @@ abbrev pub head_found : Config → StepKind → ℕ → ℕ → Step
 head_found c kind object link = record { kind = kind; word = place_of c (Head object); found = Some link; stored = None }
 
 -- HEAD was found to be a link, in a step of some kind, and then FIRST and STAMP of its version were loaded
-module _ (c : Config) (v w x : View) (kind : StepKind) (object link found : ℕ) (head : w.trail ≡ v.trail ++ head_found c kind object link ∷ []) (there : (stand_in w).link ≡ link) (looked : Looked c w x found) where
+module _ (c : Config) (v w x : View) (kind : StepKind) (object link found : ℕ) (head : w.trail ≡ v.trail ++ head_found c kind object link ∷ [])
+    (there : (stand_in w).link ≡ link) (looked : Looked c w x found) where
   abbrev of_head : Step
   of_head = head_found c kind object link
 
@@ -66,7 +70,13 @@ module _ (c : Config) (v w x : View) (kind : StepKind) (object link found : ℕ)
   trail_is =
       let start : List Step = v.trail ++ of_head ∷ [] in
       ap (λ (u : View). u.trail) looked.view
-      ∙ (λ i. (head i ++ record { kind = LoadFirst; word = place_of c (First (link_seat_of (there i)) (slot_named c (there i))); found = Some looked.first; stored = None } ∷ []) ++ record { kind = LoadStamp; word = place_of c (Stamp (link_seat_of (there i)) (index_of c looked.first)); found = Some found; stored = None } ∷ [])
+      ∙ (λ i. (head i ++ record {
+        kind = LoadFirst;
+        word = place_of c (First (link_seat_of (there i)) (slot_named c (there i)));
+        found = Some looked.first;
+        stored = None;
+      } ∷ [])
+      ++ record { kind = LoadStamp; word = place_of c (Stamp (link_seat_of (there i)) (index_of c looked.first)); found = Some found; stored = None } ∷ [])
       ∙ append_assoc start (of_first ∷ []) (of_stamp ∷ [])
       ∙ append_assoc v.trail (of_head ∷ []) (of_first ∷ of_stamp ∷ [])
 
@@ -89,11 +99,17 @@ module _ (c : Config) (v w x : View) (kind : StepKind) (object link found : ℕ)
   }
 
   pub looked_steps : IsLockStep kind → (steps : List Step) × (x.trail ≡ v.trail ++ steps) × (length steps ≡ 3) × All IsLocks steps
-  looked_steps is =
-      (of_head ∷ of_first ∷ of_stamp ∷ [], trail_is, refl, All-cons IsLocks of_head (of_first ∷ of_stamp ∷ []) is (All-cons IsLocks of_first (of_stamp ∷ []) tt (All-cons IsLocks of_stamp [] tt (All-nil IsLocks))))
+  looked_steps is = (
+    of_head ∷ of_first ∷ of_stamp ∷ [],
+    trail_is,
+    refl,
+    All-cons IsLocks of_head (of_first ∷ of_stamp ∷ []) is
+        (All-cons IsLocks of_first (of_stamp ∷ []) tt (All-cons IsLocks of_stamp [] tt (All-nil IsLocks))),
+  )
 
 -- HEAD was loaded
-module _ (c : Config) (v w x : View) (object link found : ℕ) (inside : Section) (some : link ≢ 0) (head : w ≡ head_loaded c v inside object link) (looked : Looked c w x found) where
+module _ (c : Config) (v w x : View) (object link found : ℕ) (inside : Section) (some : link ≢ 0) (head : w ≡ head_loaded c v inside object link)
+    (looked : Looked c w x found) where
   -- where the walk stands
   stand_is : stand_in w ≡ record { object = object; link = link; first = None; stamp = None; passed = Nothing; late = false }
   stand_is = ap stand_of (stands_here w object link Nothing some (ap (λ (u : View). u.walk) head))
@@ -105,22 +121,28 @@ module _ (c : Config) (v w x : View) (object link found : ℕ) (inside : Section
   pub looked_tries : (before : ℕ) → Tries v x before (before + 3)
   looked_tries before = record {
     seen = let more = looked.says.sees.more in (more.0, more.1 ∙ ap (λ (u : View). u.past.seen ++ more.0) head);
-    trail = let s = looked_steps c v w x LoadHead object link found (ap (λ (u : View). u.trail) head) link_there looked tt in (s.0, s.1, (let long = s.2 in omega arith), s.3);
+    trail = let s =
+        looked_steps c v w x LoadHead object link found (ap (λ (u : View). u.trail) head) link_there looked tt in
+        (s.0, s.1, (let long = s.2 in omega arith), s.3);
     rest = ap (rest_of x) looked.view ∙ ap (rest_of x) head;
   }
 
   -- an unset stamp is of a version of another seat, which was found on top
-  pub held_elsewhere : IsUnheld v object → MayWalk v → IsOwnTop c v object link → IsUnset found → (link_seat_of link ≢ v.number) × FoundHeld c object (link_seat_of link) x.trail
+  pub held_elsewhere : IsUnheld v object → MayWalk v → IsOwnTop c v object link → IsUnset found
+      → (link_seat_of link ≢ v.number) × FoundHeld c object (link_seat_of link) x.trail
   held_elsewhere unheld may own unset = (
     λ seat.
         let top = own some seat in
         ⊎_elim
         (λ held. unheld (slot_named c link) top.0 (subst (λ (st : Status). slot_at v.ring (slot_named c link) ≡ Live top.0 st) held top.2) top.3)
         (λ made.
-        let committed : slot_at v.ring (slot_named c link) ≡ Live top.0 (Committed made.0) = subst (λ (st : Status). slot_at v.ring (slot_named c link) ≡ Live top.0 st) made.1 top.2 in
-        let there : slot_at w.ring (slot_named c link) ≡ Live top.0 (Committed made.0) = ap (λ (u : View). slot_at u.ring (slot_named c link)) head ∙ committed in
+        let committed : slot_at v.ring (slot_named c link) ≡ Live top.0 (Committed made.0) =
+        subst (λ (st : Status). slot_at v.ring (slot_named c link) ≡ Live top.0 st) made.1 top.2 in
+        let there : slot_at w.ring (slot_named c link) ≡ Live top.0 (Committed made.0) =
+        ap (λ (u : View). slot_at u.ring (slot_named c link)) head ∙ committed in
         let phase : w.phase ≡ Inside (section_in v) = ap (λ (u : View). u.phase) head ∙ may.phase in
-        let time : IsOwnTime c (first_loaded c w (stand_in w) looked.first) link found = subst (λ (l : ℕ). IsOwnTime c (first_loaded c w (stand_in w) looked.first) l found) link_there looked.own in
+        let time : IsOwnTime c (first_loaded c w (stand_in w) looked.first) link found =
+        subst (λ (l : ℕ). IsOwnTime c (first_loaded c w (stand_in w) looked.first) l found) link_there looked.own in
         let low : found < 2 ^ 63 = time (seat ∙ sym (ap (λ (u : View). u.number) head)) top.0 made.0 there (section_in v) phase may.open_is in
         omega arith)
         top.4,
@@ -139,7 +161,15 @@ module _ (c : Config) (v w x : View) (object link found : ℕ) (inside : Section
   pub stands_to_lock : (y : View) → Reads LoadData x y → (time : ℕ) → time ≡ time_at x → found ≤ time → StandsToLock y (section_in y) object link
   stands_to_lock y reads time time_is le =
       let stand : Stand = record { object = object; link = link; first = Some looked.first; stamp = Some found; passed = Nothing; late = false } in
-      inr (stand, found, ap (λ (u : View). u.walk) reads.rest ∙ at_top, refl, refl, refl, (let same : time_at y ≡ time_at x = ap time_at reads.rest in omega arith))
+      inr (
+        stand,
+        found,
+        ap (λ (u : View). u.walk) reads.rest ∙ at_top,
+        refl,
+        refl,
+        refl,
+        (let same : time_at y ≡ time_at x = ap time_at reads.rest in omega arith),
+      )
 
 -- reading six words more leaves what a lock leaves
 pub tries_read : (kind : StepKind) → IsLockStep kind → (v x y : View) (before here : ℕ) → Tries v x before here → Reads kind x y → Tries v y before (here + 6)
@@ -151,6 +181,11 @@ tries_read kind is v x y before here tries reads =
     let two = t.2 in
     record {
       seen = (tries.seen.0, ap (λ (u : View). u.past.seen) reads.rest ∙ tries.seen.1);
-      trail = (s.0 ++ t.0, t.1 ∙ ap (λ (l : List Step). l ++ t.0) s.1 ∙ append_assoc v.trail s.0 t.0, (omega arith), All-append IsLocks s.0 t.0 s.3 (λ k d lt. subst IsLockStep (sym (t.3 k d lt)) is));
+      trail = (
+        s.0 ++ t.0,
+        t.1 ∙ ap (λ (l : List Step). l ++ t.0) s.1 ∙ append_assoc v.trail s.0 t.0,
+        (omega arith),
+        All-append IsLocks s.0 t.0 s.3 (λ k d lt. subst IsLockStep (sym (t.3 k d lt)) is),
+      );
       rest = ap (rest_of y) reads.rest ∙ ap (rest_of y) tries.rest;
     }

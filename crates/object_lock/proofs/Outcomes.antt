@@ -77,7 +77,8 @@ module _ (c : Config) (v x : View) (object link found : ℕ) (may : MayWalk v) (
       let ring : x.ring ≡ v.ring = ap (λ (u : View). u.ring) looked.view in record {
         may = still;
         stands = stands_dropped c x l
-            (stands_on c v x l (of_first ∷ of_stamp ∷ []) (ap (λ (u : View). u.number) looked.view) ring (ap (λ (u : View). u.past.mine) looked.view) (ap (λ (u : View). u.past.rests) looked.view) two_steps two_kinds s);
+            (stands_on c v x l (of_first ∷ of_stamp ∷ []) (ap (λ (u : View). u.number) looked.view) ring (ap (λ (u : View). u.past.mine) looked.view)
+            (ap (λ (u : View). u.past.rests) looked.view) two_steps two_kinds s);
         unbuilt = refl;
         makes = makes;
         keeps = λ _. (ap (own_of c) ring, ap spare_count ring);
@@ -89,7 +90,8 @@ module _ (c : Config) (v x : View) (object link found : ℕ) (may : MayWalk v) (
       → after ≡ before + 2 → Outcome c v x m object (Busy seat) before after
   lost_busy l m seat before after still s is seat_is unset e =
       subst (λ (k : Noted). Outcome c v x k object (Busy seat) before after) (sym is)
-      (subst (λ (q : ℕ). Outcome c v x (dropped l) object (Busy q) before after) (sym seat_is) (lost_outcome l (Busy (link_seat_of link)) before after still s (busy_cause unset) e))
+      (subst (λ (q : ℕ). Outcome c v x (dropped l) object (Busy q) before after) (sym seat_is)
+      (lost_outcome l (Busy (link_seat_of link)) before after still s (busy_cause unset) e))
 
   pub lost_stale : (l m : Noted) (before after : ℕ) → MayWalk x → Stands c v l → m ≡ dropped l → found < 2 ^ 63 → after ≡ before + 2
       → Outcome c v x m object (Stale found) before after

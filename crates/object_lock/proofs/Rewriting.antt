@@ -1,5 +1,7 @@
 -- The words of a held version are stored one after another, and what the section holds is rewritten by that.
-use Rattle.std.proofs.Common.{◌≡◌, ◌≢◌, ℕ, zero, suc, ◌+◌, ◌-◌, ◌<◌, ◌≤◌, if◌then◌else◌, Bool, eq-eqb, ne_eqb, List, [], ◌∷◌, ◌++◌, length, map, drop, refl, sym, ap, ◌∙◌, append-nil, append_assoc, length-append, arith, Some, None}
+use Rattle.std.proofs.Common.{◌≡◌, ◌≢◌, ℕ, zero, suc, ◌+◌, ◌-◌, ◌<◌, ◌≤◌, if◌then◌else◌, Bool, eq-eqb, ne_eqb}
+use Rattle.std.proofs.Common.{List, [], ◌∷◌, ◌++◌, length, map, drop, refl, sym, ap, ◌∙◌, append-nil, append_assoc, length-append}
+use Rattle.std.proofs.Common.{arith, Some, None}
 use Rattle.std.specs.Prelude.{slice_get, slice_index, slice_set}
 use Rattle.std.proofs.lemmas.List.Elements.{All-nil, All-push}
 use Rattle.mv_history.specs.State.{rewritten}
@@ -32,7 +34,8 @@ rewrites (m ∷ ms) zero n f o words at is none same =
 rewrites (m ∷ ms) (suc j) n f o words at is none same =
     ap (λ ws. note_write m ∷ ws) (rewrites ms j n f o words at is (λ i k e lt. none (suc i) k e (omega arith)) same)
     ∙ sym
-    (ap (λ (b : Bool). if b then (o, words) ∷ map note_write ms else note_write m ∷ rewritten (map note_write ms) o words) (ne_eqb m.object o (none 0 m refl (omega arith))))
+    (ap (λ (b : Bool). if b then (o, words) ∷ map note_write ms else note_write m ∷ rewritten (map note_write ms) o words)
+    (ne_eqb m.object o (none 0 m refl (omega arith))))
 
 drop-at : (f : Note → Note) (d j : ℕ) (ns : List Note) → d ≤ j → drop d (at_place f j ns) ≡ at_place f (j - d) (drop d ns)
 drop-at f zero j ns le = ap (λ i. at_place f i ns) (let z : j ≡ j - 0 = omega arith in z)
@@ -53,7 +56,8 @@ at-same (suc j) (n ∷ ns) = ap (λ l. n ∷ l) (at-same j ns)
 -- six words in place of six
 six_words : (xs ws : List ℕ) → length xs ≡ 6 → length ws ≡ 6
     → slice_set
-    (slice_set (slice_set (slice_set (slice_set (slice_set xs 0 (slice_index ws 0)) 1 (slice_index ws 1)) 2 (slice_index ws 2)) 3 (slice_index ws 3)) 4 (slice_index ws 4))
+    (slice_set (slice_set (slice_set (slice_set (slice_set xs 0 (slice_index ws 0)) 1 (slice_index ws 1)) 2 (slice_index ws 2)) 3 (slice_index ws 3)) 4
+    (slice_index ws 4))
     5 (slice_index ws 5) ≡ ws
 six_words (a ∷ b ∷ c ∷ d ∷ e ∷ f ∷ []) (g ∷ h ∷ i ∷ j ∷ k ∷ l ∷ []) p q = refl
 six_words [] ws p q = absurd (omega arith)

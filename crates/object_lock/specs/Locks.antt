@@ -80,7 +80,8 @@ LockAnswers c v w object SetFull = IsSetFull c v
 LockAnswers c v w object LogFull = (¬ (IsSetFull c v)) × (spare_count v.ring ≡ 0)
 LockAnswers c v w object answer = HasRoom c v × LockMakes c v w object answer
 
--- between the two parts of a lock: a version of the object is built over what is on top of its chain, in a section that doesn't hold the object and may hold one more
+-- between the two parts of a lock: a version of the object is built over what is on top of its chain, in a section that doesn't
+-- hold the object and may hold one more
 pub record IsStarted (c : Config) (v : View) (l : Noted) (lock : StartedLock) : Type 0 where
   pub may : MayWalk v
   pub range : lock.object < c.objects

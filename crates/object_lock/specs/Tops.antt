@@ -49,7 +49,9 @@ IsLockStep StoreBuilt = Unit {0}
 IsLockStep LockHead = Unit {0}
 IsLockStep _ = ⊥
 
--- What a lock leaves of a view, with the counter of steps before and after: what was seen is only longer, the trail has a record for each step and each is of a lock, and nothing else changes but the log, where the walk stands, and which HEADs were found empty.
+-- What a lock leaves of a view, with the counter of steps before and after: what was seen is only longer, the trail has a record
+-- for each step and each is of a lock, and nothing else changes but the log, where the walk stands, and which HEADs were found
+-- empty.
 pub record Tries (v w : View) (before after : ℕ) : Type 0 where
   pub seen : BeginsWith w.past.seen v.past.seen
   pub trail : (steps : List Step) × (w.trail ≡ v.trail ++ steps) × (after ≡ before + length steps) × All (λ s. IsLockStep s.kind) steps

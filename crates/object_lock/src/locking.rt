@@ -58,9 +58,11 @@ pub(crate) fn exchange<P: Protocol, L: Ledger>(
     ensures same { IsSame pass.old pass.new }
     ensures told { LockTold (config_of shared.now) (view pass.old) (section_in (view pass.old)) object previous position (found_by previous result) (view pass.new) }
     ensures swap { IsSwap previous result }
-    ensures own { found_by previous result ≡ previous → OneMoreWrite (config_of shared.now) (view pass.old) (section_in (view pass.old)) object (view pass.new) }
+    ensures own { found_by previous result ≡ previous
+        → OneMoreWrite (config_of shared.now) (view pass.old) (section_in (view pass.old)) object (view pass.new) }
     ensures link { found_by previous result ≢ previous → IsLinkOf (config_of shared.now) (found_by previous result) }
-    ensures other { found_by previous result ≢ previous → found_by previous result ≢ 0 → link_seat_of (found_by previous result) ≢ (view pass.old).number }
+    ensures other { found_by previous result ≢ previous → found_by previous result ≢ 0
+        → link_seat_of (found_by previous result) ≢ (view pass.old).number }
     ensures step { steps.new ≡ steps.old + 1 }
 {
     let first = position - held(log) as u64;
@@ -163,10 +165,12 @@ pub fn lock_start<P: Protocol, L: Ledger>(
     ensures few { log.new.held ≤ (config_of shared.now).write_max }
     ensures tries { Tries (view pass.old) (view pass.new) steps.old steps.new }
     ensures keeps { KeepsOwn (config_of shared.now) (view pass.old) (view pass.new) }
-    ensures again { touches (own_of (config_of shared.now) (view pass.old).ring) object ≡ true → (result ≡ Err Held) × (view pass.new ≡ view pass.old) × (log.new ≡ log.old) }
+    ensures again { touches (own_of (config_of shared.now) (view pass.old).ring) object ≡ true
+        → (result ≡ Err Held) × (view pass.new ≡ view pass.old) × (log.new ≡ log.old) }
     ensures started { IfOk result (λ lock. Starts (config_of shared.now) (view pass.old) (view pass.new) log.new object lock) }
     ensures unbuilt { OnErr result (log.new.built ≡ None) }
-    ensures answers { IfErr result (λ answer. touches (own_of (config_of shared.now) (view pass.old).ring) object ≡ false → LockAnswers (config_of shared.now) (view pass.old) (view pass.new) object answer) }
+    ensures answers { IfErr result (λ answer. touches (own_of (config_of shared.now) (view pass.old).ring) object ≡ false
+        → LockAnswers (config_of shared.now) (view pass.old) (view pass.new) object answer) }
     ensures bound { steps.new ≤ steps.old + 19 }
 {
     if holds(log, object) {
@@ -259,8 +263,10 @@ pub fn lock<P: Protocol, L: Ledger>(
     ensures unbuilt { log.new.built ≡ None }
     ensures few { log.new.held ≤ (config_of shared.now).write_max }
     ensures tries { Tries (view pass.old) (view pass.new) steps.old steps.new }
-    ensures again { touches (own_of (config_of shared.now) (view pass.old).ring) object ≡ true → (result ≡ Held) × (view pass.new ≡ view pass.old) × (log.new ≡ log.old) }
-    ensures answers { touches (own_of (config_of shared.now) (view pass.old).ring) object ≡ false → LockAnswers (config_of shared.now) (view pass.old) (view pass.new) object result }
+    ensures again { touches (own_of (config_of shared.now) (view pass.old).ring) object ≡ true
+        → (result ≡ Held) × (view pass.new ≡ view pass.old) × (log.new ≡ log.old) }
+    ensures answers { touches (own_of (config_of shared.now) (view pass.old).ring) object ≡ false
+        → LockAnswers (config_of shared.now) (view pass.old) (view pass.new) object result }
     ensures refused { result ≢ Held → KeepsOwn (config_of shared.now) (view pass.old) (view pass.new) }
     ensures bound { steps.new ≤ steps.old + 32 }
 {

@@ -1,5 +1,6 @@
 -- The views that the steps of an `enter` leave.
-use Rattle.std.proofs.Common.{◌≡◌, ℕ, ◌+◌, List, [], ◌∷◌, ◌++◌, length, take, sym, refl, ap, ◌∙◌, subst, append-nil, append_assoc, length-append, arith, Option, Some, None, unwrap_or}
+use Rattle.std.proofs.Common.{◌≡◌, ℕ, ◌+◌, List, [], ◌∷◌, ◌++◌, length, take, sym, refl, ap, ◌∙◌, subst, append-nil}
+use Rattle.std.proofs.Common.{append_assoc, length-append, arith, Option, Some, None, unwrap_or}
 use Rattle.std.proofs.Math.Seq.{take-append_seam}
 use Rattle.std.proofs.lemmas.List.Elements.{All-nil, All-cons, All-append, All-weaker}
 use Rattle.mv_history.specs.declared.Entry.{Entry}
@@ -65,7 +66,8 @@ module _ (c : Config) (v : View) (low word : ℕ) (h : List Entry) (w : View) (l
             let same : length trail ≡ length trail + length t.0 = ap (λ (u : View). length u.trail) (sym (none e)) ∙ ap length t.1 ∙ length-append trail t.0 in
             omega arith;
         kinds = All-append (λ s. IsEnterStep s.kind) first t.0
-            (All-cons (λ s. IsEnterStep s.kind) a (b ∷ d ∷ []) tt (All-cons (λ s. IsEnterStep s.kind) b (d ∷ []) tt (All-cons (λ s. IsEnterStep s.kind) d [] tt (All-nil (λ s. IsEnterStep s.kind)))))
+            (All-cons (λ s. IsEnterStep s.kind) a (b ∷ d ∷ []) tt
+            (All-cons (λ s. IsEnterStep s.kind) b (d ∷ []) tt (All-cons (λ s. IsEnterStep s.kind) d [] tt (All-nil (λ s. IsEnterStep s.kind)))))
             (All-weaker (λ (s : Step). IsHelpStep s.kind) (λ s. IsEnterStep s.kind) (λ s x. help_enters s.kind x) t.0 t.3);
         takes = (2, omega arith, refl);
       }
@@ -105,4 +107,5 @@ begins c v v1 v2 v3 w low mark word time h last is1 marks is2 whole is3 nothing 
     is2 ∙ ap (λ (u : View). mark_stored c u mark) is1 ∙ ap (mark_stored c (low_loaded c v low)) marks in
     let same : v3 ≡ entered c v low word h = is3 ∙ ap (λ (u : View). time_loaded c u word h) marked in
     subst (Begins c v w) (sym times)
-    (begins_go c v low word h w last (subst (λ (u : View). IsWhole c u word h) marked whole) (subst (λ (u : View). Helps c u w word) same helps) (subst (λ (u : View). FindsClock c u w last) same finds) (λ e. none e ∙ same) (subst (λ (u : View). HoldsNothing u.ring) same nothing))
+    (begins_go c v low word h w last (subst (λ (u : View). IsWhole c u word h) marked whole) (subst (λ (u : View). Helps c u w word) same helps)
+    (subst (λ (u : View). FindsClock c u w last) same finds) (λ e. none e ∙ same) (subst (λ (u : View). HoldsNothing u.ring) same nothing))

@@ -1,5 +1,6 @@
 -- Scans of the marks: which time a scan finds, and what it leaves of a view.
-use Rattle.std.specs.Prelude.{◌≡◌, ◌≢◌, ℕ, zero, suc, ◌+◌, ◌<◌, ◌≤◌, ◌==◌, max, if◌then◌else◌, false, List, [], ◌∷◌, ◌++◌, length, Option, Some, None}
+use Rattle.std.specs.Prelude.{◌≡◌, ◌≢◌, ℕ, zero, suc, ◌+◌, ◌<◌, ◌≤◌, ◌==◌, max, if◌then◌else◌, false, List, []}
+use Rattle.std.specs.Prelude.{◌∷◌, ◌++◌, length, Option, Some, None}
 use Rattle.mv_history.specs.declared.Entry.{Entry}
 use Rattle.mv_history.specs.declared.Step.{Step}
 use Rattle.mv_history.specs.declared.StepKind.TheVariants.{LoadScan, LoadMark, RaiseGrace}
@@ -59,7 +60,8 @@ scanned c v word h marks low found = record v {
   trail = v.trail ++ scan_steps c v.number word marks low found;
 }
 
--- A scan found this watermark, and this time in CLOCK: it loaded CLOCK and the mark of each other seat, and raised GRACE by the least time of them. The whole history at its first step is seen. The counter of steps grew by as many as were made.
+-- A scan found this watermark, and this time in CLOCK: it loaded CLOCK and the mark of each other seat, and raised GRACE by the
+-- least time of them. The whole history at its first step is seen. The counter of steps grew by as many as were made.
 pub record Scans (c : Config) (v w : View) (mark : Watermark) (clock before after : ℕ) : Type 0 where
   pub word : ℕ
   pub clock_is : clock ≡ clock_time_of word

@@ -63,7 +63,9 @@ fn look_at<P: Protocol, L: Ledger>(
     requires may { seat ≢ (view pass.old).number → (scan : Scan) × MayLoadMark (config_of shared.now) (view pass.old) seat scan }
     ensures same { IsSame pass.old pass.new }
     ensures own { seat ≡ (view pass.old).number → (result ≡ lowest) × (view pass.new ≡ view pass.old) × (steps.new ≡ steps.old) }
-    ensures other { seat ≢ (view pass.old).number → (mark : ℕ) × (scan : Scan) × ((view pass.old).scan ≡ Some scan) × (result ≡ lowered lowest seat mark) × (view pass.new ≡ mark_loaded (config_of shared.now) (view pass.old) seat scan mark) × (steps.new ≡ steps.old + 1) }
+    ensures other { seat ≢ (view pass.old).number → (mark : ℕ) × (scan : Scan) × ((view pass.old).scan ≡ Some scan)
+        × (result ≡ lowered lowest seat mark) × (view pass.new ≡ mark_loaded (config_of shared.now) (view pass.old) seat scan mark)
+        × (steps.new ≡ steps.old + 1) }
 {
     if seat == pass.seat() {
         return lowest;

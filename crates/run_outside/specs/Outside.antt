@@ -1,5 +1,6 @@
 -- What files and sinks are to the program.
-use Rattle.std.specs.Prelude.{◌≡◌, ◌≤◌, ◌<◌, ◌+◌, ◌-◌, ◌^◌, ℕ, min, List, length, take, ⊤, Option, None, Some, Result, Ok, Err, OnErr, IsSome}
+use Rattle.std.specs.Prelude.{◌≡◌, ◌≤◌, ◌<◌, ◌+◌, ◌-◌, ◌^◌, ℕ, min, List, length, take, ⊤, Option, None, Some, Result}
+use Rattle.std.specs.Prelude.{Ok, Err, OnErr, IsSome}
 use Rattle.std.specs.Io.KnownBytes.{Appends}
 
 -- a count of faults stands higher than it did, or at the counter's end

@@ -1,5 +1,7 @@
 // Files and a sink in memory, which fail at the calls that they are told.
-ghost use Rattle.std.specs.Prelude.{◌≡◌, ◌≢◌, ◌≤◌, ◌<◌, ◌+◌, ◌-◌, ◌↔◌, ◌⊎◌, ◌==◌, ◌++◌, [], ◌∷◌, Contains, List, ℕ, length, take, drop, min, map, Option, Some, None, is_some, MatchOption, OnOk, OnErr, IfOk, IfSome, IsOk, IsErr, IsSome, IsNone, IsTrue, string_bytes, vec_capacity};
+ghost use Rattle.std.specs.Prelude.{◌≡◌, ◌≢◌, ◌≤◌, ◌<◌, ◌+◌, ◌-◌, ◌↔◌, ◌⊎◌, ◌==◌, ◌++◌, []};
+ghost use Rattle.std.specs.Prelude.{◌∷◌, Contains, List, ℕ, length, take, drop, min, map, Option, Some, None, is_some, MatchOption, OnOk};
+ghost use Rattle.std.specs.Prelude.{OnErr, IfOk, IfSome, IsOk, IsErr, IsSome, IsNone, IsTrue, string_bytes, vec_capacity};
 ghost use Rattle.std.specs.Io.{ReadsAtMost};
 ghost use Rattle.std.specs.Io.KnownBytes.{ReadConsumes};
 ghost use Rattle.run_outside.specs.Outside.{HasCause, HasText, Starts, Takes};
@@ -38,7 +40,14 @@ impl Model for MemFiles {
 
     ghost Value = { FilesState };
 
-    ghost view = { λ s. record { texts = map named s.texts.items; most = s.most; fails = s.fails.items; calls = s.calls; faults = s.faults; left = left_from (map named s.texts.items) s.opened s.place } };
+    ghost view = { λ s. record {
+      texts = map named s.texts.items;
+      most = s.most;
+      fails = s.fails.items;
+      calls = s.calls;
+      faults = s.faults;
+      left = left_from (map named s.texts.items) s.opened s.place;
+    } };
 
     ghost invariant = { λ s. (0 < s.most) × ForSome s.opened (λ i. i < length s.texts.items) };
 }
@@ -165,7 +174,8 @@ fn put_all(into: &mut Vec<u8>, bytes: &[u8])
 
 // The index of the first text of this name.
 fn find_text(texts: &[MemText], name: &str) -> Option<usize>
-    ensures { MatchOption result (text_of (map named texts.now) name.now ≡ None) (λ i. (i < length texts.now) × (text_of (map named texts.now) name.now ≡ left_from (map named texts.now) (Some i) 0)) }
+    ensures { MatchOption result (text_of (map named texts.now) name.now ≡ None)
+        (λ i. (i < length texts.now) × (text_of (map named texts.now) name.now ≡ left_from (map named texts.now) (Some i) 0)) }
 {
     for (place, text) in texts.iter().enumerate() {
         if text.name.as_str() == name {

@@ -19,7 +19,8 @@ builds_still c v w position ring phase may = record {
   spare = (may.spare.0, ap (λ (r : Ring). build_in (slot_at r (index_of c position))) ring ∙ may.spare.1);
 }
 
-pub builds_next : (c : Config) (v w : View) (l : Noted) (position : ℕ) → Stands c v l → MayWalk v → position ≡ l.freed + length l.live → length l.live < l.slots → w.ring ≡ v.ring → w.phase ≡ v.phase → MayBuild c w position
+pub builds_next : (c : Config) (v w : View) (l : Noted) (position : ℕ) → Stands c v l → MayWalk v → position ≡ l.freed + length l.live
+    → length l.live < l.slots → w.ring ≡ v.ring → w.phase ≡ v.phase → MayBuild c w position
 builds_next c v w l position k walk at room ring phase =
     let next = k.next in
     builds_still c v w position ring phase (may_build c v l k position (omega arith) (section_in v, walk.phase, walk.open_is) room)

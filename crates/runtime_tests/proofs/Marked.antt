@@ -109,7 +109,8 @@ marks_plain c own marks (suc n) =
 scan_plain : (c : Config) (own word : ℕ) (marks : ℕ → ℕ) (low found : ℕ) → AllLeaveLog (scan_steps c own word marks low found)
 scan_plain c own word marks low found =
     All-cons (λ (t : Step). LeavesLog t.kind) (scan_step c word) (mark_steps c own marks c.seats ++ grace_step c low found ∷ []) (refl, refl)
-    (All-append (λ (t : Step). LeavesLog t.kind) (mark_steps c own marks c.seats) (grace_step c low found ∷ []) (marks_plain c own marks c.seats) (one_leaves (grace_step c low found) (refl, refl)))
+    (All-append (λ (t : Step). LeavesLog t.kind) (mark_steps c own marks c.seats) (grace_step c low found ∷ []) (marks_plain c own marks c.seats)
+    (one_leaves (grace_step c low found) (refl, refl)))
 
 pub scanned : (c : Config) (v w : View) (l : Noted) (mark : Watermark) (clock before after : ℕ) → IsOutside c v l
     → Scans c v w mark clock before after → IsOutside c w l

@@ -6,7 +6,8 @@ use Rattle.seat_log.specs.Notes.{Noted}
 use Rattle.object_lock.specs.declared.locking.StartedLock.{StartedLock}
 use Rattle.runtime_tests.specs.declared.clients.Stage.{Stage}
 use Rattle.runtime_tests.specs.declared.clients.Stage.TheVariants.{Outside, Lowered, Marked, Taken, Inside, Named, Locking, Loaded, Helped, WritingBack}
-use Rattle.runtime_tests.specs.Clients.{IsOutside, HasLowered, HasMarked, HasTaken, IsInside, HasJustNamed, HasStarted, HasClock, HasHelpedClock, IsWritingBack, IsAt}
+use Rattle.runtime_tests.specs.Clients.{IsOutside, HasLowered, HasMarked, HasTaken, IsInside, HasJustNamed, HasStarted, HasClock, HasHelpedClock}
+use Rattle.runtime_tests.specs.Clients.{IsWritingBack, IsAt}
 
 module _ (c : Config) (v : View) (l : Noted) (stage : Stage) (at : IsAt c v l stage) where
   pub at_outside : stage ≡ Outside → IsOutside c v l

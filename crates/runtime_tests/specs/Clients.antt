@@ -24,7 +24,8 @@ use Rattle.commit_abort.specs.Finishes.{WonNaming, IsJustNamed}
 use Rattle.log_reclaim.specs.Backs.{IsWriting}
 use Rattle.runtime_tests.specs.declared.clients.Client.{Client}
 use Rattle.runtime_tests.specs.declared.clients.Stage.{Stage}
-use Rattle.runtime_tests.specs.declared.clients.Stage.TheVariants.{Outside, Lowered, Marked, Taken, Inside, Named, Stopped, Locking, Loaded, Helped, WritingBack}
+use Rattle.runtime_tests.specs.declared.clients.Stage.TheVariants.{Outside, Lowered, Marked, Taken, Inside, Named, Stopped, Locking, Loaded, Helped}
+use Rattle.runtime_tests.specs.declared.clients.Stage.TheVariants.{WritingBack}
 use Rattle.runtime_tests.specs.declared.clients.UnderWay.{UnderWay}
 use Rattle.runtime_tests.specs.declared.clients.UnderWay.TheVariants.{Nothing, Walking, Ended, WriteBack}
 
@@ -120,12 +121,14 @@ IsAt c v l WritingBack = IsWritingBack c v l
 abbrev pub IsReady : Shared AnyRules → Client → Type 0
 IsReady s client = IsOf s client.pass × IsAt (config_of s) (view client.pass) client.log client.stage
 
--- the view says of what is under way that it is: the walk stands at its link, or at what it ended at; or the write-back is of that object and position, and so many of its words were stored
+-- the view says of what is under way that it is: the walk stands at its link, or at what it ended at; or the write-back is of
+-- that object and position, and so many of its words were stored
 abbrev pub IsUnderWay : Config → View → UnderWay → Type 0
 IsUnderWay c v Nothing = Unit {0}
 IsUnderWay c v (Walking object walk) = StandsAt c v walk × (walk.object ≡ object) × (object < c.objects)
 IsUnderWay c v (Ended object found) = HasFound c v object found × (object < c.objects)
-IsUnderWay c v (WriteBack back object position stored) = IsWriting c v back × (back.object ≡ object) × (back.position ≡ position) × (back.stored ≡ stored)
+IsUnderWay c v (WriteBack back object position stored) =
+    IsWriting c v back × (back.object ≡ object) × (back.position ≡ position) × (back.stored ≡ stored)
 
 -- the client is ready, and can go on with what it has under way
 abbrev pub IsPlayable : Shared AnyRules → Client → Type 0

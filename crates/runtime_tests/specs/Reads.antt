@@ -18,7 +18,8 @@ pub record ReadsMaster (before after : List Step) : Type 0 where
   pub finds : Makes before found 1
   pub reads : Makes found after 6
 
--- A section that reads a master, by its trail: it enters by three steps where CLOCK names no commit, and by at most six in any case; then it finds the master, reads it, and leaves by one step.
+-- A section that reads a master, by its trail: it enters by three steps where CLOCK names no commit, and by at most six in any
+-- case; then it finds the master, reads it, and leaves by one step.
 pub record IsFirstRead (before after : List Step) : Type 0 where
   pub entered : List Step
   pub word : ℕ

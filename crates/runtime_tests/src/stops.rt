@@ -126,7 +126,8 @@ fn store_super_below<L: Ledger>(
     requires range { index < length log.now.live }
     requires may { (n : Note) → IsNoteAt log.now index n → MayTell (config_of shared.now) (view pass.old) n time above }
     ensures same { IsSame pass.old pass.new }
-    ensures tells { (n : Note) → IsNoteAt log.now index n → TellsOne (config_of shared.now) (view pass.old) (view pass.new) n time steps.old steps.new above }
+    ensures tells { (n : Note) → IsNoteAt log.now index n
+        → TellsOne (config_of shared.now) (view pass.old) (view pass.new) n time steps.old steps.new above }
 {
     let above = note(log, index);
     if above.previous != 0 {

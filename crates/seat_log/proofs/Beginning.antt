@@ -17,7 +17,8 @@ counted : {X : Type 0} (test : X → Bool) (n : ℕ) (x : X) → count_by test (
 counted test n x = sum_by-replicate (λ y. cond (test y) 1 0) n x
 
 -- nothing is noted, and nothing is there
-stands_empty : (c : Config) (v : View) → Checked c → v.number < c.seats → v.ring ≡ empty_ring c → v.past.mine ≡ [] → v.past.rests ≡ 0 → count_by is_free v.trail ≡ 0 → count_by is_won_cut v.trail ≡ 0 → Stands c v (nothing_noted v.number c.slots)
+stands_empty : (c : Config) (v : View) → Checked c → v.number < c.seats → v.ring ≡ empty_ring c → v.past.mine ≡ [] → v.past.rests ≡ 0
+    → count_by is_free v.trail ≡ 0 → count_by is_won_cut v.trail ≡ 0 → Stands c v (nothing_noted v.number c.slots)
 stands_empty c v checked range ring mine rests frees backs =
     let seats = checked.seats.1 in
     let slots = checked.slots in
@@ -57,7 +58,9 @@ stands_empty c v checked range ring mine rests frees backs =
     }
 
 -- the log of a seat of a new domain stands for the view with which that seat begins
-pub stands_new : (c : Config) (start : State) (number : ℕ) → Checked c → number < c.seats → Stands c (starting_view c start number) (nothing_noted number c.slots)
+pub stands_new : (c : Config) (start : State) (number : ℕ) → Checked c → number < c.seats
+    → Stands c (starting_view c start number) (nothing_noted number c.slots)
 stands_new c start zero checked range =
-    stands_empty c (starting_view c start zero) checked range refl refl refl (counted is_free (c.seats - 1) _ ∙ (omega arith)) (counted is_won_cut (c.seats - 1) _ ∙ (omega arith))
+    stands_empty c (starting_view c start zero) checked range refl refl refl (counted is_free (c.seats - 1) _ ∙ (omega arith))
+    (counted is_won_cut (c.seats - 1) _ ∙ (omega arith))
 stands_new c start (suc number) checked range = stands_empty c (starting_view c start (suc number)) checked range refl refl refl refl refl

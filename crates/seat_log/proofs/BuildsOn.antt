@@ -1,5 +1,6 @@
 -- What a view is after stores into the slot being built: only that slot and the trail have changed.
-use Rattle.std.proofs.Common.{◌≡◌, ◌≢◌, ℕ, zero, suc, ◌+◌, ◌<◌, Bool, false, cond, count_by, List, [], ◌∷◌, ◌++◌, length, map, refl, sym, ap, ◌∙◌, subst, arith, Option, Some}
+use Rattle.std.proofs.Common.{◌≡◌, ◌≢◌, ℕ, zero, suc, ◌+◌, ◌<◌, Bool, false, cond, count_by, List, [], ◌∷◌, ◌++◌}
+use Rattle.std.proofs.Common.{length, map, refl, sym, ap, ◌∙◌, subst, arith, Option, Some}
 use Rattle.std.specs.Prelude.{slice_set, slice_index, unwrap_or}
 use Rattle.std.proofs.lemmas.List.{length-set}
 use Rattle.std.proofs.lemmas.List.Sums.{sum_by-append}
@@ -27,7 +28,8 @@ pub record BuildsOn (c : Config) (v w : View) (position : ℕ) (b : Build) : Typ
   pub here : slot_at w.ring (index_of c position) ≡ Built b
   pub others : (j : ℕ) → j ≢ index_of c position → slot_at w.ring j ≡ slot_at v.ring j
   pub wide : length w.ring.slots ≡ length v.ring.slots
-  pub counts : (test : Slot → Bool) → ((a : Build) → test (Built a) ≡ test (slot_at v.ring (index_of c position))) → count_by test w.ring.slots ≡ count_by test v.ring.slots
+  pub counts : (test : Slot → Bool) → ((a : Build) → test (Built a) ≡ test (slot_at v.ring (index_of c position)))
+      → count_by test w.ring.slots ≡ count_by test v.ring.slots
   pub frees : count_by is_free w.trail ≡ count_by is_free v.trail
   pub backs : count_by is_won_cut w.trail ≡ count_by is_won_cut v.trail
 
@@ -39,7 +41,8 @@ unpassed test steps s e =
     omega arith
 
 -- the first store
-pub builds_first : (c : Config) (v : View) (position field x : ℕ) → index_of c position < length v.ring.slots → BuildsOn c v (stored_next c v position field x) position (built_too (build_at c v position) field x)
+pub builds_first : (c : Config) (v : View) (position field x : ℕ) → index_of c position < length v.ring.slots
+    → BuildsOn c v (stored_next c v position field x) position (built_too (build_at c v position) field x)
 unfolding stored_next
 builds_first c v position field x within =
     let b : Build = built_too (build_at c v position) field x in
@@ -54,14 +57,18 @@ builds_first c v position field x within =
     }
 
 -- and one more
-pub builds_more : (c : Config) (v w : View) (position field x : ℕ) (b : Build) → index_of c position < length v.ring.slots → BuildsOn c v w position b → BuildsOn c v (stored_next c w position field x) position (built_too b field x)
+pub builds_more : (c : Config) (v w : View) (position field x : ℕ) (b : Build) → index_of c position < length v.ring.slots → BuildsOn c v w position b
+    → BuildsOn c v (stored_next c w position field x) position (built_too b field x)
 unfolding stored_next
 builds_more c v w position field x b within on =
     let k = index_of c position in
     let was : build_at c w position ≡ b = ap (λ z. unwrap_or (build_in z) nothing_built) on.here in
     let there : k < length w.ring.slots = (let wide = on.wide in omega arith) in
     let next = builds_first c w position field x there in record {
-      rest = (λ i. record (on.rest i) { ring = record (on.rest i).ring { slots = (stored_next c w position field x).ring.slots }; trail = (stored_next c w position field x).trail });
+      rest = (λ i. record (on.rest i) {
+        ring = record (on.rest i).ring { slots = (stored_next c w position field x).ring.slots };
+        trail = (stored_next c w position field x).trail;
+      });
       here = next.here ∙ ap (λ a. Built (built_too a field x)) was;
       others = λ j ne. next.others j ne ∙ on.others j ne;
       wide = next.wide ∙ on.wide;
@@ -84,7 +91,9 @@ six (a ∷ b ∷ d ∷ e ∷ f ∷ g ∷ x ∷ xs) p = absurd (omega arith)
 -- the six words, each set to one of these
 abbrev six_set : List (Option ℕ) → List ℕ → List (Option ℕ)
 six_set xs ws =
-    slice_set (slice_set (slice_set (slice_set (slice_set (slice_set xs 0 (Some (slice_index ws 0))) 1 (Some (slice_index ws 1))) 2 (Some (slice_index ws 2))) 3 (Some (slice_index ws 3))) 4 (Some (slice_index ws 4))) 5 (Some (slice_index ws 5))
+    slice_set (slice_set
+    (slice_set (slice_set (slice_set (slice_set xs 0 (Some (slice_index ws 0))) 1 (Some (slice_index ws 1))) 2 (Some (slice_index ws 2))) 3
+    (Some (slice_index ws 3))) 4 (Some (slice_index ws 4))) 5 (Some (slice_index ws 5))
 
 all_set : (xs : List (Option ℕ)) (ws : List ℕ) → length xs ≡ 6 → length ws ≡ 6 → six_set xs ws ≡ map Some ws
 all_set xs ws p q =
@@ -92,7 +101,8 @@ all_set xs ws p q =
     let w = six ws q in
     (λ i. six_set (x.6 i) (w.6 i)) ∙ sym (ap (map Some) w.6)
 
-module _ (c : Config) (v : View) (position first previous : ℕ) (words : List ℕ) (may : MayBuild c v position) (wide : length (build_at c v position).words ≡ 6) (long : length words ≡ 6) where
+module _ (c : Config) (v : View) (position first previous : ℕ) (words : List ℕ) (may : MayBuild c v position)
+    (wide : length (build_at c v position).words ≡ 6) (long : length words ≡ 6) where
   -- what is stored after FIRST and STAMP
   record IsBegun (b : Build) : Type 0 where
     first_is : b.first ≡ Some first
@@ -106,10 +116,15 @@ module _ (c : Config) (v : View) (position first previous : ℕ) (words : List �
       dite (ℕ_discrete first position)
       (λ e. (
         built_too b 1 (unset_of position),
-        subst (λ (w : View). BuildsOn c v w position (built_too b 1 (unset_of position))) (sym (begun_first c v position first e)) (builds_more c v (stored_next c v position 0 first) position 1 (unset_of position) b may.within one),
+        subst (λ (w : View). BuildsOn c v w position (built_too b 1 (unset_of position))) (sym (begun_first c v position first e))
+            (builds_more c v (stored_next c v position 0 first) position 1 (unset_of position) b may.within one),
         record { first_is = refl; stamp_is = λ _. refl; words_are = wide },
       ))
-      (λ ne. (b, subst (λ (w : View). BuildsOn c v w position b) (sym (begun_later c v position first ne)) one, record { first_is = refl; stamp_is = λ e. absurd (ne e); words_are = wide }))
+      (λ ne. (
+        b,
+        subst (λ (w : View). BuildsOn c v w position b) (sym (begun_later c v position first ne)) one,
+        record { first_is = refl; stamp_is = λ e. absurd (ne e); words_are = wide },
+      ))
 
   links : (b : Build) × BuildsOn c v (linked c v position first previous) position b × IsBegun b × (b.previous ≡ Some previous) × (b.successor ≡ Some 0)
   unfolding linked
@@ -136,7 +151,8 @@ module _ (c : Config) (v : View) (position first previous : ℕ) (words : List �
   adds w b (suc i) on = builds_more c v (words_stored c w position words i) position (4 + i) (slice_index words i) (with_words b i) may.within (adds w b i on)
 
   -- the slot is whole after all stores
-  pub slot_whole : (n : Note) → n.position ≡ position → n.first ≡ first → n.previous ≡ previous → n.words ≡ words → (b : Build) × BuildsOn c v (slot_built c v position first previous words) position b × IsStored b n
+  pub slot_whole : (n : Note) → n.position ≡ position → n.first ≡ first → n.previous ≡ previous → n.words ≡ words
+      → (b : Build) × BuildsOn c v (slot_built c v position first previous words) position b × IsStored b n
   unfolding slot_built
   slot_whole n at firsts below same =
       let a = links in (

@@ -29,7 +29,8 @@ begun_changes c v position first =
     let one : View = stored_next c v position 0 first in
     let a = next_changes c v position 0 first in
     dite (ℕ_discrete first position)
-    (λ e. subst (ChangesLog v) (sym (begun_first c v position first e)) (changes_on v one (stored_next c one position 1 (unset_of position)) a (next_changes c one position 1 (unset_of position))))
+    (λ e. subst (ChangesLog v) (sym (begun_first c v position first e))
+    (changes_on v one (stored_next c one position 1 (unset_of position)) a (next_changes c one position 1 (unset_of position))))
     (λ ne. subst (ChangesLog v) (sym (begun_later c v position first ne)) a)
 
 linked_changes : (c : Config) (v : View) (position first previous : ℕ) → ChangesLog v (linked c v position first previous)
@@ -37,14 +38,16 @@ unfolding linked
 linked_changes c v position first previous =
     let b : View = begun c v position first in
     let p : View = stored_next c b position 2 previous in
-    changes_on v p (stored_next c p position 3 0) (changes_on v b p (begun_changes c v position first) (next_changes c b position 2 previous)) (next_changes c p position 3 0)
+    changes_on v p (stored_next c p position 3 0) (changes_on v b p (begun_changes c v position first) (next_changes c b position 2 previous))
+    (next_changes c p position 3 0)
 
 words_change : (c : Config) (v : View) (position : ℕ) (words : List ℕ) (i : ℕ) → ChangesLog v (words_stored c v position words i)
 unfolding words_stored
 words_change c v position words zero = refl
 words_change c v position words (suc i) =
     let w : View = words_stored c v position words i in
-    changes_on v w (stored_next c w position (4 + i) (slice_index words i)) (words_change c v position words i) (next_changes c w position (4 + i) (slice_index words i))
+    changes_on v w (stored_next c w position (4 + i) (slice_index words i)) (words_change c v position words i)
+    (next_changes c w position (4 + i) (slice_index words i))
 
 pub slot_changes : (c : Config) (v : View) (position first previous : ℕ) (words : List ℕ) → ChangesLog v (slot_built c v position first previous words)
 unfolding slot_built

@@ -1,6 +1,7 @@
 -- The log stands for the pass after a write-back: its exchange was tried, where it was won the clock was loaded for the time of death, and the
 -- section was left.
-use Rattle.std.proofs.Common.{◌≡◌, ℕ, suc, ◌+◌, ◌-◌, ◌<◌, ◌≤◌, Bool, true, false, count_by, List, [], ◌∷◌, length, map, refl, sym, ap, ◌∙◌, arith, Some, None, slice_index_or}
+use Rattle.std.proofs.Common.{◌≡◌, ℕ, suc, ◌+◌, ◌-◌, ◌<◌, ◌≤◌, Bool, true, false, count_by, List, [], ◌∷◌, length}
+use Rattle.std.proofs.Common.{map, refl, sym, ap, ◌∙◌, arith, Some, None, slice_index_or}
 use Rattle.std.specs.Prelude.{slice_set}
 use Rattle.std.proofs.lemmas.List.{length-set, map-set}
 use Rattle.std.proofs.lemmas.List.Sums.{sum_by-cons}
@@ -114,13 +115,15 @@ module _ (c : Config) (v : View) (l : Noted) (i : ℕ) (n : Note) (note : Commit
         let none : note.dead ≡ None = (no_death c v l i n k is_note note here alive).0 in
         let death : dead_if note.dead d ≡ Some d = ap (λ o. dead_if o d) none in
         let old : map (timed d) v.ring.slots ≡ v.ring.slots = map_kept (timed d) v.ring.slots (λ j. unwaiting c v l d k j (slot_at v.ring j) refl) in
-        let slots : map (timed d) (slice_set v.ring.slots s (Live (version_of n) (Committed cut))) ≡ slice_set (map (timed d) v.ring.slots) s (timed d (Live (version_of n) (Committed cut))) =
+        let slots : map (timed d) (slice_set v.ring.slots s (Live (version_of n) (Committed cut)))
+        ≡ slice_set (map (timed d) v.ring.slots) s (timed d (Live (version_of n) (Committed cut))) =
         map-set (timed d) v.ring.slots s (Live (version_of n) (Committed cut)) in
         (λ q. record v.ring { slots = slots q })
         ∙ (λ q. record v.ring { slots = slice_set (old q) s (Live (version_of n) (Committed (record note { dead = death q; cut = true }))) })
 
     -- the log stands for the pass after the version was written back, with its time of death and one write-back more
-    pub stands_cut : Stands c (mark_cleared c (death_loaded c (head_cut c v n.object n.position (version_of n) note) word h)) (back_noted (retired l n.position (clock_time_of word + 1)))
+    pub stands_cut : Stands c (mark_cleared c (death_loaded c (head_cut c v n.object n.position (version_of n) note) word h))
+        (back_noted (retired l n.position (clock_time_of word + 1)))
     stands_cut =
         let s : ℕ = index_of c n.position in
         let d : ℕ = clock_time_of word + 1 in

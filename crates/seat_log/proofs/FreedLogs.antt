@@ -1,5 +1,6 @@
 -- The log stands for the pass after its oldest write set was freed.
-use Rattle.std.proofs.Common.{◌≡◌, ◌≢◌, ℕ, zero, suc, ◌+◌, ◌-◌, ◌<◌, ◌≤◌, nat_le, Bool, length, refl, sym, ap, ◌∙◌, subst, ⊎_elim, arith, le-leb, length-drop, Option, Some, None}
+use Rattle.std.proofs.Common.{◌≡◌, ◌≢◌, ℕ, zero, suc, ◌+◌, ◌-◌, ◌<◌, ◌≤◌, nat_le, Bool, length, refl, sym, ap}
+use Rattle.std.proofs.Common.{◌∙◌, subst, ⊎_elim, arith, le-leb, length-drop, Option, Some, None}
 use Rattle.std.proofs.lemmas.Bool.{cases_lt, cases_eq, lt-leb}
 use Rattle.std.specs.Prelude.{IfSome}
 use Rattle.mv_layout.specs.declared.Config.{Config}

@@ -1,5 +1,6 @@
 -- The stores that free the oldest write set of the own log, one after another.
-use Rattle.std.proofs.Common.{◌≡◌, ◌≢◌, ◌⊎◌, ℕ, zero, suc, ◌+◌, ◌<◌, ◌≤◌, nat_le, Bool, count_by, length, map, refl, sym, ap, ◌∙◌, subst, inl, inr, ⊎_elim, arith, Some, None}
+use Rattle.std.proofs.Common.{◌≡◌, ◌≢◌, ◌⊎◌, ℕ, zero, suc, ◌+◌, ◌<◌, ◌≤◌, nat_le, Bool, count_by, length, map, refl}
+use Rattle.std.proofs.Common.{sym, ap, ◌∙◌, subst, inl, inr, ⊎_elim, arith, Some, None}
 use Rattle.std.proofs.lemmas.Bool.{cases_lt}
 use Rattle.std.proofs.lemmas.List.{length-map, length-set}
 use mathlib.Core.Logic.{dite}
@@ -63,8 +64,10 @@ module _ (c : Config) (v : View) (l : Noted) (k t : ℕ) (s : Stands c v l) (set
   held_freeing u (Built b) is = refl
   held_freeing u (Freeing p q) is = refl
   held_freeing u (Live x Held) is = ap is_held (freeing_out f x Held (not_held x u is))
-  held_freeing u (Live x (Aborted d)) is = dite (ℕ_discrete x.first f) (λ e. ap is_held (freeing_in f x (Aborted d) e)) (λ ne. ap is_held (freeing_out f x (Aborted d) ne))
-  held_freeing u (Live x (Committed note)) is = dite (ℕ_discrete x.first f) (λ e. ap is_held (freeing_in f x (Committed note) e)) (λ ne. ap is_held (freeing_out f x (Committed note) ne))
+  held_freeing u (Live x (Aborted d)) is =
+      dite (ℕ_discrete x.first f) (λ e. ap is_held (freeing_in f x (Aborted d) e)) (λ ne. ap is_held (freeing_out f x (Aborted d) ne))
+  held_freeing u (Live x (Committed note)) is =
+      dite (ℕ_discrete x.first f) (λ e. ap is_held (freeing_in f x (Committed note) e)) (λ ne. ap is_held (freeing_out f x (Committed note) ne))
 
   module _ (some : 0 < k) where
     -- the first version of the set
@@ -98,12 +101,14 @@ module _ (c : Config) (v : View) (l : Noted) (k t : ℕ) (s : Stands c v l) (set
 
     other_slot : (u : ℕ) (z : Slot) → slot_at v.ring u ≡ z → freeing_slot f z ≡ z → ((x : Version) (st : Status) → z ≡ Live x st → f + k ≤ x.position)
         → (u ≢ at 0)
-        → ((i : ℕ) × (i < k) × (u ≡ at i)) ⊎ ((slot_at first_ring u ≡ slot_at v.ring u) × ((x : Version) (st : Status) → slot_at v.ring u ≡ Live x st → f + k ≤ x.position))
+        → ((i : ℕ) × (i < k) × (u ≡ at i))
+        ⊎ ((slot_at first_ring u ≡ slot_at v.ring u) × ((x : Version) (st : Status) → slot_at v.ring u ≡ Live x st → f + k ≤ x.position))
     other_slot u z is same later ne =
         inr (slot_else mid (at 0) u Free ne ∙ mid_is u ∙ ap (freeing_slot f) is ∙ same ∙ sym is, λ x st e. later x st (sym is ∙ e))
 
     first_each : (u : ℕ) (z : Slot) → slot_at v.ring u ≡ z
-        → ((i : ℕ) × (i < k) × (u ≡ at i)) ⊎ ((slot_at first_ring u ≡ slot_at v.ring u) × ((x : Version) (st : Status) → slot_at v.ring u ≡ Live x st → f + k ≤ x.position))
+        → ((i : ℕ) × (i < k) × (u ≡ at i))
+        ⊎ ((slot_at first_ring u ≡ slot_at v.ring u) × ((x : Version) (st : Status) → slot_at v.ring u ≡ Live x st → f + k ≤ x.position))
     first_each u Free is =
         other_slot u Free is refl (λ x st e. absurd (cc))
         (λ e. let g : Free ≡ Live (version_of head.0) head.2.status = sym is ∙ ap (slot_at v.ring) e ∙ here in absurd (cc))

@@ -1,5 +1,6 @@
 -- What is in the slots of the own log while its oldest write set is freed, slot by slot.
-use Rattle.std.proofs.Common.{◌≡◌, ◌≢◌, ◌⊎◌, ℕ, suc, ◌+◌, ◌<◌, ◌≤◌, ◌==◌, Bool, true, false, cond, count_by, List, [], ◌∷◌, ◌++◌, length, map, refl, sym, ap, ◌∙◌, arith, eq-eqb, ne_eqb, slice_index_or}
+use Rattle.std.proofs.Common.{◌≡◌, ◌≢◌, ◌⊎◌, ℕ, suc, ◌+◌, ◌<◌, ◌≤◌, ◌==◌, Bool, true, false, cond, count_by}
+use Rattle.std.proofs.Common.{List, [], ◌∷◌, ◌++◌, length, map, refl, sym, ap, ◌∙◌, arith, eq-eqb, ne_eqb, slice_index_or}
 use Rattle.std.proofs.lemmas.List.Sums.{sum_by-cons, sum_by-append}
 use Rattle.mv_history.specs.declared.Step.{Step}
 use Rattle.mv_layout.specs.declared.Config.{Config}
@@ -108,4 +109,5 @@ pub record Freed (c : Config) (v w : View) (f k j : ℕ) : Type 0 where
   pub gone : (i : ℕ) → i < j → slot_at w.ring (index_of c (f + i)) ≡ Free
   pub going : (i : ℕ) → j ≤ i → i < k → slot_at w.ring (index_of c (f + i)) ≡ Freeing (f + i) f
   pub each : (t : ℕ)
-      → ((i : ℕ) × (i < k) × (t ≡ index_of c (f + i))) ⊎ ((slot_at w.ring t ≡ slot_at v.ring t) × ((x : Version) (st : Status) → slot_at v.ring t ≡ Live x st → f + k ≤ x.position))
+      → ((i : ℕ) × (i < k) × (t ≡ index_of c (f + i)))
+      ⊎ ((slot_at w.ring t ≡ slot_at v.ring t) × ((x : Version) (st : Status) → slot_at v.ring t ≡ Live x st → f + k ≤ x.position))

@@ -143,7 +143,8 @@ module _ (c : Config) (v : View) (l : Noted) (position word value : ℕ) (k : St
             dite (ℕ_discrete j (index_of c position))
             (λ at_s.
             absurd
-            (other (sym (slot_here v.ring (index_of c position) (Live (version_of (with_word word value m)) Held) within) ∙ ap (slot_at (data_stored c v position word value (version_of m)).ring) (sym at_s) ∙ e)))
+            (other (sym (slot_here v.ring (index_of c position) (Live (version_of (with_word word value m)) Held) within)
+            ∙ ap (slot_at (data_stored c v position word value (version_of m)).ring) (sym at_s) ∙ e)))
             (λ ne. sym (slot_else v.ring (index_of c position) j (Live (version_of (with_word word value m)) Held) ne) ∙ e)
 
         built_still : (o : Option Note) → HasBuilt c v.ring o → HasBuilt c (data_stored c v position word value (version_of m)).ring o

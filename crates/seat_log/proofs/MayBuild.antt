@@ -37,7 +37,9 @@ module _ (c : Config) (v : View) (position : ℕ) (may : MayBuild c v position) 
     pub first_stays : first_in w ≡ first_in v
     first_stays =
         ap first_in is
-        ∙ ap (λ (n : ℕ). v.ring.next - n) (held_same v.ring (index_of c position) (Built (built_too (build_at c v position) field x)) may.within (sym (unheld (slot_at v.ring (index_of c position)) (build_at c v position) build_is)))
+        ∙ ap (λ (n : ℕ). v.ring.next - n)
+        (held_same v.ring (index_of c position) (Built (built_too (build_at c v position) field x)) may.within
+        (sym (unheld (slot_at v.ring (index_of c position)) (build_at c v position) build_is)))
 
     pub may_on : MayBuild c w position
     may_on =
@@ -58,34 +60,44 @@ module _ (c : Config) (v : View) (position first : ℕ) where
   -- FIRST and STAMP, by whether the position is the first one
   pub begun_first : first ≡ position → begun c v position first ≡ stored_next c (stored_next c v position 0 first) position 1 (unset_of position)
   unfolding begun
-  begun_first e = ap (λ b. cond b (stored_next c (stored_next c v position 0 first) position 1 (unset_of position)) (stored_next c v position 0 first)) (eq-eqb first position e)
+  begun_first e =
+      ap (λ b. cond b (stored_next c (stored_next c v position 0 first) position 1 (unset_of position)) (stored_next c v position 0 first))
+      (eq-eqb first position e)
 
   pub begun_later : first ≢ position → begun c v position first ≡ stored_next c v position 0 first
   unfolding begun
-  begun_later ne = ap (λ b. cond b (stored_next c (stored_next c v position 0 first) position 1 (unset_of position)) (stored_next c v position 0 first)) (ne_eqb first position ne)
+  begun_later ne =
+      ap (λ b. cond b (stored_next c (stored_next c v position 0 first) position 1 (unset_of position)) (stored_next c v position 0 first))
+      (ne_eqb first position ne)
 
 -- the views of the calls
-pub is_begun_first : (c : Config) (v w u : View) (position first x : ℕ) → w ≡ stored_next c v position 0 first → u ≡ stored_next c w position 1 x → x ≡ unset_of position → first ≡ position → u ≡ begun c v position first
+pub is_begun_first : (c : Config) (v w u : View) (position first x : ℕ) → w ≡ stored_next c v position 0 first → u ≡ stored_next c w position 1 x
+    → x ≡ unset_of position → first ≡ position → u ≡ begun c v position first
 is_begun_first c v w u position first x e f unset same =
     f ∙ (λ i. stored_next c (e i) position 1 (unset i)) ∙ sym (begun_first c v position first same)
 
 pub is_begun_later : (c : Config) (v w : View) (position first : ℕ) → w ≡ stored_next c v position 0 first → first ≢ position → w ≡ begun c v position first
 is_begun_later c v w position first e ne = e ∙ sym (begun_later c v position first ne)
 
-pub is_linked : (c : Config) (v b w u : View) (position first previous : ℕ) → b ≡ begun c v position first → w ≡ stored_next c b position 2 previous → u ≡ stored_next c w position 3 0 → u ≡ linked c v position first previous
+pub is_linked : (c : Config) (v b w u : View) (position first previous : ℕ) → b ≡ begun c v position first → w ≡ stored_next c b position 2 previous
+    → u ≡ stored_next c w position 3 0 → u ≡ linked c v position first previous
 unfolding linked
-is_linked c v b w u position first previous e f g = g ∙ ap (λ (z : View). stored_next c z position 3 0) (f ∙ ap (λ (z : View). stored_next c z position 2 previous) e)
+is_linked c v b w u position first previous e f g =
+    g ∙ ap (λ (z : View). stored_next c z position 3 0) (f ∙ ap (λ (z : View). stored_next c z position 2 previous) e)
 
 -- no data word yet, one more, and all
 pub no_words : (c : Config) (v : View) (position : ℕ) (words : List ℕ) → v ≡ words_stored c v position words 0
 unfolding words_stored
 no_words c v position words = refl
 
-pub is_more : (c : Config) (v w u : View) (position i : ℕ) (words : List ℕ) → w ≡ words_stored c v position words i → u ≡ stored_next c w position (4 + i) (slice_index words i) → u ≡ words_stored c v position words (i + 1)
+pub is_more : (c : Config) (v w u : View) (position i : ℕ) (words : List ℕ) → w ≡ words_stored c v position words i
+    → u ≡ stored_next c w position (4 + i) (slice_index words i) → u ≡ words_stored c v position words (i + 1)
 unfolding words_stored
 is_more c v w u position i words e f =
-    f ∙ ap (λ (z : View). stored_next c z position (4 + i) (slice_index words i)) e ∙ ap (λ (n : ℕ). words_stored c v position words n) (let g : suc i ≡ i + 1 = omega arith in g)
+    f ∙ ap (λ (z : View). stored_next c z position (4 + i) (slice_index words i)) e
+    ∙ ap (λ (n : ℕ). words_stored c v position words n) (let g : suc i ≡ i + 1 = omega arith in g)
 
-pub is_slot : (c : Config) (v w u : View) (position first previous : ℕ) (words : List ℕ) → w ≡ linked c v position first previous → u ≡ words_stored c w position words 6 → u ≡ slot_built c v position first previous words
+pub is_slot : (c : Config) (v w u : View) (position first previous : ℕ) (words : List ℕ) → w ≡ linked c v position first previous
+    → u ≡ words_stored c w position words 6 → u ≡ slot_built c v position first previous words
 unfolding slot_built
 is_slot c v w u position first previous words e f = f ∙ ap (λ (z : View). words_stored c z position words 6) e

@@ -1,5 +1,6 @@
 -- The notes of a log that stands for its pass, and the slots that have the versions they are of.
-use Rattle.std.proofs.Common.{◌≡◌, ℕ, zero, suc, ◌+◌, ◌<◌, ◌≤◌, nat_le, true, false, List, [], ◌∷◌, length, refl, sym, ap, ◌∙◌, subst, ⊎_elim, arith, le-leb, Some, slice_get}
+use Rattle.std.proofs.Common.{◌≡◌, ℕ, zero, suc, ◌+◌, ◌<◌, ◌≤◌, nat_le, true, false, List, [], ◌∷◌, length, refl, sym, ap}
+use Rattle.std.proofs.Common.{◌∙◌, subst, ⊎_elim, arith, le-leb, Some, slice_get}
 use Rattle.std.proofs.lemmas.Bool.{cases_lt, leb-true}
 use Rattle.mv_layout.specs.declared.Config.{Config}
 use Rattle.mv_core.specs.declared.ring.Slot.TheVariants.{Live}

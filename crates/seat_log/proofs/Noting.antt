@@ -1,9 +1,12 @@
 -- What holds of every log holds after each note.
-use Rattle.std.proofs.Common.{◌≡◌, ◌≢◌, ◌⊎◌, ℕ, ◌+◌, ◌<◌, ◌≤◌, ◌==◌, ◌^◌, if◌then◌else◌, Bool, true, false, cond, List, [], ◌∷◌, ◌++◌, length, refl, sym, ap, ◌∙◌, subst, inl, inr, ⊎_elim, arith, length-append, Option, Some, None, slice_get}
+use Rattle.std.proofs.Common.{◌≡◌, ◌≢◌, ◌⊎◌, ℕ, ◌+◌, ◌<◌, ◌≤◌, ◌==◌, ◌^◌, if◌then◌else◌, Bool, true}
+use Rattle.std.proofs.Common.{false, cond, List, [], ◌∷◌, ◌++◌, length, refl, sym, ap, ◌∙◌, subst, inl, inr, ⊎_elim, arith}
+use Rattle.std.proofs.Common.{length-append, Option, Some, None, slice_get}
 use Rattle.std.proofs.lemmas.Bool.{eqb-false, ne_eqb}
 use Rattle.std.specs.Prelude.{IfSome}
 use Rattle.seat_log.specs.declared.version.Note.{Note}
-use Rattle.seat_log.specs.Notes.{Noted, next_of, held_from, first_of, built_list, built_count, AreNoted, IsNextOf, IsLog, from_place, at_place, held_noted, committed_noted, aborted_noted}
+use Rattle.seat_log.specs.Notes.{Noted, next_of, held_from, first_of, built_list, built_count, AreNoted, IsNextOf, IsLog, from_place, at_place}
+use Rattle.seat_log.specs.Notes.{held_noted, committed_noted, aborted_noted}
 use Rattle.seat_log.proofs.Places.{from_end, length-from_place, length-at_place, from_before, at_before, push_before, get_within}
 
 -- the notes of two lists are of the same versions, in the same sets
@@ -111,7 +114,8 @@ held_is_noted l n e k =
     let few = k.held in
     let live : l.live ++ built_list l.built ≡ l.live ++ n ∷ [] = ap (λ o. l.live ++ built_list o) e in
     let long : length (l.live ++ built_list l.built) ≡ length l.live + 1 = ap length live ∙ length-append l.live (n ∷ []) in
-    let cases : (i : ℕ) (m : Note) → slice_get (l.live ++ built_list l.built) i ≡ Some m → ((i < length l.live) × (slice_get l.live i ≡ Some m)) ⊎ ((i ≡ length l.live) × (m ≡ n)) =
+    let cases : (i : ℕ) (m : Note) → slice_get (l.live ++ built_list l.built) i ≡ Some m
+    → ((i < length l.live) × (slice_get l.live i ≡ Some m)) ⊎ ((i ≡ length l.live) × (m ≡ n)) =
     λ i m g. push_before l.live n i m (ap (λ ns. slice_get ns i) (sym live) ∙ g) in
     let notes = k.notes in record {
       position = λ i m g. ⊎_elim (λ a. notes.position i m a.1) (λ b. ap (λ (x : Note). x.position) b.1 ∙ at ∙ ap (λ j. l.freed + j) (sym b.0)) (cases i m g);

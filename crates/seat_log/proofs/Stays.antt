@@ -1,5 +1,6 @@
 -- The log stands for the pass: in a new domain, after steps that leave the own log alone, after a won lock, and after a commit or an abort.
-use Rattle.std.proofs.Common.{◌≡◌, ◌≢◌, ℕ, ◌+◌, ◌<◌, ◌≤◌, nat_le, true, count_by, [], ◌∷◌, ◌++◌, length, refl, sym, ap, ◌∙◌, subst, ⊎_elim, arith, le-leb, length-append, Some, slice_get}
+use Rattle.std.proofs.Common.{◌≡◌, ◌≢◌, ℕ, ◌+◌, ◌<◌, ◌≤◌, nat_le, true, count_by, [], ◌∷◌, ◌++◌, length, refl}
+use Rattle.std.proofs.Common.{sym, ap, ◌∙◌, subst, ⊎_elim, arith, le-leb, length-append, Some, slice_get}
 use Rattle.std.proofs.lemmas.List.{length-set}
 use mathlib.Core.Logic.{dite}
 use native.Mathlib.Decide.{ℕ_discrete}

@@ -1,8 +1,10 @@
 -- What a log has noted, and what each note makes of it.
-use Rattle.std.specs.Prelude.{◌≡◌, ℕ, zero, suc, ◌+◌, ◌-◌, ◌<◌, ◌≤◌, ◌==◌, ◌^◌, if◌then◌else◌, List, [], ◌∷◌, ◌++◌, length, map, Option, Some, None, slice_get, slice_set, IfSome}
+use Rattle.std.specs.Prelude.{◌≡◌, ℕ, zero, suc, ◌+◌, ◌-◌, ◌<◌, ◌≤◌, ◌==◌, ◌^◌, if◌then◌else◌, List, []}
+use Rattle.std.specs.Prelude.{◌∷◌, ◌++◌, length, map, Option, Some, None, slice_get, slice_set, IfSome}
 use Rattle.seat_log.specs.declared.version.Note.{Note}
 
--- What a log has noted: the live versions, from the oldest on, of which so many last ones are held; the one that is being built; how many versions were freed before the oldest; and the counts of write-backs, commits, aborts and rests.
+-- What a log has noted: the live versions, from the oldest on, of which so many last ones are held; the one that is being built;
+-- how many versions were freed before the oldest; and the counts of write-backs, commits, aborts and rests.
 pub record Noted : Type 0 where
   pub seat : ℕ
   pub slots : ℕ
@@ -41,7 +43,8 @@ built_count (Some n) = 1
 abbrev pub IsNoteAt : Noted → ℕ → Note → Type 0
 IsNoteAt l i n = slice_get l.live i ≡ Some n
 
--- The live versions stand at positions without a gap, and the versions of one write set are a run of them, which begins with its first version; the last set is the one that is held.
+-- The live versions stand at positions without a gap, and the versions of one write set are a run of them, which begins with its
+-- first version; the last set is the one that is held.
 pub record AreNoted (l : Noted) : Type 0 where
   pub position : (i : ℕ) (n : Note) → IsNoteAt l i n → n.position ≡ l.freed + i
   pub first : (i : ℕ) (n : Note) → IsNoteAt l i n → (l.freed ≤ n.first) × (n.first ≤ n.position)

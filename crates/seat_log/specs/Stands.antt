@@ -1,5 +1,6 @@
 -- The log stands for the pass: every note in it is a fact of the pass's view.
-use Rattle.std.specs.Prelude.{◌≡◌, ◌≢◌, ℕ, zero, suc, ◌+◌, ◌<◌, ◌≤◌, ◌&&◌, nat_le, Bool, true, false, List, length, map, count_by, sum_by, Option, Some, None, is_some}
+use Rattle.std.specs.Prelude.{◌≡◌, ◌≢◌, ℕ, zero, suc, ◌+◌, ◌<◌, ◌≤◌, ◌&&◌, nat_le, Bool, true, false, List, length}
+use Rattle.std.specs.Prelude.{map, count_by, sum_by, Option, Some, None, is_some}
 use Rattle.mv_history.specs.declared.Commit.{Commit}
 use Rattle.mv_history.specs.declared.Step.{Step}
 use Rattle.mv_history.specs.declared.StepKind.{StepKind}
@@ -28,7 +29,8 @@ abbrev pub death_of : ℕ → Option ℕ
 death_of zero = None
 death_of (suc t) = Some (suc t)
 
--- What a note says of its version's write set, by whether it is one of those noted as held: a held one has no time; an aborted one has its death; a committed one has its time, and its death if one is known, which it is once the version was cut.
+-- What a note says of its version's write set, by whether it is one of those noted as held: a held one has no time; an aborted
+-- one has its death; a committed one has its time, and its death if one is known, which it is once the version was cut.
 abbrev pub IsAsNoted : Bool → Note → Status → Type 0
 IsAsNoted held n Held = (held ≡ true) × (n.time ≡ 0) × (n.dead ≡ 0)
 IsAsNoted held n (Aborted dead) = (held ≡ false) × (n.time ≡ 0) × (0 < n.dead) × (dead ≡ Some n.dead)
@@ -86,7 +88,9 @@ is_won_cut s = is_cut_kind s.kind && is_some s.stored
 abbrev pub writes_in : List Commit → ℕ
 writes_in cs = sum_by (λ (c : Commit). length c.writes) cs
 
--- The log stands for the pass: its live versions are those of the view's log, at their positions, and its counts are those of the view. Every position that was ever in a chain is of a write of a commit, held, or of an abort; so where there was no abort they are as many as these.
+-- The log stands for the pass: its live versions are those of the view's log, at their positions, and its counts are those of the
+-- view. Every position that was ever in a chain is of a write of a commit, held, or of an abort; so where there was no abort they
+-- are as many as these.
 pub record Stands (c : Config) (v : View) (l : Noted) : Type 0 where
   pub seat : l.seat ≡ v.number
   pub slots : l.slots ≡ c.slots

@@ -10,7 +10,9 @@ use Rattle.seat_log.specs.Stands.{is_free, is_won_cut, writes_in}
 abbrev pub table_of : Noted → LogTable
 table_of l = record { live = length l.live; freed = l.freed; back = l.back; commits = l.commits; aborts = l.aborts; rests = l.rests }
 
--- The counts of a table are those of the pass: its commits and rests, the chains that it cut and the slots that it freed. The versions that are live or freed are all that were ever in a chain: as many as the writes of its commits, what it holds, and what its aborts held.
+-- The counts of a table are those of the pass: its commits and rests, the chains that it cut and the slots that it freed. The
+-- versions that are live or freed are all that were ever in a chain: as many as the writes of its commits, what it holds, and
+-- what its aborts held.
 pub record Counts (v : View) (t : LogTable) : Type 0 where
   pub commits : t.commits ≡ length v.past.mine
   pub rests : t.rests ≡ v.past.rests

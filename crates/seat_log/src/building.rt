@@ -3,7 +3,8 @@ ghost use Rattle.std.specs.Prelude.{◌≡◌, ◌⊎◌, ℕ, ◌+◌, ◌<◌,
 ghost use Rattle.mv_layout.specs.Words.{unset_of};
 ghost use Rattle.mv_core.specs.Passes.{view, IsOf, IsSame, config_of};
 ghost use Rattle.mv_core.specs.LockSteps.{FitsField};
-ghost use Rattle.seat_log.specs.Notes.{IsBuilt, next_of, first_of, next_note, built_noted, without_previous, cleared, IsHeld, with_word as noted_word, built_word, built_word_noted, word_noted};
+ghost use Rattle.seat_log.specs.Notes.{IsBuilt, next_of, first_of, next_note, built_noted, without_previous, cleared, IsHeld};
+ghost use Rattle.seat_log.specs.Notes.{with_word as noted_word, built_word, built_word_noted, word_noted};
 ghost use Rattle.seat_log.specs.Stands.{Stands};
 ghost use Rattle.seat_log.specs.Builds.{IsOpen, MayBuild, first_in, stored_next, begun, linked, words_stored, slot_built, build_cost, word_stored, ChangesLog};
 
@@ -231,8 +232,10 @@ pub fn put_word<P: Protocol, L: Ledger>(
     requires range { word < 6 }
     ensures same { IsSame pass.old pass.new }
     ensures stands { Stands (config_of shared.now) (view pass.new) log.new }
-    ensures built { IsBuilt log.old position → (log.new ≡ built_word_noted log.old word value) × (view pass.new ≡ stored_next (config_of shared.now) (view pass.old) position (4 + word) value) }
-    ensures held { IsHeld log.old position → (log.new ≡ word_noted log.old position word value) × (view pass.new ≡ word_stored (config_of shared.now) (view pass.old) position word value) }
+    ensures built { IsBuilt log.old position → (log.new ≡ built_word_noted log.old word value)
+        × (view pass.new ≡ stored_next (config_of shared.now) (view pass.old) position (4 + word) value) }
+    ensures held { IsHeld log.old position → (log.new ≡ word_noted log.old position word value)
+        × (view pass.new ≡ word_stored (config_of shared.now) (view pass.old) position word value) }
     ensures rest { ChangesLog (view pass.old) (view pass.new) }
     ensures step { steps.new ≡ steps.old + 1 }
 {

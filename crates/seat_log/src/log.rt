@@ -27,7 +27,30 @@ impl Model for Log {
 
     ghost Value = { Noted };
 
-    ghost view = { λ l. record { seat = l.seat; slots = l.slots; live = l.live.items; built = l.built; held = l.held; freed = l.freed; back = l.back; commits = l.commits; aborts = l.aborts; rests = l.rests } };
+    ghost view = { λ l. record {
+      seat = l.seat;
+      slots = l.slots;
+      live = l.live.items;
+      built = l.built;
+      held = l.held;
+      freed = l.freed;
+      back = l.back;
+      commits = l.commits;
+      aborts = l.aborts;
+      rests = l.rests;
+    } };
 
-    ghost invariant = { λ l. (l.slots ≤ deque_capacity l.live) × IsLog (record { seat = l.seat; slots = l.slots; live = l.live.items; built = l.built; held = l.held; freed = l.freed; back = l.back; commits = l.commits; aborts = l.aborts; rests = l.rests }) };
+    ghost invariant = { λ l. (l.slots ≤ deque_capacity l.live)
+        × IsLog (record {
+          seat = l.seat;
+          slots = l.slots;
+          live = l.live.items;
+          built = l.built;
+          held = l.held;
+          freed = l.freed;
+          back = l.back;
+          commits = l.commits;
+          aborts = l.aborts;
+          rests = l.rests;
+        }) };
 }

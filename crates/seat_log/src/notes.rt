@@ -3,7 +3,8 @@ ghost use Rattle.std.specs.Prelude.{◌≡◌, ◌+◌, ◌<◌, ◌≤◌, ◌^
 ghost use Rattle.std.specs.VecDeque.{deque_len, deque_capacity};
 ghost use Rattle.mv_layout.specs.Limits.{Checked};
 ghost use Rattle.seat_log.specs.declared.version.Note.{Note};
-ghost use Rattle.seat_log.specs.Notes.{next_of, built_count, IsNoteAt, IsBuilt, IsLive, nothing_noted, dropped, held_noted, from_place, committed_noted, aborted_noted, retired, back_noted, rest_noted};
+ghost use Rattle.seat_log.specs.Notes.{next_of, built_count, IsNoteAt, IsBuilt, IsLive, nothing_noted, dropped, held_noted, from_place};
+ghost use Rattle.seat_log.specs.Notes.{committed_noted, aborted_noted, retired, back_noted, rest_noted};
 
 use crate::log::Log;
 use crate::version::Note;

@@ -81,7 +81,8 @@ fn build_again<L: Ledger>(
     requires room { length log.old.live < log.old.slots }
     ensures built { IsBuilt log.new result.3 }
     ensures position { result.3 ≡ next_of log.new }
-    ensures notes { (log.new.live ≡ log.old.live) × (log.new.held ≡ log.old.held) × (log.new.freed ≡ log.old.freed) × (log.new.back ≡ log.old.back) × (log.new.rests ≡ log.old.rests) }
+    ensures notes { (log.new.live ≡ log.old.live) × (log.new.held ≡ log.old.held) × (log.new.freed ≡ log.old.freed)
+        × (log.new.back ≡ log.old.back) × (log.new.rests ≡ log.old.rests) }
 {
     begin(shared, pass, log, steps);
     let (position, full, free) = build_and_drop(shared, pass, log, steps);

@@ -1,5 +1,7 @@
 -- How many nodes a change takes, and when there are too few.
-use Rattle.std.proofs.Common.{◌≡◌, ◌≢◌, ℕ, zero, suc, ◌+◌, ◌-◌, ◌<◌, ◌≤◌, Bool, true, false, not, ◌&&◌, nat_lt, if◌then◌else◌, [], ◌∷◌, length, drop, set, refl, sym, ap, ◌∙◌, arith, length-drop, length-set, get_or-set_other, true≢false}
+use Rattle.std.proofs.Common.{◌≡◌, ◌≢◌, ℕ, zero, suc, ◌+◌, ◌-◌, ◌<◌, ◌≤◌, Bool, true, false, not, ◌&&◌, nat_lt}
+use Rattle.std.proofs.Common.{if◌then◌else◌, [], ◌∷◌, length, drop, set, refl, sym, ap, ◌∙◌, arith, length-drop, length-set}
+use Rattle.std.proofs.Common.{get_or-set_other, true≢false}
 use Rattle.std.proofs.lemmas.Bool.{and_parts, not-true}
 use Rattle.std.proofs.lemmas.Bool.Decides.{nat_tests}
 use Rattle.mv_history.specs.State.{State}
@@ -43,23 +45,27 @@ cost_take_out : (name k : ℕ) (m : Map) → has_key k m ≡ true → cost_of na
 cost_take_out name k m h =
     let l : suc (length (take_out k m)) ≡ length m = length_take_out k m h in grind (arith, nat_tests)
 
-cost_from_set : (first name : ℕ) (c : Maps) (m : Map) → name < length c → cost_from first (set c name m) + cost_of (first + name) (map_of name c) ≡ cost_from first c + cost_of (first + name) m
+cost_from_set : (first name : ℕ) (c : Maps) (m : Map) → name < length c
+    → cost_from first (set c name m) + cost_of (first + name) (map_of name c) ≡ cost_from first c + cost_of (first + name) m
 cost_from_set first name [] m l = absurd (omega arith)
 cost_from_set first zero (n ∷ c) m l = let e : first + 0 ≡ first = omega arith in rw e (omega arith)
 cost_from_set first (suc name) (n ∷ c) m l =
     let e : first + suc name ≡ suc first + name = omega arith in
-    let r : cost_from (suc first) (set c name m) + cost_of (suc first + name) (map_of name c) ≡ cost_from (suc first) c + cost_of (suc first + name) m = cost_from_set (suc first) name c m (omega arith) in
+    let r : cost_from (suc first) (set c name m) + cost_of (suc first + name) (map_of name c) ≡ cost_from (suc first) c + cost_of (suc first + name) m =
+    cost_from_set (suc first) name c m (omega arith) in
     rw e (omega arith)
 
 cost_set : (name : ℕ) (c : Maps) (m : Map) → name < length c → cost (set c name m) + cost_of name (map_of name c) ≡ cost c + cost_of name m
 unfolding cost
 cost_set name c m l = let r = cost_from_set 0 name c m l in let e : 0 + name ≡ name = omega arith in rw e at r
 
-pub cost_with_key : (name k v : ℕ) (c : Maps) → name < length c → has_key k (map_of name c) ≡ false → cost (with_key name k v c) ≡ cost c + taken name (map_of name c)
+pub cost_with_key : (name k v : ℕ) (c : Maps) → name < length c → has_key k (map_of name c) ≡ false
+    → cost (with_key name k v c) ≡ cost c + taken name (map_of name c)
 cost_with_key name k v c l h =
     omega (arith, cost_set name c (put k v (map_of name c)) l, cost_put name k v (map_of name c) h)
 
-pub cost_without_key : (name k : ℕ) (c : Maps) → name < length c → has_key k (map_of name c) ≡ true → cost (without_key name k c) + freed name (map_of name c) ≡ cost c
+pub cost_without_key : (name k : ℕ) (c : Maps) → name < length c → has_key k (map_of name c) ≡ true
+    → cost (without_key name k c) + freed name (map_of name c) ≡ cost c
 cost_without_key name k c l h =
     omega (arith, cost_set name c (take_out k (map_of name c)) l, cost_take_out name k (map_of name c) h)
 
@@ -77,27 +83,34 @@ not_itself name other key c h n e = true≢false (sym h ∙ ap (λ (x : ℕ). ha
 
 -- A change that applies overflows exactly where fewer nodes are vacant than it wants.
 module _ (c : Maps) (cap vacant : ℕ) (whole : length c ≡ 30) (room : vacant + cost c ≡ cap) where
-  move_overflows : (source target key v : ℕ) → source < 30 → target < 30 → has_key key (map_of source c) ≡ true → has_key key (map_of target c) ≡ false → nat_lt cap (cost (with_key target key v (without_key source key c))) ≡ nat_lt vacant (taken target (map_of target c) - freed source (map_of source c))
+  move_overflows : (source target key v : ℕ) → source < 30 → target < 30 → has_key key (map_of source c) ≡ true → has_key key (map_of target c) ≡ false
+      → nat_lt cap (cost (with_key target key v (without_key source key c))) ≡ nat_lt vacant (taken target (map_of target c) - freed source (map_of source c))
   move_overflows source target key v ls lt h n =
       let less : Maps = without_key source key c in
-      let same : map_of target (without_key source key c) ≡ map_of target c = get_or-set_other c source target (take_out key (map_of source c)) [] (not_itself source target key c h n) in
+      let same : map_of target (without_key source key c) ≡ map_of target c =
+      get_or-set_other c source target (take_out key (map_of source c)) [] (not_itself source target key c h n) in
       let gone = cost_without_key source key c (omega arith) h in
       let long : length (without_key source key c) ≡ length c = length-set c source (take_out key (map_of source c)) in
-      let come : cost (with_key target key v (without_key source key c)) ≡ cost (without_key source key c) + taken target (map_of target (without_key source key c)) =
+      let come : cost (with_key target key v (without_key source key c)) ≡ cost (without_key source key c)
+      + taken target (map_of target (without_key source key c)) =
       cost_with_key target key v (without_key source key c) (omega arith) (ap (has_key key) same ∙ n) in
       let needs : taken target (map_of target (without_key source key c)) ≡ taken target (map_of target c) = ap (taken target) same in
-      let all : cost (with_key target key v (without_key source key c)) ≡ cost c - freed source (map_of source c) + taken target (map_of target c) = omega arith in
+      let all : cost (with_key target key v (without_key source key c)) ≡ cost c - freed source (map_of source c) + taken target (map_of target c) =
+      omega arith in
       ap (nat_lt cap) all ∙ needs_beyond cap vacant (cost c) (freed source (map_of source c)) (taken target (map_of target c)) room (omega arith)
 
-  add_overflows : (name key v : ℕ) → name < 30 → has_key key (map_of name c) ≡ false → nat_lt cap (cost (with_key name key v c)) ≡ nat_lt vacant (taken name (map_of name c))
+  add_overflows : (name key v : ℕ) → name < 30 → has_key key (map_of name c) ≡ false
+      → nat_lt cap (cost (with_key name key v c)) ≡ nat_lt vacant (taken name (map_of name c))
   add_overflows name key v l n =
       ap (nat_lt cap) (cost_with_key name key v c (omega arith) n) ∙ too_few cap vacant (cost c) (taken name (map_of name c)) room
 
-  put_overflows : (name key v : ℕ) → name < 30 → (b : Bool) → has_key key (map_of name c) ≡ b → not b && nat_lt cap (cost (with_key name key v c)) ≡ nat_lt vacant (if b then 0 else taken name (map_of name c))
+  put_overflows : (name key v : ℕ) → name < 30 → (b : Bool) → has_key key (map_of name c) ≡ b
+      → not b && nat_lt cap (cost (with_key name key v c)) ≡ nat_lt vacant (if b then 0 else taken name (map_of name c))
   put_overflows name key v l true e = sym (never_below vacant)
   put_overflows name key v l false e = add_overflows name key v l e
 
-  pub overflows_wanted : (command : Command) → IsInRange command → may_change command ≡ true → applies command c ≡ true → overflows command c cap ≡ nat_lt vacant (wanted command c)
+  pub overflows_wanted : (command : Command) → IsInRange command → may_change command ≡ true → applies command c ≡ true
+      → overflows command c cap ≡ nat_lt vacant (wanted command c)
   overflows_wanted (Add name key) r m a = add_overflows name key 0 r.0 (grind arith)
   overflows_wanted (Put name key value) r m a =
       put_overflows name key value r.0 (has_key key (map_of name c)) refl
@@ -108,13 +121,15 @@ module _ (c : Maps) (cap vacant : ℕ) (whole : length c ≡ 30) (room : vacant 
       let p : (has_key key (map_of source c) ≡ true) × (has_key key (map_of target c) ≡ false) = both a in
       move_overflows source target key (value_at source key c) r.0 r.1 p.0 p.1
     where
-      both : has_key key (map_of source c) && not (has_key key (map_of target c)) ≡ true → (has_key key (map_of source c) ≡ true) × (has_key key (map_of target c) ≡ false)
+      both : has_key key (map_of source c) && not (has_key key (map_of target c)) ≡ true
+          → (has_key key (map_of source c) ≡ true) × (has_key key (map_of target c) ≡ false)
       both e = let q = and_parts (has_key key (map_of source c)) (not (has_key key (map_of target c))) e in (q.0, not-true (has_key key (map_of target c)) q.1)
   overflows_wanted (Pair first second key) r m a = absurd (true≢false (sym m))
   overflows_wanted (Size name) r m a = absurd (true≢false (sym m))
   overflows_wanted (Next name key) r m a = absurd (true≢false (sym m))
 
 -- So it is in a lawful state.
-pub overflows_state : (s : State) (command : Command) → IsLawful s → IsInRange command → may_change command ≡ true → applies command (catalogue_of s) ≡ true → overflows command (catalogue_of s) (capacity s) ≡ nat_lt (vacant_nodes s) (wanted command (catalogue_of s))
+pub overflows_state : (s : State) (command : Command) → IsLawful s → IsInRange command → may_change command ≡ true → applies command (catalogue_of s) ≡ true
+    → overflows command (catalogue_of s) (capacity s) ≡ nat_lt (vacant_nodes s) (wanted command (catalogue_of s))
 overflows_state s command l r m a =
     overflows_wanted (catalogue_of s) (capacity s) (vacant_nodes s) (length-catalogue_of s) (vacant_and_cost s l) command r m a

@@ -15,7 +15,8 @@ use Rattle.set_catalog.specs.Replies.{reply_in, changes_in}
 use Rattle.set_catalog.proofs.Costs.{overflows_state}
 
 -- the reply of a command that may change something
-pub reply_change : (command : Command) (c : Maps) (capacity : ℕ) (last : Bool) → may_change command ≡ true → reply command c capacity last ≡ change_reply command c capacity last
+pub reply_change : (command : Command) (c : Maps) (capacity : ℕ) (last : Bool) → may_change command ≡ true
+    → reply command c capacity last ≡ change_reply command c capacity last
 reply_change (Add name key) c capacity last m = refl
 reply_change (Put name key value) c capacity last m = refl
 reply_change (Del name key) c capacity last m = refl
@@ -27,11 +28,13 @@ reply_change (Size name) c capacity last m = absurd (true≢false (sym m))
 reply_change (Next name key) c capacity last m = absurd (true≢false (sym m))
 
 -- a change that would do nothing
-pub decides_no : (command : Command) (s : State) (last : Bool) → may_change command ≡ true → applies command (catalogue_of s) ≡ false → (No ≡ reply_in command s last) × (changes_in command s last ≡ false)
+pub decides_no : (command : Command) (s : State) (last : Bool) → may_change command ≡ true → applies command (catalogue_of s) ≡ false
+    → (No ≡ reply_in command s last) × (changes_in command s last ≡ false)
 decides_no command s last m a =
     let e = reply_change command (catalogue_of s) (capacity s) last m in (sym (e ∙ rw a refl), rw a refl)
 
-module _ (command : Command) (s : State) (last : Bool) (l : IsLawful s) (r : IsInRange command) (m : may_change command ≡ true) (a : applies command (catalogue_of s) ≡ true) where
+module _ (command : Command) (s : State) (last : Bool) (l : IsLawful s) (r : IsInRange command) (m : may_change command ≡ true)
+    (a : applies command (catalogue_of s) ≡ true) where
   over : (b : Bool) → nat_lt (vacant_nodes s) (wanted command (catalogue_of s)) ≡ b → overflows command (catalogue_of s) (capacity s) ≡ b
   over b e = overflows_state s command l r m a ∙ e
 
@@ -57,7 +60,8 @@ module _ (command : Command) (s : State) (last : Bool) (l : IsLawful s) (r : IsI
   decides_open le f = let o = enough le in rw (a, o, f) refl
 
 -- So it was found, in states that are the same.
-module _ (command : Command) (s t u : State) (last : Bool) (want : ℕ) (l : IsLawful s) (r : IsInRange command) (m : may_change command ≡ true) (a : applies command (catalogue_of s) ≡ true) (st : t ≡ s) (su : u ≡ s) (w : want ≡ wanted command (catalogue_of t)) where
+module _ (command : Command) (s t u : State) (last : Bool) (want : ℕ) (l : IsLawful s) (r : IsInRange command) (m : may_change command ≡ true)
+    (a : applies command (catalogue_of s) ≡ true) (st : t ≡ s) (su : u ≡ s) (w : want ≡ wanted command (catalogue_of t)) where
   wants : want ≡ wanted command (catalogue_of s)
   wants = w ∙ ap (λ (x : State). wanted command (catalogue_of x)) st
 
@@ -70,7 +74,8 @@ module _ (command : Command) (s t u : State) (last : Bool) (want : ℕ) (l : IsL
   pub found_worn : want ≤ vacant_nodes u → last ≡ true → (Worn ≡ reply_in command s last) × (changes_in command s last ≡ false)
   found_worn le e = decides_worn command s last l r m a (omega (arith, wants, are_vacant)) e
 
-  pub found_open : (first second : ℕ) → want ≤ vacant_nodes u → last ≡ false → AreEnough u want first second → (changes_in command s last ≡ true) × AreEnough s (wanted command (catalogue_of s)) first second
+  pub found_open : (first second : ℕ) → want ≤ vacant_nodes u → last ≡ false → AreEnough u want first second
+      → (changes_in command s last ≡ true) × AreEnough s (wanted command (catalogue_of s)) first second
   found_open first second le e enough = (
     decides_open command s last l r m a (omega (arith, wants, are_vacant)) e,
     subst (λ (n : ℕ). AreEnough s n first second) wants (subst (λ (x : State). AreEnough x want first second) su enough),

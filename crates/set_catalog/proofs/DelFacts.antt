@@ -1,5 +1,6 @@
 -- What a del leaves vacant, and what it leaves as it was.
-use Rattle.std.proofs.Common.{◌≡◌, ◌≢◌, ℕ, suc, ◌<◌, ◌≤◌, inl, inr, true, false, ◌==◌, if◌then◌else◌, List, [], ◌∷◌, length, set, refl, sym, ap, ◌∙◌, subst, arith, length-set, get_or-set_same, get_or-set_other}
+use Rattle.std.proofs.Common.{◌≡◌, ◌≢◌, ℕ, suc, ◌<◌, ◌≤◌, inl, inr, true, false, ◌==◌, if◌then◌else◌, List, []}
+use Rattle.std.proofs.Common.{◌∷◌, length, set, refl, sym, ap, ◌∙◌, subst, arith, length-set, get_or-set_same, get_or-set_other}
 use Rattle.std.proofs.lemmas.Bool.Decides.{nat_tests}
 use Rattle.mv_history.specs.State.{State, Writes, written, touches}
 use Rattle.mv_history.specs.Meaning.{words_at}
@@ -68,7 +69,8 @@ three_untouched ws o x y z e a b c = touches-out ws o (λ i. go (subst (λ os. I
 list_frees : (name : ℕ) (s : State) → name < first_tree → freed name (map_of name (catalogue_of s)) ≡ 1
 list_frees name s l = grind (arith, nat_tests)
 
-list_left : (s : State) (name k previous node : ℕ) → IsLawful s → name < 30 → name < first_tree → IsDelPlace s (head_of name k) k previous node → Left s name k node 0 (del_writes s previous node)
+list_left : (s : State) (name k previous node : ℕ) → IsLawful s → name < 30 → name < first_tree → IsDelPlace s (head_of name k) k previous node
+    → Left s name k node 0 (del_writes s previous node)
 list_left s name k previous node l lt low place =
     let h : ℕ = head_of name k in
     let m : Removal s (head_of name k) k previous node = removal s (head_of name k) k previous node l (low_head name k low) place in
@@ -81,10 +83,12 @@ list_left s name k previous node l lt low place =
       inner_vacant = λ n. absurd (n refl);
       count = refl;
       frees = λ e. list_frees name s low;
-      others = λ o v. two_untouched (del_writes s previous node) o previous node refl (not_at s (head_of name k) o previous below v place.within) (not_at s (head_of name k) o node below v node_at);
+      others = λ o v. two_untouched (del_writes s previous node) o previous node refl (not_at s (head_of name k) o previous below v place.within)
+          (not_at s (head_of name k) o node below v node_at);
     }
 
-bare_left : (s : State) (name k node : ℕ) → IsLawful s → name < 30 → first_tree ≤ name → IsBarePlace s (head_of name k) k node → Left s name k node 0 (bare_writes s (head_of name k) node)
+bare_left : (s : State) (name k node : ℕ) → IsLawful s → name < 30 → first_tree ≤ name → IsBarePlace s (head_of name k) k node
+    → Left s name k node 0 (bare_writes s (head_of name k) node)
 bare_left s name k node l lt high place =
     let root : ℕ = head_of name k in
     let from : 170 ≤ head_of name k = root_from name k high in
@@ -101,14 +105,16 @@ bare_left s name k node l lt high place =
       inner_vacant = λ n. absurd (n refl);
       count = refl;
       frees = λ e. grind (arith, nat_tests);
-      others = λ o v. two_untouched (bare_writes s (head_of name k) node) o (head_of name k) node refl (not_at s (head_of name k) o (head_of name k) below v (inl refl)) (not_at s (head_of name k) o node below v node_at);
+      others = λ o v. two_untouched (bare_writes s (head_of name k) node) o (head_of name k) node refl
+          (not_at s (head_of name k) o (head_of name k) below v (inl refl)) (not_at s (head_of name k) o node below v node_at);
     }
 
 parent_at : (s : State) (root parent node : ℕ) → IsParent s root parent node → IsAt s root parent
 parent_at s root parent node (inl p) = inl p.0
 parent_at s root parent node (inr p) = inr (p.0.0, p.0.1)
 
-cut_left : (s : State) (name k grand inner node : ℕ) → IsLawful s → name < 30 → first_tree ≤ name → IsCutPlace s (head_of name k) k grand inner node → Left s name k node inner (cut_writes s grand inner node)
+cut_left : (s : State) (name k grand inner node : ℕ) → IsLawful s → name < 30 → first_tree ≤ name → IsCutPlace s (head_of name k) k grand inner node
+    → Left s name k node inner (cut_writes s grand inner node)
 cut_left s name k grand inner node l lt high place =
     let below : head_of name k < 180 = root_below name k high lt in
     let node_at : IsAt s (head_of name k) node = inr (place.is_leaf.0, place.is_leaf.1) in
@@ -123,9 +129,11 @@ cut_left s name k grand inner node l lt high place =
     let first : List ℕ = redirect (words_at s grand) inner (sibling s inner node) in
     let s1 : State = set s grand (redirect (words_at s grand) inner (sibling s inner node)) in
     let zero_inner : words_at (written s (cut_writes s grand inner node)) inner ≡ no_words =
-    get_or-set_other (set s1 inner no_words) node inner no_words [] apart ∙ get_or-set_same s1 inner no_words [] (omega (arith, length-set s grand (redirect (words_at s grand) inner (sibling s inner node)))) in
+    get_or-set_other (set s1 inner no_words) node inner no_words [] apart
+    ∙ get_or-set_same s1 inner no_words [] (omega (arith, length-set s grand (redirect (words_at s grand) inner (sibling s inner node)))) in
     record {
-      node_vacant = last_of_two s1 inner node no_words place.is_leaf.0 (omega (arith, length-set s grand (redirect (words_at s grand) inner (sibling s inner node))));
+      node_vacant =
+          last_of_two s1 inner node no_words place.is_leaf.0 (omega (arith, length-set s grand (redirect (words_at s grand) inner (sibling s inner node))));
       node_used = λ v. not_at s (head_of name k) node node below v node_at refl;
       node_held = touches-in (cut_writes s grand inner node) node (inr (inr (inl refl)));
       inner_vacant = λ n. (
@@ -135,7 +143,8 @@ cut_left s name k grand inner node l lt high place =
       );
       count = three inner 3 refl (omega arith);
       frees = λ e. absurd (omega arith);
-      others = λ o v. three_untouched (cut_writes s grand inner node) o grand inner node refl (not_at s (head_of name k) o grand below v grand_at) (not_at s (head_of name k) o inner below v inner_at) (not_at s (head_of name k) o node below v node_at);
+      others = λ o v. three_untouched (cut_writes s grand inner node) o grand inner node refl (not_at s (head_of name k) o grand below v grand_at)
+          (not_at s (head_of name k) o inner below v inner_at) (not_at s (head_of name k) o node below v node_at);
     }
   where
     three : (n m : ℕ) → m ≡ 3 → n ≢ 0 → m ≡ (if n == 0 then 2 else 3)

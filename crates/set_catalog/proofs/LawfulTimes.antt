@@ -12,7 +12,8 @@ use Rattle.set_script.specs.Lawful.{IsLawful, IsOpening}
 use Rattle.set_script.specs.Rules.{IsSetCommit}
 use Rattle.set_script.proofs.Opening.{opening_lawful}
 
-lawful_after : (start : State) (front es : List Entry) → IsLawful (state_after start front) → IsAllowed IsSetCommit start (front ++ es) → IsLawful (state_after start (front ++ es))
+lawful_after : (start : State) (front es : List Entry) → IsLawful (state_after start front) → IsAllowed IsSetCommit start (front ++ es)
+    → IsLawful (state_after start (front ++ es))
 lawful_after start front [] l h = rw append-nil l
 lawful_after start front (Rest by ∷ es) l h =
     let step : IsLawful (state_after start (front ++ Rest by ∷ [])) = rw state_after-append l in

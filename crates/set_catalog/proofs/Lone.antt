@@ -1,5 +1,7 @@
 -- Whether a key is the only one of its map, by the least key and the next one.
-use Rattle.std.proofs.Common.{◌≡◌, ◌≢◌, ℕ, ◌+◌, ◌<◌, ◌≤◌, ◌^◌, Bool, true, false, ◌==◌, nat_lt, not, if◌then◌else◌, [], ◌∷◌, length, drop, Option, Some, None, refl, sym, ap, ◌∙◌, subst, arith, true≢false}
+use Rattle.std.proofs.Common.{◌≡◌, ◌≢◌, ℕ, ◌+◌, ◌<◌, ◌≤◌, ◌^◌, Bool, true, false, ◌==◌, nat_lt, not}
+use Rattle.std.proofs.Common.{if◌then◌else◌, [], ◌∷◌, length, drop, Option, Some, None, refl, sym, ap, ◌∙◌, subst, arith}
+use Rattle.std.proofs.Common.{true≢false}
 use Rattle.std.specs.Option.{is_some}
 use Rattle.std.proofs.lemmas.Bool.Decides.{nat_tests}
 use Rattle.mv_history.specs.State.{State}
@@ -72,25 +74,29 @@ module _ (s : State) (name k : ℕ) (l : IsLawful s) (lt : name < 30) (lo : firs
   frees_two least e n = freed_two name (map_of name (catalogue_of s)) lo (two_by_least k (map_of name (catalogue_of s)) h (λ q. n (e ∙ q)))
 
   -- where it is, as the next key says
-  pub frees_by : (t : State) (least : ℕ) (behind : Option ℕ) → t ≡ s → Some least ≡ next_key 0 (map_of name (catalogue_of s)) → least ≡ k → behind ≡ next_key (k + 1) (map_of name (catalogue_of t)) → freed name (map_of name (catalogue_of s)) ≡ (if is_some behind then 2 else 1)
+  pub frees_by : (t : State) (least : ℕ) (behind : Option ℕ) → t ≡ s → Some least ≡ next_key 0 (map_of name (catalogue_of s)) → least ≡ k
+      → behind ≡ next_key (k + 1) (map_of name (catalogue_of t)) → freed name (map_of name (catalogue_of s)) ≡ (if is_some behind then 2 else 1)
   frees_by t least behind same e q b =
       let first : next_key 0 (map_of name (catalogue_of s)) ≡ Some k = sym e ∙ ap (λ (x : ℕ). Some x) q in
       let is : behind ≡ next_key (k + 1) (map_of name (catalogue_of s)) = b ∙ ap (λ (u : State). next_key (k + 1) (map_of name (catalogue_of u))) same in
       freed_by name (map_of name (catalogue_of s)) (is_some behind) lo (ap is_some is ∙ is_some_behind k (map_of name (catalogue_of s)) rises first)
 
   -- and none is behind the greatest
-  pub frees_one : (least : ℕ) → Some least ≡ next_key 0 (map_of name (catalogue_of s)) → least ≡ k → 4294967295 ≤ k → freed name (map_of name (catalogue_of s)) ≡ 1
+  pub frees_one : (least : ℕ) → Some least ≡ next_key 0 (map_of name (catalogue_of s)) → least ≡ k → 4294967295 ≤ k
+      → freed name (map_of name (catalogue_of s)) ≡ 1
   frees_one least e q g =
       freed_one name (map_of name (catalogue_of s)) lo
       (alone_at_top k 4294967295 (map_of name (catalogue_of s)) rises (sym e ∙ ap (λ (x : ℕ). Some x) q) g
       (λ j there. let b : j < 2 ^ 32 = key_below s name j l (sym (ap (has_key j) (map_of-catalogue_of s name lt)) ∙ there) in omega arith))
 
 -- whether a put does something, by the value that is there
-pub put_applies : (command : Command) (c : Maps) (name index k v old : ℕ) → command ≡ Put name k v → index ≡ name → Some old ≡ value_of k (map_of index c) → not (old == v) ≡ applies command c
+pub put_applies : (command : Command) (c : Maps) (name index k v old : ℕ) → command ≡ Put name k v → index ≡ name → Some old ≡ value_of k (map_of index c)
+    → not (old == v) ≡ applies command c
 put_applies command c name index k v old is same e =
     sym (ap (λ (x : Command). applies x c) is ∙ ap not (has_entry-value k v old (map_of name c) (sym (e ∙ ap (λ (n : ℕ). value_of k (map_of n c)) same))))
 
-pub put_applies_none : (command : Command) (c : Maps) (name index k v : ℕ) → command ≡ Put name k v → index ≡ name → None ≡ value_of k (map_of index c) → true ≡ applies command c
+pub put_applies_none : (command : Command) (c : Maps) (name index k v : ℕ) → command ≡ Put name k v → index ≡ name → None ≡ value_of k (map_of index c)
+    → true ≡ applies command c
 put_applies_none command c name index k v is same e =
     sym (ap (λ (x : Command). applies x c) is ∙ ap not (has_entry-none k v (map_of name c) (sym (e ∙ ap (λ (n : ℕ). value_of k (map_of n c)) same))))
 

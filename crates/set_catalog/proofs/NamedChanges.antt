@@ -9,7 +9,8 @@ use Rattle.set_catalog.specs.Plans.{GoneBy}
 use Rattle.set_catalog.specs.Steps.{HasSpace, Removes, Adds, IsReady}
 use Rattle.set_catalog.proofs.Ready.{ready_add, ready_del, gone_del}
 
-module _ (command : Command) (old new : InSection) (name index k : ℕ) (same : index ≡ name) (range : IsInRange command) (space : HasSpace old) (l : IsLawful (state_of old)) where
+module _ (command : Command) (old new : InSection) (name index k : ℕ) (same : index ≡ name) (range : IsInRange command) (space : HasSpace old)
+    (l : IsLawful (state_of old)) where
   pub add_named : (first second : ℕ) → command ≡ Add name k → Adds old new index k 0 first second → IsReady command old new
   add_named first second is a =
       let e : Add index k ≡ command = ap (λ (n : ℕ). Add n k) same ∙ sym is in

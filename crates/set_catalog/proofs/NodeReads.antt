@@ -1,5 +1,7 @@
 -- Reading the nodes of a state one after another, from the last on.
-use Rattle.std.proofs.Common.{◌≡◌, ◌≢◌, ℕ, suc, ◌-◌, ◌^◌, ◌<◌, ◌≤◌, ◌⊎◌, inl, inr, Bool, true, false, cond, List, [], ◌∷◌, ◌++◌, length, take, drop, set, Option, Some, None, slice_index_or, refl, sym, ap, ◌∙◌, subst, arith, ext_get_or, drop-cons}
+use Rattle.std.proofs.Common.{◌≡◌, ◌≢◌, ℕ, suc, ◌-◌, ◌^◌, ◌<◌, ◌≤◌, ◌⊎◌, inl, inr, Bool, true, false, cond}
+use Rattle.std.proofs.Common.{List, [], ◌∷◌, ◌++◌, length, take, drop, set, Option, Some, None, slice_index_or, refl, sym, ap, ◌∙◌}
+use Rattle.std.proofs.Common.{subst, arith, ext_get_or, drop-cons}
 use Rattle.std.proofs.lemmas.List.{take-append-drop, length-take-le, get_or-replicate}
 use Rattle.std.proofs.Math.Seq.{drop-append_seam}
 use Rattle.std.proofs.Math.ListN.{drop_of_length-le}
@@ -44,22 +46,30 @@ catalogue_none s o l g = ext_get_or [] (catalogue_of (nodes_from s o)) empty
 pub catalogue_whole : (s : State) → catalogue_of (nodes_from s first_node) ≡ catalogue_of s
 catalogue_whole s = ap catalogue_of (take-append-drop first_node s)
 
-nodes_step : (s : State) (o name : ℕ) → first_node ≤ o → o < length s → map_in (nodes_from s o) name ≡ map_among (is_key_of name) (words_at s o ∷ drop (suc o) s)
+nodes_step : (s : State) (o name : ℕ) → first_node ≤ o → o < length s
+    → map_in (nodes_from s o) name ≡ map_among (is_key_of name) (words_at s o ∷ drop (suc o) s)
 nodes_step s o name g l = map_in-nodes s o name (omega arith) ∙ ap (map_among (is_key_of name)) (drop-cons s o [] l)
 
 -- a node without a key changes nothing
-skips : (s : State) (o name : ℕ) → first_node ≤ o → o < length s → is_key_of name (words_at s o) ≡ false → map_in (nodes_from s o) name ≡ map_in (nodes_from s (suc o)) name
+skips : (s : State) (o name : ℕ) → first_node ≤ o → o < length s → is_key_of name (words_at s o) ≡ false
+    → map_in (nodes_from s o) name ≡ map_in (nodes_from s (suc o)) name
 unfolding map_among
 skips s o name g l e =
-    nodes_step s o name g l ∙ ap (λ (b : Bool). cond b (put (key s o) (value s o) (map_among (is_key_of name) (drop (suc o) s))) (map_among (is_key_of name) (drop (suc o) s))) e ∙ sym (map_in-nodes s (suc o) name (omega arith))
+    nodes_step s o name g l
+    ∙ ap (λ (b : Bool). cond b (put (key s o) (value s o) (map_among (is_key_of name) (drop (suc o) s))) (map_among (is_key_of name) (drop (suc o) s))) e
+    ∙ sym (map_in-nodes s (suc o) name (omega arith))
 
 -- a node with one puts it
-puts : (s : State) (o name : ℕ) → first_node ≤ o → o < length s → is_key_of name (words_at s o) ≡ true → map_in (nodes_from s o) name ≡ put (key s o) (value s o) (map_in (nodes_from s (suc o)) name)
+puts : (s : State) (o name : ℕ) → first_node ≤ o → o < length s → is_key_of name (words_at s o) ≡ true
+    → map_in (nodes_from s o) name ≡ put (key s o) (value s o) (map_in (nodes_from s (suc o)) name)
 unfolding map_among
 puts s o name g l e =
-    nodes_step s o name g l ∙ ap (λ (b : Bool). cond b (put (key s o) (value s o) (map_among (is_key_of name) (drop (suc o) s))) (map_among (is_key_of name) (drop (suc o) s))) e ∙ ap (put (key s o) (value s o)) (sym (map_in-nodes s (suc o) name (omega arith)))
+    nodes_step s o name g l
+    ∙ ap (λ (b : Bool). cond b (put (key s o) (value s o) (map_among (is_key_of name) (drop (suc o) s))) (map_among (is_key_of name) (drop (suc o) s))) e
+    ∙ ap (put (key s o) (value s o)) (sym (map_in-nodes s (suc o) name (omega arith)))
 
-pub catalogue_skips : (s : State) (o : ℕ) → first_node ≤ o → o < length s → (owner s o ≡ 0) ⊎ (kind s o ≡ 2) → catalogue_of (nodes_from s o) ≡ catalogue_of (nodes_from s (suc o))
+pub catalogue_skips : (s : State) (o : ℕ) → first_node ≤ o → o < length s → (owner s o ≡ 0) ⊎ (kind s o ≡ 2)
+    → catalogue_of (nodes_from s o) ≡ catalogue_of (nodes_from s (suc o))
 catalogue_skips s o g l keyless = ext_get_or [] (catalogue_of (nodes_from s o)) (catalogue_of (nodes_from s (suc o)))
     (length-catalogue_of (nodes_from s o) ∙ sym (length-catalogue_of (nodes_from s (suc o))))
     (λ i h. (let lt : i < 30 = subst (λ u. i < u) (length-catalogue_of (nodes_from s o)) h in
@@ -69,7 +79,9 @@ catalogue_skips s o g l keyless = ext_get_or [] (catalogue_of (nodes_from s o)) 
     unkeyed i (inl e) = is_key-vacant i (words_at s o) e
     unkeyed i (inr e) = false_from_ne_true (is_key_of i (words_at s o)) (λ t. (is_key-from i (words_at s o) t).1 e)
 
-pub catalogue_puts : (s : State) (o : ℕ) → IsLawful s → first_node ≤ o → o < length s → owner s o ≢ 0 → kind s o ≢ 2 → catalogue_of (nodes_from s o) ≡ set (catalogue_of (nodes_from s (suc o))) (name_of (owner s o - 1)) (put (key s o) (value s o) (map_of (name_of (owner s o - 1)) (catalogue_of (nodes_from s (suc o)))))
+pub catalogue_puts : (s : State) (o : ℕ) → IsLawful s → first_node ≤ o → o < length s → owner s o ≢ 0 → kind s o ≢ 2
+    → catalogue_of (nodes_from s o) ≡ set (catalogue_of (nodes_from s (suc o))) (name_of (owner s o - 1))
+    (put (key s o) (value s o) (map_of (name_of (owner s o - 1)) (catalogue_of (nodes_from s (suc o)))))
 catalogue_puts s o lawful g l own keyed =
     let in_heads : owner s o ≤ first_node = lawful.owned o g in
     let head : owner s o ≡ suc (owner s o - 1) = omega arith in
@@ -102,7 +114,9 @@ key_fits s o lawful g own = go (cases_lt (owner s o - 1) first_root)
     go (inr r) = let t = lawful.trees (owner s o - 1) r (let b : owner s o ≤ first_node = lawful.owned o g in omega arith) in tree t.0 t.1
 
 -- what a turn of the reading loop does, by the words that it read
-pub turn_puts : (s t : State) (n name : ℕ) (w : List ℕ) (all more : Maps) → IsLawful s → first_node < n → n ≤ length s → t ≡ s → w ≡ words_at t (n - 1) → word 0 w ≢ 0 → word 1 w ≢ 2 → name ≡ name_of (word 0 w - 1) → all ≡ catalogue_of (nodes_from s n) → more ≡ set all name (put (word 2 w) (word 5 w) (map_of name all)) → more ≡ catalogue_of (nodes_from s (n - 1))
+pub turn_puts : (s t : State) (n name : ℕ) (w : List ℕ) (all more : Maps) → IsLawful s → first_node < n → n ≤ length s → t ≡ s → w ≡ words_at t (n - 1)
+    → word 0 w ≢ 0 → word 1 w ≢ 2 → name ≡ name_of (word 0 w - 1) → all ≡ catalogue_of (nodes_from s n)
+    → more ≡ set all name (put (word 2 w) (word 5 w) (map_of name all)) → more ≡ catalogue_of (nodes_from s (n - 1))
 turn_puts s t n name w all more lawful g l same e own keyed is read m =
     let next : suc (n - 1) ≡ n = omega arith in
     let r : w ≡ words_at s (n - 1) = e ∙ ap (λ (u : State). words_at u (n - 1)) same in
@@ -115,11 +129,14 @@ turn_puts s t n name w all more lawful g l same e own keyed is read m =
     let the_value : word 5 w ≡ value s (n - 1) = ap (word 5) r in
     m ∙ cc (q, c, called, the_key, the_value)
 
-pub turn_skips : (s t : State) (n : ℕ) (w : List ℕ) (all : Maps) → first_node < n → n ≤ length s → t ≡ s → w ≡ words_at t (n - 1) → (word 0 w ≡ 0) ⊎ (word 1 w ≡ 2) → all ≡ catalogue_of (nodes_from s n) → all ≡ catalogue_of (nodes_from s (n - 1))
+pub turn_skips : (s t : State) (n : ℕ) (w : List ℕ) (all : Maps) → first_node < n → n ≤ length s → t ≡ s → w ≡ words_at t (n - 1)
+    → (word 0 w ≡ 0) ⊎ (word 1 w ≡ 2) → all ≡ catalogue_of (nodes_from s n) → all ≡ catalogue_of (nodes_from s (n - 1))
 turn_skips s t n w all g l same e keyless read =
     let next : suc (n - 1) ≡ n = omega arith in
     let r : w ≡ words_at s (n - 1) = e ∙ ap (λ (u : State). words_at u (n - 1)) same in
-    read ∙ ap (λ (m : ℕ). catalogue_of (nodes_from s m)) (sym next) ∙ sym (catalogue_skips s (n - 1) (omega arith) (omega arith) (elim keyless [ inl z ↦ inl (sym (ap (word 0) r) ∙ z) | inr z ↦ inr (sym (ap (word 1) r) ∙ z) ]))
+    read ∙ ap (λ (m : ℕ). catalogue_of (nodes_from s m)) (sym next)
+    ∙ sym (catalogue_skips s (n - 1) (omega arith) (omega arith)
+    (elim keyless [ inl z ↦ inl (sym (ap (word 0) r) ∙ z) | inr z ↦ inr (sym (ap (word 1) r) ∙ z) ]))
 
 -- the key that it read fits its type
 pub turn_fits : (s t : State) (n : ℕ) (w : List ℕ) → IsLawful s → first_node < n → t ≡ s → w ≡ words_at t (n - 1) → word 0 w ≢ 0 → word 2 w < 2 ^ 32

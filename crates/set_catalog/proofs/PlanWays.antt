@@ -48,7 +48,8 @@ vacant_two s o p v w q (inl e) = subst (λ u. ways.IsVacant s u) (sym e) (v.node
 vacant_two s o p v w q (inr i) = vacant_one s p w q i
 
 module _ (old new : InSection) (name k : ℕ) (lt : name < 30) (fits : k < 2 ^ 32) where
-  pub added_by : (v first second : ℕ) (ws : Writes) → AddPlan (state_of old) name k v first second ws → Rewritten old new (objects_of ws) ws → AddedBy old new name k v ws
+  pub added_by : (v first second : ℕ) (ws : Writes) → AddPlan (state_of old) name k v first second ws → Rewritten old new (objects_of ws) ws
+      → AddedBy old new name k v ws
   unfolding list_add_way plant_way grow_way
   added_by v first second ws (links previous low place vac) r = record {
     added = record {
@@ -78,7 +79,8 @@ module _ (old new : InSection) (name k : ℕ) (lt : name < 30) (fits : k < 2 ^ 3
     same = refl;
   }
 
-  pub removed_by : (node inner : ℕ) (ws : Writes) → DelPlan (state_of old) name k node inner ws → Rewritten old new (objects_of ws) ws → RemovedBy old new name k (value (state_of old) node) ws
+  pub removed_by : (node inner : ℕ) (ws : Writes) → DelPlan (state_of old) name k node inner ws → Rewritten old new (objects_of ws) ws
+      → RemovedBy old new name k (value (state_of old) node) ws
   unfolding list_del_way bare_way cut_way
   removed_by node inner ws (unlinks previous low place) r = record {
     removed = record {
@@ -108,7 +110,8 @@ module _ (old new : InSection) (name k : ℕ) (lt : name < 30) (fits : k < 2 ^ 3
     same = refl;
   }
 
-  pub updated_by : (v : ℕ) (ws : Writes) → IsLawful (state_of old) → has_entry k v (map_of name (catalogue_of (state_of old))) ≡ false → PutPlan (state_of old) name k v ws → Rewritten old new (objects_of ws) ws → UpdatedBy old new name k v ws
+  pub updated_by : (v : ℕ) (ws : Writes) → IsLawful (state_of old) → has_entry k v (map_of name (catalogue_of (state_of old))) ≡ false
+      → PutPlan (state_of old) name k v ws → Rewritten old new (objects_of ws) ws → UpdatedBy old new name k v ws
   unfolding list_put_way put_way
   updated_by v ws l lacks (in_list node low place) r =
       let named : name_of (head_of name k) ≡ name = head_named name k lt in
@@ -117,7 +120,11 @@ module _ (old new : InSection) (name k : ℕ) (lt : name < 30) (fits : k < 2 ^ 3
       record {
         updated = record {
           way = list_put_way (head_of name k) k v node (low_head name k low);
-          place = (place, other_than k (value (state_of old) node) v (map_of name (catalogue_of (state_of old))) (subst (λ (n : ℕ). value_of k (map_of n (catalogue_of (state_of old))) ≡ Some (value (state_of old) node)) named there) lacks);
+          place = (
+            place,
+            other_than k (value (state_of old) node) v (map_of name (catalogue_of (state_of old)))
+                (subst (λ (n : ℕ). value_of k (map_of n (catalogue_of (state_of old))) ≡ Some (value (state_of old) node)) named there) lacks,
+          );
           vacant = λ o i. absurd i;
           writes = r;
         };
@@ -130,7 +137,11 @@ module _ (old new : InSection) (name k : ℕ) (lt : name < 30) (fits : k < 2 ^ 3
       record {
         updated = record {
           way = put_way (head_of name k) k v leaf (root_from name k high) (root_below name k high lt);
-          place = (is, other_than k (value (state_of old) leaf) v (map_of name (catalogue_of (state_of old))) (subst (λ (n : ℕ). value_of k (map_of n (catalogue_of (state_of old))) ≡ Some (value (state_of old) leaf)) named there) lacks);
+          place = (
+            is,
+            other_than k (value (state_of old) leaf) v (map_of name (catalogue_of (state_of old)))
+                (subst (λ (n : ℕ). value_of k (map_of n (catalogue_of (state_of old))) ≡ Some (value (state_of old) leaf)) named there) lacks,
+          );
           vacant = λ o i. absurd i;
           writes = r;
         };

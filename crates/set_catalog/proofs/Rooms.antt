@@ -45,10 +45,12 @@ put_few : (s : State) (name k v : ℕ) (ws : Writes) → PutPlan s name k v ws �
 put_few s name k v ws (in_list _ _ _) = omega arith
 put_few s name k v ws (in_tree _ _ _) = omega arith
 
-pub del_room : (s : InSection) (name k : ℕ) → HasSpace s → (node inner : ℕ) (ws : Writes) → DelPlan (state_of s) name k node inner ws → HasRoom s (objects_of ws)
+pub del_room : (s : InSection) (name k : ℕ) → HasSpace s → (node inner : ℕ) (ws : Writes) → DelPlan (state_of s) name k node inner ws
+    → HasRoom s (objects_of ws)
 del_room s name k h node inner ws p = room_for s (objects_of ws) h (del_few (state_of s) name k node inner ws p)
 
-pub add_room : (s : InSection) (name k v first second : ℕ) → HasSpace s → (ws : Writes) → AddPlan (state_of s) name k v first second ws → HasRoom s (objects_of ws)
+pub add_room : (s : InSection) (name k v first second : ℕ) → HasSpace s → (ws : Writes) → AddPlan (state_of s) name k v first second ws
+    → HasRoom s (objects_of ws)
 add_room s name k v first second h ws p = room_for s (objects_of ws) h (add_few (state_of s) name k v first second ws p)
 
 pub put_room : (s : InSection) (name k v : ℕ) → HasSpace s → (ws : Writes) → PutPlan (state_of s) name k v ws → HasRoom s (objects_of ws)
@@ -75,7 +77,8 @@ module _ (a b : InSection) (le : a.at ≤ length a.seat.seen) (same : IsAsBefore
     fit = r.fit;
   }
 
-  pub stops_earlier : (may_refuse : Type 0) (found_held : InSection → InSection → ℕ → ℕ → Type 0) (Named : State → ℕ → Type 0) (c : InSection) (cause : Cause) → GoesOn a b → Stops may_refuse found_held (Named (state_of b)) b c cause → Stops may_refuse found_held (Named (state_of a)) a c cause
+  pub stops_earlier : (may_refuse : Type 0) (found_held : InSection → InSection → ℕ → ℕ → Type 0) (Named : State → ℕ → Type 0) (c : InSection) (cause : Cause)
+      → GoesOn a b → Stops may_refuse found_held (Named (state_of b)) b c cause → Stops may_refuse found_held (Named (state_of a)) a c cause
   stops_earlier may_refuse found_held Named c cause goes x = record {
     object = x.object;
     named = subst (λ (s : State). Named s x.object) reads_same x.named;
@@ -85,11 +88,13 @@ module _ (a b : InSection) (le : a.at ≤ length a.seat.seen) (same : IsAsBefore
   }
 
 -- what is named by the one is named by the other
-pub stops_named : (may_refuse : Type 0) (found_held : InSection → InSection → ℕ → ℕ → Type 0) (Named More : ℕ → Type 0) (a b : InSection) (cause : Cause) → ((o : ℕ) → Named o → More o) → Stops may_refuse found_held Named a b cause → Stops may_refuse found_held More a b cause
+pub stops_named : (may_refuse : Type 0) (found_held : InSection → InSection → ℕ → ℕ → Type 0) (Named More : ℕ → Type 0) (a b : InSection) (cause : Cause)
+    → ((o : ℕ) → Named o → More o) → Stops may_refuse found_held Named a b cause → Stops may_refuse found_held More a b cause
 stops_named may_refuse found_held Named More a b cause f x =
     record { object = x.object; named = f x.object x.named; before = x.before; goes_on = x.goes_on; refused = x.refused }
 
 -- and a change before goes on to it
-pub stops_after : (may_refuse : Type 0) (found_held : InSection → InSection → ℕ → ℕ → Type 0) (Named : ℕ → Type 0) (a b c : InSection) (cause : Cause) → GoesOn a b → Stops may_refuse found_held Named b c cause → Stops may_refuse found_held Named a c cause
+pub stops_after : (may_refuse : Type 0) (found_held : InSection → InSection → ℕ → ℕ → Type 0) (Named : ℕ → Type 0) (a b c : InSection) (cause : Cause)
+    → GoesOn a b → Stops may_refuse found_held Named b c cause → Stops may_refuse found_held Named a c cause
 stops_after may_refuse found_held Named a b c cause goes x =
     record { object = x.object; named = x.named; before = x.before; goes_on = GoesOn-GoesOn goes x.goes_on; refused = x.refused }

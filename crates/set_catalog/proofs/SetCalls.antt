@@ -1,5 +1,7 @@
 -- What the calls of the sets answer, by names.
-use Rattle.std.proofs.Common.{◌≡◌, ◌≢◌, ℕ, ◌+◌, ◌-◌, ◌*◌, ◌%◌, ◌<◌, ◌≤◌, inl, Bool, true, false, not, ◌||◌, ◌==◌, nat_lt, if◌then◌else◌, [], ◌∷◌, length, Option, Some, None, Result, Ok, Err, MatchResult, IfOk, IfErr, refl, sym, ap, ◌∙◌, subst, arith, true≢false, length-append}
+use Rattle.std.proofs.Common.{◌≡◌, ◌≢◌, ℕ, ◌+◌, ◌-◌, ◌*◌, ◌%◌, ◌<◌, ◌≤◌, inl, Bool, true, false, not}
+use Rattle.std.proofs.Common.{◌||◌, ◌==◌, nat_lt, if◌then◌else◌, [], ◌∷◌, length, Option, Some, None, Result, Ok, Err}
+use Rattle.std.proofs.Common.{MatchResult, IfOk, IfErr, refl, sym, ap, ◌∙◌, subst, arith, true≢false, length-append}
 use Rattle.std.proofs.lemmas.Bool.Decides.{nat_tests}
 use Rattle.mv_history.specs.State.{State, Writes, touches}
 use Rattle.mv_history.specs.Meaning.{InSection, state_of}
@@ -52,7 +54,9 @@ pub tree_root : (root name key : ℕ) → root ≡ name + 150 → 20 ≤ name �
 tree_root root name key e l = e ∙ sym (head_root name key l)
 
 -- a refusal, by what it was for
-pub stops_from : (may_refuse : Type 0) (found_held : InSection → InSection → ℕ → ℕ → Type 0) (Named : ℕ → Type 0) (old new : InSection) (cause : Cause) (ws : Writes) → ((o : ℕ) → touches ws o ≡ true → Named o) → Refuses may_refuse found_held old new (objects_of ws) cause → Stops may_refuse found_held Named old new cause
+pub stops_from : (may_refuse : Type 0) (found_held : InSection → InSection → ℕ → ℕ → Type 0) (Named : ℕ → Type 0) (old new : InSection) (cause : Cause)
+    (ws : Writes) → ((o : ℕ) → touches ws o ≡ true → Named o) → Refuses may_refuse found_held old new (objects_of ws) cause
+    → Stops may_refuse found_held Named old new cause
 stops_from may_refuse found_held Named old new cause ws f r = record {
   object = r.object;
   named = f r.object (touches-in ws r.object (subst (λ os. IsIn r.object os) (sym r.parts) (in_right r.held (r.object ∷ r.rest) r.object (inl refl))));
@@ -77,25 +81,40 @@ module _ (old new : InSection) (head name key : ℕ) (is : head ≡ head_of name
   named : name_of head ≡ name
   named = ap name_of is ∙ head_named name key (omega arith)
 
-  pub list_del_room : ((node second : ℕ) (ws : Writes) → DelPlan (state_of old) name key node second ws → HasRoom old (objects_of ws)) → (previous node : ℕ) → IsDelPlace (state_of old) head key previous node → HasRoom old (previous ∷ node ∷ [])
-  list_del_room room previous node place = room node 0 (del_writes (state_of old) previous node) (unlinks previous low (subst (λ (h : ℕ). IsDelPlace (state_of old) h key previous node) is place))
+  pub list_del_room : ((node second : ℕ) (ws : Writes) → DelPlan (state_of old) name key node second ws → HasRoom old (objects_of ws)) → (previous node : ℕ)
+      → IsDelPlace (state_of old) head key previous node → HasRoom old (previous ∷ node ∷ [])
+  list_del_room room previous node place =
+      room node 0 (del_writes (state_of old) previous node) (unlinks previous low (subst (λ (h : ℕ). IsDelPlace (state_of old) h key previous node) is place))
 
   pub list_removes : (node second : ℕ) → second ≡ 0 → lists.Takes old new head key node → Removes old new name key node second
   list_removes node second z t = record {
     writes = del_writes (state_of old) t.previous node;
-    plan = subst (λ (i : ℕ). DelPlan (state_of old) name key node i (del_writes (state_of old) t.previous node)) (sym z) (unlinks t.previous low (subst (λ (h : ℕ). IsDelPlace (state_of old) h key t.previous node) is t.place));
+    plan = subst (λ (i : ℕ). DelPlan (state_of old) name key node i (del_writes (state_of old) t.previous node)) (sym z)
+        (unlinks t.previous low (subst (λ (h : ℕ). IsDelPlace (state_of old) h key t.previous node) is t.place));
     change = t.change;
     lawful = t.lawful;
     catalogue = subst (λ (n : ℕ). catalogue_of (state_of new) ≡ without_key n key (catalogue_of (state_of old))) named t.catalogue;
   }
 
-  pub list_del_stops : (may_refuse : Type 0) (found_held : InSection → InSection → ℕ → ℕ → Type 0) (cause : Cause) → (previous : ℕ) × (node : ℕ) × IsDelPlace (state_of old) head key previous node × Refuses may_refuse found_held old new (previous ∷ node ∷ []) cause → Stops may_refuse found_held (DelLocks (state_of old) name key) old new cause
+  pub list_del_stops : (may_refuse : Type 0) (found_held : InSection → InSection → ℕ → ℕ → Type 0) (cause : Cause)
+      → (previous : ℕ) × (node : ℕ) × IsDelPlace (state_of old) head key previous node × Refuses may_refuse found_held old new (previous ∷ node ∷ []) cause
+      → Stops may_refuse found_held (DelLocks (state_of old) name key) old new cause
   list_del_stops may_refuse found_held cause (previous, node, place, r) =
       stops_from may_refuse found_held (DelLocks (state_of old) name key) old new cause (del_writes (state_of old) previous node)
-      (λ o t. (node, 0, del_writes (state_of old) previous node, unlinks previous low (subst (λ (h : ℕ). IsDelPlace (state_of old) h key previous node) is place), t)) r
+      (λ o t. (
+        node,
+        0,
+        del_writes (state_of old) previous node,
+        unlinks previous low (subst (λ (h : ℕ). IsDelPlace (state_of old) h key previous node) is place),
+        t,
+      )) r
 
-  pub list_add_room : (v first second : ℕ) → IsVacant (state_of old) first → ((ws : Writes) → AddPlan (state_of old) name key v first second ws → HasRoom old (objects_of ws)) → (previous : ℕ) → IsAddPlace (state_of old) head key previous → HasRoom old (previous ∷ first ∷ [])
-  list_add_room v first second vac room previous place = room (add_writes (state_of old) (head_of name key) key v previous first) (links previous low (subst (λ (h : ℕ). IsAddPlace (state_of old) h key previous) is place) vac)
+  pub list_add_room : (v first second : ℕ) → IsVacant (state_of old) first
+      → ((ws : Writes) → AddPlan (state_of old) name key v first second ws → HasRoom old (objects_of ws)) → (previous : ℕ)
+      → IsAddPlace (state_of old) head key previous → HasRoom old (previous ∷ first ∷ [])
+  list_add_room v first second vac room previous place =
+      room (add_writes (state_of old) (head_of name key) key v previous first)
+      (links previous low (subst (λ (h : ℕ). IsAddPlace (state_of old) h key previous) is place) vac)
 
   pub list_adds : (v first second : ℕ) → IsVacant (state_of old) first → lists.Adds old new head key v first → Adds old new name key v first second
   list_adds v first second vac a = record {
@@ -106,13 +125,24 @@ module _ (old new : InSection) (head name key : ℕ) (is : head ≡ head_of name
     catalogue = subst (λ (n : ℕ). catalogue_of (state_of new) ≡ with_key n key v (catalogue_of (state_of old))) named a.catalogue;
   }
 
-  pub list_add_stops : (v first second : ℕ) → IsVacant (state_of old) first → (may_refuse : Type 0) (found_held : InSection → InSection → ℕ → ℕ → Type 0) (cause : Cause) → (previous : ℕ) × IsAddPlace (state_of old) head key previous × Refuses may_refuse found_held old new (previous ∷ first ∷ []) cause → Stops may_refuse found_held (AddLocks (state_of old) name key v) old new cause
+  pub list_add_stops : (v first second : ℕ) → IsVacant (state_of old) first
+      → (may_refuse : Type 0) (found_held : InSection → InSection → ℕ → ℕ → Type 0) (cause : Cause)
+      → (previous : ℕ) × IsAddPlace (state_of old) head key previous × Refuses may_refuse found_held old new (previous ∷ first ∷ []) cause
+      → Stops may_refuse found_held (AddLocks (state_of old) name key v) old new cause
   list_add_stops v first second vac may_refuse found_held cause (previous, place, r) =
       stops_from may_refuse found_held (AddLocks (state_of old) name key v) old new cause (add_writes (state_of old) (head_of name key) key v previous first)
-      (λ o t. (first, second, add_writes (state_of old) (head_of name key) key v previous first, links previous low (subst (λ (h : ℕ). IsAddPlace (state_of old) h key previous) is place) vac, t)) r
+      (λ o t. (
+        first,
+        second,
+        add_writes (state_of old) (head_of name key) key v previous first,
+        links previous low (subst (λ (h : ℕ). IsAddPlace (state_of old) h key previous) is place) vac,
+        t,
+      )) r
 
-  pub list_put_room : (v : ℕ) → ((ws : Writes) → PutPlan (state_of old) name key v ws → HasRoom old (objects_of ws)) → (node : ℕ) → IsPutPlace (state_of old) head key node → HasRoom old (node ∷ [])
-  list_put_room v room node place = room (put_writes (state_of old) node v) (in_list node low (subst (λ (h : ℕ). IsPutPlace (state_of old) h key node) is place))
+  pub list_put_room : (v : ℕ) → ((ws : Writes) → PutPlan (state_of old) name key v ws → HasRoom old (objects_of ws)) → (node : ℕ)
+      → IsPutPlace (state_of old) head key node → HasRoom old (node ∷ [])
+  list_put_room v room node place =
+      room (put_writes (state_of old) node v) (in_list node low (subst (λ (h : ℕ). IsPutPlace (state_of old) h key node) is place))
 
   pub list_puts : (v : ℕ) → lists.Puts old new head key v → Puts old new name key v
   list_puts v p = record {
@@ -123,7 +153,9 @@ module _ (old new : InSection) (head name key : ℕ) (is : head ≡ head_of name
     catalogue = subst (λ (n : ℕ). catalogue_of (state_of new) ≡ with_key n key v (catalogue_of (state_of old))) named p.catalogue;
   }
 
-  pub list_put_stops : (v : ℕ) → (may_refuse : Type 0) (found_held : InSection → InSection → ℕ → ℕ → Type 0) (cause : Cause) → (node : ℕ) × IsPutPlace (state_of old) head key node × Refuses may_refuse found_held old new (node ∷ []) cause → Stops may_refuse found_held (PutLocks (state_of old) name key v) old new cause
+  pub list_put_stops : (v : ℕ) → (may_refuse : Type 0) (found_held : InSection → InSection → ℕ → ℕ → Type 0) (cause : Cause)
+      → (node : ℕ) × IsPutPlace (state_of old) head key node × Refuses may_refuse found_held old new (node ∷ []) cause
+      → Stops may_refuse found_held (PutLocks (state_of old) name key v) old new cause
   list_put_stops v may_refuse found_held cause (node, place, r) =
       stops_from may_refuse found_held (PutLocks (state_of old) name key v) old new cause (put_writes (state_of old) node v)
       (λ o t. (put_writes (state_of old) node v, in_list node low (subst (λ (h : ℕ). IsPutPlace (state_of old) h key node) is place), t)) r
@@ -133,7 +165,8 @@ entries_some : (t : Tree) → 0 < length (entries_in t)
 entries_some (leaf n k v) = omega arith
 entries_some (inner n d a b) = let l = entries_some a in omega (arith, length-append (entries_in a) (entries_in b))
 
-pub grown_taken : (s : State) (root name : ℕ) → IsLawful s → root ≡ name + 150 → first_tree ≤ name → name < 30 → link s root ≢ 0 → taken name (map_of name (catalogue_of s)) ≡ 2
+pub grown_taken : (s : State) (root name : ℕ) → IsLawful s → root ≡ name + 150 → first_tree ≤ name → name < 30 → link s root ≢ 0
+    → taken name (map_of name (catalogue_of s)) ≡ 2
 grown_taken s root name l e g lt n = go (l.trees root (omega arith) (omega arith)).0 (l.trees root (omega arith) (omega arith)).1
   where
     two : (m : Map) → 0 < length m → taken name m ≡ 2
@@ -145,7 +178,8 @@ grown_taken s root name l e g lt n = go (l.trees root (omega arith) (omega arith
     go : (t : Option Tree) → IsTree s root t → taken name (map_of name (catalogue_of s)) ≡ 2
     go None t = absurd (n (ap (word 3) t.0))
     go (Some t) grown =
-        let m : map_of name (catalogue_of s) ≡ entries_in t = ap (λ (x : ℕ). map_of x (catalogue_of s)) (sym named) ∙ map_of-tree s root t (omega arith) (omega arith) grown in
+        let m : map_of name (catalogue_of s) ≡ entries_in t =
+        ap (λ (x : ℕ). map_of x (catalogue_of s)) (sym named) ∙ map_of-tree s root t (omega arith) (omega arith) grown in
         two (map_of name (catalogue_of s)) (omega (arith, ap length m, entries_some t))
 
 -- Trees.
@@ -156,12 +190,14 @@ module _ (old new : InSection) (root name key : ℕ) (is : root ≡ name + 150) 
   named_root : name_of root ≡ name
   named_root = ap name_of at_head ∙ head_named name key lt
 
-  second_vacant : (first second : ℕ) → AreEnough (state_of old) (taken name (map_of name (catalogue_of (state_of old)))) first second → link (state_of old) root ≢ 0 → IsVacant (state_of old) second × (second ≢ first)
+  second_vacant : (first second : ℕ) → AreEnough (state_of old) (taken name (map_of name (catalogue_of (state_of old)))) first second
+      → link (state_of old) root ≢ 0 → IsVacant (state_of old) second × (second ≢ first)
   second_vacant first second e n =
       let two : taken name (map_of name (catalogue_of (state_of old))) ≡ 2 = grown_taken (state_of old) root name l is high lt n in
       e.two (omega arith)
 
-  pub tree_second : (first second : ℕ) → AreEnough (state_of old) (taken name (map_of name (catalogue_of (state_of old)))) first second → link (state_of old) root ≢ 0 → (180 ≤ second) × (second < length (state_of old)) × (owner (state_of old) second ≡ 0) × (first ≢ second)
+  pub tree_second : (first second : ℕ) → AreEnough (state_of old) (taken name (map_of name (catalogue_of (state_of old)))) first second
+      → link (state_of old) root ≢ 0 → (180 ≤ second) × (second < length (state_of old)) × (owner (state_of old) second ≡ 0) × (first ≢ second)
   tree_second first second e n = let v = second_vacant first second e n in (v.0.node, v.0.in_range, v.0.free, λ q. v.1 (sym q))
 
   leads : (parent other : ℕ) → IsGrowPlace (state_of old) root key parent other → link (state_of old) root ≢ 0
@@ -172,17 +208,26 @@ module _ (old new : InSection) (root name key : ℕ) (is : root ≡ name + 150) 
       let node : 180 ≤ top place.ends.0 = Stands-node (state_of old) root place.ends.0 place.ends.1.stands (top place.ends.0) (top_in place.ends.0) in
       omega arith
 
-  tree_plan : (v first second : ℕ) (ws : Writes) → IsVacant (state_of old) first → AreEnough (state_of old) (taken name (map_of name (catalogue_of (state_of old)))) first second → IsAdd (state_of old) root key v first second ws → AddPlan (state_of old) name key v first second ws
+  tree_plan : (v first second : ℕ) (ws : Writes) → IsVacant (state_of old) first
+      → AreEnough (state_of old) (taken name (map_of name (catalogue_of (state_of old)))) first second → IsAdd (state_of old) root key v first second ws
+      → AddPlan (state_of old) name key v first second ws
   tree_plan v first second ws vac e (first_leaf none) =
-      subst (λ (h : ℕ). AddPlan (state_of old) name key v first second (plant_writes (state_of old) h key v first)) (sym at_head) (plants high (subst (λ (h : ℕ). link (state_of old) h ≡ 0) at_head none) vac)
+      subst (λ (h : ℕ). AddPlan (state_of old) name key v first second (plant_writes (state_of old) h key v first)) (sym at_head)
+      (plants high (subst (λ (h : ℕ). link (state_of old) h ≡ 0) at_head none) vac)
   tree_plan v first second ws vac e (beside_leaf parent other place) =
       let w = second_vacant first second e (leads parent other place) in
-      subst (λ (h : ℕ). AddPlan (state_of old) name key v first second (grow_writes (state_of old) h key v parent other first second)) (sym at_head) (grows parent other high (subst (λ (h : ℕ). IsGrowPlace (state_of old) h key parent other) at_head place) vac w.0 w.1)
+      subst (λ (h : ℕ). AddPlan (state_of old) name key v first second (grow_writes (state_of old) h key v parent other first second)) (sym at_head)
+      (grows parent other high (subst (λ (h : ℕ). IsGrowPlace (state_of old) h key parent other) at_head place) vac w.0 w.1)
 
-  pub tree_add_room : (v first second : ℕ) → IsVacant (state_of old) first → AreEnough (state_of old) (taken name (map_of name (catalogue_of (state_of old)))) first second → ((ws : Writes) → AddPlan (state_of old) name key v first second ws → HasRoom old (objects_of ws)) → (ws : Writes) → IsAdd (state_of old) root key v first second ws → HasRoom old (objects_of ws)
+  pub tree_add_room : (v first second : ℕ) → IsVacant (state_of old) first
+      → AreEnough (state_of old) (taken name (map_of name (catalogue_of (state_of old)))) first second
+      → ((ws : Writes) → AddPlan (state_of old) name key v first second ws → HasRoom old (objects_of ws)) → (ws : Writes)
+      → IsAdd (state_of old) root key v first second ws → HasRoom old (objects_of ws)
   tree_add_room v first second vac e room ws a = room ws (tree_plan v first second ws vac e a)
 
-  pub tree_adds : (v first second : ℕ) → IsVacant (state_of old) first → AreEnough (state_of old) (taken name (map_of name (catalogue_of (state_of old)))) first second → (ws : Writes) × IsAdd (state_of old) root key v first second ws × Gains old new root key v ws → Adds old new name key v first second
+  pub tree_adds : (v first second : ℕ) → IsVacant (state_of old) first
+      → AreEnough (state_of old) (taken name (map_of name (catalogue_of (state_of old)))) first second
+      → (ws : Writes) × IsAdd (state_of old) root key v first second ws × Gains old new root key v ws → Adds old new name key v first second
   tree_adds v first second vac e (ws, a, g) = record {
     writes = ws;
     plan = tree_plan v first second ws vac e a;
@@ -191,20 +236,28 @@ module _ (old new : InSection) (root name key : ℕ) (is : root ≡ name + 150) 
     catalogue = subst (λ (n : ℕ). catalogue_of (state_of new) ≡ with_key n key v (catalogue_of (state_of old))) named_root g.catalogue;
   }
 
-  pub tree_add_stops : (v first second : ℕ) → IsVacant (state_of old) first → AreEnough (state_of old) (taken name (map_of name (catalogue_of (state_of old)))) first second → (may_refuse : Type 0) (found_held : InSection → InSection → ℕ → ℕ → Type 0) (cause : Cause) → (ws : Writes) × IsAdd (state_of old) root key v first second ws × Refuses may_refuse found_held old new (objects_of ws) cause → Stops may_refuse found_held (AddLocks (state_of old) name key v) old new cause
+  pub tree_add_stops : (v first second : ℕ) → IsVacant (state_of old) first
+      → AreEnough (state_of old) (taken name (map_of name (catalogue_of (state_of old)))) first second
+      → (may_refuse : Type 0) (found_held : InSection → InSection → ℕ → ℕ → Type 0) (cause : Cause)
+      → (ws : Writes) × IsAdd (state_of old) root key v first second ws × Refuses may_refuse found_held old new (objects_of ws) cause
+      → Stops may_refuse found_held (AddLocks (state_of old) name key v) old new cause
   tree_add_stops v first second vac e may_refuse found_held cause (ws, a, r) =
       stops_from may_refuse found_held (AddLocks (state_of old) name key v) old new cause ws
       (λ o t. (first, second, ws, tree_plan v first second ws vac e a, t)) r
 
   del_plan : (node second : ℕ) (ws : Writes) → IsDel (state_of old) root key node second ws → DelPlan (state_of old) name key node second ws
   del_plan node second ws (last_leaf _ place) =
-      subst (λ (h : ℕ). DelPlan (state_of old) name key node 0 (bare_writes (state_of old) h node)) (sym at_head) (bares high (subst (λ (h : ℕ). IsBarePlace (state_of old) h key node) at_head place))
-  del_plan node second ws (leaf_and_parent grand _ _ place) = cuts grand second high (subst (λ (h : ℕ). IsCutPlace (state_of old) h key grand second node) at_head place)
+      subst (λ (h : ℕ). DelPlan (state_of old) name key node 0 (bare_writes (state_of old) h node)) (sym at_head)
+      (bares high (subst (λ (h : ℕ). IsBarePlace (state_of old) h key node) at_head place))
+  del_plan node second ws (leaf_and_parent grand _ _ place) =
+      cuts grand second high (subst (λ (h : ℕ). IsCutPlace (state_of old) h key grand second node) at_head place)
 
-  pub tree_del_room : ((node second : ℕ) (ws : Writes) → DelPlan (state_of old) name key node second ws → HasRoom old (objects_of ws)) → (node second : ℕ) (ws : Writes) → IsDel (state_of old) root key node second ws → HasRoom old (objects_of ws)
+  pub tree_del_room : ((node second : ℕ) (ws : Writes) → DelPlan (state_of old) name key node second ws → HasRoom old (objects_of ws))
+      → (node second : ℕ) (ws : Writes) → IsDel (state_of old) root key node second ws → HasRoom old (objects_of ws)
   tree_del_room room node second ws d = room node second ws (del_plan node second ws d)
 
-  pub tree_removes : (node second : ℕ) → (ws : Writes) × IsDel (state_of old) root key node second ws × Loses old new root key ws → Removes old new name key node second
+  pub tree_removes : (node second : ℕ) → (ws : Writes) × IsDel (state_of old) root key node second ws × Loses old new root key ws
+      → Removes old new name key node second
   tree_removes node second (ws, d, g) = record {
     writes = ws;
     plan = del_plan node second ws d;
@@ -213,7 +266,9 @@ module _ (old new : InSection) (root name key : ℕ) (is : root ≡ name + 150) 
     catalogue = subst (λ (n : ℕ). catalogue_of (state_of new) ≡ without_key n key (catalogue_of (state_of old))) named_root g.catalogue;
   }
 
-  pub tree_del_stops : (may_refuse : Type 0) (found_held : InSection → InSection → ℕ → ℕ → Type 0) (cause : Cause) → (node : ℕ) × (second : ℕ) × (ws : Writes) × IsDel (state_of old) root key node second ws × Refuses may_refuse found_held old new (objects_of ws) cause → Stops may_refuse found_held (DelLocks (state_of old) name key) old new cause
+  pub tree_del_stops : (may_refuse : Type 0) (found_held : InSection → InSection → ℕ → ℕ → Type 0) (cause : Cause)
+      → (node : ℕ) × (second : ℕ) × (ws : Writes) × IsDel (state_of old) root key node second ws × Refuses may_refuse found_held old new (objects_of ws) cause
+      → Stops may_refuse found_held (DelLocks (state_of old) name key) old new cause
   tree_del_stops may_refuse found_held cause (node, second, ws, d, r) =
       stops_from may_refuse found_held (DelLocks (state_of old) name key) old new cause ws
       (λ o t. (node, second, ws, del_plan node second ws d, t)) r
@@ -221,10 +276,12 @@ module _ (old new : InSection) (root name key : ℕ) (is : root ≡ name + 150) 
   put_plan : (v node : ℕ) → IsLeaf (state_of old) root key node → PutPlan (state_of old) name key v (put_writes (state_of old) node v)
   put_plan v node leaf_is = in_tree node high (subst (λ (h : ℕ). IsLeaf (state_of old) h key node) at_head leaf_is)
 
-  pub tree_put_room : (v : ℕ) → ((ws : Writes) → PutPlan (state_of old) name key v ws → HasRoom old (objects_of ws)) → (node : ℕ) → IsLeaf (state_of old) root key node → HasRoom old (node ∷ [])
+  pub tree_put_room : (v : ℕ) → ((ws : Writes) → PutPlan (state_of old) name key v ws → HasRoom old (objects_of ws)) → (node : ℕ)
+      → IsLeaf (state_of old) root key node → HasRoom old (node ∷ [])
   tree_put_room v room node leaf_is = room (put_writes (state_of old) node v) (put_plan v node leaf_is)
 
-  pub tree_puts : (v : ℕ) → (node : ℕ) × IsLeaf (state_of old) root key node × Gains old new root key v (put_writes (state_of old) node v) → Puts old new name key v
+  pub tree_puts : (v : ℕ) → (node : ℕ) × IsLeaf (state_of old) root key node × Gains old new root key v (put_writes (state_of old) node v)
+      → Puts old new name key v
   tree_puts v (node, leaf_is, g) = record {
     writes = put_writes (state_of old) node v;
     plan = put_plan v node leaf_is;
@@ -233,7 +290,9 @@ module _ (old new : InSection) (root name key : ℕ) (is : root ≡ name + 150) 
     catalogue = subst (λ (n : ℕ). catalogue_of (state_of new) ≡ with_key n key v (catalogue_of (state_of old))) named_root g.catalogue;
   }
 
-  pub tree_put_stops : (v : ℕ) → (may_refuse : Type 0) (found_held : InSection → InSection → ℕ → ℕ → Type 0) (cause : Cause) → (node : ℕ) × IsLeaf (state_of old) root key node × Refuses may_refuse found_held old new (node ∷ []) cause → Stops may_refuse found_held (PutLocks (state_of old) name key v) old new cause
+  pub tree_put_stops : (v : ℕ) → (may_refuse : Type 0) (found_held : InSection → InSection → ℕ → ℕ → Type 0) (cause : Cause)
+      → (node : ℕ) × IsLeaf (state_of old) root key node × Refuses may_refuse found_held old new (node ∷ []) cause
+      → Stops may_refuse found_held (PutLocks (state_of old) name key v) old new cause
   tree_put_stops v may_refuse found_held cause (node, leaf_is, r) =
       stops_from may_refuse found_held (PutLocks (state_of old) name key v) old new cause (put_writes (state_of old) node v)
       (λ o t. (put_writes (state_of old) node v, put_plan v node leaf_is, t)) r
@@ -257,7 +316,8 @@ key_no k m n false e f g = true≢false (sym f ∙ ap (has_key k) e ∙ g)
 pub at_table : (s : State) (set name : ℕ) → name ≡ 10 + set → map_of name (catalogue_of s) ≡ map_of (10 + set) (catalogue_of s)
 at_table s set name e = ap (λ (n : ℕ). map_of n (catalogue_of s)) e
 
-pub at_tree : (s : State) (root name : ℕ) → root ≡ name + 150 → first_tree ≤ name → name < 30 → map_of name (catalogue_of s) ≡ map_of (name_of root) (catalogue_of s)
+pub at_tree : (s : State) (root name : ℕ) → root ≡ name + 150 → first_tree ≤ name → name < 30
+    → map_of name (catalogue_of s) ≡ map_of (name_of root) (catalogue_of s)
 at_tree s root name e g lt = ap (λ (n : ℕ). map_of n (catalogue_of s)) (sym (ap name_of (tree_root root name 0 e g) ∙ head_named name 0 lt))
 
 pub has_same : (k : ℕ) (m n : Map) → m ≡ n → has_key k m ≡ true → has_key k n ≡ true

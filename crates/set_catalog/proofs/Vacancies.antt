@@ -1,5 +1,7 @@
 -- How many nodes are vacant, from which of them are.
-use Rattle.std.proofs.Common.{◌≡◌, ◌≢◌, ℕ, zero, suc, ◌+◌, ◌-◌, ◌<◌, ◌≤◌, ◌==◌, ◌⊎◌, inl, inr, Bool, true, false, if◌then◌else◌, List, [], ◌∷◌, length, drop, slice_index_or, Option, Some, None, MatchOption, refl, sym, ap, ◌∙◌, subst, arith, length-drop}
+use Rattle.std.proofs.Common.{◌≡◌, ◌≢◌, ℕ, zero, suc, ◌+◌, ◌-◌, ◌<◌, ◌≤◌, ◌==◌, ◌⊎◌, inl, inr, Bool, true}
+use Rattle.std.proofs.Common.{false, if◌then◌else◌, List, [], ◌∷◌, length, drop, slice_index_or, Option, Some, None, MatchOption, refl}
+use Rattle.std.proofs.Common.{sym, ap, ◌∙◌, subst, arith, length-drop}
 use Rattle.std.proofs.lemmas.Bool.Decides.{nat_tests}
 use Rattle.std.proofs.lemmas.List.{get_or-drop}
 use Rattle.mv_history.specs.State.{State}
@@ -35,14 +37,24 @@ count_first_least w n false = omega arith
 count_none : (ws : State) → ((i : ℕ) → IsFree ws i → ⊥) → count_vacant ws ≡ 0
 count_none [] h = refl
 count_none (w ∷ ws) h =
-    count_first w (count_vacant ws) (slice_index_or w 0 0 == 0) refl (λ f. h 0 (record { within = omega arith; free = f })) ∙ count_none ws (λ i f. h (suc i) (later w ws i f))
+    count_first w (count_vacant ws) (slice_index_or w 0 0 == 0) refl (λ f. h 0 (record { within = omega arith; free = f }))
+    ∙ count_none ws (λ i f. h (suc i) (later w ws i f))
 
 count_one : (ws : State) (k : ℕ) → ((i : ℕ) → IsFree ws i → i ≡ k) → count_vacant ws ≤ 1
 count_one [] k h = omega arith
 count_one (w ∷ ws) zero h =
-    omega (arith, count_first_most w (count_vacant ws) (slice_index_or w 0 0 == 0), count_none ws (λ i f. let e : suc i ≡ 0 = h (suc i) (later w ws i f) in omega arith))
+    omega (
+      arith,
+      count_first_most w (count_vacant ws) (slice_index_or w 0 0 == 0),
+      count_none ws (λ i f. let e : suc i ≡ 0 = h (suc i) (later w ws i f) in omega arith),
+    )
 count_one (w ∷ ws) (suc k) h =
-    omega (arith, count_first w (count_vacant ws) (slice_index_or w 0 0 == 0) refl (λ f. let e : 0 ≡ suc k = h 0 (record { within = omega arith; free = f }) in omega arith), count_one ws k (λ i f. let e : suc i ≡ suc k = h (suc i) (later w ws i f) in omega arith))
+    omega (
+      arith,
+      count_first w (count_vacant ws) (slice_index_or w 0 0 == 0) refl
+          (λ f. let e : 0 ≡ suc k = h 0 (record { within = omega arith; free = f }) in omega arith),
+      count_one ws k (λ i f. let e : suc i ≡ suc k = h (suc i) (later w ws i f) in omega arith),
+    )
 
 count_some : (ws : State) (i : ℕ) → IsFree ws i → 1 ≤ count_vacant ws
 count_some [] i f = let l : i < 0 = f.within in omega arith
@@ -57,14 +69,26 @@ count_two [] i j n f g = let l : i < 0 = f.within in omega arith
 count_two (w ∷ ws) zero zero n f g = absurd (n refl)
 count_two (w ∷ ws) zero (suc j) n f g =
     let l : suc j < suc (length ws) = g.within in
-    omega (arith, count_first_free w (count_vacant ws) (slice_index_or w 0 0 == 0) refl f.free, count_some ws j (record { within = omega arith; free = g.free }))
+    omega (
+      arith,
+      count_first_free w (count_vacant ws) (slice_index_or w 0 0 == 0) refl f.free,
+      count_some ws j (record { within = omega arith; free = g.free }),
+    )
 count_two (w ∷ ws) (suc i) zero n f g =
     let l : suc i < suc (length ws) = f.within in
-    omega (arith, count_first_free w (count_vacant ws) (slice_index_or w 0 0 == 0) refl g.free, count_some ws i (record { within = omega arith; free = f.free }))
+    omega (
+      arith,
+      count_first_free w (count_vacant ws) (slice_index_or w 0 0 == 0) refl g.free,
+      count_some ws i (record { within = omega arith; free = f.free }),
+    )
 count_two (w ∷ ws) (suc i) (suc j) n f g =
     let a : suc i < suc (length ws) = f.within in
     let b : suc j < suc (length ws) = g.within in
-    omega (arith, count_first_least w (count_vacant ws) (slice_index_or w 0 0 == 0), count_two ws i j (λ e. n (omega arith)) (record { within = omega arith; free = f.free }) (record { within = omega arith; free = g.free }))
+    omega (
+      arith,
+      count_first_least w (count_vacant ws) (slice_index_or w 0 0 == 0),
+      count_two ws i j (λ e. n (omega arith)) (record { within = omega arith; free = f.free }) (record { within = omega arith; free = g.free }),
+    )
 
 free_node : (s : State) (i : ℕ) → IsFree (drop first_node s) i → IsVacant s (first_node + i)
 free_node s i f = record {
@@ -107,20 +131,23 @@ none_is None P Q e p = p
 none_is (Some x) P Q e p = absurd (cc)
 
 -- where no vacant object is found, fewer are vacant than are wanted
-pub none_for_first : {X : Type 0} (r : Option X) (Q : X → Type 0) (s : State) (want : ℕ) → (want ≡ 1) ⊎ (want ≡ 2) → r ≡ None → ((o : ℕ) → IsVacant s o → o ≡ 0) → MatchOption r (vacant_nodes s < want) Q
+pub none_for_first : {X : Type 0} (r : Option X) (Q : X → Type 0) (s : State) (want : ℕ) → (want ≡ 1) ⊎ (want ≡ 2) → r ≡ None
+    → ((o : ℕ) → IsVacant s o → o ≡ 0) → MatchOption r (vacant_nodes s < want) Q
 none_for_first r Q s want w e h =
     let none : vacant_nodes s ≡ 0 = no_vacant_node s 0 (omega arith) h in
     none_is r (vacant_nodes s < want) Q e (elim w [ inl a ↦ omega arith | inr b ↦ omega arith ])
 
 -- where none is found beside the first, one is vacant at most
-pub none_for_second : {X : Type 0} (r : Option X) (Q : X → Type 0) (s t : State) (want but : ℕ) → (want ≡ 1) ⊎ (want ≡ 2) → want ≢ 1 → t ≡ s → r ≡ None → ((o : ℕ) → IsVacant t o → o ≡ but) → MatchOption r (vacant_nodes s < want) Q
+pub none_for_second : {X : Type 0} (r : Option X) (Q : X → Type 0) (s t : State) (want but : ℕ) → (want ≡ 1) ⊎ (want ≡ 2) → want ≢ 1 → t ≡ s → r ≡ None
+    → ((o : ℕ) → IsVacant t o → o ≡ but) → MatchOption r (vacant_nodes s < want) Q
 none_for_second r Q s t want but w n same e h =
     let one : vacant_nodes t ≤ 1 = one_vacant_node t but h in
     let is : vacant_nodes t ≡ vacant_nodes s = ap vacant_nodes same in
     none_is r (vacant_nodes s < want) Q e (elim w [ inl a ↦ absurd (n a) | inr b ↦ omega arith ])
 
 -- two that were found are two that are vacant
-pub two_found : (s t : State) (want first second : ℕ) → (want ≡ 1) ⊎ (want ≡ 2) → t ≡ s → IsVacant s first → IsVacant t second → second ≢ first → want ≤ vacant_nodes s
+pub two_found : (s t : State) (want first second : ℕ) → (want ≡ 1) ⊎ (want ≡ 2) → t ≡ s → IsVacant s first → IsVacant t second → second ≢ first
+    → want ≤ vacant_nodes s
 two_found s t want first second w same v u n =
     let two : 2 ≤ vacant_nodes s = two_vacant_nodes s first second (λ e. n (sym e)) v (subst (λ (x : State). IsVacant x second) same u) in
     elim w [ inl a ↦ omega arith | inr b ↦ omega arith ]

@@ -1,5 +1,6 @@
 -- What an attempt of a command leaves, by its answer.
-use Rattle.std.specs.Prelude.{ℕ, ◌≡◌, ◌+◌, ◌-◌, ◌<◌, ◌≤◌, ◌⊎◌, ◌==◌, true, false, [], ◌∷◌, ◌++◌, All, Contains, length}
+use Rattle.std.specs.Prelude.{ℕ, ◌≡◌, ◌+◌, ◌-◌, ◌<◌, ◌≤◌, ◌⊎◌, ◌==◌, true, false, [], ◌∷◌, ◌++◌, All}
+use Rattle.std.specs.Prelude.{Contains, length}
 use Rattle.mv_history.specs.State.{State, state_at}
 use Rattle.mv_history.specs.declared.history.Commit.{Commit}
 use Rattle.mv_history.specs.declared.history.Entry.TheVariants.{Change}
@@ -131,7 +132,8 @@ pub record KeepsHints (hints after : Hinted) (old new : Seat) : Type 0 where
 -- where a del was done, the objects that it left vacant were noted, and nothing else changed
 abbrev pub NotesGone : Command → Hinted → Hinted → Seat → Seat → ℕ → Type 0
 NotesGone (Del name key) hints after old new time =
-    (c : Commit) × (node : ℕ) × (inner : ℕ) × IsEntryAt new time (Change c) × DelPlan (state_at new.start new.seen c.snapshot) name key node inner c.writes
+    (c : Commit) × (node : ℕ) × (inner : ℕ) × IsEntryAt new time (Change c)
+    × DelPlan (state_at new.start new.seen c.snapshot) name key node inner c.writes
     × (after ≡ gone_noted hints node inner)
 NotesGone command hints after old new time = KeepsHints hints after old new
 

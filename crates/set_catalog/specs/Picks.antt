@@ -1,5 +1,6 @@
 -- Which objects are vacant, and which of them a search for vacant objects picks.
-use Rattle.std.specs.Prelude.{ℕ, ◌≡◌, ◌≢◌, ◌+◌, ◌<◌, ◌≤◌, ◌⊎◌, ◌==◌, if◌then◌else◌, length, drop, slice_index_or, List, [], ◌∷◌, ◌++◌, All, Contains}
+use Rattle.std.specs.Prelude.{ℕ, ◌≡◌, ◌≢◌, ◌+◌, ◌<◌, ◌≤◌, ◌⊎◌, ◌==◌, if◌then◌else◌, length, drop}
+use Rattle.std.specs.Prelude.{slice_index_or, List, [], ◌∷◌, ◌++◌, All, Contains}
 use Rattle.mv_history.specs.State.{State}
 use Rattle.set_script.specs.Objects.{first_node, owner}
 use Rattle.set_catalog.specs.Hinted.{Hinted}

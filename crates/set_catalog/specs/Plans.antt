@@ -17,15 +17,20 @@ head_of name key =
 
 -- a del of the key, which leaves the node vacant, and in a tree that keeps other keys an inner node, else 0
 pub data DelPlan (s : State) (name key node : ℕ) : ℕ → Writes → Type 0 where
-  unlinks : (previous : ℕ) → name < first_tree → IsDelPlace s (head_of name key) key previous node → DelPlan s name key node 0 (del_writes s previous node)
+  unlinks : (previous : ℕ) → name < first_tree → IsDelPlace s (head_of name key) key previous node
+      → DelPlan s name key node 0 (del_writes s previous node)
   bares : first_tree ≤ name → IsBarePlace s (head_of name key) key node → DelPlan s name key node 0 (bare_writes s (head_of name key) node)
-  cuts : (grand inner : ℕ) → first_tree ≤ name → IsCutPlace s (head_of name key) key grand inner node → DelPlan s name key node inner (cut_writes s grand inner node)
+  cuts : (grand inner : ℕ) → first_tree ≤ name → IsCutPlace s (head_of name key) key grand inner node
+      → DelPlan s name key node inner (cut_writes s grand inner node)
 
 -- an add of the key with this value, which takes the first of these vacant nodes, and in a tree that is not empty the second
 pub data AddPlan (s : State) (name key v first second : ℕ) : Writes → Type 0 where
-  links : (previous : ℕ) → name < first_tree → IsAddPlace s (head_of name key) key previous → IsVacant s first → AddPlan s name key v first second (add_writes s (head_of name key) key v previous first)
-  plants : first_tree ≤ name → link s (head_of name key) ≡ 0 → IsVacant s first → AddPlan s name key v first second (plant_writes s (head_of name key) key v first)
-  grows : (parent leaf : ℕ) → first_tree ≤ name → IsGrowPlace s (head_of name key) key parent leaf → IsVacant s first → IsVacant s second → second ≢ first → AddPlan s name key v first second (grow_writes s (head_of name key) key v parent leaf first second)
+  links : (previous : ℕ) → name < first_tree → IsAddPlace s (head_of name key) key previous → IsVacant s first
+      → AddPlan s name key v first second (add_writes s (head_of name key) key v previous first)
+  plants : first_tree ≤ name → link s (head_of name key) ≡ 0 → IsVacant s first
+      → AddPlan s name key v first second (plant_writes s (head_of name key) key v first)
+  grows : (parent leaf : ℕ) → first_tree ≤ name → IsGrowPlace s (head_of name key) key parent leaf → IsVacant s first → IsVacant s second
+      → second ≢ first → AddPlan s name key v first second (grow_writes s (head_of name key) key v parent leaf first second)
 
 -- another value for a key that is there
 pub data PutPlan (s : State) (name key v : ℕ) : Writes → Type 0 where
@@ -64,7 +69,8 @@ PutLocks s name key v o = (ws : Writes) × PutPlan s name key v ws × (touches w
 
 -- or by a move's add, in the state that its del leaves
 abbrev pub MoveLocks : State → ℕ → ℕ → ℕ → ℕ → Type 0
-MoveLocks s source target key o = (node : ℕ) × (inner : ℕ) × (ws : Writes) × DelPlan s source key node inner ws × AddLocks (written s ws) target key (value s node) o
+MoveLocks s source target key o =
+    (node : ℕ) × (inner : ℕ) × (ws : Writes) × DelPlan s source key node inner ws × AddLocks (written s ws) target key (value s node) o
 
 -- The object is one of those that the command locks.
 abbrev pub Locks : Command → State → ℕ → Type 0

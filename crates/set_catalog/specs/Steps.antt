@@ -58,7 +58,8 @@ pub record HasSpace (s : InSection) : Type 0 where
   pub held : most_locks ≤ s.seat.write_max
 
 -- One lock was refused, of an object for which this holds; those that were had stay.
-pub record Stops (may_refuse : Type 0) (found_held : InSection → InSection → ℕ → ℕ → Type 0) (Named : ℕ → Type 0) (old new : InSection) (cause : Cause) : Type 0 where
+pub record Stops (may_refuse : Type 0) (found_held : InSection → InSection → ℕ → ℕ → Type 0) (Named : ℕ → Type 0) (old new : InSection)
+    (cause : Cause) : Type 0 where
   pub object : ℕ
   pub named : Named object
   pub before : InSection

@@ -27,7 +27,9 @@ pub fn change<S: Section>(section: &mut S, command: &Command, picked: Picked) ->
     requires space { HasSpace (S.section section.old) }
     ensures ready { OnOk result (IsReady command.now (S.section section.old) (S.section section.new)) }
     ensures gone { IfOk result (λ gone. GoneBy command.now (state_of (S.section section.old)) (S.section section.new).own gone.node gone.inner) }
-    ensures refused { IfErr result (λ cause. Stops S.may_refuse S.found_held (Locks command.now (state_of (S.section section.old))) (S.section section.old) (S.section section.new) cause) }
+    ensures refused { IfErr result
+        (λ cause. Stops S.may_refuse S.found_held (Locks command.now (state_of (S.section section.old))) (S.section section.old)
+        (S.section section.new) cause) }
 {
     match *command {
         Command::Add { name, key } => {
@@ -62,10 +64,13 @@ fn put_key<S: Section>(
     requires lawful { IsLawful (state_of (S.section section.old)) }
     requires name_in { name < 30 }
     requires applies { applies (Put name key value) (catalogue_of (state_of (S.section section.old))) ≡ true }
-    requires enough { AreEnough (state_of (S.section section.old)) (wanted (Put name key value) (catalogue_of (state_of (S.section section.old)))) picked.first picked.second }
+    requires enough { AreEnough (state_of (S.section section.old)) (wanted (Put name key value) (catalogue_of (state_of (S.section section.old))))
+        picked.first picked.second }
     requires space { HasSpace (S.section section.old) }
     ensures ready { OnOk result (IsReady (Put name key value) (S.section section.old) (S.section section.new)) }
-    ensures refused { IfErr result (λ cause. Stops S.may_refuse S.found_held (Locks (Put name key value) (state_of (S.section section.old))) (S.section section.old) (S.section section.new) cause) }
+    ensures refused { IfErr result
+        (λ cause. Stops S.may_refuse S.found_held (Locks (Put name key value) (state_of (S.section section.old))) (S.section section.old)
+        (S.section section.new) cause) }
 {
     if has(section, name, key) {
         put(section, name, key, value)
@@ -87,10 +92,13 @@ fn move_key<S: Section>(
     requires source_in { source < 30 }
     requires target_in { target < 30 }
     requires applies { applies (Move source target key) (catalogue_of (state_of (S.section section.old))) ≡ true }
-    requires enough { AreEnough (state_of (S.section section.old)) (wanted (Move source target key) (catalogue_of (state_of (S.section section.old)))) picked.first picked.second }
+    requires enough { AreEnough (state_of (S.section section.old)) (wanted (Move source target key) (catalogue_of (state_of (S.section section.old))))
+        picked.first picked.second }
     requires space { HasSpace (S.section section.old) }
     ensures ready { OnOk result (IsReady (Move source target key) (S.section section.old) (S.section section.new)) }
-    ensures refused { IfErr result (λ cause. Stops S.may_refuse S.found_held (Locks (Move source target key) (state_of (S.section section.old))) (S.section section.old) (S.section section.new) cause) }
+    ensures refused { IfErr result
+        (λ cause. Stops S.may_refuse S.found_held (Locks (Move source target key) (state_of (S.section section.old))) (S.section section.old)
+        (S.section section.new) cause) }
 {
     let Some(value) = get(section, source, key) else {
         unreachable!()

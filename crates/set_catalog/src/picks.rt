@@ -97,7 +97,8 @@ fn vacant_between<V: View>(view: &mut V, from: u32, end: u32, but: u32) -> Optio
     requires nodes { 180 ≤ from }
     requires within { end ≤ length (V.state view.old) }
     requires few { length (V.state view.old) ≤ 65535 }
-    ensures found { MatchOption result ((o : ℕ) → from ≤ o → o < end → IsVacant (V.state view.old) o → o ≡ but) (λ o. IsVacant (V.state view.old) o × (o ≢ but)) }
+    ensures found { MatchOption result ((o : ℕ) → from ≤ o → o < end → IsVacant (V.state view.old) o → o ≡ but)
+        (λ o. IsVacant (V.state view.old) o × (o ≢ but)) }
     ensures as_before { V.as_before view.old view.new }
 {
     for object in from..end {

@@ -1,5 +1,6 @@
 // The sets by their names: lists, hash tables and trees.
-ghost use Rattle.std.specs.Prelude.{◌≡◌, ◌≢◌, ℕ, ◌<◌, ◌≤◌, ◌==◌, true, false, if◌then◌else◌, length, MatchResult, IfOk, IfErr, OnOk};
+ghost use Rattle.std.specs.Prelude.{◌≡◌, ◌≢◌, ℕ, ◌<◌, ◌≤◌, ◌==◌, true, false, if◌then◌else◌, length, MatchResult};
+ghost use Rattle.std.specs.Prelude.{IfOk, IfErr, OnOk};
 ghost use Rattle.mv_history.specs.State.{Writes};
 ghost use Rattle.mv_history.specs.Meaning.{state_of};
 ghost use Rattle.set_script.specs.Catalogue.{map_of, has_key, has_entry, value_of, next_key};
@@ -134,9 +135,12 @@ pub fn del<S: Section>(section: &mut S, name: u32, key: u32) -> Result<Gone, Cau
     requires name_in { name < 30 }
     requires lawful { IsLawful (state_of (S.section section.old)) }
     requires present { has_key key (map_of name (catalogue_of (state_of (S.section section.old)))) ≡ true }
-    requires room { (node inner : ℕ) (ws : Writes) → DelPlan (state_of (S.section section.old)) name key node inner ws → HasRoom (S.section section.old) (objects_of ws) }
+    requires room { (node inner : ℕ) (ws : Writes) → DelPlan (state_of (S.section section.old)) name key node inner ws
+        → HasRoom (S.section section.old) (objects_of ws) }
     ensures gone { IfOk result (λ gone. Removes (S.section section.old) (S.section section.new) name key gone.node gone.inner) }
-    ensures refused { IfErr result (λ cause. Stops S.may_refuse S.found_held (DelLocks (state_of (S.section section.old)) name key) (S.section section.old) (S.section section.new) cause) }
+    ensures refused { IfErr result
+        (λ cause. Stops S.may_refuse S.found_held (DelLocks (state_of (S.section section.old)) name key) (S.section section.old)
+        (S.section section.new) cause) }
 {
     match set_of(name) {
         Set::List(head) => removed(list_set::del_in(section, head, key)),
@@ -157,9 +161,12 @@ pub fn add<S: Section>(
     requires lawful { IsLawful (state_of (S.section section.old)) }
     requires absent { has_key key (map_of name (catalogue_of (state_of (S.section section.old)))) ≡ false }
     requires enough { AreEnough (state_of (S.section section.old)) (taken name (map_of name (catalogue_of (state_of (S.section section.old))))) picked.first picked.second }
-    requires room { (ws : Writes) → AddPlan (state_of (S.section section.old)) name key value picked.first picked.second ws → HasRoom (S.section section.old) (objects_of ws) }
+    requires room { (ws : Writes) → AddPlan (state_of (S.section section.old)) name key value picked.first picked.second ws
+        → HasRoom (S.section section.old) (objects_of ws) }
     ensures there { OnOk result (Adds (S.section section.old) (S.section section.new) name key value picked.first picked.second) }
-    ensures refused { IfErr result (λ cause. Stops S.may_refuse S.found_held (AddLocks (state_of (S.section section.old)) name key value) (S.section section.old) (S.section section.new) cause) }
+    ensures refused { IfErr result
+        (λ cause. Stops S.may_refuse S.found_held (AddLocks (state_of (S.section section.old)) name key value) (S.section section.old)
+        (S.section section.new) cause) }
 {
     let Picked { first, second } = picked;
     match set_of(name) {
@@ -177,7 +184,9 @@ pub fn put<S: Section>(section: &mut S, name: u32, key: u32, value: u64) -> Resu
     requires other { has_entry key value (map_of name (catalogue_of (state_of (S.section section.old)))) ≡ false }
     requires room { (ws : Writes) → PutPlan (state_of (S.section section.old)) name key value ws → HasRoom (S.section section.old) (objects_of ws) }
     ensures there { OnOk result (Puts (S.section section.old) (S.section section.new) name key value) }
-    ensures refused { IfErr result (λ cause. Stops S.may_refuse S.found_held (PutLocks (state_of (S.section section.old)) name key value) (S.section section.old) (S.section section.new) cause) }
+    ensures refused { IfErr result
+        (λ cause. Stops S.may_refuse S.found_held (PutLocks (state_of (S.section section.old)) name key value) (S.section section.old)
+        (S.section section.new) cause) }
 {
     match set_of(name) {
         Set::List(head) => made(list_set::put_in(section, head, key, value)),

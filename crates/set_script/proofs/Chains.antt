@@ -90,7 +90,8 @@ part_behind o (n ∷ ns) previous (inr i) =
     let r = part_behind o ns n.object i in (n ∷ r.0, r.1, ap (λ (q : Nodes). n ∷ q) r.2, r.3)
 
 -- the last of a front leads to what follows it
-pub last_leads : (s : State) (head : ℕ) (fs bs : Nodes) (previous : ℕ) → link s previous ≡ first_of (fs ++ bs) → Links s head (fs ++ bs) → link s (last_of previous fs) ≡ first_of bs
+pub last_leads : (s : State) (head : ℕ) (fs bs : Nodes) (previous : ℕ) → link s previous ≡ first_of (fs ++ bs) → Links s head (fs ++ bs)
+    → link s (last_of previous fs) ≡ first_of bs
 last_leads s head [] bs previous e l = e
 last_leads s head (n ∷ fs) bs previous e l = last_leads s head fs bs n.object (ap (word 3) l.2) l.3
 
@@ -99,7 +100,9 @@ last_among n [] = inl refl
 last_among n (m ∷ fs) = inr (last_among m fs)
 
 -- Where the words of the front's nodes stay but for the link of the last one, the list goes on with another rest.
-pub Links-splice : (s s' : State) (head p : ℕ) (n : Node) (fs cs ds : Nodes) → Links s head (n ∷ fs ++ cs) → IsRising (n ∷ fs ++ cs) → last_of n.object fs ≡ p → words_at s' p ≡ relink (words_at s p) (first_of ds) → ((o : ℕ) → IsAmong o (n ∷ fs) → o ≢ p → words_at s' o ≡ words_at s o) → Links s' head ds → Links s' head (n ∷ fs ++ ds)
+pub Links-splice : (s s' : State) (head p : ℕ) (n : Node) (fs cs ds : Nodes) → Links s head (n ∷ fs ++ cs) → IsRising (n ∷ fs ++ cs) → last_of n.object fs ≡ p
+    → words_at s' p ≡ relink (words_at s p) (first_of ds) → ((o : ℕ) → IsAmong o (n ∷ fs) → o ≢ p → words_at s' o ≡ words_at s o) → Links s' head ds
+    → Links s' head (n ∷ fs ++ ds)
 Links-splice s s' head p n [] cs ds l r e w f m =
     let now : words_at s' n.object ≡ list_words head n.key n.value (first_of ds) =
     ap (words_at s') e ∙ w ∙ ap (λ (u : ℕ). relink (words_at s u) (first_of ds)) (sym e) ∙ ap (λ (u : List ℕ). relink u (first_of ds)) l.2 in

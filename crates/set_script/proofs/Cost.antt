@@ -1,5 +1,7 @@
 -- The cost of a lawful state's catalogue is the number of its nodes that are not vacant.
-use Rattle.std.proofs.Common.{◌≡◌, ◌≢◌, ℕ, zero, suc, ◌+◌, ◌-◌, ◌*◌, ◌<◌, ◌≤◌, ◌⊎◌, inl, inr, Bool, true, false, cond, eqb, not, ◌&&◌, eqb-true, eq-eqb, ne_eqb, lt-ltb, le-ltb, List, [], ◌∷◌, length, map, drop, refl, sym, ap, ◌∙◌, subst, arith, true≢false, length-drop, Option, Some, None}
+use Rattle.std.proofs.Common.{◌≡◌, ◌≢◌, ℕ, zero, suc, ◌+◌, ◌-◌, ◌*◌, ◌<◌, ◌≤◌, ◌⊎◌, inl, inr, Bool, true}
+use Rattle.std.proofs.Common.{false, cond, eqb, not, ◌&&◌, eqb-true, eq-eqb, ne_eqb, lt-ltb, le-ltb, List, [], ◌∷◌, length, map, drop, refl}
+use Rattle.std.proofs.Common.{sym, ap, ◌∙◌, subst, arith, true≢false, length-drop, Option, Some, None}
 use Rattle.std.proofs.lemmas.Bool.{cases_eq, cases_lt}
 use Rattle.mv_history.specs.State.{State}
 use Rattle.mv_history.specs.Meaning.{words_at}
@@ -39,7 +41,8 @@ node_is_key s name o l low lo = go (is_node_of name (words_at s o)) refl (is_key
         let z : kind s o ≡ 0 = owned_kind s (owner s o - 1) o l lh lo (omega arith) in
         is_key-to name (words_at s o) f.0 (omega arith) f.1
 
-    go : (a : Bool) → is_node_of name (words_at s o) ≡ a → (b : Bool) → is_key_of name (words_at s o) ≡ b → is_node_of name (words_at s o) ≡ is_key_of name (words_at s o)
+    go : (a : Bool) → is_node_of name (words_at s o) ≡ a → (b : Bool) → is_key_of name (words_at s o) ≡ b
+        → is_node_of name (words_at s o) ≡ is_key_of name (words_at s o)
     go true e b f = e ∙ sym (holds e)
     go false e false f = e ∙ sym f
     go false e true f = (let k = is_key-from name (words_at s o) f in absurd (true≢false (sym (node-to name (words_at s o) k.0 k.2) ∙ e)))
@@ -52,7 +55,8 @@ cost_low s name l low =
     (ap (is_key_of name) (sym (node_at s i)) ∙ a) (ap (is_key_of name) (sym (node_at s j)) ∙ b)
     (ap (word 2) (sym (node_at s i)) ∙ e ∙ ap (word 2) (node_at s j)) in omega arith)) in
     ap (λ (b : Bool). cond b (length (map_in s name)) (2 * length (map_in s name) - 1)) (lt-ltb name 20 low) ∙ keys
-    ∙ sym (tally-same (is_node_of name) (is_key_of name) (drop 180 s) (λ i h. ap (is_node_of name) (node_at s i) ∙ node_is_key s name (180 + i) l low (omega arith) ∙ ap (is_key_of name) (sym (node_at s i))))
+    ∙ sym (tally-same (is_node_of name) (is_key_of name) (drop 180 s)
+    (λ i h. ap (is_node_of name) (node_at s i) ∙ node_is_key s name (180 + i) l low (omega arith) ∙ ap (is_key_of name) (sym (node_at s i))))
 
 name_of-root : (name : ℕ) → 20 ≤ name → name < 30 → name_of (name + 150) ≡ name
 name_of-root name lo lt = grind (arith, cases_lt)
@@ -132,7 +136,9 @@ unfolding picks
 picks-one zero n w p a b = absurd (omega arith)
 picks-one (suc count) n w p a b = go (cases_eq (name_of (word 0 w - 1)) n) (picks-one count (suc n) w p)
   where
-    go : (name_of (word 0 w - 1) ≡ n) ⊎ (name_of (word 0 w - 1) ≢ n) → (suc n ≤ name_of (word 0 w - 1) → name_of (word 0 w - 1) < suc n + count → picks count (suc n) w ≡ 1) → cond (is_node_of n w) 1 0 + picks count (suc n) w ≡ 1
+    go : (name_of (word 0 w - 1) ≡ n) ⊎ (name_of (word 0 w - 1) ≢ n)
+        → (suc n ≤ name_of (word 0 w - 1) → name_of (word 0 w - 1) < suc n + count → picks count (suc n) w ≡ 1)
+        → cond (is_node_of n w) 1 0 + picks count (suc n) w ≡ 1
     go (inl e) rest =
         let r : picks count (suc n) w ≡ 0 = picks-none count (suc n) w (inr (omega arith)) in
         ap (λ (b : Bool). cond b 1 0 + picks count (suc n) w) (node-to n w p e) ∙ omega arith
@@ -155,11 +161,13 @@ tallies-used (w ∷ s) f =
         let p : picks 30 0 w ≡ 1 = picks-one 30 0 w some (omega arith) (f 0 (omega arith) some) in
         let q : cond {A = ℕ} (eqb (word 0 w) 0) 0 1 ≡ 1 = ap (λ (b : Bool). cond {A = ℕ} b 0 1) (ne_eqb (word 0 w) 0 n) in omega arith
 
-cost-tallies : (s : State) → IsLawful s → (count n : ℕ) → n + count ≤ 30 → cost_from n (map (λ name. map_in s name) (numbers count n)) ≡ tallies count n (drop 180 s)
+cost-tallies : (s : State) → IsLawful s → (count n : ℕ) → n + count ≤ 30
+    → cost_from n (map (λ name. map_in s name) (numbers count n)) ≡ tallies count n (drop 180 s)
 unfolding tallies
 cost-tallies s l zero n h = refl
 cost-tallies s l (suc count) n h =
-    let a : cost_of n (map_in s n) ≡ tally (is_node_of n) (drop 180 s) = elim (cases_lt n 20) [ inl lt ↦ cost_low s n l lt | inr ge ↦ cost_root s n l ge (omega arith) ] in
+    let a : cost_of n (map_in s n) ≡ tally (is_node_of n) (drop 180 s) =
+    elim (cases_lt n 20) [ inl lt ↦ cost_low s n l lt | inr ge ↦ cost_root s n l ge (omega arith) ] in
     let b = cost-tallies s l count (suc n) (omega arith) in omega arith
 
 pub cost_is : (s : State) → IsLawful s → cost (catalogue_of s) ≡ used s

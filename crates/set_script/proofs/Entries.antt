@@ -13,7 +13,8 @@ pub has_entry-value : (k u v : ℕ) (m : Map) → value_of k m ≡ Some u → ha
 has_entry-value k u v [] f = absurd (cc)
 has_entry-value k u v (x ∷ m) f = go (eqb x.0 k) (has_entry-value k u v m) f
   where
-    go : (b : Bool) → (value_of k m ≡ Some u → has_entry k v m ≡ eqb u v) → cond b (Some x.1) (value_of k m) ≡ Some u → cond b (eqb x.1 v) (has_entry k v m) ≡ eqb u v
+    go : (b : Bool) → (value_of k m ≡ Some u → has_entry k v m ≡ eqb u v) → cond b (Some x.1) (value_of k m) ≡ Some u
+        → cond b (eqb x.1 v) (has_entry k v m) ≡ eqb u v
     go true r g = let q : x.1 ≡ u = cc in ap (λ z. eqb z v) q
     go false r g = r g
 

@@ -55,7 +55,8 @@ list_stays s s' head g ns lh w n lg l = record {
   only = λ o lo e. l.only o lo (owned_before s s' head g lh w n o lo e);
 }
 
-pub Stands-kept : (s s' : State) (root : ℕ) (t : Tree) → Stands s root t → ((o : ℕ) → 180 ≤ o → owner s o ≡ suc root → words_at s' o ≡ words_at s o) → Stands s' root t
+pub Stands-kept : (s s' : State) (root : ℕ) (t : Tree) → Stands s root t → ((o : ℕ) → 180 ≤ o → owner s o ≡ suc root → words_at s' o ≡ words_at s o)
+    → Stands s' root t
 Stands-kept s s' root (leaf n k v) l f = (l.0, l.1, f n l.0 (ap (word 0) l.2) ∙ l.2)
 Stands-kept s s' root (inner n d a b) l f =
     (l.0, l.1, f n l.0 (ap (word 0) l.2) ∙ l.2, Stands-kept s s' root a l.3 f, Stands-kept s s' root b l.4 f)
@@ -88,7 +89,8 @@ owned_stays s s' head lh w f o lo = go (w o)
     go (inr (inr (_, _, inr z))) = omega arith
 
 -- a change within the head of a list or a bucket, after which that list stands, keeps the state lawful
-pub lawful_by_list : (s s' : State) (head : ℕ) (ns : Nodes) → head < 170 → length s' ≡ length s → IsWithin s s' head → IsLawful s → IsList s' head ns → IsLawful s'
+pub lawful_by_list : (s s' : State) (head : ℕ) (ns : Nodes) → head < 170 → length s' ≡ length s → IsWithin s s' head → IsLawful s
+    → IsList s' head ns → IsLawful s'
 lawful_by_list s s' head ns lh len w l new = record {
   some = subst (λ n. 180 < n) (sym len) l.some;
   few = subst (λ n. n ≤ 65535) (sym len) l.few;
@@ -102,7 +104,8 @@ lawful_by_list s s' head ns lh len w l new = record {
     lists g lg (inr n) = ((l.lists g lg).0, list_stays s s' head g (l.lists g lg).0 (omega arith) w n (omega arith) (l.lists g lg).1)
 
 -- a change within a root, after which its tree stands, keeps the state lawful
-pub lawful_by_tree : (s s' : State) (root : ℕ) (t : Option Tree) → 170 ≤ root → root < 180 → length s' ≡ length s → IsWithin s s' root → IsLawful s → IsTree s' root t → IsLawful s'
+pub lawful_by_tree : (s s' : State) (root : ℕ) (t : Option Tree) → 170 ≤ root → root < 180 → length s' ≡ length s → IsWithin s s' root → IsLawful s
+    → IsTree s' root t → IsLawful s'
 lawful_by_tree s s' root t lo lt len w l new = record {
   some = subst (λ n. 180 < n) (sym len) l.some;
   few = subst (λ n. n ≤ 65535) (sym len) l.few;

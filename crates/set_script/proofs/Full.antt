@@ -1,5 +1,7 @@
 -- When a command is full: how many nodes a key more or less takes.
-use Rattle.std.proofs.Common.{◌≡◌, ◌≢◌, ℕ, zero, suc, ◌+◌, ◌-◌, ◌*◌, ◌<◌, ◌≤◌, ◌⊎◌, inl, inr, Bool, true, false, cond, eqb, not, ◌&&◌, nat_lt, lt-ltb, le-ltb, eq-eqb, ne_eqb, [], ◌∷◌, length, set, sym, ap, ◌∙◌, subst, arith, get_or-set_other}
+use Rattle.std.proofs.Common.{◌≡◌, ◌≢◌, ℕ, zero, suc, ◌+◌, ◌-◌, ◌*◌, ◌<◌, ◌≤◌, ◌⊎◌, inl, inr, Bool, true}
+use Rattle.std.proofs.Common.{false, cond, eqb, not, ◌&&◌, nat_lt, lt-ltb, le-ltb, eq-eqb, ne_eqb, [], ◌∷◌, length, set, sym, ap, ◌∙◌}
+use Rattle.std.proofs.Common.{subst, arith, get_or-set_other}
 use Rattle.std.proofs.lemmas.Bool.{cases_eq, cases_lt}
 use Rattle.std.proofs.lemmas.Bool.Decides.{nat_tests}
 use Rattle.mv_history.specs.State.{State}
@@ -56,7 +58,8 @@ cost_from-set (x ∷ c) n zero m lt =
     let b : cost_of (n + 0) m ≡ cost_of n m = ap (λ (j : ℕ). cost_of j m) z in omega arith
 cost_from-set (x ∷ c) n (suc i) m lt =
     let z : n + suc i ≡ suc n + i = omega arith in
-    let r : cost_from (suc n) (set c i m) + cost_of (suc n + i) (map_of i c) ≡ cost_from (suc n) c + cost_of (suc n + i) m = cost_from-set c (suc n) i m (omega arith) in
+    let r : cost_from (suc n) (set c i m) + cost_of (suc n + i) (map_of i c) ≡ cost_from (suc n) c + cost_of (suc n + i) m =
+    cost_from-set c (suc n) i m (omega arith) in
     let a : cost_of (n + suc i) (map_of i c) ≡ cost_of (suc n + i) (map_of i c) = ap (λ (j : ℕ). cost_of j (map_of i c)) z in
     let b : cost_of (n + suc i) m ≡ cost_of (suc n + i) m = ap (λ (j : ℕ). cost_of j m) z in omega arith
 
@@ -66,31 +69,41 @@ cost-set c name m lt =
     subst (λ (i : ℕ). cost_from 0 (set c name m) + cost_of i (map_of name c) ≡ cost_from 0 c + cost_of i m) (omega arith) (cost_from-set c 0 name m lt)
 
 -- A key more.
-pub cost-with_key : (c : Maps) (name k v : ℕ) → name < length c → has_key k (map_of name c) ≡ false → cost (with_key name k v c) ≡ cost c + more_nodes name (map_of name c)
+pub cost-with_key : (c : Maps) (name k v : ℕ) → name < length c → has_key k (map_of name c) ≡ false
+    → cost (with_key name k v c) ≡ cost c + more_nodes name (map_of name c)
 cost-with_key c name k v lt out =
-    let a : cost (with_key name k v c) + cost_of name (map_of name c) ≡ cost c + cost_of name (put k v (map_of name c)) = cost-set c name (put k v (map_of name c)) lt in
-    let b : cost_of name (put k v (map_of name c)) ≡ cost_of name (map_of name c) + more_nodes name (map_of name c) = cost_of-more name (map_of name c) (put k v (map_of name c)) (length-put k v (map_of name c) out) in
+    let a : cost (with_key name k v c) + cost_of name (map_of name c) ≡ cost c + cost_of name (put k v (map_of name c)) =
+    cost-set c name (put k v (map_of name c)) lt in
+    let b : cost_of name (put k v (map_of name c)) ≡ cost_of name (map_of name c) + more_nodes name (map_of name c) =
+    cost_of-more name (map_of name c) (put k v (map_of name c)) (length-put k v (map_of name c) out) in
     omega arith
 
 -- A key less.
-pub cost-without_key : (c : Maps) (name k : ℕ) → name < length c → has_key k (map_of name c) ≡ true → cost c ≡ cost (without_key name k c) + more_nodes name (take_out k (map_of name c))
+pub cost-without_key : (c : Maps) (name k : ℕ) → name < length c → has_key k (map_of name c) ≡ true
+    → cost c ≡ cost (without_key name k c) + more_nodes name (take_out k (map_of name c))
 cost-without_key c name k lt there =
-    let a : cost (without_key name k c) + cost_of name (map_of name c) ≡ cost c + cost_of name (take_out k (map_of name c)) = cost-set c name (take_out k (map_of name c)) lt in
-    let b : cost_of name (map_of name c) ≡ cost_of name (take_out k (map_of name c)) + more_nodes name (take_out k (map_of name c)) = cost_of-more name (take_out k (map_of name c)) (map_of name c) (length-take_out k (map_of name c) there) in
+    let a : cost (without_key name k c) + cost_of name (map_of name c) ≡ cost c + cost_of name (take_out k (map_of name c)) =
+    cost-set c name (take_out k (map_of name c)) lt in
+    let b : cost_of name (map_of name c) ≡ cost_of name (take_out k (map_of name c)) + more_nodes name (take_out k (map_of name c)) =
+    cost_of-more name (take_out k (map_of name c)) (map_of name c) (length-take_out k (map_of name c) there) in
     omega arith
 
 -- An add is full where the nodes that are not used are fewer than it takes.
-pub overflows-add : (s : State) (name k : ℕ) → IsLawful s → name < 30 → has_key k (map_of name (catalogue_of s)) ≡ false → overflows (Add name k) (catalogue_of s) (capacity s) ≡ nat_lt (capacity s) (used s + more_nodes name (map_of name (catalogue_of s)))
+pub overflows-add : (s : State) (name k : ℕ) → IsLawful s → name < 30 → has_key k (map_of name (catalogue_of s)) ≡ false
+    → overflows (Add name k) (catalogue_of s) (capacity s) ≡ nat_lt (capacity s) (used s + more_nodes name (map_of name (catalogue_of s)))
 overflows-add s name k l lt out =
     let n = length-catalogue_of s in
-    ap (nat_lt (capacity s)) (cost-with_key (catalogue_of s) name k 0 (omega arith) out ∙ ap (λ (c : ℕ). c + more_nodes name (map_of name (catalogue_of s))) (cost_is s l))
+    ap (nat_lt (capacity s))
+    (cost-with_key (catalogue_of s) name k 0 (omega arith) out ∙ ap (λ (c : ℕ). c + more_nodes name (map_of name (catalogue_of s))) (cost_is s l))
 
 -- So a put of a key that is not there.
-pub overflows-put : (s : State) (name k v : ℕ) → IsLawful s → name < 30 → has_key k (map_of name (catalogue_of s)) ≡ false → overflows (Put name k v) (catalogue_of s) (capacity s) ≡ nat_lt (capacity s) (used s + more_nodes name (map_of name (catalogue_of s)))
+pub overflows-put : (s : State) (name k v : ℕ) → IsLawful s → name < 30 → has_key k (map_of name (catalogue_of s)) ≡ false
+    → overflows (Put name k v) (catalogue_of s) (capacity s) ≡ nat_lt (capacity s) (used s + more_nodes name (map_of name (catalogue_of s)))
 overflows-put s name k v l lt out =
     let n = length-catalogue_of s in
     ap (λ (b : Bool). not b && nat_lt (capacity s) (cost (with_key name k v (catalogue_of s)))) out
-    ∙ ap (nat_lt (capacity s)) (cost-with_key (catalogue_of s) name k v (omega arith) out ∙ ap (λ (c : ℕ). c + more_nodes name (map_of name (catalogue_of s))) (cost_is s l))
+    ∙ ap (nat_lt (capacity s))
+    (cost-with_key (catalogue_of s) name k v (omega arith) out ∙ ap (λ (c : ℕ). c + more_nodes name (map_of name (catalogue_of s))) (cost_is s l))
 
 -- A put of a key that is there is not.
 pub overflows-put_there : (c : Maps) (name k v capacity : ℕ) → has_key k (map_of name c) ≡ true → overflows (Put name k v) c capacity ≡ false
@@ -98,7 +111,9 @@ overflows-put_there c name k v capacity there =
     ap (λ (b : Bool). not b && nat_lt capacity (cost (with_key name k v c))) there
 
 -- A move is full where in the state after its del too few nodes are not used for its add.
-pub overflows-move : (s s' : State) (a b k : ℕ) → IsLawful s' → a < 30 → b < 30 → a ≢ b → length s' ≡ length s → catalogue_of s' ≡ without_key a k (catalogue_of s) → has_key k (map_of b (catalogue_of s)) ≡ false → overflows (Move a b k) (catalogue_of s) (capacity s) ≡ nat_lt (capacity s') (used s' + more_nodes b (map_of b (catalogue_of s')))
+pub overflows-move : (s s' : State) (a b k : ℕ) → IsLawful s' → a < 30 → b < 30 → a ≢ b → length s' ≡ length s
+    → catalogue_of s' ≡ without_key a k (catalogue_of s) → has_key k (map_of b (catalogue_of s)) ≡ false
+    → overflows (Move a b k) (catalogue_of s) (capacity s) ≡ nat_lt (capacity s') (used s' + more_nodes b (map_of b (catalogue_of s')))
 overflows-move s s' a b k l la lb ne len less out =
     let n = length-catalogue_of s' in
     let v : ℕ = value_at a k (catalogue_of s) in

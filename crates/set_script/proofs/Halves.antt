@@ -29,7 +29,8 @@ keeps_of head s s' ws lh k = record {
 }
 
 -- and a change of another head's structure does, forwards and backwards
-pub keeps_other : (g head : ℕ) (s s' : State) (ws : Writes) → head < 180 → g < 180 → g ≢ head → IsLawful s → IsLawful s' → IsWithin s s' head → KeepsOf g s s' ws
+pub keeps_other : (g head : ℕ) (s s' : State) (ws : Writes) → head < 180 → g < 180 → g ≢ head → IsLawful s → IsLawful s' → IsWithin s s' head
+    → KeepsOf g s s' ws
 keeps_other g head s s' ws lh lg ne l l' w = record {
   before = l;
   after = l';
@@ -40,7 +41,8 @@ keeps_other g head s s' ws lh lg ne l l' w = record {
 pub within_back : (s s' : State) (head : ℕ) → IsWithin s s' head → IsWithin s' s head
 within_back s s' head w o = go (w o)
   where
-    go : (words_at s' o ≡ words_at s o) ⊎ ((o ≡ head) ⊎ ((180 ≤ o) × IsOf s head o × IsOf s' head o)) → (words_at s o ≡ words_at s' o) ⊎ ((o ≡ head) ⊎ ((180 ≤ o) × IsOf s' head o × IsOf s head o))
+    go : (words_at s' o ≡ words_at s o) ⊎ ((o ≡ head) ⊎ ((180 ≤ o) × IsOf s head o × IsOf s' head o))
+        → (words_at s o ≡ words_at s' o) ⊎ ((o ≡ head) ⊎ ((180 ≤ o) × IsOf s' head o × IsOf s head o))
     go (inl e) = inl (sym e)
     go (inr (inl e)) = inr (inl e)
     go (inr (inr m)) = inr (inr (m.0, m.2, m.1))
@@ -64,7 +66,8 @@ head_free s head l lh = elim (cases_lt head 170) [
     tree (Some t) q = ap (word 0) q.first
 
 -- Two changes, of the structures of two heads, keep what each keeps.
-pub keeps_join : (s s1 s2 : State) (h g : ℕ) (ds es ws : Writes) → h < 180 → g < 180 → g ≢ h → IsWithin s s1 h → IsWithin s1 s2 g → Keeps s s1 ds → Keeps s1 s2 es → ((o : ℕ) → touches ws o ≡ false → touches ds o ≡ false) → ((o : ℕ) → touches ws o ≡ false → touches es o ≡ false) → Keeps s s2 ws
+pub keeps_join : (s s1 s2 : State) (h g : ℕ) (ds es ws : Writes) → h < 180 → g < 180 → g ≢ h → IsWithin s s1 h → IsWithin s1 s2 g → Keeps s s1 ds
+    → Keeps s1 s2 es → ((o : ℕ) → touches ws o ≡ false → touches ds o ≡ false) → ((o : ℕ) → touches ws o ≡ false → touches es o ≡ false) → Keeps s s2 ws
 keeps_join s s1 s2 h g ds es ws lh lg ne w1 w2 k1 k2 i1 i2 = record {
   lawful_before = k1.lawful_before;
   lawful_after = k2.lawful_after;
@@ -84,7 +87,8 @@ keeps_join s s1 s2 h g ds es ws lh lg ne w1 w2 k1 k2 i1 i2 = record {
     gone o z e (inr (inr (_, _, inl y))) = omega arith
     gone o z e (inr (inr (_, _, inr y))) = ne (let f : suc g ≡ suc h = sym y ∙ e in omega arith)
 
-    keys : (o : ℕ) → owner s o ≢ 0 → owner s2 o ≡ owner s o → (words_at s1 o ≡ words_at s o) ⊎ ((o ≡ h) ⊎ ((180 ≤ o) × IsOf s h o × IsOf s1 h o)) → (kind s2 o ≡ kind s o) × (key s2 o ≡ key s o)
+    keys : (o : ℕ) → owner s o ≢ 0 → owner s2 o ≡ owner s o → (words_at s1 o ≡ words_at s o) ⊎ ((o ≡ h) ⊎ ((180 ≤ o) × IsOf s h o × IsOf s1 h o))
+        → (kind s2 o ≡ kind s o) × (key s2 o ≡ key s o)
     keys o some same (inl q) = join o some same (ap (word 0) q)
     keys o some same (inr (inl q)) = absurd (some (ap (owner s) q ∙ head_free s h k1.lawful_before lh))
     keys o some same (inr (inr (_, inl y, _))) = absurd (some y)

@@ -95,7 +95,8 @@ one_head g head k lh fit f e = go (cases_lt head 10)
               let d : k % 16 ≡ (head - 10) % 16 = fit.1 ge in omega arith)
         ]
 
-pub home_is : (s : State) (head o : ℕ) → IsLawful s → head < 170 → FitsHead head (key s o) → 180 ≤ o → is_key_of (name_of head) (words_at s o) ≡ true → owner s o ≡ suc head
+pub home_is : (s : State) (head o : ℕ) → IsLawful s → head < 170 → FitsHead head (key s o) → 180 ≤ o → is_key_of (name_of head) (words_at s o) ≡ true
+    → owner s o ≡ suc head
 home_is s head o l lh fit lo e =
     let u = home s (name_of head) o l lo e in
     let same : u.0 ≡ head = one_head u.0 head (key s o) lh fit (λ lt. owned_fits s u.0 o l lt lo u.1.own) u.1.named in u.1.own ∙ ap suc same

@@ -28,7 +28,8 @@ above_each k (key ∷ keys) (value ∷ values) n above zero lt = above.0
 above_each k (key ∷ keys) (value ∷ values) n above (suc j) lt = above_each k keys values (omega arith) above.1 j (omega arith)
 
 -- the keys of a map rise
-keys_rise : (keys values : List ℕ) → length values ≡ length keys → IsMap (zip keys values) → (i j : ℕ) → i < j → j < length keys → get_or keys i 0 < get_or keys j 0
+keys_rise : (keys values : List ℕ) → length values ≡ length keys → IsMap (zip keys values) → (i j : ℕ) → i < j → j < length keys
+    → get_or keys i 0 < get_or keys j 0
 keys_rise [] values n m i j lt in_range = absurd (omega arith)
 keys_rise (key ∷ keys) [] n m i j lt in_range = absurd (omega arith)
 keys_rise (key ∷ keys) (value ∷ values) n m i zero lt in_range = absurd (omega arith)
@@ -60,17 +61,24 @@ place_rest : (k : ℕ) (keys : List ℕ) (key at : ℕ) → IsPlace (k ∷ keys)
 place_rest k keys key at place = record { within = omega (arith, place.within); here = place.here; below = λ j lt. place.below (suc j) (omega arith) }
 
 gap_rest : (k : ℕ) (keys : List ℕ) (key at : ℕ) → IsGap (k ∷ keys) key (suc at) → IsGap keys key at
-gap_rest k keys key at gap = record { within = omega (arith, gap.within); below = λ j lt. gap.below (suc j) (omega arith); above = λ j le lt. gap.above (suc j) (omega arith) (omega arith) }
+gap_rest k keys key at gap =
+    record {
+      within = omega (arith, gap.within);
+      below = λ j lt. gap.below (suc j) (omega arith);
+      above = λ j le lt. gap.above (suc j) (omega arith) (omega arith);
+    }
 
 -- a key at its place is there
 pub has_at_place : (keys values : List ℕ) (key at : ℕ) → length values ≡ length keys → IsPlace keys key at → has_key key (zip keys values) ≡ true
 has_at_place [] values key at n place = absurd (omega (arith, place.within))
 has_at_place (k ∷ keys) [] key at n place = absurd (omega arith)
 has_at_place (k ∷ keys) (v ∷ values) key zero n place = grind (arith, nat_tests, place.here)
-has_at_place (k ∷ keys) (v ∷ values) key (suc at) n place = grind (arith, nat_tests, place.below 0 (omega arith), has_at_place keys values key at (omega arith) (place_rest k keys key at place))
+has_at_place (k ∷ keys) (v ∷ values) key (suc at) n place =
+    grind (arith, nat_tests, place.below 0 (omega arith), has_at_place keys values key at (omega arith) (place_rest k keys key at place))
 
 -- to put a key that is there writes its value
-pub put_at_place : (keys values : List ℕ) (key value at : ℕ) → length values ≡ length keys → IsPlace keys key at → put key value (zip keys values) ≡ zip keys (set values at value)
+pub put_at_place : (keys values : List ℕ) (key value at : ℕ) → length values ≡ length keys → IsPlace keys key at
+    → put key value (zip keys values) ≡ zip keys (set values at value)
 put_at_place [] values key value at n place = absurd (omega (arith, place.within))
 put_at_place (k ∷ keys) [] key value at n place = absurd (omega arith)
 put_at_place (k ∷ keys) (v ∷ values) key value zero n place = grind (arith, nat_tests, place.here)
@@ -78,7 +86,8 @@ put_at_place (k ∷ keys) (v ∷ values) key value (suc at) n place =
     grind (arith, nat_tests, place.below 0 (omega arith), put_at_place keys values key value at (omega arith) (place_rest k keys key at place))
 
 -- to take out a key that is there takes it and its value out
-pub take_out_at_place : (keys values : List ℕ) (key at : ℕ) → length values ≡ length keys → IsPlace keys key at → take_out key (zip keys values) ≡ zip (remove keys at) (remove values at)
+pub take_out_at_place : (keys values : List ℕ) (key at : ℕ) → length values ≡ length keys → IsPlace keys key at
+    → take_out key (zip keys values) ≡ zip (remove keys at) (remove values at)
 take_out_at_place [] values key at n place = absurd (omega (arith, place.within))
 take_out_at_place (k ∷ keys) [] key at n place = absurd (omega arith)
 take_out_at_place (k ∷ keys) (v ∷ values) key zero n place = grind (arith, nat_tests, place.here)
@@ -90,11 +99,19 @@ pub not_in_gap : (keys values : List ℕ) (key at : ℕ) → length values ≡ l
 not_in_gap [] values key at n gap = refl
 not_in_gap (k ∷ keys) [] key at n gap = absurd (omega arith)
 not_in_gap (k ∷ keys) (v ∷ values) key zero n gap =
-    grind (arith, nat_tests, gap.above 0 (omega arith) (omega arith), not_in_gap keys values key zero (omega arith) (record { within = omega arith; below = λ j lt. absurd (omega arith); above = λ j le lt. gap.above (suc j) (omega arith) (omega arith) }))
-not_in_gap (k ∷ keys) (v ∷ values) key (suc at) n gap = grind (arith, nat_tests, gap.below 0 (omega arith), not_in_gap keys values key at (omega arith) (gap_rest k keys key at gap))
+    grind (
+      arith,
+      nat_tests,
+      gap.above 0 (omega arith) (omega arith),
+      not_in_gap keys values key zero (omega arith)
+          (record { within = omega arith; below = λ j lt. absurd (omega arith); above = λ j le lt. gap.above (suc j) (omega arith) (omega arith) }),
+    )
+not_in_gap (k ∷ keys) (v ∷ values) key (suc at) n gap =
+    grind (arith, nat_tests, gap.below 0 (omega arith), not_in_gap keys values key at (omega arith) (gap_rest k keys key at gap))
 
 -- to put a key that is not there puts it and its value into its gap
-pub put_in_gap : (keys values : List ℕ) (key value at : ℕ) → length values ≡ length keys → IsGap keys key at → put key value (zip keys values) ≡ zip (insert keys at key) (insert values at value)
+pub put_in_gap : (keys values : List ℕ) (key value at : ℕ) → length values ≡ length keys → IsGap keys key at
+    → put key value (zip keys values) ≡ zip (insert keys at key) (insert values at value)
 put_in_gap [] [] key value zero n gap = refl
 put_in_gap [] [] key value (suc at) n gap = absurd (omega (arith, gap.within))
 put_in_gap [] (v ∷ values) key value at n gap = absurd (omega arith)
@@ -111,7 +128,8 @@ take_out_absent key (e ∷ m) absent = grind (arith, nat_tests, take_out_absent 
 module _ (keys values : List ℕ) (in_step : InStep keys values) (key at : ℕ) where
   -- they stay in step where the value of a key is written
   pub in_step_after_set : (value : ℕ) → IsPlace keys key at → InStep keys (set values at value)
-  in_step_after_set value place = (length-set values at value ∙ in_step.0, subst IsMap (put_at_place keys values key value at in_step.0 place) (put_is_map key value _ in_step.1))
+  in_step_after_set value place =
+      (length-set values at value ∙ in_step.0, subst IsMap (put_at_place keys values key value at in_step.0 place) (put_is_map key value _ in_step.1))
 
   -- where a key goes into its gap
   pub in_step_after_insert : (value : ℕ) → IsGap keys key at → InStep (insert keys at key) (insert values at value)

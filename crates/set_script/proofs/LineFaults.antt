@@ -7,7 +7,8 @@ use Rattle.set_script.specs.declared.commands.FaultKind.{FaultKind}
 use Rattle.set_script.specs.declared.commands.FaultKind.TheVariants as faults
 use Rattle.set_script.specs.declared.script.line.Verb.{Verb}
 use Rattle.set_script.specs.declared.script.line.Verb.TheVariants.{Add, Put, Del, Has, Get, Move, Pair, Size, Next}
-use Rattle.set_script.specs.Grammar.{◌>>=◌, command_with, one_of, two_of, three_of, set_of, set_key_of, set_key_value_of, sets_key_of, move_of, name_of, letter_of, is_numeral, key_of, value_of}
+use Rattle.set_script.specs.Grammar.{◌>>=◌, command_with, one_of, two_of, three_of, set_of, set_key_of, set_key_value_of, sets_key_of, move_of}
+use Rattle.set_script.specs.Grammar.{name_of, letter_of, is_numeral, key_of, value_of}
 
 -- a fault that a line has by itself
 abbrev pub IsOfLine : FaultKind → Type 0
@@ -18,7 +19,8 @@ abbrev FailsInLine : {A : Type 0} → Result A FaultKind → Type 0
 FailsInLine reading = IfErr reading IsOfLine
 
 -- one reading after another, and a test
-then : {A B : Type 0} (reading : Result A FaultKind) (f : A → Result B FaultKind) → FailsInLine reading → ((x : A) → FailsInLine (f x)) → FailsInLine (reading >>= f)
+then : {A B : Type 0} (reading : Result A FaultKind) (f : A → Result B FaultKind) → FailsInLine reading → ((x : A) → FailsInLine (f x))
+    → FailsInLine (reading >>= f)
 then (Ok x) f first more = more x
 then (Err kind) f first more = first
 
@@ -70,7 +72,9 @@ letters false false false = name
 named : (word : List ℕ) → FailsInLine (name_of word)
 named [] = name
 named (a ∷ []) = name
-named (a ∷ b ∷ []) = then (letter_of a) (λ first. cond (is_ascii_digit b) (Ok (first + (b - 48))) (Err faults.Name)) (letters (a == 108) (a == 104) (a == 116)) (λ first. either (is_ascii_digit b) (first + (b - 48)) faults.Name name)
+named (a ∷ b ∷ []) =
+    then (letter_of a) (λ first. cond (is_ascii_digit b) (Ok (first + (b - 48))) (Err faults.Name)) (letters (a == 108) (a == 104) (a == 116))
+    (λ first. either (is_ascii_digit b) (first + (b - 48)) faults.Name name)
 named (a ∷ b ∷ c ∷ word) = name
 
 keyed : (word : List ℕ) → FailsInLine (key_of word)
@@ -86,10 +90,14 @@ set_key : (words : List (List ℕ)) → FailsInLine (set_key_of words)
 set_key words = then (two_of words) _ (two words) (λ w. then (name_of w.0) _ (named w.0) (λ n. then (key_of w.1) _ (keyed w.1) (λ k. tt)))
 
 set_key_value : (words : List (List ℕ)) → FailsInLine (set_key_value_of words)
-set_key_value words = then (three_of words) _ (three words) (λ w. then (name_of w.0) _ (named w.0) (λ n. then (key_of w.1) _ (keyed w.1) (λ k. then (value_of w.2) _ (valued w.2) (λ v. tt))))
+set_key_value words =
+    then (three_of words) _ (three words)
+    (λ w. then (name_of w.0) _ (named w.0) (λ n. then (key_of w.1) _ (keyed w.1) (λ k. then (value_of w.2) _ (valued w.2) (λ v. tt))))
 
 sets_key : (words : List (List ℕ)) → FailsInLine (sets_key_of words)
-sets_key words = then (three_of words) _ (three words) (λ w. then (name_of w.0) _ (named w.0) (λ n. then (name_of w.1) _ (named w.1) (λ m. then (key_of w.2) _ (keyed w.2) (λ k. tt))))
+sets_key words =
+    then (three_of words) _ (three words)
+    (λ w. then (name_of w.0) _ (named w.0) (λ n. then (name_of w.1) _ (named w.1) (λ m. then (key_of w.2) _ (keyed w.2) (λ k. tt))))
 
 moved : (m : ℕ × ℕ × ℕ) → FailsInLine (move_of m)
 moved m = cases (m.0 == m.1)

@@ -1,5 +1,7 @@
 -- A command is read back from its line.
-use Rattle.std.proofs.Common.{◌≡◌, ℕ, ◌+◌, ◌-◌, ◌%◌, ◌≤◌, ◌<◌, ◌^◌, ◌==◌, nat_le, nat_lt, Bool, true, false, cond, List, [], ◌∷◌, ◌++◌, length, get_or, take, None, Some, Ok, codes, decimal, inl, inr, refl, ap, sym, ◌∙◌, subst, arith}
+use Rattle.std.proofs.Common.{◌≡◌, ℕ, ◌+◌, ◌-◌, ◌%◌, ◌≤◌, ◌<◌, ◌^◌, ◌==◌, nat_le, nat_lt, Bool, true, false}
+use Rattle.std.proofs.Common.{cond, List, [], ◌∷◌, ◌++◌, length, get_or, take, None, Some, Ok, codes, decimal, inl, inr, refl, ap, sym}
+use Rattle.std.proofs.Common.{◌∙◌, subst, arith}
 use Rattle.std.specs.Char.{is_ascii_digit}
 use Rattle.std.specs.List.{All, AllByRecursion, slice_split, list_all, filter, take_while}
 use Rattle.std.specs.Result.{result_unwrap_or}
@@ -13,7 +15,8 @@ use Rattle.std.proofs.lemmas.List.Splits.{slice_split_none, slice_split_at}
 use Rattle.std.proofs.lemmas.List.Sums.{AllPass-from_list_all, take_while-cons}
 use Rattle.set_script.specs.declared.commands.Command.{Command}
 use Rattle.set_script.specs.declared.commands.Command.TheVariants.{Add, Put, Del, Has, Get, Move, Pair, Size, Next}
-use Rattle.set_script.specs.Grammar.{◌>>=◌, is_blank, is_word, is_plain, words_in, words_of, name_of, key_of, value_of, command_of, line_read, is_format_word, format_of, first_read, first_format, reading_in, format_after}
+use Rattle.set_script.specs.Grammar.{◌>>=◌, is_blank, is_word, is_plain, words_in, words_of, name_of, key_of, value_of, command_of, line_read}
+use Rattle.set_script.specs.Grammar.{is_format_word, format_of, first_read, first_format, reading_in, format_after}
 use Rattle.set_script.specs.GrammarLaws.{name_text, spaced, line_text, MaySay}
 use Rattle.set_script.proofs.Numerals.{own}
 
@@ -71,7 +74,8 @@ spaced_words word words first rest =
 digits_plain : (bytes : List ℕ) → 0 < length bytes → list_all is_ascii_digit bytes ≡ true → IsPlain bytes
 digits_plain [] some digits = absurd (omega arith)
 digits_plain (b ∷ bytes) some digits = record {
-  visible = All-weaker (λ b. is_ascii_digit b ≡ true) (λ b. 33 ≤ b) (λ b h. grind (arith, nat_tests)) (b ∷ bytes) (AllPass-from_list_all is_ascii_digit (b ∷ bytes) digits);
+  visible = All-weaker (λ b. is_ascii_digit b ≡ true) (λ b. 33 ≤ b) (λ b h. grind (arith, nat_tests)) (b ∷ bytes)
+      (AllPass-from_list_all is_ascii_digit (b ∷ bytes) digits);
   word_is = refl;
   plain = grind (arith, nat_tests);
 }
@@ -88,7 +92,8 @@ module _ (key : ℕ) (fits : key < 2 ^ 32) where
   key_back =
       let value : digits_value 10 (decimal key) ≡ key = digits_value-decimal own key (omega arith) in
       let some : nat_le 1 (length (decimal key)) ≡ true = let h = decimal_nonempty key (omega arith) in grind (arith, nat_tests) in
-      let short : nat_le (length (decimal key)) 10 ≡ true = let h = length-decimal-le 10 key (omega arith) (omega arith) (omega arith) in grind (arith, nat_tests) in
+      let short : nat_le (length (decimal key)) 10 ≡ true =
+      let h = length-decimal-le 10 key (omega arith) (omega arith) (omega arith) in grind (arith, nat_tests) in
       let low : nat_le key 4294967295 ≡ true = grind (arith, nat_tests) in
       rw (some, short, key_digits, value, low) refl
 
@@ -104,7 +109,8 @@ module _ (value : ℕ) (fits : value < 2 ^ 64) where
   value_back =
       let number : digits_value 10 (decimal value) ≡ value = digits_value-decimal own value (omega arith) in
       let some : nat_le 1 (length (decimal value)) ≡ true = let h = decimal_nonempty value (omega arith) in grind (arith, nat_tests) in
-      let short : nat_le (length (decimal value)) 20 ≡ true = let h = length-decimal-le 20 value (omega arith) (omega arith) (omega arith) in grind (arith, nat_tests) in
+      let short : nat_le (length (decimal value)) 20 ≡ true =
+      let h = length-decimal-le 20 value (omega arith) (omega arith) (omega arith) in grind (arith, nat_tests) in
       let low : nat_le value 18446744073709551615 ≡ true = grind (arith, nat_tests) in
       rw (some, short, value_digits, number, low) refl
 
@@ -129,7 +135,8 @@ module _ (name : ℕ) where
 
   name_plain : IsPlain (name_text name)
   name_plain = subst IsPlain (sym (name_text-is name)) (record {
-    visible = All-cons (λ b. 33 ≤ b) (name_letter name) ((48 + name % 10) ∷ []) letter_visible (All-cons (λ b. 33 ≤ b) (48 + name % 10) [] (omega arith) (All-nil (λ b. 33 ≤ b)));
+    visible = All-cons (λ b. 33 ≤ b) (name_letter name) ((48 + name % 10) ∷ []) letter_visible
+        (All-cons (λ b. 33 ≤ b) (48 + name % 10) [] (omega arith) (All-nil (λ b. 33 ≤ b)));
     word_is = refl;
     plain = rw letter_plain refl;
   })
@@ -184,26 +191,31 @@ pub record LineOf (format : ℕ) (command : Command) : Type 0 where
   pub rest : AllByRecursion IsPlain words
   pub back : command_of format (word ∷ words) ≡ Ok (Some command)
 
-line : (format : ℕ) (command : Command) (word : List ℕ) (words : List (List ℕ)) → line_text command ≡ spaced word words → IsVerb word → AllByRecursion IsPlain words → command_of format (word ∷ words) ≡ Ok (Some command) → LineOf format command
+line : (format : ℕ) (command : Command) (word : List ℕ) (words : List (List ℕ)) → line_text command ≡ spaced word words → IsVerb word
+    → AllByRecursion IsPlain words → command_of format (word ∷ words) ≡ Ok (Some command) → LineOf format command
 line format command word words text first rest back = record { word = word; words = words; text = text; first = first; rest = rest; back = back }
 
 pub line_of : (format : ℕ) (command : Command) → MaySay format command → LineOf format command
 unfolding command_of
 line_of format (Add name key) ok =
-    line format (Add name key) (codes "add") (name_text name ∷ decimal key ∷ []) refl (verb (codes "add") refl refl refl refl) (name_plain name, (key_plain key ok.0.1, tt))
+    line format (Add name key) (codes "add") (name_text name ∷ decimal key ∷ []) refl (verb (codes "add") refl refl refl refl)
+    (name_plain name, (key_plain key ok.0.1, tt))
     (rw (name_back name ok.0.0, key_back key ok.0.1) refl)
 line_of format (Put name key value) ok =
     line format (Put name key value) (codes "put") (name_text name ∷ decimal key ∷ decimal value ∷ []) refl (verb (codes "put") refl refl refl refl)
     (name_plain name, (key_plain key ok.0.1, (value_plain value ok.0.2, tt)))
     (rw (ok.1, name_back name ok.0.0, key_back key ok.0.1, value_back value ok.0.2) refl)
 line_of format (Del name key) ok =
-    line format (Del name key) (codes "del") (name_text name ∷ decimal key ∷ []) refl (verb (codes "del") refl refl refl refl) (name_plain name, (key_plain key ok.0.1, tt))
+    line format (Del name key) (codes "del") (name_text name ∷ decimal key ∷ []) refl (verb (codes "del") refl refl refl refl)
+    (name_plain name, (key_plain key ok.0.1, tt))
     (rw (name_back name ok.0.0, key_back key ok.0.1) refl)
 line_of format (Has name key) ok =
-    line format (Has name key) (codes "has") (name_text name ∷ decimal key ∷ []) refl (verb (codes "has") refl refl refl refl) (name_plain name, (key_plain key ok.0.1, tt))
+    line format (Has name key) (codes "has") (name_text name ∷ decimal key ∷ []) refl (verb (codes "has") refl refl refl refl)
+    (name_plain name, (key_plain key ok.0.1, tt))
     (rw (name_back name ok.0.0, key_back key ok.0.1) refl)
 line_of format (Get name key) ok =
-    line format (Get name key) (codes "get") (name_text name ∷ decimal key ∷ []) refl (verb (codes "get") refl refl refl refl) (name_plain name, (key_plain key ok.0.1, tt))
+    line format (Get name key) (codes "get") (name_text name ∷ decimal key ∷ []) refl (verb (codes "get") refl refl refl refl)
+    (name_plain name, (key_plain key ok.0.1, tt))
     (rw (ok.1, name_back name ok.0.0, key_back key ok.0.1) refl)
 line_of format (Move source target key) ok =
     let other : (source == target) ≡ false = let h = ok.1 in grind (arith, nat_tests) in
@@ -218,7 +230,8 @@ line_of format (Size name) ok =
     line format (Size name) (codes "size") (name_text name ∷ []) refl (verb (codes "size") refl refl refl refl) (name_plain name, tt)
     (rw (name_back name ok.0) refl)
 line_of format (Next name key) ok =
-    line format (Next name key) (codes "next") (name_text name ∷ decimal key ∷ []) refl (verb (codes "next") refl refl refl refl) (name_plain name, (key_plain key ok.0.1, tt))
+    line format (Next name key) (codes "next") (name_text name ∷ decimal key ∷ []) refl (verb (codes "next") refl refl refl refl)
+    (name_plain name, (key_plain key ok.0.1, tt))
     (rw (name_back name ok.0.0, key_back key ok.0.1) refl)
 
 -- the line's words
@@ -237,7 +250,8 @@ module _ (command : Command) (ok : MaySay 1 command) where
   pub first_back : reading_in None (line_text command) ≡ Ok (Some command)
   first_back =
       let l = line_of 1 command ok in
-      ap first_read (told_words 1 command l) ∙ ap (λ b. cond b (format_of l.words >>= λ format. Ok None) (command_of 1 (l.word ∷ l.words))) l.first.other ∙ l.back
+      ap first_read (told_words 1 command l) ∙ ap (λ b. cond b (format_of l.words >>= λ format. Ok None) (command_of 1 (l.word ∷ l.words))) l.first.other
+      ∙ l.back
 
   pub first_plain : format_after None (line_text command) ≡ Some 1
   first_plain =

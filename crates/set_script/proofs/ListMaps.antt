@@ -1,5 +1,6 @@
 -- The map of a list or a bucket: the keys of its nodes, with their values, in their order.
-use Rattle.std.proofs.Common.{◌≡◌, ℕ, suc, ◌+◌, ◌-◌, ◌<◌, ◌≤◌, inl, inr, Bool, true, false, cond, eqb, eqb-true, [], ◌∷◌, refl, sym, ap, ◌∙◌, subst, arith, Option, Some, None, get_or-drop, length-drop}
+use Rattle.std.proofs.Common.{◌≡◌, ℕ, suc, ◌+◌, ◌-◌, ◌<◌, ◌≤◌, inl, inr, Bool, true, false, cond, eqb, eqb-true, []}
+use Rattle.std.proofs.Common.{◌∷◌, refl, sym, ap, ◌∙◌, subst, arith, Option, Some, None, get_or-drop, length-drop}
 use Rattle.mv_history.specs.State.{State}
 use Rattle.mv_history.specs.Meaning.{words_at}
 use Rattle.set_script.specs.Catalogue.{IsAboveKey, IsMap, has_key, value_of}
@@ -60,7 +61,8 @@ pub IsMap-entries : (ns : Nodes) → IsRising ns → IsMap (entries_of ns)
 IsMap-entries [] r = tt
 IsMap-entries (n ∷ ns) r = (IsAboveKey-entries n.key ns r.0, IsMap-entries ns r.1)
 
-pub entry_value : (s : State) (head : ℕ) (ns : Nodes) → Links s head ns → IsRising ns → (o : ℕ) → IsAmong o ns → value_of (key s o) (entries_of ns) ≡ Some (value s o)
+pub entry_value : (s : State) (head : ℕ) (ns : Nodes) → Links s head ns → IsRising ns → (o : ℕ) → IsAmong o ns
+    → value_of (key s o) (entries_of ns) ≡ Some (value s o)
 entry_value s head [] l r o i = absurd i
 entry_value s head (n ∷ ns) l r o (inl e) =
     let k : key s o ≡ n.key = ap (key s) e ∙ ap (word 2) l.2 in
@@ -74,7 +76,8 @@ entry_node : (s : State) (head : ℕ) (ns : Nodes) → Links s head ns → (k v 
 entry_node s head [] l k v e = absurd (cc)
 entry_node s head (n ∷ ns) l k v e = go (eqb n.key k) refl (entry_node s head ns l.3 k v) e
   where
-    go : (b : Bool) → eqb n.key k ≡ b → (value_of k (entries_of ns) ≡ Some v → HoldsAt s head k) → cond b (Some n.value) (value_of k (entries_of ns)) ≡ Some v → HoldsAt s head k
+    go : (b : Bool) → eqb n.key k ≡ b → (value_of k (entries_of ns) ≡ Some v → HoldsAt s head k) → cond b (Some n.value) (value_of k (entries_of ns)) ≡ Some v
+        → HoldsAt s head k
     go false q r f = r f
     go true q r f =
         let z : word 1 (words_at s n.object) ≡ 0 = ap (word 1) l.2 in
@@ -83,7 +86,8 @@ entry_node s head (n ∷ ns) l k v e = go (eqb n.key k) refl (entry_node s head 
 -- The map of a list or a bucket has the keys of its nodes, with their values.
 pub map_at-list : (s : State) (head : ℕ) (ns : Nodes) → IsList s head ns → map_at s head ≡ entries_of ns
 map_at-list s head ns q =
-    same_maps (map_at s head) (entries_of ns) (IsMap-map_among (is_key_at head) _) (IsMap-entries ns q.rising) (λ k. by_value k (value_of k (map_at s head)) refl)
+    same_maps (map_at s head) (entries_of ns) (IsMap-map_among (is_key_at head) _) (IsMap-entries ns q.rising)
+    (λ k. by_value k (value_of k (map_at s head)) refl)
   where
     none : (k : ℕ) → (r : Option ℕ) → value_of k (entries_of ns) ≡ r → has_key k (map_at s head) ≡ false → None ≡ r
     none k None e h = refl
@@ -115,13 +119,15 @@ list_key_once s head (n ∷ ns) l r o u (inr i) (inl b) e =
     let is : key s u ≡ n.key = ap (key s) b ∙ ap (word 2) l.2 in
     let up : n.key < key s o = above_key s head n.key ns l.3 r.0 o i in absurd (omega arith)
 
-pub owned_key_once : (s : State) (head : ℕ) → IsLawful s → head < 170 → (o u : ℕ) → 180 ≤ o → 180 ≤ u → owner s o ≡ suc head → owner s u ≡ suc head → key s o ≡ key s u → o ≡ u
+pub owned_key_once : (s : State) (head : ℕ) → IsLawful s → head < 170 → (o u : ℕ) → 180 ≤ o → 180 ≤ u → owner s o ≡ suc head → owner s u ≡ suc head
+    → key s o ≡ key s u → o ≡ u
 owned_key_once s head l lh o u lo lu a b e =
     let m = l.lists head lh in
     list_key_once s head m.0 m.1.links m.1.rising o u (only_among s head m.0 m.1 o lo a) (only_among s head m.0 m.1 u lu b) e
 
 -- a key of the name of a list or of buckets is that of one node
-pub key_once : (s : State) (name : ℕ) → IsLawful s → name < 20 → (o u : ℕ) → 180 ≤ o → 180 ≤ u → is_key_of name (words_at s o) ≡ true → is_key_of name (words_at s u) ≡ true → key s o ≡ key s u → o ≡ u
+pub key_once : (s : State) (name : ℕ) → IsLawful s → name < 20 → (o u : ℕ) → 180 ≤ o → 180 ≤ u → is_key_of name (words_at s o) ≡ true
+    → is_key_of name (words_at s u) ≡ true → key s o ≡ key s u → o ≡ u
 key_once s name l low o u lo lu a b e =
     let h = home s name o l lo a in
     let lh : h.0 < 170 = head_low h.0 (subst (λ (n : ℕ). n < 20) (sym h.1.named) low) in

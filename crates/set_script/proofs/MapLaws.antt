@@ -54,8 +54,10 @@ module _ (c : Maps) (name : ℕ) (lawful : IsCatalogue c) (within : name < 30) (
   fits : FitsTypes before
   fits = subst FitsTypes (sym read) (lawful.fits name before in_range)
 
-  pub inserted_is_catalogue : (value : ℕ) (after : Map) (result : Result Bool AllocError) → key < 2 ^ 32 → value < 2 ^ 64 → OnOk result (after ≡ put key value before) → OnErr result (after ≡ before) → IsCatalogue (set c name after)
-  inserted_is_catalogue value after (Ok added) key_fits value_fits ok err = rw ok (set_is_catalogue c name _ lawful (put_is_map key value before is_map) (put_fits key value before key_fits value_fits fits))
+  pub inserted_is_catalogue : (value : ℕ) (after : Map) (result : Result Bool AllocError) → key < 2 ^ 32 → value < 2 ^ 64
+      → OnOk result (after ≡ put key value before) → OnErr result (after ≡ before) → IsCatalogue (set c name after)
+  inserted_is_catalogue value after (Ok added) key_fits value_fits ok err =
+      rw ok (set_is_catalogue c name _ lawful (put_is_map key value before is_map) (put_fits key value before key_fits value_fits fits))
   inserted_is_catalogue value after (Err error) key_fits value_fits ok err = rw err (set_is_catalogue c name _ lawful is_map fits)
 
   pub removed_is_catalogue : IsCatalogue (set c name (take_out key before))

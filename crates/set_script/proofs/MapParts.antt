@@ -70,7 +70,8 @@ pub value_of-before : (k v : ℕ) (m n : Map) → value_of k m ≡ Some v → va
 value_of-before k v [] n e = absurd (cc)
 value_of-before k v (x ∷ m) n e = go (eqb x.0 k) (value_of-before k v m n) e
   where
-    go : (b : Bool) → (value_of k m ≡ Some v → value_of k (m ++ n) ≡ Some v) → cond b (Some x.1) (value_of k m) ≡ Some v → cond b (Some x.1) (value_of k (m ++ n)) ≡ Some v
+    go : (b : Bool) → (value_of k m ≡ Some v → value_of k (m ++ n) ≡ Some v) → cond b (Some x.1) (value_of k m) ≡ Some v
+        → cond b (Some x.1) (value_of k (m ++ n)) ≡ Some v
     go true r f = f
     go false r f = r f
 
@@ -78,7 +79,8 @@ pub value_of-either : (k v : ℕ) (m n : Map) → value_of k (m ++ n) ≡ Some v
 value_of-either k v [] n e = inr e
 value_of-either k v (x ∷ m) n e = go (eqb x.0 k) (value_of-either k v m n) e
   where
-    go : (b : Bool) → (value_of k (m ++ n) ≡ Some v → (value_of k m ≡ Some v) ⊎ (value_of k n ≡ Some v)) → cond b (Some x.1) (value_of k (m ++ n)) ≡ Some v → (cond b (Some x.1) (value_of k m) ≡ Some v) ⊎ (value_of k n ≡ Some v)
+    go : (b : Bool) → (value_of k (m ++ n) ≡ Some v → (value_of k m ≡ Some v) ⊎ (value_of k n ≡ Some v)) → cond b (Some x.1) (value_of k (m ++ n)) ≡ Some v
+        → (cond b (Some x.1) (value_of k m) ≡ Some v) ⊎ (value_of k n ≡ Some v)
     go true r f = inl f
     go false r f = r f
 

@@ -1,5 +1,6 @@
 -- The map of a name is that of its head, where it has one, and has the keys of sixteen buckets, where it has those.
-use Rattle.std.proofs.Common.{◌≡◌, ℕ, suc, ◌+◌, ◌-◌, ◌<◌, ◌≤◌, ◌⊎◌, inl, inr, Bool, true, false, cond, List, [], ◌∷◌, drop, refl, sym, ap, ◌∙◌, subst, arith, Option, Some, None, get_or-drop}
+use Rattle.std.proofs.Common.{◌≡◌, ℕ, suc, ◌+◌, ◌-◌, ◌<◌, ◌≤◌, ◌⊎◌, inl, inr, Bool, true, false, cond, List, []}
+use Rattle.std.proofs.Common.{◌∷◌, drop, refl, sym, ap, ◌∙◌, subst, arith, Option, Some, None, get_or-drop}
 use Rattle.std.proofs.lemmas.Bool.{cases_lt}
 use Rattle.mv_history.specs.State.{State}
 use Rattle.mv_history.specs.Meaning.{words_at}
@@ -24,7 +25,8 @@ pub map_among-agree : (t u : List ℕ → Bool) (s : State) → ((w : List ℕ) 
 unfolding map_among
 map_among-agree t u [] f = refl
 map_among-agree t u (w ∷ s) f =
-    ap (λ (b : Bool). cond b (put (word 2 w) (word 5 w) (map_among t s)) (map_among t s)) (f w) ∙ ap (λ m. cond (u w) (put (word 2 w) (word 5 w) m) m) (map_among-agree t u s f)
+    ap (λ (b : Bool). cond b (put (word 2 w) (word 5 w) (map_among t s)) (map_among t s)) (f w)
+    ∙ ap (λ m. cond (u w) (put (word 2 w) (word 5 w) m) m) (map_among-agree t u s f)
 
 -- a name of one head
 alone : (g head : ℕ) → (head < 10) ⊎ (170 ≤ head) → name_of g ≡ name_of head → g ≡ head
@@ -61,16 +63,19 @@ map_in-value s head k l lh fit = go (value_of k (map_in s (name_of head))) refl
         let u = map_among-value (is_key_of (name_of head)) _ k v e in
         let f : words_at s (180 + u.0) ≡ _ = sym (get_or-drop 180 s u.0 []) in
         let ky : key s (180 + u.0) ≡ k = ap (word 2) f ∙ u.2 in
-        let own : owner s (180 + u.0) ≡ suc head = home_is s head (180 + u.0) l lh (subst (λ (j : ℕ). FitsHead head j) (sym ky) fit) (omega arith) (ap (is_key_of (name_of head)) f ∙ u.1) in
+        let own : owner s (180 + u.0) ≡ suc head =
+        home_is s head (180 + u.0) l lh (subst (λ (j : ℕ). FitsHead head j) (sym ky) fit) (omega arith) (ap (is_key_of (name_of head)) f ∙ u.1) in
         e ∙ ap Some (sym (ap (word 5) f ∙ u.3)) ∙ sym (node_value s head (180 + u.0) l lh (omega arith) own) ∙ ap (λ j. value_of j (map_at s head)) ky
 
 pub map_in-has : (s : State) (head k : ℕ) → IsLawful s → head < 170 → FitsHead head k → has_key k (map_in s (name_of head)) ≡ has_key k (map_at s head)
 map_in-has s head k l lh fit = has_key-same k (map_in s (name_of head)) (map_at s head) (map_in-value s head k l lh fit)
 
-pub map_of-value : (s : State) (head k : ℕ) → IsLawful s → head < 170 → FitsHead head k → value_of k (map_of (name_of head) (catalogue_of s)) ≡ value_of k (map_at s head)
+pub map_of-value : (s : State) (head k : ℕ) → IsLawful s → head < 170 → FitsHead head k
+    → value_of k (map_of (name_of head) (catalogue_of s)) ≡ value_of k (map_at s head)
 map_of-value s head k l lh fit =
     ap (value_of k) (map_of-catalogue_of s (name_of head) (name_bound head (omega arith))) ∙ map_in-value s head k l lh fit
 
-pub map_of-has : (s : State) (head k : ℕ) → IsLawful s → head < 170 → FitsHead head k → has_key k (map_of (name_of head) (catalogue_of s)) ≡ has_key k (map_at s head)
+pub map_of-has : (s : State) (head k : ℕ) → IsLawful s → head < 170 → FitsHead head k
+    → has_key k (map_of (name_of head) (catalogue_of s)) ≡ has_key k (map_at s head)
 map_of-has s head k l lh fit =
     ap (has_key k) (map_of-catalogue_of s (name_of head) (name_bound head (omega arith))) ∙ map_in-has s head k l lh fit

@@ -1,5 +1,6 @@
 -- The next key of a map, by the keys that it has.
-use Rattle.std.proofs.Common.{◌≡◌, ℕ, ◌<◌, ◌≤◌, ◌⊎◌, inl, inr, Bool, true, false, cond, ltb, eqb, [], ◌∷◌, refl, arith, Some, None, eqb-true, ltb-true, ltb-false}
+use Rattle.std.proofs.Common.{◌≡◌, ℕ, ◌<◌, ◌≤◌, ◌⊎◌, inl, inr, Bool, true, false, cond, ltb, eqb, [], ◌∷◌, refl, arith}
+use Rattle.std.proofs.Common.{Some, None, eqb-true, ltb-true, ltb-false}
 use Rattle.std.proofs.lemmas.Bool.{cases_lt}
 use Rattle.std.proofs.lemmas.Bool.Decides.{nat_tests}
 use Rattle.set_script.specs.Catalogue.{Map, IsMap, IsAboveKey, has_key, next_key}

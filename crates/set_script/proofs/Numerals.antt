@@ -25,7 +25,8 @@ module _ (word : List ℕ) (numeral : is_numeral 20 word ≡ true) where
   small i = omega (arith, digits_value-take-le 10 word i (omega arith), digits_value_short own word 20 digits short)
 
   -- one digit more
-  pub more : (i number digit : ℕ) → i < length word → number ≡ digits_value 10 (take i word) → digit ≡ get_or word i 0 - 48 → number * 10 + digit ≡ digits_value 10 (take (i + 1) word)
+  pub more : (i number digit : ℕ) → i < length word → number ≡ digits_value 10 (take i word) → digit ≡ get_or word i 0 - 48
+      → number * 10 + digit ≡ digits_value 10 (take (i + 1) word)
   more i number digit lt e d =
       let is_digit = digit_at word i (own.to word digits) lt in
       omega (arith, digits_value_more 10 word i lt, digit_value_digit (get_or word i 0) is_digit)

@@ -1,5 +1,6 @@
 -- The states with which the sets begin are lawful, and their catalogue is empty.
-use Rattle.std.proofs.Common.{◌≡◌, ℕ, zero, suc, ◌+◌, ◌<◌, ◌≤◌, inl, inr, Bool, false, cond, List, [], ◌∷◌, length, map, drop, replicate, refl, ap, ◌∙◌, arith, get_or-drop, None}
+use Rattle.std.proofs.Common.{◌≡◌, ℕ, zero, suc, ◌+◌, ◌<◌, ◌≤◌, inl, inr, Bool, false, cond, List, [], ◌∷◌, length, map}
+use Rattle.std.proofs.Common.{drop, replicate, refl, ap, ◌∙◌, arith, get_or-drop, None}
 use Rattle.std.proofs.lemmas.List.{get_or_past, get_or-replicate, length-replicate}
 use Rattle.std.proofs.lemmas.Bool.{cases_lt}
 use Rattle.mv_history.specs.State.{State}

@@ -1,5 +1,7 @@
 -- What a section's writes do, after more locks and more writes.
-use Rattle.std.proofs.Common.{◌≡◌, ◌≢◌, ℕ, ◌<◌, ◌≤◌, ◌⊎◌, inl, inr, Bool, true, false, cond, eqb, not, ◌||◌, List, [], ◌∷◌, ◌++◌, length, set, refl, sym, ap, ◌∙◌, arith, append_assoc, append-nil, length-set, true≢false, eq-eqb, get_or-set_same, get_or-set_other}
+use Rattle.std.proofs.Common.{◌≡◌, ◌≢◌, ℕ, ◌<◌, ◌≤◌, ◌⊎◌, inl, inr, Bool, true, false, cond, eqb, not, ◌||◌, List}
+use Rattle.std.proofs.Common.{[], ◌∷◌, ◌++◌, length, set, refl, sym, ap, ◌∙◌, arith, append_assoc, append-nil, length-set}
+use Rattle.std.proofs.Common.{true≢false, eq-eqb, get_or-set_same, get_or-set_other}
 use Rattle.std.proofs.lemmas.List.{set-get_or, get_or_past}
 use Rattle.std.proofs.lemmas.Bool.{cases_eq, cases_lt, not-true, and_parts}
 use Rattle.std.proofs.lemmas.Bool.Decides.{nat_tests}
@@ -20,7 +22,8 @@ written-with_lock s t own o e = go (touches own o)
     go false =
         written-append s own ((o, words_at t o) ∷ []) ∙ ap (λ w. set (written s own) o w) e ∙ set-get_or (written s own) o []
 
-pub written-with_locks : (s t : State) (own : Writes) (os : List ℕ) → ((o : ℕ) → IsIn o os → words_at t o ≡ words_at (written s own) o) → written s (with_locks t own os) ≡ written s own
+pub written-with_locks : (s t : State) (own : Writes) (os : List ℕ) → ((o : ℕ) → IsIn o os → words_at t o ≡ words_at (written s own) o)
+    → written s (with_locks t own os) ≡ written s own
 written-with_locks s t own [] f = refl
 written-with_locks s t own (x ∷ os) f =
     let e : written s (with_lock t own x) ≡ written s own = written-with_lock s t own x (f x (inl refl)) in
@@ -63,13 +66,16 @@ touches-with_writes own [] p = refl
 touches-with_writes own (w ∷ ws) p = touches-with_writes (rewritten own w.0 w.1) ws p ∙ touches-rewritten own w.0 w.1 p
 
 -- writes of held objects change the state as they do one after another
-pub written-with_writes : (s : State) (own ws : Writes) → are_distinct own ≡ true → ((o : ℕ) → IsIn o (objects_of ws) → touches own o ≡ true) → written s (with_writes own ws) ≡ written (written s own) ws
+pub written-with_writes : (s : State) (own ws : Writes) → are_distinct own ≡ true → ((o : ℕ) → IsIn o (objects_of ws) → touches own o ≡ true)
+    → written s (with_writes own ws) ≡ written (written s own) ws
 written-with_writes s own [] d f = refl
 written-with_writes s own (w ∷ ws) d f =
-    written-with_writes s (rewritten own w.0 w.1) ws (are_distinct-rewritten own w.0 w.1 ∙ d) (λ o i. touches-rewritten own w.0 w.1 o ∙ f o (inr i)) ∙ ap (λ u. written u ws) (written-rewritten s own w.0 w.1 d (f w.0 (inl refl)))
+    written-with_writes s (rewritten own w.0 w.1) ws (are_distinct-rewritten own w.0 w.1 ∙ d) (λ o i. touches-rewritten own w.0 w.1 o ∙ f o (inr i))
+    ∙ ap (λ u. written u ws) (written-rewritten s own w.0 w.1 d (f w.0 (inl refl)))
 
 -- Where two states of one length agree on an object, they do after the same writes.
-pub words-written_as : (s t : State) (ws : Writes) (o : ℕ) → length s ≡ length t → words_at s o ≡ words_at t o → words_at (written s ws) o ≡ words_at (written t ws) o
+pub words-written_as : (s t : State) (ws : Writes) (o : ℕ) → length s ≡ length t → words_at s o ≡ words_at t o
+    → words_at (written s ws) o ≡ words_at (written t ws) o
 words-written_as s t [] o l e = e
 words-written_as s t (w ∷ ws) o l e =
     words-written_as (set s w.0 w.1) (set t w.0 w.1) ws o (length-set s w.0 w.1 ∙ l ∙ sym (length-set t w.0 w.1)) (one (cases_eq o w.0) (cases_lt o (length s)))
@@ -80,7 +86,8 @@ words-written_as s t (w ∷ ws) o l e =
         let a = length-set s w.0 w.1 in let b = length-set t w.0 w.1 in
         get_or_past (set s w.0 w.1) o [] (omega arith) ∙ sym (get_or_past (set t w.0 w.1) o [] (omega arith))
     one (inl q) (inl lt) =
-        ap (words_at (set s w.0 w.1)) q ∙ get_or-set_same s w.0 w.1 [] (omega arith) ∙ sym (get_or-set_same t w.0 w.1 [] (omega arith)) ∙ ap (words_at (set t w.0 w.1)) (sym q)
+        ap (words_at (set s w.0 w.1)) q ∙ get_or-set_same s w.0 w.1 [] (omega arith) ∙ sym (get_or-set_same t w.0 w.1 [] (omega arith))
+        ∙ ap (words_at (set t w.0 w.1)) (sym q)
 
 -- the objects of writes, with the words of a state
 abbrev words_of : State → Writes → Writes
@@ -91,7 +98,8 @@ words_of s (w ∷ ws) = (w.0, words_at s w.0) ∷ words_of s ws
 abbrev AreApartFrom : Writes → Writes → Type 0
 AreApartFrom own ws = (o : ℕ) → touches ws o ≡ true → touches own o ≡ false
 
-apart_step : (own ws : Writes) (w : ℕ × List ℕ) (words : List ℕ) → are_distinct (w ∷ ws) ≡ true → AreApartFrom own (w ∷ ws) → AreApartFrom (own ++ (w.0, words) ∷ []) ws
+apart_step : (own ws : Writes) (w : ℕ × List ℕ) (words : List ℕ) → are_distinct (w ∷ ws) ≡ true → AreApartFrom own (w ∷ ws)
+    → AreApartFrom (own ++ (w.0, words) ∷ []) ws
 apart_step own ws w words d a o t =
     let here : touches ws w.0 ≡ false = not-true (touches ws w.0) (and_parts (not (touches ws w.0)) (are_distinct ws) d).0 in
     let more : touches (w ∷ ws) o ≡ true = grind (arith, nat_tests) in
@@ -106,9 +114,11 @@ locks-apart s own (w ∷ ws) d a =
     let out : touches own w.0 ≡ false = a w.0 (ap (λ b. b || touches ws w.0) (eq-eqb w.0 w.0 refl)) in
     let one : with_lock s own w.0 ≡ own ++ (w.0, words_at s w.0) ∷ [] = ap (λ (b : Bool). cond b own (own ++ (w.0, words_at s w.0) ∷ [])) out in
     let rest : are_distinct ws ≡ true = (and_parts (not (touches ws w.0)) (are_distinct ws) d).1 in
-    ap (λ u. with_locks s u (objects_of ws)) one ∙ locks-apart s (own ++ (w.0, words_at s w.0) ∷ []) ws rest (apart_step own ws w (words_at s w.0) d a) ∙ append_assoc own ((w.0, words_at s w.0) ∷ []) (words_of s ws)
+    ap (λ u. with_locks s u (objects_of ws)) one ∙ locks-apart s (own ++ (w.0, words_at s w.0) ∷ []) ws rest (apart_step own ws w (words_at s w.0) d a)
+    ∙ append_assoc own ((w.0, words_at s w.0) ∷ []) (words_of s ws)
 
-rewritten-behind : (front rest : Writes) (o : ℕ) (words new : List ℕ) → touches front o ≡ false → rewritten (front ++ (o, words) ∷ rest) o new ≡ front ++ (o, new) ∷ rest
+rewritten-behind : (front rest : Writes) (o : ℕ) (words new : List ℕ) → touches front o ≡ false
+    → rewritten (front ++ (o, words) ∷ rest) o new ≡ front ++ (o, new) ∷ rest
 rewritten-behind [] rest o words new out = ap (λ (b : Bool). cond b ((o, new) ∷ rest) ((o, words) ∷ rewritten rest o new)) (eq-eqb o o refl)
 rewritten-behind (x ∷ front) rest o words new out = grind (arith, nat_tests, rewritten-behind front rest o words new)
 

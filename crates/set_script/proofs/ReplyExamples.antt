@@ -23,7 +23,8 @@ unfolding cost
 put_where_full = refl
 
 -- a move takes the value along, and is full where the target takes more nodes than the source gives back
-move_with_value : replies empty 3 (Put 0 5 7 ∷ Add 20 6 ∷ Move 0 20 5 ∷ Get 20 5 ∷ Get 0 5 ∷ Add 10 1 ∷ Move 20 0 6 ∷ []) ≡ Yes ∷ Yes ∷ Yes ∷ Value 7 ∷ NoKey ∷ Full ∷ Yes ∷ []
+move_with_value : replies empty 3 (Put 0 5 7 ∷ Add 20 6 ∷ Move 0 20 5 ∷ Get 20 5 ∷ Get 0 5 ∷ Add 10 1 ∷ Move 20 0 6 ∷ []) ≡ Yes ∷ Yes ∷ Yes ∷ Value 7 ∷ NoKey
+    ∷ Full ∷ Yes ∷ []
 unfolding cost
 move_with_value = refl
 
@@ -32,11 +33,13 @@ unfolding cost
 move_where_full = refl
 
 -- questions
-questions : replies empty 9 (Add 10 17 ∷ Add 10 2 ∷ Next 10 3 ∷ Next 10 18 ∷ Size 10 ∷ Pair 10 0 2 ∷ Has 0 2 ∷ Add 0 2 ∷ Move 10 0 2 ∷ []) ≡ Yes ∷ Yes ∷ Key 17 ∷ NoKey ∷ Count 2 ∷ Both true false ∷ No ∷ Yes ∷ No ∷ []
+questions : replies empty 9 (Add 10 17 ∷ Add 10 2 ∷ Next 10 3 ∷ Next 10 18 ∷ Size 10 ∷ Pair 10 0 2 ∷ Has 0 2 ∷ Add 0 2 ∷ Move 10 0 2 ∷ []) ≡ Yes ∷ Yes
+    ∷ Key 17 ∷ NoKey ∷ Count 2 ∷ Both true false ∷ No ∷ Yes ∷ No ∷ []
 unfolding cost
 questions = refl
 
 -- at the last time a change is worn, and `no` and `full` stay
-at_the_last_time : (reply (Add 0 1) empty 1 true ≡ Worn) × (reply (Add 0 1) empty 0 true ≡ Full) × (reply (Del 0 1) empty 1 true ≡ No) × (next (Add 0 1) empty 1 true ≡ empty)
+at_the_last_time : (reply (Add 0 1) empty 1 true ≡ Worn) × (reply (Add 0 1) empty 0 true ≡ Full) × (reply (Del 0 1) empty 1 true ≡ No)
+    × (next (Add 0 1) empty 1 true ≡ empty)
 unfolding cost
 at_the_last_time = (refl, refl, refl, refl)

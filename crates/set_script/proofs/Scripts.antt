@@ -1,5 +1,6 @@
 -- What the fold over the lines comes to.
-use Rattle.std.proofs.Common.{◌≡◌, ℕ, ◌+◌, ◌≤◌, Bool, true, false, cond, List, [], ◌∷◌, ◌++◌, length, Some, None, Ok, Err, nat_lt, refl, ap, sym, ◌∙◌, append_assoc, append-nil, length-append, arith}
+use Rattle.std.proofs.Common.{◌≡◌, ℕ, ◌+◌, ◌≤◌, Bool, true, false, cond, List, [], ◌∷◌, ◌++◌, length, Some, None, Ok, Err}
+use Rattle.std.proofs.Common.{nat_lt, refl, ap, sym, ◌∙◌, append_assoc, append-nil, length-append, arith}
 use Rattle.std.proofs.lemmas.Bool.Decides.{nat_tests}
 use Rattle.set_script.specs.declared.commands.Command.{Command}
 use Rattle.set_script.specs.declared.commands.FaultKind.{FaultKind}
@@ -13,7 +14,9 @@ room : (front more : List Command) (c : Command) → length (front ++ c ∷ more
 room front more c few = let n = length-append front (c ∷ more) in grind (arith, nat_tests)
 
 -- lines in the grammar are taken, and the others follow
-pub parsed_after-read : (front : List Command) (number : ℕ) (before rest : List Reading) → AreRead before → length (front ++ commands_in before) ≤ MOST_COMMANDS → parsed_after front number (before ++ rest) ≡ parsed_after (front ++ commands_in before) (number + length before) rest
+pub parsed_after-read : (front : List Command) (number : ℕ) (before rest : List Reading) → AreRead before
+    → length (front ++ commands_in before) ≤ MOST_COMMANDS
+    → parsed_after front number (before ++ rest) ≡ parsed_after (front ++ commands_in before) (number + length before) rest
 parsed_after-read front number [] rest read few =
     let same : number + 0 ≡ number = omega arith in
     rw (append-nil front, same) refl
@@ -35,17 +38,21 @@ record Taken (front : List Command) (readings : List Reading) (commands : List C
   pub commands_are : commands ≡ front ++ commands_in readings
   pub few : length commands ≤ MOST_COMMANDS
 
-parsed_after-Ok : (front : List Command) (number : ℕ) (readings : List Reading) (commands : List Command) → length front ≤ MOST_COMMANDS → parsed_after front number readings ≡ Ok commands → Taken front readings commands
+parsed_after-Ok : (front : List Command) (number : ℕ) (readings : List Reading) (commands : List Command) → length front ≤ MOST_COMMANDS
+    → parsed_after front number readings ≡ Ok commands → Taken front readings commands
 parsed_after-Ok front number [] commands few e =
     let same : front ≡ commands = cc in
     record { read = tt; commands_are = sym same ∙ sym (append-nil front); few = rw (sym same) few }
 parsed_after-Ok front number (Ok None ∷ readings) commands few e =
     let t = parsed_after-Ok front (number + 1) readings commands few e in
     record { read = t.read; commands_are = t.commands_are; few = t.few }
-parsed_after-Ok front number (Ok (Some c) ∷ readings) commands few e = cases (parsed_after-Ok (front ++ c ∷ []) (number + 1) readings commands) (nat_lt (length front) MOST_COMMANDS) refl e
+parsed_after-Ok front number (Ok (Some c) ∷ readings) commands few e =
+    cases (parsed_after-Ok (front ++ c ∷ []) (number + 1) readings commands) (nat_lt (length front) MOST_COMMANDS) refl e
   where
-    cases : (length (front ++ c ∷ []) ≤ MOST_COMMANDS → parsed_after (front ++ c ∷ []) (number + 1) readings ≡ Ok commands → Taken (front ++ c ∷ []) readings commands) → (b : Bool) → nat_lt (length front) MOST_COMMANDS ≡ b
-        → (cond b (Ok (front ++ c ∷ [])) (Err (number, Many)) >>= λ more. parsed_after more (number + 1) readings) ≡ Ok commands → Taken front (Ok (Some c) ∷ readings) commands
+    cases : (length (front ++ c ∷ []) ≤ MOST_COMMANDS → parsed_after (front ++ c ∷ []) (number + 1) readings ≡ Ok commands
+        → Taken (front ++ c ∷ []) readings commands) → (b : Bool) → nat_lt (length front) MOST_COMMANDS ≡ b
+        → (cond b (Ok (front ++ c ∷ [])) (Err (number, Many)) >>= λ more. parsed_after more (number + 1) readings) ≡ Ok commands
+        → Taken front (Ok (Some c) ∷ readings) commands
     cases go true fits e =
         let n = length-append front (c ∷ []) in
         let t = go (grind (arith, nat_tests)) e in
@@ -64,7 +71,8 @@ record Stopped (front : List Command) (number : ℕ) (readings : List Reading) (
   pub few : length (front ++ commands_in before) ≤ MOST_COMMANDS
   pub faulty : IsFaulty (length (front ++ commands_in before)) reading kind
 
-parsed_after-Err : (front : List Command) (number : ℕ) (readings : List Reading) (line : ℕ) (kind : FaultKind) → length front ≤ MOST_COMMANDS → parsed_after front number readings ≡ Err (line, kind) → Stopped front number readings line kind
+parsed_after-Err : (front : List Command) (number : ℕ) (readings : List Reading) (line : ℕ) (kind : FaultKind) → length front ≤ MOST_COMMANDS
+    → parsed_after front number readings ≡ Err (line, kind) → Stopped front number readings line kind
 parsed_after-Err front number [] line kind few e = absurd (cc)
 parsed_after-Err front number (Ok None ∷ readings) line kind few e =
     let t = parsed_after-Err front (number + 1) readings line kind few e in
@@ -78,10 +86,13 @@ parsed_after-Err front number (Ok None ∷ readings) line kind few e =
       few = t.few;
       faulty = t.faulty;
     }
-parsed_after-Err front number (Ok (Some c) ∷ readings) line kind few e = cases (parsed_after-Err (front ++ c ∷ []) (number + 1) readings line kind) (nat_lt (length front) MOST_COMMANDS) refl e
+parsed_after-Err front number (Ok (Some c) ∷ readings) line kind few e =
+    cases (parsed_after-Err (front ++ c ∷ []) (number + 1) readings line kind) (nat_lt (length front) MOST_COMMANDS) refl e
   where
-    cases : (length (front ++ c ∷ []) ≤ MOST_COMMANDS → parsed_after (front ++ c ∷ []) (number + 1) readings ≡ Err (line, kind) → Stopped (front ++ c ∷ []) (number + 1) readings line kind) → (b : Bool) → nat_lt (length front) MOST_COMMANDS ≡ b
-        → (cond b (Ok (front ++ c ∷ [])) (Err (number, Many)) >>= λ more. parsed_after more (number + 1) readings) ≡ Err (line, kind) → Stopped front number (Ok (Some c) ∷ readings) line kind
+    cases : (length (front ++ c ∷ []) ≤ MOST_COMMANDS → parsed_after (front ++ c ∷ []) (number + 1) readings ≡ Err (line, kind)
+        → Stopped (front ++ c ∷ []) (number + 1) readings line kind) → (b : Bool) → nat_lt (length front) MOST_COMMANDS ≡ b
+        → (cond b (Ok (front ++ c ∷ [])) (Err (number, Many)) >>= λ more. parsed_after more (number + 1) readings) ≡ Err (line, kind)
+        → Stopped front number (Ok (Some c) ∷ readings) line kind
     cases go true fits e =
         let n = length-append front (c ∷ []) in
         let t = go (grind (arith, nat_tests)) e in
@@ -157,7 +168,8 @@ fault-from_parsed text number kind e =
       faulty = t.faulty;
     }
 
-stops : (front : List Command) (number : ℕ) (reading : Reading) (after : List Reading) (kind : FaultKind) → IsFaulty (length front) reading kind → parsed_after front number (reading ∷ after) ≡ Err (number, kind)
+stops : (front : List Command) (number : ℕ) (reading : Reading) (after : List Reading) (kind : FaultKind) → IsFaulty (length front) reading kind
+    → parsed_after front number (reading ∷ after) ≡ Err (number, kind)
 stops front number (Err fault) after kind faulty = rw faulty refl
 stops front number (Ok None) after kind faulty = absurd faulty
 stops front number (Ok (Some c)) after kind faulty =

@@ -1,5 +1,7 @@
 -- How many objects a test picks.
-use Rattle.std.proofs.Common.{◌≡◌, ◌≢◌, ℕ, zero, suc, ◌+◌, ◌-◌, ◌<◌, ◌≤◌, ◌⊎◌, inl, inr, Bool, true, false, cond, List, [], ◌∷◌, length, set, drop, refl, sym, ap, ◌∙◌, subst, arith, true≢false, get_or-set_same, get_or-set_other, get_or-drop, length-drop, length-set}
+use Rattle.std.proofs.Common.{◌≡◌, ◌≢◌, ℕ, zero, suc, ◌+◌, ◌-◌, ◌<◌, ◌≤◌, ◌⊎◌, inl, inr, Bool, true, false}
+use Rattle.std.proofs.Common.{cond, List, [], ◌∷◌, length, set, drop, refl, sym, ap, ◌∙◌, subst, arith, true≢false, get_or-set_same}
+use Rattle.std.proofs.Common.{get_or-set_other, get_or-drop, length-drop, length-set}
 use Rattle.std.proofs.lemmas.Bool.{cases_eq}
 use Rattle.std.proofs.lemmas.Bool.Decides.{nat_tests}
 use Rattle.mv_history.specs.State.{State}
@@ -37,7 +39,8 @@ tally-same t u (w ∷ s) f =
     ap (λ (b : Bool). cond b 1 0 + tally t s) (f 0 (omega arith)) ∙ ap (λ (n : ℕ). cond (u w) 1 0 + n) (tally-same t u s (λ i l. f (suc i) (omega arith)))
 
 -- one object less
-pub tally-less : (test : List ℕ → Bool) (s : State) (i : ℕ) (w : List ℕ) → i < length s → test (words_at s i) ≡ true → test w ≡ false → tally test s ≡ suc (tally test (set s i w))
+pub tally-less : (test : List ℕ → Bool) (s : State) (i : ℕ) (w : List ℕ) → i < length s → test (words_at s i) ≡ true → test w ≡ false
+    → tally test s ≡ suc (tally test (set s i w))
 tally-less test [] i w l a b = absurd (omega arith)
 tally-less test (x ∷ s) zero w l a b =
     let p : cond {A = ℕ} (test x) 1 0 ≡ 1 = ap (λ (c : Bool). cond {A = ℕ} c 1 0) a in
@@ -50,7 +53,9 @@ length-put k v [] h = refl
 length-put k v (e ∷ m) h = grind (arith, nat_tests, length-put k v m)
 
 -- where no two that are picked have one key, there are as many keys as picked
-pub length-map_among : (test : List ℕ → Bool) (s : State) → ((i j : ℕ) → test (words_at s i) ≡ true → test (words_at s j) ≡ true → word 2 (words_at s i) ≡ word 2 (words_at s j) → i ≡ j) → length (map_among test s) ≡ tally test s
+pub length-map_among : (test : List ℕ → Bool) (s : State)
+    → ((i j : ℕ) → test (words_at s i) ≡ true → test (words_at s j) ≡ true → word 2 (words_at s i) ≡ word 2 (words_at s j) → i ≡ j)
+    → length (map_among test s) ≡ tally test s
 unfolding map_among
 length-map_among test [] f = refl
 length-map_among test (w ∷ s) f =
@@ -62,10 +67,12 @@ length-map_among test (w ∷ s) f =
         let u = map_among-has test s (word 2 w) h in
         let q : 0 ≡ suc u.0 = f 0 (suc u.0) e u.1 (sym u.2) in absurd (omega arith)
 
-    go : (t : Bool) → test w ≡ t → length (map_among test s) ≡ tally test s → length (cond t (put (word 2 w) (word 5 w) (map_among test s)) (map_among test s)) ≡ cond t 1 0 + tally test s
+    go : (t : Bool) → test w ≡ t → length (map_among test s) ≡ tally test s
+        → length (cond t (put (word 2 w) (word 5 w) (map_among test s)) (map_among test s)) ≡ cond t 1 0 + tally test s
     go true e r =
         let h : has_key (word 2 w) (map_among test s) ≡ false = fresh e (has_key (word 2 w) (map_among test s)) refl in
-        let l : length (put (word 2 w) (word 5 w) (map_among test s)) ≡ suc (length (map_among test s)) = length-put (word 2 w) (word 5 w) (map_among test s) h in
+        let l : length (put (word 2 w) (word 5 w) (map_among test s)) ≡ suc (length (map_among test s)) =
+        length-put (word 2 w) (word 5 w) (map_among test s) h in
         omega arith
     go false e r = omega arith
 
@@ -74,7 +81,9 @@ pub node_at : (s : State) (i : ℕ) → words_at (drop 180 s) i ≡ words_at s (
 node_at s i = get_or-drop 180 s i []
 
 -- Where the nodes that a test picks are exactly those of a list of distinct ones, they are as many as the list is long.
-pub tally_list : (test : List ℕ → Bool) (os : List ℕ) (s : State) → test [] ≡ false → IsDistinct os → ((o : ℕ) → IsIn o os → (180 ≤ o) × (o < length s) × (test (words_at s o) ≡ true)) → ((o : ℕ) → 180 ≤ o → test (words_at s o) ≡ true → IsIn o os) → tally test (drop 180 s) ≡ length os
+pub tally_list : (test : List ℕ → Bool) (os : List ℕ) (s : State) → test [] ≡ false → IsDistinct os
+    → ((o : ℕ) → IsIn o os → (180 ≤ o) × (o < length s) × (test (words_at s o) ≡ true)) → ((o : ℕ) → 180 ≤ o → test (words_at s o) ≡ true → IsIn o os)
+    → tally test (drop 180 s) ≡ length os
 tally_list test [] s z d f g = tally-none test (drop 180 s) (λ i l e. g (180 + i) (omega arith) (ap test (sym (node_at s i)) ∙ e))
 tally_list test (o ∷ os) s z d f g =
     let lo : 180 ≤ o = (f o (inl refl)).0 in

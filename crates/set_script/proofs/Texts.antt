@@ -1,5 +1,6 @@
 -- Commands are read back from their text.
-use Rattle.std.proofs.Common.{◌≡◌, ℕ, ◌≤◌, nat_le, true, false, List, [], ◌∷◌, ◌++◌, length, Some, None, Ok, codes, decimal, inl, inr, refl, ap, sym, ◌∙◌, subst, append_assoc, arith}
+use Rattle.std.proofs.Common.{◌≡◌, ℕ, ◌≤◌, nat_le, true, false, List, [], ◌∷◌, ◌++◌, length, Some, None, Ok, codes, decimal}
+use Rattle.std.proofs.Common.{inl, inr, refl, ap, sym, ◌∙◌, subst, append_assoc, arith}
 use Rattle.std.specs.List.{All, AllByRecursion, list_all}
 use Rattle.std.proofs.lemmas.Bool.{cases_lt}
 use Rattle.std.proofs.lemmas.Bool.Decides.{nat_tests}
@@ -62,7 +63,8 @@ format_known : (format : ℕ) → IsFormat format → format_after None (format_
 format_known = both_lines (λ f line. format_after None line ≡ Some f) refl refl
 
 -- in a format that is known
-script_back : (format : ℕ) (commands : List Command) → AllByRecursion (MaySay format) commands → readings_in (Some format) (lines_of (script_text commands)) ≡ readings_back commands
+script_back : (format : ℕ) (commands : List Command) → AllByRecursion (MaySay format) commands
+    → readings_in (Some format) (lines_of (script_text commands)) ≡ readings_back commands
 unfolding command_of
 script_back format [] ok = refl
 script_back format (command ∷ commands) ok =
@@ -81,14 +83,16 @@ plain_back (command ∷ commands) ok =
     ∙ ap (λ rs. Ok (Some command) ∷ rs) (script_back 1 commands ok.1)
 
 -- behind a line on the format
-headed_back : (format : ℕ) (commands : List Command) → IsFormat format → AllByRecursion (MaySay format) commands → readings_in None (lines_of (format_text format ++ script_text commands)) ≡ Ok None ∷ readings_back commands
+headed_back : (format : ℕ) (commands : List Command) → IsFormat format → AllByRecursion (MaySay format) commands
+    → readings_in None (lines_of (format_text format ++ script_text commands)) ≡ Ok None ∷ readings_back commands
 headed_back format commands known ok =
     ap (readings_in None) (first_line (spaced (codes "format") (decimal format ∷ [])) (script_text commands) (format_printed format known))
     ∙ ap (λ r. r ∷ readings_in (format_after None (spaced (codes "format") (decimal format ∷ []))) (lines_of (script_text commands))) (format_back format known)
     ∙ ap (λ f. Ok None ∷ readings_in f (lines_of (script_text commands))) (format_known format known)
     ∙ ap (λ rs. Ok None ∷ rs) (script_back format commands ok)
 
-pub commands_back : (commands : List Command) → AllByRecursion (MaySay 1) commands → length commands ≤ MOST_COMMANDS → parsed (script_text commands) ≡ Ok commands
+pub commands_back : (commands : List Command) → AllByRecursion (MaySay 1) commands → length commands ≤ MOST_COMMANDS
+    → parsed (script_text commands) ≡ Ok commands
 commands_back commands ok few =
     let back = plain_back commands ok in
     parsed-from_script (script_text commands) commands (record {
@@ -97,7 +101,8 @@ commands_back commands ok few =
       few = few;
     })
 
-pub headed_commands_back : (format : ℕ) (commands : List Command) → IsFormat format → AllByRecursion (MaySay format) commands → length commands ≤ MOST_COMMANDS → parsed (format_text format ++ script_text commands) ≡ Ok commands
+pub headed_commands_back : (format : ℕ) (commands : List Command) → IsFormat format → AllByRecursion (MaySay format) commands
+    → length commands ≤ MOST_COMMANDS → parsed (format_text format ++ script_text commands) ≡ Ok commands
 headed_commands_back format commands known ok few =
     let back = headed_back format commands known ok in
     parsed-from_script (format_text format ++ script_text commands) commands (record {

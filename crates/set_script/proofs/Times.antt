@@ -17,15 +17,20 @@ use Rattle.set_script.specs.Tags.{command_of}
 use Rattle.set_script.specs.Rules.{Makes, MakesSome, IsSetCommit}
 use Rattle.set_script.proofs.Opening.{opening_lawful}
 
-lawful_on : (start : State) (front es : List Entry) → IsLawful (state_after start front) → IsAllowed IsSetCommit start (front ++ es) → IsLawful (state_after start (front ++ es))
+lawful_on : (start : State) (front es : List Entry) → IsLawful (state_after start front) → IsAllowed IsSetCommit start (front ++ es)
+    → IsLawful (state_after start (front ++ es))
 lawful_on start front [] l a = subst (λ h. IsLawful (state_after start h)) (sym (append-nil front)) l
 lawful_on start front (Rest seat ∷ es) l a =
     let same : state_after start (front ++ Rest seat ∷ []) ≡ state_after start front = state_after-append start front (Rest seat ∷ []) in
-    rw append_assoc at (lawful_on start (front ++ Rest seat ∷ []) es (subst IsLawful (sym same) l) (subst (λ h. IsAllowed IsSetCommit start h) (sym (append_assoc front (Rest seat ∷ []) es)) a))
+    rw append_assoc at
+    (lawful_on start (front ++ Rest seat ∷ []) es (subst IsLawful (sym same) l)
+    (subst (λ h. IsAllowed IsSetCommit start h) (sym (append_assoc front (Rest seat ∷ []) es)) a))
 lawful_on start front (Change c ∷ es) l a =
     let next : IsSetCommit c.tag (state_after start front) c.writes = a front es c refl in
     let after : state_after start (front ++ Change c ∷ []) ≡ written (state_after start front) c.writes = state_after-append start front (Change c ∷ []) in
-    rw append_assoc at (lawful_on start (front ++ Change c ∷ []) es (subst IsLawful (sym after) next.keeps.lawful_after) (subst (λ h. IsAllowed IsSetCommit start h) (sym (append_assoc front (Change c ∷ []) es)) a))
+    rw append_assoc at
+    (lawful_on start (front ++ Change c ∷ []) es (subst IsLawful (sym after) next.keeps.lawful_after)
+    (subst (λ h. IsAllowed IsSetCommit start h) (sym (append_assoc front (Change c ∷ []) es)) a))
 
 -- After an allowed history a state is lawful.
 pub lawful_after : (start : State) (history : List Entry) → IsOpening start → IsAllowed IsSetCommit start history → IsLawful (state_after start history)
@@ -34,7 +39,9 @@ lawful_after start history o a = lawful_on start [] history (opening_lawful star
 -- The state of each time that a seat has seen is lawful.
 pub lawful_at : (s : Seat) → IsSeat IsOpening IsSetCommit s → (t : ℕ) → IsLawful (state_at s.start s.seen t)
 lawful_at s h t =
-    lawful_after s.start (take t s.seen) h.start (IsAllowed-front IsSetCommit s.start (take t s.seen) (drop t s.seen) (subst (λ e. IsAllowed IsSetCommit s.start e) (sym (take-append-drop t s.seen)) h.allowed))
+    lawful_after s.start (take t s.seen) h.start
+    (IsAllowed-front IsSetCommit s.start (take t s.seen) (drop t s.seen)
+    (subst (λ e. IsAllowed IsSetCommit s.start e) (sym (take-append-drop t s.seen)) h.allowed))
 
 -- So is a section's snapshot.
 pub lawful_snapshot : (s : InSection) → IsSection IsOpening IsSetCommit s → IsLawful (snapshot_of s)
@@ -46,7 +53,8 @@ take_next (y ∷ xs) zero x e = let same : y ≡ x = cc in ap (λ z. z ∷ []) s
 take_next (y ∷ xs) (suc i) x e = ap (λ zs. y ∷ zs) (take_next xs i x e)
 
 -- The commit of a time did what its command does, on the state just before that time.
-pub commit_makes : (s : Seat) → IsSeat IsOpening IsSetCommit s → (time : ℕ) (c : Commit) (command : Command) → IsEntryAt s time (Change c) → command_of c.tag ≡ Some command → Makes command (state_at s.start s.seen (time - (s.base + 1))) (state_at s.start s.seen (time - s.base))
+pub commit_makes : (s : Seat) → IsSeat IsOpening IsSetCommit s → (time : ℕ) (c : Commit) (command : Command) → IsEntryAt s time (Change c)
+    → command_of c.tag ≡ Some command → Makes command (state_at s.start s.seen (time - (s.base + 1))) (state_at s.start s.seen (time - s.base))
 commit_makes s h time c command e tagged =
     let i : ℕ = time - (s.base + 1) in
     let parts : s.seen ≡ take i s.seen ++ Change c ∷ drop (suc i) s.seen = split_at s.seen i (Change c) e.there in
@@ -55,4 +63,5 @@ commit_makes s h time c command e tagged =
     let front : take (suc i) s.seen ≡ take i s.seen ++ Change c ∷ [] = take_next s.seen i (Change c) e.there in
     let after : state_at s.start s.seen (time - s.base) ≡ written (state_after s.start (take i s.seen)) c.writes =
     ap (state_at s.start s.seen) one ∙ ap (state_after s.start) front ∙ state_after-append s.start (take i s.seen) (Change c ∷ []) in
-    subst (λ u. Makes command (state_at s.start s.seen (time - (s.base + 1))) u) (sym after) (subst (λ m. MakesSome m (state_after s.start (take i s.seen)) (written (state_after s.start (take i s.seen)) c.writes)) tagged made.makes)
+    subst (λ u. Makes command (state_at s.start s.seen (time - (s.base + 1))) u) (sym after)
+    (subst (λ m. MakesSome m (state_after s.start (take i s.seen)) (written (state_after s.start (take i s.seen)) c.writes)) tagged made.makes)

@@ -9,7 +9,8 @@ use Rattle.set_script.specs.Trees.{Tree, objects_in, entries_in, AllBelow, AllFr
 use Rattle.set_script.specs.Trees.Tree.{leaf, inner}
 use Rattle.set_script.proofs.ObjectWords.{word}
 use Rattle.set_script.proofs.MapLemmas.{value_of-first, has_key-none, same_maps}
-use Rattle.set_script.proofs.MapParts.{IsUnderKey, IsFromKey, under_append, from_append, under_higher, IsMap-append, value_of-behind, value_of-before, value_of-either}
+use Rattle.set_script.proofs.MapParts.{IsUnderKey, IsFromKey, under_append, from_append, under_higher, IsMap-append, value_of-behind, value_of-before}
+use Rattle.set_script.proofs.MapParts.{value_of-either}
 use Rattle.set_script.proofs.Mapped.{IsMap-map_among, map_of-catalogue_of}
 use Rattle.set_script.proofs.Heads.{is_key_at-from, is_key_at-to, name_bound}
 use Rattle.set_script.proofs.ListMaps.{HoldsAt, holds-map_at, map_at-value}
@@ -63,7 +64,8 @@ seek_leaf s root (inner n d a b) l q o (inr i) z = elim (in_either (objects_in a
 ]
 
 -- a leaf's entry is among those of the tree
-pub leaf_value : (s : State) (root : ℕ) (t : Tree) → Stands s root t → IsOrdered t → (o : ℕ) → IsIn o (objects_in t) → kind s o ≢ 2 → value_of (key s o) (entries_in t) ≡ Some (value s o)
+pub leaf_value : (s : State) (root : ℕ) (t : Tree) → Stands s root t → IsOrdered t → (o : ℕ) → IsIn o (objects_in t) → kind s o ≢ 2
+    → value_of (key s o) (entries_in t) ≡ Some (value s o)
 leaf_value s root (leaf n k v) l q o (inl e) z =
     let is : key s o ≡ k = ap (key s) e ∙ ap (word 2) l.2 in
     let has : value s o ≡ v = ap (value s) e ∙ ap (word 5) l.2 in
@@ -73,7 +75,8 @@ leaf_value s root (inner n d a b) l q o (inl e) z = absurd (z (ap (kind s) e ∙
 leaf_value s root (inner n d a b) l q o (inr i) z = elim (in_either (objects_in a) (objects_in b) o i) [
   | inl j ↦ value_of-before (key s o) (value s o) (entries_in a) (entries_in b) (leaf_value s root a l.3 q.2 o j z)
   | inr j ↦ (let le : d ≤ key s o = from_key s root d b l.4 q.1 o j z in
-      value_of-behind (key s o) (entries_in a) (entries_in b) (under_higher d (key s o) (entries_in a) le (below_entries d a q.0)) ∙ leaf_value s root b l.4 q.3 o j z)
+      value_of-behind (key s o) (entries_in a) (entries_in b) (under_higher d (key s o) (entries_in a) le (below_entries d a q.0))
+      ∙ leaf_value s root b l.4 q.3 o j z)
 ]
 
 -- and each entry is that of a leaf

@@ -1,5 +1,6 @@
 -- The objects of a tree, and the words at which they stand.
-use Rattle.std.proofs.Common.{◌≡◌, ℕ, suc, ◌+◌, ◌*◌, ◌<◌, ◌≤◌, ◌⊎◌, inl, inr, Bool, true, false, cond, List, [], ◌∷◌, ◌++◌, length, refl, sym, ap, ◌∙◌, subst, arith, lt-ltb, le-ltb, length-append}
+use Rattle.std.proofs.Common.{◌≡◌, ℕ, suc, ◌+◌, ◌*◌, ◌<◌, ◌≤◌, ◌⊎◌, inl, inr, Bool, true, false, cond, List, []}
+use Rattle.std.proofs.Common.{◌∷◌, ◌++◌, length, refl, sym, ap, ◌∙◌, subst, arith, lt-ltb, le-ltb, length-append}
 use Rattle.std.proofs.lemmas.Bool.{false_from_ne_true, cases_lt}
 use Rattle.std.proofs.lemmas.Bool.Decides.{nat_tests}
 use Rattle.mv_history.specs.State.{State}
@@ -80,8 +81,10 @@ seek_right k n d a b le = ap (λ (c : Bool). cond c (seek k a) (seek k b)) (le-l
 pub seek_in : (k : ℕ) (t : Tree) → IsIn (seek k t) (objects_in t)
 seek_in k (leaf n j v) = inl refl
 seek_in k (inner n d a b) = elim (cases_lt k d) [
-  | inl lt ↦ subst (λ (o : ℕ). IsIn o (objects_in (inner n d a b))) (sym (seek_left k n d a b lt)) (inr (in_left (objects_in a) (objects_in b) (seek k a) (seek_in k a)))
-  | inr le ↦ subst (λ (o : ℕ). IsIn o (objects_in (inner n d a b))) (sym (seek_right k n d a b le)) (inr (in_right (objects_in a) (objects_in b) (seek k b) (seek_in k b)))
+  | inl lt ↦ subst (λ (o : ℕ). IsIn o (objects_in (inner n d a b))) (sym (seek_left k n d a b lt))
+      (inr (in_left (objects_in a) (objects_in b) (seek k a) (seek_in k a)))
+  | inr le ↦ subst (λ (o : ℕ). IsIn o (objects_in (inner n d a b))) (sym (seek_right k n d a b le))
+      (inr (in_right (objects_in a) (objects_in b) (seek k b) (seek_in k b)))
 ]
 
 -- the objects of a tree that stands are nodes, and name its root
@@ -119,7 +122,8 @@ pub only_in : (s : State) (root : ℕ) (t : Tree) → IsGrown s root t → (o : 
 only_in s root t g o lo e = IsIn-from o (objects_in t) (g.only o lo e)
 
 -- a child of an inner node of a tree is an object of it
-pub child_in : (s : State) (root : ℕ) (t : Tree) → Stands s root t → (p : ℕ) → IsIn p (objects_in t) → kind s p ≡ 2 → (l : ℕ) → (link s p ≡ l) ⊎ (right_link s p ≡ l) → IsIn l (objects_in t)
+pub child_in : (s : State) (root : ℕ) (t : Tree) → Stands s root t → (p : ℕ) → IsIn p (objects_in t) → kind s p ≡ 2 → (l : ℕ)
+    → (link s p ≡ l) ⊎ (right_link s p ≡ l) → IsIn l (objects_in t)
 child_in s root (leaf n k v) q p (inl e) z l c =
     let one : kind s p ≡ 1 = ap (kind s) e ∙ ap (word 1) q.2 in absurd (omega arith)
 child_in s root (leaf n k v) q p (inr i) z l c = absurd i

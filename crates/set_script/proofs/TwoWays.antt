@@ -1,5 +1,6 @@
 -- A change of one head's structure and then a change of another one's, as one commit.
-use Rattle.std.proofs.Common.{◌≡◌, ◌≢◌, ℕ, suc, ◌<◌, ◌≤◌, ◌⊎◌, inl, inr, Bool, true, false, List, [], ◌++◌, length, set, refl, sym, ap, ◌∙◌, subst, arith, true≢false, get_or-set_other}
+use Rattle.std.proofs.Common.{◌≡◌, ◌≢◌, ℕ, suc, ◌<◌, ◌≤◌, ◌⊎◌, inl, inr, Bool, true, false, List, [], ◌++◌, length}
+use Rattle.std.proofs.Common.{set, refl, sym, ap, ◌∙◌, subst, arith, true≢false, get_or-set_other}
 use Rattle.mv_history.specs.State.{State, Writes, written, touches}
 use Rattle.mv_history.specs.Meaning.{words_at}
 use Rattle.mv_history.specs.Drift.{IsFit}
@@ -15,7 +16,8 @@ use Rattle.set_script.specs.Tags.{tag_of}
 use Rattle.set_script.specs.Rules.{IsInRange, Keeps, IsSetCommit}
 use Rattle.set_script.proofs.TreeShape.{IsIn, in_left, in_right, in_either}
 use Rattle.set_script.proofs.Written.{touches-in, in-touches, touches-out}
-use Rattle.set_script.proofs.OwnWrites.{written-with_locks, touches-with_locks, distinct-with_locks, same_locks, touches-with_writes, written-with_writes, words-written_as}
+use Rattle.set_script.proofs.OwnWrites.{written-with_locks, touches-with_locks, distinct-with_locks, same_locks, touches-with_writes}
+use Rattle.set_script.proofs.OwnWrites.{written-with_writes, words-written_as}
 use Rattle.set_script.proofs.Frames.{IsWithin, same_head, same_owned}
 use Rattle.set_script.proofs.Halves.{keeps_of, keeps_other, within_back, Half, keeps_join}
 use Rattle.set_script.proofs.Ways.{IsAt, IsVacant, AreVacant, AreSame, Way, set_commit, Stays, vacant_same}
@@ -70,13 +72,16 @@ module _ {Fits Fits' : Map → Type 0} {change change' : Map → Map} (h g : ℕ
   joined_first : (s : State) (o : ℕ) → IsIn o (d.objects ++ d.fresh) → touches (joined s) o ≡ true
   joined_first s o i = joined_in s o (inl (touches-in (d.writes s) o (subst (λ u. IsIn o u) (sym (d.names s)) i)))
 
-  module _ (command : Command) (does : DoesBoth command (name_of h) (name_of g) Fits change Fits' change') (lh : h < 180) (lg : g < 180) (apart : name_of h ≢ name_of g) where
+  module _ (command : Command) (does : DoesBoth command (name_of h) (name_of g) Fits change Fits' change') (lh : h < 180) (lg : g < 180)
+      (apart : name_of h ≢ name_of g) where
     other : g ≢ h
     other z = apart (ap name_of (sym z))
 
     -- the second change's objects are none of the first's
     ways_apart : (s : State) → IsLawful s → BothPlaces s → (o : ℕ) → IsIn o a.objects → touches (d.writes s) o ≡ false
-    ways_apart s l b o i = touches-out (d.writes s) o (λ j. apart_at s h g o lh lg other (whose (in_either d.objects d.fresh o (subst (λ u. IsIn o u) (d.names s) j))) (a.owned s l b.1 o i))
+    ways_apart s l b o i =
+        touches-out (d.writes s) o
+        (λ j. apart_at s h g o lh lg other (whose (in_either d.objects d.fresh o (subst (λ u. IsIn o u) (d.names s) j))) (a.owned s l b.1 o i))
       where
         whose : IsIn o d.objects ⊎ IsIn o d.fresh → IsAt s h o ⊎ IsVacant s o
         whose (inl j) = inl (d.owned s l b.0 o j)
@@ -89,34 +94,42 @@ module _ {Fits Fits' : Map → Type 0} {change change' : Map → Map} (h g : ℕ
         let s1 : State = written s (d.writes s) in
         let x : Half s s1 ds h Fits change = d.half s l b.0 b.2 in
         let out = ways_apart s l b in
-        let place : a.Place s1 = a.stays s s1 ds (keeps_other g h s s1 ds lh lg other l x.keeps.lawful_after x.within) out (λ o i. words-written_other s ds o (out o i)) b.1 in
+        let place : a.Place s1 =
+        a.stays s s1 ds (keeps_other g h s s1 ds lh lg other l x.keeps.lawful_after x.within) out (λ o i. words-written_other s ds o (out o i)) b.1 in
         let es : Writes = a.writes (written s (d.writes s)) in
         let y : Half s1 (written s1 es) es g Fits' change' = a.half s1 x.keeps.lawful_after place v in
         let locks : Writes = with_locks s1 ds more in
-        let held : (o : ℕ) → IsIn o (objects_of es) → touches locks o ≡ true = λ o i. touches-with_locks s1 ds more o (inr (subst (λ u. IsIn o u) (a.names s1) i)) in
+        let held : (o : ℕ) → IsIn o (objects_of es) → touches locks o ≡ true =
+        λ o i. touches-with_locks s1 ds more o (inr (subst (λ u. IsIn o u) (a.names s1) i)) in
         let whole : written s (joined s) ≡ written s1 es =
-        written-with_writes s locks es (distinct-with_locks s1 ds more (d.distinct s l b.0 b.2)) held ∙ ap (λ u. written u es) (written-with_locks s s1 ds more (λ o i. refl)) in
+        written-with_writes s locks es (distinct-with_locks s1 ds more (d.distinct s l b.0 b.2)) held
+        ∙ ap (λ u. written u es) (written-with_locks s s1 ds more (λ o i. refl)) in
         let y' : Half s1 (written s (joined s)) es g Fits' change' = subst (λ u. Half s1 u es g Fits' change') (sym whole) y in
         let keeps : Keeps s (written s (joined s)) (joined s) =
         keeps_join s s1 (written s (joined s)) h g ds es (joined s) lh lg other x.within y'.within x.keeps y'.keeps
         (λ o e. unwritten (joined s) ds o (λ t. joined_in s o (inl t)) e)
         (λ o e. unwritten (joined s) es o (λ t. joined_in s o (inr (subst (λ u. IsIn o u) (a.names s1) (in-touches es o t)))) e) in
         let same : map_of (name_of g) (catalogue_of s1) ≡ map_of (name_of g) (catalogue_of s) =
-        ap (map_of (name_of g)) x.leaves ∙ get_or-set_other (catalogue_of s) (name_of h) (name_of g) (change (map_of (name_of h) (catalogue_of s))) [] (λ z. apart (sym z)) in
+        ap (map_of (name_of g)) x.leaves ∙ get_or-set_other (catalogue_of s) (name_of h) (name_of g) (change (map_of (name_of h) (catalogue_of s))) []
+        (λ z. apart (sym z)) in
         let fits : Fits' (map_of (name_of g) (catalogue_of s)) = subst Fits' same y.fits in
         let leaves : catalogue_of (written s (joined s)) ≡ changed command (catalogue_of s) =
-        y'.leaves ∙ ap (λ m. set (catalogue_of s1) (name_of g) (change' m)) same ∙ ap (λ c. set c (name_of g) (change' (map_of (name_of g) (catalogue_of s)))) x.leaves ∙ sym (does.changes (catalogue_of s) x.fits fits) in
+        y'.leaves ∙ ap (λ m. set (catalogue_of s1) (name_of g) (change' m)) same
+        ∙ ap (λ c. set c (name_of g) (change' (map_of (name_of g) (catalogue_of s)))) x.leaves ∙ sym (does.changes (catalogue_of s) x.fits fits) in
         set_commit command s (joined s) keeps does.in_range (does.applies (catalogue_of s) x.fits fits) leaves
 
     -- They stay one whatever others commit meanwhile that writes none of the objects of both.
-    pub joined_fit : (from : State) → IsLawful from → BothPlaces from → AreVacant (after_first from) a.fresh → IsFit IsSetCommit from (tag_of command) (joined from)
+    pub joined_fit : (from : State) → IsLawful from → BothPlaces from → AreVacant (after_first from) a.fresh
+        → IsFit IsSetCommit from (tag_of command) (joined from)
     joined_fit from l b v s drift =
         let i : Stays BothPlaces from s held = drift_keeps_apart IsSetCommit (joined from) from (λ u. Stays BothPlaces from u held)
         (λ u tag ws m _ al out kept. record {
           lawful = al.keeps.lawful_after;
           place = (
-            d.stays u (written u ws) ws (keeps_of h u (written u ws) ws lh al.keeps) (λ o j. out o (in_held o (in_d o j))) (λ o j. kept o (in_held o (in_d o j))) m.place.0,
-            a.stays u (written u ws) ws (keeps_of g u (written u ws) ws lg al.keeps) (λ o j. out o (in_held o (in_a o j))) (λ o j. kept o (in_held o (in_a o j))) m.place.1,
+            d.stays u (written u ws) ws (keeps_of h u (written u ws) ws lh al.keeps) (λ o j. out o (in_held o (in_d o j)))
+                (λ o j. kept o (in_held o (in_d o j))) m.place.0,
+            a.stays u (written u ws) ws (keeps_of g u (written u ws) ws lg al.keeps) (λ o j. out o (in_held o (in_a o j)))
+                (λ o j. kept o (in_held o (in_a o j))) m.place.1,
             vacant_same u (written u ws) d.fresh (length-written u ws) (λ o j. kept o (in_held o (in_f o j))) m.place.2,
           );
           len = length-written u ws ∙ m.len;
@@ -131,7 +144,8 @@ module _ {Fits Fits' : Map → Type 0} {change change' : Map → Map} (h g : ℕ
         ap (λ w. words_at (written s w) o) wd ∙ words-written_as s from (d.writes from) o i.len (i.words o (in_right (d.objects ++ d.fresh) more o j)) in
         let wa : a.writes t ≡ a.writes u = a.same u t (λ o j. same o (in_left a.objects a.fresh o j)) in
         let all : joined s ≡ joined from =
-        ap (λ w. with_writes (with_locks t (d.writes s) more) w) wa ∙ ap (λ w. with_writes w (a.writes u)) (same_locks t u (d.writes s) more same ∙ ap (λ w. with_locks u w more) wd) in
+        ap (λ w. with_writes (with_locks t (d.writes s) more) w) wa
+        ∙ ap (λ w. with_writes w (a.writes u)) (same_locks t u (d.writes s) more same ∙ ap (λ w. with_locks u w more) wd) in
         subst (λ w. IsSetCommit (tag_of command) s w) all
         (joined_allowed s i.lawful i.place (vacant_same u t a.fresh len (λ o j. same o (in_right a.objects a.fresh o j)) v))
       where
@@ -151,7 +165,8 @@ module _ {Fits Fits' : Map → Type 0} {change change' : Map → Map} (h g : ℕ
         in_a o j = in_right (d.objects ++ d.fresh) more o (in_left a.objects a.fresh o j)
 
     -- So where the second change found its place in the state after the first.
-    pub joined_found : (from : State) → IsLawful from → d.Place from → AreVacant from d.fresh → a.Place (after_first from) → AreVacant (after_first from) a.fresh → IsFit IsSetCommit from (tag_of command) (joined from)
+    pub joined_found : (from : State) → IsLawful from → d.Place from → AreVacant from d.fresh → a.Place (after_first from)
+        → AreVacant (after_first from) a.fresh → IsFit IsSetCommit from (tag_of command) (joined from)
     joined_found from l p f q v =
         let s1 : State = written from (d.writes from) in
         let x : Half from s1 (d.writes from) h Fits change = d.half from l p f in

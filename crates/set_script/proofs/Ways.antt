@@ -38,7 +38,8 @@ AreVacant s os = (o : ℕ) → IsIn o os → IsVacant s o
 abbrev pub AreSame : State → State → List ℕ → Type 0
 AreSame s s' os = (o : ℕ) → IsIn o os → words_at s' o ≡ words_at s o
 
--- A way to change the map of a head's name, where that map fits: it has a place in a state, and locks and writes objects of the head's structure and vacant ones.
+-- A way to change the map of a head's name, where that map fits: it has a place in a state, and locks and writes objects of the
+-- head's structure and vacant ones.
 pub record Way (head : ℕ) (Fits : Map → Type 0) (change : Map → Map) : Type 1 where
   -- the states in which it has its place
   pub Place : State → Type 0
@@ -49,7 +50,8 @@ pub record Way (head : ℕ) (Fits : Map → Type 0) (change : Map → Map) : Typ
   pub writes : State → Writes
   pub names : (s : State) → objects_of (writes s) ≡ objects ++ fresh
   -- the place stays where others write none of the objects
-  pub stays : (s s' : State) (ws : Writes) → KeepsOf head s s' ws → ((o : ℕ) → IsIn o objects → touches ws o ≡ false) → AreSame s s' objects → Place s → Place s'
+  pub stays : (s s' : State) (ws : Writes) → KeepsOf head s s' ws → ((o : ℕ) → IsIn o objects → touches ws o ≡ false) → AreSame s s' objects
+      → Place s → Place s'
   -- and so do the writes
   pub same : (s s' : State) → AreSame s s' objects → writes s' ≡ writes s
   -- in a lawful state the objects differ and belong to the structure, and the writes change the map so
@@ -85,7 +87,8 @@ pub record Does (command : Command) (name : ℕ) (Fits : Map → Type 0) (change
   pub changes : (c : Maps) → Fits (map_of name c) → changed command c ≡ set c name (change (map_of name c))
 
 -- a commit that keeps what it must and leaves the command's catalogue is one of the sets
-pub set_commit : (command : Command) (s : State) (ws : Writes) → Keeps s (written s ws) ws → IsInRange command → applies command (catalogue_of s) ≡ true → catalogue_of (written s ws) ≡ changed command (catalogue_of s) → IsSetCommit (tag_of command) s ws
+pub set_commit : (command : Command) (s : State) (ws : Writes) → Keeps s (written s ws) ws → IsInRange command → applies command (catalogue_of s) ≡ true
+    → catalogue_of (written s ws) ≡ changed command (catalogue_of s) → IsSetCommit (tag_of command) s ws
 set_commit command s ws keeps range does leaves =
     let c : Maps = catalogue_of s in
     let fits = cost_fits (written s ws) keeps.lawful_after in
@@ -110,11 +113,13 @@ pub vacant_same : (s s' : State) (os : List ℕ) → length s' ≡ length s → 
 vacant_same s s' os e f v o i = let x : o < length s = (v o i).1 in ((v o i).0, omega arith, ap (word 0) (f o i) ∙ (v o i).2)
 
 -- A section that held nothing holds exactly the writes of the way.
-pub way_own : {Fits : Map → Type 0} {change : Map → Map} (head : ℕ) (w : Way head Fits change) (s : State) → IsLawful s → w.Place s → AreVacant s w.fresh → with_writes (with_locks s [] (w.objects ++ w.fresh)) (w.writes s) ≡ w.writes s
+pub way_own : {Fits : Map → Type 0} {change : Map → Map} (head : ℕ) (w : Way head Fits change) (s : State) → IsLawful s → w.Place s → AreVacant s w.fresh
+    → with_writes (with_locks s [] (w.objects ++ w.fresh)) (w.writes s) ≡ w.writes s
 way_own head w s l p v =
     ap (λ os. with_writes (with_locks s [] os) (w.writes s)) (sym (w.names s)) ∙ own_from_none s (w.writes s) (w.distinct s l p v)
 
-module _ {Fits : Map → Type 0} {change : Map → Map} (head : ℕ) (w : Way head Fits change) (command : Command) (does : Does command (name_of head) Fits change) (lh : head < 180) where
+module _ {Fits : Map → Type 0} {change : Map → Map} (head : ℕ) (w : Way head Fits change) (command : Command) (does : Does command (name_of head) Fits change)
+    (lh : head < 180) where
   -- The change is a commit of the sets.
   pub way_allowed : (s : State) → IsLawful s → w.Place s → AreVacant s w.fresh → IsSetCommit (tag_of command) s (w.writes s)
   way_allowed s l p v =
@@ -124,10 +129,12 @@ module _ {Fits : Map → Type 0} {change : Map → Map} (head : ℕ) (w : Way he
   -- It stays one whatever others commit meanwhile that writes none of its objects.
   pub way_fit : (from : State) → IsLawful from → w.Place from → AreVacant from w.fresh → IsFit IsSetCommit from (tag_of command) (w.writes from)
   way_fit from l p v s drift =
-      let i : Stays w.Place from s (w.objects ++ w.fresh) = drift_keeps_apart IsSetCommit (w.writes from) from (λ u. Stays w.Place from u (w.objects ++ w.fresh))
+      let i : Stays w.Place from s (w.objects ++ w.fresh) =
+      drift_keeps_apart IsSetCommit (w.writes from) from (λ u. Stays w.Place from u (w.objects ++ w.fresh))
       (λ u tag ws m _ al apart kept. record {
         lawful = al.keeps.lawful_after;
-        place = w.stays u (written u ws) ws (keeps_of head u (written u ws) ws lh al.keeps) (λ o j. apart o (in_w o (in_left w.objects w.fresh o j))) (λ o j. kept o (in_w o (in_left w.objects w.fresh o j))) m.place;
+        place = w.stays u (written u ws) ws (keeps_of head u (written u ws) ws lh al.keeps) (λ o j. apart o (in_w o (in_left w.objects w.fresh o j)))
+            (λ o j. kept o (in_w o (in_left w.objects w.fresh o j))) m.place;
         len = length-written u ws ∙ m.len;
         words = λ o j. kept o (in_w o j) ∙ m.words o j;
       })

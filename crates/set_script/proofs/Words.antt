@@ -21,8 +21,11 @@ pub words_in-past_blanks : (bs : List ℕ) → words_in (drop (prefix_len is_bla
 words_in-past_blanks [] = refl
 words_in-past_blanks (b ∷ bs) = cases (words_in-past_blanks bs) (is_blank b) refl
   where
-    cases : words_in (drop (prefix_len is_blank bs) bs) ≡ words_in bs → (t : Bool) → is_blank b ≡ t → words_in (drop (cond t (1 + prefix_len is_blank bs) 0) (b ∷ bs)) ≡ words_in (b ∷ bs)
-    cases rest true there = ap words_in (drop-one_more (prefix_len is_blank bs) b bs) ∙ rest ∙ sym (ap (λ parts. take_while is_plain (filter is_word parts)) (slice_split-cons_yes is_blank b bs there))
+    cases : words_in (drop (prefix_len is_blank bs) bs) ≡ words_in bs → (t : Bool) → is_blank b ≡ t
+        → words_in (drop (cond t (1 + prefix_len is_blank bs) 0) (b ∷ bs)) ≡ words_in (b ∷ bs)
+    cases rest true there =
+        ap words_in (drop-one_more (prefix_len is_blank bs) b bs) ∙ rest
+        ∙ sym (ap (λ parts. take_while is_plain (filter is_word parts)) (slice_split-cons_yes is_blank b bs there))
     cases rest false none = refl
 
 -- where the blanks in front are gone, the first byte is none
@@ -30,7 +33,8 @@ pub starts_plain : (bs : List ℕ) (b : ℕ) (rest : List ℕ) → drop (prefix_
 starts_plain [] b rest e = absurd (cc)
 starts_plain (x ∷ bs) b rest e = cases (starts_plain bs b rest) (is_blank x) refl e
   where
-    cases : (drop (prefix_len is_blank bs) bs ≡ b ∷ rest → is_blank b ≡ false) → (t : Bool) → is_blank x ≡ t → drop (cond t (1 + prefix_len is_blank bs) 0) (x ∷ bs) ≡ b ∷ rest → is_blank b ≡ false
+    cases : (drop (prefix_len is_blank bs) bs ≡ b ∷ rest → is_blank b ≡ false) → (t : Bool) → is_blank x ≡ t
+        → drop (cond t (1 + prefix_len is_blank bs) 0) (x ∷ bs) ≡ b ∷ rest → is_blank b ≡ false
     cases more true there e = more (sym (drop-one_more (prefix_len is_blank bs) x bs) ∙ e)
     cases more false none e = let same : x ≡ b = cc in rw same at none
 
@@ -62,7 +66,9 @@ module _ (b : ℕ) (bs : List ℕ) (none : is_blank b ≡ false) where
   parts_in-first = let first = first_part bs in rw (none, first.parts, first.words) refl
 
   words_in-parts : words_in (b ∷ bs) ≡ cond (not (b == 35)) ((b ∷ take (position_or_len is_blank bs) bs) ∷ words_in (drop (position_or_len is_blank bs) bs)) []
-  words_in-parts = ap (take_while is_plain) parts_in-first ∙ take_while-cons is_plain (b ∷ take (position_or_len is_blank bs) bs) (parts_in (drop (position_or_len is_blank bs) bs))
+  words_in-parts =
+      ap (take_while is_plain) parts_in-first
+      ∙ take_while-cons is_plain (b ∷ take (position_or_len is_blank bs) bs) (parts_in (drop (position_or_len is_blank bs) bs))
 
   -- and for the first word, where they begin no comment
   words_in-first : (b == 35) ≡ false → (n : ℕ) → n ≡ position_or_len is_blank (b ∷ bs) → words_in (b ∷ bs) ≡ take n (b ∷ bs) ∷ words_in (drop n (b ∷ bs))
@@ -75,7 +81,8 @@ module _ (b : ℕ) (bs : List ℕ) (none : is_blank b ≡ false) where
       ∙ sym (ap (λ x. x ∷ words_in (drop n (b ∷ bs))) front ∙ ap (λ x. (b ∷ take e bs) ∷ words_in x) back)
 
   words_in-comment : (b == 35) ≡ true → words_in (b ∷ bs) ≡ []
-  words_in-comment sign = words_in-parts ∙ ap (λ t. cond (not t) ((b ∷ take (position_or_len is_blank bs) bs) ∷ words_in (drop (position_or_len is_blank bs) bs)) []) sign
+  words_in-comment sign =
+      words_in-parts ∙ ap (λ t. cond (not t) ((b ∷ take (position_or_len is_blank bs) bs) ∷ words_in (drop (position_or_len is_blank bs) bs)) []) sign
 
 -- The words of bytes, by what follows the blanks in front.
 module _ (bytes : List ℕ) where
@@ -89,7 +96,8 @@ module _ (bytes : List ℕ) where
       let same : x ≡ 35 = cc in
       sym (words_in-past_blanks bytes) ∙ ap words_in (sym e) ∙ words_in-comment x rest (starts_plain bytes x rest (sym e)) (grind (arith, nat_tests))
 
-  pub word : (rest : List ℕ) (b n : ℕ) → rest ≡ drop (prefix_len is_blank bytes) bytes → Some b ≡ slice_get rest 0 → (b ≡ 35 → ⊥) → n ≡ position_or_len is_blank rest → words_in bytes ≡ take n rest ∷ words_in (drop n rest)
+  pub word : (rest : List ℕ) (b n : ℕ) → rest ≡ drop (prefix_len is_blank bytes) bytes → Some b ≡ slice_get rest 0 → (b ≡ 35 → ⊥)
+      → n ≡ position_or_len is_blank rest → words_in bytes ≡ take n rest ∷ words_in (drop n rest)
   word [] b n e first plain len = absurd (cc)
   word (x ∷ rest) b n e first plain len =
       let same : x ≡ b = cc in

@@ -1,5 +1,6 @@
 -- Which objects are written.
-use Rattle.std.proofs.Common.{◌≡◌, ◌≢◌, ℕ, List, inl, inr, Bool, true, false, not, ◌&&◌, ◌||◌, eqb, [], ◌∷◌, refl, sym, ap, ◌∙◌, arith, eq-eqb, eqb-true, true≢false}
+use Rattle.std.proofs.Common.{◌≡◌, ◌≢◌, ℕ, List, inl, inr, Bool, true, false, not, ◌&&◌, ◌||◌, eqb, [], ◌∷◌, refl, sym}
+use Rattle.std.proofs.Common.{ap, ◌∙◌, arith, eq-eqb, eqb-true, true≢false}
 use Rattle.std.proofs.lemmas.Bool.Decides.{nat_tests}
 use Rattle.mv_history.specs.State.{Writes, touches}
 use Rattle.mv_history.specs.Legal.{are_distinct}

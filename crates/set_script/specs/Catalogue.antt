@@ -1,5 +1,6 @@
 -- A catalogue: for each name a map, as the list of its keys, rising, each with its value.
-use Rattle.std.specs.Prelude.{ℕ, suc, ◌+◌, ◌-◌, ◌*◌, ◌<◌, ◌^◌, ◌==◌, ◌≡◌, All, nat_lt, Bool, true, false, List, [], ◌∷◌, length, replicate, set, slice_index_or, ⊤, Option, None, Some, if◌then◌else◌}
+use Rattle.std.specs.Prelude.{ℕ, suc, ◌+◌, ◌-◌, ◌*◌, ◌<◌, ◌^◌, ◌==◌, ◌≡◌, All, nat_lt, Bool, true, false, List, []}
+use Rattle.std.specs.Prelude.{◌∷◌, length, replicate, set, slice_index_or, ⊤, Option, None, Some, if◌then◌else◌}
 
 -- keys with their values
 abbrev pub Map : Type 0

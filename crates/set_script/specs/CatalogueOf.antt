@@ -1,5 +1,6 @@
 -- The catalogue for which a state stands.
-use Rattle.std.specs.Prelude.{ℕ, zero, suc, ◌+◌, ◌-◌, ◌/◌, nat_lt, Bool, ◌==◌, not, ◌&&◌, if◌then◌else◌, List, [], ◌∷◌, map, drop, slice_index_or}
+use Rattle.std.specs.Prelude.{ℕ, zero, suc, ◌+◌, ◌-◌, ◌/◌, nat_lt, Bool, ◌==◌, not, ◌&&◌, if◌then◌else◌, List, []}
+use Rattle.std.specs.Prelude.{◌∷◌, map, drop, slice_index_or}
 use Rattle.mv_history.specs.State.{State}
 use Rattle.set_script.specs.Catalogue.{Map, Maps, put, names}
 use Rattle.set_script.specs.Objects.{first_node}

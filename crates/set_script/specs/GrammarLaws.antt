@@ -1,5 +1,6 @@
 -- The grammar by all of its lines, and the first faulty one.
-use Rattle.std.specs.Prelude.{◌≡◌, ◌≢◌, ◌≤◌, ℕ, ◌+◌, ◌%◌, nat_lt, List, [], ◌∷◌, ◌++◌, length, ◌<◌, ◌^◌, codes, decimal, None, Some, Ok, Err, ⊤, if◌then◌else◌}
+use Rattle.std.specs.Prelude.{◌≡◌, ◌≢◌, ◌≤◌, ℕ, ◌+◌, ◌%◌, nat_lt, List, [], ◌∷◌, ◌++◌, length, ◌<◌, ◌^◌}
+use Rattle.std.specs.Prelude.{codes, decimal, None, Some, Ok, Err, ⊤, if◌then◌else◌}
 use Rattle.std.specs.List.{flat_map}
 use Rattle.set_script.specs.declared.commands.Command.{Command}
 use Rattle.set_script.specs.declared.commands.Command.TheVariants.{Add, Put, Del, Has, Get, Move, Pair, Size, Next}

@@ -42,8 +42,10 @@ Reply-set = hlevel (props, ⊎_set)
 
 Keeps-prop : (before after : State) (writes : Writes) → IsProp (Keeps before after writes)
 Keeps-prop before after writes x y =
-    let keys_prop : IsProp ((o : ℕ) → owner before o ≢ 0 → owner after o ≡ owner before o → (kind after o ≡ kind before o) × (key after o ≡ key before o)) = hlevel props in
-    let ends_prop : IsProp ((root k leaf : ℕ) → first_root ≤ root → root < first_node → EndsAt before root k leaf → touches writes leaf ≡ false → EndsAt after root k leaf) = hlevel (props, EndsAt-prop) in
+    let keys_prop : IsProp ((o : ℕ) → owner before o ≢ 0 → owner after o ≡ owner before o
+    → (kind after o ≡ kind before o) × (key after o ≡ key before o)) = hlevel props in
+    let ends_prop : IsProp ((root k leaf : ℕ) → first_root ≤ root → root < first_node → EndsAt before root k leaf → touches writes leaf ≡ false
+    → EndsAt after root k leaf) = hlevel (props, EndsAt-prop) in
     λ i. record {
       lawful_before = IsLawful-prop before x.lawful_before y.lawful_before i;
       lawful_after = IsLawful-prop after x.lawful_after y.lawful_after i;
@@ -55,7 +57,8 @@ Makes-prop : (command : Command) (before after : State) → IsProp (Makes comman
 Makes-prop command before after x y = λ i. record {
   in_range = IsInRange-prop command x.in_range y.in_range i;
   answer = Reply-set (reply command (catalogue_of before) (capacity before) false) Yes x.answer y.answer i;
-  leaves = Coded-set (coded_list (coded_list (coded× coded_ℕ coded_ℕ))) (catalogue_of after) (next command (catalogue_of before) (capacity before) false) x.leaves y.leaves i;
+  leaves = Coded-set (coded_list (coded_list (coded× coded_ℕ coded_ℕ))) (catalogue_of after)
+      (next command (catalogue_of before) (capacity before) false) x.leaves y.leaves i;
 }
 
 MakesSome-prop : (command : Option Command) (before after : State) → IsProp (MakesSome command before after)

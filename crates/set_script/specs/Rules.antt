@@ -34,7 +34,8 @@ pub record Keeps (before after : State) (writes : Writes) : Type 0 where
   pub lawful_before : IsLawful before
   pub lawful_after : IsLawful after
   pub keys : (o : ℕ) → owner before o ≢ 0 → owner after o ≡ owner before o → (kind after o ≡ kind before o) × (key after o ≡ key before o)
-  pub ends : (root k leaf : ℕ) → first_root ≤ root → root < first_node → EndsAt before root k leaf → touches writes leaf ≡ false → EndsAt after root k leaf
+  pub ends : (root k leaf : ℕ) → first_root ≤ root → root < first_node → EndsAt before root k leaf → touches writes leaf ≡ false
+      → EndsAt after root k leaf
 
 -- The command replies yes on the catalogue of the state before, at a place that is not the last time, and leaves that of the state after.
 pub record Makes (command : Command) (before after : State) : Type 0 where

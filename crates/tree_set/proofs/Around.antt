@@ -27,7 +27,8 @@ parent_at s root (q ∷ ps) u g p e =
     inr (Stands-node s root (plug (q ∷ ps) u) g.stands p i, Stands-owner s root (plug (q ∷ ps) u) g.stands p i)
 
 -- and none of the part's objects
-pub part_not_parent : (s : State) (root : ℕ) (ps : Path) (u : Tree) → root < 180 → IsGrown s root (plug ps u) → (p : ℕ) → parent_of root ps ≡ p → (o : ℕ) → IsIn o (objects_in u) → o ≢ p
+pub part_not_parent : (s : State) (root : ℕ) (ps : Path) (u : Tree) → root < 180 → IsGrown s root (plug ps u) → (p : ℕ) → parent_of root ps ≡ p → (o : ℕ)
+    → IsIn o (objects_in u) → o ≢ p
 part_not_parent s root [] u lt g p e o i q = let lo : 180 ≤ o = part_node s root [] u g o i in omega arith
 part_not_parent s root (t ∷ ps) u lt g p e o i q =
     plug_apart (t ∷ ps) u g.distinct o (subst (λ (n : ℕ). IsIn n (around (t ∷ ps))) (e ∙ sym q) (parent_in root t ps)) i

@@ -1,5 +1,6 @@
 -- A count of a map's keys, from one to the next.
-use Rattle.std.proofs.Common.{◌≡◌, ℕ, suc, ◌+◌, ◌^◌, ◌<◌, ◌≤◌, inl, inr, Bool, cond, lt-ltb, le-ltb, [], ◌∷◌, length, refl, sym, ap, ◌∙◌, subst, arith, Option, Some, None}
+use Rattle.std.proofs.Common.{◌≡◌, ℕ, suc, ◌+◌, ◌^◌, ◌<◌, ◌≤◌, inl, inr, Bool, cond, lt-ltb, le-ltb, [], ◌∷◌, length}
+use Rattle.std.proofs.Common.{refl, sym, ap, ◌∙◌, subst, arith, Option, Some, None}
 use Rattle.std.proofs.lemmas.Bool.{cases_lt, cases_eq}
 use Rattle.mv_history.specs.State.{State}
 use Rattle.set_script.specs.Catalogue.{Map, IsAboveKey, IsMap, map_of, next_key}
@@ -59,11 +60,13 @@ keys_fit s root (leaf n k v) q = (q.1, tt)
 keys_fit s root (inner n d a b) q =
     under_append (2 ^ 32) (entries_in a) (entries_in b) (keys_fit s root a q.3) (keys_fit s root b q.4)
 
-pub tree_map : (s : State) (root : ℕ) → IsLawful s → 170 ≤ root → root < 180 → IsMap (map_of (name_of root) (catalogue_of s)) × IsUnderKey (2 ^ 32) (map_of (name_of root) (catalogue_of s))
+pub tree_map : (s : State) (root : ℕ) → IsLawful s → 170 ≤ root → root < 180
+    → IsMap (map_of (name_of root) (catalogue_of s)) × IsUnderKey (2 ^ 32) (map_of (name_of root) (catalogue_of s))
 tree_map s root l lo lt = elim (cases_eq (link s root) 0) [
   | inl e ↦ subst (λ (m : Map). IsMap m × IsUnderKey (2 ^ 32) m) (sym (no_keys s root l lo lt e)) (tt, tt)
   | inr n ↦ (let t = some_tree s root l lo lt n in
-      subst (λ (m : Map). IsMap m × IsUnderKey (2 ^ 32) m) (sym (map_of-tree s root t.0 lo lt t.1)) (IsMap-tree t.0 t.1.ordered, keys_fit s root t.0 t.1.stands))
+      subst (λ (m : Map). IsMap m × IsUnderKey (2 ^ 32) m) (sym (map_of-tree s root t.0 lo lt t.1))
+      (IsMap-tree t.0 t.1.ordered, keys_fit s root t.0 t.1.stands))
 ]
 
 pub count_zero : (m : Map) → 0 ≡ count_under 0 m
@@ -74,5 +77,6 @@ pub count_past : (k : ℕ) (m : Map) → 2 ^ 32 ≤ k → IsUnderKey (2 ^ 32) m 
 count_past k m le u = count_all k m (under_higher (2 ^ 32) k m le u)
 
 -- the next key by another state
-pub next_same : (s t : State) (root k : ℕ) (r : Option ℕ) → t ≡ s → r ≡ next_key k (map_of (name_of root) (catalogue_of t)) → next_key k (map_of (name_of root) (catalogue_of s)) ≡ r
+pub next_same : (s t : State) (root k : ℕ) (r : Option ℕ) → t ≡ s → r ≡ next_key k (map_of (name_of root) (catalogue_of t))
+    → next_key k (map_of (name_of root) (catalogue_of s)) ≡ r
 next_same s t root k r e f = sym (f ∙ ap (λ (u : State). next_key k (map_of (name_of root) (catalogue_of u))) e)

@@ -1,5 +1,6 @@
 -- The writes of a del that leaves a leaf in the tree.
-use Rattle.std.proofs.Common.{◌≡◌, ◌≢◌, ℕ, suc, ◌^◌, ◌<◌, ◌≤◌, inl, inr, true, List, [], ◌∷◌, ◌++◌, length, refl, sym, ap, ◌∙◌, subst, arith, Option, Some, None}
+use Rattle.std.proofs.Common.{◌≡◌, ◌≢◌, ℕ, suc, ◌^◌, ◌<◌, ◌≤◌, inl, inr, true, List, [], ◌∷◌, ◌++◌, length}
+use Rattle.std.proofs.Common.{refl, sym, ap, ◌∙◌, subst, arith, Option, Some, None}
 use Rattle.mv_history.specs.State.{State, written}
 use Rattle.mv_history.specs.Legal.{are_distinct}
 use Rattle.mv_history.specs.Meaning.{words_at}
@@ -35,7 +36,8 @@ tree_with s root o l lo lt node own = go (l.trees root lo lt).0 (l.trees root lo
     go (Some t) g = (t, g)
 
 -- the search for a leaf's key takes a path to it
-pub path_to_leaf : (s : State) (root k l : ℕ) (t : Tree) → IsGrown s root t → IsLeaf s root k l → (x : ℕ) × (ps : Path) × IsGrown s root (plug ps (leaf l k x)) × Follows k ps
+pub path_to_leaf : (s : State) (root k l : ℕ) (t : Tree) → IsGrown s root t → IsLeaf s root k l
+    → (x : ℕ) × (ps : Path) × IsGrown s root (plug ps (leaf l k x)) × Follows k ps
 path_to_leaf s root k l t g is = (r.3, r.0, subst (λ (j : ℕ). IsGrown s root (plug r.0 (leaf l j r.3))) key_is at_leaf, r.5)
   where
     r : (ps : Path) × (n : ℕ) × (j : ℕ) × (v : ℕ) × (t ≡ plug ps (leaf n j v)) × Follows k ps
@@ -57,14 +59,16 @@ path_to_leaf s root k l t g is = (r.3, r.0, subst (λ (j : ℕ). IsGrown s root 
     key_is = sym (ap (word 2) (stands_part s root r.0 (leaf l r.2 r.3) at_leaf.stands).2) ∙ is.3
 
 -- The last turn of the search's path, where the place of a del is.
-pub cut_twig : (s : State) (root k g p l : ℕ) → IsLawful s → 170 ≤ root → root < 180 → IsCutPlace s root k g p l → (x : ℕ) × (ps : Path) × (q : Turn) × IsTwig s root k g p l x ps q
+pub cut_twig : (s : State) (root k g p l : ℕ) → IsLawful s → 170 ≤ root → root < 180 → IsCutPlace s root k g p l
+    → (x : ℕ) × (ps : Path) × (q : Turn) × IsTwig s root k g p l x ps q
 cut_twig s root k g p l law lo lt place =
     let t = tree_with s root l law lo lt place.is_leaf.0 place.is_leaf.1 in
     let r = path_to_leaf s root k l t.0 t.1 place.is_leaf in
     let e : parent_of root r.1 ≡ p = parent_is s root r.1 (leaf l k r.0) r.2 p (inr (place.is_inner, place.child)) in
     from r.0 r.1 r.2 r.3 e
   where
-    from : (x : ℕ) (qs : Path) → IsGrown s root (plug qs (leaf l k x)) → Follows k qs → parent_of root qs ≡ p → (x : ℕ) × (ps : Path) × (q : Turn) × IsTwig s root k g p l x ps q
+    from : (x : ℕ) (qs : Path) → IsGrown s root (plug qs (leaf l k x)) → Follows k qs → parent_of root qs ≡ p
+        → (x : ℕ) × (ps : Path) × (q : Turn) × IsTwig s root k g p l x ps q
     from x [] grown f e = let up : 180 ≤ p = place.is_inner.0 in absurd (omega arith)
     from x (t ∷ qs) grown f e =
         let r = last_turn t qs in
@@ -106,36 +110,45 @@ module _ (s : State) (root k g p l x : ℕ) (ps : Path) (q : Turn) (law : IsLawf
   -- the words that they leave
   pub cut_prunes : Prunes s (written s (cut_writes s g p l)) g p l
   cut_prunes = record {
-    grand = words-written_same s (cut_writes s g p l) 0 g (0, []) cut_distinct (omega arith) refl (at_in_range s root g law lt (parent_at s root ps (plug (q ∷ []) (leaf l k x)) a.grown g a.grand));
-    no_parent = words-written_same s (cut_writes s g p l) 1 p (0, []) cut_distinct (omega arith) refl (owned_in_range s p root (part_owner s root ps (plug (q ∷ []) (leaf l k x)) a.grown p parent_part));
-    no_leaf = words-written_same s (cut_writes s g p l) 2 l (0, []) cut_distinct (omega arith) refl (owned_in_range s l root (part_owner s root ps (plug (q ∷ []) (leaf l k x)) a.grown l (leaf_in q l k x)));
-    others = λ o ng np nl. words-written_other s (cut_writes s g p l) o (touches-out (cut_writes s g p l) o (λ i. elim i [ inl e ↦ ng e | inr (inl e) ↦ np e | inr (inr (inl e)) ↦ nl e | inr (inr (inr e)) ↦ e ]));
+    grand = words-written_same s (cut_writes s g p l) 0 g (0, []) cut_distinct (omega arith) refl
+        (at_in_range s root g law lt (parent_at s root ps (plug (q ∷ []) (leaf l k x)) a.grown g a.grand));
+    no_parent = words-written_same s (cut_writes s g p l) 1 p (0, []) cut_distinct (omega arith) refl
+        (owned_in_range s p root (part_owner s root ps (plug (q ∷ []) (leaf l k x)) a.grown p parent_part));
+    no_leaf = words-written_same s (cut_writes s g p l) 2 l (0, []) cut_distinct (omega arith) refl
+        (owned_in_range s l root (part_owner s root ps (plug (q ∷ []) (leaf l k x)) a.grown l (leaf_in q l k x)));
+    others = λ o ng np nl. words-written_other s (cut_writes s g p l) o
+        (touches-out (cut_writes s g p l) o (λ i. elim i [ inl e ↦ ng e | inr (inl e) ↦ np e | inr (inr (inl e)) ↦ nl e | inr (inr (inr e)) ↦ e ]));
   }
 
 -- A del that leaves a leaf in the tree keeps what it must, and takes its key out of the catalogue.
-pub cut_half : (s : State) (root k v g p l : ℕ) → IsLawful s → 170 ≤ root → root < 180 → IsCutPlace s root k g p l → value s l ≡ v → Half s (written s (cut_writes s g p l)) (cut_writes s g p l) root (Has k v) (take_out k)
+pub cut_half : (s : State) (root k v g p l : ℕ) → IsLawful s → 170 ≤ root → root < 180 → IsCutPlace s root k g p l → value s l ≡ v
+    → Half s (written s (cut_writes s g p l)) (cut_writes s g p l) root (Has k v) (take_out k)
 cut_half s root k v g p l law lo lt place val =
     let r = cut_twig s root k g p l law lo lt place in from r.0 r.1 r.2 r.3
   where
-    from : (x : ℕ) (ps : Path) (q : Turn) → IsTwig s root k g p l x ps q → Half s (written s (cut_writes s g p l)) (cut_writes s g p l) root (Has k v) (take_out k)
+    from : (x : ℕ) (ps : Path) (q : Turn) → IsTwig s root k g p l x ps q
+        → Half s (written s (cut_writes s g p l)) (cut_writes s g p l) root (Has k v) (take_out k)
     from x ps q a =
         let s' : State = written s (cut_writes s g p l) in
         let c : Prunes s s' g p l = cut_prunes s root k g p l x ps q law lt a in
         let new : IsGrown s' root (plug ps (beside q)) = grown_less s s' root k g p l x ps q lt a c in
-        tree_half s (cut_writes s g p l) root (Has k v) (take_out k) (Some (plug ps (plug (q ∷ []) (leaf l k x)))) (Some (plug ps (beside q))) law lo lt a.grown new
+        tree_half s (cut_writes s g p l) root (Has k v) (take_out k) (Some (plug ps (plug (q ∷ []) (leaf l k x)))) (Some (plug ps (beside q))) law
+        lo lt a.grown new
         (record {
           within = cut_within s s' root k g p l x ps q lt a c;
           keys = cut_keys s s' root k g p l x ps q lt a c;
           ends = λ i n e out. (
             plug ps (beside q),
             new,
-            cut_ends s s' root k g p l x ps q lt a c i n (ap (seek i) (grown_once s root (plug ps (plug (q ∷ []) (leaf l k x))) e.0 a.grown e.1) ∙ e.2) (λ z. out-touches (cut_writes s g p l) n out (inr (inr (inl z)))),
+            cut_ends s s' root k g p l x ps q lt a c i n (ap (seek i) (grown_once s root (plug ps (plug (q ∷ []) (leaf l k x))) e.0 a.grown e.1) ∙ e.2)
+                (λ z. out-touches (cut_writes s g p l) n out (inr (inr (inl z)))),
           );
         })
         (twig_value s root k g p l x ps q a ∙ ap Some val) (entries_cut s root k g p l x ps q a)
 
 -- the children of the leaf's parent fit their type
-pub twig_fits : (s : State) (root k g p l x : ℕ) (ps : Path) (q : Turn) (words : List ℕ) → IsLawful s → IsTwig s root k g p l x ps q → words ≡ words_at s p → (word 3 words < 2 ^ 32) × (word 4 words < 2 ^ 32)
+pub twig_fits : (s : State) (root k g p l x : ℕ) (ps : Path) (q : Turn) (words : List ℕ) → IsLawful s → IsTwig s root k g p l x ps q → words ≡ words_at s p
+    → (word 3 words < 2 ^ 32) × (word 4 words < 2 ^ 32)
 twig_fits s root k g p l x ps q words law a e =
     go q (stands_part s root ps (plug (q ∷ []) (leaf l k x)) a.grown.stands) a.parent
   where

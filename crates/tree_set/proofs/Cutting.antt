@@ -15,10 +15,12 @@ use Rattle.set_script.proofs.TreeMaps.{leaf_value}
 use Rattle.tree_set.specs.Paths.{Turn, Path, plug, node_of, parent_of, Follows, around, before, after}
 use Rattle.tree_set.specs.Paths.Turn.{left, right}
 use Rattle.tree_set.specs.Places.{redirect, sibling}
-use Rattle.tree_set.proofs.Plugging.{part_in, plug_in, plug_apart, distinct_part, stands_part, ordered_part, ordered_within, entries_plug, before_under, seek_plug, seek_beside}
+use Rattle.tree_set.proofs.Plugging.{part_in, plug_in, plug_apart, distinct_part, stands_part, ordered_part, ordered_within, entries_plug}
+use Rattle.tree_set.proofs.Plugging.{before_under, seek_plug, seek_beside}
 use Rattle.tree_set.proofs.Around.{part_owner, part_node, parent_at, part_not_parent}
 use Rattle.tree_set.proofs.Replacing.{Replaced, replaced, redirect_keeps}
-use Rattle.tree_set.proofs.Turns.{beside, beside_in, turn_in, leaf_in, in_turn, beside_not_turn, beside_not_leaf, beside_distinct, beside_stands, beside_ordered, beside_within, sibling_is, top_turn, seek_turn, entries_turn}
+use Rattle.tree_set.proofs.Turns.{beside, beside_in, turn_in, leaf_in, in_turn, beside_not_turn, beside_not_leaf, beside_distinct, beside_stands}
+use Rattle.tree_set.proofs.Turns.{beside_ordered, beside_within, sibling_is, top_turn, seek_turn, entries_turn}
 
 -- the words of the grandparent g, the parent p and the leaf l; the rest is as before
 pub record Prunes (s s' : State) (g p l : ℕ) : Type 0 where
@@ -53,7 +55,8 @@ module _ (s s' : State) (root k g p l x : ℕ) (ps : Path) (q : Turn) (lt : root
 
   beside_stays : (o : ℕ) → IsIn o (objects_in (beside q)) → words_at s' o ≡ words_at s o
   beside_stays o i =
-      c.others o (part_not_grand o (beside_in q (leaf l k x) o i)) (λ e. beside_not_turn q (leaf l k x) apart o i (e ∙ sym a.parent)) (beside_not_leaf q l k x apart o i)
+      c.others o (part_not_grand o (beside_in q (leaf l k x) o i)) (λ e. beside_not_turn q (leaf l k x) apart o i (e ∙ sym a.parent))
+      (beside_not_leaf q l k x apart o i)
 
   other_stays : (o : ℕ) → (o ≡ root) ⊎ IsIn o (around ps) → o ≢ parent_of root ps → words_at s' o ≡ words_at s o
   other_stays o (inl e) n =
@@ -62,8 +65,10 @@ module _ (s s' : State) (root k g p l x : ℕ) (ps : Path) (q : Turn) (lt : root
       c.others o (λ z. n (z ∙ sym a.grand)) (omega arith) (omega arith)
   other_stays o (inr i) n =
       c.others o (λ z. n (z ∙ sym a.grand))
-      (λ z. plug_apart ps (plug (q ∷ []) (leaf l k x)) a.grown.distinct o i (subst (λ (y : ℕ). IsIn y (objects_in (plug (q ∷ []) (leaf l k x)))) (sym z) parent_part))
-      (λ z. plug_apart ps (plug (q ∷ []) (leaf l k x)) a.grown.distinct o i (subst (λ (y : ℕ). IsIn y (objects_in (plug (q ∷ []) (leaf l k x)))) (sym z) (leaf_in q l k x)))
+      (λ z. plug_apart ps (plug (q ∷ []) (leaf l k x)) a.grown.distinct o i
+      (subst (λ (y : ℕ). IsIn y (objects_in (plug (q ∷ []) (leaf l k x)))) (sym z) parent_part))
+      (λ z. plug_apart ps (plug (q ∷ []) (leaf l k x)) a.grown.distinct o i
+      (subst (λ (y : ℕ). IsIn y (objects_in (plug (q ∷ []) (leaf l k x)))) (sym z) (leaf_in q l k x)))
 
   grand_owner : owner s' g ≡ owner s g
   grand_owner = ap (word 0) c.grand ∙ redirect_keeps (words_at s g) p (sibling s p l) 0 (omega arith) (omega arith)
@@ -81,7 +86,10 @@ module _ (s s' : State) (root k g p l x : ℕ) (ps : Path) (q : Turn) (lt : root
   pruned_as : Replaced s s' root ps (plug (q ∷ []) (leaf l k x)) (beside q)
   pruned_as = record {
     leads =
-        ap (words_at s') a.grand ∙ c.grand ∙ ap (λ (z : ℕ). redirect (words_at s z) p (sibling s p l)) (sym a.grand) ∙ ap (λ (z : ℕ). redirect (words_at s (parent_of root ps)) z (sibling s z l)) (sym a.parent) ∙ ap (λ (z : ℕ). redirect (words_at s (parent_of root ps)) (node_of q) z) (sibling_is s root q l k x stood apart) ∙ ap (λ (z : ℕ). redirect (words_at s (parent_of root ps)) z (top (beside q))) (sym (top_turn q (leaf l k x)));
+        ap (words_at s') a.grand ∙ c.grand ∙ ap (λ (z : ℕ). redirect (words_at s z) p (sibling s p l)) (sym a.grand)
+        ∙ ap (λ (z : ℕ). redirect (words_at s (parent_of root ps)) z (sibling s z l)) (sym a.parent)
+        ∙ ap (λ (z : ℕ). redirect (words_at s (parent_of root ps)) (node_of q) z) (sibling_is s root q l k x stood apart)
+        ∙ ap (λ (z : ℕ). redirect (words_at s (parent_of root ps)) z (top (beside q))) (sym (top_turn q (leaf l k x)));
     others = other_stays;
     stands = Stands-same s s' root (beside q) (beside_stands s root q (leaf l k x) stood) beside_stays;
     ordered = beside_ordered q (leaf l k x) (ordered_part ps (plug (q ∷ []) (leaf l k x)) a.grown.ordered);
@@ -108,7 +116,8 @@ module _ (s s' : State) (root k g p l x : ℕ) (ps : Path) (q : Turn) (lt : root
   pub cut_within : IsWithin s s' root
   cut_within o = go (cases_eq o g) (cases_eq o p) (cases_eq o l)
     where
-      go : (o ≡ g) ⊎ (o ≢ g) → (o ≡ p) ⊎ (o ≢ p) → (o ≡ l) ⊎ (o ≢ l) → (words_at s' o ≡ words_at s o) ⊎ ((o ≡ root) ⊎ ((180 ≤ o) × IsOf s root o × IsOf s' root o))
+      go : (o ≡ g) ⊎ (o ≢ g) → (o ≡ p) ⊎ (o ≢ p) → (o ≡ l) ⊎ (o ≢ l)
+          → (words_at s' o ≡ words_at s o) ⊎ ((o ≡ root) ⊎ ((180 ≤ o) × IsOf s root o × IsOf s' root o))
       go (inr ng) (inr np) (inr nl) = inl (c.others o ng np nl)
       go (inr ng) (inl e) _ =
           let lo : 180 ≤ p = part_node s root ps (plug (q ∷ []) (leaf l k x)) a.grown p parent_part in
@@ -129,8 +138,10 @@ module _ (s s' : State) (root k g p l x : ℕ) (ps : Path) (q : Turn) (lt : root
       go (inr ng) (inr np) (inr nl) = let e = c.others o ng np nl in (ap (word 1) e, ap (word 2) e)
       go (inr ng) (inl e) _ = absurd (some (sym same ∙ ap (owner s') e ∙ ap (word 0) c.no_parent))
       go (inr ng) (inr np) (inl e) = absurd (some (sym same ∙ ap (owner s') e ∙ ap (word 0) c.no_leaf))
-      go (inl e) _ _ =
-          (ap (kind s') e ∙ ap (word 1) c.grand ∙ redirect_keeps (words_at s g) p (sibling s p l) 1 (omega arith) (omega arith) ∙ ap (kind s) (sym e), ap (key s') e ∙ ap (word 2) c.grand ∙ redirect_keeps (words_at s g) p (sibling s p l) 2 (omega arith) (omega arith) ∙ ap (key s) (sym e))
+      go (inl e) _ _ = (
+        ap (kind s') e ∙ ap (word 1) c.grand ∙ redirect_keeps (words_at s g) p (sibling s p l) 1 (omega arith) (omega arith) ∙ ap (kind s) (sym e),
+        ap (key s') e ∙ ap (word 2) c.grand ∙ redirect_keeps (words_at s g) p (sibling s p l) 2 (omega arith) (omega arith) ∙ ap (key s) (sym e),
+      )
 
   -- a search that ended at another leaf ends there still
   pub cut_ends : (i n : ℕ) → seek i (plug ps (plug (q ∷ []) (leaf l k x))) ≡ n → n ≢ l → seek i (plug ps (beside q)) ≡ n
@@ -143,16 +154,23 @@ module _ (s s' : State) (root k g p l x : ℕ) (ps : Path) (q : Turn) (lt : root
   ]
 
 -- the entries without that of the leaf
-pub entries_cut : (s : State) (root k g p l x : ℕ) (ps : Path) (q : Turn) → IsTwig s root k g p l x ps q → entries_in (plug ps (beside q)) ≡ take_out k (entries_in (plug ps (plug (q ∷ []) (leaf l k x))))
+pub entries_cut : (s : State) (root k g p l x : ℕ) (ps : Path) (q : Turn) → IsTwig s root k g p l x ps q
+    → entries_in (plug ps (beside q)) ≡ take_out k (entries_in (plug ps (plug (q ∷ []) (leaf l k x))))
 entries_cut s root k g p l x ps q a =
-    entries_plug ps (beside q) ∙ sym (ap (λ (m : Map). before ps ++ m) (entries_turn q l k x (after ps) (ordered_part ps (plug (q ∷ []) (leaf l k x)) a.grown.ordered) a.turns)) ∙ sym (take_out-behind k (before ps) (entries_in (plug (q ∷ []) (leaf l k x)) ++ after ps) (before_under k ps (plug (q ∷ []) (leaf l k x)) a.grown.ordered a.follows)) ∙ ap (take_out k) (sym (entries_plug ps (plug (q ∷ []) (leaf l k x))))
+    entries_plug ps (beside q)
+    ∙ sym (ap (λ (m : Map). before ps ++ m) (entries_turn q l k x (after ps) (ordered_part ps (plug (q ∷ []) (leaf l k x)) a.grown.ordered) a.turns))
+    ∙ sym (take_out-behind k (before ps) (entries_in (plug (q ∷ []) (leaf l k x)) ++ after ps)
+    (before_under k ps (plug (q ∷ []) (leaf l k x)) a.grown.ordered a.follows)) ∙ ap (take_out k) (sym (entries_plug ps (plug (q ∷ []) (leaf l k x))))
 
 leaf_words_of : (s : State) (root : ℕ) (q : Turn) (l k x : ℕ) → Stands s root (plug (q ∷ []) (leaf l k x)) → Stands s root (leaf l k x)
 leaf_words_of s root (left n d b) l k x q = q.3
 leaf_words_of s root (right n d a) l k x q = q.4
 
-pub twig_value : (s : State) (root k g p l x : ℕ) (ps : Path) (q : Turn) → IsTwig s root k g p l x ps q → value_of k (entries_in (plug ps (plug (q ∷ []) (leaf l k x)))) ≡ Some (value s l)
+pub twig_value : (s : State) (root k g p l x : ℕ) (ps : Path) (q : Turn) → IsTwig s root k g p l x ps q
+    → value_of k (entries_in (plug ps (plug (q ∷ []) (leaf l k x)))) ≡ Some (value s l)
 twig_value s root k g p l x ps q a =
     let w = (leaf_words_of s root q l k x (stands_part s root ps (plug (q ∷ []) (leaf l k x)) a.grown.stands)).2 in
     let one : kind s l ≡ 1 = ap (word 1) w in
-    ap (λ (j : ℕ). value_of j (entries_in (plug ps (plug (q ∷ []) (leaf l k x))))) (sym (ap (word 2) w)) ∙ leaf_value s root (plug ps (plug (q ∷ []) (leaf l k x))) a.grown.stands a.grown.ordered l (part_in ps (plug (q ∷ []) (leaf l k x)) l (leaf_in q l k x)) (omega arith)
+    ap (λ (j : ℕ). value_of j (entries_in (plug ps (plug (q ∷ []) (leaf l k x))))) (sym (ap (word 2) w))
+    ∙ leaf_value s root (plug ps (plug (q ∷ []) (leaf l k x))) a.grown.stands a.grown.ordered l
+    (part_in ps (plug (q ∷ []) (leaf l k x)) l (leaf_in q l k x)) (omega arith)

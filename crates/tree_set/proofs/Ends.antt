@@ -1,5 +1,6 @@
 -- The first leaf of a tree, and the last one.
-use Rattle.std.proofs.Common.{◌≡◌, ◌≢◌, ℕ, suc, ◌^◌, ◌<◌, ◌≤◌, ◌⊎◌, inl, inr, true, List, [], ◌∷◌, refl, sym, ap, ◌∙◌, subst, arith, eq-eqb, Bool, cond, Option, Some, None}
+use Rattle.std.proofs.Common.{◌≡◌, ◌≢◌, ℕ, suc, ◌^◌, ◌<◌, ◌≤◌, ◌⊎◌, inl, inr, true, List, [], ◌∷◌, refl, sym}
+use Rattle.std.proofs.Common.{ap, ◌∙◌, subst, arith, eq-eqb, Bool, cond, Option, Some, None}
 use Rattle.std.proofs.lemmas.Bool.{cases_eq}
 use Rattle.mv_history.specs.State.{State, written}
 use Rattle.mv_history.specs.Legal.{are_distinct}
@@ -43,7 +44,8 @@ not_empty s root t q g =
     let node : 180 ≤ top t = top_is_node s root t g.stands in
     let e : 0 ≡ top t = ap (word 3) (sym q.0 ∙ g.first) in omega arith
 
-module _ (s : State) (root k v m : ℕ) (law : IsLawful s) (lo : 170 ≤ root) (lt : root < 180) (fits : k < 2 ^ 32) (q : IsTree s root None) (vac : IsVacant s m) where
+module _ (s : State) (root k v m : ℕ) (law : IsLawful s) (lo : 170 ≤ root) (lt : root < 180) (fits : k < 2 ^ 32) (q : IsTree s root None)
+    (vac : IsVacant s m) where
   root_not : root ≢ m
   root_not e = let node : 180 ≤ m = vac.0 in omega arith
 
@@ -60,7 +62,8 @@ module _ (s : State) (root k v m : ℕ) (law : IsLawful s) (lo : 170 ≤ root) (
 
   planted_other : (o : ℕ) → o ≢ root → o ≢ m → words_at (written s (plant_writes s root k v m)) o ≡ words_at s o
   planted_other o nr nm =
-      words-written_other s (plant_writes s root k v m) o (touches-out (plant_writes s root k v m) o (λ i. elim i [ inl e ↦ nr e | inr (inl e) ↦ nm e | inr (inr e) ↦ e ]))
+      words-written_other s (plant_writes s root k v m) o
+      (touches-out (plant_writes s root k v m) o (λ i. elim i [ inl e ↦ nr e | inr (inl e) ↦ nm e | inr (inr e) ↦ e ]))
 
   planted : IsGrown (written s (plant_writes s root k v m)) root (leaf m k v)
   planted = record {
@@ -78,17 +81,20 @@ module _ (s : State) (root k v m : ℕ) (law : IsLawful s) (lo : 170 ≤ root) (
   plant_within : IsWithin s (written s (plant_writes s root k v m)) root
   plant_within o = go (cases_eq o root) (cases_eq o m)
     where
-      go : (o ≡ root) ⊎ (o ≢ root) → (o ≡ m) ⊎ (o ≢ m) → (words_at (written s (plant_writes s root k v m)) o ≡ words_at s o) ⊎ ((o ≡ root) ⊎ ((180 ≤ o) × IsOf s root o × IsOf (written s (plant_writes s root k v m)) root o))
+      go : (o ≡ root) ⊎ (o ≢ root) → (o ≡ m) ⊎ (o ≢ m) → (words_at (written s (plant_writes s root k v m)) o ≡ words_at s o)
+          ⊎ ((o ≡ root) ⊎ ((180 ≤ o) × IsOf s root o × IsOf (written s (plant_writes s root k v m)) root o))
       go (inl e) _ = inr (inl e)
       go (inr nr) (inr nm) = inl (planted_other o nr nm)
       go (inr nr) (inl e) =
           let node : 180 ≤ m = vac.0 in
           inr (inr (omega arith, inl (ap (owner s) e ∙ vac.2), inr (ap (owner (written s (plant_writes s root k v m))) e ∙ ap (word 0) planted_leaf)))
 
-  plant_keys : (o : ℕ) → owner s o ≢ 0 → owner (written s (plant_writes s root k v m)) o ≡ owner s o → (kind (written s (plant_writes s root k v m)) o ≡ kind s o) × (key (written s (plant_writes s root k v m)) o ≡ key s o)
+  plant_keys : (o : ℕ) → owner s o ≢ 0 → owner (written s (plant_writes s root k v m)) o ≡ owner s o
+      → (kind (written s (plant_writes s root k v m)) o ≡ kind s o) × (key (written s (plant_writes s root k v m)) o ≡ key s o)
   plant_keys o some same = go (cases_eq o root) (cases_eq o m)
     where
-      go : (o ≡ root) ⊎ (o ≢ root) → (o ≡ m) ⊎ (o ≢ m) → (kind (written s (plant_writes s root k v m)) o ≡ kind s o) × (key (written s (plant_writes s root k v m)) o ≡ key s o)
+      go : (o ≡ root) ⊎ (o ≢ root) → (o ≡ m) ⊎ (o ≢ m) → (kind (written s (plant_writes s root k v m)) o ≡ kind s o)
+          × (key (written s (plant_writes s root k v m)) o ≡ key s o)
       go (inl e) _ = absurd (some (ap (owner s) e ∙ ap (word 0) q.0))
       go (inr nr) (inl e) = absurd (some (ap (owner s) e ∙ vac.2))
       go (inr nr) (inr nm) = let e = planted_other o nr nm in (ap (word 1) e, ap (word 2) e)
@@ -99,7 +105,8 @@ module _ (s : State) (root k v m : ℕ) (law : IsLawful s) (lo : 170 ≤ root) (
       (record { within = plant_within; keys = plant_keys; ends = λ i n e out. absurd (not_empty s root e.0 q e.1) }) refl refl
 
 -- An add to an empty tree keeps what it must, and puts its key into the catalogue.
-pub plant_half : (s : State) (root k v m : ℕ) → IsLawful s → 170 ≤ root → root < 180 → k < 2 ^ 32 → link s root ≡ 0 → IsVacant s m → Half s (written s (plant_writes s root k v m)) (plant_writes s root k v m) root (Lacks k) (put k v)
+pub plant_half : (s : State) (root k v m : ℕ) → IsLawful s → 170 ≤ root → root < 180 → k < 2 ^ 32 → link s root ≡ 0 → IsVacant s m
+    → Half s (written s (plant_writes s root k v m)) (plant_writes s root k v m) root (Lacks k) (put k v)
 plant_half s root k v m law lo lt fits e vac = planted_half s root k v m law lo lt fits (no_tree s root law lo lt e) vac
 
 -- a root whose link leads to a leaf has that leaf alone
@@ -145,7 +152,8 @@ module _ (s : State) (root k l : ℕ) (law : IsLawful s) (lo : 170 ≤ root) (lt
 
   bared_other : (o : ℕ) → o ≢ root → o ≢ l → words_at (written s (bare_writes s root l)) o ≡ words_at s o
   bared_other o nr nl =
-      words-written_other s (bare_writes s root l) o (touches-out (bare_writes s root l) o (λ i. elim i [ inl e ↦ nr e | inr (inl e) ↦ nl e | inr (inr e) ↦ e ]))
+      words-written_other s (bare_writes s root l) o
+      (touches-out (bare_writes s root l) o (λ i. elim i [ inl e ↦ nr e | inr (inl e) ↦ nl e | inr (inr e) ↦ e ]))
 
   bared : IsTree (written s (bare_writes s root l)) root None
   bared = (bared_root, λ o node e. only o node e (cases_eq o l))
@@ -159,24 +167,28 @@ module _ (s : State) (root k l : ℕ) (law : IsLawful s) (lo : 170 ≤ root) (lt
   bare_within : IsWithin s (written s (bare_writes s root l)) root
   bare_within o = go (cases_eq o root) (cases_eq o l)
     where
-      go : (o ≡ root) ⊎ (o ≢ root) → (o ≡ l) ⊎ (o ≢ l) → (words_at (written s (bare_writes s root l)) o ≡ words_at s o) ⊎ ((o ≡ root) ⊎ ((180 ≤ o) × IsOf s root o × IsOf (written s (bare_writes s root l)) root o))
+      go : (o ≡ root) ⊎ (o ≢ root) → (o ≡ l) ⊎ (o ≢ l) → (words_at (written s (bare_writes s root l)) o ≡ words_at s o)
+          ⊎ ((o ≡ root) ⊎ ((180 ≤ o) × IsOf s root o × IsOf (written s (bare_writes s root l)) root o))
       go (inl e) _ = inr (inl e)
       go (inr nr) (inr nl) = inl (bared_other o nr nl)
       go (inr nr) (inl e) =
           let node : 180 ≤ l = place.is_leaf.0 in
           inr (inr (omega arith, inr (ap (owner s) e ∙ place.is_leaf.1), inl (ap (owner (written s (bare_writes s root l))) e ∙ ap (word 0) bared_leaf)))
 
-  bare_keys : (o : ℕ) → owner s o ≢ 0 → owner (written s (bare_writes s root l)) o ≡ owner s o → (kind (written s (bare_writes s root l)) o ≡ kind s o) × (key (written s (bare_writes s root l)) o ≡ key s o)
+  bare_keys : (o : ℕ) → owner s o ≢ 0 → owner (written s (bare_writes s root l)) o ≡ owner s o
+      → (kind (written s (bare_writes s root l)) o ≡ kind s o) × (key (written s (bare_writes s root l)) o ≡ key s o)
   bare_keys o some same = go (cases_eq o root) (cases_eq o l)
     where
-      go : (o ≡ root) ⊎ (o ≢ root) → (o ≡ l) ⊎ (o ≢ l) → (kind (written s (bare_writes s root l)) o ≡ kind s o) × (key (written s (bare_writes s root l)) o ≡ key s o)
+      go : (o ≡ root) ⊎ (o ≢ root) → (o ≡ l) ⊎ (o ≢ l) → (kind (written s (bare_writes s root l)) o ≡ kind s o)
+          × (key (written s (bare_writes s root l)) o ≡ key s o)
       go (inl e) _ = absurd (some (ap (owner s) e ∙ ap (word 0) g.first))
       go (inr nr) (inl e) =
           absurd (some (sym same ∙ ap (owner (written s (bare_writes s root l))) e ∙ ap (word 0) bared_leaf))
       go (inr nr) (inr nl) = let e = bared_other o nr nl in (ap (word 1) e, ap (word 2) e)
 
 -- A del of the last key of a tree keeps what it must, and takes the key out of the catalogue.
-pub bare_half : (s : State) (root k v l : ℕ) → IsLawful s → 170 ≤ root → root < 180 → IsBarePlace s root k l → value s l ≡ v → Half s (written s (bare_writes s root l)) (bare_writes s root l) root (Has k v) (take_out k)
+pub bare_half : (s : State) (root k v l : ℕ) → IsLawful s → 170 ≤ root → root < 180 → IsBarePlace s root k l → value s l ≡ v
+    → Half s (written s (bare_writes s root l)) (bare_writes s root l) root (Has k v) (take_out k)
 bare_half s root k v l law lo lt place val =
     let t : IsGrown s root (leaf l k (value s l)) = bare_tree s root k l law lo lt place in
     let one : kind s l ≡ 1 = place.is_leaf.2 in
@@ -184,7 +196,8 @@ bare_half s root k v l law lo lt place val =
     (record {
       within = bare_within s root k l law lo lt place;
       keys = bare_keys s root k l law lo lt place;
-      ends = λ i n e out. absurd (out-touches (bare_writes s root l) n out (inr (inl (sym (ap (seek i) (grown_once s root (leaf l k (value s l)) e.0 t e.1) ∙ e.2)))));
+      ends = λ i n e out.
+          absurd (out-touches (bare_writes s root l) n out (inr (inl (sym (ap (seek i) (grown_once s root (leaf l k (value s l)) e.0 t e.1) ∙ e.2)))));
     })
     (ap (λ (b : Bool). cond b (Some (value s l)) None) (eq-eqb k k refl) ∙ ap Some val)
     (sym (ap (λ (b : Bool). cond b [] ((k, value s l) ∷ [])) (eq-eqb k k refl)))

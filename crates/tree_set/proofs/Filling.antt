@@ -1,5 +1,6 @@
 -- Two nodes after another are filled.
-use Rattle.std.proofs.Common.{◌≡◌, ◌≢◌, ℕ, suc, ◌+◌, ◌*◌, ◌-◌, ◌<◌, ◌≤◌, ◌⊎◌, ◌||◌, inl, inr, Bool, true, false, cond, List, [], ◌∷◌, ◌++◌, length, length-append, refl, sym, ap, ◌∙◌, subst, arith}
+use Rattle.std.proofs.Common.{◌≡◌, ◌≢◌, ℕ, suc, ◌+◌, ◌*◌, ◌-◌, ◌<◌, ◌≤◌, ◌⊎◌, ◌||◌, inl, inr, Bool}
+use Rattle.std.proofs.Common.{true, false, cond, List, [], ◌∷◌, ◌++◌, length, length-append, refl, sym, ap, ◌∙◌, subst, arith}
 use Rattle.mv_history.specs.State.{State, Writes, rewritten, touches, state_after}
 use Rattle.mv_history.specs.Meaning.{Seat, InSection, words_at, state_of}
 use Rattle.mv_history.specs.Calls.{Enters, IsAsBefore}
@@ -47,7 +48,8 @@ fewer : (own more : Writes) (os : List ℕ) → count_unheld (own ++ more) os �
 fewer own more [] = omega arith
 fewer own more (o ∷ os) = go (touches own o) (touches (own ++ more) o) (touches-append own more o) (fewer own more os)
   where
-    go : (b d : Bool) → d ≡ b || touches more o → count_unheld (own ++ more) os ≤ count_unheld own os → cond d 0 1 + count_unheld (own ++ more) os ≤ cond b 0 1 + count_unheld own os
+    go : (b d : Bool) → d ≡ b || touches more o → count_unheld (own ++ more) os ≤ count_unheld own os
+        → cond d 0 1 + count_unheld (own ++ more) os ≤ cond b 0 1 + count_unheld own os
     go true true e r = omega arith
     go true false e r = absurd (cc)
     go false true e r = omega arith
@@ -61,7 +63,9 @@ few_locks s own (o ∷ os) = go (touches own o) refl (few_locks s own os) (few_l
     more : count_unheld (own ++ (o, words_at s o) ∷ []) os ≤ count_unheld own os
     more = fewer own ((o, words_at s o) ∷ []) os
 
-    go : (b : Bool) → touches own o ≡ b → length (with_locks s own os) ≤ length own + count_unheld own os → length (with_locks s (own ++ (o, words_at s o) ∷ []) os) ≤ length (own ++ (o, words_at s o) ∷ []) + count_unheld (own ++ (o, words_at s o) ∷ []) os → length (with_locks s (cond b own (own ++ (o, words_at s o) ∷ [])) os) ≤ length own + (cond b 0 1 + count_unheld own os)
+    go : (b : Bool) → touches own o ≡ b → length (with_locks s own os) ≤ length own + count_unheld own os
+        → length (with_locks s (own ++ (o, words_at s o) ∷ []) os) ≤ length (own ++ (o, words_at s o) ∷ []) + count_unheld (own ++ (o, words_at s o) ∷ []) os
+        → length (with_locks s (cond b own (own ++ (o, words_at s o) ∷ [])) os) ≤ length own + (cond b 0 1 + count_unheld own os)
     go true e x y = omega arith
     go false e x y = let m = more in let len = length-append own ((o, words_at s o) ∷ []) in omega arith
 
@@ -75,10 +79,13 @@ filled_room s root n os f lt few =
     let a = f.spare in let b = f.held in let m = f.most in record { spare = omega arith; held = omega arith }
 
 -- A call whose objects but for `more` are held, and that writes no node from 180 + 2m on.
-filled_step : (old new : InSection) (root n m : ℕ) (ws : Writes) → IsFilled old root n → n ≤ m → Rewritten old new (objects_of ws) ws → count_unheld old.own (objects_of ws) ≤ 2 * (m - n) → IsLawful (state_of new) → ((o : ℕ) → 180 + 2 * m ≤ o → owner (state_of old) o ≡ 0 → IsIn o (objects_of ws) → ⊥) → IsFilled new root m
+filled_step : (old new : InSection) (root n m : ℕ) (ws : Writes) → IsFilled old root n → n ≤ m → Rewritten old new (objects_of ws) ws
+    → count_unheld old.own (objects_of ws) ≤ 2 * (m - n) → IsLawful (state_of new)
+    → ((o : ℕ) → 180 + 2 * m ≤ o → owner (state_of old) o ≡ 0 → IsIn o (objects_of ws) → ⊥) → IsFilled new root m
 filled_step old new root n m ws f more r few l out =
     let k = few_locks (state_of old) old.own (objects_of ws) in
-    let own : length new.own ≡ length (with_locks (state_of old) old.own (objects_of ws)) = ap length r.holds.own ∙ same_writes (with_locks (state_of old) old.own (objects_of ws)) ws in
+    let own : length new.own ≡ length (with_locks (state_of old) old.own (objects_of ws)) =
+    ap length r.holds.own ∙ same_writes (with_locks (state_of old) old.own (objects_of ws)) ws in
     record {
       lawful = l;
       objects = ap length r.state ∙ length-written (state_of old) ws ∙ f.objects;
@@ -97,7 +104,8 @@ filled_step old new root n m ws f more r few l out =
 
     now : (o : ℕ) → (touches old.own o ≡ true) ⊎ IsIn o (objects_of ws) → touches new.own o ≡ true
     now o h =
-        ap (λ (u : Writes). touches u o) r.holds.own ∙ touches-with_writes (with_locks (state_of old) old.own (objects_of ws)) ws o ∙ touches-with_locks (state_of old) old.own (objects_of ws) o h
+        ap (λ (u : Writes). touches u o) r.holds.own ∙ touches-with_writes (with_locks (state_of old) old.own (objects_of ws)) ws o
+        ∙ touches-with_locks (state_of old) old.own (objects_of ws) o h
 
     held_now : (o : ℕ) (b : Bool) → touches ws o ≡ b → (touches ws o ≡ false → touches old.own o ≡ true) → touches new.own o ≡ true
     held_now o true e h = now o (inr (in-touches ws o e))
@@ -121,7 +129,8 @@ ends_node s root k l e =
     let i : IsIn l (objects_in e.0) = subst (λ (o : ℕ). IsIn o (objects_in e.0)) e.2 (seek_in k e.0) in
     (Stands-node s root e.0 e.1.stands l i, Stands-owner s root e.0 e.1.stands l i)
 
-add_count : (s : InSection) (root n k v leaf inner : ℕ) (ws : Writes) → IsFilled s root n → IsAdd (state_of s) root k v leaf inner ws → count_unheld s.own (objects_of ws) ≤ 2
+add_count : (s : InSection) (root n k v leaf inner : ℕ) (ws : Writes) → IsFilled s root n → IsAdd (state_of s) root k v leaf inner ws
+    → count_unheld s.own (objects_of ws) ≤ 2
 add_count s root n k v leaf inner ws f (first_leaf e) =
     let a = one_count s.own root (leaf ∷ []) in let b = one_count s.own leaf [] in omega arith
 add_count s root n k v leaf inner ws f (beside_leaf p l place) =
@@ -130,7 +139,8 @@ add_count s root n k v leaf inner ws f (beside_leaf p l place) =
     let b = none_count s.own l (leaf ∷ inner ∷ []) (node_held s root n l f g.0 g.1) in
     let c = one_count s.own leaf (inner ∷ []) in let d = one_count s.own inner [] in omega arith
 
-add_out : (s : State) (root k v leaf inner : ℕ) (ws : Writes) → root < 180 → IsAdd s root k v leaf inner ws → (o : ℕ) → 180 ≤ o → owner s o ≡ 0 → o ≢ leaf → o ≢ inner → IsIn o (objects_of ws) → ⊥
+add_out : (s : State) (root k v leaf inner : ℕ) (ws : Writes) → root < 180 → IsAdd s root k v leaf inner ws → (o : ℕ) → 180 ≤ o → owner s o ≡ 0 → o ≢ leaf
+    → o ≢ inner → IsIn o (objects_of ws) → ⊥
 add_out s root k v leaf inner ws lt (first_leaf e) o lo z nl ni (inl q) = omega arith
 add_out s root k v leaf inner ws lt (first_leaf e) o lo z nl ni (inr (inl q)) = nl q
 add_out s root k v leaf inner ws lt (first_leaf e) o lo z nl ni (inr (inr q)) = q
@@ -142,12 +152,14 @@ add_out s root k v leaf inner ws lt (beside_leaf p n place) o lo z nl ni (inr (i
 add_out s root k v leaf inner ws lt (beside_leaf p n place) o lo z nl ni (inr (inr (inr (inl q)))) = ni q
 add_out s root k v leaf inner ws lt (beside_leaf p n place) o lo z nl ni (inr (inr (inr (inr q)))) = q
 
-pub add_room : (s : InSection) (n root k v leaf inner : ℕ) (ws : Writes) → IsFilled s root n → n < 8 → IsAdd (state_of s) root k v leaf inner ws → HasRoom s (objects_of ws)
+pub add_room : (s : InSection) (n root k v leaf inner : ℕ) (ws : Writes) → IsFilled s root n → n < 8 → IsAdd (state_of s) root k v leaf inner ws
+    → HasRoom s (objects_of ws)
 add_room s n root k v leaf inner ws f lt a =
     filled_room s root n (objects_of ws) f lt (add_count s root n k v leaf inner ws f a)
 
 -- an add fills two more
-pub filled_more : (old new : InSection) (root k v leaf inner n m : ℕ) → root < 180 → IsFilled old root n → leaf ≡ 180 + 2 * n → inner ≡ 181 + 2 * n → m ≡ n + 1 → ((ws : Writes) × IsAdd (state_of old) root k v leaf inner ws × Gains old new root k v ws) → IsFilled new root m
+pub filled_more : (old new : InSection) (root k v leaf inner n m : ℕ) → root < 180 → IsFilled old root n → leaf ≡ 180 + 2 * n → inner ≡ 181 + 2 * n
+    → m ≡ n + 1 → ((ws : Writes) × IsAdd (state_of old) root k v leaf inner ws × Gains old new root k v ws) → IsFilled new root m
 filled_more old new root k v leaf inner n m lt f here there more (ws, a, g) =
     let c = add_count old root n k v leaf inner ws f a in
     filled_step old new root n m ws f (omega arith) g.change (omega arith) g.lawful
@@ -158,14 +170,16 @@ pub put_room : (s : InSection) (n root k leaf : ℕ) → IsFilled s root n → n
 put_room s n root k leaf f lt is =
     let c = none_count s.own leaf [] (node_held s root n leaf f is.0 is.1) in filled_room s root n (leaf ∷ []) f lt (omega arith)
 
-pub filled_put : (old new : InSection) (root k v n : ℕ) → root < 180 → IsFilled old root n → ((leaf : ℕ) × IsLeaf (state_of old) root k leaf × Gains old new root k v (put_writes (state_of old) leaf v)) → IsFilled new root n
+pub filled_put : (old new : InSection) (root k v n : ℕ) → root < 180 → IsFilled old root n
+    → ((leaf : ℕ) × IsLeaf (state_of old) root k leaf × Gains old new root k v (put_writes (state_of old) leaf v)) → IsFilled new root n
 filled_put old new root k v n lt f (leaf, is, g) =
     let c = none_count old.own leaf [] (node_held old root n leaf f is.0 is.1) in
     filled_step old new root n n (put_writes (state_of old) leaf v) f (omega arith) g.change (omega arith) g.lawful
     (λ o lo z i. elim i [ inl q ↦ not_of (state_of old) root leaf o lt (inr (is.0, is.1)) (omega arith) z q | inr q ↦ q ])
 
 -- and so does a del
-del_held : (s : InSection) (root n k leaf inner : ℕ) (ws : Writes) → IsFilled s root n → IsDel (state_of s) root k leaf inner ws → (o : ℕ) → IsIn o (objects_of ws) → touches s.own o ≡ true
+del_held : (s : InSection) (root n k leaf inner : ℕ) (ws : Writes) → IsFilled s root n → IsDel (state_of s) root k leaf inner ws → (o : ℕ)
+    → IsIn o (objects_of ws) → touches s.own o ≡ true
 del_held s root n k leaf inner ws f (last_leaf l place) o (inl q) =
     ap (touches s.own) q ∙ f.root_held (let a = place.is_leaf.0 in let e = place.first in omega arith)
 del_held s root n k leaf inner ws f (last_leaf l place) o (inr (inl q)) =
@@ -179,7 +193,8 @@ del_held s root n k leaf inner ws f (leaf_and_parent g p l place) o (inr (inr (i
     ap (touches s.own) q ∙ node_held s root n l f place.is_leaf.0 place.is_leaf.1
 del_held s root n k leaf inner ws f (leaf_and_parent g p l place) o (inr (inr (inr q))) = absurd q
 
-del_out : (s : State) (root k leaf inner : ℕ) (ws : Writes) → root < 180 → IsDel s root k leaf inner ws → (o : ℕ) → 180 ≤ o → owner s o ≡ 0 → IsIn o (objects_of ws) → ⊥
+del_out : (s : State) (root k leaf inner : ℕ) (ws : Writes) → root < 180 → IsDel s root k leaf inner ws → (o : ℕ) → 180 ≤ o → owner s o ≡ 0
+    → IsIn o (objects_of ws) → ⊥
 del_out s root k leaf inner ws lt (last_leaf n place) o lo z (inl q) = omega arith
 del_out s root k leaf inner ws lt (last_leaf n place) o lo z (inr (inl q)) =
     not_of s root n o lt (inr (place.is_leaf.0, place.is_leaf.1)) lo z q
@@ -192,12 +207,14 @@ del_out s root k leaf inner ws lt (leaf_and_parent g p n place) o lo z (inr (inr
     not_of s root n o lt (inr (place.is_leaf.0, place.is_leaf.1)) lo z q
 del_out s root k leaf inner ws lt (leaf_and_parent g p n place) o lo z (inr (inr (inr q))) = q
 
-pub del_room : (s : InSection) (n root k leaf inner : ℕ) (ws : Writes) → IsFilled s root n → n < 8 → IsDel (state_of s) root k leaf inner ws → HasRoom s (objects_of ws)
+pub del_room : (s : InSection) (n root k leaf inner : ℕ) (ws : Writes) → IsFilled s root n → n < 8 → IsDel (state_of s) root k leaf inner ws
+    → HasRoom s (objects_of ws)
 del_room s n root k leaf inner ws f lt d =
     let c = held_count s.own (objects_of ws) (del_held s root n k leaf inner ws f d) in
     filled_room s root n (objects_of ws) f lt (omega arith)
 
-pub filled_less : (old new : InSection) (root k leaf inner n : ℕ) → root < 180 → IsFilled old root n → ((ws : Writes) × IsDel (state_of old) root k leaf inner ws × Loses old new root k ws) → IsFilled new root n
+pub filled_less : (old new : InSection) (root k leaf inner n : ℕ) → root < 180 → IsFilled old root n
+    → ((ws : Writes) × IsDel (state_of old) root k leaf inner ws × Loses old new root k ws) → IsFilled new root n
 filled_less old new root k leaf inner n lt f (ws, d, g) =
     let c = held_count old.own (objects_of ws) (del_held old root n k leaf inner ws f d) in
     filled_step old new root n n ws f (omega arith) g.change (omega arith) g.lawful
@@ -226,7 +243,8 @@ pub filled_view : (a : InSection) (s : State) (root n : ℕ) → IsFilled a root
 filled_view a s root n f e = (subst (λ (u : State). IsLawful u) (sym e) f.lawful, ap length e ∙ f.objects)
 
 -- a section over a store whose objects are all zero
-pub filled_none : (old : Seat) (new : InSection) (root : ℕ) → root < 180 → Enters old new → new.at ≡ length old.seen → old.seen ≡ [] → IsOpening old.start → length old.start ≡ 200 → 16 ≤ old.spare → 16 ≤ old.write_max → IsFilled new root 0
+pub filled_none : (old : Seat) (new : InSection) (root : ℕ) → root < 180 → Enters old new → new.at ≡ length old.seen → old.seen ≡ [] → IsOpening old.start
+    → length old.start ≡ 200 → 16 ≤ old.spare → 16 ≤ old.write_max → IsFilled new root 0
 filled_none old new root lt e whole none zero size spare most =
     let here : state_of new ≡ old.start = state-entered old new e whole ∙ ap (state_after old.start) none in
     let own : length new.own ≡ 0 = ap length e.own in

@@ -1,5 +1,7 @@
 -- What a search that ended at a leaf says of the tree's map.
-use Rattle.std.proofs.Common.{◌≡◌, ◌≢◌, ℕ, ◌^◌, ◌<◌, ◌≤◌, ◌⊎◌, inl, inr, Bool, true, cond, eqb, eq-eqb, ne_eqb, lt-ltb, le-ltb, eqb-true, List, [], ◌∷◌, ◌++◌, length, length-append, refl, sym, ap, ◌∙◌, subst, arith, append_assoc, append-nil, Some, None}
+use Rattle.std.proofs.Common.{◌≡◌, ◌≢◌, ℕ, ◌^◌, ◌<◌, ◌≤◌, ◌⊎◌, inl, inr, Bool, true, cond, eqb, eq-eqb, ne_eqb}
+use Rattle.std.proofs.Common.{lt-ltb, le-ltb, eqb-true, List, [], ◌∷◌, ◌++◌, length, length-append, refl, sym, ap, ◌∙◌, subst, arith}
+use Rattle.std.proofs.Common.{append_assoc, append-nil, Some, None}
 use Rattle.std.proofs.lemmas.Bool.{cases_eq}
 use Rattle.mv_history.specs.State.{State}
 use Rattle.mv_history.specs.Meaning.{words_at}
@@ -36,7 +38,8 @@ record IsNextTo (s : State) (root : ℕ) (ps : Path) (other most : ℕ) (b : Tre
   behind : after ps ≡ entries_in b ++ rest
 
 -- what is behind a path that turns left nowhere is nothing
-next_to : (s : State) (root : ℕ) (ps : Path) (u : Tree) (other most : ℕ) → Stands s root (plug ps u) → length (objects_in (plug ps u)) ≤ most → ((right_of other ps ≡ other) × (after ps ≡ [])) ⊎ ((b : Tree) × IsNextTo s root ps other most b)
+next_to : (s : State) (root : ℕ) (ps : Path) (u : Tree) (other most : ℕ) → Stands s root (plug ps u) → length (objects_in (plug ps u)) ≤ most
+    → ((right_of other ps ≡ other) × (after ps ≡ [])) ⊎ ((b : Tree) × IsNextTo s root ps other most b)
 next_to s root [] u other most q few = inl (refl, refl)
 next_to s root (right n d a ∷ ps) u other most q few =
     let len = length-append (objects_in a) (objects_in (plug ps u)) in
@@ -47,8 +50,28 @@ next_to s root (right n d a ∷ ps) u other most q few =
 next_to s root (left n d c ∷ ps) u other most q few =
     let len = length-append (objects_in (plug ps u)) (objects_in c) in
     elim (next_to s root ps u (top c) most q.3 (omega arith)) [
-      | inl e ↦ inr (c, record { here = e.0; stands = q.4; few = omega arith; rest = []; behind = ap (λ (m : Map). m ++ entries_in c) e.1 ∙ sym (append-nil (entries_in c)) })
-      | inr (b, x) ↦ inr (b, record { here = x.here; stands = x.stands; few = x.few; rest = x.rest ++ entries_in c; behind = ap (λ (m : Map). m ++ entries_in c) x.behind ∙ append_assoc (entries_in b) x.rest (entries_in c) })
+      | inl e ↦ inr (
+        c,
+        record {
+          here = e.0;
+          stands = q.4;
+          few = omega arith;
+          rest = [];
+          behind = ap (λ (m : Map). m ++ entries_in c) e.1
+              ∙ sym (append-nil (entries_in c));
+        },
+      )
+      | inr (b, x) ↦ inr (
+        b,
+        record {
+          here = x.here;
+          stands = x.stands;
+          few = x.few;
+          rest = x.rest ++ entries_in c;
+          behind = ap (λ (m : Map). m ++ entries_in c) x.behind
+              ∙ append_assoc (entries_in b) x.rest (entries_in c);
+        },
+      )
     ]
 
 next-first : (k j v : ℕ) (m : Map) → k ≤ j → next_key k ((j, v) ∷ m) ≡ Some j
@@ -57,7 +80,8 @@ next-first k j v m le = ap (λ (b : Bool). cond b (next_key k m) (Some j)) (le-l
 next-later : (k j v : ℕ) (m : Map) → j < k → next_key k ((j, v) ∷ m) ≡ next_key k m
 next-later k j v m lt = ap (λ (b : Bool). cond b (next_key k m) (Some j)) (lt-ltb j k lt)
 
-module _ (s : State) (root k grand parent node r : ℕ) (words : List ℕ) (l : IsLawful s) (lo : 170 ≤ root) (lt : root < 180) (f : IsFork s root k grand parent node r words) where
+module _ (s : State) (root k grand parent node r : ℕ) (words : List ℕ) (l : IsLawful s) (lo : 170 ≤ root) (lt : root < 180)
+    (f : IsFork s root k grand parent node r words) where
   key_is : word 2 words ≡ f.key
   key_is = ap (word 2) f.words_are
 
@@ -77,7 +101,9 @@ module _ (s : State) (root k grand parent node r : ℕ) (words : List ℕ) (l : 
 
   pub fork_value : value_of k (map_of (name_of root) (catalogue_of s)) ≡ cond (eqb (word 2 words) k) (Some (word 5 words)) None
   fork_value =
-      ap (value_of k) map_is ∙ value_of-behind k (before f.path) ((f.key, f.value) ∷ after f.path) under ∙ ap (cond (eqb f.key k) (Some f.value)) (value_of-above k (after f.path) above) ∙ ap (λ (j : ℕ). cond (eqb j k) (Some f.value) None) (sym key_is) ∙ ap (λ (v : ℕ). cond (eqb (word 2 words) k) (Some v) None) (sym (ap (word 5) f.words_are))
+      ap (value_of k) map_is ∙ value_of-behind k (before f.path) ((f.key, f.value) ∷ after f.path) under
+      ∙ ap (cond (eqb f.key k) (Some f.value)) (value_of-above k (after f.path) above) ∙ ap (λ (j : ℕ). cond (eqb j k) (Some f.value) None) (sym key_is)
+      ∙ ap (λ (v : ℕ). cond (eqb (word 2 words) k) (Some v) None) (sym (ap (word 5) f.words_are))
 
   pub fork_value_here : word 2 words ≡ k → value_of k (map_of (name_of root) (catalogue_of s)) ≡ Some (word 5 words)
   fork_value_here e = fork_value ∙ ap (λ (b : Bool). cond b (Some (word 5 words)) None) (eq-eqb (word 2 words) k e)
@@ -102,7 +128,8 @@ module _ (s : State) (root k grand parent node r : ℕ) (words : List ℕ) (l : 
   pub fork_last : word 2 words < k → r ≡ 0 → next_key k (map_of (name_of root) (catalogue_of s)) ≡ None
   fork_last less e = elim beside_path [
     | inl x ↦ next_behind less ∙ ap (next_key k) x.1
-    | inr (b, x) ↦ absurd (let up : 180 ≤ top b = top_is_node s root b x.stands in let z : right_of 0 f.path ≡ top b = x.here in let y = f.right_is in omega arith)
+    | inr (b, x) ↦ absurd (let up : 180 ≤ top b = top_is_node s root b x.stands in let z : right_of 0 f.path ≡ top b = x.here in
+        let y = f.right_is in omega arith)
   ]
 
   pub fork_right : r ≢ 0 → IsSubtree s root r
@@ -111,14 +138,16 @@ module _ (s : State) (root k grand parent node r : ℕ) (words : List ℕ) (l : 
     | inr (b, x) ↦ record { part = b; stands = x.stands; here = f.right_is ∙ x.here; few = x.few }
   ]
 
-  pub fork_next_right : word 2 words < k → r ≢ 0 → (j : ℕ) → ((t : Tree) → Stands s root t → r ≡ top t → j ≡ first_key t) → next_key k (map_of (name_of root) (catalogue_of s)) ≡ Some j
+  pub fork_next_right : word 2 words < k → r ≢ 0 → (j : ℕ) → ((t : Tree) → Stands s root t → r ≡ top t → j ≡ first_key t)
+      → next_key k (map_of (name_of root) (catalogue_of s)) ≡ Some j
   fork_next_right less n j least = elim beside_path [
     | inl x ↦ absurd (n (f.right_is ∙ x.0))
     | inr (b, x) ↦ (let first = entries_first b in
         let behind : after f.path ≡ (first_key b, first.0) ∷ (first.1 ++ x.rest) = x.behind ∙ ap (λ (m : Map). m ++ x.rest) first.2 in
         let up : IsAboveKey k ((first_key b, first.0) ∷ (first.1 ++ x.rest)) = subst (λ (m : Map). IsAboveKey k m) behind above in
         let le : k ≤ first_key b = (let y : k < first_key b = up.0 in omega arith) in
-        next_behind less ∙ ap (next_key k) behind ∙ next-first k (first_key b) first.0 (first.1 ++ x.rest) le ∙ ap Some (sym (least b x.stands (f.right_is ∙ x.here))))
+        next_behind less ∙ ap (next_key k) behind ∙ next-first k (first_key b) first.0 (first.1 ++ x.rest) le
+        ∙ ap Some (sym (least b x.stands (f.right_is ∙ x.here))))
   ]
 
 -- a root that leads nowhere has no keys
@@ -132,7 +161,8 @@ fork_fits s root k grand parent node r words f =
     let is : word 2 words ≡ f.key = ap (word 2) f.words_are in omega arith
 
 -- a root leads somewhere exactly where it has keys
-pub link_empty : (s : State) (root : ℕ) (words : List ℕ) → IsLawful s → 170 ≤ root → root < 180 → words ≡ words_at s root → (eqb (word 3 words) 0 ≡ true → map_of (name_of root) (catalogue_of s) ≡ []) × (map_of (name_of root) (catalogue_of s) ≡ [] → eqb (word 3 words) 0 ≡ true)
+pub link_empty : (s : State) (root : ℕ) (words : List ℕ) → IsLawful s → 170 ≤ root → root < 180 → words ≡ words_at s root
+    → (eqb (word 3 words) 0 ≡ true → map_of (name_of root) (catalogue_of s) ≡ []) × (map_of (name_of root) (catalogue_of s) ≡ [] → eqb (word 3 words) 0 ≡ true)
 link_empty s root words l lo lt e = (
   λ t. no_keys s root l lo lt (sym (ap (word 3) e) ∙ eqb-true (word 3 words) 0 t),
   λ none. elim (cases_eq (word 3 words) 0) [ inl z ↦ eq-eqb (word 3 words) 0 z | inr n ↦ absurd (keys none n) ],
@@ -145,5 +175,6 @@ link_empty s root words l lo lt e = (
         let m : (first_key t.0, first.0) ∷ first.1 ≡ [] = sym first.2 ∙ sym (map_of-tree s root t.0 lo lt t.1) ∙ none in cc
 
 -- the least key under a node, by another state
-pub least_same : (s t : State) (root node j : ℕ) → t ≡ s → ((u : Tree) → Stands t root u → node ≡ top u → j ≡ first_key u) → (u : Tree) → Stands s root u → node ≡ top u → j ≡ first_key u
+pub least_same : (s t : State) (root node j : ℕ) → t ≡ s → ((u : Tree) → Stands t root u → node ≡ top u → j ≡ first_key u) → (u : Tree) → Stands s root u
+    → node ≡ top u → j ≡ first_key u
 least_same s t root node j e f u q h = f u (subst (λ (v : State). Stands v root u) (sym e) q) h

@@ -27,7 +27,8 @@ use Rattle.tree_set.proofs.Halving.{tree_half}
 use Rattle.tree_set.proofs.Growing.{IsSite, Sprouts, sprout, grown_more, grow_within, grow_keys, grow_ends}
 
 -- The path of the search, where the place of an add is.
-pub grow_site : (s : State) (root k p l m w : ℕ) → k < 2 ^ 32 → IsGrowPlace s root k p l → IsVacant s m → IsVacant s w → m ≢ w → (j : ℕ) × (x : ℕ) × (ps : Path) × IsSite s root k p l m w j x ps
+pub grow_site : (s : State) (root k p l m w : ℕ) → k < 2 ^ 32 → IsGrowPlace s root k p l → IsVacant s m → IsVacant s w → m ≢ w
+    → (j : ℕ) × (x : ℕ) × (ps : Path) × IsSite s root k p l m w j x ps
 grow_site s root k p l m w fits place vm vw ne = (r.2, r.3, r.0, site)
   where
     t : Tree
@@ -63,16 +64,20 @@ entries_sprout k v m w l j x a ne up = go (cases_lt k j)
     go (inl lt) = grind (arith, nat_tests)
     go (inr le) = let e : put k v a ≡ (k, v) ∷ a = put-above k v a up in grind (arith, nat_tests)
 
-pub entries_grow : (s : State) (root k v p l m w j x : ℕ) (ps : Path) → IsSite s root k p l m w j x ps → entries_in (plug ps (sprout k v m w l j x)) ≡ put k v (entries_in (plug ps (leaf l j x)))
+pub entries_grow : (s : State) (root k v p l m w j x : ℕ) (ps : Path) → IsSite s root k p l m w j x ps
+    → entries_in (plug ps (sprout k v m w l j x)) ≡ put k v (entries_in (plug ps (leaf l j x)))
 entries_grow s root k v p l m w j x ps a =
     let up : IsAboveKey k (after ps) = after_above k ps (leaf l j x) a.grown.ordered a.follows in
     let under : IsUnderKey k (before ps) = before_under k ps (leaf l j x) a.grown.ordered a.follows in
-    entries_plug ps (sprout k v m w l j x) ∙ ap (λ (e : Map). before ps ++ e) (entries_sprout k v m w l j x (after ps) a.other up) ∙ sym (put-behind k v (before ps) ((j, x) ∷ after ps) under) ∙ ap (put k v) (sym (entries_plug ps (leaf l j x)))
+    entries_plug ps (sprout k v m w l j x) ∙ ap (λ (e : Map). before ps ++ e) (entries_sprout k v m w l j x (after ps) a.other up)
+    ∙ sym (put-behind k v (before ps) ((j, x) ∷ after ps) under) ∙ ap (put k v) (sym (entries_plug ps (leaf l j x)))
 
 pub site_lacks : (s : State) (root k p l m w j x : ℕ) (ps : Path) → IsSite s root k p l m w j x ps → has_key k (entries_in (plug ps (leaf l j x))) ≡ false
 site_lacks s root k p l m w j x ps a =
     let n = a.other in
-    ap (has_key k) (entries_plug ps (leaf l j x)) ∙ has_key-at k j x (before ps) (after ps) (before_under k ps (leaf l j x) a.grown.ordered a.follows) (after_above k ps (leaf l j x) a.grown.ordered a.follows) ∙ grind (arith, nat_tests)
+    ap (has_key k) (entries_plug ps (leaf l j x))
+    ∙ has_key-at k j x (before ps) (after ps) (before_under k ps (leaf l j x) a.grown.ordered a.follows)
+    (after_above k ps (leaf l j x) a.grown.ordered a.follows) ∙ grind (arith, nat_tests)
 
 module _ (s : State) (root k v p l m w j x : ℕ) (ps : Path) (law : IsLawful s) (lt : root < 180) (a : IsSite s root k p l m w j x ps) where
   leaf_owner : owner s l ≡ suc root
@@ -116,28 +121,35 @@ module _ (s : State) (root k v p l m w j x : ℕ) (ps : Path) (law : IsLawful s)
     where
       others : (o : ℕ) → o ≢ p → o ≢ m → o ≢ w → (o ≡ l) ⊎ (o ≢ l) → words_at (written s (grow_writes s root k v p l m w)) o ≡ words_at s o
       others o np nm nw (inl e) =
-          words-written_same s (grow_writes s root k v p l m w) 1 o (0, []) grow_distinct (omega arith) (sym e) (omega (arith, owned_in_range s l root leaf_owner)) ∙ ap (words_at s) (sym e)
+          words-written_same s (grow_writes s root k v p l m w) 1 o (0, []) grow_distinct (omega arith) (sym e)
+          (omega (arith, owned_in_range s l root leaf_owner)) ∙ ap (words_at s) (sym e)
       others o np nm nw (inr nl) =
-          words-written_other s (grow_writes s root k v p l m w) o (touches-out (grow_writes s root k v p l m w) o (λ i. elim i [ inl e ↦ np e | inr (inl e) ↦ nl e | inr (inr (inl e)) ↦ nm e | inr (inr (inr (inl e))) ↦ nw e | inr (inr (inr (inr e))) ↦ e ]))
+          words-written_other s (grow_writes s root k v p l m w) o
+          (touches-out (grow_writes s root k v p l m w) o
+          (λ i. elim i [ inl e ↦ np e | inr (inl e) ↦ nl e | inr (inr (inl e)) ↦ nm e | inr (inr (inr (inl e))) ↦ nw e | inr (inr (inr (inr e))) ↦ e ]))
 
 -- An add to a tree that is not empty keeps what it must, and puts its key into the catalogue.
-pub grow_half : (s : State) (root k v p l m w : ℕ) → IsLawful s → 170 ≤ root → root < 180 → k < 2 ^ 32 → IsGrowPlace s root k p l → IsVacant s m → IsVacant s w → m ≢ w → Half s (written s (grow_writes s root k v p l m w)) (grow_writes s root k v p l m w) root (Lacks k) (put k v)
+pub grow_half : (s : State) (root k v p l m w : ℕ) → IsLawful s → 170 ≤ root → root < 180 → k < 2 ^ 32 → IsGrowPlace s root k p l → IsVacant s m
+    → IsVacant s w → m ≢ w → Half s (written s (grow_writes s root k v p l m w)) (grow_writes s root k v p l m w) root (Lacks k) (put k v)
 grow_half s root k v p l m w law lo lt fits place vm vw ne =
     let r = grow_site s root k p l m w fits place vm vw ne in from r.0 r.1 r.2 r.3
   where
-    from : (j x : ℕ) (ps : Path) → IsSite s root k p l m w j x ps → Half s (written s (grow_writes s root k v p l m w)) (grow_writes s root k v p l m w) root (Lacks k) (put k v)
+    from : (j x : ℕ) (ps : Path) → IsSite s root k p l m w j x ps
+        → Half s (written s (grow_writes s root k v p l m w)) (grow_writes s root k v p l m w) root (Lacks k) (put k v)
     from j x ps a =
         let s' : State = written s (grow_writes s root k v p l m w) in
         let c : Sprouts s s' root k v p l m w = grow_sprouts s root k v p l m w j x ps law lt a in
         let new : IsGrown s' root (plug ps (sprout k v m w l j x)) = grown_more s s' root k v p l m w j x ps lt a c in
-        tree_half s (grow_writes s root k v p l m w) root (Lacks k) (put k v) (Some (plug ps (leaf l j x))) (Some (plug ps (sprout k v m w l j x))) law lo lt a.grown new
+        tree_half s (grow_writes s root k v p l m w) root (Lacks k) (put k v) (Some (plug ps (leaf l j x))) (Some (plug ps (sprout k v m w l j x))) law
+        lo lt a.grown new
         (record {
           within = grow_within s s' root k v p l m w j x ps lt a c;
           keys = grow_keys s s' root k v p l m w j x ps lt a c;
           ends = λ i n e out. (
             plug ps (sprout k v m w l j x),
             new,
-            grow_ends s s' root k v p l m w j x ps lt a c i n (ap (seek i) (grown_once s root (plug ps (leaf l j x)) e.0 a.grown e.1) ∙ e.2) (λ q. out-touches (grow_writes s root k v p l m w) n out (inr (inl q))),
+            grow_ends s s' root k v p l m w j x ps lt a c i n (ap (seek i) (grown_once s root (plug ps (leaf l j x)) e.0 a.grown e.1) ∙ e.2)
+                (λ q. out-touches (grow_writes s root k v p l m w) n out (inr (inl q))),
           );
         })
         (site_lacks s root k p l m w j x ps a) (entries_grow s root k v p l m w j x ps a)

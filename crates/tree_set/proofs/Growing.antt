@@ -1,5 +1,6 @@
 -- One leaf more in a tree.
-use Rattle.std.proofs.Common.{◌≡◌, ◌≢◌, ℕ, suc, ◌^◌, ◌<◌, ◌≤◌, ◌⊎◌, inl, inr, Bool, true, false, cond, ltb, lt-ltb, le-ltb, [], ◌∷◌, refl, sym, ap, ◌∙◌, subst, arith}
+use Rattle.std.proofs.Common.{◌≡◌, ◌≢◌, ℕ, suc, ◌^◌, ◌<◌, ◌≤◌, ◌⊎◌, inl, inr, Bool, true, false, cond, ltb, lt-ltb}
+use Rattle.std.proofs.Common.{le-ltb, [], ◌∷◌, refl, sym, ap, ◌∙◌, subst, arith}
 use Rattle.std.proofs.lemmas.Bool.{cases_eq, cases_lt}
 use Rattle.mv_history.specs.State.{State}
 use Rattle.mv_history.specs.Meaning.{words_at}
@@ -87,10 +88,12 @@ module _ (s s' : State) (root k v p l m w j x : ℕ) (ps : Path) (lt : root < 18
       go (inr n) = sym (ap (word 0) (c.others o n nm nw)) ∙ e
       go (inl q) = ap (owner s) q ∙ sym (ap (word 0) c.parent ∙ redirect_keeps (words_at s p) l w 0 (omega arith) (omega arith)) ∙ ap (owner s') (sym q) ∙ e
 
-  module _ (u : Tree) (top_is : top u ≡ w) (stands : Stands s' root u) (ordered : IsOrdered u) (beside : IsBeside ps u) (distinct : IsDistinct (objects_in u)) (of : (o : ℕ) → IsIn o (objects_in u) → (o ≡ w) ⊎ ((o ≡ m) ⊎ (o ≡ l))) (has : (o : ℕ) → (o ≡ w) ⊎ ((o ≡ m) ⊎ (o ≡ l)) → IsIn o (objects_in u)) where
+  module _ (u : Tree) (top_is : top u ≡ w) (stands : Stands s' root u) (ordered : IsOrdered u) (beside : IsBeside ps u) (distinct : IsDistinct (objects_in u))
+      (of : (o : ℕ) → IsIn o (objects_in u) → (o ≡ w) ⊎ ((o ≡ m) ⊎ (o ≡ l))) (has : (o : ℕ) → (o ≡ w) ⊎ ((o ≡ m) ⊎ (o ≡ l)) → IsIn o (objects_in u)) where
     sprouted_as : Replaced s s' root ps (leaf l j x) u
     sprouted_as = record {
-      leads = ap (words_at s') a.parent ∙ c.parent ∙ ap (λ (q : ℕ). redirect (words_at s q) l w) (sym a.parent) ∙ ap (λ (q : ℕ). redirect (words_at s (parent_of root ps)) l q) (sym top_is);
+      leads = ap (words_at s') a.parent ∙ c.parent ∙ ap (λ (q : ℕ). redirect (words_at s q) l w) (sym a.parent)
+          ∙ ap (λ (q : ℕ). redirect (words_at s (parent_of root ps)) l q) (sym top_is);
       others = other_stays;
       stands = stands;
       ordered = ordered;
@@ -133,24 +136,30 @@ module _ (s s' : State) (root k v p l m w j x : ℕ) (ps : Path) (lt : root < 18
 
   below_old : k < j → Replaced s s' root ps (leaf l j x) (sprout k v m w l j x)
   below_old lo =
-      subst (λ (u : Tree). Replaced s s' root ps (leaf l j x) u) (sym (ap (λ (b : Bool). cond b (inner w j (leaf m k v) (leaf l j x)) (inner w k (leaf l j x) (leaf m k v))) (lt-ltb k j lo)))
+      subst (λ (u : Tree). Replaced s s' root ps (leaf l j x) u)
+      (sym (ap (λ (b : Bool). cond b (inner w j (leaf m k v) (leaf l j x)) (inner w k (leaf l j x) (leaf m k v))) (lt-ltb k j lo)))
       (sprouted_as (inner w j (leaf m k v) (leaf l j x)) refl
       (a.new_inner.0, stood.1, inner_is ∙ ap (λ (b : Bool). cond b (inner_words root j m l) (inner_words root k l m)) (lt-ltb k j lo), new_stands, old_stands)
       (lo, omega arith, tt, tt)
-      (beside_both ps w j (leaf m k v) (leaf l j x) (beside_leaf ps m k v a.follows) (ordered_within ps (leaf l j x) a.grown.ordered))
-      (is_in-none w (m ∷ l ∷ []) (λ i. elim i [ inl e ↦ w_not_m e | inr (inl e) ↦ w_not_l e | inr (inr e) ↦ e ]), (is_in-none m (l ∷ []) (λ i. elim i [ inl e ↦ m_not_l e | inr e ↦ e ]), (refl, tt)))
+      (beside_both ps w j (leaf m k v) (leaf l j x) (beside_leaf ps m k v a.follows) (ordered_within ps (leaf l j x) a.grown.ordered)) (
+        is_in-none w (m ∷ l ∷ []) (λ i. elim i [ inl e ↦ w_not_m e | inr (inl e) ↦ w_not_l e | inr (inr e) ↦ e ]),
+        (is_in-none m (l ∷ []) (λ i. elim i [ inl e ↦ m_not_l e | inr e ↦ e ]), (refl, tt)),
+      )
       (λ o i. elim i [ inl e ↦ inl e | inr (inl e) ↦ inr (inl e) | inr (inr (inl e)) ↦ inr (inr e) | inr (inr (inr e)) ↦ absurd e ])
       (λ o i. elim i [ inl e ↦ inl e | inr (inl e) ↦ inr (inl e) | inr (inr e) ↦ inr (inr (inl e)) ]))
 
   above_old : j < k → Replaced s s' root ps (leaf l j x) (sprout k v m w l j x)
   above_old hi =
       let le : j ≤ k = omega arith in
-      subst (λ (u : Tree). Replaced s s' root ps (leaf l j x) u) (sym (ap (λ (b : Bool). cond b (inner w j (leaf m k v) (leaf l j x)) (inner w k (leaf l j x) (leaf m k v))) (le-ltb k j le)))
+      subst (λ (u : Tree). Replaced s s' root ps (leaf l j x) u)
+      (sym (ap (λ (b : Bool). cond b (inner w j (leaf m k v) (leaf l j x)) (inner w k (leaf l j x) (leaf m k v))) (le-ltb k j le)))
       (sprouted_as (inner w k (leaf l j x) (leaf m k v)) refl
       (a.new_inner.0, a.fits, inner_is ∙ ap (λ (b : Bool). cond b (inner_words root j m l) (inner_words root k l m)) (le-ltb k j le), old_stands, new_stands)
       (hi, omega arith, tt, tt)
-      (beside_both ps w k (leaf l j x) (leaf m k v) (ordered_within ps (leaf l j x) a.grown.ordered) (beside_leaf ps m k v a.follows))
-      (is_in-none w (l ∷ m ∷ []) (λ i. elim i [ inl e ↦ w_not_l e | inr (inl e) ↦ w_not_m e | inr (inr e) ↦ e ]), (is_in-none l (m ∷ []) (λ i. elim i [ inl e ↦ m_not_l (sym e) | inr e ↦ e ]), (refl, tt)))
+      (beside_both ps w k (leaf l j x) (leaf m k v) (ordered_within ps (leaf l j x) a.grown.ordered) (beside_leaf ps m k v a.follows)) (
+        is_in-none w (l ∷ m ∷ []) (λ i. elim i [ inl e ↦ w_not_l e | inr (inl e) ↦ w_not_m e | inr (inr e) ↦ e ]),
+        (is_in-none l (m ∷ []) (λ i. elim i [ inl e ↦ m_not_l (sym e) | inr e ↦ e ]), (refl, tt)),
+      )
       (λ o i. elim i [ inl e ↦ inl e | inr (inl e) ↦ inr (inr e) | inr (inr (inl e)) ↦ inr (inl e) | inr (inr (inr e)) ↦ absurd e ])
       (λ o i. elim i [ inl e ↦ inl e | inr (inl e) ↦ inr (inr (inl e)) | inr (inr e) ↦ inr (inl e) ]))
 
@@ -167,7 +176,8 @@ module _ (s s' : State) (root k v p l m w j x : ℕ) (ps : Path) (lt : root < 18
       parent_owner : owner s' p ≡ owner s p
       parent_owner = ap (word 0) c.parent ∙ redirect_keeps (words_at s p) l w 0 (omega arith) (omega arith)
 
-      go : (o ≡ p) ⊎ (o ≢ p) → (o ≡ m) ⊎ (o ≢ m) → (o ≡ w) ⊎ (o ≢ w) → (words_at s' o ≡ words_at s o) ⊎ ((o ≡ root) ⊎ ((180 ≤ o) × IsOf s root o × IsOf s' root o))
+      go : (o ≡ p) ⊎ (o ≢ p) → (o ≡ m) ⊎ (o ≢ m) → (o ≡ w) ⊎ (o ≢ w)
+          → (words_at s' o ≡ words_at s o) ⊎ ((o ≡ root) ⊎ ((180 ≤ o) × IsOf s root o × IsOf s' root o))
       go (inr np) (inr nm) (inr nw) = inl (c.others o np nm nw)
       go (inr np) (inl e) _ =
           let lo : 180 ≤ m = a.new_leaf.0 in
@@ -195,8 +205,11 @@ module _ (s s' : State) (root k v p l m w j x : ℕ) (ps : Path) (lt : root < 18
       go (inr np) (inr nm) (inr nw) = let e = c.others o np nm nw in (ap (word 1) e, ap (word 2) e)
       go (inr np) (inl e) _ = absurd (some (ap (owner s) e ∙ a.new_leaf.2))
       go (inr np) (inr nm) (inl e) = absurd (some (ap (owner s) e ∙ a.new_inner.2))
-      go (inl e) _ _ =
-          (ap (kind s') e ∙ ap (word 1) c.parent ∙ redirect_keeps (words_at s p) l w 1 (omega arith) (omega arith) ∙ ap (kind s) (sym e), ap (key s') e ∙ ap (word 2) c.parent ∙ redirect_keeps (words_at s p) l w 2 (omega arith) (omega arith) ∙ ap (key s) (sym e))
+      go (inl e) _ _ = (
+        ap (kind s') e ∙ ap (word 1) c.parent ∙ redirect_keeps (words_at s p) l w 1 (omega arith) (omega arith) ∙ ap (kind s) (sym e),
+        ap (key s') e
+            ∙ ap (word 2) c.parent ∙ redirect_keeps (words_at s p) l w 2 (omega arith) (omega arith) ∙ ap (key s) (sym e),
+      )
 
   -- a search that ended at another leaf ends there still
   pub grow_ends : (i n : ℕ) → seek i (plug ps (leaf l j x)) ≡ n → n ≢ l → seek i (plug ps (sprout k v m w l j x)) ≡ n

@@ -25,7 +25,8 @@ map_at-entries : (s : State) (root : ℕ) (t : Option Tree) → IsTree s root t 
 map_at-entries s root None q = map_at-empty s root q
 map_at-entries s root (Some t) q = map_at-tree s root t q
 
-pub map_of-entries : (s : State) (root : ℕ) (t : Option Tree) → 170 ≤ root → root < 180 → IsTree s root t → map_of (name_of root) (catalogue_of s) ≡ entries_at t
+pub map_of-entries : (s : State) (root : ℕ) (t : Option Tree) → 170 ≤ root → root < 180 → IsTree s root t
+    → map_of (name_of root) (catalogue_of s) ≡ entries_at t
 map_of-entries s root None lo lt q = map_of-empty s root lo lt q
 map_of-entries s root (Some t) lo lt q = map_of-tree s root t lo lt q
 
@@ -35,7 +36,9 @@ pub record TreeKeeps (s s' : State) (root : ℕ) (ws : Writes) : Type 0 where
   pub keys : (o : ℕ) → owner s o ≢ 0 → owner s' o ≡ owner s o → (kind s' o ≡ kind s o) × (key s' o ≡ key s o)
   pub ends : (k l : ℕ) → EndsAt s root k l → touches ws l ≡ false → EndsAt s' root k l
 
-pub tree_half : (s : State) (ws : Writes) (root : ℕ) (Fits : Map → Type 0) (change : Map → Map) (t u : Option Tree) → IsLawful s → 170 ≤ root → root < 180 → IsTree s root t → IsTree (written s ws) root u → TreeKeeps s (written s ws) root ws → Fits (entries_at t) → entries_at u ≡ change (entries_at t) → Half s (written s ws) ws root Fits change
+pub tree_half : (s : State) (ws : Writes) (root : ℕ) (Fits : Map → Type 0) (change : Map → Map) (t u : Option Tree) → IsLawful s → 170 ≤ root → root < 180
+    → IsTree s root t → IsTree (written s ws) root u → TreeKeeps s (written s ws) root ws → Fits (entries_at t) → entries_at u ≡ change (entries_at t)
+    → Half s (written s ws) ws root Fits change
 tree_half s ws root Fits change t u l lo lt old new keeps fits leaves = record {
   within = keeps.within;
   keeps = record {
@@ -45,7 +48,8 @@ tree_half s ws root Fits change t u l lo lt old new keeps fits leaves = record {
     ends = λ g k n g0 g1 e out. ends g k n g1 e out (cases_eq g root);
   };
   fits = subst Fits (sym before) fits;
-  leaves = catalogue_set s (written s ws) (name_of root) (change (map_of (name_of root) (catalogue_of s))) (name_bound root lt) (λ name n. map_in-within s (written s ws) root name lt (length-written s ws) keeps.within n) after;
+  leaves = catalogue_set s (written s ws) (name_of root) (change (map_of (name_of root) (catalogue_of s))) (name_bound root lt)
+      (λ name n. map_in-within s (written s ws) root name lt (length-written s ws) keeps.within n) after;
 }
   where
     before : map_of (name_of root) (catalogue_of s) ≡ entries_at t

@@ -7,7 +7,8 @@ use Rattle.set_script.specs.Catalogue.{Map, IsAboveKey}
 use Rattle.set_script.specs.Trees.{Tree, top, objects_in, IsDistinct, entries_in, AllBelow, AllFrom, IsOrdered, Stands, seek}
 use Rattle.set_script.specs.Trees.Tree.{leaf, inner}
 use Rattle.set_script.proofs.MapParts.{IsUnderKey, under_append, above_append, under_higher, from_above}
-use Rattle.set_script.proofs.TreeShape.{IsIn, not_in, is_in-none, in_left, in_right, in_either, distinct_left, distinct_right, distinct_apart, distinct_join, seek_left, seek_right}
+use Rattle.set_script.proofs.TreeShape.{IsIn, not_in, is_in-none, in_left, in_right, in_either, distinct_left, distinct_right, distinct_apart}
+use Rattle.set_script.proofs.TreeShape.{distinct_join, seek_left, seek_right}
 use Rattle.set_script.proofs.TreeMaps.{below_entries, from_entries}
 use Rattle.tree_set.specs.Paths.{Turn, Path, plug, node_of, parent_of, Follows, around, before, after}
 use Rattle.tree_set.specs.Paths.Turn.{left, right}
@@ -48,13 +49,15 @@ plug_in (right n d a ∷ ps) u o (inr i) = elim (in_either (objects_in a) (objec
 pub plug_apart : (ps : Path) (u : Tree) → IsDistinct (objects_in (plug ps u)) → (o : ℕ) → IsIn o (around ps) → IsIn o (objects_in u) → ⊥
 plug_apart [] u dis o i j = i
 plug_apart (left n d b ∷ ps) u dis o (inl e) j =
-    not_in n (objects_in (plug ps u) ++ objects_in b) dis.0 (in_left (objects_in (plug ps u)) (objects_in b) n (subst (λ (x : ℕ). IsIn x (objects_in (plug ps u))) e (part_in ps u o j)))
+    not_in n (objects_in (plug ps u) ++ objects_in b) dis.0
+    (in_left (objects_in (plug ps u)) (objects_in b) n (subst (λ (x : ℕ). IsIn x (objects_in (plug ps u))) e (part_in ps u o j)))
 plug_apart (left n d b ∷ ps) u dis o (inr i) j = elim (in_either (around ps) (objects_in b) o i) [
   | inl k ↦ plug_apart ps u (distinct_left (objects_in (plug ps u)) (objects_in b) dis.1) o k j
   | inr k ↦ distinct_apart (objects_in (plug ps u)) (objects_in b) dis.1 o (part_in ps u o j) k
 ]
 plug_apart (right n d a ∷ ps) u dis o (inl e) j =
-    not_in n (objects_in a ++ objects_in (plug ps u)) dis.0 (in_right (objects_in a) (objects_in (plug ps u)) n (subst (λ (x : ℕ). IsIn x (objects_in (plug ps u))) e (part_in ps u o j)))
+    not_in n (objects_in a ++ objects_in (plug ps u)) dis.0
+    (in_right (objects_in a) (objects_in (plug ps u)) n (subst (λ (x : ℕ). IsIn x (objects_in (plug ps u))) e (part_in ps u o j)))
 plug_apart (right n d a ∷ ps) u dis o (inr i) j = elim (in_either (objects_in a) (around ps) o i) [
   | inl k ↦ distinct_apart (objects_in a) (objects_in (plug ps u)) dis.1 o k (part_in ps u o j)
   | inr k ↦ plug_apart ps u (distinct_right (objects_in a) (objects_in (plug ps u)) dis.1) o k j
@@ -67,7 +70,8 @@ distinct_part (right n d a ∷ ps) u dis =
     distinct_part ps u (distinct_right (objects_in a) (objects_in (plug ps u)) dis.1)
 
 -- another part of distinct objects that are not around it
-pub distinct_plug : (ps : Path) (u v : Tree) → IsDistinct (objects_in (plug ps u)) → IsDistinct (objects_in v) → ((o : ℕ) → IsIn o (around ps) → IsIn o (objects_in v) → ⊥) → IsDistinct (objects_in (plug ps v))
+pub distinct_plug : (ps : Path) (u v : Tree) → IsDistinct (objects_in (plug ps u)) → IsDistinct (objects_in v)
+    → ((o : ℕ) → IsIn o (around ps) → IsIn o (objects_in v) → ⊥) → IsDistinct (objects_in (plug ps v))
 distinct_plug [] u v dis new out = new
 distinct_plug (left n d b ∷ ps) u v dis new out = (
   is_in-none n (objects_in (plug ps v) ++ objects_in b) (λ i. elim (in_either (objects_in (plug ps v)) (objects_in b) n i) [
@@ -95,7 +99,8 @@ distinct_plug (right n d a ∷ ps) u v dis new out = (
   ]),
   distinct_join (objects_in a) (objects_in (plug ps v))
       (distinct_left (objects_in a) (objects_in (plug ps u)) dis.1)
-      (distinct_plug ps u v (distinct_right (objects_in a) (objects_in (plug ps u)) dis.1) new (λ o i j. out o (inr (in_right (objects_in a) (around ps) o i)) j))
+      (distinct_plug ps u v (distinct_right (objects_in a) (objects_in (plug ps u)) dis.1) new
+      (λ o i j. out o (inr (in_right (objects_in a) (around ps) o i)) j))
       (λ o i j. elim (plug_in ps v o j) [
         | inl k ↦ distinct_apart (objects_in a) (objects_in (plug ps u)) dis.1 o i (around_in ps u o k)
         | inr k ↦ out o (inr (in_left (objects_in a) (around ps) o i)) k
@@ -162,7 +167,8 @@ ordered_plug (right n d a ∷ ps) u v o new w = (o.0, from_plug d ps u v o.1 w.0
 pub entries_plug : (ps : Path) (u : Tree) → entries_in (plug ps u) ≡ before ps ++ (entries_in u ++ after ps)
 entries_plug [] u = sym (append-nil (entries_in u))
 entries_plug (left n d b ∷ ps) u =
-    ap (λ (m : Map). m ++ entries_in b) (entries_plug ps u) ∙ append_assoc (before ps) (entries_in u ++ after ps) (entries_in b) ∙ ap (λ (m : Map). before ps ++ m) (append_assoc (entries_in u) (after ps) (entries_in b))
+    ap (λ (m : Map). m ++ entries_in b) (entries_plug ps u) ∙ append_assoc (before ps) (entries_in u ++ after ps) (entries_in b)
+    ∙ ap (λ (m : Map). before ps ++ m) (append_assoc (entries_in u) (after ps) (entries_in b))
 entries_plug (right n d a ∷ ps) u =
     ap (λ (m : Map). entries_in a ++ m) (entries_plug ps u) ∙ sym (append_assoc (entries_in a) (before ps) (entries_in u ++ after ps))
 

@@ -62,7 +62,8 @@ module _ (s : State) (root k v l x : ℕ) (ps : Path) (lt : root < 180) (grown :
 
   put_as : Replaced s (written s (put_writes s l v)) root ps (leaf l k x) (leaf l k v)
   put_as = record {
-    leads = stays (parent_of root ps) (λ e. part_not_parent s root ps (leaf l k x) lt grown (parent_of root ps) refl l (inl refl) (sym e)) ∙ sym (redirect_same (words_at s (parent_of root ps)) l (parent_words s root (parent_of root ps) l (parent_leads s root ps (leaf l k x) grown)));
+    leads = stays (parent_of root ps) (λ e. part_not_parent s root ps (leaf l k x) lt grown (parent_of root ps) refl l (inl refl) (sym e))
+        ∙ sym (redirect_same (words_at s (parent_of root ps)) l (parent_words s root (parent_of root ps) l (parent_leads s root ps (leaf l k x) grown)));
     others = λ o i n. stays o (λ e. not_leaf o e i);
     stands = (stood.0, stood.1, now);
     ordered = tt;
@@ -86,7 +87,8 @@ module _ (s : State) (root k v l x : ℕ) (ps : Path) (lt : root < 180) (grown :
   put_within : IsWithin s (written s (put_writes s l v)) root
   put_within o = go (cases_eq o l)
     where
-      go : (o ≡ l) ⊎ (o ≢ l) → (words_at (written s (put_writes s l v)) o ≡ words_at s o) ⊎ ((o ≡ root) ⊎ ((180 ≤ o) × IsOf s root o × IsOf (written s (put_writes s l v)) root o))
+      go : (o ≡ l) ⊎ (o ≢ l) → (words_at (written s (put_writes s l v)) o ≡ words_at s o)
+          ⊎ ((o ≡ root) ⊎ ((180 ≤ o) × IsOf s root o × IsOf (written s (put_writes s l v)) root o))
       go (inr n) = inl (stays o n)
       go (inl e) =
           let lo : 180 ≤ l = stood.0 in
@@ -97,8 +99,10 @@ module _ (s : State) (root k v l x : ℕ) (ps : Path) (lt : root < 180) (grown :
     where
       go : (o ≡ l) ⊎ (o ≢ l) → (kind (written s (put_writes s l v)) o ≡ kind s o) × (key (written s (put_writes s l v)) o ≡ key s o)
       go (inr n) = (ap (word 1) (stays o n), ap (word 2) (stays o n))
-      go (inl e) =
-          (ap (kind (written s (put_writes s l v))) e ∙ ap (word 1) now ∙ sym (ap (word 1) stood.2) ∙ ap (kind s) (sym e), ap (key (written s (put_writes s l v))) e ∙ ap (word 2) now ∙ sym (ap (word 2) stood.2) ∙ ap (key s) (sym e))
+      go (inl e) = (
+        ap (kind (written s (put_writes s l v))) e ∙ ap (word 1) now ∙ sym (ap (word 1) stood.2) ∙ ap (kind s) (sym e),
+        ap (key (written s (put_writes s l v))) e ∙ ap (word 2) now ∙ sym (ap (word 2) stood.2) ∙ ap (key s) (sym e),
+      )
 
   -- every search ends where it did
   put_ends : (i : ℕ) → seek i (plug ps (leaf l k x)) ≡ seek i (plug ps (leaf l k v))
@@ -112,14 +116,17 @@ module _ (s : State) (root k v l x : ℕ) (ps : Path) (lt : root < 180) (grown :
 
   entries_put : entries_in (plug ps (leaf l k v)) ≡ put k v (entries_in (plug ps (leaf l k x)))
   entries_put =
-      entries_plug ps (leaf l k v) ∙ ap (λ (m : Map). before ps ++ m) (sym (put-first k v x (after ps))) ∙ sym (put-behind k v (before ps) ((k, x) ∷ after ps) under) ∙ ap (put k v) (sym (entries_plug ps (leaf l k x)))
+      entries_plug ps (leaf l k v) ∙ ap (λ (m : Map). before ps ++ m) (sym (put-first k v x (after ps)))
+      ∙ sym (put-behind k v (before ps) ((k, x) ∷ after ps) under) ∙ ap (put k v) (sym (entries_plug ps (leaf l k x)))
 
   has_other : value s l ≢ v → HasOther k v (entries_in (plug ps (leaf l k x)))
   has_other n =
       let xv : value s l ≡ x = ap (word 5) stood.2 in
       let there : has_key k ((k, x) ∷ after ps) ≡ true = grind (arith, nat_tests) in
-      let other : has_entry k v ((k, x) ∷ after ps) ≡ false = grind (arith, nat_tests) in
-      (ap (has_key k) (entries_plug ps (leaf l k x)) ∙ has_key-behind k (before ps) ((k, x) ∷ after ps) under ∙ there, ap (has_entry k v) (entries_plug ps (leaf l k x)) ∙ has_entry-behind k v (before ps) ((k, x) ∷ after ps) under ∙ other)
+      let other : has_entry k v ((k, x) ∷ after ps) ≡ false = grind (arith, nat_tests) in (
+        ap (has_key k) (entries_plug ps (leaf l k x)) ∙ has_key-behind k (before ps) ((k, x) ∷ after ps) under ∙ there,
+        ap (has_entry k v) (entries_plug ps (leaf l k x)) ∙ has_entry-behind k v (before ps) ((k, x) ∷ after ps) under ∙ other,
+      )
 
   put_found : IsLawful s → 170 ≤ root → value s l ≢ v → Half s (written s (put_writes s l v)) (put_writes s l v) root (HasOther k v) (put k v)
   put_found law lo n =
@@ -132,7 +139,8 @@ module _ (s : State) (root k v l x : ℕ) (ps : Path) (lt : root < 180) (grown :
       (has_other n) entries_put
 
 -- A put to a key that is there with another value keeps what it must, and gives the key that value in the catalogue.
-pub put_half : (s : State) (root k v l : ℕ) → IsLawful s → 170 ≤ root → root < 180 → IsLeaf s root k l → value s l ≢ v → Half s (written s (put_writes s l v)) (put_writes s l v) root (HasOther k v) (put k v)
+pub put_half : (s : State) (root k v l : ℕ) → IsLawful s → 170 ≤ root → root < 180 → IsLeaf s root k l → value s l ≢ v
+    → Half s (written s (put_writes s l v)) (put_writes s l v) root (HasOther k v) (put k v)
 put_half s root k v l law lo lt is n =
     let t = tree_with s root l law lo lt is.0 is.1 in
     let r = path_to_leaf s root k l t.0 t.1 is in put_found s root k v l r.0 r.1 lt r.2 r.3 law lo n

@@ -1,5 +1,6 @@
 -- A part of a tree replaced by another one.
-use Rattle.std.proofs.Common.{◌≡◌, ◌≢◌, ℕ, suc, ◌<◌, ◌≤◌, ◌⊎◌, inl, inr, Bool, true, false, cond, eqb, eq-eqb, ne_eqb, get_or-set_other, set, List, [], ◌∷◌, ◌++◌, refl, sym, ap, ◌∙◌, subst, arith}
+use Rattle.std.proofs.Common.{◌≡◌, ◌≢◌, ℕ, suc, ◌<◌, ◌≤◌, ◌⊎◌, inl, inr, Bool, true, false, cond, eqb, eq-eqb, ne_eqb}
+use Rattle.std.proofs.Common.{get_or-set_other, set, List, [], ◌∷◌, ◌++◌, refl, sym, ap, ◌∙◌, subst, arith}
 use Rattle.std.proofs.lemmas.List.{set-get_or}
 use Rattle.std.proofs.lemmas.Bool.{cases_eq}
 use Rattle.mv_history.specs.State.{State}
@@ -8,7 +9,8 @@ use Rattle.set_script.specs.Objects.{owner, kind, link, right_link, head_words, 
 use Rattle.set_script.specs.Trees.{Tree, top, objects_in, IsDistinct, IsOrdered, Stands, IsGrown}
 use Rattle.set_script.specs.Trees.Tree.{leaf, inner}
 use Rattle.set_script.proofs.ObjectWords.{word}
-use Rattle.set_script.proofs.TreeShape.{IsIn, not_in, is_in-from, in_left, in_right, in_either, distinct_left, distinct_right, distinct_apart, top_in, child_in, only_in, Stands-same, Stands-node}
+use Rattle.set_script.proofs.TreeShape.{IsIn, not_in, is_in-from, in_left, in_right, in_either, distinct_left, distinct_right, distinct_apart, top_in}
+use Rattle.set_script.proofs.TreeShape.{child_in, only_in, Stands-same, Stands-node}
 use Rattle.tree_set.specs.Paths.{Turn, Path, plug, parent_of, around}
 use Rattle.tree_set.specs.Paths.Turn.{left, right}
 use Rattle.tree_set.specs.Places.{IsInner, IsChild, IsParent, redirect}
@@ -44,47 +46,65 @@ redirect_keeps words a w i n m = go (eqb (word 3 words) a)
     go false = get_or-set_other words 4 i w 0 m
 
 -- The tree stands with the other part.
-stands_plug : (s s' : State) (root parent : ℕ) (ps : Path) (u v : Tree) → Stands s root (plug ps u) → IsDistinct (objects_in (plug ps u)) → words_at s' (parent_of parent ps) ≡ redirect (words_at s (parent_of parent ps)) (top u) (top v) → ((o : ℕ) → IsIn o (around ps) → o ≢ parent_of parent ps → words_at s' o ≡ words_at s o) → Stands s' root v → Stands s' root (plug ps v)
+stands_plug : (s s' : State) (root parent : ℕ) (ps : Path) (u v : Tree) → Stands s root (plug ps u) → IsDistinct (objects_in (plug ps u))
+    → words_at s' (parent_of parent ps) ≡ redirect (words_at s (parent_of parent ps)) (top u) (top v)
+    → ((o : ℕ) → IsIn o (around ps) → o ≢ parent_of parent ps → words_at s' o ≡ words_at s o) → Stands s' root v → Stands s' root (plug ps v)
 stands_plug s s' root parent [] u v q dis leads others new = new
 stands_plug s s' root parent (left n d b ∷ []) u v q dis leads others new = (
   q.0,
   q.1,
   leads ∙ ap (λ (w : List ℕ). redirect w (top u) (top v)) q.2 ∙ redirect_left root d (top u) (top b) (top v),
   new,
-  Stands-same s s' root b q.4 (λ o i. others o (inr i) (λ e. not_in n (objects_in u ++ objects_in b) dis.0 (in_right (objects_in u) (objects_in b) n (subst (λ (x : ℕ). IsIn x (objects_in b)) e i)))),
+  Stands-same s s' root b q.4
+      (λ o i. others o (inr i)
+      (λ e. not_in n (objects_in u ++ objects_in b) dis.0 (in_right (objects_in u) (objects_in b) n (subst (λ (x : ℕ). IsIn x (objects_in b)) e i)))),
 )
 stands_plug s s' root parent (right n d a ∷ []) u v q dis leads others new =
-    let apart : top a ≢ top u = λ e. distinct_apart (objects_in a) (objects_in u) dis.1 (top u) (subst (λ (x : ℕ). IsIn x (objects_in a)) e (top_in a)) (top_in u) in (
+    let apart : top a ≢ top u =
+    λ e. distinct_apart (objects_in a) (objects_in u) dis.1 (top u) (subst (λ (x : ℕ). IsIn x (objects_in a)) e (top_in a)) (top_in u) in (
       q.0,
       q.1,
       leads ∙ ap (λ (w : List ℕ). redirect w (top u) (top v)) q.2 ∙ redirect_right root d (top a) (top u) (top v) apart,
-      Stands-same s s' root a q.3 (λ o i. others o (inr (in_left (objects_in a) [] o i)) (λ e. not_in n (objects_in a ++ objects_in u) dis.0 (in_left (objects_in a) (objects_in u) n (subst (λ (x : ℕ). IsIn x (objects_in a)) e i)))),
+      Stands-same s s' root a q.3
+          (λ o i. others o (inr (in_left (objects_in a) [] o i))
+          (λ e. not_in n (objects_in a ++ objects_in u) dis.0 (in_left (objects_in a) (objects_in u) n (subst (λ (x : ℕ). IsIn x (objects_in a)) e i)))),
       new,
     )
 stands_plug s s' root parent (left n d b ∷ p ∷ ps) u v q dis leads others new =
     let t : Tree = plug (p ∷ ps) u in
     let below : IsIn (parent_of n (p ∷ ps)) (objects_in (plug (p ∷ ps) u)) = around_in (p ∷ ps) u _ (parent_in n p ps) in
-    let apart : n ≢ parent_of n (p ∷ ps) = λ e. not_in n (objects_in (plug (p ∷ ps) u) ++ objects_in b) dis.0 (in_left (objects_in (plug (p ∷ ps) u)) (objects_in b) n (subst (λ (x : ℕ). IsIn x (objects_in (plug (p ∷ ps) u))) (sym e) below)) in (
+    let apart : n ≢ parent_of n (p ∷ ps) =
+    λ e. not_in n (objects_in (plug (p ∷ ps) u) ++ objects_in b) dis.0
+    (in_left (objects_in (plug (p ∷ ps) u)) (objects_in b) n (subst (λ (x : ℕ). IsIn x (objects_in (plug (p ∷ ps) u))) (sym e) below)) in (
       q.0,
       q.1,
       others n (inl refl) apart ∙ q.2 ∙ ap (λ (x : ℕ). inner_words root d x (top b)) (top_plug p ps u ∙ sym (top_plug p ps v)),
       stands_plug s s' root n (p ∷ ps) u v q.3 (distinct_left (objects_in (plug (p ∷ ps) u)) (objects_in b) dis.1) leads
           (λ o i. others o (inr (in_left (around (p ∷ ps)) (objects_in b) o i))) new,
-      Stands-same s s' root b q.4 (λ o i. others o (inr (in_right (around (p ∷ ps)) (objects_in b) o i)) (λ e. distinct_apart (objects_in (plug (p ∷ ps) u)) (objects_in b) dis.1 o (subst (λ (x : ℕ). IsIn x (objects_in (plug (p ∷ ps) u))) (sym e) below) i)),
+      Stands-same s s' root b q.4
+          (λ o i. others o (inr (in_right (around (p ∷ ps)) (objects_in b) o i))
+          (λ e. distinct_apart (objects_in (plug (p ∷ ps) u)) (objects_in b) dis.1 o (subst (λ (x : ℕ). IsIn x (objects_in (plug (p ∷ ps) u))) (sym e) below)
+          i)),
     )
 stands_plug s s' root parent (right n d a ∷ p ∷ ps) u v q dis leads others new =
     let below : IsIn (parent_of n (p ∷ ps)) (objects_in (plug (p ∷ ps) u)) = around_in (p ∷ ps) u _ (parent_in n p ps) in
-    let apart : n ≢ parent_of n (p ∷ ps) = λ e. not_in n (objects_in a ++ objects_in (plug (p ∷ ps) u)) dis.0 (in_right (objects_in a) (objects_in (plug (p ∷ ps) u)) n (subst (λ (x : ℕ). IsIn x (objects_in (plug (p ∷ ps) u))) (sym e) below)) in (
+    let apart : n ≢ parent_of n (p ∷ ps) =
+    λ e. not_in n (objects_in a ++ objects_in (plug (p ∷ ps) u)) dis.0
+    (in_right (objects_in a) (objects_in (plug (p ∷ ps) u)) n (subst (λ (x : ℕ). IsIn x (objects_in (plug (p ∷ ps) u))) (sym e) below)) in (
       q.0,
       q.1,
       others n (inl refl) apart ∙ q.2 ∙ ap (λ (x : ℕ). inner_words root d (top a) x) (top_plug p ps u ∙ sym (top_plug p ps v)),
-      Stands-same s s' root a q.3 (λ o i. others o (inr (in_left (objects_in a) (around (p ∷ ps)) o i)) (λ e. distinct_apart (objects_in a) (objects_in (plug (p ∷ ps) u)) dis.1 o i (subst (λ (x : ℕ). IsIn x (objects_in (plug (p ∷ ps) u))) (sym e) below))),
+      Stands-same s s' root a q.3
+          (λ o i. others o (inr (in_left (objects_in a) (around (p ∷ ps)) o i))
+          (λ e. distinct_apart (objects_in a) (objects_in (plug (p ∷ ps) u)) dis.1 o i
+          (subst (λ (x : ℕ). IsIn x (objects_in (plug (p ∷ ps) u))) (sym e) below))),
       stands_plug s s' root n (p ∷ ps) u v q.4 (distinct_right (objects_in a) (objects_in (plug (p ∷ ps) u)) dis.1) leads
           (λ o i. others o (inr (in_right (objects_in a) (around (p ∷ ps)) o i))) new,
     )
 
 -- The root's tree is the one with the other part.
-pub replaced : (s s' : State) (root : ℕ) (ps : Path) (u v : Tree) → root < 180 → IsGrown s root (plug ps u) → Replaced s s' root ps u v → IsGrown s' root (plug ps v)
+pub replaced : (s s' : State) (root : ℕ) (ps : Path) (u v : Tree) → root < 180 → IsGrown s root (plug ps u) → Replaced s s' root ps u v
+    → IsGrown s' root (plug ps v)
 replaced s s' root ps u v lt g r = record {
   first = first ps g r.leads r.others;
   stands = stands_plug s s' root root ps u v g.stands g.distinct r.leads (λ o i. r.others o (inr i)) r.stands;
@@ -93,7 +113,8 @@ replaced s s' root ps u v lt g r = record {
   only = λ o lo e. is_in-from o (objects_in (plug ps v)) (elim (r.only o lo e) [ inl i ↦ around_in ps v o i | inr i ↦ part_in ps v o i ]);
 }
   where
-    first : (ps : Path) → IsGrown s root (plug ps u) → words_at s' (parent_of root ps) ≡ redirect (words_at s (parent_of root ps)) (top u) (top v) → ((o : ℕ) → (o ≡ root) ⊎ IsIn o (around ps) → o ≢ parent_of root ps → words_at s' o ≡ words_at s o) → words_at s' root ≡ head_words (top (plug ps v))
+    first : (ps : Path) → IsGrown s root (plug ps u) → words_at s' (parent_of root ps) ≡ redirect (words_at s (parent_of root ps)) (top u) (top v)
+        → ((o : ℕ) → (o ≡ root) ⊎ IsIn o (around ps) → o ≢ parent_of root ps → words_at s' o ≡ words_at s o) → words_at s' root ≡ head_words (top (plug ps v))
     first [] g leads others = leads ∙ ap (λ (w : List ℕ). redirect w (top u) (top v)) g.first ∙ redirect_head (top u) (top v)
     first (p ∷ ps) g leads others =
         let node : 180 ≤ parent_of root (p ∷ ps) = Stands-node s root (plug (p ∷ ps) u) g.stands _ (around_in (p ∷ ps) u _ (parent_in root p ps)) in
@@ -102,7 +123,8 @@ replaced s s' root ps u v lt g r = record {
 -- What leads to the part is the parent at the end of the path.
 
 -- a child is not at the top
-child_not_top : (s : State) (root : ℕ) (t : Tree) → Stands s root t → IsDistinct (objects_in t) → (p : ℕ) → IsIn p (objects_in t) → kind s p ≡ 2 → (link s p ≡ top t) ⊎ (right_link s p ≡ top t) → ⊥
+child_not_top : (s : State) (root : ℕ) (t : Tree) → Stands s root t → IsDistinct (objects_in t) → (p : ℕ) → IsIn p (objects_in t) → kind s p ≡ 2
+    → (link s p ≡ top t) ⊎ (right_link s p ≡ top t) → ⊥
 child_not_top s root (leaf n k v) q dis p (inl e) z c = let one : kind s p ≡ 1 = ap (kind s) e ∙ ap (word 1) q.2 in omega arith
 child_not_top s root (leaf n k v) q dis p (inr i) z c = i
 child_not_top s root (inner n d a b) q dis p (inl e) z (inl c) =
@@ -119,33 +141,40 @@ child_not_top s root (inner n d a b) q dis p (inr i) z c = elim (in_either (obje
 -- the top of a longer path is not that of the part
 top_apart : (p : Turn) (ps : Path) (u : Tree) → IsDistinct (objects_in (plug (p ∷ ps) u)) → top (plug (p ∷ ps) u) ≢ top u
 top_apart (left n d b) ps u dis e =
-    not_in n (objects_in (plug ps u) ++ objects_in b) dis.0 (in_left (objects_in (plug ps u)) (objects_in b) n (subst (λ (x : ℕ). IsIn x (objects_in (plug ps u))) (sym e) (part_in ps u (top u) (top_in u))))
+    not_in n (objects_in (plug ps u) ++ objects_in b) dis.0
+    (in_left (objects_in (plug ps u)) (objects_in b) n (subst (λ (x : ℕ). IsIn x (objects_in (plug ps u))) (sym e) (part_in ps u (top u) (top_in u))))
 top_apart (right n d a) ps u dis e =
-    not_in n (objects_in a ++ objects_in (plug ps u)) dis.0 (in_right (objects_in a) (objects_in (plug ps u)) n (subst (λ (x : ℕ). IsIn x (objects_in (plug ps u))) (sym e) (part_in ps u (top u) (top_in u))))
+    not_in n (objects_in a ++ objects_in (plug ps u)) dis.0
+    (in_right (objects_in a) (objects_in (plug ps u)) n (subst (λ (x : ℕ). IsIn x (objects_in (plug ps u))) (sym e) (part_in ps u (top u) (top_in u))))
 
 -- the path leads to the part's top where its first node does
 ends_here : (parent : ℕ) (ps : Path) (u : Tree) → IsDistinct (objects_in (plug ps u)) → top (plug ps u) ≡ top u → parent_of parent ps ≡ parent
 ends_here parent [] u dis e = refl
 ends_here parent (p ∷ ps) u dis e = absurd (top_apart p ps u dis e)
 
-inner_parent : (s : State) (root parent : ℕ) (ps : Path) (u : Tree) → Stands s root (plug ps u) → IsDistinct (objects_in (plug ps u)) → (p : ℕ) → IsIn p (objects_in (plug ps u)) → kind s p ≡ 2 → (link s p ≡ top u) ⊎ (right_link s p ≡ top u) → parent_of parent ps ≡ p
+inner_parent : (s : State) (root parent : ℕ) (ps : Path) (u : Tree) → Stands s root (plug ps u) → IsDistinct (objects_in (plug ps u)) → (p : ℕ)
+    → IsIn p (objects_in (plug ps u)) → kind s p ≡ 2 → (link s p ≡ top u) ⊎ (right_link s p ≡ top u) → parent_of parent ps ≡ p
 inner_parent s root parent [] u q dis p i z c = absurd (child_not_top s root u q dis p i z c)
 inner_parent s root parent (left n d b ∷ ps) u q dis p (inl e) z (inl c) =
     ends_here n ps u (distinct_left (objects_in (plug ps u)) (objects_in b) dis.1) (sym (ap (link s) e ∙ ap (word 3) q.2) ∙ c) ∙ sym e
 inner_parent s root parent (left n d b ∷ ps) u q dis p (inl e) z (inr c) =
     let f : top b ≡ top u = sym (ap (right_link s) e ∙ ap (word 4) q.2) ∙ c in
-    absurd (distinct_apart (objects_in (plug ps u)) (objects_in b) dis.1 (top u) (part_in ps u (top u) (top_in u)) (subst (λ (x : ℕ). IsIn x (objects_in b)) f (top_in b)))
+    absurd (distinct_apart (objects_in (plug ps u)) (objects_in b) dis.1 (top u) (part_in ps u (top u) (top_in u))
+    (subst (λ (x : ℕ). IsIn x (objects_in b)) f (top_in b)))
 inner_parent s root parent (left n d b ∷ ps) u q dis p (inr i) z c = elim (in_either (objects_in (plug ps u)) (objects_in b) p i) [
   | inl j ↦ inner_parent s root n ps u q.3 (distinct_left (objects_in (plug ps u)) (objects_in b) dis.1) p j z c
-  | inr j ↦ absurd (distinct_apart (objects_in (plug ps u)) (objects_in b) dis.1 (top u) (part_in ps u (top u) (top_in u)) (child_in s root b q.4 p j z (top u) c))
+  | inr j ↦ absurd
+      (distinct_apart (objects_in (plug ps u)) (objects_in b) dis.1 (top u) (part_in ps u (top u) (top_in u)) (child_in s root b q.4 p j z (top u) c))
 ]
 inner_parent s root parent (right n d a ∷ ps) u q dis p (inl e) z (inr c) =
     ends_here n ps u (distinct_right (objects_in a) (objects_in (plug ps u)) dis.1) (sym (ap (right_link s) e ∙ ap (word 4) q.2) ∙ c) ∙ sym e
 inner_parent s root parent (right n d a ∷ ps) u q dis p (inl e) z (inl c) =
     let f : top a ≡ top u = sym (ap (link s) e ∙ ap (word 3) q.2) ∙ c in
-    absurd (distinct_apart (objects_in a) (objects_in (plug ps u)) dis.1 (top u) (subst (λ (x : ℕ). IsIn x (objects_in a)) f (top_in a)) (part_in ps u (top u) (top_in u)))
+    absurd (distinct_apart (objects_in a) (objects_in (plug ps u)) dis.1 (top u) (subst (λ (x : ℕ). IsIn x (objects_in a)) f (top_in a))
+    (part_in ps u (top u) (top_in u)))
 inner_parent s root parent (right n d a ∷ ps) u q dis p (inr i) z c = elim (in_either (objects_in a) (objects_in (plug ps u)) p i) [
-  | inl j ↦ absurd (distinct_apart (objects_in a) (objects_in (plug ps u)) dis.1 (top u) (child_in s root a q.3 p j z (top u) c) (part_in ps u (top u) (top_in u)))
+  | inl j ↦ absurd
+      (distinct_apart (objects_in a) (objects_in (plug ps u)) dis.1 (top u) (child_in s root a q.3 p j z (top u) c) (part_in ps u (top u) (top_in u)))
   | inr j ↦ inner_parent s root n ps u q.4 (distinct_right (objects_in a) (objects_in (plug ps u)) dis.1) p j z c
 ]
 
@@ -156,7 +185,8 @@ parent_is s root ps u g p (inr (i, c)) =
     inner_parent s root root ps u g.stands g.distinct p (only_in s root (plug ps u) g p i.0 i.1) i.2 c
 
 -- and it does lead to the part
-inner_leads : (s : State) (root parent : ℕ) (p : Turn) (ps : Path) (u : Tree) → Stands s root (plug (p ∷ ps) u) → IsInner s root (parent_of parent (p ∷ ps)) × IsChild s (parent_of parent (p ∷ ps)) (top u)
+inner_leads : (s : State) (root parent : ℕ) (p : Turn) (ps : Path) (u : Tree) → Stands s root (plug (p ∷ ps) u)
+    → IsInner s root (parent_of parent (p ∷ ps)) × IsChild s (parent_of parent (p ∷ ps)) (top u)
 inner_leads s root parent (left n d b) [] u q = ((q.0, ap (word 0) q.2, ap (word 1) q.2), inl (ap (word 3) q.2))
 inner_leads s root parent (right n d a) [] u q = ((q.0, ap (word 0) q.2, ap (word 1) q.2), inr (ap (word 4) q.2))
 inner_leads s root parent (left n d b) (t ∷ ps) u q = inner_leads s root n t ps u q.3

@@ -66,7 +66,8 @@ grow_way root k v p l m w lo lt fits ne = record {
   half = λ s law place vacant. grow_half s root k v p l m w law lo lt fits place (vacant m (inl refl)) (vacant w (inr (inl refl))) ne;
 }
   where
-    writes_same : (s s' : State) → words_at s' p ≡ words_at s p → words_at s' l ≡ words_at s l → grow_writes s' root k v p l m w ≡ grow_writes s root k v p l m w
+    writes_same : (s s' : State) → words_at s' p ≡ words_at s p → words_at s' l ≡ words_at s l
+        → grow_writes s' root k v p l m w ≡ grow_writes s root k v p l m w
     writes_same s s' e f = cc
 
     distinct : (s : State) → IsLawful s → IsGrowPlace s root k p l → AreVacant s (m ∷ w ∷ []) → are_distinct (grow_writes s root k v p l m w) ≡ true
@@ -188,16 +189,19 @@ put_way root k v l lo lt = record {
     writes_same s s' e = cc
 
 -- the value of a leaf in the map of the tree's name
-pub leaf_has : (s : State) (root k l : ℕ) → IsLawful s → 170 ≤ root → root < 180 → IsLeaf s root k l → value_of k (map_of (name_of root) (catalogue_of s)) ≡ Some (value s l)
+pub leaf_has : (s : State) (root k l : ℕ) → IsLawful s → 170 ≤ root → root < 180 → IsLeaf s root k l
+    → value_of k (map_of (name_of root) (catalogue_of s)) ≡ Some (value s l)
 leaf_has s root k l law lo lt is =
     let t = tree_with s root l law lo lt is.0 is.1 in
     let one : kind s l ≡ 1 = is.2 in
-    ap (value_of k) (map_of-tree s root t.0 lo lt t.1) ∙ ap (λ j. value_of j (entries_in t.0)) (sym is.3) ∙ leaf_value s root t.0 t.1.stands t.1.ordered l (only_in s root t.0 t.1 l is.0 is.1) (omega arith)
+    ap (value_of k) (map_of-tree s root t.0 lo lt t.1) ∙ ap (λ j. value_of j (entries_in t.0)) (sym is.3)
+    ∙ leaf_value s root t.0 t.1.stands t.1.ordered l (only_in s root t.0 t.1 l is.0 is.1) (omega arith)
 
 -- What the calls leave, by the place that they found and the writes that they made there.
 module _ (old new : InSection) (root k v : ℕ) (lo : 170 ≤ root) (lt : root < 180) (fits : k < 2 ^ 32) (law : IsLawful (state_of old)) where
   -- an add to an empty tree
-  pub planted_added : (leaf : ℕ) → link (state_of old) root ≡ 0 → IsVacant (state_of old) leaf → Rewritten old new (root ∷ leaf ∷ []) (plant_writes (state_of old) root k v leaf) → KeyAdded old new root k v
+  pub planted_added : (leaf : ℕ) → link (state_of old) root ≡ 0 → IsVacant (state_of old) leaf
+      → Rewritten old new (root ∷ leaf ∷ []) (plant_writes (state_of old) root k v leaf) → KeyAdded old new root k v
   unfolding plant_way
   planted_added m place vac r = record {
     way = plant_way root k v m lo lt fits;
@@ -207,7 +211,10 @@ module _ (old new : InSection) (root k v : ℕ) (lo : 170 ≤ root) (lt : root <
   }
 
   -- an add to another tree
-  pub grown_added : (parent leaf new_leaf new_inner : ℕ) → IsGrowPlace (state_of old) root k parent leaf → IsVacant (state_of old) new_leaf → IsVacant (state_of old) new_inner → new_leaf ≢ new_inner → Rewritten old new (parent ∷ leaf ∷ new_leaf ∷ new_inner ∷ []) (grow_writes (state_of old) root k v parent leaf new_leaf new_inner) → KeyAdded old new root k v
+  pub grown_added : (parent leaf new_leaf new_inner : ℕ) → IsGrowPlace (state_of old) root k parent leaf → IsVacant (state_of old) new_leaf
+      → IsVacant (state_of old) new_inner → new_leaf ≢ new_inner
+      → Rewritten old new (parent ∷ leaf ∷ new_leaf ∷ new_inner ∷ []) (grow_writes (state_of old) root k v parent leaf new_leaf new_inner)
+      → KeyAdded old new root k v
   unfolding grow_way
   grown_added p l m w place vm vw ne r = record {
     way = grow_way root k v p l m w lo lt fits ne;
@@ -221,27 +228,39 @@ module _ (old new : InSection) (root k v : ℕ) (lo : 170 ≤ root) (lt : root <
   }
 
   -- a del of the last key, which had this value
-  pub bared_removed : (leaf : ℕ) → value_of k (map_of (name_of root) (catalogue_of (state_of old))) ≡ Some v → IsBarePlace (state_of old) root k leaf → Rewritten old new (root ∷ leaf ∷ []) (bare_writes (state_of old) root leaf) → KeyRemoved old new root k v
+  pub bared_removed : (leaf : ℕ) → value_of k (map_of (name_of root) (catalogue_of (state_of old))) ≡ Some v → IsBarePlace (state_of old) root k leaf
+      → Rewritten old new (root ∷ leaf ∷ []) (bare_writes (state_of old) root leaf) → KeyRemoved old new root k v
   unfolding bare_way
   bared_removed l has place r = record {
     way = bare_way root k v l lo lt;
-    place = (place, value_once k (value (state_of old) l) v (map_of (name_of root) (catalogue_of (state_of old))) (leaf_has (state_of old) root k l law lo lt place.is_leaf) has);
+    place = (
+      place,
+      value_once k (value (state_of old) l) v (map_of (name_of root) (catalogue_of (state_of old)))
+          (leaf_has (state_of old) root k l law lo lt place.is_leaf) has,
+    );
     vacant = λ o i. absurd i;
     writes = r;
   }
 
   -- a del of another key
-  pub cut_removed : (grand parent leaf : ℕ) → value_of k (map_of (name_of root) (catalogue_of (state_of old))) ≡ Some v → IsCutPlace (state_of old) root k grand parent leaf → Rewritten old new (grand ∷ parent ∷ leaf ∷ []) (cut_writes (state_of old) grand parent leaf) → KeyRemoved old new root k v
+  pub cut_removed : (grand parent leaf : ℕ) → value_of k (map_of (name_of root) (catalogue_of (state_of old))) ≡ Some v
+      → IsCutPlace (state_of old) root k grand parent leaf → Rewritten old new (grand ∷ parent ∷ leaf ∷ []) (cut_writes (state_of old) grand parent leaf)
+      → KeyRemoved old new root k v
   unfolding cut_way
   cut_removed g p l has place r = record {
     way = cut_way root k v g p l lo lt;
-    place = (place, value_once k (value (state_of old) l) v (map_of (name_of root) (catalogue_of (state_of old))) (leaf_has (state_of old) root k l law lo lt place.is_leaf) has);
+    place = (
+      place,
+      value_once k (value (state_of old) l) v (map_of (name_of root) (catalogue_of (state_of old)))
+          (leaf_has (state_of old) root k l law lo lt place.is_leaf) has,
+    );
     vacant = λ o i. absurd i;
     writes = r;
   }
 
   -- a put of a key that was there and didn't have this value
-  pub put_updated : (leaf : ℕ) → (value_of k (map_of (name_of root) (catalogue_of (state_of old))) ≡ Some v → ⊥) → IsLeaf (state_of old) root k leaf → Rewritten old new (leaf ∷ []) (put_writes (state_of old) leaf v) → KeyUpdated old new root k v
+  pub put_updated : (leaf : ℕ) → (value_of k (map_of (name_of root) (catalogue_of (state_of old))) ≡ Some v → ⊥) → IsLeaf (state_of old) root k leaf
+      → Rewritten old new (leaf ∷ []) (put_writes (state_of old) leaf v) → KeyUpdated old new root k v
   unfolding put_way
   put_updated l lacks place r = record {
     way = put_way root k v l lo lt;

@@ -8,7 +8,8 @@ use Rattle.set_script.specs.Trees.{Tree, top, objects_in, IsDistinct, entries_in
 use Rattle.set_script.specs.Trees.Tree.{leaf, inner}
 use Rattle.set_script.proofs.ObjectWords.{word}
 use Rattle.set_script.proofs.MapParts.{IsUnderKey, under_higher, take_out-behind}
-use Rattle.set_script.proofs.TreeShape.{IsIn, not_in, in_left, in_right, in_either, distinct_left, distinct_right, distinct_apart, top_in, seek_left, seek_right}
+use Rattle.set_script.proofs.TreeShape.{IsIn, not_in, in_left, in_right, in_either, distinct_left, distinct_right, distinct_apart, top_in, seek_left}
+use Rattle.set_script.proofs.TreeShape.{seek_right}
 use Rattle.set_script.proofs.TreeMaps.{below_entries}
 use Rattle.tree_set.specs.Paths.{Turn, Path, plug, node_of, parent_of, grand_of, Follows}
 use Rattle.tree_set.specs.Paths.Turn.{left, right}
@@ -111,7 +112,8 @@ beside_within (right n d b ∷ ps) (left m e c) u w = (w.0.1, beside_within ps (
 beside_within (right n d b ∷ ps) (right m e c) u w = (w.0.0, beside_within ps (right m e c) u w.1)
 
 -- the sibling of the leaf, by the words of its parent
-pub sibling_is : (s : State) (root : ℕ) (q : Turn) (l k x : ℕ) → Stands s root (plug (q ∷ []) (leaf l k x)) → IsDistinct (objects_in (plug (q ∷ []) (leaf l k x))) → sibling s (node_of q) l ≡ top (beside q)
+pub sibling_is : (s : State) (root : ℕ) (q : Turn) (l k x : ℕ) → Stands s root (plug (q ∷ []) (leaf l k x))
+    → IsDistinct (objects_in (plug (q ∷ []) (leaf l k x))) → sibling s (node_of q) l ≡ top (beside q)
 sibling_is s root (left n d b) l k x st dis =
     ap (λ (c : Bool). cond c (right_link s n) (link s n)) (eq-eqb (link s n) l (ap (word 3) st.2)) ∙ ap (word 4) st.2
 sibling_is s root (right n d a) l k x st dis =
@@ -133,8 +135,10 @@ seek_turn i (right n d a) l k x = elim (cases_lt i d) [
 take_first : (k x : ℕ) (m : Map) → take_out k ((k, x) ∷ m) ≡ m
 take_first k x m = ap (λ (c : Bool). cond c m ((k, x) ∷ take_out k m)) (eq-eqb k k refl)
 
-pub entries_turn : (q : Turn) (l k x : ℕ) (m : Map) → IsOrdered (plug (q ∷ []) (leaf l k x)) → Follows k (q ∷ []) → take_out k (entries_in (plug (q ∷ []) (leaf l k x)) ++ m) ≡ entries_in (beside q) ++ m
+pub entries_turn : (q : Turn) (l k x : ℕ) (m : Map) → IsOrdered (plug (q ∷ []) (leaf l k x)) → Follows k (q ∷ [])
+    → take_out k (entries_in (plug (q ∷ []) (leaf l k x)) ++ m) ≡ entries_in (beside q) ++ m
 entries_turn (left n d b) l k x m o f = take_first k x (entries_in b ++ m)
 entries_turn (right n d a) l k x m o f =
     let under : IsUnderKey k (entries_in a) = under_higher d k (entries_in a) f.0 (below_entries d a o.0) in
-    ap (take_out k) (append_assoc (entries_in a) ((k, x) ∷ []) m) ∙ take_out-behind k (entries_in a) ((k, x) ∷ m) under ∙ ap (λ (e : Map). entries_in a ++ e) (take_first k x m)
+    ap (take_out k) (append_assoc (entries_in a) ((k, x) ∷ []) m) ∙ take_out-behind k (entries_in a) ((k, x) ∷ m) under
+    ∙ ap (λ (e : Map). entries_in a ++ e) (take_first k x m)

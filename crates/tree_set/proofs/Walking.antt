@@ -1,5 +1,7 @@
 -- The steps of a search down a tree.
-use Rattle.std.proofs.Common.{◌≡◌, ◌≢◌, ℕ, zero, suc, ◌+◌, ◌^◌, ◌<◌, ◌≤◌, ◌⊎◌, inl, inr, Bool, true, false, cond, eqb, ◌||◌, eq-eqb, ne_eqb, List, [], ◌∷◌, ◌++◌, length, length-append, refl, sym, ap, ◌∙◌, subst, arith, Option, Some, None}
+use Rattle.std.proofs.Common.{◌≡◌, ◌≢◌, ℕ, zero, suc, ◌+◌, ◌^◌, ◌<◌, ◌≤◌, ◌⊎◌, inl, inr, Bool, true, false}
+use Rattle.std.proofs.Common.{cond, eqb, ◌||◌, eq-eqb, ne_eqb, List, [], ◌∷◌, ◌++◌, length, length-append, refl, sym, ap, ◌∙◌}
+use Rattle.std.proofs.Common.{subst, arith, Option, Some, None}
 use Rattle.std.specs.List.{list_any, IsDistinct as IsDistinctBy, AllByRecursion}
 use Rattle.std.proofs.lemmas.Map.Steps.{length-le_from_distinct_below}
 use Rattle.mv_history.specs.State.{State}
@@ -22,7 +24,8 @@ apart_all : (o : ℕ) (ns : List ℕ) → is_in o ns ≡ false → AllByRecursio
 apart_all o [] e = tt
 apart_all o (n ∷ ns) e = go (eqb o n) refl e (apart_all o ns)
   where
-    go : (b : Bool) → eqb o n ≡ b → b || is_in o ns ≡ false → (is_in o ns ≡ false → AllByRecursion (λ m. eqb o m ≡ false) ns) → (eqb o n ≡ false) × AllByRecursion (λ m. eqb o m ≡ false) ns
+    go : (b : Bool) → eqb o n ≡ b → b || is_in o ns ≡ false → (is_in o ns ≡ false → AllByRecursion (λ m. eqb o m ≡ false) ns)
+        → (eqb o n ≡ false) × AllByRecursion (λ m. eqb o m ≡ false) ns
     go true q f r = absurd (cc)
     go false q f r = (q, r f)
 
@@ -37,7 +40,8 @@ is_in-any o (n ∷ ns) = ap (λ (b : Bool). eqb o n || b) (is_in-any o ns)
 
 pub few_nodes : (s : State) (root : ℕ) (t : Tree) → IsGrown s root t → length (objects_in t) ≤ length s
 few_nodes s root t g =
-    length-le_from_distinct_below (objects_in t) (length s) (distinct_all (objects_in t) g.distinct) (λ o e. owned_in_range s o root (Stands-owner s root t g.stands o (IsIn-from o (objects_in t) (is_in-any o (objects_in t) ∙ e))))
+    length-le_from_distinct_below (objects_in t) (length s) (distinct_all (objects_in t) g.distinct)
+    (λ o e. owned_in_range s o root (Stands-owner s root t g.stands o (IsIn-from o (objects_in t) (is_in-any o (objects_in t) ∙ e))))
 
 fewer_part : (ps : Path) (u : Tree) → length (objects_in u) ≤ length (objects_in (plug ps u))
 fewer_part [] u = omega arith
@@ -47,7 +51,8 @@ fewer_part (right n d a ∷ ps) u =
     let r = fewer_part ps u in let e = length-append (objects_in a) (objects_in (plug ps u)) in omega arith
 
 -- The measure of a walk is the number of nodes of the tree that is left.
-nodes_counted : (steps : ℕ) (s : State) (root : ℕ) (t : Tree) → Stands s root t → length (objects_in t) ≤ steps → nodes_under steps s (top t) ≡ length (objects_in t)
+nodes_counted : (steps : ℕ) (s : State) (root : ℕ) (t : Tree) → Stands s root t → length (objects_in t) ≤ steps
+    → nodes_under steps s (top t) ≡ length (objects_in t)
 unfolding nodes_under
 nodes_counted zero s root (leaf n k v) q h = absurd (omega arith)
 nodes_counted zero s root (inner n d a b) q h = absurd (omega arith)
@@ -63,11 +68,13 @@ nodes_counted (suc f) s root (inner n d a b) q h =
     let v : nodes_under f s (right_link s n) ≡ nodes_under f s (top b) = ap (nodes_under f s) (ap (word 4) q.2) in
     ap (λ (c : Bool). cond c (suc (nodes_under f s (link s n) + nodes_under f s (right_link s n))) 1) (eq-eqb (kind s n) 2 two) ∙ omega arith
 
-pub walk_counts : (s : State) (root node : ℕ) (t : Tree) → Stands s root t → node ≡ top t → length (objects_in t) ≤ length s → walk_left s node ≡ length (objects_in t)
+pub walk_counts : (s : State) (root node : ℕ) (t : Tree) → Stands s root t → node ≡ top t → length (objects_in t) ≤ length s
+    → walk_left s node ≡ length (objects_in t)
 walk_counts s root node t q e few = ap (walk_left s) e ∙ nodes_counted (length s) s root t q few
 
 -- The walk begins at what the root leads to.
-pub descent_start : (s : State) (root k : ℕ) (words : List ℕ) → IsLawful s → 170 ≤ root → root < 180 → words ≡ words_at s root → word 3 words ≢ 0 → IsDescent s root k root root (word 3 words) 0
+pub descent_start : (s : State) (root k : ℕ) (words : List ℕ) → IsLawful s → 170 ≤ root → root < 180 → words ≡ words_at s root → word 3 words ≢ 0
+    → IsDescent s root k root root (word 3 words) 0
 descent_start s root k words l lo lt e n = go (l.trees root lo lt).0 (l.trees root lo lt).1
   where
     go : (t : Option Tree) → IsTree s root t → IsDescent s root k root root (word 3 words) 0
@@ -116,12 +123,16 @@ pub record IsStep (s : State) (root k grand parent node right before : ℕ) : Ty
   pub descent : IsDescent s root k grand parent node right
   pub less : walk_left s node < walk_left s before
 
-module _ (s : State) (root k grand parent node right_of_it : ℕ) (words : List ℕ) (d : IsDescent s root k grand parent node right_of_it) (e : words ≡ words_at s node) where
+module _ (s : State) (root k grand parent node right_of_it : ℕ) (words : List ℕ) (d : IsDescent s root k grand parent node right_of_it)
+    (e : words ≡ words_at s node) where
   -- at an inner node the search goes on at one of its children
-  pub step_down : word 1 words ≡ 2 → (k < word 2 words → IsStep s root k parent node (word 3 words) (word 4 words) node) × (word 2 words ≤ k → IsStep s root k parent node (word 4 words) right_of_it node)
+  pub step_down : word 1 words ≡ 2 → (k < word 2 words → IsStep s root k parent node (word 3 words) (word 4 words) node)
+      × (word 2 words ≤ k → IsStep s root k parent node (word 4 words) right_of_it node)
   step_down two = go d.part d.grown (stands_part s root d.path d.part d.grown.stands) d.here
     where
-      go : (t : Tree) → IsGrown s root (plug d.path t) → Stands s root t → node ≡ top t → (k < word 2 words → IsStep s root k parent node (word 3 words) (word 4 words) node) × (word 2 words ≤ k → IsStep s root k parent node (word 4 words) right_of_it node)
+      go : (t : Tree) → IsGrown s root (plug d.path t) → Stands s root t → node ≡ top t
+          → (k < word 2 words → IsStep s root k parent node (word 3 words) (word 4 words) node)
+          × (word 2 words ≤ k → IsStep s root k parent node (word 4 words) right_of_it node)
       go (leaf n j v) g q h =
           let one : word 1 words ≡ 1 = ap (word 1) e ∙ ap (kind s) h ∙ ap (word 1) q.2 in absurd (omega arith)
       go (inner n c a b) g q h =
@@ -198,7 +209,9 @@ module _ (s : State) (root k grand parent node right_of_it : ℕ) (words : List 
       }
 
 -- The step that the code takes, by the words that it read.
-pub find_step : (s : State) (root k grand parent node r next next_right : ℕ) (words : List ℕ) → IsDescent s root k grand parent node r → words ≡ words_at s node → word 1 words ≡ 2 → ((k < word 2 words) × (next ≡ word 3 words) × (next_right ≡ word 4 words)) ⊎ ((word 2 words ≤ k) × (next ≡ word 4 words) × (next_right ≡ r)) → IsStep s root k parent node next next_right node
+pub find_step : (s : State) (root k grand parent node r next next_right : ℕ) (words : List ℕ) → IsDescent s root k grand parent node r
+    → words ≡ words_at s node → word 1 words ≡ 2 → ((k < word 2 words) × (next ≡ word 3 words) × (next_right ≡ word 4 words))
+    ⊎ ((word 2 words ≤ k) × (next ≡ word 4 words) × (next_right ≡ r)) → IsStep s root k parent node next next_right node
 find_step s root k grand parent node r next next_right words d e two (inl (lt, p, q)) =
     let step = (step_down s root k grand parent node r words d e two).0 lt in
     subst (λ (x : ℕ). IsStep s root k parent node next x node) (sym q) (subst (λ (x : ℕ). IsStep s root k parent node x (word 4 words) node) (sym p) step)
@@ -231,7 +244,9 @@ module _ (s : State) (root start node : ℕ) (words : List ℕ) (t : IsLeftmost 
   pub leftmost_step : word 1 words ≡ 2 → IsLeftmost s root start (word 3 words) × (walk_left s (word 3 words) < walk_left s node)
   leftmost_step two = go t.part t.stands t.here t.few t.same
     where
-      go : (u : Tree) → Stands s root u → node ≡ top u → length (objects_in u) ≤ length s → ((v : Tree) → Stands s root v → start ≡ top v → first_key u ≡ first_key v) → IsLeftmost s root start (word 3 words) × (walk_left s (word 3 words) < walk_left s node)
+      go : (u : Tree) → Stands s root u → node ≡ top u → length (objects_in u) ≤ length s
+          → ((v : Tree) → Stands s root v → start ≡ top v → first_key u ≡ first_key v)
+          → IsLeftmost s root start (word 3 words) × (walk_left s (word 3 words) < walk_left s node)
       go (leaf n j v) q h few same =
           let one : word 1 words ≡ 1 = ap (word 1) e ∙ ap (kind s) h ∙ ap (word 1) q.2 in absurd (omega arith)
       go (inner n c a b) q h few same =
@@ -245,7 +260,8 @@ module _ (s : State) (root start node : ℕ) (words : List ℕ) (t : IsLeftmost 
   pub leftmost_key : word 1 words ≢ 2 → (u : Tree) → Stands s root u → start ≡ top u → word 2 words ≡ first_key u
   leftmost_key n2 = go t.part t.stands t.here t.same
     where
-      go : (u : Tree) → Stands s root u → node ≡ top u → ((v : Tree) → Stands s root v → start ≡ top v → first_key u ≡ first_key v) → (v : Tree) → Stands s root v → start ≡ top v → word 2 words ≡ first_key v
+      go : (u : Tree) → Stands s root u → node ≡ top u → ((v : Tree) → Stands s root v → start ≡ top v → first_key u ≡ first_key v) → (v : Tree)
+          → Stands s root v → start ≡ top v → word 2 words ≡ first_key v
       go (inner n c a b) q h same v qv hv = absurd (n2 (ap (word 1) e ∙ ap (kind s) h ∙ ap (word 1) q.2))
       go (leaf n j x) q h same v qv hv = ap (word 2) e ∙ ap (key s) h ∙ ap (word 2) q.2 ∙ same v qv hv
 

@@ -14,7 +14,8 @@ use Rattle.tree_set.specs.Places.{plant_writes, IsGrowPlace, grow_writes, IsBare
 -- where the search ends.
 pub data IsAdd (s : State) (root k value leaf inner : ℕ) : Writes → Type 0 where
   first_leaf : link s root ≡ 0 → IsAdd s root k value leaf inner (plant_writes s root k value leaf)
-  beside_leaf : (parent other : ℕ) → IsGrowPlace s root k parent other → IsAdd s root k value leaf inner (grow_writes s root k value parent other leaf inner)
+  beside_leaf : (parent other : ℕ) → IsGrowPlace s root k parent other
+      → IsAdd s root k value leaf inner (grow_writes s root k value parent other leaf inner)
 
 -- What a del writes, which are all the objects that it locks, for this leaf and this inner node: the last leaf of the tree, with
 -- no inner node (0), or else a leaf and its parent.

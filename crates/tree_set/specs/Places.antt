@@ -1,5 +1,6 @@
 -- Where the calls of a tree work, and what they write.
-use Rattle.std.specs.Prelude.{ℕ, suc, ◌≡◌, ◌≢◌, ◌≤◌, ◌⊎◌, ◌==◌, nat_lt, List, [], ◌∷◌, set, slice_index_or, if◌then◌else◌}
+use Rattle.std.specs.Prelude.{ℕ, suc, ◌≡◌, ◌≢◌, ◌≤◌, ◌⊎◌, ◌==◌, nat_lt, List, [], ◌∷◌, set, slice_index_or}
+use Rattle.std.specs.Prelude.{if◌then◌else◌}
 use Rattle.mv_history.specs.State.{State, Writes}
 use Rattle.mv_history.specs.Meaning.{words_at}
 use Rattle.set_script.specs.Objects.{first_node, owner, kind, key, link, right_link, leaf_words, inner_words, no_words, relink}
@@ -42,7 +43,8 @@ pub record IsGrowPlace (s : State) (root k parent leaf : ℕ) : Type 0 where
 -- a leaf more: the link of the parent, the leaf as it was, and the words of the new leaf and the new inner node
 abbrev pub grow_writes : State → ℕ → ℕ → ℕ → ℕ → ℕ → ℕ → ℕ → Writes
 grow_writes s root k value parent leaf new_leaf new_inner =
-    (parent, redirect (words_at s parent) leaf new_inner) ∷ (leaf, words_at s leaf) ∷ (new_leaf, leaf_words root k value) ∷ (new_inner, inner_over root k new_leaf (key s leaf) leaf) ∷ []
+    (parent, redirect (words_at s parent) leaf new_inner) ∷ (leaf, words_at s leaf) ∷ (new_leaf, leaf_words root k value)
+    ∷ (new_inner, inner_over root k new_leaf (key s leaf) leaf) ∷ []
 
 -- the other child of an inner node
 abbrev pub sibling : State → ℕ → ℕ → ℕ

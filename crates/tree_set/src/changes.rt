@@ -80,12 +80,18 @@ pub fn add_in<S: Section>(
     requires leaf_from { 180 ≤ leaf }
     requires leaf_in { leaf < length (state_of (S.section section.old)) }
     requires leaf_vacant { owner (state_of (S.section section.old)) leaf ≡ 0 }
-    requires inner_vacant { link (state_of (S.section section.old)) root ≢ 0 → (180 ≤ inner) × (inner < length (state_of (S.section section.old))) × (owner (state_of (S.section section.old)) inner ≡ 0) × (leaf ≢ inner) }
-    requires room { (writes : Writes) → IsAdd (state_of (S.section section.old)) root key value leaf inner writes → HasRoom (S.section section.old) (objects_of writes) }
+    requires inner_vacant { link (state_of (S.section section.old)) root ≢ 0
+        → (180 ≤ inner) × (inner < length (state_of (S.section section.old))) × (owner (state_of (S.section section.old)) inner ≡ 0)
+        × (leaf ≢ inner) }
+    requires room { (writes : Writes) → IsAdd (state_of (S.section section.old)) root key value leaf inner writes
+        → HasRoom (S.section section.old) (objects_of writes) }
     ensures no { (result ≡ No) ↔ (has_key key (map_of (name_of root) (catalogue_of (state_of (S.section section.old)))) ≡ true) }
     ensures unchanged { result ≡ No → S.as_before section.old section.new }
-    ensures yes { result ≡ Yes → (writes : Writes) × IsAdd (state_of (S.section section.old)) root key value leaf inner writes × Gains (S.section section.old) (S.section section.new) root key value writes }
-    ensures again { (cause : Cause) → result ≡ Again cause → (writes : Writes) × IsAdd (state_of (S.section section.old)) root key value leaf inner writes × Refuses S.may_refuse S.found_held (S.section section.old) (S.section section.new) (objects_of writes) cause }
+    ensures yes { result ≡ Yes → (writes : Writes) × IsAdd (state_of (S.section section.old)) root key value leaf inner writes
+        × Gains (S.section section.old) (S.section section.new) root key value writes }
+    ensures again { (cause : Cause) → result ≡ Again cause
+        → (writes : Writes) × IsAdd (state_of (S.section section.old)) root key value leaf inner writes
+        × Refuses S.may_refuse S.found_held (S.section section.old) (S.section section.new) (objects_of writes) cause }
 {
     let leaf_words = [root as u64 + 1, 1, key as u64, 0, 0, value];
     let Some(fork) = find(section, root, key) else {
@@ -133,8 +139,10 @@ pub fn put_in<S: Section>(section: &mut S, root: u32, key: u32, value: u64) -> S
     requires room { (leaf : ℕ) → IsLeaf (state_of (S.section section.old)) root key leaf → HasRoom (S.section section.old) (leaf ∷ []) }
     ensures no { (result ≡ No) ↔ (value_of key (map_of (name_of root) (catalogue_of (state_of (S.section section.old)))) ≡ Some value) }
     ensures unchanged { result ≡ No → S.as_before section.old section.new }
-    ensures yes { result ≡ Yes → (leaf : ℕ) × IsLeaf (state_of (S.section section.old)) root key leaf × Gains (S.section section.old) (S.section section.new) root key value (put_writes (state_of (S.section section.old)) leaf value) }
-    ensures again { (cause : Cause) → result ≡ Again cause → (leaf : ℕ) × IsLeaf (state_of (S.section section.old)) root key leaf × Refuses S.may_refuse S.found_held (S.section section.old) (S.section section.new) (leaf ∷ []) cause }
+    ensures yes { result ≡ Yes → (leaf : ℕ) × IsLeaf (state_of (S.section section.old)) root key leaf
+        × Gains (S.section section.old) (S.section section.new) root key value (put_writes (state_of (S.section section.old)) leaf value) }
+    ensures again { (cause : Cause) → result ≡ Again cause → (leaf : ℕ) × IsLeaf (state_of (S.section section.old)) root key leaf
+        × Refuses S.may_refuse S.found_held (S.section section.old) (S.section section.new) (leaf ∷ []) cause }
 {
     let Some(fork) = find(section, root, key) else {
         unreachable!();
@@ -172,11 +180,16 @@ pub fn del_in<S: Section>(section: &mut S, root: u32, key: u32) -> Removed
     requires root_from { 170 ≤ root }
     requires root_in { root < 180 }
     requires lawful { IsLawful (state_of (S.section section.old)) }
-    requires room { (leaf inner : ℕ) (writes : Writes) → IsDel (state_of (S.section section.old)) root key leaf inner writes → HasRoom (S.section section.old) (objects_of writes) }
+    requires room { (leaf inner : ℕ) (writes : Writes) → IsDel (state_of (S.section section.old)) root key leaf inner writes
+        → HasRoom (S.section section.old) (objects_of writes) }
     ensures absent { (result ≡ Absent) ↔ (has_key key (map_of (name_of root) (catalogue_of (state_of (S.section section.old)))) ≡ false) }
     ensures unchanged { result ≡ Absent → S.as_before section.old section.new }
-    ensures took { (node inner : ℕ) → result ≡ Took node inner → (writes : Writes) × IsDel (state_of (S.section section.old)) root key node inner writes × Loses (S.section section.old) (S.section section.new) root key writes }
-    ensures again { (cause : Cause) → result ≡ DelAgain cause → (leaf inner : ℕ) × (writes : Writes) × IsDel (state_of (S.section section.old)) root key leaf inner writes × Refuses S.may_refuse S.found_held (S.section section.old) (S.section section.new) (objects_of writes) cause }
+    ensures took { (node inner : ℕ) → result ≡ Took node inner
+        → (writes : Writes) × IsDel (state_of (S.section section.old)) root key node inner writes
+        × Loses (S.section section.old) (S.section section.new) root key writes }
+    ensures again { (cause : Cause) → result ≡ DelAgain cause
+        → (leaf inner : ℕ) × (writes : Writes) × IsDel (state_of (S.section section.old)) root key leaf inner writes
+        × Refuses S.may_refuse S.found_held (S.section section.old) (S.section section.new) (objects_of writes) cause }
 {
     let Some(fork) = find(section, root, key) else {
         return Removed::Absent;

@@ -1,5 +1,6 @@
 -- How many steps a walk has made, and that it ends: below a version that it has passed the times fall.
-use Rattle.std.proofs.Common.{◌≡◌, ◌⊎◌, ℕ, ◌+◌, ◌-◌, ◌*◌, ◌<◌, ◌≤◌, ◌^◌, ◌==◌, Bool, true, false, if◌then◌else◌, length, sym, ap, ◌∙◌, subst, inl, inr, ⊎_elim, le-leb, length-append, arith, Some, None}
+use Rattle.std.proofs.Common.{◌≡◌, ◌⊎◌, ℕ, ◌+◌, ◌-◌, ◌*◌, ◌<◌, ◌≤◌, ◌^◌, ◌==◌, Bool, true, false}
+use Rattle.std.proofs.Common.{if◌then◌else◌, length, sym, ap, ◌∙◌, subst, inl, inr, ⊎_elim, le-leb, length-append, arith, Some, None}
 use Rattle.std.proofs.lemmas.Bool.{lt-leb, cases_lt}
 use Rattle.mv_layout.specs.declared.Config.{Config}
 use Rattle.mv_layout.specs.Words.{IsUnset}
@@ -48,32 +49,42 @@ few_steps base at long (place.Master o) before after few = few
 few_steps base at long place.Nowhere before after few = few
 
 -- where a walk goes that found this link, it has made as many steps
-pub stands_within : (base at long object link : ℕ) (passed : Passed) (before after : ℕ) → PassedWithin base at long passed before after → WalkedWithin base at long (stand_at object link passed false) before after
+pub stands_within : (base at long object link : ℕ) (passed : Passed) (before after : ℕ) → PassedWithin base at long passed before after
+    → WalkedWithin base at long (stand_at object link passed false) before after
 stands_within base at long object link passed before after few =
-    elim (link == 0) as (λ b. WalkedWithin base at long (if b then place.Master object else place.At (record { object = object; link = link; first = None; stamp = None; passed = passed; late = false })) before after) [
+    elim (link == 0) as
+    (λ b. WalkedWithin base at long
+    (if b then place.Master object else place.At (record { object = object; link = link; first = None; stamp = None; passed = passed; late = false }))
+    before after) [
       | true ↦ passed_few base at long passed before after few
       | false ↦ few
     ]
 
 left_below : (object link left : ℕ) (passed : Passed) → passed_left passed < left → walk_left (stand_at object link passed false) < 1 + left
 left_below object link left passed lt =
-    elim (link == 0) as (λ b. walk_left (if b then place.Master object else place.At (record { object = object; link = link; first = None; stamp = None; passed = passed; late = false })) < 1 + left) [
+    elim (link == 0) as
+    (λ b. walk_left
+    (if b then place.Master object else place.At (record { object = object; link = link; first = None; stamp = None; passed = passed; late = false })) < 1
+    + left) [
       | true ↦ omega arith
       | false ↦ omega arith
     ]
 
 -- one version more was passed
-module _ (base at time long longer found before here after : ℕ) (at_is : at ≡ time - base) (steps : after ≡ here + 3) (more : long ≤ longer) (seen : found < 2 ^ 63 → (base < found) × (found ≤ base + longer)) where
+module _ (base at time long longer found before here after : ℕ) (at_is : at ≡ time - base) (steps : after ≡ here + 3) (more : long ≤ longer)
+    (seen : found < 2 ^ 63 → (base < found) × (found ≤ base + longer)) where
   -- what holds after it
   abbrev Passes : Passed → Passed → Type 0
   Passes passed next = PassedWithin base at longer next before after × (passed_left next < passed_left passed)
 
-  passes_unset : (passed : Passed) → PassedWithin base at long passed before here → (HasPassed passed → found < 2 ^ 63) → IsUnset found → Passes passed (passed_unset passed)
+  passes_unset : (passed : Passed) → PassedWithin base at long passed before here → (HasPassed passed → found < 2 ^ 63) → IsUnset found
+      → Passes passed (passed_unset passed)
   passes_unset Nothing few falls unset = (omega arith, omega arith)
   passes_unset Unset few falls unset = let low = falls tt in absurd (omega arith)
   passes_unset (Time least) few falls unset = let low = falls tt in absurd (omega arith)
 
-  passes_time : (passed : Passed) → PassedWithin base at long passed before here → (HasPassed passed → (found < 2 ^ 63) × IsBelowPassed found passed) → found < 2 ^ 63 → time < found → Passes passed (Time found)
+  passes_time : (passed : Passed) → PassedWithin base at long passed before here → (HasPassed passed → (found < 2 ^ 63) × IsBelowPassed found passed)
+      → found < 2 ^ 63 → time < found → Passes passed (Time found)
   passes_time Nothing few falls low later = let s = seen low in let a = s.0 in let b = s.1 in ((omega arith, omega arith, omega arith), omega arith)
   passes_time Unset few falls low later = let s = seen low in let a = s.0 in let b = s.1 in ((omega arith, omega arith, omega arith), omega arith)
   passes_time (Time least) few falls low later =
@@ -86,25 +97,32 @@ module _ (base at time long longer found before here after : ℕ) (at_is : at �
       let below = (falls tt).1 in
       ((omega arith, omega arith, omega arith), omega arith)
 
-  passes : (passed : Passed) → PassedWithin base at long passed before here → (HasPassed passed → (found < 2 ^ 63) × IsBelowPassed found passed) → IsUnset found ⊎ (time < found) → Passes passed (passed_too passed (Some found))
+  passes : (passed : Passed) → PassedWithin base at long passed before here → (HasPassed passed → (found < 2 ^ 63) × IsBelowPassed found passed)
+      → IsUnset found ⊎ (time < found) → Passes passed (passed_too passed (Some found))
   passes passed few falls later =
       elim (cases_lt found 9223372036854775808) [
         | inl low ↦ subst (λ (b : Bool). Passes passed (if b then passed_unset passed else Time found)) (sym (lt-leb 9223372036854775808 found low))
             (passes_time passed few falls low (⊎_elim (λ unset. absurd (omega arith)) (λ lt. lt) later))
-        | inr unset ↦ subst (λ (b : Bool). Passes passed (if b then passed_unset passed else Time found)) (sym (le-leb 9223372036854775808 found unset)) (passes_unset passed few (λ has. (falls has).0) unset)
+        | inr unset ↦ subst (λ (b : Bool). Passes passed (if b then passed_unset passed else Time found)) (sym (le-leb 9223372036854775808 found unset))
+            (passes_unset passed few (λ has. (falls has).0) unset)
       ]
 
 -- a walk that goes on has made three steps more, and less is left
-pub went_on : (c : Config) (v w : View) (walk on : Walk) (at before here after : ℕ) → StandsAt c v walk → GoesOn c v w walk on → after ≡ here + 3 → at ≡ snapshot_length c v → WalkedWithin c.base at (length v.past.seen) v.walk before here
+pub went_on : (c : Config) (v w : View) (walk on : Walk) (at before here after : ℕ) → StandsAt c v walk → GoesOn c v w walk on → after ≡ here + 3
+    → at ≡ snapshot_length c v → WalkedWithin c.base at (length v.past.seen) v.walk before here
     → WalkedWithin c.base at (length w.past.seen) w.walk before after × (walk_left w.walk < walk_left v.walk)
 went_on c v w walk on at before here after stands goes steps at_is few =
     let stand = stand_in v in
     let is : v.walk ≡ place.At stand = stand_is v _ (stands_here v walk.object walk.link stand.passed goes.linked stands.stands) in
-    let longer : length v.past.seen ≤ length w.past.seen = let more = goes.says.sees.more in let l = ap length more.1 ∙ length-append v.past.seen more.0 in omega arith in
+    let longer : length v.past.seen ≤ length w.past.seen =
+    let more = goes.says.sees.more in let l = ap length more.1 ∙ length-append v.past.seen more.0 in omega arith in
     let on_is : w.walk ≡ stand_at stand.object on.link (passed_too stand.passed (Some goes.found)) false = ap (λ (u : View). u.walk) goes.view in
     let t = passes c.base at (time_at v) (length v.past.seen) (length w.past.seen) goes.found before here after at_is steps longer
     (λ low. ((goes.says.write low).1.0, goes.says.sees.time low))
     stand.passed (subst (λ (k : core.Walk). WalkedWithin c.base at (length v.past.seen) k before here) is few) goes.says.falls goes.later in (
-      subst (λ (k : core.Walk). WalkedWithin c.base at (length w.past.seen) k before after) (sym on_is) (stands_within c.base at (length w.past.seen) stand.object on.link (passed_too stand.passed (Some goes.found)) before after t.0),
-      subst (λ (k : core.Walk). walk_left w.walk < walk_left k) (sym is) (subst (λ (k : core.Walk). walk_left k < 1 + passed_left stand.passed) (sym on_is) (left_below stand.object on.link (passed_left stand.passed) (passed_too stand.passed (Some goes.found)) t.1)),
+      subst (λ (k : core.Walk). WalkedWithin c.base at (length w.past.seen) k before after) (sym on_is)
+          (stands_within c.base at (length w.past.seen) stand.object on.link (passed_too stand.passed (Some goes.found)) before after t.0),
+      subst (λ (k : core.Walk). walk_left w.walk < walk_left k) (sym is)
+          (subst (λ (k : core.Walk). walk_left k < 1 + passed_left stand.passed) (sym on_is)
+          (left_below stand.object on.link (passed_left stand.passed) (passed_too stand.passed (Some goes.found)) t.1)),
     )

@@ -22,8 +22,12 @@ walks_on u v w first second third a b = record {
       let t = b.trail in
       let long = length-append s.0 t.0 in
       let one = s.2 in
-      let two = t.2 in
-      (s.0 ++ t.0, t.1 ∙ ap (λ (l : List Step). l ++ t.0) s.1 ∙ append_assoc u.trail s.0 t.0, (omega arith), All-append (λ x. IsWalkStep x.kind) s.0 t.0 s.3 t.3);
+      let two = t.2 in (
+        s.0 ++ t.0,
+        t.1 ∙ ap (λ (l : List Step). l ++ t.0) s.1 ∙ append_assoc u.trail s.0 t.0,
+        (omega arith),
+        All-append (λ x. IsWalkStep x.kind) s.0 t.0 s.3 t.3,
+      );
   rest = b.rest ∙ ap (λ (x : View). record x { past = record x.past { seen = w.past.seen }; walk = w.walk; empty = w.empty; trail = w.trail }) a.rest;
 }
 
@@ -48,7 +52,8 @@ may_read_on kind v w reads may =
     may_still v w (ap (λ (u : View). u.phase) reads.rest) (ap (λ (u : View). u.clocks) reads.rest) (ap (λ (u : View). u.back) reads.rest) may
 
 -- after FIRST and STAMP of a version were loaded
-pub may_looked : (c : Config) (v w x : View) (first found : ℕ) (seen : List Entry) → w ≡ first_loaded c v (stand_in v) first → x ≡ stamp_loaded c w (stand_in w) first found seen → MayWalk v → MayWalk x
+pub may_looked : (c : Config) (v w x : View) (first found : ℕ) (seen : List Entry) → w ≡ first_loaded c v (stand_in v) first
+    → x ≡ stamp_loaded c w (stand_in w) first found seen → MayWalk v → MayWalk x
 may_looked c v w x first found seen firsts stamps may =
     may_still v x
     (ap (λ (u : View). u.phase) stamps ∙ ap (λ (u : View). u.phase) firsts)

@@ -1,5 +1,6 @@
 -- The words that a reader has read so far.
-use Rattle.std.proofs.Common.{◌≡◌, ◌≢◌, ℕ, ◌+◌, ◌<◌, List, [], ◌∷◌, ◌++◌, length, set, get_or, refl, sym, ap, ◌∙◌, subst, arith, below_more, length-set, get_or-set_other, get_or-set_same}
+use Rattle.std.proofs.Common.{◌≡◌, ◌≢◌, ℕ, ◌+◌, ◌<◌, List, [], ◌∷◌, ◌++◌, length, set, get_or, refl, sym, ap}
+use Rattle.std.proofs.Common.{◌∙◌, subst, arith, below_more, length-set, get_or-set_other, get_or-set_same}
 use Rattle.std.proofs.lemmas.List.{ext_get_or}
 use Rattle.mv_history.specs.declared.Step.{Step}
 use Rattle.mv_history.specs.declared.StepKind.{StepKind}
@@ -28,8 +29,10 @@ module _ (kind : StepKind) (v : View) (these : List ℕ) (before : ℕ) where
   }
 
   -- one word more: what is read of a view doesn't change with its trail
-  pub read_one : (w x : View) (words : List ℕ) (n after later found : ℕ) (s : Step) (read_of : View → List ℕ) → ((t : List Step) → read_of (record v { trail = t }) ≡ these)
-      → HasRead kind v w these words n before after → x ≡ record w { trail = w.trail ++ s ∷ [] } → s.kind ≡ kind → found ≡ get_or (read_of w) n 0 → length (read_of w) ≡ 6 → n < 6 → later ≡ after + 1
+  pub read_one : (w x : View) (words : List ℕ) (n after later found : ℕ) (s : Step) (read_of : View → List ℕ)
+      → ((t : List Step) → read_of (record v { trail = t }) ≡ these)
+      → HasRead kind v w these words n before after → x ≡ record w { trail = w.trail ++ s ∷ [] } → s.kind ≡ kind → found ≡ get_or (read_of w) n 0
+      → length (read_of w) ≡ 6 → n < 6 → later ≡ after + 1
       → HasRead kind v x these (set words n found) (n + 1) before later
   read_one w x words n after later found s read_of same so is kind_is found_is wide lt one =
       let these_are : read_of w ≡ these = ap read_of so.rest ∙ same w.trail in

@@ -16,13 +16,16 @@ use Rattle.version_chain.specs.Walks.{time_at, stand_of, stand_in, with_first, w
 pub stands_here : (v : View) (object link : ℕ) (passed : Passed) → link ≢ 0 → v.walk ≡ stand_at object link passed false
     → v.walk ≡ place.At (record { object = object; link = link; first = None; stamp = None; passed = passed; late = false })
 stands_here v object link passed ne is =
-    subst (λ (b : Bool). v.walk ≡ (if b then place.Master object else place.At (record { object = object; link = link; first = None; stamp = None; passed = passed; late = false }))) (ne_eqb link 0 ne) is
+    subst (λ (b : Bool). v.walk
+    ≡ (if b then place.Master object else place.At (record { object = object; link = link; first = None; stamp = None; passed = passed; late = false })))
+    (ne_eqb link 0 ne) is
 
 -- a walk that stands at a version does so at the one that the view says
 pub stand_is : (v : View) (stand : Stand) → v.walk ≡ place.At stand → v.walk ≡ place.At (stand_in v)
 stand_is v stand is = is ∙ ap place.At (sym (ap stand_of is))
 
-module _ (c : Config) (v w x : View) (object link first found seat position : ℕ) (seen : List Entry) (ne : link ≢ 0) (packed : IsLinkOf c link) (stands : v.walk ≡ stand_at object link (stand_in v).passed false) where
+module _ (c : Config) (v w x : View) (object link first found seat position : ℕ) (seen : List Entry) (ne : link ≢ 0) (packed : IsLinkOf c link)
+    (stands : v.walk ≡ stand_at object link (stand_in v).passed false) where
   -- where a walk stands once FIRST and STAMP of a version were loaded
   abbrev looked : Stand
   looked = record { object = object; link = link; first = Some first; stamp = Some found; passed = (stand_in v).passed; late = false }
@@ -31,10 +34,12 @@ module _ (c : Config) (v w x : View) (object link first found seat position : �
   looked_is firsts stamps =
       let here = ap stand_of (stands_here v object link (stand_in v).passed ne stands) in
       let at : stand_in w ≡ with_first (stand_in v) first = ap stand_in firsts in
-      ap (λ (u : View). u.walk) stamps ∙ ap (λ (s : Stand). place.At (record s { stamp = Some found })) at ∙ ap (λ (s : Stand). place.At (with_stamp s first found)) here
+      ap (λ (u : View). u.walk) stamps ∙ ap (λ (s : Stand). place.At (record s { stamp = Some found })) at
+      ∙ ap (λ (s : Stand). place.At (with_stamp s first found)) here
 
   -- a walk that ends at a version stands at it
-  pub found_here : w ≡ first_loaded c v (stand_in v) first → x ≡ stamp_loaded c w (stand_in w) first found seen → (time : ℕ) → time ≡ time_at x → found ≤ time → seat ≡ link_seat_of link → position ≡ link_position_of link → HasFound c x object (Version seat position)
+  pub found_here : w ≡ first_loaded c v (stand_in v) first → x ≡ stamp_loaded c w (stand_in w) first found seen → (time : ℕ) → time ≡ time_at x → found ≤ time
+      → seat ≡ link_seat_of link → position ≡ link_position_of link → HasFound c x object (Version seat position)
   found_here firsts stamps time time_is not_above seat_is position_is =
       let is = looked_is firsts stamps in
       let stand : stand_in x ≡ looked = ap stand_of is in

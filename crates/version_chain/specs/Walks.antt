@@ -1,5 +1,6 @@
 -- Walks down a version chain: what the calls need of a view, where they put the walk, and what they leave.
-use Rattle.std.specs.Prelude.{◌≡◌, ◌≢◌, ◌⊎◌, ℕ, ◌+◌, ◌-◌, ◌<◌, ◌≤◌, ◌^◌, false, List, ◌++◌, length, All, Some, None, Result, Ok, Err}
+use Rattle.std.specs.Prelude.{◌≡◌, ◌≢◌, ◌⊎◌, ℕ, ◌+◌, ◌-◌, ◌<◌, ◌≤◌, ◌^◌, false, List, ◌++◌, length, All}
+use Rattle.std.specs.Prelude.{Some, None, Result, Ok, Err}
 use Rattle.mv_history.specs.declared.Entry.{Entry}
 use Rattle.mv_history.specs.declared.Step.{Step}
 use Rattle.mv_history.specs.declared.StepKind.{StepKind}
@@ -77,7 +78,8 @@ IsWalkStep LoadStamp = Unit {0}
 IsWalkStep LoadPrev = Unit {0}
 IsWalkStep _ = ⊥
 
--- What a walk leaves of a view, with the counter of steps before and after: what was seen is only longer, the trail has a record for each step and each is of a walk, and nothing else changes but where the walk stands and which HEADs were found empty.
+-- What a walk leaves of a view, with the counter of steps before and after: what was seen is only longer, the trail has a record
+-- for each step and each is of a walk, and nothing else changes but where the walk stands and which HEADs were found empty.
 pub record Walks (v w : View) (before after : ℕ) : Type 0 where
   pub seen : BeginsWith w.past.seen v.past.seen
   pub trail : (steps : List Step) × (w.trail ≡ v.trail ++ steps) × (after ≡ before + length steps) × All (λ s. IsWalkStep s.kind) steps

@@ -105,7 +105,8 @@ module _ {starts : State → Type 0} {allows : List ℕ → State → Writes →
 
   -- the stamp of the commit that the clock names is its time, or is that commit's unset one
   pub named_stamp : clock_slot_of (m Clock) ≢ 8191
-      → (m (Stamp (clock_seat_of (m Clock)) (clock_slot_of (m Clock))) ≡ clock_time_of (m Clock)) ⊎ IsNamedCommit f.ring (m Clock) (m (Stamp (clock_seat_of (m Clock)) (clock_slot_of (m Clock))))
+      → (m (Stamp (clock_seat_of (m Clock)) (clock_slot_of (m Clock))) ≡ clock_time_of (m Clock))
+      ⊎ IsNamedCommit f.ring (m Clock) (m (Stamp (clock_seat_of (m Clock)) (clock_slot_of (m Clock))))
   named_stamp ne =
       let a = k.freed_is_old.named ne in
       let x = a.0 in

@@ -103,7 +103,8 @@ module _ (rings later : ℕ → Ring) (kept : KeepsCommitted rings later) where
         same_named r r.note r.last (nothing s inside n at mode r.nothing) (kept.still s _ r.version r.note r.lives) r.time_is r.stamped
 
     -- a write-back, where the seats that write back hold nothing still
-    pub back_kept : (master : ℕ → ℕ → ℕ) (section : ℕ → Option Section) (time : ℕ → Option ℕ) (clocks : ℕ → LoadedClocks) (grace : ℕ → ℕ) (back : ℕ → Option WriteBack)
+    pub back_kept : (master : ℕ → ℕ → ℕ) (section : ℕ → Option Section) (time : ℕ → Option ℕ) (clocks : ℕ → LoadedClocks) (grace : ℕ → ℕ)
+        (back : ℕ → Option WriteBack)
         → ((s : ℕ) (b : WriteBack) → back s ≡ Some b → HoldsNothing (rings s) → HoldsNothing (later s))
         → WriteBacks c h master section time clocks grace back rings → WriteBacks c h master section time clocks grace back later
     back_kept master section time clocks grace back nothing k s b at =
@@ -111,7 +112,8 @@ module _ (rings later : ℕ → Ring) (kept : KeepsCommitted rings later) where
         let r = o.2 in
         (o.0, o.1, same_back r r.note r.helped (nothing s b at r.nothing) (kept.still s _ r.version r.note r.lives) r.old r.known r.last r.uncut r.words)
 
-  pub past_help_kept : (c : Config) (stamp : ℕ → ℕ → ℕ) (section : ℕ → Option Section) (clocks : ℕ → LoadedClocks) → StampedPastHelp c stamp section clocks rings
+  pub past_help_kept : (c : Config) (stamp : ℕ → ℕ → ℕ) (section : ℕ → Option Section) (clocks : ℕ → LoadedClocks)
+      → StampedPastHelp c stamp section clocks rings
       → StampedPastHelp c stamp section clocks later
   past_help_kept c stamp section clocks k s inside at past t j x note lives = k s inside at past t j x note (kept.was t j x note lives)
 

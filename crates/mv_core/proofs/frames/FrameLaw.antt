@@ -1,5 +1,8 @@
 -- The frame law: a step keeps each fact that reads neither the word that it writes nor a part that it changes in its view.
--- A step makes `seats` into `set_at seats n w`, with n the number of its seat and w its new view. Say which parts change by a `Change`, as `record unchanged { clocks = Some x }`; then all facts over `changed (parts_of seats) n t` are all facts afterwards, by `settle`. There each part that isn't named is as it was by computation, so a fact that reads no changed part is that of before, as it stands; and of a part that changes, `set_at_all` says what holds by number.
+-- A step makes `seats` into `set_at seats n w`, with n the number of its seat and w its new view. Say which parts change by a
+-- `Change`, as `record unchanged { clocks = Some x }`; then all facts over `changed (parts_of seats) n t` are all facts
+-- afterwards, by `settle`. There each part that isn't named is as it was by computation, so a fact that reads no changed part is
+-- that of before, as it stands; and of a part that changes, `set_at_all` says what holds by number.
 use Rattle.std.proofs.Common.{◌≡◌, ◌≢◌, ℕ, cond, List, sym, refl, ap, ◌∙◌, subst, eq-eqb, ne_eqb, Option, Some, None}
 use Rattle.mv_core.proofs.Terms.{dite, ℕ_discrete, Entry, State, Writes, Config, Memory, Ring, View, Past, Phase, Section, LoadedClocks, Walk}
 use Rattle.mv_core.proofs.Terms.{EmptyHead, WriteBack, Scan, section_of, time_of, ViewParts, parts_of, set_at}
@@ -44,7 +47,19 @@ pub record Change : Type 0 where
   pub grace : Option ℕ
 
 abbrev pub unchanged : Change
-unchanged = record { past = None; phase = None; section = None; time = None; clocks = None; walk = None; empty = None; ring = None; back = None; scan = None; grace = None }
+unchanged = record {
+  past = None;
+  phase = None;
+  section = None;
+  time = None;
+  clocks = None;
+  walk = None;
+  empty = None;
+  ring = None;
+  back = None;
+  scan = None;
+  grace = None;
+}
 
 -- the parts of all views after it
 abbrev pub changed : ViewParts → ℕ → Change → ViewParts
@@ -65,12 +80,15 @@ changed f n t = record {
 -- the new view is the old one with that change
 abbrev pub Fits : View → View → Change → Type 0
 Fits v w t =
-    Fit v.past w.past t.past × Fit v.phase w.phase t.phase × Fit (section_of v.phase) (section_of w.phase) t.section × Fit (time_of v.phase) (time_of w.phase) t.time × Fit v.clocks w.clocks t.clocks × Fit v.walk w.walk t.walk
+    Fit v.past w.past t.past × Fit v.phase w.phase t.phase × Fit (section_of v.phase) (section_of w.phase) t.section
+    × Fit (time_of v.phase) (time_of w.phase) t.time × Fit v.clocks w.clocks t.clocks × Fit v.walk w.walk t.walk
     × Fit v.empty w.empty t.empty × Fit v.ring w.ring t.ring × Fit v.back w.back t.back × Fit v.scan w.scan t.scan × Fit v.grace w.grace t.grace
 
 module _ {A : Type 0} (part : View → A) (seats : ℕ → View) (n : ℕ) (v w : View) (is : seats n ≡ v) where
   new_at : (s : ℕ) (x : A) → part w ≡ x → part (set_at seats n w s) ≡ set_at (λ t. part (seats t)) n x s
-  new_at s x e = set_at_all (λ t u. part u ≡ set_at (λ t. part (seats t)) n x t) seats n w (e ∙ sym (set_at_here (λ t. part (seats t)) n x)) (λ t ne. sym (set_at_else (λ t. part (seats t)) n x t ne)) s
+  new_at s x e =
+      set_at_all (λ t u. part u ≡ set_at (λ t. part (seats t)) n x t) seats n w (e ∙ sym (set_at_here (λ t. part (seats t)) n x))
+      (λ t ne. sym (set_at_else (λ t. part (seats t)) n x t ne)) s
 
   old_at : part w ≡ part v → (s : ℕ) → part (set_at seats n w s) ≡ part (seats s)
   old_at e = set_at_all (λ t u. part u ≡ part (seats t)) seats n w (e ∙ ap part (sym is)) (λ t ne. refl)
@@ -94,9 +112,11 @@ parts_after seats n v w is t fits = λ i. record {
   grace = part_after (λ u. u.grace) seats n v w is t.grace fits.10 i;
 }
 
-module _ (starts : State → Type 0) (allows : List ℕ → State → Writes → Type 0) (c : Config) (start : State) (m : Memory) (h : List Entry) (seats : ℕ → View) (n : ℕ) (v w : View) (is : seats n ≡ v) where
+module _ (starts : State → Type 0) (allows : List ℕ → State → Writes → Type 0) (c : Config) (start : State) (m : Memory) (h : List Entry) (seats : ℕ → View)
+    (n : ℕ) (v w : View) (is : seats n ≡ v) where
   -- all facts over the changed parts are all facts after the step
-  pub settle : (t : Change) → Fits v w t → Facts starts allows c start m h (changed (parts_of seats) n t) → Facts starts allows c start m h (parts_of (set_at seats n w))
+  pub settle : (t : Change) → Fits v w t → Facts starts allows c start m h (changed (parts_of seats) n t)
+      → Facts starts allows c start m h (parts_of (set_at seats n w))
   settle t fits = subst (Facts starts allows c start m h) (sym (parts_after seats n v w is t fits))
 
   -- a step that writes nothing and changes no part, but the trail

@@ -14,7 +14,13 @@ pub record IsSamePlace (x y : Version) : Type 0 where
   pub previous : y.previous ≡ x.previous
 
 pub same_place : (x y : Version) → y ≡ x → IsSamePlace x y
-same_place x y e = record { position = ap (λ (v : Version). v.position) e; first = ap (λ (v : Version). v.first) e; object = ap (λ (v : Version). v.object) e; previous = ap (λ (v : Version). v.previous) e }
+same_place x y e =
+    record {
+      position = ap (λ (v : Version). v.position) e;
+      first = ap (λ (v : Version). v.first) e;
+      object = ap (λ (v : Version). v.object) e;
+      previous = ap (λ (v : Version). v.previous) e;
+    }
 
 -- the relation keeps the place of each version
 abbrev pub KeepsPlace : Becomes → Type 0
@@ -81,7 +87,14 @@ module _ (R : Becomes) (places : KeepsPlace R) (before after : ℕ → Ring) (k 
   set_forth P Q goes_on c s first p r =
       let f = k.forth s (index_of c p) r.version r.status r.lives in
       let at = places r.version r.status f.0 f.1 f.3 in
-      record { version = f.0; status = f.1; lives = f.2; position_is = at.position ∙ r.position_is; first_is = at.first ∙ r.first_is; known = goes_on r.version r.status f.0 f.1 f.3 r.known }
+      record {
+        version = f.0;
+        status = f.1;
+        lives = f.2;
+        position_is = at.position ∙ r.position_is;
+        first_is = at.first ∙ r.first_is;
+        known = goes_on r.version r.status f.0 f.1 f.3 r.known;
+      }
 
 -- the version is the same
 abbrev pub SameVersion : Becomes

@@ -40,7 +40,8 @@ module _ {starts : State → Type 0} {allows : List ℕ → State → Writes →
     grace_up g true = le_refl g
     grace_up g false = omega arith
 
-    pub scan_goes_on : Facts starts allows c start m h (changed f n (record unchanged { scan = Some (scan_on c clock least next); grace = Some (grace_on c (f.grace n) least next) }))
+    pub scan_goes_on : Facts starts allows c start m h
+        (changed f n (record unchanged { scan = Some (scan_on c clock least next); grace = Some (grace_on c (f.grace n) least next) }))
     scan_goes_on =
         let b = nat_lt next c.seats in
         watermark_rises

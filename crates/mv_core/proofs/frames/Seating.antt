@@ -1,4 +1,5 @@
--- The table's list of views stays that of the seats, through a step of one seat that keeps its number, its notes and what else `IsKept` says. No other fact reads that list.
+-- The table's list of views stays that of the seats, through a step of one seat that keeps its number, its notes and what else
+-- `IsKept` says. No other fact reads that list.
 use Rattle.std.proofs.Common.{◌≡◌, ◌⊎◌, ℕ, ◌<◌, ◌≤◌, false, List, set, sym, refl, ap, ◌∙◌, subst, inl, inr, ⊎_elim, arith, All}
 use Rattle.std.specs.Prelude.{Contains}
 use Rattle.mv_core.proofs.Terms.{dite, some, ℕ_discrete, get_elem?, State, Config, View, Note, new_view, set_at}
@@ -16,7 +17,8 @@ module _ (vs : List View) (id : ℕ) (v w : View) where
       (λ t. (x, t.1, (refl, refl, refl, refl, refl, refl)))
       (at_set vs id j w x at')
 
-module _ (c : Config) (start : State) (vs : List View) (seats : ℕ → View) (id : ℕ) (v w : View) (k : Seated c start vs seats) (at : get_elem? vs id ≡ some v) (unspent : v.spent ≡ false) (kept : IsKept v w) where
+module _ (c : Config) (start : State) (vs : List View) (seats : ℕ → View) (id : ℕ) (v w : View) (k : Seated c start vs seats) (at : get_elem? vs id ≡ some v)
+    (unspent : v.spent ≡ false) (kept : IsKept v w) where
   was : (j : ℕ) (x : View) → get_elem? (set vs id w) j ≡ some x → (y : View) × (get_elem? vs j ≡ some y) × IsKept y x
   was = old_of vs id v w at kept
 
@@ -46,7 +48,8 @@ module _ (c : Config) (start : State) (vs : List View) (seats : ℕ → View) (i
       let o = was j x at' in
       let old_has : Contains o.0.notes n = subst (λ (ns : List Note). Contains ns n) o.2.4 has in
       let old_un : o.0.spent ≡ false = sym o.2.5 ∙ un in
-      let same : set_at seats v.number w n.number ≡ seats n.number = set_at_else seats v.number w n.number (λ e. k.gone j id o.0 v n o.1 at old_un unspent old_has (sym e)) in
+      let same : set_at seats v.number w n.number ≡ seats n.number =
+      set_at_else seats v.number w n.number (λ e. k.gone j id o.0 v n o.1 at old_un unspent old_has (sym e)) in
       let r = k.noted j o.0 n o.1 old_un old_has in record {
         number = ap (λ (u : View). u.number) same ∙ r.number;
         past = ap (λ (u : View). u.past) same ∙ r.past;
@@ -56,7 +59,8 @@ module _ (c : Config) (start : State) (vs : List View) (seats : ℕ → View) (i
       }
 
   -- a seat that isn't made yet isn't this one
-  maker_after : (j : ℕ) (x : View) → get_elem? (set vs id w) j ≡ some x → x.spent ≡ false → 0 < x.made → (x.number ≡ 0) × ((s : ℕ) → x.made ≤ s → set_at seats v.number w s ≡ new_view c start s 0)
+  maker_after : (j : ℕ) (x : View) → get_elem? (set vs id w) j ≡ some x → x.spent ≡ false → 0 < x.made
+      → (x.number ≡ 0) × ((s : ℕ) → x.made ≤ s → set_at seats v.number w s ≡ new_view c start s 0)
   maker_after j x at' un some_made =
       let o = was j x at' in
       let old_un : o.0.spent ≡ false = sym o.2.5 ∙ un in
@@ -90,11 +94,14 @@ module _ (c : Config) (start : State) (vs : List View) (seats : ℕ → View) (i
         k.gone i j a.0 b.0 n a.1 b.1 (sym a.2.5 ∙ u1) (sym b.2.5 ∙ u2) (subst (λ (ns : List Note). Contains ns n) a.2.4 has) (sym b.2.0 ∙ e);
     once = λ i j p q x y m n at1 at2 u1 u2 g1 g2 e.
         let a = was i x at1 in let b = was j y at2 in
-        k.once i j p q a.0 b.0 m n a.1 b.1 (sym a.2.5 ∙ u1) (sym b.2.5 ∙ u2) (subst (λ (ns : List Note). get_elem? ns p ≡ some m) a.2.4 g1) (subst (λ (ns : List Note). get_elem? ns q ≡ some n) b.2.4 g2) e;
+        k.once i j p q a.0 b.0 m n a.1 b.1 (sym a.2.5 ∙ u1) (sym b.2.5 ∙ u2) (subst (λ (ns : List Note). get_elem? ns p ≡ some m) a.2.4 g1)
+        (subst (λ (ns : List Note). get_elem? ns q ≡ some n) b.2.4 g2) e;
     maker = maker_after;
     all = all_after;
     made = λ i j x y at1 at2 u1 u2 some_made.
         let a = was i x at1 in let b = was j y at2 in
-        let r = k.made i j a.0 b.0 a.1 b.1 (sym a.2.5 ∙ u1) (sym b.2.5 ∙ u2) (subst (λ (n : ℕ). 0 < n) a.2.3 some_made) in
-        (let l = r.0 in let e1 = a.2.3 in let e2 = b.2.0 in omega arith, subst (λ (ns : List Note). All (λ n. n.number < x.made) ns) (sym b.2.4) (subst (λ (t : ℕ). All (λ n. n.number < t) b.0.notes) (sym a.2.3) r.1));
+        let r = k.made i j a.0 b.0 a.1 b.1 (sym a.2.5 ∙ u1) (sym b.2.5 ∙ u2) (subst (λ (n : ℕ). 0 < n) a.2.3 some_made) in (
+          let l = r.0 in let e1 = a.2.3 in let e2 = b.2.0 in omega arith,
+          subst (λ (ns : List Note). All (λ n. n.number < x.made) ns) (sym b.2.4) (subst (λ (t : ℕ). All (λ n. n.number < t) b.0.notes) (sym a.2.3) r.1),
+        );
   }

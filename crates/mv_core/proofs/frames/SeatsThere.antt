@@ -12,11 +12,13 @@ at_within (x ∷ xs) zero a e = omega arith
 at_within (x ∷ xs) (suc i) a e = let lt = at_within xs i a e in omega arith
 
 -- a view that takes the place of another, with its number and its notes, is there for each seat that the other was there for
-pub named_still : (v w : View) (s : ℕ) → w.number ≡ v.number → ((n : Note) → Contains v.notes n → Contains w.notes n) → (v.number ≡ s) ⊎ ((n : Note) × Contains v.notes n × (n.number ≡ s)) → (w.number ≡ s) ⊎ ((n : Note) × Contains w.notes n × (n.number ≡ s))
+pub named_still : (v w : View) (s : ℕ) → w.number ≡ v.number → ((n : Note) → Contains v.notes n → Contains w.notes n)
+    → (v.number ≡ s) ⊎ ((n : Note) × Contains v.notes n × (n.number ≡ s)) → (w.number ≡ s) ⊎ ((n : Note) × Contains w.notes n × (n.number ≡ s))
 named_still v w s number notes =
     ⊎_elim (λ own. inl (number ∙ own)) (λ noted. inr (noted.0, notes noted.0 noted.1, noted.2))
 
-pub there_still : (vs : List View) (id : ℕ) (v w : View) → get_elem? vs id ≡ some v → w.spent ≡ false → w.number ≡ v.number → ((n : Note) → Contains v.notes n → Contains w.notes n) → (s : ℕ) → IsThere vs s → IsThere (set vs id w) s
+pub there_still : (vs : List View) (id : ℕ) (v w : View) → get_elem? vs id ≡ some v → w.spent ≡ false → w.number ≡ v.number
+    → ((n : Note) → Contains v.notes n → Contains w.notes n) → (s : ℕ) → IsThere vs s → IsThere (set vs id w) s
 there_still vs id v w at unspent number notes s t =
     dite (ℕ_discrete t.id id)
     (λ e.

@@ -1,4 +1,5 @@
--- What stays of the facts that bound all sections or speak of clock words, where one seat's section or its clock words change. Shared by the steps that begin and end a section.
+-- What stays of the facts that bound all sections or speak of clock words, where one seat's section or its clock words change.
+-- Shared by the steps that begin and end a section.
 use Rattle.std.proofs.Common.{◌≡◌, ◌≢◌, ℕ, ◌<◌, ◌==◌, Bool, true, false, [], eq-eqb, ne_eqb, sym, ◌∙◌, subst, arith, Option, Some, None}
 use Rattle.std.specs.Prelude.{Contains}
 use Rattle.mv_core.proofs.Terms.{dite, ℕ_discrete, Config, clock_slot_of, Ring, Section, LoadedClocks, FoundStamp, NotAbove, NotAboveAny, set_at}
@@ -20,11 +21,13 @@ any_after t time n x all one = set_at_all (λ _ u. NotAbove t u) time n x one (�
 
 module _ (c : Config) (clock : ℕ) (stamp : ℕ → ℕ → ℕ) (clocks : ℕ → LoadedClocks) (n : ℕ) where
   -- the helped words of all are done, where those of one seat are given anew
-  pub helped_after : (x : LoadedClocks) → ((word : ℕ) → Contains x.helped word → IsDone clock stamp word) → HelpedWords clock stamp clocks → HelpedWords clock stamp (set_at clocks n x)
+  pub helped_after : (x : LoadedClocks) → ((word : ℕ) → Contains x.helped word → IsDone clock stamp word) → HelpedWords clock stamp clocks
+      → HelpedWords clock stamp (set_at clocks n x)
   helped_after x done k = set_at_all (λ s u. (word : ℕ) → Contains u.helped word → IsDone clock stamp word) clocks n x done (λ s ne. k s)
 
   -- the stamps found hold, where that of one seat is given anew
-  pub found_anew : (rings : ℕ → Ring) (x : LoadedClocks) → ((f : FoundStamp) → x.found ≡ Some f → clock ≡ f.word → IsNamedCommit rings f.word f.unset) → ((f : FoundStamp) → x.found ≡ Some f → f.checked ≡ true → IsFound c stamp rings f)
+  pub found_anew : (rings : ℕ → Ring) (x : LoadedClocks) → ((f : FoundStamp) → x.found ≡ Some f → clock ≡ f.word → IsNamedCommit rings f.word f.unset)
+      → ((f : FoundStamp) → x.found ≡ Some f → f.checked ≡ true → IsFound c stamp rings f)
       → FoundStamps c clock stamp clocks rings → FoundStamps c clock stamp (set_at clocks n x) rings
   found_anew rings x now checked k = record {
     now = set_at_all (λ s u. (f : FoundStamp) → u.found ≡ Some f → clock ≡ f.word → IsNamedCommit rings f.word f.unset) clocks n x now (λ s ne. k.now s);
@@ -32,27 +35,34 @@ module _ (c : Config) (clock : ℕ) (stamp : ℕ → ℕ → ℕ) (clocks : ℕ 
   }
 
   -- and where one seat has none any more
-  pub found_after : (rings : ℕ → Ring) (x : LoadedClocks) → x.found ≡ None → FoundStamps c clock stamp clocks rings → FoundStamps c clock stamp (set_at clocks n x) rings
-  found_after rings x none k = found_anew rings x (λ f e. let g : None ≡ Some f = sym none ∙ e in absurd (cc)) (λ f e. let g : None ≡ Some f = sym none ∙ e in absurd (cc)) k
+  pub found_after : (rings : ℕ → Ring) (x : LoadedClocks) → x.found ≡ None → FoundStamps c clock stamp clocks rings
+      → FoundStamps c clock stamp (set_at clocks n x) rings
+  found_after rings x none k =
+      found_anew rings x (λ f e. let g : None ≡ Some f = sym none ∙ e in absurd (cc)) (λ f e. let g : None ≡ Some f = sym none ∙ e in absurd (cc)) k
 
   -- the words of all sections were in the clock, if that of a new one is
-  pub inside_after : (section : ℕ → Option Section) (inside : Option Section) → ((i : Section) → inside ≡ Some i → WasClock c clock i.word) → LoadedWords c clock section clocks → (s : ℕ) (i : Section) → set_at section n inside s ≡ Some i → WasClock c clock i.word
+  pub inside_after : (section : ℕ → Option Section) (inside : Option Section) → ((i : Section) → inside ≡ Some i → WasClock c clock i.word)
+      → LoadedWords c clock section clocks → (s : ℕ) (i : Section) → set_at section n inside s ≡ Some i → WasClock c clock i.word
   inside_after section inside here k = set_at_all (λ s u. (i : Section) → u ≡ Some i → WasClock c clock i.word) section n inside here (λ s ne. k.inside s)
 
   -- the words of all were in the clock, where those of one seat are given anew
-  pub loaded_anew : (before after : ℕ → Option Section) (x : LoadedClocks) → ((f : FoundStamp) → x.found ≡ Some f → WasClock c clock f.word × (clock_slot_of f.word ≢ 8191))
-      → ((word : ℕ) → Contains x.loaded word → WasClock c clock word) → ((word : ℕ) → Contains x.helped word → WasClock c clock word) → ((s : ℕ) (i : Section) → after s ≡ Some i → WasClock c clock i.word)
+  pub loaded_anew : (before after : ℕ → Option Section) (x : LoadedClocks)
+      → ((f : FoundStamp) → x.found ≡ Some f → WasClock c clock f.word × (clock_slot_of f.word ≢ 8191))
+      → ((word : ℕ) → Contains x.loaded word → WasClock c clock word) → ((word : ℕ) → Contains x.helped word → WasClock c clock word)
+      → ((s : ℕ) (i : Section) → after s ≡ Some i → WasClock c clock i.word)
       → LoadedWords c clock before clocks → LoadedWords c clock after (set_at clocks n x)
   loaded_anew before after x found loaded helped inside k = record {
     clock_is = k.clock_is;
     loaded = set_at_all (λ s u. (word : ℕ) → Contains u.loaded word → WasClock c clock word) clocks n x loaded (λ s ne. k.loaded s);
     helped = set_at_all (λ s u. (word : ℕ) → Contains u.helped word → WasClock c clock word) clocks n x helped (λ s ne. k.helped s);
-    found = set_at_all (λ s u. (f : FoundStamp) → u.found ≡ Some f → WasClock c clock f.word × (clock_slot_of f.word ≢ 8191)) clocks n x found (λ s ne. k.found s);
+    found = set_at_all (λ s u. (f : FoundStamp) → u.found ≡ Some f → WasClock c clock f.word × (clock_slot_of f.word ≢ 8191)) clocks n x found
+        (λ s ne. k.found s);
     inside = inside;
   }
 
   -- and where it has no stamp found
   pub loaded_after : (before after : ℕ → Option Section) (x : LoadedClocks) → x.found ≡ None
-      → ((word : ℕ) → Contains x.loaded word → WasClock c clock word) → ((word : ℕ) → Contains x.helped word → WasClock c clock word) → ((s : ℕ) (i : Section) → after s ≡ Some i → WasClock c clock i.word)
+      → ((word : ℕ) → Contains x.loaded word → WasClock c clock word) → ((word : ℕ) → Contains x.helped word → WasClock c clock word)
+      → ((s : ℕ) (i : Section) → after s ≡ Some i → WasClock c clock i.word)
       → LoadedWords c clock before clocks → LoadedWords c clock after (set_at clocks n x)
   loaded_after before after x none = loaded_anew before after x (λ f e. let g : None ≡ Some f = sym none ∙ e in absurd (cc))

@@ -28,8 +28,12 @@ module _ (c : Config) (start : State) (h : List Entry) (rings : ℕ → Ring) (s
   scan_more : (clock : ℕ) → clock_time_of clock ≡ c.base + length h → (o : Option Scan) → ScanIs clock time o → ScanIs clock (set_at time n t) o
   scan_more clock e None k = tt
   scan_more clock e (Some scan) k =
-      let a = k.0 in let b = k.1 in
-      (k.0, k.1, set_at_all (λ s u. s < scan.next → NotAbove scan.least u) time n t (λ lt. lower scan.least (c.base + length h) t (omega arith) late) (λ s ne. k.2 s))
+      let a = k.0 in let b = k.1 in (
+        k.0,
+        k.1,
+        set_at_all (λ s u. s < scan.next → NotAbove scan.least u) time n t
+            (λ lt. lower scan.least (c.base + length h) t (omega arith) late) (λ s ne. k.2 s),
+      )
 
   pub grace_more : (clock word : ℕ) (grace : ℕ → ℕ) (scan : ℕ → Option Scan) → clock_time_of clock ≡ c.base + length h → Grace clock word time grace scan
       → Grace clock word (set_at time n t) grace scan
@@ -52,7 +56,12 @@ module _ (c : Config) (start : State) (h : List Entry) (rings : ℕ → Ring) (s
   foot_more master k s j x note lives none =
       ⊎_elim
       (λ old. inl (any_more note.time (commit_within c h rings sets s j x note lives).1 old))
-      (λ ground. inr (ground.0, ground.1, any_more (latest_at c.base h x.object (note.time - 1)) (let a = latest_at-latest c.base h x.object (note.time - 1) in let b = latest-le c.base h x.object in omega arith) ground.2))
+      (λ ground. inr (
+        ground.0,
+        ground.1,
+        any_more (latest_at c.base h x.object (note.time - 1))
+            (let a = latest_at-latest c.base h x.object (note.time - 1) in let b = latest-le c.base h x.object in omega arith) ground.2,
+      ))
       (k s j x note lives none)
 
   pub cut_more : CutIsOld time rings → CutIsOld (set_at time n t) rings

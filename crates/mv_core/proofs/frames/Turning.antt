@@ -1,4 +1,5 @@
--- A step over the table, from what its kind shows of the facts: `Loads`, `Stores`, `Swaps` or `Raises` of its place. Once for all kinds; a kind's own lemmas never speak of the table.
+-- A step over the table, from what its kind shows of the facts: `Loads`, `Stores`, `Swaps` or `Raises` of its place. Once for all
+-- kinds; a kind's own lemmas never speak of the table.
 use Rattle.std.proofs.Common.{◌≡◌, ℕ, ◌+◌, ◌<◌, ◌^◌, max, eqb, false, List, ◌++◌, length, set, slice_index, refl, sym, ap, ◌∙◌, subst, arith, length-append}
 use Rattle.std.proofs.lemmas.List.{set-get_or}
 use Rattle.std.proofs.Math.Logic.{∥∥₁_elim}
@@ -23,7 +24,8 @@ module _ (starts : State → Type 0) (allows : List ℕ → State → Writes →
   unspent_of v k = ∥∥₁_elim k (Bool-set v.spent false) (λ a. a.unspent)
 
   -- the facts tell each seat what its pass knows
-  pub known_of : (c : Config) (start : State) (m : Memory) (h : List Entry) (seats : ℕ → View) (w : View) → Facts starts allows c start m h (parts_of seats) → seats w.number ≡ w → w.start ≡ start → w.base ≡ c.base → w.spent ≡ false → Known starts allows w
+  pub known_of : (c : Config) (start : State) (m : Memory) (h : List Entry) (seats : ℕ → View) (w : View) → Facts starts allows c start m h (parts_of seats)
+      → seats w.number ≡ w → w.start ≡ start → w.base ≡ c.base → w.spent ≡ false → Known starts allows w
   known_of c start m h seats w k is begins from unspent =
       let p : KnowsPast h w.number w.past = subst (λ (u : View). KnowsPast h w.number u.past) is (k.history.seats w.number) in
       let whole : h ≡ w.past.seen ++ p.seen.0 = p.seen.1 in
@@ -52,17 +54,21 @@ module _ (starts : State → Type 0) (allows : List ℕ → State → Writes →
     found_is s r = ap (slice_index s.words) is ∙ r.shows.each p hp
 
     shows_as : (s : table.State (List ℕ) View) (r : Ruled starts allows key s) (n : ℕ) → Shows key.config (set s.words i n) (put r.memory p n)
-    shows_as s r n = subst (λ (j : ℕ). Shows key.config (set s.words j n) (put r.memory p n)) (sym is) (shows_put key.config s.words r.memory p n r.facts.checked r.shows hp)
+    shows_as s r n =
+        subst (λ (j : ℕ). Shows key.config (set s.words j n) (put r.memory p n)) (sym is) (shows_put key.config s.words r.memory p n r.facts.checked r.shows hp)
 
-    known_after : (m : Memory) (h : List Entry) (seats : ℕ → View) (w : View) → Facts starts allows key.config key.start.value.items m h (parts_of (set_at seats me.0.number w)) → IsKept me.0 w → Known starts allows w
+    known_after : (m : Memory) (h : List Entry) (seats : ℕ → View) (w : View)
+        → Facts starts allows key.config key.start.value.items m h (parts_of (set_at seats me.0.number w)) → IsKept me.0 w → Known starts allows w
     known_after m h seats w k kept =
         known_of key.config key.start.value.items m h (set_at seats me.0.number w) w k
         (ap (set_at seats me.0.number w) kept.0 ∙ set_at_here seats me.0.number w)
         (kept.1 ∙ begins) (kept.2 ∙ from) (kept.5 ∙ unspent)
 
     -- the rule after a step that writes this word, if any
-    ruled_after : (s : table.State (List ℕ) View) (r : Ruled starts allows key s) → get_elem? s.views id ≡ some me.0 → (n : ℕ) (m : Memory) (h : List Entry) (w : View) → Shows key.config (set s.words i n) m → IsKept me.0 w
-        → Facts starts allows key.config key.start.value.items m h (parts_of (set_at r.seats me.0.number w)) → Ruled starts allows key (stepped s i n id me.1 w keeps)
+    ruled_after : (s : table.State (List ℕ) View) (r : Ruled starts allows key s) → get_elem? s.views id ≡ some me.0
+        → (n : ℕ) (m : Memory) (h : List Entry) (w : View) → Shows key.config (set s.words i n) m → IsKept me.0 w
+        → Facts starts allows key.config key.start.value.items m h (parts_of (set_at r.seats me.0.number w))
+        → Ruled starts allows key (stepped s i n id me.1 w keeps)
     ruled_after s r at n m h w shows kept facts = record {
       memory = m;
       history = h;
@@ -108,7 +114,8 @@ module _ (starts : State → Type 0) (allows : List ℕ → State → Writes →
         let there = r.seated.there id me.0 at unspent in
         let t = law r.memory r.history r.seats r.facts there.0 there.1 begins (subst (λ (x : ℕ). x < 2 ^ 64) found small) in
         let x : ℕ = max (slice_index s.words i) n in
-        let shows : Shows key.config (set s.words i x) (put r.memory p (max (r.memory p) n)) = subst (λ (y : ℕ). Shows key.config (set s.words i x) (put r.memory p (max y n))) found (shows_as s r x) in (
+        let shows : Shows key.config (set s.words i x) (put r.memory p (max (r.memory p) n)) =
+        subst (λ (y : ℕ). Shows key.config (set s.words i x) (put r.memory p (max y n))) found (shows_as s r x) in (
           t.0,
           keeps,
           tt,
@@ -117,10 +124,14 @@ module _ (starts : State → Type 0) (allows : List ℕ → State → Writes →
         )
 
     Goes : (s : table.State (List ℕ) View) → (ℕ → View → Type 0) → ℕ → Type 0
-    Goes s tells x = (w : View) × (a : Act (List ℕ)) × Valid s.homes me.1 a × Ruled starts allows key (stepped s i x id me.1 w a) × (tells (slice_index s.words i) w × IsKept me.0 w × Known starts allows w × (carried_after me.1 a ≡ me.1))
+    Goes s tells x =
+        (w : View) × (a : Act (List ℕ)) × Valid s.homes me.1 a × Ruled starts allows key (stepped s i x id me.1 w a)
+        × (tells (slice_index s.words i) w × IsKept me.0 w × Known starts allows w × (carried_after me.1 a ≡ me.1))
 
-    pub swap_allows : (old new : ℕ) (tells : ℕ → View → Type 0) → Swaps starts allows key.config key.start.value.items me.0 p old new (λ n w. tells n w × IsKept me.0 w)
-        → Allows (Ruled starts allows key) slots id me i (λ n. either (eqb n old) new n) (λ n m. tells n m.0 × IsKept me.0 m.0 × Known starts allows m.0 × (m.1 ≡ me.1))
+    pub swap_allows : (old new : ℕ) (tells : ℕ → View → Type 0)
+        → Swaps starts allows key.config key.start.value.items me.0 p old new (λ n w. tells n w × IsKept me.0 w)
+        → Allows (Ruled starts allows key) slots id me i (λ n. either (eqb n old) new n)
+        (λ n m. tells n m.0 × IsKept me.0 m.0 × Known starts allows m.0 × (m.1 ≡ me.1))
     unfolding Goes
     swap_allows old new tells law s r wide at small =
         let found = found_is s r in
@@ -133,7 +144,8 @@ module _ (starts : State → Type 0) (allows : List ℕ → State → Writes →
           ruled_after s r at new (put r.memory p new) t.1 t.0 (shows_as s r new) t.3.1 t.2,
           (subst (λ (n : ℕ). tells n t.0) (sym hit) t.3.0, t.3.1, known_after (put r.memory p new) t.1 r.seats t.0 t.2 t.3.1, refl),
         ))
-        (λ miss. let t = law.1 r.memory r.history r.seats r.facts there.0 there.1 begins (λ e. miss (found ∙ e)) (subst (λ (n : ℕ). n < 2 ^ 64) found small) in (
+        (λ miss. let t = law.1 r.memory r.history r.seats r.facts there.0 there.1 begins (λ e. miss (found ∙ e))
+        (subst (λ (n : ℕ). n < 2 ^ 64) found small) in (
           t.0,
           keeps,
           tt,

@@ -31,7 +31,8 @@ last_is (a ∷ b ∷ h) i e at wide =
     let rest = last_is (b ∷ h) (length h) e there refl in
     (a ∷ rest.0, ap (λ (l : List Entry). a ∷ l) rest.1)
 
-module _ {starts : State → Type 0} {allows : List ℕ → State → Writes → Type 0} {c : Config} {start : State} {m : Memory} {h : List Entry} {f : ViewParts} (k : Facts starts allows c start m h f)
+module _ {starts : State → Type 0} {allows : List ℕ → State → Writes → Type 0} {c : Config} {start : State} {m : Memory} {h : List Entry} {f : ViewParts}
+    (k : Facts starts allows c start m h f)
     (s j : ℕ) (x : Version) (note : CommitNote) (lives : Lives f.ring s j x (Committed note)) where
   commit : CommitOf c h f.ring s x note
   commit = k.write_sets.commit s j x note lives
@@ -40,14 +41,16 @@ module _ {starts : State → Type 0} {allows : List ℕ → State → Writes →
   seat_in = k.positions.within s j x (Committed note) lives
 
   -- its word unpacks
-  pub word_unpacks : let w = clock_of note.time s (index_of c x.first) in (clock_time_of w ≡ note.time) × (clock_seat_of w ≡ s) × (clock_slot_of w ≡ index_of c x.first)
+  pub word_unpacks : let w =
+      clock_of note.time s (index_of c x.first) in (clock_time_of w ≡ note.time) × (clock_seat_of w ≡ s) × (clock_slot_of w ≡ index_of c x.first)
   word_unpacks =
       let a : s < 64 = (let w = seat_in in let t = k.checked.seats.1 in omega arith) in
       let b : index_of c x.first ≤ 8191 = (let w = slot_in c k.checked x.first in let t = k.checked.slots.1 in omega arith) in
       (time_back note.time s (index_of c x.first) a b, seat_back note.time s (index_of c x.first) a b, slot_back note.time s (index_of c x.first) a b)
 
   -- the slot of this commit, where the commit that the clock names is of the same seat and time
-  slot_named_is : (y : Version) (other : CommitNote) → Lives f.ring s (clock_slot_of (m Clock)) y (Committed other) → y.position ≡ y.first → other.time ≡ clock_time_of (m Clock) → note.time ≡ clock_time_of (m Clock) → clock_slot_of (m Clock) ≡ index_of c x.first
+  slot_named_is : (y : Version) (other : CommitNote) → Lives f.ring s (clock_slot_of (m Clock)) y (Committed other) → y.position ≡ y.first
+      → other.time ≡ clock_time_of (m Clock) → note.time ≡ clock_time_of (m Clock) → clock_slot_of (m Clock) ≡ index_of c x.first
   slot_named_is y other here at other_now now =
       let one : y.first ≡ x.first = k.write_sets.once s (clock_slot_of (m Clock)) j y x other note here lives (other_now ∙ sym now) in
       sym (k.positions.live s (clock_slot_of (m Clock)) y (Committed other) here).0 ∙ ap (index_of c) (at ∙ one)
@@ -64,7 +67,8 @@ module _ {starts : State → Type 0} {allows : List ℕ → State → Writes →
       let slot_low = named.0 in
       let a = k.freed_is_old.named (λ (e : clock_slot_of (m Clock) ≡ 8191). omega arith) in
       let seat_is : clock_seat_of (m Clock) ≡ s = named.1 ∙ commit.seat in
-      let slot_is : clock_slot_of (m Clock) ≡ index_of c x.first = slot_named_is a.0 a.1 (subst (λ (u : ℕ). Lives f.ring u (clock_slot_of (m Clock)) a.0 (Committed a.1)) seat_is a.2) a.3 a.4 now in
+      let slot_is : clock_slot_of (m Clock) ≡ index_of c x.first =
+      slot_named_is a.0 a.1 (subst (λ (u : ℕ). Lives f.ring u (clock_slot_of (m Clock)) a.0 (Committed a.1)) seat_is a.2) a.3 a.4 now in
       let time_is = sym now in
       repacked (m Clock) ∙ (λ i. clock_of (time_is i) (seat_is i) (slot_is i))
 

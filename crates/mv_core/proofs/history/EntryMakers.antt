@@ -29,7 +29,8 @@ some_made s (Change c ∷ es) e (suc i, lt, same) makes none few =
     some_made s es e (i, omega (arith, lt), same) makes (none_front (eqb c.seat s) c (commits_of s es) none).1 few
 
 -- each entry is of a seat with a view or a note: a seat that isn't made yet has made none
-pub entries_named : (c : Config) (start : State) (vs : List View) (seats : ℕ → View) (h : List Entry) → Seated c start vs seats → ((s : ℕ) → KnowsPast h s (seats s).past) → EntriesAreNamed vs h
+pub entries_named : (c : Config) (start : State) (vs : List View) (seats : ℕ → View) (h : List Entry) → Seated c start vs seats
+    → ((s : ℕ) → KnowsPast h s (seats s).past) → EntriesAreNamed vs h
 entries_named c start vs seats h k knows e has =
     ⊎_elim (λ there. there)
     (λ new.

@@ -1,5 +1,6 @@
 -- The last entry of a history that passes a test, and the last write of an object up to a time.
-use Rattle.std.proofs.Common.{◌≡◌, ℕ, zero, suc, ◌+◌, ◌-◌, ◌<◌, ◌≤◌, Bool, true, false, List, [], ◌∷◌, ◌++◌, length, take, Some, slice_get, sym, refl, ap, ◌∙◌, subst, arith, length-take}
+use Rattle.std.proofs.Common.{◌≡◌, ℕ, zero, suc, ◌+◌, ◌-◌, ◌<◌, ◌≤◌, Bool, true, false, List, [], ◌∷◌, ◌++◌}
+use Rattle.std.proofs.Common.{length, take, Some, slice_get, sym, refl, ap, ◌∙◌, subst, arith, length-take}
 use Rattle.std.proofs.lemmas.Option.{slice_get_within}
 use Rattle.mv_core.proofs.Terms.{dite, dec_lt, dec_le, Entry, one_more, last_that, writes_to, latest, latest_at, IsEntry, IsNextWrite}
 
@@ -52,8 +53,10 @@ module _ (test : Entry → Bool) where
 
   passes_go : (x : Entry) (es : List Entry) (i n : ℕ) (b : Bool) → ((j : ℕ) → n ≡ suc j → Passes es j) → test x ≡ b → one_more b n ≡ suc i → Passes (x ∷ es) i
   unfolding Passes
-  passes_go x es i (suc n) b rest is e = let p = rest n refl in let j : suc n ≡ i = omega arith in subst (λ (k : ℕ). (e : Entry) × (slice_get (x ∷ es) k ≡ Some e) × (test e ≡ true)) j p
-  passes_go x es i zero true rest is e = let j : zero ≡ i = omega arith in subst (λ (k : ℕ). (e : Entry) × (slice_get (x ∷ es) k ≡ Some e) × (test e ≡ true)) j (x, refl, is)
+  passes_go x es i (suc n) b rest is e =
+      let p = rest n refl in let j : suc n ≡ i = omega arith in subst (λ (k : ℕ). (e : Entry) × (slice_get (x ∷ es) k ≡ Some e) × (test e ≡ true)) j p
+  passes_go x es i zero true rest is e =
+      let j : zero ≡ i = omega arith in subst (λ (k : ℕ). (e : Entry) × (slice_get (x ∷ es) k ≡ Some e) × (test e ≡ true)) j (x, refl, is)
   passes_go x es i zero false rest is e = absurd (omega arith)
 
   -- the last one passes
@@ -79,14 +82,16 @@ module _ (test : Entry → Bool) where
   last_that-take-mono es zero b le = omega arith
   last_that-take-mono es (suc a) zero le = absurd (omega arith)
   last_that-take-mono [] (suc a) (suc b) le = omega arith
-  last_that-take-mono (x ∷ es) (suc a) (suc b) le = one_more-mono (test x) (last_that test (take a es)) (last_that test (take b es)) (last_that-take-mono es a b (omega arith))
+  last_that-take-mono (x ∷ es) (suc a) (suc b) le =
+      one_more-mono (test x) (last_that test (take a es)) (last_that test (take b es)) (last_that-take-mono es a b (omega arith))
 
   -- and it is the same where it is among these
   pub last_that-take-same : (es : List Entry) (a b : ℕ) → a ≤ b → last_that test (take b es) ≤ a → last_that test (take a es) ≡ last_that test (take b es)
   last_that-take-same es zero b le within = omega arith
   last_that-take-same es (suc a) zero le within = absurd (omega arith)
   last_that-take-same [] (suc a) (suc b) le within = refl
-  last_that-take-same (x ∷ es) (suc a) (suc b) le within = ap (one_more (test x)) (last_that-take-same es a b (omega arith) (one_more-back (test x) (last_that test (take b es)) a within))
+  last_that-take-same (x ∷ es) (suc a) (suc b) le within =
+      ap (one_more (test x)) (last_that-take-same es a b (omega arith) (one_more-back (test x) (last_that test (take b es)) a within))
 
   pub last_that-take-all : (es : List Entry) (a : ℕ) → length es ≤ a → last_that test (take a es) ≡ last_that test es
   last_that-take-all [] zero le = refl
@@ -116,7 +121,8 @@ module _ (base : ℕ) (h : List Entry) (o : ℕ) where
   latest_at-end t le = ap (λ n. base + n) (last_that-take-all (writes_to o) h (t - base) (omega arith))
 
   pub latest_at-latest : (t : ℕ) → latest_at base h o t ≤ latest base h o
-  latest_at-latest t = let m = latest_at-mono t (t + (base + length h)) (omega arith) in let e = latest_at-end (t + (base + length h)) (omega arith) in omega arith
+  latest_at-latest t =
+      let m = latest_at-mono t (t + (base + length h)) (omega arith) in let e = latest_at-end (t + (base + length h)) (omega arith) in omega arith
 
   pub latest_at-whole : (t : ℕ) → latest base h o ≤ t → latest_at base h o t ≡ latest base h o
   latest_at-whole t le =
@@ -159,7 +165,13 @@ module _ (base : ℕ) (h : List Entry) (o : ℕ) where
       (λ up. let s = latest_at-same t (suc t) (omega arith) up in absurd (omega arith))
       (λ gt. omega arith) in
       let p = latest_at-entry (suc t) (omega arith) in
-      record { later = omega arith; entry = p.0; there = subst (λ (v : ℕ). IsEntry base h v p.0) here p.1; writes = p.2; none_between = subst (λ (v : ℕ). latest_at base h o v ≤ u) (let e : t ≡ suc t - 1 = omega arith in e) before }
+      record {
+        later = omega arith;
+        entry = p.0;
+        there = subst (λ (v : ℕ). IsEntry base h v p.0) here p.1;
+        writes = p.2;
+        none_between = subst (λ (v : ℕ). latest_at base h o v ≤ u) (let e : t ≡ suc t - 1 = omega arith in e) before;
+      }
 
   -- where the object is written after a time, there is the next write
   next_by : (u n : ℕ) → base ≤ u → u < latest_at base h o (u + n) → (next : ℕ) × IsNextWrite base h o u next
@@ -167,7 +179,11 @@ module _ (base : ℕ) (h : List Entry) (o : ℕ) where
   next_by u (suc n) low late =
       dite (dec_lt u (latest_at base h o (u + n)))
       (λ lt. next_by u n low lt)
-      (λ none. (suc (u + n), latest_at-new u (u + n) low (omega arith) (omega arith) (let e : u + suc n ≡ suc (u + n) = omega arith in subst (λ (t : ℕ). u < latest_at base h o t) e late)))
+      (λ none. (
+        suc (u + n),
+        latest_at-new u (u + n) low (omega arith) (omega arith)
+            (let e : u + suc n ≡ suc (u + n) = omega arith in subst (λ (t : ℕ). u < latest_at base h o t) e late),
+      ))
 
   pub next_write : (u : ℕ) → base ≤ u → u < latest base h o → (next : ℕ) × IsNextWrite base h o u next
   next_write u low late = let e = latest_at-end (u + (base + length h)) (omega arith) in next_by u (base + length h) low (omega arith)
@@ -176,16 +192,19 @@ module _ (base : ℕ) (h : List Entry) (o : ℕ) where
   next_write-le u next is = latest-reaches next is.entry is.there is.writes
 
   next_not_before : (u a b : ℕ) → IsNextWrite base h o u a → IsNextWrite base h o u b → a < b → ⊥
-  next_not_before u a b p q lt = let r = latest_at-reaches a (b - 1) p.entry p.there p.writes (omega arith) in let none = q.none_between in let later = p.later in omega arith
+  next_not_before u a b p q lt = let r = latest_at-reaches a (b - 1) p.entry p.there p.writes (omega arith) in let none = q.none_between in let later =
+      p.later in omega arith
 
   -- there is one next write at most
   pub next_write-once : (u a b : ℕ) → IsNextWrite base h o u a → IsNextWrite base h o u b → a ≡ b
   next_write-once u a b p q =
-      dite (dec_lt a b) (λ lt. absurd (next_not_before u a b p q lt)) (λ ge. dite (dec_lt b a) (λ lt. absurd (next_not_before u b a q p lt)) (λ le. omega arith))
+      dite (dec_lt a b) (λ lt. absurd (next_not_before u a b p q lt))
+      (λ ge. dite (dec_lt b a) (λ lt. absurd (next_not_before u b a q p lt)) (λ le. omega arith))
 
   -- a write is the last one up to just before the next
   pub latest_at-before : (t next : ℕ) (e : Entry) → IsEntry base h t e → writes_to o e ≡ true → IsNextWrite base h o t next → latest_at base h o (next - 1) ≡ t
-  latest_at-before t next e is writes k = let later = k.later in let low = latest_at-reaches t (next - 1) e is writes (omega arith) in let high = k.none_between in omega arith
+  latest_at-before t next e is writes k = let later = k.later in let low = latest_at-reaches t (next - 1) e is writes (omega arith) in let high =
+      k.none_between in omega arith
 
   -- an entry that writes the object is the next write after the last one before it
   pub next_write-of : (t : ℕ) (e : Entry) → IsEntry base h t e → writes_to o e ≡ true → IsNextWrite base h o (latest_at base h o (t - 1)) t

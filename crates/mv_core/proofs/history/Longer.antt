@@ -1,5 +1,7 @@
--- A history with one more entry, whose time is the next one: the last write of each object, the entries, the next writes and the states. Shared by the exchanges of CLOCK that make an entry.
-use Rattle.std.proofs.Common.{◌≡◌, ◌≢◌, ◌⊎◌, ℕ, ◌+◌, ◌-◌, ◌<◌, ◌≤◌, true, false, List, [], ◌∷◌, ◌++◌, length, refl, sym, ap, ◌∙◌, inl, inr, ⊎_elim, arith, eq-eqb, ne_eqb, length-append, Some}
+-- A history with one more entry, whose time is the next one: the last write of each object, the entries, the next writes and the
+-- states. Shared by the exchanges of CLOCK that make an entry.
+use Rattle.std.proofs.Common.{◌≡◌, ◌≢◌, ◌⊎◌, ℕ, ◌+◌, ◌-◌, ◌<◌, ◌≤◌, true, false, List, [], ◌∷◌, ◌++◌}
+use Rattle.std.proofs.Common.{length, refl, sym, ap, ◌∙◌, inl, inr, ⊎_elim, arith, eq-eqb, ne_eqb, length-append, Some}
 use Rattle.std.specs.Prelude.{slice_get}
 use Rattle.std.proofs.lemmas.List.{take-append-le}
 use Rattle.std.proofs.lemmas.Option.{slice_get_within}
@@ -38,7 +40,9 @@ module _ (base : ℕ) (h : List Entry) (e : Entry) where
   own-else s ne = ap (λ n. base + n) (last_that-skip (is_by s) h e (ne_eqb (maker_of e) s ne))
 
   front_at : (i : ℕ) → i < length h → slice_get longer i ≡ slice_get h i
-  front_at i lt = sym (slice_get-take (length h) longer i lt) ∙ ap (λ (l : List Entry). slice_get l i) (take-append-le (length h) h (e ∷ []) (omega arith)) ∙ slice_get-take (length h) h i lt
+  front_at i lt =
+      sym (slice_get-take (length h) longer i lt) ∙ ap (λ (l : List Entry). slice_get l i) (take-append-le (length h) h (e ∷ []) (omega arith))
+      ∙ slice_get-take (length h) h i lt
 
   -- its entries are those of before, and the new one
   pub entry-longer : (t : ℕ) (x : Entry) → IsEntry base h t x → IsEntry base longer t x
@@ -64,15 +68,28 @@ module _ (base : ℕ) (h : List Entry) (e : Entry) where
   next_write-longer o t next is =
       let within = entry-within base h o next is.entry is.there in
       let none = is.none_between in
-      record { later = is.later; entry = is.entry; there = entry-longer next is.entry is.there; writes = is.writes; none_between = omega (arith, latest_at-longer o (next - 1) (let le = within.1 in omega arith)) }
+      record {
+        later = is.later;
+        entry = is.entry;
+        there = entry-longer next is.entry is.there;
+        writes = is.writes;
+        none_between = omega (arith, latest_at-longer o (next - 1) (let le = within.1 in omega arith));
+      }
 
-  pub next_write-was : (o t next : ℕ) → IsNextWrite base longer o t next → IsNextWrite base h o t next ⊎ ((next ≡ new_time) × (writes_to o e ≡ true) × (latest base h o ≤ t))
+  pub next_write-was : (o t next : ℕ) → IsNextWrite base longer o t next
+      → IsNextWrite base h o t next ⊎ ((next ≡ new_time) × (writes_to o e ≡ true) × (latest base h o ≤ t))
   next_write-was o t next is =
       let none = is.none_between in
       ⊎_elim
       (λ old.
       let within = entry-within base h o next is.entry old in
-      inl (record { later = is.later; entry = is.entry; there = old; writes = is.writes; none_between = omega (arith, latest_at-longer o (next - 1) (let le = within.1 in omega arith)) }))
+      inl (record {
+        later = is.later;
+        entry = is.entry;
+        there = old;
+        writes = is.writes;
+        none_between = omega (arith, latest_at-longer o (next - 1) (let le = within.1 in omega arith));
+      }))
       (λ new.
       let time = new.0 in
       let end : latest_at base longer o (next - 1) ≡ latest base h o =
@@ -90,5 +107,6 @@ module _ (base : ℕ) (h : List Entry) (e : Entry) where
       omega arith
 
 -- up to the end of the history before the words of the objects are as they were
-pub words_of-longer : (c : Config) (start : State) (h : List Entry) (e : Entry) (t o : ℕ) → t ≤ c.base + length h → words_of c start (h ++ e ∷ []) t o ≡ words_of c start h t o
+pub words_of-longer : (c : Config) (start : State) (h : List Entry) (e : Entry) (t o : ℕ) → t ≤ c.base + length h
+    → words_of c start (h ++ e ∷ []) t o ≡ words_of c start h t o
 words_of-longer c start h e t o le = words_seen c start (h ++ e ∷ []) h t o (e ∷ [], refl) le

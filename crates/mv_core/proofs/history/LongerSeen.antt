@@ -1,5 +1,6 @@
 -- A seat that sees more of the history: its own commits and rests are in what it had seen.
-use Rattle.std.proofs.Common.{◌≡◌, ℕ, ◌+◌, eqb, if◌then◌else◌, List, [], ◌∷◌, ◌++◌, length, sym, refl, ap, ◌∙◌, subst, inl, inr, ⊎_elim, arith, append_assoc, append-nil, length-append}
+use Rattle.std.proofs.Common.{◌≡◌, ℕ, ◌+◌, eqb, if◌then◌else◌, List, [], ◌∷◌, ◌++◌, length, sym, refl, ap, ◌∙◌}
+use Rattle.std.proofs.Common.{subst, inl, inr, ⊎_elim, arith, append_assoc, append-nil, length-append}
 use Rattle.std.proofs.lemmas.List.{append_cancel_left}
 use Rattle.mv_core.proofs.Terms.{dite, ℕ_discrete, Entry, Rest, Change, State, Writes, commits_of, rests_of, Config, Past, set_at}
 use Rattle.mv_history.proofs.Writing.{commits_of-append}
@@ -8,7 +9,9 @@ use Rattle.mv_core.proofs.frames.FrameLaw.{set_at_here, set_at_else, set_at_all}
 
 pub rests_of-append : (seat : ℕ) (xs ys : List Entry) → rests_of seat (xs ++ ys) ≡ rests_of seat xs + rests_of seat ys
 rests_of-append seat [] ys = omega arith
-rests_of-append seat (Rest by ∷ es) ys = let e = rests_of-append seat es ys in let b : ℕ = if eqb by seat then 1 else 0 in let f : b + rests_of seat (es ++ ys) ≡ b + rests_of seat es + rests_of seat ys = omega arith in f
+rests_of-append seat (Rest by ∷ es) ys =
+    let e = rests_of-append seat es ys in let b : ℕ =
+    if eqb by seat then 1 else 0 in let f : b + rests_of seat (es ++ ys) ≡ b + rests_of seat es + rests_of seat ys = omega arith in f
 rests_of-append seat (Change c ∷ es) ys = rests_of-append seat es ys
 
 nothing_before : {A : Type 0} (xs ys : List A) → xs ++ ys ≡ [] → xs ≡ []
@@ -36,7 +39,8 @@ module _ (h : List Entry) (s : ℕ) (p : Past) (k : KnowsPast h s p) (seen : Lis
   none_more =
       let mine : commits_of s p.seen ++ [] ≡ commits_of s p.seen ++ commits_of s (more.0 ++ whole.0) =
       append-nil (commits_of s p.seen) ∙ sym k.seen_mine ∙ k.mine ∙ ap (commits_of s) all_is ∙ commits_of-append s p.seen (more.0 ++ whole.0) in
-      nothing_before (commits_of s more.0) (commits_of s whole.0) (sym (commits_of-append s more.0 whole.0) ∙ sym (append_cancel_left (commits_of s p.seen) [] (commits_of s (more.0 ++ whole.0)) mine))
+      nothing_before (commits_of s more.0) (commits_of s whole.0)
+      (sym (commits_of-append s more.0 whole.0) ∙ sym (append_cancel_left (commits_of s p.seen) [] (commits_of s (more.0 ++ whole.0)) mine))
 
   pub knows_more : KnowsPast h s (record p { seen = seen })
   knows_more =
@@ -47,13 +51,17 @@ module _ (h : List Entry) (s : ℕ) (p : Past) (k : KnowsPast h s p) (seen : Lis
       let was = k.seen_rests in
       record {
         seen = whole;
-        seen_mine = k.seen_mine ∙ sym (ap (commits_of s) more.1 ∙ commits_of-append s p.seen more.0 ∙ ap (λ l. commits_of s p.seen ++ l) none_more ∙ append-nil (commits_of s p.seen));
+        seen_mine = k.seen_mine
+            ∙ sym (ap (commits_of s) more.1 ∙ commits_of-append s p.seen more.0 ∙ ap (λ l. commits_of s p.seen ++ l) none_more
+            ∙ append-nil (commits_of s p.seen));
         seen_rests = omega arith;
         mine = k.mine;
         rests = k.rests;
       }
 
-module _ (starts : State → Type 0) (allows : List ℕ → State → Writes → Type 0) (c : Config) (start : State) (clock : ℕ) (h : List Entry) (past : ℕ → Past) (n : ℕ) (p : Past) (is : past n ≡ p) (k : History starts allows c start clock h past) (seen : List Entry) (whole : BeginsWith h seen) (more : BeginsWith seen p.seen) where
+module _ (starts : State → Type 0) (allows : List ℕ → State → Writes → Type 0) (c : Config) (start : State) (clock : ℕ) (h : List Entry) (past : ℕ → Past)
+    (n : ℕ) (p : Past) (is : past n ≡ p) (k : History starts allows c start clock h past) (seen : List Entry) (whole : BeginsWith h seen)
+    (more : BeginsWith seen p.seen) where
   -- all that is said of the history holds still
   pub sees_more : History starts allows c start clock h (set_at past n (record p { seen = seen }))
   sees_more =
@@ -75,7 +83,8 @@ module _ (starts : State → Type 0) (allows : List ℕ → State → Writes →
               dite (ℕ_discrete all.0 n)
                   (λ e.
                   let seen_all : p.seen ≡ h = ap (λ (q : Past). q.seen) (sym is ∙ ap past (sym e)) ∙ all.1 in
-                  ap (λ (q : Past). q.seen) (ap (set_at past n new) e ∙ set_at_here past n new) ∙ begins_both h seen whole (subst (BeginsWith seen) seen_all more))
+                  ap (λ (q : Past). q.seen) (ap (set_at past n new) e ∙ set_at_here past n new)
+                  ∙ begins_both h seen whole (subst (BeginsWith seen) seen_all more))
                   (λ ne. ap (λ (q : Past). q.seen) (set_at_else past n new all.0 ne) ∙ all.1),
             ))
             k.whole;

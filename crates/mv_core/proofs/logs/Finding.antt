@@ -15,7 +15,8 @@ find_below P known zero = inr (λ i lt p. omega arith)
 find_below P known (suc n) =
     ⊎_elim
     (λ found. inl found)
-    (λ none. ⊎_elim (λ p. inl (n, p)) (λ not_here. inr (λ i lt p. dite (ℕ_discrete i n) (λ e. not_here (subst P e p)) (λ ne. none i (omega arith) p))) (known n))
+    (λ none. ⊎_elim (λ p. inl (n, p)) (λ not_here. inr (λ i lt p. dite (ℕ_discrete i n) (λ e. not_here (subst P e p)) (λ ne. none i (omega arith) p)))
+    (known n))
     (find_below P known n)
 
 -- there is a version in the slot of which it holds
@@ -28,13 +29,16 @@ in_slot Q known (Built b) = inr (λ p. let e = p.2 in cc)
 in_slot Q known (Freeing p f) = inr (λ p. let e = p.2 in cc)
 in_slot Q known (Live x st) =
     ⊎_elim (λ q. inl (x, st, refl, q))
-    (λ none. inr (λ p. let one = live_once (Live x st) x p.0 st p.1 refl p.2 in none (subst (λ y. Q y st) (sym one.0) (subst (λ su. Q p.0 su) (sym one.1) p.3))))
+    (λ none. inr
+    (λ p. let one = live_once (Live x st) x p.0 st p.1 refl p.2 in none (subst (λ y. Q y st) (sym one.0) (subst (λ su. Q p.0 su) (sym one.1) p.3))))
     (known x st)
 
-module _ (c : Config) (h : List Entry) (rings : ℕ → Ring) (checked : Checked c) (in_time : c.base + length h ≤ 35184372088831) (positions : Positions c h rings) where
+module _ (c : Config) (h : List Entry) (rings : ℕ → Ring) (checked : Checked c) (in_time : c.base + length h ≤ 35184372088831)
+    (positions : Positions c h rings) where
   -- a live version of which it holds, or there is none
   pub find_version : (Q : ℕ → Version → Status → Type 0) → ((s : ℕ) (x : Version) (st : Status) → HoldsOrNot (Q s x st))
-      → ((s k : ℕ) × (x : Version) × (st : Status) × Lives rings s k x st × Q s x st) ⊎ ((s k : ℕ) (x : Version) (st : Status) → Lives rings s k x st → Q s x st → ⊥)
+      → ((s k : ℕ) × (x : Version) × (st : Status) × Lives rings s k x st × Q s x st)
+      ⊎ ((s k : ℕ) (x : Version) (st : Status) → Lives rings s k x st → Q s x st → ⊥)
   find_version Q known =
       let of_seat : (s : ℕ) → HoldsOrNot ((k : ℕ) × IsThere (Q s) (slot_at (rings s) k)) =
       λ s. ⊎_elim (λ found. inl found)
@@ -71,7 +75,8 @@ module _ (c : Config) (h : List Entry) (rings : ℕ → Ring) (checked : Checked
       (λ ne. inr (λ p. ne p.2))
 
   -- the version of the object's write at this time, or it isn't live
-  pub find_write : (o t : ℕ) → ((link : ℕ) × (x : Version) × (note : CommitNote) × IsVersion rings o t link x note) ⊎ ((link : ℕ) (x : Version) (note : CommitNote) → ¬ (IsVersion rings o t link x note))
+  pub find_write : (o t : ℕ) → ((link : ℕ) × (x : Version) × (note : CommitNote) × IsVersion rings o t link x note)
+      ⊎ ((link : ℕ) (x : Version) (note : CommitNote) → ¬ (IsVersion rings o t link x note))
   unfolding IsWriteOf
   find_write o t =
       ⊎_elim

@@ -1,5 +1,7 @@
--- The versions that an open section holds: those of the last positions, from the first one of its write set on. So their number is known, and which writes they are.
-use Rattle.std.proofs.Common.{◌≡◌, ◌≢◌, ℕ, zero, suc, ◌+◌, ◌-◌, ◌*◌, ◌/◌, ◌%◌, ◌<◌, ◌≤◌, Bool, true, cond, count_by, List, [], ◌∷◌, length, refl, sym, ap, ◌∙◌, subst, arith, mul-le-mul, mod-lt, set, Option, Some}
+-- The versions that an open section holds: those of the last positions, from the first one of its write set on. So their number
+-- is known, and which writes they are.
+use Rattle.std.proofs.Common.{◌≡◌, ◌≢◌, ℕ, zero, suc, ◌+◌, ◌-◌, ◌*◌, ◌/◌, ◌%◌, ◌<◌, ◌≤◌, Bool, true, cond}
+use Rattle.std.proofs.Common.{count_by, List, [], ◌∷◌, length, refl, sym, ap, ◌∙◌, subst, arith, mul-le-mul, mod-lt, set, Option, Some}
 use Rattle.std.specs.Prelude.{slice_get, slice_index_or}
 use Rattle.std.proofs.Math.Nat.{div-add-mod}
 use Rattle.std.proofs.lemmas.List.{get_or-set_other, get_or-set_same, length-set}
@@ -18,7 +20,8 @@ slots_apart n p q lt near e =
     let b = div-add-mod q n in
     dite (dec_le (q / n) (p / n))
     (λ le. let m : n * (q / n) ≤ n * (p / n) = mul-le-mul (let r : n ≤ n = omega arith in r) le in omega arith)
-    (λ gt. let m : n * (p / n + 1) ≤ n * (q / n) = mul-le-mul (let r : n ≤ n = omega arith in r) (let le : p / n + 1 ≤ q / n = omega arith in le) in omega arith)
+    (λ gt. let m : n * (p / n + 1) ≤ n * (q / n) = mul-le-mul (let r : n ≤ n = omega arith in r) (let le : p / n + 1 ≤ q / n = omega arith in le) in
+    omega arith)
 
 -- a slot that counts as held is held
 held_slot : (slot : Slot) → is_held slot ≡ true → (x : Version) × (slot ≡ Live x Held)
@@ -56,7 +59,9 @@ count_held n (suc d) first slots wide some le all only =
     let apart = slots_apart n first p lo (omega arith) in
     ap is_held (get_or-set_other slots k (p % n) Free Free (λ e. apart (sym e))) ∙ all p (omega arith) (omega arith))
     (λ j held.
-    let ne : j ≢ k = λ e. let none : is_held Free ≡ true = sym (ap is_held (ap (λ i. slice_index_or fewer i Free) e ∙ get_or-set_same slots k Free Free within)) ∙ held in cc in
+    let ne : j ≢ k =
+    λ e. let none : is_held Free ≡ true =
+    sym (ap is_held (ap (λ i. slice_index_or fewer i Free) e ∙ get_or-set_same slots k Free Free within)) ∙ held in cc in
     let r = only j (sym (ap is_held (get_or-set_other slots k j Free Free ne)) ∙ held) in
     let other : r.0 ≢ first = λ e. ne (sym r.3 ∙ ap (λ p. p % n) e) in
     let lo = r.1 in
@@ -76,7 +81,8 @@ pub record HeldSet (c : Config) (rings : ℕ → Ring) (s : ℕ) : Type 0 where
   pub at : (p : ℕ) → first ≤ p → p < (rings s).next → (x : Version) × Lives rings s (index_of c p) x Held × (x.position ≡ p) × (x.first ≡ first)
   pub all : (k : ℕ) (x : Version) → Lives rings s k x Held → (x.first ≡ first) × (first ≤ x.position) × (x.position < (rings s).next)
 
-pub held_set : (c : Config) (h : List Entry) (section : ℕ → Option Section) (rings : ℕ → Ring) (s : ℕ) (inside : Section) → Checked c → Positions c h rings → WriteSets c h rings → OpenSection c h section rings → section s ≡ Some inside → inside.mode ≡ Open → 0 < held_count (rings s) → HeldSet c rings s
+pub held_set : (c : Config) (h : List Entry) (section : ℕ → Option Section) (rings : ℕ → Ring) (s : ℕ) (inside : Section) → Checked c → Positions c h rings
+    → WriteSets c h rings → OpenSection c h section rings → section s ≡ Some inside → inside.mode ≡ Open → 0 < held_count (rings s) → HeldSet c rings s
 held_set c h section rings s inside checked positions sets sections there opens some =
     let r : Ring = rings s in
     let one = some_held r.slots some in
@@ -112,7 +118,8 @@ held_set c h section rings s inside checked positions sets sections there opens 
 pub writes_at : (c : Config) (r : Ring) (p n i : ℕ) → i < n → slice_get (writes_from c r p n) i ≡ Some (write_of (slot_at r (index_of c (p + i))))
 writes_at c r p zero i lt = absurd (omega arith)
 writes_at c r p (suc n) zero lt = ap (λ q. Some (write_of (slot_at r (index_of c q)))) (let e : p ≡ p + 0 = omega arith in e)
-writes_at c r p (suc n) (suc i) lt = writes_at c r (p + 1) n i (omega arith) ∙ ap (λ q. Some (write_of (slot_at r (index_of c q)))) (let e : p + 1 + i ≡ p + suc i = omega arith in e)
+writes_at c r p (suc n) (suc i) lt =
+    writes_at c r (p + 1) n i (omega arith) ∙ ap (λ q. Some (write_of (slot_at r (index_of c q)))) (let e : p + 1 + i ≡ p + suc i = omega arith in e)
 
 pub writes_length : (c : Config) (r : Ring) (p n : ℕ) → length (writes_from c r p n) ≡ n
 writes_length c r p zero = refl
@@ -126,7 +133,8 @@ module _ (c : Config) (rings : ℕ → Ring) (s : ℕ) (set_is : HeldSet c rings
   own_length = writes_length c (rings s) (set_first (rings s)) (held_count (rings s)) ∙ set_is.count_is
 
   -- what is written at a place
-  pub own_at : (i : ℕ) → i < (rings s).next - set_is.first → (x : Version) × Lives rings s (index_of c (set_is.first + i)) x Held × (x.position ≡ set_is.first + i) × (x.first ≡ set_is.first) × (slice_get own i ≡ Some (x.object, x.words))
+  pub own_at : (i : ℕ) → i < (rings s).next - set_is.first → (x : Version) × Lives rings s (index_of c (set_is.first + i)) x Held
+      × (x.position ≡ set_is.first + i) × (x.first ≡ set_is.first) × (slice_get own i ≡ Some (x.object, x.words))
   own_at i lt =
       let count = set_is.count_is in
       let a = set_is.at (set_is.first + i) (omega arith) (omega arith) in
@@ -134,7 +142,8 @@ module _ (c : Config) (rings : ℕ → Ring) (s : ℕ) (set_is : HeldSet c rings
       (a.0, a.1, a.2, a.3, w ∙ ap (λ p. Some (write_of (slot_at (rings s) (index_of c (p + i))))) set_is.first_is ∙ ap (λ slot. Some (write_of slot)) a.1)
 
   -- the write of a held version
-  pub own_write : (k : ℕ) (x : Version) → Lives rings s k x Held → (at : index_of c x.position ≡ k) → slice_get own (x.position - set_is.first) ≡ Some (x.object, x.words)
+  pub own_write : (k : ℕ) (x : Version) → Lives rings s k x Held → (at : index_of c x.position ≡ k)
+      → slice_get own (x.position - set_is.first) ≡ Some (x.object, x.words)
   own_write k x lives at =
       let a = set_is.all k x lives in
       let lo = a.1 in
@@ -142,7 +151,8 @@ module _ (c : Config) (rings : ℕ → Ring) (s : ℕ) (set_is : HeldSet c rings
       let w = writes_at c (rings s) (set_first (rings s)) (held_count (rings s)) (x.position - set_is.first) (let count = set_is.count_is in omega arith) in
       let first_is = set_is.first_is in
       let place : set_first (rings s) + (x.position - set_is.first) ≡ x.position = omega arith in
-      w ∙ ap (λ p. Some (write_of (slot_at (rings s) (index_of c p)))) place ∙ ap (λ j. Some (write_of (slot_at (rings s) j))) at ∙ ap (λ slot. Some (write_of slot)) lives
+      w ∙ ap (λ p. Some (write_of (slot_at (rings s) (index_of c p)))) place ∙ ap (λ j. Some (write_of (slot_at (rings s) j))) at
+      ∙ ap (λ slot. Some (write_of slot)) lives
 
   -- an object is written where it is held
   pub own_touches : (k : ℕ) (x : Version) → Lives rings s k x Held → index_of c x.position ≡ k → touches own x.object ≡ true

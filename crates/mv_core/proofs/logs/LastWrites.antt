@@ -1,4 +1,6 @@
--- An uncut committed version that is its object's last write up to the time of its seat's section, where the seat's watermark has reached it: no section reads the object's master, and the object's later writes hang from it. Shared by the steps of a write-back.
+-- An uncut committed version that is its object's last write up to the time of its seat's section, where the seat's watermark has
+-- reached it: no section reads the object's master, and the object's later writes hang from it. Shared by the steps of a
+-- write-back.
 use Rattle.std.proofs.Common.{◌≡◌, ◌≢◌, ℕ, ◌+◌, ◌-◌, ◌<◌, ◌≤◌, length, true, false, List, refl, sym, ap, ◌∙◌, subst, ⊎_elim, arith, Some}
 use Rattle.mv_core.proofs.Terms.{dite, dec_le, Entry, State, Writes, maker_of, Config, link_of, Memory, Version, Status, Committed, CommitNote}
 use Rattle.mv_core.proofs.Terms.{WriteBack, Section, Lives, Names, IsVersion, NoneUncut, writes_to, latest, latest_at, IsEntry, NotAboveAny}
@@ -18,7 +20,8 @@ pub record IsLastWrite (c : Config) (h : List Entry) (f : ViewParts) (n slot t :
   pub known : note.time ≤ f.grace n
   pub last : latest_at c.base h x.object t ≡ note.time
 
-module _ {starts : State → Type 0} {allows : List ℕ → State → Writes → Type 0} {c : Config} {start : State} {m : Memory} {h : List Entry} {f : ViewParts} (k : Facts starts allows c start m h f)
+module _ {starts : State → Type 0} {allows : List ℕ → State → Writes → Type 0} {c : Config} {start : State} {m : Memory} {h : List Entry} {f : ViewParts}
+    (k : Facts starts allows c start m h f)
     (n slot t : ℕ) (x : Version) (note : CommitNote) (last : IsLastWrite c h f n slot t x note) where
   -- its time isn't above any section's
   pub is_old : NotAboveAny note.time f.time
@@ -75,7 +78,8 @@ module _ {starts : State → Type 0} {allows : List ℕ → State → Writes →
       some_uncut n t last.timed (subst (NoneUncut f.ring x.object) (sym at) none)
 
   -- a version of the object at the foot of its chain isn't later than any section
-  pub foot_is_old : (s j : ℕ) (y : Version) (o : CommitNote) → Lives f.ring s j y (Committed o) → y.object ≡ x.object → ((z : Version) (st : Status) → ¬ (Names f.ring y.previous z st)) → NotAboveAny o.time f.time
+  pub foot_is_old : (s j : ℕ) (y : Version) (o : CommitNote) → Lives f.ring s j y (Committed o) → y.object ≡ x.object
+      → ((z : Version) (st : Status) → ¬ (Names f.ring y.previous z st)) → NotAboveAny o.time f.time
   foot_is_old s j y o lives same nothing =
       ⊎_elim (λ a. a)
       (λ g.
@@ -89,13 +93,15 @@ module _ {starts : State → Type 0} {allows : List ℕ → State → Writes →
       let e = latest_at-entry c.base h x.object (o.time - 1) (omega arith) in
       let high = not_later b e.0 e.1 e.2 old in
       let is : note.time ≡ b = omega arith in
-      let v : IsVersion f.ring y.object (latest_at c.base h y.object (o.time - 1)) (link_of n x.position) x note = subst (λ (p : ℕ). IsVersion f.ring p (latest_at c.base h p (o.time - 1)) (link_of n x.position) x note) (sym same) (here b is) in
+      let v : IsVersion f.ring y.object (latest_at c.base h y.object (o.time - 1)) (link_of n x.position) x note =
+      subst (λ (p : ℕ). IsVersion f.ring p (latest_at c.base h p (o.time - 1)) (link_of n x.position) x note) (sym same) (here b is) in
       let link = (k.commit_link s j y o lives).uncut (link_of n x.position) x note v last.uncut in
       absurd (nothing x (Committed note) (record { seat = n; slot = slot; lives = last.lives; is = link }))))
       (k.chain_foot s j y o lives nothing)
 
   -- no other seat writes the object back
-  pub none_else : (s : ℕ) (b : WriteBack) → f.back s ≡ Some b → ((i : Section) → f.section s ≡ Some i → f.time s ≡ Some (time_in i)) → s ≢ n → b.object ≢ x.object
+  pub none_else : (s : ℕ) (b : WriteBack) → f.back s ≡ Some b → ((i : Section) → f.section s ≡ Some i → f.time s ≡ Some (time_in i)) → s ≢ n
+      → b.object ≢ x.object
   none_else s b e timed ne same =
       let r = k.write_back s b e in
       let w = r.2 in
@@ -109,4 +115,5 @@ module _ {starts : State → Type 0} {allows : List ℕ → State → Writes →
       let wrote = version_writes c h f.ring k.write_sets s _ w.version w.note w.lives in
       let high = not_later w.note.time wrote.0 wrote.1 (ap (λ (p : ℕ). writes_to p wrote.0) (sym object) ∙ wrote.2) mine in
       let is : w.note.time ≡ note.time = omega arith in
-      ne (write_once c start h f.ring k.checked k.history.in_time k.history.legal k.positions k.write_sets s n _ slot w.version x w.note note w.lives last.lives object is).0
+      ne (write_once c start h f.ring k.checked k.history.in_time k.history.legal k.positions k.write_sets s n _ slot w.version x w.note note w.lives
+      last.lives object is).0

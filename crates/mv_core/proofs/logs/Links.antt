@@ -25,7 +25,8 @@ names_some rings link x st n e = link_some n.seat x.position (sym n.is ∙ e)
 pub none_names_zero : (rings : ℕ → Ring) (link : ℕ) → link ≡ 0 → (x : Version) (st : Status) → ¬ (Names rings link x st)
 none_names_zero rings link e x st n = names_some rings link x st n e
 
-module _ (c : Config) (h : List Entry) (rings : ℕ → Ring) (checked : Checked c) (in_time : c.base + length h ≤ 35184372088831) (positions : Positions c h rings) where
+module _ (c : Config) (h : List Entry) (rings : ℕ → Ring) (checked : Checked c) (in_time : c.base + length h ≤ 35184372088831)
+    (positions : Positions c h rings) where
   -- positions fit a link
   pub next_small : (s : ℕ) → (rings s).next ≤ 2 ^ 57
   next_small s =
@@ -43,24 +44,30 @@ module _ (c : Config) (h : List Entry) (rings : ℕ → Ring) (checked : Checked
       (sym (link_seat_back s p a) ∙ ap link_seat_of e ∙ link_seat_back t q b, sym (link_position_back s p a) ∙ ap link_position_of e ∙ link_position_back t q b)
 
   -- two versions of one position of a seat are one
-  pub position_once : (s k l : ℕ) (x y : Version) (st su : Status) → Lives rings s k x st → Lives rings s l y su → x.position ≡ y.position → (k ≡ l) × (x ≡ y) × (st ≡ su)
+  pub position_once : (s k l : ℕ) (x y : Version) (st su : Status) → Lives rings s k x st → Lives rings s l y su → x.position ≡ y.position
+      → (k ≡ l) × (x ≡ y) × (st ≡ su)
   position_once s k l x y st su a b e =
       let slot : k ≡ l = sym (positions.live s k x st a).0 ∙ ap (index_of c) e ∙ (positions.live s l y su b).0 in
       let one = live_once (slot_at (rings s) l) x y st su (subst (λ i. Lives rings s i x st) slot a) b in
       (slot, one.0, one.1)
 
   -- a link names one version at most
-  pub names_once : (link : ℕ) (x y : Version) (st su : Status) → (a : Names rings link x st) → (b : Names rings link y su) → (a.seat ≡ b.seat) × (a.slot ≡ b.slot) × (x ≡ y) × (st ≡ su)
+  pub names_once : (link : ℕ) (x y : Version) (st su : Status) → (a : Names rings link x st) → (b : Names rings link y su)
+      → (a.seat ≡ b.seat) × (a.slot ≡ b.slot) × (x ≡ y) × (st ≡ su)
   names_once link x y st su a b =
-      let one = link_once a.seat b.seat x.position y.position (position_small a.seat a.slot x st a.lives) (position_small b.seat b.slot y su b.lives) (sym a.is ∙ b.is) in
+      let one = link_once a.seat b.seat x.position y.position (position_small a.seat a.slot x st a.lives) (position_small b.seat b.slot y su b.lives)
+      (sym a.is ∙ b.is) in
       let rest = position_once b.seat a.slot b.slot x y st su (subst (λ s. Lives rings s a.slot x st) one.0 a.lives) b.lives one.1 in
       (one.0, rest.0, rest.1, rest.2)
 
   -- the seat and the slot of a link that names a version are those of it
   pub names_place : (link : ℕ) (x : Version) (st : Status) → (n : Names rings link x st) → (link_seat_of link ≡ n.seat) × (slot_named c link ≡ n.slot)
   names_place link x st n =
-      let small = position_small n.seat n.slot x st n.lives in
-      (ap link_seat_of n.is ∙ link_seat_back n.seat x.position small, ap (λ l. index_of c (link_position_of l)) n.is ∙ ap (index_of c) (link_position_back n.seat x.position small) ∙ (positions.live n.seat n.slot x st n.lives).0)
+      let small = position_small n.seat n.slot x st n.lives in (
+        ap link_seat_of n.is ∙ link_seat_back n.seat x.position small,
+        ap (λ l. index_of c (link_position_of l)) n.is
+            ∙ ap (index_of c) (link_position_back n.seat x.position small) ∙ (positions.live n.seat n.slot x st n.lives).0,
+      )
 
   -- it is a packed link to a seat of the domain
   pub names_link : (link : ℕ) (x : Version) (st : Status) → Names rings link x st → IsLink link × (link_seat_of link < c.seats)

@@ -1,4 +1,5 @@
--- A version of the own log on top of a chain: what the view has of it, that no other one of its object is as late, and that a lost exchange of a lock found none.
+-- A version of the own log on top of a chain: what the view has of it, that no other one of its object is as late, and that a
+-- lost exchange of a lock found none.
 use Rattle.std.proofs.Common.{◌≡◌, ◌≢◌, ℕ, ◌+◌, ◌-◌, ◌<◌, ◌≤◌, true, refl, sym, ap, ◌∙◌, subst, ⊎_elim, inl, inr, eq-eqb, arith, List, length, take}
 use Rattle.std.proofs.Math.Seq.{take-append_seam}
 use Rattle.mv_core.proofs.Terms.{dite, ℕ_discrete, Entry, Change, State, Writes, Config, Head, link_of, link_seat_of, Memory, Ring, Live, Build}
@@ -19,26 +20,30 @@ use Rattle.mv_core.proofs.logs.Written.{version_writes}
 -- the last write of what was seen isn't later than that of the whole history
 latest-seen : (base : ℕ) (h seen : List Entry) (o : ℕ) → BeginsWith h seen → latest base seen o ≤ latest base h o
 latest-seen base h seen o begins =
-    let front : last_that (writes_to o) (take (length seen) h) ≡ last_that (writes_to o) seen = ap (last_that (writes_to o)) (ap (take (length seen)) begins.1 ∙ take-append_seam seen begins.0) in
+    let front : last_that (writes_to o) (take (length seen) h) ≡ last_that (writes_to o) seen =
+    ap (last_that (writes_to o)) (ap (take (length seen)) begins.1 ∙ take-append_seam seen begins.0) in
     let less = last_that-take-mono (writes_to o) h (length seen) (length seen + length h) (omega arith) in
     let all = last_that-take-all (writes_to o) h (length seen + length h) (omega arith) in
     omega arith
 
-module _ {starts : State → Type 0} {allows : List ℕ → State → Writes → Type 0} {c : Config} {start : State} {m : Memory} {h : List Entry} (seats : ℕ → View) (k : Facts starts allows c start m h (parts_of seats)) (v : View) (is : seats v.number ≡ v) where
+module _ {starts : State → Type 0} {allows : List ℕ → State → Writes → Type 0} {c : Config} {start : State} {m : Memory} {h : List Entry} (seats : ℕ → View)
+    (k : Facts starts allows c start m h (parts_of seats)) (v : View) (is : seats v.number ≡ v) where
   abbrev rings : ℕ → Ring
   rings s = (seats s).ring
 
   -- what an own link names is in the own view
   own_slot : (link : ℕ) (x : Version) (st : Status) → link_seat_of link ≡ v.number → Names rings link x st → slot_at v.ring (slot_named c link) ≡ Live x st
   own_slot link x st seat names =
-      ap (λ (u : View). slot_at u.ring (slot_named c link)) (sym is) ∙ ap (λ (s : ℕ). slot_at (rings s) (slot_named c link)) (sym seat) ∙ lives_named seats k link x st names
+      ap (λ (u : View). slot_at u.ring (slot_named c link)) (sym is) ∙ ap (λ (s : ℕ). slot_at (rings s) (slot_named c link)) (sym seat)
+      ∙ lives_named seats k link x st names
 
   -- what HEAD tells of the own log
   pub own_top : (object : ℕ) → IsOwnTop c v object (m (Head object))
   own_top object some seat =
       ⊎_elim
       (λ a.
-      let names : Names rings (m (Head object)) a.2 Held = record { seat = a.0; slot = a.1; lives = a.3; is = ap (λ (o : ℕ). m (Head o)) (sym a.4) ∙ k.head_is_top.held a.0 a.1 a.2 a.3 } in
+      let names : Names rings (m (Head object)) a.2 Held =
+      record { seat = a.0; slot = a.1; lives = a.3; is = ap (λ (o : ℕ). m (Head o)) (sym a.4) ∙ k.head_is_top.held a.0 a.1 a.2 a.3 } in
       (a.2, Held, own_slot (m (Head object)) a.2 Held seat names, a.4, inl refl))
       (λ none.
       ⊎_elim
@@ -48,7 +53,8 @@ module _ {starts : State → Type 0} {allows : List ℕ → State → Writes →
       (find_holder c h rings k.checked k.history.in_time k.positions object)
 
   -- its link is of its position
-  link_of_named : (link : ℕ) (x y : Version) (st su : Status) → link_seat_of link ≡ v.number → Names rings link x st → slot_at v.ring (slot_named c link) ≡ Live y su → link ≡ link_of v.number y.position
+  link_of_named : (link : ℕ) (x y : Version) (st su : Status) → link_seat_of link ≡ v.number → Names rings link x st
+      → slot_at v.ring (slot_named c link) ≡ Live y su → link ≡ link_of v.number y.position
   link_of_named link x y st su seat names there =
       let of_seat = names_place c h rings k.checked k.history.in_time k.positions link x st names in
       let same = live_once (slot_at v.ring (slot_named c link)) x y st su (own_slot link x st seat names) there in
@@ -58,28 +64,33 @@ module _ {starts : State → Type 0} {allows : List ℕ → State → Writes →
   own_top_link object some seat y su there =
       ⊎_elim
       (λ a.
-      let names : Names rings (m (Head object)) a.2 Held = record { seat = a.0; slot = a.1; lives = a.3; is = ap (λ (o : ℕ). m (Head o)) (sym a.4) ∙ k.head_is_top.held a.0 a.1 a.2 a.3 } in
+      let names : Names rings (m (Head object)) a.2 Held =
+      record { seat = a.0; slot = a.1; lives = a.3; is = ap (λ (o : ℕ). m (Head o)) (sym a.4) ∙ k.head_is_top.held a.0 a.1 a.2 a.3 } in
       link_of_named (m (Head object)) a.2 y Held su seat names there)
-      (λ none. ⊎_elim (λ top. link_of_named (m (Head object)) top.0 y (Committed top.1) su seat top.2.names there) (λ z. absurd (some z.0)) (k.head_is_top.top object none))
+      (λ none. ⊎_elim (λ top. link_of_named (m (Head object)) top.0 y (Committed top.1) su seat top.2.names there) (λ z. absurd (some z.0))
+      (k.head_is_top.top object none))
       (find_holder c h rings k.checked k.history.in_time k.positions object)
 
   in_log : (j : ℕ) (y : Version) (st : Status) → slot_at v.ring j ≡ Live y st → Lives rings v.number j y st
   in_log j y st there = ap (λ (u : View). slot_at u.ring j) is ∙ there
 
   -- the version that HEAD names, where it is committed, is of the object's latest write
-  own_top_version : (object : ℕ) → m (Head object) ≢ 0 → link_seat_of (m (Head object)) ≡ v.number → (x : Version) (note : CommitNote) → slot_at v.ring (slot_named c (m (Head object))) ≡ Live x (Committed note)
+  own_top_version : (object : ℕ) → m (Head object) ≢ 0 → link_seat_of (m (Head object)) ≡ v.number → (x : Version) (note : CommitNote)
+      → slot_at v.ring (slot_named c (m (Head object))) ≡ Live x (Committed note)
       → IsVersion rings object (latest c.base h object) (m (Head object)) x note
   own_top_version object some seat x note here =
       let head : ℕ = m (Head object) in
       ⊎_elim
       (λ a.
-      let names : Names rings head a.2 Held = record { seat = a.0; slot = a.1; lives = a.3; is = ap (λ (o : ℕ). m (Head o)) (sym a.4) ∙ k.head_is_top.held a.0 a.1 a.2 a.3 } in
+      let names : Names rings head a.2 Held =
+      record { seat = a.0; slot = a.1; lives = a.3; is = ap (λ (o : ℕ). m (Head o)) (sym a.4) ∙ k.head_is_top.held a.0 a.1 a.2 a.3 } in
       let clash : Live x (Committed note) ≡ Live a.2 Held = sym here ∙ own_slot head a.2 Held seat names in
       absurd (cc))
       (λ none.
       ⊎_elim
       (λ top.
-      let one = live_once (slot_at v.ring (slot_named c head)) top.0 x (Committed top.1) (Committed note) (own_slot head top.0 (Committed top.1) seat top.2.names) here in
+      let one = live_once (slot_at v.ring (slot_named c head)) top.0 x (Committed top.1) (Committed note)
+      (own_slot head top.0 (Committed top.1) seat top.2.names) here in
       let same = note_once top.1 note one.1 in
       subst (λ (t : Version × CommitNote). IsVersion rings object (latest c.base h object) head t.0 t.1) (λ q. (one.0 q, same q)) top.2)
       (λ z. absurd (some z.0))
@@ -98,8 +109,10 @@ module _ {starts : State → Type 0} {allows : List ℕ → State → Writes →
       dite (ℕ_discrete other.time note.time)
       (λ e.
       let names = top.names in
-      let one = write_once c start h rings k.checked k.history.in_time k.history.legal k.positions k.write_sets v.number names.seat j names.slot y x other note lives names.lives (object_is ∙ sym top.object_is) e in
-      let place = position_once c h rings k.checked k.history.in_time k.positions v.number j (slot_named c head) y x (Committed other) (Committed note) lives (in_log (slot_named c head) x (Committed note) here) (ap (λ (z : Version). z.position) one.1) in
+      let one = write_once c start h rings k.checked k.history.in_time k.history.legal k.positions k.write_sets v.number names.seat j names.slot y x other
+      note lives names.lives (object_is ∙ sym top.object_is) e in
+      let place = position_once c h rings k.checked k.history.in_time k.positions v.number j (slot_named c head) y x (Committed other) (Committed note) lives
+      (in_log (slot_named c head) x (Committed note) here) (ap (λ (z : Version). z.position) one.1) in
       absurd (apart place.0))
       (λ ne. let r : other.time < note.time = omega arith in r)
 
@@ -120,11 +133,13 @@ module _ {starts : State → Type 0} {allows : List ℕ → State → Writes →
       omega arith
 
   -- the top that a lost exchange found is in another log
-  pub lost_other : (write_max object previous position : ℕ) (b : Build) (inside : Section) → MayLock c write_max v object previous position b inside → m (Head object) ≢ previous → m (Head object) ≢ 0 → link_seat_of (m (Head object)) ≢ v.number
+  pub lost_other : (write_max object previous position : ℕ) (b : Build) (inside : Section) → MayLock c write_max v object previous position b inside
+      → m (Head object) ≢ previous → m (Head object) ≢ 0 → link_seat_of (m (Head object)) ≢ v.number
   lost_other write_max object previous position b inside may lost some seat =
       ⊎_elim
       (λ a.
-      let names : Names rings (m (Head object)) a.2 Held = record { seat = a.0; slot = a.1; lives = a.3; is = ap (λ (o : ℕ). m (Head o)) (sym a.4) ∙ k.head_is_top.held a.0 a.1 a.2 a.3 } in
+      let names : Names rings (m (Head object)) a.2 Held =
+      record { seat = a.0; slot = a.1; lives = a.3; is = ap (λ (o : ℕ). m (Head o)) (sym a.4) ∙ k.head_is_top.held a.0 a.1 a.2 a.3 } in
       may.unheld (slot_named c (m (Head object))) a.2 (own_slot (m (Head object)) a.2 Held seat names) a.4)
       (λ none.
       ⊎_elim

@@ -17,7 +17,9 @@ of_parts clock grace mark head master first stamp prev super data_word (Data s k
 
 -- a memory by its parts
 abbrev pub parts_of : Memory → Memory
-parts_of m = of_parts (m Clock) (m Grace) (λ s. m (Mark s)) (λ o. m (Head o)) (λ o w. m (Master o w)) (λ s k. m (First s k)) (λ s k. m (Stamp s k)) (λ s k. m (Prev s k)) (λ s k. m (Super s k)) (λ s k w. m (Data s k w))
+parts_of m =
+    of_parts (m Clock) (m Grace) (λ s. m (Mark s)) (λ o. m (Head o)) (λ o w. m (Master o w)) (λ s k. m (First s k)) (λ s k. m (Stamp s k))
+    (λ s k. m (Prev s k)) (λ s k. m (Super s k)) (λ s k w. m (Data s k w))
 
 same_part : (m : Memory) (p : Place) → parts_of m p ≡ m p
 same_part m Clock = refl

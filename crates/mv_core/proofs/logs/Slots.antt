@@ -1,5 +1,8 @@
--- What is in the slots of the logs after one slot of one log was written, and after all slots of one log were mapped; and what of the live versions stays. Shared by the steps that change a log.
--- Such a step makes the logs `rings` into `set_at rings n r`. What becomes of each live version is said by a relation of versions with their status: `Matches` says that each version before is there afterwards, in that relation, and that each one afterwards was there before. `match_put`, `match_unlived` and `match_map` show it of a step.
+-- What is in the slots of the logs after one slot of one log was written, and after all slots of one log were mapped; and what of
+-- the live versions stays. Shared by the steps that change a log.
+-- Such a step makes the logs `rings` into `set_at rings n r`. What becomes of each live version is said by a relation of versions
+-- with their status: `Matches` says that each version before is there afterwards, in that relation, and that each one afterwards
+-- was there before. `match_put`, `match_unlived` and `match_map` show it of a step.
 use Rattle.std.proofs.Common.{◌≡◌, ◌≢◌, ◌⊎◌, ℕ, zero, suc, ◌<◌, List, [], ◌∷◌, length, map, refl, sym, ap, ◌∙◌, subst, inl, inr, arith}
 use Rattle.std.specs.Prelude.{slice_set}
 use Rattle.std.proofs.lemmas.List.{get_or-set_same, get_or-set_other, length-set, length-map}
@@ -39,7 +42,8 @@ here_or_else s n j k = dite (ℕ_discrete s n) (λ a. dite (ℕ_discrete j k) (�
 -- the slot k of the log n was written: all others are as they were
 module _ (rings : ℕ → Ring) (n k : ℕ) (x : Slot) (r : Ring) (written : r.slots ≡ slice_set (rings n).slots k x) (within : k < length (rings n).slots) where
   -- what holds of the new slot, and of each other as it was, holds of all
-  pub slots_after : (P : ℕ → ℕ → Slot → Type 0) → P n k x → ((s j : ℕ) → ¬ ((s ≡ n) × (j ≡ k)) → P s j (slot_at (rings s) j)) → (s j : ℕ) → P s j (slot_at (set_at rings n r s) j)
+  pub slots_after : (P : ℕ → ℕ → Slot → Type 0) → P n k x → ((s j : ℕ) → ¬ ((s ≡ n) × (j ≡ k)) → P s j (slot_at (rings s) j)) → (s j : ℕ)
+      → P s j (slot_at (set_at rings n r s) j)
   slots_after P here rest =
       set_at_all (λ s q. (j : ℕ) → P s j (slot_at q j)) rings n r
       (λ j.
@@ -58,8 +62,11 @@ module _ (rings : ℕ → Ring) (n k : ℕ) (x : Slot) (r : Ring) (written : r.s
   at_else s j ne = slots_after (λ t i y. ¬ ((t ≡ n) × (i ≡ k)) → y ≡ slot_at (rings t) i) (λ other. absurd (other (refl, refl))) (λ t i _ _. refl) s j ne
 
   -- a version afterwards is in the new slot, or was there before, in another one
-  pub lives_back : (s j : ℕ) (y : Version) (st : Status) → Lives (set_at rings n r) s j y st → ((s ≡ n) × (j ≡ k) × (x ≡ Live y st)) ⊎ ((¬ ((s ≡ n) × (j ≡ k))) × Lives rings s j y st)
-  lives_back = slots_after (λ s j z. (y : Version) (st : Status) → z ≡ Live y st → ((s ≡ n) × (j ≡ k) × (x ≡ Live y st)) ⊎ ((¬ ((s ≡ n) × (j ≡ k))) × Lives rings s j y st))
+  pub lives_back : (s j : ℕ) (y : Version) (st : Status) → Lives (set_at rings n r) s j y st
+      → ((s ≡ n) × (j ≡ k) × (x ≡ Live y st)) ⊎ ((¬ ((s ≡ n) × (j ≡ k))) × Lives rings s j y st)
+  lives_back =
+      slots_after (λ s j z. (y : Version) (st : Status) → z ≡ Live y st
+      → ((s ≡ n) × (j ≡ k) × (x ≡ Live y st)) ⊎ ((¬ ((s ≡ n) × (j ≡ k))) × Lives rings s j y st))
       (λ y st e. inl (refl, refl, e))
       (λ s j ne y st e. inr (ne, e))
 
@@ -81,14 +88,17 @@ module _ (rings : ℕ → Ring) (n : ℕ) (f : Slot → Slot) (free : f Free ≡
   mapped = set_at rings n (record (rings n) { slots = map f (rings n).slots })
 
   -- what holds of each new slot of the log, and of each slot of the others, holds of all
-  pub slots_mapped : (P : ℕ → ℕ → Slot → Type 0) → ((j : ℕ) → P n j (f (slot_at (rings n) j))) → ((s j : ℕ) → s ≢ n → P s j (slot_at (rings s) j)) → (s j : ℕ) → P s j (slot_at (mapped s) j)
+  pub slots_mapped : (P : ℕ → ℕ → Slot → Type 0) → ((j : ℕ) → P n j (f (slot_at (rings n) j))) → ((s j : ℕ) → s ≢ n → P s j (slot_at (rings s) j)) → (s j : ℕ)
+      → P s j (slot_at (mapped s) j)
   slots_mapped P here rest =
       set_at_all (λ s q. (j : ℕ) → P s j (slot_at q j)) rings n (record (rings n) { slots = map f (rings n).slots })
       (λ j. subst (P n j) (sym (slot_mapped f free (rings n) j)) (here j))
       (λ s ne j. rest s j ne)
 
   pub wide_mapped : (s : ℕ) → length (mapped s).slots ≡ length (rings s).slots
-  wide_mapped = set_at_all (λ s q. length q.slots ≡ length (rings s).slots) rings n (record (rings n) { slots = map f (rings n).slots }) (length-map (rings n).slots f) (λ s ne. refl)
+  wide_mapped =
+      set_at_all (λ s q. length q.slots ≡ length (rings s).slots) rings n (record (rings n) { slots = map f (rings n).slots })
+      (length-map (rings n).slots f) (λ s ne. refl)
 
   pub next_mapped : (s : ℕ) → (mapped s).next ≡ (rings s).next
   next_mapped = set_at_all (λ s q. q.next ≡ (rings s).next) rings n (record (rings n) { slots = map f (rings n).slots }) refl (λ s ne. refl)
@@ -108,7 +118,8 @@ abbrev pub IsReflexive : Becomes → Type 0
 IsReflexive R = (x : Version) (st : Status) → R x st x st
 
 -- a weaker relation matches too
-pub match_weaker : (R Q : Becomes) (before after : ℕ → Ring) → ((x : Version) (st : Status) (y : Version) (su : Status) → R x st y su → Q x st y su) → Matches R before after → Matches Q before after
+pub match_weaker : (R Q : Becomes) (before after : ℕ → Ring) → ((x : Version) (st : Status) (y : Version) (su : Status) → R x st y su → Q x st y su)
+    → Matches R before after → Matches Q before after
 match_weaker R Q before after weaker k = record {
   forth = λ s j x st lives. let a = k.forth s j x st lives in (a.0, a.1, a.2, weaker x st a.0 a.1 a.3);
   back = λ s j y su lives. let a = k.back s j y su lives in (a.0, a.1, a.2, weaker a.0 a.1 y su a.3);
@@ -116,39 +127,52 @@ match_weaker R Q before after weaker k = record {
 }
 
 module _ (R : Becomes) (reflexive : IsReflexive R) (rings : ℕ → Ring) (n : ℕ) where
-  module _ (k : ℕ) (x : Slot) (r : Ring) (written : r.slots ≡ slice_set (rings n).slots k x) (within : k < length (rings n).slots) (next : r.next ≡ (rings n).next) where
+  module _ (k : ℕ) (x : Slot) (r : Ring) (written : r.slots ≡ slice_set (rings n).slots k x) (within : k < length (rings n).slots)
+      (next : r.next ≡ (rings n).next) where
     -- a version was written over one in the relation
-    pub match_put : (y : Version) (st : Status) (z : Version) (su : Status) → Lives rings n k y st → x ≡ Live z su → R y st z su → Matches R rings (set_at rings n r)
+    pub match_put : (y : Version) (st : Status) (z : Version) (su : Status) → Lives rings n k y st → x ≡ Live z su → R y st z su
+        → Matches R rings (set_at rings n r)
     match_put y st z su was is rel = record {
-      forth = slots_after rings n k x r written within (λ s j w. (a : Version) (sa : Status) → Lives rings s j a sa → (b : Version) × (sb : Status) × (w ≡ Live b sb) × R a sa b sb)
-          (λ a sa lives. let one = live_once (slot_at (rings n) k) y a st sa was lives in (z, su, is, subst (λ (d : Version). R d sa z su) one.0 (subst (λ (d : Status). R y d z su) one.1 rel)))
+      forth = slots_after rings n k x r written within (λ s j w. (a : Version) (sa : Status) → Lives rings s j a sa
+          → (b : Version) × (sb : Status) × (w ≡ Live b sb) × R a sa b sb)
+          (λ a sa lives. let one = live_once (slot_at (rings n) k) y a st sa was lives in
+          (z, su, is, subst (λ (d : Version). R d sa z su) one.0 (subst (λ (d : Status). R y d z su) one.1 rel)))
           (λ s j ne a sa lives. (a, sa, lives, reflexive a sa));
-      back = slots_after rings n k x r written within (λ s j w. (b : Version) (sb : Status) → w ≡ Live b sb → (a : Version) × (sa : Status) × Lives rings s j a sa × R a sa b sb)
-          (λ b sb e. let one = live_once x z b su sb is e in (y, st, was, subst (λ (d : Version). R y st d sb) one.0 (subst (λ (d : Status). R y st z d) one.1 rel)))
+      back = slots_after rings n k x r written within (λ s j w. (b : Version) (sb : Status) → w ≡ Live b sb
+          → (a : Version) × (sa : Status) × Lives rings s j a sa × R a sa b sb)
+          (λ b sb e. let one = live_once x z b su sb is e in
+          (y, st, was, subst (λ (d : Version). R y st d sb) one.0 (subst (λ (d : Status). R y st z d) one.1 rel)))
           (λ s j ne b sb lives. (b, sb, lives, reflexive b sb));
       next = next_after rings n k x r written within next;
     }
 
     -- what was written is no version, over none
-    pub match_unlived : ((y : Version) (st : Status) → slot_at (rings n) k ≢ Live y st) → ((y : Version) (st : Status) → x ≢ Live y st) → Matches R rings (set_at rings n r)
+    pub match_unlived : ((y : Version) (st : Status) → slot_at (rings n) k ≢ Live y st) → ((y : Version) (st : Status) → x ≢ Live y st)
+        → Matches R rings (set_at rings n r)
     match_unlived was is = record {
-      forth = slots_after rings n k x r written within (λ s j w. (a : Version) (sa : Status) → Lives rings s j a sa → (b : Version) × (sb : Status) × (w ≡ Live b sb) × R a sa b sb)
+      forth = slots_after rings n k x r written within (λ s j w. (a : Version) (sa : Status) → Lives rings s j a sa
+          → (b : Version) × (sb : Status) × (w ≡ Live b sb) × R a sa b sb)
           (λ a sa lives. absurd (was a sa lives))
           (λ s j ne a sa lives. (a, sa, lives, reflexive a sa));
-      back = slots_after rings n k x r written within (λ s j w. (b : Version) (sb : Status) → w ≡ Live b sb → (a : Version) × (sa : Status) × Lives rings s j a sa × R a sa b sb)
+      back = slots_after rings n k x r written within (λ s j w. (b : Version) (sb : Status) → w ≡ Live b sb
+          → (a : Version) × (sa : Status) × Lives rings s j a sa × R a sa b sb)
           (λ b sb e. absurd (is b sb e))
           (λ s j ne b sb lives. (b, sb, lives, reflexive b sb));
       next = next_after rings n k x r written within next;
     }
 
   -- all slots of a log were mapped, the versions in the relation, and nothing else to a version
-  pub match_map : (f : Slot → Slot) → f Free ≡ Free → ((z : Slot) (y : Version) (st : Status) → z ≡ Live y st → (x : Version) × (su : Status) × (f z ≡ Live x su) × R y st x su) → ((z : Slot) (x : Version) (su : Status) → f z ≡ Live x su → (y : Version) × (st : Status) × (z ≡ Live y st) × R y st x su)
+  pub match_map : (f : Slot → Slot) → f Free ≡ Free
+      → ((z : Slot) (y : Version) (st : Status) → z ≡ Live y st → (x : Version) × (su : Status) × (f z ≡ Live x su) × R y st x su)
+      → ((z : Slot) (x : Version) (su : Status) → f z ≡ Live x su → (y : Version) × (st : Status) × (z ≡ Live y st) × R y st x su)
       → Matches R rings (set_at rings n (record (rings n) { slots = map f (rings n).slots }))
   match_map f free forth back = record {
-    forth = slots_mapped rings n f free (λ s j w. (a : Version) (sa : Status) → Lives rings s j a sa → (b : Version) × (sb : Status) × (w ≡ Live b sb) × R a sa b sb)
+    forth = slots_mapped rings n f free (λ s j w. (a : Version) (sa : Status) → Lives rings s j a sa
+        → (b : Version) × (sb : Status) × (w ≡ Live b sb) × R a sa b sb)
         (λ j a sa lives. forth (slot_at (rings n) j) a sa lives)
         (λ s j ne a sa lives. (a, sa, lives, reflexive a sa));
-    back = slots_mapped rings n f free (λ s j w. (b : Version) (sb : Status) → w ≡ Live b sb → (a : Version) × (sa : Status) × Lives rings s j a sa × R a sa b sb)
+    back = slots_mapped rings n f free (λ s j w. (b : Version) (sb : Status) → w ≡ Live b sb
+        → (a : Version) × (sa : Status) × Lives rings s j a sa × R a sa b sb)
         (λ j b sb e. back (slot_at (rings n) j) b sb e)
         (λ s j ne b sb lives. (b, sb, lives, reflexive b sb));
     next = next_mapped rings n f free;

@@ -1,5 +1,6 @@
 -- A chain has at most as many versions as the domain has slots: no slot stands in it twice.
-use Rattle.std.proofs.Common.{◌≡◌, ℕ, suc, ◌+◌, ◌-◌, ◌*◌, ◌/◌, ◌%◌, ◌<◌, ◌≤◌, ◌||◌, eqb, true, false, List, [], ◌∷◌, length, sym, refl, ap, ◌∙◌, subst, ⊎_elim, arith, ne_eqb, eqb-true, mul-le-mul_right}
+use Rattle.std.proofs.Common.{◌≡◌, ℕ, suc, ◌+◌, ◌-◌, ◌*◌, ◌/◌, ◌%◌, ◌<◌, ◌≤◌, ◌||◌, eqb, true, false, List}
+use Rattle.std.proofs.Common.{[], ◌∷◌, length, sym, refl, ap, ◌∙◌, subst, ⊎_elim, arith, ne_eqb, eqb-true, mul-le-mul_right}
 use Rattle.std.specs.List.{AllByRecursion, IsDistinct, list_any}
 use Rattle.std.proofs.lemmas.Map.Steps.{length-le_from_distinct_below}
 use Rattle.std.proofs.lemmas.Nat.{div-mul-add, mod-mul-add}
@@ -23,7 +24,8 @@ length_codes : (c : Config) (ps : List Placed) → length (codes c ps) ≡ lengt
 length_codes c [] = refl
 length_codes c (p ∷ ps) = ap suc (length_codes c ps)
 
-module _ {starts : State → Type 0} {allows : List ℕ → State → Writes → Type 0} {c : Config} {start : State} {m : Memory} {h : List Entry} (seats : ℕ → View) (k : Facts starts allows c start m h (parts_of seats)) where
+module _ {starts : State → Type 0} {allows : List ℕ → State → Writes → Type 0} {c : Config} {start : State} {m : Memory} {h : List Entry} (seats : ℕ → View)
+    (k : Facts starts allows c start m h (parts_of seats)) where
   abbrev f : ViewParts
   f = parts_of seats
 
@@ -38,7 +40,8 @@ module _ {starts : State → Type 0} {allows : List ℕ → State → Writes →
       let y = (lives_within c h f.ring k.checked k.history.in_time k.positions q.seat q.slot q.version q.status b).1 in
       let seat : p.seat ≡ q.seat = sym (div-mul-add p.seat c.slots p.slot x) ∙ ap (λ n. n / c.slots) e ∙ div-mul-add q.seat c.slots q.slot y in
       let slot : p.slot ≡ q.slot = sym (mod-mul-add p.seat c.slots p.slot x) ∙ ap (λ n. n % c.slots) e ∙ mod-mul-add q.seat c.slots q.slot y in
-      let there : Lives f.ring q.seat q.slot p.version p.status = subst (λ (i : ℕ). Lives f.ring q.seat i p.version p.status) slot (subst (λ (s : ℕ). Lives f.ring s p.slot p.version p.status) seat a) in
+      let there : Lives f.ring q.seat q.slot p.version p.status =
+      subst (λ (i : ℕ). Lives f.ring q.seat i p.version p.status) slot (subst (λ (s : ℕ). Lives f.ring s p.slot p.version p.status) seat a) in
       (live_once (slot_at (f.ring q.seat) q.slot) p.version q.version p.status q.status there b).1
 
   code_within : (p : Placed) → LivesAt p → code_of c p < c.seats * c.slots
@@ -60,7 +63,8 @@ module _ {starts : State → Type 0} {allows : List ℕ → State → Writes →
       (bool_is (eqb q (code_of c p)))
 
   -- a version's slot isn't that of another status
-  apart : (o : ℕ) (p : Placed) → LivesAt p → (ps : List Placed) (time link : ℕ) → HangFrom m f.ring link ps → AreWritesFrom c h o time ps → ((note : CommitNote) → note.time ≤ time → p.status ≡ Committed note → ⊥)
+  apart : (o : ℕ) (p : Placed) → LivesAt p → (ps : List Placed) (time link : ℕ) → HangFrom m f.ring link ps → AreWritesFrom c h o time ps
+      → ((note : CommitNote) → note.time ≤ time → p.status ≡ Committed note → ⊥)
       → AllByRecursion (λ y. eqb (code_of c p) y ≡ false) (codes c ps)
   apart o p lives [] time link hang writes other = tt
   apart o p lives (q ∷ qs) time link hang writes other =
@@ -91,9 +95,11 @@ module _ {starts : State → Type 0} {allows : List ℕ → State → Writes →
 
   short_from : (ps : List Placed) (link : ℕ) → HangFrom m f.ring link ps → IsDistinct eqb (codes c ps) → length ps ≤ c.seats * c.slots
   short_from ps link hang d =
-      subst (λ (n : ℕ). n ≤ c.seats * c.slots) (length_codes c ps) (length-le_from_distinct_below (codes c ps) (c.seats * c.slots) d (codes_within ps link hang))
+      subst (λ (n : ℕ). n ≤ c.seats * c.slots) (length_codes c ps)
+      (length-le_from_distinct_below (codes c ps) (c.seats * c.slots) d (codes_within ps link hang))
 
-  distinct_held : (o : ℕ) (p : Placed) (ps : List Placed) (link : ℕ) → HangFrom m f.ring link (p ∷ ps) → p.status ≡ Held → AreWritesFrom c h o (latest c.base h o) ps → IsDistinct eqb (codes c (p ∷ ps))
+  distinct_held : (o : ℕ) (p : Placed) (ps : List Placed) (link : ℕ) → HangFrom m f.ring link (p ∷ ps) → p.status ≡ Held
+      → AreWritesFrom c h o (latest c.base h o) ps → IsDistinct eqb (codes c (p ∷ ps))
   unfolding IsDistinct
   distinct_held o p ps link hang held writes = (
     apart o p hang.0.1 ps (latest c.base h o) (prev_of m f.ring p) hang.1 writes (λ note le e. let no : Held ≡ Committed note = sym held ∙ e in absurd cc),
@@ -106,5 +112,6 @@ module _ {starts : State → Type 0} {allows : List ℕ → State → Writes →
       (λ writes. short_from ps (m (Head o)) hang (distinct o ps (latest c.base h o) (m (Head o)) hang writes))
       (λ top.
       let hang_top : HangFrom m f.ring (m (Head o)) (top.0 ∷ top.1) = subst (λ (qs : List Placed). HangFrom m f.ring (m (Head o)) qs) top.2 hang in
-      subst (λ (qs : List Placed). length qs ≤ c.seats * c.slots) (sym top.2) (short_from (top.0 ∷ top.1) (m (Head o)) hang_top (distinct_held o top.0 top.1 (m (Head o)) hang_top top.4 top.5)))
+      subst (λ (qs : List Placed). length qs ≤ c.seats * c.slots) (sym top.2)
+      (short_from (top.0 ∷ top.1) (m (Head o)) hang_top (distinct_held o top.0 top.1 (m (Head o)) hang_top top.4 top.5)))
       shape

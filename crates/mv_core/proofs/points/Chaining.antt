@@ -1,5 +1,6 @@
 -- Each object has a chain: its latest writes under perhaps one held version, ending grounded or loose.
-use Rattle.std.proofs.Common.{◌≡◌, ◌⊎◌, ℕ, zero, suc, ◌+◌, ◌-◌, ◌≤◌, false, List, [], ◌∷◌, length, Option, Some, None, sym, refl, ap, ◌∙◌, subst, inl, inr, ⊎_elim, arith}
+use Rattle.std.proofs.Common.{◌≡◌, ◌⊎◌, ℕ, zero, suc, ◌+◌, ◌-◌, ◌≤◌, false, List, [], ◌∷◌, length, Option, Some}
+use Rattle.std.proofs.Common.{None, sym, refl, ap, ◌∙◌, subst, inl, inr, ⊎_elim, arith}
 use Rattle.mv_core.proofs.Terms.{State, Writes, Entry, Config, Head, Master, Prev, Memory, Version, Status, Held, Committed, CommitNote, View, Lives}
 use Rattle.mv_core.proofs.Terms.{Names, IsVersion, IsTop, latest, latest_at, words_of, AreThe, NotAboveAny, ViewParts, parts_of}
 use Rattle.mv_core.proofs.FactTerms.{Facts, Placed, IsLinked, HangFrom, lowest, time_before, last_link, AreWritesFrom, AreLatest, IsChain, IsLoose}
@@ -14,7 +15,8 @@ use Rattle.mv_core.proofs.logs.BelowCommit.{next_after}
 use Rattle.mv_core.proofs.points.ChainLengths.{chain_short}
 use Rattle.mv_core.proofs.points.Reaching.{names_of, prev_is, prev_word}
 
-module _ {starts : State → Type 0} {allows : List ℕ → State → Writes → Type 0} {c : Config} {start : State} {m : Memory} {h : List Entry} (seats : ℕ → View) (k : Facts starts allows c start m h (parts_of seats)) where
+module _ {starts : State → Type 0} {allows : List ℕ → State → Writes → Type 0} {c : Config} {start : State} {m : Memory} {h : List Entry} (seats : ℕ → View)
+    (k : Facts starts allows c start m h (parts_of seats)) where
   abbrev f : ViewParts
   f = parts_of seats
 
@@ -43,12 +45,23 @@ module _ {starts : State → Type 0} {allows : List ℕ → State → Writes →
       let p : Placed = record { seat = v.names.seat; slot = v.names.slot; version = y; status = Committed note } in record {
         versions = p ∷ b.versions;
         hang = ((v.names.is, v.names.lives), b.hang);
-        writes = (v.object_is, (note, refl, uncut, v.time_is, subst (λ (u : ℕ). AreWritesFrom c h o (latest_at c.base h o (u - 1)) b.versions) v.time_is (subst (λ (q : ℕ). AreWritesFrom c h q (latest_at c.base h q (note.time - 1)) b.versions) v.object_is b.writes)));
+        writes = (
+          v.object_is,
+          (
+            note,
+            refl,
+            uncut,
+            v.time_is,
+            subst (λ (u : ℕ). AreWritesFrom c h o (latest_at c.base h o (u - 1)) b.versions) v.time_is
+                (subst (λ (q : ℕ). AreWritesFrom c h q (latest_at c.base h q (note.time - 1)) b.versions) v.object_is b.writes),
+          ),
+        );
         ends = subst (λ (q : ℕ). EndsWell q (Some note.time) (m (Prev v.names.seat v.names.slot)) b.versions) v.object_is b.ends;
       }
 
   -- what hangs below a committed version
-  below : (n s i : ℕ) (x : Version) (note : CommitNote) → (lives : Lives f.ring s i x (Committed note)) → note.time ≤ n → Hangs x.object (latest_at c.base h x.object (note.time - 1)) (m (Prev s i)) (Some note.time)
+  below : (n s i : ℕ) (x : Version) (note : CommitNote) → (lives : Lives f.ring s i x (Committed note)) → note.time ≤ n
+      → Hangs x.object (latest_at c.base h x.object (note.time - 1)) (m (Prev s i)) (Some note.time)
   below zero s i x note lives le = let w = (commit_within c h f.ring k.write_sets s i x note lives).0 in absurd (omega arith)
   below (suc n) s i x note lives le =
       let p : Placed = record { seat = s; slot = i; version = x; status = Committed note } in
@@ -67,12 +80,15 @@ module _ {starts : State → Type 0} {allows : List ℕ → State → Writes →
       ⊎_elim
       (λ cut. foot (none_names_zero f.ring x.previous (links.cut a.0 a.1 a.2 a.3 cut)))
       (λ uncut.
-      let v : IsVersion f.ring x.object before (m (Prev s i)) a.1 a.2 = subst (λ (l : ℕ). IsVersion f.ring x.object before l a.1 a.2) (sym (word ∙ links.uncut a.0 a.1 a.2 a.3 uncut)) a.3 in
+      let v : IsVersion f.ring x.object before (m (Prev s i)) a.1 a.2 =
+      subst (λ (l : ℕ). IsVersion f.ring x.object before l a.1 a.2) (sym (word ∙ links.uncut a.0 a.1 a.2 a.3 uncut)) a.3 in
       let later = (next_after k s i x note lives).later in
       let time = v.time_is in
       on_top x.object before (m (Prev s i)) (Some note.time) a.1 a.2 v uncut (below n v.names.seat v.names.slot a.1 a.2 v.names.lives (omega arith)))
       (bool_is a.2.cut))
-      (λ none. foot (⊎_elim (λ e. none_names_zero f.ring x.previous e) (λ g. gone_names_none c h f.ring k.checked k.history.in_time k.positions x.previous g) (links.none none)))
+      (λ none. foot
+      (⊎_elim (λ e. none_names_zero f.ring x.previous e) (λ g. gone_names_none c h f.ring k.checked k.history.in_time k.positions x.previous g)
+      (links.none none)))
       (find_write c h f.ring k.checked k.history.in_time k.positions x.object before)
 
   -- what hangs from the link of an object's top
@@ -93,7 +109,8 @@ module _ {starts : State → Type 0} {allows : List ℕ → State → Writes →
       top
 
   -- the chain of an object, with its end
-  pub chain_of : (o : ℕ) → (ps : List Placed) × IsChain m f.ring o ps × AreLatest c h o ps × (IsGrounded m f.ring c start h f.time o ps ⊎ IsLoose m f.ring c start h f.time ps)
+  pub chain_of : (o : ℕ) → (ps : List Placed) × IsChain m f.ring o ps × AreLatest c h o ps
+      × (IsGrounded m f.ring c start h f.time o ps ⊎ IsLoose m f.ring c start h f.time ps)
   chain_of o =
       ⊎_elim
       (λ a.
@@ -101,7 +118,9 @@ module _ {starts : State → Type 0} {allows : List ℕ → State → Writes →
       let p : Placed = record { seat = a.0; slot = a.1; version = x; status = Held } in
       let is = ap (λ q. m (Head q)) (sym a.4) ∙ k.head_is_top.held a.0 a.1 x a.3 in
       let word = prev_is seats k (m (Head o)) p (is, a.3) in
-      let b = from_top o (m (Prev a.0 a.1)) (subst (λ (l : ℕ). IsTop f.ring o (latest c.base h o) l) (sym word) (subst (λ (q : ℕ). IsTop f.ring q (latest c.base h q) x.previous) a.4 (k.held_link a.0 a.1 x a.3))) in
+      let b = from_top o (m (Prev a.0 a.1))
+      (subst (λ (l : ℕ). IsTop f.ring o (latest c.base h o) l) (sym word)
+      (subst (λ (q : ℕ). IsTop f.ring q (latest c.base h q) x.previous) a.4 (k.held_link a.0 a.1 x a.3))) in
       (p ∷ b.versions, ((is, a.3), b.hang), inr (p, b.versions, refl, a.4, refl, b.writes), b.ends))
       (λ none.
       let b = from_top o (m (Head o)) (k.head_is_top.top o none) in
@@ -114,7 +133,8 @@ module _ {starts : State → Type 0} {allows : List ℕ → State → Writes →
   hang_once link [] (q ∷ qs) a b = absurd (a q b.0)
   hang_once link (p ∷ ps) [] a b = absurd (b p a.0)
   hang_once link (p ∷ ps) (q ∷ qs) a b =
-      let one = names_once c h f.ring k.checked k.history.in_time k.positions link p.version q.version p.status q.status (names_of seats k link p a.0) (names_of seats k link q b.0) in
+      let one = names_once c h f.ring k.checked k.history.in_time k.positions link p.version q.version p.status q.status (names_of seats k link p a.0)
+      (names_of seats k link q b.0) in
       let same : p ≡ q = λ i. record { seat = one.0 i; slot = one.1 i; version = one.2 i; status = one.3 i } in
       let rest = hang_once (m (Prev q.seat q.slot)) ps qs (subst (λ (l : ℕ). HangFrom m f.ring l ps) (λ i. m (Prev (one.0 i) (one.1 i))) a.1) b.1 in
       λ i. same i ∷ rest i

@@ -10,4 +10,5 @@ helped_law starts allows key s r seat word helped t j x note lives le =
     let f = parts_of r.seats in
     let k = r.facts in
     r.shows.each (Stamp t (index_of c x.first)) (k.positions.within t j x (Committed note) lives, slot_in c k.checked x.first)
-    ∙ stamped_by_done c (r.memory Clock) (λ u i. r.memory (Stamp u i)) r.history f.ring k.checked (clock_small k) k.stamps k.positions word (k.loaded_words.helped seat word helped) (k.helped_words seat word helped) t j x note lives le
+    ∙ stamped_by_done c (r.memory Clock) (λ u i. r.memory (Stamp u i)) r.history f.ring k.checked (clock_small k) k.stamps k.positions word
+    (k.loaded_words.helped seat word helped) (k.helped_words seat word helped) t j x note lives le

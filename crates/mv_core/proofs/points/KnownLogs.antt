@@ -1,5 +1,6 @@
 -- What the rule tells a seat of the committed versions and of the noted deaths of its own log.
-use Rattle.std.proofs.Common.{◌≡◌, ◌≢◌, ℕ, zero, suc, ◌+◌, ◌-◌, ◌<◌, ◌≤◌, eqb, if◌then◌else◌, Bool, true, false, List, [], ◌∷◌, ◌++◌, length, take, drop, sym, ap, ◌∙◌, subst, arith, append-nil, eq-eqb, Some, None}
+use Rattle.std.proofs.Common.{◌≡◌, ◌≢◌, ℕ, zero, suc, ◌+◌, ◌-◌, ◌<◌, ◌≤◌, eqb, if◌then◌else◌, Bool, true, false}
+use Rattle.std.proofs.Common.{List, [], ◌∷◌, ◌++◌, length, take, drop, sym, ap, ◌∙◌, subst, arith, append-nil, eq-eqb, Some, None}
 use Rattle.std.specs.Prelude.{slice_get}
 use Rattle.std.proofs.Math.Seq.{take-append-le}
 use Rattle.mv_core.proofs.Terms.{dite, dec_le, Entry, Rest, Change, Step, State, Writes, commits_of, Config, First, Prev, Data, Memory, Ring, Live}
@@ -32,19 +33,22 @@ some_commit seat (Rest s ∷ es) zero d at by none = absurd (cc)
 some_commit seat (Rest s ∷ es) (suc i) d at by none = some_commit seat es i d at by none
 some_commit seat (Change e ∷ es) zero d at by none =
     let same : e ≡ d = cc in
-    let own : (if eqb e.seat seat then e ∷ commits_of seat es else commits_of seat es) ≡ e ∷ commits_of seat es = ap (λ b. if b then e ∷ commits_of seat es else commits_of seat es) (eq-eqb e.seat seat (ap (λ (x : Commit). x.seat) same ∙ by)) in
+    let own : (if eqb e.seat seat then e ∷ commits_of seat es else commits_of seat es) ≡ e ∷ commits_of seat es =
+    ap (λ b. if b then e ∷ commits_of seat es else commits_of seat es) (eq-eqb e.seat seat (ap (λ (x : Commit). x.seat) same ∙ by)) in
     let clash : e ∷ commits_of seat es ≡ [] = sym own ∙ none in absurd (cc)
 some_commit seat (Change e ∷ es) (suc i) d at by none = none_after (eqb e.seat seat) e (commits_of seat es) (some_commit seat es i d at by) none
 
 -- a seat's own commit is in what it has seen
-own_seen : (base : ℕ) (h : List Entry) (seat : ℕ) (p : Past) → KnowsPast h seat p → (t : ℕ) (d : Commit) → IsEntry base h t (Change d) → d.seat ≡ seat → t ≤ base + length p.seen
+own_seen : (base : ℕ) (h : List Entry) (seat : ℕ) (p : Past) → KnowsPast h seat p → (t : ℕ) (d : Commit) → IsEntry base h t (Change d) → d.seat ≡ seat
+    → t ≤ base + length p.seen
 own_seen base h seat p knows t d is by =
     dite (dec_le t (base + length p.seen))
     (λ le. le)
     (λ gt.
     let i : ℕ = t - (base + 1) in
     let rest : List Entry = knows.seen.0 in
-    let at : slice_get rest (i - length p.seen) ≡ Some (Change d) = sym (get_past p.seen rest i (omega arith)) ∙ ap (λ l. slice_get l i) (sym knows.seen.1) ∙ is.1 in
+    let at : slice_get rest (i - length p.seen) ≡ Some (Change d) =
+    sym (get_past p.seen rest i (omega arith)) ∙ ap (λ l. slice_get l i) (sym knows.seen.1) ∙ is.1 in
     absurd (some_commit seat rest (i - length p.seen) d at by (none_more h seat p knows h ([], sym (append-nil h)) knows.seen)))
 
 -- the last write up to a time that was seen is the same in what was seen
@@ -52,10 +56,13 @@ latest_at-seen : (base : ℕ) (h seen : List Entry) (o t : ℕ) → BeginsWith h
 latest_at-seen base h seen o t front le = ap (λ l. latest base l o) (ap (take (t - base)) front.1 ∙ take-append-le (t - base) seen front.0 (omega arith))
 
 -- what is known of a commit reads neither the trail, nor which seats were made or joined
-pub commit_still : (v : View) (x : Version) (note : CommitNote) (trail : List Step) (made : ℕ) (notes : List Note) → KnownCommit v x note → KnownCommit (record v { trail = trail; made = made; notes = notes }) x note
-commit_still v x note trail made notes k = record { in_range = k.in_range; wide = k.wide; after = k.after; seen = k.seen; written = k.written; superseded = k.superseded }
+pub commit_still : (v : View) (x : Version) (note : CommitNote) (trail : List Step) (made : ℕ) (notes : List Note) → KnownCommit v x note
+    → KnownCommit (record v { trail = trail; made = made; notes = notes }) x note
+commit_still v x note trail made notes k =
+    record { in_range = k.in_range; wide = k.wide; after = k.after; seen = k.seen; written = k.written; superseded = k.superseded }
 
-module _ {starts : State → Type 0} {allows : List ℕ → State → Writes → Type 0} {c : Config} {start : State} {m : Memory} {h : List Entry} (seats : ℕ → View) (w : View) (k : Facts starts allows c start m h (parts_of seats)) (is : seats w.number ≡ w) (begins : w.start ≡ start) (from : w.base ≡ c.base) where
+module _ {starts : State → Type 0} {allows : List ℕ → State → Writes → Type 0} {c : Config} {start : State} {m : Memory} {h : List Entry} (seats : ℕ → View)
+    (w : View) (k : Facts starts allows c start m h (parts_of seats)) (is : seats w.number ≡ w) (begins : w.start ≡ start) (from : w.base ≡ c.base) where
   abbrev n : ℕ
   n = w.number
 
@@ -75,7 +82,8 @@ module _ {starts : State → Type 0} {allows : List ℕ → State → Writes →
   death_seen j x st e = subst (λ (u : View). DeathSeen (c.base + length u.past.seen) st) is (k.deaths_seen n j x st (lives_in j x st e))
 
   -- the death of a version that isn't cut is the next write that was seen
-  next_seen : (j : ℕ) (x : Version) (note : CommitNote) → slot_at w.ring j ≡ Live x (Committed note) → (dead : ℕ) → note.cut ≡ false → note.dead ≡ Some dead → IsNextIn c.base seen x.object note.time dead
+  next_seen : (j : ℕ) (x : Version) (note : CommitNote) → slot_at w.ring j ≡ Live x (Committed note) → (dead : ℕ) → note.cut ≡ false → note.dead ≡ Some dead
+      → IsNextIn c.base seen x.object note.time dead
   next_seen j x note e dead uncut is_dead =
       let next = k.deaths.superseded n j dead x note (lives_in j x (Committed note) e) uncut is_dead in
       let within = (death_seen j x (Committed note) e dead is_dead).1 uncut in
@@ -100,7 +108,8 @@ module _ {starts : State → Type 0} {allows : List ℕ → State → Writes →
         wide = words.wide;
         after = omega arith;
         seen = omega arith;
-        written = subst (λ (b : ℕ). latest_at b seen x.object note.time ≡ note.time) (sym from) (latest_at-own c.base seen x.object note.time (Change r.commit) there writes);
+        written = subst (λ (b : ℕ). latest_at b seen x.object note.time ≡ note.time) (sym from)
+            (latest_at-own c.base seen x.object note.time (Change r.commit) there writes);
         superseded = λ dead uncut is_dead. subst (λ (b : ℕ). IsNextIn b seen x.object note.time dead) (sym from) (next_seen j x note e dead uncut is_dead);
       }
 

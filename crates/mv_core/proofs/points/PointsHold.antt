@@ -57,16 +57,19 @@ module _ (starts : State → Type 0) (allows : List ℕ → State → Writes →
 
   module _ (c : Config) (start : State) (m : Memory) (h : List Entry) (seats : ℕ → View) (k : Facts starts allows c start m h (parts_of seats)) where
     -- of two that write back one object, the version of the one whose section isn't later is that of the other
-    same_version : (s t : ℕ) (a b : WriteBack) (i j : Section) → section_of (seats s).phase ≡ Some i → section_of (seats t).phase ≡ Some j → time_in i ≤ time_in j
+    same_version : (s t : ℕ) (a b : WriteBack) (i j : Section) → section_of (seats s).phase ≡ Some i → section_of (seats t).phase ≡ Some j
+        → time_in i ≤ time_in j
         → (p : IsWrittenBack c h (λ o w. m (Master o w)) (parts_of seats).time (parts_of seats).ring s (seats s).clocks (seats s).grace a i)
         → (q : IsWrittenBack c h (λ o w. m (Master o w)) (parts_of seats).time (parts_of seats).ring t (seats t).clocks (seats t).grace b j)
         → a.object ≡ b.object → s ≡ t
     same_version s t a b i j in_i in_j le p q same =
         let old = not_above q.note.time s (time_in i) (parts_of seats).time q.old (time_of_section (seats s).phase i in_i) in
         let last : latest_at c.base h b.object (time_in j) ≡ q.note.time = q.last in
-        let one : latest_at c.base h b.object (time_in i) ≡ latest_at c.base h b.object (time_in j) = latest_at-same c.base h b.object (time_in i) (time_in j) le (omega arith) in
+        let one : latest_at c.base h b.object (time_in i) ≡ latest_at c.base h b.object (time_in j) =
+        latest_at-same c.base h b.object (time_in i) (time_in j) le (omega arith) in
         let time : p.note.time ≡ q.note.time = sym p.last ∙ ap (λ o. latest_at c.base h o (time_in i)) same ∙ one ∙ q.last in
-        (write_once c start h (parts_of seats).ring k.checked k.history.in_time k.history.legal k.positions k.write_sets s t _ _ p.version q.version p.note q.note p.lives q.lives (p.object_is ∙ same ∙ sym q.object_is) time).0
+        (write_once c start h (parts_of seats).ring k.checked k.history.in_time k.history.legal k.positions k.write_sets s t _ _ p.version q.version p.note
+        q.note p.lives q.lives (p.object_is ∙ same ∙ sym q.object_is) time).0
 
     pub one_writes_back : OneWritesBack (parts_of seats)
     one_writes_back s t a b at bt same =

@@ -14,7 +14,8 @@ use Rattle.mv_core.proofs.kinds.walking.Landing.{Lands, top_lands, below_lands, 
 use Rattle.mv_core.proofs.kinds.naming.entry.NewEntry.{bool_is}
 use Rattle.mv_core.proofs.logs.Written.{commit_within}
 
-module _ {starts : State → Type 0} {allows : List ℕ → State → Writes → Type 0} {c : Config} {start : State} {m : Memory} {h : List Entry} (seats : ℕ → View) (k : Facts starts allows c start m h (parts_of seats)) where
+module _ {starts : State → Type 0} {allows : List ℕ → State → Writes → Type 0} {c : Config} {start : State} {m : Memory} {h : List Entry} (seats : ℕ → View)
+    (k : Facts starts allows c start m h (parts_of seats)) where
   abbrev f : ViewParts
   f = parts_of seats
 
@@ -50,7 +51,8 @@ module _ {starts : State → Type 0} {allows : List ℕ → State → Writes →
 
   module _ (j t : ℕ) (timed : f.time j ≡ Some t) where
     -- below a commit that isn't stamped, which a section has named
-    below_unstamped : (s i : ℕ) (x : Version) (note : CommitNote) → Lives f.ring s i x (Committed note) → stamp_of c (λ u l. m (Stamp u l)) s x ≢ note.time → IsGood t x.previous
+    below_unstamped : (s i : ℕ) (x : Version) (note : CommitNote) → Lives f.ring s i x (Committed note) → stamp_of c (λ u l. m (Stamp u l)) s x ≢ note.time
+        → IsGood t x.previous
     below_unstamped s i x note lives unstamped =
         let u = k.unstamped_is_unfinished s i x note lives unstamped in
         let inside = u.0 in
@@ -63,7 +65,8 @@ module _ {starts : State → Type 0} {allows : List ℕ → State → Writes →
         ⊎_elim
         (λ cut. inl (links.cut a.0 a.1 a.2 a.3 cut))
         (λ uncut.
-        let names : Names f.ring x.previous a.1 (Committed a.2) = subst (λ (l : ℕ). Names f.ring l a.1 (Committed a.2)) (sym (links.uncut a.0 a.1 a.2 a.3 uncut)) a.3.names in
+        let names : Names f.ring x.previous a.1 (Committed a.2) =
+        subst (λ (l : ℕ). Names f.ring l a.1 (Committed a.2)) (sym (links.uncut a.0 a.1 a.2 a.3 uncut)) a.3.names in
         let below = flag.1 a.1 a.2 names in
         inr (
           a.1,
@@ -92,7 +95,8 @@ module _ {starts : State → Type 0} {allows : List ℕ → State → Writes →
         (find_write c h f.ring k.checked k.history.in_time k.positions x.object (latest_at c.base h x.object (note.time - 1)))
 
     -- below a version from which a walk goes on
-    goes_below : (p : Placed) (st : Status) → p.status ≡ st → Lives f.ring p.seat p.slot p.version st → IsAlive t st → GoesOn t (stamp_of c (λ u l. m (Stamp u l)) p.seat p.version) → IsGood t p.version.previous
+    goes_below : (p : Placed) (st : Status) → p.status ≡ st → Lives f.ring p.seat p.slot p.version st → IsAlive t st
+        → GoesOn t (stamp_of c (λ u l. m (Stamp u l)) p.seat p.version) → IsGood t p.version.previous
     goes_below p Held e lives alive goes =
         by_landing t p.version.object p.version.previous (top_lands k j t p.version.object p.version.previous timed (k.held_link p.seat p.slot p.version lives))
     goes_below p (Aborted dead) e lives alive goes = absurd alive
@@ -109,13 +113,15 @@ module _ {starts : State → Type 0} {allows : List ℕ → State → Writes →
         (λ ne. below_unstamped p.seat p.slot p.version note lives ne))
 
     -- so each link is good to which one gets from a good one
-    leads_good : (ps : List Placed) (link to : ℕ) → IsGood t link → LeadsBy m f.ring (λ p. GoesOn t (stamp_of c (λ u l. m (Stamp u l)) p.seat p.version)) link ps to → IsGood t to
+    leads_good : (ps : List Placed) (link to : ℕ) → IsGood t link
+        → LeadsBy m f.ring (λ p. GoesOn t (stamp_of c (λ u l. m (Stamp u l)) p.seat p.version)) link ps to → IsGood t to
     leads_good [] link to good leads = subst (λ (l : ℕ). IsGood t l) (sym leads) good
     leads_good (p ∷ ps) link to good leads =
         let names = names_of link p leads.0 in
         let here : IsAlive t p.status =
         ⊎_elim (λ zero_is. absurd (names_some f.ring link p.version p.status names zero_is))
-        (λ g. subst (λ (st : Status). IsAlive t st) (names_once c h f.ring k.checked k.history.in_time k.positions link g.0 p.version g.1 p.status g.2 names).3 g.3) good in
+        (λ g. subst (λ (st : Status). IsAlive t st)
+        (names_once c h f.ring k.checked k.history.in_time k.positions link g.0 p.version g.1 p.status g.2 names).3 g.3) good in
         let below = goes_below p p.status refl leads.0.1 here leads.1 in
         leads_good ps (prev_of m f.ring p) to (subst (λ (l : ℕ). IsGood t l) (sym (prev_is link p leads.0)) below) leads.2
 
@@ -135,7 +141,8 @@ module _ {starts : State → Type 0} {allows : List ℕ → State → Writes →
     head_good o =
         ⊎_elim
         (λ a.
-        let names : Names f.ring (m (Head o)) a.2 Held = record { seat = a.0; slot = a.1; lives = a.3; is = ap (λ p. m (Head p)) (sym a.4) ∙ k.head_is_top.held a.0 a.1 a.2 a.3 } in
+        let names : Names f.ring (m (Head o)) a.2 Held =
+        record { seat = a.0; slot = a.1; lives = a.3; is = ap (λ p. m (Head p)) (sym a.4) ∙ k.head_is_top.held a.0 a.1 a.2 a.3 } in
         inr (a.2, Held, names, tt))
         (λ none. by_landing t o (m (Head o)) (top_lands k j t o (m (Head o)) timed (k.head_is_top.top o none)))
         (find_holder c h f.ring k.checked k.history.in_time k.positions o)
@@ -145,24 +152,31 @@ module _ {starts : State → Type 0} {allows : List ℕ → State → Writes →
           → (ps : List Placed) (to : ℕ) → LeadsBy m f.ring (λ p. GoesOn t (stamp_of c (λ u l. m (Stamp u l)) p.seat p.version)) stand.link ps to → IsServed to
       from_stand Held names may ps to leads = good_served to (leads_good ps stand.link to (inr (x, Held, names, tt)) leads)
       from_stand (Committed note) names may ps to leads =
-          good_served to (leads_good ps stand.link to (inr (x, Committed note, names, k.walker_before_death.here j t stand x (Committed note) timed at names)) leads)
+          good_served to
+          (leads_good ps stand.link to (inr (x, Committed note, names, k.walker_before_death.here j t stand x (Committed note) timed at names)) leads)
       from_stand (Aborted dead) names may [] to leads =
           subst (λ (l : ℕ). IsServed l) (sym leads) (inr (x, Aborted dead, names, k.walker_before_death.here j t stand x (Aborted dead) timed at names))
       from_stand (Aborted dead) names may (p ∷ ps) to leads =
-          let same : x ≡ p.version = (names_once c h f.ring k.checked k.history.in_time k.positions stand.link x p.version (Aborted dead) p.status names (names_of stand.link p leads.0)).2 in
+          let same : x ≡ p.version =
+          (names_once c h f.ring k.checked k.history.in_time k.positions stand.link x p.version (Aborted dead) p.status names
+          (names_of stand.link p leads.0)).2 in
           let below : IsGood t x.previous =
           ⊎_elim (λ z. inl z.0)
           (λ a. inr (a.0, Committed a.1, a.2, k.walker_before_death.below j t stand x a.0 dead (Committed a.1) timed at names a.2)) may in
-          good_served to (leads_good ps (prev_of m f.ring p) to (subst (λ (l : ℕ). IsGood t l) (ap (λ (v : Version). v.previous) same ∙ sym (prev_is stand.link p leads.0)) below) leads.2)
+          good_served to
+          (leads_good ps (prev_of m f.ring p) to
+          (subst (λ (l : ℕ). IsGood t l) (ap (λ (v : Version). v.previous) same ∙ sym (prev_is stand.link p leads.0)) below) leads.2)
 
   -- a link that a section reaches
   pub reached_served : (j t link : ℕ) → (r : ReachesLink c m f j t link) → IsServed j t r.in_section link
   reached_served j t link r =
       ⊎_elim
       (λ a.
-      good_served j t r.in_section link (leads_good j t r.in_section r.passed r.from link (subst (λ (l : ℕ). IsGood t l) (sym a.1) (head_good j t r.in_section a.0)) r.leads))
+      good_served j t r.in_section link
+      (leads_good j t r.in_section r.passed r.from link (subst (λ (l : ℕ). IsGood t l) (sym a.1) (head_good j t r.in_section a.0)) r.leads))
       (λ b.
-      let stands : StandsRight c start h (λ o i. m (Master o i)) f.ring t (At b.0) = subst (StandsRight c start h (λ o i. m (Master o i)) f.ring t) b.1 (k.walker_place j t r.in_section) in
+      let stands : StandsRight c start h (λ o i. m (Master o i)) f.ring t (At b.0) =
+      subst (StandsRight c start h (λ o i. m (Master o i)) f.ring t) b.1 (k.walker_place j t r.in_section) in
       from_stand j t r.in_section b.0 b.1 stands.0 stands.1 stands.2 stands.4 r.passed link
       (subst (λ (l : ℕ). LeadsBy m f.ring (λ p. GoesOn t (stamp_of c (λ u i. m (Stamp u i)) p.seat p.version)) l r.passed link) b.2 r.leads))
       r.begins
@@ -192,5 +206,6 @@ module _ {starts : State → Type 0} {allows : List ℕ → State → Writes →
       let link : ℕ = reaches.0 in
       let names = names_of link p reaches.2 in
       ⊎_elim (λ z. absurd (names_some f.ring link p.version p.status names z))
-      (λ g. subst (λ (st : Status). IsBeforeDeath t st) (names_once c h f.ring k.checked k.history.in_time k.positions link g.0 p.version g.1 p.status g.2 names).3 g.3)
+      (λ g. subst (λ (st : Status). IsBeforeDeath t st)
+      (names_once c h f.ring k.checked k.history.in_time k.positions link g.0 p.version g.1 p.status g.2 names).3 g.3)
       (reached_served j t link reaches.1)

@@ -12,7 +12,8 @@ use Rattle.mv_core.proofs.kinds.walking.Landing.{not_above}
 use Rattle.mv_core.proofs.logs.Links.{link_some, next_small, position_small, link_once}
 use Rattle.mv_core.proofs.points.Reaching.{reached_are_live, reached_before_death}
 
-module _ {starts : State → Type 0} {allows : List ℕ → State → Writes → Type 0} {c : Config} {start : State} {m : Memory} {h : List Entry} (seats : ℕ → View) (k : Facts starts allows c start m h (parts_of seats)) where
+module _ {starts : State → Type 0} {allows : List ℕ → State → Writes → Type 0} {c : Config} {start : State} {m : Memory} {h : List Entry} (seats : ℕ → View)
+    (k : Facts starts allows c start m h (parts_of seats)) where
   abbrev f : ViewParts
   f = parts_of seats
 
@@ -26,7 +27,8 @@ module _ {starts : State → Type 0} {allows : List ℕ → State → Writes →
     clock_later : ClockIsAfter m f s p
     clock_later names same =
         let a = k.freed_is_old.named names in
-        let lives : Lives f.ring s (clock_slot_of (m Clock)) a.0 (Committed a.1) = subst (λ (u : ℕ). Lives f.ring u (clock_slot_of (m Clock)) a.0 (Committed a.1)) same a.2 in
+        let lives : Lives f.ring s (clock_slot_of (m Clock)) a.0 (Committed a.1) =
+        subst (λ (u : ℕ). Lives f.ring u (clock_slot_of (m Clock)) a.0 (Committed a.1)) same a.2 in
         (a.0, a.1, lives, a.3, later_sets (clock_slot_of (m Clock)) a.0 (Committed a.1) lives)
 
     unreached : (j t link q : ℕ) → ReachesLink c m f j t link → q ≤ p → link ≢ link_of s q
@@ -54,7 +56,8 @@ module _ {starts : State → Type 0} {allows : List ℕ → State → Writes →
     }
 
   -- no section reaches what is dead by its seat's watermark
-  dead_unreached : (s i : ℕ) (x : Version) (st : Status) → Lives f.ring s i x st → IsDeadBy (f.grace s) st → (j t : ℕ) → ¬ (Reaches c m f j t (record { seat = s; slot = i; version = x; status = st }))
+  dead_unreached : (s i : ℕ) (x : Version) (st : Status) → Lives f.ring s i x st → IsDeadBy (f.grace s) st → (j t : ℕ)
+      → ¬ (Reaches c m f j t (record { seat = s; slot = i; version = x; status = st }))
   dead_unreached s i x st lives dead j t reaches =
       not_dead_by t (f.grace s) st (reached_before_death seats k j t (record { seat = s; slot = i; version = x; status = st }) reaches) dead
       (not_above (f.grace s) j t f.time (k.grace.views s).1 reaches.1.in_section)
@@ -62,7 +65,8 @@ module _ {starts : State → Type 0} {allows : List ℕ → State → Writes →
   pub frees_hold : FreesHold c m h f
   frees_hold = record { freeing = freeing_is; dead = dead_unreached; old = k.freed_is_old.writes }
 
-  module _ (n : ℕ) (own : (seats n).number ≡ n) (position : ℕ) (x : Version) (st : Status) (may : MayStoreFree c (seats n) position) (at : slot_at (seats n).ring (index_of c position) ≡ Live x st) where
+  module _ (n : ℕ) (own : (seats n).number ≡ n) (position : ℕ) (x : Version) (st : Status) (may : MayStoreFree c (seats n) position)
+      (at : slot_at (seats n).ring (index_of c position) ≡ Live x st) where
     abbrev v : View
     v = seats n
 

@@ -19,23 +19,27 @@ held_or Held known a = inl refl
 held_or (Aborted dead) known a = inr (tt, a)
 held_or (Committed note) known a = absurd known
 
-module _ {starts : State → Type 0} {allows : List ℕ → State → Writes → Type 0} {c : Config} {start : State} {m : Memory} {h : List Entry} (seats : ℕ → View) (k : Facts starts allows c start m h (parts_of seats)) where
+module _ {starts : State → Type 0} {allows : List ℕ → State → Writes → Type 0} {c : Config} {start : State} {m : Memory} {h : List Entry} (seats : ℕ → View)
+    (k : Facts starts allows c start m h (parts_of seats)) where
   abbrev f : ViewParts
   f = parts_of seats
 
   -- the set of a commit has a first version, of its time
-  first_of : (s : ℕ) (x : Version) (note : CommitNote) → CommitOf c h f.ring s x note → (y : Version) × (other : CommitNote) × Lives f.ring s (index_of c (x.first + 0)) y (Committed other) × (other.time ≡ note.time)
+  first_of : (s : ℕ) (x : Version) (note : CommitNote) → CommitOf c h f.ring s x note
+      → (y : Version) × (other : CommitNote) × Lives f.ring s (index_of c (x.first + 0)) y (Committed other) × (other.time ≡ note.time)
   first_of s x note o =
       let some = slice_get_within o.commit.writes (x.position - x.first) (x.object, x.words) o.write in
       let a = o.all 0 (omega arith) in
       (a.0, a.1, a.2, a.5)
 
   -- so the versions of one set were committed at one time
-  one_time : (s i l : ℕ) (x y : Version) (note other : CommitNote) → Lives f.ring s i x (Committed note) → Lives f.ring s l y (Committed other) → y.first ≡ x.first → other.time ≡ note.time
+  one_time : (s i l : ℕ) (x y : Version) (note other : CommitNote) → Lives f.ring s i x (Committed note) → Lives f.ring s l y (Committed other)
+      → y.first ≡ x.first → other.time ≡ note.time
   one_time s i l x y note other a b same =
       let p = first_of s x note (k.write_sets.commit s i x note a) in
       let q = first_of s y other (k.write_sets.commit s l y other b) in
-      let there : Lives f.ring s (index_of c (x.first + 0)) q.0 (Committed q.1) = subst (λ (u : ℕ). Lives f.ring s (index_of c (u + 0)) q.0 (Committed q.1)) same q.2 in
+      let there : Lives f.ring s (index_of c (x.first + 0)) q.0 (Committed q.1) =
+      subst (λ (u : ℕ). Lives f.ring s (index_of c (u + 0)) q.0 (Committed q.1)) same q.2 in
       let one = live_once (slot_at (f.ring s) (index_of c (x.first + 0))) p.0 q.0 (Committed p.1) (Committed q.1) p.2 there in
       sym q.3 ∙ ap (λ (n : CommitNote). n.time) (sym (note_once p.1 q.1 one.1)) ∙ p.3
 
@@ -51,7 +55,8 @@ module _ {starts : State → Type 0} {allows : List ℕ → State → Writes →
   one_fate s i l x y (Aborted dead) (Aborted other) a b same = tt
 
   -- each position from the first of a set on has a version of it
-  runs : (s i : ℕ) (x : Version) (st : Status) → Lives f.ring s i x st → (p : ℕ) → x.first ≤ p → p ≤ x.position → InHeldSet c f.ring s x.first p (HaveOneFate st)
+  runs : (s i : ℕ) (x : Version) (st : Status) → Lives f.ring s i x st → (p : ℕ) → x.first ≤ p → p ≤ x.position
+      → InHeldSet c f.ring s x.first p (HaveOneFate st)
   runs s i x st lives p from to =
       let a = k.write_sets.between s i x st lives p from to in
       record {
@@ -64,7 +69,8 @@ module _ {starts : State → Type 0} {allows : List ℕ → State → Writes →
       }
 
   -- a version of a set that begins at or before the position of another one there is of its set
-  of_set : (s i l : ℕ) (x y : Version) (st su : Status) → Lives f.ring s i x st → Lives f.ring s l y su → y.first ≤ x.position → x.position ≤ y.position → y.first ≡ x.first
+  of_set : (s i l : ℕ) (x y : Version) (st su : Status) → Lives f.ring s i x st → Lives f.ring s l y su → y.first ≤ x.position → x.position ≤ y.position
+      → y.first ≡ x.first
   of_set s i l x y st su a b from to =
       let z = k.write_sets.between s l y su b x.position from to in
       let one = position_once c h f.ring k.checked k.history.in_time k.positions s (index_of c x.position) i z.version x z.status st z.lives a z.position_is in
@@ -107,7 +113,14 @@ module _ {starts : State → Type 0} {allows : List ℕ → State → Writes →
             record { version = a.version; status = a.status; lives = a.lives; position_is = a.position_is; first_is = a.first_is; known = inl a.known })
             (λ aborts.
             let a = k.write_sets.held s i x lives p from below in
-            record { version = a.version; status = a.status; lives = a.lives; position_is = a.position_is; first_is = a.first_is; known = held_or a.status a.known aborts })
+            record {
+              version = a.version;
+              status = a.status;
+              lives = a.lives;
+              position_is = a.position_is;
+              first_is = a.first_is;
+              known = held_or a.status a.known aborts;
+            })
             mode;
       }
 
@@ -120,7 +133,8 @@ module _ {starts : State → Type 0} {allows : List ℕ → State → Writes →
       (λ opens.
       let after = k.write_sets.after_first s i x (Aborted dead) lives in
       let a = k.open_section.whole s l y o.0 there o.1 opens x.position (omega arith) (k.positions.live s i x (Aborted dead) lives).1 in
-      let one = position_once c h f.ring k.checked k.history.in_time k.positions s (index_of c x.position) i a.version x a.status (Aborted dead) a.lives lives a.position_is in
+      let one = position_once c h f.ring k.checked k.history.in_time k.positions s (index_of c x.position) i a.version x a.status (Aborted dead) a.lives
+      lives a.position_is in
       let clash : Held ≡ Aborted dead = sym a.known ∙ one.2 in
       absurd cc)
       (λ aborts. inr (refl, (o.0, o.1, aborts)))

@@ -25,6 +25,7 @@ pub fn parse_is_exact()
 pub fn commands_read_back()
     ensures plain { (commands : List Command) → AllByRecursion (MaySay 1) commands → length commands ≤ MOST_COMMANDS
         → parsed (script_text commands) ≡ Ok commands }
-    ensures headed { (format : ℕ) (commands : List Command) → IsFormat format → AllByRecursion (MaySay format) commands → length commands ≤ MOST_COMMANDS
+    ensures headed { (format : ℕ) (commands : List Command) → IsFormat format → AllByRecursion (MaySay format) commands
+        → length commands ≤ MOST_COMMANDS
         → parsed (format_text format ++ script_text commands) ≡ Ok commands }
 {}

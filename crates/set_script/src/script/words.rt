@@ -81,7 +81,8 @@ pub fn read_two(bytes: &[u8]) -> Result<(&[u8], &[u8]), FaultKind>
 
 /// The three words of the bytes. `Err` is `Count`, for fewer and for more.
 pub fn read_three(bytes: &[u8]) -> Result<(&[u8], &[u8], &[u8]), FaultKind>
-    ensures { MatchResult result (λ three. three_of (words_in bytes.now) ≡ Ok (three.0.now, three.1.now, three.2.now)) (λ kind. three_of (words_in bytes.now) ≡ Err kind) }
+    ensures { MatchResult result (λ three. three_of (words_in bytes.now) ≡ Ok (three.0.now, three.1.now, three.2.now))
+        (λ kind. three_of (words_in bytes.now) ≡ Err kind) }
 {
     let (first, rest) = first_word(bytes).ok_or(FaultKind::Count)?;
     let (second, third) = read_two(rest)?;

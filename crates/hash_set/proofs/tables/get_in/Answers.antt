@@ -3,4 +3,5 @@ use Rattle.hash_set.proofs.SetMaps.{at_value}
 use Rattle.hash_set.proofs.tables.get_in.Goals as goal
 
 pub returns-clause-value : goal.returns-clause-value
-returns-clause-value g c = c.get_in.ensures.value ∙ at_value _ _ _ _ c.requires.lawful c.requires.set_in (omega (arith, c.ranges.key.fits)) c.bucket_of-head.ensures
+returns-clause-value g c =
+    c.get_in.ensures.value ∙ at_value _ _ _ _ c.requires.lawful c.requires.set_in (omega (arith, c.ranges.key.fits)) c.bucket_of-head.ensures

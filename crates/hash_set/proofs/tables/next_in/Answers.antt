@@ -13,7 +13,8 @@ next_in-next-requires-clause-lawful g c = subst (λ (s : State). IsLawful s) (sy
 pub loop-i-preserved : goal.loop-i-preserved
 loop-i-preserved g c = record {
   before = g.met.V.View.as_long_before _ _ _ c.loop-i.invariant.before c.next_in-next.ensures.as_before;
-  least = least_step _ _ _ _ _ _ _ _ _ (g.met.V.View.same_state _ _ c.loop-i.invariant.before) c.loop-i.invariant.least c.bucket.ensures c.next_in-next.ensures.next c.lesser-least.ensures;
+  least = least_step _ _ _ _ _ _ _ _ _ (g.met.V.View.same_state _ _ c.loop-i.invariant.before) c.loop-i.invariant.least c.bucket.ensures
+      c.next_in-next.ensures.next c.lesser-least.ensures;
   within = omega (arith, c.loop-i-test.true);
 }
 

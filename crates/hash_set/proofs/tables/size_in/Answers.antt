@@ -19,7 +19,8 @@ overflow_add-count g c = record {
 pub loop-i-preserved : goal.loop-i-preserved
 loop-i-preserved g c = record {
   before = g.met.V.View.as_long_before _ _ _ c.loop-i.invariant.before c.size_in-count.ensures.as_before;
-  count = count_step _ _ _ _ _ _ _ (g.met.V.View.same_state _ _ c.loop-i.invariant.before) c.loop-i.invariant.count c.bucket.ensures c.size_in-count.ensures.size;
+  count = count_step _ _ _ _ _ _ _ (g.met.V.View.same_state _ _ c.loop-i.invariant.before) c.loop-i.invariant.count c.bucket.ensures
+      c.size_in-count.ensures.size;
   within = omega (arith, c.loop-i-test.true);
 }
 

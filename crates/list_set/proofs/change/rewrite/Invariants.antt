@@ -7,7 +7,8 @@ use Rattle.list_set.proofs.change.rewrite.Given as goal
 
 abbrev pub invariant-loop-lock : goal.invariant-loop-lock
 invariant-loop-lock g l =
-    HoldsMore (g.S.Section.section l.fn.section) (g.S.Section.section l.section) (objects_of (take l.lock-index l.changes)) (with_locks (state_of (g.S.Section.section l.fn.section)) (g.S.Section.section l.fn.section).own (objects_of (take l.lock-index l.changes)))
+    HoldsMore (g.S.Section.section l.fn.section) (g.S.Section.section l.section) (objects_of (take l.lock-index l.changes))
+    (with_locks (state_of (g.S.Section.section l.fn.section)) (g.S.Section.section l.fn.section).own (objects_of (take l.lock-index l.changes)))
 
 abbrev pub invariant-loop-change : goal.invariant-loop-change
 invariant-loop-change g l = IsWriting (g.S.Section.section l.fn.section) (g.S.Section.section l.section) l.changes (take l.change-index l.changes)

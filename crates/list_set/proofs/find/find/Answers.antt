@@ -23,12 +23,14 @@ returns-then-node_words-key-clause-spot g c =
 
 pub loop-words-smaller : goal.loop-words-smaller
 loop-words-smaller g c =
-    next_falls _ _ _ _ _ _ _ c.loop-words.invariant.spot c.loop-words-test.true c.read-node_words.ensures.words _ (g.met.V.View.same_state _ _ c.read-node_words.ensures.as_before)
+    next_falls _ _ _ _ _ _ _ c.loop-words.invariant.spot c.loop-words-test.true c.read-node_words.ensures.words _
+    (g.met.V.View.same_state _ _ c.read-node_words.ensures.as_before)
 
 pub loop-words-preserved : goal.loop-words-preserved
 loop-words-preserved g c = record {
   before = g.met.V.View.as_long_before _ _ _ c.loop-words.invariant.before c.read-node_words.ensures.as_before;
-  spot = spot_step _ _ _ _ _ _ _ c.loop-words.invariant.spot c.loop-words-test.true c.read-node_words.ensures.words _ (g.met.V.View.same_state _ _ c.read-node_words.ensures.as_before) c.if-node_words-key.false;
+  spot = spot_step _ _ _ _ _ _ _ c.loop-words.invariant.spot c.loop-words-test.true c.read-node_words.ensures.words _
+      (g.met.V.View.same_state _ _ c.read-node_words.ensures.as_before) c.if-node_words-key.false;
 }
 
 pub returns-clause-spot : goal.returns-clause-spot

@@ -11,7 +11,10 @@ loop-node-init g c = record { before = c.read.ensures.as_before; count = count_f
 
 pub overflow_cast-node : goal.overflow_cast-node
 overflow_cast-node g c =
-    record { fits = count_fits _ _ _ _ _ [] (g.met.V.View.same_state _ _ c.loop-node.invariant.before) c.loop-node.invariant.count c.loop-node-test.true c.requires.lawful.few }
+    record {
+      fits = count_fits _ _ _ _ _ [] (g.met.V.View.same_state _ _ c.loop-node.invariant.before) c.loop-node.invariant.count c.loop-node-test.true
+          c.requires.lawful.few;
+    }
 
 pub read-requires-in-loop-node : goal.read-requires-in-loop-node
 read-requires-in-loop-node g c =
@@ -19,12 +22,14 @@ read-requires-in-loop-node g c =
 
 pub loop-node-smaller : goal.loop-node-smaller
 loop-node-smaller g c =
-    count_falls _ _ _ _ _ _ (g.met.V.View.same_state _ _ c.loop-node.invariant.before) c.loop-node.invariant.count c.loop-node-test.true c.read-in-loop-node.ensures.words
+    count_falls _ _ _ _ _ _ (g.met.V.View.same_state _ _ c.loop-node.invariant.before) c.loop-node.invariant.count c.loop-node-test.true
+    c.read-in-loop-node.ensures.words
 
 pub loop-node-preserved : goal.loop-node-preserved
 loop-node-preserved g c = record {
   before = g.met.V.View.as_long_before _ _ _ c.loop-node.invariant.before c.read-in-loop-node.ensures.as_before;
-  count = count_step _ _ _ _ _ _ (g.met.V.View.same_state _ _ c.loop-node.invariant.before) c.loop-node.invariant.count c.loop-node-test.true c.read-in-loop-node.ensures.words;
+  count = count_step _ _ _ _ _ _ (g.met.V.View.same_state _ _ c.loop-node.invariant.before) c.loop-node.invariant.count c.loop-node-test.true
+      c.read-in-loop-node.ensures.words;
 }
 
 pub returns-clause-size : goal.returns-clause-size

@@ -5,7 +5,8 @@ use Rattle.log_reclaim.proofs.rounds.due.Goals as goal
 
 pub returns-then-version-note : goal.returns-then-version-note
 returns-then-version-note c =
-    dead_before c.args.log.now c.requires c.args.time c.loop-index.index c.note-version.result c.note-version.ensures (λ e. c.if-version-note.true (e ∙ sym (oldest_at c.args.log.now c.requires c.note.result c.note.ensures))) c.loop-index.invariant
+    dead_before c.args.log.now c.requires c.args.time c.loop-index.index c.note-version.result c.note-version.ensures
+    (λ e. c.if-version-note.true (e ∙ sym (oldest_at c.args.log.now c.requires c.note.result c.note.ensures))) c.loop-index.invariant
 
 pub returns-then-version-eq0 : goal.returns-then-version-eq0
 returns-then-version-eq0 c = (
@@ -18,7 +19,9 @@ returns-then-version-eq0 c = (
 pub loop-index-preserved : goal.loop-index-preserved
 loop-index-preserved c =
     let alive = c.if-version-eq0.false in
-    one_more_dead c.args.log.now c.args.time c.loop-index.index c.note-version.result c.note-version.ensures (c.if-version-note.false ∙ oldest_at c.args.log.now c.requires c.note.result c.note.ensures) (omega arith, c.if-version-time.false) c.loop-index.invariant
+    one_more_dead c.args.log.now c.args.time c.loop-index.index c.note-version.result c.note-version.ensures
+    (c.if-version-note.false ∙ oldest_at c.args.log.now c.requires c.note.result c.note.ensures) (omega arith, c.if-version-time.false)
+    c.loop-index.invariant
 
 pub returns : goal.returns
 returns c i n is first =

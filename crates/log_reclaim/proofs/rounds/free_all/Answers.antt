@@ -9,7 +9,10 @@ sets-init g c = record {
   of = c.requires.of;
   same = search rules;
   stands = c.requires.stands;
-  frees = ([], frees_none (view c.args.pass.now) c.args.log.now c.requires.may (still_of _ _ (view c.args.pass.now) c.args.pass.now.known c.requires.may.outside));
+  frees = (
+    [],
+    frees_none (view c.args.pass.now) c.args.log.now c.requires.may (still_of _ _ (view c.args.pass.now) c.args.pass.now.known c.requires.may.outside),
+  );
   step = omega arith;
 }
 
@@ -17,7 +20,9 @@ pub returns-then-count-eq0-clause-frees : goal.returns-then-count-eq0-clause-fre
 returns-then-count-eq0-clause-frees g c =
     let k = c.sets.invariant.frees in
     let f = c.free_oldest-count.ensures in
-    frees_end (config_of c.args.shared.now) (view c.args.pass.now) (view c.sets.pass) c.args.log.now c.sets.log k.0 c.sets.freed c.args.mark.now.time c.free_oldest-count.result k.1 c.sets.invariant.stands.log f.frees c.if-count-eq0.true (view c.free_oldest-count.new.pass) c.free_oldest-count.new.log f.view
+    frees_end (config_of c.args.shared.now) (view c.args.pass.now) (view c.sets.pass) c.args.log.now c.sets.log k.0 c.sets.freed c.args.mark.now.time
+    c.free_oldest-count.result k.1 c.sets.invariant.stands.log f.frees c.if-count-eq0.true (view c.free_oldest-count.new.pass)
+    c.free_oldest-count.new.log f.view
     f.log
 
 pub sets-preserved : goal.sets-preserved
@@ -29,6 +34,7 @@ sets-preserved g c =
       of = search rules;
       same = search rules;
       stands = f.stands;
-      frees = frees_more (config_of c.args.shared.now) (view c.args.pass.now) (view c.sets.pass) c.args.log.now c.sets.log k.0 c.sets.freed k.1 c.args.mark.now.time c.free_oldest-count.result f.frees (view c.free_oldest-count.new.pass) c.free_oldest-count.new.log f.view f.log;
+      frees = frees_more (config_of c.args.shared.now) (view c.args.pass.now) (view c.sets.pass) c.args.log.now c.sets.log k.0 c.sets.freed k.1
+          c.args.mark.now.time c.free_oldest-count.result f.frees (view c.free_oldest-count.new.pass) c.free_oldest-count.new.log f.view f.log;
       step = omega arith;
     }

@@ -9,17 +9,26 @@ use Rattle.log_reclaim.proofs.rounds.round.Goals.{in-Some, in-None}
 use Rattle.log_reclaim.proofs.rounds.round.Goals as goal
 
 -- what the round left, whatever it scanned
-left : (g : _) (c : goal.After-live g) (scanned : Option Scanned) → c.sweep-freed.result.1 ≡ scanned → SweepsSo (config_of c.args.shared.now) (view c.args.pass.now) (view c.sweep-freed.new.pass) c.args.log.now c.sweep-freed.new.log c.sweep-freed.ensures.sweeps.0 c.args.back c.sweep-freed.new.found c.sweep-freed.result.0 scanned
-left g c scanned is = subst (λ (o : Option Scanned). SweepsSo (config_of c.args.shared.now) (view c.args.pass.now) (view c.sweep-freed.new.pass) c.args.log.now c.sweep-freed.new.log c.sweep-freed.ensures.sweeps.0 c.args.back c.sweep-freed.new.found c.sweep-freed.result.0 o) is c.sweep-freed.ensures.sweeps.1
+left : (g : _) (c : goal.After-live g) (scanned : Option Scanned) → c.sweep-freed.result.1 ≡ scanned
+    → SweepsSo (config_of c.args.shared.now) (view c.args.pass.now) (view c.sweep-freed.new.pass) c.args.log.now c.sweep-freed.new.log
+    c.sweep-freed.ensures.sweeps.0 c.args.back c.sweep-freed.new.found c.sweep-freed.result.0 scanned
+left g c scanned is =
+    subst (λ (o : Option Scanned). SweepsSo (config_of c.args.shared.now) (view c.args.pass.now) (view c.sweep-freed.new.pass) c.args.log.now
+    c.sweep-freed.new.log c.sweep-freed.ensures.sweeps.0 c.args.back c.sweep-freed.new.found c.sweep-freed.result.0 o) is c.sweep-freed.ensures.sweeps.1
 
 pub returns-clause-reclaims : goal.returns-clause-reclaims
 returns-clause-reclaims g c =
     let s = c.sweep-freed in
     elim c.match-scanned.branch [
       | in-Some w ↦ let scanned = w.in-Some.scanned in
-          let holds : IsHolder s.new.log scanned scanned c.args.back s.new.found c.match-scanned.held = subst (λ (o : Option Holder). IsHolder s.new.log scanned scanned c.args.back s.new.found o) (sym w.held-is) w.holder-held.ensures in
-          let r = round_scanned _ _ (config_of c.args.shared.now) (view c.args.pass.now) (view s.new.pass) c.args.log.now s.new.log s.ensures.sweeps.0 c.args.back scanned s.new.found s.result.0 (left g c _ w.in-Some.is) c.requires.stands s.ensures.stands c.args.pass.now.known s.new.pass.known c.match-scanned.held holds in
+          let holds : IsHolder s.new.log scanned scanned c.args.back s.new.found c.match-scanned.held =
+          subst (λ (o : Option Holder). IsHolder s.new.log scanned scanned c.args.back s.new.found o) (sym w.held-is) w.holder-held.ensures in
+          let r = round_scanned _ _ (config_of c.args.shared.now) (view c.args.pass.now) (view s.new.pass) c.args.log.now s.new.log s.ensures.sweeps.0
+          c.args.back scanned s.new.found s.result.0 (left g c _ w.in-Some.is) c.requires.stands s.ensures.stands c.args.pass.now.known s.new.pass.known
+          c.match-scanned.held holds in
           (s.ensures.sweeps.0, r.0, r.1, r.2, r.3)
-      | in-None w ↦ let r = round_emptied (config_of c.args.shared.now) (view c.args.pass.now) (view s.new.pass) c.args.log.now s.new.log s.ensures.sweeps.0 c.args.back s.result.0 (left g c None w.in-None.is) c.match-scanned.held w.held-is in
+      | in-None w ↦ let r =
+          round_emptied (config_of c.args.shared.now) (view c.args.pass.now) (view s.new.pass) c.args.log.now s.new.log s.ensures.sweeps.0 c.args.back
+          s.result.0 (left g c None w.in-None.is) c.match-scanned.held w.held-is in
           (s.ensures.sweeps.0, r.0, r.1, r.2, r.3)
     ]

@@ -7,12 +7,14 @@ use Rattle.log_reclaim.proofs.rounds.scan_and_free.Goals as goal
 pub settle_all-latest-requires-clause-may : goal.settle_all-latest-requires-clause-may
 settle_all-latest-requires-clause-may g c =
     let s = c.scan_clock-clock in
-    may_settle _ _ (config_of c.args.shared.now) (view c.args.pass.now) (view s.new.pass) c.args.log.now s.result.0 s.result.1 c.args.steps.now s.new.steps c.requires.of.2 c.requires.may c.requires.stands c.args.pass.now.known s.ensures.scans s.ensures.known
+    may_settle _ _ (config_of c.args.shared.now) (view c.args.pass.now) (view s.new.pass) c.args.log.now s.result.0 s.result.1 c.args.steps.now s.new.steps
+    c.requires.of.2 c.requires.may c.requires.stands c.args.pass.now.known s.ensures.scans s.ensures.known
 
 pub settle_all-latest-requires-clause-stands : goal.settle_all-latest-requires-clause-stands
 settle_all-latest-requires-clause-stands g c =
     let s = c.scan_clock-clock in
-    scan_stands (config_of c.args.shared.now) (view c.args.pass.now) (view s.new.pass) s.result.0 s.result.1 c.args.steps.now s.new.steps s.ensures.scans c.args.log.now c.requires.stands
+    scan_stands (config_of c.args.shared.now) (view c.args.pass.now) (view s.new.pass) s.result.0 s.result.1 c.args.steps.now s.new.steps s.ensures.scans
+    c.args.log.now c.requires.stands
 
 pub returns-clause-sweeps : goal.returns-clause-sweeps
 returns-clause-sweeps g c =
@@ -20,6 +22,10 @@ returns-clause-sweeps g c =
     let t = c.settle_all-latest in
     let f = c.free_all-freed in
     let own = subst (λ (n : ℕ). n < (config_of c.args.shared.now).seats) c.args.pass.now.numbered c.requires.of.1 in (
-      steps_of (config_of c.args.shared.now) (view c.args.pass.now) (view s.new.pass) s.result.0 s.result.1 c.args.steps.now s.new.steps s.ensures.scans ++ (t.ensures.settles.0 ++ f.ensures.frees.0),
-      sweeps _ _ (config_of c.args.shared.now) (view c.args.pass.now) (view s.new.pass) c.args.log.now s.result.0 s.result.1 c.args.steps.now s.new.steps c.requires.of.2 c.requires.may c.requires.stands c.args.pass.now.known s.ensures.scans (view t.new.pass) (view f.new.pass) t.new.log f.new.log t.ensures.settles.0 f.ensures.frees.0 c.args.back t.new.found t.result f.result s.ensures.known t.ensures.settles.1 f.ensures.frees.1 s.new.pass.known own s.ensures.makers,
+      steps_of (config_of c.args.shared.now) (view c.args.pass.now) (view s.new.pass) s.result.0 s.result.1 c.args.steps.now s.new.steps s.ensures.scans
+          ++ (t.ensures.settles.0 ++ f.ensures.frees.0),
+      sweeps _ _ (config_of c.args.shared.now) (view c.args.pass.now) (view s.new.pass) c.args.log.now s.result.0 s.result.1 c.args.steps.now s.new.steps
+          c.requires.of.2 c.requires.may c.requires.stands c.args.pass.now.known s.ensures.scans (view t.new.pass) (view f.new.pass) t.new.log f.new.log
+          t.ensures.settles.0 f.ensures.frees.0 c.args.back t.new.found t.result f.result s.ensures.known t.ensures.settles.1 f.ensures.frees.1
+          s.new.pass.known own s.ensures.makers,
     )

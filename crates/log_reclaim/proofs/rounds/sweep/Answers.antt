@@ -14,9 +14,12 @@ pub returns-then-live-eq0-clause-sweeps : goal.returns-then-live-eq0-clause-swee
 returns-then-live-eq0-clause-sweeps g c =
     let k = c.known-mark in
     let f = c.free_all-first in
-    let load = grace_makes (config_of c.args.shared.now) (view c.args.pass.now) (view k.new.pass) k.result.time k.ensures.view c.requires.may (still_of _ _ (view c.args.pass.now) c.args.pass.now.known c.requires.may.outside) in (
+    let load = grace_makes (config_of c.args.shared.now) (view c.args.pass.now) (view k.new.pass) k.result.time k.ensures.view c.requires.may
+    (still_of _ _ (view c.args.pass.now) c.args.pass.now.known c.requires.may.outside) in (
       (grace_load (config_of c.args.shared.now) k.result.time ∷ []) ++ f.ensures.frees.0,
-      sweeps_all (config_of c.args.shared.now) (view c.args.pass.now) (view k.new.pass) (view f.new.pass) c.args.log.now f.new.log (grace_load (config_of c.args.shared.now) k.result.time ∷ []) f.ensures.frees.0 k.result.time f.result load f.ensures.frees.1 (sym c.live.ensures ∙ c.if-live-eq0.true),
+      sweeps_all (config_of c.args.shared.now) (view c.args.pass.now) (view k.new.pass) (view f.new.pass) c.args.log.now f.new.log
+          (grace_load (config_of c.args.shared.now) k.result.time ∷ []) f.ensures.frees.0 k.result.time f.result load f.ensures.frees.1
+          (sym c.live.ensures ∙ c.if-live-eq0.true),
     )
 
 pub returns-clause-sweeps : goal.returns-clause-sweeps
@@ -24,8 +27,11 @@ returns-clause-sweeps g c =
     let k = c.known-mark in
     let f = c.free_all-first in
     let s = c.scan_and_free-second in
-    let load = grace_makes (config_of c.args.shared.now) (view c.args.pass.now) (view k.new.pass) k.result.time k.ensures.view c.requires.may (still_of _ _ (view c.args.pass.now) c.args.pass.now.known c.requires.may.outside) in (
+    let load = grace_makes (config_of c.args.shared.now) (view c.args.pass.now) (view k.new.pass) k.result.time k.ensures.view c.requires.may
+    (still_of _ _ (view c.args.pass.now) c.args.pass.now.known c.requires.may.outside) in (
       (grace_load (config_of c.args.shared.now) k.result.time ∷ []) ++ f.ensures.frees.0 ++ s.ensures.sweeps.0,
-      sweeps_then (config_of c.args.shared.now) (view c.args.pass.now) (view k.new.pass) (view f.new.pass) (view s.new.pass) c.args.log.now f.new.log s.new.log (grace_load (config_of c.args.shared.now) k.result.time ∷ []) f.ensures.frees.0 s.ensures.sweeps.0 k.result.time f.result c.args.back s.result.1 s.new.found s.result.0 load
+      sweeps_then (config_of c.args.shared.now) (view c.args.pass.now) (view k.new.pass) (view f.new.pass) (view s.new.pass) c.args.log.now f.new.log
+          s.new.log (grace_load (config_of c.args.shared.now) k.result.time ∷ []) f.ensures.frees.0 s.ensures.sweeps.0 k.result.time f.result c.args.back
+          s.result.1 s.new.found s.result.0 load
           f.ensures.frees.1 s.ensures.sweeps.1,
     )

@@ -12,15 +12,33 @@ use Rattle.log_reclaim.proofs.settling.settle.Goals as goal
 
 pub returns-then-version-ne0-clause-settles : goal.returns-then-version-ne0-clause-settles
 returns-then-version-ne0-clause-settles g c clock may =
-    let r = c.requires in
-    ([], settles_timed _ _ (config_of c.args.shared.now) (view c.args.pass.now) c.args.log.now c.args.mark.now clock c.args.pass.now.known r.of.2 r.stands may c.args.index c.note-version.result c.note-version.ensures c.args.back c.args.found.now r.table c.if-version-ne0.true)
+    let r = c.requires in (
+      [],
+      settles_timed _ _ (config_of c.args.shared.now) (view c.args.pass.now) c.args.log.now c.args.mark.now clock c.args.pass.now.known r.of.2 r.stands may
+          c.args.index c.note-version.result c.note-version.ensures c.args.back c.args.found.now r.table c.if-version-ne0.true,
+    )
 
 pub load_super-requires : goal.load_super-requires
 load_super-requires g c κs within =
     let r = c.requires in
     let may = r.may.1 in
-    let none : c.note-version.result.dead ≡ 0 = omega arith in
-    (within.0, (within.1, (r.of, (may.outside, (r.stands, untimed_same (config_of c.args.shared.now) (view c.args.pass.now) c.args.log.now r.stands c.args.index c.note-version.result c.note-version.ensures _ _ c.args.pass.now.known may.outside.outside c.args.log.now refl none)))))
+    let none : c.note-version.result.dead ≡ 0 = omega arith in (
+      within.0,
+      (
+        within.1,
+        (
+          r.of,
+          (
+            may.outside,
+            (
+              r.stands,
+              untimed_same (config_of c.args.shared.now) (view c.args.pass.now) c.args.log.now r.stands c.args.index c.note-version.result
+                  c.note-version.ensures _ _ c.args.pass.now.known may.outside.outside c.args.log.now refl none,
+            ),
+          ),
+        ),
+      ),
+    )
 
 pub returns-then-load_super-clause-settles : goal.returns-then-load_super-clause-settles
 returns-then-load_super-clause-settles g c clock may =
@@ -28,13 +46,20 @@ returns-then-load_super-clause-settles g c clock may =
     let none : c.note-version.result.dead ≡ 0 = omega arith in
     let u : View = view c.load_super.new.pass in
     let m : Noted = c.load_super.new.log in
-    let loads = loads_is (config_of c.args.shared.now) (view c.args.pass.now) c.args.log.now r.stands c.args.index c.note-version.result c.note-version.ensures u m c.load_super.result c.load_super.ensures.loads in
+    let loads = loads_is (config_of c.args.shared.now) (view c.args.pass.now) c.args.log.now r.stands c.args.index c.note-version.result
+    c.note-version.ensures u m c.load_super.result c.load_super.ensures.loads in
     ⊎_elim
-    (λ e. settles_found _ _ (config_of c.args.shared.now) (view c.args.pass.now) c.args.log.now c.args.mark.now clock c.args.pass.now.known r.of.2 r.stands may c.args.index c.note-version.result c.note-version.ensures u m c.args.back c.args.found.now r.table none (subst (LoadsSuper (config_of c.args.shared.now) (view c.args.pass.now) u c.args.log.now m c.note-version.result) e loads))
+    (λ e. settles_found _ _ (config_of c.args.shared.now) (view c.args.pass.now) c.args.log.now c.args.mark.now clock c.args.pass.now.known r.of.2 r.stands
+    may c.args.index c.note-version.result c.note-version.ensures u m c.args.back c.args.found.now r.table none
+    (subst (LoadsSuper (config_of c.args.shared.now) (view c.args.pass.now) u c.args.log.now m c.note-version.result) e loads))
     (λ e.
     let zero = subst (LoadsSuper (config_of c.args.shared.now) (view c.args.pass.now) u c.args.log.now m c.note-version.result) e.0 loads in
-    let same = log_same (config_of c.args.shared.now) (view c.args.pass.now) c.args.log.now r.stands c.args.index c.note-version.result c.note-version.ensures u m zero in
-    settles_unbacked _ _ (config_of c.args.shared.now) (view c.args.pass.now) c.args.log.now c.args.mark.now clock c.args.pass.now.known r.of.2 r.stands may c.args.index c.note-version.result c.note-version.ensures u (subst (λ (z : Noted). LoadsSuper (config_of c.args.shared.now) (view c.args.pass.now) u c.args.log.now z c.note-version.result false) same zero) none m c.args.back c.args.found.now r.table e.1 same)
+    let same = log_same (config_of c.args.shared.now) (view c.args.pass.now) c.args.log.now r.stands c.args.index c.note-version.result
+    c.note-version.ensures u m zero in
+    settles_unbacked _ _ (config_of c.args.shared.now) (view c.args.pass.now) c.args.log.now c.args.mark.now clock c.args.pass.now.known r.of.2 r.stands may
+    c.args.index c.note-version.result c.note-version.ensures u
+    (subst (λ (z : Noted). LoadsSuper (config_of c.args.shared.now) (view c.args.pass.now) u c.args.log.now z c.note-version.result false) same zero) none
+    m c.args.back c.args.found.now r.table e.1 same)
     c.then-load_super.either
 
 pub write_back-tried-requires : goal.write_back-tried-requires
@@ -42,20 +67,25 @@ write_back-tried-requires g c κs within =
     let r = c.requires in
     let may = r.may.1 in
     let none : c.note-version.result.dead ≡ 0 = omega arith in
-    let loads = loads_is (config_of c.args.shared.now) (view c.args.pass.now) c.args.log.now r.stands c.args.index c.note-version.result c.note-version.ensures (view c.load_super.new.pass) c.load_super.new.log false c.if-load_super.ensures.loads in
-    let same = log_same (config_of c.args.shared.now) (view c.args.pass.now) c.args.log.now r.stands c.args.index c.note-version.result c.note-version.ensures (view c.load_super.new.pass) c.load_super.new.log loads in (
+    let loads = loads_is (config_of c.args.shared.now) (view c.args.pass.now) c.args.log.now r.stands c.args.index c.note-version.result
+    c.note-version.ensures (view c.load_super.new.pass) c.load_super.new.log false c.if-load_super.ensures.loads in
+    let same = log_same (config_of c.args.shared.now) (view c.args.pass.now) c.args.log.now r.stands c.args.index c.note-version.result c.note-version.ensures
+    (view c.load_super.new.pass) c.load_super.new.log loads in (
       within.0,
       (
         within.1,
         (
           search rules,
           (
-            may_try (config_of c.args.shared.now) (view c.args.pass.now) c.args.log.now r.stands c.args.index c.note-version.result c.note-version.ensures (view c.load_super.new.pass) c.load_super.new.log false loads,
+            may_try (config_of c.args.shared.now) (view c.args.pass.now) c.args.log.now r.stands c.args.index c.note-version.result c.note-version.ensures
+                (view c.load_super.new.pass) c.load_super.new.log false loads,
             (
               c.load_super.ensures.stands,
               (
-                untimed_same (config_of c.args.shared.now) (view c.args.pass.now) c.args.log.now r.stands c.args.index c.note-version.result c.note-version.ensures _ _ c.args.pass.now.known may.outside.outside c.load_super.new.log same none,
-                knows_still (config_of c.args.shared.now) (view c.args.pass.now) c.args.log.now r.stands c.args.index c.note-version.result c.note-version.ensures (view c.load_super.new.pass) c.load_super.new.log false c.args.mark.now loads may.known,
+                untimed_same (config_of c.args.shared.now) (view c.args.pass.now) c.args.log.now r.stands c.args.index c.note-version.result
+                    c.note-version.ensures _ _ c.args.pass.now.known may.outside.outside c.load_super.new.log same none,
+                knows_still (config_of c.args.shared.now) (view c.args.pass.now) c.args.log.now r.stands c.args.index c.note-version.result
+                    c.note-version.ensures (view c.load_super.new.pass) c.load_super.new.log false c.args.mark.now loads may.known,
               ),
             ),
           ),
@@ -67,9 +97,19 @@ pub returns-clause-settles : goal.returns-clause-settles
 returns-clause-settles g c clock may =
     let r = c.requires in
     let none : c.note-version.result.dead ≡ 0 = omega arith in
-    let loads = loads_is (config_of c.args.shared.now) (view c.args.pass.now) c.args.log.now r.stands c.args.index c.note-version.result c.note-version.ensures (view c.load_super.new.pass) c.load_super.new.log false c.if-load_super.ensures.loads in
-    let same = log_same (config_of c.args.shared.now) (view c.args.pass.now) c.args.log.now r.stands c.args.index c.note-version.result c.note-version.ensures (view c.load_super.new.pass) c.load_super.new.log loads in
-    let t = tries_is (config_of c.args.shared.now) (view c.args.pass.now) c.args.log.now r.stands c.args.index c.note-version.result c.note-version.ensures (view c.load_super.new.pass) (view c.write_back-tried.new.pass) c.load_super.new.log c.write_back-tried.new.log c.args.mark.now c.write_back-tried.result same c.write_back-tried.ensures.tries in
-    let zero = subst (λ (z : Noted). LoadsSuper (config_of c.args.shared.now) (view c.args.pass.now) (view c.load_super.new.pass) c.args.log.now z c.note-version.result false) same loads in
-    let one = settles_tried _ _ (config_of c.args.shared.now) (view c.args.pass.now) c.args.log.now c.args.mark.now clock c.args.pass.now.known r.of.2 r.stands may c.args.index c.note-version.result c.note-version.ensures (view c.load_super.new.pass) zero none (view c.write_back-tried.new.pass) c.write_back-tried.new.log c.write_back-tried.result t c.args.found.now r.table in
-    subst (λ b. (made : List Step) × SettlesOne (config_of c.args.shared.now) (view c.args.pass.now) (view c.write_back-tried.new.pass) c.args.log.now c.write_back-tried.new.log made c.args.mark.now clock b c.args.found.now (found_set c.args.found.now c.args.index c.write_back-tried.result.above) c.args.index c.write_back-tried.result.clock) (sym c.if-not-back.false) (_, one)
+    let loads = loads_is (config_of c.args.shared.now) (view c.args.pass.now) c.args.log.now r.stands c.args.index c.note-version.result
+    c.note-version.ensures (view c.load_super.new.pass) c.load_super.new.log false c.if-load_super.ensures.loads in
+    let same = log_same (config_of c.args.shared.now) (view c.args.pass.now) c.args.log.now r.stands c.args.index c.note-version.result c.note-version.ensures
+    (view c.load_super.new.pass) c.load_super.new.log loads in
+    let t = tries_is (config_of c.args.shared.now) (view c.args.pass.now) c.args.log.now r.stands c.args.index c.note-version.result c.note-version.ensures
+    (view c.load_super.new.pass) (view c.write_back-tried.new.pass) c.load_super.new.log c.write_back-tried.new.log c.args.mark.now
+    c.write_back-tried.result same c.write_back-tried.ensures.tries in
+    let zero = subst
+    (λ (z : Noted). LoadsSuper (config_of c.args.shared.now) (view c.args.pass.now) (view c.load_super.new.pass) c.args.log.now z c.note-version.result
+    false) same loads in
+    let one = settles_tried _ _ (config_of c.args.shared.now) (view c.args.pass.now) c.args.log.now c.args.mark.now clock c.args.pass.now.known r.of.2
+    r.stands may c.args.index c.note-version.result c.note-version.ensures (view c.load_super.new.pass) zero none (view c.write_back-tried.new.pass)
+    c.write_back-tried.new.log c.write_back-tried.result t c.args.found.now r.table in
+    subst (λ b. (made : List Step) × SettlesOne (config_of c.args.shared.now) (view c.args.pass.now) (view c.write_back-tried.new.pass) c.args.log.now
+    c.write_back-tried.new.log made c.args.mark.now clock b c.args.found.now (found_set c.args.found.now c.args.index c.write_back-tried.result.above)
+    c.args.index c.write_back-tried.result.clock) (sym c.if-not-back.false) (_, one)

@@ -10,13 +10,18 @@ loop-preserved g c =
     record {
       of = search rules;
       same = (b.0 ∙ a.0, b.1 ∙ a.1, b.2 ∙ a.2, b.3 ∙ a.3, b.4 ∙ a.4, b.5 ∙ a.5);
-      stores = stored_more (config_of c.args.shared.now) (view c.args.pass.now) (view c.loop.pass) c.args.back c.loop.back c.loop.counter c.args.steps.now c.loop.steps c.loop.invariant.stores (view c.back_word.new.pass) c.back_word.new.back c.back_word.new.steps c.back_word.ensures.writing c.back_word.ensures.stores c.back_word.ensures.step;
+      stores = stored_more (config_of c.args.shared.now) (view c.args.pass.now) (view c.loop.pass) c.args.back c.loop.back c.loop.counter c.args.steps.now
+          c.loop.steps c.loop.invariant.stores (view c.back_word.new.pass) c.back_word.new.back c.back_word.new.steps c.back_word.ensures.writing
+          c.back_word.ensures.stores c.back_word.ensures.step;
     }
 
 pub finish_clock-requires-clause-stands : goal.finish_clock-requires-clause-stands
 finish_clock-requires-clause-stands g c =
-    stands_stored (config_of c.args.shared.now) (view c.args.pass.now) (view c.loop.pass) c.args.back c.loop.back c.loop.counter c.args.steps.now c.loop.steps c.loop.invariant.stores c.args.log.now c.requires.stands
+    stands_stored (config_of c.args.shared.now) (view c.args.pass.now) (view c.loop.pass) c.args.back c.loop.back c.loop.counter c.args.steps.now c.loop.steps
+    c.loop.invariant.stores c.args.log.now c.requires.stands
 
 pub returns-clause-stores : goal.returns-clause-stores
 returns-clause-stores g c =
-    stores_all (config_of c.args.shared.now) (view c.args.pass.now) (view c.loop.pass) c.args.back c.loop.back c.loop.counter c.args.steps.now c.loop.steps c.loop.invariant.stores (view c.finish_clock.new.pass) c.args.log.now c.finish_clock.new.log c.finish_clock.result.1 c.requires.of.2 c.finish_clock.ensures.clock c.finish_clock.result.0 c.finish_clock.ensures.finishes c.finish_clock.ensures.cut
+    stores_all (config_of c.args.shared.now) (view c.args.pass.now) (view c.loop.pass) c.args.back c.loop.back c.loop.counter c.args.steps.now c.loop.steps
+    c.loop.invariant.stores (view c.finish_clock.new.pass) c.args.log.now c.finish_clock.new.log c.finish_clock.result.1 c.requires.of.2
+    c.finish_clock.ensures.clock c.finish_clock.result.0 c.finish_clock.ensures.finishes c.finish_clock.ensures.cut

@@ -20,72 +20,123 @@ is_ok r b is e = let f : Ok b ≡ Err Young = sym is ∙ e in absurd (cc)
 
 pub store_all-end-requires-clause-stands : goal.store_all-end-requires-clause-stands
 store_all-end-requires-clause-stands g c =
-    let s = subst (StartsSo (config_of c.args.shared.now) (view c.args.pass.now) (view c.start_clock-start.new.pass) c.args.log.now g.at c.args.mark.now c.args.steps.now c.start_clock-start.new.steps) c.in-Ok.is c.start_clock-start.ensures.starts in
+    let s = subst
+    (StartsSo (config_of c.args.shared.now) (view c.args.pass.now) (view c.start_clock-start.new.pass) c.args.log.now g.at c.args.mark.now
+    c.args.steps.now c.start_clock-start.new.steps) c.in-Ok.is c.start_clock-start.ensures.starts in
     looked_stands (config_of c.args.shared.now) (view c.args.pass.now) (view c.start_clock-start.new.pass) g.at.object _ s.1 c.args.log.now c.requires.1.1.1.1.0
 
 pub returns-in-Ok-clause-tries : goal.returns-in-Ok-clause-tries
 returns-in-Ok-clause-tries g c =
-    let s = subst (StartsSo (config_of c.args.shared.now) (view c.args.pass.now) (view c.start_clock-start.new.pass) c.args.log.now g.at c.args.mark.now c.args.steps.now c.start_clock-start.new.steps) c.in-Ok.is c.start_clock-start.ensures.starts in
+    let s = subst
+    (StartsSo (config_of c.args.shared.now) (view c.args.pass.now) (view c.start_clock-start.new.pass) c.args.log.now g.at c.args.mark.now
+    c.args.steps.now c.start_clock-start.new.steps) c.in-Ok.is c.start_clock-start.ensures.starts in
     let last = c.start_clock-start.ensures.clock (is_ok c.start_clock-start.result.0 c.in-Ok.back c.in-Ok.is) in
     elim c.match-end.branch [
       | in-Cut w ↦
-          subst (λ (t : Tried). TriesOne (config_of c.args.shared.now) (view c.args.pass.now) (view c.store_all-end.new.pass) c.args.log.now c.store_all-end.new.log g.at c.args.mark.now t) (λ i. record { above = sym w.above-is i; clock = sym c.max.ensures i })
-          (tries_cut _ _ (config_of c.args.shared.now) (view c.args.pass.now) c.args.log.now g.at c.args.mark.now c.args.pass.now.known c.requires.1.1.1.0 c.requires.1.1.0.2 (view c.start_clock-start.new.pass) (view c.store_all-end.new.pass) c.store_all-end.new.log _ c.in-Ok.back c.store_all-end.result.0 c.store_all-end.result.1 c.start_clock-start.result.1 s.1 c.store_all-end.ensures.stores last w.in-Cut.is (ap (λ (b : Back). b.position) s.3))
+          subst (λ (t : Tried). TriesOne (config_of c.args.shared.now) (view c.args.pass.now) (view c.store_all-end.new.pass) c.args.log.now
+          c.store_all-end.new.log g.at c.args.mark.now t) (λ i. record { above = sym w.above-is i; clock = sym c.max.ensures i })
+          (tries_cut _ _ (config_of c.args.shared.now) (view c.args.pass.now) c.args.log.now g.at c.args.mark.now c.args.pass.now.known c.requires.1.1.1.0
+          c.requires.1.1.0.2 (view c.start_clock-start.new.pass) (view c.store_all-end.new.pass) c.store_all-end.new.log _ c.in-Ok.back
+          c.store_all-end.result.0 c.store_all-end.result.1 c.start_clock-start.result.1 s.1 c.store_all-end.ensures.stores last w.in-Cut.is
+          (ap (λ (b : Back). b.position) s.3))
       | in-Above w ↦
-          subst (λ (t : Tried). TriesOne (config_of c.args.shared.now) (view c.args.pass.now) (view c.store_all-end.new.pass) c.args.log.now c.store_all-end.new.log g.at c.args.mark.now t) (λ i. record { above = sym w.above-is i; clock = sym c.max.ensures i })
-          (tries_lost _ _ (config_of c.args.shared.now) (view c.args.pass.now) c.args.log.now g.at c.args.mark.now c.args.pass.now.known c.requires.1.1.1.0 c.requires.1.1.0.2 (view c.start_clock-start.new.pass) (view c.store_all-end.new.pass) c.store_all-end.new.log _ c.in-Ok.back c.store_all-end.result.0 c.store_all-end.result.1 c.start_clock-start.result.1 s.1 c.store_all-end.ensures.stores last w.in-Above.seat w.in-Above.is (ap (λ (b : Back). b.object) s.3))
+          subst (λ (t : Tried). TriesOne (config_of c.args.shared.now) (view c.args.pass.now) (view c.store_all-end.new.pass) c.args.log.now
+          c.store_all-end.new.log g.at c.args.mark.now t) (λ i. record { above = sym w.above-is i; clock = sym c.max.ensures i })
+          (tries_lost _ _ (config_of c.args.shared.now) (view c.args.pass.now) c.args.log.now g.at c.args.mark.now c.args.pass.now.known c.requires.1.1.1.0
+          c.requires.1.1.0.2 (view c.start_clock-start.new.pass) (view c.store_all-end.new.pass) c.store_all-end.new.log _ c.in-Ok.back
+          c.store_all-end.result.0 c.store_all-end.result.1 c.start_clock-start.result.1 s.1 c.store_all-end.ensures.stores last w.in-Above.seat
+          w.in-Above.is (ap (λ (b : Back). b.object) s.3))
     ]
 
 pub load_super-requires : goal.load_super-requires
 load_super-requires g c κs within =
     let is : c.in-Err-Gone.field-0 ≡ Gone = rw c.in-Err-Gone.is at c.in-Err-Gone.field-0-is in
-    let s = subst (StartsSo (config_of c.args.shared.now) (view c.args.pass.now) (view c.start_clock-start.new.pass) c.args.log.now g.at c.args.mark.now c.args.steps.now c.start_clock-start.new.steps) (c.in-Err-Gone.is ∙ ap Err is) c.start_clock-start.ensures.starts in
-    let last = (c.start_clock-start.ensures.clock (not_young c.start_clock-start.result.0 c.in-Err-Gone.field-0 c.in-Err-Gone.is (λ e. let f : Gone ≡ Young = sym is ∙ e in absurd (cc)))) in
-    let may = gone_may _ _ (config_of c.args.shared.now) (view c.args.pass.now) c.args.log.now g.at c.args.mark.now c.args.pass.now.known c.requires.1.1.1.0 c.requires.1.1.0.2 (view c.start_clock-start.new.pass) 0 s.1 c.start_clock-start.result.1 last in
-    let stands = left_stands (config_of c.args.shared.now) (view c.args.pass.now) s.1.inside g.at.object 0 s.1.looked (view c.start_clock-start.new.pass) s.1.left c.args.log.now c.requires.1.1.1.1.0 in
+    let s = subst
+    (StartsSo (config_of c.args.shared.now) (view c.args.pass.now) (view c.start_clock-start.new.pass) c.args.log.now g.at c.args.mark.now
+    c.args.steps.now c.start_clock-start.new.steps) (c.in-Err-Gone.is ∙ ap Err is) c.start_clock-start.ensures.starts in
+    let last = (c.start_clock-start.ensures.clock
+    (not_young c.start_clock-start.result.0 c.in-Err-Gone.field-0 c.in-Err-Gone.is (λ e. let f : Gone ≡ Young = sym is ∙ e in absurd (cc)))) in
+    let may = gone_may _ _ (config_of c.args.shared.now) (view c.args.pass.now) c.args.log.now g.at c.args.mark.now c.args.pass.now.known c.requires.1.1.1.0
+    c.requires.1.1.0.2 (view c.start_clock-start.new.pass) 0 s.1 c.start_clock-start.result.1 last in
+    let stands =
+    left_stands (config_of c.args.shared.now) (view c.args.pass.now) s.1.inside g.at.object 0 s.1.looked (view c.start_clock-start.new.pass) s.1.left
+    c.args.log.now c.requires.1.1.1.1.0 in
     (within.0, (within.1, (search rules, (may, (stands, c.requires.1.1.1.1.1.0)))))
 
 pub returns-in-Err-Young-clause-tries : goal.returns-in-Err-Young-clause-tries
 returns-in-Err-Young-clause-tries g c =
     let is : c.in-Err-Young.field-0 ≡ Young = rw c.in-Err-Young.is at c.in-Err-Young.field-0-is in
-    let s = subst (StartsSo (config_of c.args.shared.now) (view c.args.pass.now) (view c.start_clock-start.new.pass) c.args.log.now g.at c.args.mark.now c.args.steps.now c.start_clock-start.new.steps) (c.in-Err-Young.is ∙ ap Err is) c.start_clock-start.ensures.starts in
+    let s = subst
+    (StartsSo (config_of c.args.shared.now) (view c.args.pass.now) (view c.start_clock-start.new.pass) c.args.log.now g.at c.args.mark.now
+    c.args.steps.now c.start_clock-start.new.steps) (c.in-Err-Young.is ∙ ap Err is) c.start_clock-start.ensures.starts in
     let clock = c.start_clock-start.ensures.young (c.in-Err-Young.is ∙ ap Err is) in
-    subst (λ x. TriesOne (config_of c.args.shared.now) (view c.args.pass.now) x c.args.log.now c.args.log.now g.at c.args.mark.now (record { above = None; clock = c.start_clock-start.result.1 })) (sym s.1)
-    (subst (λ t. TriesOne (config_of c.args.shared.now) (view c.args.pass.now) (view c.args.pass.now) c.args.log.now c.args.log.now g.at c.args.mark.now (record { above = None; clock = t })) (sym clock) (tries_young _ _ (config_of c.args.shared.now) (view c.args.pass.now) c.args.log.now g.at c.args.mark.now c.args.pass.now.known c.requires.1.1.1.0 c.requires.1.1.0.2 s.0))
+    subst (λ x. TriesOne (config_of c.args.shared.now) (view c.args.pass.now) x c.args.log.now c.args.log.now g.at c.args.mark.now
+    (record { above = None; clock = c.start_clock-start.result.1 })) (sym s.1)
+    (subst (λ t. TriesOne (config_of c.args.shared.now) (view c.args.pass.now) (view c.args.pass.now) c.args.log.now c.args.log.now g.at c.args.mark.now
+    (record { above = None; clock = t })) (sym clock)
+    (tries_young _ _ (config_of c.args.shared.now) (view c.args.pass.now) c.args.log.now g.at c.args.mark.now c.args.pass.now.known c.requires.1.1.1.0
+    c.requires.1.1.0.2 s.0))
 
 pub returns-in-Err-Gone-clause-tries : goal.returns-in-Err-Gone-clause-tries
 returns-in-Err-Gone-clause-tries g c =
     let is : c.in-Err-Gone.field-0 ≡ Gone = rw c.in-Err-Gone.is at c.in-Err-Gone.field-0-is in
-    let s = subst (StartsSo (config_of c.args.shared.now) (view c.args.pass.now) (view c.start_clock-start.new.pass) c.args.log.now g.at c.args.mark.now c.args.steps.now c.start_clock-start.new.steps) (c.in-Err-Gone.is ∙ ap Err is) c.start_clock-start.ensures.starts in
-    let last = (c.start_clock-start.ensures.clock (not_young c.start_clock-start.result.0 c.in-Err-Gone.field-0 c.in-Err-Gone.is (λ e. let f : Gone ≡ Young = sym is ∙ e in absurd (cc)))) in
-    let empty = gone_empty _ _ (config_of c.args.shared.now) (view c.args.pass.now) c.args.log.now g.at c.args.mark.now c.args.pass.now.known c.requires.1.1.1.0 c.requires.1.1.0.2 (view c.start_clock-start.new.pass) 0 s.1 c.start_clock-start.result.1 last c.args.position c.requires.1.1.1.1.0 c.requires.1.1.1.1.1.0 refl in
-    let loads = subst (λ b. LoadsSuper (config_of c.args.shared.now) (view c.start_clock-start.new.pass) (view c.load_super.new.pass) c.args.log.now c.load_super.new.log g.at b) (c.load_super.ensures.empty empty) c.load_super.ensures.loads in
-    tries_gone _ _ (config_of c.args.shared.now) (view c.args.pass.now) c.args.log.now g.at c.args.mark.now c.args.pass.now.known c.requires.1.1.1.0 c.requires.1.1.0.2 (view c.start_clock-start.new.pass) 0 s.1 c.start_clock-start.result.1 last (view c.load_super.new.pass) c.load_super.new.log loads
+    let s = subst
+    (StartsSo (config_of c.args.shared.now) (view c.args.pass.now) (view c.start_clock-start.new.pass) c.args.log.now g.at c.args.mark.now
+    c.args.steps.now c.start_clock-start.new.steps) (c.in-Err-Gone.is ∙ ap Err is) c.start_clock-start.ensures.starts in
+    let last = (c.start_clock-start.ensures.clock
+    (not_young c.start_clock-start.result.0 c.in-Err-Gone.field-0 c.in-Err-Gone.is (λ e. let f : Gone ≡ Young = sym is ∙ e in absurd (cc)))) in
+    let empty = gone_empty _ _ (config_of c.args.shared.now) (view c.args.pass.now) c.args.log.now g.at c.args.mark.now c.args.pass.now.known
+    c.requires.1.1.1.0 c.requires.1.1.0.2 (view c.start_clock-start.new.pass) 0 s.1 c.start_clock-start.result.1 last c.args.position c.requires.1.1.1.1.0
+    c.requires.1.1.1.1.1.0 refl in
+    let loads = subst
+    (λ b. LoadsSuper (config_of c.args.shared.now) (view c.start_clock-start.new.pass) (view c.load_super.new.pass) c.args.log.now c.load_super.new.log
+    g.at b) (c.load_super.ensures.empty empty) c.load_super.ensures.loads in
+    tries_gone _ _ (config_of c.args.shared.now) (view c.args.pass.now) c.args.log.now g.at c.args.mark.now c.args.pass.now.known c.requires.1.1.1.0
+    c.requires.1.1.0.2 (view c.start_clock-start.new.pass) 0 s.1 c.start_clock-start.result.1 last (view c.load_super.new.pass) c.load_super.new.log loads
 
 pub returns-then-seat-clause-stands : goal.returns-then-seat-clause-stands
 returns-then-seat-clause-stands g c =
     let is : c.in-Err-Above.field-0 ≡ Above c.in-Err-Above.seat = rw c.in-Err-Above.is at c.in-Err-Above.field-0-is in
-    let s = subst (StartsSo (config_of c.args.shared.now) (view c.args.pass.now) (view c.start_clock-start.new.pass) c.args.log.now g.at c.args.mark.now c.args.steps.now c.start_clock-start.new.steps) (c.in-Err-Above.is ∙ ap Err is) c.start_clock-start.ensures.starts in
-    left_stands (config_of c.args.shared.now) (view c.args.pass.now) s.2.inside g.at.object s.1 s.2.looked (view c.start_clock-start.new.pass) s.2.left c.args.log.now c.requires.1.1.1.1.0
+    let s = subst
+    (StartsSo (config_of c.args.shared.now) (view c.args.pass.now) (view c.start_clock-start.new.pass) c.args.log.now g.at c.args.mark.now
+    c.args.steps.now c.start_clock-start.new.steps) (c.in-Err-Above.is ∙ ap Err is) c.start_clock-start.ensures.starts in
+    left_stands (config_of c.args.shared.now) (view c.args.pass.now) s.2.inside g.at.object s.1 s.2.looked (view c.start_clock-start.new.pass) s.2.left
+    c.args.log.now c.requires.1.1.1.1.0
 
 pub returns-then-seat-clause-tries : goal.returns-then-seat-clause-tries
 returns-then-seat-clause-tries g c =
     let is : c.in-Err-Above.field-0 ≡ Above c.in-Err-Above.seat = rw c.in-Err-Above.is at c.in-Err-Above.field-0-is in
-    let s = subst (StartsSo (config_of c.args.shared.now) (view c.args.pass.now) (view c.start_clock-start.new.pass) c.args.log.now g.at c.args.mark.now c.args.steps.now c.start_clock-start.new.steps) (c.in-Err-Above.is ∙ ap Err is) c.start_clock-start.ensures.starts in
-    let last = (c.start_clock-start.ensures.clock (not_young c.start_clock-start.result.0 c.in-Err-Above.field-0 c.in-Err-Above.is (λ e. let f : Above c.in-Err-Above.seat ≡ Young = sym is ∙ e in absurd (cc)))) in
-    let own = c.seat.ensures ∙ gone_number _ _ (config_of c.args.shared.now) (view c.args.pass.now) c.args.log.now g.at c.args.mark.now c.args.pass.now.known c.requires.1.1.1.0 c.requires.1.1.0.2 (view c.start_clock-start.new.pass) s.1 s.2 c.start_clock-start.result.1 last in
-    tries_own _ _ (config_of c.args.shared.now) (view c.args.pass.now) c.args.log.now g.at c.args.mark.now c.args.pass.now.known c.requires.1.1.1.0 c.requires.1.1.0.2 (view c.start_clock-start.new.pass) s.1 s.2 c.start_clock-start.result.1 last c.in-Err-Above.seat s.3 (c.if-seat.true ∙ own)
+    let s = subst
+    (StartsSo (config_of c.args.shared.now) (view c.args.pass.now) (view c.start_clock-start.new.pass) c.args.log.now g.at c.args.mark.now
+    c.args.steps.now c.start_clock-start.new.steps) (c.in-Err-Above.is ∙ ap Err is) c.start_clock-start.ensures.starts in
+    let last = (c.start_clock-start.ensures.clock
+    (not_young c.start_clock-start.result.0 c.in-Err-Above.field-0 c.in-Err-Above.is
+    (λ e. let f : Above c.in-Err-Above.seat ≡ Young = sym is ∙ e in absurd (cc)))) in
+    let own = c.seat.ensures ∙ gone_number _ _ (config_of c.args.shared.now) (view c.args.pass.now) c.args.log.now g.at c.args.mark.now c.args.pass.now.known
+    c.requires.1.1.1.0 c.requires.1.1.0.2 (view c.start_clock-start.new.pass) s.1 s.2 c.start_clock-start.result.1 last in
+    tries_own _ _ (config_of c.args.shared.now) (view c.args.pass.now) c.args.log.now g.at c.args.mark.now c.args.pass.now.known c.requires.1.1.1.0
+    c.requires.1.1.0.2 (view c.start_clock-start.new.pass) s.1 s.2 c.start_clock-start.result.1 last c.in-Err-Above.seat s.3 (c.if-seat.true ∙ own)
 
 pub returns-else-seat-clause-stands : goal.returns-else-seat-clause-stands
 returns-else-seat-clause-stands g c =
     let is : c.in-Err-Above.field-0 ≡ Above c.in-Err-Above.seat = rw c.in-Err-Above.is at c.in-Err-Above.field-0-is in
-    let s = subst (StartsSo (config_of c.args.shared.now) (view c.args.pass.now) (view c.start_clock-start.new.pass) c.args.log.now g.at c.args.mark.now c.args.steps.now c.start_clock-start.new.steps) (c.in-Err-Above.is ∙ ap Err is) c.start_clock-start.ensures.starts in
-    left_stands (config_of c.args.shared.now) (view c.args.pass.now) s.2.inside g.at.object s.1 s.2.looked (view c.start_clock-start.new.pass) s.2.left c.args.log.now c.requires.1.1.1.1.0
+    let s = subst
+    (StartsSo (config_of c.args.shared.now) (view c.args.pass.now) (view c.start_clock-start.new.pass) c.args.log.now g.at c.args.mark.now
+    c.args.steps.now c.start_clock-start.new.steps) (c.in-Err-Above.is ∙ ap Err is) c.start_clock-start.ensures.starts in
+    left_stands (config_of c.args.shared.now) (view c.args.pass.now) s.2.inside g.at.object s.1 s.2.looked (view c.start_clock-start.new.pass) s.2.left
+    c.args.log.now c.requires.1.1.1.1.0
 
 pub returns-else-seat-clause-tries : goal.returns-else-seat-clause-tries
 returns-else-seat-clause-tries g c =
     let is : c.in-Err-Above.field-0 ≡ Above c.in-Err-Above.seat = rw c.in-Err-Above.is at c.in-Err-Above.field-0-is in
-    let s = subst (StartsSo (config_of c.args.shared.now) (view c.args.pass.now) (view c.start_clock-start.new.pass) c.args.log.now g.at c.args.mark.now c.args.steps.now c.start_clock-start.new.steps) (c.in-Err-Above.is ∙ ap Err is) c.start_clock-start.ensures.starts in
-    let last = (c.start_clock-start.ensures.clock (not_young c.start_clock-start.result.0 c.in-Err-Above.field-0 c.in-Err-Above.is (λ e. let f : Above c.in-Err-Above.seat ≡ Young = sym is ∙ e in absurd (cc)))) in
-    let own = c.seat.ensures ∙ gone_number _ _ (config_of c.args.shared.now) (view c.args.pass.now) c.args.log.now g.at c.args.mark.now c.args.pass.now.known c.requires.1.1.1.0 c.requires.1.1.0.2 (view c.start_clock-start.new.pass) s.1 s.2 c.start_clock-start.result.1 last in
-    tries_above _ _ (config_of c.args.shared.now) (view c.args.pass.now) c.args.log.now g.at c.args.mark.now c.args.pass.now.known c.requires.1.1.1.0 c.requires.1.1.0.2 (view c.start_clock-start.new.pass) s.1 s.2 c.start_clock-start.result.1 last c.in-Err-Above.seat s.3 (λ e. c.if-seat.false (e ∙ sym own))
+    let s = subst
+    (StartsSo (config_of c.args.shared.now) (view c.args.pass.now) (view c.start_clock-start.new.pass) c.args.log.now g.at c.args.mark.now
+    c.args.steps.now c.start_clock-start.new.steps) (c.in-Err-Above.is ∙ ap Err is) c.start_clock-start.ensures.starts in
+    let last = (c.start_clock-start.ensures.clock
+    (not_young c.start_clock-start.result.0 c.in-Err-Above.field-0 c.in-Err-Above.is
+    (λ e. let f : Above c.in-Err-Above.seat ≡ Young = sym is ∙ e in absurd (cc)))) in
+    let own = c.seat.ensures ∙ gone_number _ _ (config_of c.args.shared.now) (view c.args.pass.now) c.args.log.now g.at c.args.mark.now c.args.pass.now.known
+    c.requires.1.1.1.0 c.requires.1.1.0.2 (view c.start_clock-start.new.pass) s.1 s.2 c.start_clock-start.result.1 last in
+    tries_above _ _ (config_of c.args.shared.now) (view c.args.pass.now) c.args.log.now g.at c.args.mark.now c.args.pass.now.known c.requires.1.1.1.0
+    c.requires.1.1.0.2 (view c.start_clock-start.new.pass) s.1 s.2 c.start_clock-start.result.1 last c.in-Err-Above.seat s.3
+    (λ e. c.if-seat.false (e ∙ sym own))

@@ -4,7 +4,8 @@ use Rattle.log_reclaim.specs.Tidies.{IsAnyAbove}
 use Rattle.log_reclaim.proofs.Idle.{still_of}
 use Rattle.log_reclaim.proofs.Resting.{rests_none, stands_helped, rests_at_end, room, stands_done, stands_lost, rests_done, rests_lost}
 use Rattle.log_reclaim.proofs.tidying.rest_if_due.Goals as goal
-use Rattle.log_reclaim.proofs.tidying.rest_if_due.Goals.{then-latest-eq-LAST-via-then-latest-eq-LAST, then-latest-eq-LAST-via-else-latest-eq-LAST+then-not-any_above}
+use Rattle.log_reclaim.proofs.tidying.rest_if_due.Goals.{then-latest-eq-LAST-via-then-latest-eq-LAST}
+use Rattle.log_reclaim.proofs.tidying.rest_if_due.Goals.{then-latest-eq-LAST-via-else-latest-eq-LAST+then-not-any_above}
 
 pub returns-then-latest-eq-LAST-clause-rests : goal.returns-then-latest-eq-LAST-clause-rests
 returns-then-latest-eq-LAST-clause-rests g c =
@@ -12,51 +13,63 @@ returns-then-latest-eq-LAST-clause-rests g c =
     rests_none (view c.args.pass.now) c.requires.may still _ _ c.args.log.now c.args.latest c.args.pass.now.known c.requires.within
     (elim c.then-latest-eq-LAST.branch [
       | then-latest-eq-LAST-via-then-latest-eq-LAST w ↦ inl w.if-latest-eq-LAST.true
-      | then-latest-eq-LAST-via-else-latest-eq-LAST+then-not-any_above w ↦ let none : w.any_above.result ≡ false = search rules in inr (subst (IsAnyAbove c.args.log.now c.args.latest) none w.any_above.ensures)
+      | then-latest-eq-LAST-via-else-latest-eq-LAST+then-not-any_above w ↦ let none : w.any_above.result ≡ false =
+          search rules in inr (subst (IsAnyAbove c.args.log.now c.args.latest) none w.any_above.ensures)
     ])
 
 pub returns-then-clock_time-eq-LAST-clause-stands : goal.returns-then-clock_time-eq-LAST-clause-stands
 returns-then-clock_time-eq-LAST-clause-stands g c =
     let still = still_of _ _ (view c.args.pass.now) c.args.pass.now.known c.requires.may.outside in
     let v = c.now-word.ensures.view in
-    stands_helped (config_of c.args.shared.now) (view c.args.pass.now) (view c.now-word.new.pass) c.now-word.result v.0 v.1 v.2 c.requires.may still (view c.help.new.pass) c.help.ensures.helps c.args.log.now c.requires.stands
+    stands_helped (config_of c.args.shared.now) (view c.args.pass.now) (view c.now-word.new.pass) c.now-word.result v.0 v.1 v.2 c.requires.may still
+    (view c.help.new.pass) c.help.ensures.helps c.args.log.now c.requires.stands
 
 pub returns-then-clock_time-eq-LAST-clause-rests : goal.returns-then-clock_time-eq-LAST-clause-rests
 returns-then-clock_time-eq-LAST-clause-rests g c =
     let still = still_of _ _ (view c.args.pass.now) c.args.pass.now.known c.requires.may.outside in
     let v = c.now-word.ensures.view in
-    rests_at_end (config_of c.args.shared.now) (view c.args.pass.now) (view c.now-word.new.pass) c.now-word.result v.0 v.1 v.2 c.requires.may still (view c.help.new.pass) c.help.ensures.helps _ _ c.args.log.now c.args.latest c.help.new.pass.known c.requires.of.2 (sym c.clock_time.ensures ∙ c.if-clock_time-eq-LAST.true)
+    rests_at_end (config_of c.args.shared.now) (view c.args.pass.now) (view c.now-word.new.pass) c.now-word.result v.0 v.1 v.2 c.requires.may still
+    (view c.help.new.pass) c.help.ensures.helps _ _ c.args.log.now c.args.latest c.help.new.pass.known c.requires.of.2
+    (sym c.clock_time.ensures ∙ c.if-clock_time-eq-LAST.true)
 
 pub note_rest-requires : goal.note_rest-requires
 note_rest-requires g c =
     let still = still_of _ _ (view c.args.pass.now) c.args.pass.now.known c.requires.may.outside in
     let v = c.now-word.ensures.view in
-    room (config_of c.args.shared.now) (view c.args.pass.now) (view c.now-word.new.pass) c.now-word.result v.0 v.1 v.2 c.requires.may still (view c.help.new.pass) c.help.ensures.helps _ _ c.args.log.now c.requires.stands c.help.new.pass.known
+    room (config_of c.args.shared.now) (view c.args.pass.now) (view c.now-word.new.pass) c.now-word.result v.0 v.1 v.2 c.requires.may still
+    (view c.help.new.pass) c.help.ensures.helps _ _ c.args.log.now c.requires.stands c.help.new.pass.known
 
 pub returns-in-Done-clause-stands : goal.returns-in-Done-clause-stands
 returns-in-Done-clause-stands g c =
     let still = still_of _ _ (view c.args.pass.now) c.args.pass.now.known c.requires.may.outside in
     let v = c.now-word.ensures.view in
     let n = c.in-Done.ensures.names in
-    stands_done (config_of c.args.shared.now) (view c.args.pass.now) (view c.now-word.new.pass) c.now-word.result v.0 v.1 v.2 c.requires.may still (view c.help.new.pass) c.help.ensures.helps _ _ (view c.rest.new.pass) c.args.log.now c.note_rest.new.log n.1.0 c.requires.stands c.help.new.pass.known n.1.2 c.note_rest.ensures
+    stands_done (config_of c.args.shared.now) (view c.args.pass.now) (view c.now-word.new.pass) c.now-word.result v.0 v.1 v.2 c.requires.may still
+    (view c.help.new.pass) c.help.ensures.helps _ _ (view c.rest.new.pass) c.args.log.now c.note_rest.new.log n.1.0 c.requires.stands
+    c.help.new.pass.known n.1.2 c.note_rest.ensures
 
 pub returns-in-Done-clause-rests : goal.returns-in-Done-clause-rests
 returns-in-Done-clause-rests g c =
     let still = still_of _ _ (view c.args.pass.now) c.args.pass.now.known c.requires.may.outside in
     let v = c.now-word.ensures.view in
     let n = c.in-Done.ensures.names in
-    rests_done (config_of c.args.shared.now) (view c.args.pass.now) (view c.now-word.new.pass) c.now-word.result v.0 v.1 v.2 c.requires.may still (view c.help.new.pass) c.help.ensures.helps (view c.rest.new.pass) c.args.latest c.requires.within c.requires.of.2 c.args.log.now c.note_rest.new.log n.1.0 n.1.1 n.1.2 c.note_rest.ensures
+    rests_done (config_of c.args.shared.now) (view c.args.pass.now) (view c.now-word.new.pass) c.now-word.result v.0 v.1 v.2 c.requires.may still
+    (view c.help.new.pass) c.help.ensures.helps (view c.rest.new.pass) c.args.latest c.requires.within c.requires.of.2 c.args.log.now c.note_rest.new.log
+    n.1.0 n.1.1 n.1.2 c.note_rest.ensures
 
 pub returns-in_default-clause-stands : goal.returns-in_default-clause-stands
 returns-in_default-clause-stands g c =
     let still = still_of _ _ (view c.args.pass.now) c.args.pass.now.known c.requires.may.outside in
     let v = c.now-word.ensures.view in
     let n = c.in_default.ensures.names in
-    stands_lost (config_of c.args.shared.now) (view c.args.pass.now) (view c.now-word.new.pass) c.now-word.result v.0 v.1 v.2 c.requires.may still (view c.help.new.pass) c.help.ensures.helps (view c.rest.new.pass) c.args.log.now n.0 n.1 c.requires.stands n.3
+    stands_lost (config_of c.args.shared.now) (view c.args.pass.now) (view c.now-word.new.pass) c.now-word.result v.0 v.1 v.2 c.requires.may still
+    (view c.help.new.pass) c.help.ensures.helps (view c.rest.new.pass) c.args.log.now n.0 n.1 c.requires.stands n.3
 
 pub returns-in_default-clause-rests : goal.returns-in_default-clause-rests
 returns-in_default-clause-rests g c =
     let still = still_of _ _ (view c.args.pass.now) c.args.pass.now.known c.requires.may.outside in
     let v = c.now-word.ensures.view in
     let n = c.in_default.ensures.names in
-    rests_lost (config_of c.args.shared.now) (view c.args.pass.now) (view c.now-word.new.pass) c.now-word.result v.0 v.1 v.2 c.requires.may still (view c.help.new.pass) c.help.ensures.helps (view c.rest.new.pass) c.args.latest c.requires.within c.requires.of.2 c.args.log.now n.0 n.1 c.in_default.field-0 n.2 n.3
+    rests_lost (config_of c.args.shared.now) (view c.args.pass.now) (view c.now-word.new.pass) c.now-word.result v.0 v.1 v.2 c.requires.may still
+    (view c.help.new.pass) c.help.ensures.helps (view c.rest.new.pass) c.args.latest c.requires.within c.requires.of.2 c.args.log.now n.0 n.1
+    c.in_default.field-0 n.2 n.3

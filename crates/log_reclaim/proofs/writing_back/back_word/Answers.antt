@@ -5,12 +5,26 @@ use Rattle.log_reclaim.proofs.writing_back.back_word.Goals as goal
 
 pub returns-clause-writing : goal.returns-clause-writing
 returns-clause-writing g c =
-    writing_on (config_of c.args.shared.now) (view c.args.pass.now) c.args.back.now c.requires.writing (view c.store_master.new.pass) _ _ refl c.requires.left c.store_master.ensures.view refl
+    writing_on (config_of c.args.shared.now) (view c.args.pass.now) c.args.back.now c.requires.writing (view c.store_master.new.pass) _ _ refl c.requires.left
+    c.store_master.ensures.view refl
 
 pub store_master-requires : goal.store_master-requires
-store_master-requires g c κs within =
-    (search rules, (search rules, (search rules, (c.requires.writing.in_range, may_store (config_of c.args.shared.now) (view c.args.pass.now) c.args.back.now c.requires.writing _ refl c.requires.left))))
+store_master-requires g c κs within = (
+  search rules,
+  (
+    search rules,
+    (
+      search rules,
+      (
+        c.requires.writing.in_range,
+        may_store (config_of c.args.shared.now) (view c.args.pass.now) c.args.back.now c.requires.writing _ refl
+            c.requires.left,
+      ),
+    ),
+  ),
+)
 
 pub returns-clause-stores : goal.returns-clause-stores
 returns-clause-stores g c =
-    stores_word (config_of c.args.shared.now) (view c.args.pass.now) c.args.back.now c.requires.writing (view c.store_master.new.pass) _ _ refl c.requires.left c.store_master.ensures.view refl
+    stores_word (config_of c.args.shared.now) (view c.args.pass.now) c.args.back.now c.requires.writing (view c.store_master.new.pass) _ _ refl
+    c.requires.left c.store_master.ensures.view refl

@@ -6,8 +6,10 @@ use Rattle.log_reclaim.proofs.writing_back.start_clock.Goals as goal
 
 pub load_head-link-requires : goal.load_head-link-requires
 load_head-link-requires g c κs within =
-    let same = same_note c.args.log.now c.args.position c.note.result c.note-version.result g.at c.requires.1.1.1.1.0.log c.requires.1.1.1.1.1.0 c.note.ensures c.note-version.ensures in
-    let objects : length (view c.args.pass.now).start ≡ (config_of c.args.shared.now).objects = ap length c.requires.1.1.0.3 ∙ c.args.shared.now.opening ∙ ap (λ (d : Config). d.objects) (sym c.args.shared.now.about) in
+    let same = same_note c.args.log.now c.args.position c.note.result c.note-version.result g.at c.requires.1.1.1.1.0.log c.requires.1.1.1.1.1.0
+    c.note.ensures c.note-version.ensures in
+    let objects : length (view c.args.pass.now).start ≡ (config_of c.args.shared.now).objects =
+    ap length c.requires.1.1.0.3 ∙ c.args.shared.now.opening ∙ ap (λ (d : Config). d.objects) (sym c.args.shared.now.about) in
     let begins = c.enter_clock-clock.ensures.begins in (
       search rules,
       (
@@ -15,8 +17,11 @@ load_head-link-requires g c κs within =
         (
           search rules,
           (
-            object_within (config_of c.args.shared.now) (view c.args.pass.now) (view c.enter_clock-clock.new.pass) c.args.log.now c.args.position c.note-version.result g.at c.enter_clock-clock.result.0 c.requires.1.1.1.1.0 c.requires.1.1.1.1.1.0 same begins _ _ c.args.pass.now.known objects,
-            may_look (config_of c.args.shared.now) (view c.args.pass.now) (view c.enter_clock-clock.new.pass) c.args.log.now c.args.position c.note-version.result g.at c.enter_clock-clock.result.0 c.requires.1.1.1.1.0 c.requires.1.1.1.1.1.0 same begins,
+            object_within (config_of c.args.shared.now) (view c.args.pass.now) (view c.enter_clock-clock.new.pass) c.args.log.now c.args.position
+                c.note-version.result g.at c.enter_clock-clock.result.0 c.requires.1.1.1.1.0 c.requires.1.1.1.1.1.0 same begins _ _
+                c.args.pass.now.known objects,
+            may_look (config_of c.args.shared.now) (view c.args.pass.now) (view c.enter_clock-clock.new.pass) c.args.log.now c.args.position
+                c.note-version.result g.at c.enter_clock-clock.result.0 c.requires.1.1.1.1.0 c.requires.1.1.1.1.1.0 same begins,
           ),
         ),
       ),
@@ -27,23 +32,44 @@ link_word-requires-clause-position g c = (place_is c.args.log.now c.args.positio
 
 pub returns-then-link-link_word-clause-starts : goal.returns-then-link-link_word-clause-starts
 returns-then-link-link_word-clause-starts g c =
-    let same = same_note c.args.log.now c.args.position c.note.result c.note-version.result g.at c.requires.1.1.1.1.0.log c.requires.1.1.1.1.1.0 c.note.ensures c.note-version.ensures in
-    let objects : length (view c.args.pass.now).start ≡ (config_of c.args.shared.now).objects = ap length c.requires.1.1.0.3 ∙ c.args.shared.now.opening ∙ ap (λ (d : Config). d.objects) (sym c.args.shared.now.about) in
+    let same = same_note c.args.log.now c.args.position c.note.result c.note-version.result g.at c.requires.1.1.1.1.0.log c.requires.1.1.1.1.1.0
+    c.note.ensures c.note-version.ensures in
+    let objects : length (view c.args.pass.now).start ≡ (config_of c.args.shared.now).objects =
+    ap length c.requires.1.1.0.3 ∙ c.args.shared.now.opening ∙ ap (λ (d : Config). d.objects) (sym c.args.shared.now.about) in
     let begins = c.enter_clock-clock.ensures.begins in
-    let link = link_there (config_of c.args.shared.now) (view c.args.pass.now) (view c.enter_clock-clock.new.pass) c.args.log.now c.args.position c.note-version.result g.at c.enter_clock-clock.result.0 c.requires.1.1.1.1.0 c.requires.1.1.1.1.1.0 same begins (view c.load_head-link.new.pass) c.load_head-link.result c.load_head-link.ensures.view c.load_head-link.ensures.link c.load_head-link.ensures.own c.seat.result c.link_word.result c.seat.ensures c.link_word.ensures.word in
-    started (config_of c.args.shared.now) (view c.args.pass.now) (view c.enter_clock-clock.new.pass) c.args.log.now c.args.position c.note-version.result g.at c.enter_clock-clock.result.0 c.requires.1.1.1.1.0 c.requires.1.1.1.1.1.0 same begins (view c.load_head-link.new.pass) c.load_head-link.result c.load_head-link.ensures.view c.load_head-link.ensures.link c.load_head-link.ensures.own
+    let link = link_there (config_of c.args.shared.now) (view c.args.pass.now) (view c.enter_clock-clock.new.pass) c.args.log.now c.args.position
+    c.note-version.result g.at c.enter_clock-clock.result.0 c.requires.1.1.1.1.0 c.requires.1.1.1.1.1.0 same begins (view c.load_head-link.new.pass)
+    c.load_head-link.result c.load_head-link.ensures.view c.load_head-link.ensures.link c.load_head-link.ensures.own c.seat.result c.link_word.result
+    c.seat.ensures c.link_word.ensures.word in
+    started (config_of c.args.shared.now) (view c.args.pass.now) (view c.enter_clock-clock.new.pass) c.args.log.now c.args.position c.note-version.result g.at
+    c.enter_clock-clock.result.0 c.requires.1.1.1.1.0 c.requires.1.1.1.1.1.0 same begins (view c.load_head-link.new.pass) c.load_head-link.result
+    c.load_head-link.ensures.view c.load_head-link.ensures.link c.load_head-link.ensures.own
     (c.if-link-link_word.true ∙ link)
-    c.args.mark.now c.args.steps.now c.load_head-link.new.steps c.if-version-mark.false c.requires.1.1.1.1.1.1 (object_within (config_of c.args.shared.now) (view c.args.pass.now) (view c.enter_clock-clock.new.pass) c.args.log.now c.args.position c.note-version.result g.at c.enter_clock-clock.result.0 c.requires.1.1.1.1.0 c.requires.1.1.1.1.1.0 same begins _ _ c.args.pass.now.known objects)
+    c.args.mark.now c.args.steps.now c.load_head-link.new.steps c.if-version-mark.false c.requires.1.1.1.1.1.1
+    (object_within (config_of c.args.shared.now) (view c.args.pass.now) (view c.enter_clock-clock.new.pass) c.args.log.now c.args.position
+    c.note-version.result g.at c.enter_clock-clock.result.0 c.requires.1.1.1.1.0 c.requires.1.1.1.1.1.0 same begins _ _ c.args.pass.now.known objects)
     _ _ c.enter_clock-clock.new.pass.known c.requires.1.1.0.2 c.load_head-link.ensures.seen
 
 pub leave-requires-clause-open : goal.leave-requires-clause-open
 leave-requires-clause-open g c =
-    open_still (config_of c.args.shared.now) (view c.args.pass.now) (view c.enter_clock-clock.new.pass) c.args.log.now c.args.position c.note-version.result g.at c.enter_clock-clock.result.0 c.requires.1.1.1.1.0 c.requires.1.1.1.1.1.0 (same_note c.args.log.now c.args.position c.note.result c.note-version.result g.at c.requires.1.1.1.1.0.log c.requires.1.1.1.1.1.0 c.note.ensures c.note-version.ensures) c.enter_clock-clock.ensures.begins (view c.load_head-link.new.pass) c.load_head-link.result c.load_head-link.ensures.view c.load_head-link.ensures.link c.load_head-link.ensures.own
+    open_still (config_of c.args.shared.now) (view c.args.pass.now) (view c.enter_clock-clock.new.pass) c.args.log.now c.args.position c.note-version.result
+    g.at c.enter_clock-clock.result.0 c.requires.1.1.1.1.0 c.requires.1.1.1.1.1.0
+    (same_note c.args.log.now c.args.position c.note.result c.note-version.result g.at c.requires.1.1.1.1.0.log c.requires.1.1.1.1.1.0 c.note.ensures
+    c.note-version.ensures) c.enter_clock-clock.ensures.begins (view c.load_head-link.new.pass) c.load_head-link.result c.load_head-link.ensures.view
+    c.load_head-link.ensures.link c.load_head-link.ensures.own
 
 pub returns-clause-starts : goal.returns-clause-starts
 returns-clause-starts g c =
-    let same = same_note c.args.log.now c.args.position c.note.result c.note-version.result g.at c.requires.1.1.1.1.0.log c.requires.1.1.1.1.1.0 c.note.ensures c.note-version.ensures in
+    let same = same_note c.args.log.now c.args.position c.note.result c.note-version.result g.at c.requires.1.1.1.1.0.log c.requires.1.1.1.1.1.0
+    c.note.ensures c.note-version.ensures in
     let begins = c.enter_clock-clock.ensures.begins in
-    let link = link_there (config_of c.args.shared.now) (view c.args.pass.now) (view c.enter_clock-clock.new.pass) c.args.log.now c.args.position c.note-version.result g.at c.enter_clock-clock.result.0 c.requires.1.1.1.1.0 c.requires.1.1.1.1.1.0 same begins (view c.load_head-link.new.pass) c.load_head-link.result c.load_head-link.ensures.view c.load_head-link.ensures.link c.load_head-link.ensures.own c.seat.result c.link_word.result c.seat.ensures c.link_word.ensures.word in
-    not_started (config_of c.args.shared.now) (view c.args.pass.now) (view c.enter_clock-clock.new.pass) c.args.log.now c.args.position c.note-version.result g.at c.enter_clock-clock.result.0 c.requires.1.1.1.1.0 c.requires.1.1.1.1.1.0 same begins (view c.load_head-link.new.pass) c.load_head-link.result c.load_head-link.ensures.view c.load_head-link.ensures.link c.load_head-link.ensures.own
-    (view c.leave.new.pass) c.leave.ensures.view (λ z. c.if-link-link_word.false (z ∙ sym link)) c.load_head-link.ensures.own_link c.load_head-link.ensures.later c.args.mark.now c.args.steps.now c.leave.new.steps c.not_on_top.result c.if-version-mark.false c.not_on_top.ensures.gone c.not_on_top.ensures.above
+    let link = link_there (config_of c.args.shared.now) (view c.args.pass.now) (view c.enter_clock-clock.new.pass) c.args.log.now c.args.position
+    c.note-version.result g.at c.enter_clock-clock.result.0 c.requires.1.1.1.1.0 c.requires.1.1.1.1.1.0 same begins (view c.load_head-link.new.pass)
+    c.load_head-link.result c.load_head-link.ensures.view c.load_head-link.ensures.link c.load_head-link.ensures.own c.seat.result c.link_word.result
+    c.seat.ensures c.link_word.ensures.word in
+    not_started (config_of c.args.shared.now) (view c.args.pass.now) (view c.enter_clock-clock.new.pass) c.args.log.now c.args.position c.note-version.result
+    g.at c.enter_clock-clock.result.0 c.requires.1.1.1.1.0 c.requires.1.1.1.1.1.0 same begins (view c.load_head-link.new.pass) c.load_head-link.result
+    c.load_head-link.ensures.view c.load_head-link.ensures.link c.load_head-link.ensures.own
+    (view c.leave.new.pass) c.leave.ensures.view (λ z. c.if-link-link_word.false (z ∙ sym link)) c.load_head-link.ensures.own_link
+    c.load_head-link.ensures.later c.args.mark.now c.args.steps.now c.leave.new.steps c.not_on_top.result c.if-version-mark.false
+    c.not_on_top.ensures.gone c.not_on_top.ensures.above

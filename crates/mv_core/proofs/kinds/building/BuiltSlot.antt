@@ -23,7 +23,12 @@ pub build_holds : (first prev : ℕ) (data_word : ℕ → ℕ) (slot : Slot) (b 
 build_holds first prev data_word Free b e holds =
     let same : nothing_built ≡ b = cc in
     subst (HoldsBuild first prev data_word) same
-    (record { first_is = tt; prev_is = tt; wide = refl; words = λ i lt. subst (λ (o : Option ℕ). IsStored o (data_word i)) (sym (get_or-replicate 6 i None None lt)) tt })
+    (record {
+      first_is = tt;
+      prev_is = tt;
+      wide = refl;
+      words = λ i lt. subst (λ (o : Option ℕ). IsStored o (data_word i)) (sym (get_or-replicate 6 i None None lt)) tt;
+    })
 build_holds first prev data_word (Built a) b e holds = let same : a ≡ b = cc in subst (HoldsBuild first prev data_word) same holds
 build_holds first prev data_word (Live x st) b e holds = let none : None ≡ Some b = e in absurd (cc)
 build_holds first prev data_word (Freeing p f) b e holds = let none : None ≡ Some b = e in absurd (cc)
@@ -200,7 +205,9 @@ module _ {starts : State → Type 0} {allows : List ℕ → State → Writes →
         (λ t i other a e. k.positions_and_grace.built t i a e) s j a e)
 
     -- all facts after the store
-    pub built_facts : Facts starts allows c start (of_parts (m Clock) (m Grace) (λ s. m (Mark s)) (λ o. m (Head o)) (λ o w. m (Master o w)) first stamp prev super data_word) h (changed f n (record unchanged { ring = Some built }))
+    pub built_facts : Facts starts allows c start
+        (of_parts (m Clock) (m Grace) (λ s. m (Mark s)) (λ o. m (Head o)) (λ o w. m (Master o w)) first stamp prev super data_word) h
+        (changed f n (record unchanged { ring = Some built }))
     built_facts =
         let stamps = stamped.stamps_match c h f.ring rings on (λ s j. m (Stamp s j)) stamp same_stamp (m Clock) stamps_built k.stamps in
         let helped_words : HelpedWords (m Clock) stamp f.clocks = λ s word has. done_after word (k.helped_words s word has) in

@@ -123,7 +123,13 @@ module _ {starts : State → Type 0} {allows : List ℕ → State → Writes →
     is_timed : (was note : CommitNote) → (note ≡ was) ⊎ (note ≡ timed_note d was) → IsTimed was note
     is_timed was note a =
         ⊎_elim
-        (λ e. record { time_is = ap (λ (o : CommitNote). o.time) e; cut_is = ap (λ (o : CommitNote). o.cut) e; linked_is = ap (λ (o : CommitNote). o.linked) e; dead_was = λ t is. inl (ap (λ (o : CommitNote). o.dead) (sym e) ∙ is); uncut_same = λ _. e })
+        (λ e. record {
+          time_is = ap (λ (o : CommitNote). o.time) e;
+          cut_is = ap (λ (o : CommitNote). o.cut) e;
+          linked_is = ap (λ (o : CommitNote). o.linked) e;
+          dead_was = λ t is. inl (ap (λ (o : CommitNote). o.dead) (sym e) ∙ is);
+          uncut_same = λ _. e;
+        })
         (λ e. record {
           time_is = ap (λ (o : CommitNote). o.time) e ∙ note_time d was;
           cut_is = ap (λ (o : CommitNote). o.cut) e ∙ note_cut d was;
@@ -204,8 +210,11 @@ module _ {starts : State → Type 0} {allows : List ℕ → State → Writes →
               let o = is_timed a.0 other a.2 in
               let named : Names f.ring x.previous y (Committed a.0) = record { seat = below.seat; slot = below.slot; lives = a.1; is = below.is } in
               let same : other ≡ a.0 = o.uncut_same (below_uncut s j x y b.0 a.0 b.1 named) in
-              let q = r.1 y a.0 named in
-              (λ linked. q.0 (sym i.linked_is ∙ linked), λ unlinked. let z = q.1 (sym i.linked_is ∙ unlinked) in (z.0, ap (λ (p : CommitNote). p.dead) same ∙ z.1)),
+              let q = r.1 y a.0 named in (
+                λ linked. q.0 (sym i.linked_is ∙ linked),
+                λ unlinked. let z = q.1 (sym i.linked_is ∙ unlinked) in
+                    (z.0, ap (λ (p : CommitNote). p.dead) same ∙ z.1),
+              ),
         )
 
     stays : StaysInPlace f.ring rings
@@ -283,9 +292,27 @@ module _ (starts : State → Type 0) (allows : List ℕ → State → Writes →
       let front : (rest : List Entry) × (h ≡ v.past.seen ++ rest) =
       subst (λ (u : View). (rest : List Entry) × (h ≡ u.past.seen ++ rest)) is (k.history.seats n).seen in (
         w,
-        settle starts allows c start m h seats n v w is (record unchanged { past = Some p; ring = Some r })
-            (ap (λ (u : View). record u.past { seen = h }) (sym is), refl, refl, refl, refl, refl, refl, ap (λ (u : View). record u.ring { slots = map (timed d) u.ring.slots }) (sym is), refl, refl, refl)
+        settle starts allows c start m h seats n v w is (record unchanged { past = Some p; ring = Some r }) (
+          ap (λ (u : View). record u.past { seen = h }) (sym is),
+          refl,
+          refl,
+          refl,
+          refl,
+          refl,
+          refl,
+          ap (λ (u : View). record u.ring { slots = map (timed d) u.ring.slots }) (sym is),
+          refl,
+          refl,
+          refl,
+        )
             (death_facts seen n
             (ap (λ (q : Past). q.seen) (set_at_here f.past n p))),
-        ((((h, (front, k.history.long), refl), k.loaded_words.clock_is), (λ time first a begun. (a, λ i e mode some_held. begun i e mode (subst (λ (u : ℕ). 0 < u) held some_held) ∙ ap (λ (u : ℕ). v.ring.next - u) (sym held)))), (refl, refl, refl, refl, refl, refl)),
+        (
+          (
+            ((h, (front, k.history.long), refl), k.loaded_words.clock_is),
+            (λ time first a begun.
+                (a, λ i e mode some_held. begun i e mode (subst (λ (u : ℕ). 0 < u) held some_held) ∙ ap (λ (u : ℕ). v.ring.next - u) (sym held))),
+          ),
+          (refl, refl, refl, refl, refl, refl),
+        ),
       )

@@ -90,5 +90,12 @@ module _ (starts : State → Type 0) (allows : List ℕ → State → Writes →
             (record unchanged { ring = Some (put_slot (seats n).ring slot (Live (with_word x w value) Held)) })
             (refl, refl, refl, refl, refl, refl, refl, ap (λ (r : Ring). put_slot r slot (Live (with_word x w value) Held)) (sym ring), refl, refl, refl)
             (data_facts k n slot w value x lives may.in_range),
-        ((refl, (λ time first a begun. (a, λ i e mode some_held. begun i e mode (subst (λ (y : ℕ). 0 < y) held some_held) ∙ ap (λ (y : ℕ). v.ring.next - y) (sym held)))), (refl, refl, refl, refl, refl, refl)),
+        (
+          (
+            refl,
+            (λ time first a begun.
+                (a, λ i e mode some_held. begun i e mode (subst (λ (y : ℕ). 0 < y) held some_held) ∙ ap (λ (y : ℕ). v.ring.next - y) (sym held))),
+          ),
+          (refl, refl, refl, refl, refl, refl),
+        ),
       )

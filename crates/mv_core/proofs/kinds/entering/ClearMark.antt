@@ -42,8 +42,15 @@ module _ {starts : State → Type 0} {allows : List ℕ → State → Writes →
       let link : y.previous ≡ link_of s x.position = links.uncut (link_of s x.position) x note version uncut in
       let below : Names f.ring y.previous x (Committed note) = record { seat = s; slot = j; lives = lives; is = link } in
       let of_naming : other.time ≡ by.naming.time = time_is ∙ sym by.time_is in
-      let flag = (k.successor_flag seat above.0 by.inside by.naming y other by.in_section by.mode lives_y of_naming).1 x note below in
-      (above.0, y, other, lives_y, of_naming, λ linked. let is : m (Super s j) ≡ by.naming.time = flag.0 linked in let later = named.later in absurd (omega arith))
+      let flag = (k.successor_flag seat above.0 by.inside by.naming y other by.in_section by.mode lives_y of_naming).1 x note below in (
+        above.0,
+        y,
+        other,
+        lives_y,
+        of_naming,
+        λ linked. let is : m (Super s j) ≡ by.naming.time = flag.0 linked in let later = named.later in
+            absurd (omega arith),
+      )
 
 module _ (starts : State → Type 0) (allows : List ℕ → State → Writes → Type 0) (c : Config) (start : State) (v : View) (may : MayClearMark v) where
   module _ (m : Memory) (h : List Entry) (seats : ℕ → View) (k : Facts starts allows c start m h (parts_of seats)) (is : seats v.number ≡ v) where

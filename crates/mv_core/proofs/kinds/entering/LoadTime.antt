@@ -120,7 +120,10 @@ module _ (starts : State → Type 0) (allows : List ℕ → State → Writes →
             let flag_more = more.flag_more c h f.ring f.section n (Some inside) unnamed super k.successor_flag in
             let cut_more = more.cut_more c start h f.ring sets f.time n (Some now) late k.cut_is_old in
             assumption (k)),
-        (((h, (front, k.history.long), refl), k.loaded_words.clock_is, subst (λ (u : View). HoldsNothing u.ring) is nothing), (refl, refl, refl, refl, refl, refl)),
+        (
+          ((h, (front, k.history.long), refl), k.loaded_words.clock_is, subst (λ (u : View). HoldsNothing u.ring) is nothing),
+          (refl, refl, refl, refl, refl, refl),
+        ),
       )
 
 -- what a pass has at run time in the section that begins

@@ -1,5 +1,6 @@
 -- load CLOCK (check).
-use Rattle.std.proofs.Common.{◌≡◌, ◌≢◌, ℕ, ◌==◌, Bool, true, false, cond, List, [], ◌∷◌, ◌++◌, sym, refl, ap, ◌∙◌, subst, ⊎_elim, inl, inr, le_refl, eqb-true, arith, Option, Some, None}
+use Rattle.std.proofs.Common.{◌≡◌, ◌≢◌, ℕ, ◌==◌, Bool, true, false, cond, List, [], ◌∷◌, ◌++◌, sym, refl, ap, ◌∙◌}
+use Rattle.std.proofs.Common.{subst, ⊎_elim, inl, inr, le_refl, eqb-true, arith, Option, Some, None}
 use Rattle.std.proofs.lemmas.Bool.{eqb-false}
 use Rattle.std.specs.Prelude.{Contains}
 use Rattle.std.proofs.lemmas.List.Elements.{Contains-append_left, Contains-append_cases}
@@ -12,7 +13,8 @@ use Rattle.mv_core.proofs.frames.ClocksLoaded.{ClocksAre, one_more_word, clocks_
 use Rattle.mv_core.proofs.frames.ClockLoads.{whole_seen}
 
 -- the unset stamp of the commit that a word names is what it seems
-pub named_found : (c : Config) (h : List Entry) (stamp : ℕ → ℕ → ℕ) (rings : ℕ → Ring) (f : FoundStamp) → Positions c h rings → IsNamedCommit rings f.word f.unset → IsFound c stamp rings f
+pub named_found : (c : Config) (h : List Entry) (stamp : ℕ → ℕ → ℕ) (rings : ℕ → Ring) (f : FoundStamp) → Positions c h rings
+    → IsNamedCommit rings f.word f.unset → IsFound c stamp rings f
 named_found c h stamp rings f positions is =
     let place = positions.live (clock_seat_of f.word) (clock_slot_of f.word) is.version (Committed is.note) is.lives in record {
       position = is.version.first;
@@ -30,11 +32,13 @@ named_found c h stamp rings f positions is =
     same x st lives = let e : Live is.version (Committed is.note) ≡ Live x st = sym is.lives ∙ lives in (cc, cc)
 
 -- a checked stamp was found for the clock's word
-checked_was : (o : Option FoundStamp) (word : ℕ) (g : FoundStamp) → checked_found o word ≡ Some g → (f : FoundStamp) × (o ≡ Some f) × (f.word ≡ word) × (record f { checked = true } ≡ g)
+checked_was : (o : Option FoundStamp) (word : ℕ) (g : FoundStamp) → checked_found o word ≡ Some g
+    → (f : FoundStamp) × (o ≡ Some f) × (f.word ≡ word) × (record f { checked = true } ≡ g)
 checked_was None word g e = let none : None ≡ Some g = e in absurd (cc)
 checked_was (Some f) word g e = go (f.word == word) refl e
   where
-    go : (b : Bool) → (f.word == word) ≡ b → cond b (Some (record f { checked = true })) None ≡ Some g → (d : FoundStamp) × (Some f ≡ Some d) × (d.word ≡ word) × (record d { checked = true } ≡ g)
+    go : (b : Bool) → (f.word == word) ≡ b → cond b (Some (record f { checked = true })) None ≡ Some g
+        → (d : FoundStamp) × (Some f ≡ Some d) × (d.word ≡ word) × (record d { checked = true } ≡ g)
     go true is e = let i : Some (record f { checked = true }) ≡ Some g = e in (f, refl, eqb-true f.word word is, cc)
     go false is e = let none : None ≡ Some g = e in absurd (cc)
 
@@ -46,7 +50,8 @@ if_none_all P word one w has = go (names_none word) refl has
     go true is has = one_more_word P [] word (λ x (a : Contains [] x). absurd (grind arith)) (one (eqb-true (clock_slot_of word) 8191 is)) w has
     go false is has = absurd (grind arith)
 
-gone_all : (P : ℕ → Type 0) (o : Option FoundStamp) (word : ℕ) → ((f : FoundStamp) → o ≡ Some f → word ≢ f.word → P f.word) → (w : ℕ) → Contains (checked_helped o word) w → P w
+gone_all : (P : ℕ → Type 0) (o : Option FoundStamp) (word : ℕ) → ((f : FoundStamp) → o ≡ Some f → word ≢ f.word → P f.word) → (w : ℕ)
+    → Contains (checked_helped o word) w → P w
 gone_all P None word one w has = absurd (grind arith)
 gone_all P (Some f) word one w has = go (f.word == word) refl has
   where
@@ -58,12 +63,15 @@ gone_all P (Some f) word one w has = go (f.word == word) refl has
 pub this_word : (c : Config) (clock : ℕ) → IsWord c clock → WasClock c clock clock
 this_word c clock is = record { past = le_refl (clock_time_of clock); same = λ e. refl; is_word = is }
 
-module _ (c : Config) (clock : ℕ) (stamp : ℕ → ℕ → ℕ) (h : List Entry) (rings : ℕ → Ring) (positions : Positions c h rings) (clock_is : IsWord c clock) (old : LoadedClocks) (is : ClocksAre c clock stamp rings old old) where
+module _ (c : Config) (clock : ℕ) (stamp : ℕ → ℕ → ℕ) (h : List Entry) (rings : ℕ → Ring) (positions : Positions c h rings) (clock_is : IsWord c clock)
+    (old : LoadedClocks) (is : ClocksAre c clock stamp rings old old) where
   -- what holds of all helped words, of a word that names no commit and of one that the clock has no longer holds of all helped ones afterwards
-  helped_all : (P : ℕ → Type 0) → ((w : ℕ) → Contains old.helped w → P w) → (clock_slot_of clock ≡ 8191 → P clock) → ((f : FoundStamp) → old.found ≡ Some f → clock ≢ f.word → P f.word) → (w : ℕ) → Contains (checked_clocks old clock).helped w → P w
+  helped_all : (P : ℕ → Type 0) → ((w : ℕ) → Contains old.helped w → P w) → (clock_slot_of clock ≡ 8191 → P clock)
+      → ((f : FoundStamp) → old.found ≡ Some f → clock ≢ f.word → P f.word) → (w : ℕ) → Contains (checked_clocks old clock).helped w → P w
   helped_all P all none gone w has =
       ⊎_elim (all w)
-      (λ b. ⊎_elim (if_none_all P clock none w) (gone_all P old.found clock gone w) (Contains-append_cases (if_none clock) (checked_helped old.found clock) w b))
+      (λ b. ⊎_elim (if_none_all P clock none w) (gone_all P old.found clock gone w)
+      (Contains-append_cases (if_none clock) (checked_helped old.found clock) w b))
       (Contains-append_cases old.helped (if_none clock ++ checked_helped old.found clock) w has)
 
   pub clocks_checked : ClocksAre c clock stamp rings old (checked_clocks old clock)
@@ -72,8 +80,10 @@ module _ (c : Config) (clock : ℕ) (stamp : ℕ → ℕ → ℕ) (h : List Entr
     loaded = one_more_word (WasClock c clock) old.loaded clock is.loaded (this_word c clock clock_is);
     helped = helped_all (WasClock c clock) is.helped (λ e. this_word c clock clock_is) (λ f e ne. (is.found f e).0);
     done = helped_all (IsDone clock stamp) is.done (λ e. inr (inl e)) (λ f e ne. inl ne);
-    found = λ g e. let b = checked_was old.found clock g e in subst (λ (d : FoundStamp). WasClock c clock d.word × (clock_slot_of d.word ≢ 8191)) b.3 (is.found b.0 b.1);
-    now = λ g e. let b = checked_was old.found clock g e in subst (λ (d : FoundStamp). clock ≡ d.word → IsNamedCommit rings d.word d.unset) b.3 (is.now b.0 b.1);
+    found = λ g e. let b =
+        checked_was old.found clock g e in subst (λ (d : FoundStamp). WasClock c clock d.word × (clock_slot_of d.word ≢ 8191)) b.3 (is.found b.0 b.1);
+    now = λ g e. let b =
+        checked_was old.found clock g e in subst (λ (d : FoundStamp). clock ≡ d.word → IsNamedCommit rings d.word d.unset) b.3 (is.now b.0 b.1);
     checked = λ g e was_checked.
         let b = checked_was old.found clock g e in
         let named : IsNamedCommit rings g.word g.unset = subst (λ (d : FoundStamp). IsNamedCommit rings d.word d.unset) b.3 (is.now b.0 b.1 (sym b.2)) in
@@ -81,7 +91,8 @@ module _ (c : Config) (clock : ℕ) (stamp : ℕ → ℕ → ℕ) (h : List Entr
   }
 
 module _ (starts : State → Type 0) (allows : List ℕ → State → Writes → Type 0) (c : Config) (start : State) (v : View) where
-  pub check_loads : Loads starts allows c start v Clock (λ n w. ((((h : List Entry) × IsWhole c v n h × (w ≡ check_loaded c v n h)) × IsWord c n) × RunsOn v w) × IsKept v w)
+  pub check_loads : Loads starts allows c start v Clock
+      (λ n w. ((((h : List Entry) × IsWhole c v n h × (w ≡ check_loaded c v n h)) × IsWord c n) × RunsOn v w) × IsKept v w)
   check_loads m h seats k is own begins wide =
       let clock = m Clock in
       let n = v.number in
@@ -92,9 +103,21 @@ module _ (starts : State → Type 0) (allows : List ℕ → State → Writes →
       let seen = whole_seen k n in
       let clocks = clocks_facts seen n x
       (clocks_checked c clock (λ s i. m (Stamp s i)) h f.ring k.positions k.loaded_words.clock_is (f.clocks n) (clocks_was k n)) in
-      let front : (rest : List Entry) × (h ≡ v.past.seen ++ rest) = subst (λ (u : View). (rest : List Entry) × (h ≡ u.past.seen ++ rest)) is (k.history.seats n).seen in (
+      let front : (rest : List Entry) × (h ≡ v.past.seen ++ rest) =
+      subst (λ (u : View). (rest : List Entry) × (h ≡ u.past.seen ++ rest)) is (k.history.seats n).seen in (
         w,
-        settle starts allows c start m h seats n v w is (record unchanged { past = Some p; clocks = Some x })
-            (ap (λ (u : View). record u.past { seen = h }) (sym is), refl, refl, refl, ap (λ (u : View). checked_clocks u.clocks clock) (sym is), refl, refl, refl, refl, refl, refl) clocks,
+        settle starts allows c start m h seats n v w is (record unchanged { past = Some p; clocks = Some x }) (
+          ap (λ (u : View). record u.past { seen = h }) (sym is),
+          refl,
+          refl,
+          refl,
+          ap (λ (u : View). checked_clocks u.clocks clock) (sym is),
+          refl,
+          refl,
+          refl,
+          refl,
+          refl,
+          refl,
+        ) clocks,
         ((((h, (front, k.history.long), refl), k.loaded_words.clock_is), (λ t i a b. (a, b))), (refl, refl, refl, refl, refl, refl)),
       )

@@ -1,5 +1,6 @@
 -- Joining a seat: its view is spent, and the seat that is left has a note of it.
-use Rattle.std.proofs.Common.{◌≡◌, ◌≢◌, ◌⊎◌, ℕ, zero, suc, ◌+◌, ◌<◌, ◌≤◌, true, false, List, [], ◌∷◌, ◌++◌, length, set, sym, refl, ap, ◌∙◌, subst, inl, inr, ⊎_elim, arith, All}
+use Rattle.std.proofs.Common.{◌≡◌, ◌≢◌, ◌⊎◌, ℕ, zero, suc, ◌+◌, ◌<◌, ◌≤◌, true, false, List, [], ◌∷◌}
+use Rattle.std.proofs.Common.{◌++◌, length, set, sym, refl, ap, ◌∙◌, subst, inl, inr, ⊎_elim, arith, All}
 use Rattle.std.specs.Prelude.{Contains}
 use Rattle.std.proofs.lemmas.List.Elements.{All-append, All-cons, Contains-append_cases, Contains-append_left, Contains-append_right}
 use Rattle.std.proofs.Math.Logic.{∥∥₁_map}
@@ -20,13 +21,15 @@ record After {A : Type 0} (zs : List A) (n : ℕ) (i : ℕ) (a : A) : Type 0 whe
   place : i ≡ n + suc step
   there : get_elem? zs step ≡ some a
 
-between : {A : Type 0} (xs zs : List A) (y a : A) (i : ℕ) → get_elem? (xs ++ y ∷ zs) i ≡ some a → (get_elem? xs i ≡ some a) ⊎ (((i ≡ length xs) × (y ≡ a)) ⊎ After zs (length xs) i a)
+between : {A : Type 0} (xs zs : List A) (y a : A) (i : ℕ) → get_elem? (xs ++ y ∷ zs) i ≡ some a
+    → (get_elem? xs i ≡ some a) ⊎ (((i ≡ length xs) × (y ≡ a)) ⊎ After zs (length xs) i a)
 between [] zs y a zero e = inr (inl (refl, some-injective y a e))
 between [] zs y a (suc i) e = inr (inr (record { step = i; place = omega arith; there = e }))
 between (x ∷ xs) zs y a zero e = inl e
 between (x ∷ xs) zs y a (suc i) e =
     ⊎_elim inl
-    (λ r. inr (⊎_elim (λ here. inl (ap suc here.0, here.1)) (λ after. inr (record { step = after.step; place = (let is = after.place in omega arith); there = after.there })) r))
+    (λ r. inr (⊎_elim (λ here. inl (ap suc here.0, here.1))
+    (λ after. inr (record { step = after.step; place = (let is = after.place in omega arith); there = after.there })) r))
     (between xs zs y a i e)
 
 -- an element at a place is one of the list
@@ -43,7 +46,8 @@ contains_between xs zs y a has = ⊎_elim inl (λ r. inr (first_or zs y a r)) (C
     first_or zs y a (zero, lt, e) = inl e
     first_or zs y a (suc i, lt, e) = inr (i, omega (arith, lt), e)
 
-module _ (c : Config) (start : State) (vs : List View) (seats : ℕ → View) (id o : ℕ) (v w : View) (k : Seated c start vs seats) (at : get_elem? vs id ≡ some v) (other_at : get_elem? vs o ≡ some w) (other : o ≢ id)
+module _ (c : Config) (start : State) (vs : List View) (seats : ℕ → View) (id o : ℕ) (v w : View) (k : Seated c start vs seats)
+    (at : get_elem? vs id ≡ some v) (other_at : get_elem? vs o ≡ some w) (other : o ≢ id)
     (unspent : v.spent ≡ false) (other_unspent : w.spent ≡ false) (may : MayJoin v w) where
   abbrev u : View
   u = joined c v w
@@ -116,7 +120,8 @@ module _ (c : Config) (start : State) (vs : List View) (seats : ℕ → View) (i
   -- the seat of such a note is neither the one that is left nor any that is unspent
   noted_apart : (i j : ℕ) (y z : View) (n : Note) → Noted i y n → Was j z → z.number ≢ n.number
   noted_apart i j y z n (as_before a has) b same = k.gone i j a.view b.view n a.place b.place a.still b.still has (sym b.number_is ∙ same)
-  noted_apart i j y z n (of_joined a is) b same = b.left (k.apart j o b.view w b.place other_at b.still other_unspent (sym b.number_is ∙ same ∙ ap (λ (m : Note). m.number) (sym is)))
+  noted_apart i j y z n (of_joined a is) b same =
+      b.left (k.apart j o b.view w b.place other_at b.still other_unspent (sym b.number_is ∙ same ∙ ap (λ (m : Note). m.number) (sym is)))
   noted_apart i j y z n (of_its a has) b same = k.gone o j w b.view n other_at b.place other_unspent b.still has (sym b.number_is ∙ same)
 
   joined_was : Was id u
@@ -138,7 +143,8 @@ module _ (c : Config) (start : State) (vs : List View) (seats : ℕ → View) (i
   noted_after : (i : ℕ) (y : View) (n : Note) → get_elem? list i ≡ some y → y.spent ≡ false → Contains y.notes n → IsNoted (set_at seats v.number u) n
   noted_after i y n e un has =
       let from = noted i y n e un has in
-      let same : set_at seats v.number u n.number ≡ seats n.number = set_at_else seats v.number u n.number (λ is. noted_apart i id y u n from joined_was (sym is)) in
+      let same : set_at seats v.number u n.number ≡ seats n.number =
+      set_at_else seats v.number u n.number (λ is. noted_apart i id y u n from joined_was (sym is)) in
       let r = noted_before i y n from in record {
         number = ap (λ (z : View). z.number) same ∙ r.number;
         past = ap (λ (z : View). z.past) same ∙ r.past;
@@ -151,7 +157,8 @@ module _ (c : Config) (start : State) (vs : List View) (seats : ℕ → View) (i
   there_after i y e un = go (which i y e un)
     where
       go : Which i y → (set_at seats v.number u y.number ≡ y) × (y.number < c.seats)
-      go (joined_is a b) = subst (λ (z : View). (set_at seats v.number u z.number ≡ z) × (z.number < c.seats)) b (set_at_here seats v.number u, (k.there id v at unspent).1)
+      go (joined_is a b) =
+          subst (λ (z : View). (set_at seats v.number u z.number ≡ z) × (z.number < c.seats)) b (set_at_here seats v.number u, (k.there id v at unspent).1)
       go (other_is a b d) =
           let r = k.there i y d un in
           (set_at_else seats v.number u y.number (λ same. a (k.apart i id y v d at un unspent same)) ∙ r.0, r.1)
@@ -184,13 +191,15 @@ module _ (c : Config) (start : State) (vs : List View) (seats : ℕ → View) (i
   once_of i j p q y z m n (at_before a e) (at_before b f) same = k.once i j p q a.view b.view m n a.place b.place a.still b.still e f same
   once_of i j p q y z m n (at_before a e) (at_joined b f is) same =
       absurd (k.gone i o a.view w m a.place other_at a.still other_unspent (at_contains a.view.notes p m e) (ap (λ (l : Note). l.number) is ∙ sym same))
-  once_of i j p q y z m n (at_before a e) (at_its b f) same = absurd (a.left (k.once i o p f.step a.view w m n a.place other_at a.still other_unspent e f.there same).0)
+  once_of i j p q y z m n (at_before a e) (at_its b f) same =
+      absurd (a.left (k.once i o p f.step a.view w m n a.place other_at a.still other_unspent e f.there same).0)
   once_of i j p q y z m n (at_joined a e is) (at_before b f) same =
       absurd (k.gone j o b.view w n b.place other_at b.still other_unspent (at_contains b.view.notes q n f) (ap (λ (l : Note). l.number) is ∙ same))
   once_of i j p q y z m n (at_joined a e is) (at_joined b f js) same = (a ∙ sym b, e ∙ sym f)
   once_of i j p q y z m n (at_joined a e is) (at_its b f) same =
       absurd (k.gone o o w w n other_at other_at other_unspent other_unspent (at_contains w.notes f.step n f.there) (ap (λ (l : Note). l.number) is ∙ same))
-  once_of i j p q y z m n (at_its a e) (at_before b f) same = absurd (b.left (sym (k.once o j e.step q w b.view m n other_at b.place other_unspent b.still e.there f same).0))
+  once_of i j p q y z m n (at_its a e) (at_before b f) same =
+      absurd (b.left (sym (k.once o j e.step q w b.view m n other_at b.place other_unspent b.still e.there f same).0))
   once_of i j p q y z m n (at_its a e) (at_joined b f is) same =
       absurd (k.gone o o w w m other_at other_at other_unspent other_unspent (at_contains w.notes e.step m e.there) (ap (λ (l : Note). l.number) is ∙ sym same))
   once_of i j p q y z m n (at_its a e) (at_its b f) same =
@@ -198,7 +207,8 @@ module _ (c : Config) (start : State) (vs : List View) (seats : ℕ → View) (i
       (a ∙ sym b, e.place ∙ ap (λ t. length v.notes + suc t) one ∙ sym f.place)
 
   -- the seats that a maker made are below those to come
-  maker_after : (i : ℕ) (y : View) → get_elem? list i ≡ some y → y.spent ≡ false → 0 < y.made → (y.number ≡ 0) × ((s : ℕ) → y.made ≤ s → set_at seats v.number u s ≡ new_view c start s 0)
+  maker_after : (i : ℕ) (y : View) → get_elem? list i ≡ some y → y.spent ≡ false → 0 < y.made
+      → (y.number ≡ 0) × ((s : ℕ) → y.made ≤ s → set_at seats v.number u s ≡ new_view c start s 0)
   maker_after i y e un some_made =
       let a = was i y e un in
       let more : 0 < a.view.made = subst (λ (t : ℕ). 0 < t) a.made_is some_made in
@@ -209,18 +219,25 @@ module _ (c : Config) (start : State) (vs : List View) (seats : ℕ → View) (i
         λ s le. set_at_else seats v.number u s (λ same. omega arith) ∙ old.1 s (omega arith),
       )
 
-  made_after : (i j : ℕ) (y z : View) → get_elem? list i ≡ some y → get_elem? list j ≡ some z → y.spent ≡ false → z.spent ≡ false → 0 < y.made → (z.number < y.made) × All (λ n. n.number < y.made) z.notes
+  made_after : (i j : ℕ) (y z : View) → get_elem? list i ≡ some y → get_elem? list j ≡ some z → y.spent ≡ false → z.spent ≡ false → 0 < y.made
+      → (z.number < y.made) × All (λ n. n.number < y.made) z.notes
   made_after i j y z e f un vn some_made =
       let a = was i y e un in
       let more : 0 < a.view.made = subst (λ (t : ℕ). 0 < t) a.made_is some_made in
-      let low : (l : ℕ) (x : View) → get_elem? vs l ≡ some x → x.spent ≡ false → (x.number < a.view.made) × All (λ n. n.number < a.view.made) x.notes = λ l x there still. k.made i l a.view x a.place there a.still still more in
+      let low : (l : ℕ) (x : View) → get_elem? vs l ≡ some x → x.spent ≡ false → (x.number < a.view.made) × All (λ n. n.number < a.view.made) x.notes =
+      λ l x there still. k.made i l a.view x a.place there a.still still more in
       subst (λ (t : ℕ). (z.number < t) × All (λ n. n.number < t) z.notes) (sym a.made_is) (go low (which j z f vn))
     where
-      go : {t : ℕ} → ((l : ℕ) (x : View) → get_elem? vs l ≡ some x → x.spent ≡ false → (x.number < t) × All (λ n. n.number < t) x.notes) → Which j z → (z.number < t) × All (λ n. n.number < t) z.notes
+      go : {t : ℕ} → ((l : ℕ) (x : View) → get_elem? vs l ≡ some x → x.spent ≡ false → (x.number < t) × All (λ n. n.number < t) x.notes) → Which j z
+          → (z.number < t) × All (λ n. n.number < t) z.notes
       go {t} low (joined_is a b) =
           let own = low id v at unspent in
           let its = low o w other_at other_unspent in
-          subst (λ (x : View). (x.number < t) × All (λ n. n.number < t) x.notes) b (own.0, All-append (λ (n : Note). n.number < t) v.notes (note_of w ∷ w.notes) own.1 (All-cons (λ (n : Note). n.number < t) (note_of w) w.notes its.0 its.1))
+          subst (λ (x : View). (x.number < t) × All (λ n. n.number < t) x.notes) b (
+            own.0,
+            All-append (λ (n : Note). n.number < t) v.notes (note_of w ∷ w.notes) own.1
+                (All-cons (λ (n : Note). n.number < t) (note_of w) w.notes its.0 its.1),
+          )
       go low (other_is a b d) = low j z d vn
 
   own_after : (s : ℕ) → ((set_at seats v.number u s).number ≡ s) × ((set_at seats v.number u s).start ≡ start) × ((set_at seats v.number u s).base ≡ c.base)
@@ -246,7 +263,8 @@ module _ (c : Config) (start : State) (vs : List View) (seats : ℕ → View) (i
       dite (ℕ_discrete t.id o)
       (λ e.
       let same : t.holder ≡ w = some-injective t.holder w (sym t.place ∙ ap (get_elem? vs) e ∙ other_at) in
-      let named : (w.number ≡ s) ⊎ ((n : Note) × Contains w.notes n × (n.number ≡ s)) = subst (λ (z : View). (z.number ≡ s) ⊎ ((n : Note) × Contains z.notes n × (n.number ≡ s))) same t.named in
+      let named : (w.number ≡ s) ⊎ ((n : Note) × Contains w.notes n × (n.number ≡ s)) =
+      subst (λ (z : View). (z.number ≡ s) ⊎ ((n : Note) × Contains z.notes n × (n.number ≡ s))) same t.named in
       record {
         id = id;
         holder = u;
@@ -300,7 +318,8 @@ module _ (c : Config) (start : State) (vs : List View) (seats : ℕ → View) (i
   }
 
 -- the join of two seats keeps the rule
-pub seats_join : (starts : State → Type 0) (allows : List ℕ → State → Writes → Type 0) (key : Opening) (id o : ℕ) (v w : View) → v.spent ≡ false → w.spent ≡ false → MayJoin v w → Joins (Ruled starts allows key) id v o w (joined key.config v w) spent_view
+pub seats_join : (starts : State → Type 0) (allows : List ℕ → State → Writes → Type 0) (key : Opening) (id o : ℕ) (v w : View) → v.spent ≡ false
+    → w.spent ≡ false → MayJoin v w → Joins (Ruled starts allows key) id v o w (joined key.config v w) spent_view
 seats_join starts allows key id o v w unspent other_unspent may s r at other other_at =
     let there : get_elem? s.views o ≡ some w = ⊎_elim (λ t. absurd (other t.0)) (λ t. t.1) (at_set s.views id o (joined key.config v w) w other_at) in
     record {
@@ -310,11 +329,13 @@ seats_join starts allows key id o v w unspent other_unspent may s r at other oth
       shows = r.shows;
       slotless = r.slotless;
       seated = seated_joined key.config key.start.value.items s.views r.seats id o v w r.seated at there other unspent other_unspent may;
-      facts = unread starts allows key.config key.start.value.items r.memory r.history r.seats v.number v (joined key.config v w) (r.seated.there id v at unspent).0 (refl, refl, refl, refl, refl, refl, refl, refl, refl, refl, refl) r.facts;
+      facts = unread starts allows key.config key.start.value.items r.memory r.history r.seats v.number v (joined key.config v w)
+          (r.seated.there id v at unspent).0 (refl, refl, refl, refl, refl, refl, refl, refl, refl, refl, refl) r.facts;
     }
 
 -- the pass that is left is as it was
-pub joined_stays : (starts : State → Type 0) (allows : List ℕ → State → Writes → Type 0) (c : Config) (v w j : View) → MayJoin v w → j ≡ joined c v w → (j.number ≡ v.number) × RunsOn v j × (∥ Known starts allows v ∥₁ → ∥ Known starts allows j ∥₁)
+pub joined_stays : (starts : State → Type 0) (allows : List ℕ → State → Writes → Type 0) (c : Config) (v w j : View) → MayJoin v w → j ≡ joined c v w
+    → (j.number ≡ v.number) × RunsOn v j × (∥ Known starts allows v ∥₁ → ∥ Known starts allows j ∥₁)
 joined_stays starts allows c v w j may e =
     subst (λ (x : View). (x.number ≡ v.number) × RunsOn v x × (∥ Known starts allows v ∥₁ → ∥ Known starts allows x ∥₁)) (sym e) (
       refl,

@@ -8,13 +8,26 @@ use Rattle.mv_core.proofs.frames.FrameLaw.{unchanged, settle}
 use Rattle.mv_core.proofs.kinds.naming.LostClock.{lost_clocks, lost_facts, lost_whole}
 
 module _ (starts : State → Type 0) (allows : List ℕ → State → Writes → Type 0) (c : Config) (start : State) (v : View) where
-  pub joined_loads : Loads starts allows c start v Clock (λ n w. ((((h : List Entry) × IsWhole c v n h × (w ≡ joined_loaded c v n h)) × IsWord c n) × RunsOn v w) × IsKept v w)
+  pub joined_loads : Loads starts allows c start v Clock
+      (λ n w. ((((h : List Entry) × IsWhole c v n h × (w ≡ joined_loaded c v n h)) × IsWord c n) × RunsOn v w) × IsKept v w)
   joined_loads m h seats k is own begins wide =
       let n = v.number in
       let w : View = joined_loaded c v (m Clock) h in (
         w,
-        settle starts allows c start m h seats n v w is (record unchanged { past = Some (record (seats n).past { seen = h }); clocks = Some (lost_clocks (seats n).clocks (m Clock)) })
-            (ap (λ (u : View). record u.past { seen = h }) (sym is), refl, refl, refl, ap (λ (u : View). lost_clocks u.clocks (m Clock)) (sym is), refl, refl, refl, refl, refl, refl)
+        settle starts allows c start m h seats n v w is
+            (record unchanged { past = Some (record (seats n).past { seen = h }); clocks = Some (lost_clocks (seats n).clocks (m Clock)) }) (
+              ap (λ (u : View). record u.past { seen = h }) (sym is),
+              refl,
+              refl,
+              refl,
+              ap (λ (u : View). lost_clocks u.clocks (m Clock)) (sym is),
+              refl,
+              refl,
+              refl,
+              refl,
+              refl,
+              refl,
+            )
             (lost_facts v seats k is),
         ((((h, lost_whole v seats k is, refl), k.loaded_words.clock_is), (λ t i a b. (a, b))), (refl, refl, refl, refl, refl, refl)),
       )

@@ -23,8 +23,10 @@ maker_named c clock (Change commit) named = sym named.1
 abbrev pub lost_clocks : LoadedClocks → ℕ → LoadedClocks
 lost_clocks old word = record old { loaded = old.loaded ++ word ∷ []; helped = old.helped ++ if_none word }
 
-module _ (c : Config) (clock : ℕ) (stamp : ℕ → ℕ → ℕ) (rings : ℕ → Ring) (old : LoadedClocks) (is : ClocksAre c clock stamp rings old old) (clock_is : IsWord c clock) where
-  helped_all : (P : ℕ → Type 0) → ((w : ℕ) → Contains old.helped w → P w) → (clock_slot_of clock ≡ 8191 → P clock) → (w : ℕ) → Contains (lost_clocks old clock).helped w → P w
+module _ (c : Config) (clock : ℕ) (stamp : ℕ → ℕ → ℕ) (rings : ℕ → Ring) (old : LoadedClocks) (is : ClocksAre c clock stamp rings old old)
+    (clock_is : IsWord c clock) where
+  helped_all : (P : ℕ → Type 0) → ((w : ℕ) → Contains old.helped w → P w) → (clock_slot_of clock ≡ 8191 → P clock) → (w : ℕ)
+      → Contains (lost_clocks old clock).helped w → P w
   helped_all P all none w has = ⊎_elim (all w) (if_none_all P clock none w) (Contains-append_cases old.helped (if_none clock) w has)
 
   clocks_lost : ClocksAre c clock stamp rings old (lost_clocks old clock)
@@ -38,7 +40,8 @@ module _ (c : Config) (clock : ℕ) (stamp : ℕ → ℕ → ℕ) (rings : ℕ �
     checked = is.checked;
   }
 
-module _ {starts : State → Type 0} {allows : List ℕ → State → Writes → Type 0} {c : Config} {start : State} (v : View) {m : Memory} {h : List Entry} (seats : ℕ → View) (k : Facts starts allows c start m h (parts_of seats)) (is : seats v.number ≡ v) where
+module _ {starts : State → Type 0} {allows : List ℕ → State → Writes → Type 0} {c : Config} {start : State} (v : View) {m : Memory} {h : List Entry}
+    (seats : ℕ → View) (k : Facts starts allows c start m h (parts_of seats)) (is : seats v.number ≡ v) where
   abbrev f : ViewParts
   f = parts_of seats
 
@@ -63,7 +66,8 @@ module _ {starts : State → Type 0} {allows : List ℕ → State → Writes →
   lost_overtaken word loaded lost =
       let was = k.loaded_words.loaded v.number word (subst (λ (u : View). Contains u.clocks.loaded word) (sym is) loaded) in
       let past = was.past in
-      let later : clock_time_of word < clock_time_of (m Clock) = dite (ℕ_discrete (clock_time_of word) (clock_time_of (m Clock))) (λ e. absurd (lost (sym (was.same e)))) (λ ne. omega arith) in
+      let later : clock_time_of word < clock_time_of (m Clock) =
+      dite (ℕ_discrete (clock_time_of word) (clock_time_of (m Clock))) (λ e. absurd (lost (sym (was.same e)))) (λ ne. omega arith) in
       record {
         later = later;
         made = λ low.

@@ -30,15 +30,18 @@ rest_legal n h s legal front back d eq =
     (λ d r. absurd cc)
     front back (Change d) eq d refl
 
-rest_allowed : (allows : List ℕ → State → Writes → Type 0) (start : State) (h : List Entry) (s : ℕ) → IsAllowed allows start h → IsAllowed allows start (h ++ Rest s ∷ [])
+rest_allowed : (allows : List ℕ → State → Writes → Type 0) (start : State) (h : List Entry) (s : ℕ) → IsAllowed allows start h
+    → IsAllowed allows start (h ++ Rest s ∷ [])
 rest_allowed allows start h s old front back d eq =
     splits_push (λ fr e. (d : Commit) → e ≡ Change d → allows d.tag (state_after start fr) d.writes) h (Rest s)
     (λ fr bk e q d r. old fr bk d (q ∙ ap (λ z. fr ++ z ∷ bk) r))
     (λ d r. absurd cc)
     front back (Change d) eq d refl
 
-module _ (starts : State → Type 0) (allows : List ℕ → State → Writes → Type 0) (c : Config) (start : State) (v : View) (word : ℕ) (may : MayNameRest v word) where
-  module _ (m : Memory) (h : List Entry) (seats : ℕ → View) (k : Facts starts allows c start m h (parts_of seats)) (is : seats v.number ≡ v) (own : v.number < c.seats) (won : m Clock ≡ word) where
+module _ (starts : State → Type 0) (allows : List ℕ → State → Writes → Type 0) (c : Config) (start : State) (v : View) (word : ℕ)
+    (may : MayNameRest v word) where
+  module _ (m : Memory) (h : List Entry) (seats : ℕ → View) (k : Facts starts allows c start m h (parts_of seats)) (is : seats v.number ≡ v)
+      (own : v.number < c.seats) (won : m Clock ≡ word) where
     abbrev f : ViewParts
     f = parts_of seats
 
@@ -90,7 +93,8 @@ module _ (starts : State → Type 0) (allows : List ℕ → State → Writes →
         let rests = rests_of-append n h (e ∷ []) in
         let one : rests_of n (e ∷ []) ≡ 1 = ap (λ b. (if b then 1 else 0) + 0) (eq-eqb n n refl) in
         let old = knows.rests in
-        let mine : (seats n).past.mine ≡ commits_of n (h ++ e ∷ []) = (k.history.seats n).mine ∙ sym (commits_of-append n h (e ∷ []) ∙ append-nil (commits_of n h)) in
+        let mine : (seats n).past.mine ≡ commits_of n (h ++ e ∷ []) =
+        (k.history.seats n).mine ∙ sym (commits_of-append n h (e ∷ []) ∙ append-nil (commits_of n h)) in
         history_after starts allows c start (m Clock) clock h f.past k.history n e refl p own (omega arith) clock_time
         (clock_slot, seat_back t n 8191 seat_small (omega arith))
         (rest_legal (length start) h n k.history.legal) (rest_allowed allows start h n k.history.allowed)
@@ -101,7 +105,11 @@ module _ (starts : State → Type 0) (allows : List ℕ → State → Writes →
     makes = record { maker = refl; written = λ j x lives. absurd (nothing j x lives); only = λ o w. absurd cc }
 
     new_set : NewSet k n e
-    new_set = record { commit = λ j x lives. absurd (nothing j x lives); one_set = λ j l x y a b. absurd (nothing j x a); none_aborted = λ j l x y dead a b. absurd (nothing j x a) }
+    new_set = record {
+      commit = λ j x lives. absurd (nothing j x lives);
+      one_set = λ j l x y a b. absurd (nothing j x a);
+      none_aborted = λ j l x y dead a b. absurd (nothing j x a);
+    }
 
     turns : Turns k n e clock f.section
     turns = record {
@@ -118,10 +126,14 @@ module _ (starts : State → Type 0) (allows : List ℕ → State → Writes →
       not_open = λ i at unnamed. not_inside i at;
     }
 
-    facts : Facts starts allows c start (put m Clock clock) (h ++ e ∷ []) (changed f n (record unchanged { past = Some p; ring = Some (committed_ring t (f.ring n)) }))
+    facts : Facts starts allows c start (put m Clock clock) (h ++ e ∷ [])
+        (changed f n (record unchanged { past = Some p; ring = Some (committed_ring t (f.ring n)) }))
     facts =
-        facts_after k n e (subst (λ (w : ℕ). Contains (f.clocks n).helped w) (sym won) (subst (λ (u : View). Contains u.clocks.helped word) (sym is) may.helped)) makes new_set clock
-        (λ j x lives. absurd (nothing j x lives)) f.section turns (set_at f.past n p) history (seen_more starts allows c start (m Clock) clock h f.past k.history n e refl p refl)
+        facts_after k n e
+        (subst (λ (w : ℕ). Contains (f.clocks n).helped w) (sym won) (subst (λ (u : View). Contains u.clocks.helped word) (sym is) may.helped))
+        makes new_set clock
+        (λ j x lives. absurd (nothing j x lives)) f.section turns (set_at f.past n p) history
+        (seen_more starts allows c start (m Clock) clock h f.past k.history n e refl p refl)
         f.phase k.marks k.phases_and_scan.scanning
 
     rest_facts : Facts starts allows c start (put m Clock (rest_word v word)) (h ++ e ∷ []) (parts_of (set_at seats n (rest_named c v word h)))
@@ -142,7 +154,8 @@ module _ (starts : State → Type 0) (allows : List ℕ → State → Writes →
           refl,
           refl,
         )
-        (subst (λ (x : ℕ). Facts starts allows c start (put m Clock x) (h ++ e ∷ []) (changed f n (record unchanged { past = Some p; ring = Some (committed_ring t (f.ring n)) }))) word_is facts)
+        (subst (λ (x : ℕ). Facts starts allows c start (put m Clock x) (h ++ e ∷ [])
+        (changed f n (record unchanged { past = Some p; ring = Some (committed_ring t (f.ring n)) }))) word_is facts)
 
   abbrev told : ℕ → View → Type 0
   told n w = ((RestTold c v word n w × IsWord c n) × RunsOn v w) × IsKept v w
@@ -155,7 +168,10 @@ module _ (starts : State → Type 0) (allows : List ℕ → State → Writes →
       rest_facts m h seats k is own won,
       (
         (
-          (((λ _. (h, subst (λ (n : ℕ). IsWhole c v n h) won (lost_whole v seats k is), refl)), (λ lost. absurd (lost refl))), subst (IsWord c) won k.loaded_words.clock_is),
+          (
+            ((λ _. (h, subst (λ (n : ℕ). IsWhole c v n h) won (lost_whole v seats k is), refl)), (λ lost. absurd (lost refl))),
+            subst (IsWord c) won k.loaded_words.clock_is,
+          ),
           (λ time first a b. (a, b)),
         ),
         (refl, refl, refl, refl, refl, refl),
@@ -163,9 +179,30 @@ module _ (starts : State → Type 0) (allows : List ℕ → State → Writes →
     )),
     (λ m h seats k is own begins lost small. (
       rest_lost c v (m Clock) h,
-      settle starts allows c start m h seats v.number v (rest_lost c v (m Clock) h) is (record unchanged { past = Some (record (seats v.number).past { seen = h }); clocks = Some (lost_clocks (seats v.number).clocks (m Clock)) })
-          (ap (λ (u : View). record u.past { seen = h }) (sym is), refl, refl, refl, ap (λ (u : View). lost_clocks u.clocks (m Clock)) (sym is), refl, refl, refl, refl, refl, refl) (lost_facts v seats k is),
-      (((((λ same. absurd (lost same)), (λ _. (h, lost_whole v seats k is, refl, lost_overtaken v seats k is word may.loaded lost))), k.loaded_words.clock_is), (λ t i a b. (a, b))), (refl, refl, refl, refl, refl, refl)),
+      settle starts allows c start m h seats v.number v (rest_lost c v (m Clock) h) is
+          (record unchanged { past = Some (record (seats v.number).past { seen = h }); clocks = Some (lost_clocks (seats v.number).clocks (m Clock)) }) (
+            ap (λ (u : View). record u.past { seen = h }) (sym is),
+            refl,
+            refl,
+            refl,
+            ap (λ (u : View). lost_clocks u.clocks (m Clock)) (sym is),
+            refl,
+            refl,
+            refl,
+            refl,
+            refl,
+            refl,
+          ) (lost_facts v seats k is),
+      (
+        (
+          (
+            ((λ same. absurd (lost same)), (λ _. (h, lost_whole v seats k is, refl, lost_overtaken v seats k is word may.loaded lost))),
+            k.loaded_words.clock_is,
+          ),
+          (λ t i a b. (a, b)),
+        ),
+        (refl, refl, refl, refl, refl, refl),
+      ),
     )),
   )
 

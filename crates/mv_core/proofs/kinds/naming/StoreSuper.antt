@@ -268,9 +268,30 @@ module _ (starts : State → Type 0) (allows : List ℕ → State → Writes →
       let time_now = may.time_is in (
         w,
         h,
-        settle starts allows c start (put m (Super (link_seat_of link) (slot_named c link)) time) h seats n v w is (record unchanged { ring = Some r })
-            (refl, refl, refl, refl, refl, refl, refl, ap (λ (u : View). put_slot u.ring k (Live x (Committed (record note { linked = true })))) (sym is), refl, refl, refl)
+        settle starts allows c start (put m (Super (link_seat_of link) (slot_named c link)) time) h seats n v w is (record unchanged { ring = Some r }) (
+          refl,
+          refl,
+          refl,
+          refl,
+          refl,
+          refl,
+          refl,
+          ap (λ (u : View). put_slot u.ring k (Live x (Committed (record note { linked = true })))) (sym is),
+          refl,
+          refl,
+          refl,
+        )
             (subst (λ (p : ℕ × ℕ). Facts starts allows c start (put m (Super (link_seat_of p.0) (slot_named c p.0)) p.1) h
             (changed (parts_of seats) n (record unchanged { ring = Some r }))) (λ i. (link_is i, time_now i)) after),
-        ((refl, (λ t first a begun. (a, λ i at opens some. let one : Inside may.inside ≡ Inside i = sym phase ∙ at in let same : may.inside ≡ i = cc in let none : Named may.naming ≡ Open = sym may.mode ∙ ap (λ (q : Section). q.mode) same ∙ opens in absurd cc))), (refl, refl, refl, refl, refl, refl)),
+        (
+          (
+            refl,
+            (λ t first a begun. (
+              a,
+              λ i at opens some. let one : Inside may.inside ≡ Inside i = sym phase ∙ at in let same : may.inside ≡ i = cc in
+                  let none : Named may.naming ≡ Open = sym may.mode ∙ ap (λ (q : Section). q.mode) same ∙ opens in absurd cc,
+            )),
+          ),
+          (refl, refl, refl, refl, refl, refl),
+        ),
       )

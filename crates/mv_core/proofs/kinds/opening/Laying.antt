@@ -1,5 +1,6 @@
 -- The words of a new domain while its opening state is laid.
-use Rattle.std.proofs.Common.{◌≡◌, ℕ, zero, suc, ◌+◌, ◌<◌, ◌==◌, ◌&&◌, false, cond, List, length, set, get_or, slice_index, replicate, refl, sym, ap, ◌∙◌, inl, inr, ⊎_elim, arith, eq-eqb, ne_eqb}
+use Rattle.std.proofs.Common.{◌≡◌, ℕ, zero, suc, ◌+◌, ◌<◌, ◌==◌, ◌&&◌, false, cond, List, length, set, get_or, slice_index}
+use Rattle.std.proofs.Common.{replicate, refl, sym, ap, ◌∙◌, inl, inr, ⊎_elim, arith, eq-eqb, ne_eqb}
 use Rattle.mv_core.proofs.Terms.{dite, ℕ_discrete, State, Config, Place, Clock, Grace, Mark, Head, Master, First, Stamp, Prev, Super, Data, Checked}
 use Rattle.mv_core.proofs.Terms.{clock_of, Memory, put, same, Shows, IsPlace, place_of, total}
 use Rattle.std.proofs.lemmas.List.{length-replicate}
@@ -11,7 +12,8 @@ use Rattle.mv_core.specs.Start.{opening_memory, IsBlank, Laid}
 abbrev read : Config → List ℕ → Memory
 read c words p = slice_index words (place_of c p)
 
-after_write : (c : Config) → Checked c → (words : List ℕ) → length words ≡ total c → (p : Place) (n : ℕ) → IsPlace c p → Shows c (set words (place_of c p) n) (put (read c words) p n)
+after_write : (c : Config) → Checked c → (words : List ℕ) → length words ≡ total c → (p : Place) (n : ℕ) → IsPlace c p
+    → Shows c (set words (place_of c p) n) (put (read c words) p n)
 after_write c k words wide p n is = shows_put c words (read c words) p n k (record { wide = wide; each = λ q _. refl }) is
 
 zero_words : (n i : ℕ) → get_or (replicate {A = ℕ} n 0) i 0 ≡ 0
@@ -20,7 +22,8 @@ zero_words (suc n) zero = refl
 zero_words (suc n) (suc i) = zero_words n i
 
 module _ (c : Config) (start : State) (k : Checked c) where
-  blank_after : (words : List ℕ) (p : Place) (n : ℕ) → (is : Shows c (set words (place_of c p) n) (put (read c words) p n)) → (q : Place) → IsPlace c q → same p q ≡ false → slice_index words (place_of c q) ≡ 0 → slice_index (set words (place_of c p) n) (place_of c q) ≡ 0
+  blank_after : (words : List ℕ) (p : Place) (n : ℕ) → (is : Shows c (set words (place_of c p) n) (put (read c words) p n)) → (q : Place) → IsPlace c q
+      → same p q ≡ false → slice_index words (place_of c q) ≡ 0 → slice_index (set words (place_of c p) n) (place_of c q) ≡ 0
   blank_after words p n is q at other was = is.each q at ∙ ap (λ b. cond b n (read c words q)) other ∙ was
 
   other_kind : (o w : ℕ) (q : Place) → IsBlank q → same (Master o w) q ≡ false
@@ -36,7 +39,8 @@ module _ (c : Config) (start : State) (k : Checked c) where
   other_kind o w (Data s j x) b = refl
 
   -- one more word is laid
-  pub laid_more : (words : List ℕ) (o w : ℕ) → o < c.objects → w < 6 → Laid c start words o w → Laid c start (set words (place_of c (Master o w)) (slice_index (words_at start o) w)) o (w + 1)
+  pub laid_more : (words : List ℕ) (o w : ℕ) → o < c.objects → w < 6 → Laid c start words o w
+      → Laid c start (set words (place_of c (Master o w)) (slice_index (words_at start o) w)) o (w + 1)
   laid_more words o w at in_object l =
       let x = slice_index (words_at start o) w in
       let is = after_write c k words l.wide (Master o w) x (at, in_object) in record {
@@ -47,9 +51,13 @@ module _ (c : Config) (start : State) (k : Checked c) where
             is.each (Master p y) (at', in_object')
             ∙ dite (ℕ_discrete o p)
             (λ e. dite (ℕ_discrete w y)
-            (λ f. ap (λ b. cond (b && (w == y)) x (read c words (Master p y))) (eq-eqb o p e) ∙ ap (λ b. cond b x (read c words (Master p y))) (eq-eqb w y f) ∙ ap (λ (q : ℕ). slice_index (words_at start q) w) e ∙ ap (slice_index (words_at start p)) f)
-            (λ ne. ap (λ b. cond (b && (w == y)) x (read c words (Master p y))) (eq-eqb o p e) ∙ ap (λ b. cond b x (read c words (Master p y))) (ne_eqb w y ne) ∙ l.master p y at' in_object' (⊎_elim inl (λ t. inr (t.0, omega (arith, t.1))) done)))
-            (λ ne. ap (λ b. cond (b && (w == y)) x (read c words (Master p y))) (ne_eqb o p ne) ∙ l.master p y at' in_object' (⊎_elim inl (λ t. absurd (ne (sym t.0))) done));
+            (λ f. ap (λ b. cond (b && (w == y)) x (read c words (Master p y))) (eq-eqb o p e) ∙ ap (λ b. cond b x (read c words (Master p y))) (eq-eqb w y f)
+            ∙ ap (λ (q : ℕ). slice_index (words_at start q) w) e ∙ ap (slice_index (words_at start p)) f)
+            (λ ne. ap (λ b. cond (b && (w == y)) x (read c words (Master p y))) (eq-eqb o p e)
+            ∙ ap (λ b. cond b x (read c words (Master p y))) (ne_eqb w y ne)
+            ∙ l.master p y at' in_object' (⊎_elim inl (λ t. inr (t.0, omega (arith, t.1))) done)))
+            (λ ne. ap (λ b. cond (b && (w == y)) x (read c words (Master p y))) (ne_eqb o p ne)
+            ∙ l.master p y at' in_object' (⊎_elim inl (λ t. absurd (ne (sym t.0))) done));
         blank = λ q at' b. blank_after words (Master o w) x is q at' (other_kind o w q b) (l.blank q at' b);
       }
 
@@ -59,7 +67,8 @@ module _ (c : Config) (start : State) (k : Checked c) where
     wide = l.wide;
     clock = l.clock;
     grace = l.grace;
-    master = λ p y at in_object done. l.master p y at in_object (dite (ℕ_discrete p o) (λ e. inr (e, in_object)) (λ ne. inl (⊎_elim (λ lt. omega arith) (λ t. let z = t.1 in omega arith) done)));
+    master = λ p y at in_object done. l.master p y at in_object
+        (dite (ℕ_discrete p o) (λ e. inr (e, in_object)) (λ ne. inl (⊎_elim (λ lt. omega arith) (λ t. let z = t.1 in omega arith) done)));
     blank = l.blank;
   }
 
@@ -86,7 +95,8 @@ module _ (c : Config) (start : State) (k : Checked c) where
         clock = two.each Clock tt ∙ one.each Clock tt;
         grace = two.each Grace tt;
         master = λ p y at in_object done. absurd (⊎_elim (λ lt. omega arith) (λ t. let z = t.1 in omega arith) done);
-        blank = λ q at b. blank_after (set zeros 0 n) Grace c.base two q at (not_first q b).1 (blank_after zeros Clock n one q at (not_first q b).0 (zero_words (total c) (place_of c q)));
+        blank = λ q at b. blank_after (set zeros 0 n) Grace c.base two q at (not_first q b).1
+            (blank_after zeros Clock n one q at (not_first q b).0 (zero_words (total c) (place_of c q)));
       }
 
   -- all is laid

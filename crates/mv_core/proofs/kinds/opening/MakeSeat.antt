@@ -1,5 +1,7 @@
 -- Making a seat: the list of views has one more, of the seat whose number comes next.
-use Rattle.std.proofs.Common.{◌≡◌, ◌≢◌, ◌⊎◌, ℕ, zero, suc, ◌+◌, ◌-◌, ◌<◌, ◌≤◌, false, cond, List, [], ◌∷◌, ◌++◌, length, replicate, set, sym, refl, ap, ◌∙◌, subst, inl, inr, ⊎_elim, le_refl, arith, ne_eqb, All, None}
+use Rattle.std.proofs.Common.{◌≡◌, ◌≢◌, ◌⊎◌, ℕ, zero, suc, ◌+◌, ◌-◌, ◌<◌, ◌≤◌, false, cond, List, [], ◌∷◌}
+use Rattle.std.proofs.Common.{◌++◌, length, replicate, set, sym, refl, ap, ◌∙◌, subst, inl, inr, ⊎_elim, le_refl, arith, ne_eqb, All}
+use Rattle.std.proofs.Common.{None}
 use Rattle.std.specs.Prelude.{Contains}
 use Rattle.std.proofs.lemmas.List.Elements.{All-nil, All-weaker, All-contains}
 use Rattle.std.proofs.Math.Logic.{∥∥₁_map}
@@ -36,7 +38,8 @@ end_or_before (x ∷ xs) a b (suc j) e = ⊎_elim inl (λ t. inr (ap suc t.0, t.
 module _ (c : Config) (start : State) where
   -- the first seat, which is there alone
   first_there : 0 < c.seats → (id : ℕ) (v : View) → get_elem? (first_view c start ∷ []) id ≡ some v → (first_seats c start v.number ≡ v) × (v.number < c.seats)
-  first_there some_seats id v at = subst (λ (u : View). (first_seats c start u.number ≡ u) × (u.number < c.seats)) (one id (first_view c start) v at).1 (refl, some_seats)
+  first_there some_seats id v at =
+      subst (λ (u : View). (first_seats c start u.number ≡ u) × (u.number < c.seats)) (one id (first_view c start) v at).1 (refl, some_seats)
 
   no_notes : {X : Type 0} (id : ℕ) (v : View) (n : Note) → get_elem? (first_view c start ∷ []) id ≡ some v → Contains v.notes n → X
   no_notes id v n at has = none_in n (subst (λ (ns : List Note). Contains ns n) (ap (λ (u : View). u.notes) (sym (one id (first_view c start) v at).1)) has)
@@ -61,7 +64,8 @@ module _ (c : Config) (start : State) where
         (subst (λ (u : View). (u.number < 1) × All (λ n. n.number < 1) u.notes) (one j (first_view c start) w b).1 (omega arith, All-nil (λ n. n.number < 1)));
   }
 
-module _ (c : Config) (start : State) (vs : List View) (seats : ℕ → View) (id : ℕ) (v : View) (k : Seated c start vs seats) (at : get_elem? vs id ≡ some v) (unspent : v.spent ≡ false) (maker : 0 < v.made) (room : v.made < c.seats) where
+module _ (c : Config) (start : State) (vs : List View) (seats : ℕ → View) (id : ℕ) (v : View) (k : Seated c start vs seats) (at : get_elem? vs id ≡ some v)
+    (unspent : v.spent ≡ false) (maker : 0 < v.made) (room : v.made < c.seats) where
   abbrev w : View
   w = made_one c v
 
@@ -76,7 +80,8 @@ module _ (c : Config) (start : State) (vs : List View) (seats : ℕ → View) (i
 
   -- the seat that is made was new already
   new_is : seats v.made ≡ x
-  new_is = (k.maker id v at unspent maker).1 v.made (le_refl v.made) ∙ ap (λ (s : State). new_view c s v.made 0) (sym (k.own v.number).1 ∙ ap (λ (u : View). u.start) here)
+  new_is = (k.maker id v at unspent maker).1 v.made (le_refl v.made)
+      ∙ ap (λ (s : State). new_view c s v.made 0) (sym (k.own v.number).1 ∙ ap (λ (u : View). u.start) here)
 
   -- what is at a place of the list after: the maker, another as before, or the new one
   data Which (j : ℕ) (y : View) : Type 0 where
@@ -85,7 +90,8 @@ module _ (c : Config) (start : State) (vs : List View) (seats : ℕ → View) (i
     new_one : j ≡ length (set vs id w) → x ≡ y → Which j y
 
   which : (j : ℕ) (y : View) → get_elem? (set vs id w ++ x ∷ []) j ≡ some y → Which j y
-  which j y e = ⊎_elim (λ p. ⊎_elim (λ t. maker_is t.0 t.1) (λ t. other_is t.0 t.1) (at_set vs id j w y p)) (λ t. new_one t.0 t.1) (end_or_before (set vs id w) x y j e)
+  which j y e =
+      ⊎_elim (λ p. ⊎_elim (λ t. maker_is t.0 t.1) (λ t. other_is t.0 t.1) (at_set vs id j w y p)) (λ t. new_one t.0 t.1) (end_or_before (set vs id w) x y j e)
 
   -- a view but the new one, as it was
   abbrev Was : ℕ → View → Type 0
@@ -95,30 +101,43 @@ module _ (c : Config) (start : State) (vs : List View) (seats : ℕ → View) (i
   was j y e = go (which j y e)
     where
       go : Which j y → Was j y ⊎ ((j ≡ length (set vs id w)) × (x ≡ y))
-      go (maker_is i e) = inl (v, subst (λ (i : ℕ). get_elem? vs i ≡ some v) (sym i) at, ap (λ (u : View). u.number) (sym e), ap (λ (u : View). u.notes) (sym e), ap (λ (u : View). u.spent) (sym e))
+      go (maker_is i e) =
+          inl (
+            v,
+            subst (λ (i : ℕ). get_elem? vs i ≡ some v) (sym i) at,
+            ap (λ (u : View). u.number) (sym e),
+            ap (λ (u : View). u.notes) (sym e),
+            ap (λ (u : View). u.spent) (sym e),
+          )
       go (other_is i e) = inl (y, e, refl, refl, refl)
       go (new_one i e) = inr (i, e)
 
   low : (j : ℕ) (z : View) → get_elem? vs j ≡ some z → z.spent ≡ false → (z.number < v.made) × All (λ n. n.number < v.made) z.notes
   low j z e un = k.made id j v z at e unspent un maker
 
-  there_after : (j : ℕ) (y : View) → get_elem? (set vs id w ++ x ∷ []) j ≡ some y → y.spent ≡ false → (set_at seats v.number w y.number ≡ y) × (y.number < c.seats)
+  there_after : (j : ℕ) (y : View) → get_elem? (set vs id w ++ x ∷ []) j ≡ some y → y.spent ≡ false
+      → (set_at seats v.number w y.number ≡ y) × (y.number < c.seats)
   there_after j y e un = go (which j y e)
     where
       go : Which j y → (set_at seats v.number w y.number ≡ y) × (y.number < c.seats)
-      go (maker_is i e) = subst (λ (u : View). (set_at seats v.number w u.number ≡ u) × (u.number < c.seats)) e (set_at_here seats v.number w, (k.there id v at unspent).1)
+      go (maker_is i e) =
+          subst (λ (u : View). (set_at seats v.number w u.number ≡ u) × (u.number < c.seats)) e (set_at_here seats v.number w, (k.there id v at unspent).1)
       go (other_is i e) =
           let o = k.there j y e un in
           (set_at_else seats v.number w y.number (λ same. i (k.apart j id y v e at un unspent same)) ∙ o.0, o.1)
-      go (new_one i e) = subst (λ (u : View). (set_at seats v.number w u.number ≡ u) × (u.number < c.seats)) e (set_at_else seats v.number w v.made (λ same. let z = is_zero in omega arith) ∙ new_is, room)
+      go (new_one i e) =
+          subst (λ (u : View). (set_at seats v.number w u.number ≡ u) × (u.number < c.seats)) e
+          (set_at_else seats v.number w v.made (λ same. let z = is_zero in omega arith) ∙ new_is, room)
 
-  noted_after : (j : ℕ) (y : View) (n : Note) → get_elem? (set vs id w ++ x ∷ []) j ≡ some y → y.spent ≡ false → Contains y.notes n → IsNoted (set_at seats v.number w) n
+  noted_after : (j : ℕ) (y : View) (n : Note) → get_elem? (set vs id w ++ x ∷ []) j ≡ some y → y.spent ≡ false → Contains y.notes n
+      → IsNoted (set_at seats v.number w) n
   noted_after j y n e un has =
       ⊎_elim
       (λ o.
       let old_has : Contains o.0.notes n = subst (λ (ns : List Note). Contains ns n) o.3 has in
       let old_un : o.0.spent ≡ false = sym o.4 ∙ un in
-      let same : set_at seats v.number w n.number ≡ seats n.number = set_at_else seats v.number w n.number (λ e. k.gone j id o.0 v n o.1 at old_un unspent old_has (sym e)) in
+      let same : set_at seats v.number w n.number ≡ seats n.number =
+      set_at_else seats v.number w n.number (λ e. k.gone j id o.0 v n o.1 at old_un unspent old_has (sym e)) in
       let r = k.noted j o.0 n o.1 old_un old_has in record {
         number = ap (λ (u : View). u.number) same ∙ r.number;
         past = ap (λ (u : View). u.past) same ∙ r.past;
@@ -129,21 +148,25 @@ module _ (c : Config) (start : State) (vs : List View) (seats : ℕ → View) (i
       (λ t. none_in n (subst (λ (u : View). Contains u.notes n) (sym t.1) has))
       (was j y e)
 
-  apart_after : (i j : ℕ) (y z : View) → get_elem? (set vs id w ++ x ∷ []) i ≡ some y → get_elem? (set vs id w ++ x ∷ []) j ≡ some z → y.spent ≡ false → z.spent ≡ false → y.number ≡ z.number → i ≡ j
+  apart_after : (i j : ℕ) (y z : View) → get_elem? (set vs id w ++ x ∷ []) i ≡ some y → get_elem? (set vs id w ++ x ∷ []) j ≡ some z → y.spent ≡ false
+      → z.spent ≡ false → y.number ≡ z.number → i ≡ j
   apart_after i j y z e f un vn same =
       ⊎_elim
       (λ a. let old_un : a.0.spent ≡ false = sym a.4 ∙ un in
       ⊎_elim
       (λ b. k.apart i j a.0 b.0 a.1 b.1 old_un (sym b.4 ∙ vn) (sym a.2 ∙ same ∙ b.2))
-      (λ t. let below = (low i a.0 a.1 old_un).0 in let is : a.0.number ≡ v.made = sym a.2 ∙ same ∙ ap (λ (u : View). u.number) (sym t.1) in absurd (omega arith))
+      (λ t. let below = (low i a.0 a.1 old_un).0 in let is : a.0.number ≡ v.made = sym a.2 ∙ same ∙ ap (λ (u : View). u.number) (sym t.1) in
+      absurd (omega arith))
       (was j z f))
       (λ s. ⊎_elim
-      (λ b. let below = (low j b.0 b.1 (sym b.4 ∙ vn)).0 in let is : b.0.number ≡ v.made = sym b.2 ∙ sym same ∙ ap (λ (u : View). u.number) (sym s.1) in absurd (omega arith))
+      (λ b. let below = (low j b.0 b.1 (sym b.4 ∙ vn)).0 in let is : b.0.number ≡ v.made = sym b.2 ∙ sym same ∙ ap (λ (u : View). u.number) (sym s.1) in
+      absurd (omega arith))
       (λ t. s.0 ∙ sym t.0)
       (was j z f))
       (was i y e)
 
-  gone_after : (i j : ℕ) (y z : View) (n : Note) → get_elem? (set vs id w ++ x ∷ []) i ≡ some y → get_elem? (set vs id w ++ x ∷ []) j ≡ some z → y.spent ≡ false → z.spent ≡ false → Contains y.notes n → z.number ≢ n.number
+  gone_after : (i j : ℕ) (y z : View) (n : Note) → get_elem? (set vs id w ++ x ∷ []) i ≡ some y → get_elem? (set vs id w ++ x ∷ []) j ≡ some z
+      → y.spent ≡ false → z.spent ≡ false → Contains y.notes n → z.number ≢ n.number
   gone_after i j y z n e f un vn has same =
       ⊎_elim
       (λ a.
@@ -151,16 +174,19 @@ module _ (c : Config) (start : State) (vs : List View) (seats : ℕ → View) (i
       let old_has : Contains a.0.notes n = subst (λ (ns : List Note). Contains ns n) a.3 has in
       ⊎_elim
       (λ b. k.gone i j a.0 b.0 n a.1 b.1 old_un (sym b.4 ∙ vn) old_has (sym b.2 ∙ same))
-      (λ t. let below : n.number < v.made = All-contains (λ n. n.number < v.made) a.0.notes n (low i a.0 a.1 old_un).1 old_has in let is : v.made ≡ n.number = ap (λ (u : View). u.number) t.1 ∙ same in absurd (omega arith))
+      (λ t. let below : n.number < v.made = All-contains (λ n. n.number < v.made) a.0.notes n (low i a.0 a.1 old_un).1 old_has in
+      let is : v.made ≡ n.number = ap (λ (u : View). u.number) t.1 ∙ same in absurd (omega arith))
       (was j z f))
       (λ s. none_in n (subst (λ (u : View). Contains u.notes n) (sym s.1) has))
       (was i y e)
 
-  once_after : (i j p q : ℕ) (y z : View) (m n : Note) → get_elem? (set vs id w ++ x ∷ []) i ≡ some y → get_elem? (set vs id w ++ x ∷ []) j ≡ some z → y.spent ≡ false → z.spent ≡ false → get_elem? y.notes p ≡ some m → get_elem? z.notes q ≡ some n → m.number ≡ n.number → (i ≡ j) × (p ≡ q)
+  once_after : (i j p q : ℕ) (y z : View) (m n : Note) → get_elem? (set vs id w ++ x ∷ []) i ≡ some y → get_elem? (set vs id w ++ x ∷ []) j ≡ some z
+      → y.spent ≡ false → z.spent ≡ false → get_elem? y.notes p ≡ some m → get_elem? z.notes q ≡ some n → m.number ≡ n.number → (i ≡ j) × (p ≡ q)
   once_after i j p q y z m n e f un vn g h same =
       ⊎_elim
       (λ a. ⊎_elim
-      (λ b. k.once i j p q a.0 b.0 m n a.1 b.1 (sym a.4 ∙ un) (sym b.4 ∙ vn) (subst (λ (ns : List Note). get_elem? ns p ≡ some m) a.3 g) (subst (λ (ns : List Note). get_elem? ns q ≡ some n) b.3 h) same)
+      (λ b. k.once i j p q a.0 b.0 m n a.1 b.1 (sym a.4 ∙ un) (sym b.4 ∙ vn) (subst (λ (ns : List Note). get_elem? ns p ≡ some m) a.3 g)
+      (subst (λ (ns : List Note). get_elem? ns q ≡ some n) b.3 h) same)
       (λ t. none_at q n (ap (λ (u : View). get_elem? u.notes q) t.1 ∙ h))
       (was j z f))
       (λ s. none_at p m (ap (λ (u : View). get_elem? u.notes p) s.1 ∙ g))
@@ -175,17 +201,23 @@ module _ (c : Config) (start : State) (vs : List View) (seats : ℕ → View) (i
   later : (s : ℕ) → v.made + 1 ≤ s → set_at seats v.number w s ≡ new_view c start s 0
   later s le = set_at_else seats v.number w s (λ e. let z = is_zero in omega arith) ∙ (k.maker id v at unspent maker).1 s (omega arith)
 
-  maker_after : (j : ℕ) (y : View) → get_elem? (set vs id w ++ x ∷ []) j ≡ some y → y.spent ≡ false → 0 < y.made → (y.number ≡ 0) × ((s : ℕ) → y.made ≤ s → set_at seats v.number w s ≡ new_view c start s 0)
+  maker_after : (j : ℕ) (y : View) → get_elem? (set vs id w ++ x ∷ []) j ≡ some y → y.spent ≡ false → 0 < y.made
+      → (y.number ≡ 0) × ((s : ℕ) → y.made ≤ s → set_at seats v.number w s ≡ new_view c start s 0)
   maker_after j y e un some_made =
-      subst (λ (u : View). (u.number ≡ 0) × ((s : ℕ) → u.made ≤ s → set_at seats v.number w s ≡ new_view c start s 0)) (only_maker j y (which j y e) un some_made) (is_zero, later)
+      subst (λ (u : View). (u.number ≡ 0) × ((s : ℕ) → u.made ≤ s → set_at seats v.number w s ≡ new_view c start s 0))
+      (only_maker j y (which j y e) un some_made) (is_zero, later)
 
-  made_after : (i j : ℕ) (y z : View) → get_elem? (set vs id w ++ x ∷ []) i ≡ some y → get_elem? (set vs id w ++ x ∷ []) j ≡ some z → y.spent ≡ false → z.spent ≡ false → 0 < y.made → (z.number < y.made) × All (λ n. n.number < y.made) z.notes
+  made_after : (i j : ℕ) (y z : View) → get_elem? (set vs id w ++ x ∷ []) i ≡ some y → get_elem? (set vs id w ++ x ∷ []) j ≡ some z → y.spent ≡ false
+      → z.spent ≡ false → 0 < y.made → (z.number < y.made) × All (λ n. n.number < y.made) z.notes
   made_after i j y z e f un vn some_made =
       subst (λ (u : View). (z.number < u.made) × All (λ n. n.number < u.made) z.notes) (only_maker i y (which i y e) un some_made)
       (⊎_elim
       (λ b.
-      let r = low j b.0 b.1 (sym b.4 ∙ vn) in
-      (let l = r.0 in let same = b.2 in omega arith, subst (λ (ns : List Note). All (λ n. n.number < v.made + 1) ns) (sym b.3) (All-weaker (λ (n : Note). n.number < v.made) (λ n. n.number < v.made + 1) (λ n l. omega arith) b.0.notes r.1)))
+      let r = low j b.0 b.1 (sym b.4 ∙ vn) in (
+        let l = r.0 in let same = b.2 in omega arith,
+        subst (λ (ns : List Note). All (λ n. n.number < v.made + 1) ns) (sym b.3)
+            (All-weaker (λ (n : Note). n.number < v.made) (λ n. n.number < v.made + 1) (λ n l. omega arith) b.0.notes r.1),
+      ))
       (λ t. subst (λ (u : View). (u.number < v.made + 1) × All (λ n. n.number < v.made + 1) u.notes) t.1 (omega arith, All-nil (λ n. n.number < v.made + 1)))
       (was j z f))
 
@@ -201,10 +233,17 @@ module _ (c : Config) (start : State) (vs : List View) (seats : ℕ → View) (i
       (λ t. inl (there_longer (set vs id w) (x ∷ []) s (there_still vs id v w at unspent refl (λ n has. has) s t)))
       (λ new.
       dite (ℕ_discrete s v.number)
-      (λ e. inl (there_longer (set vs id w) (x ∷ []) s (record { id = id; holder = w; place = set_here vs id w (at_within vs id v at); unspent = unspent; named = inl (sym e) })))
+      (λ e. inl (there_longer (set vs id w) (x ∷ []) s
+      (record { id = id; holder = w; place = set_here vs id w (at_within vs id v at); unspent = unspent; named = inl (sym e) })))
       (λ ne.
       dite (ℕ_discrete s v.made)
-      (λ e. inl (record { id = length (set vs id w); holder = x; place = at_last (set vs id w) x (length (set vs id w)) refl; unspent = refl; named = inl (sym e) }))
+      (λ e. inl (record {
+        id = length (set vs id w);
+        holder = x;
+        place = at_last (set vs id w) x (length (set vs id w)) refl;
+        unspent = refl;
+        named = inl (sym e);
+      }))
       (λ other. inr (set_at_else seats v.number w s ne ∙ new))))
       (k.all s)
 
@@ -222,7 +261,8 @@ module _ (c : Config) (start : State) (vs : List View) (seats : ℕ → View) (i
   }
 
 -- one more seat keeps the rule
-pub seat_splits : (starts : State → Type 0) (allows : List ℕ → State → Writes → Type 0) (key : Opening) (id : ℕ) (v : View) → v.spent ≡ false → 0 < v.made → v.made < key.config.seats
+pub seat_splits : (starts : State → Type 0) (allows : List ℕ → State → Writes → Type 0) (key : Opening) (id : ℕ) (v : View) → v.spent ≡ false → 0 < v.made
+    → v.made < key.config.seats
     → Splits (Ruled starts allows key) id v (made_one key.config v) (newly_made key.config v)
 seat_splits starts allows key id v unspent maker room s r at = record {
   memory = r.memory;
@@ -231,12 +271,15 @@ seat_splits starts allows key id v unspent maker room s r at = record {
   shows = r.shows;
   slotless = r.slotless;
   seated = seated_made key.config key.start.value.items s.views r.seats id v r.seated at unspent maker room;
-  facts = unread starts allows key.config key.start.value.items r.memory r.history r.seats v.number v (made_one key.config v) (r.seated.there id v at unspent).0 (refl, refl, refl, refl, refl, refl, refl, refl, refl, refl, refl) r.facts;
+  facts = unread starts allows key.config key.start.value.items r.memory r.history r.seats v.number v (made_one key.config v)
+      (r.seated.there id v at unspent).0 (refl, refl, refl, refl, refl, refl, refl, refl, refl, refl, refl) r.facts;
 }
 
 -- a new domain keeps the rule
-pub opened : (starts : State → Type 0) (allows : List ℕ → State → Writes → Type 0) (key : Opening) (words : List ℕ) → Checked key.config → length key.start.value.items ≡ key.config.objects → AreWords key.start.value.items → starts key.start.value.items
-    → Shows key.config words (opening_memory key.config key.start.value.items) → Ruled starts allows key (opening words [] (first_view key.config key.start.value.items))
+pub opened : (starts : State → Type 0) (allows : List ℕ → State → Writes → Type 0) (key : Opening) (words : List ℕ) → Checked key.config
+    → length key.start.value.items ≡ key.config.objects → AreWords key.start.value.items → starts key.start.value.items
+    → Shows key.config words (opening_memory key.config key.start.value.items)
+    → Ruled starts allows key (opening words [] (first_view key.config key.start.value.items))
 opened starts allows key words k sized wide lawful shows = record {
   memory = opening_memory key.config key.start.value.items;
   history = [];
@@ -267,7 +310,31 @@ module _ (starts : State → Type 0) (allows : List ℕ → State → Writes →
   }
 
   maker_known : (v : View) → Known starts allows v → Known starts allows (made_one c v)
-  maker_known v k = record { unspent = k.unspent; opening = k.opening; words = k.words; legal = k.legal; allowed = k.allowed; mine = k.mine; rests = k.rests; in_time = k.in_time; section = λ inside e. let s = k.section inside e in record { seen = s.seen; own = s.own; held = λ j x there. let a = s.held j x there in record { in_range = a.in_range; wide = a.wide; unwritten = a.unwritten }; apart = s.apart }; idle = k.idle; still = k.still; commits = λ j x note there. commit_still v x note (made_one c v).trail (v.made + 1) v.notes (k.commits j x note there); deaths = k.deaths }
+  maker_known v k =
+      record {
+        unspent = k.unspent;
+        opening = k.opening;
+        words = k.words;
+        legal = k.legal;
+        allowed = k.allowed;
+        mine = k.mine;
+        rests = k.rests;
+        in_time = k.in_time;
+        section =
+            λ inside e. let s =
+            k.section inside e in
+            record {
+              seen = s.seen;
+              own = s.own;
+              held = λ j x there. let a = s.held j x there in
+                  record { in_range = a.in_range; wide = a.wide; unwritten = a.unwritten };
+              apart = s.apart;
+            };
+        idle = k.idle;
+        still = k.still;
+        commits = λ j x note there. commit_still v x note (made_one c v).trail (v.made + 1) v.notes (k.commits j x note there);
+        deaths = k.deaths;
+      }
 
   -- the pass of the maker is as it was
   pub maker_stays : (v w : View) → w ≡ made_one c v → (w.number ≡ v.number) × RunsOn v w × (∥ Known starts allows v ∥₁ → ∥ Known starts allows w ∥₁)
@@ -276,12 +343,14 @@ module _ (starts : State → Type 0) (allows : List ℕ → State → Writes →
       (refl, (λ time first a b. (a, b)), λ k. ∥∥₁_map k (maker_known v))
 
   -- and that of the seat made is of a seat outside a section
-  pub made_begins : (v w : View) → Checked c → w ≡ newly_made c v → ∥ Known starts allows v ∥₁ → (w.number ≡ v.made) × IsTimed 0 w × IsBegun 0 w × ∥ Known starts allows w ∥₁
+  pub made_begins : (v w : View) → Checked c → w ≡ newly_made c v → ∥ Known starts allows v ∥₁
+      → (w.number ≡ v.made) × IsTimed 0 w × IsBegun 0 w × ∥ Known starts allows w ∥₁
   made_begins v w k e known =
       subst (λ (u : View). (u.number ≡ v.made) × IsTimed 0 u × IsBegun 0 u × ∥ Known starts allows u ∥₁) (sym e)
       (refl, (λ s in_section. absurd (cc)), (λ s in_section. absurd (cc)), ∥∥₁_map known (λ a. new_known v.start v.made 0 k a.words a.opening))
 
-  pub first_begins : (start : State) (w : View) → Checked c → AreWords start → starts start → w ≡ first_view c start → (w.number ≡ 0) × IsTimed 0 w × IsBegun 0 w × ∥ Known starts allows w ∥₁
+  pub first_begins : (start : State) (w : View) → Checked c → AreWords start → starts start → w ≡ first_view c start
+      → (w.number ≡ 0) × IsTimed 0 w × IsBegun 0 w × ∥ Known starts allows w ∥₁
   first_begins start w k wide lawful e =
       subst (λ (u : View). (u.number ≡ 0) × IsTimed 0 u × IsBegun 0 u × ∥ Known starts allows u ∥₁) (sym e)
       (refl, (λ s in_section. absurd (cc)), (λ s in_section. absurd (cc)), ∣ new_known start 0 1 k wide lawful ∣₁)
@@ -294,10 +363,15 @@ push_same (suc n) x = ap (λ xs. x ∷ xs) (push_same n x)
 pub makes_one_more : (c : Config) (start : State) (n : ℕ) → 0 < n → made_one c (maker_view c start n) ≡ maker_view c start (n + 1)
 makes_one_more c start (suc n) some_made =
     let one_less : suc n - 1 ≡ n = omega arith in
-    let trail : replicate (suc n - 1) _ ++ _ ∷ [] ≡ replicate (suc n + 1 - 1) _ = ap (λ (m : ℕ). replicate m (record { kind = MakeSeat; word = 0; found = None; stored = None }) ++ record { kind = MakeSeat; word = 0; found = None; stored = None } ∷ []) one_less ∙ push_same n (record { kind = MakeSeat; word = 0; found = None; stored = None }) ∙ ap (λ (m : ℕ). replicate m (record { kind = MakeSeat; word = 0; found = None; stored = None })) (let e : suc n ≡ suc n + 1 - 1 = omega arith in e) in
+    let trail : replicate (suc n - 1) _ ++ _ ∷ [] ≡ replicate (suc n + 1 - 1) _ =
+    ap (λ (m : ℕ). replicate m (record { kind = MakeSeat; word = 0; found = None; stored = None })
+    ++ record { kind = MakeSeat; word = 0; found = None; stored = None } ∷ []) one_less
+    ∙ push_same n (record { kind = MakeSeat; word = 0; found = None; stored = None })
+    ∙ ap (λ (m : ℕ). replicate m (record { kind = MakeSeat; word = 0; found = None; stored = None })) (let e : suc n ≡ suc n + 1 - 1 = omega arith in e) in
     ap (λ (l : List Step). record (new_view c start 0 (suc n + 1)) { trail = l }) trail
 makes_one_more c start zero some_made = absurd (omega arith)
 
 -- what holds of each place of a list holds after a push, if it does of what was pushed
-pub each_pushed : {A : Type 0} (P : ℕ → A → Type 0) (l : List A) (a : A) → ((k : ℕ) (x : A) → get_elem? l k ≡ some x → P k x) → P (length l) a → (k : ℕ) (x : A) → get_elem? (l ++ a ∷ []) k ≡ some x → P k x
+pub each_pushed : {A : Type 0} (P : ℕ → A → Type 0) (l : List A) (a : A) → ((k : ℕ) (x : A) → get_elem? l k ≡ some x → P k x) → P (length l) a
+    → (k : ℕ) (x : A) → get_elem? (l ++ a ∷ []) k ≡ some x → P k x
 each_pushed P l a all last k x at = ⊎_elim (all k x) (λ t. subst (P k) t.1 (subst (λ (i : ℕ). P i a) (sym t.0) last)) (end_or_before l a x k at)

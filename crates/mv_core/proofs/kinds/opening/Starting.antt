@@ -1,5 +1,6 @@
 -- Every fact of the rule holds of a new domain: the history and the logs are empty.
-use Rattle.std.proofs.Common.{◌≡◌, ◌≢◌, ℕ, zero, suc, ◌+◌, ◌-◌, ◌/◌, ◌%◌, ◌<◌, cond, List, [], length, replicate, slice_index, refl, sym, ap, ◌∙◌, subst, inl, inr, ⊎_elim, arith, eqb, Some}
+use Rattle.std.proofs.Common.{◌≡◌, ◌≢◌, ℕ, zero, suc, ◌+◌, ◌-◌, ◌/◌, ◌%◌, ◌<◌, cond, List, [], length, replicate}
+use Rattle.std.proofs.Common.{slice_index, refl, sym, ap, ◌∙◌, subst, inl, inr, ⊎_elim, arith, eqb, Some}
 use Rattle.std.specs.Prelude.{slice_index_or}
 use Rattle.std.proofs.lemmas.List.{length-replicate}
 use Rattle.std.proofs.lemmas.List.Elements.{All-nil}
@@ -36,7 +37,8 @@ first_seats c start s = new_view c start s (cond (eqb s 0) 1 0)
 abbrev rings : Config → ℕ → Ring
 rings c s = empty_ring c
 
-module _ (starts : State → Type 0) (allows : List ℕ → State → Writes → Type 0) (c : Config) (start : State) (k : Checked c) (sized : length start ≡ c.objects) (words : AreWords start) (lawful : starts start) where
+module _ (starts : State → Type 0) (allows : List ℕ → State → Writes → Type 0) (c : Config) (start : State) (k : Checked c) (sized : length start ≡ c.objects)
+    (words : AreWords start) (lawful : starts start) where
   abbrev clock : ℕ
   clock = clock_of c.base 0 8191
 
@@ -68,7 +70,8 @@ module _ (starts : State → Type 0) (allows : List ℕ → State → Writes →
   first_round : (j : ℕ) → j < c.slots → next_in c (empty_ring c) j / c.slots ≡ 0
   first_round j lt =
       let none : 0 % c.slots ≡ 0 = mod-eq_of_lt (omega arith) in
-      let step : (j + c.slots - 0 % c.slots) % c.slots ≡ j = ap (λ (x : ℕ). x % c.slots) (let e : j + c.slots - 0 % c.slots ≡ c.slots + j = omega arith in e) ∙ add-mod_left c.slots j ∙ mod-eq_of_lt lt in
+      let step : (j + c.slots - 0 % c.slots) % c.slots ≡ j =
+      ap (λ (x : ℕ). x % c.slots) (let e : j + c.slots - 0 % c.slots ≡ c.slots + j = omega arith in e) ∙ add-mod_left c.slots j ∙ mod-eq_of_lt lt in
       div-eq_of_lt (let e = step in omega arith)
 
   pub starting_facts : Facts starts allows c start (opening_memory c start) [] (parts_of (first_seats c start))
@@ -135,7 +138,8 @@ module _ (starts : State → Type 0) (allows : List ℕ → State → Writes →
     held_link = λ s j x. no_live j x Held;
     commit_link = λ s j x note. no_live j x (Committed note);
     aborted_link = λ s j x dead. no_live j x (Aborted dead);
-    present_master = λ o _. (λ i _. ap (λ (es : List Entry). slice_index (words_at (state_after start es) o) i) (sym (take-nil (c.base + 0 - c.base))), λ s. tt);
+    present_master =
+        λ o _. (λ i _. ap (λ (es : List Entry). slice_index (words_at (state_after start es) o) i) (sym (take-nil (c.base + 0 - c.base))), λ s. tt);
     chain_foot = λ s j x note lives. no_live j x (Committed note) lives;
     walker_place = λ s t e. absurd (cc);
     walker_before_death = record { here = λ s t stand x st e. absurd (cc); below = λ s t stand x y dead st e. absurd (cc) };

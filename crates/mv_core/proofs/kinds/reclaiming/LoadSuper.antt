@@ -132,7 +132,16 @@ module _ {starts : State → Type 0} {allows : List ℕ → State → Writes →
       ((su ≡ Committed new) × Names f.ring link x (Committed note)))
       (λ e at_seat at_slot.
       let one = live_once (Live x (Committed new)) x y (Committed new) su refl e in
-      inr (sym one.1, record { seat = n; slot = slot; lives = lives; is = names.is ∙ ap (λ t. link_of t y.position) (sym at_seat) ∙ ap (λ (v : Version). link_of n v.position) (sym one.0) }))
+      inr (
+        sym one.1,
+        record {
+          seat = n;
+          slot = slot;
+          lives = lives;
+          is = names.is ∙ ap (λ t. link_of t y.position) (sym at_seat)
+              ∙ ap (λ (v : Version). link_of n v.position) (sym one.0);
+        },
+      ))
       (λ t i ne e at_seat at_slot. inl (record { seat = t; slot = i; lives = e; is = names.is ∙ ap (λ u. link_of u y.position) (sym at_seat) }))
       names.seat names.slot names.lives refl refl
 
@@ -338,9 +347,27 @@ module _ (starts : State → Type 0) (allows : List ℕ → State → Writes →
       λ e. (k.succeeded_has_super n e.0 (subst (λ (u : View). Contains u.empty e.0) (sym is) e.1)).1 slot x note lives (sym e.2) e.3 may.uncut in (
         w,
         settle starts allows c start m h seats n v w is
-            (record unchanged { past = Some p; ring = Some (put_slot (seats n).ring slot (Live x (Committed (super_note note found)))) })
-            (refl, refl, refl, refl, refl, refl, refl, ap (λ (r : Ring). put_slot r slot (Live x (Committed (super_note note found)))) (sym ring), refl, refl, refl)
+            (record unchanged { past = Some p; ring = Some (put_slot (seats n).ring slot (Live x (Committed (super_note note found)))) }) (
+              refl,
+              refl,
+              refl,
+              refl,
+              refl,
+              refl,
+              refl,
+              ap (λ (r : Ring). put_slot r slot (Live x (Committed (super_note note found)))) (sym ring),
+              refl,
+              refl,
+              refl,
+            )
             (super_facts more n slot x note lives may.no_death
             (subst (λ (q : Past). found ≤ c.base + length q.seen) (sym (set_at_here f.past n p)) (to.2.time (omega arith)))),
-        (((refl, sees, some), (λ time first a begun. (a, λ i e mode some_held. begun i e mode (subst (λ (y : ℕ). 0 < y) held some_held) ∙ ap (λ (y : ℕ). v.ring.next - y) (sym held)))), (refl, refl, refl, refl, refl, refl)),
+        (
+          (
+            (refl, sees, some),
+            (λ time first a begun.
+                (a, λ i e mode some_held. begun i e mode (subst (λ (y : ℕ). 0 < y) held some_held) ∙ ap (λ (y : ℕ). v.ring.next - y) (sym held))),
+          ),
+          (refl, refl, refl, refl, refl, refl),
+        ),
       )

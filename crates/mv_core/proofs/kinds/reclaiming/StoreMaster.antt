@@ -111,11 +111,16 @@ module _ {starts : State → Type 0} {allows : List ℕ → State → Writes →
         (λ s ne b e.
         let r = k.write_back s b e in
         let is = r.2 in
-        let other = none_else k n slot (time_in inside) x note last s b e (timed s) ne in
-        (r.0, r.1, same_back is is.note is.helped is.nothing is.lives is.old is.known is.last is.uncut (λ untried i lt. else_same b.object i other ∙ is.words untried i lt)))
+        let other = none_else k n slot (time_in inside) x note last s b e (timed s) ne in (
+          r.0,
+          r.1,
+          same_back is is.note is.helped is.nothing is.lives is.old is.known is.last is.uncut
+              (λ untried i lt. else_same b.object i other ∙ is.words untried i lt),
+        ))
 
     -- all facts after the store
-    pub master_facts : Facts starts allows c start (put m (Master x.object w) (slice_index x.words w)) h (changed f n (record unchanged { back = Some (Some new) }))
+    pub master_facts : Facts starts allows c start (put m (Master x.object w) (slice_index x.words w)) h
+        (changed f n (record unchanged { back = Some (Some new) }))
     master_facts =
         let places : WalkerPlace c start h later f.time f.walk f.ring = λ s t at. stands s t at (f.walk s) (k.walker_place s t at) in
         let outside = set_at_all (λ s b. f.time s ≡ None → (f.walk s ≡ walk.Nowhere) × (b ≡ None)) f.back n (Some new)
@@ -159,8 +164,10 @@ module _ {starts : State → Type 0} {allows : List ℕ → State → Writes →
       (subst (MayStandAt c start h (λ o i. m (Master o i)) f.ring (time_in inside) r.0) one.3 r.4) in
       let known : note.time ≤ f.grace n = subst (λ (u : View). note.time ≤ u.grace) (sym is) a.4 in
       let below = not_above (f.grace n) n (time_in inside) f.time (k.grace.views n).1 timed in
-      let zero = a.0 in
-      (record { timed = timed; lives = lives; uncut = a.3; known = known; last = ⊎_elim (λ late. absurd (omega arith)) (λ e. sym e) right }, λ i lt. absurd (omega arith)))
+      let zero = a.0 in (
+        record { timed = timed; lives = lives; uncut = a.3; known = known; last = ⊎_elim (λ late. absurd (omega arith)) (λ e. sym e) right },
+        λ i lt. absurd (omega arith),
+      ))
       (λ b.
       let r = k.write_back n (record { object = object; position = position; stored = w; tried = false }) (ap (λ (u : View). u.back) is ∙ b.1) in
       let own = r.2 in
@@ -180,7 +187,8 @@ module _ {starts : State → Type 0} {allows : List ℕ → State → Writes →
         λ i lt. (λ j. m (Master (may.object_is j) i)) ∙ own.words refl i lt ∙ (λ j. slice_index (one.0 j).words i),
       ))
 
-  pub master_stored_facts : Facts starts allows c start (put m (Master object w) value) h (parts_of (set_at seats v.number (master_stored c v object w value position)))
+  pub master_stored_facts : Facts starts allows c start (put m (Master object w) value) h
+      (parts_of (set_at seats v.number (master_stored c v object w value position)))
   master_stored_facts =
       let b = begins may.goes in
       let all = master_facts k n (index_of c position) inside x note b.0 w may.in_range position refl may.position_is

@@ -1,5 +1,6 @@
 -- Where HEAD of an object is 0, SUPER of each live version of it that wasn't cut isn't 0.
-use Rattle.std.proofs.Common.{◌≡◌, ◌≢◌, ℕ, ◌+◌, ◌≤◌, ◌==◌, Bool, true, false, List, [], ◌∷◌, ◌++◌, length, Some, slice_index_or, sym, refl, ap, ◌∙◌, subst, ⊎_elim, arith, eqb-true, if◌then◌else◌}
+use Rattle.std.proofs.Common.{◌≡◌, ◌≢◌, ℕ, ◌+◌, ◌≤◌, ◌==◌, Bool, true, false, List, [], ◌∷◌, ◌++◌, length, Some}
+use Rattle.std.proofs.Common.{slice_index_or, sym, refl, ap, ◌∙◌, subst, ⊎_elim, arith, eqb-true, if◌then◌else◌}
 use Rattle.std.specs.Prelude.{Contains}
 use Rattle.std.proofs.lemmas.List.Elements.{Contains-append_cases}
 use Rattle.mv_core.proofs.Terms.{dite, ℕ_discrete, Entry, Change, State, Writes, Config, Head, Super, Memory, link_of, Version, Committed, CommitNote}
@@ -24,7 +25,8 @@ time_of_section (Inside i) s e = let same : i ≡ s = cc in ap (λ (x : Section)
 the_one : (a b : EmptyHead) → Contains (a ∷ []) b → b ≡ a
 the_one a b has = let place : has.0 ≡ 0 = (let lt = has.1 in omega arith) in sym (ap (λ i. slice_index_or (a ∷ []) i b) (sym place) ∙ has.2)
 
-module _ {starts : State → Type 0} {allows : List ℕ → State → Writes → Type 0} {c : Config} {start : State} {m : Memory} {h : List Entry} (seats : ℕ → View) (k : Facts starts allows c start m h (parts_of seats)) (o : ℕ) (empty_is : m (Head o) ≡ 0) where
+module _ {starts : State → Type 0} {allows : List ℕ → State → Writes → Type 0} {c : Config} {start : State} {m : Memory} {h : List Entry} (seats : ℕ → View)
+    (k : Facts starts allows c start m h (parts_of seats)) (o : ℕ) (empty_is : m (Head o) ≡ 0) where
   none_holds : NoneHolds (λ s. (seats s).ring) o
   none_holds =
       ⊎_elim
@@ -40,7 +42,8 @@ module _ {starts : State → Type 0} {allows : List ℕ → State → Writes →
       (k.head_is_top.top o none_holds)
 
   -- the object's last write isn't above any section's time, so the next write of a version isn't that of a commit that is unfinished
-  pub has_super : (s i : ℕ) (x : Version) (note : CommitNote) → Lives (λ s. (seats s).ring) s i x (Committed note) → x.object ≡ o → note.cut ≡ false → m (Super s i) ≢ 0
+  pub has_super : (s i : ℕ) (x : Version) (note : CommitNote) → Lives (λ s. (seats s).ring) s i x (Committed note) → x.object ≡ o → note.cut ≡ false
+      → m (Super s i) ≢ 0
   has_super s i x note lives object_is uncut none =
       let old = (k.present_master o none_uncut).1 in
       let co = k.write_sets.commit s i x note lives in
@@ -48,7 +51,9 @@ module _ {starts : State → Type 0} {allows : List ℕ → State → Writes →
       let reach = latest-reaches c.base h x.object note.time (Change co.commit) co.entry (set_writes c h (λ s. (seats s).ring) s x note co) in
       dite (ℕ_discrete note.time (latest c.base h o))
       (λ last.
-      let cut : note.cut ≡ true = none_uncut (link_of s x.position) x note (record { names = record { seat = s; slot = i; lives = lives; is = refl }; object_is = object_is; time_is = last }) in
+      let cut : note.cut ≡ true =
+      none_uncut (link_of s x.position) x note
+      (record { names = record { seat = s; slot = i; lives = lives; is = refl }; object_is = object_is; time_is = last }) in
       absurd cc)
       (λ ne.
       let same : latest c.base h x.object ≡ latest c.base h o = ap (latest c.base h) object_is in
@@ -58,14 +63,18 @@ module _ {starts : State → Type 0} {allows : List ℕ → State → Writes →
       let named = k.named_commit u.seat u.inside u.naming u.in_section u.mode in
       let late = named.later in
       let is = u.time_is in
-      let time = not_above (latest c.base h o) u.seat (time_in u.inside) (λ s. time_of (seats s).phase) old (time_of_section (seats u.seat).phase u.inside u.in_section) in
+      let time = not_above (latest c.base h o) u.seat (time_in u.inside) (λ s. time_of (seats s).phase) old
+      (time_of_section (seats u.seat).phase u.inside u.in_section) in
       absurd (omega arith))
 
-module _ {starts : State → Type 0} {allows : List ℕ → State → Writes → Type 0} {c : Config} {start : State} {m : Memory} {h : List Entry} (seats : ℕ → View) (k : Facts starts allows c start m h (parts_of seats)) (n o time : ℕ) (past : time ≤ c.base + length h) where
+module _ {starts : State → Type 0} {allows : List ℕ → State → Writes → Type 0} {c : Config} {start : State} {m : Memory} {h : List Entry} (seats : ℕ → View)
+    (k : Facts starts allows c start m h (parts_of seats)) (n o time : ℕ) (past : time ≤ c.base + length h) where
   Succeeded : ℕ → List EmptyHead → Type 0
   Succeeded s empty =
       (e : EmptyHead) → Contains empty e
-      → (e.time ≤ c.base + length h) × ((i : ℕ) (x : Version) (note : CommitNote) → Lives (λ s. (seats s).ring) s i x (Committed note) → x.object ≡ e.object → note.time ≤ e.time → note.cut ≡ false → m (Super s i) ≢ 0)
+      → (e.time ≤ c.base + length h)
+      × ((i : ℕ) (x : Version) (note : CommitNote) → Lives (λ s. (seats s).ring) s i x (Committed note) → x.object ≡ e.object → note.time ≤ e.time
+      → note.cut ≡ false → m (Super s i) ≢ 0)
 
   succeeds : (b : Bool) → (m (Head o) == 0) ≡ b → Succeeded n (if b then (seats n).empty ++ record { object = o; time = time } ∷ [] else (seats n).empty)
   unfolding Succeeded
@@ -76,11 +85,15 @@ module _ {starts : State → Type 0} {allows : List ℕ → State → Writes →
       (λ new.
       let one = the_one (record { object = o; time = time }) e new in (
         subst (λ (y : EmptyHead). y.time ≤ c.base + length h) (sym one) past,
-        λ i x note lives object_is le uncut. has_super seats k o (eqb-true (m (Head o)) 0 is) n i x note lives (object_is ∙ ap (λ (y : EmptyHead). y.object) one) uncut,
+        λ i x note lives object_is le uncut. has_super seats k o (eqb-true (m (Head o)) 0 is) n i x note lives
+            (object_is ∙ ap (λ (y : EmptyHead). y.object) one) uncut,
       ))
       (Contains-append_cases (seats n).empty (record { object = o; time = time } ∷ []) e has)
 
   -- load HEAD keeps an empty HEAD in mind
-  pub succeeded_after : SucceededHasSuper c h (λ s i. m (Super s i)) (set_at (λ s. (seats s).empty) n (empty_too (seats n).empty o time (m (Head o)))) (λ s. (seats s).ring)
+  pub succeeded_after : SucceededHasSuper c h (λ s i. m (Super s i)) (set_at (λ s. (seats s).empty) n (empty_too (seats n).empty o time (m (Head o))))
+      (λ s. (seats s).ring)
   unfolding Succeeded
-  succeeded_after = set_at_all (λ s empty. Succeeded s empty) (λ s. (seats s).empty) n (empty_too (seats n).empty o time (m (Head o))) (succeeds (m (Head o) == 0) refl) (λ s ne. k.succeeded_has_super s)
+  succeeded_after =
+      set_at_all (λ s empty. Succeeded s empty) (λ s. (seats s).empty) n (empty_too (seats n).empty o time (m (Head o))) (succeeds (m (Head o) == 0) refl)
+      (λ s ne. k.succeeded_has_super s)

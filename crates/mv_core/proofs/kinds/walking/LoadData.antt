@@ -10,7 +10,8 @@ use Rattle.mv_core.proofs.history.Latest.{latest_at-low}
 use Rattle.mv_core.proofs.history.WordsAt.{words_of-latest, version-words}
 use Rattle.mv_core.proofs.kinds.walking.Walks.{lives_named, words_named, standing_of}
 
-module _ {starts : State → Type 0} {allows : List ℕ → State → Writes → Type 0} {c : Config} {start : State} {m : Memory} {h : List Entry} (seats : ℕ → View) (k : Facts starts allows c start m h (parts_of seats)) where
+module _ {starts : State → Type 0} {allows : List ℕ → State → Writes → Type 0} {c : Config} {start : State} {m : Memory} {h : List Entry} (seats : ℕ → View)
+    (k : Facts starts allows c start m h (parts_of seats)) where
   -- a section's time is one that a clock word holds
   pub time_small : (v : View) (inside : Section) → seats v.number ≡ v → v.phase ≡ Inside inside → time_in inside ≤ 35184372088831
   time_small v inside is phase =
@@ -21,7 +22,8 @@ module _ {starts : State → Type 0} {allows : List ℕ → State → Writes →
       omega arith
 
   -- a live commit that is the last write of its object up to a time has the words of that time
-  pub words_right : (t s i : ℕ) (x : Version) (note : CommitNote) → Lives (λ s. (seats s).ring) s i x (Committed note) → note.time ≤ t → IsRightFor c h t x note → words_of c start h t x.object ≡ x.words
+  pub words_right : (t s i : ℕ) (x : Version) (note : CommitNote) → Lives (λ s. (seats s).ring) s i x (Committed note) → note.time ≤ t
+      → IsRightFor c h t x note → words_of c start h t x.object ≡ x.words
   words_right t s i x note lives le right =
       let last : note.time ≡ latest_at c.base h x.object t = ⊎_elim (λ late. absurd (omega arith)) (λ e. e) right in
       let low = latest_at-low c.base h x.object t in
@@ -32,7 +34,9 @@ module _ {starts : State → Type 0} {allows : List ℕ → State → Writes →
 
 module _ (starts : State → Type 0) (allows : List ℕ → State → Writes → Type 0) (c : Config) (start : State) (v : View) where
   pub data_loads : (link word : ℕ) (stand : Stand) (inside : Section) → MayLoadData v link word stand inside
-      → Loads starts allows c start v (Data (link_seat_of link) (slot_named c link) word) (λ n w. (((w ≡ data_loaded c v stand word n) × (n ≡ word_read c v inside stand.object word) × (length (words_read c v inside stand.object) ≡ 6)) × RunsOn v w) × IsKept v w)
+      → Loads starts allows c start v (Data (link_seat_of link) (slot_named c link) word)
+      (λ n w. (((w ≡ data_loaded c v stand word n) × (n ≡ word_read c v inside stand.object word) × (length (words_read c v inside stand.object) ≡ 6))
+      × RunsOn v w) × IsKept v w)
   data_loads link word stand inside may m h seats k is own begins small =
       let place = Data (link_seat_of link) (slot_named c link) word in
       let w : View = data_loaded c v stand word (m place) in
@@ -51,7 +55,8 @@ module _ (starts : State → Type 0) (allows : List ℕ → State → Writes →
       let words = words_right seats k t (link_seat_of link) (slot_named c link) x note lives (omega arith) right in
       let holds = words_named seats k link x r.status names in
       let read : x.words ≡ words_read c v inside stand.object =
-      sym words ∙ ap (λ (o : ℕ). words_of c start h t o) r.object_is ∙ section_words seats v inside k is may.phase stand.object ∙ ap (λ (s : State). words_of c s v.past.seen t stand.object) (sym begins) in
+      sym words ∙ ap (λ (o : ℕ). words_of c start h t o) r.object_is ∙ section_words seats v inside k is may.phase stand.object
+      ∙ ap (λ (s : State). words_of c s v.past.seen t stand.object) (sym begins) in
       let found : m place ≡ word_read c v inside stand.object word = holds.words word may.in_range ∙ ap (λ (l : List ℕ). slice_index l word) read in (
         w,
         unread starts allows c start m h seats v.number v w is (refl, refl, refl, refl, refl, refl, refl, refl, refl, refl, refl) k,

@@ -35,6 +35,7 @@ module _ (starts : State → Type 0) (allows : List ℕ → State → Writes →
         late = r.late;
       } in (
         w,
-        walked seats v k is inside there.1 (walk.At after) stands w None None (refl, refl, refl, refl, refl, refl, refl, refl, refl, refl, refl) k.history k.phases_and_scan.seen k.succeeded_has_super k.deaths_seen,
+        walked seats v k is inside there.1 (walk.At after) stands w None None (refl, refl, refl, refl, refl, refl, refl, refl, refl, refl, refl) k.history
+            k.phases_and_scan.seen k.succeeded_has_super k.deaths_seen,
         ((refl, (λ t f a b. (a, b))), (refl, refl, refl, refl, refl, refl)),
       )

@@ -9,7 +9,9 @@ use Rattle.mv_core.proofs.history.SectionWords.{words_wide, time_is, section_wor
 
 module _ (starts : State → Type 0) (allows : List ℕ → State → Writes → Type 0) (c : Config) (start : State) (v : View) where
   pub master_loads : (object word : ℕ) (inside : Section) → object < c.objects → MayLoadMaster v object word inside
-      → Loads starts allows c start v (Master object word) (λ n w. (((w ≡ master_loaded c v object word n) × (n ≡ word_read c v inside object word) × (length (words_read c v inside object) ≡ 6)) × RunsOn v w) × IsKept v w)
+      → Loads starts allows c start v (Master object word)
+      (λ n w. (((w ≡ master_loaded c v object word n) × (n ≡ word_read c v inside object word) × (length (words_read c v inside object) ≡ 6)) × RunsOn v w)
+      × IsKept v w)
   master_loads object word inside range may m h seats k is own begins small =
       let w : View = master_loaded c v object word (m (Master object word)) in
       let place : StandsRight c start h (λ o i. m (Master o i)) (λ s. (seats s).ring) (time_in inside) (walk.Master object) =

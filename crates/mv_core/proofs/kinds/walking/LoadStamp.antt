@@ -1,5 +1,7 @@
 -- load STAMP: what is found is the stamp of the version that the walk stands at, and a time found is seen.
-use Rattle.std.proofs.Common.{◌≡◌, ℕ, zero, suc, ◌+◌, ◌-◌, ◌<◌, ◌≤◌, ◌^◌, true, List, [], ◌∷◌, ◌++◌, length, take, drop, Some, None, sym, refl, ap, ◌∙◌, subst, inl, inr, ⊎_elim, arith, take-append-drop, append-nil, length-take, length-append}
+use Rattle.std.proofs.Common.{◌≡◌, ℕ, zero, suc, ◌+◌, ◌-◌, ◌<◌, ◌≤◌, ◌^◌, true, List, [], ◌∷◌, ◌++◌, length}
+use Rattle.std.proofs.Common.{take, drop, Some, None, sym, refl, ap, ◌∙◌, subst, inl, inr, ⊎_elim, arith, take-append-drop, append-nil}
+use Rattle.std.proofs.Common.{length-take, length-append}
 use Rattle.std.specs.Prelude.{slice_get}
 use Rattle.std.proofs.Math.Seq.{take-append-add}
 use Rattle.mv_core.proofs.Terms.{dec_lt, dec_le, dite, Entry, State, Writes, Config, Clock, Stamp, Memory, link_seat_of, IsUnset, View, Section}
@@ -17,7 +19,8 @@ use Rattle.mv_core.proofs.logs.SeenDeaths.{sees_on}
 use Rattle.mv_core.proofs.history.LongerSeen.{sees_more}
 
 -- a stamp that is a time is that of a commit
-stamped_time : (clock s k stamp first : ℕ) (st : Status) → StampedAs clock s k stamp first st → stamp < 2 ^ 63 → (note : CommitNote) × (st ≡ Committed note) × (note.time ≡ stamp)
+stamped_time : (clock s k stamp first : ℕ) (st : Status) → StampedAs clock s k stamp first st → stamp < 2 ^ 63
+    → (note : CommitNote) × (st ≡ Committed note) × (note.time ≡ stamp)
 stamped_time clock s k stamp first Held e low = absurd (omega arith)
 stamped_time clock s k stamp first (Aborted dead) e low = absurd (omega arith)
 stamped_time clock s k stamp first (Committed note) e low = (note, refl, ⊎_elim (λ is. sym is) (λ u. let v = u.0 in absurd (omega arith)) e)
@@ -30,7 +33,8 @@ begins_take h seen n front le =
     (take j front.0, ap (take n) front.1 ∙ ap (λ i. take i (seen ++ front.0)) is ∙ take-append-add seen front.0 j)
 
 -- how much is seen where this was found, a time in the history or no time
-pub seen_to : (c : Config) (v : View) (h : List Entry) (found : ℕ) → BeginsWith h v.past.seen → (found < 2 ^ 63 → found ≤ c.base + length h) → (seen : List Entry) × BeginsWith h seen × SeesStamp c v found seen
+pub seen_to : (c : Config) (v : View) (h : List Entry) (found : ℕ) → BeginsWith h v.past.seen → (found < 2 ^ 63 → found ≤ c.base + length h)
+    → (seen : List Entry) × BeginsWith h seen × SeesStamp c v found seen
 seen_to c v h found front within =
     let old = v.past.seen in
     dite (dec_lt found (2 ^ 63))
@@ -40,8 +44,11 @@ seen_to c v h found front within =
     (λ gt.
     let n : ℕ = found - c.base in
     let le = within low in
-    let long : length (take n h) ≡ n = omega (arith, length-take n h) in
-    (take n h, (drop n h, sym (take-append-drop n h)), record { more = begins_take h old n front (omega arith); time = λ l. omega arith; least = inr (omega arith) })))
+    let long : length (take n h) ≡ n = omega (arith, length-take n h) in (
+      take n h,
+      (drop n h, sym (take-append-drop n h)),
+      record { more = begins_take h old n front (omega arith); time = λ l. omega arith; least = inr (omega arith) },
+    )))
     (λ high. (old, front, record { more = ([], sym (append-nil old)); time = λ l. absurd (high l); least = inl refl }))
 
 pub slice_get-front : (xs ys : List Entry) (i : ℕ) → i < length xs → slice_get (xs ++ ys) i ≡ slice_get xs i
@@ -55,9 +62,11 @@ entry_seen base h seen t e front le is =
     let low = is.0 in
     (low, sym (slice_get-front seen front.0 (t - (base + 1)) (omega arith)) ∙ ap (λ l. slice_get l (t - (base + 1))) (sym front.1) ∙ is.1)
 
-module _ {starts : State → Type 0} {allows : List ℕ → State → Writes → Type 0} {c : Config} {start : State} {m : Memory} {h : List Entry} (seats : ℕ → View) (k : Facts starts allows c start m h (parts_of seats)) (v : View) (is : seats v.number ≡ v) where
+module _ {starts : State → Type 0} {allows : List ℕ → State → Writes → Type 0} {c : Config} {start : State} {m : Memory} {h : List Entry} (seats : ℕ → View)
+    (k : Facts starts allows c start m h (parts_of seats)) (v : View) (is : seats v.number ≡ v) where
   -- a seat that sees more has seen its section's time still
-  pub seen_by_all : (seen : List Entry) → BeginsWith seen v.past.seen → (u t : ℕ) → time_of (seats u).phase ≡ Some t → t ≤ c.base + length (set_at (λ q. (seats q).past) v.number (record v.past { seen = seen }) u).seen
+  pub seen_by_all : (seen : List Entry) → BeginsWith seen v.past.seen → (u t : ℕ) → time_of (seats u).phase ≡ Some t
+      → t ≤ c.base + length (set_at (λ q. (seats q).past) v.number (record v.past { seen = seen }) u).seen
   seen_by_all seen more u t =
       set_at_all (λ u (p : Past). time_of (seats u).phase ≡ Some t → t ≤ c.base + length p.seen) (λ q. (seats q).past) v.number (record v.past { seen = seen })
       (λ e.
@@ -67,7 +76,8 @@ module _ {starts : State → Type 0} {allows : List ℕ → State → Writes →
       (λ u ne. k.phases_and_scan.seen u t) u
 
   -- the seat stands at a version of which it found FIRST, and n is the stamp there
-  module _ (inside : Section) (phase : v.phase ≡ Inside inside) (stand : Stand) (r : Standing c start m h (λ t. (seats t).ring) v.clocks inside stand) (n : ℕ) (found_is : n ≡ stamp_of c (λ t j. m (Stamp t j)) (link_seat_of stand.link) r.version) where
+  module _ (inside : Section) (phase : v.phase ≡ Inside inside) (stand : Stand) (r : Standing c start m h (λ t. (seats t).ring) v.clocks inside stand) (n : ℕ)
+      (found_is : n ≡ stamp_of c (λ t j. m (Stamp t j)) (link_seat_of stand.link) r.version) where
     abbrev seat : ℕ
     seat = link_seat_of stand.link
 
@@ -78,12 +88,15 @@ module _ {starts : State → Type 0} {allows : List ℕ → State → Writes →
     committed note e = subst (Lives (λ t. (seats t).ring) seat (slot_named c stand.link) r.version) e lives
 
     within : (note : CommitNote) → r.status ≡ Committed note → (note.time ≤ c.base + length h) × (note.time < 2 ^ 63)
-    within note e = let t = (commit_within c h (λ u. (seats u).ring) k.write_sets seat (slot_named c stand.link) r.version note (committed note e)).1 in let top = k.history.in_time in (t, omega arith)
+    within note e =
+        let t = (commit_within c h (λ u. (seats u).ring) k.write_sets seat (slot_named c stand.link) r.version note (committed note e)).1 in let top =
+        k.history.in_time in (t, omega arith)
 
     by_time : n < 2 ^ 63 → (note : CommitNote) × (r.status ≡ Committed note) × (note.time ≡ n)
     by_time low =
         let x : Version = r.version in
-        let t = stamped_time (m Clock) seat (index_of c x.first) (stamp_of c (λ t j. m (Stamp t j)) seat x) x.first r.status (k.stamps.live seat (slot_named c stand.link) x r.status lives) (subst (λ (q : ℕ). q < 2 ^ 63) found_is low) in
+        let t = stamped_time (m Clock) seat (index_of c x.first) (stamp_of c (λ t j. m (Stamp t j)) seat x) x.first r.status
+        (k.stamps.live seat (slot_named c stand.link) x r.status lives) (subst (λ (q : ℕ). q < 2 ^ 63) found_is low) in
         (t.0, t.1, t.2 ∙ sym found_is)
 
     in_history : n < 2 ^ 63 → n ≤ c.base + length h
@@ -100,7 +113,8 @@ module _ {starts : State → Type 0} {allows : List ℕ → State → Writes →
     own_time : IsOwnTime c v stand.link n
     own_time at x note there in_it phase_is open_is =
         let there_too : slot_at v.ring (slot_named c stand.link) ≡ Live r.version r.status =
-        ap (λ (u : View). slot_at u.ring (slot_named c stand.link)) (sym is) ∙ ap (λ (s : ℕ). slot_at (seats s).ring (slot_named c stand.link)) (sym at) ∙ lives in
+        ap (λ (u : View). slot_at u.ring (slot_named c stand.link)) (sym is) ∙ ap (λ (s : ℕ). slot_at (seats s).ring (slot_named c stand.link)) (sym at)
+        ∙ lives in
         let st = (live_once (slot_at v.ring (slot_named c stand.link)) r.version x r.status (Committed note) there_too there).1 in
         dite (dec_lt n (2 ^ 63)) (λ low. low)
         (λ high.
@@ -117,7 +131,9 @@ module _ {starts : State → Type 0} {allows : List ℕ → State → Writes →
         let w = (within note st).1 in
         dite (dec_lt (time_in inside) note.time) (λ lt. lt)
         (λ ge.
-        let is_time = k.stamped_past_help v.number inside (section_is seats v inside k is phase) (subst (λ (u : View). IsPastHelp u.clocks inside) (sym is) r.helped) seat (slot_named c stand.link) r.version note (committed note st) (omega arith) in
+        let is_time =
+        k.stamped_past_help v.number inside (section_is seats v inside k is phase) (subst (λ (u : View). IsPastHelp u.clocks inside) (sym is) r.helped)
+        seat (slot_named c stand.link) r.version note (committed note st) (omega arith) in
         absurd (omega arith))
 
     stamp_stands : Standing c start m h (λ t. (seats t).ring) v.clocks inside (record stand { stamp = Some n })
@@ -156,7 +172,8 @@ module _ {starts : State → Type 0} {allows : List ℕ → State → Writes →
     }
 
     -- the rule after the load, which sees this much
-    stamp_rule : (first : ℕ) (seen : List Entry) → BeginsWith h seen → SeesStamp c v n seen → Facts starts allows c start m h (parts_of (set_at seats v.number (stamp_loaded c v stand first n seen)))
+    stamp_rule : (first : ℕ) (seen : List Entry) → BeginsWith h seen → SeesStamp c v n seen
+        → Facts starts allows c start m h (parts_of (set_at seats v.number (stamp_loaded c v stand first n seen)))
     stamp_rule first seen front sees =
         let p : Past = record v.past { seen = seen } in
         walked seats v k is inside phase (walk.At (record stand { stamp = Some n })) stamp_stands (stamp_loaded c v stand first n seen) (Some p) None
@@ -167,25 +184,36 @@ module _ {starts : State → Type 0} {allows : List ℕ → State → Writes →
 
 module _ (starts : State → Type 0) (allows : List ℕ → State → Writes → Type 0) (c : Config) (start : State) (v : View) (first : ℕ) (stand : Stand) where
   stamp_loads_there : MayLoadStamp v stand.link first stand
-      → Loads starts allows c start v (Stamp (link_seat_of stand.link) (index_of c first)) (λ n w. (((w ≡ stamp_loaded c v stand first n w.past.seen) × StampSays c v stand n w.past.seen × IsOwnTime c v stand.link n) × RunsOn v w) × IsKept v w)
+      → Loads starts allows c start v (Stamp (link_seat_of stand.link) (index_of c first))
+      (λ n w. (((w ≡ stamp_loaded c v stand first n w.past.seen) × StampSays c v stand n w.past.seen × IsOwnTime c v stand.link n) × RunsOn v w) × IsKept v w)
   stamp_loads_there may m h seats k is own begins small =
       let n : ℕ = m (Stamp (link_seat_of stand.link) (index_of c first)) in
       let there = section_there seats v k is stand may.stands in
       let r = standing_of seats v k is there.0 there.1 stand may.stands in
-      let found_is : n ≡ stamp_of c (λ t j. m (Stamp t j)) (link_seat_of stand.link) r.version = ap (λ p. m (Stamp (link_seat_of stand.link) (index_of c p))) (r.first first may.first_is) in
+      let found_is : n ≡ stamp_of c (λ t j. m (Stamp t j)) (link_seat_of stand.link) r.version =
+      ap (λ p. m (Stamp (link_seat_of stand.link) (index_of c p))) (r.first first may.first_is) in
       let front : BeginsWith h v.past.seen = subst (λ (u : View). BeginsWith h u.past.seen) is (k.history.seats v.number).seen in
       let to = seen_to c v h n front (in_history seats k v is there.0 there.1 stand r n found_is) in
       let w : View = stamp_loaded c v stand first n to.0 in (
         w,
         stamp_rule seats k v is there.0 there.1 stand r n found_is first to.0 to.1 to.2,
         (
-          ((refl {a = w}, stamp_says seats k v is there.0 there.1 stand r n found_is to.0 to.1 to.2, own_time seats k v is there.0 there.1 stand r n found_is), (λ t f a b. (a, b))),
+          (
+            (
+              refl {a = w},
+              stamp_says seats k v is there.0 there.1 stand r n found_is to.0 to.1 to.2,
+              own_time seats k v is there.0 there.1 stand r n found_is,
+            ),
+            (λ t f a b. (a, b)),
+          ),
           (refl {a = v.number}, refl {a = v.start}, refl {a = v.base}, refl {a = v.made}, refl {a = v.notes}, refl {a = v.spent}),
         ),
       )
 
   pub stamp_loads : (link : ℕ) → MayLoadStamp v link first stand
-      → Loads starts allows c start v (Stamp (link_seat_of link) (index_of c first)) (λ n w. (((w ≡ stamp_loaded c v stand first n w.past.seen) × StampSays c v stand n w.past.seen × IsOwnTime c v link n) × RunsOn v w) × IsKept v w)
+      → Loads starts allows c start v (Stamp (link_seat_of link) (index_of c first))
+      (λ n w. (((w ≡ stamp_loaded c v stand first n w.past.seen) × StampSays c v stand n w.past.seen × IsOwnTime c v link n) × RunsOn v w) × IsKept v w)
   stamp_loads link may =
-      subst (λ (l : ℕ). Loads starts allows c start v (Stamp (link_seat_of l) (index_of c first)) (λ n w. (((w ≡ stamp_loaded c v stand first n w.past.seen) × StampSays c v stand n w.past.seen × IsOwnTime c v l n) × RunsOn v w) × IsKept v w))
+      subst (λ (l : ℕ). Loads starts allows c start v (Stamp (link_seat_of l) (index_of c first))
+      (λ n w. (((w ≡ stamp_loaded c v stand first n w.past.seen) × StampSays c v stand n w.past.seen × IsOwnTime c v l n) × RunsOn v w) × IsKept v w))
       may.link_is (stamp_loads_there (record { stands = may.stands; link_is = refl; first_is = may.first_is }))

@@ -71,7 +71,8 @@ module _ {starts : State → Type 0} {allows : List ℕ → State → Writes →
 
   -- the words of that slot are those of the version
   pub words_named : (link : ℕ) (x : Version) (st : Status) → Names (λ s. (seats s).ring) link x st
-      → HoldsVersion (m (First (link_seat_of link) (slot_named c link))) (m (Prev (link_seat_of link) (slot_named c link))) (λ i. m (Data (link_seat_of link) (slot_named c link) i)) x
+      → HoldsVersion (m (First (link_seat_of link) (slot_named c link))) (m (Prev (link_seat_of link) (slot_named c link)))
+      (λ i. m (Data (link_seat_of link) (slot_named c link) i)) x
   words_named link x st names =
       let s = link_seat_of link in
       let i = slot_named c link in

@@ -12,5 +12,9 @@ split_seat-requires g c =
     let o = c.requires.of in
     let m = c.requires.maker in
     let z = c.args.shared.now.sized.0 in
-    let v = c.args.seat.now.me.0 in
-    (o.0, omega arith, subst (λ (n : Config). Splits (Ruled g.P.Protocol.start g.P.Protocol.allowed c.args.shared.now.table.shared.key) c.args.seat.now.id v (made_one n v) (newly_made n v)) (sym c.requires.config) (seat_splits _ _ _ _ _ (unspent_of _ _ _ o.3) m.0 m.1))
+    let v = c.args.seat.now.me.0 in (
+      o.0,
+      omega arith,
+      subst (λ (n : Config). Splits (Ruled g.P.Protocol.start g.P.Protocol.allowed c.args.shared.now.table.shared.key) c.args.seat.now.id v (made_one n v)
+          (newly_made n v)) (sym c.requires.config) (seat_splits _ _ _ _ _ (unspent_of _ _ _ o.3) m.0 m.1),
+    )

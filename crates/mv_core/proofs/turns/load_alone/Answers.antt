@@ -4,5 +4,9 @@ use Rattle.mv_core.proofs.turns.load_alone.Goals as goal
 
 pub load-requires : goal.load-requires
 load-requires g c =
-    let o = c.requires.of in
-    (search rules, search rules, load_allows _ _ _ _ _ _ g.J.Turn.place _ c.requires.place.0 c.requires.place.1 (unspent_of _ _ _ o.3) o.1 o.2 g.J.Turn.tells c.requires.rule)
+    let o = c.requires.of in (
+      search rules,
+      search rules,
+      load_allows _ _ _ _ _ _ g.J.Turn.place _ c.requires.place.0 c.requires.place.1 (unspent_of _ _ _ o.3) o.1 o.2
+          g.J.Turn.tells c.requires.rule,
+    )

@@ -6,8 +6,12 @@ use Rattle.mv_core.proofs.turns.store_as.Goals as goal
 
 pub store-requires : goal.store-requires
 store-requires g c =
-    let o = c.requires.of in
-    (search rules, search rules, store_allows _ _ _ _ _ _ g.J.Turn.place _ c.requires.place.0 c.requires.place.1 (unspent_of _ _ _ c.args.pass.now.known) o.3 o.2 _ (λ w. g.J.Turn.tells c.args.new w × RunsOn (view c.args.pass.now) w) c.requires.rule)
+    let o = c.requires.of in (
+      search rules,
+      search rules,
+      store_allows _ _ _ _ _ _ g.J.Turn.place _ c.requires.place.0 c.requires.place.1 (unspent_of _ _ _ c.args.pass.now.known) o.3
+          o.2 _ (λ w. g.J.Turn.tells c.args.new w × RunsOn (view c.args.pass.now) w) c.requires.rule,
+    )
 
 pub invariant_of-pass : goal.invariant_of-pass
 invariant_of-pass g c =

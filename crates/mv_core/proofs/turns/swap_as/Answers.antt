@@ -6,8 +6,12 @@ use Rattle.mv_core.proofs.turns.swap_as.Goals as goal
 
 pub compare_exchange-requires : goal.compare_exchange-requires
 compare_exchange-requires g c =
-    let o = c.requires.of in
-    (search rules, search rules, swap_allows _ _ _ _ _ _ g.J.Turn.place _ c.requires.place.0 c.requires.place.1 (unspent_of _ _ _ c.args.pass.now.known) o.3 o.2 _ _ (λ n w. g.J.Turn.tells n w × RunsOn (view c.args.pass.now) w) c.requires.rule)
+    let o = c.requires.of in (
+      search rules,
+      search rules,
+      swap_allows _ _ _ _ _ _ g.J.Turn.place _ c.requires.place.0 c.requires.place.1 (unspent_of _ _ _ c.args.pass.now.known) o.3
+          o.2 _ _ (λ n w. g.J.Turn.tells n w × RunsOn (view c.args.pass.now) w) c.requires.rule,
+    )
 
 pub invariant_of-pass : goal.invariant_of-pass
 invariant_of-pass g c =

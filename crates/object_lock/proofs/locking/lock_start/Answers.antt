@@ -17,7 +17,8 @@ returns-then-held-config-clause-again g c =
 
 pub returns-then-held-config-clause-answers : goal.returns-then-held-config-clause-answers
 returns-then-held-config-clause-answers g c =
-    λ lacks. full_is (config_of c.args.shared.now) (view c.args.pass.now) c.args.log.now c.args.object c.requires.stands c.held.result c.held.ensures.held (c.if-held-config.true ∙ ap (λ (k : Config). k.write_max) c.config.ensures)
+    λ lacks. full_is (config_of c.args.shared.now) (view c.args.pass.now) c.args.log.now c.args.object c.requires.stands c.held.result c.held.ensures.held
+    (c.if-held-config.true ∙ ap (λ (k : Config). k.write_max) c.config.ensures)
 
 pub returns-then-room-eq0-clause-again : goal.returns-then-room-eq0-clause-again
 returns-then-room-eq0-clause-again g c =
@@ -30,7 +31,11 @@ returns-then-room-eq0-clause-answers g c =
     let v = view c.args.pass.now in
     let l = c.args.log.now in
     let o = c.args.object in
-    λ lacks. (not_full config v l o r.stands c.held.result c.held.ensures.held (λ e. c.if-held-config.false (e ∙ sym (ap (λ (k : Config). k.write_max) c.config.ensures))), spare_is config v l o r.stands c.room.result r.unbuilt c.room.ensures ∙ c.if-room-eq0.true)
+    λ lacks. (
+      not_full config v l o r.stands c.held.result c.held.ensures.held
+          (λ e. c.if-held-config.false (e ∙ sym (ap (λ (k : Config). k.write_max) c.config.ensures))),
+      spare_is config v l o r.stands c.room.result r.unbuilt c.room.ensures ∙ c.if-room-eq0.true,
+    )
 
 pub top_of-requires-clause-unheld : goal.top_of-requires-clause-unheld
 top_of-requires-clause-unheld g c =
@@ -38,7 +43,8 @@ top_of-requires-clause-unheld g c =
 
 pub returns-in-Err-clause-stands : goal.returns-in-Err-clause-stands
 returns-in-Err-clause-stands g c =
-    top_stands (config_of c.args.shared.now) (view c.args.pass.now) (view c.top_of.new.pass) c.args.log.now c.args.object c.args.steps.now c.top_of.new.steps c.requires.stands c.in-Err.ensures.tries c.in-Err.ensures.ring
+    top_stands (config_of c.args.shared.now) (view c.args.pass.now) (view c.top_of.new.pass) c.args.log.now c.args.object c.args.steps.now c.top_of.new.steps
+    c.requires.stands c.in-Err.ensures.tries c.in-Err.ensures.ring
 
 pub returns-in-Err-clause-again : goal.returns-in-Err-clause-again
 returns-in-Err-clause-again g c =
@@ -51,11 +57,17 @@ returns-in-Err-clause-answers g c =
     let v = view c.args.pass.now in
     let l = c.args.log.now in
     let o = c.args.object in
-    λ lacks. top_answers config v (view c.top_of.new.pass) l o c.args.steps.now c.top_of.new.steps r.stands c.in-Err.ensures.tries c.in-Err.ensures.ring c.in-Err.answer (not_full config v l o r.stands c.held.result c.held.ensures.held (λ e. c.if-held-config.false (e ∙ sym (ap (λ (k : Config). k.write_max) c.config.ensures))), λ e. c.if-room-eq0.false (sym (spare_is config v l o r.stands c.room.result r.unbuilt c.room.ensures) ∙ e)) c.in-Err.ensures.answers
+    λ lacks. top_answers config v (view c.top_of.new.pass) l o c.args.steps.now c.top_of.new.steps r.stands c.in-Err.ensures.tries c.in-Err.ensures.ring
+    c.in-Err.answer (
+      not_full config v l o r.stands c.held.result c.held.ensures.held
+          (λ e. c.if-held-config.false (e ∙ sym (ap (λ (k : Config). k.write_max) c.config.ensures))),
+      λ e. c.if-room-eq0.false (sym (spare_is config v l o r.stands c.room.result r.unbuilt c.room.ensures) ∙ e),
+    ) c.in-Err.ensures.answers
 
 pub build-position-requires-clause-stands : goal.build-position-requires-clause-stands
 build-position-requires-clause-stands g c =
-    top_stands (config_of c.args.shared.now) (view c.args.pass.now) (view c.top_of.new.pass) c.args.log.now c.args.object c.args.steps.now c.top_of.new.steps c.requires.stands c.in-Ok.ensures.tries c.in-Ok.ensures.ring
+    top_stands (config_of c.args.shared.now) (view c.args.pass.now) (view c.top_of.new.pass) c.args.log.now c.args.object c.args.steps.now c.top_of.new.steps
+    c.requires.stands c.in-Ok.ensures.tries c.in-Ok.ensures.ring
 
 pub returns-clause-tries : goal.returns-clause-tries
 returns-clause-tries g c =
@@ -66,7 +78,9 @@ returns-clause-tries g c =
     let t = c.in-Ok.ensures in
     let d = c.build-position in
     let s = top_stands config v x l c.args.object c.args.steps.now c.top_of.new.steps c.requires.stands t.tries t.ring in
-    tries_on v x (view d.new.pass) c.args.steps.now c.top_of.new.steps d.new.steps t.tries (first_tries config x (view d.new.pass) l d.new.log c.args.object c.in-Ok.top.0 d.result c.in-Ok.top.1 t.may s d.ensures.stands d.ensures.log d.ensures.view d.ensures.position t.answers.1 c.top_of.new.steps d.new.steps d.ensures.cost)
+    tries_on v x (view d.new.pass) c.args.steps.now c.top_of.new.steps d.new.steps t.tries
+    (first_tries config x (view d.new.pass) l d.new.log c.args.object c.in-Ok.top.0 d.result c.in-Ok.top.1 t.may s d.ensures.stands d.ensures.log
+    d.ensures.view d.ensures.position t.answers.1 c.top_of.new.steps d.new.steps d.ensures.cost)
 
 pub returns-clause-keeps : goal.returns-clause-keeps
 returns-clause-keeps g c =
@@ -77,8 +91,11 @@ returns-clause-keeps g c =
     let t = c.in-Ok.ensures in
     let d = c.build-position in
     let s = top_stands config v x l c.args.object c.args.steps.now c.top_of.new.steps c.requires.stands t.tries t.ring in
-    let carries = first_carries config x (view d.new.pass) l d.new.log c.args.object c.in-Ok.top.0 d.result c.in-Ok.top.1 t.may s d.ensures.stands d.ensures.log d.ensures.view d.ensures.position t.answers.1 in
-    kept_too config v x (top_keeps config v x l c.args.object c.args.steps.now c.top_of.new.steps c.requires.stands t.tries t.ring) (view d.new.pass) carries.own
+    let carries =
+    first_carries config x (view d.new.pass) l d.new.log c.args.object c.in-Ok.top.0 d.result c.in-Ok.top.1 t.may s d.ensures.stands d.ensures.log
+    d.ensures.view d.ensures.position t.answers.1 in
+    kept_too config v x (top_keeps config v x l c.args.object c.args.steps.now c.top_of.new.steps c.requires.stands t.tries t.ring)
+    (view d.new.pass) carries.own
 
 pub returns-clause-again : goal.returns-clause-again
 returns-clause-again g c =
@@ -104,15 +121,20 @@ returns-clause-started g c =
     let few : l.held < config.write_max = (let ne : l.held ≢ config.write_max = (λ e. apart (c.held.ensures.held ∙ e)) in let le = r.few in omega arith) in
     record {
       lacks = lacks_is config v l o r.stands none;
-      room = (not_full config v l o r.stands c.held.result c.held.ensures.held apart, λ e. c.if-room-eq0.false (sym (spare_is config v l o r.stands c.room.result r.unbuilt c.room.ensures) ∙ e));
+      room = (
+        not_full config v l o r.stands c.held.result c.held.ensures.held apart,
+        λ e. c.if-room-eq0.false (sym (spare_is config v l o r.stands c.room.result r.unbuilt c.room.ensures) ∙ e),
+      );
       object_is = refl;
       started = record {
         may = first_may config x y l d.new.log o p d.result w t.may s d.ensures.stands d.ensures.log d.ensures.view d.ensures.position t.answers.1;
         range = r.range;
         stands = d.ensures.stands;
         built = first_is config x y l d.new.log o p d.result w t.may s d.ensures.stands d.ensures.log d.ensures.view d.ensures.position t.answers.1;
-        over = first_lock config x y l d.new.log o p d.result w t.may s d.ensures.stands d.ensures.log d.ensures.view d.ensures.position t.answers.1 t.answers.0;
+        over = first_lock config x y l d.new.log o p d.result w t.may s d.ensures.stands d.ensures.log d.ensures.view d.ensures.position
+            t.answers.1 t.answers.0;
         unheld = first_unheld config x y l d.new.log o p d.result w t.may s d.ensures.stands d.ensures.log d.ensures.view d.ensures.position t.answers.1 none;
-        few = first_few config x y l d.new.log o p d.result w t.may s d.ensures.stands d.ensures.log d.ensures.view d.ensures.position t.answers.1 config.write_max few;
+        few = first_few config x y l d.new.log o p d.result w t.may s d.ensures.stands d.ensures.log d.ensures.view d.ensures.position t.answers.1
+            config.write_max few;
       };
     }

@@ -11,7 +11,9 @@ returns-then-is_unset-clause-answers g c =
     let config = config_of c.args.shared.now in
     let v = view c.args.pass.now in
     let x = view c.stamp_at-stamp.new.pass in
-    let r = held_elsewhere config v (view c.load_head-link.new.pass) x c.args.object c.load_head-link.result _ (section_in v) c.if-link-eq0.false c.load_head-link.ensures.view c.stamp_at-stamp.ensures.looked c.requires.unheld c.requires.may c.load_head-link.ensures.own (c.if-is_unset.ensures.0 refl) in
+    let r = held_elsewhere config v (view c.load_head-link.new.pass) x c.args.object c.load_head-link.result _ (section_in v) c.if-link-eq0.false
+    c.load_head-link.ensures.view c.stamp_at-stamp.ensures.looked c.requires.unheld c.requires.may c.load_head-link.ensures.own
+    (c.if-is_unset.ensures.0 refl) in
     let seat_is = c.link_seat-seat.ensures in
     (λ same. r.0 (sym seat_is ∙ same), subst (λ (s : ℕ). FoundHeld config c.args.object s x.trail) (sym seat_is) r.1)
 
@@ -22,8 +24,11 @@ returns-clause-answers g c =
     let x = view c.stamp_at-stamp.new.pass in
     let y = view c.read_version.new.pass in
     let may = c.stamp_at-stamp.ensures.may in (
-      stands_to_lock config v (view c.load_head-link.new.pass) x c.args.object c.load_head-link.result _ (section_in v) c.if-link-eq0.false c.load_head-link.ensures.view c.stamp_at-stamp.ensures.looked y c.read_version.ensures.reads c.time.result (c.time.ensures (section_in x) may.phase) (let t = c.if-stamp-time.false in omega arith),
-      c.read_version.ensures.words ∙ words_there config v (view c.load_head-link.new.pass) x c.args.object c.load_head-link.result _ (section_in v) c.if-link-eq0.false c.load_head-link.ensures.view c.stamp_at-stamp.ensures.looked y c.read_version.ensures.reads,
+      stands_to_lock config v (view c.load_head-link.new.pass) x c.args.object c.load_head-link.result _ (section_in v) c.if-link-eq0.false
+          c.load_head-link.ensures.view c.stamp_at-stamp.ensures.looked y c.read_version.ensures.reads c.time.result (c.time.ensures (section_in x) may.phase)
+          (let t = c.if-stamp-time.false in omega arith),
+      c.read_version.ensures.words ∙ words_there config v (view c.load_head-link.new.pass) x c.args.object c.load_head-link.result _ (section_in v)
+          c.if-link-eq0.false c.load_head-link.ensures.view c.stamp_at-stamp.ensures.looked y c.read_version.ensures.reads,
       c.load_head-link.ensures.link,
     )
 
@@ -33,6 +38,8 @@ returns-clause-tries g c =
     let v = view c.args.pass.now in
     let x = view c.stamp_at-stamp.new.pass in
     let y = view c.read_version.new.pass in
-    let t = looked_tries config v (view c.load_head-link.new.pass) x c.args.object c.load_head-link.result _ (section_in v) c.if-link-eq0.false c.load_head-link.ensures.view c.stamp_at-stamp.ensures.looked c.args.steps.now in
-    subst (λ (n : ℕ). Tries v y c.args.steps.now n) (let a = c.load_head-link.ensures.step in let b = c.stamp_at-stamp.ensures.step in let d = c.read_version.ensures.cost in omega arith)
+    let t = looked_tries config v (view c.load_head-link.new.pass) x c.args.object c.load_head-link.result _ (section_in v) c.if-link-eq0.false
+    c.load_head-link.ensures.view c.stamp_at-stamp.ensures.looked c.args.steps.now in
+    subst (λ (n : ℕ). Tries v y c.args.steps.now n)
+    (let a = c.load_head-link.ensures.step in let b = c.stamp_at-stamp.ensures.step in let d = c.read_version.ensures.cost in omega arith)
     (tries_read LoadData tt v x y c.args.steps.now (c.args.steps.now + 3) t c.read_version.ensures.reads)

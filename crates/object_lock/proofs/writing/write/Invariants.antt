@@ -6,4 +6,5 @@ use Rattle.object_lock.proofs.writing.write.Given as goal
 
 abbrev pub invariant-loop-word : goal.invariant-loop-word
 invariant-loop-word g l =
-    (at : IsHeldAt l.fn.log l.object l.position) × IsSame l.fn.pass l.pass × Wrote (config_of l.shared) (view l.fn.pass) (view l.pass) l.fn.log l.log at.place l.word l.words × (l.steps ≡ l.fn.steps + l.word)
+    (at : IsHeldAt l.fn.log l.object l.position) × IsSame l.fn.pass l.pass
+    × Wrote (config_of l.shared) (view l.fn.pass) (view l.pass) l.fn.log l.log at.place l.word l.words × (l.steps ≡ l.fn.steps + l.word)

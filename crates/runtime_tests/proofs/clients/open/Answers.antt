@@ -24,8 +24,11 @@ loop-pass-preserved c =
     let p = c.in-Some.pass in
     let r = split_new s c.pop.new.self.items p (subst (λ ps. All (IsNew s) ps) c.in-Some.ensures.items c.loop-pass.invariant.new) in
     let about = c.in_ok-shared.ensures.about.0 in
-    let outside = ready_new s p c.in_ok-log.log c.seat.result c.args.config.now.slots (subst Checked (sym about) c.requires.checked) r.1 (c.seat.ensures ∙ sym p.numbered) (ap (λ (d : Config). d.slots) (sym about)) c.in_ok-log.ensures in
+    let outside =
+    ready_new s p c.in_ok-log.log c.seat.result c.args.config.now.slots (subst Checked (sym about) c.requires.checked) r.1
+    (c.seat.ensures ∙ sym p.numbered) (ap (λ (d : Config). d.slots) (sym about)) c.in_ok-log.ensures in
     record {
       new = r.0;
-      ready = subst (λ cs. All (IsPlayable s) cs) (sym c.in_ok-insert.ensures.items) (All-cons (IsPlayable s) _ c.loop-pass.clients.items ((r.1.0, outside), tt) c.loop-pass.invariant.ready);
+      ready = subst (λ cs. All (IsPlayable s) cs) (sym c.in_ok-insert.ensures.items)
+          (All-cons (IsPlayable s) _ c.loop-pass.clients.items ((r.1.0, outside), tt) c.loop-pass.invariant.ready);
     }

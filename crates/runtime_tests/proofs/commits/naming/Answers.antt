@@ -13,7 +13,14 @@ returns-in-Done g c =
     let l = c.args.client.now.log in
     let i = subst (IsInside config v l) c.in-Some.is (at_inside config v l c.args.client.now.stage c.requires.ready.1 _ c.in-Inside.is) in
     let n = c.in-Done.ensures in
-    record { ready = (search rules, just_named config v w l c.in-Some.word c.in-Done.time (1 ∷ 2 ∷ 3 ∷ 4 ∷ []) i (let e = c.held.ensures.held in let ne = c.if-held-eq0.false in omega arith) (let e = c.clock_time.ensures in let lt = c.if-clock_time-ge-LAST.false in omega arith) n.names n.log) }
+    record {
+      ready = (
+        search rules,
+        just_named config v w l c.in-Some.word c.in-Done.time (1 ∷ 2 ∷ 3 ∷ 4 ∷ []) i
+            (let e = c.held.ensures.held in let ne = c.if-held-eq0.false in omega arith)
+            (let e = c.clock_time.ensures in let lt = c.if-clock_time-ge-LAST.false in omega arith) n.names n.log,
+      );
+    }
 
 pub returns-in-Lost : goal.returns-in-Lost
 returns-in-Lost g c =

@@ -8,8 +8,17 @@ pub store_built-requires : goal.store_built-requires
 store_built-requires g c lives in_lives =
     let i = c.loop-made.invariant in
     let field = c.offset_of-field.result in
-    let value = c.field_of-value.result in
-    (search rules, (search rules, (i.of, may_store (config_of c.args.shared.now) (view c.loop-made.pass) c.args.position i.may field value (subst (λ (p : ℕ). FitsField p c.args.position field value) (sym i.first) c.field_of-value.ensures))))
+    let value = c.field_of-value.result in (
+      search rules,
+      (
+        search rules,
+        (
+          i.of,
+          may_store (config_of c.args.shared.now) (view c.loop-made.pass) c.args.position i.may field value
+              (subst (λ (p : ℕ). FitsField p c.args.position field value) (sym i.first) c.field_of-value.ensures),
+        ),
+      ),
+    )
 
 pub loop-made-preserved : goal.loop-made-preserved
 loop-made-preserved g c =
@@ -19,6 +28,8 @@ loop-made-preserved g c =
     record {
       of = search rules;
       same = search rules;
-      may = may_on (config_of c.args.shared.now) (view c.loop-made.pass) c.args.position i.may (view c.store_built.new.pass) field value c.store_built.ensures.view;
-      first = first_stays (config_of c.args.shared.now) (view c.loop-made.pass) c.args.position i.may (view c.store_built.new.pass) field value c.store_built.ensures.view ∙ i.first;
+      may = may_on (config_of c.args.shared.now) (view c.loop-made.pass) c.args.position i.may (view c.store_built.new.pass) field value
+          c.store_built.ensures.view;
+      first = first_stays (config_of c.args.shared.now) (view c.loop-made.pass) c.args.position i.may (view c.store_built.new.pass) field value
+          c.store_built.ensures.view ∙ i.first;
     }

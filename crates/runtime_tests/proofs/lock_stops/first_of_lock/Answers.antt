@@ -14,7 +14,8 @@ first_over_master-requires-clause-build g c =
     let at : c.table.result.freed + c.live.result ≡ l.freed + length l.live = (let all = c.live.ensures in omega arith) in
     let some = c.if-room-eq0.false in
     let room = c.room.ensures in
-    builds_next (config_of c.args.shared.now) (view c.args.pass.now) (view c.load_head-link.new.pass) l _ i.stands i.may at (omega arith) (ap (λ (u : View). u.ring) is) (ap (λ (u : View). u.phase) is)
+    builds_next (config_of c.args.shared.now) (view c.args.pass.now) (view c.load_head-link.new.pass) l _ i.stands i.may at (omega arith)
+    (ap (λ (u : View). u.ring) is) (ap (λ (u : View). u.phase) is)
 
 pub first_over_version-requires-clause-build : goal.first_over_version-requires-clause-build
 first_over_version-requires-clause-build g c =
@@ -25,4 +26,5 @@ first_over_version-requires-clause-build g c =
     let at : c.table.result.freed + c.live.result ≡ l.freed + length l.live = (let all = c.live.ensures in omega arith) in
     let some = c.if-room-eq0.false in
     let room = c.room.ensures in
-    builds_next (config_of c.args.shared.now) (view c.args.pass.now) (view c.load_head-link.new.pass) l _ i.stands i.may at (omega arith) (ap (λ (u : View). u.ring) is) (ap (λ (u : View). u.phase) is)
+    builds_next (config_of c.args.shared.now) (view c.args.pass.now) (view c.load_head-link.new.pass) l _ i.stands i.may at (omega arith)
+    (ap (λ (u : View). u.ring) is) (ap (λ (u : View). u.phase) is)

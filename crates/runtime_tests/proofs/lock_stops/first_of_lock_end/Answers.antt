@@ -19,4 +19,5 @@ pub clear_previous-requires-clause-stands : goal.clear_previous-requires-clause-
 clear_previous-requires-clause-stands g c =
     let k = c.args.started in
     let r = c.requires.started in
-    lost_stands (config_of c.args.shared.now) (view c.args.pass.now) (view c.lock_head.new.pass) c.args.log.now k.object k.link k.position r.may r.stands r.built c.in-Found-eq0.field-0 (c.in-Found-eq0.ensures.view.1 c.in-Found-eq0.ensures.swap)
+    lost_stands (config_of c.args.shared.now) (view c.args.pass.now) (view c.lock_head.new.pass) c.args.log.now k.object k.link k.position r.may r.stands
+    r.built c.in-Found-eq0.field-0 (c.in-Found-eq0.ensures.view.1 c.in-Found-eq0.ensures.swap)

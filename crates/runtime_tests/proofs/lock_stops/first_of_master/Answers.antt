@@ -11,6 +11,7 @@ loop-word-preserved g c =
     record {
       of = search rules;
       same = search rules;
-      may = may_same (view c.loop-word.pass) (view c.load_master.new.pass) (ap (λ (u : View). u.phase) is) (ap (λ (u : View). u.clocks) is) (ap (λ (u : View). u.back) is) i.may;
+      may = may_same (view c.loop-word.pass) (view c.load_master.new.pass) (ap (λ (u : View). u.phase) is) (ap (λ (u : View). u.clocks) is)
+          (ap (λ (u : View). u.back) is) i.may;
       stands = ap (λ (u : View). u.walk) is ∙ i.stands;
     }

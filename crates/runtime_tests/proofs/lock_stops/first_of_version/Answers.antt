@@ -13,7 +13,8 @@ loop-word-preserved g c =
     record {
       of = search rules;
       same = search rules;
-      may = may_same (view c.loop-word.pass) (view c.load_data.new.pass) (ap (λ (u : View). u.phase) is) (ap (λ (u : View). u.clocks) is) (ap (λ (u : View). u.back) is) i.may;
+      may = may_same (view c.loop-word.pass) (view c.load_data.new.pass) (ap (λ (u : View). u.phase) is) (ap (λ (u : View). u.clocks) is)
+          (ap (λ (u : View). u.back) is) i.may;
       stands = subst (λ (u : View). StandsAtVersion (config_of c.args.shared.now) u c.args.seat c.args.position) (sym is) (record {
         stands = a.stands;
         link_is = a.link_is;

@@ -11,4 +11,7 @@ returns g c =
     let w = view c.known.new.pass in
     let l = c.args.client.now.log in
     let o = at_outside config v l c.args.client.now.stage c.requires.ready.1 c.in-Outside.is in
-    record { ready = (search rules, still_outside config w l c.args.client.now.stage c.in-Outside.is (known config v w l c.known.result.time o c.known.ensures.view)) }
+    record {
+      ready =
+          (search rules, still_outside config w l c.args.client.now.stage c.in-Outside.is (known config v w l c.known.result.time o c.known.ensures.view));
+    }

@@ -12,4 +12,10 @@ returns g c =
     let o = at_outside config v l c.args.client.now.stage c.requires.ready.1 c.in-Outside.is in
     let e = c.clock_time-low.ensures in
     let r = c.load_low.type_inv in
-    record { ready = (search rules, lowered config v (view c.load_low.new.pass) l c.load_low.result c.clock_time-low.result o c.load_low.ensures.view e (omega arith)) }
+    record {
+      ready = (
+        search rules,
+        lowered config v (view c.load_low.new.pass) l c.load_low.result c.clock_time-low.result o c.load_low.ensures.view
+            e (omega arith),
+      );
+    }

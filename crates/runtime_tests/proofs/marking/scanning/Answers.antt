@@ -11,4 +11,10 @@ returns g c =
     let w = view c.scan.new.pass in
     let l = c.args.client.now.log in
     let o = at_outside config v l c.args.client.now.stage c.requires.ready.1 c.in-Outside.is in
-    record { ready = (search rules, still_outside config w l c.args.client.now.stage c.in-Outside.is (scanned config v w l c.scan.result c.scan.ensures.scans.0 _ _ o c.scan.ensures.scans.1)) }
+    record {
+      ready = (
+        search rules,
+        still_outside config w l c.args.client.now.stage c.in-Outside.is
+            (scanned config v w l c.scan.result c.scan.ensures.scans.0 _ _ o c.scan.ensures.scans.1),
+      );
+    }

@@ -16,8 +16,22 @@ back_start-requires g c κs within =
     let l = c.args.client.now.log in
     let s = c.scan-mark.ensures.scans in
     let o = scanned config v w l c.scan-mark.result s.0 _ _ (at_outside config v l c.args.client.now.stage c.requires.ready.0.1 c.in-Outside.is) s.1 in
-    let some = c.if-version-eq0.false in
-    (search rules, (search rules, (search rules, (o.may, (o.stands, (may_start config w l c.args.index c.note-version.result o.stands c.note-version.ensures (omega arith), c.scan-mark.ensures.known))))))
+    let some = c.if-version-eq0.false in (
+      search rules,
+      (
+        search rules,
+        (
+          search rules,
+          (
+            o.may,
+            (
+              o.stands,
+              (may_start config w l c.args.index c.note-version.result o.stands c.note-version.ensures (omega arith), c.scan-mark.ensures.known),
+            ),
+          ),
+        ),
+      ),
+    )
 
 pub returns-in-Ok : goal.returns-in-Ok
 returns-in-Ok g c =
@@ -32,7 +46,12 @@ returns-in-Ok g c =
     record {
       ready = (
         (search rules, back_started config w (view c.back_start.new.pass) l _ _ c.in-Ok.back o a.1 a.2),
-        (a.2, ap (λ (b : Back). b.object) a.3 ∙ ap (λ (n : Note). n.object) note, ap (λ (b : Back). b.position) a.3 ∙ ap (λ (n : Note). n.position) note, ap (λ (b : Back). b.stored) a.3),
+        (
+          a.2,
+          ap (λ (b : Back). b.object) a.3 ∙ ap (λ (n : Note). n.object) note,
+          ap (λ (b : Back). b.position) a.3 ∙ ap (λ (n : Note). n.position) note,
+          ap (λ (b : Back). b.stored) a.3,
+        ),
       );
     }
 
@@ -45,4 +64,13 @@ returns-in-Err g c =
     let l = c.args.client.now.log in
     let s = c.scan-mark.ensures.scans in
     let o = scanned config v w l c.scan-mark.result s.0 _ _ (at_outside config v l c.args.client.now.stage c.requires.ready.0.1 c.in-Outside.is) s.1 in
-    record { ready = ((search rules, still_outside config x l c.args.client.now.stage c.in-Outside.is (back_not_started config w x l _ c.scan-mark.result _ _ c.in-Err.cause o c.in-Err.ensures.starts)), tt) }
+    record {
+      ready = (
+        (
+          search rules,
+          still_outside config x l c.args.client.now.stage c.in-Outside.is
+              (back_not_started config w x l _ c.scan-mark.result _ _ c.in-Err.cause o c.in-Err.ensures.starts),
+        ),
+        tt,
+      );
+    }

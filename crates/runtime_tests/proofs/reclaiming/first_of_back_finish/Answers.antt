@@ -11,4 +11,6 @@ load_death-requires-clause-may g c =
     let v = view c.args.pass.now in
     let object = sym c.requires.object in
     let position = sym c.requires.position in
-    may_load_death config v c.args.log.now c.args.back.now c.requires.stands c.requires.writing (view c.cut_head.new.pass) (c.in-Won.ensures.view.0 refl ∙ (λ q. head_cut config v (object q) (position q) (committed_in config v (position q)).0 (committed_in config v (position q)).1))
+    may_load_death config v c.args.log.now c.args.back.now c.requires.stands c.requires.writing (view c.cut_head.new.pass)
+    (c.in-Won.ensures.view.0 refl
+    ∙ (λ q. head_cut config v (object q) (position q) (committed_in config v (position q)).0 (committed_in config v (position q)).1))

@@ -13,4 +13,9 @@ returns g c =
     let m = c.tidy.new.log in
     let e = c.tidy.ensures in
     let o = at_outside config v l c.args.client.now.stage c.requires.ready.1 c.in-Outside.is in
-    record { ready = (search rules, still_outside config w m c.args.client.now.stage c.in-Outside.is (reclaimed config v w l m e.reclaims.0 _ o e.reclaims.1 e.shrinks e.stands)) }
+    record {
+      ready = (
+        search rules,
+        still_outside config w m c.args.client.now.stage c.in-Outside.is (reclaimed config v w l m e.reclaims.0 _ o e.reclaims.1 e.shrinks e.stands),
+      );
+    }

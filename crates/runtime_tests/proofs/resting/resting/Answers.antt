@@ -20,7 +20,13 @@ returns-in-Done g c =
     let l = c.args.client.now.log in
     let k = at_helped config v l c.args.client.now.stage c.requires.ready.1 _ c.in-Helped.is in
     let room = rests_room _ _ config v l k.outside.stands c.args.client.now.pass.known in
-    record { ready = (search rules, rested config v (view c.rest-named.new.pass) l c.note_rest.new.log _ c.in-Done.time k c.in-Done.ensures.names room c.note_rest.ensures) }
+    record {
+      ready = (
+        search rules,
+        rested config v (view c.rest-named.new.pass) l c.note_rest.new.log _ c.in-Done.time k c.in-Done.ensures.names room
+            c.note_rest.ensures,
+      );
+    }
 
 pub returns-in-Lost : goal.returns-in-Lost
 returns-in-Lost g c =

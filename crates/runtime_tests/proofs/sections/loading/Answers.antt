@@ -11,4 +11,10 @@ returns g c =
     let l = c.args.client.now.log in
     let n = c.now-word.ensures in
     let i = at_inside config v l c.args.client.now.stage c.requires.ready.1 _ c.in-Inside.is in
-    record { ready = (search rules, loaded config v (view c.now-word.new.pass) (view c.help.new.pass) l _ c.now-word.result n.view.0 i n.view.1 n.view.2 n.loaded c.help.ensures.helps) }
+    record {
+      ready = (
+        search rules,
+        loaded config v (view c.now-word.new.pass) (view c.help.new.pass) l _ c.now-word.result n.view.0 i n.view.1 n.view.2
+            n.loaded c.help.ensures.helps,
+      );
+    }

@@ -12,4 +12,10 @@ returns g c =
     let l = c.args.client.now.log in
     let e = c.lock.ensures in
     let i = at_inside config v l c.args.client.now.stage c.requires.ready.1 _ c.in-Inside.is in
-    record { ready = (search rules, in_stage config w c.lock.new.log c.args.client.now.stage _ c.in-Inside.is (tried config v w l c.lock.new.log _ _ _ i e.tries e.may e.stands e.unbuilt)) }
+    record {
+      ready = (
+        search rules,
+        in_stage config w c.lock.new.log c.args.client.now.stage _ c.in-Inside.is
+            (tried config v w l c.lock.new.log _ _ _ i e.tries e.may e.stands e.unbuilt),
+      );
+    }

@@ -21,4 +21,10 @@ returns g c =
     let l = c.args.client.now.log in
     let e = c.write.ensures in
     let i = at_inside config v l c.args.client.now.stage c.requires.ready.1 _ c.in-Inside.is in
-    record { ready = (search rules, in_stage config w c.write.new.log c.args.client.now.stage _ c.in-Inside.is (written config v w l c.write.new.log _ 6 i e.stores e.may e.stands e.unbuilt)) }
+    record {
+      ready = (
+        search rules,
+        in_stage config w c.write.new.log c.args.client.now.stage _ c.in-Inside.is
+            (written config v w l c.write.new.log _ 6 i e.stores e.may e.stands e.unbuilt),
+      );
+    }

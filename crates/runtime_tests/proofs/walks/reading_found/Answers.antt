@@ -36,7 +36,12 @@ returns-in-Master g c =
     let l = c.args.client.now.log in
     let i = at_inside config v l c.args.client.now.stage c.requires.ready.0.1 _ c.in-Inside.is in
     let k = has_read config LoadMaster (refl, refl) v x l _ i c.read_master.ensures.reads c.read_master.ensures.may in
-    record { ready = ((search rules, in_stage config x l c.args.client.now.stage _ c.in-Inside.is k), subst (IsUnderWay config x) (sym c.replace-under_way.ensures.after) tt) }
+    record {
+      ready = (
+        (search rules, in_stage config x l c.args.client.now.stage _ c.in-Inside.is k),
+        subst (IsUnderWay config x) (sym c.replace-under_way.ensures.after) tt,
+      );
+    }
 
 pub returns-in-Version : goal.returns-in-Version
 returns-in-Version g c =
@@ -46,4 +51,9 @@ returns-in-Version g c =
     let l = c.args.client.now.log in
     let i = at_inside config v l c.args.client.now.stage c.requires.ready.0.1 _ c.in-Inside.is in
     let k = has_read config LoadData (refl, refl) v x l _ i c.read_version.ensures.reads c.read_version.ensures.may in
-    record { ready = ((search rules, in_stage config x l c.args.client.now.stage _ c.in-Inside.is k), subst (IsUnderWay config x) (sym c.replace-under_way.ensures.after) tt) }
+    record {
+      ready = (
+        (search rules, in_stage config x l c.args.client.now.stage _ c.in-Inside.is k),
+        subst (IsUnderWay config x) (sym c.replace-under_way.ensures.after) tt,
+      );
+    }

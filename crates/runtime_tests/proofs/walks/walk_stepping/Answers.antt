@@ -23,7 +23,12 @@ returns-in-Ok g c =
     let e = c.in-Ok.ensures in
     let i = at_inside config v l c.args.client.now.stage c.requires.ready.0.1 _ c.in-Inside.is in
     let j = walked config v w l _ _ _ i e.walks e.may in
-    record { ready = ((search rules, in_stage config w l c.args.client.now.stage _ c.in-Inside.is j), (subst (λ o. HasFound config w o c.in-Ok.found) u.1 e.put, u.2)) }
+    record {
+      ready = (
+        (search rules, in_stage config w l c.args.client.now.stage _ c.in-Inside.is j),
+        (subst (λ o. HasFound config w o c.in-Ok.found) u.1 e.put, u.2),
+      );
+    }
 
 pub returns-in-Err : goal.returns-in-Err
 returns-in-Err g c =

@@ -16,7 +16,8 @@ link_slot-requires-clause-may g c =
     let same = ap next_of c.log.view_is in
     let long = c.log.inside.live.ok.0 in
     let e = c.len.ensures in
-    may_build (config_of c.args.shared.now) (view c.args.pass.now) c.args.log.now c.requires.stands (c.log.inside.freed + c.len.result) (omega arith) c.requires.open c.requires.room
+    may_build (config_of c.args.shared.now) (view c.args.pass.now) c.args.log.now c.requires.stands (c.log.inside.freed + c.len.result) (omega arith)
+    c.requires.open c.requires.room
 
 pub returns-clause-stands : goal.returns-clause-stands
 returns-clause-stands g c =
@@ -24,22 +25,37 @@ returns-clause-stands g c =
     let long = c.log.inside.live.ok.0 in
     let e = c.len.ensures in
     let at : next_of l ≡ c.log.inside.freed + c.len.result = omega arith in
-    let stands : Stands (config_of c.args.shared.now) (view c.args.pass.now) l = subst (λ (m : Noted). Stands (config_of c.args.shared.now) (view c.args.pass.now) m) (sym c.log.view_is) c.requires.stands in
+    let stands : Stands (config_of c.args.shared.now) (view c.args.pass.now) l =
+    subst (λ (m : Noted). Stands (config_of c.args.shared.now) (view c.args.pass.now) m) (sym c.log.view_is) c.requires.stands in
     let room : length l.live < l.slots = subst (λ (m : Noted). length m.live < m.slots) (sym c.log.view_is) c.requires.room in
     let small : next_of l < 2 ^ 57 = subst (λ (n : ℕ). n < 2 ^ 57) (sym at) c.link_slot.ensures.range in
-    let is = is_slot (config_of c.args.shared.now) (view c.args.pass.now) (view c.link_slot.new.pass) (view c.store_words.new.pass) (c.log.inside.freed + c.len.result) _ c.args.previous c.args.words c.link_slot.ensures.view c.store_words.ensures.view
+    let is = is_slot (config_of c.args.shared.now) (view c.args.pass.now) (view c.link_slot.new.pass) (view c.store_words.new.pass)
+    (c.log.inside.freed + c.len.result) _ c.args.previous c.args.words c.link_slot.ensures.view c.store_words.ensures.view
     ∙ (λ i. slot_built (config_of c.args.shared.now) (view c.args.pass.now) (sym at i) (sym at i - c.log.inside.held) c.args.previous c.args.words) in
     subst (λ (m : Noted). Stands (config_of c.args.shared.now) (view c.store_words.new.pass) m)
-    (λ i. built_noted l (record { position = at i; first = at i - c.log.inside.held; object = c.args.object; previous = c.args.previous; words = c.args.words; time = 0; dead = 0 }))
-    (stands_built (config_of c.args.shared.now) (view c.args.pass.now) (view c.store_words.new.pass) l c.args.object c.args.previous c.args.words stands c.requires.open room c.store_words.ensures.wide small is)
+    (λ i. built_noted l
+    (record {
+      position = at i;
+      first = at i - c.log.inside.held;
+      object = c.args.object;
+      previous = c.args.previous;
+      words = c.args.words;
+      time = 0;
+      dead = 0;
+    }))
+    (stands_built (config_of c.args.shared.now) (view c.args.pass.now) (view c.store_words.new.pass) l c.args.object c.args.previous c.args.words stands
+    c.requires.open room c.store_words.ensures.wide small is)
 
 -- the view after all stores
-view_is : (g : _) (c : goal.After-log-1 g) → view c.store_words.new.pass ≡ slot_built (config_of c.args.shared.now) (view c.args.pass.now) (next_of c.args.log.now) (first_of c.args.log.now) c.args.previous c.args.words
+view_is : (g : _) (c : goal.After-log-1 g)
+    → view c.store_words.new.pass ≡ slot_built (config_of c.args.shared.now) (view c.args.pass.now) (next_of c.args.log.now) (first_of c.args.log.now)
+    c.args.previous c.args.words
 view_is g c =
     let long = c.log.inside.live.ok.0 in
     let e = c.len.ensures in
     let at : c.log.inside.freed + c.len.result ≡ next_of (the_view c.log.inside) = omega arith in
-    is_slot (config_of c.args.shared.now) (view c.args.pass.now) (view c.link_slot.new.pass) (view c.store_words.new.pass) (c.log.inside.freed + c.len.result) _ c.args.previous c.args.words c.link_slot.ensures.view c.store_words.ensures.view
+    is_slot (config_of c.args.shared.now) (view c.args.pass.now) (view c.link_slot.new.pass) (view c.store_words.new.pass) (c.log.inside.freed + c.len.result)
+    _ c.args.previous c.args.words c.link_slot.ensures.view c.store_words.ensures.view
     ∙ (λ i. slot_built (config_of c.args.shared.now) (view c.args.pass.now) (at i) (at i - c.log.inside.held) c.args.previous c.args.words)
     ∙ ap (λ (m : Noted). slot_built (config_of c.args.shared.now) (view c.args.pass.now) (next_of m) (first_of m) c.args.previous c.args.words) c.log.view_is
 
@@ -47,4 +63,6 @@ pub returns-clause-view : goal.returns-clause-view
 returns-clause-view g c = view_is g c
 
 pub returns-clause-rest : goal.returns-clause-rest
-returns-clause-rest g c = subst (λ (w : View). ChangesLog (view c.args.pass.now) w) (sym (view_is g c)) (slot_changes (config_of c.args.shared.now) (view c.args.pass.now) (next_of c.args.log.now) (first_of c.args.log.now) c.args.previous c.args.words)
+returns-clause-rest g c =
+    subst (λ (w : View). ChangesLog (view c.args.pass.now) w) (sym (view_is g c))
+    (slot_changes (config_of c.args.shared.now) (view c.args.pass.now) (next_of c.args.log.now) (first_of c.args.log.now) c.args.previous c.args.words)

@@ -23,7 +23,8 @@ returns-then-position-log-clause-stands g c =
     subst (λ (o : Option Note). Stands (config_of c.args.shared.now) (view c.store_next.new.pass) (record (the_view c.log.inside) { built = o }))
     (sym c.built_with_word-log-inside.ensures)
     (subst (λ (m : Noted). Stands (config_of c.args.shared.now) (view c.store_next.new.pass) (built_word_noted m c.args.word c.args.value)) (sym c.log.view_is)
-    (stands_built_word (config_of c.args.shared.now) (view c.args.pass.now) (view c.store_next.new.pass) c.args.log.now there.0 c.args.position c.args.word c.args.value c.requires.stands there.1 there.2 c.requires.open c.store_next.ensures.view))
+    (stands_built_word (config_of c.args.shared.now) (view c.args.pass.now) (view c.store_next.new.pass) c.args.log.now there.0 c.args.position c.args.word
+    c.args.value c.requires.stands there.1 there.2 c.requires.open c.store_next.ensures.view))
 
 -- where nothing is built there, the version is held
 held_at : (c : Noted) (position freed len : ℕ) → IsBuilt c position ⊎ IsHeld c position → ((n : Note) → c.built ≡ Some n → n.position ≡ next_of c)
@@ -66,16 +67,20 @@ module _ (g : _) (c : goal.After-log-2-1 g) where
       let h : IsHeld (the_view c.log.inside) c.args.position = subst (λ (m : Noted). IsHeld m c.args.position) (sym c.log.view_is) held in
       let low = h.0 in
       let high = h.1 in
-      let note : c.with_word.result ≡ with_word c.args.word c.args.value (slice_index_or c.log.inside.live.items (c.args.position - c.log.inside.freed) c.index.result.now) =
+      let note : c.with_word.result ≡ with_word c.args.word c.args.value
+      (slice_index_or c.log.inside.live.items (c.args.position - c.log.inside.freed) c.index.result.now) =
       c.with_word.ensures ∙ ap (with_word c.args.word c.args.value) c.index.ensures in
       ap (slice_set c.log.inside.live.items (c.args.position - c.log.inside.freed)) note
       ∙ at_set (with_word c.args.word c.args.value) (c.args.position - c.log.inside.freed) c.log.inside.live.items c.index.result.now (omega arith)
 
-  stands : Stands (config_of c.args.shared.now) (view c.store_data.new.pass) (record (the_view c.log.inside) { live = slice_set c.log.inside.live.items (c.args.position - c.log.inside.freed) c.with_word.result })
+  stands : Stands (config_of c.args.shared.now) (view c.store_data.new.pass)
+      (record (the_view c.log.inside) { live = slice_set c.log.inside.live.items (c.args.position - c.log.inside.freed) c.with_word.result })
   stands =
       subst (λ (ns : List Note). Stands (config_of c.args.shared.now) (view c.store_data.new.pass) (record (the_view c.log.inside) { live = ns })) (sym items)
-      (subst (λ (m : Noted). Stands (config_of c.args.shared.now) (view c.store_data.new.pass) (word_noted m c.args.position c.args.word c.args.value)) (sym c.log.view_is)
-      (stands_word (config_of c.args.shared.now) (view c.args.pass.now) c.args.log.now c.args.position c.args.word c.args.value c.requires.stands held (view c.store_data.new.pass) c.store_data.ensures.view))
+      (subst (λ (m : Noted). Stands (config_of c.args.shared.now) (view c.store_data.new.pass) (word_noted m c.args.position c.args.word c.args.value))
+      (sym c.log.view_is)
+      (stands_word (config_of c.args.shared.now) (view c.args.pass.now) c.args.log.now c.args.position c.args.word c.args.value c.requires.stands held
+      (view c.store_data.new.pass) c.store_data.ensures.view))
 
 pub invariant_of-log-2 : goal.invariant_of-log-2
 invariant_of-log-2 g c = (c.log.invariant.0, (stands g c).log)

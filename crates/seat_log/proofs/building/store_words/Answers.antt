@@ -13,7 +13,8 @@ loop-word-preserved g c =
     let was = c.loop-word.invariant.3 in
     let step = c.store_next.ensures.step in (
       (b.0 ∙ a.0, b.1 ∙ a.1, b.2 ∙ a.2, b.3 ∙ a.3, b.4 ∙ a.4, b.5 ∙ a.5),
-      is_more (config_of c.args.shared.now) (view c.args.pass.now) (view c.loop-word.pass) (view c.store_next.new.pass) c.args.position c.loop-word.word c.args.words.now c.loop-word.invariant.1 c.store_next.ensures.view,
+      is_more (config_of c.args.shared.now) (view c.args.pass.now) (view c.loop-word.pass) (view c.store_next.new.pass) c.args.position c.loop-word.word
+          c.args.words.now c.loop-word.invariant.1 c.store_next.ensures.view,
       c.store_next.ensures.may,
       omega arith,
     )

@@ -13,6 +13,7 @@ loop-freed-preserved g c =
     let was = c.loop-freed.invariant.2 in
     let step = c.store_free.ensures.step in (
       (b.0 ∙ a.0, b.1 ∙ a.1, b.2 ∙ a.2, b.3 ∙ a.3, b.4 ∙ a.4, b.5 ∙ a.5),
-      one_freed (config_of c.args.shared.now) (view c.args.pass.now) (view c.loop-freed.pass) (view c.store_free.new.pass) c.args.position c.loop-freed.freed c.loop-freed.invariant.1 c.store_free.ensures.view,
+      one_freed (config_of c.args.shared.now) (view c.args.pass.now) (view c.loop-freed.pass) (view c.store_free.new.pass) c.args.position c.loop-freed.freed
+          c.loop-freed.invariant.1 c.store_free.ensures.view,
       omega arith,
     )

@@ -6,7 +6,8 @@ use Rattle.seat_log.proofs.Noting.{aborted_is_log, abort_counts, abort_of_nothin
 use Rattle.seat_log.proofs.notes.note_abort.Goals as goal
 
 -- the notes afterwards
-items : (c : goal.After-log-2-1) → c.set_deaths.new.live.items ≡ from_place (λ n. record n { dead = c.args.dead }) (held_from (the_view c.log.inside)) c.log.inside.live.items
+items : (c : goal.After-log-2-1)
+    → c.set_deaths.new.live.items ≡ from_place (λ n. record n { dead = c.args.dead }) (held_from (the_view c.log.inside)) c.log.inside.live.items
 items c =
     let long = c.log.inside.live.ok.0 in
     let from : c.len.result - c.log.inside.held ≡ held_from (the_view c.log.inside) = (let e = c.len.ensures in omega arith) in
@@ -19,7 +20,8 @@ invariant_of-log c =
     let counts = abort_counts l c.if-log-eq0.false in (
       subst (λ (n : ℕ). c.log.inside.slots ≤ n) (sym c.set_deaths.ensures.capacity) c.log.invariant.0,
       subst (λ (n : ℕ). IsLog (record (aborted_noted l c.args.dead) { live = c.set_deaths.new.live.items; aborts = n })) counts
-          (subst (λ (ns : List Note). IsLog (record (aborted_noted l c.args.dead) { live = ns })) (sym (items c)) (aborted_is_log l c.args.dead unbuilt c.log.invariant.1)),
+          (subst (λ (ns : List Note). IsLog (record (aborted_noted l c.args.dead) { live = ns })) (sym (items c))
+          (aborted_is_log l c.args.dead unbuilt c.log.invariant.1)),
     )
 
 pub returns-then-log-eq0 : goal.returns-then-log-eq0

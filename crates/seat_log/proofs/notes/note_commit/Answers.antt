@@ -15,5 +15,6 @@ invariant_of-log c =
     let some_held : 0 < l.held = subst (λ (m : Noted). 0 < m.held) (sym c.log.view_is) c.requires.some_held in
     let unbuilt : l.built ≡ None = ap (λ (m : Noted). m.built) c.log.view_is ∙ c.requires.unbuilt in (
       subst (λ (n : ℕ). c.log.inside.slots ≤ n) (sym c.set_times.ensures.capacity) c.log.invariant.0,
-      subst (λ (ns : List Note). IsLog (record (committed_noted l c.args.time) { live = ns })) items (committed_is_log l c.args.time some_held unbuilt c.log.invariant.1),
+      subst (λ (ns : List Note). IsLog (record (committed_noted l c.args.time) { live = ns })) items
+          (committed_is_log l c.args.time some_held unbuilt c.log.invariant.1),
     )

@@ -12,9 +12,11 @@ module _ (c : goal.After-log-1) where
 
   -- the note is in its place
   within : c.args.position - c.log.inside.freed < length c.log.inside.live.items
-  within = let live : IsLive (the_view c.log.inside) c.args.position = subst (λ (m : Noted). IsLive m c.args.position) (sym c.log.view_is) c.requires.live in let low = live.0 in let high = live.1 in omega arith
+  within = let live : IsLive (the_view c.log.inside) c.args.position =
+      subst (λ (m : Noted). IsLive m c.args.position) (sym c.log.view_is) c.requires.live in let low = live.0 in let high = live.1 in omega arith
 
-  items : slice_set c.log.inside.live.items (c.args.position - c.log.inside.freed) (record c.index_mut.result.now { dead = c.args.dead }) ≡ at_place (λ n. record n { dead = c.args.dead }) (c.args.position - c.log.inside.freed) c.log.inside.live.items
+  items : slice_set c.log.inside.live.items (c.args.position - c.log.inside.freed) (record c.index_mut.result.now { dead = c.args.dead })
+      ≡ at_place (λ n. record n { dead = c.args.dead }) (c.args.position - c.log.inside.freed) c.log.inside.live.items
   items =
       ap (λ (n : Note). slice_set c.log.inside.live.items (c.args.position - c.log.inside.freed) (record n { dead = c.args.dead })) c.index_mut.ensures.value
       ∙ at_set (λ n. record n { dead = c.args.dead }) (c.args.position - c.log.inside.freed) c.log.inside.live.items c.index_mut.result.now within
@@ -23,7 +25,8 @@ pub invariant_of-log : goal.invariant_of-log
 invariant_of-log c =
     let l : Noted = the_view c.log.inside in (
       c.log.invariant.0,
-      subst (λ (ns : List Note). IsLog (record l { live = ns })) (sym (items c)) (renoted_is_log l (λ n. record n { dead = c.args.dead }) (c.args.position - c.log.inside.freed) (λ n. (refl, refl)) c.log.invariant.1),
+      subst (λ (ns : List Note). IsLog (record l { live = ns })) (sym (items c))
+          (renoted_is_log l (λ n. record n { dead = c.args.dead }) (c.args.position - c.log.inside.freed) (λ n. (refl, refl)) c.log.invariant.1),
     )
 
 pub returns : goal.returns

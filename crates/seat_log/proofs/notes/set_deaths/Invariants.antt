@@ -4,4 +4,5 @@ use Rattle.seat_log.proofs.Places.{GoesFrom}
 use Rattle.seat_log.proofs.notes.set_deaths.Given as goal
 
 abbrev pub invariant-loop-i : goal.invariant-loop-i
-invariant-loop-i l = GoesFrom (λ n. record n { dead = l.fn.dead }) l.fn.from l.fn.live.items l.i l.live.items × (deque_capacity l.live ≡ deque_capacity l.fn.live)
+invariant-loop-i l =
+    GoesFrom (λ n. record n { dead = l.fn.dead }) l.fn.from l.fn.live.items l.i l.live.items × (deque_capacity l.live ≡ deque_capacity l.fn.live)

@@ -15,6 +15,14 @@ returns-clause-stands g c =
     let v : View = view c.load_low-low.new.pass in
     let w : View = view c.store_mark.new.pass in
     let time = c.load_time.ensures.view in
-    let one : Stands d v l = subst (λ (x : View). Stands d x l) (sym c.load_low-low.ensures.view) (stands_same d u (low_loaded d u c.load_low-low.result) l refl refl refl refl (unpassed is_free u.trail _ refl) (unpassed is_won_cut u.trail _ refl) c.requires.stands) in
-    let two : Stands d w l = subst (λ (x : View). Stands d x l) (sym c.store_mark.ensures.view) (stands_same d v (mark_stored d v c.clock_time.result) l refl refl refl refl (unpassed is_free v.trail _ refl) (unpassed is_won_cut v.trail _ refl) one) in
-    subst (λ (x : View). Stands d x l) (sym time.2) (stands_same d w (time_loaded d w c.load_time.result time.0) l refl refl refl refl (unpassed is_free w.trail _ refl) (unpassed is_won_cut w.trail _ refl) two)
+    let one : Stands d v l =
+    subst (λ (x : View). Stands d x l) (sym c.load_low-low.ensures.view)
+    (stands_same d u (low_loaded d u c.load_low-low.result) l refl refl refl refl (unpassed is_free u.trail _ refl) (unpassed is_won_cut u.trail _ refl)
+    c.requires.stands) in
+    let two : Stands d w l =
+    subst (λ (x : View). Stands d x l) (sym c.store_mark.ensures.view)
+    (stands_same d v (mark_stored d v c.clock_time.result) l refl refl refl refl (unpassed is_free v.trail _ refl)
+    (unpassed is_won_cut v.trail _ refl) one) in
+    subst (λ (x : View). Stands d x l) (sym time.2)
+    (stands_same d w (time_loaded d w c.load_time.result time.0) l refl refl refl refl (unpassed is_free w.trail _ refl)
+    (unpassed is_won_cut w.trail _ refl) two)

@@ -11,13 +11,16 @@ clear_previous-requires-clause-open g c = open_still (view c.args.pass.now) (vie
 
 pub put_word-requires-clause-open : goal.put_word-requires-clause-open
 put_word-requires-clause-open g c =
-    open_still (view c.build-position.new.pass) (view c.clear_previous.new.pass) c.clear_previous.ensures.rest (open_still (view c.args.pass.now) (view c.build-position.new.pass) c.build-position.ensures.rest c.requires.open)
+    open_still (view c.build-position.new.pass) (view c.clear_previous.new.pass) c.clear_previous.ensures.rest
+    (open_still (view c.args.pass.now) (view c.build-position.new.pass) c.build-position.ensures.rest c.requires.open)
 
 pub returns-clause-stands : goal.returns-clause-stands
 returns-clause-stands g c =
-    subst (λ (m : Noted). Stands (config_of c.args.shared.now) (view c.put_word.new.pass) m) (sym c.drop_built.ensures) (stands_dropped (config_of c.args.shared.now) (view c.put_word.new.pass) c.put_word.new.log c.put_word.ensures.stands)
+    subst (λ (m : Noted). Stands (config_of c.args.shared.now) (view c.put_word.new.pass) m) (sym c.drop_built.ensures)
+    (stands_dropped (config_of c.args.shared.now) (view c.put_word.new.pass) c.put_word.new.log c.put_word.ensures.stands)
 
 pub returns-clause-open : goal.returns-clause-open
 returns-clause-open g c =
     open_still (view c.clear_previous.new.pass) (view c.put_word.new.pass) c.put_word.ensures.rest
-    (open_still (view c.build-position.new.pass) (view c.clear_previous.new.pass) c.clear_previous.ensures.rest (open_still (view c.args.pass.now) (view c.build-position.new.pass) c.build-position.ensures.rest c.requires.open))
+    (open_still (view c.build-position.new.pass) (view c.clear_previous.new.pass) c.clear_previous.ensures.rest
+    (open_still (view c.args.pass.now) (view c.build-position.new.pass) c.build-position.ensures.rest c.requires.open))

@@ -14,4 +14,5 @@ returns-then-not-has_lock g c =
 
 pub returns : goal.returns
 returns g c =
-    ap length (g.met.S.Section.reads _) ∙ as_many _ _ c.write.ensures.goes_on ∙ as_many _ _ c.try_lock.ensures.goes_on ∙ sym (ap length (g.met.S.Section.reads _))
+    ap length (g.met.S.Section.reads _) ∙ as_many _ _ c.write.ensures.goes_on ∙ as_many _ _ c.try_lock.ensures.goes_on
+    ∙ sym (ap length (g.met.S.Section.reads _))

@@ -13,11 +13,13 @@ returns-then-want-eq1-clause-none g c =
 
 pub returns-in_err-second-clause-none : goal.returns-in_err-second-clause-none
 returns-in_err-second-clause-none g c =
-    none_for_second _ _ _ _ _ _ c.requires.want c.if-want-eq1.false (g.met.V.View.same_state _ _ c.another.ensures.as_before) c.from_residual-in_err-second.ensures c.in_err-second.ensures.found
+    none_for_second _ _ _ _ _ _ c.requires.want c.if-want-eq1.false (g.met.V.View.same_state _ _ c.another.ensures.as_before)
+    c.from_residual-in_err-second.ensures c.in_err-second.ensures.found
 
 pub returns-clause-none : goal.returns-clause-none
 returns-clause-none g c =
-    two_found _ _ _ _ _ c.requires.want (g.met.V.View.same_state _ _ c.another.ensures.as_before) c.in_ok-first.ensures.found.0 c.in_ok-second.ensures.found.0 c.in_ok-second.ensures.found.1
+    two_found _ _ _ _ _ c.requires.want (g.met.V.View.same_state _ _ c.another.ensures.as_before) c.in_ok-first.ensures.found.0 c.in_ok-second.ensures.found.0
+    c.in_ok-second.ensures.found.1
 
 pub returns-clause-hints : goal.returns-clause-hints
 returns-clause-hints g c =

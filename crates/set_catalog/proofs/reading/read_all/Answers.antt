@@ -15,7 +15,11 @@ loop-object-init g c =
 
 pub overflow_cast-key : goal.overflow_cast-key
 overflow_cast-key g c =
-    omega (arith, turn_fits _ _ _ _ c.requires.lawful c.loop-object-test.true (g.met.V.View.same_state _ _ c.loop-object.invariant.before) c.read.ensures.words c.if-owner-ne0.true)
+    omega (
+      arith,
+      turn_fits _ _ _ _ c.requires.lawful c.loop-object-test.true (g.met.V.View.same_state _ _ c.loop-object.invariant.before)
+          c.read.ensures.words c.if-owner-ne0.true,
+    )
 
 pub returns-in_err-insert-clause-as_before : goal.returns-in_err-insert-clause-as_before
 returns-in_err-insert-clause-as_before g c =
@@ -29,7 +33,8 @@ loop-object-preserved-then-kind-ne-INNER g c =
       before = g.met.V.View.as_long_before _ _ _ c.loop-object.invariant.before c.read.ensures.as_before;
       node = omega arith;
       within = omega arith;
-      read = turn_puts _ _ _ _ _ _ _ c.requires.lawful test within (g.met.V.View.same_state _ _ c.loop-object.invariant.before) c.read.ensures.words c.if-owner-ne0.true c.if-kind-ne-INNER.true c.name_of.ensures.is c.loop-object.invariant.read c.in_ok-insert.ensures.put;
+      read = turn_puts _ _ _ _ _ _ _ c.requires.lawful test within (g.met.V.View.same_state _ _ c.loop-object.invariant.before) c.read.ensures.words
+          c.if-owner-ne0.true c.if-kind-ne-INNER.true c.name_of.ensures.is c.loop-object.invariant.read c.in_ok-insert.ensures.put;
     }
 
 pub loop-object-preserved : goal.loop-object-preserved
@@ -41,7 +46,11 @@ loop-object-preserved g c =
       node = omega arith;
       within = omega arith;
       read = turn_skips _ _ _ _ _ test within (g.met.V.View.same_state _ _ c.loop-object.invariant.before) c.read.ensures.words
-          (elim c.else-owner-ne0.branch [ else-owner-ne0-via-then-owner-ne0+else-kind-ne-INNER w ↦ inr w.if-kind-ne-INNER.false | else-owner-ne0-via-else-owner-ne0 w ↦ inl w.if-owner-ne0.false ])
+          (elim c.else-owner-ne0.branch [
+            | else-owner-ne0-via-then-owner-ne0+else-kind-ne-INNER w ↦ inr w.if-kind-ne-INNER.false
+            | else-owner-ne0-via-else-owner-ne0 w ↦ inl
+                w.if-owner-ne0.false
+          ])
           c.loop-object.invariant.read;
     }
 

@@ -5,11 +5,18 @@ use Rattle.tree_set.proofs.find.find.Goals.{then-key-words, else-key-words}
 
 pub overflow_cast-leaf : goal.overflow_cast-leaf
 overflow_cast-leaf g c =
-    omega (arith, descent_fits _ _ c.args.key _ _ _ _ c.requires.lawful (descent_start _ _ _ _ c.requires.lawful c.requires.root_from c.requires.root_in c.read.ensures.words c.if-first-eq0.false))
+    omega (
+      arith,
+      descent_fits _ _ c.args.key _ _ _ _ c.requires.lawful
+          (descent_start _ _ _ _ c.requires.lawful c.requires.root_from c.requires.root_in c.read.ensures.words c.if-first-eq0.false),
+    )
 
 pub read-words-requires : goal.read-words-requires
 read-words-requires g c =
-    in_state _ _ _ (descent_in_range _ _ c.args.key _ _ _ _ (descent_start _ _ _ _ c.requires.lawful c.requires.root_from c.requires.root_in c.read.ensures.words c.if-first-eq0.false)) (g.met.V.View.same_state _ _ c.read.ensures.as_before)
+    in_state _ _ _
+    (descent_in_range _ _ c.args.key _ _ _ _
+    (descent_start _ _ _ _ c.requires.lawful c.requires.root_from c.requires.root_in c.read.ensures.words c.if-first-eq0.false))
+    (g.met.V.View.same_state _ _ c.read.ensures.as_before)
 
 pub loop-words-init : goal.loop-words-init
 loop-words-init g c = record {

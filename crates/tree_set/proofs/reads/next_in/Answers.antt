@@ -27,5 +27,6 @@ least_key-requires-clause-subtree g c =
 
 pub returns-clause-next : goal.returns-clause-next
 returns-clause-next g c =
-    sym (fork_next_right _ _ _ _ _ _ _ _ c.requires.lawful c.requires.root_from c.requires.root_in c.in_ok-fork.ensures.fork c.if-fork-key.false c.if-fork-eq0.false _
+    sym (fork_next_right _ _ _ _ _ _ _ _ c.requires.lawful c.requires.root_from c.requires.root_in c.in_ok-fork.ensures.fork c.if-fork-key.false
+    c.if-fork-eq0.false _
     (least_same _ _ _ _ _ (g.met.V.View.same_state _ _ c.find.ensures.as_before) c.least_key.ensures.least))

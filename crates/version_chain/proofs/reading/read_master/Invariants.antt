@@ -10,4 +10,5 @@ ghost-load_master g a = section_in (view a.pass.now)
 
 abbrev pub invariant-loop-word : goal.invariant-loop-word
 invariant-loop-word g l =
-    IsSame l.initial.pass l.pass × HasRead LoadMaster (view l.initial.pass) (view l.pass) (words_in (config_of l.shared) (view l.initial.pass) l.object) l.words l.word l.initial.steps l.steps
+    IsSame l.initial.pass l.pass × HasRead LoadMaster (view l.initial.pass) (view l.pass) (words_in (config_of l.shared) (view l.initial.pass) l.object)
+    l.words l.word l.initial.steps l.steps

@@ -10,4 +10,6 @@ ghost-load_data g a = (stand_in (view a.pass.now), section_in (view a.pass.now))
 
 abbrev pub invariant-loop-word : goal.invariant-loop-word
 invariant-loop-word g l =
-    IsSame l.initial.pass l.pass × HasRead LoadData (view l.initial.pass) (view l.pass) (words_in (config_of l.shared) (view l.initial.pass) (stand_in (view l.initial.pass)).object) l.words l.word l.initial.steps l.steps
+    IsSame l.initial.pass l.pass
+    × HasRead LoadData (view l.initial.pass) (view l.pass) (words_in (config_of l.shared) (view l.initial.pass) (stand_in (view l.initial.pass)).object)
+    l.words l.word l.initial.steps l.steps

@@ -12,7 +12,8 @@ versions-preserved g c =
     let a = c.versions.invariant in
     let b = c.walk_step.ensures.same in
     let goes = c.in-Err.ensures.answers in
-    let on = went_on (config_of c.args.shared.now) (view c.versions.pass) (view c.walk_step.new.pass) c.versions.walk c.in-Err.on _ _ c.versions.steps _ a.2 goes.0 goes.1
+    let on = went_on (config_of c.args.shared.now) (view c.versions.pass) (view c.walk_step.new.pass) c.versions.walk c.in-Err.on _ _ c.versions.steps _
+    a.2 goes.0 goes.1
     (sym (same_snapshot (config_of c.args.shared.now) _ _ _ _ a.3)) a.4 in (
       (b.0 ∙ a.0.0, b.1 ∙ a.0.1, b.2 ∙ a.0.2, b.3 ∙ a.0.3, b.4 ∙ a.0.4, b.5 ∙ a.0.5),
       goes.0.object ∙ a.1,

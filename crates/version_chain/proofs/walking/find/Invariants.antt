@@ -10,7 +10,8 @@ invariant-versions g l =
     × (l.walk.object ≡ l.object)
     × StandsAt (config_of l.shared) (view l.pass) l.walk
     × Walks (view l.fn.pass) (view l.pass) l.fn.steps l.steps
-    × WalkedWithin (config_of l.shared).base (snapshot_length (config_of l.shared) (view l.fn.pass)) (length (view l.pass).past.seen) (view l.pass).walk l.fn.steps l.steps
+    × WalkedWithin (config_of l.shared).base (snapshot_length (config_of l.shared) (view l.fn.pass)) (length (view l.pass).past.seen) (view l.pass).walk
+    l.fn.steps l.steps
 
 abbrev pub decreases-versions : goal.decreases-versions
 decreases-versions g l = walk_left (view l.pass).walk

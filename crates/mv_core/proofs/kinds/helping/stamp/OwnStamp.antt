@@ -66,8 +66,24 @@ module _ {starts : State → Type 0} {allows : List ℕ → State → Writes →
       let at : f.section n ≡ Some r.inside = subst (λ (s : ℕ). f.section s ≡ Some r.inside) e r.in_section in
       let one : Named naming ≡ Named r.naming = only_named at r.mode in
       let same : naming ≡ r.naming = cc in
-      record { seat = n; inside = inside'; naming = naming'; in_section = set_at_here f.section n (Some inside'); mode = refl; time_is = ap (λ (d : Naming). d.time) same ∙ r.time_is; known = tt })
-      (λ ne. record { seat = r.seat; inside = r.inside; naming = r.naming; in_section = set_at_else f.section n (Some inside') r.seat ne ∙ r.in_section; mode = r.mode; time_is = r.time_is; known = tt })
+      record {
+        seat = n;
+        inside = inside';
+        naming = naming';
+        in_section = set_at_here f.section n (Some inside');
+        mode = refl;
+        time_is = ap (λ (d : Naming). d.time) same ∙ r.time_is;
+        known = tt;
+      })
+      (λ ne. record {
+        seat = r.seat;
+        inside = r.inside;
+        naming = r.naming;
+        in_section = set_at_else f.section n (Some inside') r.seat ne ∙ r.in_section;
+        mode = r.mode;
+        time_is = r.time_is;
+        known = tt;
+      })
 
   -- no commit of this seat is unstamped
   unfinished_after : UnstampedIsUnfinished c stamp t.section f.ring

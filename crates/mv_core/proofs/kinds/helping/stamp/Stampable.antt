@@ -43,13 +43,18 @@ module _ {starts : State → Type 0} {allows : List ℕ → State → Writes →
     own_named = own_is own.0 own.1 own.2 own.3
 
     own_word : clock_of own_named.note.time v.number (index_of c own_named.version.first) ≡ word
-    own_word = let time_is = own_named.time_is in let first_is = own_named.first_is in (λ i. clock_of (time_is i) v.number (index_of c (first_is i))) ∙ sym own.4
+    own_word = let time_is =
+        own_named.time_is in let first_is = own_named.first_is in (λ i. clock_of (time_is i) v.number (index_of c (first_is i))) ∙ sym own.4
 
     -- the own word unpacks
     pub own_unpacks : (clock_time_of word ≡ own.1.time) × (clock_seat_of word ≡ v.number) × (clock_slot_of word ≡ index_of c own.1.first)
     own_unpacks =
-        let u = word_unpacks k v.number (index_of c own.1.first) own_named.version own_named.note own_named.lives in
-        (ap clock_time_of (sym own_word) ∙ u.0 ∙ own_named.time_is, ap clock_seat_of (sym own_word) ∙ u.1, ap clock_slot_of (sym own_word) ∙ u.2 ∙ ap (index_of c) own_named.first_is)
+        let u = word_unpacks k v.number (index_of c own.1.first) own_named.version own_named.note own_named.lives in (
+          ap clock_time_of (sym own_word) ∙ u.0 ∙ own_named.time_is,
+          ap clock_seat_of (sym own_word) ∙ u.1,
+          ap clock_slot_of (sym own_word) ∙ u.2
+              ∙ ap (index_of c) own_named.first_is,
+        )
 
     -- it names the own commit
     pub own_commit : IsNamedCommit rings word unset

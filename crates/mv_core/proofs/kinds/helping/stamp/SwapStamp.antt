@@ -37,16 +37,20 @@ module _ (c : Config) (seat word unset : ℕ) where
       with_mode : (d : Mode) → s.mode ≡ d → stamped_mode c seat d word unset ≡ d → stamped_phase c seat (Inside s) word unset ≡ Inside s
       with_mode d e same = ap (λ (x : Mode). Inside (record s { mode = x })) (ap (λ (x : Mode). stamped_mode c seat x word unset) e ∙ same ∙ sym e)
 
-      by_own : (n : Naming) → s.mode ≡ Named n → (b : Bool) → is_own c seat n word unset ≡ b → (stamped_phase c seat (Inside s) word unset ≡ Inside s) ⊎ IsOwn (Inside s)
+      by_own : (n : Naming) → s.mode ≡ Named n → (b : Bool) → is_own c seat n word unset ≡ b
+          → (stamped_phase c seat (Inside s) word unset ≡ Inside s) ⊎ IsOwn (Inside s)
       by_own n e true own = inr (record {
         inside = s;
         naming = n;
         phase_is = refl;
         mode_is = e;
         own = own;
-        after_is = ap (λ (x : Mode). Inside (record s { mode = x })) (ap (λ (x : Mode). stamped_mode c seat x word unset) e ∙ ap (λ (b : Bool). Named (record n { stamped = b })) (ap (λ (b : Bool). n.stamped || b) own ∙ or-true n.stamped));
+        after_is = ap (λ (x : Mode). Inside (record s { mode = x }))
+            (ap (λ (x : Mode). stamped_mode c seat x word unset) e
+            ∙ ap (λ (b : Bool). Named (record n { stamped = b })) (ap (λ (b : Bool). n.stamped || b) own ∙ or-true n.stamped));
       })
-      by_own n e false other = inl (with_mode (Named n) e (ap (λ (b : Bool). Named (record n { stamped = b })) (ap (λ (b : Bool). n.stamped || b) other ∙ or_false n.stamped)))
+      by_own n e false other =
+          inl (with_mode (Named n) e (ap (λ (b : Bool). Named (record n { stamped = b })) (ap (λ (b : Bool). n.stamped || b) other ∙ or_false n.stamped)))
         where
           or_false : (b : Bool) → (b || false) ≡ b
           or_false true = refl
@@ -75,8 +79,10 @@ module _ (starts : State → Type 0) (allows : List ℕ → State → Writes →
 
   -- that the word is helped, and that the own exchange was made, is noted over the memory after the exchange
   noted : (m : Memory) → (k : Facts starts allows c start m h f) → WasClock c (m Clock) word → IsDone (m Clock) (λ s i. m (Stamp s i)) word
-      → ((inside : Section) (n : Naming) → v.phase ≡ Inside inside → inside.mode ≡ Named n → is_own c v.number n word unset ≡ true → m (Stamp v.number (index_of c n.first)) ≡ n.time)
-      → (found : ℕ) → Facts starts allows c start m h (parts_of (set_at seats v.number (stamp_swapped c v word unset found))) × RunsOn v (stamp_swapped c v word unset found)
+      → ((inside : Section) (n : Naming) → v.phase ≡ Inside inside → inside.mode ≡ Named n → is_own c v.number n word unset ≡ true
+      → m (Stamp v.number (index_of c n.first)) ≡ n.time)
+      → (found : ℕ) → Facts starts allows c start m h (parts_of (set_at seats v.number (stamp_swapped c v word unset found)))
+      × RunsOn v (stamp_swapped c v word unset found)
   noted m k was done made found = ⊎_elim stays own (phase_after c v.number word unset v.phase)
     where
       w : View
@@ -93,7 +99,8 @@ module _ (starts : State → Type 0) (allows : List ℕ → State → Writes →
 
       stays : stamped_phase c v.number v.phase word unset ≡ v.phase → Facts starts allows c start m h (parts_of (set_at seats v.number w)) × RunsOn v w
       stays same = (
-        settle starts allows c start m h seats v.number v w is (record unchanged { clocks = Some x }) (refl, same, ap section_of same, ap time_of same, x_is, refl, refl, refl, refl, refl, refl) helps,
+        settle starts allows c start m h seats v.number v w is (record unchanged { clocks = Some x })
+            (refl, same, ap section_of same, ap time_of same, x_is, refl, refl, refl, refl, refl, refl) helps,
         (λ time first a b. ((λ s e. a s (sym same ∙ e)), (λ s e. b s (sym same ∙ e)))),
       )
 
@@ -101,12 +108,16 @@ module _ (starts : State → Type 0) (allows : List ℕ → State → Writes →
       own o =
           let inside' : Section = own_made o.inside o.naming in
           let there = section_is seats v o.inside k is o.phase_is in
-          let facts = own_stamped helps v.number o.inside o.naming (ap (λ (u : View). u.phase) is ∙ o.phase_is) there o.mode_is (made o.inside o.naming o.phase_is o.mode_is o.own) in (
-            settle starts allows c start m h seats v.number v w is (record unchanged { phase = Some (Inside inside'); section = Some (Some inside'); clocks = Some x })
-                (refl, o.after_is, ap section_of o.after_is, ap time_of o.after_is ∙ ap time_of (sym o.phase_is), x_is, refl, refl, refl, refl, refl, refl) facts,
+          let facts = own_stamped helps v.number o.inside o.naming (ap (λ (u : View). u.phase) is ∙ o.phase_is) there o.mode_is
+          (made o.inside o.naming o.phase_is o.mode_is o.own) in (
+            settle starts allows c start m h seats v.number v w is
+                (record unchanged { phase = Some (Inside inside'); section = Some (Some inside'); clocks = Some x })
+                (refl, o.after_is, ap section_of o.after_is, ap time_of o.after_is ∙ ap time_of (sym o.phase_is), x_is, refl, refl, refl, refl, refl, refl)
+                facts,
             (λ time first a b. (
               (λ s e. let whole : Inside inside' ≡ Inside s = sym o.after_is ∙ e in let same : inside' ≡ s = cc in a o.inside o.phase_is ∙ ap time_in same),
-              (λ s e open_is. let whole : Inside inside' ≡ Inside s = sym o.after_is ∙ e in let same : inside' ≡ s = cc in let none : Named (record o.naming { stamped = true }) ≡ Open = ap (λ (i : Section). i.mode) same ∙ open_is in absurd (cc)),
+              (λ s e open_is. let whole : Inside inside' ≡ Inside s = sym o.after_is ∙ e in let same : inside' ≡ s = cc in
+                  let none : Named (record o.naming { stamped = true }) ≡ Open = ap (λ (i : Section). i.mode) same ∙ open_is in absurd (cc)),
             )),
           )
 
@@ -115,11 +126,13 @@ module _ (starts : State → Type 0) (allows : List ℕ → State → Writes →
     can = stampable v seats k is word unset may
 
     -- where the test says so, these are of the own commit
-    abbrev own_one : (inside : Section) (n : Naming) → v.phase ≡ Inside inside → inside.mode ≡ Named n → is_own c v.number n word unset ≡ true → IsOwnNaming c v word unset
+    abbrev own_one : (inside : Section) (n : Naming) → v.phase ≡ Inside inside → inside.mode ≡ Named n → is_own c v.number n word unset ≡ true
+        → IsOwnNaming c v word unset
     own_one inside n phase mode own = let s = own_says c v.number word unset n own in (inside, n, phase, mode, s.0, s.1)
 
     won_facts : m (stamp_place word) ≡ unset
-        → Facts starts allows c start (put m (stamp_place word) (clock_time_of word)) h (parts_of (set_at seats v.number (stamp_swapped c v word unset unset))) × RunsOn v (stamp_swapped c v word unset unset)
+        → Facts starts allows c start (put m (stamp_place word) (clock_time_of word)) h
+        (parts_of (set_at seats v.number (stamp_swapped c v word unset unset))) × RunsOn v (stamp_swapped c v word unset unset)
     won_facts won =
         noted (put m (stamp_place word) (clock_time_of word)) (stamp_stored k word unset can won) can.was
         (done_now k word unset can won)
@@ -132,12 +145,15 @@ module _ (starts : State → Type 0) (allows : List ℕ → State → Writes →
     lost_made : IsNamedCommit f.ring word unset → m (stamp_place word) ≢ unset → m (stamp_place word) ≡ clock_time_of word
     lost_made d lost =
         let s = clock_seat_of word in
-        let at : index_of c d.version.first ≡ clock_slot_of word = ap (index_of c) (sym d.first_is) ∙ (k.positions.live s (clock_slot_of word) d.version (Committed d.note) d.lives).0 in
+        let at : index_of c d.version.first ≡ clock_slot_of word =
+        ap (index_of c) (sym d.first_is) ∙ (k.positions.live s (clock_slot_of word) d.version (Committed d.note) d.lives).0 in
         let here : m (stamp_place word) ≡ stamp_of c (λ s i. m (Stamp s i)) s d.version = ap (λ i. m (Stamp s i)) (sym at) in
-        ⊎_elim (λ e. here ∙ e ∙ d.time_is) (λ t. absurd (lost (here ∙ t.0 ∙ sym d.unset_is))) (k.stamps.live s (clock_slot_of word) d.version (Committed d.note) d.lives)
+        ⊎_elim (λ e. here ∙ e ∙ d.time_is) (λ t. absurd (lost (here ∙ t.0 ∙ sym d.unset_is)))
+        (k.stamps.live s (clock_slot_of word) d.version (Committed d.note) d.lives)
 
     lost_facts : m (stamp_place word) ≢ unset
-        → Facts starts allows c start m h (parts_of (set_at seats v.number (stamp_swapped c v word unset (m (stamp_place word))))) × RunsOn v (stamp_swapped c v word unset (m (stamp_place word)))
+        → Facts starts allows c start m h (parts_of (set_at seats v.number (stamp_swapped c v word unset (m (stamp_place word)))))
+        × RunsOn v (stamp_swapped c v word unset (m (stamp_place word)))
     lost_facts lost =
         noted m k can.was (dite (ℕ_discrete (m Clock) word) (λ e. inr (inr (lost_made (can.now e) lost))) (λ ne. inl ne))
         (λ inside n phase mode own.
@@ -148,12 +164,19 @@ module _ (starts : State → Type 0) (allows : List ℕ → State → Writes →
         (λ i. m (Stamp (seat_is i) (slot_is i))) ∙ lost_made (own_commit v seats k is word unset o) lost ∙ u.0)
         (m (stamp_place word))
 
-module _ (starts : State → Type 0) (allows : List ℕ → State → Writes → Type 0) (c : Config) (start : State) (v : View) (word unset : ℕ) (may : MayStamp c v word unset) where
-  stamp_swaps_to : Swaps starts allows c start v (stamp_place word) unset (clock_time_of word) (λ n w. ((w ≡ stamp_swapped c v word unset n) × RunsOn v w) × IsKept v w)
+module _ (starts : State → Type 0) (allows : List ℕ → State → Writes → Type 0) (c : Config) (start : State) (v : View) (word unset : ℕ)
+    (may : MayStamp c v word unset) where
+  stamp_swaps_to : Swaps starts allows c start v (stamp_place word) unset (clock_time_of word)
+      (λ n w. ((w ≡ stamp_swapped c v word unset n) × RunsOn v w) × IsKept v w)
   stamp_swaps_to = (
-    (λ m h seats k is own begins won. let r = won_facts starts allows c start v word unset h seats is m k may won in (stamp_swapped c v word unset unset, h, r.0, ((refl, r.1), (refl, refl, refl, refl, refl, refl)))),
-    (λ m h seats k is own begins lost wide. let r = lost_facts starts allows c start v word unset h seats is m k may lost in (stamp_swapped c v word unset (m (stamp_place word)), r.0, ((refl, r.1), (refl, refl, refl, refl, refl, refl)))),
+    (λ m h seats k is own begins won. let r = won_facts starts allows c start v word unset h seats is m k may won in
+        (stamp_swapped c v word unset unset, h, r.0, ((refl, r.1), (refl, refl, refl, refl, refl, refl)))),
+    (λ m h seats k is own begins lost wide. let r = lost_facts starts allows c start v word unset h seats is m k may lost in
+        (stamp_swapped c v word unset (m (stamp_place word)), r.0, ((refl, r.1), (refl, refl, refl, refl, refl, refl)))),
   )
 
-  pub stamp_swaps : (new : ℕ) → new ≡ clock_time_of word → Swaps starts allows c start v (stamp_place word) unset new (λ n w. ((w ≡ stamp_swapped c v word unset n) × RunsOn v w) × IsKept v w)
-  stamp_swaps new e = subst (λ (t : ℕ). Swaps starts allows c start v (stamp_place word) unset t (λ n w. ((w ≡ stamp_swapped c v word unset n) × RunsOn v w) × IsKept v w)) (sym e) stamp_swaps_to
+  pub stamp_swaps : (new : ℕ) → new ≡ clock_time_of word
+      → Swaps starts allows c start v (stamp_place word) unset new (λ n w. ((w ≡ stamp_swapped c v word unset n) × RunsOn v w) × IsKept v w)
+  stamp_swaps new e =
+      subst (λ (t : ℕ). Swaps starts allows c start v (stamp_place word) unset t (λ n w. ((w ≡ stamp_swapped c v word unset n) × RunsOn v w) × IsKept v w))
+      (sym e) stamp_swaps_to

@@ -22,7 +22,14 @@ module _ (starts : State → Type 0) (allows : List ℕ → State → Writes →
       head_locked c v inside object previous position,
       h,
       lock_won seats k v is own write_max object previous position b inside may won,
-      ((((λ _. refl), (λ ne. absurd (ne refl))), (λ _. one_more_write seats k v is own write_max object previous position b inside may), (λ ne. absurd (ne refl))), (refl, refl, refl, refl, refl, refl)),
+      (
+        (
+          ((λ _. refl), (λ ne. absurd (ne refl))),
+          (λ _. one_more_write seats k v is own write_max object previous position b inside may),
+          (λ ne. absurd (ne refl)),
+        ),
+        (refl, refl, refl, refl, refl, refl),
+      ),
     )),
     (λ m h seats k is own begins lost wide.
         let n : ℕ = m (Head object) in
@@ -32,7 +39,17 @@ module _ (starts : State → Type 0) (allows : List ℕ → State → Writes →
               (lost_right seats k v is inside may.walking object previous may.stands lost)
               (lock_lost c v object n) None None (refl, refl, refl, refl, refl, refl, refl, refl, refl, refl, refl) k.history k.phases_and_scan.seen
               k.succeeded_has_super k.deaths_seen,
-          ((((λ e. absurd (lost e)), (λ _. refl)), (λ e. absurd (lost e)), (λ _. (head_link k v.number v.clocks inside timed may.walking.helped object, lost_other seats k v is write_max object previous position b inside may lost))), (refl, refl, refl, refl, refl, refl)),
+          (
+            (
+              ((λ e. absurd (lost e)), (λ _. refl)),
+              (λ e. absurd (lost e)),
+              (λ _. (
+                head_link k v.number v.clocks inside timed may.walking.helped object,
+                lost_other seats k v is write_max object previous position b inside may lost,
+              )),
+            ),
+            (refl, refl, refl, refl, refl, refl),
+          ),
         )),
   )
 

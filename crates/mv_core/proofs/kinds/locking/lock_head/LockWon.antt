@@ -261,7 +261,8 @@ module _ {starts : State → Type 0} {allows : List ℕ → State → Writes →
         at).0;
   }
 
-  pub lock_won : Facts starts allows c start (put m (Head object) (link_of v.number position)) h (parts_of (set_at seats v.number (head_locked c v inside object previous position)))
+  pub lock_won : Facts starts allows c start (put m (Head object) (link_of v.number position)) h
+      (parts_of (set_at seats v.number (head_locked c v inside object previous position)))
   lock_won =
       let deaths : Deaths c h later = record {
         aborted = λ s j dead y lives. each_live (λ s j y st. st ≡ Aborted (Some dead) → dead ≤ c.base + length h + 1) (λ e. absurd (cc))
@@ -296,4 +297,18 @@ module _ {starts : State → Type 0} {allows : List ℕ → State → Writes →
       let flag_still = flag_kept rings later kept super section k.successor_flag in
       let super_still = super_kept rings later kept c h super (λ s. (seats s).empty) k.succeeded_has_super in
       let freed_still = freed_kept rings later kept c h (m Clock) (λ s. (seats s).grace) k.freed_is_old in
-      assumption (positions, heads, links, aborted_after, below_after, fresh_after, successors_after, before_death, knowledge, falls, found_after, open_after, k))
+      assumption (
+        positions,
+        heads,
+        links,
+        aborted_after,
+        below_after,
+        fresh_after,
+        successors_after,
+        before_death,
+        knowledge,
+        falls,
+        found_after,
+        open_after,
+        k,
+      ))

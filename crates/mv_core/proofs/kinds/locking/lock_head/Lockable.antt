@@ -1,4 +1,6 @@
--- What is known where a walk stands at the version that its section's time reads, or at the master, and an exchange of HEAD is made there: the version or the master is the object's top where it is won, and where it is lost the new top is later than the section.
+-- What is known where a walk stands at the version that its section's time reads, or at the master, and an exchange of HEAD is
+-- made there: the version or the master is the object's top where it is won, and where it is lost the new top is later than the
+-- section.
 use Rattle.std.proofs.Common.{◌≡◌, ◌≢◌, ◌⊎◌, ℕ, ◌<◌, ◌≤◌, false, true, List, sym, ap, ◌∙◌, subst, ⊎_elim, inl, inr, arith, None}
 use Rattle.mv_core.proofs.Terms.{dite, ℕ_discrete, dec_lt, Entry, State, Writes, Config, Head, Master, Stamp, link_of, Memory, Ring, Version, Status}
 use Rattle.mv_core.proofs.Terms.{Held, Committed, CommitNote, View, Section, Names, IsVersion, NoneHolds, NoneUncut, IsTop, latest, latest_at}
@@ -25,11 +27,14 @@ IsLastUpTo c h rings t object link =
     ⊎ ((x : Version) × (note : CommitNote) × IsVersion rings object (latest_at c.base h object t) link x note × (note.time ≤ t))
 
 -- what a walk's version is known to be, once a time was found there
-right_time : (c : Config) (h : List Entry) (t : ℕ) (x : Version) (note : CommitNote) → IsRightFor c h t x note → note.time ≤ t → note.time ≡ latest_at c.base h x.object t
+right_time : (c : Config) (h : List Entry) (t : ℕ) (x : Version) (note : CommitNote) → IsRightFor c h t x note → note.time ≤ t
+    → note.time ≡ latest_at c.base h x.object t
 right_time c h t x note right le = ⊎_elim (λ (lt : t < note.time). absurd (omega arith)) (λ e. e) right
 
-module _ {starts : State → Type 0} {allows : List ℕ → State → Writes → Type 0} {c : Config} {start : State} {m : Memory} {h : List Entry} (seats : ℕ → View) (k : Facts starts allows c start m h (parts_of seats))
-    (v : View) (is : seats v.number ≡ v) (inside : Section) (walking : IsWalking v inside) (object previous : ℕ) (stands : StandsToLock v inside object previous) where
+module _ {starts : State → Type 0} {allows : List ℕ → State → Writes → Type 0} {c : Config} {start : State} {m : Memory} {h : List Entry} (seats : ℕ → View)
+    (k : Facts starts allows c start m h (parts_of seats))
+    (v : View) (is : seats v.number ≡ v) (inside : Section) (walking : IsWalking v inside) (object previous : ℕ)
+    (stands : StandsToLock v inside object previous) where
   abbrev rings : ℕ → Ring
   rings s = (seats s).ring
 
@@ -60,7 +65,8 @@ module _ {starts : State → Type 0} {allows : List ℕ → State → Writes →
       let early : note.time ≤ t = omega arith in
       let right = right_time c h t s.version note (subst (MayStandAt c start h (λ o w. m (Master o w)) rings t s.version) stamped.1 s.may) early in
       let object_is : s.version.object ≡ object = s.object_is ∙ a.3 in
-      let names : Names rings previous s.version (Committed note) = subst (λ (link : ℕ). Names rings link s.version (Committed note)) a.4 (subst (Names rings a.0.link s.version) stamped.1 s.names) in
+      let names : Names rings previous s.version (Committed note) =
+      subst (λ (link : ℕ). Names rings link s.version (Committed note)) a.4 (subst (Names rings a.0.link s.version) stamped.1 s.names) in
       inr (s.version, note, record { names = names; object_is = object_is; time_is = right ∙ ap (λ (o : ℕ). latest_at c.base h o t) object_is }, early))
       stands
 
@@ -69,7 +75,8 @@ module _ {starts : State → Type 0} {allows : List ℕ → State → Writes →
   once link x y st su a b = let r = names_once c h rings k.checked k.history.in_time k.positions link x y st su a b in (r.2, r.3)
 
   -- the version that the walk stands at is stamped
-  pub below_stamped : (y : Version) (note : CommitNote) (below : Names rings previous y (Committed note)) → stamp_of c (λ s j. m (Stamp s j)) below.seat y ≡ note.time
+  pub below_stamped : (y : Version) (note : CommitNote) (below : Names rings previous y (Committed note))
+      → stamp_of c (λ s j. m (Stamp s j)) below.seat y ≡ note.time
   below_stamped y note below =
       ⊎_elim
       (λ z. absurd (names_some rings previous y (Committed note) below z.0))
@@ -107,7 +114,8 @@ module _ {starts : State → Type 0} {allows : List ℕ → State → Writes →
         let on_time = top.2.time_is in
         let le : top.1.time ≤ t = subst (λ (n : CommitNote). n.time ≤ t) (sym same) l.3 in omega arith)
         last_there)
-        (λ z. not_above (latest c.base h object) v.number t (λ s. time_of (seats s).phase) (k.present_master object z.1).1 (time_is seats v inside k is walking.phase))
+        (λ z. not_above (latest c.base h object) v.number t (λ s. time_of (seats s).phase) (k.present_master object z.1).1
+        (time_is seats v inside k is walking.phase))
         is_top
 
   -- where the exchange is lost, what is on top now is later than the section
@@ -126,10 +134,13 @@ module _ {starts : State → Type 0} {allows : List ℕ → State → Writes →
       dite (dec_lt t note.time) (λ lt. lt)
       (λ ge.
       let last : latest_at c.base h object t ≡ latest c.base h object = latest_at-whole c.base h object t (omega arith) in
-      let version : IsVersion rings object (latest_at c.base h object t) head top.0 top.1 = subst (λ (u : ℕ). IsVersion rings object u head top.0 top.1) (sym last) top.2 in
+      let version : IsVersion rings object (latest_at c.base h object t) head top.0 top.1 =
+      subst (λ (u : ℕ). IsVersion rings object u head top.0 top.1) (sym last) top.2 in
       ⊎_elim
       (λ z. let cut = z.1 head top.0 top.1 version in let uncut = top.3 in absurd (cc))
-      (λ l. absurd (lost (version_once c start h rings k.checked k.history.in_time k.history.legal k.positions k.write_sets object (latest_at c.base h object t) head previous top.0 l.0 top.1 l.1 version l.2).0))
+      (λ l. absurd
+      (lost (version_once c start h rings k.checked k.history.in_time k.history.legal k.positions k.write_sets object (latest_at c.base h object t) head
+      previous top.0 l.0 top.1 l.1 version l.2).0))
       last_there))
       (λ z. absurd (names_some rings head x (Committed note) names z.0))
       (k.head_is_top.top object none))
@@ -137,7 +148,8 @@ module _ {starts : State → Type 0} {allows : List ℕ → State → Writes →
 
   -- a walk that the lost exchange put there
   late_right : (link : ℕ) → ((x : Version) (note : CommitNote) → Names rings link x (Committed note) → t < note.time)
-      → WalksRight c start m h rings v.clocks inside (stand_at object link Nothing false) → WalksRight c start m h rings v.clocks inside (stand_at object link Nothing true)
+      → WalksRight c start m h rings v.clocks inside (stand_at object link Nothing false)
+      → WalksRight c start m h rings v.clocks inside (stand_at object link Nothing true)
   late_right link late =
       dite (ℕ_discrete link 0)
       (λ e r. subst (WalksRight c start m h rings v.clocks inside) (sym (at_zero object link Nothing false e) ∙ at_zero object link Nothing true e) r)

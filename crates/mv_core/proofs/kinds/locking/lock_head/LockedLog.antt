@@ -1,5 +1,6 @@
 -- A won exchange of a lock, in the log of its seat: the slot that was built holds a version now, and the next position is used.
-use Rattle.std.proofs.Common.{◌≡◌, ◌≢◌, ◌⊎◌, ℕ, ◌+◌, ◌-◌, ◌*◌, ◌/◌, ◌%◌, ◌<◌, ◌≤◌, cond, List, length, refl, sym, ap, ◌∙◌, subst, ⊎_elim, inl, inr, le_refl, arith, Option, Some, None}
+use Rattle.std.proofs.Common.{◌≡◌, ◌≢◌, ◌⊎◌, ℕ, ◌+◌, ◌-◌, ◌*◌, ◌/◌, ◌%◌, ◌<◌, ◌≤◌, cond, List}
+use Rattle.std.proofs.Common.{length, refl, sym, ap, ◌∙◌, subst, ⊎_elim, inl, inr, le_refl, arith, Option, Some, None}
 use Rattle.std.specs.Prelude.{slice_index_or, slice_set}
 use Rattle.std.proofs.Math.Nat.{add-mod_right}
 use Rattle.std.proofs.lemmas.List.{get_or-map, get_or_past, length-map}
@@ -31,8 +32,10 @@ none_held r none k x e =
     omega arith)
     (λ past. let free : Live x Held ≡ Free = sym e ∙ get_or_past r.slots k Free (omega arith) in cc)
 
-module _ {starts : State → Type 0} {allows : List ℕ → State → Writes → Type 0} {c : Config} {start : State} {m : Memory} {h : List Entry} (seats : ℕ → View) (k : Facts starts allows c start m h (parts_of seats))
-    (v : View) (is : seats v.number ≡ v) (own : v.number < c.seats) (write_max object previous position : ℕ) (b : Build) (inside : Section) (may : MayLock c write_max v object previous position b inside) where
+module _ {starts : State → Type 0} {allows : List ℕ → State → Writes → Type 0} {c : Config} {start : State} {m : Memory} {h : List Entry} (seats : ℕ → View)
+    (k : Facts starts allows c start m h (parts_of seats))
+    (v : View) (is : seats v.number ≡ v) (own : v.number < c.seats) (write_max object previous position : ℕ) (b : Build) (inside : Section)
+    (may : MayLock c write_max v object previous position b inside) where
   abbrev pub rings : ℕ → Ring
   rings s = (seats s).ring
 
@@ -65,10 +68,12 @@ module _ {starts : State → Type 0} {allows : List ℕ → State → Writes →
   was_built = ap (λ (u : View). slot_at u.ring slot) is ∙ may.build
 
   -- what holds of the new version, and of each one as it was, holds of all
-  pub each_live : (P : ℕ → ℕ → Version → Status → Type 0) → P n slot x Held → ((s j : ℕ) (y : Version) (st : Status) → Lives rings s j y st → P s j y st) → (s j : ℕ) (y : Version) (st : Status) → Lives later s j y st → P s j y st
+  pub each_live : (P : ℕ → ℕ → Version → Status → Type 0) → P n slot x Held → ((s j : ℕ) (y : Version) (st : Status) → Lives rings s j y st → P s j y st)
+      → (s j : ℕ) (y : Version) (st : Status) → Lives later s j y st → P s j y st
   each_live P here rest =
       slots_after rings n slot (Live x Held) ring_now written within (λ s j z. (y : Version) (st : Status) → z ≡ Live y st → P s j y st)
-      (λ y st e. let same : (x ≡ y) × (Held ≡ st) = live_once (Live x Held) x y Held st refl e in subst (λ (w : Version). P n slot w st) same.0 (subst (P n slot x) same.1 here))
+      (λ y st e. let same : (x ≡ y) × (Held ≡ st) = live_once (Live x Held) x y Held st refl e in
+      subst (λ (w : Version). P n slot w st) same.0 (subst (P n slot x) same.1 here))
       (λ s j ne. rest s j)
 
   -- the new version
@@ -95,10 +100,12 @@ module _ {starts : State → Type 0} {allows : List ℕ → State → Writes →
 
   pub kept : KeepsCommitted rings later
   kept = record {
-    was = λ s j y note lives. each_live (λ s j y st. (note : CommitNote) → st ≡ Committed note → Lives rings s j y (Committed note)) (λ note e. absurd (cc)) (λ s j y st lives note e. subst (Lives rings s j y) e lives) s j y (Committed note) lives note refl;
+    was = λ s j y note lives. each_live (λ s j y st. (note : CommitNote) → st ≡ Committed note → Lives rings s j y (Committed note)) (λ note e. absurd (cc))
+        (λ s j y st lives note e. subst (Lives rings s j y) e lives) s j y (Committed note) lives note refl;
     still = λ s j y note. lives_still s j y (Committed note);
     alive = λ s j y st lives. (y, st, lives_still s j y st lives, refl);
-    known = each_live (λ s j y st. ((z : Version) × (su : Status) × Lives rings s j z su × (z.position ≡ y.position)) ⊎ ((rings s).next ≤ y.position)) (inr (let e = next_is in omega arith)) (λ s j y st lives. inl (y, st, lives, refl));
+    known = each_live (λ s j y st. ((z : Version) × (su : Status) × Lives rings s j z su × (z.position ≡ y.position)) ⊎ ((rings s).next ≤ y.position))
+        (inr (let e = next_is in omega arith)) (λ s j y st lives. inl (y, st, lives, refl));
     grows = set_at_all (λ s r. (rings s).next ≤ r.next) rings n ring_now (let e = next_is in omega arith) (λ s ne. le_refl (rings s).next);
   }
 
@@ -106,10 +113,12 @@ module _ {starts : State → Type 0} {allows : List ℕ → State → Writes →
   pub by_set : {A : Type 0} → (HoldsNothing (rings n) → x.first ≡ position → A) → ((set : HeldSet c rings n) → set.first ≡ x.first → A) → A
   by_set none some =
       dite (ℕ_discrete (held_count (rings n)) 0)
-      (λ e. none (none_held (rings n) e) (let next = may.next in let same : held_count v.ring ≡ 0 = ap (λ (u : View). held_count u.ring) (sym is) ∙ e in omega arith))
+      (λ e. none (none_held (rings n) e) (let next = may.next in let same : held_count v.ring ≡ 0 = ap (λ (u : View). held_count u.ring) (sym is)
+      ∙ e in omega arith))
       (λ ne.
       let section = section_is seats v inside k is may.walking.phase in
-      let set = held_set c h (λ s. section_of (seats s).phase) rings n inside k.checked k.positions k.write_sets k.open_section section may.walking.open_is (omega arith) in
+      let set = held_set c h (λ s. section_of (seats s).phase) rings n inside k.checked k.positions k.write_sets k.open_section section
+      may.walking.open_is (omega arith) in
       some set (sym set.first_is ∙ ap (λ (u : View). set_first u.ring) is))
 
   pub first_le : x.first ≤ position
@@ -122,16 +131,36 @@ module _ {starts : State → Type 0} {allows : List ℕ → State → Writes →
   pub first_there : HasFirst later c n x
   first_there =
       by_set
-      (λ none e. record { version = x; status = Held; lives = subst (λ (p : ℕ). Lives later n (index_of c p) x Held) (sym e) lives_new; position_is = sym e; first_is = refl })
+      (λ none e. record {
+        version = x;
+        status = Held;
+        lives = subst (λ (p : ℕ). Lives later n (index_of c p) x Held) (sym e) lives_new;
+        position_is = sym e;
+        first_is = refl;
+      })
       (λ set e.
       let a = set.at set.first (le_refl set.first) set.some in
-      record { version = a.0; status = Held; lives = lives_still n (index_of c x.first) a.0 Held (subst (λ (p : ℕ). Lives rings n (index_of c p) a.0 Held) e a.1); position_is = a.2 ∙ e; first_is = a.3 ∙ e })
+      record {
+        version = a.0;
+        status = Held;
+        lives = lives_still n (index_of c x.first) a.0 Held (subst (λ (p : ℕ). Lives rings n (index_of c p) a.0 Held) e a.1);
+        position_is =
+            a.2 ∙ e;
+        first_is = a.3 ∙ e;
+      })
 
   -- the positions from the first one on are of the set
   pub in_set : (p : ℕ) → x.first ≤ p → p < position + 1 → InHeldSet c later n x.first p (λ st. st ≡ Held)
   in_set p lo hi =
       dite (ℕ_discrete p position)
-      (λ e. record { version = x; status = Held; lives = subst (λ (q : ℕ). Lives later n (index_of c q) x Held) (sym e) lives_new; position_is = sym e; first_is = refl; known = refl })
+      (λ e. record {
+        version = x;
+        status = Held;
+        lives = subst (λ (q : ℕ). Lives later n (index_of c q) x Held) (sym e) lives_new;
+        position_is = sym e;
+        first_is = refl;
+        known = refl;
+      })
       (λ ne.
       by_set
       (λ none e. absurd (omega arith))
@@ -141,14 +170,26 @@ module _ {starts : State → Type 0} {allows : List ℕ → State → Writes →
       record { version = a.0; status = Held; lives = lives_still n (index_of c p) a.0 Held a.1; position_is = a.2; first_is = a.3 ∙ e; known = refl }))
 
   stays_in : (s first p : ℕ) (P : Status → Type 0) → InHeldSet c rings s first p P → InHeldSet c later s first p P
-  stays_in s first p P a = record { version = a.version; status = a.status; lives = lives_still s (index_of c p) a.version a.status a.lives; position_is = a.position_is; first_is = a.first_is; known = a.known }
+  stays_in s first p P a =
+      record {
+        version = a.version;
+        status = a.status;
+        lives = lives_still s (index_of c p) a.version a.status a.lives;
+        position_is = a.position_is;
+        first_is = a.first_is;
+        known = a.known;
+      }
 
   -- what holds of each seat's held versions, where the seat that locked has one set
-  pub each_set : (P : Status → Type 0) → P Held → (s j : ℕ) (y : Version) → Lives later s j y Held → (s ≢ n → Lives rings s j y Held → (p : ℕ) → y.first ≤ p → p < (rings s).next → InHeldSet c rings s y.first p P) → (p : ℕ) → y.first ≤ p → p < (later s).next → InHeldSet c later s y.first p P
+  pub each_set : (P : Status → Type 0) → P Held → (s j : ℕ) (y : Version) → Lives later s j y Held
+      → (s ≢ n → Lives rings s j y Held → (p : ℕ) → y.first ≤ p → p < (rings s).next → InHeldSet c rings s y.first p P) → (p : ℕ) → y.first ≤ p
+      → p < (later s).next → InHeldSet c later s y.first p P
   each_set P held s j y lives other p lo hi =
       dite (ℕ_discrete s n)
       (λ e.
-      let of_set : y.first ≡ x.first = each_live (λ t i z st. t ≡ n → st ≡ Held → z.first ≡ x.first) (λ _ _. refl) (λ t i z st l at f. same_first i z (subst (λ (u : ℕ). Lives rings u i z Held) at (subst (Lives rings t i z) f l))) s j y Held lives e refl in
+      let of_set : y.first ≡ x.first =
+      each_live (λ t i z st. t ≡ n → st ≡ Held → z.first ≡ x.first) (λ _ _. refl)
+      (λ t i z st l at f. same_first i z (subst (λ (u : ℕ). Lives rings u i z Held) at (subst (Lives rings t i z) f l))) s j y Held lives e refl in
       let most : p < position + 1 = subst (λ (u : ℕ). p < u) (ap (λ (t : ℕ). (later t).next) e ∙ next_here) hi in
       let a = in_set p (subst (λ (u : ℕ). u ≤ p) of_set lo) most in
       record {
@@ -168,7 +209,14 @@ module _ {starts : State → Type 0} {allows : List ℕ → State → Writes →
     commit = λ s j y note lives. commit_kept rings later kept c h s y note (k.write_sets.commit s j y note (kept.was s j y note lives));
     once = λ s j l y z note other a d. k.write_sets.once s j l y z note other (kept.was s j y note a) (kept.was s l z other d);
     first = each_live (λ s j y st. HasFirst later c s y) first_there
-        (λ s j y st lives. let a = k.write_sets.first s j y st lives in record { version = a.version; status = a.status; lives = lives_still s _ a.version a.status a.lives; position_is = a.position_is; first_is = a.first_is });
+        (λ s j y st lives. let a = k.write_sets.first s j y st lives in
+        record {
+          version = a.version;
+          status = a.status;
+          lives = lives_still s _ a.version a.status a.lives;
+          position_is = a.position_is;
+          first_is = a.first_is;
+        });
     after_first = each_live (λ s j y st. y.first ≤ y.position) first_le k.write_sets.after_first;
     between = each_live (λ s j y st. (p : ℕ) → y.first ≤ p → p ≤ y.position → InSet c later s y.first p)
         (λ p from to.
@@ -180,7 +228,8 @@ module _ {starts : State → Type 0} {allows : List ℕ → State → Writes →
         (λ _ other same.
         by_set
         (λ none e. let low = below_next l z (Committed note) other in let first = k.write_sets.after_first n l z (Committed note) other in omega arith)
-        (λ set e. let a = set.at set.first (le_refl set.first) set.some in k.write_sets.apart n (index_of c set.first) l a.0 z Held note a.1 tt other (a.3 ∙ e ∙ same)))
+        (λ set e. let a = set.at set.first (le_refl set.first) set.some in
+        k.write_sets.apart n (index_of c set.first) l a.0 z Held note a.1 tt other (a.3 ∙ e ∙ same)))
         (λ s j y st lives fate other. k.write_sets.apart s j l y z st note lives fate other)
         s j y st a fate (kept.was s l z note d);
     held = λ s j y lives. each_set IsHeldOrAborted tt s j y lives (λ ne before. k.write_sets.held s j y before);
@@ -190,13 +239,15 @@ module _ {starts : State → Type 0} {allows : List ℕ → State → Writes →
   pub words_after : SlotWords (λ s j. m (First s j)) (λ s j. m (Prev s j)) (λ s j w. m (Data s j w)) later
   words_after =
       slots_after rings n slot (Live x Held) ring_now written within (λ s j z. HoldsSlot (m (First s j)) (m (Prev s j)) (λ i. m (Data s j i)) z)
-      (let old : HoldsBuild (m (First n slot)) (m (Prev n slot)) (λ i. m (Data n slot i)) b = subst (HoldsSlot (m (First n slot)) (m (Prev n slot)) (λ i. m (Data n slot i))) was_built (k.slot_words n slot) in
+      (let old : HoldsBuild (m (First n slot)) (m (Prev n slot)) (λ i. m (Data n slot i)) b = subst
+      (HoldsSlot (m (First n slot)) (m (Prev n slot)) (λ i. m (Data n slot i))) was_built (k.slot_words n slot) in
       let wide : length x.words ≡ 6 = sym (length-map x.words Some) ∙ ap length (sym may.words) ∙ old.wide in
       record {
         first_is = subst (λ (o : Option ℕ). IsStored o (m (First n slot))) may.first old.first_is;
         prev_is = subst (λ (o : Option ℕ). IsStored o (m (Prev n slot))) may.previous_is old.prev_is;
         wide = wide;
-        words = λ i lt. subst (λ (o : Option ℕ). IsStored o (m (Data n slot i))) (ap (λ (ws : List (Option ℕ)). slice_index_or ws i None) may.words ∙ get_or-map Some x.words i 0 None (omega arith)) (old.words i lt);
+        words = λ i lt. subst (λ (o : Option ℕ). IsStored o (m (Data n slot i)))
+            (ap (λ (ws : List (Option ℕ)). slice_index_or ws i None) may.words ∙ get_or-map Some x.words i 0 None (omega arith)) (old.words i lt);
       })
       (λ s j ne. k.slot_words s j)
 
@@ -204,7 +255,8 @@ module _ {starts : State → Type 0} {allows : List ℕ → State → Writes →
   stamp_new =
       by_set
       (λ none e.
-      let stored : m (Stamp n slot) ≡ unset_of position = subst (λ (o : Option ℕ). IsStored o (m (Stamp n slot))) (may.stamp e) (k.stamps.built n slot b was_built) in
+      let stored : m (Stamp n slot) ≡ unset_of position =
+      subst (λ (o : Option ℕ). IsStored o (m (Stamp n slot))) (may.stamp e) (k.stamps.built n slot b was_built) in
       ap (λ (p : ℕ). m (Stamp n (index_of c p))) e ∙ stored ∙ ap unset_of (sym e))
       (λ set e.
       let a = set.at set.first (le_refl set.first) set.some in
@@ -213,7 +265,8 @@ module _ {starts : State → Type 0} {allows : List ℕ → State → Writes →
   pub stamps_after : Stamps c (m Clock) (λ s j. m (Stamp s j)) later
   stamps_after = record {
     live = each_live (λ s j y st. StampedAs (m Clock) s (index_of c y.first) (m (Stamp s (index_of c y.first))) y.first st) stamp_new k.stamps.live;
-    built = slots_after rings n slot (Live x Held) ring_now written within (λ s j z. (d : Build) → z ≡ Built d → IsStored d.stamp (m (Stamp s j))) (λ d e. absurd (cc)) (λ s j ne. k.stamps.built s j);
+    built = slots_after rings n slot (Live x Held) ring_now written within (λ s j z. (d : Build) → z ≡ Built d → IsStored d.stamp (m (Stamp s j)))
+        (λ d e. absurd (cc)) (λ s j ne. k.stamps.built s j);
   }
 
   -- SUPER of the new version is 0
@@ -244,7 +297,8 @@ module _ {starts : State → Type 0} {allows : List ℕ → State → Writes →
   fits : (p j : ℕ) → index_of c p ≡ j → slot_at (rings n) j ≢ Built b → (rings n).next ≤ p + c.slots → position + 1 ≤ p + c.slots
   fits p j at other le =
       dite (ℕ_discrete position (p + c.slots))
-      (λ e. let same : slot ≡ j = ap (index_of c) e ∙ add-mod_right p c.slots ∙ at in absurd (other (ap (λ (i : ℕ). slot_at (rings n) i) (sym same) ∙ was_built)))
+      (λ e. let same : slot ≡ j = ap (index_of c) e ∙ add-mod_right p c.slots ∙ at in
+      absurd (other (ap (λ (i : ℕ). slot_at (rings n) i) (sym same) ∙ was_built)))
       (λ ne. let next = next_is in omega arith)
 
   abbrev IsIn : ℕ → Ring → ℕ → ℕ → Type 0
@@ -263,7 +317,8 @@ module _ {starts : State → Type 0} {allows : List ℕ → State → Writes →
       (λ a. inr (
         a.0,
         at_else rings n slot (Live x Held) ring_now written within s (index_of c p)
-            (λ at. let there : slot_at (rings n) slot ≡ Freeing p a.0 = subst (λ (q : ℕ × ℕ). slot_at (rings q.0) q.1 ≡ Freeing p a.0) (λ i. (at.0 i, at.1 i)) a.1 in
+            (λ at. let there : slot_at (rings n) slot ≡ Freeing p a.0 = subst (λ (q : ℕ × ℕ). slot_at (rings q.0) q.1 ≡ Freeing p a.0)
+            (λ i. (at.0 i, at.1 i)) a.1 in
             let none : Built b ≡ Freeing p a.0 = sym was_built ∙ there in cc) ∙ a.1,
       ))
 
@@ -272,7 +327,11 @@ module _ {starts : State → Type 0} {allows : List ℕ → State → Writes →
       ⊎_elim
       (λ a. each_live (λ t j y st. j ≡ index_of c p → y.position ≡ p → ((t ≡ n) × (p ≡ position)) ⊎ InUse rings c t p) (λ _ e. inl (refl, sym e))
       (λ t j y st lives at e. inr (inl (y, st, subst (λ (i : ℕ). Lives rings t i y st) at lives, e))) s (index_of c p) a.0 a.1 a.2 refl a.3)
-      (λ a. inr (inr (a.0, slots_after rings n slot (Live x Held) ring_now written within (λ t j z. z ≡ Freeing p a.0 → slot_at (rings t) j ≡ Freeing p a.0) (λ e. absurd (cc)) (λ t j ne e. e) s (index_of c p) a.1)))
+      (λ a. inr (inr (
+        a.0,
+        slots_after rings n slot (Live x Held) ring_now written within (λ t j z. z ≡ Freeing p a.0 → slot_at (rings t) j ≡ Freeing p a.0)
+            (λ e. absurd (cc)) (λ t j ne e. e) s (index_of c p) a.1,
+      )))
 
   use_new : (p : ℕ) → p ≡ position → InUse later c n p
   use_new p e = inl (x, Held, subst (λ (q : ℕ). Lives later n (index_of c q) x Held) (sym e) lives_new, sym e)
@@ -289,7 +348,8 @@ module _ {starts : State → Type 0} {allows : List ℕ → State → Writes →
       (λ new. let at = new.1 in absurd (omega arith))
       (λ old. use_still s q (k.positions.no_gap s p q old le (let next = ap (λ (t : ℕ). (rings t).next) e ∙ next_is in omega arith)))
       (use_was s p used)))
-      (λ ne. ⊎_elim (λ new. absurd (ne new.0)) (λ old. use_still s q (k.positions.no_gap s p q old le (subst (λ (u : ℕ). q < u) (next_else s ne) lt))) (use_was s p used))
+      (λ ne. ⊎_elim (λ new. absurd (ne new.0)) (λ old. use_still s q (k.positions.no_gap s p q old le (subst (λ (u : ℕ). q < u) (next_else s ne) lt)))
+      (use_was s p used))
 
   pub positions_after : Positions c h later
   positions_after = record {
@@ -297,30 +357,39 @@ module _ {starts : State → Type 0} {allows : List ℕ → State → Writes →
     within = each_live (λ s j y st. s < c.seats) own k.positions.within;
     live = each_live (λ s j y st. IsIn y.position (later s) j s)
         (refl, (let e = next_here in omega arith), (let e = next_here in let some = k.checked.slots.0 in omega arith))
-        (λ s j y st lives. in_log s y.position j (λ e other. let there : slot_at (rings n) j ≡ Live y st = subst (λ (t : ℕ). Lives rings t j y st) e lives in let none : Built b ≡ Live y st = sym other ∙ there in cc) (k.positions.live s j y st lives));
+        (λ s j y st lives. in_log s y.position j (λ e other. let there : slot_at (rings n) j ≡ Live y st = subst (λ (t : ℕ). Lives rings t j y st) e lives in
+        let none : Built b ≡ Live y st = sym other ∙ there in cc) (k.positions.live s j y st lives));
     freeing = slots_after rings n slot (Live x Held) ring_now written within (λ s j z. (p first : ℕ) → z ≡ Freeing p first → IsIn p (later s) j s)
         (λ p first e. absurd (cc))
-        (λ s j ne p first there. in_log s p j (λ e other. let at : slot_at (rings n) j ≡ Freeing p first = subst (λ (t : ℕ). slot_at (rings t) j ≡ Freeing p first) e there in let none : Built b ≡ Freeing p first = sym other ∙ at in cc) (k.positions.freeing s j p first there));
-    oldest = slots_after rings n slot (Live x Held) ring_now written within (λ s j z. (p first : ℕ) → z ≡ Freeing p first → (first < p) × ((l : ℕ) (y : Version) (st : Status) → Lives later s l y st → p < y.position))
+        (λ s j ne p first there.
+        in_log s p j (λ e other. let at : slot_at (rings n) j ≡ Freeing p first = subst (λ (t : ℕ). slot_at (rings t) j ≡ Freeing p first) e there in
+        let none : Built b ≡ Freeing p first = sym other ∙ at in cc) (k.positions.freeing s j p first there));
+    oldest = slots_after rings n slot (Live x Held) ring_now written within (λ s j z. (p first : ℕ) → z ≡ Freeing p first
+        → (first < p) × ((l : ℕ) (y : Version) (st : Status) → Lives later s l y st → p < y.position))
         (λ p first e. absurd (cc))
         (λ s j ne p first there.
         let a = k.positions.oldest s j p first there in (
           a.0,
           λ l y st lives.
               each_live (λ t i z su. t ≡ s → p < z.position)
-              (λ e. let below = (k.positions.freeing s j p first there).1 in let next : (rings s).next ≡ position = ap (λ (t : ℕ). (rings t).next) (sym e) ∙ next_is in omega arith)
+              (λ e. let below = (k.positions.freeing s j p first there).1 in let next : (rings s).next ≡ position = ap (λ (t : ℕ). (rings t).next) (sym e)
+              ∙ next_is in omega arith)
               (λ t i z su was e. a.1 i z su (subst (λ (u : ℕ). Lives rings u i z su) e was))
               s l y st lives refl,
         ));
     built = λ s j d at. let r = built_was s j d at in ap (index_of c) (next_else s r.1) ∙ k.positions.built s j d r.0;
     no_gap = gapless;
-    bound = set_at_all (λ s r. r.next ≤ c.slots * (length h + 1)) rings n ring_now (let low = below_rounds c.slots position (length h) (let some = k.checked.slots.0 in omega arith) in_round in omega arith) (λ s ne. k.positions.bound s);
+    bound = set_at_all (λ s r. r.next ≤ c.slots * (length h + 1)) rings n ring_now
+        (let low = below_rounds c.slots position (length h) (let some = k.checked.slots.0 in omega arith) in_round in omega arith)
+        (λ s ne. k.positions.bound s);
   }
 
   pub grace_after : PositionsAndGrace c (λ s. (seats s).grace) later
   grace_after = record {
-    live = each_live (λ s j y st. c.base + y.position / c.slots ≤ (seats s).grace) (subst (λ (p : ℕ). c.base + p / c.slots ≤ (seats n).grace) next_is (k.positions_and_grace.built n slot b was_built)) k.positions_and_grace.live;
-    free = slots_after rings n slot (Live x Held) ring_now written within (λ s j z. j < c.slots → z ≡ Free → c.base + next_in c (later s) j / c.slots ≤ (seats s).grace)
+    live = each_live (λ s j y st. c.base + y.position / c.slots ≤ (seats s).grace)
+        (subst (λ (p : ℕ). c.base + p / c.slots ≤ (seats n).grace) next_is (k.positions_and_grace.built n slot b was_built)) k.positions_and_grace.live;
+    free = slots_after rings n slot (Live x Held) ring_now written within (λ s j z. j < c.slots → z ≡ Free
+        → c.base + next_in c (later s) j / c.slots ≤ (seats s).grace)
         (λ lt e. absurd (cc))
         (λ s j ne lt e.
         let old = k.positions_and_grace.free s j lt e in
@@ -329,12 +398,16 @@ module _ {starts : State → Type 0} {allows : List ℕ → State → Writes →
         let next : (rings s).next ≡ position = ap (λ (t : ℕ). (rings t).next) at ∙ next_is in
         let now : (later s).next ≡ position + 1 = ap (λ (t : ℕ). (later t).next) at ∙ next_here in
         let same : next_in c (later s) j ≡ next_in c (rings s) j =
-        ap (λ (p : ℕ). p + (j + c.slots - p % c.slots) % c.slots) now ∙ next_in-same c.slots position j lt (λ e. ne (at, sym e)) ∙ ap (λ (p : ℕ). p + (j + c.slots - p % c.slots) % c.slots) (sym next) in
+        ap (λ (p : ℕ). p + (j + c.slots - p % c.slots) % c.slots) now ∙ next_in-same c.slots position j lt (λ e. ne (at, sym e))
+        ∙ ap (λ (p : ℕ). p + (j + c.slots - p % c.slots) % c.slots) (sym next) in
         subst (λ (p : ℕ). c.base + p / c.slots ≤ (seats s).grace) (sym same) old)
         (λ other. subst (λ (r : Ring). c.base + next_in c r j / c.slots ≤ (seats s).grace) (sym (set_at_else rings n ring_now s other)) old));
-    built = λ s j d at. let r = built_was s j d at in subst (λ (p : ℕ). c.base + p / c.slots ≤ (seats s).grace) (sym (next_else s r.1)) (k.positions_and_grace.built s j d r.0);
-    freeing = slots_after rings n slot (Live x Held) ring_now written within (λ s j z. (p first : ℕ) → z ≡ Freeing p first → c.base + p / c.slots < (seats s).grace) (λ p first e. absurd (cc)) (λ s j ne. k.positions_and_grace.freeing s j);
+    built = λ s j d at. let r =
+        built_was s j d at in subst (λ (p : ℕ). c.base + p / c.slots ≤ (seats s).grace) (sym (next_else s r.1)) (k.positions_and_grace.built s j d r.0);
+    freeing = slots_after rings n slot (Live x Held) ring_now written within (λ s j z. (p first : ℕ) → z ≡ Freeing p first
+        → c.base + p / c.slots < (seats s).grace) (λ p first e. absurd (cc)) (λ s j ne. k.positions_and_grace.freeing s j);
     commit = λ s j y note lives. k.positions_and_grace.commit s j y note (kept.was s j y note lives);
     dead = λ s j t y note lives. k.positions_and_grace.dead s j t y note (kept.was s j y note lives);
-    aborted = λ s j t y lives. each_live (λ s j y st. st ≡ Aborted (Some t) → c.base + y.position / c.slots < t) (λ e. absurd (cc)) (λ s j y st lives e. k.positions_and_grace.aborted s j t y (subst (Lives rings s j y) e lives)) s j y (Aborted (Some t)) lives refl;
+    aborted = λ s j t y lives. each_live (λ s j y st. st ≡ Aborted (Some t) → c.base + y.position / c.slots < t) (λ e. absurd (cc))
+        (λ s j y st lives e. k.positions_and_grace.aborted s j t y (subst (Lives rings s j y) e lives)) s j y (Aborted (Some t)) lives refl;
   }

@@ -110,7 +110,14 @@ module _ {starts : State → Type 0} {allows : List ℕ → State → Writes →
         let r = ring_else s ne in
         let a = k.open_section.whole s j y i (subst (λ (q : Ring). slot_at q j ≡ Live y Held) r lives)
         (sym (set_at_else section n (Some aborting) s ne) ∙ at) mode p lo (subst (λ (q : Ring). p < q.next) r hi) in
-        record { version = a.version; status = a.status; lives = subst (λ (q : Ring). slot_at q (index_of c p) ≡ Live a.version a.status) (sym r) a.lives; position_is = a.position_is; first_is = a.first_is; known = a.known });
+        record {
+          version = a.version;
+          status = a.status;
+          lives = subst (λ (q : Ring). slot_at q (index_of c p) ≡ Live a.version a.status) (sym r) a.lives;
+          position_is = a.position_is;
+          first_is = a.first_is;
+          known = a.known;
+        });
   }
 
   naming_after : (s j : ℕ) (y : Version) (note : CommitNote) → Lives later s j y (Committed note) → note.cut ≡ false → super s j ≡ 0
@@ -137,7 +144,8 @@ module _ {starts : State → Type 0} {allows : List ℕ → State → Writes →
       let a = same_cut.backs s b at in
       (a.0, set_at_else section n (Some aborting) s apart ∙ a.1, a.2)
 
-  pub unlock_stored : Facts starts allows c start (put m (Head object) previous) h (parts_of (set_at seats v.number (head_unlocked c v object previous slot x inside)))
+  pub unlock_stored : Facts starts allows c start (put m (Head object) previous) h
+      (parts_of (set_at seats v.number (head_unlocked c v object previous slot x inside)))
   unlock_stored =
       let marks = set_at_all (λ s q. MarkedAs (m Clock) (m (Mark s)) q) (λ s. (seats s).phase) n (Inside aborting)
       (subst (MarkedAs (m Clock) (m (Mark n))) (ap (λ (u : View). u.phase) is ∙ may.phase) (k.marks n)) (λ s ne. k.marks s) in

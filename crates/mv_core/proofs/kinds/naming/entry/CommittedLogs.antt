@@ -29,10 +29,24 @@ committed_was t (Freeing p f) x st e = absurd cc
 committed_was t (Live y Held) x st e =
     let one = live_once (Live y (Committed (new_note t y))) y x (Committed (new_note t y)) st refl e in
     (Held, ap (λ z. Live z Held) one.0, inr (refl, sym one.1 ∙ ap (λ z. Committed (new_note t z)) one.0))
-committed_was t (Live y (Aborted d)) x st e =
-    (st, e, inl (refl, λ held. let one = live_once (Live y (Aborted d)) y x (Aborted d) st refl e in let no_held : Aborted d ≡ Held = one.1 ∙ held in absurd cc))
-committed_was t (Live y (Committed n)) x st e =
-    (st, e, inl (refl, λ held. let one = live_once (Live y (Committed n)) y x (Committed n) st refl e in let no_held : Committed n ≡ Held = one.1 ∙ held in absurd cc))
+committed_was t (Live y (Aborted d)) x st e = (
+  st,
+  e,
+  inl (
+    refl,
+    λ held. let one = live_once (Live y (Aborted d)) y x (Aborted d) st refl e in let no_held : Aborted d ≡ Held = one.1
+        ∙ held in absurd cc,
+  ),
+)
+committed_was t (Live y (Committed n)) x st e = (
+  st,
+  e,
+  inl (
+    refl,
+    λ held. let one = live_once (Live y (Committed n)) y x (Committed n) st refl e in let no_held : Committed n ≡ Held = one.1
+        ∙ held in absurd cc,
+  ),
+)
 
 -- a slot with no live version stays as it is
 unlived_same : (t : ℕ) (slot : Slot) → IsUnlived slot → committed_slot t slot ≡ slot
@@ -109,7 +123,11 @@ module _ (rings : ℕ → Ring) (n t : ℕ) where
   was_committed s k x note lives =
       let r = was s k x (Committed note) lives in
       ⊎_elim (λ e. inl (subst (Lives rings s k x) e r.lives))
-      (λ b. inr (b.0, subst (λ u. Lives rings u k x Held) b.0 (subst (Lives rings s k x) b.1 r.lives), let same : Committed note ≡ Committed (new_note t x) = b.2 in cc))
+      (λ b. inr (
+        b.0,
+        subst (λ u. Lives rings u k x Held) b.0 (subst (Lives rings s k x) b.1 r.lives),
+        let same : Committed note ≡ Committed (new_note t x) = b.2 in cc,
+      ))
       r.how
 
   -- what is held or aborted afterwards was so before
@@ -176,7 +194,14 @@ module _ (rings : ℕ → Ring) (n t : ℕ) where
   still_named link x note a = record { seat = a.seat; slot = a.slot; lives = still_committed a.seat a.slot x note a.lives; is = a.is }
 
   pub still_gone : (link : ℕ) → IsGone rings link → IsGone after link
-  still_gone link g = record { seat = g.seat; position = g.position; is = g.is; used = subst (λ p. g.position < p) (sym (next_same g.seat)) g.used; gone = λ k x st lives. let r = was g.seat k x st lives in g.gone k x r.old r.lives }
+  still_gone link g =
+      record {
+        seat = g.seat;
+        position = g.position;
+        is = g.is;
+        used = subst (λ p. g.position < p) (sym (next_same g.seat)) g.used;
+        gone = λ k x st lives. let r = was g.seat k x st lives in g.gone k x r.old r.lives;
+      }
 
   pub still_version : (o u link : ℕ) (x : Version) (note : CommitNote) → IsVersion rings o u link x note → IsVersion after o u link x note
   still_version o u link x note v = record { names = still_named link x note v.names; object_is = v.object_is; time_is = v.time_is }
@@ -185,7 +210,11 @@ module _ (rings : ℕ → Ring) (n t : ℕ) where
   pub was_version : (o u link : ℕ) (x : Version) (note : CommitNote) → u ≢ t → IsVersion after o u link x note → IsVersion rings o u link x note
   was_version o u link x note ne v =
       ⊎_elim
-      (λ old. record { names = record { seat = v.names.seat; slot = v.names.slot; lives = old; is = v.names.is }; object_is = v.object_is; time_is = v.time_is })
+      (λ old. record {
+        names = record { seat = v.names.seat; slot = v.names.slot; lives = old; is = v.names.is };
+        object_is = v.object_is;
+        time_is = v.time_is;
+      })
       (λ new. absurd (ne (sym v.time_is ∙ ap (λ (d : CommitNote). d.time) new.2)))
       (was_committed v.names.seat v.names.slot x note v.names.lives)
 

@@ -13,7 +13,8 @@ use Rattle.mv_core.proofs.kinds.naming.entry.CommittedLogs as logs
 use Rattle.mv_core.proofs.kinds.naming.entry.CommittedLogs.{new_note}
 use Rattle.mv_core.proofs.kinds.naming.entry.NewEntry.{Makes, bool_is, old_time, other_latest}
 
-module _ {starts : State → Type 0} {allows : List ℕ → State → Writes → Type 0} {c : Config} {start : State} {m : Memory} {h : List Entry} {f : ViewParts} (k : Facts starts allows c start m h f) (n : ℕ) (e : Entry) (makes : Makes f.ring n e) where
+module _ {starts : State → Type 0} {allows : List ℕ → State → Writes → Type 0} {c : Config} {start : State} {m : Memory} {h : List Entry} {f : ViewParts}
+    (k : Facts starts allows c start m h f) (n : ℕ) (e : Entry) (makes : Makes f.ring n e) where
   abbrev t : ℕ
   t = new_time c.base h e
 
@@ -28,11 +29,14 @@ module _ {starts : State → Type 0} {allows : List ℕ → State → Writes →
 
   -- the version of the new write is at hand, and isn't cut
   new_version : (j : ℕ) (x : Version) → Lives f.ring n j x Held → IsVersion rings x.object t (link_of n x.position) x (new_note t x)
-  new_version j x lives = record { names = record { seat = n; slot = j; lives = logs.now_committed f.ring n t j x lives; is = refl }; object_is = refl; time_is = refl }
+  new_version j x lives =
+      record { names = record { seat = n; slot = j; lives = logs.now_committed f.ring n t j x lives; is = refl }; object_is = refl; time_is = refl }
 
   new_uncut : (j o : ℕ) (x : Version) → Lives f.ring n j x Held → x.object ≡ o → ¬ (NoneUncut rings o t)
   new_uncut j o x lives is none =
-      let cut : false ≡ true = none (link_of n x.position) x (new_note t x) (subst (λ (p : ℕ). IsVersion rings p t (link_of n x.position) x (new_note t x)) is (new_version j x lives)) in cc
+      let cut : false ≡ true =
+      none (link_of n x.position) x (new_note t x)
+      (subst (λ (p : ℕ). IsVersion rings p t (link_of n x.position) x (new_note t x)) is (new_version j x lives)) in cc
 
   not_new : (o : ℕ) → latest c.base h o ≢ t
   not_new o is = let le = latest-le c.base h o in omega arith
@@ -59,7 +63,8 @@ module _ {starts : State → Type 0} {allows : List ℕ → State → Writes →
         (λ at.
         let written : writes_to o e ≡ true = ap (λ p. writes_to p e) (sym is) ∙ makes.written j x (subst (λ (u : ℕ). Lives f.ring u j x Held) at lives) in cc)
         (λ ne. none s j x (logs.still_held f.ring n t s j x ne lives) is) in
-        subst (λ (u : ℕ). IsTop rings o u (m (Head o))) (sym (latest-unwritten c.base h e o no_write)) (logs.still_top f.ring n t o (latest c.base h o) (m (Head o)) (not_new o) (k.head_is_top.top o none_before)))
+        subst (λ (u : ℕ). IsTop rings o u (m (Head o))) (sym (latest-unwritten c.base h e o no_write))
+        (logs.still_top f.ring n t o (latest c.base h o) (m (Head o)) (not_new o) (k.head_is_top.top o none_before)))
         (bool_is (writes_to o e));
   }
 
@@ -74,18 +79,21 @@ module _ {starts : State → Type 0} {allows : List ℕ → State → Writes →
   old_links x u ne links = record {
     uncut = λ link y note v. links.uncut link y note (logs.was_version f.ring n t x.object u link y note ne v);
     cut = λ link y note v. links.cut link y note (logs.was_version f.ring n t x.object u link y note ne v);
-    none = λ none. ⊎_elim inl (λ gone. inr (logs.still_gone f.ring n t x.previous gone)) (links.none (λ link y note v. none link y note (logs.still_version f.ring n t x.object u link y note v)));
+    none = λ none. ⊎_elim inl (λ gone. inr (logs.still_gone f.ring n t x.previous gone))
+        (links.none (λ link y note v. none link y note (logs.still_version f.ring n t x.object u link y note v)));
   }
 
   -- what a new commit links to is its object's top before
   new_links : (x : Version) → IsTop f.ring x.object (latest c.base h x.object) x.previous → LinksBelow rings x (latest c.base h x.object)
   new_links x top =
       let u : ℕ = latest c.base h x.object in
-      let back : (link : ℕ) (y : Version) (note : CommitNote) → IsVersion rings x.object u link y note → IsVersion f.ring x.object u link y note = λ link y note v. logs.was_version f.ring n t x.object u link y note (not_new x.object) v in
+      let back : (link : ℕ) (y : Version) (note : CommitNote) → IsVersion rings x.object u link y note
+      → IsVersion f.ring x.object u link y note = λ link y note v. logs.was_version f.ring n t x.object u link y note (not_new x.object) v in
       ⊎_elim
       (λ a.
       let once : (link : ℕ) (y : Version) (note : CommitNote) → IsVersion rings x.object u link y note → (x.previous ≡ link) × (a.0 ≡ y) × (a.1 ≡ note) =
-      λ link y note v. version_once c start h f.ring k.checked k.history.in_time k.history.legal k.positions k.write_sets x.object u x.previous link a.0 y a.1 note a.2 (back link y note v) in
+      λ link y note v. version_once c start h f.ring k.checked k.history.in_time k.history.legal k.positions k.write_sets x.object u x.previous link a.0 y a.1
+      note a.2 (back link y note v) in
       record {
         uncut = λ link y note v uncut. (once link y note v).0;
         cut = λ link y note v cut. let other : false ≡ true = sym a.3 ∙ ap (λ (d : CommitNote). d.cut) (once link y note v).2 ∙ cut in absurd cc;
@@ -112,7 +120,8 @@ module _ {starts : State → Type 0} {allows : List ℕ → State → Writes →
       let time_is : note.time ≡ t = ap (λ (d : CommitNote). d.time) new.2 in
       let before : note.time - 1 ≡ c.base + length h = omega arith in
       let last : latest_at c.base later x.object (note.time - 1) ≡ latest c.base h x.object =
-      ap (latest_at c.base later x.object) before ∙ latest_at-longer c.base h e x.object (c.base + length h) (omega arith) ∙ latest_at-end c.base h x.object (c.base + length h) (omega arith) in
+      ap (latest_at c.base later x.object) before ∙ latest_at-longer c.base h e x.object (c.base + length h) (omega arith)
+      ∙ latest_at-end c.base h x.object (c.base + length h) (omega arith) in
       subst (LinksBelow rings x) (sym last) (new_links x (k.held_link n j x new.1)))
       (logs.was_committed f.ring n t s j x note lives)
 
@@ -134,13 +143,15 @@ module _ {starts : State → Type 0} {allows : List ℕ → State → Writes →
       let le = latest-le c.base h o in
       let end = latest_at-end c.base later o (c.base + length later) (omega arith) in
       let words : words_of c start later (c.base + length later) o ≡ words_of c start h (c.base + length h) o =
-      words_of-same c start later (c.base + length h) (c.base + length later) o (omega arith) (omega arith) ∙ words_of-longer c start h e (c.base + length h) o (omega arith) in
+      words_of-same c start later (c.base + length h) (c.base + length later) o (omega arith) (omega arith)
+      ∙ words_of-longer c start h e (c.base + length h) o (omega arith) in
       (subst (AreThe (master o)) (sym words) p.0, subst (λ (u : ℕ). NotAboveAny u f.time) (sym last) p.1))
       (bool_is (writes_to o e))
 
   -- a link that names nothing afterwards named nothing before
   named_nothing : (link : ℕ) → ((y : Version) (st : Status) → ¬ (Names rings link y st)) → (y : Version) (st : Status) → ¬ (Names f.ring link y st)
-  named_nothing link none y st a = let r = logs.still_lives f.ring n t a.seat a.slot y st a.lives in none y r.0 (record { seat = a.seat; slot = a.slot; lives = r.1; is = a.is })
+  named_nothing link none y st a =
+      let r = logs.still_lives f.ring n t a.seat a.slot y st a.lives in none y r.0 (record { seat = a.seat; slot = a.slot; lives = r.1; is = a.is })
 
   pub feet_after : ChainFoot c start later master f.time rings
   feet_after s j x note lives none =

@@ -1,4 +1,5 @@
--- The history gets one more entry of a seat, which writes exactly what the seat holds, and all that it holds is committed at the entry's time. What the exchanges of CLOCK for a commit and for a rest, at which nothing is held, have in common.
+-- The history gets one more entry of a seat, which writes exactly what the seat holds, and all that it holds is committed at the
+-- entry's time. What the exchanges of CLOCK for a commit and for a rest, at which nothing is held, have in common.
 use Rattle.std.proofs.Common.{◌≡◌, ◌≢◌, ◌⊎◌, ℕ, ◌+◌, ◌-◌, ◌≤◌, Bool, true, false, List, [], ◌∷◌, ◌++◌, length, refl, sym, ap, ◌∙◌, subst, inl, inr, ⊎_elim}
 use Rattle.mv_core.proofs.Terms.{Entry, State, Writes, maker_of, Config, Head, Memory, Ring, Version, Status, Held, Aborted, Committed, CommitNote}
 use Rattle.mv_core.proofs.Terms.{Lives, Names, writes_to, latest, latest_at, ViewParts}
@@ -20,7 +21,8 @@ pub bool_is : (b : Bool) → (b ≡ true) ⊎ (b ≡ false)
 bool_is true = inl refl
 bool_is false = inr refl
 
-module _ {starts : State → Type 0} {allows : List ℕ → State → Writes → Type 0} {c : Config} {start : State} {m : Memory} {h : List Entry} {f : ViewParts} (k : Facts starts allows c start m h f) (n : ℕ) (e : Entry) where
+module _ {starts : State → Type 0} {allows : List ℕ → State → Writes → Type 0} {c : Config} {start : State} {m : Memory} {h : List Entry} {f : ViewParts}
+    (k : Facts starts allows c start m h f) (n : ℕ) (e : Entry) where
   -- the history afterwards, and the logs
   abbrev pub later : List Entry
   later = h ++ e ∷ []
@@ -33,7 +35,8 @@ module _ {starts : State → Type 0} {allows : List ℕ → State → Writes →
   old_time s j x note lives = (commit_within c h f.ring k.write_sets s j x note lives).1
 
   -- a link names one version with one status
-  abbrev pub one_named : (link : ℕ) (x y : Version) (st su : Status) → (a : Names f.ring link x st) → (b : Names f.ring link y su) → (a.seat ≡ b.seat) × (a.slot ≡ b.slot) × (x ≡ y) × (st ≡ su)
+  abbrev pub one_named : (link : ℕ) (x y : Version) (st su : Status) → (a : Names f.ring link x st) → (b : Names f.ring link y su)
+      → (a.seat ≡ b.seat) × (a.slot ≡ b.slot) × (x ≡ y) × (st ≡ su)
   one_named = names_once c h f.ring k.checked k.history.in_time k.positions
 
   not_held : (link : ℕ) (x y : Version) (note : CommitNote) → Names f.ring link x (Committed note) → ¬ (Names f.ring link y Held)
@@ -76,7 +79,9 @@ module _ {starts : State → Type 0} {allows : List ℕ → State → Writes →
         (λ w.
         let a = makes.only x.object w in
         let same = sym (k.head_is_top.held s j x lives) ∙ ap (λ o. m (Head o)) (sym a.3) ∙ k.head_is_top.held n a.0 a.1 a.2 in
-        let one = link_once c h f.ring k.checked k.history.in_time k.positions s n x.position a.1.position (position_small c h f.ring k.checked k.history.in_time k.positions s j x Held lives) (position_small c h f.ring k.checked k.history.in_time k.positions n a.0 a.1 Held a.2) same in
+        let one = link_once c h f.ring k.checked k.history.in_time k.positions s n x.position a.1.position
+        (position_small c h f.ring k.checked k.history.in_time k.positions s j x Held lives)
+        (position_small c h f.ring k.checked k.history.in_time k.positions n a.0 a.1 Held a.2) same in
         absurd (ne one.0))
         (λ no_write. no_write)
         (bool_is (writes_to x.object e))

@@ -34,7 +34,8 @@ module _ {starts : State → Type 0} {allows : List ℕ → State → Writes →
     later : clock_time_of (m Clock) ≤ clock_time_of clock
     later = let lt = turned.rises k n e makes clock sections turns in omega arith
 
-    pub facts_after : Facts starts allows c start (put m Clock clock) (h ++ e ∷ []) (record f { past = past; phase = phase; section = sections; ring = logs.after f.ring n (new_time c.base h e) })
+    pub facts_after : Facts starts allows c start (put m Clock clock) (h ++ e ∷ [])
+        (record f { past = past; phase = phase; section = sections; ring = logs.after f.ring n (new_time c.base h e) })
     facts_after =
         let stamps = sets.stamps_after k n e clock (λ s j x note lives. all_stamped s j x note n helped lives) clock_is in
         let positions = sets.positions_after k n e in

@@ -1,5 +1,6 @@
 -- One more entry of a seat, which has seen it: what is said of the history.
-use Rattle.std.proofs.Common.{◌≡◌, ◌≢◌, ℕ, ◌+◌, ◌<◌, ◌≤◌, if◌then◌else◌, List, [], ◌∷◌, ◌++◌, length, refl, sym, ap, ◌∙◌, subst, inr, arith, ne_eqb, append_assoc, append-nil, length-append, Some}
+use Rattle.std.proofs.Common.{◌≡◌, ◌≢◌, ℕ, ◌+◌, ◌<◌, ◌≤◌, if◌then◌else◌, List, [], ◌∷◌, ◌++◌, length}
+use Rattle.std.proofs.Common.{refl, sym, ap, ◌∙◌, subst, inr, arith, ne_eqb, append_assoc, append-nil, length-append, Some}
 use Rattle.std.specs.Prelude.{slice_get}
 use Rattle.std.proofs.lemmas.List.Elements.{All-push}
 use Rattle.mv_core.proofs.Terms.{Entry, Rest, Change, State, Writes, maker_of, commits_of, rests_of, Config, clock_time_of, Past, set_at}
@@ -27,7 +28,8 @@ last_same xs ys x y same =
     let one : Some x ≡ Some y = sym (slice_get_at xs x (length xs) refl) ∙ ap (λ l. slice_get l (length xs)) same ∙ slice_get_at ys y (length xs) width in
     cc
 
-module _ (starts : State → Type 0) (allows : List ℕ → State → Writes → Type 0) (c : Config) (start : State) (clock later_clock : ℕ) (h : List Entry) (past : ℕ → Past) (k : History starts allows c start clock h past) (n : ℕ) (e : Entry) (made : maker_of e ≡ n) where
+module _ (starts : State → Type 0) (allows : List ℕ → State → Writes → Type 0) (c : Config) (start : State) (clock later_clock : ℕ) (h : List Entry)
+    (past : ℕ → Past) (k : History starts allows c start clock h past) (n : ℕ) (e : Entry) (made : maker_of e ≡ n) where
   abbrev later : List Entry
   later = h ++ e ∷ []
 
@@ -46,7 +48,8 @@ module _ (starts : State → Type 0) (allows : List ℕ → State → Writes →
       }
 
   -- the seat that made it knows all of it
-  pub history_after : (p : Past) → n < c.seats → c.base + length h < 35184372088831 → clock_time_of later_clock ≡ c.base + length h + 1 → NamedBy c later_clock e → IsLegal (length start) later → IsAllowed allows start later → p.seen ≡ later → KnowsPast later n p
+  pub history_after : (p : Past) → n < c.seats → c.base + length h < 35184372088831 → clock_time_of later_clock ≡ c.base + length h + 1
+      → NamedBy c later_clock e → IsLegal (length start) later → IsAllowed allows start later → p.seen ≡ later → KnowsPast later n p
       → History starts allows c start later_clock later (set_at past n p)
   history_after p within room time named legal allowed whole knows =
       let long = length-append h (e ∷ []) in
@@ -69,5 +72,6 @@ module _ (starts : State → Type 0) (allows : List ℕ → State → Writes →
   pub seen_more : (p : Past) → p.seen ≡ later → (s : ℕ) → length (past s).seen ≤ length (set_at past n p s).seen
   seen_more p whole =
       set_at_all (λ s q. length (past s).seen ≤ length q.seen) past n p
-      (let front = (k.seats n).seen in let long : length h ≡ length (past n).seen + length front.0 = ap length front.1 ∙ length-append (past n).seen front.0 in let more = ap length whole in let one = length-append h (e ∷ []) in omega arith)
+      (let front = (k.seats n).seen in let long : length h ≡ length (past n).seen + length front.0 = ap length front.1
+      ∙ length-append (past n).seen front.0 in let more = ap length whole in let one = length-append h (e ∷ []) in omega arith)
       (λ s ne. omega arith)

@@ -149,7 +149,16 @@ module _ {starts : State → Type 0} {allows : List ℕ → State → Writes →
 
     still_naming : (time : ℕ) → IsNaming f.section time (λ _. Unit {0}) → IsNaming sections time (λ _. Unit {0})
     still_naming time by =
-        record { seat = by.seat; inside = by.inside; naming = by.naming; in_section = turns.others by.seat (naming_else by.seat by.inside by.naming by.in_section by.mode) ∙ by.in_section; mode = by.mode; time_is = by.time_is; known = tt }
+        record {
+          seat = by.seat;
+          inside = by.inside;
+          naming = by.naming;
+          in_section = turns.others by.seat (naming_else by.seat by.inside by.naming by.in_section by.mode) ∙ by.in_section;
+          mode = by.mode;
+          time_is =
+              by.time_is;
+          known = tt;
+        }
 
     now_naming : (o : ℕ) → writes_to o e ≡ true → IsNaming sections t (λ _. Unit {0})
     now_naming o w = let a = makes.only o w in let b =
@@ -237,7 +246,14 @@ module _ {starts : State → Type 0} {allows : List ℕ → State → Writes →
       whole = λ s j x i lives is mode p lo hi.
           let w = logs.was_held f.ring n t s j x lives in
           let r = k.open_section.whole s j x i w.1 (sym (turns.others s w.0) ∙ is) mode p lo (subst (λ (u : ℕ). p < u) (logs.next_same f.ring n t s) hi) in
-          record { version = r.version; status = Held; lives = logs.still_held f.ring n t s (index_of c p) r.version w.0 (subst (λ st. Lives f.ring s (index_of c p) r.version st) r.known r.lives); position_is = r.position_is; first_is = r.first_is; known = refl };
+          record {
+            version = r.version;
+            status = Held;
+            lives = logs.still_held f.ring n t s (index_of c p) r.version w.0 (subst (λ st. Lives f.ring s (index_of c p) r.version st) r.known r.lives);
+            position_is = r.position_is;
+            first_is = r.first_is;
+            known = refl;
+          };
     }
 
     -- what lies below a new commit is its object's last write before, which has no successor and no death yet
@@ -295,8 +311,11 @@ module _ {starts : State → Type 0} {allows : List ℕ → State → Writes →
         (λ ne.
         ⊎_elim
         (λ old.
-        let r = k.successor_flag s j i d x note (sym (turns.others s ne) ∙ is) mode old time in
-        (r.0, λ y other below. r.1 y other (record { seat = below.seat; slot = below.slot; lives = was_below s j x y (Committed note) other old below; is = below.is })))
+        let r = k.successor_flag s j i d x note (sym (turns.others s ne) ∙ is) mode old time in (
+          r.0,
+          λ y other below.
+              r.1 y other (record { seat = below.seat; slot = below.slot; lives = was_below s j x y (Committed note) other old below; is = below.is }),
+        ))
         (λ new. absurd (ne new.0))
         (logs.was_committed f.ring n t s j x note lives))
 
@@ -327,7 +346,11 @@ module _ {starts : State → Type 0} {allows : List ℕ → State → Writes →
             link_of n a.1.position,
             a.1,
             new_note t a.1,
-            record { names = record { seat = n; slot = a.0; lives = logs.now_committed f.ring n t a.0 a.1 a.2; is = refl }; object_is = a.3; time_is = sym new.0 },
+            record {
+              names = record { seat = n; slot = a.0; lives = logs.now_committed f.ring n t a.0 a.1 a.2; is = refl };
+              object_is = a.3;
+              time_is = sym new.0;
+            },
           ))
           (entry-was c.base h e u x at);
       named = turns.names;

@@ -132,9 +132,23 @@ module _ {starts : State → Type 0} {allows : List ℕ → State → Writes →
         where
           go : (st : Status) → Lives f.ring s (index_of c p) r.version st → IsHeldOrAborted st → InHeldSet c rings s first p IsHeldOrAborted
           go Held lives fate =
-              record { version = r.version; status = Held; lives = logs.still_held f.ring n t s (index_of c p) r.version ne lives; position_is = r.position_is; first_is = r.first_is; known = tt }
+              record {
+                version = r.version;
+                status = Held;
+                lives = logs.still_held f.ring n t s (index_of c p) r.version ne lives;
+                position_is = r.position_is;
+                first_is = r.first_is;
+                known = tt;
+              }
           go (Aborted dead) lives fate =
-              record { version = r.version; status = Aborted dead; lives = logs.still_aborted f.ring n t s (index_of c p) r.version dead lives; position_is = r.position_is; first_is = r.first_is; known = tt }
+              record {
+                version = r.version;
+                status = Aborted dead;
+                lives = logs.still_aborted f.ring n t s (index_of c p) r.version dead lives;
+                position_is = r.position_is;
+                first_is = r.first_is;
+                known = tt;
+              }
           go (Committed note) lives fate = absurd fate
 
   place : PlaceFacts c h f rings

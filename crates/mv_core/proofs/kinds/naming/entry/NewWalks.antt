@@ -1,5 +1,6 @@
 -- One more entry, of what its seat holds: the walks of all sections. No section's time is the new one, so what was right for a walk still is.
-use Rattle.std.proofs.Common.{◌≡◌, ◌≢◌, ◌⊎◌, ℕ, ◌+◌, ◌≤◌, List, [], ◌∷◌, ◌++◌, length, refl, sym, ap, ◌∙◌, subst, inl, inr, ⊎_elim, arith, length-append, Option, Some, None}
+use Rattle.std.proofs.Common.{◌≡◌, ◌≢◌, ◌⊎◌, ℕ, ◌+◌, ◌≤◌, List, [], ◌∷◌, ◌++◌, length, refl, sym, ap}
+use Rattle.std.proofs.Common.{◌∙◌, subst, inl, inr, ⊎_elim, arith, length-append, Option, Some, None}
 use Rattle.mv_core.proofs.Terms.{Entry, State, Writes, Config, Master, Stamp, Memory, Ring, Version, Status, Held, Aborted, Committed, CommitNote}
 use Rattle.mv_core.proofs.Terms.{Section, Walk, Lives, Names, NoneUncut, latest_at, AreThe, ViewParts}
 use Rattle.mv_core.specs.declared.view.Walk.TheVariants as walk
@@ -11,7 +12,8 @@ use Rattle.mv_core.proofs.kinds.naming.entry.CommittedLogs as logs
 use Rattle.mv_core.proofs.kinds.naming.entry.CommittedLogs.{new_note}
 use Rattle.mv_core.proofs.kinds.naming.entry.NewEntry.{link_not_held}
 
-module _ {starts : State → Type 0} {allows : List ℕ → State → Writes → Type 0} {c : Config} {start : State} {m : Memory} {h : List Entry} {f : ViewParts} (k : Facts starts allows c start m h f) (n : ℕ) (e : Entry) where
+module _ {starts : State → Type 0} {allows : List ℕ → State → Writes → Type 0} {c : Config} {start : State} {m : Memory} {h : List Entry} {f : ViewParts}
+    (k : Facts starts allows c start m h f) (n : ℕ) (e : Entry) where
   abbrev t : ℕ
   t = new_time c.base h e
 
@@ -29,10 +31,13 @@ module _ {starts : State → Type 0} {allows : List ℕ → State → Writes →
 
   -- no section's time is the new one
   pub section_old : (s u : ℕ) → f.time s ≡ Some u → u ≤ c.base + length h
-  section_old s u at = let seen = k.phases_and_scan.seen s u at in let front = (k.history.seats s).seen in let long : length h ≡ length (f.past s).seen + length front.0 = ap length front.1 ∙ length-append (f.past s).seen front.0 in omega arith
+  section_old s u at =
+      let seen = k.phases_and_scan.seen s u at in let front = (k.history.seats s).seen in let long : length h ≡ length (f.past s).seen + length front.0 =
+      ap length front.1 ∙ length-append (f.past s).seen front.0 in omega arith
 
   -- the version that a link names was named before
-  pub was_named : (link : ℕ) (x : Version) (st : Status) → (a : Names rings link x st) → (old : Status) × (b : Names f.ring link x old) × (b.seat ≡ a.seat) × ((old ≡ st) ⊎ ((a.seat ≡ n) × (old ≡ Held) × (st ≡ Committed (new_note t x))))
+  pub was_named : (link : ℕ) (x : Version) (st : Status) → (a : Names rings link x st)
+      → (old : Status) × (b : Names f.ring link x old) × (b.seat ≡ a.seat) × ((old ≡ st) ⊎ ((a.seat ≡ n) × (old ≡ Held) × (st ≡ Committed (new_note t x))))
   was_named link x st a =
       let r = logs.was f.ring n t a.seat a.slot x st a.lives in
       (r.old, record { seat = a.seat; slot = a.slot; lives = r.lives; is = a.is }, refl, r.how)
@@ -50,12 +55,14 @@ module _ {starts : State → Type 0} {allows : List ℕ → State → Writes →
   right_for u x note le = ⊎_elim inl (λ is. inr (is ∙ sym (latest_at-longer c.base h e x.object u le)))
 
   -- where a walk may stand it may stand afterwards
-  may_stand : (u link : ℕ) (x : Version) (st : Status) → u ≤ c.base + length h → Names f.ring link x st → MayStandAt c start h master f.ring u x st → (new : Status) × Names rings link x new × MayStandAt c start later master rings u x new
+  may_stand : (u link : ℕ) (x : Version) (st : Status) → u ≤ c.base + length h → Names f.ring link x st → MayStandAt c start h master f.ring u x st
+      → (new : Status) × Names rings link x new × MayStandAt c start later master rings u x new
   may_stand u link x (Committed note) le a may = (Committed note, logs.still_named f.ring n t link x note a, right_for u x note le may)
   may_stand u link x (Aborted dead) le a may = (
     Aborted dead,
     record { seat = a.seat; slot = a.slot; lives = logs.still_aborted f.ring n t a.seat a.slot x dead a.lives; is = a.is },
-    ⊎_elim (λ g. inl (g.0, master_serves u x.object le g.1)) (λ b. inr (b.0, b.1, logs.still_named f.ring n t x.previous b.0 b.1 b.2, b.3, right_for u b.0 b.1 le b.4)) may,
+    ⊎_elim (λ g. inl (g.0, master_serves u x.object le g.1))
+        (λ b. inr (b.0, b.1, logs.still_named f.ring n t x.previous b.0 b.1 b.2, b.3, right_for u b.0 b.1 le b.4)) may,
   )
   may_stand u link x Held le a may =
       ⊎_elim
@@ -72,26 +79,33 @@ module _ {starts : State → Type 0} {allows : List ℕ → State → Writes →
   places_after s u at = stands u (f.walk s) (section_old s u at) (k.walker_place s u at)
 
   -- a new commit has no death noted
-  before_death : (u : ℕ) (x : Version) (old st : Status) (seat : ℕ) → IsBeforeDeath u old → (old ≡ st) ⊎ ((seat ≡ n) × (old ≡ Held) × (st ≡ Committed (new_note t x))) → IsBeforeDeath u st
+  before_death : (u : ℕ) (x : Version) (old st : Status) (seat : ℕ) → IsBeforeDeath u old
+      → (old ≡ st) ⊎ ((seat ≡ n) × (old ≡ Held) × (st ≡ Committed (new_note t x))) → IsBeforeDeath u st
   before_death u x old st seat before =
       ⊎_elim (λ same. subst (IsBeforeDeath u) same before)
-      (λ new. subst (IsBeforeDeath u) (sym new.2) (let none : IsBeforeDeath u (Committed (new_note t x)) = λ dead is. let some : None ≡ Some dead = is in absurd cc in none))
+      (λ new. subst (IsBeforeDeath u) (sym new.2)
+      (let none : IsBeforeDeath u (Committed (new_note t x)) = λ dead is. let some : None ≡ Some dead = is in absurd cc in none))
 
   pub deaths_after : WalkerBeforeDeath f.time f.walk rings
   deaths_after = record {
-    here = λ s u stand x st at stands a. let b = was_named stand.link x st a in before_death u x b.0 st a.seat (k.walker_before_death.here s u stand x b.0 at stands b.1) b.3;
+    here = λ s u stand x st at stands a. let b =
+        was_named stand.link x st a in before_death u x b.0 st a.seat (k.walker_before_death.here s u stand x b.0 at stands b.1) b.3;
     below = λ s u stand x y dead st at stands a below.
         let b = was_named x.previous y st below in
-        let aborted : Names f.ring stand.link x (Aborted dead) = record { seat = a.seat; slot = a.slot; lives = logs.was_aborted f.ring n t a.seat a.slot x dead a.lives; is = a.is } in
+        let aborted : Names f.ring stand.link x (Aborted dead) =
+        record { seat = a.seat; slot = a.slot; lives = logs.was_aborted f.ring n t a.seat a.slot x dead a.lives; is = a.is } in
         before_death u y b.0 st below.seat (k.walker_before_death.below s u stand x y dead b.0 at stands aborted b.1) b.3;
   }
 
   -- a commit that a link names was one before, or is new
-  pub was_commit : (link : ℕ) (x : Version) (note : CommitNote) → (a : Names rings link x (Committed note)) → Names f.ring link x (Committed note) ⊎ ((a.seat ≡ n) × (note ≡ new_note t x))
+  pub was_commit : (link : ℕ) (x : Version) (note : CommitNote) → (a : Names rings link x (Committed note))
+      → Names f.ring link x (Committed note) ⊎ ((a.seat ≡ n) × (note ≡ new_note t x))
   was_commit link x note a =
-      ⊎_elim (λ old. inl (record { seat = a.seat; slot = a.slot; lives = old; is = a.is })) (λ new. inr (new.0, new.2)) (logs.was_committed f.ring n t a.seat a.slot x note a.lives)
+      ⊎_elim (λ old. inl (record { seat = a.seat; slot = a.slot; lives = old; is = a.is })) (λ new. inr (new.0, new.2))
+      (logs.was_committed f.ring n t a.seat a.slot x note a.lives)
 
-  module _ (section : ℕ → Option Section) (helped : (s : ℕ) (inside : Section) → section s ≡ Some inside → f.walk s ≢ walk.Nowhere → IsPastHelp (f.clocks s) inside) where
+  module _ (section : ℕ → Option Section) (helped : (s : ℕ) (inside : Section) → section s ≡ Some inside → f.walk s ≢ walk.Nowhere
+      → IsPastHelp (f.clocks s) inside) where
     pub knowledge_after : WalkerKnowledge section f.time f.clocks f.walk rings
     knowledge_after = record {
       helped = helped;
@@ -134,6 +148,14 @@ module _ {starts : State → Type 0} {allows : List ℕ → State → Writes →
       let before = logs.was_uncommitted f.ring n t s j x st lives (λ d is. subst IsHeldOrAborted is fate) in
       let r = logs.was f.ring n t below.seat below.slot y (Committed note) below.lives in
       ⊎_elim
-      (λ same. k.below_is_stamped s j x st before fate y note (record { seat = below.seat; slot = below.slot; lives = subst (λ (d : Status). Lives f.ring below.seat below.slot y d) same r.lives; is = below.is }))
-      (λ new. absurd (link_not_held k n e s j x y st before (record { seat = below.seat; slot = below.slot; lives = subst (λ (d : Status). Lives f.ring below.seat below.slot y d) new.1 r.lives; is = below.is })))
+      (λ same. k.below_is_stamped s j x st before fate y note
+      (record { seat = below.seat; slot = below.slot; lives = subst (λ (d : Status). Lives f.ring below.seat below.slot y d) same r.lives; is = below.is }))
+      (λ new. absurd
+      (link_not_held k n e s j x y st before
+      (record {
+        seat = below.seat;
+        slot = below.slot;
+        lives = subst (λ (d : Status). Lives f.ring below.seat below.slot y d) new.1 r.lives;
+        is = below.is;
+      })))
       r.how

@@ -1,5 +1,6 @@
 -- compare_exchange CLOCK (commit): won, the history gets the commit of what the section holds, whose versions are committed; lost, the word found is loaded.
-use Rattle.std.proofs.Common.{◌≡◌, ℕ, ◌+◌, ◌-◌, ◌%◌, ◌<◌, ◌≤◌, true, false, List, if◌then◌else◌, [], ◌∷◌, ◌++◌, length, take, refl, sym, ap, ◌∙◌, subst, ⊎_elim, arith, eq-eqb, append-nil, Option, Some, None}
+use Rattle.std.proofs.Common.{◌≡◌, ℕ, ◌+◌, ◌-◌, ◌%◌, ◌<◌, ◌≤◌, true, false, List, if◌then◌else◌, [], ◌∷◌}
+use Rattle.std.proofs.Common.{◌++◌, length, take, refl, sym, ap, ◌∙◌, subst, ⊎_elim, arith, eq-eqb, append-nil, Option, Some, None}
 use Rattle.std.specs.Prelude.{Contains}
 use Rattle.std.proofs.lemmas.List.{take-append-le}
 use Rattle.mv_history.specs.declared.Commit.{Commit}
@@ -30,8 +31,10 @@ use Rattle.mv_core.proofs.kinds.naming.entry.NewHistory.{history_after, seen_mor
 use Rattle.mv_core.proofs.kinds.naming.entry.NewFacts.{facts_after}
 use Rattle.mv_core.proofs.kinds.naming.LostClock.{lost_clocks, lost_facts, lost_whole, lost_overtaken}
 
-module _ (starts : State → Type 0) (allows : List ℕ → State → Writes → Type 0) (c : Config) (start : State) (v : View) (word : ℕ) (tag : List ℕ) (inside : Section) (may : MayNameCommit allows c v word tag inside) where
-  module _ (m : Memory) (h : List Entry) (seats : ℕ → View) (k : Facts starts allows c start m h (parts_of seats)) (is : seats v.number ≡ v) (own : v.number < c.seats) (begins : v.start ≡ start) (won : m Clock ≡ word) where
+module _ (starts : State → Type 0) (allows : List ℕ → State → Writes → Type 0) (c : Config) (start : State) (v : View) (word : ℕ) (tag : List ℕ)
+    (inside : Section) (may : MayNameCommit allows c v word tag inside) where
+  module _ (m : Memory) (h : List Entry) (seats : ℕ → View) (k : Facts starts allows c start m h (parts_of seats)) (is : seats v.number ≡ v)
+      (own : v.number < c.seats) (begins : v.start ≡ start) (won : m Clock ≡ word) where
     abbrev f : ViewParts
     f = parts_of seats
 
@@ -63,7 +66,8 @@ module _ (starts : State → Type 0) (allows : List ℕ → State → Writes →
     commit = next.commit k n inside there timed may.open_is some (length v.past.mine + 1) number_is tag
 
     commit_is : commit ≡ commit_of c v inside tag
-    commit_is = ap (λ (r : Ring). record { seat = n; number = length v.past.mine + 1; snapshot = time_in inside - c.base; tag = tag; writes = own_of c r }) ring_is
+    commit_is = ap (λ (r : Ring). record { seat = n; number = length v.past.mine + 1; snapshot = time_in inside - c.base; tag = tag; writes = own_of c r })
+        ring_is
 
     abbrev e : Entry
     e = Change commit
@@ -118,7 +122,8 @@ module _ (starts : State → Type 0) (allows : List ℕ → State → Writes →
     history =
         let room = may.room in
         let mine_is : commits_of n (h ++ e ∷ []) ≡ v.past.mine ++ commit ∷ [] =
-        commits_of-append n h (e ∷ []) ∙ ap (λ b. commits_of n h ++ (if b then commit ∷ [] else [])) (eq-eqb n n refl) ∙ ap (λ l. l ++ commit ∷ []) (sym knows.mine) in
+        commits_of-append n h (e ∷ []) ∙ ap (λ b. commits_of n h ++ (if b then commit ∷ [] else [])) (eq-eqb n n refl)
+        ∙ ap (λ l. l ++ commit ∷ []) (sym knows.mine) in
         let rests = rests_of-append n h (e ∷ []) in
         let old = (k.history.seats n).rests in
         history_after starts allows c start (m Clock) clock h f.past k.history n e refl p own (omega arith) clock_time
@@ -157,12 +162,14 @@ module _ (starts : State → Type 0) (allows : List ℕ → State → Writes →
           let slot_is = sym clock_slot in (
             a.0,
             new_note t a.0,
-            subst (λ (q : ℕ × ℕ). Lives (logs.after f.ring n t) q.0 q.1 a.0 (Committed (new_note t a.0))) (λ i. (seat_is i, slot_is i)) (logs.now_committed f.ring n t (index_of c first) a.0 a.1),
+            subst (λ (q : ℕ × ℕ). Lives (logs.after f.ring n t) q.0 q.1 a.0 (Committed (new_note t a.0))) (λ i. (seat_is i, slot_is i))
+                (logs.now_committed f.ring n t (index_of c first) a.0 a.1),
             a.2 ∙ sym a.3,
             sym clock_time,
           );
       others = λ s ne. set_at_else f.section n (Some inside') s ne;
-      before = λ i d at mode. let one : Some inside ≡ Some i = sym there ∙ at in let same : inside ≡ i = cc in let other : Open ≡ Named d = sym may.open_is ∙ ap (λ (j : Section). j.mode) same ∙ mode in cc;
+      before = λ i d at mode. let one : Some inside ≡ Some i = sym there ∙ at in let same : inside ≡ i = cc in let other : Open ≡ Named d =
+          sym may.open_is ∙ ap (λ (j : Section). j.mode) same ∙ mode in cc;
       word_same = λ i at. (inside, there, ap (λ (j : Section). j.word) (same_section i at));
       no_back = no_back;
       named = λ j x lives. (inside', naming', set_at_here f.section n (Some inside'), refl, refl, refl);
@@ -181,7 +188,8 @@ module _ (starts : State → Type 0) (allows : List ℕ → State → Writes →
             time_is = refl;
             stamped = λ made. let other : false ≡ true = made in absurd cc;
           } in
-          subst (λ (q : Section × Naming). NamedIs c (h ++ e ∷ []) (λ s j. m (Stamp s j)) (logs.after f.ring n t) n q.0 q.1) (λ z. (same_section i at z, same_naming i d at mode z)) new;
+          subst (λ (q : Section × Naming). NamedIs c (h ++ e ∷ []) (λ s j. m (Stamp s j)) (logs.after f.ring n t) n q.0 q.1)
+          (λ z. (same_section i at z, same_naming i d at mode z)) new;
       named_time = λ i d at mode. ap (λ (d : Naming). d.time) (sym (same_naming i d at mode));
       not_open = λ i at unnamed. subst (λ (j : Section). IsUnnamed j.mode) (sym (same_section i at)) unnamed;
     }
@@ -189,26 +197,31 @@ module _ (starts : State → Type 0) (allows : List ℕ → State → Writes →
     marks : Marks (m Clock) (λ s. m (Mark s)) (set_at f.phase n (Inside inside'))
     marks =
         set_at_all (λ s q. MarkedAs (m Clock) (m (Mark s)) q) f.phase n (Inside inside')
-        (let old : MarkedAs (m Clock) (m (Mark n)) (Inside inside) = subst (MarkedAs (m Clock) (m (Mark n))) (ap (λ (u : View). u.phase) is ∙ may.phase) (k.marks n) in old)
+        (let old : MarkedAs (m Clock) (m (Mark n)) (Inside inside) = subst (MarkedAs (m Clock) (m (Mark n))) (ap (λ (u : View). u.phase) is ∙ may.phase)
+        (k.marks n) in old)
         (λ s ne. k.marks s)
 
     scanning : (s : ℕ) (running : Scan) → f.scan s ≡ Some running → set_at f.phase n (Inside inside') s ≡ Outside
     scanning =
         set_at_all (λ s q. (running : Scan) → f.scan s ≡ Some running → q ≡ Outside) f.phase n (Inside inside')
-        (λ running at. let out : Inside inside ≡ Outside = sym (ap (λ (u : View). u.phase) is ∙ may.phase) ∙ k.phases_and_scan.scanning n running at in absurd cc)
+        (λ running at. let out : Inside inside ≡ Outside = sym (ap (λ (u : View). u.phase) is ∙ may.phase)
+        ∙ k.phases_and_scan.scanning n running at in absurd cc)
         (λ s ne. k.phases_and_scan.scanning s)
 
     helped : Contains (f.clocks n).helped (m Clock)
     helped = subst (λ (w : ℕ). Contains (f.clocks n).helped w) (sym won) (subst (λ (u : View). Contains u.clocks.helped word) (sym is) may.helped)
 
-    facts : Facts starts allows c start (put m Clock clock) (h ++ e ∷ []) (changed f n (record unchanged { past = Some p; phase = Some (Inside inside'); section = Some (Some inside'); ring = Some (committed_ring t (f.ring n)) }))
+    facts : Facts starts allows c start (put m Clock clock) (h ++ e ∷ [])
+        (changed f n
+        (record unchanged { past = Some p; phase = Some (Inside inside'); section = Some (Some inside'); ring = Some (committed_ring t (f.ring n)) }))
     facts =
         facts_after k n e helped
         (next.makes k n inside there timed may.open_is some (length v.past.mine + 1) number_is tag)
         (next.new_set k n inside there timed may.open_is some (length v.past.mine + 1) number_is tag)
         clock
         (λ j x lives. let same : first ≡ x.first = set_is.first_is ∙ sym (set_is.all j x lives).0 in ap (λ q. clock_of t n (index_of c q)) same)
-        (set_at f.section n (Some inside')) turns (set_at f.past n p) history (seen_more starts allows c start (m Clock) clock h f.past k.history n e refl p refl)
+        (set_at f.section n (Some inside')) turns (set_at f.past n p) history
+        (seen_more starts allows c start (m Clock) clock h f.past k.history n e refl p refl)
         (set_at f.phase n (Inside inside')) marks scanning
 
     abbrev w : View
@@ -223,7 +236,9 @@ module _ (starts : State → Type 0) (allows : List ℕ → State → Writes →
     commit_facts : Facts starts allows c start (put m Clock (commit_word c v word)) (h ++ e ∷ []) (parts_of (set_at seats n w))
     commit_facts =
         let word_is : clock ≡ commit_word c v word = λ i. clock_of (time_now i) n (index_of c (set_first (ring_is i))) in
-        let section' : record inside { mode = Named naming' } ≡ record inside { mode = Named (record { time = clock_time_of word + 1; first = set_first v.ring; stamped = false }) } = ap (λ (d : Naming). record inside { mode = Named d }) naming_is in
+        let section' : record inside { mode = Named naming' }
+        ≡ record inside { mode = Named (record { time = clock_time_of word + 1; first = set_first v.ring; stamped = false }) } =
+        ap (λ (d : Naming). record inside { mode = Named d }) naming_is in
         settle starts allows c start (put m Clock (commit_word c v word)) (h ++ e ∷ []) seats n v w is
         (record unchanged { past = Some p; phase = Some (Inside inside'); section = Some (Some inside'); ring = Some (committed_ring t (f.ring n)) }) (
           (λ i. record ((sym is i).past) { seen = h ++ Change (sym commit_is i) ∷ []; mine = v.past.mine ++ sym commit_is i ∷ [] }),
@@ -238,7 +253,10 @@ module _ (starts : State → Type 0) (allows : List ℕ → State → Writes →
           refl,
           refl,
         )
-        (subst (λ (x : ℕ). Facts starts allows c start (put m Clock x) (h ++ e ∷ []) (changed f n (record unchanged { past = Some p; phase = Some (Inside inside'); section = Some (Some inside'); ring = Some (committed_ring t (f.ring n)) }))) word_is facts)
+        (subst (λ (x : ℕ). Facts starts allows c start (put m Clock x) (h ++ e ∷ [])
+        (changed f n
+        (record unchanged { past = Some p; phase = Some (Inside inside'); section = Some (Some inside'); ring = Some (committed_ring t (f.ring n)) })))
+        word_is facts)
 
   -- the section once its commit is named
   abbrev named_inside : Section
@@ -272,7 +290,11 @@ module _ (starts : State → Type 0) (allows : List ℕ → State → Writes →
       commit_facts m h seats k is own begins won,
       (
         (
-          (((λ _. (h, subst (λ (n : ℕ). IsWhole c v n h) won (lost_whole v seats k is), refl)), (λ lost. absurd (lost refl))), subst (IsWord c) won k.loaded_words.clock_is, subst (LogTold c v) won (log_told m h seats k is)),
+          (
+            ((λ _. (h, subst (λ (n : ℕ). IsWhole c v n h) won (lost_whole v seats k is), refl)), (λ lost. absurd (lost refl))),
+            subst (IsWord c) won k.loaded_words.clock_is,
+            subst (LogTold c v) won (log_told m h seats k is),
+          ),
           (λ time first a b. (
             (λ s at. a inside may.phase ∙ ap time_in (same_inside s at)),
             (λ s at opens some. let other : named_inside.mode ≡ Open = ap (λ (j : Section). j.mode) (same_inside s at) ∙ opens in absurd cc),
@@ -283,9 +305,31 @@ module _ (starts : State → Type 0) (allows : List ℕ → State → Writes →
     )),
     (λ m h seats k is own begins lost small. (
       commit_lost c v (m Clock) h,
-      settle starts allows c start m h seats v.number v (commit_lost c v (m Clock) h) is (record unchanged { past = Some (record (seats v.number).past { seen = h }); clocks = Some (lost_clocks (seats v.number).clocks (m Clock)) })
-          (ap (λ (u : View). record u.past { seen = h }) (sym is), refl, refl, refl, ap (λ (u : View). lost_clocks u.clocks (m Clock)) (sym is), refl, refl, refl, refl, refl, refl) (lost_facts v seats k is),
-      (((((λ same. absurd (lost same)), (λ _. (h, lost_whole v seats k is, refl, lost_overtaken v seats k is word may.loaded lost))), k.loaded_words.clock_is, log_told m h seats k is), (λ t i a b. (a, b))), (refl, refl, refl, refl, refl, refl)),
+      settle starts allows c start m h seats v.number v (commit_lost c v (m Clock) h) is
+          (record unchanged { past = Some (record (seats v.number).past { seen = h }); clocks = Some (lost_clocks (seats v.number).clocks (m Clock)) }) (
+            ap (λ (u : View). record u.past { seen = h }) (sym is),
+            refl,
+            refl,
+            refl,
+            ap (λ (u : View). lost_clocks u.clocks (m Clock)) (sym is),
+            refl,
+            refl,
+            refl,
+            refl,
+            refl,
+            refl,
+          ) (lost_facts v seats k is),
+      (
+        (
+          (
+            ((λ same. absurd (lost same)), (λ _. (h, lost_whole v seats k is, refl, lost_overtaken v seats k is word may.loaded lost))),
+            k.loaded_words.clock_is,
+            log_told m h seats k is,
+          ),
+          (λ t i a b. (a, b)),
+        ),
+        (refl, refl, refl, refl, refl, refl),
+      ),
     )),
   )
 
@@ -293,7 +337,9 @@ module _ (starts : State → Type 0) (allows : List ℕ → State → Writes →
   commit_swaps new at = subst (λ (x : ℕ). Swaps starts allows c start v Clock word x told) (sym at) swaps_to
 
 -- the clock word of the commit, from what the pass has at run time
-pub named_word : (c : Config) (v : View) (word time number from slots : ℕ) (allows : List ℕ → State → Writes → Type 0) (tag : List ℕ) (inside : Section) → MayNameCommit allows c v word tag inside → time ≡ clock_time_of word → number ≡ v.number → slots ≡ c.slots → IsBegun from v → clock_of (time + 1) number (from % slots) ≡ commit_word c v word
+pub named_word : (c : Config) (v : View) (word time number from slots : ℕ) (allows : List ℕ → State → Writes → Type 0) (tag : List ℕ) (inside : Section)
+    → MayNameCommit allows c v word tag inside → time ≡ clock_time_of word → number ≡ v.number → slots ≡ c.slots → IsBegun from v
+    → clock_of (time + 1) number (from % slots) ≡ commit_word c v word
 named_word c v word time number from slots allows tag inside may time_is number_is slots_is begun =
     let first_is = begun inside may.phase may.open_is may.some_held in
     λ i. clock_of (time_is i + 1) (number_is i) (first_is i % slots_is i)

@@ -1,5 +1,7 @@
 -- What an open section holds, as the next commit of the history: it is legal and allowed there, and its versions are the commit's write set.
-use Rattle.std.proofs.Common.{◌≡◌, ◌≢◌, ℕ, suc, ◌+◌, ◌-◌, ◌<◌, ◌≤◌, true, not, ◌&&◌, List, [], ◌∷◌, ◌++◌, length, take, drop, refl, sym, ap, ◌∙◌, subst, ⊎_elim, arith, eq-eqb, take-append-drop, length-drop, Option, Some}
+use Rattle.std.proofs.Common.{◌≡◌, ◌≢◌, ℕ, suc, ◌+◌, ◌-◌, ◌<◌, ◌≤◌, true, not, ◌&&◌, List, [], ◌∷◌}
+use Rattle.std.proofs.Common.{◌++◌, length, take, drop, refl, sym, ap, ◌∙◌, subst, ⊎_elim, arith, eq-eqb, take-append-drop, length-drop}
+use Rattle.std.proofs.Common.{Option, Some}
 use Rattle.std.specs.Prelude.{slice_get, slice_index_or}
 use Rattle.std.proofs.lemmas.List.{get_or-drop}
 use Rattle.std.proofs.lemmas.List.Elements.{All-from_get_or}
@@ -36,8 +38,10 @@ once_distinct (w ∷ ws) once =
     (λ none. (λ i. not (none i) && rest i))
     (bool_is (touches ws w.0))
 
-module _ {starts : State → Type 0} {allows : List ℕ → State → Writes → Type 0} {c : Config} {start : State} {m : Memory} {h : List Entry} {f : ViewParts} (k : Facts starts allows c start m h f)
-    (n : ℕ) (inside : Section) (section_is : f.section n ≡ Some inside) (timed : f.time n ≡ Some (time_in inside)) (open_is : inside.mode ≡ Open) (some : 0 < held_count (f.ring n)) where
+module _ {starts : State → Type 0} {allows : List ℕ → State → Writes → Type 0} {c : Config} {start : State} {m : Memory} {h : List Entry} {f : ViewParts}
+    (k : Facts starts allows c start m h f)
+    (n : ℕ) (inside : Section) (section_is : f.section n ≡ Some inside) (timed : f.time n ≡ Some (time_in inside)) (open_is : inside.mode ≡ Open)
+    (some : 0 < held_count (f.ring n)) where
   pub set_is : HeldSet c f.ring n
   set_is = held_set c h f.section f.ring n inside k.checked k.positions k.write_sets k.open_section section_is open_is some
 
@@ -51,10 +55,12 @@ module _ {starts : State → Type 0} {allows : List ℕ → State → Writes →
   one_object : (j l : ℕ) (x y : Version) → Lives f.ring n j x Held → Lives f.ring n l y Held → x.object ≡ y.object → x.position ≡ y.position
   one_object j l x y a b same =
       let small = position_small c h f.ring k.checked k.history.in_time k.positions in
-      (link_once c h f.ring k.checked k.history.in_time k.positions n n x.position y.position (small n j x Held a) (small n l y Held b) (sym (k.head_is_top.held n j x a) ∙ ap (λ o. m (Head o)) same ∙ k.head_is_top.held n l y b)).1
+      (link_once c h f.ring k.checked k.history.in_time k.positions n n x.position y.position (small n j x Held a) (small n l y Held b)
+      (sym (k.head_is_top.held n j x a) ∙ ap (λ o. m (Head o)) same ∙ k.head_is_top.held n l y b)).1
 
   -- where an object stands among the writes, its held version does
-  held_at : (i o : ℕ) (words : List ℕ) → slice_get ws i ≡ Some (o, words) → (x : Version) × Lives f.ring n (index_of c (set_is.first + i)) x Held × (x.position ≡ set_is.first + i) × (x.object ≡ o) × (x.words ≡ words)
+  held_at : (i o : ℕ) (words : List ℕ) → slice_get ws i ≡ Some (o, words)
+      → (x : Version) × Lives f.ring n (index_of c (set_is.first + i)) x Held × (x.position ≡ set_is.first + i) × (x.object ≡ o) × (x.words ≡ words)
   held_at i o words at =
       let a = own_at c f.ring n set_is i (let l = own_length c f.ring n set_is in let lt = slice_get_within ws i (o, words) at in omega arith) in
       let same : ◌≡◌ {A = Option (ℕ × List ℕ)} (Some (a.0.object, a.0.words)) (Some (o, words)) = sym a.4 ∙ at in
@@ -82,7 +88,8 @@ module _ {starts : State → Type 0} {allows : List ℕ → State → Writes →
       All-from_get_or (λ w. IsWords w.1) ws (0, []) (λ i lt.
       let a = own_at c f.ring n set_is i (let l = own_length c f.ring n set_is in omega arith) in
       let j : ℕ = index_of c (set_is.first + i) in
-      let holds : HoldsVersion (m (First n j)) (m (Prev n j)) (λ w. m (Data n j w)) a.0 = subst (HoldsSlot (m (First n j)) (m (Prev n j)) (λ w. m (Data n j w))) a.1 (k.slot_words n j) in
+      let holds : HoldsVersion (m (First n j)) (m (Prev n j)) (λ w. m (Data n j w)) a.0 =
+      subst (HoldsSlot (m (First n j)) (m (Prev n j)) (λ w. m (Data n j w))) a.1 (k.slot_words n j) in
       subst (λ (w : ℕ × List ℕ). IsWords w.1) (sym (get_or_from_slice_get ws i (a.0.object, a.0.words) (0, []) a.4)) holds.wide)
 
   abbrev snapshot : ℕ
@@ -144,7 +151,9 @@ module _ {starts : State → Type 0} {allows : List ℕ → State → Writes →
     pub allowed_too : IsFit allows (state_at start h snapshot) tag ws → IsAllowed allows start (h ++ Change commit ∷ [])
     allowed_too fit =
         let whole = sym (take-append-drop snapshot h) in
-        let allowed = allowed_after allows (length start) start (take snapshot h) (drop snapshot h) tag ws fit (subst (IsLegal (length start)) whole k.history.legal) (subst (IsAllowed allows start) whole k.history.allowed) unwritten in
+        let allowed =
+        allowed_after allows (length start) start (take snapshot h) (drop snapshot h) tag ws fit (subst (IsLegal (length start)) whole k.history.legal)
+        (subst (IsAllowed allows start) whole k.history.allowed) unwritten in
         IsAllowed-push allows start h commit k.history.allowed (subst (λ l. allows tag (state_after start l) ws) (sym whole) allowed)
 
     pub makes : Makes f.ring n (Change commit)
@@ -158,14 +167,16 @@ module _ {starts : State → Type 0} {allows : List ℕ → State → Writes →
             entry = entry-new c.base h (Change commit);
             seat = refl;
             after_first = k.write_sets.after_first n j x Held lives;
-            write = subst (λ (p : ℕ). slice_get ws (x.position - p) ≡ Some (x.object, x.words)) (sym first_is) (own_write c f.ring n set_is j x lives (place_is j x lives));
+            write = subst (λ (p : ℕ). slice_get ws (x.position - p) ≡ Some (x.object, x.words)) (sym first_is)
+                (own_write c f.ring n set_is j x lives (place_is j x lives));
             all = λ i lt.
                 let t : ℕ = new_time c.base h (Change commit) in
                 let a = own_at c f.ring n set_is i (let l = own_length c f.ring n set_is in omega arith) in
                 let from : set_is.first + i ≡ x.first + i = omega arith in (
                   a.0,
                   new_note t a.0,
-                  subst (λ (p : ℕ). Lives (logs.after f.ring n t) n (index_of c p) a.0 (Committed (new_note t a.0))) from (logs.now_committed f.ring n t (index_of c (set_is.first + i)) a.0 a.1),
+                  subst (λ (p : ℕ). Lives (logs.after f.ring n t) n (index_of c p) a.0 (Committed (new_note t a.0))) from
+                      (logs.now_committed f.ring n t (index_of c (set_is.first + i)) a.0 a.1),
                   a.2 ∙ from,
                   a.3 ∙ sym first_is,
                   refl,

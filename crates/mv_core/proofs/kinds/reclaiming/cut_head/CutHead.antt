@@ -113,8 +113,20 @@ module _ (starts : State → Type 0) (allows : List ℕ → State → Writes →
         cc in ap (λ (d : WriteBack). d.tried) (sym one)) in
         let ring : (seats n).ring ≡ v.ring = ap (λ (y : View). y.ring) is in
         settle starts allows c start (put m (Head object) 0) h seats n v (head_cut c v object position x note) is
-        (record unchanged { back = Some (Some (tried k n back at)); ring = Some (put_slot (seats n).ring slot (Live x (Committed (record note { cut = true })))) })
-        (refl, refl, refl, refl, refl, refl, refl, ap (λ (r : Ring). put_slot r slot (Live x (Committed (record note { cut = true })))) (sym ring), refl, refl, refl)
+        (record unchanged
+        { back = Some (Some (tried k n back at)); ring = Some (put_slot (seats n).ring slot (Live x (Committed (record note { cut = true })))) }) (
+          refl,
+          refl,
+          refl,
+          refl,
+          refl,
+          refl,
+          refl,
+          ap (λ (r : Ring). put_slot r slot (Live x (Committed (record note { cut = true })))) (sym ring),
+          refl,
+          refl,
+          refl,
+        )
         (subst (λ (o : ℕ). Facts starts allows c start (put m (Head o) 0) h
         (changed more n (record unchanged { ring = Some (put_slot (seats n).ring slot (Live x (Committed (record note { cut = true })))) }))) object_is all)
 
@@ -151,7 +163,10 @@ module _ (starts : State → Type 0) (allows : List ℕ → State → Writes →
     (λ m h seats k is own begins lost wide. (
       cut_lost c v object position (m (Head object)),
       lost_stored m h seats k is,
-      (((((λ e. absurd (lost e)), (λ _. refl)), (λ _. found_link m h seats k is), found_other m h seats k is), (λ t i a b. (a, b))), (refl, refl, refl, refl, refl, refl)),
+      (
+        ((((λ e. absurd (lost e)), (λ _. refl)), (λ _. found_link m h seats k is), found_other m h seats k is), (λ t i a b. (a, b))),
+        (refl, refl, refl, refl, refl, refl),
+      ),
     )),
   )
 

@@ -132,7 +132,12 @@ module _ {starts : State → Type 0} {allows : List ℕ → State → Writes →
         a.0,
         a.1,
         record {
-          names = record { seat = v.names.seat; slot = v.names.slot; lives = other_still v.names.seat v.names.slot a.0 (Committed a.1) v.names.lives (λ e. ne (sym v.object_is ∙ e)); is = v.names.is };
+          names = record {
+            seat = v.names.seat;
+            slot = v.names.slot;
+            lives = other_still v.names.seat v.names.slot a.0 (Committed a.1) v.names.lives (λ e. ne (sym v.object_is ∙ e));
+            is = v.names.is;
+          };
           object_is = v.object_is;
           time_is = v.time_is;
         },
@@ -210,7 +215,12 @@ module _ {starts : State → Type 0} {allows : List ℕ → State → Writes →
       (λ e. subst (λ (p : ℕ). AreThe (master p) (words_of c start h (c.base + length h) p) × NotAboveAny (latest c.base h p) f.time) (sym e)
       (is_present, subst (λ (t : ℕ). NotAboveAny t f.time) is_last old))
       (λ ne. k.present_master o (λ link y q v. none link y q (record {
-        names = record { seat = v.names.seat; slot = v.names.slot; lives = other_still v.names.seat v.names.slot y (Committed q) v.names.lives (λ e. ne (sym v.object_is ∙ e)); is = v.names.is };
+        names = record {
+          seat = v.names.seat;
+          slot = v.names.slot;
+          lives = other_still v.names.seat v.names.slot y (Committed q) v.names.lives (λ e. ne (sym v.object_is ∙ e));
+          is = v.names.is;
+        };
         object_is = v.object_is;
         time_is = v.time_is;
       })))

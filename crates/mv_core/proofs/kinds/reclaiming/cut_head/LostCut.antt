@@ -1,4 +1,5 @@
--- A lost exchange of a cut: the version written back is its object's last write up to the section's time and wasn't cut, so HEAD isn't 0, and names no other version of the own log.
+-- A lost exchange of a cut: the version written back is its object's last write up to the section's time and wasn't cut, so HEAD
+-- isn't 0, and names no other version of the own log.
 use Rattle.std.proofs.Common.{◌≡◌, ◌≢◌, ℕ, ◌≤◌, false, List, refl, sym, ap, ◌∙◌, subst, ⊎_elim, arith, Some}
 use Rattle.mv_core.proofs.Terms.{Entry, State, Writes, Config, Head, Master, link_of, link_seat_of, Memory, Ring, Version, Status, Held, Committed}
 use Rattle.mv_core.proofs.Terms.{View, Section, WriteBack, index_of, Lives, Names, IsVersion, latest, latest_at, section_of, time_of, time_in}
@@ -13,9 +14,11 @@ use Rattle.mv_core.proofs.logs.Links.{names_place}
 use Rattle.mv_core.proofs.logs.OwnTops.{own_commit_last}
 use Rattle.mv_core.proofs.logs.Versions.{version_once}
 
-module _ {starts : State → Type 0} {allows : List ℕ → State → Writes → Type 0} {c : Config} {start : State} {m : Memory} {h : List Entry} (seats : ℕ → View) (k : Facts starts allows c start m h (parts_of seats)) (v : View) (is : seats v.number ≡ v)
+module _ {starts : State → Type 0} {allows : List ℕ → State → Writes → Type 0} {c : Config} {start : State} {m : Memory} {h : List Entry} (seats : ℕ → View)
+    (k : Facts starts allows c start m h (parts_of seats)) (v : View) (is : seats v.number ≡ v)
     (b : WriteBack) (inside : Section) (in_section : section_of (seats v.number).phase ≡ Some inside)
-    (w : IsWrittenBack c h (λ o i. m (Master o i)) (λ s. time_of (seats s).phase) (λ s. (seats s).ring) v.number (seats v.number).clocks (seats v.number).grace b inside) (untried : b.tried ≡ false) where
+    (w : IsWrittenBack c h (λ o i. m (Master o i)) (λ s. time_of (seats s).phase) (λ s. (seats s).ring) v.number (seats v.number).clocks
+    (seats v.number).grace b inside) (untried : b.tried ≡ false) where
   abbrev rings : ℕ → Ring
   rings s = (seats s).ring
 
@@ -43,7 +46,8 @@ module _ {starts : State → Type 0} {allows : List ℕ → State → Writes →
       let head : ℕ = m (Head b.object) in
       ⊎_elim
       (λ a.
-      let names : Names rings head a.2 Held = record { seat = a.0; slot = a.1; lives = a.3; is = ap (λ (o : ℕ). m (Head o)) (sym a.4) ∙ k.head_is_top.held a.0 a.1 a.2 a.3 } in
+      let names : Names rings head a.2 Held =
+      record { seat = a.0; slot = a.1; lives = a.3; is = ap (λ (o : ℕ). m (Head o)) (sym a.4) ∙ k.head_is_top.held a.0 a.1 a.2 a.3 } in
       absurd (w.nothing a.1 a.2 (subst (λ (s : ℕ). Lives rings s a.1 a.2 Held) (own_seat a.2 Held names own) a.3)))
       (λ none.
       ⊎_elim
@@ -55,8 +59,10 @@ module _ {starts : State → Type 0} {allows : List ℕ → State → Writes →
       let on_time = top.2.time_is in
       let le : latest c.base h b.object ≤ time_in inside = omega arith in
       let last : w.note.time ≡ latest c.base h b.object = sym w.last ∙ latest_at-whole c.base h b.object (time_in inside) le in
-      let mine : IsVersion rings b.object (latest c.base h b.object) (link_of v.number w.version.position) w.version w.note = record { names = record { seat = v.number; slot = index_of c b.position; lives = w.lives; is = refl }; object_is = w.object_is; time_is = last } in
-      (version_once c start h rings k.checked k.history.in_time k.history.legal k.positions k.write_sets b.object (latest c.base h b.object) head (link_of v.number w.version.position) top.0 w.version top.1 w.note top.2 mine).0
+      let mine : IsVersion rings b.object (latest c.base h b.object) (link_of v.number w.version.position) w.version w.note =
+      record { names = record { seat = v.number; slot = index_of c b.position; lives = w.lives; is = refl }; object_is = w.object_is; time_is = last } in
+      (version_once c start h rings k.checked k.history.in_time k.history.legal k.positions k.write_sets b.object (latest c.base h b.object) head
+      (link_of v.number w.version.position) top.0 w.version top.1 w.note top.2 mine).0
       ∙ ap (link_of v.number) w.position_is)
       (λ z. absurd (not_empty z.0))
       (k.head_is_top.top b.object none))

@@ -12,7 +12,8 @@ use Rattle.mv_core.proofs.frames.Watermarks.{lower_not_above}
 use Rattle.mv_core.proofs.kinds.reclaiming.store_free.FreedLog as log
 use Rattle.mv_core.proofs.kinds.reclaiming.store_free.FreedLog.{IsFreed, IsDropped}
 
-module _ {starts : State → Type 0} {allows : List ℕ → State → Writes → Type 0} {c : Config} {start : State} {m : Memory} {h : List Entry} {f : ViewParts} (k : Facts starts allows c start m h f) (n position : ℕ) (r : Ring) (is : IsFreed c f n position r) where
+module _ {starts : State → Type 0} {allows : List ℕ → State → Writes → Type 0} {c : Config} {start : State} {m : Memory} {h : List Entry} {f : ViewParts}
+    (k : Facts starts allows c start m h f) (n position : ℕ) (r : Ring) (is : IsFreed c f n position r) where
   abbrev pub later : ℕ → Ring
   later = log.later k n position r is
 
@@ -35,20 +36,25 @@ module _ {starts : State → Type 0} {allows : List ℕ → State → Writes →
   version_was : (o t link : ℕ) (x : Version) (note : CommitNote) → IsVersion later o t link x note → IsVersion f.ring o t link x note
   version_was o t link x note v = record { names = names_was link x (Committed note) v.names; object_is = v.object_is; time_is = v.time_is }
 
-  version_still : (o t link : ℕ) (x : Version) (note : CommitNote) → (v : IsVersion f.ring o t link x note) → IsVersion later o t link x note ⊎ Dropped v.names.seat x (Committed note)
-  version_still o t link x note v = ⊎_elim (λ a. inl (record { names = a; object_is = v.object_is; time_is = v.time_is })) (λ d. inr d) (names_still link x (Committed note) v.names)
+  version_still : (o t link : ℕ) (x : Version) (note : CommitNote) → (v : IsVersion f.ring o t link x note)
+      → IsVersion later o t link x note ⊎ Dropped v.names.seat x (Committed note)
+  version_still o t link x note v =
+      ⊎_elim (λ a. inl (record { names = a; object_is = v.object_is; time_is = v.time_is })) (λ d. inr d) (names_still link x (Committed note) v.names)
 
   pub uncut_still : (o t : ℕ) → NoneUncut f.ring o t → NoneUncut later o t
   uncut_still o t none link x note v = none link x note (version_was o t link x note v)
 
   -- an uncut version that was dropped was written over, by the time of its death
-  next_of : (o t link : ℕ) (x : Version) (note : CommitNote) → (v : IsVersion f.ring o t link x note) → note.cut ≡ false → (d : Dropped v.names.seat x (Committed note)) → IsNextWrite c.base h o t d.dead.0
+  next_of : (o t link : ℕ) (x : Version) (note : CommitNote) → (v : IsVersion f.ring o t link x note) → note.cut ≡ false
+      → (d : Dropped v.names.seat x (Committed note)) → IsNextWrite c.base h o t d.dead.0
   next_of o t link x note v uncut d =
       subst (λ (u : ℕ). IsNextWrite c.base h o u d.dead.0) v.time_is
-      (subst (λ (p : ℕ). IsNextWrite c.base h p note.time d.dead.0) v.object_is (k.deaths.superseded v.names.seat v.names.slot d.dead.0 x note v.names.lives uncut d.dead.1))
+      (subst (λ (p : ℕ). IsNextWrite c.base h p note.time d.dead.0) v.object_is
+      (k.deaths.superseded v.names.seat v.names.slot d.dead.0 x note v.names.lives uncut d.dead.1))
 
   -- so it isn't the object's last write
-  not_last : (o link : ℕ) (x : Version) (note : CommitNote) → (v : IsVersion f.ring o (latest c.base h o) link x note) → note.cut ≡ false → ¬ (Dropped v.names.seat x (Committed note))
+  not_last : (o link : ℕ) (x : Version) (note : CommitNote) → (v : IsVersion f.ring o (latest c.base h o) link x note) → note.cut ≡ false
+      → ¬ (Dropped v.names.seat x (Committed note))
   not_last o link x note v uncut d =
       let next = next_of o (latest c.base h o) link x note v uncut d in
       let later = next.later in
@@ -113,14 +119,16 @@ module _ {starts : State → Type 0} {allows : List ℕ → State → Writes →
   aborted_links s j y dead lives =
       ⊎_elim (λ z. inl z)
       (λ a. inr (⊎_elim (λ g. inl (gone_still y.previous g))
-      (λ b. ⊎_elim (λ names. inr (b.0, b.1, names, b.3)) (λ d. inl (dropped_gone y.previous b.0 (Committed b.1) b.2 d)) (names_still y.previous b.0 (Committed b.1) b.2)) a))
+      (λ b. ⊎_elim (λ names. inr (b.0, b.1, names, b.3)) (λ d. inl (dropped_gone y.previous b.0 (Committed b.1) b.2 d))
+      (names_still y.previous b.0 (Committed b.1) b.2)) a))
       (k.aborted_link s j y dead (was s j y (Aborted dead) lives))
 
   pub masters : PresentMaster c start h (λ o i. m (Master o i)) f.time later
   masters o none = k.present_master o (none_uncut_was o none)
 
   -- who links to a version that was dropped isn't later than any section
-  above_is_old : (s j : ℕ) (y : Version) (o : CommitNote) → Lives f.ring s j y (Committed o) → (z : Version) (st : Status) → (names : Names f.ring y.previous z st) → Dropped names.seat z st → NotAboveAny o.time f.time
+  above_is_old : (s j : ℕ) (y : Version) (o : CommitNote) → Lives f.ring s j y (Committed o) → (z : Version) (st : Status)
+      → (names : Names f.ring y.previous z st) → Dropped names.seat z st → NotAboveAny o.time f.time
   above_is_old s j y o lives z st names d =
       let t : ℕ = latest_at c.base h y.object (o.time - 1) in
       let old : LinksBelow f.ring y t = k.commit_link s j y o lives in
@@ -132,9 +140,12 @@ module _ {starts : State → Type 0} {allows : List ℕ → State → Writes →
       (elim a.2.cut as (λ (b : Bool). a.2.cut ≡ b → NotAboveAny o.time f.time) [
         | true ↦ λ e. absurd (none_names_zero f.ring y.previous (old.cut a.0 a.1 a.2 v e) z st names)
         | false ↦ λ e.
-            let mine : Names f.ring y.previous a.1 (Committed a.2) = subst (λ (l : ℕ). Names f.ring l a.1 (Committed a.2)) (sym (old.uncut a.0 a.1 a.2 v e)) v.names in
+            let mine : Names f.ring y.previous a.1 (Committed a.2) =
+            subst (λ (l : ℕ). Names f.ring l a.1 (Committed a.2)) (sym (old.uncut a.0 a.1 a.2 v e)) v.names in
             let one = names_once c h f.ring k.checked k.history.in_time k.positions y.previous z a.1 st (Committed a.2) names mine in
-            let gone : Dropped v.names.seat a.1 (Committed a.2) = subst (λ (p : Status). Dropped v.names.seat a.1 p) one.3 (subst (λ (p : Version). Dropped v.names.seat p st) one.2 (subst (λ (q : ℕ). Dropped q z st) one.0 d)) in
+            let gone : Dropped v.names.seat a.1 (Committed a.2) =
+            subst (λ (p : Status). Dropped v.names.seat a.1 p) one.3
+            (subst (λ (p : Version). Dropped v.names.seat p st) one.2 (subst (λ (q : ℕ). Dropped q z st) one.0 d)) in
             let dead = next_of y.object t a.0 a.1 a.2 v e gone in
             let at = next_write-once c.base h y.object t gone.dead.0 o.time dead next in
             let by = gone.dead.2 in
@@ -166,7 +177,8 @@ module _ {starts : State → Type 0} {allows : List ℕ → State → Writes →
         let low = log.dropped_is_old k n position r is v.names.seat v.names.slot a.1 a.2 v.names.lives d in
         let time_is = v.time_is in
         let co = k.write_sets.commit v.names.seat v.names.slot a.1 a.2 v.names.lives in
-        let one : e ≡ Change co.commit = entry_once c.base h t e (Change co.commit) at (subst (λ (u : ℕ). IsEntry c.base h u (Change co.commit)) time_is co.entry) in
+        let one : e ≡ Change co.commit =
+        entry_once c.base h t e (Change co.commit) at (subst (λ (u : ℕ). IsEntry c.base h u (Change co.commit)) time_is co.entry) in
         let maker : maker_of e ≡ n = ap maker_of one ∙ co.seat ∙ d.seat_is in
         inr (subst (λ (s : ℕ). t < f.grace s) (sym maker) (omega arith)))
         (version_still o t a.0 a.1 a.2 v))

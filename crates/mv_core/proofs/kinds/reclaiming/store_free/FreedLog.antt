@@ -1,5 +1,7 @@
--- store STAMP 0 (free), in the log of its seat: the slot of the oldest position is free, and where that is the first of a write set, the whole set is live no more. Each version of it is dead from a time that the watermark has reached.
-use Rattle.std.proofs.Common.{◌≡◌, ◌≢◌, ◌⊎◌, ℕ, ◌<◌, ◌≤◌, Bool, cond, List, length, refl, sym, ap, ◌∙◌, subst, inl, inr, ⊎_elim, eq-eqb, ne_eqb, arith, Some, None}
+-- store STAMP 0 (free), in the log of its seat: the slot of the oldest position is free, and where that is the first of a write
+-- set, the whole set is live no more. Each version of it is dead from a time that the watermark has reached.
+use Rattle.std.proofs.Common.{◌≡◌, ◌≢◌, ◌⊎◌, ℕ, ◌<◌, ◌≤◌, Bool, cond, List, length, refl, sym, ap, ◌∙◌, subst}
+use Rattle.std.proofs.Common.{inl, inr, ⊎_elim, eq-eqb, ne_eqb, arith, Some, None}
 use Rattle.mv_core.proofs.Terms.{dite, ℕ_discrete, Entry, State, Writes, Config, Clock, clock_time_of, clock_seat_of, clock_slot_of, Memory, Ring}
 use Rattle.mv_core.proofs.Terms.{Slot, Free, Built, Live, Freeing, Build, Version, Status, Held, Aborted, Committed, CommitNote, Section, slot_at}
 use Rattle.mv_core.proofs.Terms.{index_of, Lives, Names, IsGone, HasFirst, ViewParts, set_at}
@@ -37,7 +39,8 @@ not_dead_by t g (Aborted (Some d)) before dead le =
     omega arith
 not_dead_by t g (Committed note) before dead le = let lt = before dead.0 dead.1 in let by = dead.2 in omega arith
 
-module _ {starts : State → Type 0} {allows : List ℕ → State → Writes → Type 0} {c : Config} {start : State} {m : Memory} {h : List Entry} {f : ViewParts} (k : Facts starts allows c start m h f) (n position : ℕ) (r : Ring) (is : IsFreed c f n position r) where
+module _ {starts : State → Type 0} {allows : List ℕ → State → Writes → Type 0} {c : Config} {start : State} {m : Memory} {h : List Entry} {f : ViewParts}
+    (k : Facts starts allows c start m h f) (n position : ℕ) (r : Ring) (is : IsFreed c f n position r) where
   abbrev pub slot : ℕ
   slot = index_of c position
 
@@ -51,8 +54,10 @@ module _ {starts : State → Type 0} {allows : List ℕ → State → Writes →
   wide_same = set_at_all (λ s q. length q.slots ≡ length (f.ring s).slots) f.ring n r is.wide (λ s ne. refl)
 
   -- what holds of the free slot, of the slots that are freeing now, and of each other one as it was, holds of all
-  pub each_slot : (P : ℕ → ℕ → Slot → Type 0) → P n slot Free → ((j : ℕ) (x : Version) (st : Status) → j ≢ slot → Lives f.ring n j x st → x.first ≡ position → P n j (Freeing x.position x.first))
-      → ((s j : ℕ) → ¬ ((s ≡ n) × (j ≡ slot)) → ((x : Version) (st : Status) → slot_at (f.ring s) j ≡ Live x st → s ≡ n → x.first ≢ position) → P s j (slot_at (f.ring s) j)) → (s j : ℕ) → P s j (slot_at (later s) j)
+  pub each_slot : (P : ℕ → ℕ → Slot → Type 0) → P n slot Free
+      → ((j : ℕ) (x : Version) (st : Status) → j ≢ slot → Lives f.ring n j x st → x.first ≡ position → P n j (Freeing x.position x.first))
+      → ((s j : ℕ) → ¬ ((s ≡ n) × (j ≡ slot)) → ((x : Version) (st : Status) → slot_at (f.ring s) j ≡ Live x st → s ≡ n → x.first ≢ position)
+      → P s j (slot_at (f.ring s) j)) → (s j : ℕ) → P s j (slot_at (later s) j)
   each_slot P here freeing rest =
       set_at_all (λ s q. (j : ℕ) → P s j (slot_at q j)) f.ring n r
       (λ j.
@@ -67,10 +72,13 @@ module _ {starts : State → Type 0} {allows : List ℕ → State → Writes →
       go j ne (Freeing p first) e = subst (P n j) e (rest n j (λ a. ne a.1) (λ x st l. let clash : Freeing p first ≡ Live x st = sym e ∙ l in absurd (cc)))
       go j ne (Live x st) e =
           dite (ℕ_discrete x.first position)
-          (λ same. subst (λ (b : Bool). P n j (cond b (Freeing x.position x.first) (Live x st))) (sym (eq-eqb x.first position same)) (freeing j x st ne e same))
+          (λ same. subst (λ (b : Bool). P n j (cond b (Freeing x.position x.first) (Live x st))) (sym (eq-eqb x.first position same))
+          (freeing j x st ne e same))
           (λ other.
           subst (λ (b : Bool). P n j (cond b (Freeing x.position x.first) (Live x st))) (sym (ne_eqb x.first position other))
-          (subst (P n j) e (rest n j (λ a. ne a.1) (λ y su l _. let one = live_once (slot_at (f.ring n) j) x y st su e l in λ first. other (ap (λ (v : Version). v.first) one.0 ∙ first)))))
+          (subst (P n j) e
+          (rest n j (λ a. ne a.1) (λ y su l _. let one = live_once (slot_at (f.ring n) j) x y st su e l in
+          λ first. other (ap (λ (v : Version). v.first) one.0 ∙ first)))))
 
   -- each live version was so, and isn't of that set
   lives_was : (s j : ℕ) (x : Version) (st : Status) → Lives later s j x st → Lives f.ring s j x st × (s ≡ n → x.first ≢ position)
@@ -91,7 +99,8 @@ module _ {starts : State → Type 0} {allows : List ℕ → State → Writes →
   at_slot x st lives =
       let used : UsesPosition (Live x st) position = subst (λ (z : Slot). UsesPosition z position) lives is.used in
       let first = k.write_sets.first n slot x st lives in
-      let at : UsesPosition (slot_at (f.ring n) (index_of c x.first)) x.first = subst (λ (z : Slot). UsesPosition z x.first) (sym first.lives) first.position_is in
+      let at : UsesPosition (slot_at (f.ring n) (index_of c x.first)) x.first =
+      subst (λ (z : Slot). UsesPosition z x.first) (sym first.lives) first.position_is in
       let low = is.oldest (index_of c x.first) x.first at in
       let high = k.write_sets.after_first n slot x st lives in
       let position_is : x.position ≡ position = used in
@@ -118,21 +127,31 @@ module _ {starts : State → Type 0} {allows : List ℕ → State → Writes →
   pub first_still : (s j : ℕ) (x : Version) (st : Status) → Lives later s j x st → HasFirst later c s x
   first_still s j x st lives =
       let a = k.write_sets.first s j x st (was s j x st lives) in
-      record { version = a.version; status = a.status; lives = set_still s j (index_of c x.first) x a.version st a.status lives a.lives a.first_is; position_is = a.position_is; first_is = a.first_is }
+      record {
+        version = a.version;
+        status = a.status;
+        lives = set_still s j (index_of c x.first) x a.version st a.status lives a.lives a.first_is;
+        position_is = a.position_is;
+        first_is = a.first_is;
+      }
 
   -- the slot of a set that lives isn't the one that was given free
   pub other_slot : (s j : ℕ) (x : Version) (st : Status) → Lives later s j x st → ¬ ((s ≡ n) × (index_of c x.first ≡ slot))
   other_slot s j x st lives at =
       let a = first_still s j x st lives in
-      let none : Free ≡ Live a.version a.status = sym (ap (λ (q : Ring). slot_at q slot) (set_at_here f.ring n r) ∙ is.here) ∙ subst (λ (p : ℕ × ℕ). Lives later p.0 p.1 a.version a.status) (λ i. (at.0 i, at.1 i)) a.lives in
+      let none : Free ≡ Live a.version a.status =
+      sym (ap (λ (q : Ring). slot_at q slot) (set_at_here f.ring n r) ∙ is.here)
+      ∙ subst (λ (p : ℕ × ℕ). Lives later p.0 p.1 a.version a.status) (λ i. (at.0 i, at.1 i)) a.lives in
       absurd (cc)
 
   -- a commit that was dropped is below the watermark
-  pub dropped_is_old : (s j : ℕ) (x : Version) (note : CommitNote) → Lives f.ring s j x (Committed note) → IsDropped n position (f.grace n) s x (Committed note) → note.time < f.grace n
+  pub dropped_is_old : (s j : ℕ) (x : Version) (note : CommitNote) → Lives f.ring s j x (Committed note)
+      → IsDropped n position (f.grace n) s x (Committed note) → note.time < f.grace n
   dropped_is_old s j x note lives d = let after = k.death_after_write s j d.dead.0 x note lives d.dead.1 in let by = d.dead.2 in omega arith
 
   -- the commit that the clock names is kept
-  pub clock_kept : (x : Version) (note : CommitNote) (s j : ℕ) → Lives f.ring s j x (Committed note) → note.time ≡ clock_time_of (m Clock) → Lives later s j x (Committed note)
+  pub clock_kept : (x : Version) (note : CommitNote) (s j : ℕ) → Lives f.ring s j x (Committed note) → note.time ≡ clock_time_of (m Clock)
+      → Lives later s j x (Committed note)
   clock_kept x note s j lives time =
       ⊎_elim (λ a. a)
       (λ d. let low = dropped_is_old s j x note lives d in let high = (k.grace.views n).0 in absurd (omega arith))
@@ -143,7 +162,9 @@ module _ {starts : State → Type 0} {allows : List ℕ → State → Writes →
   clock_apart names at =
       let a = k.freed_is_old.named names in
       let lives = clock_kept a.0 a.1 (clock_seat_of (m Clock)) (clock_slot_of (m Clock)) a.2 a.4 in
-      let none : Free ≡ Live a.0 (Committed a.1) = sym (ap (λ (q : Ring). slot_at q slot) (set_at_here f.ring n r) ∙ is.here) ∙ subst (λ (p : ℕ × ℕ). Lives later p.0 p.1 a.0 (Committed a.1)) (λ i. (at.0 i, at.1 i)) lives in
+      let none : Free ≡ Live a.0 (Committed a.1) =
+      sym (ap (λ (q : Ring). slot_at q slot) (set_at_here f.ring n r) ∙ is.here)
+      ∙ subst (λ (p : ℕ × ℕ). Lives later p.0 p.1 a.0 (Committed a.1)) (λ i. (at.0 i, at.1 i)) lives in
       absurd (cc)
 
   -- a seat in a section drops nothing
@@ -154,14 +175,16 @@ module _ {starts : State → Type 0} {allows : List ℕ → State → Writes →
       (still s j x st lives)
 
   -- a link to a version that was dropped names none, and its position was used
-  pub dropped_gone : (link : ℕ) (x : Version) (st : Status) → (names : Names f.ring link x st) → IsDropped n position (f.grace n) names.seat x st → IsGone later link
+  pub dropped_gone : (link : ℕ) (x : Version) (st : Status) → (names : Names f.ring link x st) → IsDropped n position (f.grace n) names.seat x st
+      → IsGone later link
   dropped_gone link x st names d = record {
     seat = names.seat;
     position = x.position;
     is = names.is;
     used = subst (λ (p : ℕ). x.position < p) (sym (next_same names.seat)) (k.positions.live names.seat names.slot x st names.lives).1;
     gone = λ j y su lives e.
-        let one = position_once c h f.ring k.checked k.history.in_time k.positions names.seat j names.slot y x su st (was names.seat j y su lives) names.lives e in
+        let one = position_once c h f.ring k.checked k.history.in_time k.positions names.seat j names.slot y x su st
+        (was names.seat j y su lives) names.lives e in
         not_of_set j y su (subst (λ (t : ℕ). Lives later t j y su) d.seat_is lives) (ap (λ (v : Version). v.first) one.1 ∙ d.first_is);
   }
 

@@ -1,5 +1,7 @@
--- store STAMP 0 (free), in the write sets and positions of the logs: the sets left are whole, with their stamps, and the slot's next position is of the round after.
-use Rattle.std.proofs.Common.{◌≡◌, ◌≢◌, ◌⊎◌, ℕ, ◌+◌, ◌-◌, ◌*◌, ◌/◌, ◌%◌, ◌<◌, ◌≤◌, List, length, refl, sym, ap, ◌∙◌, subst, inl, inr, ⊎_elim, arith, Option, Some}
+-- store STAMP 0 (free), in the write sets and positions of the logs: the sets left are whole, with their stamps, and the slot's
+-- next position is of the round after.
+use Rattle.std.proofs.Common.{◌≡◌, ◌≢◌, ◌⊎◌, ℕ, ◌+◌, ◌-◌, ◌*◌, ◌/◌, ◌%◌, ◌<◌, ◌≤◌, List, length}
+use Rattle.std.proofs.Common.{refl, sym, ap, ◌∙◌, subst, inl, inr, ⊎_elim, arith, Option, Some}
 use Rattle.mv_core.proofs.Terms.{dite, ℕ_discrete, dec_lt, Entry, State, Writes, Config, Clock, First, Stamp, Prev, Super, Data, clock_seat_of}
 use Rattle.mv_core.proofs.Terms.{clock_slot_of, Memory, put, Ring, Slot, Free, Built, Live, Freeing, Version, Status, Held, Aborted, Committed}
 use Rattle.mv_core.proofs.Terms.{slot_at, index_of, Lives, InUse, ViewParts}
@@ -13,7 +15,8 @@ use Rattle.mv_core.proofs.kinds.locking.lock_head.NextPosition.{next_in-again, n
 use Rattle.mv_core.proofs.kinds.reclaiming.store_free.FreedLog as log
 use Rattle.mv_core.proofs.kinds.reclaiming.store_free.FreedLog.{IsFreed, IsDropped}
 
-module _ {starts : State → Type 0} {allows : List ℕ → State → Writes → Type 0} {c : Config} {start : State} {m : Memory} {h : List Entry} {f : ViewParts} (k : Facts starts allows c start m h f) (n position : ℕ) (r : Ring) (is : IsFreed c f n position r) where
+module _ {starts : State → Type 0} {allows : List ℕ → State → Writes → Type 0} {c : Config} {start : State} {m : Memory} {h : List Entry} {f : ViewParts}
+    (k : Facts starts allows c start m h f) (n position : ℕ) (r : Ring) (is : IsFreed c f n position r) where
   abbrev slot : ℕ
   slot = log.slot k n position r is
 
@@ -36,8 +39,10 @@ module _ {starts : State → Type 0} {allows : List ℕ → State → Writes →
   next_same : (s : ℕ) → (later s).next ≡ (f.ring s).next
   next_same = log.next_same k n position r is
 
-  each_slot : (P : ℕ → ℕ → Slot → Type 0) → P n slot Free → ((j : ℕ) (x : Version) (st : Status) → j ≢ slot → Lives f.ring n j x st → x.first ≡ position → P n j (Freeing x.position x.first))
-      → ((s j : ℕ) → ¬ ((s ≡ n) × (j ≡ slot)) → ((x : Version) (st : Status) → slot_at (f.ring s) j ≡ Live x st → s ≡ n → x.first ≢ position) → P s j (slot_at (f.ring s) j)) → (s j : ℕ) → P s j (slot_at (later s) j)
+  each_slot : (P : ℕ → ℕ → Slot → Type 0) → P n slot Free
+      → ((j : ℕ) (x : Version) (st : Status) → j ≢ slot → Lives f.ring n j x st → x.first ≡ position → P n j (Freeing x.position x.first))
+      → ((s j : ℕ) → ¬ ((s ≡ n) × (j ≡ slot)) → ((x : Version) (st : Status) → slot_at (f.ring s) j ≡ Live x st → s ≡ n → x.first ≢ position)
+      → P s j (slot_at (f.ring s) j)) → (s j : ℕ) → P s j (slot_at (later s) j)
   each_slot = log.each_slot k n position r is
 
   -- the stamp of each other slot is as it was
@@ -49,11 +54,13 @@ module _ {starts : State → Type 0} {allows : List ℕ → State → Writes →
   stamp_same s j x st lives = stamp_else s (index_of c x.first) (log.other_slot k n position r is s j x st lives)
 
   pub words_after : SlotWords (λ s j. m (First s j)) (λ s j. m (Prev s j)) (λ s j i. m (Data s j i)) later
-  words_after = each_slot (λ s j z. HoldsSlot (m (First s j)) (m (Prev s j)) (λ i. m (Data s j i)) z) tt (λ j x st ne l first. tt) (λ s j ne other. k.slot_words s j)
+  words_after =
+      each_slot (λ s j z. HoldsSlot (m (First s j)) (m (Prev s j)) (λ i. m (Data s j i)) z) tt (λ j x st ne l first. tt) (λ s j ne other. k.slot_words s j)
 
   pub stamps_after : Stamps c (m Clock) after later
   stamps_after = record {
-    live = λ s j x st lives. subst (λ (w : ℕ). StampedAs (m Clock) s (index_of c x.first) w x.first st) (sym (stamp_same s j x st lives)) (k.stamps.live s j x st (was s j x st lives));
+    live = λ s j x st lives. subst (λ (w : ℕ). StampedAs (m Clock) s (index_of c x.first) w x.first st) (sym (stamp_same s j x st lives))
+        (k.stamps.live s j x st (was s j x st lives));
     built = λ s j b e.
         let q = log.built_was k n position r is s j b e in
         subst (IsStored b.stamp) (sym (stamp_else s j q.1)) (k.stamps.built s j b q.0);
@@ -134,7 +141,8 @@ module _ {starts : State → Type 0} {allows : List ℕ → State → Writes →
   successors_after = record {
     held = λ s j x st lives. k.successors.held s j x st (was s j x st lives);
     next = λ s j x note lives. k.successors.next s j x note (was s j x (Committed note) lives);
-    stamped = λ s j x note lives t l y other there e. stamp_same t l y (Committed other) there ∙ k.successors.stamped s j x note (was s j x (Committed note) lives) t l y other (was t l y (Committed other) there) e;
+    stamped = λ s j x note lives t l y other there e. stamp_same t l y (Committed other) there
+        ∙ k.successors.stamped s j x note (was s j x (Committed note) lives) t l y other (was t l y (Committed other) there) e;
     unfinished = λ s j x note lives. k.successors.unfinished s j x note (was s j x (Committed note) lives);
     built = λ s j b e. k.successors.built s j b (log.built_was k n position r is s j b e).0;
   }
@@ -217,14 +225,17 @@ module _ {starts : State → Type 0} {allows : List ℕ → State → Writes →
   set_before i j x y st su lives first there =
       let was_there = was n j y su there in
       let at = (k.positions.live n j y su was_there).0 in
-      let low = is.oldest (index_of c y.position) y.position (uses n y.position (inl (y, su, subst (λ (l : ℕ). Lives f.ring n l y su) (sym at) was_there, refl))) in
+      let low = is.oldest (index_of c y.position) y.position
+      (uses n y.position (inl (y, su, subst (λ (l : ℕ). Lives f.ring n l y su) (sym at) was_there, refl))) in
       dite (dec_lt x.position y.position) (λ lt. lt)
       (λ ge.
       let a = k.write_sets.between n i x st lives y.position (omega arith) (omega arith) in
-      let one = position_once c h f.ring k.checked k.history.in_time k.positions n (index_of c y.position) j a.version y a.status su a.lives was_there a.position_is in
+      let one = position_once c h f.ring k.checked k.history.in_time k.positions n (index_of c y.position) j a.version y a.status su a.lives
+      was_there a.position_is in
       absurd (log.not_of_set k n position r is j y su there (ap (λ (v : Version). v.first) (sym one.1) ∙ a.first_is ∙ first)))
 
-  oldest_after : (s j p first : ℕ) → slot_at (later s) j ≡ Freeing p first → (first < p) × ((l : ℕ) (y : Version) (su : Status) → Lives later s l y su → p < y.position)
+  oldest_after : (s j p first : ℕ) → slot_at (later s) j ≡ Freeing p first
+      → (first < p) × ((l : ℕ) (y : Version) (su : Status) → Lives later s l y su → p < y.position)
   oldest_after =
       each_slot (λ t i z. (p first : ℕ) → z ≡ Freeing p first → (first < p) × ((l : ℕ) (y : Version) (su : Status) → Lives later t l y su → p < y.position))
       (λ p first e. absurd (cc))
@@ -251,7 +262,9 @@ module _ {starts : State → Type 0} {allows : List ℕ → State → Writes →
     no_gap = λ s p q used le lt.
         let a = use_was s p used in
         let below : q < (f.ring s).next = subst (λ (u : ℕ). q < u) (next_same s) lt in
-        use_still s q (λ same. after_freed p q (subst (λ (t : ℕ). InUse f.ring c t p) same a.0) (a.1 same) le (subst (λ (t : ℕ). q < (f.ring t).next) same below)) (k.positions.no_gap s p q a.0 le below);
+        use_still s q
+        (λ same. after_freed p q (subst (λ (t : ℕ). InUse f.ring c t p) same a.0) (a.1 same) le (subst (λ (t : ℕ). q < (f.ring t).next) same below))
+        (k.positions.no_gap s p q a.0 le below);
     bound = λ s. subst (λ (p : ℕ). p ≤ c.slots * (length h + 1)) (sym (next_same s)) (k.positions.bound s);
   }
 
@@ -270,7 +283,8 @@ module _ {starts : State → Type 0} {allows : List ℕ → State → Writes →
       go : (z : Slot) → slot_at (f.ring n) slot ≡ z → UsesPosition z position → c.base + position / c.slots < f.grace n
       go Free e u = absurd u
       go (Built b) e u = absurd u
-      go (Live x st) e u = subst (λ (p : ℕ). c.base + p / c.slots < f.grace n) u (round_below slot x st e (is.dead slot x st e (log.at_slot k n position r is x st e).1))
+      go (Live x st) e u =
+          subst (λ (p : ℕ). c.base + p / c.slots < f.grace n) u (round_below slot x st e (is.dead slot x st e (log.at_slot k n position r is x st e).1))
       go (Freeing q first) e u = subst (λ (p : ℕ). c.base + p / c.slots < f.grace n) u (k.positions_and_grace.freeing n slot q first e)
 
   free_round : c.base + next_in c (f.ring n) slot / c.slots ≤ f.grace n
@@ -278,7 +292,8 @@ module _ {starts : State → Type 0} {allows : List ℕ → State → Writes →
       let b = freed_bounds in
       let slots = k.checked.slots.0 in
       let again : next_in c (f.ring n) slot ≡ position + c.slots = next_in-again c.slots (f.ring n).next position (omega arith) b.1 b.2 in
-      let round : next_in c (f.ring n) slot / c.slots ≡ position / c.slots + 1 = ap (λ (p : ℕ). p / c.slots) again ∙ next_round c.slots position (omega arith) in
+      let round : next_in c (f.ring n) slot / c.slots ≡ position / c.slots + 1 =
+      ap (λ (p : ℕ). p / c.slots) again ∙ next_round c.slots position (omega arith) in
       let lt = freed_round in
       omega arith
 
@@ -291,10 +306,12 @@ module _ {starts : State → Type 0} {allows : List ℕ → State → Writes →
         (λ i x st ne l first lt e. absurd (cc))
         (λ t i ne other lt e. k.positions_and_grace.free t i lt e)
         s j low e);
-    built = λ s j b e. subst (λ (p : ℕ). c.base + p / c.slots ≤ f.grace s) (sym (next_same s)) (k.positions_and_grace.built s j b (log.built_was k n position r is s j b e).0);
+    built = λ s j b e. subst (λ (p : ℕ). c.base + p / c.slots ≤ f.grace s) (sym (next_same s))
+        (k.positions_and_grace.built s j b (log.built_was k n position r is s j b e).0);
     freeing = each_slot (λ t i z. (p first : ℕ) → z ≡ Freeing p first → c.base + p / c.slots < f.grace t)
         (λ p first e. absurd (cc))
-        (λ i x st ne l first p g e. let at : x.position ≡ p = cc in subst (λ (q : ℕ). c.base + q / c.slots < f.grace n) at (round_below i x st l (is.dead i x st l first)))
+        (λ i x st ne l first p g e. let at : x.position ≡ p = cc in
+        subst (λ (q : ℕ). c.base + q / c.slots < f.grace n) at (round_below i x st l (is.dead i x st l first)))
         (λ t i ne other p first e. k.positions_and_grace.freeing t i p first e);
     commit = λ s j x note lives. k.positions_and_grace.commit s j x note (was s j x (Committed note) lives);
     dead = λ s j t x note lives. k.positions_and_grace.dead s j t x note (was s j x (Committed note) lives);

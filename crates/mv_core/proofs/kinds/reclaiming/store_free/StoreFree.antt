@@ -107,8 +107,12 @@ module _ {starts : State → Type 0} {allows : List ℕ → State → Writes →
   set_there : (j : ℕ) (x : Version) (st : Status) → slot_at v.ring j ≡ Live x st → x.first ≡ position
       → (y : Version) × (su : Status) × (slot_at v.ring slot ≡ Live y su)
   set_there j x st e same =
-      let first = k.write_sets.first n j x st (ap (λ (q : Ring). slot_at q j) ring_is ∙ e) in
-      (first.version, first.status, ap (λ (q : Ring). slot_at q slot) (sym ring_is) ∙ subst (λ (p : ℕ). Lives f.ring n (index_of c p) first.version first.status) same first.lives)
+      let first = k.write_sets.first n j x st (ap (λ (q : Ring). slot_at q j) ring_is ∙ e) in (
+        first.version,
+        first.status,
+        ap (λ (q : Ring). slot_at q slot) (sym ring_is)
+            ∙ subst (λ (p : ℕ). Lives f.ring n (index_of c p) first.version first.status) same first.lives,
+      )
 
   abbrev AreFreed : Ring → Type 0
   AreFreed r = (r.next ≡ v.ring.next) × (length r.slots ≡ length v.ring.slots) × (slot_at r slot ≡ Free) ×

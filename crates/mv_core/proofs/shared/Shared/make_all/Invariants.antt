@@ -11,5 +11,6 @@ invariant-loop-number g l = record {
   some_made : 0 < l.number;
   within : l.number ≤ (config_of l.self).seats;
   count : vec_len l.others + 1 ≡ l.number;
-  others : (k : ℕ) (p : Pass _ g.P.Protocol) → get_elem? l.others.items k ≡ some p → IsOf l.self p × (p.number ≡ k + 1) × (view p ≡ new_view (config_of l.self) (start_of l.self) (k + 1) 0);
+  others : (k : ℕ) (p : Pass _ g.P.Protocol) → get_elem? l.others.items k ≡ some p
+      → IsOf l.self p × (p.number ≡ k + 1) × (view p ≡ new_view (config_of l.self) (start_of l.self) (k + 1) 0);
 }

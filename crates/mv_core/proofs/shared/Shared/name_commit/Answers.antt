@@ -9,4 +9,5 @@ swap_as-found-requires-clause-rule g c =
     let v = view c.args.pass.now in
     let slots = ap (λ (d : Config). d.slots) (sym c.args.self.now.about) in
     commit_swaps _ _ _ _ v c.args.word c.args.tag g.inside may _
-    (c.clock_word-named.ensures.word ∙ named_word (config_of c.args.self.now) v c.args.word c.clock_time.result c.args.pass.now.number c.args.pass.now.first _ _ c.args.tag g.inside may c.clock_time.ensures c.args.pass.now.numbered slots c.args.pass.now.begun)
+    (c.clock_word-named.ensures.word ∙ named_word (config_of c.args.self.now) v c.args.word c.clock_time.result c.args.pass.now.number c.args.pass.now.first _
+    _ c.args.tag g.inside may c.clock_time.ensures c.args.pass.now.numbered slots c.args.pass.now.begun)

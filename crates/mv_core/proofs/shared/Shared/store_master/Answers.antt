@@ -3,4 +3,5 @@ use Rattle.mv_core.proofs.kinds.reclaiming.StoreMaster.{master_stores}
 use Rattle.mv_core.proofs.shared.Shared.store_master.Goals as goal
 
 pub store_as-requires-clause-rule : goal.store_as-requires-clause-rule
-store_as-requires-clause-rule g c = master_stores _ _ _ _ (view c.args.pass.now) c.args.object c.args.word c.args.value g.back.0 g.back.1 g.back.2 g.back.3 c.requires.1.1.1.1
+store_as-requires-clause-rule g c =
+    master_stores _ _ _ _ (view c.args.pass.now) c.args.object c.args.word c.args.value g.back.0 g.back.1 g.back.2 g.back.3 c.requires.1.1.1.1

@@ -10,17 +10,21 @@ returns-clause-bytes c =
     let n = c.move_bytes-count.result in
     let lt = c.self.invariant.1 c.in-Some.opened c.in-Some.is in
     let at = c.index.ensures in
-    let before : left_from (map named ts) c.self.inside.opened p ≡ Some (drop p c.deref-2.result.now) = rw (c.in-Some.is, c.deref-2.ensures.value) (left_at ts c.in-Some.opened p c.index.result.now lt at) in
-    let after : left_from (map named ts) c.self.inside.opened (p + n) ≡ Some (drop (p + n) c.deref-2.result.now) = rw (c.in-Some.is, c.deref-2.ensures.value) (left_at ts c.in-Some.opened (p + n) c.index.result.now lt at) in
+    let before : left_from (map named ts) c.self.inside.opened p ≡ Some (drop p c.deref-2.result.now) =
+    rw (c.in-Some.is, c.deref-2.ensures.value) (left_at ts c.in-Some.opened p c.index.result.now lt at) in
+    let after : left_from (map named ts) c.self.inside.opened (p + n) ≡ Some (drop (p + n) c.deref-2.result.now) =
+    rw (c.in-Some.is, c.deref-2.ensures.value) (left_at ts c.in-Some.opened (p + n) c.index.result.now lt at) in
     let old = sym (ap (λ (v : FilesState). v.left) c.self.view_is) ∙ before in
-    consumed _ _ c.deref-2.result.now _ p n c.self.inside.most (length c.move_bytes-count.new.into) old after c.move_bytes-count.ensures.moved (rw c.move_bytes-count.auto.into c.move_bytes-count.ensures.count) c.self.invariant.0
+    consumed _ _ c.deref-2.result.now _ p n c.self.inside.most (length c.move_bytes-count.new.into) old after c.move_bytes-count.ensures.moved
+    (rw c.move_bytes-count.auto.into c.move_bytes-count.ensures.count) c.self.invariant.0
 
 pub returns-clause-count : goal.returns-clause-count
 returns-clause-count c =
     let ts = c.self.inside.texts.items in
     let p = c.self.inside.place in
     let lt = c.self.invariant.1 c.in-Some.opened c.in-Some.is in
-    let before : left_from (map named ts) c.self.inside.opened p ≡ Some (drop p c.deref-2.result.now) = rw (c.in-Some.is, c.deref-2.ensures.value) (left_at ts c.in-Some.opened p c.index.result.now lt c.index.ensures) in
+    let before : left_from (map named ts) c.self.inside.opened p ≡ Some (drop p c.deref-2.result.now) =
+    rw (c.in-Some.is, c.deref-2.ensures.value) (left_at ts c.in-Some.opened p c.index.result.now lt c.index.ensures) in
     let old = sym (ap (λ (v : FilesState). v.left) c.self.view_is) ∙ before in
     let most : c.self.inside.most ≡ c.args.self.now.most = ap (λ (v : FilesState). v.most) c.self.view_is in
     rw (← most) (counted _ c.deref-2.result.now p _ c.self.inside.most _ old c.move_bytes-count.ensures.count)

@@ -22,12 +22,14 @@ returns-in-Ok-clause-added c =
 pub invariant_of-self-in-Err : goal.invariant_of-self-in-Err
 invariant_of-self-in-Err c =
     let gap = gap_found _ _ c.self.invariant _ _ _ c.deref.ensures.value c.in-Err.ensures.position in
-    rw (c.in_ok-insert-in-Err.ensures.items, c.in_ok-insert-in-Err-2.ensures.items, c.in_ok-reserve-in-Err.ensures.items) (in_step_after_insert _ _ c.self.invariant _ _ _ gap)
+    rw (c.in_ok-insert-in-Err.ensures.items, c.in_ok-insert-in-Err-2.ensures.items, c.in_ok-reserve-in-Err.ensures.items)
+    (in_step_after_insert _ _ c.self.invariant _ _ _ gap)
 
 pub returns-in_ok-insert-in-Err-2-clause-put : goal.returns-in_ok-insert-in-Err-2-clause-put
 returns-in_ok-insert-in-Err-2-clause-put c =
     let gap = gap_found _ _ c.self.invariant _ _ _ c.deref.ensures.value c.in-Err.ensures.position in
-    rw (c.in_ok-insert-in-Err.ensures.items, c.in_ok-insert-in-Err-2.ensures.items, c.in_ok-reserve-in-Err.ensures.items, ← c.self.view_is) (sym (put_in_gap _ _ _ _ _ c.self.invariant.0 gap))
+    rw (c.in_ok-insert-in-Err.ensures.items, c.in_ok-insert-in-Err-2.ensures.items, c.in_ok-reserve-in-Err.ensures.items, ← c.self.view_is)
+    (sym (put_in_gap _ _ _ _ _ c.self.invariant.0 gap))
 
 pub returns-in_ok-insert-in-Err-2-clause-added : goal.returns-in_ok-insert-in-Err-2-clause-added
 returns-in_ok-insert-in-Err-2-clause-added c =

@@ -12,4 +12,5 @@ returns-then-first-eq35 c =
 pub returns : goal.returns
 returns c =
     rw (c.split_at.ensures.front, c.split_at.ensures.back)
-    (word c.args.bytes.now c.skip_blanks-rest.result.now c.in_ok-first.field-0.now c.word_length.result c.skip_blanks-rest.ensures c.in_ok-first.ensures.value c.if-first-eq35.false c.word_length.ensures.is)
+    (word c.args.bytes.now c.skip_blanks-rest.result.now c.in_ok-first.field-0.now c.word_length.result c.skip_blanks-rest.ensures c.in_ok-first.ensures.value
+    c.if-first-eq35.false c.word_length.ensures.is)

@@ -10,6 +10,7 @@ use Rattle.mv_history.specs.declared.Commit.{Commit}
 use Rattle.mv_history.proofs.Histories.{split_at}
 use Rattle.mv_core.specs.declared.view.Walk.TheVariants.{Nowhere}
 use Rattle.mv_core.proofs.FactTerms.{BeginsWith, KnowsPast, HoldsSlot, death_in, DeathSeen, KnownCommit, Facts}
+use Rattle.mv_core.proofs.history.Fronts.{latest_at-more}
 use Rattle.mv_core.proofs.history.Latest.{latest_at-own}
 use Rattle.mv_core.proofs.history.LongerSeen.{none_more}
 use Rattle.mv_core.proofs.kinds.walking.LoadStamp.{entry_seen}
@@ -51,10 +52,6 @@ own_seen base h seat p knows t d is by =
     sym (get_past p.seen rest i (omega arith)) ∙ ap (λ l. slice_get l i) (sym knows.seen.1) ∙ is.1 in
     absurd (some_commit seat rest (i - length p.seen) d at by (none_more h seat p knows h ([], sym (append-nil h)) knows.seen)))
 
--- the last write up to a time that was seen is the same in what was seen
-latest_at-seen : (base : ℕ) (h seen : List Entry) (o t : ℕ) → BeginsWith h seen → t ≤ base + length seen → latest_at base h o t ≡ latest_at base seen o t
-latest_at-seen base h seen o t front le = ap (λ l. latest base l o) (ap (take (t - base)) front.1 ∙ take-append-le (t - base) seen front.0 (omega arith))
-
 -- what is known of a commit reads neither the trail, nor which seats were made or joined
 pub commit_still : (v : View) (x : Version) (note : CommitNote) (trail : List Step) (made : ℕ) (notes : List Note) → KnownCommit v x note
     → KnownCommit (record v { trail = trail; made = made; notes = notes }) x note
@@ -89,7 +86,7 @@ module _ {starts : State → Type 0} {allows : List ℕ → State → Writes →
       let within = (death_seen j x (Committed note) e dead is_dead).1 uncut in
       let there = entry_seen c.base h seen dead next.entry knows.seen within next.there in
       let none = next.none_between in
-      let same = latest_at-seen c.base h seen x.object (dead - 1) knows.seen (omega arith) in
+      let same = latest_at-more c.base h seen x.object knows.seen (dead - 1) (omega arith) in
       record { later = next.later; within = within; written = latest_at-own c.base seen x.object dead next.entry there next.writes; none_between = omega arith }
 
   pub known_commit : (j : ℕ) (x : Version) (note : CommitNote) → slot_at w.ring j ≡ Live x (Committed note) → KnownCommit w x note

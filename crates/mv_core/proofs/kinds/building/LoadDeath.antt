@@ -11,6 +11,7 @@ use Rattle.mv_core.specs.EnterSteps.{IsWhole}
 use Rattle.mv_core.specs.LockSteps.{timed_status, timed, death_loaded}
 use Rattle.mv_core.proofs.frames.FrameLaw.{set_at_here, unchanged, changed, settle}
 use Rattle.mv_core.proofs.logs.Links.{note_once, names_once, none_names_zero, gone_names_none}
+use Rattle.mv_core.proofs.logs.BelowCommit.{link_below}
 use Rattle.mv_core.proofs.logs.Finding.{find_write}
 use Rattle.mv_core.proofs.logs.Written.{commit_within}
 use Rattle.mv_core.proofs.frames.ClockLoads.{whole_seen}
@@ -24,32 +25,6 @@ use Rattle.mv_core.proofs.frames.InPlace.{IsUnlived, StaysInPlace, in_place_map,
 
 module _ {starts : State → Type 0} {allows : List ℕ → State → Writes → Type 0} {c : Config} {start : State} {m : Memory} {h : List Entry} {f : ViewParts}
     (k : Facts starts allows c start m h f) where
-  -- the version below a committed one wasn't cut
-  below_uncut : (s j : ℕ) (x y : Version) (note other : CommitNote) → Lives f.ring s j x (Committed note) → Names f.ring x.previous y (Committed other)
-      → other.cut ≡ false
-  below_uncut s j x y note other lives below =
-      let t : ℕ = latest_at c.base h x.object (note.time - 1) in
-      let links = k.commit_link s j x note lives in
-      let unlinked : x.previous ≡ 0 → ⊥ = λ zero_is. none_names_zero f.ring x.previous zero_is y (Committed other) below in
-      ⊎_elim
-      (λ v.
-      let link : ℕ = v.0 in
-      let z : Version = v.1 in
-      let n : CommitNote = v.2 in
-      let is : IsVersion f.ring x.object t link z n = v.3 in
-      by_cut n.cut (λ cut. absurd (unlinked (links.cut link z n is cut)))
-      (λ uncut.
-      let named : Names f.ring x.previous z (Committed n) = subst (λ (l : ℕ). Names f.ring l z (Committed n)) (sym (links.uncut link z n is uncut)) is.names in
-      let one = names_once c h f.ring k.checked k.history.in_time k.positions x.previous y z (Committed other) (Committed n) below named in
-      ap (λ (o : CommitNote). o.cut) (note_once other n one.3) ∙ uncut))
-      (λ none. absurd (⊎_elim unlinked (λ gone. gone_names_none c h f.ring k.checked k.history.in_time k.positions x.previous gone y (Committed other) below)
-      (links.none none)))
-      (find_write c h f.ring k.checked k.history.in_time k.positions x.object t)
-    where
-      by_cut : (b : Bool) → {P : Type 0} → (b ≡ true → P) → (b ≡ false → P) → P
-      by_cut true yes_case no_case = yes_case refl
-      by_cut false yes_case no_case = no_case refl
-
   module _ (n : ℕ) where
     abbrev d : ℕ
     d = clock_time_of (m Clock) + 1
@@ -209,7 +184,7 @@ module _ {starts : State → Type 0} {allows : List ℕ → State → Writes →
               let a = committed_back below.seat below.slot y other below.lives in
               let o = is_timed a.0 other a.2 in
               let named : Names f.ring x.previous y (Committed a.0) = record { seat = below.seat; slot = below.slot; lives = a.1; is = below.is } in
-              let same : other ≡ a.0 = o.uncut_same (below_uncut s j x y b.0 a.0 b.1 named) in
+              let same : other ≡ a.0 = o.uncut_same (link_below k s j x b.0 b.1 y a.0 named).2 in
               let q = r.1 y a.0 named in (
                 λ linked. q.0 (sym i.linked_is ∙ linked),
                 λ unlinked. let z = q.1 (sym i.linked_is ∙ unlinked) in

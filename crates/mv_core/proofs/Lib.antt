@@ -5,3 +5,4 @@ pub mod history
 pub mod logs
 pub mod kinds
 pub mod points
+pub mod moves

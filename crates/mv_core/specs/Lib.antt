@@ -15,9 +15,12 @@ pub mod NameSteps
 pub mod ReclaimSteps
 pub mod SeatSteps
 pub mod Start
+pub mod Moves
 pub mod Rule
 pub mod Known
 pub mod Passes
+pub mod Closing
+pub mod MoveLaws
 pub mod Laws
 pub mod Chains
 pub mod WholeSets

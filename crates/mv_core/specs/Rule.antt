@@ -1,5 +1,5 @@
 -- The rule of the table, and what a step asks of its kind.
-use Rattle.std.specs.Prelude.{◌≡◌, ◌≢◌, ◌⊎◌, ℕ, ◌≤◌, ◌<◌, ◌^◌, false, List, length, max, Contains, None, All}
+use Rattle.std.specs.Prelude.{◌≡◌, ◌≢◌, ◌⊎◌, ℕ, ◌≤◌, ◌<◌, ◌^◌, false, List, length, max, Contains, Some, None, All}
 use mathlib.Core.Option.{some}
 use lib.ListN.{get_elem?}
 use Rattle.atomic_table.specs.Table as table
@@ -15,6 +15,8 @@ use Rattle.mv_core.specs.declared.view.Note.{Note}
 use Rattle.mv_core.specs.declared.view.Phase.TheVariants.{Outside}
 use Rattle.mv_core.specs.declared.shared.Opening.{Opening}
 use Rattle.mv_core.specs.Views.{new_view, ViewParts, parts_of, set_at}
+use Rattle.mv_core.specs.EnterSteps.{stored_if}
+use Rattle.mv_core.specs.Moves.{Kind, act, history_after, Reached}
 use Rattle.mv_core.specs.HistoryFacts.{History}
 use Rattle.mv_core.specs.SetFacts.{SlotWords, Stamps, WriteSets, Successors, BelowIsStamped, UnstampedIsUnfinished, Positions}
 use Rattle.mv_core.specs.SectionFacts.{Marks, StampedPastHelp, LoadedWords, HelpedWords, FoundStamps, LockFreshness, NamedCommit, OpenSection, PhasesAndScan}
@@ -108,7 +110,8 @@ module _ (starts : State → Type 0) (allows : List ℕ → State → Writes →
     pub positions_and_grace : PositionsAndGrace c f.grace f.ring
     pub phases_and_scan : PhasesAndScan c f.past f.phase f.time f.walk f.back f.scan
 
-  -- the rule: there are words by name, a history and views of which all this holds
+  -- the rule: there are words by name, a history and views of which all this holds, and which were reached from the opening by
+  -- moves; each unspent view is of a seat that was made
   pub record Ruled (key : Opening) (s : table.State (List ℕ) View) : Type 0 where
     pub memory : Memory
     pub history : List Entry
@@ -117,6 +120,8 @@ module _ (starts : State → Type 0) (allows : List ℕ → State → Writes →
     pub slotless : length s.homes ≡ 0
     pub seated : Seated key.config key.start.value.items s.views seats
     pub facts : Facts key.config key.start.value.items memory history (parts_of seats)
+    pub reached : Reached allows key.config key.start.value.items (record { memory = memory; history = history; seats = seats })
+    pub active : (id : ℕ) (v : View) → get_elem? s.views id ≡ some v → v.spent ≡ false → v.number < (seats 0).made
 
   module _ (c : Config) (start : State) (v : View) (p : Place) where
     -- What a load of p shows: whatever the words, the history and the other views are, the seat has a new view that keeps all facts.
@@ -146,3 +151,43 @@ module _ (starts : State → Type 0) (allows : List ℕ → State → Writes →
     Raises n tells = (m : Memory) (h : List Entry) (seats : ℕ → View) → Facts c start m h (parts_of seats) → seats v.number ≡ v
         → v.number < c.seats → v.start ≡ start → m p < 2 ^ 64
         → (w : View) × Facts c start (put m p (max (m p) n)) h (parts_of (set_at seats v.number w)) × tells (m p) w
+
+    -- a load of p that tells this of the number found and of the view after is a move of this kind: the kind's condition holds,
+    -- its place is p, it writes nothing and makes no entry, and the view is the kind's
+    pub record LoadsAs (k : Kind) (tells : ℕ → View → Type 0) : Type 0 where
+      pub may : (act allows c v k).may
+      pub place : (act allows c v k).place ≡ p
+      pub writes : (x : ℕ) → (act allows c v k).writes x ≡ None
+      pub entry : (x : ℕ) → (act allows c v k).entry x ≡ None
+      pub view : (m : Memory) (h : List Entry) (seats : ℕ → View) (w : View) → Facts c start m h (parts_of (set_at seats v.number w))
+          → tells (m p) w → w ≡ (act allows c v k).view (m p) h
+
+    -- the same of a store of n into p, after which the seat has seen no more
+    pub record StoresAs (k : Kind) (n : ℕ) (tells : View → Type 0) : Type 0 where
+      pub may : (act allows c v k).may
+      pub place : (act allows c v k).place ≡ p
+      pub writes : (x : ℕ) → (act allows c v k).writes x ≡ Some n
+      pub entry : (x : ℕ) → (act allows c v k).entry x ≡ None
+      pub view : (x : ℕ) (h : List Entry) (w : View) → tells w → w ≡ (act allows c v k).view x h
+      pub past : (x : ℕ) (h : List Entry) → ((act allows c v k).view x h).past ≡ v.past
+
+    -- the same of an exchange of p from `old` to `new`, which makes an entry where it is won, or none
+    pub record SwapsAs (k : Kind) (old new : ℕ) (tells : ℕ → View → Type 0) : Type 0 where
+      pub may : (act allows c v k).may
+      pub place : (act allows c v k).place ≡ p
+      pub writes : (x : ℕ) → (act allows c v k).writes x ≡ stored_if x old new
+      pub won : (m : Memory) (h longer : List Entry) (seats : ℕ → View) (w : View) → Facts c start m h (parts_of seats)
+          → seats v.number ≡ v → m p ≡ old
+          → Facts c start (put m p new) longer (parts_of (set_at seats v.number w)) → tells old w
+          → (w ≡ (act allows c v k).view old h) × (longer ≡ history_after h ((act allows c v k).entry old))
+      pub entry : (x : ℕ) → x ≢ old → (act allows c v k).entry x ≡ None
+      pub lost : (m : Memory) (h : List Entry) (seats : ℕ → View) (w : View) → m p ≢ old → Facts c start m h (parts_of (set_at seats v.number w))
+          → tells (m p) w → w ≡ (act allows c v k).view (m p) h
+
+    -- the same of a fetch_max of p by n
+    pub record RaisesAs (k : Kind) (n : ℕ) (tells : ℕ → View → Type 0) : Type 0 where
+      pub may : (act allows c v k).may
+      pub place : (act allows c v k).place ≡ p
+      pub writes : (x : ℕ) → (act allows c v k).writes x ≡ Some (max x n)
+      pub entry : (x : ℕ) → (act allows c v k).entry x ≡ None
+      pub view : (x : ℕ) (h : List Entry) (w : View) → tells x w → w ≡ (act allows c v k).view x h

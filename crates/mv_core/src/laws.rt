@@ -7,6 +7,7 @@ ghost use Rattle.mv_core.specs.Points.{HistoryPoint, WriteSetsPoint, FreesPoint,
 ghost use Rattle.mv_core.specs.Points.{DeathsPoint, PositionsPoint, PositionsBoundedPoint, EarlierStampedPoint, OneWriteBackPoint};
 ghost use Rattle.mv_core.specs.Points.{ReachableLinksPoint, NoSlotReusePoint, BeforeDeathPoint, ChainsPoint, WalkersPoint, MasterReadPoint};
 ghost use Rattle.mv_core.specs.Points.{WriteBackPoint};
+ghost use Rattle.mv_core.specs.MoveLaws.{MovesKeep, OpeningHolds, ReachedHold, OneHistory, OneEntry};
 
 use mv_history::Protocol;
 
@@ -153,4 +154,28 @@ pub fn masters_are_read_whole<P: Protocol>()
 /// (MV-RLU: write-back to the master.)
 pub fn write_backs_are_last<P: Protocol>()
     ensures { WriteBackPoint P.start P.allowed }
+{}
+
+/// A move is one step of one seat, as specs/Moves.antt has them for all thirty-two kinds. From a state
+/// of the rule each move leads to a state of the rule, whose history begins with the old one.
+pub fn each_move_keeps_the_rule<P: Protocol>()
+    ensures { MovesKeep P.start P.allowed }
+{}
+
+/// A new domain is in a state of the rule.
+pub fn opening_is_ruled<P: Protocol>()
+    ensures { OpeningHolds P.start P.allowed }
+{}
+
+/// Whatever moves the seats of a new domain make, in whatever order, the state is one of the rule.
+pub fn reachable_is_ruled<P: Protocol>()
+    ensures { ReachedHold P.start P.allowed }
+{}
+
+/// All seats speak of one history: two histories that the rule allows for one state of the table are
+/// the same. No move shortens it. Only an exchange of CLOCK that is won, for a commit or for a rest,
+/// makes it longer, by one entry.
+pub fn one_history<P: Protocol>()
+    ensures one { OneHistory P.start P.allowed }
+    ensures entry { OneEntry P.allowed }
 {}

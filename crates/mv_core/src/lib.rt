@@ -16,7 +16,9 @@
 //! views of all seats, so that each word has a meaning: a head is the link of the object's newest
 //! version, a stamp that is a time is that of a commit of the history, a mark holds a time not
 //! above its section's. It is a list of facts, of which none follows a version chain: each looks at one
-//! link. `Facts` in specs/Rule.antt has them all, and docs/RULE.md says each in plain words.
+//! link. `Facts` in specs/Rule.antt has them all, and docs/RULE.md says each in plain words. Which
+//! steps there are, and what each makes of the words, the history and the views, is one relation:
+//! `Move` in specs/Moves.antt. Each state of the table was reached by it from the opening.
 //!
 //! **The contract.** Each step names its condition, which speaks of the own view alone (`may`);
 //! the exact view afterwards (`view`), with one more record in the trail; and one more count in
@@ -39,6 +41,8 @@
 //! | joining | joining a seat, load CLOCK after a join |
 //! | opening | the words of a domain, and the making of its seats |
 //!
+//! `Shared::close` ends a domain with a pass, and gives its last words.
+//!
 //! **How it is proved.** A step writes one word at most and changes its own view alone, so it keeps
 //! each fact that reads neither. `proofs/frames/FrameLaw.antt` says this once; a kind of step is a
 //! file or a folder under `proofs/kinds`, which answers for the facts left. turns.rt has the step over
@@ -50,6 +54,7 @@
 #![tactic(auto)]
 
 mod building;
+mod closing;
 mod entering;
 mod grace;
 mod helping;
@@ -70,11 +75,12 @@ mod walking;
 
 pub use helping::helped_are_stamped;
 pub use laws::{
-    chains_are_latest_writes, deaths_are_after_readers, deaths_are_next,
+    chains_are_latest_writes, deaths_are_after_readers, deaths_are_next, each_move_keeps_the_rule,
     earlier_commits_are_stamped, grace_is_below_sections, history_is_one, locks_are_fresh,
-    marks_are_low, masters_are_read_whole, one_seat_writes_back, positions_are_bounded,
-    positions_run_on, reached_links_are_live, reached_slots_are_kept, sets_are_freed_whole,
-    successors_are_next, walks_stand_right, write_backs_are_last, write_sets_are_whole,
+    marks_are_low, masters_are_read_whole, one_history, one_seat_writes_back, opening_is_ruled,
+    positions_are_bounded, positions_run_on, reachable_is_ruled, reached_links_are_live,
+    reached_slots_are_kept, sets_are_freed_whole, successors_are_next, walks_stand_right,
+    write_backs_are_last, write_sets_are_whole,
 };
 pub use shared::{Pass, Shared};
 pub use steps::Steps;

@@ -3,7 +3,7 @@
 ghost use Rattle.std.specs.Prelude.{◌≡◌, ℕ, ◌+◌, ◌<◌};
 ghost use Rattle.mv_core.specs.Known.{Known, RunsOn};
 ghost use Rattle.mv_core.specs.Passes.{view, IsOf, IsSame, IsSeatOf, config_of, start_of};
-ghost use Rattle.mv_core.specs.Rule.{Loads, Stores, Swaps, Raises, IsKept};
+ghost use Rattle.mv_core.specs.Rule.{Loads, Stores, Swaps, Raises, LoadsAs, StoresAs, SwapsAs, RaisesAs, IsKept};
 ghost use Rattle.mv_layout.specs.Places.{IsPlace, place_of};
 
 use crate::shared::{Pass, Shared};
@@ -14,22 +14,29 @@ use mv_history::{Protocol, Tag};
 use std::marker::{Brand, PhantomData};
 use std::sync::ledger::Ledger;
 
-/// The word that a step is of, and what it tells of the number found and of the view after.
+/// The word that a step is of, what it tells of the number found and of the view after, and the kind
+/// of move that it is.
 pub(crate) trait Turn {
     ghost use Rattle.mv_core.specs.declared.view.View.{View};
     ghost use Rattle.mv_layout.specs.declared.Place.{Place};
+    ghost use Rattle.mv_core.specs.Moves.{Kind};
 
     ghost place: { Place };
 
     ghost tells: { ℕ → View → Type 0 };
+
+    ghost kind: { Kind };
 }
 
 impl Turn for Brand {
     ghost use Rattle.mv_layout.specs.declared.Place.TheVariants.{Clock};
+    ghost use Rattle.mv_core.specs.Moves.{load_low};
 
     ghost place = { Clock };
 
     ghost tells = { λ _ _. Unit {0} };
+
+    ghost kind = { load_low };
 }
 
 /// A step that leaves what the pass has at run time.
@@ -69,6 +76,7 @@ pub(crate) fn load_as<P: Protocol, J: Turn, L: Ledger, T>(
     requires place { IsPlace (config_of shared.now) J.place × (index ≡ place_of (config_of shared.now) J.place) }
     requires rule { Loads P.start P.allowed (config_of shared.now) (start_of shared.now) (view pass.old) J.place
         (λ n w. (J.tells n w × RunsOn (view pass.old) w) × IsKept (view pass.old) w) }
+    requires moves { LoadsAs P.start P.allowed (config_of shared.now) (start_of shared.now) (view pass.old) J.place J.kind J.tells }
     ensures same { IsSame pass.old pass.new }
     ensures tells { J.tells result (view pass.new) }
     ensures step { steps.new ≡ steps.old + 1 }
@@ -94,6 +102,7 @@ pub(crate) fn store_as<P: Protocol, J: Turn, L: Ledger, T>(
     requires place { IsPlace (config_of shared.now) J.place × (index ≡ place_of (config_of shared.now) J.place) }
     requires rule { Stores P.start P.allowed (config_of shared.now) (start_of shared.now) (view pass.old) J.place new
         (λ w. (J.tells new w × RunsOn (view pass.old) w) × IsKept (view pass.old) w) }
+    requires moves { StoresAs P.start P.allowed (config_of shared.now) (start_of shared.now) (view pass.old) J.place J.kind new (J.tells new) }
     ensures same { IsSame pass.old pass.new }
     ensures tells { J.tells new (view pass.new) }
     ensures step { steps.new ≡ steps.old + 1 }
@@ -120,6 +129,7 @@ pub(crate) fn swap_as<P: Protocol, J: Turn, L: Ledger, T>(
     requires place { IsPlace (config_of shared.now) J.place × (index ≡ place_of (config_of shared.now) J.place) }
     requires rule { Swaps P.start P.allowed (config_of shared.now) (start_of shared.now) (view pass.old) J.place old new
         (λ n w. (J.tells n w × RunsOn (view pass.old) w) × IsKept (view pass.old) w) }
+    requires moves { SwapsAs P.start P.allowed (config_of shared.now) (start_of shared.now) (view pass.old) J.place J.kind old new J.tells }
     ensures same { IsSame pass.old pass.new }
     ensures tells { J.tells result (view pass.new) }
     ensures step { steps.new ≡ steps.old + 1 }
@@ -145,6 +155,7 @@ pub(crate) fn raise_as<P: Protocol, J: Turn, L: Ledger, T>(
     requires place { IsPlace (config_of shared.now) J.place × (index ≡ place_of (config_of shared.now) J.place) }
     requires rule { Raises P.start P.allowed (config_of shared.now) (start_of shared.now) (view pass.old) J.place by
         (λ n w. (J.tells n w × RunsOn (view pass.old) w) × IsKept (view pass.old) w) }
+    requires moves { RaisesAs P.start P.allowed (config_of shared.now) (start_of shared.now) (view pass.old) J.place J.kind by J.tells }
     ensures same { IsSame pass.old pass.new }
     ensures tells { J.tells result (view pass.new) }
     ensures step { steps.new ≡ steps.old + 1 }
@@ -168,6 +179,7 @@ pub(crate) fn load_alone<P: Protocol, J: Turn, L: Ledger, T>(
     requires of { IsSeatOf P.start P.allowed shared.now seat.old }
     requires place { IsPlace (config_of shared.now) J.place × (index ≡ place_of (config_of shared.now) J.place) }
     requires rule { Loads P.start P.allowed (config_of shared.now) (start_of shared.now) seat.old.me.0 J.place (λ n w. J.tells n w × IsKept seat.old.me.0 w) }
+    requires moves { LoadsAs P.start P.allowed (config_of shared.now) (start_of shared.now) seat.old.me.0 J.place J.kind J.tells }
     ensures same { (seat.new.table_id ≡ seat.old.table_id) × IsKept seat.old.me.0 seat.new.me.0 }
     ensures known { ∥ Known P.start P.allowed seat.new.me.0 ∥₁ }
     ensures taken { seat.new.me.1 ≡ seat.old.me.1 }
@@ -195,6 +207,7 @@ pub(crate) fn swap_alone<P: Protocol, J: Turn, L: Ledger, T>(
     requires of { IsSeatOf P.start P.allowed shared.now seat.old }
     requires place { IsPlace (config_of shared.now) J.place × (index ≡ place_of (config_of shared.now) J.place) }
     requires rule { Swaps P.start P.allowed (config_of shared.now) (start_of shared.now) seat.old.me.0 J.place old new (λ n w. J.tells n w × IsKept seat.old.me.0 w) }
+    requires moves { SwapsAs P.start P.allowed (config_of shared.now) (start_of shared.now) seat.old.me.0 J.place J.kind old new J.tells }
     ensures same { (seat.new.table_id ≡ seat.old.table_id) × IsKept seat.old.me.0 seat.new.me.0 }
     ensures known { ∥ Known P.start P.allowed seat.new.me.0 ∥₁ }
     ensures taken { seat.new.me.1 ≡ seat.old.me.1 }

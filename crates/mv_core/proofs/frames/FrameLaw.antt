@@ -22,6 +22,11 @@ module _ {A : Type 0} where
       (λ e. subst (λ (u : ℕ). P u (set_at f n x u)) (sym e) (subst (P n) (sym (set_at_here f n x)) here))
       (λ ne. subst (P t) (sym (set_at_else f n x t ne)) (rest t ne))
 
+module _ {A : Type 0} (f : ℕ → A) (n : ℕ) (x : A) (is : f n ≡ x) where
+  -- where the new one is the old one nothing changes
+  pub set_at_same : set_at f n x ≡ f
+  set_at_same = λ i s. set_at_all (λ t y. y ≡ f t) f n x (sym is) (λ t ne. refl) s i
+
 -- the part after a step: the new one, where it changes
 abbrev pub after : {A : Type 0} → (ℕ → A) → ℕ → Option A → ℕ → A
 after f n None = f

@@ -10,7 +10,8 @@ use Rattle.mv_core.proofs.frames.SeatsThere.{at_within, there_still}
 
 module _ (vs : List View) (id : ℕ) (v w : View) where
   -- a view of the list after the step is one of before, as far as the list is read
-  old_of : get_elem? vs id ≡ some v → IsKept v w → (j : ℕ) (x : View) → get_elem? (set vs id w) j ≡ some x → (y : View) × (get_elem? vs j ≡ some y) × IsKept y x
+  pub old_of : get_elem? vs id ≡ some v → IsKept v w → (j : ℕ) (x : View) → get_elem? (set vs id w) j ≡ some x
+      → (y : View) × (get_elem? vs j ≡ some y) × IsKept y x
   old_of at kept j x at' =
       ⊎_elim
       (λ t. (v, subst (λ (i : ℕ). get_elem? vs i ≡ some v) (sym t.0) at, subst (λ (u : View). IsKept v u) t.1 kept))

@@ -2,7 +2,7 @@
 use Rattle.std.proofs.Common.{◌≡◌, ◌≢◌, ◌⊎◌, ℕ, zero, suc, ◌+◌, ◌<◌, ◌≤◌, true, false, List, [], ◌∷◌}
 use Rattle.std.proofs.Common.{◌++◌, length, set, sym, refl, ap, ◌∙◌, subst, inl, inr, ⊎_elim, arith, All}
 use Rattle.std.specs.Prelude.{Contains}
-use Rattle.std.proofs.lemmas.List.Elements.{All-append, All-cons, Contains-append_cases, Contains-append_left, Contains-append_right}
+use Rattle.std.proofs.lemmas.List.Elements.{All-contains, All-append, All-cons, Contains-append_cases, Contains-append_left, Contains-append_right}
 use Rattle.std.proofs.Math.Logic.{∥∥₁_map}
 use Rattle.mv_core.proofs.Terms.{dite, some, some-injective, some-ne-none, ℕ_discrete, get_elem?, State, Writes, Config, View, Note, Outside, Inside}
 use Rattle.mv_core.proofs.Terms.{new_view, spent_view, set_at}
@@ -11,6 +11,7 @@ use Rattle.atomic_table.proofs.Lists.{at_set, set_here, set_else}
 use Rattle.mv_core.specs.declared.shared.Opening.{Opening}
 use Rattle.mv_core.proofs.FactTerms.{Known, RunsOn, IsNoted, IsThere, Seated, Ruled}
 use Rattle.mv_core.specs.SeatSteps.{MayJoin, note_of, joined}
+use Rattle.mv_core.specs.Moves.{Moment, IsSeat, joins, moved, seat_joined}
 use Rattle.mv_core.proofs.frames.FrameLaw.{set_at_here, set_at_else, set_at_all, unread}
 use Rattle.mv_core.proofs.points.KnownLogs.{commit_still}
 use Rattle.mv_core.proofs.frames.SeatsThere.{at_within, named_still}
@@ -317,20 +318,89 @@ module _ (c : Config) (start : State) (vs : List View) (seats : ℕ → View) (i
     all = all_after;
   }
 
+-- a seat of which there is a note has another view that is as the note says
+module _ (c : Config) (start : State) (vs : List View) (seats : ℕ → View) (k : Seated c start vs seats) (o : ℕ) (x : View) (id : ℕ) (v : View) (n : Note)
+    (at : get_elem? vs id ≡ some v) (unspent : v.spent ≡ false) (has : Contains v.notes n)
+    (of_it : n.number ≡ o) (number : x.number ≡ (seats o).number) (begins : x.start ≡ (seats o).start) (from : x.base ≡ (seats o).base)
+    (past : x.past ≡ (seats o).past) (ring : x.ring ≡ (seats o).ring) (phase : x.phase ≡ (seats o).phase) (scan : x.scan ≡ (seats o).scan) where
+  agree : (s : ℕ) → ((set_at seats o x s).number ≡ (seats s).number) × ((set_at seats o x s).start ≡ (seats s).start)
+      × ((set_at seats o x s).base ≡ (seats s).base) × ((set_at seats o x s).past ≡ (seats s).past) × ((set_at seats o x s).ring ≡ (seats s).ring)
+      × ((set_at seats o x s).phase ≡ (seats s).phase) × ((set_at seats o x s).scan ≡ (seats s).scan)
+  agree = set_at_all (λ s u. (u.number ≡ (seats s).number) × (u.start ≡ (seats s).start) × (u.base ≡ (seats s).base) × (u.past ≡ (seats s).past)
+      × (u.ring ≡ (seats s).ring) × (u.phase ≡ (seats s).phase) × (u.scan ≡ (seats s).scan))
+      seats o x (number, begins, from, past, ring, phase, scan) (λ s ne. (refl, refl, refl, refl, refl, refl, refl))
+
+  pub seated_noted : Seated c start vs (set_at seats o x)
+  seated_noted = record {
+    own = λ s. let a = agree s in let b = k.own s in (a.0 ∙ b.0, a.1 ∙ b.1, a.2 ∙ b.2);
+    there = λ j y at' un. let t =
+        k.there j y at' un in (set_at_else seats o x y.number (λ e. k.gone id j v y n at at' unspent un has (e ∙ sym of_it)) ∙ t.0, t.1);
+    apart = k.apart;
+    noted = λ j y m at' un in_it. let r = k.noted j y m at' un in_it in let a = agree m.number in
+        record { number = a.0 ∙ r.number; past = a.3 ∙ r.past; ring = a.4 ∙ r.ring; outside = a.5 ∙ r.outside; no_scan = a.6 ∙ r.no_scan };
+    gone = k.gone;
+    once = k.once;
+    maker = λ j y at' un some_made.
+        let r = k.maker j y at' un some_made in
+        let below : n.number < y.made = All-contains (λ (m : Note). m.number < y.made) v.notes n (k.made j id y v at' at un unspent some_made).1 has in
+        (r.0, λ s le. set_at_else seats o x s (λ e. omega arith) ∙ r.1 s le);
+    made = k.made;
+    all = λ s. ⊎_elim inl
+        (λ new. dite (ℕ_discrete s o)
+        (λ e. inl (record { id = id; holder = v; place = at; unspent = unspent; named = inr (n, has, of_it ∙ sym e) }))
+        (λ ne. inr (set_at_else seats o x s ne ∙ new)))
+        (k.all s);
+  }
+
 -- the join of two seats keeps the rule
 pub seats_join : (starts : State → Type 0) (allows : List ℕ → State → Writes → Type 0) (key : Opening) (id o : ℕ) (v w : View) → v.spent ≡ false
     → w.spent ≡ false → MayJoin v w → Joins (Ruled starts allows key) id v o w (joined key.config v w) spent_view
 seats_join starts allows key id o v w unspent other_unspent may s r at other other_at =
-    let there : get_elem? s.views o ≡ some w = ⊎_elim (λ t. absurd (other t.0)) (λ t. t.1) (at_set s.views id o (joined key.config v w) w other_at) in
+    let c = key.config in
+    let start = key.start.value.items in
+    let n = v.number in
+    let u = joined c v w in
+    let x : View = record w { spent = true } in
+    let there : get_elem? s.views o ≡ some w = ⊎_elim (λ t. absurd (other t.0)) (λ t. t.1) (at_set s.views id o u w other_at) in
+    let before : Moment = record { memory = r.memory; history = r.history; seats = r.seats } in
+    let here_is : r.seats n ≡ v = (r.seated.there id v at unspent).0 in
+    let other_is : r.seats w.number ≡ w = (r.seated.there o w there other_unspent).0 in
+    let ne : w.number ≢ n = λ e. other (r.seated.apart o id w v there at other_unspent unspent e) in
+    let middle : ℕ → View = set_at r.seats n u in
+    let stays_so : middle w.number ≡ w = set_at_else r.seats n u w.number ne ∙ other_is in
+    let after : ℕ → View = set_at middle w.number x in
+    let seated = seated_joined c start s.views r.seats id o v w r.seated at there other unspent other_unspent may in
+    let place = u_place c start s.views r.seats id o v w r.seated at there other unspent other_unspent may in
+    let has : Contains u.notes (note_of w) = Contains-append_right v.notes (note_of w ∷ w.notes) (note_of w) (0, omega arith, refl) in
+    let seat : IsSeat before n = record { made = r.active id v at unspent; unspent = ap (λ (y : View). y.spent) here_is ∙ unspent } in
+    let other_seat : IsSeat before w.number =
+    record { made = r.active o w there other_unspent; unspent = ap (λ (y : View). y.spent) other_is ∙ other_unspent } in
+    let to : View → View → Moment = λ a b. record before { seats = set_at (set_at r.seats n (joined c a b)) w.number (record b { spent = true }) } in
+    let after_is : record before { seats = after } ≡ seat_joined c n w.number before = λ i. to (sym here_is i) (sym other_is i) in
+    let may_so : MayJoin (r.seats n) (r.seats w.number) =
+    subst (λ (a : View). MayJoin a (r.seats w.number)) (sym here_is) (subst (λ (b : View). MayJoin v b) (sym other_is) may) in
+    let made_middle : (middle 0).made ≡ (r.seats 0).made =
+    set_at_all (λ t y. y.made ≡ (r.seats t).made) r.seats n u (sym (ap (λ (y : View). y.made) here_is)) (λ t e. refl) 0 in
+    let made_after' : (after 0).made ≡ (middle 0).made =
+    set_at_all (λ t y. y.made ≡ (middle t).made) middle w.number x (sym (ap (λ (y : View). y.made) stays_so)) (λ t e. refl) 0 in
     record {
       memory = r.memory;
       history = r.history;
-      seats = set_at r.seats v.number (joined key.config v w);
+      seats = after;
       shows = r.shows;
       slotless = r.slotless;
-      seated = seated_joined key.config key.start.value.items s.views r.seats id o v w r.seated at there other unspent other_unspent may;
-      facts = unread starts allows key.config key.start.value.items r.memory r.history r.seats v.number v (joined key.config v w)
-          (r.seated.there id v at unspent).0 (refl, refl, refl, refl, refl, refl, refl, refl, refl, refl, refl) r.facts;
+      seated = seated_noted c start (set (set s.views id u) o spent_view) middle seated w.number x id u (note_of w) place unspent has refl
+          (ap (λ (y : View). y.number) (sym stays_so)) (ap (λ (y : View). y.start) (sym stays_so)) (ap (λ (y : View). y.base) (sym stays_so))
+          (ap (λ (y : View). y.past) (sym stays_so))
+          (ap (λ (y : View). y.ring) (sym stays_so)) (ap (λ (y : View). y.phase) (sym stays_so)) (ap (λ (y : View). y.scan) (sym stays_so));
+      facts = unread starts allows c start r.memory r.history middle w.number w x stays_so (refl, refl, refl, refl, refl, refl, refl, refl, refl, refl, refl)
+          (unread starts allows c start r.memory r.history r.seats n v u here_is (refl, refl, refl, refl, refl, refl, refl, refl, refl, refl, refl) r.facts);
+      reached = moved before (record before { seats = after }) r.reached (n, seat, joins w.number ne other_seat may_so after_is);
+      active = λ j y at' un.
+          let a = was c start s.views r.seats id o v w r.seated at there other unspent other_unspent may j y at' un in
+          let lt = r.active j a.view a.place a.still in
+          let e = a.number_is in
+          omega arith;
     }
 
 -- the pass that is left is as it was

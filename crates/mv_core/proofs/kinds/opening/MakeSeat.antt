@@ -8,7 +8,7 @@ use Rattle.std.proofs.Math.Logic.{∥∥₁_map}
 use Rattle.mv_core.proofs.Terms.{dite, some, some-injective, some-ne-none, ℕ_discrete, get_elem?, Change, Step, State, Writes, Config, Checked, Shows}
 use Rattle.mv_core.proofs.Terms.{Held, Committed, View, Note, new_view, set_at}
 use Rattle.atomic_table.specs.Table.{Splits, opening}
-use Rattle.atomic_table.proofs.Lists.{at_set, set_here, at_last}
+use Rattle.atomic_table.proofs.Lists.{at_set, set_here, at_last, at_longer}
 use Rattle.mv_history.specs.declared.StepKind.TheVariants.{MakeSeat}
 use Rattle.mv_history.specs.Legal.{AreWords}
 use Rattle.mv_history.proofs.Histories.{no_split}
@@ -16,7 +16,9 @@ use Rattle.mv_core.specs.declared.shared.Opening.{Opening}
 use Rattle.mv_core.proofs.FactTerms.{Known, IsTimed, IsBegun, RunsOn, IsNoted, IsThere, Seated, Ruled, first_view}
 use Rattle.mv_core.specs.Start.{opening_memory, maker_view}
 use Rattle.mv_core.specs.SeatSteps.{made_one, newly_made}
-use Rattle.mv_core.proofs.frames.FrameLaw.{set_at_here, set_at_else, set_at_all, unread}
+use Rattle.mv_core.specs.Moves as moves
+use Rattle.mv_core.specs.Moves.{Moment, IsSeat, makes, moved, seat_made}
+use Rattle.mv_core.proofs.frames.FrameLaw.{set_at_here, set_at_else, set_at_all, set_at_same, unread}
 use Rattle.mv_core.proofs.frames.SectionBounds.{none_in}
 use Rattle.mv_core.proofs.points.KnownLogs.{commit_still}
 use Rattle.mv_core.proofs.frames.SeatsThere.{at_within, there_still, there_longer}
@@ -264,16 +266,39 @@ module _ (c : Config) (start : State) (vs : List View) (seats : ℕ → View) (i
 pub seat_splits : (starts : State → Type 0) (allows : List ℕ → State → Writes → Type 0) (key : Opening) (id : ℕ) (v : View) → v.spent ≡ false → 0 < v.made
     → v.made < key.config.seats
     → Splits (Ruled starts allows key) id v (made_one key.config v) (newly_made key.config v)
-seat_splits starts allows key id v unspent maker room s r at = record {
-  memory = r.memory;
-  history = r.history;
-  seats = set_at r.seats v.number (made_one key.config v);
-  shows = r.shows;
-  slotless = r.slotless;
-  seated = seated_made key.config key.start.value.items s.views r.seats id v r.seated at unspent maker room;
-  facts = unread starts allows key.config key.start.value.items r.memory r.history r.seats v.number v (made_one key.config v)
-      (r.seated.there id v at unspent).0 (refl, refl, refl, refl, refl, refl, refl, refl, refl, refl, refl) r.facts;
-}
+seat_splits starts allows key id v unspent maker room s r at =
+    let c = key.config in
+    let start = key.start.value.items in
+    let n = v.number in
+    let w = made_one c v in
+    let x = newly_made c v in
+    let before : Moment = record { memory = r.memory; history = r.history; seats = r.seats } in
+    let here_is : r.seats n ≡ v = (r.seated.there id v at unspent).0 in
+    let first : n ≡ 0 = (r.seated.maker id v at unspent maker).0 in
+    let was_new : r.seats v.made ≡ x = new_is c start s.views r.seats id v r.seated at unspent maker room in
+    let same : set_at (set_at r.seats n w) v.made x ≡ set_at r.seats n w =
+    set_at_same (set_at r.seats n w) v.made x (set_at_else r.seats n w v.made (λ e. omega arith) ∙ was_new) in
+    let seat : IsSeat before n = record { made = r.active id v at unspent; unspent = ap (λ (u : View). u.spent) here_is ∙ unspent } in
+    let after_is : record before { seats = set_at r.seats n w } ≡ seat_made c n before =
+    ap (λ (f : ℕ → View). record before { seats = f }) (sym same)
+    ∙ ap (λ (u : View). record before { seats = set_at (set_at r.seats n (made_one c u)) u.made (newly_made c u) }) (sym here_is) in
+    let as_made : (set_at r.seats n w 0).made ≡ v.made + 1 =
+    ap (λ (i : ℕ). (set_at r.seats n w i).made) (sym first) ∙ ap (λ (u : View). u.made) (set_at_here r.seats n w) in
+    let seated = seated_made c start s.views r.seats id v r.seated at unspent maker room in
+    let place : get_elem? (set s.views id w ++ x ∷ []) id ≡ some w =
+    at_longer (set s.views id w) (x ∷ []) id w (set_here s.views id w (at_within s.views id v at)) in
+    record {
+      memory = r.memory;
+      history = r.history;
+      seats = set_at r.seats n w;
+      shows = r.shows;
+      slotless = r.slotless;
+      seated = seated;
+      facts = unread starts allows c start r.memory r.history r.seats n v w here_is (refl, refl, refl, refl, refl, refl, refl, refl, refl, refl, refl) r.facts;
+      reached = moved before (record before { seats = set_at r.seats n w }) r.reached
+          (n, seat, makes first (subst (λ (u : View). u.made < c.seats) (sym here_is) room) after_is);
+      active = λ j y at' un. let lt = (seated.made id j w y place at' unspent un (omega arith)).0 in omega arith;
+    }
 
 -- a new domain keeps the rule
 pub opened : (starts : State → Type 0) (allows : List ℕ → State → Writes → Type 0) (key : Opening) (words : List ℕ) → Checked key.config
@@ -288,6 +313,8 @@ opened starts allows key words k sized wide lawful shows = record {
   slotless = refl;
   seated = first_seated key.config key.start.value.items k.seats.0;
   facts = starting_facts starts allows key.config key.start.value.items k sized wide lawful;
+  reached = moves.opened;
+  active = λ id v at un. subst (λ (u : View). u.number < 1) (one id (first_view key.config key.start.value.items) v at).1 (omega arith);
 }
 
 module _ (starts : State → Type 0) (allows : List ℕ → State → Writes → Type 0) (c : Config) where

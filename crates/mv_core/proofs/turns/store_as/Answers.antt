@@ -10,7 +10,8 @@ store-requires g c =
       search rules,
       search rules,
       store_allows _ _ _ _ _ _ g.J.Turn.place _ c.requires.place.0 c.requires.place.1 (unspent_of _ _ _ c.args.pass.now.known) o.3
-          o.2 _ (λ w. g.J.Turn.tells c.args.new w × RunsOn (view c.args.pass.now) w) c.requires.rule,
+          o.2 g.J.Turn.kind _ (g.J.Turn.tells c.args.new) (λ w. g.J.Turn.tells c.args.new w × RunsOn (view c.args.pass.now) w) (λ w t. t.0) (search rules)
+          c.requires.moves c.requires.rule,
     )
 
 pub invariant_of-pass : goal.invariant_of-pass

@@ -1,3 +1,4 @@
+use Rattle.mv_core.specs.Moves.{cut_head}
 use Rattle.std.proofs.Common.{◌≢◌}
 use Rattle.mv_core.proofs.Terms.{Head, link_of, view, config_of}
 use Rattle.mv_core.specs.WalkSteps.{IsLinkOf}
@@ -10,4 +11,5 @@ ghosts-swap_as g a = record {
   tells = λ n w. CutTold (config_of a.shared.now) (view a.pass.now) a.about.now.0 a.about.now.1 g.back.0 g.back.1 n w
       × (n ≢ link_of (view a.pass.now).number a.about.now.1 → IsLinkOf (config_of a.shared.now) n)
       × (n ≢ link_of (view a.pass.now).number a.about.now.1 → IsOfOther (view a.pass.now) n);
+  kind = cut_head a.about.now.0 a.about.now.1 g.back.0 g.back.1;
 }

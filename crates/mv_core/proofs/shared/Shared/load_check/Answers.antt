@@ -1,6 +1,21 @@
+use Rattle.std.proofs.Common.{refl, ap, ◌∙◌}
+use Rattle.mv_core.proofs.Terms.{Clock, View}
+use Rattle.mv_core.specs.Passes.{config_of}
+use Rattle.mv_core.specs.EnterSteps.{check_loaded}
+use Rattle.mv_core.proofs.moves.Grown.{whole_is}
 use Rattle.mv_core.specs.Passes.{view}
 use Rattle.mv_core.proofs.kinds.helping.LoadCheck.{check_loads}
 use Rattle.mv_core.proofs.shared.Shared.load_check.Goals as goal
 
 pub load_as-requires-clause-rule : goal.load_as-requires-clause-rule
 load_as-requires-clause-rule g c = check_loads _ _ _ _ (view c.args.pass.now)
+
+pub load_as-requires-clause-moves : goal.load_as-requires-clause-moves
+load_as-requires-clause-moves g c = record {
+  may = c.requires.may;
+  place = refl;
+  writes = λ x. refl;
+  entry = λ x. refl;
+  view = λ m h seats w k t. t.0.2 ∙ ap (check_loaded (config_of c.args.self.now) (view c.args.pass.now) (m Clock))
+      (whole_is seats (view c.args.pass.now) w t.0.0 k t.0.1 (ap (λ (u : View). u.past.seen) t.0.2));
+}

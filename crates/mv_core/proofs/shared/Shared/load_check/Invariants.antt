@@ -1,3 +1,4 @@
+use Rattle.mv_core.specs.Moves.{load_check}
 use Rattle.std.proofs.Common.{◌≡◌, List}
 use Rattle.mv_core.proofs.Terms.{Entry, Clock, view, config_of}
 use Rattle.mv_core.specs.SectionFacts.{IsWord}
@@ -10,4 +11,5 @@ ghosts-load_as g a = record {
   tells = λ n w.
       ((h : List Entry) × IsWhole (config_of a.shared.now) (view a.pass.now) n h × (w ≡ check_loaded (config_of a.shared.now) (view a.pass.now) n h))
       × IsWord (config_of a.shared.now) n;
+  kind = load_check;
 }

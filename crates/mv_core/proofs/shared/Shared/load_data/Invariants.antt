@@ -1,3 +1,4 @@
+use Rattle.mv_core.specs.Moves.{load_data}
 use Rattle.std.proofs.Common.{◌≡◌, length}
 use Rattle.mv_core.proofs.Terms.{link_seat_of, Data, view, config_of}
 use Rattle.mv_core.specs.WalkSteps.{slot_named, data_loaded, words_read, word_read}
@@ -9,4 +10,5 @@ ghosts-load_as g a = record {
   tells = λ n w. (w ≡ data_loaded (config_of a.shared.now) (view a.pass.now) g.at.0 a.about.now.1 n)
       × (n ≡ word_read (config_of a.shared.now) (view a.pass.now) g.at.1 g.at.0.object a.about.now.1)
       × (length (words_read (config_of a.shared.now) (view a.pass.now) g.at.1 g.at.0.object) ≡ 6);
+  kind = load_data a.about.now.0 a.about.now.1 g.at.0 g.at.1;
 }

@@ -1,3 +1,4 @@
+use Rattle.mv_core.specs.Moves.{load_grace}
 use Rattle.std.proofs.Common.{◌≡◌}
 use Rattle.mv_core.proofs.Terms.{Grace, view, config_of}
 use Rattle.mv_core.specs.SeatSteps.{grace_loaded}
@@ -7,4 +8,5 @@ abbrev pub ghosts-load_as : goal.ghosts-load_as
 ghosts-load_as g a = record {
   place = Grace;
   tells = λ n w. w ≡ grace_loaded (config_of a.shared.now) (view a.pass.now) n;
+  kind = load_grace;
 }

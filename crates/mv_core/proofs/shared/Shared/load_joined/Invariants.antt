@@ -1,3 +1,4 @@
+use Rattle.mv_core.specs.Moves.{load_joined}
 use Rattle.std.proofs.Common.{◌≡◌, List}
 use Rattle.mv_core.proofs.Terms.{Entry, Clock, view, config_of}
 use Rattle.mv_core.specs.SectionFacts.{IsWord}
@@ -11,4 +12,5 @@ ghosts-load_as g a = record {
   tells = λ n w.
       ((h : List Entry) × IsWhole (config_of a.shared.now) (view a.pass.now) n h × (w ≡ joined_loaded (config_of a.shared.now) (view a.pass.now) n h))
       × IsWord (config_of a.shared.now) n;
+  kind = load_joined;
 }

@@ -1,3 +1,4 @@
+use Rattle.mv_core.specs.Moves.{load_named}
 use Rattle.std.proofs.Common.{◌≡◌}
 use Rattle.mv_core.specs.Passes.{view, config_of}
 use Rattle.mv_core.specs.EnterSteps.{stamp_place, named_loaded}
@@ -7,4 +8,5 @@ abbrev pub ghosts-load_as : goal.ghosts-load_as
 ghosts-load_as g a = record {
   place = stamp_place a.about.now;
   tells = λ n w. w ≡ named_loaded (config_of a.shared.now) (view a.pass.now) a.about.now n;
+  kind = load_named a.about.now;
 }

@@ -1,3 +1,4 @@
+use Rattle.mv_core.specs.Moves.{load_scan}
 use Rattle.std.proofs.Common.{◌≡◌, ◌<◌, List}
 use Rattle.std.specs.Prelude.{All}
 use Rattle.mv_core.proofs.Terms.{Entry, maker_of, Clock, view, config_of}
@@ -12,4 +13,5 @@ ghosts-load_as g a = record {
   tells = λ n w.
       ((h : List Entry) × IsWhole (config_of a.shared.now) (view a.pass.now) n h × (w ≡ scan_loaded (config_of a.shared.now) (view a.pass.now) n h))
       × IsWord (config_of a.shared.now) n × All (λ e. maker_of e < (config_of a.shared.now).seats) w.past.seen;
+  kind = load_scan;
 }

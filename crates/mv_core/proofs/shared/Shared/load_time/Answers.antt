@@ -1,3 +1,7 @@
+use Rattle.std.proofs.Common.{refl, ap}
+use Rattle.mv_core.proofs.Terms.{Clock, View}
+use Rattle.mv_core.specs.EnterSteps.{time_loaded}
+use Rattle.mv_core.proofs.moves.Grown.{whole_is}
 use Rattle.std.proofs.Common.{sym, ◌∙◌}
 use Rattle.mv_core.specs.Passes.{view, config_of}
 use Rattle.mv_core.proofs.kinds.entering.LoadTime.{time_loads, time_runs}
@@ -12,3 +16,13 @@ invariant_of-pass g c =
     let t = l.tells in
     let r = time_runs (config_of c.args.self.now) (view c.args.pass.now) _ _ _ c.args.pass.now.first t.0.0 t.0.2 t.2 c.clock_time-pass.ensures in
     record { numbered = c.args.pass.now.numbered ∙ sym l.same.1.0; timed = r.0; begun = r.1; known = l.known; taken = l.taken ∙ c.args.pass.now.taken }
+
+pub load_alone-word-requires-clause-moves : goal.load_alone-word-requires-clause-moves
+load_alone-word-requires-clause-moves g c = record {
+  may = c.requires.may;
+  place = refl;
+  writes = λ x. refl;
+  entry = λ x. refl;
+  view = λ m h seats w k t. t.0.2 ∙ ap (time_loaded (config_of c.args.self.now) (view c.args.pass.now) (m Clock))
+      (whole_is seats (view c.args.pass.now) w t.0.0 k t.0.1 (ap (λ (u : View). u.past.seen) t.0.2));
+}

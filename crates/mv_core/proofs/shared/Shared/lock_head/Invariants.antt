@@ -1,3 +1,4 @@
+use Rattle.mv_core.specs.Moves.{lock_head}
 use Rattle.std.proofs.Common.{◌≡◌, ◌≢◌}
 use Rattle.mv_core.proofs.Terms.{Head, link_seat_of, config_of}
 use Rattle.mv_core.specs.WalkSteps.{IsLinkOf}
@@ -10,4 +11,5 @@ ghosts-swap_alone g a = record {
   tells = λ n w. LockTold (config_of a.shared.now) a.seat.now.me.0 g.what.1 a.about.now.0 a.about.now.1 a.about.now.2 n w
       × (n ≡ a.about.now.1 → OneMoreWrite (config_of a.shared.now) a.seat.now.me.0 g.what.1 a.about.now.0 w)
       × (n ≢ a.about.now.1 → IsLinkOf (config_of a.shared.now) n × (n ≢ 0 → link_seat_of n ≢ a.seat.now.me.0.number));
+  kind = lock_head a.about.now.0 a.about.now.1 a.about.now.2 g.what.0 g.what.1;
 }

@@ -1,3 +1,4 @@
+use Rattle.mv_core.specs.Moves.{name_rest}
 use Rattle.mv_core.proofs.Terms.{Clock, view, config_of}
 use Rattle.mv_core.specs.SectionFacts.{IsWord}
 use Rattle.mv_core.specs.NameSteps.{RestTold}
@@ -7,4 +8,5 @@ abbrev pub ghosts-swap_as : goal.ghosts-swap_as
 ghosts-swap_as g a = record {
   place = Clock;
   tells = λ n w. RestTold (config_of a.shared.now) (view a.pass.now) a.about.now n w × IsWord (config_of a.shared.now) n;
+  kind = name_rest a.about.now;
 }

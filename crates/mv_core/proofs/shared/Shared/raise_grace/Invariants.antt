@@ -1,3 +1,4 @@
+use Rattle.mv_core.specs.Moves.{raise_grace}
 use Rattle.std.proofs.Common.{◌≡◌}
 use Rattle.mv_core.proofs.Terms.{Grace, view, config_of}
 use Rattle.mv_core.specs.SeatSteps.{grace_raised}
@@ -7,4 +8,5 @@ abbrev pub ghosts-raise_as : goal.ghosts-raise_as
 ghosts-raise_as g a = record {
   place = Grace;
   tells = λ n w. w ≡ grace_raised (config_of a.shared.now) (view a.pass.now) a.about.now n;
+  kind = raise_grace a.about.now;
 }

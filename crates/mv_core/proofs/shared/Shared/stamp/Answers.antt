@@ -1,6 +1,27 @@
+use Rattle.std.proofs.Common.{sym, refl, ap, ◌∙◌}
+use Rattle.mv_core.proofs.Terms.{View}
+use Rattle.mv_core.specs.EnterSteps.{stamp_place, stored_if}
+use Rattle.mv_core.specs.Moves.{history_after}
+use Rattle.mv_core.proofs.moves.Grown.{stays}
+use Rattle.mv_core.proofs.moves.Calls.{won_is, lost_is, no_made}
 use Rattle.mv_core.specs.Passes.{view}
 use Rattle.mv_core.proofs.kinds.helping.stamp.SwapStamp.{stamp_swaps}
 use Rattle.mv_core.proofs.shared.Shared.stamp.Goals as goal
 
 pub swap_as-found-requires-clause-rule : goal.swap_as-found-requires-clause-rule
 swap_as-found-requires-clause-rule g c = stamp_swaps _ _ _ _ (view c.args.pass.now) c.args.word c.args.unset c.requires.may _ c.clock_time-time.ensures
+
+pub swap_as-found-requires-clause-moves : goal.swap_as-found-requires-clause-moves
+swap_as-found-requires-clause-moves g c = record {
+  may = c.requires.may;
+  place = refl;
+  writes = λ x. ap (stored_if x c.args.unset) (sym c.clock_time-time.ensures);
+  entry = λ x ne. no_made _ x;
+  won = λ m h longer seats w k is hit l t. let e =
+      t in (
+        e ∙ sym (won_is c.args.unset _ _ _ refl),
+        stays seats (view c.args.pass.now) w is k l (ap (λ (u : View). u.past) e)
+            ∙ sym (ap (history_after h) (no_made c.args.unset _)),
+      );
+  lost = λ m h seats w miss l t. t ∙ sym (lost_is c.args.unset (m (stamp_place c.args.word)) _ _ miss);
+}

@@ -1,3 +1,4 @@
+use Rattle.mv_core.specs.Moves.{store_mark}
 use Rattle.std.proofs.Common.{◌≡◌}
 use Rattle.mv_core.proofs.Terms.{Mark, view, config_of}
 use Rattle.mv_core.specs.EnterSteps.{mark_stored}
@@ -7,4 +8,5 @@ abbrev pub ghosts-store_as : goal.ghosts-store_as
 ghosts-store_as g a = record {
   place = Mark (view a.pass.now).number;
   tells = λ n w. w ≡ mark_stored (config_of a.shared.now) (view a.pass.now) a.about.now;
+  kind = store_mark a.about.now;
 }

@@ -1,3 +1,4 @@
+use Rattle.std.proofs.Common.{refl}
 use Rattle.mv_core.specs.Passes.{view}
 use Rattle.mv_core.proofs.kinds.reclaiming.StoreMaster.{master_stores}
 use Rattle.mv_core.proofs.shared.Shared.store_master.Goals as goal
@@ -5,3 +6,13 @@ use Rattle.mv_core.proofs.shared.Shared.store_master.Goals as goal
 pub store_as-requires-clause-rule : goal.store_as-requires-clause-rule
 store_as-requires-clause-rule g c =
     master_stores _ _ _ _ (view c.args.pass.now) c.args.object c.args.word c.args.value g.back.0 g.back.1 g.back.2 g.back.3 c.requires.1.1.1.1
+
+pub store_as-requires-clause-moves : goal.store_as-requires-clause-moves
+store_as-requires-clause-moves g c = record {
+  may = c.requires.1.1.1.1;
+  place = refl;
+  writes = λ x. refl;
+  entry = λ x. refl;
+  view = λ x h w t. t;
+  past = λ x h. refl;
+}

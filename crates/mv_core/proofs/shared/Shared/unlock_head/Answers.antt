@@ -1,6 +1,17 @@
+use Rattle.std.proofs.Common.{refl}
 use Rattle.mv_core.specs.Passes.{view}
 use Rattle.mv_core.proofs.kinds.locking.unlock_head.UnlockHead.{unlock_stores}
 use Rattle.mv_core.proofs.shared.Shared.unlock_head.Goals as goal
 
 pub store_as-requires-clause-rule : goal.store_as-requires-clause-rule
 store_as-requires-clause-rule g c = unlock_stores _ _ _ _ (view c.args.pass.now) c.args.object c.args.previous g.held.0 g.held.1 g.held.2 c.requires.1.1.1.1
+
+pub store_as-requires-clause-moves : goal.store_as-requires-clause-moves
+store_as-requires-clause-moves g c = record {
+  may = c.requires.1.1.1.1;
+  place = refl;
+  writes = λ x. refl;
+  entry = λ x. refl;
+  view = λ x h w t. t;
+  past = λ x h. refl;
+}

@@ -1,0 +1,7 @@
+-- Moves: that each keeps the rule, and that there is one history.
+pub mod Grown
+pub mod Kept
+pub mod Calls
+pub mod Kinds
+pub mod Moving
+pub mod OneHistory

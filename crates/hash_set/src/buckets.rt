@@ -11,7 +11,8 @@ pub fn bucket(set: u32, bucket: u32) -> u32
     10 + 16 * set + bucket
 }
 
-// The head of the bucket in which the key of a set stands.
+/// The head of the bucket in which the key of a set, 0 to 9, stands. `list_set::find` looks for the
+/// key there.
 pub fn bucket_of(set: u32, key: u32) -> u32
     requires set_in { set < 10 }
     ensures { result ≡ head_of set key }

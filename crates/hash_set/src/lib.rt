@@ -14,6 +14,9 @@
 //! objects for an add or a del, and the key's node alone for a put. The calls never commit and never
 //! retry, and take no memory.
 //!
+//! A call of a key makes one walk, along the key's bucket. `bucket_of` tells its head, for who
+//! searches there first and changes later.
+//!
 //! `next_in` asks each bucket, since the next key may stand in any of them: a hash table has no
 //! order of its own.
 //!
@@ -28,4 +31,5 @@ mod buckets;
 mod tables;
 mod tests;
 
+pub use buckets::bucket_of;
 pub use tables::{add_in, del_in, get_in, has_in, next_in, put_in, size_in};

@@ -1,22 +1,49 @@
--- From what a search found to what an add, a del and a put leave. Section `a` is the old one, `b` the one in which the locks
--- begin, as it was, and `c` the new one.
-use Rattle.std.proofs.Common.{◌≡◌, ◌≢◌, ℕ, suc, ◌+◌, ◌<◌, ◌≤◌, inl, inr, true, false, Bool, cond, not, ◌&&◌, eqb}
-use Rattle.std.proofs.Common.{List, [], ◌∷◌, length, set, sym, ap, ◌∙◌, subst, arith, Option, Some, None}
+-- From what a search found to what an add, a del and a put leave. Section `a` is the old one, `b` the one in which the locks begin, as it was, and `c` the new
+-- one.
+use Rattle.std.proofs.Common.{
+  ◌≡◌,
+  ◌≢◌,
+  ℕ,
+  ◌<◌,
+  ◌≤◌,
+  inl,
+  inr,
+  true,
+  false,
+  Bool,
+  cond,
+  not,
+  ◌&&◌,
+  eqb,
+  List,
+  [],
+  ◌∷◌,
+  length,
+  refl,
+  sym,
+  ap,
+  ◌∙◌,
+  subst,
+  arith,
+  Option,
+  Some,
+  None,
+}
 use Rattle.std.proofs.lemmas.Bool.Decides.{nat_tests}
 use Rattle.mv_history.specs.State.{State, Writes}
 use Rattle.mv_history.specs.Legal.{are_distinct, AreWithin}
-use Rattle.mv_history.specs.Meaning.{InSection, words_at, state_of}
+use Rattle.mv_history.specs.Meaning.{InSection, state_of}
 use Rattle.mv_history.specs.Calls.{IsAsBefore, GoesOn}
 use Rattle.mv_history.proofs.Steps.{GoesOn-GoesOn}
 use Rattle.mv_history.proofs.Snapshots.{snapshot_of-goes_on}
 use Rattle.set_script.specs.Catalogue.{has_key, value_of}
 use Rattle.set_script.specs.CatalogueOf.{map_at, catalogue_of}
-use Rattle.set_script.specs.Objects.{owner, key, link, no_words}
+use Rattle.set_script.specs.Objects.{owner, key, link}
 use Rattle.set_script.specs.Lists.{FitsHead}
 use Rattle.set_script.specs.Lawful.{IsLawful}
 use Rattle.set_script.proofs.ObjectWords.{word}
 use Rattle.list_set.specs.Places.{IsAddPlace, add_writes, IsDelPlace, del_writes, IsPutPlace, put_writes}
-use Rattle.set_script.specs.OwnWrites.{with_locks, with_writes}
+use Rattle.set_script.specs.OwnWrites.{with_locks, with_writes, objects_of}
 use Rattle.list_set.specs.Held.{count_unheld, HasRoom, HoldsMore}
 use Rattle.list_set.specs.Calls.{Rewritten, Adds, Takes, Puts, Refuses}
 use Rattle.list_set.specs.Walks.{IsFound, IsSpot}
@@ -77,15 +104,17 @@ room_before a b os same r =
     }
 
 -- The writes are of different objects in range. Their words do not matter to that.
-pub one_within : (a b : InSection) (o : ℕ) → a.at ≤ length a.seat.seen → IsAsBefore a b → o < length (state_of a)
-    → AreWithin ((o, []) ∷ []) (length (state_of b))
-one_within a b o le same lt =
-    subst (λ (u : State). AreWithin ((o, []) ∷ []) (length u)) (sym (state_of-as_before a b le same)) (λ u t. grind (arith, nat_tests))
+pub one_within : (o m : ℕ) → o < m → AreWithin ((o, []) ∷ []) m
+one_within o m lt = λ u t. grind (arith, nat_tests)
 
-pub two_within : (a b : InSection) (o p : ℕ) → a.at ≤ length a.seat.seen → IsAsBefore a b → o < length (state_of a) → p < length (state_of a)
-    → AreWithin ((o, []) ∷ (p, []) ∷ []) (length (state_of b))
-two_within a b o p le same lo lp =
-    subst (λ (u : State). AreWithin ((o, []) ∷ (p, []) ∷ []) (length u)) (sym (state_of-as_before a b le same)) (λ u t. grind (arith, nat_tests))
+pub two_within : (o p m : ℕ) → o < m → p < m → AreWithin ((o, []) ∷ (p, []) ∷ []) m
+two_within o p m lo lp = λ u t. grind (arith, nat_tests)
+
+-- and where the state is as before
+pub within_before : (a b : InSection) (ws vs : Writes) → a.at ≤ length a.seat.seen → IsAsBefore a b → ws ≡ vs → AreWithin vs (length (state_of a))
+    → AreWithin ws (length (state_of b))
+within_before a b ws vs le same e w =
+    subst (λ (u : State). AreWithin ws (length u)) (sym (state_of-as_before a b le same)) (subst (λ (u : Writes). AreWithin u (length (state_of a))) (sym e) w)
 
 pub two_distinct : (o p : ℕ) → o ≢ p → are_distinct ((o, []) ∷ (p, []) ∷ []) ≡ true
 two_distinct o p n = grind (arith, nat_tests)
@@ -109,9 +138,9 @@ module _ (s t : State) (head k p : ℕ) (words : List ℕ) (node : ℕ) (node_wo
     ];
   }
 
-  pub add_found : has ≡ false → IsAddPlace t head k p × (words ≡ words_at t p) × (node ≡ link t p)
-  add_found missed =
-      subst (λ (u : State). IsAddPlace u head k p × (words ≡ words_at u p) × (node ≡ link u p)) same (add_place missed, i.words_are, i.next)
+  pub add_found : has ≡ false → (v n : ℕ) (ws : Writes) → ws ≡ add_writes s head k v p n → IsAddPlace t head k p × (ws ≡ add_writes t head k v p n)
+  add_found missed v n ws e =
+      subst (λ (u : State). IsAddPlace u head k p × (ws ≡ add_writes u head k v p n)) same (add_place missed, e)
 
   -- where it found the key, it found that of a del and of a put
   found_node : has ≡ true → IsFound s head k node node_words × (key s node ≡ k)
@@ -124,18 +153,21 @@ module _ (s t : State) (head k p : ℕ) (words : List ℕ) (node : ℕ) (node_wo
       none : node ≡ 0 → (not (eqb node 0) && eqb (word 2 node_words) k) ≡ true → ⊥
       none z test = grind (arith, nat_tests)
 
-  pub del_found : has ≡ true → IsDelPlace t head k p node × (words ≡ words_at t p) × (node_words ≡ words_at t node)
-  del_found found =
-      let f = found_node found in
-      let lo : 180 ≤ node = f.0.is_node in
-      subst (λ (u : State). IsDelPlace u head k p node × (words ≡ words_at u p) × (node_words ≡ words_at u node)) same
-      (record { within = i.within; behind = sym i.next; some = omega arith; has = f.1 }, i.words_are, f.0.words_are)
+  -- which is not 0
+  pub found_some : has ≡ true → node ≢ 0
+  found_some found = let lo : 180 ≤ node = (found_node found).0.is_node in omega arith
 
-  pub put_found : has ≡ true → IsPutPlace t head k node × (node_words ≡ words_at t node)
-  put_found found =
+  pub del_found : has ≡ true → (ws : Writes) → (node ≢ 0 → ws ≡ del_writes s p node) → IsDelPlace t head k p node × (ws ≡ del_writes t p node)
+  del_found found ws e =
       let f = found_node found in
-      subst (λ (u : State). IsPutPlace u head k node × (node_words ≡ words_at u node)) same
-      (record { is_node = f.0.is_node; own = f.0.own; has = f.1 }, f.0.words_are)
+      subst (λ (u : State). IsDelPlace u head k p node × (ws ≡ del_writes u p node)) same
+      (record { within = i.within; behind = sym i.next; some = found_some found; has = f.1 }, e (found_some found))
+
+  put_found : has ≡ true → (v : ℕ) (ws : Writes) → (node ≢ 0 → ws ≡ put_writes s node v) → IsPutPlace t head k node × (ws ≡ put_writes t node v)
+  put_found found v ws e =
+      let f = found_node found in
+      subst (λ (u : State). IsPutPlace u head k node × (ws ≡ put_writes u node v)) same
+      (record { is_node = f.0.is_node; own = f.0.own; has = f.1 }, e (found_some found))
 
   -- whether the key is in the map of the head
   pub spot_has : has ≡ has_key k (map_at t head)
@@ -146,84 +178,93 @@ module _ (s t : State) (head k p : ℕ) (words : List ℕ) (node : ℕ) (node_wo
       ap (λ (b : Bool). cond b (Some (word 5 node_words)) None) (sym (sym is ∙ found)) ∙ i.value ∙ ap (λ (u : State). value_of k (map_at u head)) same
 
 -- a search for a key that is there found the place of a put, and its value
-pub put_spot : (s t : State) (head k p : ℕ) (words : List ℕ) (node : ℕ) (node_words : List ℕ) → s ≡ t → IsSpot s head k p words node node_words
-    → has_key k (map_at t head) ≡ true → IsPutPlace t head k node × (node_words ≡ words_at t node) × (Some (word 5 node_words) ≡ value_of k (map_at t head))
-put_spot s t head k p words node node_words same i present =
-    let is : has_key k (map_at s head) ≡ (not (eqb node 0) && eqb (word 2 node_words) k) = sym i.has in
-    let found : has_key k (map_at s head) ≡ true = ap (λ (u : State). has_key k (map_at u head)) same ∙ present in
-    let f = put_found s t head k p words node node_words (has_key k (map_at s head)) same i is found in
-    (f.0, f.1, spot_value s t head k p words node node_words (has_key k (map_at s head)) same i is found)
+module _ (s t : State) (head k p : ℕ) (words : List ℕ) (node : ℕ) (node_words : List ℕ) (same : s ≡ t) (i : IsSpot s head k p words node node_words)
+    (present : has_key k (map_at t head) ≡ true) where
+  present_here : has_key k (map_at s head) ≡ true
+  present_here = ap (λ (u : State). has_key k (map_at u head)) same ∙ present
+
+  pub put_value : Some (word 5 node_words) ≡ value_of k (map_at t head)
+  put_value = spot_value s t head k p words node node_words (has_key k (map_at s head)) same i (sym i.has) present_here
+
+  pub put_spot : (v : ℕ) (ws : Writes) → (node ≢ 0 → ws ≡ put_writes s node v) → IsPutPlace t head k node × (ws ≡ put_writes t node v)
+  put_spot v ws e = put_found s t head k p words node node_words (has_key k (map_at s head)) same i (sym i.has) present_here v ws e
 
 -- another value than that which was found is not the key's
 pub other_value : (found value : ℕ) (there : Option ℕ) → Some found ≡ there → (found ≡ value → ⊥) → there ≡ Some value → ⊥
 other_value found value there e n q = let same : Some found ≡ Some value = e ∙ q in n (cc)
 
--- the words that the code makes are those of the place
-add_words : (s : State) (head p n k v node : ℕ) (words : List ℕ) → words ≡ words_at s p → node ≡ link s p
-    → ((p, set words 3 n) ∷ (n, (head + 1) ∷ 0 ∷ k ∷ node ∷ 0 ∷ v ∷ []) ∷ []) ≡ add_writes s head k v p n
-add_words s head p n k v node words e f = let g : head + 1 ≡ suc head = omega arith in cc
+-- What the rewritten objects are to the catalogue, and what the locks need, for the writes of an add, a del and a put.
+module _ (a : InSection) (head k v p n : ℕ) (ws : Writes) (l : IsLawful (state_of a)) (lh : head < 170) (place : IsAddPlace (state_of a) head k p)
+    (e : ws ≡ add_writes (state_of a) head k v p n) (lo : 180 ≤ n) (lt : n < length (state_of a)) (vac : owner (state_of a) n ≡ 0) where
+  pub add_distinct : are_distinct ws ≡ true
+  add_distinct = ap are_distinct e ∙ two_distinct p n (place_not_vacant (state_of a) head p n (omega arith) place.within lo vac)
 
-del_words : (s : State) (p n : ℕ) (words node_words : List ℕ) → words ≡ words_at s p → node_words ≡ words_at s n
-    → ((p, set words 3 (word 3 node_words)) ∷ (n, no_words) ∷ []) ≡ del_writes s p n
-del_words s p n words node_words e f = cc
+  pub add_within : (b : InSection) → a.at ≤ length a.seat.seen → IsAsBefore a b → AreWithin ws (length (state_of b))
+  add_within b le same =
+      within_before a b ws (add_writes (state_of a) head k v p n) le same e
+      (two_within p n (length (state_of a)) (place_in_range (state_of a) head p l lh place.within) lt)
 
-put_words : (s : State) (n v : ℕ) (node_words : List ℕ) → node_words ≡ words_at s n → ((n, set node_words 5 v) ∷ []) ≡ put_writes s n v
-put_words s n v node_words e = cc
+  pub add_adds : (c : InSection) → FitsHead head k → Rewritten a c (objects_of ws) ws → Adds a c head k v n
+  add_adds c fit r =
+      let change : Rewritten a c (p ∷ n ∷ []) (add_writes (state_of a) head k v p n) =
+      subst (λ (u : Writes). Rewritten a c (objects_of u) u) e r in
+      record {
+        previous = p;
+        place = place;
+        change = change;
+        lawful = subst (λ (u : State). IsLawful u) (sym change.state) (add_lawful (state_of a) head k v p n l lh fit place lo lt vac);
+        catalogue = ap catalogue_of change.state ∙ add_catalogue (state_of a) head k v p n l lh fit place lo lt vac;
+      }
 
--- What the rewritten objects are to the catalogue.
-pub add_adds : (a c : InSection) (head k v p n node : ℕ) (words : List ℕ) → IsLawful (state_of a) → head < 170 → FitsHead head k
-    → IsAddPlace (state_of a) head k p → words ≡ words_at (state_of a) p → node ≡ link (state_of a) p → 180 ≤ n → n < length (state_of a)
-    → owner (state_of a) n ≡ 0 → Rewritten a c (p ∷ n ∷ []) ((p, set words 3 n) ∷ (n, (head + 1) ∷ 0 ∷ k ∷ node ∷ 0 ∷ v ∷ []) ∷ []) → Adds a c head k v n
-add_adds a c head k v p n node words l lh fit place e f lo lt vac r =
-    let change : Rewritten a c (p ∷ n ∷ []) (add_writes (state_of a) head k v p n) =
-    subst (λ (u : Writes). Rewritten a c (p ∷ n ∷ []) u) (add_words (state_of a) head p n k v node words e f) r in
-    record {
-      previous = p;
-      place = place;
-      change = change;
-      lawful = subst (λ (u : State). IsLawful u) (sym change.state) (add_lawful (state_of a) head k v p n l lh fit place lo lt vac);
-      catalogue = ap catalogue_of change.state ∙ add_catalogue (state_of a) head k v p n l lh fit place lo lt vac;
-    }
+module _ (a : InSection) (head k p n : ℕ) (ws : Writes) (l : IsLawful (state_of a)) (lh : head < 170) (place : IsDelPlace (state_of a) head k p n)
+    (e : ws ≡ del_writes (state_of a) p n) where
+  pub del_distinct : are_distinct ws ≡ true
+  del_distinct = ap are_distinct e ∙ two_distinct p n (removal (state_of a) head k p n l lh place).apart
 
-pub del_takes : (a c : InSection) (head k p n answer : ℕ) (words node_words : List ℕ) → n ≡ answer → IsLawful (state_of a) → head < 170
-    → IsDelPlace (state_of a) head k p n → words ≡ words_at (state_of a) p → node_words ≡ words_at (state_of a) n
-    → Rewritten a c (p ∷ n ∷ []) ((p, set words 3 (word 3 node_words)) ∷ (n, no_words) ∷ []) → Takes a c head k answer
-del_takes a c head k p n answer words node_words same l lh place e f r =
-    let change : Rewritten a c (p ∷ n ∷ []) (del_writes (state_of a) p n) =
-    subst (λ (u : Writes). Rewritten a c (p ∷ n ∷ []) u) (del_words (state_of a) p n words node_words e f) r in
-    subst (λ (u : ℕ). Takes a c head k u) same (record {
-      previous = p;
-      place = place;
-      change = change;
-      lawful = subst (λ (u : State). IsLawful u) (sym change.state) (removal (state_of a) head k p n l lh place).lawful;
-      catalogue = ap catalogue_of change.state ∙ del_catalogue (state_of a) head k p n l lh place;
-    })
+  pub del_within : (b : InSection) → a.at ≤ length a.seat.seen → IsAsBefore a b → AreWithin ws (length (state_of b))
+  del_within b le same =
+      let m = removal (state_of a) head k p n l lh place in
+      within_before a b ws (del_writes (state_of a) p n) le same e (two_within p n (length (state_of a)) m.previous_in m.node_in)
 
-pub put_puts : (a c : InSection) (head k v n : ℕ) (node_words : List ℕ) → IsLawful (state_of a) → head < 170 → IsPutPlace (state_of a) head k n
-    → node_words ≡ words_at (state_of a) n → Rewritten a c (n ∷ []) ((n, set node_words 5 v) ∷ []) → Puts a c head k v
-put_puts a c head k v n node_words l lh place e r =
-    let change : Rewritten a c (n ∷ []) (put_writes (state_of a) n v) =
-    subst (λ (u : Writes). Rewritten a c (n ∷ []) u) (put_words (state_of a) n v node_words e) r in
-    record {
-      node = n;
-      place = place;
-      change = change;
-      lawful = subst (λ (u : State). IsLawful u) (sym change.state) (put_lawful (state_of a) head k v n l lh place);
-      catalogue = ap catalogue_of change.state ∙ put_catalogue (state_of a) head k v n l lh place;
-    }
+  pub del_takes : (c : InSection) (answer : ℕ) → n ≡ answer → Rewritten a c (objects_of ws) ws → Takes a c head k answer
+  del_takes c answer same r =
+      let change : Rewritten a c (p ∷ n ∷ []) (del_writes (state_of a) p n) =
+      subst (λ (u : Writes). Rewritten a c (objects_of u) u) e r in
+      subst (λ (u : ℕ). Takes a c head k u) same (record {
+        previous = p;
+        place = place;
+        change = change;
+        lawful = subst (λ (u : State). IsLawful u) (sym change.state) (removal (state_of a) head k p n l lh place).lawful;
+        catalogue = ap catalogue_of change.state ∙ del_catalogue (state_of a) head k p n l lh place;
+      })
 
--- What the locks need.
-pub add_previous : (s : State) (head k p : ℕ) → IsLawful s → head < 170 → IsAddPlace s head k p → p < length s
-add_previous s head k p l lh place = place_in_range s head p l lh place.within
+module _ (a : InSection) (head k v n : ℕ) (ws : Writes) (l : IsLawful (state_of a)) (lh : head < 170) (place : IsPutPlace (state_of a) head k n)
+    (e : ws ≡ put_writes (state_of a) n v) where
+  pub put_distinct : are_distinct ws ≡ true
+  put_distinct = ap are_distinct e ∙ refl
 
-pub add_apart : (s : State) (head k p n : ℕ) → head < 170 → IsAddPlace s head k p → 180 ≤ n → owner s n ≡ 0 → p ≢ n
-add_apart s head k p n lh place lo vac = place_not_vacant s head p n (omega arith) place.within lo vac
+  pub put_within : (b : InSection) → a.at ≤ length a.seat.seen → IsAsBefore a b → AreWithin ws (length (state_of b))
+  put_within b le same =
+      within_before a b ws (put_writes (state_of a) n v) le same e
+      (one_within n (length (state_of a)) (place_in_range (state_of a) head n l lh (inr (place.is_node, place.own))))
 
-pub del_previous : (s : State) (head k p n : ℕ) → IsLawful s → head < 170 → IsDelPlace s head k p n → p < length s
-del_previous s head k p n l lh place = (removal s head k p n l lh place).previous_in
+  pub put_puts : (c : InSection) → Rewritten a c (objects_of ws) ws → Puts a c head k v
+  put_puts c r =
+      let change : Rewritten a c (n ∷ []) (put_writes (state_of a) n v) = subst (λ (u : Writes). Rewritten a c (objects_of u) u) e r in
+      record {
+        node = n;
+        place = place;
+        change = change;
+        lawful = subst (λ (u : State). IsLawful u) (sym change.state) (put_lawful (state_of a) head k v n l lh place);
+        catalogue = ap catalogue_of change.state ∙ put_catalogue (state_of a) head k v n l lh place;
+      }
 
-pub del_node : (s : State) (head k p n : ℕ) → IsLawful s → head < 170 → IsDelPlace s head k p n → n < length s
-del_node s head k p n l lh place = (removal s head k p n l lh place).node_in
+-- room for what a place locks, and a refusal, of the writes that it has
+pub room_as : (a b : InSection) (ws vs : Writes) → IsAsBefore a b → ws ≡ vs → HasRoom a (objects_of vs) → HasRoom b (objects_of ws)
+room_as a b ws vs same e r = subst (λ (u : Writes). HasRoom b (objects_of u)) (sym e) (room_before a b (objects_of vs) same r)
 
-pub del_apart : (s : State) (head k p n : ℕ) → IsLawful s → head < 170 → IsDelPlace s head k p n → p ≢ n
-del_apart s head k p n l lh place = (removal s head k p n l lh place).apart
+pub refuses_as : (a b c : InSection) → a.at ≤ length a.seat.seen → IsAsBefore a b → GoesOn a b
+    → (may : Type 0) (found : InSection → InSection → ℕ → ℕ → Type 0) (ws vs : Writes) (cause answer : Cause) → ws ≡ vs → cause ≡ answer
+    → Refuses may found b c (objects_of ws) cause → Refuses may found a c (objects_of vs) answer
+refuses_as a b c le same goes may found ws vs cause answer e q r =
+    subst (λ (u : Writes). Refuses may found a c (objects_of u) answer) e (refuses_before a b c le same goes may found (objects_of ws) cause answer q r)

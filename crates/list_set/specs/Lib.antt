@@ -2,4 +2,5 @@ pub mod Places
 pub mod Held
 pub mod Calls
 pub mod Walks
+pub mod Spots
 pub mod Filling

@@ -21,8 +21,11 @@
 //! whoever commits needs that to show the commit fit on every state to which others' commits may
 //! have led. A refusal carries the one lock that was refused, and leaves the state as it was.
 //!
-//! `rewrite` is what a changing call ends with: it locks some objects in order, and then writes
-//! them. The sets over trees end with it too.
+//! Each call of a key makes one walk: `find` reads the objects up to the key, and answers a `Spot`,
+//! which says whether the key is there and gives the writes of an add, a del or a put with no other
+//! read. A changing call decides by that spot alone, and ends with `rewrite`, which locks some
+//! objects in order and then writes them. The sets over trees end with it too. Who decides before
+//! anything is locked takes the spot and its writes, and then calls `rewrite`.
 //!
 //! The calls never commit and never retry, and take no memory.
 //!
@@ -45,10 +48,11 @@
 
 mod answers;
 mod change;
-mod find;
 mod lists;
+mod search;
 mod tests;
 
 pub use answers::{Cause, Removed, SetStep};
 pub use change::rewrite;
 pub use lists::{add_in, del_in, get_in, has_in, next_in, put_in, size_in};
+pub use search::{Spot, find};

@@ -15,7 +15,7 @@ ghost use Rattle.list_set.specs.declared.answers.Removed.TheVariants.{Took, Abse
 
 use crate::answers::{Removed, SetStep};
 use crate::change::rewrite;
-use crate::find::find;
+use crate::search::find;
 use mv_history::{Section, View};
 
 /// Whether the list of this head has the key.
@@ -90,7 +90,8 @@ pub fn size_in<V: View>(view: &mut V, head: u32) -> u64
 /// is vacant in the section's state. Where the head is that of bucket b, `key % 16` must be b. It
 /// locks two objects, the key's predecessor, which is the head or a node of its list, and the vacant
 /// node, and needs room for those of them that are not held yet: as many free slots in the seat's
-/// log, and as many objects less than `write_max` held. It takes no memory.
+/// log, and as many objects less than `write_max` held. It reads as much as `has_in`, and takes no
+/// memory.
 ///
 /// - `No` exactly where the key is there, with whatever value; then nothing changes.
 /// - `Yes`: both objects are held, and the section's state is lawful, with the key and its value
@@ -117,10 +118,7 @@ pub fn add_in<S: Section>(section: &mut S, head: u32, key: u32, value: u64, node
     if spot.has(key) {
         return SetStep::No;
     }
-    let mut words = spot.words;
-    words[3] = node as u64;
-    let node_words = [head as u64 + 1, 0, key as u64, spot.node as u64, 0, value];
-    match rewrite(section, &[(spot.previous, words), (node, node_words)]) {
+    match rewrite(section, &spot.add_writes(head, key, value, node)) {
         Ok(()) => SetStep::Yes,
         Err(cause) => SetStep::Again(cause),
     }
@@ -130,7 +128,8 @@ pub fn add_in<S: Section>(section: &mut S, head: u32, key: u32, value: u64, node
 ///
 /// It needs a lawful state, the head of a list or a bucket, 0 to 169, and the key in its list. It
 /// locks one object, the key's node, and needs room for it where it is not held yet: a free slot in
-/// the seat's log, and fewer objects than `write_max` held. It takes no memory.
+/// the seat's log, and fewer objects than `write_max` held. It reads as much as `has_in`, and takes
+/// no memory.
 ///
 /// - `No` exactly where the key has this value already; then nothing changes.
 /// - `Yes`: the node is held, and the section's state is lawful, with the key at this value. Only
@@ -150,12 +149,10 @@ pub fn put_in<S: Section>(section: &mut S, head: u32, key: u32, value: u64) -> S
         × Refuses S.may_refuse S.found_held (S.section section.old) (S.section section.new) (node ∷ []) cause }
 {
     let spot = find(section, head, key);
-    let mut words = spot.node_words;
-    if words[5] == value {
+    if spot.node_words[5] == value {
         return SetStep::No;
     }
-    words[5] = value;
-    match rewrite(section, &[(spot.node, words)]) {
+    match rewrite(section, &spot.put_writes(value)) {
         Ok(()) => SetStep::Yes,
         Err(cause) => SetStep::Again(cause),
     }
@@ -166,7 +163,7 @@ pub fn put_in<S: Section>(section: &mut S, head: u32, key: u32, value: u64) -> S
 /// It needs a lawful state and the head of a list or a bucket, 0 to 169. It locks two objects, the
 /// key's node and its predecessor, which is the head or a node of the list, and needs room for those
 /// of them that are not held yet: as many free slots in the seat's log, and as many objects less
-/// than `write_max` held. It takes no memory.
+/// than `write_max` held. It reads as much as `has_in`, and takes no memory.
 ///
 /// It writes the node that it takes out, and not only the node before it, so that an add or a del
 /// of another seat at that node meets it, and one of the two is refused.
@@ -193,9 +190,7 @@ pub fn del_in<S: Section>(section: &mut S, head: u32, key: u32) -> Removed
     if !spot.has(key) {
         return Removed::Absent;
     }
-    let mut words = spot.words;
-    words[3] = spot.node_words[3];
-    match rewrite(section, &[(spot.previous, words), (spot.node, [0; 6])]) {
+    match rewrite(section, &spot.del_writes()) {
         Ok(()) => Removed::Took {
             node: spot.node,
             inner: 0,

@@ -1,5 +1,5 @@
 -- What a command that applies comes to, by how many nodes are vacant.
-use Rattle.std.proofs.Common.{◌≡◌, ℕ, ◌<◌, ◌≤◌, Bool, true, false, nat_lt, refl, sym, ap, ◌∙◌, subst, arith, true≢false}
+use Rattle.std.proofs.Common.{◌≡◌, ℕ, ◌<◌, ◌≤◌, inl, inr, Bool, true, false, nat_lt, refl, sym, ◌∙◌, subst, arith, true≢false}
 use Rattle.mv_history.specs.State.{State}
 use Rattle.set_script.specs.Catalogue.{Maps}
 use Rattle.set_script.specs.CatalogueOf.{catalogue_of}
@@ -8,8 +8,10 @@ use Rattle.set_script.specs.Replies.{applies, overflows, change_reply, reply}
 use Rattle.set_script.specs.Rules.{capacity, IsInRange}
 use Rattle.set_script.specs.declared.commands.Command.{Command}
 use Rattle.set_script.specs.declared.commands.Command.TheVariants.{Add, Put, Del, Has, Get, Move, Pair, Size, Next}
+use Rattle.set_script.specs.declared.commands.Reply.{Reply}
 use Rattle.set_script.specs.declared.commands.Reply.TheVariants.{No, Full, Worn}
-use Rattle.set_catalog.specs.Needs.{wanted, may_change, AreEnough}
+use Rattle.set_catalog.specs.Findings.{AreHad, IsShort}
+use Rattle.set_catalog.specs.Needs.{wanted, may_change}
 use Rattle.set_catalog.specs.Picks.{vacant_nodes}
 use Rattle.set_catalog.specs.Replies.{reply_in, changes_in}
 use Rattle.set_catalog.proofs.Costs.{overflows_state}
@@ -59,24 +61,13 @@ module _ (command : Command) (s : State) (last : Bool) (l : IsLawful s) (r : IsI
   pub decides_open : wanted command (catalogue_of s) ≤ vacant_nodes s → last ≡ false → changes_in command s last ≡ true
   decides_open le f = let o = enough le in rw (a, o, f) refl
 
--- So it was found, in states that are the same.
-module _ (command : Command) (s t u : State) (last : Bool) (want : ℕ) (l : IsLawful s) (r : IsInRange command) (m : may_change command ≡ true)
-    (a : applies command (catalogue_of s) ≡ true) (st : t ≡ s) (su : u ≡ s) (w : want ≡ wanted command (catalogue_of t)) where
-  wants : want ≡ wanted command (catalogue_of s)
-  wants = w ∙ ap (λ (x : State). wanted command (catalogue_of x)) st
+  -- so by what a look for vacant objects found
+  pub decides_short : (want : ℕ) (answer : Reply) → want ≡ wanted command (catalogue_of s) → IsShort s want last answer → (answer ≡ reply_in command s last)
+      × (changes_in command s last ≡ false)
+  decides_short want answer w (inl (is, few)) =
+      subst (λ (x : Reply). (x ≡ reply_in command s last) × (changes_in command s last ≡ false)) (sym is) (decides_full (omega (arith, w, few)))
+  decides_short want answer w (inr (is, le, t)) =
+      subst (λ (x : Reply). (x ≡ reply_in command s last) × (changes_in command s last ≡ false)) (sym is) (decides_worn (omega (arith, w, le)) t)
 
-  are_vacant : vacant_nodes u ≡ vacant_nodes s
-  are_vacant = ap vacant_nodes su
-
-  pub found_full : vacant_nodes u < want → (Full ≡ reply_in command s last) × (changes_in command s last ≡ false)
-  found_full lt = decides_full command s last l r m a (omega (arith, wants, are_vacant))
-
-  pub found_worn : want ≤ vacant_nodes u → last ≡ true → (Worn ≡ reply_in command s last) × (changes_in command s last ≡ false)
-  found_worn le e = decides_worn command s last l r m a (omega (arith, wants, are_vacant)) e
-
-  pub found_open : (first second : ℕ) → want ≤ vacant_nodes u → last ≡ false → AreEnough u want first second
-      → (changes_in command s last ≡ true) × AreEnough s (wanted command (catalogue_of s)) first second
-  found_open first second le e enough = (
-    decides_open command s last l r m a (omega (arith, wants, are_vacant)) e,
-    subst (λ (n : ℕ). AreEnough s n first second) wants (subst (λ (x : State). AreEnough x want first second) su enough),
-  )
+  pub decides_had : (want first second : ℕ) → want ≡ wanted command (catalogue_of s) → AreHad s want last first second → changes_in command s last ≡ true
+  decides_had want first second w h = let le : want ≤ vacant_nodes s = h.there in decides_open (omega (arith, w)) h.early

@@ -1,44 +1,46 @@
--- A move's add, in the state that its del leaves.
-use Rattle.std.proofs.Common.{◌≡◌, ◌≢◌, ℕ, suc, ◌+◌, ◌^◌, ◌<◌, ◌≤◌, inr, Bool, true, false, not, ◌||◌, ◌==◌}
-use Rattle.std.proofs.Common.{nat_lt, if◌then◌else◌, List, [], ◌∷◌, length, Some, None, refl, sym, ap, ◌∙◌, subst, arith}
-use Rattle.std.proofs.Common.{true≢false, get_or-set_other}
-use Rattle.std.proofs.lemmas.Bool.{not-true, and_parts}
+-- A move: its del, and its add in the state that the del leaves.
+use Rattle.std.proofs.Common.{◌≡◌, ◌≢◌, ℕ, ◌+◌, ◌^◌, ◌<◌, ◌≤◌, Bool, true, false, ◌==◌, if◌then◌else◌, List}
+use Rattle.std.proofs.Common.{[], ◌∷◌, ◌++◌, length, Some, refl, sym, ap, ◌∙◌, subst, arith}
 use Rattle.std.proofs.lemmas.Bool.Decides.{nat_tests}
 use Rattle.mv_history.specs.State.{State, Writes, written, touches}
-use Rattle.mv_history.specs.Meaning.{InSection, state_of}
-use Rattle.mv_history.specs.Calls.{IsAsBefore, GoesOn}
-use Rattle.mv_history.proofs.Steps.{GoesOn-GoesOn}
+use Rattle.mv_history.specs.Drift.{IsFit}
 use Rattle.mv_history.proofs.Writing.{words-written_other, length-written}
-use Rattle.set_script.specs.Catalogue.{Maps, map_of, has_key, value_of, take_out, without_key}
-use Rattle.set_script.specs.CatalogueOf.{catalogue_of}
+use Rattle.set_script.specs.Catalogue.{Map, map_of, has_key, value_of}
+use Rattle.set_script.specs.CatalogueOf.{name_of, catalogue_of}
 use Rattle.set_script.specs.Lawful.{IsLawful}
-use Rattle.set_script.specs.Objects.{value}
-use Rattle.set_script.specs.OwnWrites.{objects_of}
-use Rattle.set_script.specs.Replies.{applies}
+use Rattle.set_script.specs.Objects.{value, link}
+use Rattle.set_script.specs.OwnWrites.{with_locks, with_writes, objects_of}
+use Rattle.set_script.specs.Rules.{IsSetCommit}
+use Rattle.set_script.specs.Tags.{tag_of}
 use Rattle.set_script.specs.declared.commands.Command.TheVariants.{Move}
-use Rattle.set_script.proofs.MapLemmas.{has_key-none}
+use Rattle.set_script.proofs.Entries.{value_once}
+use Rattle.set_script.proofs.Fits.{move_fit}
 use Rattle.set_script.proofs.ObjectWords.{word}
-use Rattle.list_set.specs.Held.{count_unheld, HasRoom}
-use Rattle.set_catalog.specs.Needs.{first_tree, taken, freed, wanted, AreEnough}
+use Rattle.set_script.proofs.TwoWays.{place_after, writes_after, joined}
+use Rattle.set_script.proofs.Ways.{Way, AreVacant}
+use Rattle.list_set.specs.Held.{count_unheld}
+use Rattle.list_set.specs.Places.{add_writes}
+use Rattle.list_set.proofs.ListHalves.{node_has}
+use Rattle.list_set.proofs.ListWays.{list_add_way}
+use Rattle.list_set.proofs.Removing.{Removal, removal}
+use Rattle.tree_set.specs.Places.{plant_writes, grow_writes}
+use Rattle.tree_set.proofs.TreeWays.{grow_way, plant_way, leaf_has}
+use Rattle.set_catalog.specs.Ends.{EndsAt, adds_at, objects_added}
+use Rattle.set_catalog.specs.Merges.{merged}
+use Rattle.set_catalog.specs.Needs.{taken, freed, wanted, AreEnough}
 use Rattle.set_catalog.specs.Picks.{IsVacant}
-use Rattle.set_catalog.specs.Plans.{head_of, DelPlan, AddPlan, AddLocks, MoveLocks, Locks}
+use Rattle.set_catalog.specs.Plans.{head_of, DelPlan, AddPlan}
+use Rattle.set_catalog.specs.Plans.DelPlan.{unlinks, bares, cuts}
 use Rattle.set_catalog.specs.Plans.AddPlan.{links, plants, grows}
-use Rattle.set_catalog.specs.Steps.{most_locks, HasSpace, Removes, Adds, IsReady}
-use Rattle.set_catalog.proofs.Ready.{own_del, value_gone, ready_move}
-use Rattle.set_catalog.proofs.Rooms.{reads_same, space_later, ready_earlier}
+use Rattle.set_catalog.specs.declared.ends.End.{End}
+use Rattle.set_catalog.specs.declared.ends.End.TheVariants.{Listed, Empty, Grown}
 use Rattle.set_catalog.proofs.DelFacts.{Left, del_left}
-
--- the parts of what a move needs
-pub move_parts : (source target key : ℕ) (c : Maps) → applies (Move source target key) c ≡ true
-    → (has_key key (map_of source c) ≡ true) × (has_key key (map_of target c) ≡ false) × (source ≢ target)
-move_parts source target key c e =
-    let q = and_parts (has_key key (map_of source c)) (not (has_key key (map_of target c))) e in
-    let n : has_key key (map_of target c) ≡ false = not-true (has_key key (map_of target c)) q.1 in
-    (q.0, n, λ s. true≢false (sym q.0 ∙ ap (λ (x : ℕ). has_key key (map_of x c)) s ∙ n))
-
--- another name's map stays
-pub other_map : (source target key : ℕ) (c : Maps) → source ≢ target → map_of target (without_key source key c) ≡ map_of target c
-other_map source target key c n = get_or-set_other c source target (take_out key (map_of source c)) [] (λ e. n (sym e))
+use Rattle.set_catalog.proofs.EndFacts.{grown_takes}
+use Rattle.set_catalog.proofs.EndPlans.{listed_place, grown_place}
+use Rattle.set_catalog.proofs.HeadNames.{low_head, low_fits, root_from, root_below, head_below, head_named}
+use Rattle.set_catalog.proofs.Merging.{merged-is}
+use Rattle.set_catalog.proofs.PlanWays.{AddedBy, RemovedBy, renamed}
+use Rattle.set_catalog.proofs.SetCalls.{taken_some}
 
 -- a vacant object that the del doesn't write stays vacant
 stays_vacant : (s : State) (ws : Writes) (o : ℕ) → touches ws o ≡ false → IsVacant s o → IsVacant (written s ws) o
@@ -47,13 +49,6 @@ stays_vacant s ws o t v = record {
   in_range = let l : o < length s = v.in_range in omega (arith, length-written s ws);
   free = ap (word 0) (words-written_other s ws o t) ∙ v.free;
 }
-
-two_or_one : (name : ℕ) (m : List (ℕ × ℕ)) → taken name m ≤ 2
-two_or_one name m = go (nat_lt name first_tree || (length m == 0))
-  where
-    go : (b : Bool) → (if b then 1 else 2) ≤ 2
-    go true = omega arith
-    go false = omega arith
 
 -- the objects that the del left, and where they are too few a picked one, are enough for the add
 pub enough_left : (s : State) (source target key node inner first second : ℕ) (ws : Writes) → source < 30 → IsLawful s → DelPlan s source key node inner ws
@@ -64,14 +59,33 @@ enough_left s source target key node inner first second ws lt l plan e = record 
     left : Left s source key node inner ws
     left = del_left s source key node inner ws l lt plan
 
-    go : (b : Bool) → (inner == 0) ≡ b → 2 ≤ taken target (map_of target (catalogue_of s))
-        → IsVacant (written s ws) (if b then first else inner) × ((if b then first else inner) ≢ node)
+    go : (b : Bool) → (inner == 0) ≡ b → 2 ≤ taken target (map_of target (catalogue_of s)) → IsVacant (written s ws) (if b then first else inner)
+        × ((if b then first else inner) ≢ node)
     go false q t = let n : inner ≢ 0 = grind (arith, nat_tests) in let v = left.inner_vacant n in (v.0, v.1)
     go true q t =
         let z : inner ≡ 0 = grind (arith, nat_tests) in
         let f : freed source (map_of source (catalogue_of s)) ≡ 1 = left.frees z in
         let v : IsVacant s first = e.one (omega arith) in
         (stays_vacant s ws first (left.others first v) v, λ q. left.node_used (subst (λ (x : ℕ). IsVacant s x) q v))
+
+-- the value that the removed node had is the key's
+value_there : (s : State) (name k node inner : ℕ) (ws : Writes) → name < 30 → IsLawful s → DelPlan s name k node inner ws
+    → value_of k (map_of name (catalogue_of s)) ≡ Some (value s node)
+value_there s name k node inner ws lt l (unlinks previous low place) =
+    let m : Removal s (head_of name k) k previous node = removal s (head_of name k) k previous node l (low_head name k low) place in
+    subst (λ (n : ℕ). value_of k (map_of n (catalogue_of s)) ≡ Some (value s node)) (head_named name k lt)
+    (node_has s (head_of name k) k node l (low_head name k low) m.node m.own place.has)
+value_there s name k node inner ws lt l (bares high place) =
+    subst (λ (n : ℕ). value_of k (map_of n (catalogue_of s)) ≡ Some (value s node)) (head_named name k lt)
+    (leaf_has s (head_of name k) k node l (root_from name k high) (root_below name k high lt) place.is_leaf)
+value_there s name k node inner ws lt l (cuts grand parent high place) =
+    subst (λ (n : ℕ). value_of k (map_of n (catalogue_of s)) ≡ Some (value s node)) (head_named name k lt)
+    (leaf_has s (head_of name k) k node l (root_from name k high) (root_below name k high lt) place.is_leaf)
+
+pub value_gone : (s : State) (name k node inner v : ℕ) (ws : Writes) → name < 30 → IsLawful s → value_of k (map_of name (catalogue_of s)) ≡ Some v
+    → DelPlan s name k node inner ws → value s node ≡ v
+value_gone s name k node inner v ws lt l has plan =
+    value_once k (value s node) v (map_of name (catalogue_of s)) (value_there s name k node inner ws lt l plan) has
 
 count_held : (own : Writes) (o : ℕ) (os : List ℕ) → touches own o ≡ true → count_unheld own (o ∷ os) ≡ count_unheld own os
 count_held own o os t = ap (λ (b : Bool). (if b then 0 else 1) + count_unheld own os) t ∙ omega arith
@@ -83,136 +97,101 @@ count_more own o os = go (touches own o)
     go true = omega arith
     go false = omega arith
 
-count_none : (os : List ℕ) → count_unheld [] os ≡ length os
-count_none [] = refl
-count_none (o ∷ os) = omega (arith, count_none os)
-
-length_objects : (ws : Writes) → length (objects_of ws) ≡ length ws
-length_objects [] = refl
-length_objects (w ∷ ws) = ap suc (length_objects ws)
-
 -- what the add locks beside the objects that the del holds
-add_unheld : (own : Writes) (s : State) (target key v node second more : ℕ) (ws : Writes) → touches own node ≡ true → count_unheld own (second ∷ []) ≤ more
-    → AddPlan s target key v node second ws → count_unheld own (objects_of ws) ≤ 2 + more
-add_unheld own s target key v node second more ws t m (links previous _ _ _) =
-    omega (arith, count_more own previous (node ∷ []), count_held own node [] t)
-add_unheld own s target key v node second more ws t m (plants _ _ _) =
-    omega (arith, count_more own (head_of target key) (node ∷ []), count_held own node [] t)
-add_unheld own s target key v node second more ws t m (grows parent leaf _ _ _ _ _) =
-    omega (arith, count_more own parent (leaf ∷ node ∷ second ∷ []), count_more own leaf (node ∷ second ∷ []), count_held own node (second ∷ []) t, m)
+add_unheld : (own : Writes) (node second more : ℕ) (end : End) → touches own node ≡ true → count_unheld own (second ∷ []) ≤ more
+    → count_unheld own (objects_added node second end) ≤ 2 + more
+add_unheld own node second more (Listed head spot) t m = omega (arith, count_more own spot.previous (node ∷ []), count_held own node [] t)
+add_unheld own node second more (Empty root) t m = omega (arith, count_more own root (node ∷ []), count_held own node [] t)
+add_unheld own node second more (Grown root fork) t m =
+    omega (
+      arith,
+      count_more own fork.parent (fork.leaf ∷ node ∷ second ∷ []),
+      count_more own fork.leaf (node ∷ second ∷ []),
+      count_held own node (second ∷ []) t,
+      m,
+    )
 
--- The section has room for a move's add after its del.
-pub room_after : (old mid : InSection) (source target key v node inner first : ℕ) → source < 30 → HasSpace old → IsLawful (state_of old)
-    → (r : Removes old mid source key node inner) → mid.own ≡ r.writes → (ws : Writes)
-    → AddPlan (state_of mid) target key v node (if inner == 0 then first else inner) ws → HasRoom mid (objects_of ws)
-room_after old mid source target key v node inner first lt h l r own ws plan =
-    let left : Left (state_of old) source key node inner r.writes = del_left (state_of old) source key node inner r.writes l lt r.plan in
-    let held : touches mid.own node ≡ true = ap (λ (w : Writes). touches w node) own ∙ left.node_held in
-    let parts = go left (inner == 0) refl in
-    let few : count_unheld mid.own (objects_of ws) ≤ 2 + parts.0 =
-    add_unheld mid.own (state_of mid) target key v node (if inner == 0 then first else inner) parts.0 ws held parts.1 plan in
-    let used : mid.seat.spare + count_unheld old.own (objects_of r.writes) ≡ old.seat.spare = r.change.holds.spare in
-    let counted : count_unheld old.own (objects_of r.writes) ≡ length r.writes =
-    ap (λ (w : Writes). count_unheld w (objects_of r.writes)) h.own ∙ count_none (objects_of r.writes) ∙ length_objects r.writes in
-    let most : mid.seat.write_max ≡ old.seat.write_max = r.change.holds.goes_on.continues.write_max in
-    let long : length mid.own ≡ length r.writes = ap length own in
-    let a : most_locks ≤ old.seat.spare = h.spare in
-    let b : most_locks ≤ old.seat.write_max = h.held in
-    let sum : length r.writes + parts.0 ≡ 3 = parts.2 in
-    record { spare = omega arith; held = omega arith }
+-- A plan has room for a move's add after its del.
+pub move_room : (s : State) (source key node inner first : ℕ) (dels : Writes) (end : End) → source < 30 → IsLawful s → DelPlan s source key node inner dels
+    → length dels + count_unheld dels (objects_added node (if inner == 0 then first else inner) end) ≤ 5
+move_room s source key node inner first dels end lt l plan = go (inner == 0) refl
   where
-    go : Left (state_of old) source key node inner r.writes → (b : Bool) → (inner == 0) ≡ b
-        → (more : ℕ) × (count_unheld mid.own ((if inner == 0 then first else inner) ∷ []) ≤ more) × (length r.writes + more ≡ 3)
-    go left true q =
-        let z : inner ≡ 0 = grind (arith, nat_tests) in
-        let c : length r.writes ≡ 2 = left.count ∙ ap (λ (x : Bool). if x then 2 else 3) q in
-        (1, count_more mid.own (if inner == 0 then first else inner) [], omega arith)
-    go left false q =
+    left : Left s source key node inner dels
+    left = del_left s source key node inner dels l lt plan
+
+    few : (b : Bool) → (inner == 0) ≡ b → (more : ℕ) → count_unheld dels ((if b then first else inner) ∷ []) ≤ more
+        → count_unheld dels (objects_added node (if inner == 0 then first else inner) end) ≤ 2 + more
+    few b q more m =
+        subst (λ (x : Bool). count_unheld dels (objects_added node (if x then first else inner) end) ≤ 2 + more) (sym q)
+        (add_unheld dels node (if b then first else inner) more end left.node_held m)
+
+    go : (b : Bool) → (inner == 0) ≡ b → length dels + count_unheld dels (objects_added node (if inner == 0 then first else inner) end) ≤ 5
+    go true q =
+        let c : length dels ≡ 2 = left.count ∙ ap (λ (x : Bool). if x then 2 else 3) q in
+        let f = few true q 1 (count_more dels first []) in omega arith
+    go false q =
         let n : inner ≢ 0 = grind (arith, nat_tests) in
-        let c : length r.writes ≡ 3 = left.count ∙ ap (λ (x : Bool). if x then 2 else 3) q in
-        let t : touches mid.own inner ≡ true = ap (λ (w : Writes). touches w inner) own ∙ (left.inner_vacant n).2 in
-        let e : count_unheld mid.own (inner ∷ []) ≡ count_unheld mid.own [] = count_held mid.own inner [] t in
-        let f : count_unheld mid.own ((if inner == 0 then first else inner) ∷ []) ≡ count_unheld mid.own (inner ∷ []) =
-        ap (λ (x : Bool). count_unheld mid.own ((if x then first else inner) ∷ [])) q in
-        (0, omega arith, omega arith)
+        let c : length dels ≡ 3 = left.count ∙ ap (λ (x : Bool). if x then 2 else 3) q in
+        let h = count_held dels inner [] (left.inner_vacant n).2 in
+        let f = few false q 0 (omega arith) in omega arith
 
--- A move as its calls find it: a look, the del, and then the add.
-module _ (a b : InSection) (le : a.at ≤ length a.seat.seen) (same : IsAsBefore a b) (goes : GoesOn a b) (space : HasSpace a) (l : IsLawful (state_of a))
-    (source target key : ℕ) (ls : source < 30) (lt : target < 30) (fits : key < 2 ^ 32)
-    (does : applies (Move source target key) (catalogue_of (state_of a)) ≡ true) where
-  lawful_here : IsLawful (state_of b)
-  lawful_here = subst IsLawful (sym (reads_same a b le same)) l
+module _ (s : State) (source target k : ℕ) (l : IsLawful s) (ls : source < 30) (lt : target < 30) (apart : source ≢ target) (fits : k < 2 ^ 32) (u : ℕ)
+    (dels : Writes) (d : RemovedBy s source k u dels) where
+  other : head_of target k ≢ head_of source k
+  other e = apart (sym (head_named source k ls) ∙ ap name_of (sym e) ∙ head_named target k lt)
 
-  space_here : HasSpace b
-  space_here = space_later a b le same space
+  -- a change of the target has its place and its writes after the del too
+  after : {Fits : Map → Type 0} {change : Map → Map} (a : Way (head_of target k) Fits change) → a.Place s → a.Place (written s dels)
+      × (a.writes (written s dels) ≡ a.writes s)
+  after a q =
+      subst (λ (w : Writes). a.Place (written s w) × (a.writes (written s w) ≡ a.writes s)) d.same (
+        place_after (head_of source k) (head_of target k) d.way a (head_below source k ls) (head_below target k lt) other s l d.place d.vacant q,
+        writes_after (head_of source k) (head_of target k) d.way a (head_below source k ls) (head_below target k lt) other s l d.place d.vacant q,
+      )
 
-  parts_here : (has_key key (map_of source (catalogue_of (state_of b))) ≡ true) × (has_key key (map_of target (catalogue_of (state_of b))) ≡ false)
-      × (source ≢ target)
-  parts_here =
-      move_parts source target key (catalogue_of (state_of b))
-      (ap (λ (s : State). applies (Move source target key) (catalogue_of s)) (reads_same a b le same) ∙ does)
+  -- So the add that the search in the target found is one in the state that the del leaves.
+  pub move_added : (end : End) (v first second : ℕ) → EndsAt s target k end → has_key k (map_of target (catalogue_of s)) ≡ false
+      → AreEnough (written s dels) (taken target (map_of target (catalogue_of s))) first second
+      → AddPlan (written s dels) target k v first second (adds_at s k v first second end)
+  unfolding list_add_way plant_way grow_way
+  move_added (Listed head spot) v first second e missed enough =
+      let r = after (list_add_way (head_of target k) k v spot.previous first (low_head target k e.0) (low_fits target k e.0 fits))
+      (listed_place s target k l lt fits head spot e.0 e.1 e.2 missed) in
+      subst (λ (h : ℕ). AddPlan (written s dels) target k v first second (add_writes s h k v spot.previous first)) (sym e.1)
+      (subst (λ (w : Writes). AddPlan (written s dels) target k v first second w) r.1
+      (links spot.previous e.0 r.0 (enough.one (taken_some target (map_of target (catalogue_of s))))))
+  move_added (Empty root) v first second e missed enough =
+      let r = after (plant_way (head_of target k) k v first (root_from target k e.0) (root_below target k e.0 lt) fits)
+      (subst (λ (h : ℕ). link s h ≡ 0) e.1 e.2) in
+      subst (λ (h : ℕ). AddPlan (written s dels) target k v first second (plant_writes s h k v first)) (sym e.1)
+      (subst (λ (w : Writes). AddPlan (written s dels) target k v first second w) r.1
+      (plants e.0 r.0 (enough.one (taken_some target (map_of target (catalogue_of s))))))
+  move_added (Grown root fork) v first second e missed enough =
+      let two : 2 ≡ taken target (map_of target (catalogue_of s)) = grown_takes s target k root l lt e.1 fork e.0 e.2 in
+      let more = enough.two (omega arith) in
+      let r = after (grow_way (head_of target k) k v fork.parent fork.leaf first second (root_from target k e.0) (root_below target k e.0 lt) fits
+      (λ q. more.1 (sym q)))
+      (grown_place s target k l lt fits root fork e.0 e.1 e.2 missed) in
+      subst (λ (h : ℕ). AddPlan (written s dels) target k v first second (grow_writes s h k v fork.parent fork.leaf first second)) (sym e.1)
+      (subst (λ (w : Writes). AddPlan (written s dels) target k v first second w) r.1
+      (grows fork.parent fork.leaf e.0 r.0 (enough.one (omega arith)) more.0 more.1))
 
-  module _ (mid : InSection) (node inner : ℕ) (r : Removes b mid source key node inner) where
-    target_same : map_of target (catalogue_of (state_of mid)) ≡ map_of target (catalogue_of (state_of b))
-    target_same = ap (map_of target) r.catalogue ∙ other_map source target key (catalogue_of (state_of b)) parts_here.2
+  -- Both are one fit commit.
+  pub move_fits : (adds : Writes) → AddedBy (written s dels) target k u adds → IsFit IsSetCommit s (tag_of (Move source target k)) (merged dels adds)
+  move_fits adds a =
+      renamed s (merged dels adds) target k (λ n. Move source n k) lt
+      (renamed s (merged dels adds) source k (λ n. Move n (name_of (head_of target k)) k) ls
+      (subst (λ (w : Writes). IsFit IsSetCommit s (tag_of (Move (name_of (head_of source k)) (name_of (head_of target k)) k)) w) both
+      (move_fit (head_of source k) (head_of target k) k u d.way a.way s (head_below source k ls) (head_below target k lt) names fits l d.place d.vacant
+      (subst (λ (w : Writes). a.way.Place (written s w)) (sym d.same) a.place)
+      (subst (λ (w : Writes). AreVacant (written s w) a.way.fresh) (sym d.same) a.vacant))))
+    where
+      names : name_of (head_of source k) ≢ name_of (head_of target k)
+      names e = apart (sym (head_named source k ls) ∙ e ∙ head_named target k lt)
 
-    pub move_absent : has_key key (map_of target (catalogue_of (state_of mid))) ≡ false
-    move_absent = ap (has_key key) target_same ∙ parts_here.1
-
-    own_mid : mid.own ≡ r.writes
-    own_mid = own_del b mid source key ls fits space_here.own lawful_here node inner r
-
-    pub move_enough : (first second vacant other : ℕ) → AreEnough (state_of a) (wanted (Move source target key) (catalogue_of (state_of a))) first second
-        → vacant ≡ node → other ≡ (if inner == 0 then first else inner)
-        → AreEnough (state_of mid) (taken target (map_of target (catalogue_of (state_of mid)))) vacant other
-    move_enough first second vacant other e vn oi =
-        let here : AreEnough (state_of b) (wanted (Move source target key) (catalogue_of (state_of b))) first second =
-        subst (λ (s : State). AreEnough s (wanted (Move source target key) (catalogue_of s)) first second) (sym (reads_same a b le same)) e in
-        let left = enough_left (state_of b) source target key node inner first second r.writes ls lawful_here r.plan here in
-        let at_mid : AreEnough (state_of mid) (taken target (map_of target (catalogue_of (state_of b)))) node (if inner == 0 then first else inner) =
-        subst (λ (s : State). AreEnough s (taken target (map_of target (catalogue_of (state_of b)))) node (if inner == 0 then first else inner))
-        (sym r.change.state) left in
-        subst (λ (x : ℕ). AreEnough (state_of mid) (taken target (map_of target (catalogue_of (state_of mid)))) x other) (sym vn)
-        (subst (λ (x : ℕ). AreEnough (state_of mid) (taken target (map_of target (catalogue_of (state_of mid)))) node x) (sym oi)
-        (subst (λ (n : ℕ). AreEnough (state_of mid) n node (if inner == 0 then first else inner)) (ap (taken target) (sym target_same)) at_mid))
-
-    pub move_room : (v first vacant other : ℕ) → vacant ≡ node → other ≡ (if inner == 0 then first else inner) → (ws : Writes)
-        → AddPlan (state_of mid) target key v vacant other ws → HasRoom mid (objects_of ws)
-    move_room v first vacant other vn oi ws plan =
-        room_after b mid source target key v node inner first ls space_here lawful_here r own_mid ws
-        (subst (λ (x : ℕ). AddPlan (state_of mid) target key v node x ws) oi (subst (λ (x : ℕ). AddPlan (state_of mid) target key v x other ws) vn plan))
-
-    pub move_made : (c : InSection) (v vacant other : ℕ) → Some v ≡ value_of key (map_of source (catalogue_of (state_of a)))
-        → Adds mid c target key v vacant other → IsReady (Move source target key) a c
-    move_made c v vacant other has d =
-        let there : value_of key (map_of source (catalogue_of (state_of b))) ≡ Some v =
-        ap (λ (s : State). value_of key (map_of source (catalogue_of s))) (reads_same a b le same) ∙ sym has in
-        ready_earlier a b le same c (Move source target key) goes
-        (ready_move b mid c source target key v node inner vacant other ls lt parts_here.2 fits space_here.own lawful_here there r d)
-
-    -- an object that the add locks is one of the move's
-    pub move_locks : (v o : ℕ) → Some v ≡ value_of key (map_of source (catalogue_of (state_of a))) → AddLocks (state_of mid) target key v o
-        → Locks (Move source target key) (state_of a) o
-    move_locks v o has named =
-        let e : state_of b ≡ state_of a = reads_same a b le same in
-        let there : value_of key (map_of source (catalogue_of (state_of b))) ≡ Some v =
-        ap (λ (s : State). value_of key (map_of source (catalogue_of s))) e ∙ sym has in
-        let is : value (state_of b) node ≡ v = value_gone (state_of b) source key node inner v r.writes ls lawful_here there r.plan in
-        let adds : AddLocks (written (state_of b) r.writes) target key (value (state_of b) node) o =
-        subst (λ (x : ℕ). AddLocks (written (state_of b) r.writes) target key x o) (sym is)
-        (subst (λ (s : State). AddLocks s target key v o) r.change.state named) in
-        inr (subst (λ (s : State). MoveLocks s source target key o) e (node, inner, r.writes, r.plan, adds))
-
-    pub move_goes : GoesOn a mid
-    move_goes = GoesOn-GoesOn goes r.change.holds.goes_on
-
--- what a look answered, of the state that the section reads
-pub found_there : (s t : State) (source key v : ℕ) → s ≡ t → Some v ≡ value_of key (map_of source (catalogue_of s))
-    → Some v ≡ value_of key (map_of source (catalogue_of t))
-found_there s t source key v e f = f ∙ ap (λ (u : State). value_of key (map_of source (catalogue_of u))) e
-
-pub not_found : (s t : State) (source target key : ℕ) → s ≡ t → applies (Move source target key) (catalogue_of t) ≡ true
-    → None ≡ value_of key (map_of source (catalogue_of s)) → ⊥
-not_found s t source target key e does f =
-    let gone : value_of key (map_of source (catalogue_of t)) ≡ None = ap (λ (u : State). value_of key (map_of source (catalogue_of u))) (sym e) ∙ sym f in
-    true≢false (sym (move_parts source target key (catalogue_of t) does).0 ∙ has_key-none key (map_of source (catalogue_of t)) gone)
+      both : joined (head_of source k) (head_of target k) d.way a.way s ≡ merged dels adds
+      both =
+          ap (λ (w : Writes). with_writes (with_locks (written s w) w (a.way.objects ++ a.way.fresh)) (a.way.writes (written s w))) d.same
+          ∙ ap (λ (os : List ℕ). with_writes (with_locks (written s dels) dels os) (a.way.writes (written s dels))) (sym (a.way.names (written s dels)))
+          ∙ ap (λ (w : Writes). with_writes (with_locks (written s dels) dels (objects_of w)) w) a.same
+          ∙ merged-is (written s dels) dels adds

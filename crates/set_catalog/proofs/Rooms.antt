@@ -1,19 +1,54 @@
--- Room for the locks of a plan, and what stays through reads before a change.
-use Rattle.std.proofs.Common.{◌≡◌, ℕ, suc, ◌+◌, ◌≤◌, Bool, true, false, if◌then◌else◌, List, [], ◌∷◌, length, ap, ◌∙◌, subst, arith}
-use Rattle.mv_history.specs.State.{State, Writes, touches}
-use Rattle.mv_history.specs.Meaning.{InSection, state_of}
+-- What a section that held nothing holds after the writes of a plan, or after a lock was refused.
+use Rattle.std.proofs.Common.{
+  ◌≡◌,
+  ℕ,
+  suc,
+  ◌+◌,
+  ◌≤◌,
+  inl,
+  inr,
+  Bool,
+  true,
+  false,
+  if◌then◌else◌,
+  ◌||◌,
+  List,
+  [],
+  ◌∷◌,
+  length,
+  min,
+  refl,
+  sym,
+  ap,
+  ◌∙◌,
+  subst,
+  arith,
+}
+use Rattle.std.proofs.lemmas.List.{length-take}
+use Rattle.mv_history.specs.State.{State, Writes, written, touches}
+use Rattle.mv_history.specs.Drift.{IsFit}
+use Rattle.mv_history.specs.Meaning.{InSection, snapshot_of, state_of}
 use Rattle.mv_history.specs.Calls.{IsAsBefore, GoesOn}
 use Rattle.mv_history.proofs.Steps.{GoesOn-GoesOn}
 use Rattle.mv_history.proofs.Holding.{state_of-as_before}
-use Rattle.set_script.specs.OwnWrites.{objects_of}
+use Rattle.set_script.specs.OwnWrites.{with_locks, with_writes, objects_of}
+use Rattle.set_script.specs.Rules.{IsSetCommit}
+use Rattle.set_script.specs.Tags.{tag_of}
 use Rattle.set_script.specs.declared.commands.Command.{Command}
+use Rattle.set_script.specs.declared.commands.Command.TheVariants.{Add, Put, Del, Has, Get, Move, Pair, Size, Next}
+use Rattle.set_script.proofs.OwnWrites.{own_from_none}
+use Rattle.set_script.proofs.TreeShape.{IsIn, in_right}
+use Rattle.set_script.proofs.Written.{touches-in}
+use Rattle.list_set.specs.Calls.{Rewritten, Refuses}
 use Rattle.list_set.specs.Held.{count_unheld, HasRoom}
 use Rattle.list_set.specs.declared.answers.Cause.{Cause}
-use Rattle.set_catalog.specs.Plans.{DelPlan, AddPlan, PutPlan, PlanOf}
-use Rattle.set_catalog.specs.Plans.DelPlan.{unlinks, bares, cuts}
-use Rattle.set_catalog.specs.Plans.AddPlan.{links, plants, grows}
-use Rattle.set_catalog.specs.Plans.PutPlan.{in_list, in_tree}
+use Rattle.set_catalog.specs.Findings.{IsPlanned}
+use Rattle.set_catalog.specs.Merges.{writes_in}
+use Rattle.set_catalog.specs.Plans.{PlanOf, MovePlan, Locks, GoneBy}
 use Rattle.set_catalog.specs.Steps.{most_locks, HasSpace, IsReady, Stops}
+use Rattle.set_catalog.specs.declared.plan.Gone.{Gone}
+use Rattle.set_catalog.specs.declared.plan.Plan.{Plan}
+use Rattle.set_catalog.proofs.Merging.{merged-is, touches-merged}
 
 count_all : (own : Writes) (os : List ℕ) → count_unheld own os ≤ length os
 count_all own [] = omega arith
@@ -23,69 +58,92 @@ count_all own (o ∷ os) = one (touches own o) (count_all own os)
     one true l = omega arith
     one false l = omega arith
 
+length_objects : (ws : Writes) → length (objects_of ws) ≡ length ws
+length_objects [] = refl
+length_objects (w ∷ ws) = ap suc (length_objects ws)
+
 -- a section that holds nothing has room for what a command locks
-room_for : (s : InSection) (os : List ℕ) → HasSpace s → length os ≤ most_locks → HasRoom s os
-room_for s os h l =
+room_for : (s : InSection) (ws : Writes) → HasSpace s → length ws ≤ most_locks → HasRoom s (objects_of ws)
+room_for s ws h l =
     let a : most_locks ≤ s.seat.spare = h.spare in
     let b : most_locks ≤ s.seat.write_max = h.held in
     let none : length s.own ≡ 0 = ap length h.own in
-    record { spare = omega (arith, count_all s.own os); held = omega (arith, count_all s.own os) }
+    let few = count_all s.own (objects_of ws) in
+    let long = length_objects ws in
+    record { spare = omega arith; held = omega arith }
 
-del_few : (s : State) (name k node inner : ℕ) (ws : Writes) → DelPlan s name k node inner ws → length (objects_of ws) ≤ most_locks
-del_few s name k node inner ws (unlinks _ _ _) = omega arith
-del_few s name k node inner ws (bares _ _) = omega arith
-del_few s name k node inner ws (cuts _ _ _ _) = omega arith
+pub room_of : (s : InSection) (plan : Plan) (made : Writes) → made ≡ writes_in plan → HasSpace s → plan.count ≤ most_locks → HasRoom s (objects_of made)
+room_of s plan made e h few =
+    let long : length (writes_in plan) ≡ min plan.count (length plan.writes) = length-take plan.count plan.writes in
+    subst (λ (w : Writes). HasRoom s (objects_of w)) (sym e) (room_for s (writes_in plan) h (omega arith))
 
-add_few : (s : State) (name k v first second : ℕ) (ws : Writes) → AddPlan s name k v first second ws → length (objects_of ws) ≤ most_locks
-add_few s name k v first second ws (links _ _ _ _) = omega arith
-add_few s name k v first second ws (plants _ _ _) = omega arith
-add_few s name k v first second ws (grows _ _ _ _ _ _ _) = omega arith
+-- a plan is one in a state that is the same
+pub planned_here : (s : State) (entered found : InSection) (command : Command) (ws : Writes) (gone : Gone) → s ≡ state_of entered
+    → entered.at ≤ length entered.seat.seen → IsAsBefore entered found → IsPlanned command s ws gone → IsPlanned command (state_of found) ws gone
+planned_here s entered found command ws gone here le same p =
+    subst (λ (u : State). IsPlanned command u ws gone) (here ∙ sym (state_of-as_before entered found le same)) p
 
-put_few : (s : State) (name k v : ℕ) (ws : Writes) → PutPlan s name k v ws → length (objects_of ws) ≤ most_locks
-put_few s name k v ws (in_list _ _ _) = omega arith
-put_few s name k v ws (in_tree _ _ _) = omega arith
+-- After the writes of a plan the section holds exactly them, and may commit them.
+module _ (found locked : InSection) (command : Command) (ws : Writes) (gone : Gone) (space : HasSpace found)
+    (p : IsPlanned command (state_of found) ws gone) (r : Rewritten found locked (objects_of ws) ws) where
+  held : locked.own ≡ ws
+  held =
+      r.holds.own ∙ ap (λ (u : Writes). with_writes (with_locks (state_of found) u (objects_of ws)) ws) space.own ∙ own_from_none (state_of found) ws p.distinct
 
-pub del_room : (s : InSection) (name k : ℕ) → HasSpace s → (node inner : ℕ) (ws : Writes) → DelPlan (state_of s) name k node inner ws
-    → HasRoom s (objects_of ws)
-del_room s name k h node inner ws p = room_for s (objects_of ws) h (del_few (state_of s) name k node inner ws p)
+  began : snapshot_of locked ≡ state_of found
+  began = r.holds.snapshot ∙ sym (ap (written (snapshot_of found)) space.own)
 
-pub add_room : (s : InSection) (name k v first second : ℕ) → HasSpace s → (ws : Writes) → AddPlan (state_of s) name k v first second ws
-    → HasRoom s (objects_of ws)
-add_room s name k v first second h ws p = room_for s (objects_of ws) h (add_few (state_of s) name k v first second ws p)
-
-pub put_room : (s : InSection) (name k v : ℕ) → HasSpace s → (ws : Writes) → PutPlan (state_of s) name k v ws → HasRoom s (objects_of ws)
-put_room s name k v h ws p = room_for s (objects_of ws) h (put_few (state_of s) name k v ws p)
-
--- Reads change nothing that the change depends on.
-module _ (a b : InSection) (le : a.at ≤ length a.seat.seen) (same : IsAsBefore a b) where
-  pub space_later : HasSpace a → HasSpace b
-  space_later h = record {
-    own = same.own ∙ h.own;
-    spare = let l : most_locks ≤ a.seat.spare = h.spare in omega (arith, same.seat.spare);
-    held = let l : most_locks ≤ a.seat.write_max = h.held in omega (arith, same.seat.continues.write_max);
+  pub ready_by : IsReady command found locked
+  ready_by = record {
+    goes_on = r.holds.goes_on;
+    snapshot = began;
+    plan = subst (λ (w : Writes). PlanOf command (state_of found) w) (sym held) p.plan;
+    some = omega (arith, ap length held, p.some);
+    fit = subst (λ (u : State). IsFit IsSetCommit u (tag_of command) locked.own) (sym began)
+        (subst (λ (w : Writes). IsFit IsSetCommit (state_of found) (tag_of command) w) (sym held) p.fit);
   }
 
-  pub reads_same : state_of b ≡ state_of a
-  reads_same = state_of-as_before a b le same
+  pub gone_by : GoneBy command (state_of found) locked.own gone.node gone.inner
+  gone_by = subst (λ (w : Writes). GoneBy command (state_of found) w gone.node gone.inner) (sym held) p.goes
 
-  pub ready_earlier : (c : InSection) (command : Command) → GoesOn a b → IsReady command b c → IsReady command a c
-  ready_earlier c command goes r = record {
-    goes_on = GoesOn-GoesOn goes r.goes_on;
-    snapshot = r.snapshot ∙ reads_same;
-    plan = subst (λ (s : State). PlanOf command s c.own) reads_same r.plan;
-    some = r.some;
-    fit = r.fit;
-  }
+-- each object of a move's plan is one of its del's or of its add's
+move_locks : (s : State) (source target key : ℕ) (ws : Writes) → MovePlan s source target key ws → (o : ℕ) → touches ws o ≡ true
+    → Locks (Move source target key) s o
+move_locks s source target key ws m o t = go (touches m.dels o) refl (touches m.adds o) refl
+  where
+    either : touches ws o ≡ touches m.dels o || touches m.adds o
+    either =
+        ap (λ (w : Writes). touches w o) (m.both ∙ merged-is (written s m.dels) m.dels m.adds) ∙ touches-merged m.dels m.adds o
 
-  pub stops_earlier : (may_refuse : Type 0) (found_held : InSection → InSection → ℕ → ℕ → Type 0) (Named : State → ℕ → Type 0) (c : InSection) (cause : Cause)
-      → GoesOn a b → Stops may_refuse found_held (Named (state_of b)) b c cause → Stops may_refuse found_held (Named (state_of a)) a c cause
-  stops_earlier may_refuse found_held Named c cause goes x = record {
-    object = x.object;
-    named = subst (λ (s : State). Named s x.object) reads_same x.named;
-    before = x.before;
-    goes_on = GoesOn-GoesOn goes x.goes_on;
-    refused = x.refused;
-  }
+    go : (x : Bool) → touches m.dels o ≡ x → (y : Bool) → touches m.adds o ≡ y → Locks (Move source target key) s o
+    go true p y q = inl (m.node, m.inner, m.dels, m.del, p)
+    go false p true q = inr (m.node, m.inner, m.dels, m.del, (m.first, m.second, m.adds, m.add, q))
+    go false p false q = absurd (let e = either in cc)
+
+plan_locks : (command : Command) (s : State) (ws : Writes) → PlanOf command s ws → (o : ℕ) → touches ws o ≡ true → Locks command s o
+plan_locks (Add name key) s ws (first, second, plan) o t = (first, second, ws, plan, t)
+plan_locks (Put name key v) s ws (inl plan) o t = inl (ws, plan, t)
+plan_locks (Put name key v) s ws (inr (first, second, plan)) o t = inr (first, second, ws, plan, t)
+plan_locks (Del name key) s ws (node, second, plan) o t = (node, second, ws, plan, t)
+plan_locks (Has name key) s ws plan o t = absurd plan
+plan_locks (Get name key) s ws plan o t = absurd plan
+plan_locks (Move source target key) s ws plan o t = move_locks s source target key ws plan o t
+plan_locks (Pair first second key) s ws plan o t = absurd plan
+plan_locks (Size name) s ws plan o t = absurd plan
+plan_locks (Next name key) s ws plan o t = absurd plan
+
+-- A refusal is of an object that the command locks.
+pub stops_by : (may_refuse : Type 0) (found_held : InSection → InSection → ℕ → ℕ → Type 0) (found left : InSection) (command : Command) (ws : Writes)
+    (gone : Gone) (cause : Cause) → IsPlanned command (state_of found) ws gone → Refuses may_refuse found_held found left (objects_of ws) cause
+    → Stops may_refuse found_held (Locks command (state_of found)) found left cause
+stops_by may_refuse found_held found left command ws gone cause p r = record {
+  object = r.object;
+  named = plan_locks command (state_of found) ws p.plan r.object
+      (touches-in ws r.object (subst (λ os. IsIn r.object os) (sym r.parts) (in_right r.held (r.object ∷ r.rest) r.object (inl refl))));
+  before = r.before;
+  goes_on = r.holds.goes_on;
+  refused = r.refused;
+}
 
 -- what is named by the one is named by the other
 pub stops_named : (may_refuse : Type 0) (found_held : InSection → InSection → ℕ → ℕ → Type 0) (Named More : ℕ → Type 0) (a b : InSection) (cause : Cause)
@@ -93,8 +151,17 @@ pub stops_named : (may_refuse : Type 0) (found_held : InSection → InSection �
 stops_named may_refuse found_held Named More a b cause f x =
     record { object = x.object; named = f x.object x.named; before = x.before; goes_on = x.goes_on; refused = x.refused }
 
--- and a change before goes on to it
+-- and what came before goes on to it
 pub stops_after : (may_refuse : Type 0) (found_held : InSection → InSection → ℕ → ℕ → Type 0) (Named : ℕ → Type 0) (a b c : InSection) (cause : Cause)
     → GoesOn a b → Stops may_refuse found_held Named b c cause → Stops may_refuse found_held Named a c cause
 stops_after may_refuse found_held Named a b c cause goes x =
     record { object = x.object; named = x.named; before = x.before; goes_on = GoesOn-GoesOn goes x.goes_on; refused = x.refused }
+
+-- what was written, and refused, of a slice with these writes
+pub written_as : (found locked : InSection) (made ws : Writes) → made ≡ ws → Rewritten found locked (objects_of made) made
+    → Rewritten found locked (objects_of ws) ws
+written_as found locked made ws e r = subst (λ (w : Writes). Rewritten found locked (objects_of w) w) e r
+
+pub refused_as : (may_refuse : Type 0) (found_held : InSection → InSection → ℕ → ℕ → Type 0) (found left : InSection) (cause : Cause) (made ws : Writes)
+    → made ≡ ws → Refuses may_refuse found_held found left (objects_of made) cause → Refuses may_refuse found_held found left (objects_of ws) cause
+refused_as may_refuse found_held found left cause made ws e r = subst (λ (w : Writes). Refuses may_refuse found_held found left (objects_of w) cause) e r

@@ -3,8 +3,11 @@ pub mod Picks
 pub mod Sets
 pub mod Needs
 pub mod Replies
-pub mod Findings
 pub mod Plans
+pub mod Ends
+pub mod Merges
 pub mod Steps
 pub mod Causes
+pub mod Findings
 pub mod Attempts
+pub mod Readings

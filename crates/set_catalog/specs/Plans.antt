@@ -29,8 +29,9 @@ pub data AddPlan (s : State) (name key v first second : ℕ) : Writes → Type 0
       → AddPlan s name key v first second (add_writes s (head_of name key) key v previous first)
   plants : first_tree ≤ name → link s (head_of name key) ≡ 0 → IsVacant s first
       → AddPlan s name key v first second (plant_writes s (head_of name key) key v first)
-  grows : (parent leaf : ℕ) → first_tree ≤ name → IsGrowPlace s (head_of name key) key parent leaf → IsVacant s first → IsVacant s second
-      → second ≢ first → AddPlan s name key v first second (grow_writes s (head_of name key) key v parent leaf first second)
+  grows : (parent leaf : ℕ) → first_tree ≤ name → IsGrowPlace s (head_of name key) key parent leaf → IsVacant s first
+      → IsVacant s second → second ≢ first
+      → AddPlan s name key v first second (grow_writes s (head_of name key) key v parent leaf first second)
 
 -- another value for a key that is there
 pub data PutPlan (s : State) (name key v : ℕ) : Writes → Type 0 where

@@ -2,23 +2,21 @@
 ghost use Rattle.std.specs.Prelude.{◌≡◌, ◌+◌, ◌<◌, ◌≤◌, true, false, length};
 ghost use Rattle.mv_history.specs.Meaning.{state_of, IsWorn};
 ghost use Rattle.mv_history.specs.Calls.{Continues, NamesNoCommit};
-ghost use Rattle.set_script.specs.CatalogueOf.{catalogue_of};
 ghost use Rattle.set_script.specs.Lawful.{IsLawful};
 ghost use Rattle.set_script.specs.Tags.{tag_of};
 ghost use Rattle.set_catalog.specs.Causes.{causes};
+ghost use Rattle.set_catalog.specs.Findings.{IsPlanned};
 ghost use Rattle.set_catalog.specs.Hinted.{TakesHints};
-ghost use Rattle.set_catalog.specs.Needs.{wanted, AreEnough};
+ghost use Rattle.set_catalog.specs.Merges.{writes_in};
 ghost use Rattle.set_catalog.specs.Replies.{reply_in, changes_in};
 ghost use Rattle.set_catalog.specs.Steps.{most_locks, HasSpace};
 ghost use Rattle.set_catalog.specs.Attempts.{Attempted, AttemptedIn, IsReadBy, HintsAfter, TriesOne};
 
 use crate::answer::Attempt;
-use crate::changing::change;
-use crate::finding::{Finding, find, has_range};
+use crate::finding::{Finding, find};
 use crate::hints::Hints;
-use crate::picks::Picked;
-use crate::sets::Gone;
-use list_set::Cause;
+use crate::plan::{Gone, Plan};
+use list_set::{Cause, rewrite};
 use mv_history::{CommitAnswer, Room, Section, Store, Tag, View};
 use set_script::{Command, Place, Reply, SetRules};
 
@@ -36,7 +34,9 @@ pub fn attempt<S: Store<Rules = SetRules>>(store: S, command: &Command) -> (S, A
 ///
 /// It needs a `write_max` of at least 5. Vacant objects are looked for among the hints first; the
 /// objects that a del left vacant are noted once it is done, and no hint is added that wasn't
-/// vacant in this call. It never waits or tries again by itself, and takes no memory.
+/// vacant in this call. It never waits or tries again by itself, and takes no memory. It searches
+/// each set of the command once for its key; beside these walks it reads objects to find vacant
+/// ones, and at the last time it answers by a second look.
 ///
 /// - `Done` at a `Place::Commit`: the command changed the catalogue, by one commit of that printed
 ///   time, and the reply is that of the catalogue just before it.
@@ -73,24 +73,24 @@ pub fn attempt_with<S: Store<Rules = SetRules>>(
             let place = Place::Read(time);
             (section.leave(), Attempt::Done { reply, place })
         }
-        Finding::Open(picked) => match room {
-            Room::Enough => commit_change(section, hints, command, picked),
+        Finding::Open { plan, gone } => match room {
+            Room::Enough => commit_change(section, hints, command, &plan, gone),
             Room::Short(holder) => (section.leave(), Attempt::Again(Cause::LogFull(holder))),
         },
     }
 }
 
-// Makes the command's change in a section that holds nothing, and commits it.
+// Locks and writes what is planned for the command in a section that holds nothing, and commits it.
 fn commit_change<S: Store<Rules = SetRules>>(
     section: S::Open,
     hints: &mut Hints,
     command: &Command,
-    picked: Picked,
+    plan: &Plan,
+    gone: Gone,
 ) -> (S, Attempt)
-    requires lawful { IsLawful (state_of (S.Open.section section)) }
     requires changing { changes_in command.now (state_of (S.Open.section section)) false ≡ true }
-    requires enough { AreEnough (state_of (S.Open.section section))
-        (wanted command.now (catalogue_of (state_of (S.Open.section section)))) picked.first picked.second }
+    requires few { plan.now.count ≤ most_locks }
+    requires planned { IsPlanned command.now (state_of (S.Open.section section)) (writes_in plan.now) gone }
     requires space { HasSpace (S.Open.section section) }
     ensures attempted { let shows = causes S.Open.may_refuse S.Open.has_trail S.took S.holds_back S.Open.found_held S.Open.loaded in
         AttemptedIn shows (S.Open.section section) (S.seat_of result.0) command.now result.1 }
@@ -98,12 +98,10 @@ fn commit_change<S: Store<Rules = SetRules>>(
     ensures continues { Continues (S.Open.section section).seat (S.seat_of result.0) }
     ensures at_most_one { TriesOne (S.Open.section section).seat (S.seat_of result.0) }
 {
-    has_range(*command);
     let mut section = section;
-    let gone = match change(&mut section, command, picked) {
-        Ok(gone) => gone,
-        Err(cause) => return (section.abort(), Attempt::Again(cause)),
-    };
+    if let Err(cause) = rewrite(&mut section, plan.writes()) {
+        return (section.abort(), Attempt::Again(cause));
+    }
     match section.try_commit(tag(command)) {
         CommitAnswer::Done(store, time) => {
             gone.note(hints);
@@ -147,7 +145,8 @@ fn last_reply<V: View>(view: &mut V, hints: &mut Hints, command: &Command) -> Re
 {
     match find(view, hints, command, true) {
         Finding::Settled(reply) => reply,
-        Finding::Open(_) => unreachable!(),
+        // No time is left for a change.
+        Finding::Open { .. } => Reply::Worn,
     }
 }
 

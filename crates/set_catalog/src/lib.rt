@@ -4,24 +4,33 @@
 //!
 //! A command meets the catalogue of a state, the number of nodes, and whether its place is the last
 //! time; `set_script` says what it replies there and what it changes. An attempt makes room in the
-//! seat's log, enters one section, and finds what the command comes to in the section's snapshot.
-//! What changes nothing leaves the section again. A change is locked and written, and given to one
-//! `try_commit`, as one entry of the history: a move too, whose add takes the objects first that its
-//! del leaves vacant.
+//! seat's log, enters one section, and finds what the command comes to in the section's snapshot: a
+//! reply that changes nothing, or a plan, which has the objects to lock with the words to write.
+//! What changes nothing leaves the section again. A plan is locked and written by one
+//! `list_set::rewrite`, with no further search, and given to one `try_commit`, as one entry of the
+//! history: a move too, whose add takes the objects first that its del leaves vacant.
+//!
+//! A command searches each of its sets once, a move one set after the other in the same state: its
+//! del writes nothing that the search in the target read. An object that the del removes and the add
+//! takes stands in the plan once.
 //!
 //! # The contract
 //!
 //! - `Done` at `Commit(t)`: the entry of time t is the seat's last commit, with the command's tag.
 //!   It writes exactly what the command locks in its snapshot (`specs/Plans.antt`), and the reply is
 //!   that of the catalogue just before t, at a place that is not the last time.
-//! - `Done` at `Read(t)`: no commit was made. The state of time t was found by this call, the reply
-//!   is that of its catalogue, and the command changes nothing there. `Full`, `Worn` and `No` come
-//!   exactly so.
-//! - `Again` comes only where the command would change something in the snapshot of the call's
-//!   section, which is not at the last time, and no commit was made. The cause is the one lock or
-//!   commit that was refused, of an object that the command locks, or a log without room.
+//! - `Done` at `Read(t)`: no commit was made. Time t is that of a section that this call entered, the
+//!   reply is that of the catalogue there, and the command changes nothing there. `Full`, `Worn` and
+//!   `No` come exactly so.
+//! - `Again` comes only where the command would change something in the snapshot of a section that
+//!   this call entered, which is not at the last time, and no commit was made. The cause is the one
+//!   lock or commit that was refused there, of an object that the command locks, or that this call's
+//!   `prepare` made too little room. What the section saw, and the entry that a cause names, stand in
+//!   what the seat has seen afterwards. What only a store can show of a cause it defines itself
+//!   (`specs/Causes.antt`).
 //! - An attempt has at most one exchange on CLOCK for a commit in its trail. After a del is done, the
-//!   objects that it left vacant are noted in the hints.
+//!   objects that it left vacant are noted in the hints. Each other hint was one before, or its
+//!   object was vacant at a time of the call.
 //!
 //! A commit may be made only if it is fit: allowed on the snapshot and on every state to which
 //! others may have led meanwhile. That each change of these sets is, `list_set` and `tree_set` show
@@ -29,7 +38,7 @@
 //! history is allowed.
 //!
 //! `pick` finds vacant objects, and tries what a worker remembers of its own deletions first.
-//! `read_all` reads the whole catalogue, node by node.
+//! `read_all` reads the whole catalogue, set by set and each node once.
 //!
 //! No call but `Hints::new` and `read_all` takes memory.
 //!
@@ -42,13 +51,18 @@
 
 mod answer;
 mod attempting;
-mod changing;
+#[cfg(test)]
+mod cost_tests;
+#[cfg(test)]
+mod counted;
+mod ends;
 mod finding;
 mod hints;
 mod names;
 #[cfg(test)]
 mod pick_tests;
 mod picks;
+mod plan;
 mod reading;
 mod sets;
 #[cfg(test)]

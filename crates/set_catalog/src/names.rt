@@ -3,11 +3,13 @@ ghost use Rattle.std.specs.Prelude.{◌≡◌, ◌<◌};
 ghost use Rattle.set_script.specs.CatalogueOf.{name_of as name_of_head};
 ghost use Rattle.set_catalog.specs.Sets.{IsSetOf};
 
+/// The first object that is the root of a tree; the heads below are those of lists and buckets.
+pub const FIRST_ROOT: u32 = 170;
+
 /// The first object that is a node; those below are heads.
 pub const FIRST_NODE: u32 = 180;
 
-/// The names from this one on are those of trees.
-pub const FIRST_TREE: u32 = 20;
+use set_script::Name;
 
 // The set of a name, as its own crate numbers it.
 pub enum Set {
@@ -20,14 +22,13 @@ pub enum Set {
 }
 
 // The set of a name.
-pub fn set_of(name: u32) -> Set
-    requires { name < 30 }
+pub fn set_of(name: Name) -> Set
     ensures { IsSetOf name result }
 {
-    match name {
-        0..10 => Set::List(name),
-        10..20 => Set::Table(name - 10),
-        _ => Set::Tree(name + 150),
+    match name.index() {
+        index @ 0..10 => Set::List(index),
+        index @ 10..20 => Set::Table(index - 10),
+        index => Set::Tree(index + 150),
     }
 }
 

@@ -2,40 +2,12 @@
 ghost use Rattle.std.specs.Prelude.{◌≡◌, ◌<◌, ◌≤◌, length, replicate, IfOk};
 ghost use Rattle.mv_history.specs.Meaning.{state_of};
 
+use crate::counted::Counted;
 use crate::hints::Hints;
 use crate::picks::{Picked, pick};
-use mv_history::{AnyRules, PlainSection, PlainStore, Section, Store, View, WORDS, Words};
+use mv_history::{AnyRules, PlainSection, PlainStore, Section, Store, View, WORDS};
 use std::alloc::{AllocError, Global};
 use std::test::Fail;
-
-// A view that counts its reads.
-struct Counted<V> {
-    view: V,
-    reads: u32,
-}
-
-impl<V: View> View for Counted<V> {
-    ghost state = { λ v. V.state v.view };
-
-    ghost as_before = { λ v w. V.as_before v.view w.view };
-
-    fn objects(&self) -> u32 {
-        self.view.objects()
-    }
-
-    fn read(&mut self, object: u32) -> Words {
-        self.reads = self.reads.saturating_add(1);
-        self.view.read(object)
-    }
-
-    ghost as_itself = { λ v. V.as_itself v.view };
-
-    ghost as_long_before = { λ u v w. V.as_long_before u.view v.view w.view };
-
-    ghost same_state = { λ v w. V.same_state v.view w.view };
-
-    ghost are_words = { λ v. V.are_words v.view };
-}
 
 // A section over so many objects of zeros.
 fn open(alloc: Global, count: u32) -> Result<PlainSection<AnyRules>, AllocError>

@@ -1,32 +1,73 @@
 // The whole catalogue of a view.
-ghost use Rattle.std.specs.Prelude.{◌≡◌, IfOk};
+ghost use Rattle.std.specs.Prelude.{◌≡◌, ◌+◌, ◌<◌, ◌≤◌, length, IfOk, OnOk};
 ghost use Rattle.set_script.specs.CatalogueOf.{catalogue_of};
 ghost use Rattle.set_script.specs.Lawful.{IsLawful};
+ghost use Rattle.set_catalog.specs.Readings.{HasHeads};
 
-use crate::names::{FIRST_NODE, name_of};
+use crate::names::{FIRST_NODE, FIRST_ROOT, name_of};
 use mv_history::View;
 use set_script::Catalogue;
 use std::alloc::{AllocError, Global};
-
-// The word that says of a node that it is an inner node of a tree, which holds no key.
-const INNER: u64 = 2;
+use tree_set::{Leaves, MOST_PENDING};
 
 /// Reads the catalogue of a lawful state: the keys of all sets, with their values.
 ///
-/// It reads each node once, and follows no link. The error is want of memory.
+/// It reads the 180 heads, and each node that is not vacant once: for a list or a table of n keys n
+/// nodes, for a tree of n keys `2n - 1`. The error is want of memory.
 pub fn read_all<V: View>(alloc: Global, view: &mut V) -> Result<Catalogue, AllocError>
     requires lawful { IsLawful (V.state view.old) }
     ensures catalogue { IfOk result (λ all. all ≡ catalogue_of (V.state view.old)) }
     ensures as_before { V.as_before view.old view.new }
 {
     let mut all = Catalogue::new(alloc)?;
-    let mut object = view.objects();
-    while object > FIRST_NODE {
-        object -= 1;
-        let [owner, kind, key, _, _, value] = view.read(object);
-        if owner != 0 && kind != INNER {
-            all.insert(name_of(owner as u32 - 1), key as u32, value)?;
-        }
+    for head in 0..FIRST_ROOT {
+        read_list(view, head, &mut all)?;
+    }
+    let mut pending = [0; MOST_PENDING];
+    for root in FIRST_ROOT..FIRST_NODE {
+        read_tree(view, root, &mut pending, &mut all)?;
     }
     Ok(all)
+}
+
+// Reads the list or the bucket of this head.
+fn read_list<V: View>(view: &mut V, head: u32, all: &mut Catalogue) -> Result<(), AllocError>
+    requires head_in { head < 170 }
+    requires lawful { IsLawful (V.state view.old) }
+    requires before { HasHeads (V.state view.old) head all.old }
+    ensures read { OnOk result (HasHeads (V.state view.old) (head + 1) all.new) }
+    ensures as_before { V.as_before view.old view.new }
+{
+    let name = name_of(head);
+    let mut node = view.read(head)[3];
+    while node != 0 {
+        let [_, _, key, next, _, value] = view.read(node as u32);
+        all.insert(name, key as u32, value)?;
+        node = next;
+    }
+    Ok(())
+}
+
+// Reads the tree of this root, with a table for the walk's links.
+fn read_tree<V: View>(
+    view: &mut V,
+    root: u32,
+    pending: &mut [u16],
+    all: &mut Catalogue,
+) -> Result<(), AllocError>
+    requires root_from { 170 ≤ root }
+    requires root_in { root < 180 }
+    requires lawful { IsLawful (V.state view.old) }
+    requires places { 32768 ≤ length pending.old }
+    requires before { HasHeads (V.state view.old) root all.old }
+    ensures read { OnOk result (HasHeads (V.state view.old) (root + 1) all.new) }
+    ensures places { length pending.new ≡ length pending.old }
+    ensures as_before { V.as_before view.old view.new }
+{
+    let name = name_of(root);
+    let mut leaves = Leaves::of(view, root);
+    while let Some(leaf) = leaves.next(view, pending) {
+        all.insert(name, leaf.key, leaf.value)?;
+    }
+    Ok(())
 }

@@ -72,20 +72,33 @@ module _ {Fits Fits' : Map → Type 0} {change change' : Map → Map} (h g : ℕ
   joined_first : (s : State) (o : ℕ) → IsIn o (d.objects ++ d.fresh) → touches (joined s) o ≡ true
   joined_first s o i = joined_in s o (inl (touches-in (d.writes s) o (subst (λ u. IsIn o u) (sym (d.names s)) i)))
 
+  -- Where both have their place, the second change's objects are none of the first's, so it has its place and its writes after the first.
+  module _ (lh : h < 180) (lg : g < 180) (other : g ≢ h) (s : State) (l : IsLawful s) (p : d.Place s) (f : AreVacant s d.fresh) (q : a.Place s) where
+    pub ways_apart : (o : ℕ) → IsIn o a.objects → touches (d.writes s) o ≡ false
+    ways_apart o i =
+        touches-out (d.writes s) o
+        (λ j. apart_at s h g o lh lg other (whose (in_either d.objects d.fresh o (subst (λ u. IsIn o u) (d.names s) j))) (a.owned s l q o i))
+      where
+        whose : IsIn o d.objects ⊎ IsIn o d.fresh → IsAt s h o ⊎ IsVacant s o
+        whose (inl j) = inl (d.owned s l p o j)
+        whose (inr j) = inr (f o j)
+
+    same_after : AreSame s (after_first s) a.objects
+    same_after o i = words-written_other s (d.writes s) o (ways_apart o i)
+
+    pub place_after : a.Place (after_first s)
+    place_after =
+        let x : Half s (after_first s) (d.writes s) h Fits change = d.half s l p f in
+        a.stays s (after_first s) (d.writes s) (keeps_other g h s (after_first s) (d.writes s) lh lg other l x.keeps.lawful_after x.within)
+        ways_apart same_after q
+
+    pub writes_after : a.writes (after_first s) ≡ a.writes s
+    writes_after = a.same s (after_first s) same_after
+
   module _ (command : Command) (does : DoesBoth command (name_of h) (name_of g) Fits change Fits' change') (lh : h < 180) (lg : g < 180)
       (apart : name_of h ≢ name_of g) where
     other : g ≢ h
     other z = apart (ap name_of (sym z))
-
-    -- the second change's objects are none of the first's
-    ways_apart : (s : State) → IsLawful s → BothPlaces s → (o : ℕ) → IsIn o a.objects → touches (d.writes s) o ≡ false
-    ways_apart s l b o i =
-        touches-out (d.writes s) o
-        (λ j. apart_at s h g o lh lg other (whose (in_either d.objects d.fresh o (subst (λ u. IsIn o u) (d.names s) j))) (a.owned s l b.1 o i))
-      where
-        whose : IsIn o d.objects ⊎ IsIn o d.fresh → IsAt s h o ⊎ IsVacant s o
-        whose (inl j) = inl (d.owned s l b.0 o j)
-        whose (inr j) = inr (b.2 o j)
 
     -- The two changes are one commit of the sets.
     pub joined_allowed : (s : State) → IsLawful s → BothPlaces s → AreVacant (after_first s) a.fresh → IsSetCommit (tag_of command) s (joined s)
@@ -93,9 +106,7 @@ module _ {Fits Fits' : Map → Type 0} {change change' : Map → Map} (h g : ℕ
         let ds : Writes = d.writes s in
         let s1 : State = written s (d.writes s) in
         let x : Half s s1 ds h Fits change = d.half s l b.0 b.2 in
-        let out = ways_apart s l b in
-        let place : a.Place s1 =
-        a.stays s s1 ds (keeps_other g h s s1 ds lh lg other l x.keeps.lawful_after x.within) out (λ o i. words-written_other s ds o (out o i)) b.1 in
+        let place : a.Place s1 = place_after lh lg other s l b.0 b.2 b.1 in
         let es : Writes = a.writes (written s (d.writes s)) in
         let y : Half s1 (written s1 es) es g Fits' change' = a.half s1 x.keeps.lawful_after place v in
         let locks : Writes = with_locks s1 ds more in

@@ -1,24 +1,21 @@
 -- The writes of a del that leaves a leaf in the tree.
-use Rattle.std.proofs.Common.{◌≡◌, ◌≢◌, ℕ, suc, ◌^◌, ◌<◌, ◌≤◌, inl, inr, true, List, [], ◌∷◌, ◌++◌, length}
-use Rattle.std.proofs.Common.{refl, sym, ap, ◌∙◌, subst, arith, Option, Some, None}
+use Rattle.std.proofs.Common.{◌≡◌, ◌≢◌, ℕ, suc, ◌<◌, ◌≤◌, inl, inr, true, [], ◌∷◌, ◌++◌, refl, sym, ap, ◌∙◌, subst, arith, Option, Some, None}
 use Rattle.mv_history.specs.State.{State, written}
 use Rattle.mv_history.specs.Legal.{are_distinct}
-use Rattle.mv_history.specs.Meaning.{words_at}
 use Rattle.mv_history.proofs.Writing.{words-written_other, words-written_same}
 use Rattle.set_script.specs.Catalogue.{take_out}
 use Rattle.set_script.specs.Objects.{owner, value}
-use Rattle.set_script.specs.Trees.{Tree, top, objects_in, Stands, IsGrown, IsTree, seek}
+use Rattle.set_script.specs.Trees.{Tree, top, objects_in, IsGrown, IsTree, seek}
 use Rattle.set_script.specs.Trees.Tree.{leaf}
 use Rattle.set_script.specs.TreeLaws.{grown_once}
 use Rattle.set_script.specs.Lawful.{IsLawful}
 use Rattle.set_script.proofs.ObjectWords.{word, owned_in_range}
-use Rattle.set_script.proofs.TreeShape.{IsIn, is_in-none, top_in, only_in, Stands-owner}
+use Rattle.set_script.proofs.TreeShape.{IsIn, is_in-none, only_in}
 use Rattle.set_script.proofs.TreeMaps.{seek_leaf}
 use Rattle.set_script.proofs.Written.{touches-out, out-touches, distinct-objects_of}
 use Rattle.set_script.proofs.Halves.{Half}
 use Rattle.set_script.proofs.Ways.{Has}
 use Rattle.tree_set.specs.Paths.{Turn, Path, plug, node_of, parent_of, Follows}
-use Rattle.tree_set.specs.Paths.Turn.{left, right}
 use Rattle.tree_set.specs.Places.{IsParent, IsLeaf, IsCutPlace, cut_writes}
 use Rattle.tree_set.proofs.Plugging.{path_to, stands_part, distinct_part, seek_plug}
 use Rattle.tree_set.proofs.Around.{part_owner, parent_at, part_not_parent, at_in_range}
@@ -145,22 +142,3 @@ cut_half s root k v g p l law lo lt place val =
           );
         })
         (twig_value s root k g p l x ps q a ∙ ap Some val) (entries_cut s root k g p l x ps q a)
-
--- the children of the leaf's parent fit their type
-pub twig_fits : (s : State) (root k g p l x : ℕ) (ps : Path) (q : Turn) (words : List ℕ) → IsLawful s → IsTwig s root k g p l x ps q → words ≡ words_at s p
-    → (word 3 words < 2 ^ 32) × (word 4 words < 2 ^ 32)
-twig_fits s root k g p l x ps q words law a e =
-    go q (stands_part s root ps (plug (q ∷ []) (leaf l k x)) a.grown.stands) a.parent
-  where
-    child : (t : Tree) → Stands s root t → (o : ℕ) → o ≡ top t → o < 2 ^ 32
-    child t st o h =
-        let lt : top t < length s = owned_in_range s (top t) root (Stands-owner s root t st (top t) (top_in t)) in
-        let few = law.few in omega arith
-
-    go : (t : Turn) → Stands s root (plug (t ∷ []) (leaf l k x)) → node_of t ≡ p → (word 3 words < 2 ^ 32) × (word 4 words < 2 ^ 32)
-    go (left n d b) st h =
-        let w : words ≡ words_at s n = e ∙ ap (words_at s) (sym h) in
-        (child (leaf l k x) st.3 (word 3 words) (ap (word 3) (w ∙ st.2)), child b st.4 (word 4 words) (ap (word 4) (w ∙ st.2)))
-    go (right n d b) st h =
-        let w : words ≡ words_at s n = e ∙ ap (words_at s) (sym h) in
-        (child b st.3 (word 3 words) (ap (word 3) (w ∙ st.2)), child (leaf l k x) st.4 (word 4 words) (ap (word 4) (w ∙ st.2)))

@@ -1,11 +1,11 @@
 -- The places that a search found.
-use Rattle.std.proofs.Common.{◌≡◌, ◌≢◌, ℕ, suc, ◌+◌, ◌<◌, ◌≤◌, ◌⊎◌, inl, inr, Bool, false, cond, eqb, eq-eqb}
-use Rattle.std.proofs.Common.{ne_eqb, set, List, [], ◌∷◌, sym, ap, ◌∙◌, subst, arith, Some, None}
+use Rattle.std.proofs.Common.{◌≡◌, ◌≢◌, ℕ, suc, ◌+◌, ◌<◌, ◌≤◌, inl, inr, false, cond, eqb, set, List, [], ◌∷◌, sym, ap, ◌∙◌, subst}
+use Rattle.std.proofs.Common.{arith, Some, None}
 use Rattle.mv_history.specs.State.{State}
 use Rattle.mv_history.specs.Meaning.{words_at}
 use Rattle.set_script.specs.Catalogue.{map_of, has_key, value_of}
 use Rattle.set_script.specs.CatalogueOf.{name_of, catalogue_of}
-use Rattle.set_script.specs.Objects.{owner, key, link, right_link, leaf_words, no_words}
+use Rattle.set_script.specs.Objects.{owner, key, link, leaf_words}
 use Rattle.set_script.specs.Trees.{Tree, top, Stands, IsGrown}
 use Rattle.set_script.specs.Trees.Tree.{leaf}
 use Rattle.set_script.specs.TreeLaws.{top_is_node}
@@ -13,14 +13,14 @@ use Rattle.set_script.specs.Lawful.{IsLawful}
 use Rattle.set_script.proofs.ObjectWords.{word}
 use Rattle.list_set.specs.Places.{put_writes}
 use Rattle.tree_set.specs.Paths.{Path, plug, node_of, parent_of, grand_of}
-use Rattle.tree_set.specs.Places.{IsInner, IsLeaf, IsParent, redirect, inner_over, sibling, plant_writes, IsGrowPlace, grow_writes, IsBarePlace}
-use Rattle.tree_set.specs.Places.{bare_writes, IsCutPlace, cut_writes}
+use Rattle.tree_set.specs.Places.{IsInner, IsLeaf, IsParent, redirect, inner_over, plant_writes, IsGrowPlace, grow_writes, IsBarePlace}
+use Rattle.tree_set.specs.Places.{IsCutPlace}
 use Rattle.tree_set.specs.Walks.{IsFork}
 use Rattle.tree_set.proofs.Plugging.{stands_part, seek_plug}
 use Rattle.tree_set.proofs.Replacing.{parent_leads}
 use Rattle.tree_set.proofs.Turns.{last_turn, plug_last, parent_last, grand_last, top_turn}
 use Rattle.tree_set.proofs.Forks.{fork_has, fork_value, no_keys}
-use Rattle.tree_set.proofs.Ends.{no_tree, bare_tree}
+use Rattle.tree_set.proofs.Ends.{no_tree}
 
 module _ (s : State) (root k g p l r : ℕ) (words : List ℕ) (f : IsFork s root k g p l r words) where
   stood : Stands s root (leaf l f.key f.value)
@@ -104,12 +104,12 @@ module _ (s t : State) (root k g p l r : ℕ) (words : List ℕ) (same : s ≡ t
   pub found_has : IsLawful t → 170 ≤ root → root < 180 → has_key k (map_of (name_of root) (catalogue_of t)) ≡ eqb (word 2 words) k
   found_has l lo lt = fork_has t root k g p _ r words l lo lt there
 
-  pub found_value : IsLawful t → 170 ≤ root → root < 180
-      → value_of k (map_of (name_of root) (catalogue_of t)) ≡ cond (eqb (word 2 words) k) (Some (word 5 words)) None
+  pub found_value : IsLawful t → 170 ≤ root → root < 180 →
+      value_of k (map_of (name_of root) (catalogue_of t)) ≡ cond (eqb (word 2 words) k) (Some (word 5 words)) None
   found_value l lo lt = fork_value t root k g p _ r words l lo lt there
 
-pub found_none : (s t : State) (root k : ℕ) → s ≡ t → link s root ≡ 0 → IsLawful t → 170 ≤ root → root < 180
-    → has_key k (map_of (name_of root) (catalogue_of t)) ≡ false
+pub found_none : (s t : State) (root k : ℕ) → s ≡ t → link s root ≡ 0 → IsLawful t → 170 ≤ root → root < 180 →
+    has_key k (map_of (name_of root) (catalogue_of t)) ≡ false
 found_none s t root k same e l lo lt =
     ap (has_key k) (no_keys t root l lo lt (ap (λ (u : State). link u root) (sym same) ∙ e))
 
@@ -117,36 +117,19 @@ pub found_empty : (s t : State) (root : ℕ) → s ≡ t → link s root ≡ 0 �
 found_empty s t root same e = ap (λ (u : State). link u root) (sym same) ∙ e
 
 -- The words that the code makes are those of the places.
-pub plant_made : (s : State) (root k v m : ℕ) → IsLawful s → 170 ≤ root → root < 180 → link s root ≡ 0
-    → ((root, 0 ∷ 0 ∷ 0 ∷ m ∷ 0 ∷ 0 ∷ []) ∷ (m, (root + 1) ∷ 1 ∷ k ∷ 0 ∷ 0 ∷ v ∷ []) ∷ []) ≡ plant_writes s root k v m
+pub plant_made : (s : State) (root k v m : ℕ) → IsLawful s → 170 ≤ root → root < 180 → link s root ≡ 0 →
+    ((root, 0 ∷ 0 ∷ 0 ∷ m ∷ 0 ∷ 0 ∷ []) ∷ (m, (root + 1) ∷ 1 ∷ k ∷ 0 ∷ 0 ∷ v ∷ []) ∷ []) ≡ plant_writes s root k v m
 plant_made s root k v m l lo lt e =
     let q = (no_tree s root l lo lt e).0 in let one : root + 1 ≡ suc root = omega arith in cc
 
-pub grow_made : (s : State) (root k v p l m w : ℕ) (words parent_words inner_words_made read : List ℕ) → words ≡ words_at s l → read ≡ words_at s p
-    → parent_words ≡ redirect read l w → inner_words_made ≡ inner_over root k m (word 2 words) l
-    → ((p, parent_words) ∷ (l, words) ∷ (m, (root + 1) ∷ 1 ∷ k ∷ 0 ∷ 0 ∷ v ∷ []) ∷ (w, inner_words_made) ∷ []) ≡ grow_writes s root k v p l m w
+pub grow_made : (s : State) (root k v p l m w : ℕ) (words parent_words inner_words_made read : List ℕ) → words ≡ words_at s l → read ≡ words_at s p →
+    parent_words ≡ redirect read l w → inner_words_made ≡ inner_over root k m (word 2 words) l →
+    ((p, parent_words) ∷ (l, words) ∷ (m, (root + 1) ∷ 1 ∷ k ∷ 0 ∷ 0 ∷ v ∷ []) ∷ (w, inner_words_made) ∷ []) ≡ grow_writes s root k v p l m w
 grow_made s root k v p l m w words parent_words inner_words_made read a b c d =
     let one : root + 1 ≡ suc root = omega arith in
     let leaf_is : (root + 1) ∷ 1 ∷ k ∷ 0 ∷ 0 ∷ v ∷ [] ≡ leaf_words root k v = ap (λ (n : ℕ). n ∷ 1 ∷ k ∷ 0 ∷ 0 ∷ v ∷ []) one in
     let parent_is : parent_words ≡ redirect (words_at s p) l w = c ∙ ap (λ (u : List ℕ). redirect u l w) b in
     let inner_is : inner_words_made ≡ inner_over root k m (key s l) l = d ∙ ap (λ (u : List ℕ). inner_over root k m (word 2 u) l) a in cc
-
-pub bare_made : (s : State) (root k l : ℕ) → IsLawful s → 170 ≤ root → root < 180 → IsBarePlace s root k l
-    → ((root, no_words) ∷ (l, no_words) ∷ []) ≡ bare_writes s root l
-bare_made s root k l law lo lt place = let q = (bare_tree s root k l law lo lt place).first in cc
-
-pub cut_made : (s : State) (g p l sib : ℕ) (grand_words grand_read parent_read : List ℕ) → grand_read ≡ words_at s g → parent_read ≡ words_at s p
-    → grand_words ≡ redirect grand_read p sib → ((word 3 parent_read ≡ l) × (sib ≡ word 4 parent_read))
-    ⊎ ((word 3 parent_read ≢ l) × (sib ≡ word 3 parent_read)) → ((g, grand_words) ∷ (p, no_words) ∷ (l, no_words) ∷ []) ≡ cut_writes s g p l
-cut_made s g p l sib grand_words grand_read parent_read a b c d =
-    let sib_is : sib ≡ sibling s p l = (elim d [
-      | inl x ↦ (let lp : link s p ≡ l = sym (ap (word 3) b) ∙ x.0 in x.1 ∙ ap (word 4) b
-          ∙ sym (ap (λ (t : Bool). cond t (right_link s p) (link s p)) (eq-eqb (link s p) l lp)))
-      | inr x ↦ (let lp : link s p ≢ l = λ e. x.0 (ap (word 3) b ∙ e) in x.1 ∙ ap (word 3) b
-          ∙ sym (ap (λ (t : Bool). cond t (right_link s p) (link s p)) (ne_eqb (link s p) l lp)))
-    ]) in
-    let grand_is : grand_words ≡ redirect (words_at s g) p (sibling s p l) =
-    c ∙ ap (λ (u : List ℕ). redirect u p sib) a ∙ ap (redirect (words_at s g) p) sib_is in cc
 
 pub put_made : (s : State) (l v : ℕ) (words : List ℕ) → words ≡ words_at s l → ((l, set words 5 v) ∷ []) ≡ put_writes s l v
 put_made s l v words e = cc

@@ -12,8 +12,9 @@ pub mod Putting
 pub mod TreeWays
 pub mod Walking
 pub mod Forks
-pub mod Counting
+pub mod LeafWalks
 pub mod Found
+pub mod Planning
 pub mod Changing
 pub mod TreeFits
 pub mod Filling

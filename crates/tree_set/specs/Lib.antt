@@ -2,4 +2,6 @@ pub mod Places
 pub mod Calls
 pub mod Paths
 pub mod Walks
+pub mod Leaves
+pub mod Forks
 pub mod Filling

@@ -1,7 +1,6 @@
 -- A walk down a tree that looks for a key.
-use Rattle.std.specs.Prelude.{ℕ, zero, suc, ◌≡◌, ◌+◌, ◌≤◌, ◌==◌, nat_lt, List, [], ◌∷◌, length, if◌then◌else◌}
+use Rattle.std.specs.Prelude.{ℕ, zero, suc, ◌≡◌, ◌+◌, ◌≤◌, ◌==◌, List, length, if◌then◌else◌}
 use Rattle.mv_history.specs.State.{State}
-use Rattle.set_script.specs.Catalogue.{Map}
 use Rattle.set_script.specs.Objects.{kind, link, right_link, leaf_words}
 use Rattle.set_script.specs.Trees.{Tree, top, objects_in, Stands, IsGrown}
 use Rattle.set_script.specs.Trees.Tree.{leaf, inner}
@@ -59,8 +58,3 @@ pub record IsLeftmost (s : State) (root start node : ℕ) : Type 0 where
   pub here : node ≡ top part
   pub few : length (objects_in part) ≤ length s
   pub same : (t : Tree) → Stands s root t → start ≡ top t → first_key part ≡ first_key t
-
--- how many keys of a map are below this one
-abbrev pub count_under : ℕ → Map → ℕ
-count_under k [] = 0
-count_under k (e ∷ m) = (if nat_lt e.0 k then 1 else 0) + count_under k m

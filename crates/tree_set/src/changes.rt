@@ -13,44 +13,20 @@ ghost use Rattle.list_set.specs.Calls.{Refuses};
 ghost use Rattle.list_set.specs.declared.answers.Cause.{Cause};
 ghost use Rattle.list_set.specs.declared.answers.SetStep.TheVariants.{Yes, No, Again};
 ghost use Rattle.list_set.specs.declared.answers.Removed.TheVariants.{Took, Absent, Again as DelAgain};
-ghost use Rattle.tree_set.specs.Places.{IsLeaf, redirect, inner_over};
+ghost use Rattle.tree_set.specs.Places.{IsLeaf};
 ghost use Rattle.tree_set.specs.Calls.{IsAdd, IsDel, Gains, Loses};
 
-use crate::find::find;
+use crate::search::find;
+use crate::writes::plant_writes;
 use list_set::{Removed, SetStep, rewrite};
-use mv_history::{Section, Words};
-
-// The words with the link that led to one node leading to another one.
-fn redirected(words: Words, old: u32, new: u32) -> Words
-    ensures { result ≡ redirect words old new }
-{
-    let mut words = words;
-    if words[3] == old as u64 {
-        words[3] = new as u64;
-    } else {
-        words[4] = new as u64;
-    }
-    words
-}
-
-// The words of an inner node over a new leaf and the leaf beside it, which has the key `other`.
-fn over(root: u32, key: u32, new_leaf: u32, other: u32, leaf: u32) -> Words
-    requires root_in { root < 180 }
-    ensures { result ≡ inner_over root key new_leaf other leaf }
-{
-    let owner = root as u64 + 1;
-    if key < other {
-        [owner, 2, other as u64, new_leaf as u64, leaf as u64, 0]
-    } else {
-        [owner, 2, key as u64, leaf as u64, new_leaf as u64, 0]
-    }
-}
+use mv_history::Section;
 
 /// Adds the key, with this value, to the tree of this root, in a vacant node.
 ///
 /// It needs a lawful state, a root, 170 to 179, and an object `leaf` from 180 on that is vacant in
 /// the section's state. For a tree that is not empty it needs another vacant object `inner`; for an
-/// empty tree, as `empty_in` tells, `inner` is not used, and 0 will do. It takes no memory.
+/// empty tree, as `empty_in` tells, `inner` is not used, and 0 will do. It reads the objects from the
+/// root down to one leaf, each once, and takes no memory.
 ///
 /// In an empty tree it locks the root and the new leaf. Else it locks the leaf where the search for
 /// the key ends, that leaf's parent, which is the root or an inner node, and the two vacant nodes:
@@ -93,27 +69,16 @@ pub fn add_in<S: Section>(
         → (writes : Writes) × IsAdd (state_of (S.section section.old)) root key value leaf inner writes
         × Refuses S.may_refuse S.found_held (S.section section.old) (S.section section.new) (objects_of writes) cause }
 {
-    let leaf_words = [root as u64 + 1, 1, key as u64, 0, 0, value];
     let Some(fork) = find(section, root, key) else {
-        let root_words = [0, 0, 0, leaf as u64, 0, 0];
-        return match rewrite(section, &[(root, root_words), (leaf, leaf_words)]) {
+        return match rewrite(section, &plant_writes(root, key, value, leaf)) {
             Ok(()) => SetStep::Yes,
             Err(cause) => SetStep::Again(cause),
         };
     };
-    let other = fork.words[2] as u32;
-    if other == key {
+    if fork.has(key) {
         return SetStep::No;
     }
-    let parent_words = redirected(section.read(fork.parent), fork.leaf, inner);
-    let inner_words = over(root, key, leaf, other, fork.leaf);
-    let changes = [
-        (fork.parent, parent_words),
-        (fork.leaf, fork.words),
-        (leaf, leaf_words),
-        (inner, inner_words),
-    ];
-    match rewrite(section, &changes) {
+    match rewrite(section, &fork.grow_writes(root, key, value, leaf, inner)) {
         Ok(()) => SetStep::Yes,
         Err(cause) => SetStep::Again(cause),
     }
@@ -123,7 +88,7 @@ pub fn add_in<S: Section>(
 ///
 /// It needs a lawful state, a root, 170 to 179, and the key in its tree. It locks one object, the
 /// key's leaf, and needs room for it where it is not held yet: a free slot in the seat's log, and
-/// fewer objects than `write_max` held. It takes no memory.
+/// fewer objects than `write_max` held. It reads as much as `add_in`, and takes no memory.
 ///
 /// - `No` exactly where the key has this value already; then nothing changes.
 /// - `Yes`: the leaf is held, and the section's state is lawful, with the key at this value. Only
@@ -145,14 +110,12 @@ pub fn put_in<S: Section>(section: &mut S, root: u32, key: u32, value: u64) -> S
         × Refuses S.may_refuse S.found_held (S.section section.old) (S.section section.new) (leaf ∷ []) cause }
 {
     let Some(fork) = find(section, root, key) else {
-        unreachable!();
+        return SetStep::No;
     };
-    let mut words = fork.words;
-    if words[5] == value {
+    if fork.words[5] == value {
         return SetStep::No;
     }
-    words[5] = value;
-    match rewrite(section, &[(fork.leaf, words)]) {
+    match rewrite(section, &fork.put_writes(value)) {
         Ok(()) => SetStep::Yes,
         Err(cause) => SetStep::Again(cause),
     }
@@ -160,8 +123,8 @@ pub fn put_in<S: Section>(section: &mut S, root: u32, key: u32, value: u64) -> S
 
 /// Takes the key out of the tree of this root.
 ///
-/// It needs a lawful state and a root, 170 to 179. It takes no memory. Where the key is the tree's
-/// last one it locks the root and the leaf. Else it locks the leaf, its parent, and the parent's
+/// It needs a lawful state and a root, 170 to 179. It reads as much as `add_in`, and takes no memory.
+/// Where the key is the tree's last one it locks the root and the leaf. Else it locks the leaf, its parent, and the parent's
 /// parent, which is the root or an inner node and leads to the leaf's sibling afterwards. It needs
 /// room for those of these objects that are not held yet: as many free slots in the seat's log, and
 /// as many objects less than `write_max` held.
@@ -194,11 +157,11 @@ pub fn del_in<S: Section>(section: &mut S, root: u32, key: u32) -> Removed
     let Some(fork) = find(section, root, key) else {
         return Removed::Absent;
     };
-    if fork.words[2] != key as u64 {
+    if !fork.has(key) {
         return Removed::Absent;
     }
     if fork.parent == root {
-        return match rewrite(section, &[(root, [0; 6]), (fork.leaf, [0; 6])]) {
+        return match rewrite(section, &fork.bare_writes(root)) {
             Ok(()) => Removed::Took {
                 node: fork.leaf,
                 inner: 0,
@@ -206,19 +169,7 @@ pub fn del_in<S: Section>(section: &mut S, root: u32, key: u32) -> Removed
             Err(cause) => Removed::Again(cause),
         };
     }
-    let parent_words = section.read(fork.parent);
-    let sibling = if parent_words[3] == fork.leaf as u64 {
-        parent_words[4]
-    } else {
-        parent_words[3]
-    };
-    let grand_words = redirected(section.read(fork.grand), fork.parent, sibling as u32);
-    let changes = [
-        (fork.grand, grand_words),
-        (fork.parent, [0; 6]),
-        (fork.leaf, [0; 6]),
-    ];
-    match rewrite(section, &changes) {
+    match rewrite(section, &fork.cut_writes()) {
         Ok(()) => Removed::Took {
             node: fork.leaf,
             inner: fork.parent,

@@ -20,6 +20,11 @@
 //! others' commits may have led. A refusal carries the one lock that was refused, and leaves the
 //! state as it was.
 //!
+//! Each call of a key makes one walk: `find` reads the objects from the root down to one leaf, and
+//! answers a `Fork`, which says whether the key is there and gives the writes of an add, a del or a
+//! put with no other read; `plant_writes` are those of an add to an empty tree. A changing call
+//! decides by that fork alone, and ends with `list_set::rewrite`.
+//!
 //! The calls never commit and never retry, and take no memory. They don't recurse, so that a tree of
 //! one long branch takes no more stack than any other.
 //!
@@ -44,9 +49,16 @@
 #![tactic(auto)]
 
 mod changes;
-mod find;
+mod leaves;
 mod reads;
+mod search;
+mod sizes;
 mod tests;
+mod writes;
 
 pub use changes::{add_in, del_in, put_in};
-pub use reads::{empty_in, get_in, has_in, next_in, size_in};
+pub use leaves::{Entry, Leaves, MOST_PENDING};
+pub use reads::{empty_in, get_in, has_in, next_in};
+pub use search::{Fork, find};
+pub use sizes::size_in;
+pub use writes::plant_writes;

@@ -1,10 +1,10 @@
 // The calls that read.
-ghost use Rattle.std.specs.Prelude.{true, ◌≡◌, ◌<◌, ◌≤◌, ◌↔◌, [], length};
+ghost use Rattle.std.specs.Prelude.{true, ◌≡◌, ◌<◌, ◌≤◌, ◌↔◌, []};
 ghost use Rattle.set_script.specs.Catalogue.{map_of, has_key, value_of, next_key};
 ghost use Rattle.set_script.specs.CatalogueOf.{name_of, catalogue_of};
 ghost use Rattle.set_script.specs.Lawful.{IsLawful};
 
-use crate::find::{find, least_key};
+use crate::search::{find, least_key};
 use mv_history::View;
 
 /// Whether the tree of this root has the key.
@@ -62,29 +62,6 @@ pub fn next_in<V: View>(view: &mut V, root: u32, key: u32) -> Option<u32>
         return None;
     }
     Some(least_key(view, root, fork.right))
-}
-
-/// How many keys the tree of this root has.
-///
-/// It needs what `has_in` needs. It asks for one key after another, as by `next_in`, never refuses,
-/// and takes no memory.
-pub fn size_in<V: View>(view: &mut V, root: u32) -> u64
-    requires root_from { 170 ≤ root }
-    requires root_in { root < 180 }
-    requires lawful { IsLawful (V.state view.old) }
-    ensures size { result ≡ length (map_of (name_of root) (catalogue_of (V.state view.old))) }
-    ensures as_before { V.as_before view.old view.new }
-{
-    let mut count = 0;
-    let mut from = 0;
-    while from <= u32::MAX as u64 {
-        let Some(key) = next_in(view, root, from as u32) else {
-            return count;
-        };
-        count += 1;
-        from = key as u64 + 1;
-    }
-    count
 }
 
 /// Whether the tree of this root has no key.

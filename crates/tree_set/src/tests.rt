@@ -4,7 +4,8 @@ ghost use Rattle.set_script.specs.Lawful.{IsLawful};
 ghost use Rattle.tree_set.specs.Filling.{IsFilled};
 
 use crate::changes::{add_in, del_in, put_in};
-use crate::reads::{empty_in, get_in, has_in, next_in, size_in};
+use crate::reads::{empty_in, get_in, has_in, next_in};
+use crate::sizes::size_in;
 use list_set::{Removed, SetStep};
 use mv_history::{AnyRules, PlainStore, Section, Store, View, Words};
 use std::test::Fail;

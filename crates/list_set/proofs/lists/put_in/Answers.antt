@@ -1,25 +1,51 @@
 use Rattle.std.proofs.Common.{◌≡◌}
-use Rattle.list_set.proofs.Spots.{put_spot, put_puts, other_value, rewritten_before, refuses_before}
+use Rattle.list_set.proofs.Spots.{put_value, put_spot, put_distinct, put_within, put_puts, other_value, room_as, rewritten_before, refuses_as}
 use Rattle.list_set.proofs.lists.put_in.Goals as goal
+
+pub rewrite-requires-clause-distinct : goal.rewrite-requires-clause-distinct
+rewrite-requires-clause-distinct g c =
+    let f = put_spot _ _ _ _ _ _ _ _ (g.met.S.Section.reads _) c.find-spot.ensures.spot c.requires.present _ _
+    (c.put_writes.ensures.writes _ _ _ c.find-spot.ensures.spot) in
+    put_distinct (g.S.Section.section c.args.section.now) _ _ _ _ _ c.requires.lawful c.requires.head_in f.0 f.1
+
+pub rewrite-requires-clause-within : goal.rewrite-requires-clause-within
+rewrite-requires-clause-within g c =
+    let f = put_spot _ _ _ _ _ _ _ _ (g.met.S.Section.reads _) c.find-spot.ensures.spot c.requires.present _ _
+    (c.put_writes.ensures.writes _ _ _ c.find-spot.ensures.spot) in
+    put_within (g.S.Section.section c.args.section.now) _ _ _ _ _ c.requires.lawful c.requires.head_in f.0 f.1 _ (g.met.S.Section.lawful _).at
+    (g.met.S.Section.others_stay _ _ c.find-spot.ensures.as_before)
+
+pub rewrite-requires-clause-room : goal.rewrite-requires-clause-room
+rewrite-requires-clause-room g c =
+    let f = put_spot _ _ _ _ _ _ _ _ (g.met.S.Section.reads _) c.find-spot.ensures.spot c.requires.present _ _
+    (c.put_writes.ensures.writes _ _ _ c.find-spot.ensures.spot) in
+    room_as _ _ _ _ (g.met.S.Section.others_stay _ _ c.find-spot.ensures.as_before) f.1 (c.requires.room _ f.0)
 
 pub returns-in-Ok-clause-yes : goal.returns-in-Ok-clause-yes
 returns-in-Ok-clause-yes g c _ =
-    let f = put_spot _ _ _ _ _ _ _ _ (g.met.S.Section.reads _) c.find-spot.ensures.spot c.requires.present in
-    put_puts _ _ _ _ _ _ _ c.requires.lawful c.requires.head_in f.0 f.1
+    let f = put_spot _ _ _ _ _ _ _ _ (g.met.S.Section.reads _) c.find-spot.ensures.spot c.requires.present _ _
+    (c.put_writes.ensures.writes _ _ _ c.find-spot.ensures.spot) in
+    put_puts (g.S.Section.section c.args.section.now) _ _ _ _ _ c.requires.lawful c.requires.head_in f.0 f.1 _
     (rewritten_before _ _ _ (g.met.S.Section.lawful _).at (g.met.S.Section.others_stay _ _ c.find-spot.ensures.as_before)
     (g.met.S.Section.goes_on _ _ c.find-spot.ensures.as_before) _ _ c.in-Ok.ensures.written)
 
 pub returns-in-Err-clause-no : goal.returns-in-Err-clause-no
 returns-in-Err-clause-no g c =
-    let f = put_spot _ _ _ _ _ _ _ _ (g.met.S.Section.reads _) c.find-spot.ensures.spot c.requires.present in
-    (λ e. cc, λ t. absurd (other_value _ _ _ f.2 c.if-words-value.false t))
+    let there = put_value _ _ _ _ _ _ _ _ (g.met.S.Section.reads _) c.find-spot.ensures.spot c.requires.present in
+    (λ e. cc, λ t. absurd (other_value _ _ _ there c.if-spot-value.false t))
+
+pub returns-in-Ok-clause-no : goal.returns-in-Ok-clause-no
+returns-in-Ok-clause-no g c =
+    let there = put_value _ _ _ _ _ _ _ _ (g.met.S.Section.reads _) c.find-spot.ensures.spot c.requires.present in
+    (λ e. cc, λ t. absurd (other_value _ _ _ there c.if-spot-value.false t))
 
 pub returns-in-Err-clause-again : goal.returns-in-Err-clause-again
 returns-in-Err-clause-again g c cause e =
-    let f = put_spot _ _ _ _ _ _ _ _ (g.met.S.Section.reads _) c.find-spot.ensures.spot c.requires.present in
+    let f = put_spot _ _ _ _ _ _ _ _ (g.met.S.Section.reads _) c.find-spot.ensures.spot c.requires.present _ _
+    (c.put_writes.ensures.writes _ _ _ c.find-spot.ensures.spot) in
     let q : c.in-Err.cause ≡ cause = cc in (
       c.find-spot.result.node,
       f.0,
-      refuses_before _ _ _ (g.met.S.Section.lawful _).at (g.met.S.Section.others_stay _ _ c.find-spot.ensures.as_before)
-          (g.met.S.Section.goes_on _ _ c.find-spot.ensures.as_before) _ _ _ _ _ q c.in-Err.ensures.refused,
+      refuses_as _ _ _ (g.met.S.Section.lawful _).at (g.met.S.Section.others_stay _ _ c.find-spot.ensures.as_before)
+          (g.met.S.Section.goes_on _ _ c.find-spot.ensures.as_before) _ _ _ _ _ _ f.1 q c.in-Err.ensures.refused,
     )

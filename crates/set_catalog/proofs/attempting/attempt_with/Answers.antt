@@ -7,6 +7,7 @@ use Rattle.set_catalog.specs.Replies.{changes_in}
 use Rattle.set_catalog.proofs.LawfulTimes.{lawful_read}
 use Rattle.set_catalog.proofs.Exchanges.{one_before, left_one, looks_in}
 use Rattle.set_catalog.proofs.NotedGone.{hints_after, kept_taken}
+use Rattle.set_catalog.proofs.Rooms.{planned_here}
 use Rattle.set_catalog.proofs.Outcomes.{attempted_by, short_by, early_found, changing_found, space_found, settled_by}
 use Rattle.set_catalog.proofs.attempting.attempt_with.Goals as goal
 
@@ -15,10 +16,13 @@ find-requires g c = record {
   lawful = subst IsLawful (sym (g.met.S.Open.Section.reads _)) (lawful_read _ (g.met.S.Open.Section.lawful _) c.enter-section.ensures.enters.own);
 }
 
-pub commit_change-requires-clause-lawful : goal.commit_change-requires-clause-lawful
-commit_change-requires-clause-lawful g c =
-    let same = g.met.S.Open.Section.others_stay _ _ c.find.ensures.as_before in
-    lawful_read _ (g.met.S.Open.Section.lawful _) (same.own ∙ c.enter-section.ensures.enters.own)
+pub commit_change-requires-clause-few : goal.commit_change-requires-clause-few
+commit_change-requires-clause-few g c = c.in-Open.ensures.found.1
+
+pub commit_change-requires-clause-planned : goal.commit_change-requires-clause-planned
+commit_change-requires-clause-planned g c =
+    planned_here _ _ _ _ _ _ (g.met.S.Open.Section.reads c.enter-section.result) (g.met.S.Open.Section.lawful _).at
+    (g.met.S.Open.Section.others_stay _ _ c.find.ensures.as_before) c.in-Open.ensures.found.2
 
 pub commit_change-requires-clause-changing : goal.commit_change-requires-clause-changing
 commit_change-requires-clause-changing g c =

@@ -1,19 +1,38 @@
-use Rattle.std.proofs.Common.{ℕ, List, refl, subst, ◌∙◌}
-use Rattle.mv_history.specs.Meaning.{Seat}
+use Rattle.std.proofs.Common.{ℕ, List, refl, sym, subst, ◌∙◌}
+use Rattle.mv_history.specs.Drift.{IsFit}
+use Rattle.mv_history.specs.Meaning.{Seat, snapshot_of}
 use Rattle.mv_history.specs.Calls.{Leaves, Commits}
 use Rattle.mv_history.proofs.Steps.{Continues-Continues, GoesOn-GoesOn, NamesNoCommit-NamesNoCommit}
+use Rattle.set_script.specs.Rules.{IsSetCommit}
+use Rattle.set_script.specs.Tags.{tag_of}
 use Rattle.set_catalog.specs.Attempts.{TriesOne}
 use Rattle.set_catalog.proofs.Exchanges.{leaves_none, left_one, one_before, one_after}
-use Rattle.set_script.specs.Tags.{tag_of}
 use Rattle.set_catalog.proofs.NotedGone.{noted_by, kept_same, read_noted}
 use Rattle.set_catalog.proofs.Outcomes.{done_by, stopped_in, overtaken_in, worn_left, answered_after}
+use Rattle.set_catalog.proofs.Rooms.{room_of, ready_by, gone_by, stops_by, written_as, refused_as}
 use Rattle.set_catalog.proofs.attempting.commit_change.Goals as goal
+
+pub rewrite-requires-clause-room : goal.rewrite-requires-clause-room
+rewrite-requires-clause-room g c = room_of _ _ _ c.writes.ensures.writes c.requires.space c.requires.few
+
+pub try_commit-requires-clause-some : goal.try_commit-requires-clause-some
+try_commit-requires-clause-some g c =
+    let wrote = written_as _ _ _ _ c.writes.ensures.writes c.in_default.ensures.written in
+    (ready_by _ _ _ _ _ c.requires.space c.requires.planned wrote).some
+
+pub try_commit-requires-clause-fit : goal.try_commit-requires-clause-fit
+try_commit-requires-clause-fit g c =
+    let locked = g.S.Open.Section.section c.rewrite.new.section in
+    let wrote = written_as _ _ _ _ c.writes.ensures.writes c.in_default.ensures.written in
+    subst (λ (t : List ℕ). IsFit IsSetCommit (snapshot_of locked) t locked.own) (sym c.tag.ensures)
+    (ready_by _ _ _ _ _ c.requires.space c.requires.planned wrote).fit
 
 pub returns-in-Err : goal.returns-in-Err
 returns-in-Err g c =
-    let x = c.in-Err.ensures.refused in
+    let refused = refused_as _ _ _ _ _ _ _ c.writes.ensures.writes c.in-Err.ensures.refused in
+    let x = stops_by _ _ _ _ _ _ _ _ c.requires.planned refused in
     let goes = GoesOn-GoesOn x.goes_on x.refused.goes_on in
-    let left = subst (λ (s : Seat). Leaves (g.S.Open.Section.section c.change.new.section) s) (g.met.S.Store.same_seat _) c.abort.ensures in
+    let left = subst (λ (s : Seat). Leaves (g.S.Open.Section.section c.rewrite.new.section) s) (g.met.S.Store.same_seat _) c.abort.ensures in
     record {
       attempted = stopped_in _ _ _ _ _ _ c.requires.space.own x left;
       noted = kept_same _ _ _ _ refl;
@@ -30,23 +49,26 @@ answer_at_last-requires g c = record {
 
 pub returns-in-Done : goal.returns-in-Done
 returns-in-Done g c =
-    let own = g.S.Open.Section.section c.change.new.section in
+    let own = g.S.Open.Section.section c.rewrite.new.section in
     let tagged = subst (λ (t : List ℕ). Commits own t (g.S.Open.Section.stands c.in-Done.store) c.in-Done.time) c.tag.ensures c.in-Done.ensures.done.0 in
     let made = subst (λ (s : Seat). Commits own (tag_of c.args.command.now) s c.in-Done.time) (g.met.S.Store.same_seat _) tagged in
-    let held = g.met.S.Open.Section.lawful c.change.new.section in
-    let ready = c.in-Ok.ensures.ready.goes_on in
+    let held = g.met.S.Open.Section.lawful c.rewrite.new.section in
+    let wrote = written_as _ _ _ _ c.writes.ensures.writes c.in_default.ensures.written in
+    let ready = ready_by _ _ _ _ _ c.requires.space c.requires.planned wrote in
+    let goes = ready.goes_on in
     record {
       attempted = done_by _ _ _ _ _ c.requires.space.own (g.met.S.Open.Section.lawful c.args.section).at held.at
-          (g.met.S.Store.lawful c.in-Done.store) c.requires.changing c.in-Ok.ensures.ready made;
-      noted = noted_by _ _ _ _ _ _ _ _ _ held.at c.in-Ok.ensures.ready made c.in-Ok.ensures.gone c.note.ensures;
-      at_most_one = one_before ready.continues made.continues ready.names_no_commit
+          (g.met.S.Store.lawful c.in-Done.store) c.requires.changing ready made;
+      noted = noted_by _ _ _ _ _ _ _ _ _ held.at ready made (gone_by _ _ _ _ _ c.requires.space c.requires.planned wrote) c.note.ensures;
+      at_most_one = one_before goes.continues made.continues goes.names_no_commit
           (subst (λ (s : Seat). TriesOne own.seat s) (g.met.S.Store.same_seat _) c.in-Done.ensures.at_most_one);
-      continues = Continues-Continues ready.continues made.continues;
+      continues = Continues-Continues goes.continues made.continues;
     }
 
 pub returns-in-Again : goal.returns-in-Again
 returns-in-Again g c =
-    let ready = c.in-Ok.ensures.ready in
+    let wrote = written_as _ _ _ _ c.writes.ensures.writes c.in_default.ensures.written in
+    let ready = ready_by _ _ _ _ _ c.requires.space c.requires.planned wrote in
     let again = c.in-Again.ensures.again in
     let same = again.1.seat.continues in
     let left = subst (λ (s : Seat). Leaves (g.S.Open.Section.section c.in-Again.section) s) (g.met.S.Store.same_seat _) c.abort-in-Again.ensures in
@@ -61,7 +83,8 @@ returns-in-Again g c =
 
 pub returns-in-End : goal.returns-in-End
 returns-in-End g c =
-    let ready = c.in-Ok.ensures.ready in
+    let wrote = written_as _ _ _ _ c.writes.ensures.writes c.in_default.ensures.written in
+    let ready = ready_by _ _ _ _ _ c.requires.space c.requires.planned wrote in
     let same = c.in-End.ensures.end.0 in
     let left = subst (λ (s : Seat). Leaves (g.S.Open.Section.section c.in-End.section) s) (g.met.S.Store.same_seat _) c.abort-in-End.ensures in
     let last = c.answer_at_last.ensures in

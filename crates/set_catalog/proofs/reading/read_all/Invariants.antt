@@ -1,16 +1,17 @@
-use Rattle.std.proofs.Common.{◌≡◌, ◌≤◌, length}
-use Rattle.set_script.specs.CatalogueOf.{catalogue_of}
-use Rattle.set_catalog.proofs.NodeReads.{nodes_from}
+use Rattle.std.proofs.Common.{◌≤◌, length}
+use Rattle.set_catalog.specs.Readings.{HasHeads}
 use Rattle.set_catalog.proofs.reading.read_all.Given as goal
 
--- the nodes from here on were read
-abbrev pub invariant-loop-object : goal.invariant-loop-object
-invariant-loop-object g l = record {
+-- the heads before this one were read
+abbrev pub invariant-loop-head : goal.invariant-loop-head
+invariant-loop-head g l = record {
   before : g.V.View.as_before l.fn.view l.view;
-  node : 180 ≤ l.object;
-  within : l.object ≤ length (g.V.View.state l.fn.view);
-  read : l.all ≡ catalogue_of (nodes_from (g.V.View.state l.fn.view) l.object);
+  read : HasHeads (g.V.View.state l.fn.view) l.head l.all;
 }
 
-abbrev pub decreases-loop-object : goal.decreases-loop-object
-decreases-loop-object g l = l.object
+abbrev pub invariant-loop-root : goal.invariant-loop-root
+invariant-loop-root g l = record {
+  before : g.V.View.as_before l.fn.view l.view;
+  places : 32768 ≤ length l.pending;
+  read : HasHeads (g.V.View.state l.fn.view) l.root l.all;
+}

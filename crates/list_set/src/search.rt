@@ -1,0 +1,95 @@
+// The search for a key, and what a change writes where it ended.
+ghost use Rattle.std.specs.Prelude.{◌≡◌, ◌<◌, ◌==◌, ◌&&◌, not, [], ◌∷◌, slice_index_or};
+ghost use Rattle.set_script.specs.Lawful.{IsLawful};
+ghost use Rattle.set_script.specs.OwnWrites.{objects_of};
+ghost use Rattle.list_set.specs.Spots.{EndsHere, AreAddWrites, AreDelWrites, ArePutWrites};
+
+use mv_history::{View, Words};
+
+/// Where a search for a key ended: at the first node whose key is not below the one looked for, or
+/// at 0 behind the last node. `previous` is its predecessor, the head or a node. Both have their
+/// words here, so that a change is known without another read.
+#[derive(Clone, Copy)]
+pub struct Spot {
+    pub previous: u32,
+    pub words: Words,
+    pub node: u32,
+    pub node_words: Words,
+}
+
+impl Spot {
+    /// Whether the node has this key.
+    pub fn has(&self, key: u32) -> bool
+        ensures { result ≡ (not (self.now.node == 0) && (slice_index_or self.now.node_words 2 0 == key)) }
+    {
+        self.node != 0 && self.node_words[2] == key as u64
+    }
+
+    /// The writes of an add of the key that was looked for, with this value, in this new node: the
+    /// link of the predecessor, and the words of the node.
+    pub fn add_writes(&self, head: u32, key: u32, value: u64, node: u32) -> [(u32, Words); 2]
+        requires head_in { head < 170 }
+        ensures writes { AreAddWrites head key value node self.now result }
+        ensures objects { objects_of result ≡ self.now.previous ∷ node ∷ [] }
+    {
+        let mut words = self.words;
+        words[3] = node as u64;
+        let node_words = [head as u64 + 1, 0, key as u64, self.node as u64, 0, value];
+        [(self.previous, words), (node, node_words)]
+    }
+
+    /// The writes of a del of the node: the link of the predecessor, and zeros for the node.
+    pub fn del_writes(&self) -> [(u32, Words); 2]
+        ensures writes { AreDelWrites self.now result }
+        ensures objects { objects_of result ≡ self.now.previous ∷ self.now.node ∷ [] }
+    {
+        let mut words = self.words;
+        words[3] = self.node_words[3];
+        [(self.previous, words), (self.node, [0; 6])]
+    }
+
+    /// The write of a put of this value: the words of the node with the value.
+    pub fn put_writes(&self, value: u64) -> [(u32, Words); 1]
+        ensures writes { ArePutWrites value self.now result }
+        ensures objects { objects_of result ≡ self.now.node ∷ [] }
+    {
+        let mut words = self.node_words;
+        words[5] = value;
+        [(self.node, words)]
+    }
+}
+
+/// Where the key is, or belongs, in the list of the head.
+///
+/// It needs a lawful state and the head of a list or a bucket, 0 to 169. It reads the objects of the
+/// list up to the first node whose key is not below `key`, each once, never refuses, and takes no
+/// memory.
+pub fn find<V: View>(view: &mut V, head: u32, key: u32) -> Spot
+    requires head_in { head < 170 }
+    requires lawful { IsLawful (V.state view.old) }
+    ensures spot { EndsHere (V.state view.old) head key result }
+    ensures as_before { V.as_before view.old view.new }
+{
+    let mut previous = head;
+    let mut words = view.read(head);
+    while words[3] != 0 {
+        let node = words[3] as u32;
+        let node_words = view.read(node);
+        if node_words[2] >= key as u64 {
+            return Spot {
+                previous,
+                words,
+                node,
+                node_words,
+            };
+        }
+        previous = node;
+        words = node_words;
+    }
+    Spot {
+        previous,
+        words,
+        node: 0,
+        node_words: [0; 6],
+    }
+}

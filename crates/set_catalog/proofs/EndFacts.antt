@@ -1,0 +1,131 @@
+-- What a search in the set of a name says of the name's map.
+use Rattle.std.proofs.Common.{
+  ◌≡◌,
+  ◌≢◌,
+  ℕ,
+  ◌^◌,
+  ◌<◌,
+  ◌≤◌,
+  Bool,
+  true,
+  false,
+  cond,
+  eqb,
+  eq-eqb,
+  ne_eqb,
+  if◌then◌else◌,
+  [],
+  ◌∷◌,
+  Some,
+  None,
+  Option,
+  refl,
+  sym,
+  ap,
+  ◌∙◌,
+  subst,
+  arith,
+}
+use Rattle.std.proofs.lemmas.Bool.Decides.{nat_tests}
+use Rattle.mv_history.specs.State.{State, Writes}
+use Rattle.set_script.specs.Catalogue.{Map, map_of, has_key, value_of}
+use Rattle.set_script.specs.CatalogueOf.{name_of, map_at, catalogue_of}
+use Rattle.set_script.specs.Lawful.{IsLawful}
+use Rattle.set_script.specs.Objects.{link}
+use Rattle.set_script.proofs.ObjectWords.{word}
+use Rattle.set_script.proofs.NameMaps.{map_of-has, map_of-value}
+use Rattle.list_set.specs.Spots.{EndsHere}
+use Rattle.list_set.specs.declared.search.Spot.{Spot}
+use Rattle.list_set.proofs.Spots.{found_some as found_some_node}
+use Rattle.tree_set.specs.Forks as trees
+use Rattle.tree_set.specs.declared.search.Fork.{Fork}
+use Rattle.tree_set.proofs.Forks.{fork_has, fork_value, no_keys}
+use Rattle.tree_set.proofs.Found.{found_some}
+use Rattle.tree_set.specs.Places.{bare_writes, cut_writes}
+use Rattle.set_catalog.specs.Ends.{dels_at}
+use Rattle.set_catalog.specs.Merges.{merged}
+use Rattle.set_catalog.specs.Needs.{first_tree, taken}
+use Rattle.set_catalog.specs.declared.ends.End.{End}
+use Rattle.set_catalog.specs.declared.ends.End.TheVariants.{Grown}
+use Rattle.set_catalog.specs.Plans.{head_of}
+use Rattle.set_catalog.proofs.HeadNames.{low_head, low_fits, root_from, root_below, head_root, head_named}
+use Rattle.set_catalog.proofs.SetCalls.{grown_taken}
+
+module _ (s : State) (name k head : ℕ) (l : IsLawful s) (lt : name < 30) (is : head ≡ head_of name k) where
+  -- in a list or a bucket
+  pub listed_has : name < first_tree → k < 2 ^ 32 → has_key k (map_at s head) ≡ has_key k (map_of name (catalogue_of s))
+  listed_has low fit =
+      ap (λ (h : ℕ). has_key k (map_at s h)) is ∙ sym (map_of-has s (head_of name k) k l (low_head name k low) (low_fits name k low fit))
+      ∙ ap (λ (n : ℕ). has_key k (map_of n (catalogue_of s))) (head_named name k lt)
+
+  pub listed_value : name < first_tree → k < 2 ^ 32 → value_of k (map_at s head) ≡ value_of k (map_of name (catalogue_of s))
+  listed_value low fit =
+      ap (λ (h : ℕ). value_of k (map_at s h)) is ∙ sym (map_of-value s (head_of name k) k l (low_head name k low) (low_fits name k low fit))
+      ∙ ap (λ (n : ℕ). value_of k (map_of n (catalogue_of s))) (head_named name k lt)
+
+  -- in a tree
+  at_name : map_of (name_of head) (catalogue_of s) ≡ map_of name (catalogue_of s)
+  at_name = ap (λ (n : ℕ). map_of n (catalogue_of s)) (ap name_of is ∙ head_named name k lt)
+
+  from : first_tree ≤ name → 170 ≤ head
+  from high = subst (λ (h : ℕ). 170 ≤ h) (sym is) (root_from name k high)
+
+  below : first_tree ≤ name → head < 180
+  below high = subst (λ (h : ℕ). h < 180) (sym is) (root_below name k high lt)
+
+  pub empty_map : first_tree ≤ name → link s head ≡ 0 → map_of name (catalogue_of s) ≡ []
+  empty_map high z = sym at_name ∙ no_keys s head l (from high) (below high) z
+
+  pub grown_has : (fork : Fork) → first_tree ≤ name → trees.EndsHere s head k fork → has_key k (map_of name (catalogue_of s)) ≡ eqb (word 2 fork.words) k
+  grown_has fork high e =
+      ap (has_key k) (sym at_name) ∙ fork_has s head k fork.grand fork.parent fork.leaf fork.right fork.words l (from high) (below high) e.ends
+
+  pub grown_value : (fork : Fork) → first_tree ≤ name → trees.EndsHere s head k fork
+      → value_of k (map_of name (catalogue_of s)) ≡ cond (eqb (word 2 fork.words) k) (Some (word 5 fork.words)) None
+  grown_value fork high e =
+      ap (value_of k) (sym at_name) ∙ fork_value s head k fork.grand fork.parent fork.leaf fork.right fork.words l (from high) (below high) e.ends
+
+  -- how many nodes a new key takes
+  pub listed_takes : name < first_tree → 1 ≡ taken name (map_of name (catalogue_of s))
+  listed_takes low = one (map_of name (catalogue_of s))
+    where
+      one : (m : Map) → 1 ≡ taken name m
+      one m = grind (arith, nat_tests)
+
+  pub empty_takes : first_tree ≤ name → link s head ≡ 0 → 1 ≡ taken name (map_of name (catalogue_of s))
+  empty_takes high z = one ∙ ap (taken name) (sym (empty_map high z))
+    where
+      one : 1 ≡ taken name []
+      one = grind (arith, nat_tests)
+
+  pub grown_takes : (fork : Fork) → first_tree ≤ name → trees.EndsHere s head k fork → 2 ≡ taken name (map_of name (catalogue_of s))
+  grown_takes fork high e =
+      let some : link s head ≢ 0 = found_some s s head k fork.grand fork.parent fork.leaf fork.right fork.words refl e.ends in
+      sym (grown_taken s head name l (is ∙ head_root name k high) high lt some)
+
+  -- the key's node, where it is there
+  pub listed_some : (spot : Spot) → name < first_tree → k < 2 ^ 32 → EndsHere s head k spot → has_key k (map_of name (catalogue_of s)) ≡ true → spot.node ≢ 0
+  listed_some spot low fit e there =
+      found_some_node s s head k spot.previous spot.words spot.node spot.node_words (has_key k (map_at s head)) refl e (sym e.has) (listed_has low fit ∙ there)
+
+-- what the test of a key shows of its value
+pub value_missing : (k : ℕ) (m : Map) → has_key k m ≡ false → None ≡ value_of k m
+value_missing k [] h = refl
+value_missing k (e ∷ m) h = grind (arith, nat_tests, value_missing k m)
+
+pub value_shown : (test : Bool) (x : ℕ) (there : Option ℕ) → test ≡ true → (if test then Some x else None) ≡ there → Some x ≡ there
+value_shown test x there t e = ap (λ (u : Bool). if u then Some x else None) (sym t) ∙ e
+
+-- writes that are the same are planned
+pub planned_as : (mid own made : Writes) (at : End → Writes) (end shown : End) → end ≡ shown → mid ≡ merged own made → made ≡ at shown
+    → mid ≡ merged own (at end)
+planned_as mid own made at end shown is e f = e ∙ ap (merged own) (f ∙ ap at (sym is))
+
+-- what a del of a leaf writes, by its parent
+pub dels_bare : (s : State) (root : ℕ) (fork : Fork) → fork.parent ≡ root → bare_writes s root fork.leaf ≡ dels_at s (Grown root fork)
+dels_bare s root fork e =
+    ap (λ (b : Bool). if b then bare_writes s root fork.leaf else cut_writes s fork.grand fork.parent fork.leaf) (sym (eq-eqb fork.parent root e))
+
+pub dels_cut : (s : State) (root : ℕ) (fork : Fork) → fork.parent ≢ root → cut_writes s fork.grand fork.parent fork.leaf ≡ dels_at s (Grown root fork)
+dels_cut s root fork n =
+    ap (λ (b : Bool). if b then bare_writes s root fork.leaf else cut_writes s fork.grand fork.parent fork.leaf) (sym (ne_eqb fork.parent root n))

@@ -1,0 +1,121 @@
+// How many reads of objects it takes to count the keys of a set, and to read the whole catalogue.
+ghost use Rattle.std.specs.Prelude.{◌≡◌, ◌<◌, ◌≤◌, length, replicate, IfOk};
+ghost use Rattle.mv_history.specs.PlainMeaning.{seat_of};
+ghost use Rattle.set_catalog.specs.Steps.{most_locks};
+
+use crate::attempting::attempt_with;
+use crate::counted::Counted;
+use crate::hints::Hints;
+use crate::reading::read_all;
+use crate::sets::size;
+use mv_history::{PlainStore, Section, Store, WORDS};
+use set_script::{Catalogue, Command, Name, SetRules};
+use std::alloc::{AllocError, Global};
+use std::test::Fail;
+
+// A store of 1,000 objects of zeros, with room for 1,000 commits.
+fn open(alloc: Global) -> Result<PlainStore<SetRules>, AllocError>
+    ensures { IfOk result (λ store. (seat_of store).write_max ≡ 16) }
+{
+    let zeros = vec![in alloc; [0; WORDS]; 1000]?;
+    PlainStore::new(alloc, &zeros, 0, 1000)
+}
+
+// The set of this index.
+fn set(index: u32) -> Name
+    requires index { index < 30 }
+{
+    match Name::new(index) {
+        Some(name) => name,
+        None => unreachable!(),
+    }
+}
+
+// Adds a key to the set of this index.
+fn add<S: Store<Rules = SetRules>>(store: S, hints: &mut Hints, index: u32, key: u32) -> S
+    requires index { index < 30 }
+    requires most { most_locks ≤ (S.seat_of store).write_max }
+    ensures { (S.seat_of result).write_max ≡ (S.seat_of store).write_max }
+{
+    let name = set(index);
+    attempt_with(store, hints, &Command::Add { name, key }).0
+}
+
+// The size of the set of this index, and how many reads it took.
+fn counted_size<S: Store<Rules = SetRules>>(store: S, index: u32) -> (S, u64, u32)
+    requires index { index < 30 }
+{
+    let mut view = Counted {
+        view: store.enter(),
+        reads: 0,
+    };
+    let size = size(&mut view, set(index));
+    let Counted { view, reads } = view;
+    (view.leave(), size, reads)
+}
+
+// The whole catalogue, and how many reads it took.
+fn counted_catalogue<S: Store<Rules = SetRules>>(
+    alloc: Global,
+    store: S,
+) -> (S, Result<Catalogue, AllocError>, u32) {
+    let mut view = Counted {
+        view: store.enter(),
+        reads: 0,
+    };
+    let all = read_all(alloc, &mut view);
+    let Counted { view, reads } = view;
+    (view.leave(), all, reads)
+}
+
+#[test]
+fn a_list_and_a_table_are_read_once(rt: HostRuntime) -> Result<(), Fail> {
+    let mut hints = Hints::new(rt.alloc(), 1)?;
+    let mut store = open(rt.alloc())?;
+    for i in 0..200 {
+        store = add(store, &mut hints, 3, 200 - i);
+        store = add(store, &mut hints, 13, i);
+    }
+    // The head and 200 nodes; 16 heads and 200 nodes.
+    for (name, most) in [(3, 201), (13, 216)] {
+        let (next, keys, reads) = counted_size(store, name);
+        assert_eq!(rt; keys, 200);
+        assert_eq!(rt; reads, most);
+        store = next;
+    }
+    Ok(())
+}
+
+#[test]
+fn a_tree_is_read_once_whatever_its_form(rt: HostRuntime) -> Result<(), Fail> {
+    let mut hints = Hints::new(rt.alloc(), 1)?;
+    let mut store = open(rt.alloc())?;
+    for i in 0..130 {
+        // A chain to the right, a chain to the left, and a tree without long branches.
+        store = add(store, &mut hints, 20, i);
+        store = add(store, &mut hints, 21, 130 - i);
+        store = add(store, &mut hints, 22, i * 81 % 131);
+    }
+    // The root and 259 nodes, and one node twice where more than 64 links are pending.
+    for (name, most) in [(20, 260), (21, 261), (22, 260)] {
+        let (next, keys, reads) = counted_size(store, name);
+        assert_eq!(rt; keys, 130);
+        assert_eq!(rt; reads, most);
+        store = next;
+    }
+    Ok(())
+}
+
+#[test]
+fn a_catalogue_is_read_once(rt: HostRuntime) -> Result<(), Fail> {
+    let mut hints = Hints::new(rt.alloc(), 1)?;
+    let mut store = open(rt.alloc())?;
+    for i in 0..130 {
+        store = add(store, &mut hints, 20, i);
+    }
+    let (_store, all, reads) = counted_catalogue(rt.alloc(), store);
+    assert_eq!(rt; all?.keys(20).len(), 130);
+    // The heads and the 259 nodes of the tree.
+    assert_eq!(rt; reads, 180 + 259);
+    Ok(())
+}

@@ -1,0 +1,39 @@
+use Rattle.std.proofs.Common.{arith, [], refl}
+use Rattle.tree_set.proofs.LeafWalks.{walk_there, walk_few, counted_over, counted_there, counted_rest}
+use Rattle.tree_set.proofs.sizes.size_in.Goals as goal
+
+pub count_on-count-requires-clause-walk : goal.count_on-count-requires-clause-walk
+count_on-count-requires-clause-walk g c =
+    (_, walk_there _ _ _ _ _ _ (g.met.V.View.same_state _ _ c.of-leaves.ensures.as_before) (c.of-leaves.ensures.walk _))
+
+pub returns-then-is_over-clause-size : goal.returns-then-is_over-clause-size
+returns-then-is_over-clause-size g c =
+    counted_over _ c.requires.lawful _ _ _ _ _ (c.if-is_over.ensures.0 refl)
+    (counted_there _ _ _ _ _ _ _ _ _ _ (g.met.V.View.same_state _ _ c.of-leaves.ensures.as_before) c.count_on-count.ensures.counted
+    (c.of-leaves.ensures.walk _))
+
+pub count_rest-requires-clause-walk : goal.count_rest-requires-clause-walk
+count_rest-requires-clause-walk g c =
+    let counted = counted_there _ _ _ _ _ _ _ _ _ _ (g.met.V.View.same_state _ _ c.of-leaves.ensures.as_before) c.count_on-count.ensures.counted
+    (c.of-leaves.ensures.walk _) in (
+      _,
+      walk_there _ _ _ _ _ _ (g.met.V.View.same_state _ _
+          (g.met.V.View.as_long_before _ _ _ c.of-leaves.ensures.as_before c.count_on-count.ensures.as_before)) counted.stopped.walk,
+    )
+
+pub returns-clause-size : goal.returns-clause-size
+returns-clause-size g c =
+    counted_rest _ _ _ _ _ _ _ _ (g.met.V.View.same_state _ _
+    (g.met.V.View.as_long_before _ _ _ c.of-leaves.ensures.as_before c.count_on-count.ensures.as_before))
+    (counted_there _ _ _ _ _ _ _ _ _ _ (g.met.V.View.same_state _ _ c.of-leaves.ensures.as_before) c.count_on-count.ensures.counted
+    (c.of-leaves.ensures.walk _))
+    c.count_rest.ensures.counted
+
+pub overflow_add-result : goal.overflow_add-result
+overflow_add-result g c =
+    let most = walk_few _ c.requires.lawful _ _ _ _ (c.of-leaves.ensures.walk []) in
+    let sum = counted_rest _ _ _ _ _ _ _ _
+    (g.met.V.View.same_state _ _ (g.met.V.View.as_long_before _ _ _ c.of-leaves.ensures.as_before c.count_on-count.ensures.as_before))
+    (counted_there _ _ _ _ _ _ _ _ _ _ (g.met.V.View.same_state _ _ c.of-leaves.ensures.as_before) c.count_on-count.ensures.counted
+    (c.of-leaves.ensures.walk _))
+    c.count_rest.ensures.counted in omega arith

@@ -1,0 +1,88 @@
+// The search for a key.
+ghost use Rattle.std.specs.Prelude.{◌≡◌, ◌<◌, ◌≤◌, IfNone, IfSome};
+ghost use Rattle.set_script.specs.Lawful.{IsLawful};
+ghost use Rattle.set_script.specs.Objects.{link};
+ghost use Rattle.set_script.specs.Trees.{Tree, top, Stands};
+ghost use Rattle.tree_set.specs.Forks.{HasWords};
+ghost use Rattle.tree_set.specs.Walks.{IsFork, IsSubtree, first_key};
+
+use mv_history::{View, Words};
+
+/// Where a search for a key ended: at this leaf. `parent` leads to it, and `grand` to `parent`, where
+/// that is not the root. All three have their words here, so that a change is known without another
+/// read. `right` is the right child of the last inner node at which the search went left, or 0 where
+/// it never did.
+#[derive(Clone, Copy)]
+pub struct Fork {
+    pub grand: u32,
+    pub grand_words: Words,
+    pub parent: u32,
+    pub parent_words: Words,
+    pub leaf: u32,
+    pub words: Words,
+    pub right: u32,
+}
+
+/// The leaf where the search for the key ends, or `None` where the tree of this root is empty.
+///
+/// It needs a lawful state and a root, 170 to 179. It reads the objects from the root down to one
+/// leaf, each once, never refuses, and takes no memory.
+pub fn find<V: View>(view: &mut V, root: u32, key: u32) -> Option<Fork>
+    requires root_from { 170 ≤ root }
+    requires root_in { root < 180 }
+    requires lawful { IsLawful (V.state view.old) }
+    ensures empty { IfNone result (link (V.state view.old) root ≡ 0) }
+    ensures fork { IfSome result (λ fork. IsFork (V.state view.old) root key fork.grand fork.parent fork.leaf fork.right fork.words) }
+    ensures words { IfSome result (λ fork. HasWords (V.state view.old) fork) }
+    ensures as_before { V.as_before view.old view.new }
+{
+    let root_words = view.read(root);
+    if root_words[3] == 0 {
+        return None;
+    }
+    let mut grand = root;
+    let mut grand_words = root_words;
+    let mut parent = root;
+    let mut parent_words = root_words;
+    let mut leaf = root_words[3] as u32;
+    let mut right = 0;
+    let mut words = view.read(leaf);
+    while words[1] == 2 {
+        grand = parent;
+        grand_words = parent_words;
+        parent = leaf;
+        parent_words = words;
+        if (key as u64) < words[2] {
+            right = words[4] as u32;
+            leaf = words[3] as u32;
+        } else {
+            leaf = words[4] as u32;
+        }
+        words = view.read(leaf);
+    }
+    Some(Fork {
+        grand,
+        grand_words,
+        parent,
+        parent_words,
+        leaf,
+        words,
+        right,
+    })
+}
+
+// The least key of the part of a tree that stands at this node.
+pub fn least_key<V: View>(view: &mut V, root: u32, node: u32) -> u32
+    requires lawful { IsLawful (V.state view.old) }
+    requires subtree { IsSubtree (V.state view.old) root node }
+    ensures least { (t : Tree) → Stands (V.state view.old) root t → node ≡ top t → result ≡ first_key t }
+    ensures as_before { V.as_before view.old view.new }
+{
+    let mut least = node;
+    let mut words = view.read(least);
+    while words[1] == 2 {
+        least = words[3] as u32;
+        words = view.read(least);
+    }
+    words[2] as u32
+}

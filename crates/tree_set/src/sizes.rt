@@ -1,0 +1,72 @@
+// How many keys a tree has.
+ghost use Rattle.std.specs.Prelude.{◌≡◌, ◌<◌, ◌≤◌, ◌++◌, drop, length};
+ghost use Rattle.set_script.specs.Catalogue.{Map, map_of};
+ghost use Rattle.set_script.specs.CatalogueOf.{name_of, catalogue_of};
+ghost use Rattle.set_script.specs.Lawful.{IsLawful};
+ghost use Rattle.tree_set.specs.Leaves.{Passes, AfterCount};
+
+use crate::leaves::{Leaves, MOST_PENDING};
+use mv_history::View;
+
+// The places of the table with which a count begins: a longer one takes more time to clear than a
+// small tree takes to walk over.
+const FEW_PENDING: usize = 64;
+
+/// How many keys the tree of this root has.
+///
+/// It needs a lawful state and a root, 170 to 179. It reads the root and each node of the tree, and
+/// one of them again where more than 64 right links are pending at one time: for n keys at most
+/// 2n + 1 reads, whatever the tree's form. It never refuses, and takes no memory.
+pub fn size_in<V: View>(view: &mut V, root: u32) -> u64
+    requires root_from { 170 ≤ root }
+    requires root_in { root < 180 }
+    requires lawful { IsLawful (V.state view.old) }
+    ensures size { result ≡ length (map_of (name_of root) (catalogue_of (V.state view.old))) }
+    ensures as_before { V.as_before view.old view.new }
+{
+    let mut leaves = Leaves::of(view, root);
+    let mut pending = [0; FEW_PENDING];
+    let count = count_on(view, &mut leaves, &mut pending);
+    if leaves.is_over() {
+        return count;
+    }
+    count + count_rest(view, leaves, &pending)
+}
+
+// How many leaves the walk passes until it is over or the table is full.
+fn count_on<V: View>(view: &mut V, leaves: &mut Leaves, pending: &mut [u16]) -> u64
+    requires lawful { IsLawful (V.state view.old) }
+    requires walk { (m : Map) × Passes (V.state view.old) pending.old leaves.old m }
+    ensures counted { (m : Map) → Passes (V.state view.old) pending.old leaves.old m → AfterCount (V.state view.old) pending.new leaves.new m result }
+    ensures places { length pending.new ≡ length pending.old }
+    ensures as_before { V.as_before view.old view.new }
+{
+    let mut count = 0;
+    while let Some(_) = leaves.next(view, pending) {
+        count += 1;
+    }
+    count
+}
+
+// How many leaves are left to a walk with these links pending.
+fn count_rest<V: View>(view: &mut V, leaves: Leaves, pending: &[u16]) -> u64
+    requires lawful { IsLawful (V.state view.old) }
+    requires walk { (m : Map) × Passes (V.state view.old) pending.now leaves m }
+    requires few { length pending.now ≤ 32768 }
+    ensures counted { (m : Map) → Passes (V.state view.old) pending.now leaves m → result ≡ length m }
+    ensures as_before { V.as_before view.old view.new }
+{
+    let mut leaves = leaves;
+    let mut many = [0; MOST_PENDING];
+    copy_links(pending, &mut many);
+    count_on(view, &mut leaves, &mut many)
+}
+
+// Copies links to the first places of a longer table.
+fn copy_links(links: &[u16], table: &mut [u16])
+    requires longer { length links.now ≤ length table.old }
+    ensures copied { table.new ≡ links.now ++ drop (length links.now) table.old }
+    ensures places { length table.new ≡ length table.old }
+{
+    table[..links.len()].copy_from_slice(links);
+}

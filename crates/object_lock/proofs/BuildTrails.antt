@@ -8,15 +8,18 @@ use Rattle.mv_layout.specs.declared.Config.{Config}
 use Rattle.mv_layout.specs.Words.{unset_of}
 use Rattle.mv_core.specs.declared.view.View.{View}
 use Rattle.seat_log.specs.Builds.{stored_next, words_stored, begun, linked, slot_built, build_cost}
+use Rattle.object_lock.specs.Tops.{lock_exchanges}
+use Rattle.object_lock.proofs.Exchanged.{exchanged_on}
 use Rattle.object_lock.proofs.Looks.{IsLocks}
 
--- only the log and the trail changed, and the trail has so many steps of a lock more
+-- only the log and the trail changed, and the trail has so many steps of a lock more, none of which is an exchange of HEAD
 pub record BuildsBy (v w : View) (n : ℕ) : Type 0 where
   pub rest : w ≡ record v { ring = w.ring; trail = w.trail }
   pub steps : (steps : List Step) × (w.trail ≡ v.trail ++ steps) × (length steps ≡ n) × All IsLocks steps
+  pub none : lock_exchanges steps.0 ≡ []
 
 pub builds_none : (v : View) → BuildsBy v v 0
-builds_none v = record { rest = refl; steps = ([], sym (append-nil v.trail), refl, All-nil IsLocks) }
+builds_none v = record { rest = refl; steps = ([], sym (append-nil v.trail), refl, All-nil IsLocks); none = refl }
 
 pub builds_on : (u v w : View) (a b : ℕ) → BuildsBy u v a → BuildsBy v w b → BuildsBy u w (a + b)
 builds_on u v w a b one two =
@@ -27,12 +30,13 @@ builds_on u v w a b one two =
     let n = t.2 in record {
       rest = ap (λ (z : View). record z { ring = w.ring; trail = w.trail }) two.rest ∙ ap (λ (z : View). record z { ring = w.ring; trail = w.trail }) one.rest;
       steps = (s.0 ++ t.0, t.1 ∙ ap (λ (l : List Step). l ++ t.0) s.1 ∙ append_assoc u.trail s.0 t.0, (omega arith), All-append IsLocks s.0 t.0 s.3 t.3);
+      none = exchanged_on s.0 t.0 one.none two.none;
     }
 
 module _ (c : Config) (position : ℕ) where
   pub builds_next : (v : View) (field x : ℕ) → BuildsBy v (stored_next c v position field x) 1
   unfolding stored_next
-  builds_next v field x = record { rest = refl; steps = (_ ∷ [], refl, refl, All-cons IsLocks _ [] tt (All-nil IsLocks)) }
+  builds_next v field x = record { rest = refl; steps = (_ ∷ [], refl, refl, All-cons IsLocks _ [] tt (All-nil IsLocks)); none = refl }
 
   builds_words : (v : View) (words : List ℕ) (i : ℕ) → BuildsBy v (words_stored c v position words i) i
   unfolding words_stored

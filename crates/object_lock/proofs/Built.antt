@@ -1,5 +1,5 @@
 -- A version was built, or HEAD exchanged: what the next part of a lock asks, and how its outcome is that of both.
-use Rattle.std.proofs.Common.{◌≡◌, ℕ, ◌+◌, ◌<◌, true, List, refl, sym, ap, ◌∙◌, subst, ⊎_elim, inl, inr, arith}
+use Rattle.std.proofs.Common.{◌≡◌, ℕ, ◌+◌, ◌<◌, true, List, [], ◌∷◌, refl, sym, ap, ◌∙◌, subst, ⊎_elim, inl, inr, arith}
 use Rattle.mv_history.specs.declared.answers.LockAnswer.{LockAnswer}
 use Rattle.mv_layout.specs.declared.Config.{Config}
 use Rattle.mv_core.specs.declared.view.View.{View}
@@ -15,7 +15,7 @@ use Rattle.seat_log.specs.Builds.{slot_built, build_cost}
 use Rattle.version_chain.specs.Walks.{MayWalk, inside_of, section_in, time_at}
 use Rattle.version_chain.specs.Reads.{words_in}
 use Rattle.object_lock.specs.Tops.{Tries}
-use Rattle.object_lock.specs.Locks.{HoldsObject, IsBuiltFor, Outcome}
+use Rattle.object_lock.specs.Locks.{lost_step, HoldsObject, IsBuiltFor, OneOutcome, FewOutcome}
 use Rattle.object_lock.proofs.BuildTrails.{BuildsBy, builds_slot}
 use Rattle.object_lock.proofs.Holding.{Carries, own_kept, outcome_before, lost_tries, lost_carries, built_may, built_carries, built_tries, built_walk}
 
@@ -44,7 +44,7 @@ module _ (c : Config) (v w : View) (l m : Noted) (object previous position : ℕ
       built_carries c v w (build_cost (next_of l) (first_of l)) stores
       (own_kept c v w l m s t (ap (λ (q : Noted). q.live) noted) (ap (λ (q : Noted). q.held) noted))
 
-  pub first_tries : (before after : ℕ) → after ≡ before + build_cost (next_of l) (first_of l) → Tries v w before after
+  pub first_tries : (before after : ℕ) → after ≡ before + build_cost (next_of l) (first_of l) → Tries v w before after []
   first_tries = built_tries c v w (build_cost (next_of l) (first_of l)) stores
 
   pub first_is : IsBuiltFor m position object previous (words_in c w object)
@@ -79,8 +79,18 @@ module _ (c : Config) (v w : View) (l : Noted) (object previous position : ℕ) 
   pub then_master : link ≡ 0 → w.walk ≡ place.Master object
   then_master zero = ap (λ (u : View). u.walk) told ∙ sym (at_zero object link Nothing true zero)
 
-  pub then_lost : (x : View) (q : Noted) (answer : LockAnswer) (first second last : ℕ) → second ≡ first + 1 → Outcome c w x q object answer second last
-      → Outcome c v x q object answer first last
-  then_lost x q answer first second last e o =
-      outcome_before c v w x q object answer first second last then_carries
-      (subst (Tries v w first) (sym e) (lost_tries c v w l object previous position may s is link told first)) o
+  -- and it was tried once more, at a chain that was cut
+  pub then_again : (x : View) (q : Noted) (answer : LockAnswer) (first second last : ℕ) → second ≡ first + 1 → link ≡ 0
+      → OneOutcome c w x q object answer second last → FewOutcome c v x q object answer first last
+  then_again x q answer first second last e zero o = (
+    lost_step c object link ∷ o.0 ∷ [],
+    outcome_before c v w x q object answer first second last then_carries
+        (subst (λ (n : ℕ). Tries v w first n (lost_step c object link ∷ [])) (sym e)
+        (lost_tries c v w l object previous position may s is link told first)) o.1,
+    (ap (lost_step c object) zero, o.2),
+  )
+
+-- one exchange is few
+pub one_few : (c : Config) (v w : View) (l : Noted) (object : ℕ) (answer : LockAnswer) (before after : ℕ) → OneOutcome c v w l object answer before after
+    → FewOutcome c v w l object answer before after
+one_few c v w l object answer before after o = (o.0 ∷ [], o.1, o.2)

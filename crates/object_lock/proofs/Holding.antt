@@ -1,5 +1,6 @@
 -- The parts of a lock, from the build on: what each leaves, and how the outcome of one is that of all.
-use Rattle.std.proofs.Common.{◌≡◌, ◌≢◌, ℕ, ◌+◌, ◌-◌, ◌<◌, true, [], ◌∷◌, ◌++◌, length, map, drop, refl, sym, ap, ◌∙◌, subst, append-nil, inl, arith, Some, None}
+use Rattle.std.proofs.Common.{◌≡◌, ◌≢◌, ℕ, ◌+◌, ◌-◌, ◌<◌, true, List, [], ◌∷◌, ◌++◌, length, map, drop, refl, sym}
+use Rattle.std.proofs.Common.{ap, ◌∙◌, subst, append-nil, append_assoc, inl, arith, Some, None}
 use Rattle.std.proofs.lemmas.List.Elements.{All-nil, All-cons}
 use Rattle.mv_history.specs.declared.Step.{Step}
 use Rattle.mv_history.specs.declared.StepKind.TheVariants.{LockHead}
@@ -31,8 +32,8 @@ use Rattle.seat_log.specs.Builds.{stored_next}
 use Rattle.seat_log.proofs.Stays.{stands_locked}
 use Rattle.version_chain.specs.Walks.{MayWalk, inside_of, section_in, stand_of}
 use Rattle.version_chain.specs.Reads.{words_in}
-use Rattle.object_lock.specs.Tops.{Tries}
-use Rattle.object_lock.specs.Locks.{IsBuiltFor, CameFirst, LockMakes, KeepsOwn, Outcome}
+use Rattle.object_lock.specs.Tops.{FoundHeld, Tries}
+use Rattle.object_lock.specs.Locks.{lost_step, IsBuiltFor, CameFirst, LockMakes, KeepsOwn, Outcome, OneOutcome, LostOutcome}
 use Rattle.object_lock.proofs.BuildTrails.{BuildsBy, builds_next}
 use Rattle.object_lock.proofs.Looks.{IsLocks, rest_of}
 use Rattle.object_lock.proofs.Outcomes.{tries_on}
@@ -66,22 +67,44 @@ pub record Carries (c : Config) (v w : View) : Type 0 where
   pub phase : w.phase ≡ v.phase
   pub own : KeepsOwn c v w
 
--- what a lock makes from then on it makes in all
-pub makes_before : (c : Config) (v w x : View) (object : ℕ) (answer : LockAnswer) → w.number ≡ v.number → w.phase ≡ v.phase → KeepsOwn c v w
-    → LockMakes c w x object answer → LockMakes c v x object answer
-makes_before c v w x object Held number phase own makes = (makes.0 ∙ ap (λ ws. ws ++ (object, words_in c x object) ∷ []) own.0, makes.1 ∙ own.1)
-makes_before c v w x object (Busy seat) number phase own makes = ((λ e. makes.0 (e ∙ sym number)), makes.1)
-makes_before c v w x object (Stale time) number phase own makes = (subst (λ (p : Phase). time_in (inside_of p) < time) phase makes.0, makes.1)
-makes_before c v w x object SetFull number phase own makes = absurd makes
-makes_before c v w x object LogFull number phase own makes = absurd makes
+-- what the last three steps of a call found, the last three of a longer one found
+found_before : (c : Config) (object seat : ℕ) (start next trail made : List Step) → next ≡ start ++ made → FoundHeld c object seat next trail
+    → FoundHeld c object seat start trail
+found_before c object seat start next trail made at f = record {
+  before = made ++ f.before;
+  head = f.head;
+  first = f.first;
+  stamp = f.stamp;
+  steps = f.steps ∙ ap (λ (l : List Step). l ++ f.before ++ f.head ∷ f.first ∷ f.stamp ∷ []) at
+      ∙ ap (λ (l : List Step). l ++ f.head ∷ f.first ∷ f.stamp ∷ []) (append_assoc start made f.before);
+  link = f.link;
+  seat_is = f.seat_is;
+  on_top = f.on_top;
+  position = f.position;
+  begins = f.begins;
+  word = f.word;
+  of_set = f.of_set;
+  unset = f.unset;
+}
 
-pub outcome_before : (c : Config) (v w x : View) (l : Noted) (object : ℕ) (answer : LockAnswer) (first second third : ℕ) → Carries c v w
-    → Tries v w first second → Outcome c w x l object answer second third → Outcome c v x l object answer first third
+-- what a lock makes from then on it makes in all
+pub makes_before : (c : Config) (v w x : View) (object : ℕ) (answer : LockAnswer) (made : List Step) → w.trail ≡ v.trail ++ made → w.number ≡ v.number
+    → w.phase ≡ v.phase → KeepsOwn c v w → LockMakes c w x object answer → LockMakes c v x object answer
+makes_before c v w x object Held made at number phase own makes = (makes.0 ∙ ap (λ ws. ws ++ (object, words_in c x object) ∷ []) own.0, makes.1 ∙ own.1)
+makes_before c v w x object (Busy seat) made at number phase own makes =
+    ((λ e. makes.0 (e ∙ sym number)), found_before c object seat v.trail w.trail x.trail made at makes.1)
+makes_before c v w x object (Stale time) made at number phase own makes = (subst (λ (p : Phase). time_in (inside_of p) < time) phase makes.0, makes.1)
+makes_before c v w x object SetFull made at number phase own makes = absurd makes
+makes_before c v w x object LogFull made at number phase own makes = absurd makes
+
+pub outcome_before : (c : Config) (v w x : View) (l : Noted) (object : ℕ) (answer : LockAnswer) (first second third : ℕ)
+    {tried more : List Step} → Carries c v w → Tries v w first second tried → Outcome c w x l object answer second third more
+    → Outcome c v x l object answer first third (tried ++ more)
 outcome_before c v w x l object answer first second third k tries o = record {
   may = o.may;
   stands = o.stands;
   unbuilt = o.unbuilt;
-  makes = makes_before c v w x object answer k.number k.phase k.own o.makes;
+  makes = makes_before c v w x object answer tries.trail.0 tries.trail.1 k.number k.phase k.own o.makes;
   keeps = λ ne. let kept = o.keeps ne in (kept.0 ∙ k.own.0, kept.1 ∙ k.own.1);
   tries = tries_on v w x first second third tries o.tries;
 }
@@ -94,36 +117,38 @@ module _ (c : Config) (v w : View) (l : Noted) (object previous position : ℕ) 
     abbrev step : Step
     step = record { kind = LockHead; word = place_of c (Head object); found = Some previous; stored = Some (link_of v.number position) }
 
-    won_tries : (before : ℕ) → Tries v w before (before + 1)
+    won_tries : (before : ℕ) → Tries v w before (before + 1) (step ∷ [])
     won_tries before = record {
       seen = ([], ap (λ (u : View). u.past.seen) told ∙ sym (append-nil v.past.seen));
       trail = (step ∷ [], ap (λ (u : View). u.trail) told, refl, All-cons IsLocks step [] tt (All-nil IsLocks));
+      exchanges = refl;
       rest = ap (rest_of w) told;
     }
 
-    pub won_outcome : (m : Noted) (before after : ℕ) → m ≡ held_noted l → after ≡ before + 1 → Outcome c v w m object Held before after
+    pub won_outcome : (m : Noted) (before after : ℕ) → m ≡ held_noted l → after ≡ before + 1 → OneOutcome c v w m object Held before after
     won_outcome m before after noted e =
         let at : head_locked c v (section_in v) is.0.object is.0.previous is.0.position ≡ w =
         (λ i. head_locked c v (section_in v) (is.3 i) (is.4 i) (is.2 i)) ∙ sym told in
         let stands = stands_locked c v l is.0 (section_in v) s is.1 (is.5 ∙ ap (words_in c v) (sym is.3)) in
-        subst (λ (k : Noted). Outcome c v w k object Held before after) (sym noted) (record {
+        (step, subst (λ (k : Noted). Outcome c v w k object Held before after (step ∷ [])) (sym noted) (record {
           may = may_same v w (ap (λ (u : View). u.phase) told) (ap (λ (u : View). u.clocks) told) (ap (λ (u : View). u.back) told) may;
           stands = subst (λ (u : View). Stands c u (held_noted l)) at stands;
           unbuilt = refl;
           makes = (own.0 ∙ ap (λ ws. own_of c v.ring ++ (object, ws) ∷ []) (sym (ap (λ (u : View). words_in c u object) told)), own.1);
           keeps = λ ne. absurd (ne refl);
-          tries = subst (Tries v w before) (sym e) (won_tries before);
-        })
+          tries = subst (λ (n : ℕ). Tries v w before n (step ∷ [])) (sym e) (won_tries before);
+        }), refl)
 
   -- lost: another came first, or the chain was cut
   module _ (link : ℕ) (told : w ≡ lock_lost c v object link) where
     abbrev step_lost : Step
-    step_lost = record { kind = LockHead; word = place_of c (Head object); found = Some link; stored = None }
+    step_lost = lost_step c object link
 
-    pub lost_tries : (before : ℕ) → Tries v w before (before + 1)
+    pub lost_tries : (before : ℕ) → Tries v w before (before + 1) (step_lost ∷ [])
     lost_tries before = record {
       seen = ([], ap (λ (u : View). u.past.seen) told ∙ sym (append-nil v.past.seen));
       trail = (step_lost ∷ [], ap (λ (u : View). u.trail) told, refl, All-cons IsLocks step_lost [] tt (All-nil IsLocks));
+      exchanges = refl;
       rest = ap (rest_of w) told;
     }
 
@@ -154,8 +179,33 @@ module _ (c : Config) (v w : View) (l : Noted) (object previous position : ℕ) 
           object_is = ap (λ (z : Stand). z.object) stand;
           late = ap (λ (z : Stand). z.late) stand;
           other = λ e. other (e ∙ ap (λ (u : View). u.number) told);
-          lost = (v.trail, ap (λ (u : View). u.trail) told);
         }
+
+    -- the view after the exchange, with the trail of before
+    abbrev from : View
+    from = record w { trail = v.trail }
+
+    from_tries : (before : ℕ) → Tries v from before before []
+    from_tries before = record {
+      seen = ([], ap (λ (u : View). u.past.seen) told ∙ sym (append-nil v.past.seen));
+      trail = ([], sym (append-nil v.trail), (omega arith), All-nil IsLocks);
+      exchanges = refl;
+      rest = ap (rest_of from) told;
+    }
+
+    from_carries : Carries c v from
+    from_carries =
+        let k = lost_carries in
+        record { number = k.number; start = k.start; seen = k.seen; phase = k.phase; own = k.own }
+
+    -- what came first was looked at
+    pub lost_all : (x : View) (q : Noted) (answer : LockAnswer) (first second last : ℕ) → second ≡ first + 1
+        → LostOutcome c w x q object link answer second last → OneOutcome c v x q object answer first last
+    lost_all x q answer first second last e o = (
+      step_lost,
+      outcome_before c v from x q object answer first first last from_carries (from_tries first) (o v.trail first (ap (λ (u : View). u.trail) told) e),
+      refl,
+    )
 
 -- PREV of the built version was cleared, where the walk stands at the master
 pub cleared_for : (c : Config) (v w : View) (l m : Noted) (object previous position : ℕ) → IsBuiltFor l position object previous (words_in c v object)
@@ -180,13 +230,14 @@ module _ (c : Config) (v w : View) (n : ℕ) (b : BuildsBy v w n) where
         own = own;
       }
 
-  pub built_tries : (before after : ℕ) → after ≡ before + n → Tries v w before after
+  pub built_tries : (before after : ℕ) → after ≡ before + n → Tries v w before after []
   built_tries before after e =
       let s = b.steps in
       let long = s.2 in
       record {
         seen = ([], ap (λ (u : View). u.past.seen) b.rest ∙ sym (append-nil v.past.seen));
         trail = (s.0, s.1, (omega arith), s.3);
+        exchanges = b.none;
         rest = ap (rest_of w) b.rest;
       }
 
@@ -212,14 +263,15 @@ module _ (c : Config) (v w x : View) (l m : Noted) (object previous position : �
   pub cleared_lock : v.walk ≡ place.Master object → StandsToLock w (section_in w) object 0
   cleared_lock at = inl (built_walk c v w 1 stores ∙ at, refl)
 
-  pub cleared_tries : (before after : ℕ) → after ≡ before + 1 → Tries v w before after
+  pub cleared_tries : (before after : ℕ) → after ≡ before + 1 → Tries v w before after []
   cleared_tries = built_tries c v w 1 stores
 
   pub again_won : x ≡ head_locked c w (section_in w) object 0 position → OneMoreWrite c w (section_in w) object x
-      → (q : Noted) (first second third : ℕ) → q ≡ held_noted m → second ≡ first + 1 → third ≡ second + 1 → Outcome c v x q object Held first third
+      → (q : Noted) (first second third : ℕ) → q ≡ held_noted m → second ≡ first + 1 → third ≡ second + 1
+      → OneOutcome c v x q object Held first third
   again_won told own q first second third q_is e f =
-      outcome_before c v w x q object Held first second third cleared_carries (cleared_tries first second e)
-      (won_outcome c w x m object 0 position cleared_may t cleared_is told own q second third q_is f)
+      let o = won_outcome c w x m object 0 position cleared_may t cleared_is told own q second third q_is f in
+      (o.0, outcome_before c v w x q object Held first second third cleared_carries (cleared_tries first second e) o.1, o.2)
 
   module _ (link : ℕ) (told : x ≡ lock_lost c w object link) where
     pub again_may : MayWalk x
@@ -232,8 +284,7 @@ module _ (c : Config) (v w x : View) (l m : Noted) (object previous position : �
     again_first = came_first c w x m object 0 position cleared_may t cleared_is link told
 
     pub again_lost : (y : View) (q : Noted) (answer : LockAnswer) (first second third last : ℕ) → second ≡ first + 1 → third ≡ second + 1
-        → Outcome c x y q object answer third last → Outcome c v y q object answer first last
+        → LostOutcome c x y q object link answer third last → OneOutcome c v y q object answer first last
     again_lost y q answer first second third last e f o =
-        outcome_before c v w y q object answer first second last cleared_carries (cleared_tries first second e)
-        (outcome_before c w x y q object answer second third last (lost_carries c w x m object 0 position cleared_may t cleared_is link told)
-        (subst (Tries w x second) (sym f) (lost_tries c w x m object 0 position cleared_may t cleared_is link told second)) o)
+        let all = lost_all c w x m object 0 position cleared_may t cleared_is link told y q answer second third last f o in
+        (all.0, outcome_before c v w y q object answer first second last cleared_carries (cleared_tries first second e) all.1, all.2)

@@ -1,3 +1,4 @@
+pub mod Exchanged
 pub mod Looks
 pub mod LockKinds
 pub mod Stood

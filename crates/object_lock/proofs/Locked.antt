@@ -1,8 +1,9 @@
 -- What `lock` answers: whether the section holds the object, whether it may hold one more, and what came of looking at the top and of building.
-use Rattle.std.proofs.Common.{◌≡◌, ◌≢◌, ℕ, zero, suc, ◌+◌, ◌-◌, ◌<◌, ◌≤◌, true, false, List, [], ◌∷◌, length}
+use Rattle.std.proofs.Common.{◌≡◌, ◌≢◌, ℕ, zero, suc, ◌+◌, ◌-◌, ◌<◌, ◌≤◌, true, false, List, [], ◌∷◌, ◌++◌, length}
 use Rattle.std.proofs.Common.{map, length-append, refl, sym, ap, ◌∙◌, subst, arith, Bool, Some, None}
 use Rattle.std.specs.Prelude.{slice_get}
 use Rattle.mv_history.specs.State.{Writes, touches}
+use Rattle.mv_history.specs.declared.Step.{Step}
 use Rattle.mv_history.specs.declared.answers.LockAnswer.{LockAnswer}
 use Rattle.mv_history.specs.declared.answers.LockAnswer.TheVariants.{Held, Busy, Stale, SetFull, LogFull}
 use Rattle.mv_layout.specs.declared.Config.{Config}
@@ -70,7 +71,7 @@ module _ (c : Config) (v : View) (l : Noted) (object : ℕ) (s : Stands c v l) w
   spare_is room unbuilt e = let none : built_count l.built ≡ 0 = ap built_count unbuilt in let a = s.spare in let b = s.slots in omega arith
 
 -- the steps that looked at the top leave the log as it is
-module _ (c : Config) (v x : View) (l : Noted) (object before here : ℕ) (s : Stands c v l) (tries : Tries v x before here) (ring : x.ring ≡ v.ring) where
+module _ (c : Config) (v x : View) (l : Noted) (object before here : ℕ) (s : Stands c v l) (tries : Tries v x before here []) (ring : x.ring ≡ v.ring) where
   pub top_stands : Stands c x l
   top_stands =
       let t = tries.trail in
@@ -104,10 +105,10 @@ module _ (c : Config) (v w : View) (keeps : KeepsOwn c v w) where
   all_answers x object SetFull room makes = absurd makes
   all_answers x object LogFull room makes = absurd makes
 
-  pub made_answers : (x : View) (object : ℕ) (answer : LockAnswer) → w.number ≡ v.number → w.phase ≡ v.phase → HasRoom c v
-      → LockMakes c w x object answer → LockAnswers c v x object answer
-  made_answers x object answer number phase room makes =
-      all_answers x object answer room (makes_before c v w x object answer number phase keeps makes)
+  pub made_answers : (x : View) (object : ℕ) (answer : LockAnswer) (made : List Step) → w.trail ≡ v.trail ++ made → w.number ≡ v.number
+      → w.phase ≡ v.phase → HasRoom c v → LockMakes c w x object answer → LockAnswers c v x object answer
+  made_answers x object answer made at number phase room makes =
+      all_answers x object answer room (makes_before c v w x object answer made at number phase keeps makes)
 
 -- the section holds no more than it may
 module _ (c : Config) (v w : View) (l m : Noted) (object : ℕ) (s : Stands c v l) (t : Stands c w m) (few : l.held < c.write_max) where

@@ -1,6 +1,6 @@
 -- What was found on top of a chain: by a load of HEAD, and of FIRST and STAMP of the version there.
-use Rattle.std.proofs.Common.{◌≡◌, ◌≢◌, ℕ, ◌+◌, ◌<◌, ◌≤◌, ◌^◌, List, [], ◌∷◌, ◌++◌, length, refl, sym, ap}
-use Rattle.std.proofs.Common.{◌∙◌, subst, ⊎_elim, inr, append_assoc, length-append, arith, false, Some, None, All}
+use Rattle.std.proofs.Common.{◌≡◌, ◌≢◌, ℕ, ◌+◌, ◌<◌, ◌≤◌, ◌^◌, Bool, cond, List, [], ◌∷◌, ◌++◌, length, refl, sym, ap}
+use Rattle.std.proofs.Common.{◌∙◌, subst, ⊎_elim, inr, append_assoc, append-nil, length-append, arith, false, Some, None, All}
 use Rattle.std.proofs.lemmas.List.Elements.{All-nil, All-cons, All-append}
 use Rattle.mv_history.specs.declared.Step.{Step}
 use Rattle.mv_history.specs.declared.StepKind.{StepKind}
@@ -25,7 +25,8 @@ use Rattle.mv_core.specs.LockSteps.{StandsToLock}
 use Rattle.version_chain.specs.Walks.{MayWalk, section_in, stand_of, stand_in, time_at, with_first}
 use Rattle.version_chain.specs.Reads.{words_in, Reads}
 use Rattle.version_chain.proofs.Standing.{stands_here}
-use Rattle.object_lock.specs.Tops.{IsUnheld, StandsOn, Looked, IsLockStep, Tries, FoundHeld}
+use Rattle.object_lock.specs.Tops.{IsUnheld, StandsOn, Looked, IsLockStep, is_lock_exchange, lock_exchanges, Tries, FoundHeld}
+use Rattle.object_lock.proofs.Exchanged.{none_exchanged, exchanged_on}
 
 -- the loads of FIRST and STAMP
 pub looked_at : (c : Config) (v w x : View) (link first found : ℕ) → StandsOn c v link → w ≡ first_loaded c v (stand_in v) first
@@ -81,13 +82,13 @@ module _ (c : Config) (v w x : View) (kind : StepKind) (object link found : ℕ)
       ∙ append_assoc v.trail (of_head ∷ []) (of_first ∷ of_stamp ∷ [])
 
   -- where the stamp was unset they found the object held
-  pub found_held : IsUnset found → FoundHeld c object (link_seat_of link) x.trail
+  pub found_held : IsUnset found → FoundHeld c object (link_seat_of link) v.trail x.trail
   found_held unset = record {
-    before = v.trail;
+    before = [];
     head = of_head;
     first = of_first;
     stamp = of_stamp;
-    steps = trail_is;
+    steps = trail_is ∙ ap (λ (l : List Step). l ++ of_head ∷ of_first ∷ of_stamp ∷ []) (sym (append-nil v.trail));
     link = link;
     seat_is = refl;
     on_top = (refl, refl, refl);
@@ -98,14 +99,37 @@ module _ (c : Config) (v w x : View) (kind : StepKind) (object link found : ℕ)
     unset = unset;
   }
 
-  pub looked_steps : IsLockStep kind → (steps : List Step) × (x.trail ≡ v.trail ++ steps) × (length steps ≡ 3) × All IsLocks steps
-  looked_steps is = (
+  pub looked_steps : IsLockStep kind → is_lock_exchange kind ≡ false
+      → (steps : List Step) × (x.trail ≡ v.trail ++ steps) × (length steps ≡ 3) × All IsLocks steps × (lock_exchanges steps ≡ [])
+  looked_steps is none = (
     of_head ∷ of_first ∷ of_stamp ∷ [],
     trail_is,
     refl,
     All-cons IsLocks of_head (of_first ∷ of_stamp ∷ []) is
         (All-cons IsLocks of_first (of_stamp ∷ []) tt (All-cons IsLocks of_stamp [] tt (All-nil IsLocks))),
+    ap (λ (b : Bool). cond b (of_head ∷ []) []) none,
   )
+
+-- no step was made
+pub none_tried : (v : View) (before : ℕ) → Tries v v before before []
+none_tried v before = record {
+  seen = ([], sym (append-nil v.past.seen));
+  trail = ([], sym (append-nil v.trail), (omega arith), All-nil IsLocks);
+  exchanges = refl;
+  rest = refl;
+}
+
+-- HEAD was loaded, and no more
+pub head_tries : (c : Config) (v w : View) (object link : ℕ) (inside : Section) → w ≡ head_loaded c v inside object link → (before : ℕ)
+    → Tries v w before (before + 1) []
+head_tries c v w object link inside head before =
+    let step : Step = head_found c LoadHead object link in
+    record {
+      seen = ([], ap (λ (u : View). u.past.seen) head ∙ sym (append-nil v.past.seen));
+      trail = (step ∷ [], ap (λ (u : View). u.trail) head, refl, All-cons IsLocks step [] tt (All-nil IsLocks));
+      exchanges = refl;
+      rest = ap (rest_of w) head;
+    }
 
 -- HEAD was loaded
 module _ (c : Config) (v w x : View) (object link found : ℕ) (inside : Section) (some : link ≢ 0) (head : w ≡ head_loaded c v inside object link)
@@ -118,18 +142,19 @@ module _ (c : Config) (v w x : View) (object link found : ℕ) (inside : Section
   link_there = ap (λ (s : Stand). s.link) stand_is
 
   -- what these steps leave
-  pub looked_tries : (before : ℕ) → Tries v x before (before + 3)
-  looked_tries before = record {
-    seen = let more = looked.says.sees.more in (more.0, more.1 ∙ ap (λ (u : View). u.past.seen ++ more.0) head);
-    trail = let s =
-        looked_steps c v w x LoadHead object link found (ap (λ (u : View). u.trail) head) link_there looked tt in
-        (s.0, s.1, (let long = s.2 in omega arith), s.3);
-    rest = ap (rest_of x) looked.view ∙ ap (rest_of x) head;
-  }
+  pub looked_tries : (before : ℕ) → Tries v x before (before + 3) []
+  looked_tries before =
+      let s = looked_steps c v w x LoadHead object link found (ap (λ (u : View). u.trail) head) link_there looked tt refl in
+      record {
+        seen = let more = looked.says.sees.more in (more.0, more.1 ∙ ap (λ (u : View). u.past.seen ++ more.0) head);
+        trail = (s.0, s.1, (let long = s.2 in omega arith), s.3);
+        exchanges = s.4;
+        rest = ap (rest_of x) looked.view ∙ ap (rest_of x) head;
+      }
 
   -- an unset stamp is of a version of another seat, which was found on top
   pub held_elsewhere : IsUnheld v object → MayWalk v → IsOwnTop c v object link → IsUnset found
-      → (link_seat_of link ≢ v.number) × FoundHeld c object (link_seat_of link) x.trail
+      → (link_seat_of link ≢ v.number) × FoundHeld c object (link_seat_of link) v.trail x.trail
   held_elsewhere unheld may own unset = (
     λ seat.
         let top = own some seat in
@@ -172,8 +197,9 @@ module _ (c : Config) (v w x : View) (object link found : ℕ) (inside : Section
       )
 
 -- reading six words more leaves what a lock leaves
-pub tries_read : (kind : StepKind) → IsLockStep kind → (v x y : View) (before here : ℕ) → Tries v x before here → Reads kind x y → Tries v y before (here + 6)
-tries_read kind is v x y before here tries reads =
+pub tries_read : (kind : StepKind) → IsLockStep kind → is_lock_exchange kind ≡ false → (v x y : View) (before here : ℕ) → Tries v x before here []
+    → Reads kind x y → Tries v y before (here + 6) []
+tries_read kind is none v x y before here tries reads =
     let s = tries.trail in
     let t = reads.trail in
     let long = length-append s.0 t.0 in
@@ -187,5 +213,7 @@ tries_read kind is v x y before here tries reads =
         (omega arith),
         All-append IsLocks s.0 t.0 s.3 (λ k d lt. subst IsLockStep (sym (t.3 k d lt)) is),
       );
+      exchanges = exchanged_on s.0 t.0 tries.exchanges
+          (none_exchanged t.0 (λ k d lt. subst (λ (q : StepKind). is_lock_exchange q ≡ false) (sym (t.3 k d lt)) none));
       rest = ap (rest_of y) reads.rest ∙ ap (rest_of y) tries.rest;
     }

@@ -18,12 +18,14 @@ use Rattle.seat_log.specs.Stands.{Stands}
 use Rattle.seat_log.proofs.Standing.{stands_dropped}
 use Rattle.version_chain.specs.Walks.{MayWalk, section_in, stand_in, time_at}
 use Rattle.object_lock.specs.Tops.{Looked, Tries, IsRefused}
-use Rattle.object_lock.specs.Locks.{CameFirst, LockMakes, Outcome}
+use Rattle.object_lock.specs.Locks.{lost_step, CameFirst, LockMakes, Outcome}
+use Rattle.object_lock.proofs.Exchanged.{exchanged_on}
 use Rattle.object_lock.proofs.Looks.{IsLocks, rest_of, found_held}
 use Rattle.object_lock.proofs.Stood.{stands_on}
 
 -- one after another
-pub tries_on : (u v w : View) (first second third : ℕ) → Tries u v first second → Tries v w second third → Tries u w first third
+pub tries_on : (u v w : View) (first second third : ℕ) {tried more : List Step} → Tries u v first second tried → Tries v w second third more
+    → Tries u w first third (tried ++ more)
 tries_on u v w first second third a b =
     let s = a.trail in
     let t = b.trail in
@@ -32,11 +34,13 @@ tries_on u v w first second third a b =
     let two = t.2 in record {
       seen = (a.seen.0 ++ b.seen.0, b.seen.1 ∙ ap (λ (l : List Entry). l ++ b.seen.0) a.seen.1 ∙ append_assoc u.past.seen a.seen.0 b.seen.0);
       trail = (s.0 ++ t.0, t.1 ∙ ap (λ (l : List Step). l ++ t.0) s.1 ∙ append_assoc u.trail s.0 t.0, (omega arith), All-append IsLocks s.0 t.0 s.3 t.3);
+      exchanges = exchanged_on s.0 t.0 a.exchanges b.exchanges;
       rest = ap (rest_of w) b.rest ∙ ap (rest_of w) a.rest;
     }
 
--- FIRST and STAMP of the version that came first were loaded
-module _ (c : Config) (v x : View) (object link found : ℕ) (may : MayWalk v) (first : CameFirst c v object link) (looked : Looked c v x found) where
+-- An exchange was lost, and FIRST and STAMP of the version that came first were loaded.
+module _ (c : Config) (v x : View) (object link found : ℕ) (may : MayWalk v) (first : CameFirst c v object link) (looked : Looked c v x found)
+    (start : List Step) (lost : v.trail ≡ start ++ lost_step c object link ∷ []) where
   abbrev of_first : Step
   of_first =
       record {
@@ -56,23 +60,39 @@ module _ (c : Config) (v x : View) (object link found : ℕ) (may : MayWalk v) (
   two_kinds : All IsLocks (of_first ∷ of_stamp ∷ [])
   two_kinds = All-cons IsLocks of_first (of_stamp ∷ []) tt (All-cons IsLocks of_stamp [] tt (All-nil IsLocks))
 
-  looked_on : (before : ℕ) → Tries v x before (before + 2)
-  looked_on before = record { seen = looked.says.sees.more; trail = (of_first ∷ of_stamp ∷ [], two_steps, refl, two_kinds); rest = ap (rest_of x) looked.view }
+  -- the view before the exchange, but that the walk stands as after it
+  abbrev from : View
+  from = record v { trail = start }
+
+  three_steps : x.trail ≡ start ++ lost_step c object link ∷ of_first ∷ of_stamp ∷ []
+  three_steps =
+      two_steps ∙ ap (λ (l : List Step). l ++ of_first ∷ of_stamp ∷ []) lost ∙ append_assoc start (lost_step c object link ∷ []) (of_first ∷ of_stamp ∷ [])
+
+  three_kinds : All IsLocks (lost_step c object link ∷ of_first ∷ of_stamp ∷ [])
+  three_kinds = All-cons IsLocks (lost_step c object link) (of_first ∷ of_stamp ∷ []) tt two_kinds
+
+  looked_on : (before : ℕ) → Tries from x before (before + 3) (lost_step c object link ∷ [])
+  looked_on before = record {
+    seen = looked.says.sees.more;
+    trail = (lost_step c object link ∷ of_first ∷ of_stamp ∷ [], three_steps, refl, three_kinds);
+    exchanges = refl;
+    rest = ap (rest_of x) looked.view;
+  }
 
   -- an unset stamp
-  pub busy_cause : IsUnset found → IsRefused c v x object (Busy (link_seat_of link))
+  pub busy_cause : IsUnset found → IsRefused c from x object (Busy (link_seat_of link))
   busy_cause unset =
-      (first.other, found_held c (record v { trail = first.lost.0 }) v x LockHead object link found first.lost.1 first.stands.link_is looked unset)
+      (first.other, found_held c from v x LockHead object link found lost first.stands.link_is looked unset)
 
   -- and a time
-  pub stale_cause : found < 2 ^ 63 → IsRefused c v x object (Stale found)
+  pub stale_cause : found < 2 ^ 63 → IsRefused c from x object (Stale found)
   stale_cause low =
       let late = looked.says.late (section_in v) may.phase first.late low in
       let same : time_at x ≡ time_at v = ap time_at looked.view in
       ((omega arith), subst (λ (o : ℕ). IsWriteOf c x.past.seen o found) first.object_is (looked.says.write low))
 
-  pub lost_outcome : (l : Noted) (answer : LockAnswer) (before after : ℕ) → MayWalk x → Stands c v l → LockMakes c v x object answer
-      → after ≡ before + 2 → Outcome c v x (dropped l) object answer before after
+  pub lost_outcome : (l : Noted) (answer : LockAnswer) (before after : ℕ) → MayWalk x → Stands c v l → LockMakes c from x object answer
+      → after ≡ before + 3 → Outcome c from x (dropped l) object answer before after (lost_step c object link ∷ [])
   lost_outcome l answer before after still s makes e =
       let ring : x.ring ≡ v.ring = ap (λ (u : View). u.ring) looked.view in record {
         may = still;
@@ -82,18 +102,19 @@ module _ (c : Config) (v x : View) (object link found : ℕ) (may : MayWalk v) (
         unbuilt = refl;
         makes = makes;
         keeps = λ _. (ap (own_of c) ring, ap spare_count ring);
-        tries = subst (Tries v x before) (sym e) (looked_on before);
+        tries = subst (λ (n : ℕ). Tries from x before n (lost_step c object link ∷ [])) (sym e) (looked_on before);
       }
 
   -- the answer for another log's notes and counter that are these
   pub lost_busy : (l m : Noted) (seat before after : ℕ) → MayWalk x → Stands c v l → m ≡ dropped l → seat ≡ link_seat_of link → IsUnset found
-      → after ≡ before + 2 → Outcome c v x m object (Busy seat) before after
+      → after ≡ before + 3 → Outcome c from x m object (Busy seat) before after (lost_step c object link ∷ [])
   lost_busy l m seat before after still s is seat_is unset e =
-      subst (λ (k : Noted). Outcome c v x k object (Busy seat) before after) (sym is)
-      (subst (λ (q : ℕ). Outcome c v x (dropped l) object (Busy q) before after) (sym seat_is)
+      subst (λ (k : Noted). Outcome c from x k object (Busy seat) before after (lost_step c object link ∷ [])) (sym is)
+      (subst (λ (q : ℕ). Outcome c from x (dropped l) object (Busy q) before after (lost_step c object link ∷ [])) (sym seat_is)
       (lost_outcome l (Busy (link_seat_of link)) before after still s (busy_cause unset) e))
 
-  pub lost_stale : (l m : Noted) (before after : ℕ) → MayWalk x → Stands c v l → m ≡ dropped l → found < 2 ^ 63 → after ≡ before + 2
-      → Outcome c v x m object (Stale found) before after
+  pub lost_stale : (l m : Noted) (before after : ℕ) → MayWalk x → Stands c v l → m ≡ dropped l → found < 2 ^ 63 → after ≡ before + 3
+      → Outcome c from x m object (Stale found) before after (lost_step c object link ∷ [])
   lost_stale l m before after still s is low e =
-      subst (λ (k : Noted). Outcome c v x k object (Stale found) before after) (sym is) (lost_outcome l (Stale found) before after still s (stale_cause low) e)
+      subst (λ (k : Noted). Outcome c from x k object (Stale found) before after (lost_step c object link ∷ [])) (sym is)
+      (lost_outcome l (Stale found) before after still s (stale_cause low) e)

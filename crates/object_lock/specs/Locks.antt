@@ -29,10 +29,20 @@ abbrev pub IsBuiltFor : Noted → ℕ → ℕ → ℕ → List ℕ → Type 0
 IsBuiltFor l position object previous words =
     (n : Note) × (l.built ≡ Some n) × (n.position ≡ position) × (n.object ≡ object) × (n.previous ≡ previous) × (n.words ≡ words)
 
--- the last step found HEAD of the object to be this link, in a lost exchange
-abbrev pub WasLost : Config → ℕ → ℕ → List Step → Type 0
-WasLost c object link trail =
-    (before : List Step) × (trail ≡ before ++ record { kind = LockHead; word = place_of c (Head object); found = Some link; stored = None } ∷ [])
+-- a lost exchange, which found HEAD of the object to be this link
+abbrev pub lost_step : Config → ℕ → ℕ → Step
+lost_step c object link = record { kind = LockHead; word = place_of c (Head object); found = Some link; stored = None }
+
+-- the exchanges of HEAD of a call are at most two, of the object; the second comes only where the first found a chain that was cut
+abbrev pub AreFew : Config → ℕ → List Step → Type 0
+AreFew c object [] = Unit {0}
+AreFew c object (s ∷ []) = s.word ≡ place_of c (Head object)
+AreFew c object (s ∷ t ∷ []) = (s ≡ lost_step c object 0) × (t.word ≡ place_of c (Head object))
+AreFew c object _ = ⊥
+
+-- what a lock leaves of a view, which tried few exchanges of HEAD
+abbrev pub TriesFew : Config → View → View → ℕ → ℕ → ℕ → Type 0
+TriesFew c v w object before after = (tried : List Step) × Tries v w before after tried × AreFew c object tried
 
 -- a lost exchange put the walk at another log's version of the object
 pub record CameFirst (c : Config) (v : View) (object link : ℕ) : Type 0 where
@@ -40,7 +50,6 @@ pub record CameFirst (c : Config) (v : View) (object link : ℕ) : Type 0 where
   pub object_is : (stand_in v).object ≡ object
   pub late : (stand_in v).late ≡ true
   pub other : link_seat_of link ≢ v.number
-  pub lost : WasLost c object link v.trail
 
 -- what FIRST and STAMP of the version tell that came first
 abbrev pub RivalIs : Config → View → View → ℕ → LockAnswer → Type 0
@@ -57,14 +66,29 @@ LockMakes c v w object answer = IsRefused c v w object answer
 abbrev pub KeepsOwn : Config → View → View → Type 0
 KeepsOwn c v w = (own_of c w.ring ≡ own_of c v.ring) × (spare_count w.ring ≡ spare_count v.ring)
 
--- What a call that builds, exchanges or looks at what came first leaves of a pass and its log.
-pub record Outcome (c : Config) (v w : View) (l : Noted) (object : ℕ) (answer : LockAnswer) (before after : ℕ) : Type 0 where
+-- What a call that builds, exchanges or looks at what came first leaves of a pass and its log, and which exchanges of HEAD it tried.
+pub record Outcome (c : Config) (v w : View) (l : Noted) (object : ℕ) (answer : LockAnswer) (before after : ℕ) (tried : List Step) : Type 0 where
   pub may : MayWalk w
   pub stands : Stands c w l
   pub unbuilt : l.built ≡ None
   pub makes : LockMakes c v w object answer
   pub keeps : answer ≢ Held → KeepsOwn c v w
-  pub tries : Tries v w before after
+  pub tries : Tries v w before after tried
+
+-- what comes of at most two exchanges
+abbrev pub FewOutcome : Config → View → View → Noted → ℕ → LockAnswer → ℕ → ℕ → Type 0
+FewOutcome c v w l object answer before after = (tried : List Step) × Outcome c v w l object answer before after tried × AreFew c object tried
+
+-- of one exchange
+abbrev pub OneOutcome : Config → View → View → Noted → ℕ → LockAnswer → ℕ → ℕ → Type 0
+OneOutcome c v w l object answer before after =
+    (step : Step) × Outcome c v w l object answer before after (step ∷ []) × (step.word ≡ place_of c (Head object))
+
+-- of a lost exchange that was the last step, told from before it on
+abbrev pub LostOutcome : Config → View → View → Noted → ℕ → ℕ → LockAnswer → ℕ → ℕ → Type 0
+LostOutcome c v w l object link answer before after =
+    (start : List Step) (first : ℕ) → v.trail ≡ start ++ lost_step c object link ∷ [] → before ≡ first + 1
+    → Outcome c (record v { trail = start }) w l object answer first after (lost_step c object link ∷ [])
 
 -- the section holds as many objects as it may
 abbrev pub IsSetFull : Config → View → Type 0

@@ -1,5 +1,5 @@
 -- What is on top of an object's chain for a section that would hold the object: what it needs, what it answers, and what it leaves.
-use Rattle.std.specs.Prelude.{◌≡◌, ◌≢◌, ℕ, ◌+◌, ◌<◌, List, [], ◌∷◌, ◌++◌, length, All, Some, None, Result, Ok, Err}
+use Rattle.std.specs.Prelude.{◌≡◌, ◌≢◌, ℕ, ◌+◌, ◌<◌, Bool, true, false, List, [], ◌∷◌, ◌++◌, length, filter, All, Some, None, Result, Ok, Err}
 use Rattle.mv_history.specs.declared.Step.{Step}
 use Rattle.mv_history.specs.declared.StepKind.{StepKind}
 use Rattle.mv_history.specs.declared.StepKind.TheVariants.{LoadHead, LoadFirst, LoadStamp, LoadData, LoadMaster, StoreBuilt, LockHead}
@@ -49,21 +49,32 @@ IsLockStep StoreBuilt = Unit {0}
 IsLockStep LockHead = Unit {0}
 IsLockStep _ = ⊥
 
+-- whether the kind is the exchange of HEAD that locks
+abbrev pub is_lock_exchange : StepKind → Bool
+is_lock_exchange LockHead = true
+is_lock_exchange _ = false
+
+-- the exchanges of HEAD among the steps, won or lost
+abbrev pub lock_exchanges : List Step → List Step
+lock_exchanges steps = filter (λ s. is_lock_exchange s.kind) steps
+
 -- What a lock leaves of a view, with the counter of steps before and after: what was seen is only longer, the trail has a record
--- for each step and each is of a lock, and nothing else changes but the log, where the walk stands, and which HEADs were found
--- empty.
-pub record Tries (v w : View) (before after : ℕ) : Type 0 where
+-- for each step and each is of a lock, of which `tried` are the exchanges of HEAD, and nothing else changes but the log, where the
+-- walk stands, and which HEADs were found empty.
+pub record Tries (v w : View) (before after : ℕ) (tried : List Step) : Type 0 where
   pub seen : BeginsWith w.past.seen v.past.seen
   pub trail : (steps : List Step) × (w.trail ≡ v.trail ++ steps) × (after ≡ before + length steps) × All (λ s. IsLockStep s.kind) steps
+  pub exchanges : lock_exchanges trail.0 ≡ tried
   pub rest : w ≡ record v { past = record v.past { seen = w.past.seen }; walk = w.walk; empty = w.empty; ring = w.ring; trail = w.trail }
 
--- the last three steps of a trail found the object held: HEAD named a version of that seat's log, and the stamp of its write set, loaded afterwards, was unset
-pub record FoundHeld (c : Config) (object seat : ℕ) (trail : List Step) : Type 0 where
+-- the last three of the steps that a trail has since `start` found the object held: HEAD named a version of that seat's log, and the
+-- stamp of its write set, loaded afterwards, was unset
+pub record FoundHeld (c : Config) (object seat : ℕ) (start trail : List Step) : Type 0 where
   pub before : List Step
   pub head : Step
   pub first : Step
   pub stamp : Step
-  pub steps : trail ≡ before ++ head ∷ first ∷ stamp ∷ []
+  pub steps : trail ≡ start ++ before ++ head ∷ first ∷ stamp ∷ []
   pub link : ℕ
   pub seat_is : link_seat_of link ≡ seat
   pub on_top : (head.word ≡ place_of c (Head object)) × (head.found ≡ Some link) × (head.stored ≡ None)
@@ -75,7 +86,7 @@ pub record FoundHeld (c : Config) (object seat : ℕ) (trail : List Step) : Type
 
 -- the causes of a refusal: another seat was found holding the object, in steps of this call; or a commit after the section's time writes it, and was seen
 abbrev pub IsRefused : Config → View → View → ℕ → LockAnswer → Type 0
-IsRefused c v w object (Busy seat) = (seat ≢ v.number) × FoundHeld c object seat w.trail
+IsRefused c v w object (Busy seat) = (seat ≢ v.number) × FoundHeld c object seat v.trail w.trail
 IsRefused c v w object (Stale time) = (time_at v < time) × IsWriteOf c w.past.seen object time
 IsRefused c v w object _ = ⊥
 

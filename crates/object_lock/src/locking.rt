@@ -1,5 +1,5 @@
 // Locking an object.
-ghost use Rattle.std.specs.Prelude.{◌≡◌, ◌≢◌, ℕ, ◌+◌, ◌<◌, ◌≤◌, ◌^◌, true, false, length, None, Err, IfOk, IfErr, OnErr};
+ghost use Rattle.std.specs.Prelude.{◌≡◌, ◌≢◌, ℕ, ◌+◌, ◌<◌, ◌≤◌, ◌^◌, true, false, [], length, None, Err, IfOk, IfErr, OnErr};
 ghost use Rattle.mv_history.specs.State.{touches};
 ghost use Rattle.mv_layout.specs.Words.{link_seat_of};
 ghost use Rattle.mv_core.specs.declared.view.Walk.TheVariants.{Master};
@@ -14,7 +14,8 @@ ghost use Rattle.seat_log.specs.Stands.{Stands};
 ghost use Rattle.version_chain.specs.Walks.{MayWalk, section_in};
 ghost use Rattle.version_chain.specs.Reads.{words_in};
 ghost use Rattle.object_lock.specs.Tops.{Tries};
-ghost use Rattle.object_lock.specs.Locks.{HoldsObject, IsBuiltFor, CameFirst, Outcome, KeepsOwn, LockAnswers, IsStarted, Starts};
+ghost use Rattle.object_lock.specs.Locks.{HoldsObject, IsBuiltFor, CameFirst, KeepsOwn, LockAnswers, IsStarted, Starts};
+ghost use Rattle.object_lock.specs.Locks.{TriesFew, FewOutcome, OneOutcome, LostOutcome};
 
 use crate::top::{stamp_at, top_of};
 use mv_core::{Pass, Shared, Steps, Swap};
@@ -85,7 +86,7 @@ fn lost<P: Protocol, L: Ledger>(
     requires built { IsBuilt log.old position }
     requires first { CameFirst (config_of shared.now) (view pass.old) object link }
     ensures same { IsSame pass.old pass.new }
-    ensures outcome { Outcome (config_of shared.now) (view pass.old) (view pass.new) log.new object result steps.old steps.new }
+    ensures outcome { LostOutcome (config_of shared.now) (view pass.old) (view pass.new) log.new object link result steps.old steps.new }
     ensures refused { result ≢ Held }
     ensures step { steps.new ≡ steps.old + 2 }
 {
@@ -117,7 +118,7 @@ fn hold_again<P: Protocol, L: Ledger>(
     requires unheld { ¬ (HoldsObject log.old object) }
     requires few { log.old.held < (config_of shared.now).write_max }
     ensures same { IsSame pass.old pass.new }
-    ensures outcome { Outcome (config_of shared.now) (view pass.old) (view pass.new) log.new object result steps.old steps.new }
+    ensures outcome { OneOutcome (config_of shared.now) (view pass.old) (view pass.new) log.new object result steps.old steps.new }
     ensures bound { steps.new ≤ steps.old + 4 }
 {
     clear_previous(shared, pass, log, position, steps);
@@ -163,7 +164,7 @@ pub fn lock_start<P: Protocol, L: Ledger>(
     ensures may { MayWalk (view pass.new) }
     ensures stands { Stands (config_of shared.now) (view pass.new) log.new }
     ensures few { log.new.held ≤ (config_of shared.now).write_max }
-    ensures tries { Tries (view pass.old) (view pass.new) steps.old steps.new }
+    ensures tries { Tries (view pass.old) (view pass.new) steps.old steps.new [] }
     ensures keeps { KeepsOwn (config_of shared.now) (view pass.old) (view pass.new) }
     ensures again { touches (own_of (config_of shared.now) (view pass.old).ring) object ≡ true
         → (result ≡ Err Held) × (view pass.new ≡ view pass.old) × (log.new ≡ log.old) }
@@ -208,7 +209,7 @@ pub fn lock_end<P: Protocol, L: Ledger>(
     requires of { IsOf shared.now pass.old }
     requires started { IsStarted (config_of shared.now) (view pass.old) log.old started }
     ensures same { IsSame pass.old pass.new }
-    ensures outcome { Outcome (config_of shared.now) (view pass.old) (view pass.new) log.new started.object result steps.old steps.new }
+    ensures outcome { FewOutcome (config_of shared.now) (view pass.old) (view pass.new) log.new started.object result steps.old steps.new }
     ensures few { log.new.held ≤ (config_of shared.now).write_max }
     ensures bound { steps.new ≤ steps.old + 5 }
 {
@@ -233,9 +234,9 @@ pub fn lock_end<P: Protocol, L: Ledger>(
 /// - `Held` where the section holds the object already; then nothing changes and no step is made.
 /// - `SetFull` exactly where it holds as many objects as it may, and `LogFull` exactly where its log
 ///   has no free slot; then no step is made either.
-/// - `Busy` only where a step of this call found HEAD of the object naming a version of that other
-///   seat, and a later one the stamp of its write set unset. That seat holds the object, or its
-///   commit isn't finished.
+/// - `Busy` only where the last three steps of this call found HEAD of the object naming a version of
+///   that other seat, and the stamp of its write set unset. That seat holds the object, or its commit
+///   isn't finished.
 /// - `Stale` only where a commit of that printed time, after the section's, writes the object; it was
 ///   seen.
 /// - Else `Held`: the object joins those that are held, with the words that the section reads, and
@@ -262,7 +263,7 @@ pub fn lock<P: Protocol, L: Ledger>(
     ensures stands { Stands (config_of shared.now) (view pass.new) log.new }
     ensures unbuilt { log.new.built ≡ None }
     ensures few { log.new.held ≤ (config_of shared.now).write_max }
-    ensures tries { Tries (view pass.old) (view pass.new) steps.old steps.new }
+    ensures tries { TriesFew (config_of shared.now) (view pass.old) (view pass.new) object steps.old steps.new }
     ensures again { touches (own_of (config_of shared.now) (view pass.old).ring) object ≡ true
         → (result ≡ Held) × (view pass.new ≡ view pass.old) × (log.new ≡ log.old) }
     ensures answers { touches (own_of (config_of shared.now) (view pass.old).ring) object ≡ false

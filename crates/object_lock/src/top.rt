@@ -1,5 +1,5 @@
 // What is on top of an object's chain.
-ghost use Rattle.std.specs.Prelude.{◌≡◌, ◌≢◌, ◌+◌, ◌<◌, ◌≤◌};
+ghost use Rattle.std.specs.Prelude.{◌≡◌, ◌≢◌, ◌+◌, ◌<◌, ◌≤◌, []};
 ghost use Rattle.mv_layout.specs.Words.{link_seat_of};
 ghost use Rattle.mv_core.specs.Passes.{view, IsOf, IsSame, config_of};
 ghost use Rattle.version_chain.specs.Walks.{MayWalk, stand_in};
@@ -45,7 +45,7 @@ pub(crate) fn top_of<P: Protocol, L: Ledger>(
     ensures same { IsSame pass.old pass.new }
     ensures may { MayWalk (view pass.new) }
     ensures answers { TopAnswers (config_of shared.now) (view pass.old) (view pass.new) object result }
-    ensures tries { Tries (view pass.old) (view pass.new) steps.old steps.new }
+    ensures tries { Tries (view pass.old) (view pass.new) steps.old steps.new [] }
     ensures ring { (view pass.new).ring ≡ (view pass.old).ring }
     ensures bound { steps.new ≤ steps.old + 9 }
 {

@@ -1,6 +1,7 @@
 -- Where each move leaves a client.
 use Rattle.std.proofs.Common.{◌≡◌, ℕ, List, refl, sym, ap, ◌∙◌, subst, Option, Some, None}
 use Rattle.std.specs.Prelude.{Contains}
+use Rattle.mv_history.specs.declared.Step.{Step}
 use Rattle.mv_history.specs.declared.Entry.{Entry}
 use Rattle.mv_history.specs.declared.StepKind.{StepKind}
 use Rattle.mv_history.specs.declared.StepKind.TheVariants.{LoadHead, LoadFirst, LoadStamp, LoadPrev}
@@ -83,19 +84,19 @@ has_read c kind leaves v w l word i r may =
     (stands_left c v w l i.stands (ap (λ (u : View). u.number) r.rest) (ap (λ (u : View). u.ring) r.rest) (ap (λ (u : View). u.past.mine) r.rest)
     (ap (λ (u : View). u.past.rests) r.rest) r.trail.0 r.trail.1 (kind_leaves kind leaves r.trail.0 r.trail.3)) i.unbuilt
 
-pub tried : (c : Config) (v w : View) (l m : Noted) (word : Option ℕ) (before after : ℕ) → IsInside c v l word → Tries v w before after → MayWalk w
-    → Stands c w m → m.built ≡ None → IsInside c w m word
+pub tried : (c : Config) (v w : View) (l m : Noted) (word : Option ℕ) (before after : ℕ) {exchanged : List Step}
+    → IsInside c v l word → Tries v w before after exchanged → MayWalk w → Stands c w m → m.built ≡ None → IsInside c w m word
 tried c v w l m word before after i t may stands unbuilt =
     still_inside c v w l m word i (ap (λ (u : View). u.scan) t.rest) (ap (λ (u : View). u.clocks) t.rest) may stands unbuilt
 
 -- a lock was begun: a version of the object is built
 pub has_started : (c : Config) (v w : View) (l m : Noted) (word : Option ℕ) (before after : ℕ) (lock : StartedLock) → IsInside c v l word
-    → Tries v w before after → IsStarted c w m lock → HasStarted c w m lock
+    → {exchanged : List Step} → Tries v w before after exchanged → IsStarted c w m lock → HasStarted c w m lock
 has_started c v w l m word before after lock i t started = record { started = started; no_scan = ap (λ (u : View). u.scan) t.rest ∙ i.no_scan }
 
 -- and ended
 pub has_ended : (c : Config) (v w : View) (l m : Noted) (object before after : ℕ) (lock : StartedLock) (answer : LockAnswer) → HasStarted c v l lock
-    → Outcome c v w m object answer before after → IsInside c w m None
+    → {exchanged : List Step} → Outcome c v w m object answer before after exchanged → IsInside c w m None
 has_ended c v w l m object before after lock answer k o = record {
   may = o.may;
   no_scan = ap (λ (u : View). u.scan) o.tries.rest ∙ k.no_scan;

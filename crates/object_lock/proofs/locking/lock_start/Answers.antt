@@ -2,6 +2,7 @@ use Rattle.std.proofs.Common.{◌≡◌, ◌≢◌, ◌<◌, refl, sym, ap, ◌�
 use Rattle.mv_layout.specs.declared.Config.{Config}
 use Rattle.mv_core.specs.Passes.{view, config_of}
 use Rattle.object_lock.proofs.OwnNotes.{unheld_is}
+use Rattle.object_lock.proofs.Looks.{none_tried}
 use Rattle.object_lock.proofs.Outcomes.{tries_on}
 use Rattle.object_lock.proofs.Built.{first_may, first_carries, first_tries, first_is, first_lock, first_unheld, first_few}
 use Rattle.object_lock.proofs.Locked.{held_none, held_some, lacks_is, full_is, not_full, spare_is, top_stands, top_keeps, kept_too, top_answers}
@@ -138,3 +139,12 @@ returns-clause-started g c =
             config.write_max few;
       };
     }
+
+pub returns-then-holds-clause-tries : goal.returns-then-holds-clause-tries
+returns-then-holds-clause-tries g c = none_tried (view c.args.pass.now) c.args.steps.now
+
+pub returns-then-held-config-clause-tries : goal.returns-then-held-config-clause-tries
+returns-then-held-config-clause-tries g c = none_tried (view c.args.pass.now) c.args.steps.now
+
+pub returns-then-room-eq0-clause-tries : goal.returns-then-room-eq0-clause-tries
+returns-then-room-eq0-clause-tries g c = none_tried (view c.args.pass.now) c.args.steps.now

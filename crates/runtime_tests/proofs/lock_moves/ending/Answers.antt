@@ -11,4 +11,4 @@ returns g c =
     let w = view c.lock_end-answer.new.pass in
     let l = c.args.client.now.log in
     let k = at_locking config v l c.args.client.now.stage c.requires.ready.1 _ c.in-Locking.is in
-    record { ready = (search rules, has_ended config v w l c.lock_end-answer.new.log _ _ _ _ _ k c.lock_end-answer.ensures.outcome) }
+    record { ready = (search rules, has_ended config v w l c.lock_end-answer.new.log _ _ _ _ _ k c.lock_end-answer.ensures.outcome.1) }

@@ -16,6 +16,6 @@ returns g c =
       ready = (
         search rules,
         in_stage config w c.lock.new.log c.args.client.now.stage _ c.in-Inside.is
-            (tried config v w l c.lock.new.log _ _ _ i e.tries e.may e.stands e.unbuilt),
+            (tried config v w l c.lock.new.log _ _ _ i e.tries.1 e.may e.stands e.unbuilt),
       );
     }

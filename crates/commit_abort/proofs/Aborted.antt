@@ -1,5 +1,5 @@
 -- A section that gave up what it held may end, and so it has when its mark is cleared.
-use Rattle.std.proofs.Common.{◌≡◌, ℕ, ◌+◌, List, [], ◌∷◌, ◌++◌, length, refl, sym, ap, ◌∙◌, subst, ⊎_elim, arith}
+use Rattle.std.proofs.Common.{◌≡◌, ◌≢◌, ℕ, zero, suc, ◌+◌, List, [], ◌∷◌, ◌++◌, length, refl, sym, ap, ◌∙◌, subst, ⊎_elim, arith}
 use Rattle.std.proofs.Common.{append-nil, append_assoc, length-append, All, Some, None}
 use Rattle.std.proofs.lemmas.List.Elements.{All-push, All-weaker}
 use Rattle.mv_history.specs.declared.Step.{Step}
@@ -32,7 +32,12 @@ use Rattle.seat_log.proofs.NotedSlots.{noted_in, held_last}
 use Rattle.seat_log.proofs.PlainSteps.{kind_leaves, frees_left, cuts_left}
 use Rattle.seat_log.proofs.Ended.{HasEnded, ends_same}
 use Rattle.seat_log.proofs.Aborts.{HasUnlocked, abort_ends, nothing_ends, stands_aborted}
-use Rattle.commit_abort.specs.Aborts.{Unlocks, IsAbortStep, Aborts}
+use Rattle.commit_abort.specs.Aborts.{Unlocks, IsAbortStep, Aborts, abort_cost}
+
+-- the steps of an abort, with something held
+pub cost_some : (held : ℕ) → held ≢ 0 → abort_cost held ≡ held + 2
+cost_some zero some = absurd (some refl)
+cost_some (suc n) some = refl
 
 -- the section of an unnamed mode is finished
 unnamed_finished : (v : View) (mode : Mode) → IsUnnamed mode → IsFinished v mode
@@ -151,7 +156,7 @@ module _ (c : Config) (v : View) (l : Noted) (inside : Section) (k : Stands c v 
     all_steps0 P a d =
         All-push (λ s. P s.kind) u.trail.0 clear0 (All-weaker (λ s. s.kind ≡ UnlockHead) (λ s. P s.kind) (λ s e. subst P (sym e) a) u.trail.0 u.trail.3) d
 
-    pub aborts_none : Aborts v z0 (l.held + 2)
+    pub aborts_none : Aborts v z0 1
     aborts_none = record {
       outside = refl;
       seen = ([], ap (λ p. p.seen) past_same ∙ sym (append-nil v.past.seen));
@@ -186,16 +191,18 @@ module _ (c : Config) (v : View) (l : Noted) (inside : Section) (k : Stands c v 
   pub clear_timed : (x : View) (word : ℕ) → (h : List Entry) × IsWhole c y word h × (x ≡ death_loaded c y word h) → MayClearMark x
   clear_timed x word t = subst MayClearMark (sym t.2) (may_end_timed word (clock_time_of word + 1) t.0 t.1 refl)
 
-  pub ended_timed : (x z : View) (m : Noted) (word dead : ℕ) → (h : List Entry) × IsWhole c y word h × (x ≡ death_loaded c y word h)
-      → dead ≡ clock_time_of word + 1 → z ≡ mark_cleared c x → m ≡ aborted_noted l dead → Aborts v z (l.held + 2) × Stands c z m
-  ended_timed x z m word dead t dead_is is noted =
+  pub ended_timed : (x z : View) (m : Noted) (word dead : ℕ) → l.held ≢ 0 → (h : List Entry) × IsWhole c y word h × (x ≡ death_loaded c y word h)
+      → dead ≡ clock_time_of word + 1 → z ≡ mark_cleared c x → m ≡ aborted_noted l dead → Aborts v z (abort_cost l.held) × Stands c z m
+  ended_timed x z m word dead some t dead_is is noted =
       let at : z ≡ mark_cleared c (death_loaded c y word t.0) = is ∙ ap (mark_cleared c) t.2 in (
-        subst (λ (q : View). Aborts v q (l.held + 2)) (sym at) (aborts_timed word dead t.0 t.1 dead_is),
+        subst (λ (q : View). Aborts v q (abort_cost l.held)) (sym at)
+            (subst (λ (n : ℕ). Aborts v (mark_cleared c (death_loaded c y word t.0)) n) (sym (cost_some l.held some)) (aborts_timed word dead t.0 t.1 dead_is)),
         subst (Stands c z) (sym noted) (subst (λ (q : View). Stands c q (aborted_noted l dead)) (sym at) (stands_timed word dead t.0 t.1 dead_is)),
       )
 
-  pub ended_none : (z : View) (m : Noted) (dead : ℕ) → l.held ≡ 0 → z ≡ mark_cleared c y → m ≡ aborted_noted l dead → Aborts v z (l.held + 2) × Stands c z m
+  pub ended_none : (z : View) (m : Noted) (dead : ℕ) → l.held ≡ 0 → z ≡ mark_cleared c y → m ≡ aborted_noted l dead
+      → Aborts v z (abort_cost l.held) × Stands c z m
   ended_none z m dead none is noted = (
-    subst (λ (q : View). Aborts v q (l.held + 2)) (sym is) (aborts_none none),
+    subst (λ (q : View). Aborts v q (abort_cost l.held)) (sym is) (subst (λ (n : ℕ). Aborts v (mark_cleared c y) (abort_cost n)) (sym none) (aborts_none none)),
     subst (Stands c z) (sym noted) (subst (λ (q : View). Stands c q (aborted_noted l dead)) (sym is) (stands_none none dead)),
   )

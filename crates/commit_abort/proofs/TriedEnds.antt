@@ -194,7 +194,9 @@ module _ (c : Config) (v x : View) (word : ℕ) (h0 : List Entry) (whole : IsWho
             steps = steps ++ tried ∷ [];
             loads = loads w (tried ∷ []) 5 (ap (λ (u : View). u.trail) at ∙ ap (λ l. l ++ tried ∷ []) trail ∙ append_assoc v.trail steps (tried ∷ []))
                 (omega arith);
-            one = ap length (exchanges_one steps [] tried refl none_tried (All-nil (λ s. is_commit_exchange s.kind ≡ false)));
+            found = found;
+            one_lost = exchanges_one steps [] tried refl none_tried (All-nil (λ s. is_commit_exchange s.kind ≡ false));
+            rival_is = lost.rival_is;
             other = other_seat;
             later = subst (λ n. clock_time_of word < n) time_is lost.overtaken.later;
             entry = (

@@ -1,5 +1,5 @@
 -- Giving up what a section holds: what the calls need of the view and of the log, and what they leave.
-use Rattle.std.specs.Prelude.{◌≡◌, ◌⊎◌, ℕ, ◌+◌, ◌<◌, ◌≤◌, List, ◌++◌, length, All, None}
+use Rattle.std.specs.Prelude.{◌≡◌, ◌⊎◌, ℕ, zero, suc, ◌+◌, ◌<◌, ◌≤◌, List, ◌++◌, length, All, None}
 use Rattle.mv_history.specs.declared.Step.{Step}
 use Rattle.mv_history.specs.declared.StepKind.{StepKind}
 use Rattle.mv_history.specs.declared.StepKind.TheVariants.{UnlockHead, LoadDeath, ClearMark}
@@ -68,6 +68,11 @@ IsAbortStep UnlockHead = Unit {0}
 IsAbortStep LoadDeath = Unit {0}
 IsAbortStep ClearMark = Unit {0}
 IsAbortStep _ = ⊥
+
+-- how many steps an abort makes at most, with so many versions held
+abbrev pub abort_cost : ℕ → ℕ
+abort_cost zero = 1
+abort_cost (suc n) = suc n + 2
 
 -- The section has ended and made no entry, nor tried to: the trail has at most so many steps more, each of an abort, and more may have been seen.
 pub record Aborts (v w : View) (most : ℕ) : Type 0 where

@@ -3,13 +3,13 @@ use Rattle.std.specs.Prelude.{◌≡◌, ◌≢◌, ℕ, ◌+◌, ◌-◌, ◌<�
 use Rattle.mv_history.specs.declared.Entry.{Entry}
 use Rattle.mv_history.specs.declared.Entry.TheVariants.{Change}
 use Rattle.mv_history.specs.declared.Step.{Step}
-use Rattle.mv_history.specs.declared.StepKind.TheVariants.{LoadCheck}
+use Rattle.mv_history.specs.declared.StepKind.TheVariants.{LoadCheck, NameCommit}
 use Rattle.mv_history.specs.declared.answers.Rival.{Rival}
 use Rattle.mv_history.specs.State.{State, Writes, maker_of, state_at}
 use Rattle.mv_history.specs.Drift.{IsFit}
 use Rattle.mv_history.specs.Trail.{commit_exchanges, IsOneWon}
 use Rattle.mv_layout.specs.declared.Config.{Config}
-use Rattle.mv_layout.specs.Words.{clock_time_of}
+use Rattle.mv_layout.specs.Words.{clock_time_of, clock_seat_of}
 use Rattle.mv_core.specs.declared.view.View.{View}
 use Rattle.mv_core.specs.declared.view.Phase.TheVariants.{Outside, Inside}
 use Rattle.mv_core.specs.declared.view.Section.{Section}
@@ -61,13 +61,20 @@ pub record IsKept (v w : View) (inside : Section) : Type 0 where
   pub past_help : IsPastHelp w.clocks inside
   pub rest : w ≡ record v { past = record v.past { seen = w.past.seen }; clocks = w.clocks; trail = w.trail }
 
--- another seat made the entry of the rival's time after this call had loaded the clock; the one commit exchange of this call was lost
+-- a lost exchange of CLOCK for a commit, which found this word
+abbrev pub lost_exchange : ℕ → Step
+lost_exchange found = record { kind = NameCommit; word = 0; found = Some found; stored = None }
+
+-- The one commit exchange of this call was lost, to the word that names the rival: another seat made the entry of the rival's time after
+-- this call had loaded the clock.
 pub record IsOvertakenBy (c : Config) (v w : View) (inside : Section) (rival : Rival) : Type 0 where
   pub kept : IsKept v w inside
   pub word : ℕ
   pub steps : List Step
   pub loads : LoadsClock c v w word 5 steps
-  pub one : length (commit_exchanges steps) ≡ 1
+  pub found : ℕ
+  pub one_lost : commit_exchanges steps ≡ lost_exchange found ∷ []
+  pub rival_is : rival ≡ record { seat = clock_seat_of found; time = clock_time_of found }
   pub other : rival.seat ≢ v.number
   pub later : clock_time_of word < rival.time
   pub entry : (e : Entry) × IsEntry c.base w.past.seen rival.time e × (maker_of e ≡ rival.seat)

@@ -5,7 +5,7 @@ ghost use Rattle.mv_core.specs.Passes.{view, IsOf, IsSame, config_of};
 ghost use Rattle.seat_log.specs.declared.version.Note.{Note};
 ghost use Rattle.seat_log.specs.Notes.{IsNoteAt, aborted_noted};
 ghost use Rattle.seat_log.specs.Stands.{Stands};
-ghost use Rattle.commit_abort.specs.Aborts.{IsOpen, HeldSlot, Unlocks, MayGiveBack, GivesBack, Aborts};
+ghost use Rattle.commit_abort.specs.Aborts.{IsOpen, HeldSlot, Unlocks, MayGiveBack, GivesBack, Aborts, abort_cost};
 
 use mv_core::{Pass, Shared, Steps};
 use mv_history::Protocol;
@@ -72,10 +72,10 @@ pub fn abort<P: Protocol, L: Ledger>(
     requires stands { Stands (config_of shared.now) (view pass.old) log.old }
     requires unbuilt { log.old.built ≡ None }
     ensures same { IsSame pass.old pass.new }
-    ensures aborts { Aborts (view pass.old) (view pass.new) (log.old.held + 2) }
+    ensures aborts { Aborts (view pass.old) (view pass.new) (abort_cost log.old.held) }
     ensures log { (dead : ℕ) × (log.new ≡ aborted_noted log.old dead) }
     ensures stands { Stands (config_of shared.now) (view pass.new) log.new }
-    ensures cost { steps.new ≤ steps.old + log.old.held + 2 }
+    ensures cost { steps.new ≤ steps.old + abort_cost log.old.held }
 {
     unlock_all(shared, pass, log, steps);
     let dead = if held(log) != 0 {

@@ -31,7 +31,7 @@ pub enum Ended {
 ///   seat's commits. Its time is the next after that of the word that this call loaded. It is
 ///   stamped, SUPER of the versions below has its time, and the section has ended.
 /// - `Again` only where the one exchange of CLOCK was lost to another seat's entry, made after this
-///   call had loaded the clock. The section is as before, and may be committed again.
+///   call had loaded the clock; the word that the exchange found names it. The section is as before, and may be committed again.
 /// - `End` exactly where the word that this call loaded has the last time. The section is as before.
 ///
 /// It makes at most `8 + held` steps, and tries the exchange once.

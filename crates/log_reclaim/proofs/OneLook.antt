@@ -194,7 +194,7 @@ module _ (starts : State → Type 0) (allows : List ℕ → State → Writes →
 
       why_none : (mark.time < n.time) ⊎ HasLater l n → TriedSo c w made mark clock n None
       why_none d =
-          ⊎_elim (λ young. let low = may.low in let early = may.early index n at in (omega arith, inl (omega arith)))
+          ⊎_elim (λ young. let low = may.low in let early = may.early index n at in (omega arith, inl young))
           (λ h. let both = later h in (both.0, inr both.1)) d
 
       why_some : (seat : ℕ) → FindsOther c u.number t.made n seat → TriedSo c w made mark clock n (Some seat)

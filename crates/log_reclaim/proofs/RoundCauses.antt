@@ -58,9 +58,11 @@ module _ (starts : State → Type 0) (allows : List ℕ → State → Writes →
       untimed : (above : Option ℕ) → StaysUntimed c w made scanned.mark scanned.clock back n above → n.dead ≡ 0 → back ≡ true
           → RoundHolds c w m made back (untimed_holder scanned n above)
       untimed None u none wrote =
-          let t = u.tried wrote in (
+          let t = u.tried wrote in
+          let low = low_known c w.number made scanned.mark scanned.clock scan in (
             marked_cause c w.number made scanned.mark scanned.clock scan t.0,
-            needs_more_untimed c w m i n stands at starts allows after oldest scanned.mark.low none u.committed u.unwritten t.1,
+            needs_more_untimed c w m i n stands at starts allows after oldest scanned.mark.low none u.committed u.unwritten
+                (⊎_elim (λ young. inl (omega arith)) inr t.1),
           )
       untimed (Some seat) u none wrote = record { index = i; note = n; at = at; oldest = oldest; object_is = λ _. n.object; finds = u.tried wrote }
 

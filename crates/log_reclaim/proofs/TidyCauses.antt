@@ -1,5 +1,5 @@
 -- The cause of each holder that a tidy answers, in its own steps.
-use Rattle.std.proofs.Common.{◌≡◌, ℕ, ◌<◌, ◌≤◌, true, false, List, [], ◌++◌, length, refl, sym, ◌∙◌, subst, ⊎_elim}
+use Rattle.std.proofs.Common.{◌≡◌, ℕ, ◌<◌, ◌≤◌, true, false, List, [], ◌++◌, length, refl, sym, ◌∙◌, subst, ⊎_elim, inl, inr}
 use Rattle.std.proofs.Common.{arith, append-nil, append_assoc, Option, Some, None}
 use Rattle.std.proofs.lemmas.Bool.{cases_lt}
 use Rattle.std.proofs.lemmas.List.Elements.{All-nil}
@@ -108,12 +108,14 @@ module _ (starts : State → Type 0) (allows : List ℕ → State → Writes →
     untimed_as : (above : Option ℕ) → n.dead ≡ 0 → StaysUntimed c w steps first.mark first.clock true n above
         → TidyHolds c w o steps (untimed_holder first n above)
     untimed_as None none d =
-        let t = d.tried refl in (
+        let t = d.tried refl in
+        let low = low_known c v.number made first.mark first.clock sweep.scan in (
           of_first (λ s. ReadsMark c w.number s first.mark.seat first.mark.low)
               (subst (λ (own : ℕ). ReadsMark c own (made ++ (rested ++ later)) first.mark.seat first.mark.low) (sym number_first)
               (reads_mark_more [] made (rested ++ later) c v.number first.mark.seat first.mark.low
               (marked_cause c v.number made first.mark first.clock sweep.scan t.0))),
-          needs_more_untimed c w o i n stands_w at starts allows known_w oldest first.mark.low none d.committed d.unwritten t.1,
+          needs_more_untimed c w o i n stands_w at starts allows known_w oldest first.mark.low none d.committed d.unwritten
+              (⊎_elim (λ young. inl (omega arith)) inr t.1),
         )
     untimed_as (Some seat) none d = record { index = i; note = n; at = at; oldest = oldest; object_is = refl; finds = d.tried refl }
 

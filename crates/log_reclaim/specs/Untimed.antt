@@ -9,9 +9,9 @@ use Rattle.seat_log.specs.declared.version.Note.{Note}
 use Rattle.log_reclaim.specs.Parts.{super_step, FindsAbove, TimesDeath}
 
 -- Why a write-back left a version without a time of death, by which seat's version it found in HEAD, if another's. Where none was
--- found, the low time is below the clock's, and below the version's time or under a later write of the object.
+-- found, the scan's own low time is below the clock's, and the version is later than the watermark or its object has a later write.
 abbrev pub TriedSo : Config → View → List Step → Watermark → ℕ → Note → Option ℕ → Type 0
-TriedSo c w made mark clock n None = (mark.low < clock) × ((mark.low < n.time) ⊎ (n.time < latest w.base w.past.seen n.object))
+TriedSo c w made mark clock n None = (mark.low < clock) × ((mark.time < n.time) ⊎ (n.time < latest w.base w.past.seen n.object))
 TriedSo c w made mark clock n (Some seat) = FindsAbove c w.number made n seat
 
 -- A committed version has no time of death after a round with this watermark: one of the round's steps found SUPER 0 in it, no

@@ -1,18 +1,21 @@
 -- A round that first freed what the watermark in GRACE allows.
-use Rattle.std.proofs.Common.{◌≡◌, ℕ, ◌+◌, ◌≤◌, List, ◌++◌, length, drop, Bool, sym, ap, ◌∙◌, subst, arith, length-drop}
-use Rattle.std.proofs.lemmas.List.Elements.{All-append}
+use Rattle.std.proofs.Common.{◌≡◌, ℕ, ◌+◌, ◌<◌, ◌≤◌, List, [], ◌∷◌, ◌++◌, length, drop, All, Bool, refl, sym, ap, ◌∙◌, subst, arith}
+use Rattle.std.proofs.Common.{append-nil, append_assoc, length-drop, Option, Some, None}
+use Rattle.std.proofs.lemmas.List.Elements.{All-nil, All-cons, All-append}
 use Rattle.mv_history.specs.declared.Step.{Step}
 use Rattle.mv_layout.specs.declared.Config.{Config}
 use Rattle.mv_core.specs.declared.view.View.{View}
 use Rattle.seat_log.specs.declared.version.Note.{Note}
 use Rattle.seat_log.specs.Notes.{Noted, IsNoteAt}
+use Rattle.seat_log.specs.Frees.{OldestIsDead, freed_noted}
 use Rattle.log_reclaim.specs.declared.settling.Found.{Found}
 use Rattle.log_reclaim.specs.declared.rounds.Scanned.{Scanned}
-use Rattle.log_reclaim.specs.Parts.{LeavesClock, DiesFrom, Shrinks, HasScanned}
+use Rattle.log_reclaim.specs.Parts.{BeginsNoScan, LeavesClock, DiesFrom, Shrinks, HasScanned, grace_load}
 use Rattle.log_reclaim.specs.Untimed.{DatedSo}
 use Rattle.log_reclaim.specs.Tries.{Makes}
 use Rattle.log_reclaim.specs.Sweeps.{found_at, Sweeps, SweepsAll}
-use Rattle.log_reclaim.specs.Rounds.{FreesAll}
+use Rattle.log_reclaim.specs.Rounds.{FreesAll, FreesFirst, FreesBeforeScan}
+use Rattle.log_reclaim.proofs.FreedAll.{free_kind}
 use Rattle.log_reclaim.proofs.Reclaiming.{reclaims_on, makes_on, reclaims_number, reclaims_base, reclaims_more}
 use Rattle.log_reclaim.proofs.Composed.{shrinks_then}
 use Rattle.log_reclaim.proofs.Untimed.{untimed_then, dated_then}
@@ -41,6 +44,65 @@ module _ (v w : View) (l m : Noted) (made : List Step) (t freed : ℕ) (k : Free
           rests = sym (ap (λ (y : Noted). y.rests) k.log) i;
         });
   }
+
+-- a round that began with them
+module _ (c : Config) (v w : View) (l m : Noted) (made : List Step) (t freed : ℕ) (k : FreesAll v w l m made t freed) where
+  pub frees_first : (rest : List Step) → (length m.live ≡ 0 → All (λ s. BeginsNoScan s.kind) rest)
+      → FreesFirst c l ((grace_load c t ∷ []) ++ made ++ rest)
+  frees_first rest none =
+      let long = k.long in
+      let all = frees_long v w l m made t freed k in record {
+        time = t;
+        frees = made;
+        rest = rest;
+        made_is = refl;
+        kinds = k.kinds;
+        few = omega arith;
+        kept = λ lt dead. k.kept (omega arith)
+            (subst (λ (x : Noted). OldestIsDead x t) (ap (freed_noted l) k.long ∙ sym k.log) dead);
+        empty = λ e. none (omega arith);
+      }
+
+  -- and was no more
+  pub frees_only : FreesFirst c l ((grace_load c t ∷ []) ++ made)
+  frees_only =
+      subst (FreesFirst c l) (append-nil ((grace_load c t ∷ []) ++ made)) (frees_first [] (λ e. All-nil (λ (s : Step). BeginsNoScan s.kind)))
+
+  -- or scanned what they left
+  pub frees_then : (rest : List Step) (scanned : Scanned) → 0 < length m.live
+      → FreesBeforeScan c l ((grace_load c t ∷ []) ++ made ++ rest) (Some scanned)
+  unfolding frees_first
+  frees_then rest scanned some =
+      let long = k.long in
+      let all = frees_long v w l m made t freed k in
+      (frees_first rest (λ e. absurd (omega arith)), (let lt : length made < length l.live = omega arith in lt))
+
+-- it holds of more steps, where they begin no scan if the first frees left nothing
+pub frees_longer : (c : Config) (l : Noted) (made more : List Step) (f : FreesFirst c l made)
+    → (length f.frees ≡ length l.live → All (λ s. BeginsNoScan s.kind) more) → FreesFirst c l (made ++ more)
+frees_longer c l made more f none = record {
+  time = f.time;
+  frees = f.frees;
+  rest = f.rest ++ more;
+  made_is = ap (λ (s : List Step). s ++ more) f.made_is ∙ append_assoc (grace_load c f.time ∷ f.frees) f.rest more;
+  kinds = f.kinds;
+  few = f.few;
+  kept = f.kept;
+  empty = λ e. All-append (λ (s : Step). BeginsNoScan s.kind) f.rest more (f.empty e) (none e);
+}
+
+-- a round of an empty log begins no scan
+pub empty_unscanned : (c : Config) (l : Noted) (made : List Step) → length l.live ≡ 0 → FreesFirst c l made → All (λ s. BeginsNoScan s.kind) made
+empty_unscanned c l made empty f =
+    let few = f.few in
+    subst (All (λ (s : Step). BeginsNoScan s.kind)) (sym f.made_is)
+    (All-append (λ (s : Step). BeginsNoScan s.kind) (grace_load c f.time ∷ f.frees) f.rest
+    (All-cons (λ (s : Step). BeginsNoScan s.kind) (grace_load c f.time) f.frees tt (free_kind BeginsNoScan tt f.frees f.kinds)) (f.empty (omega arith)))
+
+-- whatever a round scanned, it freed first
+pub freed_first : (c : Config) (l : Noted) (made : List Step) (scanned : Option Scanned) → FreesBeforeScan c l made scanned → FreesFirst c l made
+freed_first c l made None f = f
+freed_first c l made (Some scanned) f = f.0
 
 -- the frees left nothing
 pub sweeps_all : (c : Config) (v g w : View) (l m : Noted) (one made : List Step) (t freed : ℕ) → Makes v g one → FreesAll g w l m made t freed

@@ -1,6 +1,6 @@
 -- Freeing the oldest write set, one after another.
 use Rattle.std.proofs.Common.{◌≡◌, ℕ, zero, suc, ◌+◌, ◌<◌, ◌≤◌, List, [], ◌∷◌, ◌++◌, length, drop, All, refl, sym, ap}
-use Rattle.std.proofs.Common.{◌∙◌, subst, ⊎_elim, arith, append-nil, append_assoc, length-drop, Some, None}
+use Rattle.std.proofs.Common.{◌∙◌, subst, ⊎_elim, arith, append-nil, append_assoc, length-append, length-drop, Some, None}
 use Rattle.std.proofs.lemmas.List.Elements.{All-nil, All-push, All-append, All-weaker}
 use Rattle.mv_history.specs.declared.Step.{Step}
 use Rattle.mv_history.specs.declared.StepKind.{StepKind}
@@ -31,14 +31,15 @@ drops (suc a) (suc b) [] = ap (λ k. drop k []) (let e : suc (a + suc b) ≡ suc
 drops (suc a) b (n ∷ ns) = drops a b ns ∙ ap (λ k. drop k (n ∷ ns)) (let e : suc (a + b) ≡ suc a + b = omega arith in e)
 
 -- the frees of one set: of the view nothing changes but the log and the trail, which is longer by these steps
-record FreesSlots (v w : View) (steps : List Step) : Type 0 where
+record FreesSlots (v w : View) (steps : List Step) (count : ℕ) : Type 0 where
   view : w ≡ record v { ring = w.ring; trail = w.trail }
   trail : w.trail ≡ v.trail ++ steps
   kinds : All (λ s. s.kind ≡ StoreFree) steps
+  long : length steps ≡ count
 
-slots_view : (c : Config) (v : View) (p k : ℕ) → (steps : List Step) × FreesSlots v (slots_freed c v p k) steps
+slots_view : (c : Config) (v : View) (p k : ℕ) → (steps : List Step) × FreesSlots v (slots_freed c v p k) steps k
 unfolding slots_freed
-slots_view c v p zero = ([], record { view = refl; trail = sym (append-nil v.trail); kinds = All-nil (λ s. s.kind ≡ StoreFree) })
+slots_view c v p zero = ([], record { view = refl; trail = sym (append-nil v.trail); kinds = All-nil (λ s. s.kind ≡ StoreFree); long = refl })
 slots_view c v p (suc k) =
     let a = slots_view c v p k in
     let u : View = slots_freed c v p k in
@@ -49,15 +50,17 @@ slots_view c v p (suc k) =
         view = ap (λ (x : View). record x { ring = w.ring; trail = w.trail }) a.1.view;
         trail = ap (λ l. l ++ step ∷ []) a.1.trail ∙ append_assoc v.trail a.0 (step ∷ []);
         kinds = All-push (λ (s : Step). s.kind ≡ StoreFree) a.0 step a.1.kinds refl;
+        long = (let e = length-append a.0 (step ∷ []) in let few = a.1.long in omega arith);
       },
     )
 
 -- a free of a slot is a step of reclaiming, begins no scan, and is no exchange on CLOCK
-free_kind : (P : StepKind → Type 0) → P StoreFree → (steps : List Step) → All (λ s. s.kind ≡ StoreFree) steps → All (λ (s : Step). P s.kind) steps
+pub free_kind : (P : StepKind → Type 0) → P StoreFree → (steps : List Step) → All (λ s. s.kind ≡ StoreFree) steps → All (λ (s : Step). P s.kind) steps
 free_kind P p steps = All-weaker (λ (s : Step). s.kind ≡ StoreFree) (λ (s : Step). P s.kind) (λ s e. subst P (sym e) p) steps
 
-frees_makes : (v w : View) (steps : List Step) → MayLoadLow v → (v.walk ≡ Nowhere) × (v.back ≡ None) → FreesSlots v w steps → Makes v w steps
-frees_makes v w steps may still k =
+frees_makes : (v w : View) (steps : List Step) (count : ℕ) → MayLoadLow v → (v.walk ≡ Nowhere) × (v.back ≡ None) → FreesSlots v w steps count
+    → Makes v w steps
+frees_makes v w steps count may still k =
     let e = k.view in record {
       reclaims = reclaims_outside v w steps may still
           (ap (λ (x : View). record x { past = w.past; clocks = w.clocks; empty = w.empty; ring = w.ring; grace = w.grace; trail = w.trail }) e)
@@ -74,6 +77,7 @@ frees_makes v w steps may still k =
 pub record FreesSome (v w : View) (l m : Noted) (made : List Step) (freed : ℕ) : Type 0 where
   pub makes : Makes v w made
   pub kinds : All (λ s. s.kind ≡ StoreFree) made
+  pub long : length made ≡ freed
   pub view : w ≡ record v { ring = w.ring; trail = w.trail }
   pub few : freed ≤ length l.live
   pub log : m ≡ freed_noted l freed
@@ -82,6 +86,7 @@ pub frees_none : (v : View) (l : Noted) → MayLoadLow v → (v.walk ≡ Nowhere
 frees_none v l may still = record {
   makes = makes_none v may still;
   kinds = All-nil (λ s. s.kind ≡ StoreFree);
+  long = refl;
   view = refl;
   few = omega arith;
   log = λ i. record l { freed = (let e : l.freed ≡ l.freed + 0 = omega arith in e) i };
@@ -99,14 +104,15 @@ module _ (c : Config) (v w : View) (l m : Noted) (made : List Step) (freed : ℕ
       → (more : List Step) × FreesSome v u l n more (freed + count)
   frees_more u n view log =
       let a = slots_view c w m.freed count in
-      let one : FreesSlots w u a.0 = subst (λ (x : View). FreesSlots w x a.0) (sym view) a.1 in
-      let makes = frees_makes w u a.0 (reclaims_may v w made k.makes.reclaims) (reclaims_still v w made k.makes.reclaims) one in
+      let one : FreesSlots w u a.0 count = subst (λ (x : View). FreesSlots w x a.0 count) (sym view) a.1 in
+      let makes = frees_makes w u a.0 count (reclaims_may v w made k.makes.reclaims) (reclaims_still v w made k.makes.reclaims) one in
       let all = fewer in
       let some = few_freed m t count f in (
         made ++ a.0,
         record {
           makes = makes_on v w u made a.0 k.makes makes;
           kinds = All-append (λ (s : Step). s.kind ≡ StoreFree) made a.0 k.kinds one.kinds;
+          long = (let e = length-append made a.0 in let before = k.long in let more = one.long in omega arith);
           view = one.view ∙ ap (λ (x : View). record x { ring = u.ring; trail = u.trail }) k.view;
           few = omega arith;
           log = log
@@ -139,6 +145,7 @@ frees_end c v w l m made freed t count k log f none u n view is =
       record {
         makes = a.1.makes;
         kinds = a.1.kinds;
+        long = a.1.long ∙ all;
         view = a.1.view;
         few = omega arith;
         log = subst (λ (x : ℕ). n ≡ freed_noted l x) all a.1.log;

@@ -1,13 +1,11 @@
 -- What a scan, and a load of GRACE, leave of a pass that reclaims.
-use Rattle.std.proofs.Common.{◌≡◌, ℕ, ◌+◌, ◌≤◌, max, List, [], ◌∷◌, ◌++◌, length, All, refl, sym, ap, ◌∙◌, subst, arith, append-nil, Some, None}
+use Rattle.std.proofs.Common.{◌≡◌, ℕ, ◌+◌, ◌≤◌, max, List, [], ◌∷◌, ◌++◌, length, All, refl, sym, ap, ◌∙◌, subst, arith, append-nil, None}
 use Rattle.std.proofs.lemmas.List.Elements.{All-nil, All-cons}
 use Rattle.mv_history.specs.declared.Entry.{Entry}
 use Rattle.mv_history.specs.declared.Step.{Step}
 use Rattle.mv_history.specs.declared.StepKind.{StepKind}
-use Rattle.mv_history.specs.declared.StepKind.TheVariants.{LoadScan, LoadMark, LoadGrace, RaiseGrace}
+use Rattle.mv_history.specs.declared.StepKind.TheVariants.{LoadScan, LoadMark, RaiseGrace}
 use Rattle.mv_layout.specs.declared.Config.{Config}
-use Rattle.mv_layout.specs.declared.Place.TheVariants.{Grace}
-use Rattle.mv_layout.specs.Places.{place_of}
 use Rattle.mv_core.specs.declared.view.View.{View}
 use Rattle.mv_core.specs.declared.view.Walk.TheVariants.{Nowhere}
 use Rattle.mv_core.specs.EnterSteps.{MayLoadLow}
@@ -18,15 +16,11 @@ use Rattle.reader_marks.specs.Scans.{Scans, scan_step, grace_step, mark_steps, s
 use Rattle.seat_log.specs.Notes.{Noted}
 use Rattle.seat_log.specs.Stands.{Stands}
 use Rattle.seat_log.proofs.PlainSteps.{LeavesLog, stands_left}
-use Rattle.log_reclaim.specs.Parts.{NamesNoCommit, BeginsNoScan, LeavesClock, IsOtherKind, Reclaims, HasScanned}
+use Rattle.log_reclaim.specs.Parts.{NamesNoCommit, BeginsNoScan, LeavesClock, IsOtherKind, Reclaims, HasScanned, grace_load}
 use Rattle.log_reclaim.specs.Tries.{Makes}
 use Rattle.mv_core.proofs.history.Fronts.{begins_long}
 use Rattle.log_reclaim.proofs.Reclaiming.{reclaims_outside}
 use Rattle.log_reclaim.proofs.ScanCauses.{after_clock_all}
-
--- a load of GRACE
-abbrev pub grace_load : Config → ℕ → Step
-grace_load c found = record { kind = LoadGrace; word = place_of c Grace; found = Some found; stored = None }
 
 one_kind : (P : StepKind → Type 0) (s : Step) → P s.kind → All (λ (x : Step). P x.kind) (s ∷ [])
 one_kind P s p = All-cons (λ (x : Step). P x.kind) s [] p (All-nil (λ (x : Step). P x.kind))

@@ -1,6 +1,6 @@
 -- A round with write-backs, one try of a rest unless the log is empty, and a round without: what they leave together.
 use Rattle.std.proofs.Common.{◌≡◌, ◌⊎◌, ℕ, ◌+◌, ◌<◌, ◌≤◌, Bool, true, false, List, [], ◌∷◌, ◌++◌, length, refl}
-use Rattle.std.proofs.Common.{sym, ap, ◌∙◌, subst, inl, inr, arith, slice_get, Option, Some, None}
+use Rattle.std.proofs.Common.{sym, ap, ◌∙◌, subst, inl, inr, ⊎_elim, arith, append_assoc, slice_get, Option, Some, None}
 use Rattle.mv_history.specs.State.{State, Writes}
 use Rattle.mv_history.specs.Trail.{clock_exchanges}
 use Rattle.mv_history.specs.declared.Step.{Step}
@@ -15,10 +15,11 @@ use Rattle.log_reclaim.specs.declared.rounds.Scanned.{Scanned}
 use Rattle.log_reclaim.specs.Parts.{Reclaims, Shrinks}
 use Rattle.log_reclaim.specs.Sweeps.{SweepsAll, SweepsSo}
 use Rattle.log_reclaim.specs.Holders.{TidyHolds, HeldSo}
-use Rattle.log_reclaim.specs.Rounds.{IsHolder, SweptSo}
-use Rattle.log_reclaim.specs.Tidies.{RestsSo, WritesBackSo}
+use Rattle.log_reclaim.specs.Rounds.{FreesFirst, FreesBeforeScan, IsHolder, SweptSo}
+use Rattle.log_reclaim.specs.Tidies.{RestsOnce, RestsSo, WritesBackSo}
 use Rattle.log_reclaim.proofs.Reclaiming.{reclaims_on}
 use Rattle.log_reclaim.proofs.Composed.{shrinks_then}
+use Rattle.log_reclaim.proofs.FirstFrees.{frees_longer, empty_unscanned, freed_first}
 use Rattle.log_reclaim.proofs.RoundCauses.{round_swept}
 use Rattle.log_reclaim.proofs.Swept.{swept_then}
 use Rattle.log_reclaim.proofs.Exchanges.{none_exchanged, none_both, one_between}
@@ -83,6 +84,16 @@ module _ (c : Config) (v w : View) (l m : Noted) (made : List Step) (back : Bool
   swept_of starts allows None k = inl k.empty
   swept_of starts allows (Some scanned) k = round_swept starts allows c v w l m made back scanned found freed k
 
+-- each of the two rounds leaves the rests as they were, and between them is at most one
+rests_of : (c : Config) (v w : View) (l m : Noted) (made : List Step) (back : Bool) (found : Found) (freed : ℕ) (scanned : Option Scanned)
+    → SweepsSo c v w l m made back found freed scanned → w.past.rests ≡ v.past.rests
+rests_of c v w l m made back found freed None k = k.rests
+rests_of c v w l m made back found freed (Some scanned) k = k.rests
+
+rests_between : (c : Config) (u x : View) (l m : Noted) (first : Option Scanned) → Between c u x l m first → RestsOnce u x
+rests_between c u x l m None b = inl (ap (λ (z : View). z.past.rests) b.0)
+rests_between c u x l m (Some first) b = b.1.once
+
 -- a rest changes of the log only the count of rests
 rests_alone : (c : Config) (u x : View) (l m : Noted) (first : Option Scanned) → Between c u x l m first → m ≡ record l { rests = m.rests }
 rests_alone c u x l m None b = b.1 ∙ ap (λ (r : ℕ). record l { rests = r }) (sym (ap (λ (q : Noted). q.rests) b.1))
@@ -99,6 +110,12 @@ shrinks_rested l m o more is k =
 
 module _ (c : Config) (v u x w : View) (k l m o : Noted) (made later : List Step) (found unused : Found) (freed more : ℕ) (first last : Option Scanned)
     (sweep : SweepsSo c v u k l made true found freed first) (between : Between c u x l m first) (again : SweepsSo c x w m o later false unused more last) where
+  pub tidy_rests : RestsOnce v w
+  tidy_rests =
+      let before = rests_of c v u k l made true found freed first sweep in
+      let after = rests_of c x w m o later false unused more last again in
+      ⊎_elim (λ same. inl (after ∙ same ∙ before)) (λ one. inr (after ∙ one ∙ ap (λ (n : ℕ). n + 1) before)) (rests_between c u x l m first between)
+
   pub tidy_shrinks : Shrinks k o (freed + more)
   tidy_shrinks =
       shrinks_then k l o freed more (shrinks_of c v u k l made true found freed first sweep)
@@ -119,11 +136,19 @@ module _ (starts : State → Type 0) (allows : List ℕ → State → Writes →
   none_held : (held : Option Holder) (causes : Holder → Type 0) → held ≡ None → length o.live ≡ 0 → HeldSo causes o held
   none_held held causes none empty = subst (HeldSo causes o) (sym none) empty
 
+  -- a tidy whose first round scanned had left something by its first frees
+  frees_scanned : (first : Scanned) (rested : List Step) → FreesBeforeScan c k made (Some first) → FreesFirst c k (made ++ rested ++ later)
+  frees_scanned first rested one =
+      let some = one.1 in
+      subst (FreesFirst c k) (sym (append_assoc made rested later)) (frees_longer c k made (rested ++ later) one.0 (λ e. absurd (omega arith)))
+
   pub tidied : (first last : Option Scanned) → SweepsSo c v u k l made true found freed first → Between c u x l m first
-      → SweepsSo c x w m o later false unused more last → (held : Option Holder) → HeldBy o first last found held
+      → SweepsSo c x w m o later false unused more last → FreesBeforeScan c k made first → FreesBeforeScan c m later last
+      → (held : Option Holder) → HeldBy o first last found held
       → (steps : List Step) × Reclaims v w steps × SweptSo c w o steps false × HeldSo (TidyHolds c w o steps) o held × (length (clock_exchanges steps) ≤ 1)
-      × WritesBackSo c w o steps
-  tidied None last sweep between again held by =
+      × WritesBackSo c w o steps × FreesFirst c k steps
+  tidied None last sweep between again one two held by =
+      let gone : length m.live ≡ 0 = ap (λ (q : Noted). length q.live) between.1 ∙ sweep.empty in
       let r = reclaims_of c x w m o later false unused more last again in
       let empty = still_empty sweep between.1 last again in (
         made ++ later,
@@ -132,8 +157,9 @@ module _ (starts : State → Type 0) (allows : List ℕ → State → Writes →
         none_held held (TidyHolds c w o (made ++ later)) by empty,
         none_both made later (none_exchanged made sweep.leaves) (none_of c x w m o later false unused more last again),
         inl empty,
+        frees_longer c k made later one (λ e. empty_unscanned c m later gone (freed_first c m later last two)),
       )
-  tidied (Some first) None sweep between again held by =
+  tidied (Some first) None sweep between again one two held by =
       let steps : List Step = made ++ between.0 ++ later in (
         steps,
         reclaims_on v x w (made ++ between.0) later (reclaims_on v u x made between.0 sweep.reclaims between.1.reclaims) again.reclaims,
@@ -141,8 +167,9 @@ module _ (starts : State → Type 0) (allows : List ℕ → State → Writes →
         none_held held (TidyHolds c w o steps) by again.empty,
         one_between made between.0 later (none_exchanged made sweep.leaves) between.1.few (none_exchanged later again.leaves),
         inl again.empty,
+        frees_scanned first between.0 one,
       )
-  tidied (Some first) (Some last) sweep between again held by =
+  tidied (Some first) (Some last) sweep between again one two held by =
       let steps : List Step = made ++ between.0 ++ later in (
         steps,
         reclaims_on v x w (made ++ between.0) later (reclaims_on v u x made between.0 sweep.reclaims between.1.reclaims) again.reclaims,
@@ -152,6 +179,7 @@ module _ (starts : State → Type 0) (allows : List ℕ → State → Writes →
         one_between made between.0 later (none_exchanged made sweep.leaves) between.1.few (none_exchanged later again.leaves),
         inr (tidy_tried starts allows c v u x w k l m o made between.0 later first last found unused freed more sweep between.1 again stands between.2
             stands_w known known_x known_w),
+        frees_scanned first between.0 one,
       )
 
   pub tidy_alone : (first last : Option Scanned) → SweepsSo c v u k l made true found freed first → Between c u x l m first

@@ -2,9 +2,9 @@
 use Rattle.std.specs.Prelude.{◌≡◌, ◌≢◌, ℕ, ◌+◌, ◌<◌, ◌≤◌, max, false, List, ◌∷◌, ◌++◌, length, Contains, All, Some, None}
 use Rattle.mv_history.specs.declared.Step.{Step}
 use Rattle.mv_history.specs.declared.StepKind.{StepKind}
-use Rattle.mv_history.specs.declared.StepKind.TheVariants.{LoadScan, LoadHead, CutHead, LoadSuper, LoadDeath, NameCommit, NameRest}
+use Rattle.mv_history.specs.declared.StepKind.TheVariants.{LoadScan, LoadGrace, LoadHead, CutHead, LoadSuper, LoadDeath, NameCommit, NameRest}
 use Rattle.mv_layout.specs.declared.Config.{Config}
-use Rattle.mv_layout.specs.declared.Place.TheVariants.{Head, Super}
+use Rattle.mv_layout.specs.declared.Place.TheVariants.{Grace, Head, Super}
 use Rattle.mv_layout.specs.Places.{place_of}
 use Rattle.mv_layout.specs.Words.{clock_time_of, link_seat_of}
 use Rattle.mv_core.specs.declared.view.View.{View}
@@ -74,6 +74,10 @@ pub record Shrinks (l m : Noted) (freed : ℕ) : Type 0 where
   pub few : length m.live + freed ≡ length l.live
   pub notes : (i : ℕ) (n : Note) → IsNoteAt m i n → (old : Note) × IsNoteAt l (i + freed) old × DiesFrom old n
   pub rest : m ≡ record l { live = m.live; freed = l.freed + freed; back = m.back; rests = m.rests }
+
+-- a load of GRACE found this time
+abbrev pub grace_load : Config → ℕ → Step
+grace_load c found = record { kind = LoadGrace; word = place_of c Grace; found = Some found; stored = None }
 
 -- a load of SUPER of the version of this note found 0
 abbrev pub super_step : Config → ℕ → Note → Step

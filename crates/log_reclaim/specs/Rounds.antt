@@ -1,5 +1,5 @@
 -- The parts of a round, and what it leaves of each version.
-use Rattle.std.specs.Prelude.{◌≡◌, ◌⊎◌, ℕ, ◌<◌, ◌≤◌, Bool, if◌then◌else◌, nat_lt, List, length, All, Option, Some, None}
+use Rattle.std.specs.Prelude.{◌≡◌, ◌⊎◌, ℕ, ◌<◌, ◌≤◌, Bool, if◌then◌else◌, nat_lt, List, ◌∷◌, ◌++◌, length, All, Option, Some, None}
 use Rattle.mv_history.specs.declared.answers.Holder.{Holder}
 use Rattle.mv_history.specs.declared.answers.Holder.TheVariants.{Mark, Above, Fresh, End}
 use Rattle.mv_history.specs.declared.Step.{Step}
@@ -13,7 +13,7 @@ use Rattle.seat_log.specs.Frees.{OldestIsDead, IsDeadNote, freed_noted}
 use Rattle.log_reclaim.specs.declared.settling.Found.{Found}
 use Rattle.log_reclaim.specs.declared.rounds.Scanned.{Scanned}
 use Rattle.log_reclaim.specs.Sweeps.{found_at}
-use Rattle.log_reclaim.specs.Parts.{HasScanned}
+use Rattle.log_reclaim.specs.Parts.{HasScanned, BeginsNoScan, grace_load}
 use Rattle.log_reclaim.specs.Tries.{Makes}
 use Rattle.log_reclaim.specs.Untimed.{StaysUntimed}
 
@@ -22,10 +22,28 @@ use Rattle.log_reclaim.specs.Untimed.{StaysUntimed}
 pub record FreesAll (v w : View) (l m : Noted) (made : List Step) (time freed : ℕ) : Type 0 where
   pub makes : Makes v w made
   pub kinds : All (λ s. s.kind ≡ StoreFree) made
+  pub long : length made ≡ freed
   pub view : w ≡ record v { ring = w.ring; trail = w.trail }
   pub few : freed ≤ length l.live
   pub log : m ≡ freed_noted l freed
   pub kept : 0 < length m.live → OldestIsDead m time → ⊥
+
+-- A round's steps begin with a load of GRACE and the frees that the time found there allows, one step for each slot: the oldest write
+-- set that these leave isn't dead by that time. Where they leave nothing, no step begins a scan.
+pub record FreesFirst (c : Config) (l : Noted) (made : List Step) : Type 0 where
+  pub time : ℕ
+  pub frees : List Step
+  pub rest : List Step
+  pub made_is : made ≡ (grace_load c time ∷ frees) ++ rest
+  pub kinds : All (λ s. s.kind ≡ StoreFree) frees
+  pub few : length frees ≤ length l.live
+  pub kept : length frees < length l.live → OldestIsDead (freed_noted l (length frees)) time → ⊥
+  pub empty : length frees ≡ length l.live → All (λ s. BeginsNoScan s.kind) rest
+
+-- the same, where a scan comes only after frees that left something
+abbrev pub FreesBeforeScan : Config → Noted → List Step → Option Scanned → Type 0
+FreesBeforeScan c l made None = FreesFirst c l made
+FreesBeforeScan c l made (Some scanned) = (first : FreesFirst c l made) × (length first.frees < length l.live)
 
 -- the first version of the oldest write set that isn't dead by this time; where there is none, the set is dead by it
 abbrev pub IsDue : Noted → ℕ → Option Note → Type 0

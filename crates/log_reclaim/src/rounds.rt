@@ -13,7 +13,7 @@ ghost use Rattle.log_reclaim.specs.Parts.{Reclaims, Shrinks};
 ghost use Rattle.log_reclaim.specs.Tries.{Makes};
 ghost use Rattle.log_reclaim.specs.Sweeps.{HasEntries, Sweeps, SweepsSo};
 ghost use Rattle.log_reclaim.specs.Holders.{RoundHolds, HeldSo};
-ghost use Rattle.log_reclaim.specs.Rounds.{FreesAll, IsDue, by_mark_of, IsHolder, SweptSo};
+ghost use Rattle.log_reclaim.specs.Rounds.{FreesAll, FreesFirst, FreesBeforeScan, IsDue, by_mark_of, IsHolder, SweptSo};
 
 use crate::settling::{Found, settle_all};
 use mv_core::{Pass, Shared, Steps};
@@ -115,7 +115,8 @@ pub(crate) fn sweep<P: Protocol, L: Ledger>(
     requires stands { Stands (config_of shared.now) (view pass.old) log.old }
     ensures same { IsSame pass.old pass.new }
     ensures stands { Stands (config_of shared.now) (view pass.new) log.new }
-    ensures sweeps { (made : List Step) × SweepsSo (config_of shared.now) (view pass.old) (view pass.new) log.old log.new made back found.new result.0 result.1 }
+    ensures sweeps { (made : List Step) × SweepsSo (config_of shared.now) (view pass.old) (view pass.new) log.old log.new made back found.new result.0 result.1
+        × FreesBeforeScan (config_of shared.now) log.old made result.1 }
     ensures kept { result.1 ≡ None → found.new ≡ found.old }
     ensures cost { steps.new ≤ steps.old + (4 + (config_of shared.now).seats + 19 * length log.old.live) }
 {
@@ -197,6 +198,9 @@ pub(crate) fn holder(
 /// whose time isn't above the watermark and that HEAD names; and it frees from the oldest write set on
 /// what is dead by the watermark.
 ///
+/// The first step is the load of GRACE, and the frees that it allows are the next; where they leave
+/// nothing, no step begins a scan.
+///
 /// No commit and no rest is made or tried: no step is an exchange on CLOCK. The seat's commits and
 /// rests are as before. `held` is None exactly
 /// where the log is empty afterwards. Else the oldest write set isn't dead by the scan's watermark, and
@@ -229,7 +233,8 @@ pub fn round<P: Protocol, L: Ledger>(
     ensures rests { (view pass.new).past.rests ≡ (view pass.old).past.rests }
     ensures reclaims { (made : List Step) × Reclaims (view pass.old) (view pass.new) made
         × SweptSo (config_of shared.now) (view pass.new) log.new made back
-        × HeldSo (RoundHolds (config_of shared.now) (view pass.new) log.new made back) log.new result.held × (clock_exchanges made ≡ []) }
+        × HeldSo (RoundHolds (config_of shared.now) (view pass.new) log.new made back) log.new result.held × (clock_exchanges made ≡ [])
+        × FreesFirst (config_of shared.now) log.old made }
     ensures cost { steps.new ≤ steps.old + (4 + (config_of shared.now).seats + 20 * (config_of shared.now).slots) }
 {
     let mut found = Found::new(0);

@@ -7,7 +7,7 @@ ghost use Rattle.mv_core.specs.Passes.{view, IsOf, IsSame, config_of};
 ghost use Rattle.seat_log.specs.Stands.{Stands};
 ghost use Rattle.log_reclaim.specs.Parts.{Reclaims, Shrinks};
 ghost use Rattle.log_reclaim.specs.Holders.{TidyHolds, HeldSo};
-ghost use Rattle.log_reclaim.specs.Rounds.{SweptSo};
+ghost use Rattle.log_reclaim.specs.Rounds.{FreesFirst, SweptSo};
 ghost use Rattle.log_reclaim.specs.Tidies.{IsAnyAbove, RestsSo, RestsOnce, WritesBackSo};
 
 use crate::rounds::{Tidy, holder, sweep};
@@ -66,6 +66,9 @@ fn rest_if_due<P: Protocol, L: Ledger>(
 /// from a time above the clock, and the last time isn't reached, one try of a rest, which moves the
 /// clock on; and a round without write-backs. The pass is outside a section, with no scan running.
 ///
+/// The first step is the load of GRACE, and the frees that it allows are the next; where they leave
+/// nothing, no step begins a scan.
+///
 /// No commit is made or tried, and the seat's commits are as before. At most one step is an exchange on
 /// CLOCK, won or lost; at most one rest is made, which is counted.
 ///
@@ -106,7 +109,7 @@ pub fn tidy<P: Protocol, L: Ledger>(
     ensures reclaims { (made : List Step) × Reclaims (view pass.old) (view pass.new) made
         × SweptSo (config_of shared.now) (view pass.new) log.new made false
         × HeldSo (TidyHolds (config_of shared.now) (view pass.new) log.new made) log.new result.held × (length (clock_exchanges made) ≤ 1)
-        × WritesBackSo (config_of shared.now) (view pass.new) log.new made }
+        × WritesBackSo (config_of shared.now) (view pass.new) log.new made × FreesFirst (config_of shared.now) log.old made }
     ensures alone { (config_of shared.now).seats ≡ 1 → (view pass.old).base + length (view pass.old).past.seen < 35184372088831 → log.new.live ≡ [] }
     ensures cost { steps.new ≤ steps.old + (2 * (4 + (config_of shared.now).seats + 20 * (config_of shared.now).slots) + 8) }
 {

@@ -3,7 +3,8 @@ use Rattle.mv_history.specs.declared.answers.Holder.{Holder}
 use Rattle.mv_core.specs.Passes.{view, config_of}
 use Rattle.log_reclaim.specs.declared.rounds.Scanned.{Scanned}
 use Rattle.log_reclaim.specs.Sweeps.{SweepsSo}
-use Rattle.log_reclaim.specs.Rounds.{IsHolder}
+use Rattle.log_reclaim.specs.Rounds.{FreesFirst, IsHolder}
+use Rattle.log_reclaim.proofs.FirstFrees.{freed_first}
 use Rattle.log_reclaim.proofs.RoundCauses.{round_scanned, round_emptied}
 use Rattle.log_reclaim.proofs.rounds.round.Goals.{in-Some, in-None}
 use Rattle.log_reclaim.proofs.rounds.round.Goals as goal
@@ -16,6 +17,11 @@ left g c scanned is =
     subst (λ (o : Option Scanned). SweepsSo (config_of c.args.shared.now) (view c.args.pass.now) (view c.sweep-freed.new.pass) c.args.log.now
     c.sweep-freed.new.log c.sweep-freed.ensures.sweeps.0 c.args.back c.sweep-freed.new.found c.sweep-freed.result.0 o) is c.sweep-freed.ensures.sweeps.1
 
+-- and what it freed first
+frees : (g : _) (c : goal.After-live g) → FreesFirst (config_of c.args.shared.now) c.args.log.now c.sweep-freed.ensures.sweeps.0
+frees g c =
+    freed_first (config_of c.args.shared.now) c.args.log.now c.sweep-freed.ensures.sweeps.0 c.sweep-freed.result.1 c.sweep-freed.ensures.sweeps.2
+
 pub returns-clause-reclaims : goal.returns-clause-reclaims
 returns-clause-reclaims g c =
     let s = c.sweep-freed in
@@ -26,9 +32,9 @@ returns-clause-reclaims g c =
           let r = round_scanned _ _ (config_of c.args.shared.now) (view c.args.pass.now) (view s.new.pass) c.args.log.now s.new.log s.ensures.sweeps.0
           c.args.back scanned s.new.found s.result.0 (left g c _ w.in-Some.is) c.requires.stands s.ensures.stands c.args.pass.now.known s.new.pass.known
           c.match-scanned.held holds in
-          (s.ensures.sweeps.0, r.0, r.1, r.2, r.3)
+          (s.ensures.sweeps.0, r.0, r.1, r.2, r.3, frees g c)
       | in-None w ↦ let r =
           round_emptied (config_of c.args.shared.now) (view c.args.pass.now) (view s.new.pass) c.args.log.now s.new.log s.ensures.sweeps.0 c.args.back
           s.result.0 (left g c None w.in-None.is) c.match-scanned.held w.held-is in
-          (s.ensures.sweeps.0, r.0, r.1, r.2, r.3)
+          (s.ensures.sweeps.0, r.0, r.1, r.2, r.3, frees g c)
     ]

@@ -40,6 +40,10 @@ exchanges_both : (made more : List Step) → length (clock_exchanges (made ++ mo
 exchanges_both made more =
     ap length (filter-append (λ (s : Step). is_clock_exchange s.kind) made more) ∙ length-append (clock_exchanges made) (clock_exchanges more)
 
+-- none in two parts is none in both
+pub none_in_both : (made more : List Step) → clock_exchanges made ≡ [] → clock_exchanges more ≡ [] → clock_exchanges (made ++ more) ≡ []
+none_in_both made more a b = filter-append (λ (s : Step). is_clock_exchange s.kind) made more ∙ (λ i. a i ++ b i)
+
 -- none in two parts
 pub none_both : (made more : List Step) → clock_exchanges made ≡ [] → clock_exchanges more ≡ [] → length (clock_exchanges (made ++ more)) ≤ 1
 none_both made more a b = let both = exchanges_both made more in let first = ap length a in let then = ap length b in omega arith

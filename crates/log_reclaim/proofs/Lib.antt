@@ -24,6 +24,7 @@ pub mod Others
 pub mod Swept
 pub mod TidyDeaths
 pub mod TidyCauses
+pub mod RestsDue
 pub mod Alone
 pub mod Tidied
 pub mod FirstFrees

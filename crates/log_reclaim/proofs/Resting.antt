@@ -1,5 +1,5 @@
 -- One try of a rest: the clock is loaded, its word is helped, and the next entry is named as a rest.
-use Rattle.std.proofs.Common.{◌≡◌, ◌⊎◌, ℕ, ◌+◌, ◌^◌, ◌<◌, ◌≤◌, false, List, [], ◌∷◌, ◌++◌, length, All}
+use Rattle.std.proofs.Common.{◌≡◌, ◌⊎◌, ℕ, ◌+◌, ◌^◌, ◌<◌, ◌≤◌, true, false, List, [], ◌∷◌, ◌++◌, length, All}
 use Rattle.std.proofs.Common.{refl, sym, ap, ◌∙◌, subst, inl, inr, ⊎_elim, arith, append-nil, append_assoc, length-append, Some, None}
 use Rattle.std.proofs.Math.Logic.{∥∥₁_elim}
 use Rattle.std.proofs.Math.Bridge.{le_prop}
@@ -106,6 +106,7 @@ module _ (v : View) (may : MayLoadLow v) (still : (v.walk ≡ Nowhere) × (v.bac
           reclaims = reclaims_listening v [] (listens_none v);
           kinds = All-nil (λ s. BeginsNoScan s.kind);
           few = (let e : 0 ≤ 1 = omega arith in e);
+          due = inl refl;
           once = inl refl;
           log = refl;
           dated = ⊎_elim (λ last. inr (inr (omega arith, refl))) inl why;
@@ -179,6 +180,7 @@ module _ (c : Config) (v x : View) (word : ℕ) (h0 : List Entry) (whole : IsWho
           reclaims = reclaims_listening v may still y steps listens_next;
           kinds = All-weaker (λ (s : Step). IsRestStep s.kind) (λ s. BeginsNoScan s.kind) (λ s. begins_none s.kind) steps listens_next.kinds;
           few = (let none = ap length none_next in let e : length (clock_exchanges steps) ≤ 1 = omega arith in e);
+          due = inl none_next;
           once = inl rests_next;
           log = refl;
           dated = inr (inr (omega arith, rests_next));
@@ -200,16 +202,17 @@ module _ (c : Config) (v x : View) (word : ℕ) (h0 : List Entry) (whole : IsWho
 
   module _ (w : View) (latest : ℕ) (within : latest ≤ v.base + length v.past.seen) (base : v.base ≡ c.base) where
     -- an exchange of CLOCK was made after that, by which more than up to `latest` was seen
-    rests_by : (step : Step) (l m : Noted) → IsRestStep step.kind → Listens y w (step ∷ [])
+    rests_by : (step : Step) (l m : Noted) → IsAnyAbove l latest true → IsRestStep step.kind → Listens y w (step ∷ [])
         → (w.past.rests ≡ y.past.rests) ⊎ (w.past.rests ≡ y.past.rests + 1) → m ≡ record l { rests = m.rests } → latest < w.base + length w.past.seen
         → (made : List Step) × RestsSo v w l m made latest
-    rests_by step l m kind more once log late =
+    rests_by step l m due kind more once log late =
         let all = listens_then v y w steps (step ∷ []) listens_next more in (
           steps ++ step ∷ [],
           record {
             reclaims = reclaims_listening v may still w (steps ++ step ∷ []) all;
             kinds = All-weaker (λ (s : Step). IsRestStep s.kind) (λ s. BeginsNoScan s.kind) (λ s. begins_none s.kind) (steps ++ step ∷ []) all.kinds;
             few = one_last steps step none_next;
+            due = inr due;
             once = ⊎_elim (λ e. inl (e ∙ rests_next)) (λ e. inr (e ∙ ap (λ n. n + 1) rests_next)) once;
             log = log;
             dated = inr (inl late);
@@ -219,9 +222,9 @@ module _ (c : Config) (v x : View) (word : ℕ) (h0 : List Entry) (whole : IsWho
     same_base : y.base ≡ v.base
     same_base = ap (λ (u : View). u.base) listens_next.rest
 
-    pub rests_done : (l m : Noted) (h : List Entry) → IsWhole c y word h → w ≡ rest_named c y word h → m ≡ rest_noted l
+    pub rests_done : (l m : Noted) (h : List Entry) → IsAnyAbove l latest true → IsWhole c y word h → w ≡ rest_named c y word h → m ≡ rest_noted l
         → (made : List Step) × RestsSo v w l m made latest
-    rests_done l m h now is_named noted =
+    rests_done l m h due now is_named noted =
         let step : Step = record { kind = NameRest; word = place_of c Clock; found = Some word; stored = Some (rest_word y word) } in
         let seen : w.past.seen ≡ h ++ Rest y.number ∷ [] = ap (λ (u : View). u.past.seen) is_named in
         let far : w.base ≡ y.base = ap (λ (u : View). u.base) is_named in
@@ -229,7 +232,7 @@ module _ (c : Config) (v x : View) (word : ℕ) (h0 : List Entry) (whole : IsWho
         let more = length-append h (Rest y.number ∷ []) in
         let long = begins_long h v.past.seen (begins_by h y.past.seen v.past.seen now.0 listens_next.seen) in
         let same = same_base in
-        rests_by step l m tt
+        rests_by step l m due tt
         (record {
           seen = begins_by w.past.seen h y.past.seen (Rest y.number ∷ [], seen) now.0;
           mine = ap (λ (u : View). u.past.mine) is_named;
@@ -246,9 +249,9 @@ module _ (c : Config) (v x : View) (word : ℕ) (h0 : List Entry) (whole : IsWho
         (noted ∙ ap (λ (n : ℕ). record l { rests = n }) (sym (ap (λ (k : Noted). k.rests) noted)))
         (omega arith)
 
-    pub rests_lost : (l : Noted) (found : ℕ) (h : List Entry) (rival : Rival) → IsLost c y word found rival h → w ≡ rest_lost c y found h
-        → (made : List Step) × RestsSo v w l l made latest
-    rests_lost l found h rival lost is_lost =
+    pub rests_lost : (l : Noted) (found : ℕ) (h : List Entry) (rival : Rival) → IsAnyAbove l latest true → IsLost c y word found rival h
+        → w ≡ rest_lost c y found h → (made : List Step) × RestsSo v w l l made latest
+    rests_lost l found h rival due lost is_lost =
         let step : Step = record { kind = NameRest; word = place_of c Clock; found = Some found; stored = None } in
         let seen : w.past.seen ≡ h = ap (λ (u : View). u.past.seen) is_lost in
         let far : w.base ≡ y.base = ap (λ (u : View). u.base) is_lost in
@@ -258,7 +261,7 @@ module _ (c : Config) (v x : View) (word : ℕ) (h0 : List Entry) (whole : IsWho
         let now = lost.whole.1 in
         let later = lost.overtaken.later in
         let same = same_base in
-        rests_by step l l tt
+        rests_by step l l due tt
         (record {
           seen = subst (λ (k : List Entry). BeginsWith k y.past.seen) (sym seen) lost.whole.0;
           mine = ap (λ (u : View). u.past.mine) is_lost;

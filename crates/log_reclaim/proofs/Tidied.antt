@@ -16,14 +16,15 @@ use Rattle.log_reclaim.specs.Parts.{Reclaims, Shrinks}
 use Rattle.log_reclaim.specs.Sweeps.{SweepsAll, SweepsSo}
 use Rattle.log_reclaim.specs.Holders.{TidyHolds, HeldSo}
 use Rattle.log_reclaim.specs.Rounds.{FreesFirst, FreesBeforeScan, IsHolder, SweptSo}
-use Rattle.log_reclaim.specs.Tidies.{RestsOnce, RestsSo, WritesBackSo}
+use Rattle.log_reclaim.specs.Tidies.{RestsOnce, RestsWhereDue, RestsSo, WritesBackSo}
 use Rattle.log_reclaim.proofs.Reclaiming.{reclaims_on}
 use Rattle.log_reclaim.proofs.Composed.{shrinks_then}
 use Rattle.log_reclaim.proofs.FirstFrees.{frees_longer, empty_unscanned, freed_first}
 use Rattle.log_reclaim.proofs.RoundCauses.{round_swept}
 use Rattle.log_reclaim.proofs.Swept.{swept_then}
-use Rattle.log_reclaim.proofs.Exchanges.{none_exchanged, none_both, one_between}
+use Rattle.log_reclaim.proofs.Exchanges.{none_exchanged, none_in_both, none_both, one_between}
 use Rattle.log_reclaim.proofs.TidyCauses.{tidy_holds, tidy_tried}
+use Rattle.log_reclaim.proofs.RestsDue.{tidy_due}
 use Rattle.log_reclaim.proofs.Alone.{none_alive}
 
 -- between the two rounds a rest was tried, unless the first had left the log empty
@@ -146,7 +147,7 @@ module _ (starts : State → Type 0) (allows : List ℕ → State → Writes →
       → SweepsSo c x w m o later false unused more last → FreesBeforeScan c k made first → FreesBeforeScan c m later last
       → (held : Option Holder) → HeldBy o first last found held
       → (steps : List Step) × Reclaims v w steps × SweptSo c w o steps false × HeldSo (TidyHolds c w o steps) o held × (length (clock_exchanges steps) ≤ 1)
-      × WritesBackSo c w o steps × FreesFirst c k steps
+      × WritesBackSo c w o steps × FreesFirst c k steps × RestsWhereDue c w k steps
   tidied None last sweep between again one two held by =
       let gone : length m.live ≡ 0 = ap (λ (q : Noted). length q.live) between.1 ∙ sweep.empty in
       let r = reclaims_of c x w m o later false unused more last again in
@@ -158,6 +159,7 @@ module _ (starts : State → Type 0) (allows : List ℕ → State → Writes →
         none_both made later (none_exchanged made sweep.leaves) (none_of c x w m o later false unused more last again),
         inl empty,
         frees_longer c k made later one (λ e. empty_unscanned c m later gone (freed_first c m later last two)),
+        inl (none_in_both made later (none_exchanged made sweep.leaves) (none_of c x w m o later false unused more last again)),
       )
   tidied (Some first) None sweep between again one two held by =
       let steps : List Step = made ++ between.0 ++ later in (
@@ -168,6 +170,7 @@ module _ (starts : State → Type 0) (allows : List ℕ → State → Writes →
         one_between made between.0 later (none_exchanged made sweep.leaves) between.1.few (none_exchanged later again.leaves),
         inl again.empty,
         frees_scanned first between.0 one,
+        tidy_due c v u x w k l m made between.0 later first found freed sweep between.1 again.reclaims (none_exchanged later again.leaves),
       )
   tidied (Some first) (Some last) sweep between again one two held by =
       let steps : List Step = made ++ between.0 ++ later in (
@@ -180,6 +183,7 @@ module _ (starts : State → Type 0) (allows : List ℕ → State → Writes →
         inr (tidy_tried starts allows c v u x w k l m o made between.0 later first last found unused freed more sweep between.1 again stands between.2
             stands_w known known_x known_w),
         frees_scanned first between.0 one,
+        tidy_due c v u x w k l m made between.0 later first found freed sweep between.1 again.reclaims (none_exchanged later again.leaves),
       )
 
   pub tidy_alone : (first last : Option Scanned) → SweepsSo c v u k l made true found freed first → Between c u x l m first

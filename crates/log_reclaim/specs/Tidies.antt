@@ -1,5 +1,5 @@
 -- The parts of a tidy.
-use Rattle.std.specs.Prelude.{◌≡◌, ◌⊎◌, ℕ, ◌+◌, ◌<◌, ◌≤◌, Bool, true, false, List, length, All, Option}
+use Rattle.std.specs.Prelude.{◌≡◌, ◌⊎◌, ℕ, ◌+◌, ◌<◌, ◌≤◌, Bool, true, false, List, [], length, All, Option}
 use Rattle.mv_history.specs.declared.Step.{Step}
 use Rattle.mv_history.specs.Trail.{clock_exchanges}
 use Rattle.mv_layout.specs.declared.Config.{Config}
@@ -7,7 +7,7 @@ use Rattle.mv_core.specs.declared.view.View.{View}
 use Rattle.reader_marks.specs.declared.scanning.Watermark.{Watermark}
 use Rattle.seat_log.specs.declared.version.Note.{Note}
 use Rattle.seat_log.specs.Notes.{Noted, IsNoteAt}
-use Rattle.log_reclaim.specs.Parts.{BeginsNoScan, Reclaims, HasScan}
+use Rattle.log_reclaim.specs.Parts.{BeginsNoScan, Reclaims, HasScan, TimesDeath}
 use Rattle.log_reclaim.specs.Untimed.{StaysUntimed}
 
 -- whether a version is dead only from a time above this one
@@ -19,12 +19,31 @@ IsAnyAbove l time false = (i : ℕ) (n : Note) → IsNoteAt l i n → n.dead ≤
 abbrev pub RestsOnce : View → View → Type 0
 RestsOnce v w = (w.past.rests ≡ v.past.rests) ⊎ (w.past.rests ≡ v.past.rests + 1)
 
--- At most one rest was made, and counted, by at most one exchange on CLOCK, won or lost; nothing else was noted. Afterwards no
--- version was dead from above `latest`, or more was seen than up to it, or the last time was seen, and no rest was made.
+-- Why a rest was tried: a version that the log had at the call's begin is dead from a time above the clock that a scan among these
+-- steps found. That time was noted before; or it was seen, or a load of CLOCK among these steps timed it.
+pub record RestIsDue (c : Config) (w : View) (l : Noted) (made : List Step) : Type 0 where
+  pub index : ℕ
+  pub old : Note
+  pub at : IsNoteAt l index old
+  pub dead : ℕ
+  pub dated : (dead ≡ old.dead) ⊎ ((old.dead ≡ 0) × ((dead ≤ w.base + length w.past.seen) ⊎ TimesDeath made dead))
+  pub mark : Watermark
+  pub clock : ℕ
+  pub scan : HasScan c w.number made mark clock
+  pub above : clock < dead
+
+-- no exchange on CLOCK was made, or a rest was due
+abbrev pub RestsWhereDue : Config → View → Noted → List Step → Type 0
+RestsWhereDue c w l made = (clock_exchanges made ≡ []) ⊎ RestIsDue c w l made
+
+-- At most one rest was made, and counted, by at most one exchange on CLOCK, won or lost, and by none unless a version was dead from
+-- above `latest`; nothing else was noted. Afterwards no version was dead from above `latest`, or more was seen than up to it, or the
+-- last time was seen, and no rest was made.
 pub record RestsSo (v w : View) (l m : Noted) (made : List Step) (latest : ℕ) : Type 0 where
   pub reclaims : Reclaims v w made
   pub kinds : All (λ s. BeginsNoScan s.kind) made
   pub few : length (clock_exchanges made) ≤ 1
+  pub due : (clock_exchanges made ≡ []) ⊎ IsAnyAbove l latest true
   pub once : RestsOnce v w
   pub log : m ≡ record l { rests = m.rests }
   pub dated :

@@ -8,7 +8,7 @@ ghost use Rattle.seat_log.specs.Stands.{Stands};
 ghost use Rattle.log_reclaim.specs.Parts.{Reclaims, Shrinks};
 ghost use Rattle.log_reclaim.specs.Holders.{TidyHolds, HeldSo};
 ghost use Rattle.log_reclaim.specs.Rounds.{FreesFirst, SweptSo};
-ghost use Rattle.log_reclaim.specs.Tidies.{IsAnyAbove, RestsSo, RestsOnce, WritesBackSo};
+ghost use Rattle.log_reclaim.specs.Tidies.{IsAnyAbove, RestsSo, RestsOnce, RestsWhereDue, WritesBackSo};
 
 use crate::rounds::{Tidy, holder, sweep};
 use crate::settling::Found;
@@ -70,7 +70,8 @@ fn rest_if_due<P: Protocol, L: Ledger>(
 /// nothing, no step begins a scan.
 ///
 /// No commit is made or tried, and the seat's commits are as before. At most one step is an exchange on
-/// CLOCK, won or lost; at most one rest is made, which is counted.
+/// CLOCK, won or lost, and none where no version is dead from a time above the clock of the first
+/// round's scan; at most one rest is made, which is counted.
 ///
 /// Of each version that is left without a time of death it is known why the first round's write-back
 /// left it so. This call found SUPER 0 in it. Then it found another seat's version in HEAD of its
@@ -109,7 +110,8 @@ pub fn tidy<P: Protocol, L: Ledger>(
     ensures reclaims { (made : List Step) × Reclaims (view pass.old) (view pass.new) made
         × SweptSo (config_of shared.now) (view pass.new) log.new made false
         × HeldSo (TidyHolds (config_of shared.now) (view pass.new) log.new made) log.new result.held × (length (clock_exchanges made) ≤ 1)
-        × WritesBackSo (config_of shared.now) (view pass.new) log.new made × FreesFirst (config_of shared.now) log.old made }
+        × WritesBackSo (config_of shared.now) (view pass.new) log.new made × FreesFirst (config_of shared.now) log.old made
+        × RestsWhereDue (config_of shared.now) (view pass.new) log.old made }
     ensures alone { (config_of shared.now).seats ≡ 1 → (view pass.old).base + length (view pass.old).past.seen < 35184372088831 → log.new.live ≡ [] }
     ensures cost { steps.new ≤ steps.old + (2 * (4 + (config_of shared.now).seats + 20 * (config_of shared.now).slots) + 8) }
 {

@@ -55,7 +55,7 @@ returns-in-Done-clause-rests g c =
     let n = c.in-Done.ensures.names in
     rests_done (config_of c.args.shared.now) (view c.args.pass.now) (view c.now-word.new.pass) c.now-word.result v.0 v.1 v.2 c.requires.may still
     (view c.help.new.pass) c.help.ensures.helps (view c.rest.new.pass) c.args.latest c.requires.within c.requires.of.2 c.args.log.now c.note_rest.new.log
-    n.1.0 n.1.1 n.1.2 c.note_rest.ensures
+    n.1.0 c.if-not-any_above.ensures n.1.1 n.1.2 c.note_rest.ensures
 
 pub returns-in_default-clause-stands : goal.returns-in_default-clause-stands
 returns-in_default-clause-stands g c =
@@ -72,4 +72,4 @@ returns-in_default-clause-rests g c =
     let n = c.in_default.ensures.names in
     rests_lost (config_of c.args.shared.now) (view c.args.pass.now) (view c.now-word.new.pass) c.now-word.result v.0 v.1 v.2 c.requires.may still
     (view c.help.new.pass) c.help.ensures.helps (view c.rest.new.pass) c.args.latest c.requires.within c.requires.of.2 c.args.log.now n.0 n.1
-    c.in_default.field-0 n.2 n.3
+    c.in_default.field-0 c.if-not-any_above.ensures n.2 n.3

@@ -1,0 +1,64 @@
+-- A tidy tries a rest only where a version is dead from a time above the clock.
+use Rattle.std.proofs.Common.{◌≡◌, ℕ, ◌+◌, true, List, [], ◌++◌, sym, ◌∙◌, subst, inl, inr, ⊎_elim, arith, append_assoc}
+use Rattle.std.proofs.lemmas.Bool.{cases_lt}
+use Rattle.mv_history.specs.Trail.{clock_exchanges}
+use Rattle.mv_history.specs.declared.Step.{Step}
+use Rattle.mv_layout.specs.declared.Config.{Config}
+use Rattle.mv_core.specs.declared.view.View.{View}
+use Rattle.seat_log.specs.Notes.{Noted}
+use Rattle.log_reclaim.specs.declared.settling.Found.{Found}
+use Rattle.log_reclaim.specs.declared.rounds.Scanned.{Scanned}
+use Rattle.log_reclaim.specs.Parts.{Reclaims, HasScan, TimesDeath}
+use Rattle.log_reclaim.specs.Sweeps.{Sweeps}
+use Rattle.log_reclaim.specs.Tidies.{IsAnyAbove, RestsSo, RestIsDue, RestsWhereDue}
+use Rattle.log_reclaim.proofs.Exchanges.{none_exchanged, none_in_both}
+use Rattle.log_reclaim.proofs.MoreSteps.{scan_more}
+use Rattle.log_reclaim.proofs.Reclaiming.{reclaims_number, reclaims_base, reclaims_more, reclaims_on}
+use Rattle.log_reclaim.proofs.Untimed.{times_first}
+
+module _ (c : Config) (v u x w : View) (k l m : Noted) (made rested later : List Step) (first : Scanned) (found : Found) (freed : ℕ)
+    (sweep : Sweeps c v u k l made true first found freed) (rest : RestsSo u x l m rested first.latest) (after : Reclaims x w later)
+    (none : clock_exchanges later ≡ []) where
+  abbrev steps : List Step
+  steps = made ++ rested ++ later
+
+  of_first : (P : List Step → Type 0) → P (made ++ (rested ++ later)) → P steps
+  of_first P p = subst P (sym (append_assoc made rested later)) p
+
+  due : IsAnyAbove l first.latest true → RestIsDue c w k steps
+  due above =
+      let n = above.1 in
+      let r = sweep.notes above.0 n above.2 in
+      let more = reclaims_on u x w rested later rest.reclaims after in
+      let base = reclaims_base u w (rested ++ later) more in
+      let long = reclaims_more u w (rested ++ later) more in
+      let number : w.number ≡ v.number = reclaims_number u w (rested ++ later) more ∙ reclaims_number v u made sweep.reclaims in
+      let from = sweep.from in
+      let late = above.3 in
+      record {
+        index = above.0 + freed;
+        old = r.0;
+        at = r.1;
+        dead = n.dead;
+        dated =
+            ⊎_elim (λ timed. inl (r.2.once timed))
+            (λ untimed.
+            ⊎_elim inl
+            (λ e. inr (
+              omega arith,
+              ⊎_elim (λ seen. inl (omega arith)) (λ b. inr (of_first (λ s. TimesDeath s n.dead) (times_first made (rested ++ later) n.dead b.2))) e,
+            ))
+            r.3)
+            (cases_lt 0 r.0.dead);
+        mark = first.mark;
+        clock = first.clock;
+        scan = of_first (λ s. HasScan c w.number s first.mark first.clock)
+            (subst (λ (own : ℕ). HasScan c own (made ++ (rested ++ later)) first.mark first.clock) (sym number)
+            (scan_more [] made (rested ++ later) c v.number first.mark first.clock sweep.scan));
+        above = omega arith;
+      }
+
+  pub tidy_due : RestsWhereDue c w k steps
+  tidy_due =
+      ⊎_elim (λ untried. inl (none_in_both (made ++ rested) later (none_in_both made rested (none_exchanged made sweep.leaves) untried) none))
+      (λ above. inr (due above)) rest.due

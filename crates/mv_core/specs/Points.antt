@@ -9,7 +9,8 @@ use Rattle.mv_history.specs.State.{State, Writes, maker_of}
 use Rattle.mv_layout.specs.declared.Config.{Config}
 use Rattle.mv_layout.specs.declared.Place.TheVariants.{Clock, Grace, Mark, Master, First, Stamp, Prev, Super, Data}
 use Rattle.mv_layout.specs.Places.{Memory}
-use Rattle.mv_layout.specs.Words.{clock_time_of, link_of}
+use Rattle.mv_layout.specs.Words.{clock_of, clock_time_of, clock_seat_of, clock_slot_of, link_of}
+use Rattle.mv_core.specs.declared.ring.Ring.{Ring}
 use Rattle.mv_core.specs.declared.ring.Slot.TheVariants.{Live}
 use Rattle.mv_core.specs.declared.ring.Version.{Version}
 use Rattle.mv_core.specs.declared.ring.Status.{Status}
@@ -56,6 +57,15 @@ EntriesAreNamed vs h = (e : Entry) → Contains h e → IsThere vs (maker_of e)
 pub record AreThePasts (vs : List View) (past : ℕ → Past) : Type 0 where
   pub views : (id : ℕ) (v : View) → get_elem? vs id ≡ some v → v.spent ≡ false → past v.number ≡ v.past
   pub notes : (id : ℕ) (v : View) (n : Note) → get_elem? vs id ≡ some v → v.spent ≡ false → Contains v.notes n → past n.number ≡ n.past
+
+-- While the clock names a commit, the first version of that commit's write set is live in the clock's slot of that seat's log. The word
+-- has the time, the seat and the first slot of each live version of the commit of its time.
+pub record ClockNames (c : Config) (clock : ℕ) (rings : ℕ → Ring) : Type 0 where
+  pub first : clock_slot_of clock ≢ 8191
+      → (x : Version) × (note : CommitNote) × Lives rings (clock_seat_of clock) (clock_slot_of clock) x (Committed note) × (x.position ≡ x.first)
+      × (note.time ≡ clock_time_of clock)
+  pub word : (s k : ℕ) (x : Version) (note : CommitNote) → Lives rings s k x (Committed note) → note.time ≡ clock_time_of clock
+      → clock ≡ clock_of note.time s (index_of c x.first)
 
 -- write-sets: the words of each slot are those of its version or of what was built there; a committed set has the writes of one
 -- commit, and a held one goes on to the next position; each set is a run of positions, whose versions were all committed, or are
@@ -177,13 +187,14 @@ module _ (starts : State → Type 0) (allows : List ℕ → State → Writes →
       → P key.config key.start.value.items r.memory r.history (parts_of r.seats)
 
   -- history: it is legal and allowed, its length is the clock's time less base, each seat has seen a part of it and one all of
-  -- it, the clock names its last entry, and each seat knows its own commits and rests; the seats' numbers differ, each entry is
-  -- of one of them, and what a seat knows is in its view or its note
+  -- it, the clock names its last entry by its seat and the first slot of its write set, and each seat knows its own commits and
+  -- rests; the seats' numbers differ, each entry is of one of them, and what a seat knows is in its view or its note
   abbrev pub HistoryPoint : Type 0
   HistoryPoint =
       (key : Opening) (s : table.State (List ℕ) View) (r : Ruled starts allows key s)
-      → History starts allows key.config key.start.value.items (r.memory Clock) r.history (λ n. (r.seats n).past) × AllDiffer s.views
-      × EntriesAreNamed s.views r.history × AreThePasts s.views (λ n. (r.seats n).past)
+      → History starts allows key.config key.start.value.items (r.memory Clock) r.history (λ n. (r.seats n).past)
+      × ClockNames key.config (r.memory Clock) (λ n. (r.seats n).ring) × AllDiffer s.views × EntriesAreNamed s.views r.history
+      × AreThePasts s.views (λ n. (r.seats n).past)
 
   -- write-sets, in each such state
   abbrev pub WriteSetsPoint : Type 0

@@ -56,7 +56,7 @@ module _ {starts : State → Type 0} {allows : List ℕ → State → Writes →
       sym (k.positions.live s (clock_slot_of (m Clock)) y (Committed other) here).0 ∙ ap (index_of c) (at ∙ one)
 
   -- while the clock has its time it has its word
-  clock_is : note.time ≡ clock_time_of (m Clock) → m Clock ≡ clock_of note.time s (index_of c x.first)
+  pub clock_is : note.time ≡ clock_time_of (m Clock) → m Clock ≡ clock_of note.time s (index_of c x.first)
   clock_is now =
       let long = k.history.long in
       let above = (commit_within c h f.ring k.write_sets s j x note lives).0 in

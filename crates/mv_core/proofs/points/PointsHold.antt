@@ -4,6 +4,7 @@ use Rattle.mv_core.proofs.Terms.{dite, dec_lt, ℕ_discrete, State, Writes, Entr
 use Rattle.mv_core.proofs.Terms.{latest_at, ViewParts, parts_of, section_of, time_in}
 use Rattle.mv_core.proofs.FactTerms.{IsWrittenBack, Facts}
 use Rattle.mv_core.specs.Points.{HistoryPoint, WriteSetsPoint, FreesPoint, MarksPoint, PositionsBoundedPoint, EarlierAreStamped, OneWritesBack}
+use Rattle.mv_core.proofs.history.CommitWords.{clock_is}
 use Rattle.mv_core.proofs.history.EntryMakers.{entries_named}
 use Rattle.mv_core.proofs.points.SetsWhole.{sets_are_whole}
 use Rattle.mv_core.proofs.points.SetsFreed.{frees_hold, first_free}
@@ -17,6 +18,7 @@ module _ (starts : State → Type 0) (allows : List ℕ → State → Writes →
   pub history_law : HistoryPoint starts allows
   history_law key s r = (
     r.facts.history,
+    record { first = r.facts.freed_is_old.named; word = λ t k x note lives. clock_is r.facts t k x note lives },
     record { views = r.seated.apart; joined = r.seated.gone; notes = r.seated.once },
     entries_named key.config key.start.value.items s.views r.seats r.history r.seated r.facts.history.seats,
     record {

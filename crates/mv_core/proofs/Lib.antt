@@ -1,6 +1,7 @@
 pub mod FactTerms
 pub mod Terms
 pub mod frames
+pub mod Homes
 pub mod history
 pub mod logs
 pub mod kinds

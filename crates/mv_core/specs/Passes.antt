@@ -24,16 +24,25 @@ module _ {P : Type 0} where
   abbrev pub start_of : Shared P → State
   start_of s = s.table.shared.key.start.value.items
 
+-- which table the words of a domain are in
+abbrev pub table_of : {P : Type 0} → Shared P → TableId
+table_of s = s.table.shared.table_id
+
 -- the seat of a pass of this domain
 abbrev pub IsSeatOf : {P : Type 0} → (State → Type 0) → (List ℕ → State → Writes → Type 0) → Shared P
     → table_seat.Seat (List ℕ) View → Type 0
 IsSeatOf starts allows s seat =
-    (seat.table_id ≡ s.table.shared.table_id) × (seat.me.0.start ≡ start_of s) × (seat.me.0.base ≡ (config_of s).base)
+    (seat.table_id ≡ table_of s) × (seat.me.0.start ≡ start_of s) × (seat.me.0.base ≡ (config_of s).base)
     × ∥ Known starts allows seat.me.0 ∥₁
 
--- the name of a domain, which no other domain has
-abbrev pub home_of : TableId → List ℕ
-home_of t = t.words ∷ t.slots ∷ t.views_name ∷ t.atom ∷ t.block ∷ t.offset ∷ t.slot_names
+-- the name of a domain, which no other domain has: its numbers, and then its table's
+abbrev pub home_of : Config → TableId → List ℕ
+home_of c t =
+    c.seats ∷ c.objects ∷ c.slots ∷ c.write_max ∷ c.low ∷ c.high ∷ c.base ∷ t.words ∷ t.slots ∷ t.views_name ∷ t.atom ∷ t.block ∷ t.offset ∷ t.slot_names
+
+-- domains of equal names have the same numbers, and are over the same table
+abbrev pub HomesAreApart : Type 0
+HomesAreApart = (c d : Config) (t u : TableId) → home_of c t ≡ home_of d u → (c ≡ d) × (t ≡ u)
 
 -- the seat that a view means, of this domain and with this limit of a write set
 abbrev pub seat_meant : List ℕ → ℕ → View → Seat
@@ -56,20 +65,23 @@ module _ {P : Type 0} {g : Ghosts P} where
   abbrev pub view : Pass P g → View
   view p = p.seat.me.0
 
-  -- the seat that the pass means
-  abbrev pub seat_of : Pass P g → Seat
-  seat_of p = seat_meant (home_of p.seat.table_id) p.write_max (view p)
+  -- which table the pass steps over
+  abbrev pub table_under : Pass P g → TableId
+  table_under p = p.seat.table_id
+
+  -- the seat that a pass means, of a domain of these numbers
+  abbrev pub seat_of : Config → Pass P g → Seat
+  seat_of c p = seat_meant (home_of c (table_under p)) p.write_max (view p)
 
   -- the pass is of this domain
   abbrev pub IsOf : Shared P → Pass P g → Type 0
-  IsOf s p = (p.seat.table_id ≡ s.table.shared.table_id) × (p.number < s.table.shared.key.config.seats)
-      × ((view p).base ≡ s.table.shared.key.config.base) × ((view p).start ≡ s.table.shared.key.start.value.items)
-      × (p.write_max ≡ s.table.shared.key.config.write_max)
+  IsOf s p = (table_under p ≡ table_of s) × (p.number < (config_of s).seats) × ((view p).base ≡ (config_of s).base)
+      × ((view p).start ≡ start_of s) × (p.write_max ≡ (config_of s).write_max)
 
   -- a step leaves these as they are
   abbrev pub IsSame : Pass P g → Pass P g → Type 0
   IsSame p q =
-      (q.seat.table_id ≡ p.seat.table_id) × (q.number ≡ p.number) × (q.write_max ≡ p.write_max) × ((view q).base ≡ (view p).base)
+      (table_under q ≡ table_under p) × (q.number ≡ p.number) × (q.write_max ≡ p.write_max) × ((view q).base ≡ (view p).base)
       × ((view q).start ≡ (view p).start) × ((view q).notes ≡ (view p).notes)
 
   -- the passes of a new domain: in order of number, each with the view with which that seat begins

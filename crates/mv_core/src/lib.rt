@@ -82,6 +82,7 @@ pub use laws::{
     reached_slots_are_kept, sets_are_freed_whole, successors_are_next, walks_stand_right,
     write_backs_are_last, write_sets_are_whole,
 };
+pub use opening::homes_are_apart;
 pub use shared::{Pass, Shared};
 pub use steps::Steps;
 pub use swap::Swap;

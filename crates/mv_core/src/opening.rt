@@ -6,7 +6,7 @@ ghost use Rattle.mv_layout.specs.Places.{Shows};
 ghost use Rattle.mv_core.specs.SeatSteps.{made_one, newly_made};
 ghost use Rattle.mv_core.specs.Start.{opening_memory, Laid, maker_view};
 ghost use Rattle.mv_core.specs.Known.{IsTimed};
-ghost use Rattle.mv_core.specs.Passes.{view, IsOf, IsSeatOf, config_of, start_of, AreNew};
+ghost use Rattle.mv_core.specs.Passes.{view, IsOf, IsSeatOf, config_of, start_of, AreNew, HomesAreApart};
 ghost use Rattle.mv_core.specs.Views.{new_view};
 
 use crate::shared::{Opening, Pass, Shared};
@@ -204,3 +204,9 @@ impl<P: Protocol> Pass<P> {
         self.time
     }
 }
+
+/// A name that a seat gives its domain tells the domain's numbers and its table: seats of equal names
+/// are of domains with the same numbers, over the same table.
+pub fn homes_are_apart()
+    ensures { HomesAreApart }
+{}

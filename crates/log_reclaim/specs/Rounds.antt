@@ -1,5 +1,6 @@
 -- The parts of a round, and what it leaves of each version.
-use Rattle.std.specs.Prelude.{◌≡◌, ◌⊎◌, ℕ, ◌<◌, ◌≤◌, Bool, if◌then◌else◌, nat_lt, List, ◌∷◌, ◌++◌, length, All, Option, Some, None}
+use Rattle.std.specs.Prelude.{◌≡◌, ◌⊎◌, ℕ, ◌<◌, ◌≤◌, Bool, if◌then◌else◌, nat_lt, List, ◌∷◌, ◌++◌, length}
+use Rattle.std.specs.Prelude.{All, Option, Some, None}
 use Rattle.mv_history.specs.declared.answers.Holder.{Holder}
 use Rattle.mv_history.specs.declared.answers.Holder.TheVariants.{Mark, Above, Fresh, End}
 use Rattle.mv_history.specs.declared.Step.{Step}

@@ -129,15 +129,18 @@ module _ (c : Config) (v w : View) (l : Noted) (object previous position : ℕ) 
     won_outcome m before after noted e =
         let at : head_locked c v (section_in v) is.0.object is.0.previous is.0.position ≡ w =
         (λ i. head_locked c v (section_in v) (is.3 i) (is.4 i) (is.2 i)) ∙ sym told in
-        let stands = stands_locked c v l is.0 (section_in v) s is.1 (is.5 ∙ ap (words_in c v) (sym is.3)) in
-        (step, subst (λ (k : Noted). Outcome c v w k object Held before after (step ∷ [])) (sym noted) (record {
-          may = may_same v w (ap (λ (u : View). u.phase) told) (ap (λ (u : View). u.clocks) told) (ap (λ (u : View). u.back) told) may;
-          stands = subst (λ (u : View). Stands c u (held_noted l)) at stands;
-          unbuilt = refl;
-          makes = (own.0 ∙ ap (λ ws. own_of c v.ring ++ (object, ws) ∷ []) (sym (ap (λ (u : View). words_in c u object) told)), own.1);
-          keeps = λ ne. absurd (ne refl);
-          tries = subst (λ (n : ℕ). Tries v w before n (step ∷ [])) (sym e) (won_tries before);
-        }), refl)
+        let stands = stands_locked c v l is.0 (section_in v) s is.1 (is.5 ∙ ap (words_in c v) (sym is.3)) in (
+          step,
+          subst (λ (k : Noted). Outcome c v w k object Held before after (step ∷ [])) (sym noted) (record {
+            may = may_same v w (ap (λ (u : View). u.phase) told) (ap (λ (u : View). u.clocks) told) (ap (λ (u : View). u.back) told) may;
+            stands = subst (λ (u : View). Stands c u (held_noted l)) at stands;
+            unbuilt = refl;
+            makes = (own.0 ∙ ap (λ ws. own_of c v.ring ++ (object, ws) ∷ []) (sym (ap (λ (u : View). words_in c u object) told)), own.1);
+            keeps = λ ne. absurd (ne refl);
+            tries = subst (λ (n : ℕ). Tries v w before n (step ∷ [])) (sym e) (won_tries before);
+          }),
+          refl,
+        )
 
   -- lost: another came first, or the chain was cut
   module _ (link : ℕ) (told : w ≡ lock_lost c v object link) where

@@ -57,7 +57,8 @@ pub(crate) fn exchange<P: Protocol, L: Ledger>(
     requires unheld { ¬ (HoldsObject log.now object) }
     requires few { log.now.held < (config_of shared.now).write_max }
     ensures same { IsSame pass.old pass.new }
-    ensures told { LockTold (config_of shared.now) (view pass.old) (section_in (view pass.old)) object previous position (found_by previous result) (view pass.new) }
+    ensures told { LockTold (config_of shared.now) (view pass.old) (section_in (view pass.old)) object previous position (found_by previous result)
+        (view pass.new) }
     ensures swap { IsSwap previous result }
     ensures own { found_by previous result ≡ previous
         → OneMoreWrite (config_of shared.now) (view pass.old) (section_in (view pass.old)) object (view pass.new) }

@@ -45,7 +45,8 @@ fn free_slots<P: Protocol, L: Ledger>(
 )
     requires of { IsOf shared.now pass.old }
     requires range { position + count ≤ 2 ^ 57 }
-    requires may { (j : ℕ) → j < count → MayStoreFree (config_of shared.now) (slots_freed (config_of shared.now) (view pass.old) position j) (position + j) }
+    requires may { (j : ℕ) → j < count
+        → MayStoreFree (config_of shared.now) (slots_freed (config_of shared.now) (view pass.old) position j) (position + j) }
     ensures same { IsSame pass.old pass.new }
     ensures view { view pass.new ≡ slots_freed (config_of shared.now) (view pass.old) position count }
     ensures step { steps.new ≡ steps.old + count }

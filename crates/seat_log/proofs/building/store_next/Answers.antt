@@ -8,7 +8,11 @@ store_built-requires g c =
       in_lives.0,
       (
         in_lives.1,
-        (c.requires.of, may_store (config_of c.args.shared.now) (view c.args.pass.now) c.args.position c.requires.may c.args.field c.args.value c.requires.fits),
+        (
+          c.requires.of,
+          may_store (config_of c.args.shared.now) (view c.args.pass.now) c.args.position c.requires.may c.args.field c.args.value
+              c.requires.fits,
+        ),
       ),
     )
 

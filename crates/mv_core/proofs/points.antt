@@ -7,5 +7,6 @@ pub mod PointsHold
 pub mod SetsFreed
 pub mod SetsWhole
 pub mod HelpedStamps
+pub mod KnownBounds
 pub mod KnownLogs
 pub mod KnownSections

@@ -1,14 +1,18 @@
 -- What every pass knows of its own view, and what it has of it at run time.
-use Rattle.std.specs.Prelude.{◌≡◌, ℕ, ◌+◌, ◌<◌, ◌≤◌, List, length, false, Some, None}
+use Rattle.std.specs.Prelude.{◌≡◌, ◌≢◌, ◌^◌, ℕ, ◌+◌, ◌<◌, ◌≤◌, List, length, false, Some, None}
 use Rattle.mv_history.specs.State.{State, Writes, commits_of, rests_of}
 use Rattle.mv_history.specs.Legal.{AreWords, IsLegal, IsAllowed}
-use Rattle.mv_core.specs.declared.ring.Slot.TheVariants.{Live}
+use Rattle.mv_layout.specs.Words.{clock_slot_of}
+use Rattle.mv_core.specs.declared.ring.Slot.TheVariants.{Built, Live}
+use Rattle.mv_core.specs.declared.ring.Build.{Build}
 use Rattle.mv_core.specs.declared.ring.Version.{Version}
 use Rattle.mv_core.specs.declared.ring.Status.{Status}
 use Rattle.mv_core.specs.declared.ring.Status.TheVariants.{Held, Committed}
 use Rattle.mv_core.specs.declared.ring.CommitNote.{CommitNote}
 use Rattle.mv_core.specs.declared.view.View.{View}
-use Rattle.mv_core.specs.declared.view.Phase.TheVariants.{Outside, Inside}
+use Rattle.mv_core.specs.declared.view.Phase.TheVariants.{Outside, Lowered, Inside}
+use Rattle.mv_core.specs.declared.view.FoundStamp.{FoundStamp}
+use Rattle.mv_core.specs.declared.view.WriteBack.{WriteBack}
 use Rattle.mv_core.specs.declared.view.Section.{Section}
 use Rattle.mv_core.specs.declared.view.Walk.TheVariants.{Nowhere}
 use Rattle.mv_core.specs.declared.view.Mode.TheVariants.{Open}
@@ -40,9 +44,10 @@ pub record KnownCommit (v : View) (x : Version) (note : CommitNote) : Type 0 whe
   pub written : latest_at v.base v.past.seen x.object note.time ≡ note.time
   pub superseded : (dead : ℕ) → note.cut ≡ false → note.dead ≡ Some dead → IsNextIn v.base v.past.seen x.object note.time dead
 
--- the opening state is lawful, what was seen is legal and allowed and has all its own commits and rests, its time is in range,
--- outside a section it holds nothing, walks nowhere and writes nothing back, and of its section and of the versions of its own
--- log it knows this
+-- the opening state is lawful, what was seen is legal and allowed and has all its own commits and rests, its time is in range, and so is a
+-- low time that was loaded, outside a section it holds nothing, walks nowhere and writes nothing back, an unset stamp was found for a word
+-- that names a commit, the position that it writes back fits a link, and so does the next one while something is built for it, and of its
+-- section and of the versions of its own log it knows this
 pub record Known (starts : State → Type 0) (allows : List ℕ → State → Writes → Type 0) (v : View) : Type 0 where
   pub unspent : v.spent ≡ false
   pub opening : starts v.start
@@ -52,9 +57,13 @@ pub record Known (starts : State → Type 0) (allows : List ℕ → State → Wr
   pub mine : v.past.mine ≡ commits_of v.number v.past.seen
   pub rests : v.past.rests ≡ rests_of v.number v.past.seen
   pub in_time : v.base + length v.past.seen ≤ 35184372088831
+  pub lowered : (low : ℕ) → v.phase ≡ Lowered low → low ≤ 35184372088831
+  pub found : (f : FoundStamp) → v.clocks.found ≡ Some f → clock_slot_of f.word ≢ 8191
   pub section : (inside : Section) → v.phase ≡ Inside inside → KnownSection v inside
   pub idle : v.phase ≡ Outside → HoldsNothing v.ring
   pub still : v.phase ≡ Outside → (v.walk ≡ Nowhere) × (v.back ≡ None)
+  pub back : (b : WriteBack) → v.back ≡ Some b → b.position < 2 ^ 57
+  pub next : (k : ℕ) (b : Build) → slot_at v.ring k ≡ Built b → v.ring.next < 2 ^ 57
   pub commits : (k : ℕ) (x : Version) (note : CommitNote) → slot_at v.ring k ≡ Live x (Committed note) → KnownCommit v x note
   pub deaths : (k : ℕ) (x : Version) (st : Status) (dead : ℕ) → slot_at v.ring k ≡ Live x st → death_in st ≡ Some dead
       → dead ≤ v.base + length v.past.seen + 1

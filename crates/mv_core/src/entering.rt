@@ -1,5 +1,5 @@
 //! The steps of entering and leaving a section.
-ghost use Rattle.std.specs.Prelude.{◌≡◌, ◌+◌, ◌≤◌, List};
+ghost use Rattle.std.specs.Prelude.{◌≡◌, ◌+◌, List};
 ghost use Rattle.mv_history.specs.declared.Entry.{Entry};
 ghost use Rattle.mv_core.specs.Rings.{HoldsNothing};
 ghost use Rattle.mv_core.specs.Passes.{view, IsOf, IsSame, config_of};
@@ -10,7 +10,7 @@ use crate::shared::{Pass, Shared};
 use crate::steps::Steps;
 use crate::turns::{load_alone, load_as, store_as};
 use mv_history::Protocol;
-use mv_layout::{LAST, clock_time, mark_place, mark_word};
+use mv_layout::{clock_time, mark_place, mark_word};
 use std::marker::Brand;
 use std::sync::ledger::Ledger;
 
@@ -36,7 +36,6 @@ impl<P: Protocol> Shared<P> {
     pub fn store_mark<L: Ledger>(&self, pass: &mut Pass<P>, low: u64, steps: &mut Steps<L>)
         requires of { IsOf self.now pass.old }
         requires may { MayStoreMark (view pass.old) low }
-        requires range { low ≤ LAST }
         ensures same { IsSame pass.old pass.new }
         ensures view { view pass.new ≡ mark_stored (config_of self.now) (view pass.old) low }
         ensures step { steps.new ≡ steps.old + 1 }

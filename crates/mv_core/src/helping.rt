@@ -64,7 +64,6 @@ impl<P: Protocol> Shared<P> {
         requires of { IsOf self.now pass.old }
         requires may { MayStamp (config_of self.now) (view pass.old) word unset }
         requires word { IsWord (config_of self.now) word }
-        requires names { clock_slot_of word ≢ 8191 }
         ensures same { IsSame pass.old pass.new }
         ensures view { view pass.new ≡ stamp_swapped (config_of self.now) (view pass.old) word unset (found_by unset result) }
         ensures swap { IsSwap unset result }

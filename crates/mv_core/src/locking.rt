@@ -1,5 +1,5 @@
 //! The steps that put a version on top of an object's chain and take it off again.
-ghost use Rattle.std.specs.Prelude.{◌≡◌, ◌≢◌, ℕ, ◌+◌, ◌<◌, ◌^◌};
+ghost use Rattle.std.specs.Prelude.{◌≡◌, ◌≢◌, ℕ, ◌+◌, ◌<◌};
 ghost use Rattle.mv_layout.specs.Words.{link_seat_of};
 ghost use Rattle.mv_core.specs.declared.ring.Build.{Build};
 ghost use Rattle.mv_core.specs.declared.ring.Version.{Version};
@@ -41,7 +41,6 @@ impl<P: Protocol> Shared<P> {
         requires of { IsOf self.now pass.old }
         requires may { MayLock (config_of self.now) (config_of self.now).write_max (view pass.old) object previous position what.0 what.1 }
         requires first { first ≡ set_first (view pass.old).ring }
-        requires range { position < 2 ^ 57 }
         ensures same { IsSame pass.old pass.new }
         ensures view { LockTold (config_of self.now) (view pass.old) what.1 object previous position (found_by previous result) (view pass.new) }
         ensures swap { IsSwap previous result }

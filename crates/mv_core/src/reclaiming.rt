@@ -1,5 +1,5 @@
 //! The steps that write a version back into its master and give its slot free.
-ghost use Rattle.std.specs.Prelude.{◌≡◌, ◌≢◌, ℕ, ◌+◌, ◌<◌, ◌^◌};
+ghost use Rattle.std.specs.Prelude.{◌≡◌, ◌≢◌, ℕ, ◌+◌, ◌<◌};
 ghost use Rattle.mv_core.specs.declared.ring.Version.{Version};
 ghost use Rattle.mv_core.specs.declared.ring.CommitNote.{CommitNote};
 ghost use Rattle.mv_core.specs.declared.view.Section.{Section};
@@ -85,7 +85,6 @@ impl<P: Protocol> Shared<P> {
         ghost back: { Version × CommitNote }
         requires of { IsOf self.now pass.old }
         requires object { object < (config_of self.now).objects }
-        requires position { position < 2 ^ 57 }
         requires may { MayCutHead (config_of self.now) (view pass.old) object position back.0 back.1 }
         ensures same { IsSame pass.old pass.new }
         ensures view { CutTold (config_of self.now) (view pass.old) object position back.0 back.1

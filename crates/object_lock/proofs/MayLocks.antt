@@ -48,9 +48,6 @@ module _ (c : Config) (v : View) (l : Noted) (object previous position : ℕ) (s
   pub first_is : (first held : ℕ) → held ≡ l.held → first ≡ position - held → first ≡ set_first v.ring
   first_is first held e f = let a = position_next in let d = s.held in omega arith
 
-  pub small : position < 2 ^ 57
-  small = let a = next_noted.4 in let b = is.2 in omega arith
-
   pub may_lock : (write_max : ℕ) → MayWalk v → object < c.objects → StandsToLock v (section_in v) object previous → ¬ (HoldsObject l object)
       → l.held < write_max → MayLock c write_max v object previous position (build_at c v position) (section_in v)
   may_lock write_max may range stands unheld few =

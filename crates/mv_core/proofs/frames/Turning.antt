@@ -20,6 +20,7 @@ use Rattle.mv_core.specs.Rule.{LoadsAs, StoresAs, SwapsAs, RaisesAs}
 use Rattle.mv_core.proofs.FactTerms.{KnowsPast, Known, Facts, Ruled, Loads, Stores, Swaps, Raises, IsKept}
 use Rattle.mv_core.proofs.moves.Grown.{stays}
 use Rattle.mv_core.proofs.frames.FrameLaw.{set_at_here, set_at_all}
+use Rattle.mv_core.proofs.points.KnownBounds.{known_low, known_found, known_back, known_next}
 use Rattle.mv_core.proofs.points.KnownLogs.{known_idle, known_still, known_commit, known_death}
 use Rattle.mv_core.proofs.points.KnownSections.{known_section}
 use Rattle.mv_core.proofs.frames.Seating.{old_of, seated_after}
@@ -46,9 +47,13 @@ module _ (starts : State → Type 0) (allows : List ℕ → State → Writes →
         mine = p.seen_mine;
         rests = p.seen_rests;
         in_time = (let t = k.history.in_time in omega arith);
+        lowered = known_low seats w k is;
+        found = known_found seats w k is;
         section = known_section seats w k is begins from;
         idle = known_idle seats w k is begins from;
         still = known_still seats w k is begins from;
+        back = known_back seats w k is;
+        next = known_next seats w k is;
         commits = known_commit seats w k is begins from;
         deaths = known_death seats w k is begins from;
       }

@@ -14,11 +14,8 @@ cut_head-requires g c κs within = (
       search rules,
       (
         c.requires.writing.in_range,
-        (
-          c.requires.writing.small,
-          may_cut (config_of c.args.shared.now) (view c.args.pass.now) c.args.log.now c.args.back c.requires.stands
-              c.requires.writing c.requires.stored,
-        ),
+        may_cut (config_of c.args.shared.now) (view c.args.pass.now) c.args.log.now c.args.back c.requires.stands
+            c.requires.writing c.requires.stored,
       ),
     ),
   ),

@@ -419,9 +419,13 @@ joined_stays starts allows c v w j may e =
         mine = a.mine;
         rests = a.rests;
         in_time = a.in_time;
+        lowered = a.lowered;
+        found = a.found;
         section = λ inside at. let out : Outside ≡ Inside inside = sym may.outside ∙ at in absurd (cc);
         idle = a.idle;
         still = a.still;
+        back = a.back;
+        next = a.next;
         commits = λ i x note there. commit_still v x note (joined c v w).trail v.made (joined c v w).notes (a.commits i x note there);
         deaths = a.deaths;
       }),

@@ -22,7 +22,7 @@ use Rattle.mv_core.proofs.frames.FrameLaw.{set_at_here, set_at_else, set_at_all,
 use Rattle.mv_core.proofs.frames.SectionBounds.{none_in}
 use Rattle.mv_core.proofs.points.KnownLogs.{commit_still}
 use Rattle.mv_core.proofs.frames.SeatsThere.{at_within, there_still, there_longer}
-use Rattle.mv_core.proofs.kinds.opening.Starting.{none_lives, first_seats, starting_facts}
+use Rattle.mv_core.proofs.kinds.opening.Starting.{none_lives, none_built, first_seats, starting_facts}
 
 one : {A : Type 0} (i : ℕ) (x y : A) → get_elem? (x ∷ []) i ≡ some y → (i ≡ 0) × (x ≡ y)
 one zero x y e = (refl, some-injective x y e)
@@ -329,9 +329,13 @@ module _ (starts : State → Type 0) (allows : List ℕ → State → Writes →
     mine = refl;
     rests = refl;
     in_time = (let b = k.base in omega arith);
+    lowered = λ low e. absurd (cc);
+    found = λ f e. absurd (cc);
     section = λ inside e. absurd (cc);
     idle = λ out j x. none_lives c j x Held;
     still = λ out. (refl, refl);
+    back = λ b e. absurd (cc);
+    next = λ j b. none_built c j b;
     commits = λ j x note. none_lives c j x (Committed note);
     deaths = λ j x st dead lives. none_lives c j x st lives;
   }
@@ -347,6 +351,8 @@ module _ (starts : State → Type 0) (allows : List ℕ → State → Writes →
         mine = k.mine;
         rests = k.rests;
         in_time = k.in_time;
+        lowered = k.lowered;
+        found = k.found;
         section =
             λ inside e. let s =
             k.section inside e in
@@ -359,6 +365,8 @@ module _ (starts : State → Type 0) (allows : List ℕ → State → Writes →
             };
         idle = k.idle;
         still = k.still;
+        back = k.back;
+        next = k.next;
         commits = λ j x note there. commit_still v x note (made_one c v).trail (v.made + 1) v.notes (k.commits j x note there);
         deaths = k.deaths;
       }

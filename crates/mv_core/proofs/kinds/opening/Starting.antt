@@ -26,7 +26,11 @@ free_at (suc n) (suc k) = free_at n k
 pub all_free : (c : Config) (k : ℕ) → slot_at (empty_ring c) k ≡ Free
 all_free c k = free_at c.slots k
 
--- and so none of them has a version
+-- and so in none of them something is being built
+pub none_built : {X : Type 0} (c : Config) (k : ℕ) (b : Build) → slot_at (empty_ring c) k ≡ Built b → X
+none_built c k b built = let e : Free ≡ Built b = sym (all_free c k) ∙ built in absurd (cc)
+
+-- and none of them has a version
 pub none_lives : {X : Type 0} (c : Config) (k : ℕ) (x : Version) (st : Status) → slot_at (empty_ring c) k ≡ Live x st → X
 none_lives c k x st lives = let e : Free ≡ Live x st = sym (all_free c k) ∙ lives in absurd (cc)
 
@@ -52,7 +56,7 @@ module _ (starts : State → Type 0) (allows : List ℕ → State → Writes →
   no_live j x st = none_lives c j x st
 
   no_built : {X : Type 0} (j : ℕ) (b : Build) → slot_at (empty_ring c) j ≡ Built b → X
-  no_built j b e = let f : Free ≡ Built b = sym (all_free c j) ∙ e in absurd (cc)
+  no_built j b = none_built c j b
 
   no_freeing : {X : Type 0} (j p first : ℕ) → slot_at (empty_ring c) j ≡ Freeing p first → X
   no_freeing j p first e = let f : Free ≡ Freeing p first = sym (all_free c j) ∙ e in absurd (cc)

@@ -1,17 +1,33 @@
 -- compare_exchange STAMP, won and lost.
-use Rattle.std.proofs.Common.{◌≡◌, ◌≢◌, ◌⊎◌, ℕ, ◌==◌, ◌&&◌, ◌||◌, Bool, true, false, List, sym, refl, ap, ◌∙◌, subst, ⊎_elim, inl, inr, eqb-true, Some}
+use Rattle.std.proofs.Common.{◌≡◌, ◌≢◌, ◌⊎◌, ℕ, ◌<◌, arith, ◌==◌, ◌&&◌, ◌||◌, Bool, true, false, List, sym, refl, ap, ◌∙◌, subst, ⊎_elim, inl, inr, eqb-true, Some}
 use Rattle.std.proofs.Math.Bool.{or-true}
 use Rattle.mv_core.proofs.Terms.{dite, ℕ_discrete, Entry, State, Writes, Config, Clock, Stamp, Memory, put, clock_of, clock_time_of, clock_seat_of}
 use Rattle.mv_core.proofs.Terms.{clock_slot_of, unset_of, Committed, View, Phase, Outside, Lowered, Marked, Inside, Section, Mode, Open, Aborting}
-use Rattle.mv_core.proofs.Terms.{Named, Naming, LoadedClocks, index_of, time_in, section_of, time_of, ViewParts, parts_of, set_at}
+use Rattle.mv_core.proofs.Terms.{Checked, FoundStamp, Named, Naming, LoadedClocks, index_of, time_in, section_of, time_of, ViewParts, parts_of, set_at}
 use Rattle.mv_core.proofs.FactTerms.{stamp_of, WasClock, IsDone, IsNamedCommit, RunsOn, Facts, Swaps, IsKept}
+use Rattle.mv_layout.proofs.Unpacking.{slot_back}
 use Rattle.mv_core.specs.EnterSteps.{stamp_place, helped_too, IsOwnNaming, MayStamp, is_own, stamped_mode, stamped_phase, stamp_swapped}
 use Rattle.mv_core.proofs.frames.FrameLaw.{unchanged, changed, settle}
 use Rattle.mv_core.proofs.history.SectionWords.{section_is}
-use Rattle.mv_core.proofs.frames.ClocksLoaded.{helped_one, clocks_was, clocks_facts}
+use Rattle.mv_core.proofs.frames.ClocksLoaded.{slot_in, helped_one, clocks_was, clocks_facts}
 use Rattle.mv_core.proofs.kinds.helping.stamp.Stampable.{IsStampable, stampable, own_unpacks, own_commit}
 use Rattle.mv_core.proofs.kinds.helping.stamp.StampStored.{after_here, done_now, stamp_stored}
 use Rattle.mv_core.proofs.kinds.helping.stamp.OwnStamp.{own_stamped}
+
+-- the word of a stamp that was found, or of the own commit, names a commit
+pub names_commit : (c : Config) (v : View) (word unset : ℕ) → Checked c → v.number < c.seats
+    → ((f : FoundStamp) → v.clocks.found ≡ Some f → clock_slot_of f.word ≢ 8191) → MayStamp c v word unset → clock_slot_of word ≢ 8191
+names_commit c v word unset checked range found =
+    ⊎_elim
+    (λ is. found (record { word = word; unset = unset; checked = true }) is)
+    (λ own e.
+    let n : Naming = own.1 in
+    let i : ℕ = index_of c n.first in
+    let low = slot_in c checked n.first in
+    let few = checked.slots.1 in
+    let seats = checked.seats.1 in
+    let slot_is : clock_slot_of word ≡ i = ap clock_slot_of own.4 ∙ slot_back n.time v.number i (omega arith) (omega arith) in
+    omega arith)
 
 -- the section after the own exchange
 abbrev pub own_made : Section → Naming → Section

@@ -5,18 +5,23 @@ use Rattle.mv_core.specs.Moves.{history_after}
 use Rattle.mv_core.proofs.moves.Grown.{stays}
 use Rattle.mv_core.proofs.moves.Calls.{won_is, lost_is, no_made}
 use Rattle.std.proofs.Common.{ap, ◌∙◌}
+use Rattle.std.proofs.Math.Logic.{∥∥₁_elim}
+use Rattle.std.proofs.Math.Bridge.{le_prop}
 use Rattle.mv_core.proofs.Terms.{link_of, view}
 use Rattle.mv_core.proofs.kinds.reclaiming.cut_head.CutHead.{cut_swaps}
 use Rattle.mv_core.proofs.shared.Shared.cut_head.Goals as goal
 
+pub link_word-link-requires-clause-position : goal.link_word-link-requires-clause-position
+link_word-link-requires-clause-position g c = ∥∥₁_elim c.args.pass.now.known le_prop (λ a. a.back _ c.requires.1.1.1.1.back)
+
 pub swap_as-found-requires-clause-rule : goal.swap_as-found-requires-clause-rule
 swap_as-found-requires-clause-rule g c =
-    cut_swaps _ _ _ _ (view c.args.pass.now) c.args.object c.args.position g.back.0 g.back.1 c.requires.1.1.1.1.1 _
+    cut_swaps _ _ _ _ (view c.args.pass.now) c.args.object c.args.position g.back.0 g.back.1 c.requires.1.1.1.1 _
     (c.link_word-link.ensures.word ∙ ap (λ s. link_of s c.args.position) c.args.pass.now.numbered)
 
 pub swap_as-found-requires-clause-moves : goal.swap_as-found-requires-clause-moves
 swap_as-found-requires-clause-moves g c = record {
-  may = c.requires.1.1.1.1.1;
+  may = c.requires.1.1.1.1;
   place = refl;
   writes = λ x. ap (λ (o : ℕ). stored_if x o 0) (sym (c.link_word-link.ensures.word ∙ ap (λ s. link_of s c.args.position) c.args.pass.now.numbered));
   entry = λ x ne. no_made _ x;

@@ -1,13 +1,19 @@
-use Rattle.std.proofs.Common.{sym, refl}
+use Rattle.std.proofs.Common.{ℕ, ◌<◌, ◌^◌, sym, refl, ap, ◌∙◌, subst}
+use Rattle.std.proofs.Math.Logic.{∥∥₁_elim}
+use Rattle.std.proofs.Math.Bridge.{le_prop}
 use Rattle.mv_core.proofs.Terms.{Head, View}
 use Rattle.mv_core.specs.EnterSteps.{stored_if}
 use Rattle.mv_core.specs.Moves.{history_after}
 use Rattle.mv_core.proofs.moves.Grown.{stays}
 use Rattle.mv_core.proofs.moves.Calls.{won_is, lost_is, no_made}
-use Rattle.std.proofs.Common.{ap, ◌∙◌}
 use Rattle.mv_core.proofs.Terms.{link_of, view}
 use Rattle.mv_core.proofs.kinds.locking.lock_head.LockHead.{lock_swaps}
 use Rattle.mv_core.proofs.shared.Shared.lock_head.Goals as goal
+
+pub link_word-link-requires-clause-position : goal.link_word-link-requires-clause-position
+link_word-link-requires-clause-position g c =
+    let may = c.requires.1.1.1.0 in
+    ∥∥₁_elim c.args.pass.now.known le_prop (λ a. subst (λ (n : ℕ). n < 2 ^ 57) (sym may.next) (a.next _ g.what.0 may.build))
 
 pub swap_alone-found-requires-clause-rule : goal.swap_alone-found-requires-clause-rule
 swap_alone-found-requires-clause-rule g c =

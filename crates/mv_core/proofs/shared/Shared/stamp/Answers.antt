@@ -1,12 +1,21 @@
-use Rattle.std.proofs.Common.{sym, refl, ap, ◌∙◌}
-use Rattle.mv_core.proofs.Terms.{View}
+use Rattle.std.proofs.Common.{ℕ, ◌<◌, sym, refl, ap, ◌∙◌, subst}
+use Rattle.std.proofs.Math.Logic.{∥∥₁_elim}
+use Rattle.mv_core.proofs.Terms.{Checked, View, config_of}
 use Rattle.mv_core.specs.EnterSteps.{stamp_place, stored_if}
 use Rattle.mv_core.specs.Moves.{history_after}
 use Rattle.mv_core.proofs.moves.Grown.{stays}
 use Rattle.mv_core.proofs.moves.Calls.{won_is, lost_is, no_made}
 use Rattle.mv_core.specs.Passes.{view}
-use Rattle.mv_core.proofs.kinds.helping.stamp.SwapStamp.{stamp_swaps}
+use Rattle.mv_core.proofs.kinds.helping.stamp.SwapStamp.{names_commit, stamp_swaps}
 use Rattle.mv_core.proofs.shared.Shared.stamp.Goals as goal
+
+pub named_place-place-requires-clause-names : goal.named_place-place-requires-clause-names
+named_place-place-requires-clause-names g c e =
+    let config = config_of c.args.self.now in
+    let pass = c.args.pass.now in
+    ∥∥₁_elim pass.known (λ a b. absurd a)
+    (λ k. names_commit config (view pass) c.args.word c.args.unset (subst Checked (sym c.args.self.now.about) c.args.self.now.checked)
+    (subst (λ (n : ℕ). n < config.seats) pass.numbered c.requires.of.1) k.found c.requires.may e)
 
 pub swap_as-found-requires-clause-rule : goal.swap_as-found-requires-clause-rule
 swap_as-found-requires-clause-rule g c = stamp_swaps _ _ _ _ (view c.args.pass.now) c.args.word c.args.unset c.requires.may _ c.clock_time-time.ensures

@@ -1,0 +1,48 @@
+-- What the rule tells a seat of the low time that it loaded, of an unset stamp that it found, and of its positions.
+use Rattle.std.proofs.Common.{◌≡◌, ◌≢◌, ℕ, ◌+◌, ◌*◌, ◌<◌, ◌≤◌, ◌^◌, List, length, ap, ◌∙◌, subst, arith, mul-le-mul, Some}
+use Rattle.mv_core.proofs.Terms.{Entry, State, Writes, Config, Clock, Mark, Memory, clock_slot_of, Built, Build, Committed, View, FoundStamp}
+use Rattle.mv_core.proofs.Terms.{WriteBack, index_of, slot_at, parts_of}
+use Rattle.mv_core.specs.declared.view.Phase.TheVariants.{Lowered}
+use Rattle.mv_core.proofs.FactTerms.{MarkedAs, Facts}
+use Rattle.mv_core.proofs.logs.Links.{position_small}
+use Rattle.mv_core.proofs.kinds.locking.lock_head.NextPosition.{below_rounds}
+
+module _ {starts : State → Type 0} {allows : List ℕ → State → Writes → Type 0} {c : Config} {start : State} {m : Memory} {h : List Entry} (seats : ℕ → View)
+    (w : View) (k : Facts starts allows c start m h (parts_of seats)) (is : seats w.number ≡ w) where
+  abbrev n : ℕ
+  n = w.number
+
+  -- a low time isn't above the clock's
+  pub known_low : (low : ℕ) → w.phase ≡ Lowered low → low ≤ 35184372088831
+  known_low low e =
+      let marked = subst (MarkedAs (m Clock) (m (Mark n))) (ap (λ (u : View). u.phase) is ∙ e) (k.marks n) in
+      let low_is = marked.1 in
+      let long = k.history.long in
+      let in_time = k.history.in_time in
+      omega arith
+
+  -- an unset stamp was found for a word that names a commit
+  pub known_found : (f : FoundStamp) → w.clocks.found ≡ Some f → clock_slot_of f.word ≢ 8191
+  known_found f e = (k.loaded_words.found n f (ap (λ (u : View). u.clocks.found) is ∙ e)).1
+
+  -- the position that is written back fits a link
+  pub known_back : (b : WriteBack) → w.back ≡ Some b → b.position < 2 ^ 57
+  known_back b e =
+      let written = (k.write_back n b (ap (λ (u : View). u.back) is ∙ e)).2 in
+      subst (λ (p : ℕ). p < 2 ^ 57) written.position_is
+      (position_small c h (λ s. (seats s).ring) k.checked k.history.in_time k.positions n (index_of c b.position) written.version
+      (Committed written.note) written.lives)
+
+  -- and so does the next one, while something is being built for it
+  pub known_next : (j : ℕ) (b : Build) → slot_at w.ring j ≡ Built b → w.ring.next < 2 ^ 57
+  known_next j b e =
+      let low = k.positions_and_grace.built n j b (ap (λ (u : View). slot_at u.ring j) is ∙ e) in
+      let now = (k.grace.views n).0 in
+      let long = k.history.long in
+      let in_time = k.history.in_time in
+      let some = k.checked.slots.0 in
+      let few = k.checked.slots.1 in
+      let below = below_rounds c.slots (seats n).ring.next (length h) (omega arith) (omega arith) in
+      let most : c.slots * (length h + 1) ≤ 4096 * 35184372088832 = mul-le-mul few (let e : length h + 1 ≤ 35184372088832 = omega arith in e) in
+      let next_is : (seats n).ring.next ≡ w.ring.next = ap (λ (u : View). u.ring.next) is in
+      omega arith

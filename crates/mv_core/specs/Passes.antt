@@ -38,7 +38,8 @@ IsSeatOf starts allows s seat =
 -- the name of a domain, which no other domain has: its numbers, and then its table's
 abbrev pub home_of : Config → TableId → List ℕ
 home_of c t =
-    c.seats ∷ c.objects ∷ c.slots ∷ c.write_max ∷ c.low ∷ c.high ∷ c.base ∷ t.words ∷ t.slots ∷ t.views_name ∷ t.atom ∷ t.block ∷ t.offset ∷ t.slot_names
+    c.seats ∷ c.objects ∷ c.slots ∷ c.write_max ∷ c.low ∷ c.high ∷ c.base
+    ∷ t.words ∷ t.slots ∷ t.views_name ∷ t.atom ∷ t.block ∷ t.offset ∷ t.slot_names
 
 -- domains of equal names have the same numbers, and are over the same table
 abbrev pub HomesAreApart : Type 0

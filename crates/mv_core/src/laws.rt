@@ -14,8 +14,9 @@ use mv_history::Protocol;
 /// There is one commit history. It is legal and allowed by the client's rules, and as long as the
 /// clock's time less the base; the clock names the seat of its last entry and, of a commit, the slot
 /// of the first position of its write set, which is live. By number, each seat has seen a prefix of
-/// it and knows exactly its own commits and rests in it, and one has seen it all. The numbers of the unspent views and of the notes of joined seats all differ, each
-/// entry is of one of them, and what a seat knows is what its view says, or its note.
+/// it and knows exactly its own commits and rests in it, and one has seen it all. The numbers of the
+/// unspent views and of the notes of joined seats all differ, each entry is of one of them, and what
+/// a seat knows is what its view says, or its note.
 /// (MV-RLU: the clock orders commits.)
 pub fn history_is_one<P: Protocol>()
     ensures { HistoryPoint P.start P.allowed }

@@ -43,7 +43,8 @@ impl<P: Protocol> Shared<P> {
         requires of { IsOf self.now pass.old }
         requires may { (scan : Scan) × MayLoadMark (config_of self.now) (view pass.old) seat scan }
         ensures same { IsSame pass.old pass.new }
-        ensures view { (scan : Scan) × ((view pass.old).scan ≡ Some scan) × (view pass.new ≡ mark_loaded (config_of self.now) (view pass.old) seat scan result) }
+        ensures view { (scan : Scan) × ((view pass.old).scan ≡ Some scan)
+            × (view pass.new ≡ mark_loaded (config_of self.now) (view pass.old) seat scan result) }
         ensures step { steps.new ≡ steps.old + 1 }
     {
         let place = mark_place(&self.config, seat);

@@ -206,7 +206,8 @@ pub(crate) fn swap_alone<P: Protocol, J: Turn, L: Ledger, T>(
 ) -> u64
     requires of { IsSeatOf P.start P.allowed shared.now seat.old }
     requires place { IsPlace (config_of shared.now) J.place × (index ≡ place_of (config_of shared.now) J.place) }
-    requires rule { Swaps P.start P.allowed (config_of shared.now) (start_of shared.now) seat.old.me.0 J.place old new (λ n w. J.tells n w × IsKept seat.old.me.0 w) }
+    requires rule { Swaps P.start P.allowed (config_of shared.now) (start_of shared.now) seat.old.me.0 J.place old new
+        (λ n w. J.tells n w × IsKept seat.old.me.0 w) }
     requires moves { SwapsAs P.start P.allowed (config_of shared.now) (start_of shared.now) seat.old.me.0 J.place J.kind old new J.tells }
     ensures same { (seat.new.table_id ≡ seat.old.table_id) × IsKept seat.old.me.0 seat.new.me.0 }
     ensures known { ∥ Known P.start P.allowed seat.new.me.0 ∥₁ }

@@ -12,7 +12,7 @@ use Rattle.mv_core.specs.LockSteps.{nothing_built, build_in, StandsToLock, MayLo
 use Rattle.seat_log.proofs.Noting.{built_next}
 use Rattle.seat_log.specs.declared.version.Note.{Note}
 use Rattle.seat_log.specs.Notes.{Noted, IsNextOf}
-use Rattle.seat_log.specs.Stands.{IsStored, HasBuilt, Stands}
+use Rattle.seat_log.specs.Stands.{IsAllStored, HasBuilt, Stands}
 use Rattle.seat_log.specs.Builds.{build_at}
 use Rattle.version_chain.specs.Walks.{MayWalk, section_in}
 use Rattle.version_chain.specs.Reads.{words_in}
@@ -27,7 +27,7 @@ module _ (c : Config) (v : View) (l : Noted) (object previous position : ℕ) (s
   pub next_noted : IsNextOf l n
   next_noted = built_next l n is.1 s.log
 
-  whole : (b : Build) × (slot_at v.ring (index_of c v.ring.next) ≡ Built b) × IsStored b n
+  whole : (b : Build) × (slot_at v.ring (index_of c v.ring.next) ≡ Built b) × IsAllStored b n
   whole = subst (HasBuilt c v.ring) is.1 s.built
 
   pub position_next : position ≡ v.ring.next

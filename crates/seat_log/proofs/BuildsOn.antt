@@ -18,7 +18,7 @@ use Rattle.mv_core.specs.LockSteps.{nothing_built, build_in, built_too}
 use Rattle.mv_core.proofs.logs.Slots.{slot_here, slot_else}
 use Rattle.mv_core.proofs.logs.Counts.{count_same}
 use Rattle.seat_log.specs.declared.version.Note.{Note}
-use Rattle.seat_log.specs.Stands.{IsStored, is_free, is_won_cut}
+use Rattle.seat_log.specs.Stands.{IsAllStored, is_free, is_won_cut}
 use Rattle.seat_log.specs.Builds.{build_at, stored_next, words_stored, begun, linked, slot_built, MayBuild}
 use Rattle.seat_log.proofs.MayBuild.{begun_first, begun_later}
 
@@ -152,7 +152,7 @@ module _ (c : Config) (v : View) (position first previous : ℕ) (words : List �
 
   -- the slot is whole after all stores
   pub slot_whole : (n : Note) → n.position ≡ position → n.first ≡ first → n.previous ≡ previous → n.words ≡ words
-      → (b : Build) × BuildsOn c v (slot_built c v position first previous words) position b × IsStored b n
+      → (b : Build) × BuildsOn c v (slot_built c v position first previous words) position b × IsAllStored b n
   unfolding slot_built
   slot_whole n at firsts below same =
       let a = links in (

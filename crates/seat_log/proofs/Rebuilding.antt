@@ -11,7 +11,7 @@ use Rattle.mv_core.specs.Rings.{slot_at, index_of}
 use Rattle.mv_core.specs.LockSteps.{nothing_built, build_in, built_too}
 use Rattle.seat_log.specs.declared.version.Note.{Note}
 use Rattle.seat_log.specs.Notes.{Noted, built_count, IsNoteAt, IsNextOf, IsHeld, with_word, without_previous, cleared, built_word, built_word_noted}
-use Rattle.seat_log.specs.Stands.{version_of, IsStored, HasBuilt, Stands}
+use Rattle.seat_log.specs.Stands.{version_of, IsAllStored, HasBuilt, Stands}
 use Rattle.seat_log.specs.Builds.{IsOpen, build_at, stored_next}
 use Rattle.seat_log.proofs.Noting.{built_next}
 use Rattle.seat_log.proofs.BuildsOn.{BuildsOn, builds_first}
@@ -21,7 +21,7 @@ use Rattle.seat_log.proofs.Standing.{may_build, stands_on, built_is_log}
 module _ (c : Config) (v w : View) (l : Noted) (n : Note) (position field x : ℕ) (k : Stands c v l) (built : l.built ≡ Some n)
     (at : n.position ≡ position) (open_is : IsOpen v) (is : w ≡ stored_next c v position field x) where
   -- one more store into the built slot
-  stands_field : (m : Note) → ((b : Build) → IsStored b n → IsStored (built_too b field x) m) → IsNextOf l m → Stands c w (record l { built = Some m })
+  stands_field : (m : Note) → ((b : Build) → IsAllStored b n → IsAllStored (built_too b field x) m) → IsNextOf l m → Stands c w (record l { built = Some m })
   stands_field m again next =
       let o : HasBuilt c v.ring (Some n) = subst (HasBuilt c v.ring) built k.built in
       let was : IsNextOf l n = built_next l n built k.log in
@@ -35,7 +35,7 @@ module _ (c : Config) (v w : View) (l : Noted) (n : Note) (position field x : �
       let on : BuildsOn c v w position b =
       subst (λ (a : Build). BuildsOn c v w position (built_too a field x)) same
       (subst (λ (u : View). BuildsOn c v u position (built_too (build_at c v position) field x)) (sym is) (builds_first c v position field x may.within)) in
-      let whole : IsStored b m = again o.0 o.2 in
+      let whole : IsAllStored b m = again o.0 o.2 in
       let long : length b.words ≡ 6 = ap length whole.words ∙ length-map m.words Some ∙ whole.wide in
       let still : w.ring.next ≡ position = ap (λ (u : View). u.ring.next) on.rest ∙ sym here in
       stands_on c v w l position b k room here on (Some m) (built_is_log l (Some m) (omega arith) next k.log) long
@@ -68,7 +68,7 @@ stands_built_word c v w l n position word value k built at open_is is =
     (stands_field c v w l n position (4 + word) value k built at open_is is m
     (λ b whole.
     let data_field : suc (suc (suc (suc word))) ≡ 4 + word = omega arith in
-    subst (λ (f : ℕ). IsStored (built_too b f value) m) data_field (record {
+    subst (λ (f : ℕ). IsAllStored (built_too b f value) m) data_field (record {
       first = whole.first;
       stamp = whole.stamp;
       previous = whole.previous;

@@ -44,7 +44,7 @@ pub record HasNoted (c : Config) (r : Ring) (position : ℕ) (held : Bool) (n : 
   pub as_noted : IsAsNoted held n status
 
 -- all words of the slot were stored, as noted: it may be locked
-pub record IsStored (b : Build) (n : Note) : Type 0 where
+pub record IsAllStored (b : Build) (n : Note) : Type 0 where
   pub first : b.first ≡ Some n.first
   pub stamp : n.first ≡ n.position → b.stamp ≡ Some (unset_of n.position)
   pub previous : b.previous ≡ Some n.previous
@@ -55,7 +55,7 @@ pub record IsStored (b : Build) (n : Note) : Type 0 where
 -- the slot of the next position has what is noted as built
 abbrev pub HasBuilt : Config → Ring → Option Note → Type 0
 HasBuilt c r None = Unit {0}
-HasBuilt c r (Some n) = (b : Build) × (slot_at r (index_of c r.next) ≡ Built b) × IsStored b n
+HasBuilt c r (Some n) = (b : Build) × (slot_at r (index_of c r.next) ≡ Built b) × IsAllStored b n
 
 -- whether a slot has a version that was cut
 abbrev pub is_cut : Slot → Bool

@@ -13,7 +13,7 @@ ghost use Rattle.set_catalog.specs.Steps.{most_locks, HasSpace};
 ghost use Rattle.set_catalog.specs.Attempts.{Attempted, AttemptedIn, IsReadBy, HintsAfter, TriesOne};
 
 use crate::answer::Attempt;
-use crate::finding::{Finding, find};
+use crate::finding::{Finding, find_plan};
 use crate::hints::Hints;
 use crate::plan::{Gone, Plan};
 use list_set::{Cause, rewrite};
@@ -68,7 +68,7 @@ pub fn attempt_with<S: Store<Rules = SetRules>>(
     let mut section = store.enter();
     let time = section.at();
     let last = time == section.last();
-    match find(&mut section, hints, command, last) {
+    match find_plan(&mut section, hints, command, last) {
         Finding::Settled(reply) => {
             let place = Place::Read(time);
             (section.leave(), Attempt::Done { reply, place })
@@ -143,7 +143,7 @@ fn last_reply<V: View>(view: &mut V, hints: &mut Hints, command: &Command) -> Re
     ensures hints { TakesHints hints.old hints.new }
     ensures as_before { V.as_before view.old view.new }
 {
-    match find(view, hints, command, true) {
+    match find_plan(view, hints, command, true) {
         Finding::Settled(reply) => reply,
         // No time is left for a change.
         Finding::Open { .. } => Reply::Worn,

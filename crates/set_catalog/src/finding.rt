@@ -31,7 +31,7 @@ pub enum Finding {
 
 // Finds what the command comes to in the view's state, at the last time or not. It searches each set
 // of the command once, and looks for vacant objects where a new key wants them.
-pub fn find<V: View>(view: &mut V, hints: &mut Hints, command: &Command, last: bool) -> Finding
+pub fn find_plan<V: View>(view: &mut V, hints: &mut Hints, command: &Command, last: bool) -> Finding
     requires lawful { IsLawful (V.state view.old) }
     ensures found { IsFound command.now (V.state view.old) last result }
     ensures hints { TakesHints hints.old hints.new }

@@ -11,8 +11,8 @@ use Rattle.set_catalog.proofs.Rooms.{planned_here}
 use Rattle.set_catalog.proofs.Outcomes.{attempted_by, short_by, early_found, changing_found, space_found, settled_by}
 use Rattle.set_catalog.proofs.attempting.attempt_with.Goals as goal
 
-pub find-requires : goal.find-requires
-find-requires g c = record {
+pub find_plan-requires : goal.find_plan-requires
+find_plan-requires g c = record {
   lawful = subst IsLawful (sym (g.met.S.Open.Section.reads _)) (lawful_read _ (g.met.S.Open.Section.lawful _) c.enter-section.ensures.enters.own);
 }
 
@@ -22,18 +22,18 @@ commit_change-requires-clause-few g c = c.in-Open.ensures.found.1
 pub commit_change-requires-clause-planned : goal.commit_change-requires-clause-planned
 commit_change-requires-clause-planned g c =
     planned_here _ _ _ _ _ _ (g.met.S.Open.Section.reads c.enter-section.result) (g.met.S.Open.Section.lawful _).at
-    (g.met.S.Open.Section.others_stay _ _ c.find.ensures.as_before) c.in-Open.ensures.found.2
+    (g.met.S.Open.Section.others_stay _ _ c.find_plan.ensures.as_before) c.in-Open.ensures.found.2
 
 pub commit_change-requires-clause-changing : goal.commit_change-requires-clause-changing
 commit_change-requires-clause-changing g c =
     let here = g.met.S.Open.Section.reads c.enter-section.result in
-    let same = g.met.S.Open.Section.others_stay _ _ c.find.ensures.as_before in
+    let same = g.met.S.Open.Section.others_stay _ _ c.find_plan.ensures.as_before in
     (changing_found _ _ _ _ same c.enter-section.ensures.enters.own (g.met.S.Open.Section.lawful _).at
     (ap (λ (s : State). changes_in c.args.command.now s (c.at-time.result == c.last.result)) (sym here) ∙ c.in-Open.ensures.found.0)).0
 
 pub commit_change-requires-clause-space : goal.commit_change-requires-clause-space
 commit_change-requires-clause-space g c =
-    space_found _ _ _ c.enter-section.ensures.enters (g.met.S.Open.Section.others_stay _ _ c.find.ensures.as_before)
+    space_found _ _ _ c.enter-section.ensures.enters (g.met.S.Open.Section.others_stay _ _ c.find_plan.ensures.as_before)
     (omega (arith, c.requires.most, c.prepare-room.ensures.prepares.continues.write_max))
     (c.in-Enough.ensures.enough refl)
 
@@ -41,13 +41,13 @@ pub returns-in-Settled : goal.returns-in-Settled
 returns-in-Settled g c =
     let p = c.prepare-room.ensures.prepares in
     let e = c.enter-section.ensures.enters in
-    let looks = looks_in p e (g.met.S.Open.Section.goes_on _ _ c.find.ensures.as_before) in
-    let left = subst (λ (s : Seat). Leaves (g.S.Open.Section.section c.find.new.view) s) (g.met.S.Store.same_seat _) c.leave.ensures in
+    let looks = looks_in p e (g.met.S.Open.Section.goes_on _ _ c.find_plan.ensures.as_before) in
+    let left = subst (λ (s : Seat). Leaves (g.S.Open.Section.section c.find_plan.new.view) s) (g.met.S.Store.same_seat _) c.leave.ensures in
     record {
       attempted = settled_by _ _ _ _ _ _ _ _ _ _ _ p e c.enter-section.ensures.took (g.met.S.Open.Section.lawful _).at
-          (g.met.S.Open.Section.others_stay _ _ c.find.ensures.as_before) left
+          (g.met.S.Open.Section.others_stay _ _ c.find_plan.ensures.as_before) left
           (g.met.S.Open.Section.reads _) c.at-time.ensures c.last.ensures c.in-Settled.ensures.found.0 c.in-Settled.ensures.found.1;
-      noted = kept_taken _ _ _ _ c.find.ensures.hints;
+      noted = kept_taken _ _ _ _ c.find_plan.ensures.hints;
       at_most_one = left_one looks.continues looks.quiet left;
     }
 
@@ -55,8 +55,8 @@ pub returns-in-Enough : goal.returns-in-Enough
 returns-in-Enough g c =
     let p = c.prepare-room.ensures.prepares in
     let e = c.enter-section.ensures.enters in
-    let same = g.met.S.Open.Section.others_stay _ _ c.find.ensures.as_before in
-    let goes = g.met.S.Open.Section.goes_on _ _ c.find.ensures.as_before in
+    let same = g.met.S.Open.Section.others_stay _ _ c.find_plan.ensures.as_before in
+    let goes = g.met.S.Open.Section.goes_on _ _ c.find_plan.ensures.as_before in
     let looks = looks_in p e goes in
     let law = g.met.S.Open.Section.lawful c.enter-section.result in
     let changing =
@@ -67,7 +67,7 @@ returns-in-Enough g c =
           (early_found (g.S.Open.Section.section c.enter-section.result) _ _ _ law.at law.seat.time c.at-time.ensures c.last.ensures changing)
           (changing_found _ _ _ _ same e.own law.at changing).1
           c.commit_change.ensures.attempted;
-      noted = hints_after _ _ _ _ _ _ _ _ _ looks.continues c.find.ensures.hints c.find.ensures.untouched c.commit_change.ensures.noted;
+      noted = hints_after _ _ _ _ _ _ _ _ _ looks.continues c.find_plan.ensures.hints c.find_plan.ensures.untouched c.commit_change.ensures.noted;
       at_most_one = one_before looks.continues c.commit_change.ensures.continues looks.quiet c.commit_change.ensures.at_most_one;
     }
 
@@ -75,11 +75,11 @@ pub returns-in-Short : goal.returns-in-Short
 returns-in-Short g c =
     let p = c.prepare-room.ensures.prepares in
     let e = c.enter-section.ensures.enters in
-    let same = g.met.S.Open.Section.others_stay _ _ c.find.ensures.as_before in
-    let goes = g.met.S.Open.Section.goes_on _ _ c.find.ensures.as_before in
+    let same = g.met.S.Open.Section.others_stay _ _ c.find_plan.ensures.as_before in
+    let goes = g.met.S.Open.Section.goes_on _ _ c.find_plan.ensures.as_before in
     let looks = looks_in p e goes in
     let law = g.met.S.Open.Section.lawful c.enter-section.result in
-    let left = subst (λ (s : Seat). Leaves (g.S.Open.Section.section c.find.new.view) s) (g.met.S.Store.same_seat _) c.leave-in-Short.ensures in
+    let left = subst (λ (s : Seat). Leaves (g.S.Open.Section.section c.find_plan.new.view) s) (g.met.S.Store.same_seat _) c.leave-in-Short.ensures in
     let changing =
     ap (λ (s : State). changes_in c.args.command.now s (c.at-time.result == c.last.result)) (sym (g.met.S.Open.Section.reads c.enter-section.result))
     ∙ c.in-Open.ensures.found.0 in
@@ -89,6 +89,6 @@ returns-in-Short g c =
           (early_found (g.S.Open.Section.section c.enter-section.result) _ _ _ law.at law.seat.time c.at-time.ensures c.last.ensures changing)
           (changing_found _ _ _ _ same e.own law.at changing).1
           short.0 short.2 left;
-      noted = kept_taken _ _ _ _ c.find.ensures.hints;
+      noted = kept_taken _ _ _ _ c.find_plan.ensures.hints;
       at_most_one = left_one looks.continues looks.quiet left;
     }

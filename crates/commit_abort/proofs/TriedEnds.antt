@@ -108,7 +108,7 @@ module _ (c : Config) (v x : View) (word : ℕ) (h0 : List Entry) (whole : IsWho
           word = word;
           time_is = time_is;
           history = h;
-          whole = (begins_by h y.past.seen v.past.seen now.0 seen_all, now.1);
+          whole = (begins_by h y.past.seen v.past.seen now.0 seen_all, now.1, now.2);
           past = same_past ∙ ap (λ (u : View). u.past) named
               ∙ (λ i. record (past i) { seen = h ++ Change (commit i) ∷ []; mine = (past i).mine ++ commit i ∷ [] });
           steps = steps ++ won ∷ fin.trail.0;

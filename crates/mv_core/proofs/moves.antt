@@ -3,5 +3,6 @@ pub mod Grown
 pub mod Kept
 pub mod Calls
 pub mod Kinds
+pub mod Notes
 pub mod Moving
 pub mod OneHistory

@@ -1,7 +1,8 @@
 -- Entering and leaving a section, and helping a named commit: what each kind of step asks of its own view, and what it makes of it.
-use Rattle.std.specs.Prelude.{◌≡◌, ◌≢◌, ◌⊎◌, ℕ, ◌+◌, ◌==◌, ◌&&◌, ◌||◌, leb, Bool, true, false}
+use Rattle.std.specs.Prelude.{◌≡◌, ◌≢◌, ◌⊎◌, ℕ, ◌+◌, ◌<◌, All, ◌==◌, ◌&&◌, ◌||◌, leb, Bool, true, false}
 use Rattle.std.specs.Prelude.{if◌then◌else◌, List, [], ◌∷◌, ◌++◌, length, Contains, Option, Some, None}
 use Rattle.mv_history.specs.declared.Entry.{Entry}
+use Rattle.mv_history.specs.State.{maker_of}
 use Rattle.mv_history.specs.declared.StepKind.TheVariants.{LoadLow, StoreMark, LoadTime, LoadNamed, LoadCheck, SwapStamp, ClearMark}
 use Rattle.mv_layout.specs.declared.Config.{Config}
 use Rattle.mv_layout.specs.declared.Place.{Place}
@@ -25,9 +26,10 @@ use Rattle.mv_core.specs.Rings.{slot_at, index_of, HoldsNothing}
 use Rattle.mv_core.specs.Views.{no_clocks, low_of, names_none, with_step}
 use Rattle.mv_core.specs.HistoryFacts.{BeginsWith}
 
--- h is the whole history where CLOCK is this word: it begins with all that was seen, and is as long as the word says
+-- h is the whole history where CLOCK is this word: it begins with all that was seen, is as long as the word says, and each entry is of a
+-- seat of the domain
 abbrev pub IsWhole : Config → View → ℕ → List Entry → Type 0
-IsWhole c v word h = BeginsWith h v.past.seen × (clock_time_of word ≡ c.base + length h)
+IsWhole c v word h = BeginsWith h v.past.seen × (clock_time_of word ≡ c.base + length h) × All (λ e. maker_of e < c.seats) h
 
 -- the place of the stamp of the commit that a clock word names
 abbrev pub stamp_place : ℕ → Place

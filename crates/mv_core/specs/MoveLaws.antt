@@ -1,5 +1,7 @@
 -- What holds of moves: each keeps the rule, so that each state that is reached is one of it, and there is one history.
-use Rattle.std.specs.Prelude.{◌≡◌, ◌⊎◌, ℕ, ◌<◌, ◌≤◌, ◌^◌, List, [], ◌∷◌, ◌++◌, length, slice_index}
+use Rattle.std.specs.Prelude.{◌≡◌, ◌⊎◌, ℕ, ◌<◌, ◌≤◌, ◌^◌, true, false, List, [], ◌∷◌, ◌++◌, length, slice_index, Contains}
+use mathlib.Core.Option.{some}
+use lib.ListN.{get_elem?}
 use Rattle.atomic_table.specs.Table as table
 use Rattle.mv_history.specs.declared.Entry.{Entry}
 use Rattle.mv_history.specs.State.{State, Writes}
@@ -10,17 +12,24 @@ use Rattle.mv_layout.specs.declared.Place.{Place}
 use Rattle.mv_layout.specs.declared.Place.TheVariants.{Clock}
 use Rattle.mv_layout.specs.Limits.{Checked}
 use Rattle.mv_core.specs.declared.view.View.{View}
+use Rattle.mv_core.specs.declared.view.Note.{Note}
 use Rattle.mv_core.specs.declared.shared.Opening.{Opening}
 use Rattle.mv_core.specs.Views.{new_view, parts_of}
 use Rattle.mv_core.specs.HistoryFacts.{BeginsWith}
 use Rattle.mv_core.specs.Moves.{Moment, Kind, name_commit, name_rest, act, stepped, Move, Moves, opening_of, Reached}
-use Rattle.mv_core.specs.Rule.{Facts, Ruled}
+use Rattle.mv_core.specs.Rule.{IsNoted, Facts, Ruled}
 
 -- the seats of a state: each is of its number and of this domain, and those that aren't made yet are as new
 pub record SeatsHold (c : Config) (start : State) (seats : ℕ → View) : Type 0 where
   pub own : (n : ℕ) → ((seats n).number ≡ n) × ((seats n).start ≡ start) × ((seats n).base ≡ c.base)
   pub made : (seats 0).made ≤ c.seats
   pub later : (n : ℕ) → (seats 0).made ≤ n → seats n ≡ new_view c start n 0
+
+-- the notes of the seats that aren't spent: each is of a spent seat, which is as the note says, and no number is there twice
+pub record NotesHold (c : Config) (seats : ℕ → View) : Type 0 where
+  pub noted : (n : ℕ) (x : Note) → (seats n).spent ≡ false → Contains (seats n).notes x → IsNoted c seats x × ((seats x.number).spent ≡ true)
+  pub once : (i j a b : ℕ) (x y : Note) → (seats i).spent ≡ false → (seats j).spent ≡ false → get_elem? (seats i).notes a ≡ some x
+      → get_elem? (seats j).notes b ≡ some y → x.number ≡ y.number → (i ≡ j) × (a ≡ b)
 
 -- what a new domain is opened with: its numbers are in range, and the client's rules allow the opening state, which has six words of 64 bits for each object
 pub record IsOpening (starts : State → Type 0) (c : Config) (start : State) : Type 0 where
@@ -49,6 +58,7 @@ module _ (starts : State → Type 0) (allows : List ℕ → State → Writes →
   pub record Holds (c : Config) (start : State) (s : Moment) : Type 0 where
     pub words : (p : Place) → s.memory p < 2 ^ 64
     pub seats : SeatsHold c start s.seats
+    pub notes : NotesHold c s.seats
     pub facts : Facts starts allows c start s.memory s.history (parts_of s.seats)
 
   -- each move of a state of the rule leads to a state of the rule, whose history begins with the old one

@@ -28,7 +28,7 @@ use Rattle.mv_core.specs.NameSteps.{MayNameCommit, commit_of, commit_word, commi
 use Rattle.mv_core.specs.NameSteps.{MayNameRest, rest_word, rest_named, rest_lost}
 use Rattle.mv_core.specs.ReclaimSteps.{MayLoadScan, scan_loaded, MayLoadMark, mark_loaded, MayLoadSuper, super_loaded, MayStoreMaster, master_stored}
 use Rattle.mv_core.specs.ReclaimSteps.{MayCutHead, head_cut, cut_lost, MayStoreFree, free_stored}
-use Rattle.mv_core.specs.SeatSteps.{made_one, newly_made, MayJoin, joined, MayLoadJoined, joined_loaded, grace_loaded, MayRaiseGrace, grace_raised}
+use Rattle.mv_core.specs.SeatSteps.{made_one, newly_made, MayJoin, joined, joined_loaded, grace_loaded, MayRaiseGrace, grace_raised}
 use Rattle.mv_core.specs.Start.{opening_memory}
 
 -- a state of a domain: its words by name, its history, and the view of each seat by number
@@ -169,7 +169,7 @@ act allows c v (cut_head object position version note) =
     (λ h. head_cut c v object position version note) (λ found h. cut_lost c v object position found) None
 act allows c v (store_free position) =
     stores (MayStoreFree c v position) (Stamp v.number (index_of c position)) 0 (free_stored c v position)
-act allows c v load_joined = loads (MayLoadJoined v) Clock (λ word h. joined_loaded c v word h)
+act allows c v load_joined = loads (Unit {0}) Clock (λ word h. joined_loaded c v word h)
 
 -- the words after a write, if there is one
 abbrev pub memory_after : Memory → Place → Option ℕ → Memory

@@ -14,7 +14,7 @@ use Rattle.mv_core.specs.declared.view.View.{View}
 use Rattle.mv_core.specs.declared.view.Note.{Note}
 use Rattle.mv_core.specs.declared.view.Phase.TheVariants.{Outside}
 use Rattle.mv_core.specs.declared.shared.Opening.{Opening}
-use Rattle.mv_core.specs.Views.{new_view, ViewParts, parts_of, set_at}
+use Rattle.mv_core.specs.Views.{new_view, HasSeat, ViewParts, parts_of, set_at}
 use Rattle.mv_core.specs.EnterSteps.{stored_if}
 use Rattle.mv_core.specs.Moves.{Kind, act, history_after, Reached}
 use Rattle.mv_core.specs.HistoryFacts.{History}
@@ -30,7 +30,8 @@ abbrev pub first_view : Config → State → View
 first_view c start = new_view c start 0 1
 
 -- a joined seat is as its note says, outside, with no scan
-pub record IsNoted (seats : ℕ → View) (n : Note) : Type 0 where
+pub record IsNoted (c : Config) (seats : ℕ → View) (n : Note) : Type 0 where
+  pub range : n.number < c.seats
   pub number : (seats n.number).number ≡ n.number
   pub past : (seats n.number).past ≡ n.past
   pub ring : (seats n.number).ring ≡ n.ring
@@ -43,7 +44,7 @@ pub record IsThere (vs : List View) (s : ℕ) : Type 0 where
   pub holder : View
   pub place : get_elem? vs id ≡ some holder
   pub unspent : holder.spent ≡ false
-  pub named : (holder.number ≡ s) ⊎ ((n : Note) × Contains holder.notes n × (n.number ≡ s))
+  pub named : HasSeat holder s
 
 -- The views of the table are those of the seats: each unspent one is that of its number, each note is of a joined seat, no number
 -- is twice, and a seat that isn't made yet is new, while each other one has a view or a note.
@@ -52,7 +53,7 @@ pub record Seated (c : Config) (start : State) (vs : List View) (seats : ℕ →
   pub there : (id : ℕ) (v : View) → get_elem? vs id ≡ some v → v.spent ≡ false → (seats v.number ≡ v) × (v.number < c.seats)
   pub apart : (i j : ℕ) (v w : View) → get_elem? vs i ≡ some v → get_elem? vs j ≡ some w → v.spent ≡ false → w.spent ≡ false
       → v.number ≡ w.number → i ≡ j
-  pub noted : (id : ℕ) (v : View) (n : Note) → get_elem? vs id ≡ some v → v.spent ≡ false → Contains v.notes n → IsNoted seats n
+  pub noted : (id : ℕ) (v : View) (n : Note) → get_elem? vs id ≡ some v → v.spent ≡ false → Contains v.notes n → IsNoted c seats n
   pub gone : (i j : ℕ) (v w : View) (n : Note) → get_elem? vs i ≡ some v → get_elem? vs j ≡ some w → v.spent ≡ false → w.spent ≡ false
       → Contains v.notes n → w.number ≢ n.number
   pub once : (i j a b : ℕ) (v w : View) (m n : Note) → get_elem? vs i ≡ some v → get_elem? vs j ≡ some w → v.spent ≡ false → w.spent ≡ false
@@ -62,6 +63,12 @@ pub record Seated (c : Config) (start : State) (vs : List View) (seats : ℕ →
   pub made : (i j : ℕ) (v w : View) → get_elem? vs i ≡ some v → get_elem? vs j ≡ some w → v.spent ≡ false → w.spent ≡ false → 0 < v.made
       → (w.number < v.made) × All (λ n. n.number < v.made) w.notes
   pub all : (s : ℕ) → IsThere vs s ⊎ (seats s ≡ new_view c start s 0)
+
+-- an unspent view: its number is of the domain, and the seats joined to it are as their notes say, with numbers that all differ
+pub record IsSeated (c : Config) (seats : ℕ → View) (v : View) : Type 0 where
+  pub range : v.number < c.seats
+  pub noted : (n : Note) → Contains v.notes n → IsNoted c seats n × (n.number ≢ v.number)
+  pub once : (a b : ℕ) (m n : Note) → get_elem? v.notes a ≡ some m → get_elem? v.notes b ≡ some n → m.number ≡ n.number → a ≡ b
 
 -- what a step keeps of its seat's view besides
 abbrev pub IsKept : View → View → Type 0
@@ -126,7 +133,7 @@ module _ (starts : State → Type 0) (allows : List ℕ → State → Writes →
   module _ (c : Config) (start : State) (v : View) (p : Place) where
     -- What a load of p shows: whatever the words, the history and the other views are, the seat has a new view that keeps all facts.
     abbrev pub Loads : (ℕ → View → Type 0) → Type 0
-    Loads tells = (m : Memory) (h : List Entry) (seats : ℕ → View) → Facts c start m h (parts_of seats) → seats v.number ≡ v → v.number < c.seats
+    Loads tells = (m : Memory) (h : List Entry) (seats : ℕ → View) → Facts c start m h (parts_of seats) → seats v.number ≡ v → IsSeated c seats v
         → v.start ≡ start → m p < 2 ^ 64
         → (w : View) × Facts c start m h (parts_of (set_at seats v.number w)) × tells (m p) w
 

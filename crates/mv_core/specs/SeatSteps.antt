@@ -1,13 +1,17 @@
 -- Making and joining seats, and the shared watermark: what each kind of step asks of its own view, and what it makes of it.
-use Rattle.std.specs.Prelude.{◌≡◌, ◌≢◌, ℕ, ◌+◌, ◌≤◌, max, List, [], ◌∷◌, ◌++◌, Some, None}
+use Rattle.std.specs.Prelude.{◌≡◌, ◌≢◌, ℕ, ◌+◌, ◌≤◌, ◌<◌, max, List, [], ◌∷◌, ◌++◌, length, Contains, Some, None}
+use mathlib.Core.Option.{some}
+use lib.ListN.{get_elem?}
 use Rattle.mv_history.specs.declared.Entry.{Entry}
+use Rattle.mv_history.specs.State.{maker_of}
 use Rattle.mv_history.specs.declared.StepKind.TheVariants.{MakeSeat, JoinSeat, LoadJoined, LoadGrace, RaiseGrace}
 use Rattle.mv_layout.specs.declared.Config.{Config}
 use Rattle.mv_layout.specs.declared.Place.TheVariants.{Clock, Grace}
 use Rattle.mv_core.specs.declared.view.View.{View}
 use Rattle.mv_core.specs.declared.view.Note.{Note}
 use Rattle.mv_core.specs.declared.view.Phase.TheVariants.{Outside}
-use Rattle.mv_core.specs.Views.{new_view, with_step}
+use Rattle.mv_core.specs.Views.{new_view, HasSeat, with_step}
+use Rattle.mv_core.specs.HistoryFacts.{KnowsPast}
 use Rattle.mv_core.specs.EnterSteps.{if_none}
 
 -- making a seat: the maker has made one more
@@ -36,11 +40,16 @@ joined c v other = record v {
   trail = with_step c v JoinSeat Clock None None;
 }
 
--- load CLOCK after a join
-abbrev pub MayLoadJoined : View → Type 0
-MayLoadJoined v = v.notes ≢ []
+-- What is told of the joined seats where the whole history is h. Each number is of the domain and none is twice. Each of these seats had
+-- seen a part of h, with all its own commits and rests, and so has the seat that is left. If they are all the seats of the domain, each
+-- entry is of one of them.
+pub record AreJoined (c : Config) (v : View) (h : List Entry) : Type 0 where
+  pub joined : (n : Note) → Contains v.notes n → (n.number < c.seats) × (n.number ≢ v.number) × KnowsPast h n.number n.past
+  pub once : (a b : ℕ) (m n : Note) → get_elem? v.notes a ≡ some m → get_elem? v.notes b ≡ some n → m.number ≡ n.number → a ≡ b
+  pub own : KnowsPast h v.number v.past
+  pub all : length v.notes + 1 ≡ c.seats → (e : Entry) → Contains h e → HasSeat v (maker_of e)
 
--- the whole history h is seen, and the word is loaded
+-- load CLOCK after a join: the whole history h is seen, and the word is loaded
 abbrev pub joined_loaded : Config → View → ℕ → List Entry → View
 joined_loaded c v word h = record v {
   past = record v.past { seen = h };

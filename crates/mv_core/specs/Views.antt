@@ -1,5 +1,5 @@
 -- Views as plain data, and what the facts of the rule read of them.
-use Rattle.std.specs.Prelude.{ℕ, ◌==◌, Bool, true, false, cond, List, [], ◌∷◌, ◌++◌, Option, Some, None}
+use Rattle.std.specs.Prelude.{◌≡◌, ◌⊎◌, Contains, ℕ, ◌==◌, Bool, true, false, cond, List, [], ◌∷◌, ◌++◌, Option, Some, None}
 use Rattle.mv_history.specs.State.{State}
 use Rattle.mv_history.specs.declared.Step.{Step}
 use Rattle.mv_history.specs.declared.StepKind.{StepKind}
@@ -10,6 +10,7 @@ use Rattle.mv_layout.specs.Words.{clock_time_of, clock_slot_of}
 use Rattle.mv_core.specs.declared.ring.Ring.{Ring}
 use Rattle.mv_core.specs.declared.view.View.{View}
 use Rattle.mv_core.specs.declared.view.Past.{Past}
+use Rattle.mv_core.specs.declared.view.Note.{Note}
 use Rattle.mv_core.specs.declared.view.Phase.{Phase}
 use Rattle.mv_core.specs.declared.view.Phase.TheVariants.{Outside, Lowered, Marked, Inside}
 use Rattle.mv_core.specs.declared.view.Section.{Section}
@@ -68,6 +69,10 @@ spent_view = record {
   notes = [];
   spent = true;
 }
+
+-- the seat of this number is that of the view, or was joined to it
+abbrev pub HasSeat : View → ℕ → Type 0
+HasSeat v s = (v.number ≡ s) ⊎ ((n : Note) × Contains v.notes n × (n.number ≡ s))
 
 -- the section that a seat is in
 abbrev pub section_of : Phase → Option Section

@@ -4,7 +4,7 @@ ghost use Rattle.mv_history.specs.declared.Entry.{Entry};
 ghost use Rattle.mv_core.specs.Passes.{view, IsOf, IsSame, IsSeatOf, config_of};
 ghost use Rattle.mv_core.specs.SectionFacts.{IsWord};
 ghost use Rattle.mv_core.specs.EnterSteps.{IsWhole};
-ghost use Rattle.mv_core.specs.SeatSteps.{MayJoin, joined, MayLoadJoined, joined_loaded};
+ghost use Rattle.mv_core.specs.SeatSteps.{MayJoin, joined, AreJoined, joined_loaded};
 
 use crate::entering::CLOCK;
 use crate::opening::Domain;
@@ -66,12 +66,15 @@ impl<P: Protocol> Shared<P> {
     }
 
     /// Loads CLOCK after a join. The pass then has seen the whole history, and has loaded this word.
+    /// Of each note: its number is below `seats`, and neither the own one nor that of another note;
+    /// its seat had seen a prefix of the history, which has all the commits and rests of that number.
+    /// The same holds of the own seat. Where the notes are one fewer than the seats of the domain,
+    /// each entry is of the own seat or of one with a note; a domain of one seat needs no join.
     pub fn load_joined<L: Ledger>(&self, pass: &mut Pass<P>, steps: &mut Steps<L>) -> u64
         requires of { IsOf self.now pass.old }
-        requires may { MayLoadJoined (view pass.old) }
         ensures same { IsSame pass.old pass.new }
         ensures view { (h : List Entry) × IsWhole (config_of self.now) (view pass.old) result h
-            × (view pass.new ≡ joined_loaded (config_of self.now) (view pass.old) result h) }
+            × AreJoined (config_of self.now) (view pass.old) h × (view pass.new ≡ joined_loaded (config_of self.now) (view pass.old) result h) }
         ensures word { IsWord (config_of self.now) result }
         ensures step { steps.new ≡ steps.old + 1 }
     {

@@ -44,7 +44,8 @@ module _ (c : Config) (start : State) (vs : List View) (seats : ℕ → View) (i
       (at_set vs id j w x at')
 
   -- the number of a joined seat isn't this one
-  noted_after : (j : ℕ) (x : View) (n : Note) → get_elem? (set vs id w) j ≡ some x → x.spent ≡ false → Contains x.notes n → IsNoted (set_at seats v.number w) n
+  noted_after : (j : ℕ) (x : View) (n : Note) → get_elem? (set vs id w) j ≡ some x → x.spent ≡ false → Contains x.notes n
+      → IsNoted c (set_at seats v.number w) n
   noted_after j x n at' un has =
       let o = was j x at' in
       let old_has : Contains o.0.notes n = subst (λ (ns : List Note). Contains ns n) o.2.4 has in
@@ -52,6 +53,7 @@ module _ (c : Config) (start : State) (vs : List View) (seats : ℕ → View) (i
       let same : set_at seats v.number w n.number ≡ seats n.number =
       set_at_else seats v.number w n.number (λ e. k.gone j id o.0 v n o.1 at old_un unspent old_has (sym e)) in
       let r = k.noted j o.0 n o.1 old_un old_has in record {
+        range = r.range;
         number = ap (λ (u : View). u.number) same ∙ r.number;
         past = ap (λ (u : View). u.past) same ∙ r.past;
         ring = ap (λ (u : View). u.ring) same ∙ r.ring;

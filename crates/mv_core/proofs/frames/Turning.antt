@@ -17,7 +17,7 @@ use Rattle.mv_core.specs.declared.shared.Opening.{Opening}
 use Rattle.mv_core.specs.Moves as moves
 use Rattle.mv_core.specs.Moves.{Moment, Kind, act, memory_after, history_after, IsStorable, IsSeat, Move, steps, Moves, moved}
 use Rattle.mv_core.specs.Rule.{LoadsAs, StoresAs, SwapsAs, RaisesAs}
-use Rattle.mv_core.proofs.FactTerms.{KnowsPast, Known, Facts, Ruled, Loads, Stores, Swaps, Raises, IsKept}
+use Rattle.mv_core.proofs.FactTerms.{KnowsPast, Known, Facts, IsSeated, Ruled, Loads, Stores, Swaps, Raises, IsKept}
 use Rattle.mv_core.proofs.moves.Grown.{stays}
 use Rattle.mv_core.proofs.frames.FrameLaw.{set_at_here, set_at_all}
 use Rattle.mv_core.proofs.points.KnownBounds.{known_low, known_found, known_back, known_next}
@@ -199,6 +199,14 @@ module _ (starts : State → Type 0) (allows : List ℕ → State → Writes →
     still_shows : (s : table.State (List ℕ) View) (r : Ruled starts allows key s) → Shows key.config (set s.words i (slice_index s.words i)) r.memory
     still_shows s r = subst (λ (ws : List ℕ). Shows key.config ws r.memory) (sym (set-get_or s.words i 0)) r.shows
 
+    -- the rule tells what `IsSeated` says of an unspent view
+    is_seated : (s : table.State (List ℕ) View) (r : Ruled starts allows key s) → get_elem? s.views id ≡ some me.0 → IsSeated key.config r.seats me.0
+    is_seated s r at = record {
+      range = (r.seated.there id me.0 at unspent).1;
+      noted = λ n has. (r.seated.noted id me.0 n at unspent has, λ same. r.seated.gone id id me.0 me.0 n at at unspent unspent has (sym same));
+      once = λ a b m n x y same. (r.seated.once id id a b me.0 me.0 m n at at unspent unspent x y same).1;
+    }
+
     pub load_allows : (kind : Kind) (told : ℕ → View → Type 0) (tells : ℕ → View → Type 0) → ((x : ℕ) (w : View) → tells x w → told x w)
         → LoadsAs starts allows key.config key.start.value.items me.0 p kind told
         → Loads starts allows key.config key.start.value.items me.0 p (λ n w. tells n w × IsKept me.0 w)
@@ -206,7 +214,7 @@ module _ (starts : State → Type 0) (allows : List ℕ → State → Writes →
     load_allows kind told tells weaker by law s r wide at small =
         let found = found_is s r in
         let there = r.seated.there id me.0 at unspent in
-        let t = law r.memory r.history r.seats r.facts there.0 there.1 begins (subst (λ (n : ℕ). n < 2 ^ 64) found small) in (
+        let t = law r.memory r.history r.seats r.facts there.0 (is_seated s r at) begins (subst (λ (n : ℕ). n < 2 ^ 64) found small) in (
           t.0,
           keeps,
           tt,

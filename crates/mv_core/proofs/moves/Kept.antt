@@ -3,7 +3,7 @@ use Rattle.std.proofs.Common.{◌≡◌, ◌≢◌, ℕ, ◌<◌, ◌^◌, max, 
 use Rattle.std.proofs.Common.{ne_eqb, Option, Some, None}
 use Rattle.mv_core.proofs.Terms.{dite, ℕ_discrete, Entry, State, Writes, Config, Place, Clock, Memory, put, View, parts_of, set_at}
 use Rattle.mv_core.specs.EnterSteps.{IsWhole}
-use Rattle.mv_core.specs.Rule.{Facts, IsKept}
+use Rattle.mv_core.specs.Rule.{Facts, IsSeated, IsKept}
 use Rattle.mv_core.specs.Moves.{Act, loads, stores, swaps, raises, memory_after, history_after}
 use Rattle.mv_core.proofs.moves.Grown.{stays, whole_is}
 
@@ -11,7 +11,7 @@ module _ (starts : State → Type 0) (allows : List ℕ → State → Writes →
   -- a step keeps all facts, whatever the words, the history and the other views are
   pub record Keeps (a : Act) : Type 0 where
     pub keeps : (m : Memory) (h : List Entry) (seats : ℕ → View) → Facts starts allows c start m h (parts_of seats) → seats v.number ≡ v
-        → v.number < c.seats → v.start ≡ start → m a.place < 2 ^ 64
+        → IsSeated c seats v → v.start ≡ start → m a.place < 2 ^ 64
         → Facts starts allows c start (memory_after m a.place (a.writes (m a.place))) (history_after h (a.entry (m a.place)))
         (parts_of (set_at seats v.number (a.view (m a.place) h))) × IsKept v (a.view (m a.place) h)
 
@@ -19,9 +19,12 @@ module _ (starts : State → Type 0) (allows : List ℕ → State → Writes →
   abbrev Kept : Memory → List Entry → (ℕ → View) → View → Type 0
   Kept m h seats w = Facts starts allows c start m h (parts_of (set_at seats v.number w)) × IsKept v w
 
-  -- what `Loads`, `Stores`, `Swaps` and `Raises` are to a step, whatever they tell
+  -- what `Stores`, `Swaps` and `Raises` are to a step, whatever they tell, and what `Loads` is
   abbrev Asked : Memory → List Entry → (ℕ → View) → Type 0 → Type 0
   Asked m h seats A = Facts starts allows c start m h (parts_of seats) → seats v.number ≡ v → v.number < c.seats → v.start ≡ start → A
+
+  abbrev AskedLoad : Memory → List Entry → (ℕ → View) → Type 0 → Type 0
+  AskedLoad m h seats A = Facts starts allows c start m h (parts_of seats) → seats v.number ≡ v → IsSeated c seats v → v.start ≡ start → A
 
   abbrev Shown : Memory → List Entry → (ℕ → View) → (View → Type 0) → Type 0
   Shown m h seats T = (w : View) × Facts starts allows c start m h (parts_of (set_at seats v.number w)) × (T w × IsKept v w)
@@ -31,7 +34,7 @@ module _ (starts : State → Type 0) (allows : List ℕ → State → Writes →
       (w : View) × (longer : List Entry) × Facts starts allows c start m longer (parts_of (set_at seats v.number w)) × (T w × IsKept v w)
 
   pub load_keeps : (may : Type 0) (p : Place) (view : ℕ → List Entry → View) (tells : Memory → View → Type 0)
-      → ((m : Memory) (h : List Entry) (seats : ℕ → View) → Asked m h seats (m p < 2 ^ 64 → Shown m h seats (tells m)))
+      → ((m : Memory) (h : List Entry) (seats : ℕ → View) → AskedLoad m h seats (m p < 2 ^ 64 → Shown m h seats (tells m)))
       → ((m : Memory) (h : List Entry) (seats : ℕ → View) (w : View) → Facts starts allows c start m h (parts_of (set_at seats v.number w))
       → tells m w → w ≡ view (m p) h)
       → Keeps (loads may p view)
@@ -43,7 +46,7 @@ module _ (starts : State → Type 0) (allows : List ℕ → State → Writes →
 
   -- a load that shows the whole history
   pub clock_keeps : (may : Type 0) (view : ℕ → List Entry → View) (tells : Memory → View → Type 0)
-      → ((m : Memory) (h : List Entry) (seats : ℕ → View) → Asked m h seats (m Clock < 2 ^ 64 → Shown m h seats (tells m)))
+      → ((m : Memory) (h : List Entry) (seats : ℕ → View) → AskedLoad m h seats (m Clock < 2 ^ 64 → Shown m h seats (tells m)))
       → ((m : Memory) (w : View) → tells m w → (h : List Entry) × IsWhole c v (m Clock) h × (w ≡ view (m Clock) h))
       → ((n : ℕ) (h : List Entry) → (view n h).past.seen ≡ h)
       → Keeps (loads may Clock view)
@@ -56,7 +59,7 @@ module _ (starts : State → Type 0) (allows : List ℕ → State → Writes →
       → ((w : View) → tells w → w ≡ view) → view.past ≡ v.past → Keeps (stores may p n view)
   store_keeps may p n view tells law exact past = record {
     keeps = λ m h seats k is own begins small.
-        let t = law m h seats k is own begins in
+        let t = law m h seats k is own.range begins in
         let e = exact t.0 t.3.0 in
         subst (Kept (put m p n) h seats) e (
           subst (λ (l : List Entry). Facts starts allows c start (put m p n) l (parts_of (set_at seats v.number t.0)))
@@ -70,7 +73,7 @@ module _ (starts : State → Type 0) (allows : List ℕ → State → Writes →
       → ((m : Memory) (w : View) → tells m w → w ≡ view (m p)) → Keeps (raises may p n view)
   raise_keeps may p n view tells law exact = record {
     keeps = λ m h seats k is own begins small.
-        let t = law m h seats k is own begins small in
+        let t = law m h seats k is own.range begins small in
         subst (Kept (put m p (max (m p) n)) h seats) (exact m t.0 t.2.0) (t.1, t.2.1);
   }
 
@@ -92,12 +95,12 @@ module _ (starts : State → Type 0) (allows : List ℕ → State → Writes →
         × IsKept v (if b then won h else lost (m p) h) in
         dite (ℕ_discrete (m p) old)
         (λ hit.
-        let t = law.0 m h seats k is own begins hit in
+        let t = law.0 m h seats k is own.range begins hit in
         let e = exact_won m h t.1 seats t.0 k is hit t.2 t.3.0 in
         subst Goal (sym (eq-eqb (m p) old hit))
         (subst (Kept (put m p new) (history_after h made) seats) e.0
         (subst (λ (l : List Entry). Facts starts allows c start (put m p new) l (parts_of (set_at seats v.number t.0))) e.1 t.2, t.3.1)))
         (λ miss.
-        let t = law.1 m h seats k is own begins miss small in
+        let t = law.1 m h seats k is own.range begins miss small in
         subst Goal (sym (ne_eqb (m p) old miss)) (subst (Kept m h seats) (exact_lost m h seats t.0 miss t.1 t.2.0) (t.1, t.2.1)));
   }

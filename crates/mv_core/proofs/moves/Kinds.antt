@@ -122,4 +122,4 @@ module _ (starts : State → Type 0) (allows : List ℕ → State → Writes →
       (λ m h longer seats w k is hit l t. let e = t.0.0.0 refl in (e, stays seats v w is k l (ap (λ (u : View). u.past) e)))
       (λ m h seats w miss l t. t.0.0.1 miss)
   kept (store_free position) may = store_keeps starts allows c start v _ _ _ _ _ (free_stores starts allows c start v position may) (λ w t. t.0) refl
-  kept load_joined may = clock_keeps starts allows c start v _ _ _ (joined_loads starts allows c start v) (λ n w t. t.0.0) (λ n h. refl)
+  kept load_joined may = clock_keeps starts allows c start v _ _ _ (joined_loads starts allows c start v) (λ n w t. (t.0.0.0, t.0.0.1, t.0.0.3)) (λ n h. refl)

@@ -2,19 +2,20 @@
 use Rattle.std.proofs.Common.{◌≡◌, ◌≢◌, ℕ, ◌+◌, ◌<◌, ◌≤◌, ◌^◌, Bool, true, false, cond, List, [], ◌∷◌, sym}
 use Rattle.std.proofs.Common.{refl, ap, ◌∙◌, subst, arith, ne_eqb, append-nil, Option, Some, None}
 use Rattle.mv_core.proofs.Terms.{Entry, State, Writes, Config, Place, Clock, Grace, Mark, Head, Master, First, Stamp, Prev, Super, Data, Memory, same}
-use Rattle.mv_core.proofs.Terms.{View, new_view, parts_of, set_at}
+use Rattle.mv_core.proofs.Terms.{some-ne-none, View, new_view, parts_of, set_at}
 use Rattle.mv_core.specs.HistoryFacts.{BeginsWith}
-use Rattle.mv_core.specs.SeatSteps.{made_one, newly_made, joined}
+use Rattle.mv_core.specs.SeatSteps.{made_one, newly_made, MayJoin, joined}
 use Rattle.mv_core.specs.Start.{opening_memory}
 use Rattle.mv_core.specs.Rule.{Facts}
 use Rattle.mv_core.specs.Moves.{Moment, Act, act, memory_after, history_after, stepped, IsStorable, IsSeat, Move, steps, makes, joins, seat_made}
 use Rattle.mv_core.specs.Moves.{seat_joined, opened, moved}
-use Rattle.mv_core.specs.MoveLaws.{SeatsHold, Holds}
+use Rattle.mv_core.specs.MoveLaws.{SeatsHold, NotesHold, Holds}
 use Rattle.mv_core.specs.MoveLaws.{MovesKeep, OpeningHolds, ReachedHold}
 use Rattle.mv_core.proofs.frames.FrameLaw.{set_at_here, set_at_else, set_at_all, set_at_same, unread}
 use Rattle.mv_core.proofs.kinds.opening.Starting.{starting_facts}
 use Rattle.mv_core.proofs.moves.Kept.{Keeps}
 use Rattle.mv_core.proofs.moves.Kinds.{kept}
+use Rattle.mv_core.proofs.moves.Notes.{seat_is, notes_after, notes_joined}
 
 -- a word is written, if any
 small_after : (m : Memory) (q : Place) (o : Option ℕ) → ((p : Place) → m p < 2 ^ 64) → IsStorable o → (p : Place) → memory_after m q o p < 2 ^ 64
@@ -52,18 +53,17 @@ module _ (starts : State → Type 0) (allows : List ℕ → State → Writes →
     own : (v.number ≡ n) × (v.start ≡ start) × (v.base ≡ c.base)
     own = k.seats.own n
 
-    within : n < c.seats
-    within = let a = active.made in let b = k.seats.made in omega arith
-
     -- after a step on one word
     step_holds : (a : Act) → IsStorable (a.writes (s.memory a.place)) → Keeps starts allows c start v a → Holds starts allows c start (stepped a n s)
     step_holds a fits keeps =
-        let r = keeps.keeps s.memory s.history s.seats k.facts (ap s.seats own.0) (subst (λ (i : ℕ). i < c.seats) (sym own.0) within) own.1
+        let r = keeps.keeps s.memory s.history s.seats k.facts (ap s.seats own.0)
+        (seat_is c start s.seats k.seats k.notes n active.made active.unspent) own.1
         (k.words a.place) in
         let w = a.view (s.memory a.place) s.history in
         record {
           words = small_after s.memory a.place (a.writes (s.memory a.place)) k.words fits;
           seats = seats_after c start s.seats k.seats n active.made w (r.1.0 ∙ own.0) (r.1.1 ∙ own.1) (r.1.2 ∙ own.2) r.1.3;
+          notes = notes_after c s.seats k.notes n active.unspent w r.1.4 r.1.5;
           facts = subst
               (λ (i : ℕ). Facts starts allows c start (memory_after s.memory a.place (a.writes (s.memory a.place)))
               (history_after s.history (a.entry (s.memory a.place))) (parts_of (set_at s.seats i w))) own.0 r.0;
@@ -92,12 +92,13 @@ module _ (starts : State → Type 0) (allows : List ℕ → State → Writes →
         record {
           words = k.words;
           seats = subst (SeatsHold c start) (sym same) seats;
+          notes = subst (NotesHold c) (sym same) (notes_after c s.seats k.notes n active.unspent w refl refl);
           facts = subst (λ (f : ℕ → View). Facts starts allows c start s.memory s.history (parts_of f)) (sym same) facts;
         }
 
     -- after the joining of another seat, whose view is as it was but spent
-    joined_holds : (o : ℕ) → o ≢ n → IsSeat s o → Holds starts allows c start (seat_joined c n o s)
-    joined_holds o ne other =
+    joined_holds : (o : ℕ) → o ≢ n → IsSeat s o → MayJoin v (s.seats o) → Holds starts allows c start (seat_joined c n o s)
+    joined_holds o ne other may =
         let w = s.seats o in
         let u = joined c v w in
         let there : set_at s.seats n u o ≡ w = set_at_else s.seats n u o ne in
@@ -111,6 +112,8 @@ module _ (starts : State → Type 0) (allows : List ℕ → State → Writes →
           words = k.words;
           seats = seats_after c start (set_at s.seats n u) seats o other_made (record w { spent = true }) own_other.0 own_other.1
               own_other.2 (ap (λ (y : View). y.made) (sym there));
+          notes = notes_joined c s.seats k.notes n o active.unspent other.unspent may
+              (let a = other.made in let b = k.seats.made in omega arith) own_other.0 ne;
           facts = unread starts allows c start s.memory s.history (set_at s.seats n u) o w (record w { spent = true }) there
               (refl, refl, refl, refl, refl, refl, refl, refl, refl, refl, refl) facts;
         }
@@ -127,7 +130,7 @@ module _ (starts : State → Type 0) (allows : List ℕ → State → Writes →
         (made_holds first room, ([], sym (append-nil s.history)))
     move_holds t (joins other ne seat may is) =
         subst (λ (u : Moment). Holds starts allows c start u × BeginsWith u.history s.history) (sym is)
-        (joined_holds other ne seat, ([], sym (append-nil s.history)))
+        (joined_holds other ne seat may, ([], sym (append-nil s.history)))
 
 pub moves_keep : (starts : State → Type 0) (allows : List ℕ → State → Writes → Type 0) → MovesKeep starts allows
 moves_keep starts allows c start s t k move = move_holds starts allows c start s k move.0 move.1 t move.2
@@ -139,6 +142,10 @@ opening_holds starts allows c start k = record {
     own = λ n. (refl, refl, refl);
     made = k.checked.seats.0;
     later = λ n le. ap (λ b. new_view c start n (cond b 1 0)) (ne_eqb n 0 (λ e. omega arith));
+  };
+  notes = record {
+    noted = λ n x un has. let lt = has.1 in absurd (omega arith);
+    once = λ i j a b x y un vn e. absurd (some-ne-none x (sym e));
   };
   facts = starting_facts starts allows c start k.checked k.sized k.six k.lawful;
 }

@@ -1,18 +1,16 @@
 -- load CLOCK (time a dead version): the own aborted and cut versions that wait for it are dead from the time after the clock's, and their seat sees the whole
 -- history.
-use Rattle.std.proofs.Common.{◌≡◌, ◌≢◌, ◌⊎◌, ℕ, ◌+◌, ◌-◌, ◌/◌, ◌<◌, ◌≤◌, Bool, true, false, List, ◌++◌}
+use Rattle.std.proofs.Common.{◌≡◌, ◌≢◌, ◌⊎◌, ℕ, ◌+◌, ◌-◌, ◌/◌, ◌<◌, ◌≤◌, false, List, ◌++◌}
 use Rattle.std.proofs.Common.{length, map, length-append, refl, sym, ap, ◌∙◌, subst, inl, inr, ⊎_elim, arith, Option, Some}
 use Rattle.mv_core.proofs.Terms.{Entry, State, Writes, Config, Clock, First, Prev, Super, Data, Memory, clock_time_of, Ring, Slot, Free, Built, Live}
 use Rattle.mv_core.proofs.Terms.{Freeing, Version, Status, Held, Aborted, Committed, CommitNote, View, Past, slot_at, is_held, held_count, Lives}
-use Rattle.mv_core.proofs.Terms.{Names, IsVersion, latest_at, ViewParts, parts_of}
+use Rattle.mv_core.proofs.Terms.{Names, ViewParts, parts_of}
 use Rattle.mv_core.proofs.FactTerms.{HoldsSlot, SlotWords, IsWord, IsBeforeDeath, WalkerBeforeDeath, Deaths, DeathSeen, DeathsSeen, DeathAfterWrite}
 use Rattle.mv_core.proofs.FactTerms.{SuccessorFlag, RunsOn, Facts, Loads, IsKept}
 use Rattle.mv_core.specs.EnterSteps.{IsWhole}
 use Rattle.mv_core.specs.LockSteps.{timed_status, timed, death_loaded}
 use Rattle.mv_core.proofs.frames.FrameLaw.{set_at_here, unchanged, changed, settle}
-use Rattle.mv_core.proofs.logs.Links.{note_once, names_once, none_names_zero, gone_names_none}
 use Rattle.mv_core.proofs.logs.BelowCommit.{link_below}
-use Rattle.mv_core.proofs.logs.Finding.{find_write}
 use Rattle.mv_core.proofs.logs.Written.{commit_within}
 use Rattle.mv_core.proofs.frames.ClockLoads.{whole_seen}
 use Rattle.mv_core.proofs.logs.Counts.{held_mapped}
@@ -284,7 +282,7 @@ module _ (starts : State → Type 0) (allows : List ℕ → State → Writes →
             (ap (λ (q : Past). q.seen) (set_at_here f.past n p))),
         (
           (
-            ((h, (front, k.history.long), refl), k.loaded_words.clock_is),
+            ((h, (front, k.history.long, k.history.makers), refl), k.loaded_words.clock_is),
             (λ time first a begun.
                 (a, λ i e mode some_held. begun i e mode (subst (λ (u : ℕ). 0 < u) held some_held) ∙ ap (λ (u : ℕ). v.ring.next - u) (sym held))),
           ),

@@ -98,7 +98,7 @@ module _ (starts : State → Type 0) (allows : List ℕ → State → Writes →
       (λ _ e. let same : now ≡ u = cc in let l = k.history.long in omega arith)
       (λ ne e. old.phases_and_scan.seen s u e) in
       let within : (s u : ℕ) → set_at f.time n (Some now) s ≡ Some u → s < c.seats =
-      λ s u. by_seat s n (λ b. cond b (Some now) (f.time s) ≡ Some u → s < c.seats) (λ same e. subst (λ (x : ℕ). x < c.seats) (sym same) own)
+      λ s u. by_seat s n (λ b. cond b (Some now) (f.time s) ≡ Some u → s < c.seats) (λ same e. subst (λ (x : ℕ). x < c.seats) (sym same) own.range)
       (λ ne e. k.phases_and_scan.within s u e) in
       let begun = record unchanged { past = Some p; phase = Some (Inside inside); section = Some (Some inside); time = Some (Some now) } in (
         w,
@@ -121,7 +121,7 @@ module _ (starts : State → Type 0) (allows : List ℕ → State → Writes →
             let cut_more = more.cut_more c start h f.ring sets f.time n (Some now) late k.cut_is_old in
             assumption (k)),
         (
-          ((h, (front, k.history.long), refl), k.loaded_words.clock_is, subst (λ (u : View). HoldsNothing u.ring) is nothing),
+          ((h, (front, k.history.long, k.history.makers), refl), k.loaded_words.clock_is, subst (λ (u : View). HoldsNothing u.ring) is nothing),
           (refl, refl, refl, refl, refl, refl),
         ),
       )

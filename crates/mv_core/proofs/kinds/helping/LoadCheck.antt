@@ -8,7 +8,7 @@ use Rattle.mv_core.proofs.Terms.{Entry, State, Writes, Config, Clock, Stamp, clo
 use Rattle.mv_core.proofs.Terms.{Committed, View, Past, LoadedClocks, FoundStamp, index_of, Lives, names_none, ViewParts, parts_of}
 use Rattle.mv_core.proofs.FactTerms.{Positions, IsWord, WasClock, IsDone, IsNamedCommit, IsFound, RunsOn, Loads, IsKept}
 use Rattle.mv_core.specs.EnterSteps.{IsWhole, if_none, checked_found, checked_helped, checked_clocks, check_loaded}
-use Rattle.mv_core.proofs.frames.FrameLaw.{unchanged, changed, settle}
+use Rattle.mv_core.proofs.frames.FrameLaw.{unchanged, settle}
 use Rattle.mv_core.proofs.frames.ClocksLoaded.{ClocksAre, one_more_word, clocks_was, clocks_facts}
 use Rattle.mv_core.proofs.frames.ClockLoads.{whole_seen}
 
@@ -119,5 +119,5 @@ module _ (starts : State → Type 0) (allows : List ℕ → State → Writes →
           refl,
           refl,
         ) clocks,
-        ((((h, (front, k.history.long), refl), k.loaded_words.clock_is), (λ t i a b. (a, b))), (refl, refl, refl, refl, refl, refl)),
+        ((((h, (front, k.history.long, k.history.makers), refl), k.loaded_words.clock_is), (λ t i a b. (a, b))), (refl, refl, refl, refl, refl, refl)),
       )

@@ -1,10 +1,10 @@
 -- Joining a seat: its view is spent, and the seat that is left has a note of it.
-use Rattle.std.proofs.Common.{◌≡◌, ◌≢◌, ◌⊎◌, ℕ, zero, suc, ◌+◌, ◌<◌, ◌≤◌, true, false, List, [], ◌∷◌}
-use Rattle.std.proofs.Common.{◌++◌, length, set, sym, refl, ap, ◌∙◌, subst, inl, inr, ⊎_elim, arith, All}
+use Rattle.std.proofs.Common.{◌≡◌, ◌≢◌, ◌⊎◌, ℕ, zero, suc, ◌+◌, ◌<◌, ◌≤◌, true, false, List, ◌∷◌}
+use Rattle.std.proofs.Common.{length, set, sym, refl, ap, ◌∙◌, subst, inl, inr, ⊎_elim, arith, All}
 use Rattle.std.specs.Prelude.{Contains}
-use Rattle.std.proofs.lemmas.List.Elements.{All-contains, All-append, All-cons, Contains-append_cases, Contains-append_left, Contains-append_right}
+use Rattle.std.proofs.lemmas.List.Elements.{All-append, All-cons, Contains-append_left, Contains-append_right}
 use Rattle.std.proofs.Math.Logic.{∥∥₁_map}
-use Rattle.mv_core.proofs.Terms.{dite, some, some-injective, some-ne-none, ℕ_discrete, get_elem?, State, Writes, Config, View, Note, Outside, Inside}
+use Rattle.mv_core.proofs.Terms.{dite, some, some-injective, ℕ_discrete, get_elem?, State, Writes, Config, View, Note, Outside, Inside}
 use Rattle.mv_core.proofs.Terms.{new_view, spent_view, set_at}
 use Rattle.atomic_table.specs.Table.{Joins}
 use Rattle.atomic_table.proofs.Lists.{at_set, set_here, set_else}
@@ -15,37 +15,8 @@ use Rattle.mv_core.specs.Moves.{Moment, IsSeat, joins, moved, seat_joined}
 use Rattle.mv_core.proofs.frames.FrameLaw.{set_at_here, set_at_else, set_at_all, unread}
 use Rattle.mv_core.proofs.points.KnownLogs.{commit_still}
 use Rattle.mv_core.proofs.frames.SeatsThere.{at_within, named_still}
-
--- where an element of a list stands that is put together of two and one between them
-record After {A : Type 0} (zs : List A) (n : ℕ) (i : ℕ) (a : A) : Type 0 where
-  step : ℕ
-  place : i ≡ n + suc step
-  there : get_elem? zs step ≡ some a
-
-between : {A : Type 0} (xs zs : List A) (y a : A) (i : ℕ) → get_elem? (xs ++ y ∷ zs) i ≡ some a
-    → (get_elem? xs i ≡ some a) ⊎ (((i ≡ length xs) × (y ≡ a)) ⊎ After zs (length xs) i a)
-between [] zs y a zero e = inr (inl (refl, some-injective y a e))
-between [] zs y a (suc i) e = inr (inr (record { step = i; place = omega arith; there = e }))
-between (x ∷ xs) zs y a zero e = inl e
-between (x ∷ xs) zs y a (suc i) e =
-    ⊎_elim inl
-    (λ r. inr (⊎_elim (λ here. inl (ap suc here.0, here.1))
-    (λ after. inr (record { step = after.step; place = (let is = after.place in omega arith); there = after.there })) r))
-    (between xs zs y a i e)
-
--- an element at a place is one of the list
-at_contains : {A : Type 0} (xs : List A) (i : ℕ) (a : A) → get_elem? xs i ≡ some a → Contains xs a
-at_contains [] i a e = absurd (some-ne-none a (sym e))
-at_contains (x ∷ xs) zero a e = (zero, omega arith, some-injective x a e)
-at_contains (x ∷ xs) (suc i) a e = let r = at_contains xs i a e in let lt = r.1 in (suc r.0, omega arith, r.2)
-
--- an element of a list that is put together of two and one between them
-contains_between : {A : Type 0} (xs zs : List A) (y a : A) → Contains (xs ++ y ∷ zs) a → (Contains xs a) ⊎ ((y ≡ a) ⊎ Contains zs a)
-contains_between xs zs y a has = ⊎_elim inl (λ r. inr (first_or zs y a r)) (Contains-append_cases xs (y ∷ zs) a has)
-  where
-    first_or : {A : Type 0} (zs : List A) (y a : A) → Contains (y ∷ zs) a → (y ≡ a) ⊎ Contains zs a
-    first_or zs y a (zero, lt, e) = inl e
-    first_or zs y a (suc i, lt, e) = inr (i, omega (arith, lt), e)
+use Rattle.mv_core.proofs.kinds.joining.Between.{After, between, at_contains, contains_between}
+use Rattle.mv_core.proofs.kinds.joining.NotedSeat.{seated_noted}
 
 module _ (c : Config) (start : State) (vs : List View) (seats : ℕ → View) (id o : ℕ) (v w : View) (k : Seated c start vs seats)
     (at : get_elem? vs id ≡ some v) (other_at : get_elem? vs o ≡ some w) (other : o ≢ id)
@@ -128,11 +99,13 @@ module _ (c : Config) (start : State) (vs : List View) (seats : ℕ → View) (i
   joined_was : Was id u
   joined_was = record { view = v; place = at; left = λ same. other (sym same); number_is = refl; made_is = refl; still = unspent }
 
-  noted_before : (i : ℕ) (y : View) (n : Note) → Noted i y n → IsNoted seats n
+  noted_before : (i : ℕ) (y : View) (n : Note) → Noted i y n → IsNoted c seats n
   noted_before i y n (as_before a has) = k.noted i a.view n a.place a.still has
   noted_before i y n (of_joined a is) =
-      let there = (k.there o w other_at other_unspent).0 in
-      subst (IsNoted seats) is (record {
+      let both = k.there o w other_at other_unspent in
+      let there = both.0 in
+      subst (IsNoted c seats) is (record {
+        range = both.1;
         number = ap (λ (z : View). z.number) there;
         past = ap (λ (z : View). z.past) there;
         ring = ap (λ (z : View). z.ring) there;
@@ -141,12 +114,13 @@ module _ (c : Config) (start : State) (vs : List View) (seats : ℕ → View) (i
       })
   noted_before i y n (of_its a has) = k.noted o w n other_at other_unspent has
 
-  noted_after : (i : ℕ) (y : View) (n : Note) → get_elem? list i ≡ some y → y.spent ≡ false → Contains y.notes n → IsNoted (set_at seats v.number u) n
+  noted_after : (i : ℕ) (y : View) (n : Note) → get_elem? list i ≡ some y → y.spent ≡ false → Contains y.notes n → IsNoted c (set_at seats v.number u) n
   noted_after i y n e un has =
       let from = noted i y n e un has in
       let same : set_at seats v.number u n.number ≡ seats n.number =
       set_at_else seats v.number u n.number (λ is. noted_apart i id y u n from joined_was (sym is)) in
       let r = noted_before i y n from in record {
+        range = r.range;
         number = ap (λ (z : View). z.number) same ∙ r.number;
         past = ap (λ (z : View). z.past) same ∙ r.past;
         ring = ap (λ (z : View). z.ring) same ∙ r.ring;
@@ -316,40 +290,6 @@ module _ (c : Config) (start : State) (vs : List View) (seats : ℕ → View) (i
     maker = maker_after;
     made = made_after;
     all = all_after;
-  }
-
--- a seat of which there is a note has another view that is as the note says
-module _ (c : Config) (start : State) (vs : List View) (seats : ℕ → View) (k : Seated c start vs seats) (o : ℕ) (x : View) (id : ℕ) (v : View) (n : Note)
-    (at : get_elem? vs id ≡ some v) (unspent : v.spent ≡ false) (has : Contains v.notes n)
-    (of_it : n.number ≡ o) (number : x.number ≡ (seats o).number) (begins : x.start ≡ (seats o).start) (from : x.base ≡ (seats o).base)
-    (past : x.past ≡ (seats o).past) (ring : x.ring ≡ (seats o).ring) (phase : x.phase ≡ (seats o).phase) (scan : x.scan ≡ (seats o).scan) where
-  agree : (s : ℕ) → ((set_at seats o x s).number ≡ (seats s).number) × ((set_at seats o x s).start ≡ (seats s).start)
-      × ((set_at seats o x s).base ≡ (seats s).base) × ((set_at seats o x s).past ≡ (seats s).past) × ((set_at seats o x s).ring ≡ (seats s).ring)
-      × ((set_at seats o x s).phase ≡ (seats s).phase) × ((set_at seats o x s).scan ≡ (seats s).scan)
-  agree = set_at_all (λ s u. (u.number ≡ (seats s).number) × (u.start ≡ (seats s).start) × (u.base ≡ (seats s).base) × (u.past ≡ (seats s).past)
-      × (u.ring ≡ (seats s).ring) × (u.phase ≡ (seats s).phase) × (u.scan ≡ (seats s).scan))
-      seats o x (number, begins, from, past, ring, phase, scan) (λ s ne. (refl, refl, refl, refl, refl, refl, refl))
-
-  pub seated_noted : Seated c start vs (set_at seats o x)
-  seated_noted = record {
-    own = λ s. let a = agree s in let b = k.own s in (a.0 ∙ b.0, a.1 ∙ b.1, a.2 ∙ b.2);
-    there = λ j y at' un. let t =
-        k.there j y at' un in (set_at_else seats o x y.number (λ e. k.gone id j v y n at at' unspent un has (e ∙ sym of_it)) ∙ t.0, t.1);
-    apart = k.apart;
-    noted = λ j y m at' un in_it. let r = k.noted j y m at' un in_it in let a = agree m.number in
-        record { number = a.0 ∙ r.number; past = a.3 ∙ r.past; ring = a.4 ∙ r.ring; outside = a.5 ∙ r.outside; no_scan = a.6 ∙ r.no_scan };
-    gone = k.gone;
-    once = k.once;
-    maker = λ j y at' un some_made.
-        let r = k.maker j y at' un some_made in
-        let below : n.number < y.made = All-contains (λ (m : Note). m.number < y.made) v.notes n (k.made j id y v at' at un unspent some_made).1 has in
-        (r.0, λ s le. set_at_else seats o x s (λ e. omega arith) ∙ r.1 s le);
-    made = k.made;
-    all = λ s. ⊎_elim inl
-        (λ new. dite (ℕ_discrete s o)
-        (λ e. inl (record { id = id; holder = v; place = at; unspent = unspent; named = inr (n, has, of_it ∙ sym e) }))
-        (λ ne. inr (set_at_else seats o x s ne ∙ new)))
-        (k.all s);
   }
 
 -- the join of two seats keeps the rule

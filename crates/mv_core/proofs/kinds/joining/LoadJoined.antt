@@ -1,15 +1,16 @@
--- load CLOCK after a join: the word found is loaded, and the whole history is seen.
+-- load CLOCK after a join: the word found is loaded, the whole history is seen, and it is told of the joined seats.
 use Rattle.std.proofs.Common.{◌≡◌, ℕ, List, refl, sym, ap, Some}
 use Rattle.mv_core.proofs.Terms.{Entry, State, Writes, Config, Clock, View}
 use Rattle.mv_core.proofs.FactTerms.{IsWord, RunsOn, Loads, IsKept}
 use Rattle.mv_core.specs.EnterSteps.{IsWhole}
-use Rattle.mv_core.specs.SeatSteps.{joined_loaded}
+use Rattle.mv_core.specs.SeatSteps.{AreJoined, joined_loaded}
 use Rattle.mv_core.proofs.frames.FrameLaw.{unchanged, settle}
+use Rattle.mv_core.proofs.kinds.joining.JoinedPasts.{are_joined}
 use Rattle.mv_core.proofs.kinds.naming.LostClock.{lost_clocks, lost_facts, lost_whole}
 
 module _ (starts : State → Type 0) (allows : List ℕ → State → Writes → Type 0) (c : Config) (start : State) (v : View) where
   pub joined_loads : Loads starts allows c start v Clock
-      (λ n w. ((((h : List Entry) × IsWhole c v n h × (w ≡ joined_loaded c v n h)) × IsWord c n) × RunsOn v w) × IsKept v w)
+      (λ n w. ((((h : List Entry) × IsWhole c v n h × AreJoined c v h × (w ≡ joined_loaded c v n h)) × IsWord c n) × RunsOn v w) × IsKept v w)
   joined_loads m h seats k is own begins wide =
       let n = v.number in
       let w : View = joined_loaded c v (m Clock) h in (
@@ -29,5 +30,8 @@ module _ (starts : State → Type 0) (allows : List ℕ → State → Writes →
               refl,
             )
             (lost_facts v seats k is),
-        ((((h, lost_whole v seats k is, refl), k.loaded_words.clock_is), (λ t i a b. (a, b))), (refl, refl, refl, refl, refl, refl)),
+        (
+          (((h, lost_whole v seats k is, are_joined v seats k is own, refl), k.loaded_words.clock_is), (λ t i a b. (a, b))),
+          (refl, refl, refl, refl, refl, refl),
+        ),
       )

@@ -59,7 +59,8 @@ module _ {starts : State → Type 0} {allows : List ℕ → State → Writes →
   -- this is the whole history, by the word found
   pub lost_whole : IsWhole c v (m Clock) h
   lost_whole =
-      let front : BeginsWith h v.past.seen = subst (λ (u : View). BeginsWith h u.past.seen) is (k.history.seats v.number).seen in (front, k.history.long)
+      let front : BeginsWith h v.past.seen = subst (λ (u : View). BeginsWith h u.past.seen) is (k.history.seats v.number).seen in
+      (front, k.history.long, k.history.makers)
 
   -- a word that was loaded and isn't in the clock any more was overtaken
   pub lost_overtaken : (word : ℕ) → Contains v.clocks.loaded word → m Clock ≢ word → IsOvertaken c word (m Clock) h

@@ -132,7 +132,7 @@ module _ (c : Config) (start : State) (vs : List View) (seats : ℕ → View) (i
           (set_at_else seats v.number w v.made (λ same. let z = is_zero in omega arith) ∙ new_is, room)
 
   noted_after : (j : ℕ) (y : View) (n : Note) → get_elem? (set vs id w ++ x ∷ []) j ≡ some y → y.spent ≡ false → Contains y.notes n
-      → IsNoted (set_at seats v.number w) n
+      → IsNoted c (set_at seats v.number w) n
   noted_after j y n e un has =
       ⊎_elim
       (λ o.
@@ -141,6 +141,7 @@ module _ (c : Config) (start : State) (vs : List View) (seats : ℕ → View) (i
       let same : set_at seats v.number w n.number ≡ seats n.number =
       set_at_else seats v.number w n.number (λ e. k.gone j id o.0 v n o.1 at old_un unspent old_has (sym e)) in
       let r = k.noted j o.0 n o.1 old_un old_has in record {
+        range = r.range;
         number = ap (λ (u : View). u.number) same ∙ r.number;
         past = ap (λ (u : View). u.past) same ∙ r.past;
         ring = ap (λ (u : View). u.ring) same ∙ r.ring;

@@ -7,7 +7,7 @@ use Rattle.mv_core.proofs.Terms.{Inside, Scan, NotAbove, ViewParts, parts_of, ti
 use Rattle.mv_core.proofs.FactTerms.{ScanIs, MarkedAs, IsWord, RunsOn, Loads, IsKept}
 use Rattle.mv_core.specs.EnterSteps.{IsWhole}
 use Rattle.mv_core.specs.ReclaimSteps.{other_from, least_with, MayLoadScan, scan_loaded, MayLoadMark, mark_loaded, scan_on, grace_on}
-use Rattle.mv_core.proofs.frames.FrameLaw.{unchanged, changed, settle}
+use Rattle.mv_core.proofs.frames.FrameLaw.{unchanged, settle}
 use Rattle.mv_core.proofs.frames.ClockLoads.{whole_seen}
 use Rattle.mv_core.proofs.frames.Watermarks.{lower_not_above}
 use Rattle.mv_core.proofs.frames.Scanning.{scan_goes_on}
@@ -88,7 +88,10 @@ module _ (starts : State → Type 0) (allows : List ℕ → State → Writes →
               refl,
               ap (λ (u : View). grace_on c u.grace now from) (sym is),
             ) facts,
-        ((((h, (front, k.history.long), refl), k.loaded_words.clock_is, k.history.makers), (λ t i a b. (a, b))), (refl, refl, refl, refl, refl, refl)),
+        (
+          (((h, (front, k.history.long, k.history.makers), refl), k.loaded_words.clock_is, k.history.makers), (λ t i a b. (a, b))),
+          (refl, refl, refl, refl, refl, refl),
+        ),
       )
 
   pub mark_loads : (seat : ℕ) (scan : Scan) → MayLoadMark c v seat scan

@@ -12,10 +12,10 @@ load_as-requires-clause-rule g c = joined_loads _ _ _ _ (view c.args.pass.now)
 
 pub load_as-requires-clause-moves : goal.load_as-requires-clause-moves
 load_as-requires-clause-moves g c = record {
-  may = c.requires.may;
+  may = tt;
   place = refl;
   writes = λ x. refl;
   entry = λ x. refl;
-  view = λ m h seats w k t. t.0.2 ∙ ap (joined_loaded (config_of c.args.self.now) (view c.args.pass.now) (m Clock))
-      (whole_is seats (view c.args.pass.now) w t.0.0 k t.0.1 (ap (λ (u : View). u.past.seen) t.0.2));
+  view = λ m h seats w k t. t.0.3 ∙ ap (joined_loaded (config_of c.args.self.now) (view c.args.pass.now) (m Clock))
+      (whole_is seats (view c.args.pass.now) w t.0.0 k t.0.1 (ap (λ (u : View). u.past.seen) t.0.3));
 }

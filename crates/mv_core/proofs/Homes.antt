@@ -1,8 +1,6 @@
 -- The name of a domain tells its numbers and its table.
 use Rattle.std.proofs.Common.{◌≡◌, ℕ, List, drop, ap}
 use Rattle.std.specs.Prelude.{slice_index}
-use Rattle.atomic_table.specs.Seated.{TableId}
-use Rattle.mv_core.proofs.Terms.{Config}
 use Rattle.mv_core.specs.Passes.{home_of, HomesAreApart}
 
 pub homes_apart : HomesAreApart

@@ -2,14 +2,13 @@
 use Rattle.std.proofs.Common.{◌≡◌, ◌≢◌, ℕ, zero, suc, ◌+◌, ◌-◌, ◌<◌, ◌≤◌, eqb, if◌then◌else◌, Bool, true, false}
 use Rattle.std.proofs.Common.{List, [], ◌∷◌, ◌++◌, length, take, drop, sym, ap, ◌∙◌, subst, arith, append-nil, eq-eqb, Some, None}
 use Rattle.std.specs.Prelude.{slice_get}
-use Rattle.std.proofs.Math.Seq.{take-append-le}
 use Rattle.mv_core.proofs.Terms.{dite, dec_le, Entry, Rest, Change, Step, State, Writes, commits_of, Config, First, Prev, Data, Memory, Ring, Live}
-use Rattle.mv_core.proofs.Terms.{Version, Status, Held, Committed, CommitNote, View, Past, Note, Outside, slot_at, HoldsNothing, Lives, latest}
+use Rattle.mv_core.proofs.Terms.{Version, Status, Held, Committed, CommitNote, View, Past, Note, Outside, slot_at, HoldsNothing, Lives}
 use Rattle.mv_core.proofs.Terms.{latest_at, IsEntry, IsNextIn, parts_of, section_of, time_of}
 use Rattle.mv_history.specs.declared.Commit.{Commit}
 use Rattle.mv_history.proofs.Histories.{split_at}
 use Rattle.mv_core.specs.declared.view.Walk.TheVariants.{Nowhere}
-use Rattle.mv_core.proofs.FactTerms.{BeginsWith, KnowsPast, HoldsSlot, death_in, DeathSeen, KnownCommit, Facts}
+use Rattle.mv_core.proofs.FactTerms.{KnowsPast, HoldsSlot, death_in, DeathSeen, KnownCommit, Facts}
 use Rattle.mv_core.proofs.history.Fronts.{latest_at-more}
 use Rattle.mv_core.proofs.history.Latest.{latest_at-own}
 use Rattle.mv_core.proofs.history.LongerSeen.{none_more}

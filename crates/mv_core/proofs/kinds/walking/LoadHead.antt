@@ -1,6 +1,6 @@
 -- load HEAD: the walk stands at the held version of the object or at its top, or at a master that serves it.
 use Rattle.std.proofs.Common.{◌≡◌, ℕ, ◌+◌, ◌≤◌, false, List, length, Some, None, refl, ap, ◌∙◌, subst, arith}
-use Rattle.mv_core.proofs.Terms.{State, Writes, Config, Clock, Mark, Head, Super, View, Section, EmptyHead, parts_of, time_in, set_at}
+use Rattle.mv_core.proofs.Terms.{State, Writes, Config, Clock, Mark, Head, Super, View, Section, EmptyHead, time_in, set_at}
 use Rattle.mv_core.specs.declared.view.Passed.TheVariants.{Nothing}
 use Rattle.mv_core.proofs.FactTerms.{MarkedAs, SucceededHasSuper, RunsOn, Loads, IsKept}
 use Rattle.mv_core.specs.WalkSteps.{IsWalking, IsLinkOf, IsOwnTop, IsOwnLink, IsLastOwn, IsLastSeen, stand_at, empty_too, head_loaded}

@@ -1,6 +1,6 @@
 -- load PREV: the walk goes on to the version below the one it stood at, or to a master that serves it.
 use Rattle.std.proofs.Common.{◌≡◌, ℕ, false, List, None, sym, refl, subst}
-use Rattle.mv_core.proofs.Terms.{State, Writes, Config, Prev, link_seat_of, View, Stand, Names, parts_of}
+use Rattle.mv_core.proofs.Terms.{State, Writes, Config, Prev, link_seat_of, View, Stand, Names}
 use Rattle.mv_core.specs.WalkSteps.{MayLoadPrev, IsLinkOf, slot_named, stand_at, passed_too, prev_loaded}
 use Rattle.mv_core.proofs.FactTerms.{RunsOn, Loads, IsKept}
 use Rattle.mv_core.proofs.history.SectionWords.{time_is}

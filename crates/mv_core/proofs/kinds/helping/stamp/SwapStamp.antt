@@ -1,6 +1,6 @@
 -- compare_exchange STAMP, won and lost.
-use Rattle.std.proofs.Common.{◌≡◌, ◌≢◌, ◌⊎◌, ℕ, ◌<◌, arith, ◌==◌, ◌&&◌, ◌||◌, Bool, true, false, List, sym, refl}
-use Rattle.std.proofs.Common.{ap, ◌∙◌, subst, ⊎_elim, inl, inr, eqb-true, Some}
+use Rattle.std.proofs.Common.{◌≡◌, ◌≢◌, ◌⊎◌, ℕ, ◌<◌, ◌==◌, ◌&&◌, ◌||◌, Bool, true, false, List, sym, refl, ap, ◌∙◌, subst, ⊎_elim}
+use Rattle.std.proofs.Common.{inl, inr, arith, eqb-true, Some}
 use Rattle.std.proofs.Math.Bool.{or-true}
 use Rattle.mv_core.proofs.Terms.{dite, ℕ_discrete, Entry, State, Writes, Config, Clock, Stamp, Memory, put, clock_of, clock_time_of, clock_seat_of}
 use Rattle.mv_core.proofs.Terms.{clock_slot_of, unset_of, Committed, View, Phase, Outside, Lowered, Marked, Inside, Section, Mode, Open, Aborting}

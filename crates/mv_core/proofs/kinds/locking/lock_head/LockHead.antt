@@ -1,6 +1,6 @@
 -- compare_exchange HEAD (lock), won and lost.
 use Rattle.std.proofs.Common.{◌≡◌, ◌≢◌, ℕ, true, List, sym, refl, subst, None}
-use Rattle.mv_core.proofs.Terms.{State, Writes, Config, Head, link_of, link_seat_of, Build, View, Section, parts_of}
+use Rattle.mv_core.proofs.Terms.{State, Writes, Config, Head, link_of, link_seat_of, Build, View, Section}
 use Rattle.mv_core.specs.declared.view.Passed.TheVariants.{Nothing}
 use Rattle.mv_core.specs.WalkSteps.{IsLinkOf, stand_at}
 use Rattle.mv_core.specs.LockSteps.{MayLock, head_locked, lock_lost, LockTold, OneMoreWrite}

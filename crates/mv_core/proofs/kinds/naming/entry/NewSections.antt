@@ -5,8 +5,8 @@ use Rattle.mv_core.proofs.Terms.{dite, ℕ_discrete, Entry, State, Writes, Confi
 use Rattle.mv_core.proofs.Terms.{clock_slot_of, link_of, Ring, Version, Status, Held, Committed, CommitNote, Phase, Outside, Lowered, Marked, Inside}
 use Rattle.mv_core.proofs.Terms.{Section, Named, Naming, Scan, index_of, HoldsNothing, Lives, Names, writes_to, latest, IsNextWrite, time_in}
 use Rattle.mv_core.proofs.Terms.{IsUnnamed, ViewParts}
-use Rattle.mv_core.proofs.FactTerms.{IsHeldOrAborted, IsNaming, Successors, UnstampedIsUnfinished, MarkedAs, IsPastHelp, IsWord, WasClock}
-use Rattle.mv_core.proofs.FactTerms.{LoadedWords, HelpedWords, IsFound, FoundStamps, ScanIs, LockFreshness, NamedIs, NamedCommit, OpenSection}
+use Rattle.mv_core.proofs.FactTerms.{IsHeldOrAborted, IsNaming, Successors, UnstampedIsUnfinished, MarkedAs, IsWord, WasClock}
+use Rattle.mv_core.proofs.FactTerms.{LoadedWords, HelpedWords, FoundStamps, ScanIs, LockFreshness, NamedIs, NamedCommit, OpenSection}
 use Rattle.mv_core.proofs.FactTerms.{FreedIsOld, SuccessorFlag, WriteBacks, SucceededHasSuper, Facts}
 use Rattle.mv_core.specs.SectionFacts as section
 use Rattle.mv_core.proofs.frames.KeptRecords.{same_back, same_named}

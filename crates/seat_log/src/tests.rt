@@ -11,7 +11,7 @@ use crate::{
     note_cut, note_held, note_rest, put_word, retire, room,
 };
 use mv_core::{Pass, Shared, Steps};
-use mv_history::{AnyRules, Words};
+use mv_history::{AnyRules, Protocol, Words};
 use mv_layout::{Config, clock_time};
 use std::alloc::{AllocError, Global};
 use std::marker::Brand;
@@ -187,5 +187,47 @@ fn an_abort_is_noted(rt: HostRuntime) -> Result<(), Fail> {
         dead: 3,
     };
     assert_eq!(rt; noted, (note, 1));
+    Ok(())
+}
+
+fn must_send<T: Send>(it: T) -> T {
+    it
+}
+
+fn must_share<T: Sync>(_: &T) {}
+
+// The words of a domain are shared by threads; a pass and its log may go to one.
+fn goes_to_a_thread<P: Protocol + Send + Sync>(
+    shared: &Shared<P>,
+    pass: Pass<P>,
+    log: Log,
+) -> (Pass<P>, Log) {
+    must_share(shared);
+    (must_send(pass), must_send(log))
+}
+
+// Opens a domain, and answers the seat of a pass and the live slots of its log once both were sent.
+fn sent(alloc: Global) -> Result<Option<(u32, u32)>, AllocError> {
+    let config = Config {
+        seats: 1,
+        objects: 1,
+        slots: 64,
+        write_max: 16,
+        low: 32,
+        high: 48,
+        base: 0,
+    };
+    let (shared, mut passes) = Shared::<AnyRules>::new(alloc, &config, &[[0; 6]])?;
+    let log = new_log(alloc, &config, 0)?;
+    let Some(pass) = passes.pop() else {
+        return Ok(None);
+    };
+    let (pass, log) = goes_to_a_thread(&shared, pass, log);
+    Ok(Some((pass.seat(), live(&log))))
+}
+
+#[test]
+fn a_pass_and_its_log_go_to_a_thread(rt: HostRuntime) -> Result<(), Fail> {
+    assert_eq!(rt; sent(rt.alloc())?, Some((0, 0)));
     Ok(())
 }

@@ -39,12 +39,11 @@ goes_on c v w l e number ring mine rests scan s trail plain = record {
 }
 
 pub lowered : (c : Config) (v w : View) (l : Noted) (word low : ℕ) → IsOutside c v l → w ≡ low_loaded c v word → low ≡ clock_time_of word
-    → low ≤ 35184372088831 → HasLowered c w l low
-lowered c v w l word low o is time within =
+    → HasLowered c w l low
+lowered c v w l word low o is time =
     let s : Step = record { kind = LoadLow; word = place_of c Clock; found = Some word; stored = None } in
     record {
       may = ap (λ (u : View). u.phase) is ∙ ap Lowered (sym time);
-      within = within;
       between = goes_on c v w l (begun c v l o) (ap (λ (u : View). u.number) is) (ap (λ (u : View). u.ring) is) (ap (λ (u : View). u.past.mine) is)
           (ap (λ (u : View). u.past.rests) is) (ap (λ (u : View). u.scan) is) s (ap (λ (u : View). u.trail) is) (refl, refl);
     }

@@ -44,7 +44,6 @@ pub record IsBetween (c : Config) (v : View) (l : Noted) : Type 0 where
 -- this low time was loaded
 pub record HasLowered (c : Config) (v : View) (l : Noted) (low : ℕ) : Type 0 where
   pub may : MayStoreMark v low
-  pub within : low ≤ 35184372088831
   pub between : IsBetween c v l
 
 -- the mark was stored

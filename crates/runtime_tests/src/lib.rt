@@ -23,7 +23,8 @@
 //! call and has another one enter, read, lock, commit and tidy, `version_stop_rows` does so where the
 //! objects have versions, and `back_stop_rows` within a write-back. `schedules` has two and three seats
 //! whose locks, lost exchanges of CLOCK and stopped commits meet, and `lost_locks` those whose exchange
-//! of HEAD is lost or won after others moved, and stops after a lost one. `reads` counts steps, which
+//! of HEAD is lost or won after others moved, and stops after a lost one. `join_rows` joins the passes
+//! of a domain, and has what CLOCK is then. `reads` counts steps, which
 //! are known in proofs alone, in the contracts of its functions: sections of a domain in which nobody
 //! has committed have the opening time, and read the opening words in the masters, one after another and
 //! where they overlap. Such a section enters by three steps, finds the master by one, reads its six
@@ -39,6 +40,9 @@ mod back_rows;
 mod back_stop_rows;
 mod clients;
 mod commits;
+#[cfg(test)]
+mod join_rows;
+mod joining;
 mod lock_moves;
 mod lock_stops;
 #[cfg(test)]
@@ -72,4 +76,4 @@ mod walks;
 
 pub use clients::{Client, Stage};
 pub use moves::{Answer, Call, Move};
-pub use playing::{Turn, domain, played};
+pub use playing::{Turn, domain, joined_after, played};

@@ -3,6 +3,7 @@ ghost use Rattle.std.specs.Prelude.{◌≡◌, ◌<◌, All};
 ghost use Rattle.runtime_tests.specs.Clients.{IsPlayable, AreReady};
 
 use crate::clients::{Client, UnderWay, open};
+use crate::joining::joined;
 use crate::moves::{Answer, Call, Move, make};
 use crate::reclaiming::{back_finishing, back_starting, back_stopping, back_storing};
 use crate::walks::{reading_found, walk_starting, walk_stepping};
@@ -115,4 +116,32 @@ pub fn played<L: Ledger>(
         return Ok(Some((3, at, answer)));
     }
     Ok(None)
+}
+
+/// Plays both parts of a schedule in a new domain, and joins the passes of all its seats then. It
+/// answers the word that CLOCK has after that; `None` is that a turn was answered otherwise than was
+/// wanted, that a seat isn't outside a section at the end, or that the numbers are no domain. Where
+/// memory is refused, no turn was made.
+pub fn joined_after<L: Ledger>(
+    alloc: Global,
+    config: &Config,
+    before: &[Turn],
+    call: &[Turn],
+    blank: Blank,
+) -> Result<Option<u64>, AllocError>
+    requires name { blank.name ≡ L.name }
+    requires parts { (blank.parts ≡ L.parts) × (0 < L.parts) }
+{
+    let Ok(()) = config.check() else {
+        return Ok(None);
+    };
+    let mut steps = Steps::<L>::open(blank);
+    let (shared, mut clients) = open(alloc, config)?;
+    if play(&shared, &mut clients, before, &mut steps).is_some() {
+        return Ok(None);
+    }
+    if play(&shared, &mut clients, call, &mut steps).is_some() {
+        return Ok(None);
+    }
+    Ok(joined(&shared, clients, &mut steps))
 }

@@ -1,4 +1,4 @@
-use Rattle.std.proofs.Common.{rules, arith}
+use Rattle.std.proofs.Common.{rules}
 use Rattle.mv_core.specs.Passes.{view, config_of}
 use Rattle.runtime_tests.proofs.Marked.{lowered}
 use Rattle.runtime_tests.proofs.Stages.{at_outside}
@@ -11,11 +11,9 @@ returns g c =
     let l = c.args.client.now.log in
     let o = at_outside config v l c.args.client.now.stage c.requires.ready.1 c.in-Outside.is in
     let e = c.clock_time-low.ensures in
-    let r = c.load_low.type_inv in
     record {
       ready = (
         search rules,
-        lowered config v (view c.load_low.new.pass) l c.load_low.result c.clock_time-low.result o c.load_low.ensures.view
-            e (omega arith),
+        lowered config v (view c.load_low.new.pass) l c.load_low.result c.clock_time-low.result o c.load_low.ensures.view e,
       );
     }

@@ -53,12 +53,12 @@ unfolding IsDistinct
 all_distinct [] once = tt
 all_distinct (n ∷ ns) once = (
   all_other ns n.number (⊎_elim
-    (λ yes.
-    let r = noted_as ns n.number yes in
-    let same : 0 ≡ suc r.place = once 0 (suc r.place) n r.note refl r.there (sym r.number_is) in
-    absurd (omega arith))
-    (λ no. no)
-    (bool_is (list_any (eqb n.number) (numbers ns)))),
+      (λ yes.
+      let r = noted_as ns n.number yes in
+      let same : 0 ≡ suc r.place = once 0 (suc r.place) n r.note refl r.there (sym r.number_is) in
+      absurd (omega arith))
+      (λ no. no)
+      (bool_is (list_any (eqb n.number) (numbers ns)))),
   all_distinct ns (λ a b x y e f same. let one = once (suc a) (suc b) x y e f same in omega arith),
 )
 

@@ -4,7 +4,7 @@ ghost use Rattle.mv_layout.specs.Words.{unset_of};
 ghost use Rattle.mv_core.specs.Passes.{view, IsOf, IsSame, config_of};
 ghost use Rattle.mv_core.specs.LockSteps.{FitsField};
 ghost use Rattle.seat_log.specs.Notes.{IsBuilt, next_of, first_of, next_note, built_noted, without_previous, cleared, IsHeld};
-ghost use Rattle.seat_log.specs.Notes.{with_word as noted_word, built_word, built_word_noted, word_noted};
+ghost use Rattle.seat_log.specs.Notes.{built_word_noted, word_noted};
 ghost use Rattle.seat_log.specs.Stands.{Stands};
 ghost use Rattle.seat_log.specs.Builds.{IsOpen, MayBuild, first_in, stored_next, begun, linked, words_stored, slot_built, build_cost, word_stored, ChangesLog};
 
@@ -196,24 +196,6 @@ pub fn clear_previous<P: Protocol, L: Ledger>(
     log.built = clear_note_previous(log.built);
 }
 
-// The version with another data word.
-fn with_word(note: Note, word: u32, value: u64) -> Note
-    requires { word < 6 }
-    ensures { result ≡ noted_word word value note }
-{
-    let mut note = note;
-    note.words[word as usize] = value;
-    note
-}
-
-// The same of the built version.
-fn built_with_word(built: Option<Note>, word: u32, value: u64) -> Option<Note>
-    requires { word < 6 }
-    ensures { result ≡ built_word word value built }
-{
-    Some(with_word(built?, word, value))
-}
-
 /// Stores a data word of the version at a position, which is built or held, in an open section: one
 /// step.
 pub fn put_word<P: Protocol, L: Ledger>(
@@ -241,10 +223,12 @@ pub fn put_word<P: Protocol, L: Ledger>(
 {
     if position == log.freed + log.live.len() as u64 {
         store_next(shared, pass, position, DATA + word, value, steps);
-        log.built = built_with_word(log.built, word, value);
+        if let Some(note) = &mut log.built {
+            note.words[word as usize] = value;
+        }
         return;
     }
     shared.store_data(pass, position, word, value, steps);
     let at = (position - log.freed) as usize;
-    log.live[at] = with_word(log.live[at], word, value);
+    log.live[at].words[word as usize] = value;
 }

@@ -2,7 +2,7 @@ use Rattle.std.proofs.Common.{◌≡◌, ◌⊎◌, ℕ, ◌+◌, ◌-◌, List,
 use Rattle.mv_core.specs.declared.view.View.{View}
 use Rattle.mv_core.specs.Passes.{view, config_of}
 use Rattle.seat_log.specs.declared.version.Note.{Note}
-use Rattle.seat_log.specs.Notes.{Noted, next_of, IsBuilt, IsHeld, with_word, at_place, built_word_noted, word_noted}
+use Rattle.seat_log.specs.Notes.{Noted, next_of, IsBuilt, IsHeld, with_word, at_place, built_word, built_word_noted, word_noted}
 use Rattle.seat_log.specs.Stands.{Stands}
 use Rattle.seat_log.specs.Builds.{ChangesLog}
 use Rattle.seat_log.proofs.Noting.{built_next}
@@ -13,15 +13,15 @@ use Rattle.seat_log.proofs.Rebuilding.{stands_built_word}
 use Rattle.seat_log.proofs.HeldWords.{may_word, stands_word}
 use Rattle.seat_log.proofs.building.put_word.Goals as goal
 
-pub returns-then-position-log-clause-stands : goal.returns-then-position-log-clause-stands
-returns-then-position-log-clause-stands g c =
+pub returns-in-Some-clause-stands : goal.returns-in-Some-clause-stands
+returns-in-Some-clause-stands g c =
     let at = c.if-position-log.true in
     let long = c.log.inside.live.ok.0 in
     let e = c.len.ensures in
     let next : next_of (the_view c.log.inside) ≡ next_of c.args.log.now = ap next_of c.log.view_is in
     let there : IsBuilt c.args.log.now c.args.position = ⊎_elim (λ b. b) (λ h. let low = h.1 in absurd (omega arith)) c.requires.there in
     subst (λ (o : Option Note). Stands (config_of c.args.shared.now) (view c.store_next.new.pass) (record (the_view c.log.inside) { built = o }))
-    (sym c.built_with_word-log-inside.ensures)
+    (ap (built_word c.args.word c.args.value) c.in-Some.is)
     (subst (λ (m : Noted). Stands (config_of c.args.shared.now) (view c.store_next.new.pass) (built_word_noted m c.args.word c.args.value)) (sym c.log.view_is)
     (stands_built_word (config_of c.args.shared.now) (view c.args.pass.now) (view c.store_next.new.pass) c.args.log.now there.0 c.args.position c.args.word
     c.args.value c.requires.stands there.1 there.2 c.requires.open c.store_next.ensures.view))
@@ -60,21 +60,21 @@ module _ (g : _) (c : goal.After-log-2-1 g) where
       held_at c.args.log.now c.args.position c.log.inside.freed c.len.result c.requires.there
       (λ n b. (built_next c.args.log.now n b c.requires.stands.log).0) (omega arith) c.if-position-log.false
 
-  items : slice_set c.log.inside.live.items (c.args.position - c.log.inside.freed) c.with_word.result
+  items : slice_set c.log.inside.live.items (c.args.position - c.log.inside.freed) (with_word c.args.word c.args.value c.index_mut.result.now)
       ≡ at_place (with_word c.args.word c.args.value) (c.args.position - c.log.inside.freed) c.log.inside.live.items
   items =
       let few = c.log.invariant.1.held in
       let h : IsHeld (the_view c.log.inside) c.args.position = subst (λ (m : Noted). IsHeld m c.args.position) (sym c.log.view_is) held in
       let low = h.0 in
       let high = h.1 in
-      let note : c.with_word.result ≡ with_word c.args.word c.args.value
-      (slice_index_or c.log.inside.live.items (c.args.position - c.log.inside.freed) c.index.result.now) =
-      c.with_word.ensures ∙ ap (with_word c.args.word c.args.value) c.index.ensures in
-      ap (slice_set c.log.inside.live.items (c.args.position - c.log.inside.freed)) note
-      ∙ at_set (with_word c.args.word c.args.value) (c.args.position - c.log.inside.freed) c.log.inside.live.items c.index.result.now (omega arith)
+      ap (λ n. slice_set c.log.inside.live.items (c.args.position - c.log.inside.freed) (with_word c.args.word c.args.value n)) c.index_mut.ensures.value
+      ∙ at_set (with_word c.args.word c.args.value) (c.args.position - c.log.inside.freed) c.log.inside.live.items c.index_mut.result.now (omega arith)
 
   stands : Stands (config_of c.args.shared.now) (view c.store_data.new.pass)
-      (record (the_view c.log.inside) { live = slice_set c.log.inside.live.items (c.args.position - c.log.inside.freed) c.with_word.result })
+      (record (the_view c.log.inside) {
+        live = slice_set c.log.inside.live.items (c.args.position - c.log.inside.freed)
+            (with_word c.args.word c.args.value c.index_mut.result.now);
+      })
   stands =
       subst (λ (ns : List Note). Stands (config_of c.args.shared.now) (view c.store_data.new.pass) (record (the_view c.log.inside) { live = ns })) (sym items)
       (subst (λ (m : Noted). Stands (config_of c.args.shared.now) (view c.store_data.new.pass) (word_noted m c.args.position c.args.word c.args.value))
@@ -94,8 +94,8 @@ returns-clause-held g c = λ h. (
   c.store_data.ensures.view,
 )
 
-pub returns-then-position-log-clause-rest : goal.returns-then-position-log-clause-rest
-returns-then-position-log-clause-rest g c =
+pub returns-in-Some-clause-rest : goal.returns-in-Some-clause-rest
+returns-in-Some-clause-rest g c =
     subst (λ (w : View). ChangesLog (view c.args.pass.now) w) (sym c.store_next.ensures.view)
     (next_changes (config_of c.args.shared.now) (view c.args.pass.now) c.args.position (4 + c.args.word) c.args.value)
 

@@ -9,7 +9,8 @@ pub use Rattle.mv_layout.specs.declared.Place.TheVariants.{Clock, Grace, Mark, H
 pub use Rattle.mv_layout.specs.Limits.{Checked}
 pub use Rattle.mv_layout.specs.Words.{clock_of, clock_time_of, clock_slot_of, unset_of, clock_seat_of, link_seat_of, link_of, IsUnset}
 pub use Rattle.mv_layout.specs.Words.{link_position_of, IsLink}
-pub use Rattle.mv_layout.specs.Places.{Memory, put, same, Shows, IsPlace, place_of, total}
+pub use Rattle.mv_layout.specs.Places.{Memory, put, same, IsPlace}
+pub use Rattle.mv_layout.specs.Cells.{Shows, cells, cell_of}
 pub use Rattle.mv_core.specs.declared.ring.Ring.{Ring}
 pub use Rattle.mv_core.specs.declared.ring.Version.{Version}
 pub use Rattle.mv_core.specs.declared.ring.Build.{Build}

@@ -3,7 +3,7 @@ use Rattle.std.specs.Prelude.{◌≡◌, ℕ, ◌≤◌, List, Contains, slice_i
 use Rattle.atomic_table.specs.Table as table
 use Rattle.mv_history.specs.State.{State, Writes}
 use Rattle.mv_layout.specs.declared.Place.TheVariants.{Stamp}
-use Rattle.mv_layout.specs.Places.{place_of}
+use Rattle.mv_layout.specs.Cells.{cell_of}
 use Rattle.mv_layout.specs.Words.{clock_time_of}
 use Rattle.mv_core.specs.declared.ring.Version.{Version}
 use Rattle.mv_core.specs.declared.ring.Status.TheVariants.{Committed}
@@ -18,4 +18,4 @@ abbrev pub HelpedAreStamped : (State → Type 0) → (List ℕ → State → Wri
 HelpedAreStamped starts allows =
     (key : Opening) (s : table.State (List ℕ) View) (r : Ruled starts allows key s) (seat word : ℕ) → Contains (r.seats seat).clocks.helped word
     → (t k : ℕ) (x : Version) (note : CommitNote) → Lives (λ u. (r.seats u).ring) t k x (Committed note) → note.time ≤ clock_time_of word
-    → slice_index s.words (place_of key.config (Stamp t (index_of key.config x.first))) ≡ note.time
+    → slice_index s.words (cell_of key.config (Stamp t (index_of key.config x.first))) ≡ note.time

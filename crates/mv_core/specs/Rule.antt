@@ -9,7 +9,8 @@ use Rattle.mv_layout.specs.declared.Config.{Config}
 use Rattle.mv_layout.specs.declared.Place.{Place}
 use Rattle.mv_layout.specs.declared.Place.TheVariants.{Clock, Grace, Mark, Head, Master, First, Stamp, Prev, Super, Data}
 use Rattle.mv_layout.specs.Limits.{Checked}
-use Rattle.mv_layout.specs.Places.{Memory, put, Shows}
+use Rattle.mv_layout.specs.Places.{Memory, put}
+use Rattle.mv_layout.specs.Cells.{Shows}
 use Rattle.mv_core.specs.declared.view.View.{View}
 use Rattle.mv_core.specs.declared.view.Note.{Note}
 use Rattle.mv_core.specs.declared.view.Phase.TheVariants.{Outside}

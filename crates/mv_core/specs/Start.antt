@@ -7,7 +7,8 @@ use Rattle.mv_layout.specs.declared.Config.{Config}
 use Rattle.mv_layout.specs.declared.Place.{Place}
 use Rattle.mv_layout.specs.declared.Place.TheVariants.{Clock, Grace, Master}
 use Rattle.mv_layout.specs.Words.{clock_of}
-use Rattle.mv_layout.specs.Places.{Memory, IsPlace, place_of, total}
+use Rattle.mv_layout.specs.Places.{Memory, IsPlace}
+use Rattle.mv_layout.specs.Cells.{cells, cell_of}
 use Rattle.mv_core.specs.declared.view.View.{View}
 use Rattle.mv_core.specs.Views.{new_view}
 
@@ -36,9 +37,9 @@ IsBlank _ = Unit {0}
 
 -- the words while the opening state is laid: this many objects have theirs, and this many words of the next one
 pub record Laid (c : Config) (start : State) (words : List ℕ) (objects laid : ℕ) : Type 0 where
-  pub wide : length words ≡ total c
-  pub clock : slice_index words 0 ≡ clock_of c.base 0 8191
-  pub grace : slice_index words 1 ≡ c.base
+  pub wide : length words ≡ cells c
+  pub clock : slice_index words (cell_of c Clock) ≡ clock_of c.base 0 8191
+  pub grace : slice_index words (cell_of c Grace) ≡ c.base
   pub master : (o w : ℕ) → o < c.objects → w < 6 → (o < objects) ⊎ ((o ≡ objects) × (w < laid))
-      → slice_index words (place_of c (Master o w)) ≡ slice_index (words_at start o) w
-  pub blank : (p : Place) → IsPlace c p → IsBlank p → slice_index words (place_of c p) ≡ 0
+      → slice_index words (cell_of c (Master o w)) ≡ slice_index (words_at start o) w
+  pub blank : (p : Place) → IsPlace c p → IsBlank p → slice_index words (cell_of c p) ≡ 0

@@ -8,12 +8,11 @@ ghost use Rattle.mv_core.specs.SectionFacts.{IsWord};
 ghost use Rattle.mv_core.specs.EnterSteps.{IsWhole};
 ghost use Rattle.mv_core.specs.LockSteps.{MayStoreBuilt, built_stored, MayStoreData, data_stored, MayLoadDeath, death_loaded};
 
-use crate::entering::CLOCK;
 use crate::shared::{Pass, Shared};
 use crate::steps::Steps;
 use crate::turns::{load_as, store_as};
 use mv_history::Protocol;
-use mv_layout::slot_place;
+use mv_layout::{CLOCK_CELL, slot_cell, slot_of_position};
 use std::marker::Brand;
 use std::sync::ledger::Ledger;
 
@@ -40,9 +39,9 @@ impl<P: Protocol> Shared<P> {
         ensures range { position < 2 ^ 57 }
         ensures step { steps.new ≡ steps.old + 1 }
     {
-        let slot = (position % self.config.slots as u64) as u32;
-        let place = slot_place(&self.config, pass.number, slot) + field;
-        store_as::<P, Brand, L, _>(self, pass, place, value, &(position, field), steps)
+        let slot = slot_of_position(&self.config, position);
+        let cell = slot_cell(&self.config, pass.number, slot) + field;
+        store_as::<P, Brand, L, _>(self, pass, cell, value, &(position, field), steps)
     }
 
     /// Stores a data word into the own slot of a version that is held, in an open section. No other
@@ -62,9 +61,9 @@ impl<P: Protocol> Shared<P> {
         ensures view { view pass.new ≡ data_stored (config_of self.now) (view pass.old) position word value version }
         ensures step { steps.new ≡ steps.old + 1 }
     {
-        let slot = (position % self.config.slots as u64) as u32;
-        let place = slot_place(&self.config, pass.number, slot) + 4 + word;
-        store_as::<P, Brand, L, _>(self, pass, place, value, &(position, word), steps)
+        let slot = slot_of_position(&self.config, position);
+        let cell = slot_cell(&self.config, pass.number, slot) + 4 + word;
+        store_as::<P, Brand, L, _>(self, pass, cell, value, &(position, word), steps)
     }
 
     /// Loads CLOCK after an abort or a cut. The own aborted and cut versions that have no time of
@@ -79,6 +78,6 @@ impl<P: Protocol> Shared<P> {
         ensures word { IsWord (config_of self.now) result }
         ensures step { steps.new ≡ steps.old + 1 }
     {
-        load_as::<P, Brand, L, _>(self, pass, CLOCK, &(), steps)
+        load_as::<P, Brand, L, _>(self, pass, CLOCK_CELL, &(), steps)
     }
 }

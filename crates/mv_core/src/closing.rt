@@ -1,7 +1,7 @@
 //! How a domain ends.
 ghost use Rattle.std.specs.Prelude.{◌≡◌};
 ghost use Rattle.std.specs.Mem.Slots.{slots_items, slots_len, IsFull};
-ghost use Rattle.mv_layout.specs.Places.{total};
+ghost use Rattle.mv_layout.specs.Cells.{cells};
 ghost use Rattle.mv_core.specs.Closing.{EndsIn};
 ghost use Rattle.mv_core.specs.Passes.{IsOf, config_of};
 
@@ -17,7 +17,7 @@ impl<P: Protocol> Shared<P> {
     /// domain makes a step any more.
     pub fn close(self, pass: Pass<P>) -> Closed<Tag, Global>
         requires of { IsOf self pass }
-        ensures counts { (slots_len result.words ≡ total (config_of self)) × (slots_len result.slots ≡ 0) }
+        ensures counts { (slots_len result.words ≡ cells (config_of self)) × (slots_len result.slots ≡ 0) }
         ensures full { IsFull result.words }
         ensures state { EndsIn P.start P.allowed self pass (slots_items result.words) }
     {

@@ -10,12 +10,9 @@ use crate::shared::{Pass, Shared};
 use crate::steps::Steps;
 use crate::turns::{load_alone, load_as, store_as};
 use mv_history::Protocol;
-use mv_layout::{clock_time, mark_place, mark_word};
+use mv_layout::{CLOCK_CELL, clock_time, mark_cell, mark_word};
 use std::marker::Brand;
 use std::sync::ledger::Ledger;
-
-// Where CLOCK stands.
-pub(crate) const CLOCK: u32 = 0;
 
 impl<P: Protocol> Shared<P> {
     /// Loads CLOCK for the low time of a section to come: its time, which is not above the time that
@@ -29,7 +26,7 @@ impl<P: Protocol> Shared<P> {
         ensures word { IsWord (config_of self.now) result }
         ensures step { steps.new ≡ steps.old + 1 }
     {
-        load_as::<P, Brand, L, _>(self, pass, CLOCK, &(), steps)
+        load_as::<P, Brand, L, _>(self, pass, CLOCK_CELL, &(), steps)
     }
 
     /// Stores the mark of the seat, `1 + low`, for the low time that it loaded.
@@ -40,8 +37,8 @@ impl<P: Protocol> Shared<P> {
         ensures view { view pass.new ≡ mark_stored (config_of self.now) (view pass.old) low }
         ensures step { steps.new ≡ steps.old + 1 }
     {
-        let place = mark_place(&self.config, pass.number);
-        store_as::<P, Brand, L, _>(self, pass, place, mark_word(low), &low, steps)
+        let cell = mark_cell(&self.config, pass.number);
+        store_as::<P, Brand, L, _>(self, pass, cell, mark_word(low), &low, steps)
     }
 
     /// Loads CLOCK and begins a section, whose time is that of the word found. The mark of the seat was
@@ -58,7 +55,7 @@ impl<P: Protocol> Shared<P> {
         ensures nothing { HoldsNothing (view pass.new).ring }
         ensures step { steps.new ≡ steps.old + 1 }
     {
-        let word = load_alone::<P, Brand, L, _>(self, &mut pass.seat, CLOCK, &(), steps);
+        let word = load_alone::<P, Brand, L, _>(self, &mut pass.seat, CLOCK_CELL, &(), steps);
         pass.time = clock_time(word);
         word
     }
@@ -73,7 +70,7 @@ impl<P: Protocol> Shared<P> {
         ensures view { view pass.new ≡ mark_cleared (config_of self.now) (view pass.old) }
         ensures step { steps.new ≡ steps.old + 1 }
     {
-        let place = mark_place(&self.config, pass.number);
-        store_as::<P, Brand, L, _>(self, pass, place, 0, &(), steps)
+        let cell = mark_cell(&self.config, pass.number);
+        store_as::<P, Brand, L, _>(self, pass, cell, 0, &(), steps)
     }
 }

@@ -7,11 +7,9 @@ use crate::shared::{Pass, Shared};
 use crate::steps::Steps;
 use crate::turns::{load_as, raise_as};
 use mv_history::Protocol;
+use mv_layout::GRACE_CELL;
 use std::marker::Brand;
 use std::sync::ledger::Ledger;
-
-// Where GRACE stands.
-pub(crate) const GRACE: u32 = 1;
 
 impl<P: Protocol> Shared<P> {
     /// Loads GRACE. The watermark of the pass becomes the time found, where that is greater.
@@ -21,7 +19,7 @@ impl<P: Protocol> Shared<P> {
         ensures view { view pass.new ≡ grace_loaded (config_of self.now) (view pass.old) result }
         ensures step { steps.new ≡ steps.old + 1 }
     {
-        load_as::<P, Brand, L, _>(self, pass, GRACE, &(), steps)
+        load_as::<P, Brand, L, _>(self, pass, GRACE_CELL, &(), steps)
     }
 
     /// Raises GRACE to `time`, a printed time not above the watermark of the pass, where it is less,
@@ -34,6 +32,6 @@ impl<P: Protocol> Shared<P> {
         ensures view { view pass.new ≡ grace_raised (config_of self.now) (view pass.old) time result }
         ensures step { steps.new ≡ steps.old + 1 }
     {
-        raise_as::<P, Brand, L, _>(self, pass, GRACE, time, &time, steps)
+        raise_as::<P, Brand, L, _>(self, pass, GRACE_CELL, time, &time, steps)
     }
 }

@@ -1,7 +1,8 @@
 //! The steps that help a named commit: whoever loaded the clock word of a commit stamps it.
 ghost use Rattle.std.specs.Prelude.{◌≡◌, ◌≢◌, ◌+◌, List};
 ghost use Rattle.mv_history.specs.declared.Entry.{Entry};
-ghost use Rattle.mv_layout.specs.Places.{IsPlace, place_of};
+ghost use Rattle.mv_layout.specs.Places.{IsPlace};
+ghost use Rattle.mv_layout.specs.Cells.{cell_of};
 ghost use Rattle.mv_layout.specs.Words.{clock_slot_of};
 ghost use Rattle.mv_core.specs.Passes.{view, IsOf, IsSame, config_of};
 ghost use Rattle.mv_core.specs.SectionFacts.{IsWord};
@@ -9,13 +10,12 @@ ghost use Rattle.mv_core.specs.EnterSteps.{IsWhole, stamp_place, MayLoadNamed, n
 ghost use Rattle.mv_core.specs.Laws.{HelpedAreStamped};
 ghost use Rattle.mv_core.specs.Swaps.{found_by, IsSwap};
 
-use crate::entering::CLOCK;
 use crate::shared::{Pass, Shared};
 use crate::steps::Steps;
 use crate::swap::{Swap, swap_of};
 use crate::turns::{load_as, swap_as};
 use mv_history::Protocol;
-use mv_layout::{clock_seat, clock_slot, clock_time, slot_place};
+use mv_layout::{CLOCK_CELL, clock_seat, clock_slot, clock_time, slot_cell};
 use std::marker::Brand;
 use std::sync::ledger::Ledger;
 
@@ -31,8 +31,8 @@ impl<P: Protocol> Shared<P> {
         ensures view { view pass.new ≡ named_loaded (config_of self.now) (view pass.old) word result }
         ensures step { steps.new ≡ steps.old + 1 }
     {
-        let place = self.named_place(word);
-        load_as::<P, Brand, L, _>(self, pass, place, &word, steps)
+        let cell = self.named_cell(word);
+        load_as::<P, Brand, L, _>(self, pass, cell, &word, steps)
     }
 
     /// Loads the clock. The pass then has seen the whole history, and has loaded this word. The
@@ -47,7 +47,7 @@ impl<P: Protocol> Shared<P> {
         ensures word { IsWord (config_of self.now) result }
         ensures step { steps.new ≡ steps.old + 1 }
     {
-        load_as::<P, Brand, L, _>(self, pass, CLOCK, &(), steps)
+        load_as::<P, Brand, L, _>(self, pass, CLOCK_CELL, &(), steps)
     }
 
     /// Exchanges the stamp of the commit that a clock word names from `unset` to the commit's time.
@@ -69,28 +69,20 @@ impl<P: Protocol> Shared<P> {
         ensures swap { IsSwap unset result }
         ensures step { steps.new ≡ steps.old + 1 }
     {
-        let place = self.named_place(word);
+        let cell = self.named_cell(word);
         let time = clock_time(word);
-        let found = swap_as::<P, Brand, L, _>(
-            self,
-            pass,
-            place,
-            unset,
-            time,
-            &(word, unset),
-            steps,
-        );
+        let found = swap_as::<P, Brand, L, _>(self, pass, cell, unset, time, &(word, unset), steps);
         swap_of(found, unset)
     }
 
     // Where the stamp of the commit that a clock word names stands.
-    fn named_place(&self, word: u64) -> u32
+    fn named_cell(&self, word: u64) -> u32
         requires word { IsWord (config_of self.now) word }
         requires names { clock_slot_of word ≢ 8191 }
         ensures range { IsPlace (config_of self.now) (stamp_place word) }
-        ensures place { result ≡ place_of (config_of self.now) (stamp_place word) }
+        ensures cell { result ≡ cell_of (config_of self.now) (stamp_place word) }
     {
-        slot_place(&self.config, clock_seat(word), clock_slot(word)) + 1
+        slot_cell(&self.config, clock_seat(word), clock_slot(word)) + 1
     }
 }
 

@@ -6,7 +6,6 @@ ghost use Rattle.mv_core.specs.SectionFacts.{IsWord};
 ghost use Rattle.mv_core.specs.EnterSteps.{IsWhole};
 ghost use Rattle.mv_core.specs.SeatSteps.{MayJoin, joined, AreJoined, joined_loaded};
 
-use crate::entering::CLOCK;
 use crate::opening::Domain;
 use crate::shared::{Pass, Shared};
 use crate::steps::Steps;
@@ -14,6 +13,7 @@ use crate::turns::load_as;
 use crate::view::View;
 use atomic_table::{Join, Seat};
 use mv_history::{Protocol, Tag};
+use mv_layout::CLOCK_CELL;
 use std::marker::{Brand, PhantomData};
 use std::sync::ledger::Ledger;
 
@@ -78,6 +78,6 @@ impl<P: Protocol> Shared<P> {
         ensures word { IsWord (config_of self.now) result }
         ensures step { steps.new ≡ steps.old + 1 }
     {
-        load_as::<P, Brand, L, _>(self, pass, CLOCK, &(), steps)
+        load_as::<P, Brand, L, _>(self, pass, CLOCK_CELL, &(), steps)
     }
 }

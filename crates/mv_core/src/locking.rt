@@ -15,7 +15,7 @@ use crate::steps::Steps;
 use crate::swap::{Swap, swap_of};
 use crate::turns::{store_as, swap_alone};
 use mv_history::Protocol;
-use mv_layout::{head_place, link_word};
+use mv_layout::{head_cell, link_word};
 use std::marker::Brand;
 use std::sync::ledger::Ledger;
 
@@ -50,12 +50,12 @@ impl<P: Protocol> Shared<P> {
             → link_seat_of (found_by previous result) ≢ (view pass.old).number }
         ensures step { steps.new ≡ steps.old + 1 }
     {
-        let place = head_place(&self.config, object);
+        let cell = head_cell(&self.config, object);
         let link = link_word(pass.number, position);
         let found = swap_alone::<P, Brand, L, _>(
             self,
             &mut pass.seat,
-            place,
+            cell,
             previous,
             link,
             &(object, previous, position),
@@ -85,7 +85,7 @@ impl<P: Protocol> Shared<P> {
         ensures view { view pass.new ≡ head_unlocked (config_of self.now) (view pass.old) object previous held.0 held.1 held.2 }
         ensures step { steps.new ≡ steps.old + 1 }
     {
-        let place = head_place(&self.config, object);
-        store_as::<P, Brand, L, _>(self, pass, place, previous, &object, steps)
+        let cell = head_cell(&self.config, object);
+        store_as::<P, Brand, L, _>(self, pass, cell, previous, &object, steps)
     }
 }

@@ -8,12 +8,11 @@ ghost use Rattle.mv_core.specs.SectionFacts.{IsWord};
 ghost use Rattle.mv_core.specs.EnterSteps.{IsWhole};
 ghost use Rattle.mv_core.specs.ReclaimSteps.{MayLoadScan, scan_loaded, MayLoadMark, mark_loaded};
 
-use crate::entering::CLOCK;
 use crate::shared::{Pass, Shared};
 use crate::steps::Steps;
 use crate::turns::load_as;
 use mv_history::Protocol;
-use mv_layout::mark_place;
+use mv_layout::{CLOCK_CELL, mark_cell};
 use std::marker::Brand;
 use std::sync::ledger::Ledger;
 
@@ -32,7 +31,7 @@ impl<P: Protocol> Shared<P> {
         ensures makers { All (λ e. maker_of e < (config_of self.now).seats) (view pass.new).past.seen }
         ensures step { steps.new ≡ steps.old + 1 }
     {
-        load_as::<P, Brand, L, _>(self, pass, CLOCK, &(), steps)
+        load_as::<P, Brand, L, _>(self, pass, CLOCK_CELL, &(), steps)
     }
 
     /// Loads the mark of the seat that the running scan comes to next: 0 of a seat without a mark,
@@ -47,7 +46,7 @@ impl<P: Protocol> Shared<P> {
             × (view pass.new ≡ mark_loaded (config_of self.now) (view pass.old) seat scan result) }
         ensures step { steps.new ≡ steps.old + 1 }
     {
-        let place = mark_place(&self.config, seat);
-        load_as::<P, Brand, L, _>(self, pass, place, &seat, steps)
+        let cell = mark_cell(&self.config, seat);
+        load_as::<P, Brand, L, _>(self, pass, cell, &seat, steps)
     }
 }

@@ -10,13 +10,12 @@ ghost use Rattle.mv_core.specs.NameSteps.{LogTold, MayNameCommit, CommitTold, Ma
 ghost use Rattle.mv_core.specs.WalkSteps.{IsPackedOf};
 ghost use Rattle.mv_core.specs.Swaps.{found_by, IsSwap};
 
-use crate::entering::CLOCK;
 use crate::shared::{Pass, Shared};
 use crate::steps::Steps;
 use crate::swap::{Swap, swap_of};
 use crate::turns::{store_as, swap_as};
 use mv_history::{Protocol, Tag};
-use mv_layout::{NO_SLOT, clock_time, clock_word};
+use mv_layout::{CLOCK_CELL, NO_SLOT, clock_time, clock_word, slot_of_position};
 use std::marker::Brand;
 use std::sync::ledger::Ledger;
 
@@ -45,9 +44,17 @@ impl<P: Protocol> Shared<P> {
         ensures swap { IsSwap word result }
         ensures step { steps.new ≡ steps.old + 1 }
     {
-        let slot = (pass.first % self.config.slots as u64) as u32;
+        let slot = slot_of_position(&self.config, pass.first);
         let named = clock_word(clock_time(word) + 1, pass.number, slot);
-        let found = swap_as::<P, Brand, L, _>(self, pass, CLOCK, word, named, &(word, tag), steps);
+        let found = swap_as::<P, Brand, L, _>(
+            self,
+            pass,
+            CLOCK_CELL,
+            word,
+            named,
+            &(word, tag),
+            steps,
+        );
         swap_of(found, word)
     }
     /// Exchanges CLOCK from a word that the pass loaded and helped to that of a rest of its seat, whose
@@ -64,7 +71,7 @@ impl<P: Protocol> Shared<P> {
         ensures step { steps.new ≡ steps.old + 1 }
     {
         let named = clock_word(clock_time(word) + 1, pass.number, NO_SLOT);
-        let found = swap_as::<P, Brand, L, _>(self, pass, CLOCK, word, named, &word, steps);
+        let found = swap_as::<P, Brand, L, _>(self, pass, CLOCK_CELL, word, named, &word, steps);
         swap_of(found, word)
     }
 
@@ -86,7 +93,7 @@ impl<P: Protocol> Shared<P> {
         ensures view { view pass.new ≡ super_stored (config_of self.now) (view pass.old) link time above.0 above.1 above.2 }
         ensures step { steps.new ≡ steps.old + 1 }
     {
-        let place = self.slot_linked(link) + 3;
-        store_as::<P, Brand, L, _>(self, pass, place, time, &link, steps)
+        let cell = self.slot_linked(link) + 3;
+        store_as::<P, Brand, L, _>(self, pass, cell, time, &link, steps)
     }
 }

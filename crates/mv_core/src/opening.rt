@@ -2,7 +2,7 @@
 ghost use Rattle.std.specs.Prelude.{◌≡◌, ◌+◌, ◌<◌, [], length, IfOk, vec_len};
 ghost use Rattle.mv_history.specs.Legal.{AreWords};
 ghost use Rattle.mv_layout.specs.Limits.{Checked};
-ghost use Rattle.mv_layout.specs.Places.{Shows};
+ghost use Rattle.mv_layout.specs.Cells.{Shows};
 ghost use Rattle.mv_core.specs.SeatSteps.{made_one, newly_made};
 ghost use Rattle.mv_core.specs.Start.{opening_memory, Laid, maker_view};
 ghost use Rattle.mv_core.specs.Known.{IsTimed};
@@ -13,7 +13,9 @@ use crate::shared::{Opening, Pass, Shared};
 use crate::view::View;
 use atomic_table::{Seat, Split, Table};
 use mv_history::{Protocol, Tag, Words};
-use mv_layout::{Config, NO_SLOT, WIDTH, clock_word, master_place, total_words};
+use mv_layout::{
+    CLOCK_CELL, Config, GRACE_CELL, NO_SLOT, WIDTH, clock_word, master_cell, total_cells,
+};
 use std::alloc::{AllocError, Global};
 use std::marker::{Brand, PhantomData};
 use std::snapshot::Snapshot;
@@ -56,7 +58,7 @@ fn lay_object(config: &Config, words: &mut [u64], start: &[Words], object: u32)
     ensures { Laid config.now start.now words.new (object + 1) 0 }
 {
     for word in 0..WIDTH {
-        words[master_place(config, object, word) as usize] = start[object as usize][word as usize];
+        words[master_cell(config, object, word) as usize] = start[object as usize][word as usize];
     }
 }
 
@@ -66,9 +68,9 @@ fn opening_words(alloc: Global, config: &Config, start: &[Words]) -> Result<Vec<
     requires sized { length start.now ≡ config.now.objects }
     ensures { IfOk result (λ words. Shows config.now words.items (opening_memory config.now start.now)) }
 {
-    let mut words = Vec::from_elem(alloc, 0u64, total_words(config) as usize)?;
-    words[0] = clock_word(config.base, 0, NO_SLOT);
-    words[1] = config.base;
+    let mut words = Vec::from_elem(alloc, 0u64, total_cells(config) as usize)?;
+    words[CLOCK_CELL as usize] = clock_word(config.base, 0, NO_SLOT);
+    words[GRACE_CELL as usize] = config.base;
     for object in 0..config.objects {
         lay_object(config, words.as_mut_slice(), start, object);
     }

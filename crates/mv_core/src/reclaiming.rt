@@ -15,7 +15,7 @@ use crate::steps::Steps;
 use crate::swap::{Swap, swap_of};
 use crate::turns::{load_as, store_as, swap_as};
 use mv_history::Protocol;
-use mv_layout::{head_place, link_word, master_place, slot_place};
+use mv_layout::{head_cell, link_word, master_cell, slot_cell, slot_of_position};
 use std::marker::Brand;
 use std::sync::ledger::Ledger;
 
@@ -40,9 +40,9 @@ impl<P: Protocol> Shared<P> {
         ensures empty { FoundEmpty (view pass.old) own.0.object own.1.time → result ≢ 0 }
         ensures step { steps.new ≡ steps.old + 1 }
     {
-        let slot = (position % self.config.slots as u64) as u32;
-        let place = slot_place(&self.config, pass.number, slot) + 3;
-        load_as::<P, Brand, L, _>(self, pass, place, &position, steps)
+        let slot = slot_of_position(&self.config, position);
+        let cell = slot_cell(&self.config, pass.number, slot) + 3;
+        load_as::<P, Brand, L, _>(self, pass, cell, &position, steps)
     }
 
     /// Stores a data word of an own version into the object's master, in an open section past its
@@ -66,8 +66,8 @@ impl<P: Protocol> Shared<P> {
         ensures view { view pass.new ≡ master_stored (config_of self.now) (view pass.old) object word value back.0 }
         ensures step { steps.new ≡ steps.old + 1 }
     {
-        let place = master_place(&self.config, object, word);
-        store_as::<P, Brand, L, _>(self, pass, place, value, &(object, word), steps)
+        let cell = master_cell(&self.config, object, word);
+        store_as::<P, Brand, L, _>(self, pass, cell, value, &(object, word), steps)
     }
 
     /// Exchanges HEAD of an object from the link of the version that is written back to 0, once all
@@ -96,12 +96,12 @@ impl<P: Protocol> Shared<P> {
             → IsOfOther (view pass.old) (found_by (link_of (view pass.old).number position) result) }
         ensures step { steps.new ≡ steps.old + 1 }
     {
-        let place = head_place(&self.config, object);
+        let cell = head_cell(&self.config, object);
         let link = link_word(pass.number, position);
         let found = swap_as::<P, Brand, L, _>(
             self,
             pass,
-            place,
+            cell,
             link,
             0,
             &(object, position),
@@ -121,8 +121,8 @@ impl<P: Protocol> Shared<P> {
         ensures view { view pass.new ≡ free_stored (config_of self.now) (view pass.old) position }
         ensures step { steps.new ≡ steps.old + 1 }
     {
-        let slot = (position % self.config.slots as u64) as u32;
-        let place = slot_place(&self.config, pass.number, slot) + 1;
-        store_as::<P, Brand, L, _>(self, pass, place, 0, &position, steps)
+        let slot = slot_of_position(&self.config, position);
+        let cell = slot_cell(&self.config, pass.number, slot) + 1;
+        store_as::<P, Brand, L, _>(self, pass, cell, 0, &position, steps)
     }
 }

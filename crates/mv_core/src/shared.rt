@@ -1,7 +1,7 @@
 //! The shared words of a domain, and what a thread steps with.
 ghost use Rattle.std.specs.Prelude.{◌≡◌, ◌<◌, [], length};
 ghost use Rattle.mv_layout.specs.Limits.{Checked};
-ghost use Rattle.mv_layout.specs.Places.{total};
+ghost use Rattle.mv_layout.specs.Cells.{cells};
 ghost use Rattle.mv_core.specs.Known.{Known, IsTimed, IsBegun};
 
 use crate::view::View;
@@ -38,7 +38,7 @@ pub struct Shared<P: Protocol> {
     pub(crate) config: Config,
     pub(crate) table: Table<Tag, View, Opening, Core<P>, Global>,
     pub ghost checked: { Checked config },
-    pub ghost sized: { (table.shared.table_id.words ≡ total config) × (table.shared.table_id.slots ≡ 0) },
+    pub ghost sized: { (table.shared.table_id.words ≡ cells config) × (table.shared.table_id.slots ≡ 0) },
     pub ghost about: { table.shared.key.config ≡ config },
     pub ghost opening: { length table.shared.key.start.value.items ≡ config.objects },
 }

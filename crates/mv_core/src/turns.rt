@@ -4,7 +4,8 @@ ghost use Rattle.std.specs.Prelude.{◌≡◌, ℕ, ◌+◌, ◌<◌};
 ghost use Rattle.mv_core.specs.Known.{Known, RunsOn};
 ghost use Rattle.mv_core.specs.Passes.{view, IsOf, IsSame, IsSeatOf, config_of, start_of};
 ghost use Rattle.mv_core.specs.Rule.{Loads, Stores, Swaps, Raises, LoadsAs, StoresAs, SwapsAs, RaisesAs, IsKept};
-ghost use Rattle.mv_layout.specs.Places.{IsPlace, place_of};
+ghost use Rattle.mv_layout.specs.Places.{IsPlace};
+ghost use Rattle.mv_layout.specs.Cells.{cell_of};
 
 use crate::shared::{Pass, Shared};
 use crate::steps::Steps;
@@ -73,7 +74,7 @@ pub(crate) fn load_as<P: Protocol, J: Turn, L: Ledger, T>(
     steps: &mut Steps<L>,
 ) -> u64
     requires of { IsOf shared.now pass.old }
-    requires place { IsPlace (config_of shared.now) J.place × (index ≡ place_of (config_of shared.now) J.place) }
+    requires place { IsPlace (config_of shared.now) J.place × (index ≡ cell_of (config_of shared.now) J.place) }
     requires rule { Loads P.start P.allowed (config_of shared.now) (start_of shared.now) (view pass.old) J.place
         (λ n w. (J.tells n w × RunsOn (view pass.old) w) × IsKept (view pass.old) w) }
     requires moves { LoadsAs P.start P.allowed (config_of shared.now) (start_of shared.now) (view pass.old) J.place J.kind J.tells }
@@ -99,7 +100,7 @@ pub(crate) fn store_as<P: Protocol, J: Turn, L: Ledger, T>(
     steps: &mut Steps<L>,
 )
     requires of { IsOf shared.now pass.old }
-    requires place { IsPlace (config_of shared.now) J.place × (index ≡ place_of (config_of shared.now) J.place) }
+    requires place { IsPlace (config_of shared.now) J.place × (index ≡ cell_of (config_of shared.now) J.place) }
     requires rule { Stores P.start P.allowed (config_of shared.now) (start_of shared.now) (view pass.old) J.place new
         (λ w. (J.tells new w × RunsOn (view pass.old) w) × IsKept (view pass.old) w) }
     requires moves { StoresAs P.start P.allowed (config_of shared.now) (start_of shared.now) (view pass.old) J.place J.kind new (J.tells new) }
@@ -126,7 +127,7 @@ pub(crate) fn swap_as<P: Protocol, J: Turn, L: Ledger, T>(
     steps: &mut Steps<L>,
 ) -> u64
     requires of { IsOf shared.now pass.old }
-    requires place { IsPlace (config_of shared.now) J.place × (index ≡ place_of (config_of shared.now) J.place) }
+    requires place { IsPlace (config_of shared.now) J.place × (index ≡ cell_of (config_of shared.now) J.place) }
     requires rule { Swaps P.start P.allowed (config_of shared.now) (start_of shared.now) (view pass.old) J.place old new
         (λ n w. (J.tells n w × RunsOn (view pass.old) w) × IsKept (view pass.old) w) }
     requires moves { SwapsAs P.start P.allowed (config_of shared.now) (start_of shared.now) (view pass.old) J.place J.kind old new J.tells }
@@ -152,7 +153,7 @@ pub(crate) fn raise_as<P: Protocol, J: Turn, L: Ledger, T>(
     steps: &mut Steps<L>,
 ) -> u64
     requires of { IsOf shared.now pass.old }
-    requires place { IsPlace (config_of shared.now) J.place × (index ≡ place_of (config_of shared.now) J.place) }
+    requires place { IsPlace (config_of shared.now) J.place × (index ≡ cell_of (config_of shared.now) J.place) }
     requires rule { Raises P.start P.allowed (config_of shared.now) (start_of shared.now) (view pass.old) J.place by
         (λ n w. (J.tells n w × RunsOn (view pass.old) w) × IsKept (view pass.old) w) }
     requires moves { RaisesAs P.start P.allowed (config_of shared.now) (start_of shared.now) (view pass.old) J.place J.kind by J.tells }
@@ -177,7 +178,7 @@ pub(crate) fn load_alone<P: Protocol, J: Turn, L: Ledger, T>(
     steps: &mut Steps<L>,
 ) -> u64
     requires of { IsSeatOf P.start P.allowed shared.now seat.old }
-    requires place { IsPlace (config_of shared.now) J.place × (index ≡ place_of (config_of shared.now) J.place) }
+    requires place { IsPlace (config_of shared.now) J.place × (index ≡ cell_of (config_of shared.now) J.place) }
     requires rule { Loads P.start P.allowed (config_of shared.now) (start_of shared.now) seat.old.me.0 J.place (λ n w. J.tells n w × IsKept seat.old.me.0 w) }
     requires moves { LoadsAs P.start P.allowed (config_of shared.now) (start_of shared.now) seat.old.me.0 J.place J.kind J.tells }
     ensures same { (seat.new.table_id ≡ seat.old.table_id) × IsKept seat.old.me.0 seat.new.me.0 }
@@ -205,7 +206,7 @@ pub(crate) fn swap_alone<P: Protocol, J: Turn, L: Ledger, T>(
     steps: &mut Steps<L>,
 ) -> u64
     requires of { IsSeatOf P.start P.allowed shared.now seat.old }
-    requires place { IsPlace (config_of shared.now) J.place × (index ≡ place_of (config_of shared.now) J.place) }
+    requires place { IsPlace (config_of shared.now) J.place × (index ≡ cell_of (config_of shared.now) J.place) }
     requires rule { Swaps P.start P.allowed (config_of shared.now) (start_of shared.now) seat.old.me.0 J.place old new
         (λ n w. J.tells n w × IsKept seat.old.me.0 w) }
     requires moves { SwapsAs P.start P.allowed (config_of shared.now) (start_of shared.now) seat.old.me.0 J.place J.kind old new J.tells }

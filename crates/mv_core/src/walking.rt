@@ -6,7 +6,7 @@ ghost use Rattle.mv_core.specs.Passes.{view, IsOf, IsSame, config_of};
 ghost use Rattle.mv_core.specs.WalkSteps.{IsPackedOf, IsLinkOf, IsOwnTop, IsOwnLink, IsLastOwn, IsLastSeen, IsOwnTime, slot_named, MayLoadHead};
 ghost use Rattle.mv_core.specs.WalkSteps.{head_loaded, MayLoadFirst, first_loaded, MayLoadStamp, StampSays, stamp_loaded, MayLoadPrev, prev_loaded};
 ghost use Rattle.mv_core.specs.WalkSteps.{MayLoadData, data_loaded, MayLoadMaster, master_loaded, words_read, word_read};
-ghost use Rattle.mv_layout.specs.Places.{place_of};
+ghost use Rattle.mv_layout.specs.Cells.{cell_of};
 ghost use Rattle.mv_layout.specs.Words.{link_seat_of};
 ghost use Rattle.mv_layout.specs.declared.Place.TheVariants.{First};
 
@@ -14,7 +14,7 @@ use crate::shared::{Pass, Shared};
 use crate::steps::Steps;
 use crate::turns::load_as;
 use mv_history::Protocol;
-use mv_layout::{head_place, link_position, link_seat, master_place, slot_place};
+use mv_layout::{head_cell, link_position, link_seat, master_cell, slot_cell, slot_of_position};
 use std::marker::Brand;
 use std::sync::ledger::Ledger;
 
@@ -22,10 +22,10 @@ impl<P: Protocol> Shared<P> {
     // Where the slot that a link names begins.
     pub(crate) fn slot_linked(&self, link: u64) -> u32
         requires { IsPackedOf (config_of self.now) link }
-        ensures { result ≡ place_of (config_of self.now) (First (link_seat_of link) (slot_named (config_of self.now) link)) }
+        ensures { result ≡ cell_of (config_of self.now) (First (link_seat_of link) (slot_named (config_of self.now) link)) }
     {
-        let slot = (link_position(link) % self.config.slots as u64) as u32;
-        slot_place(&self.config, link_seat(link), slot)
+        let slot = slot_of_position(&self.config, link_position(link));
+        slot_cell(&self.config, link_seat(link), slot)
     }
 
     /// Loads HEAD of an object, in an open section that is past its help and has no write-back under
@@ -48,8 +48,8 @@ impl<P: Protocol> Shared<P> {
         ensures seen { IsLastSeen (config_of self.now) (view pass.old) object result }
         ensures step { steps.new ≡ steps.old + 1 }
     {
-        let place = head_place(&self.config, object);
-        load_as::<P, Brand, L, _>(self, pass, place, &object, steps)
+        let cell = head_cell(&self.config, object);
+        load_as::<P, Brand, L, _>(self, pass, cell, &object, steps)
     }
 
     /// Loads FIRST of the version that the walk stands at: the first position of its write set.
@@ -62,8 +62,8 @@ impl<P: Protocol> Shared<P> {
         ensures view { view pass.new ≡ first_loaded (config_of self.now) (view pass.old) stand result }
         ensures step { steps.new ≡ steps.old + 1 }
     {
-        let place = self.slot_linked(link);
-        load_as::<P, Brand, L, _>(self, pass, place, &link, steps)
+        let cell = self.slot_linked(link);
+        load_as::<P, Brand, L, _>(self, pass, cell, &link, steps)
     }
 
     /// Loads STAMP of the write set of the version that the walk stands at, whose first position
@@ -88,9 +88,9 @@ impl<P: Protocol> Shared<P> {
         ensures own { IsOwnTime (config_of self.now) (view pass.old) link result }
         ensures step { steps.new ≡ steps.old + 1 }
     {
-        let slot = (first % self.config.slots as u64) as u32;
-        let place = slot_place(&self.config, link_seat(link), slot) + 1;
-        load_as::<P, Brand, L, _>(self, pass, place, &(link, first), steps)
+        let slot = slot_of_position(&self.config, first);
+        let cell = slot_cell(&self.config, link_seat(link), slot) + 1;
+        load_as::<P, Brand, L, _>(self, pass, cell, &(link, first), steps)
     }
 
     /// Loads PREV of the version that the walk stands at, whose stamp it found to be unset or a time
@@ -106,8 +106,8 @@ impl<P: Protocol> Shared<P> {
         ensures link { IsLinkOf (config_of self.now) result }
         ensures step { steps.new ≡ steps.old + 1 }
     {
-        let place = self.slot_linked(link) + 2;
-        load_as::<P, Brand, L, _>(self, pass, place, &link, steps)
+        let cell = self.slot_linked(link) + 2;
+        load_as::<P, Brand, L, _>(self, pass, cell, &link, steps)
     }
 
     /// Loads a data word of the version that the walk stands at, whose stamp it found to be a time not
@@ -129,8 +129,8 @@ impl<P: Protocol> Shared<P> {
         ensures wide { length (words_read (config_of self.now) (view pass.old) at.1 at.0.object) ≡ 6 }
         ensures step { steps.new ≡ steps.old + 1 }
     {
-        let place = self.slot_linked(link) + 4 + word;
-        load_as::<P, Brand, L, _>(self, pass, place, &(link, word), steps)
+        let cell = self.slot_linked(link) + 4 + word;
+        load_as::<P, Brand, L, _>(self, pass, cell, &(link, word), steps)
     }
 
     /// Loads a master word of an object, where the walk stands at its master. The word found is the
@@ -152,7 +152,7 @@ impl<P: Protocol> Shared<P> {
         ensures wide { length (words_read (config_of self.now) (view pass.old) inside object) ≡ 6 }
         ensures step { steps.new ≡ steps.old + 1 }
     {
-        let place = master_place(&self.config, object, word);
-        load_as::<P, Brand, L, _>(self, pass, place, &(object, word), steps)
+        let cell = master_cell(&self.config, object, word);
+        load_as::<P, Brand, L, _>(self, pass, cell, &(object, word), steps)
     }
 }

@@ -1,15 +1,15 @@
--- Distinct words stand at distinct places, and a write to one leaves the others.
-use Rattle.std.proofs.Common.{◌≡◌, ℕ, suc, ◌+◌, ◌*◌, ◌<◌, ◌≤◌, ◌==◌, ◌&&◌, Bool, true, false, cond, List, set}
-use Rattle.std.proofs.Common.{get_or, sym, refl, ap, ◌∙◌, arith, length-set, get_or-set_other, get_or-set_same, mul-le-mul_right, eqb-true}
+-- Distinct words have distinct numbers.
+use Rattle.std.proofs.Common.{◌≡◌, ℕ, suc, ◌+◌, ◌*◌, ◌<◌, ◌≤◌, ◌==◌, ◌&&◌, Bool, true, false}
+use Rattle.std.proofs.Common.{refl, ap, arith, mul-le-mul_right, eqb-true}
 use Rattle.std.proofs.Common.{eq-eqb, suc-mul}
 use native.Mathlib.Decide.{dec_lt}
 use Rattle.mv_layout.specs.declared.config.Config.{Config}
 use Rattle.mv_layout.specs.declared.places.Place.{Place}
 use Rattle.mv_layout.specs.declared.places.Place.TheVariants.{Clock, Grace, Mark, Head, Master, First, Stamp, Prev, Super, Data}
 use Rattle.mv_layout.specs.Limits.{Checked}
-use Rattle.mv_layout.specs.Places.{total, place_of, IsPlace, same, Memory, put, Shows}
+use Rattle.mv_layout.specs.Places.{total, place_of, IsPlace, same}
 
-below : (s t k n : ℕ) → s < t → k < n → s * n + k < t * n
+pub below : (s t k n : ℕ) → s < t → k < n → s * n + k < t * n
 below s t k n lt in_row = let m : suc s * n ≤ t * n = mul-le-mul_right n lt in omega (arith, suc-mul s n)
 
 pub in_table : (c : Config) (p : Place) → Checked c → IsPlace c p → place_of c p < total c
@@ -30,10 +30,10 @@ row_go s t j k n e hj hk (yes lt) d = let b = below s t j n lt hj in absurd (ome
 row_go s t j k n e hj hk (no a) (yes lt) = let b = below t s k n lt hk in absurd (omega arith)
 row_go s t j k n e hj hk (no a) (no b) = let e' : s ≡ t = omega arith in let f : s * n ≡ t * n = ap (λ (x : ℕ). x * n) e' in (e', omega arith)
 
-same_row : (s t j k n : ℕ) → s * n + j ≡ t * n + k → j < n → k < n → (s ≡ t) × (j ≡ k)
+pub same_row : (s t j k n : ℕ) → s * n + j ≡ t * n + k → j < n → k < n → (s ≡ t) × (j ≡ k)
 same_row s t j k n e hj hk = row_go s t j k n e hj hk (dec_lt s t) (dec_lt t s)
 
-abbrev two : (a b : Bool) → a ≡ true → b ≡ true → (a && b) ≡ true
+abbrev pub two : (a b : Bool) → a ≡ true → b ≡ true → (a && b) ≡ true
 two true b e f = f
 two false b e f = e
 
@@ -72,17 +72,3 @@ same_is (Data s k w) (Data t l x) e =
     let b = both (s == t) ((k == l) && (w == x)) e in let d =
     both (k == l) (w == x) b.1 in λ i. Data (eqb-true s t b.0 i) (eqb-true k l d.0 i) (eqb-true w x d.1 i)
 same_is _ _ e = absurd cc
-
--- the words after a write show the memory after it
-put_go : (c : Config) (ws : List ℕ) (m : Memory) (p q : Place) (n : ℕ) → Checked c → Shows c ws m → IsPlace c p → IsPlace c q → (b : Bool) → same p q ≡ b
-    → get_or (set ws (place_of c p) n) (place_of c q) 0 ≡ cond b n (m q)
-put_go c ws m p q n k s hp hq true e =
-    let is : place_of c q ≡ place_of c p = ap (place_of c) (sym (same_is p q e)) in let b = in_table c p k hp in
-    ap (λ (i : ℕ). get_or (set ws (place_of c p) n) i 0) is ∙ get_or-set_same ws (place_of c p) n 0 (omega (arith, s.wide))
-put_go c ws m p q n k s hp hq false e =
-    get_or-set_other ws (place_of c p) (place_of c q) n 0 (λ (is : place_of c q ≡ place_of c p). let t = one_place c p q k hp hq (sym is) in absurd cc)
-    ∙ s.each q hq
-
-pub shows_put : (c : Config) (ws : List ℕ) (m : Memory) (p : Place) (n : ℕ) → Checked c → Shows c ws m → IsPlace c p
-    → Shows c (set ws (place_of c p) n) (put m p n)
-shows_put c ws m p n k s hp = record { wide = length-set ws (place_of c p) n ∙ s.wide; each = λ q hq. put_go c ws m p q n k s hp hq (same p q) refl }

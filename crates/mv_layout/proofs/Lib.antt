@@ -1,2 +1,3 @@
 pub mod Unpacking
 pub mod Distinct
+pub mod InCells

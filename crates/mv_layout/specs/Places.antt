@@ -1,14 +1,14 @@
--- The words by name, the number of each, and the view of a table's words by name.
-use Rattle.std.specs.Prelude.{◌≡◌, ℕ, ◌+◌, ◌*◌, ◌<◌, ◌==◌, ◌&&◌, Bool, true, false, cond, List, length, slice_index}
+-- The words by name, the number of each, and a memory of words by name.
+use Rattle.std.specs.Prelude.{ℕ, ◌+◌, ◌*◌, ◌<◌, ◌==◌, ◌&&◌, Bool, true, false, cond}
 use Rattle.mv_layout.specs.declared.config.Config.{Config}
 use Rattle.mv_layout.specs.declared.places.Place.{Place}
 use Rattle.mv_layout.specs.declared.places.Place.TheVariants.{Clock, Grace, Mark, Head, Master, First, Stamp, Prev, Super, Data}
 
--- where the slots begin
+-- the number of the first slot's first word
 abbrev pub row_of : Config → ℕ
 row_of c = 2 + c.seats + 7 * c.objects
 
--- where a slot of a seat begins
+-- the number of the first word of a slot of a seat
 abbrev pub slot_of : Config → ℕ → ℕ → ℕ
 slot_of c s k = row_of c + 10 * (s * c.slots + k)
 
@@ -16,7 +16,7 @@ slot_of c s k = row_of c + 10 * (s * c.slots + k)
 abbrev pub total : Config → ℕ
 total c = row_of c + 10 * (c.seats * c.slots)
 
--- where a word stands
+-- the number of a word, by which trails and texts speak of it
 abbrev pub place_of : Config → Place → ℕ
 place_of c Clock = 0
 place_of c Grace = 1
@@ -63,8 +63,3 @@ Memory = Place → ℕ
 -- the memory after a write of n into p
 abbrev pub put : Memory → Place → ℕ → Memory
 put m p n q = cond (same p q) n (m q)
-
--- the words of the table are this memory
-pub record Shows (c : Config) (words : List ℕ) (m : Memory) : Type 0 where
-  pub wide : length words ≡ total c
-  pub each : (p : Place) → IsPlace c p → slice_index words (place_of c p) ≡ m p

@@ -1,8 +1,9 @@
 // The packed words and the limits, against values worked out by hand.
 use crate::{
-    Config, ConfigFault, clock_seat, clock_slot, clock_time, clock_word, head_place, is_unset,
-    link_position, link_seat, link_word, mark_low, mark_place, mark_word, master_place, slot_place,
-    total_words, unset_position, unset_stamp,
+    CLOCK_CELL, Config, ConfigFault, GRACE_CELL, clock_seat, clock_slot, clock_time, clock_word,
+    head_cell, head_place, is_unset, link_position, link_seat, link_word, mark_cell, mark_low,
+    mark_place, mark_word, master_cell, master_place, slot_cell, slot_of_position, slot_place,
+    total_cells, total_words, unset_position, unset_stamp,
 };
 use std::test::Fail;
 
@@ -51,7 +52,6 @@ fn packed_links_and_stamps(rt: HostRuntime) -> Result<(), Fail> {
         assert_eq!(rt; link_seat(word), seat, "seat {seat}");
         assert_eq!(rt; link_position(word), position, "seat {seat}");
     }
-    assert_eq!(rt; 70 % 64, 6, "the slot of position 70 among 64");
     let unset = unset_stamp(7);
     assert_eq!(rt; unset, 0x8000_0000_0000_0007);
     assert_eq!(rt; unset_position(unset), 7);
@@ -195,5 +195,43 @@ fn places_of_a_domain(rt: HostRuntime) -> Result<(), Fail> {
         ..FIT
     };
     assert_eq!(rt; total_words(&wide), 786_435);
+    Ok(())
+}
+
+#[test]
+fn cells_of_a_domain(rt: HostRuntime) -> Result<(), Fail> {
+    assert_eq!(rt; CLOCK_CELL, 6);
+    assert_eq!(rt; GRACE_CELL, 22);
+    assert_eq!(rt; mark_cell(&FIT, 0), 38);
+    assert_eq!(rt; mark_cell(&FIT, 1), 54);
+    assert_eq!(rt; head_cell(&FIT, 0), 70);
+    assert_eq!(rt; head_cell(&FIT, 2), 86);
+    assert_eq!(rt; master_cell(&FIT, 2, 5), 92);
+    assert_eq!(rt; slot_cell(&FIT, 0, 0), 94);
+    assert_eq!(rt; slot_cell(&FIT, 1, 63), 94 + 16 * 127);
+    assert_eq!(rt; total_cells(&FIT), 94 + 16 * 128);
+    let widest = Config {
+        seats: 64,
+        objects: 65_535,
+        slots: 4_096,
+        ..FIT
+    };
+    assert_eq!(rt; total_cells(&widest), 4_719_646);
+    Ok(())
+}
+
+#[test]
+fn slots_of_positions(rt: HostRuntime) -> Result<(), Fail> {
+    let uneven = Config { slots: 100, ..FIT };
+    let small = Config { slots: 128, ..FIT };
+    let large = Config {
+        slots: 4_096,
+        ..FIT
+    };
+    assert_eq!(rt; slot_of_position(&FIT, 0), 0);
+    assert_eq!(rt; slot_of_position(&FIT, 70), 6);
+    assert_eq!(rt; slot_of_position(&uneven, 1_000_007), 7);
+    assert_eq!(rt; slot_of_position(&small, 300), 44);
+    assert_eq!(rt; slot_of_position(&large, 144_115_188_075_855_871), 4_095);
     Ok(())
 }

@@ -5,14 +5,14 @@ use Rattle.std.proofs.Common.{false, List, ◌++◌, length, set, slice_index, r
 use Rattle.std.proofs.lemmas.List.{set-get_or}
 use Rattle.std.proofs.Math.Logic.{∥∥₁_elim}
 use Rattle.std.proofs.Math.Bool.{Bool-set}
-use Rattle.mv_core.proofs.Terms.{some, get_elem?, Entry, State, Writes, Config, Place, Memory, put, Shows, IsPlace, place_of, View, parts_of, set_at}
+use Rattle.mv_core.proofs.Terms.{some, get_elem?, Entry, State, Writes, Config, Place, Memory, put, Shows, IsPlace, cell_of, View, parts_of, set_at}
 use prog.Atomic.{either}
 use Rattle.atomic_table.specs.Table as table
 use Rattle.atomic_table.specs.Table.{Me, Act, keeps, Valid, stepped, Allows, carried_after}
 use Rattle.atomic_table.proofs.Lists.{exchanged}
 use Rattle.mv_history.specs.Legal.{AreWords, IsLegal, IsAllowed}
 use Rattle.mv_history.proofs.Histories.{IsLegal-front, IsAllowed-front}
-use Rattle.mv_layout.proofs.Distinct.{shows_put}
+use Rattle.mv_layout.proofs.InCells.{shows_put}
 use Rattle.mv_core.specs.declared.shared.Opening.{Opening}
 use Rattle.mv_core.specs.Moves as moves
 use Rattle.mv_core.specs.Moves.{Moment, Kind, act, memory_after, history_after, IsStorable, IsSeat, Move, steps, Moves, moved}
@@ -58,7 +58,7 @@ module _ (starts : State → Type 0) (allows : List ℕ → State → Writes →
         deaths = known_death seats w k is begins from;
       }
 
-  module _ (key : Opening) (slots id : ℕ) (me : Me (List ℕ) View) (p : Place) (i : ℕ) (hp : IsPlace key.config p) (is : i ≡ place_of key.config p)
+  module _ (key : Opening) (slots id : ℕ) (me : Me (List ℕ) View) (p : Place) (i : ℕ) (hp : IsPlace key.config p) (is : i ≡ cell_of key.config p)
       (unspent : me.0.spent ≡ false) (begins : me.0.start ≡ key.start.value.items) (from : me.0.base ≡ key.config.base) where
     found_is : (s : table.State (List ℕ) View) (r : Ruled starts allows key s) → slice_index s.words i ≡ r.memory p
     found_is s r = ap (slice_index s.words) is ∙ r.shows.each p hp

@@ -2,18 +2,18 @@
 use Rattle.std.proofs.Common.{◌≡◌, ℕ, zero, suc, ◌+◌, ◌<◌, ◌==◌, ◌&&◌, false, cond, List, length, set, get_or, slice_index}
 use Rattle.std.proofs.Common.{replicate, refl, sym, ap, ◌∙◌, inl, inr, ⊎_elim, arith, eq-eqb, ne_eqb}
 use Rattle.mv_core.proofs.Terms.{dite, ℕ_discrete, State, Config, Place, Clock, Grace, Mark, Head, Master, First, Stamp, Prev, Super, Data, Checked}
-use Rattle.mv_core.proofs.Terms.{clock_of, Memory, put, same, Shows, IsPlace, place_of, total}
+use Rattle.mv_core.proofs.Terms.{clock_of, Memory, put, same, Shows, IsPlace, cell_of, cells}
 use Rattle.std.proofs.lemmas.List.{length-replicate}
 use Rattle.mv_history.specs.Meaning.{words_at}
-use Rattle.mv_layout.proofs.Distinct.{shows_put}
+use Rattle.mv_layout.proofs.InCells.{shows_put}
 use Rattle.mv_core.specs.Start.{opening_memory, IsBlank, Laid}
 
--- what stands at each place
+-- what lies in each cell
 abbrev read : Config → List ℕ → Memory
-read c words p = slice_index words (place_of c p)
+read c words p = slice_index words (cell_of c p)
 
-after_write : (c : Config) → Checked c → (words : List ℕ) → length words ≡ total c → (p : Place) (n : ℕ) → IsPlace c p
-    → Shows c (set words (place_of c p) n) (put (read c words) p n)
+after_write : (c : Config) → Checked c → (words : List ℕ) → length words ≡ cells c → (p : Place) (n : ℕ) → IsPlace c p
+    → Shows c (set words (cell_of c p) n) (put (read c words) p n)
 after_write c k words wide p n is = shows_put c words (read c words) p n k (record { wide = wide; each = λ q _. refl }) is
 
 zero_words : (n i : ℕ) → get_or (replicate {A = ℕ} n 0) i 0 ≡ 0
@@ -22,8 +22,8 @@ zero_words (suc n) zero = refl
 zero_words (suc n) (suc i) = zero_words n i
 
 module _ (c : Config) (start : State) (k : Checked c) where
-  blank_after : (words : List ℕ) (p : Place) (n : ℕ) → (is : Shows c (set words (place_of c p) n) (put (read c words) p n)) → (q : Place) → IsPlace c q
-      → same p q ≡ false → slice_index words (place_of c q) ≡ 0 → slice_index (set words (place_of c p) n) (place_of c q) ≡ 0
+  blank_after : (words : List ℕ) (p : Place) (n : ℕ) → (is : Shows c (set words (cell_of c p) n) (put (read c words) p n)) → (q : Place) → IsPlace c q
+      → same p q ≡ false → slice_index words (cell_of c q) ≡ 0 → slice_index (set words (cell_of c p) n) (cell_of c q) ≡ 0
   blank_after words p n is q at other was = is.each q at ∙ ap (λ b. cond b n (read c words q)) other ∙ was
 
   other_kind : (o w : ℕ) (q : Place) → IsBlank q → same (Master o w) q ≡ false
@@ -40,7 +40,7 @@ module _ (c : Config) (start : State) (k : Checked c) where
 
   -- one more word is laid
   pub laid_more : (words : List ℕ) (o w : ℕ) → o < c.objects → w < 6 → Laid c start words o w
-      → Laid c start (set words (place_of c (Master o w)) (slice_index (words_at start o) w)) o (w + 1)
+      → Laid c start (set words (cell_of c (Master o w)) (slice_index (words_at start o) w)) o (w + 1)
   laid_more words o w at in_object l =
       let x = slice_index (words_at start o) w in
       let is = after_write c k words l.wide (Master o w) x (at, in_object) in record {
@@ -85,25 +85,25 @@ module _ (c : Config) (start : State) (k : Checked c) where
   not_first (Data s j x) b = (refl, refl)
 
   -- nothing is laid yet
-  pub laid_first : Laid c start (set (set (replicate (total c) 0) 0 (clock_of c.base 0 8191)) 1 c.base) 0 0
+  pub laid_first : Laid c start (set (set (replicate (cells c) 0) (cell_of c Clock) (clock_of c.base 0 8191)) (cell_of c Grace) c.base) 0 0
   laid_first =
-      let zeros : List ℕ = replicate (total c) 0 in
+      let zeros : List ℕ = replicate (cells c) 0 in
       let n = clock_of c.base 0 8191 in
-      let one = after_write c k zeros (length-replicate (total c) 0) Clock n tt in
-      let two = after_write c k (set zeros 0 n) one.wide Grace c.base tt in record {
+      let one = after_write c k zeros (length-replicate (cells c) 0) Clock n tt in
+      let two = after_write c k (set zeros (cell_of c Clock) n) one.wide Grace c.base tt in record {
         wide = two.wide;
         clock = two.each Clock tt ∙ one.each Clock tt;
         grace = two.each Grace tt;
         master = λ p y at in_object done. absurd (⊎_elim (λ lt. omega arith) (λ t. let z = t.1 in omega arith) done);
-        blank = λ q at b. blank_after (set zeros 0 n) Grace c.base two q at (not_first q b).1
-            (blank_after zeros Clock n one q at (not_first q b).0 (zero_words (total c) (place_of c q)));
+        blank = λ q at b. blank_after (set zeros (cell_of c Clock) n) Grace c.base two q at (not_first q b).1
+            (blank_after zeros Clock n one q at (not_first q b).0 (zero_words (cells c) (cell_of c q)));
       }
 
   -- all is laid
   pub laid_last : (words : List ℕ) → Laid c start words c.objects 0 → Shows c words (opening_memory c start)
   laid_last words l = record { wide = l.wide; each = each }
     where
-      each : (p : Place) → IsPlace c p → slice_index words (place_of c p) ≡ opening_memory c start p
+      each : (p : Place) → IsPlace c p → slice_index words (cell_of c p) ≡ opening_memory c start p
       each Clock at = l.clock
       each Grace at = l.grace
       each (Master o w) at = l.master o w at.0 at.1 (inl at.0)

@@ -9,8 +9,8 @@ use Rattle.mv_core.specs.Passes.{view}
 use Rattle.mv_core.proofs.kinds.helping.stamp.SwapStamp.{names_commit, stamp_swaps}
 use Rattle.mv_core.proofs.shared.Shared.stamp.Goals as goal
 
-pub named_place-place-requires-clause-names : goal.named_place-place-requires-clause-names
-named_place-place-requires-clause-names g c e =
+pub named_cell-cell-requires-clause-names : goal.named_cell-cell-requires-clause-names
+named_cell-cell-requires-clause-names g c e =
     let config = config_of c.args.self.now in
     let pass = c.args.pass.now in
     ∥∥₁_elim pass.known (λ a b. absurd a)

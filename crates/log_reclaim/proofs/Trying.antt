@@ -1,6 +1,6 @@
 -- What a try to write a version back comes to, by what its parts leave.
 use Rattle.std.proofs.Common.{◌≡◌, ◌≢◌, ℕ, ◌+◌, ◌-◌, ◌<◌, ◌≤◌, max, true, List, [], ◌∷◌, ◌++◌, length, refl}
-use Rattle.std.proofs.Common.{sym, ap, ◌∙◌, subst, inl, inr, arith, append_assoc, Some, None}
+use Rattle.std.proofs.Common.{sym, ap, ◌∙◌, subst, inl, inr, arith, append_assoc, Some, None, Contains}
 use Rattle.std.proofs.Math.Logic.{∥∥₁_elim}
 use Rattle.std.proofs.Math.Bridge.{le_prop}
 use Rattle.std.proofs.lemmas.List.Elements.{All-append, Contains-append_right}
@@ -22,7 +22,7 @@ use Rattle.seat_log.proofs.Retired.{committed_at}
 use Rattle.log_reclaim.specs.declared.writing_back.Back.{Back}
 use Rattle.log_reclaim.specs.declared.writing_back.BackEnd.{BackEnd}
 use Rattle.log_reclaim.specs.declared.writing_back.BackEnd.TheVariants.{Cut, Above}
-use Rattle.log_reclaim.specs.Parts.{FindsSeat}
+use Rattle.log_reclaim.specs.Parts.{super_load, FindsSeat}
 use Rattle.log_reclaim.specs.Backs.{HasLooked, LeavesAt, NamesSeat}
 use Rattle.log_reclaim.specs.Tries.{IsUntimed, Makes, LoadsSuper, StoresAll, TriesOne}
 use Rattle.log_reclaim.proofs.Reclaiming.{makes_none, makes_on, reclaims_number, reclaims_base, reclaims_may}
@@ -73,11 +73,21 @@ module _ (starts : State → Type 0) (allows : List ℕ → State → Writes →
     pub tries_gone : (w : View) (m : Noted) → LoadsSuper c u w l m n true → TriesOne c v w l m n mark (record { above = None; clock = first })
     tries_gone w m loads =
         let found = loads.some refl in record {
-          made = steps ++ loads.step ∷ [];
-          makes = makes_on v u w steps (loads.step ∷ []) makes loads.makes;
+          made = steps ++ super_load c u.number n loads.time ∷ [];
+          makes = makes_on v u w steps (super_load c u.number n loads.time ∷ []) makes loads.makes;
           within = (let fits = within in let more = begins_long w.past.seen u.past.seen loads.makes.reclaims.seen in
-              let same = reclaims_base u w (loads.step ∷ []) loads.makes.reclaims in omega arith);
-          fate = inl (loads.time, found.0, refl, inl (found.1, found.2));
+              let same = reclaims_base u w (super_load c u.number n loads.time ∷ []) loads.makes.reclaims in omega arith);
+          fate = inl (
+            loads.time,
+            found.0,
+            refl,
+            inl (
+              found.1,
+              found.2,
+              subst (λ (own : ℕ). Contains (steps ++ super_load c u.number n loads.time ∷ []) (super_load c own n loads.time)) gone_number
+                  (Contains-append_right steps (super_load c u.number n loads.time ∷ []) (super_load c u.number n loads.time) (0, omega arith, refl)),
+            ),
+          );
         }
 
     -- it was that of a later version of the own log

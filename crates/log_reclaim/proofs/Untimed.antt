@@ -9,7 +9,7 @@ use Rattle.mv_core.specs.Times.{latest, latest_at}
 use Rattle.mv_core.proofs.history.Fronts.{latest_at-more, latest-more}
 use Rattle.reader_marks.specs.declared.scanning.Watermark.{Watermark}
 use Rattle.seat_log.specs.declared.version.Note.{Note}
-use Rattle.log_reclaim.specs.Parts.{Reclaims, super_step, FindsAbove, TimesDeath}
+use Rattle.log_reclaim.specs.Parts.{Reclaims, super_load, super_step, FindsAbove, TimesDeath}
 use Rattle.log_reclaim.specs.Untimed.{TriedSo, StaysUntimed, DatedSo}
 use Rattle.log_reclaim.proofs.Reclaiming.{reclaims_number, reclaims_base, reclaims_more}
 
@@ -92,11 +92,23 @@ module _ (c : Config) (u w : View) (made more : List Step) (r : Reclaims u w mor
       tried = λ b. tried_on above (d.tried b);
     }
 
-  pub dated_on : (most top : ℕ) (back : Bool) (old n : Note) → most ≤ top → DatedSo u made most back old n → DatedSo w (made ++ more) top back old n
+  pub dated_on : (most top : ℕ) (back : Bool) (old n : Note) → most ≤ top → DatedSo c u made most back old n
+      → DatedSo c w (made ++ more) top back old n
   dated_on most top back old n le d =
       let base = reclaims_base u w more r in
       let long = reclaims_more u w more r in
-      ⊎_elim inl (λ e. inr (⊎_elim (λ seen. inl (omega arith)) (λ b. let fits = b.1 in inr (b.0, omega arith, times_first made more n.dead b.2)) e)) d
+      ⊎_elim inl
+      (λ e. inr (
+      ⊎_elim
+      (λ seen.
+      let early = seen.0 in
+      inl (
+        omega arith,
+        Contains-append_left made more (super_load c w.number n n.dead)
+            (subst (λ (own : ℕ). Contains made (super_load c own n n.dead)) (sym (reclaims_number u w more r)) seen.1),
+      ))
+      (λ b. let fits = b.1 in inr (b.0, omega arith, times_first made more n.dead b.2)) e))
+      d
 
 -- other steps were made before these
 module _ (c : Config) (w : View) (made more : List Step) (mark : Watermark) (clock : ℕ) (n : Note) where
@@ -112,7 +124,11 @@ module _ (c : Config) (w : View) (made more : List Step) (mark : Watermark) (clo
     tried = λ b. tried_then above (d.tried b);
   }
 
-pub dated_then : (w : View) (made more : List Step) (most top : ℕ) (back : Bool) (old n : Note) → most ≤ top → DatedSo w more most back old n
-    → DatedSo w (made ++ more) top back old n
-dated_then w made more most top back old n le d =
-    ⊎_elim inl (λ e. inr (⊎_elim inl (λ b. let fits = b.1 in inr (b.0, omega arith, times_then made more n.dead b.2)) e)) d
+pub dated_then : (c : Config) (w : View) (made more : List Step) (most top : ℕ) (back : Bool) (old n : Note) → most ≤ top
+    → DatedSo c w more most back old n → DatedSo c w (made ++ more) top back old n
+dated_then c w made more most top back old n le d =
+    ⊎_elim inl
+    (λ e. inr (
+    ⊎_elim (λ seen. inl (seen.0, Contains-append_right made more (super_load c w.number n n.dead) seen.1))
+    (λ b. let fits = b.1 in inr (b.0, omega arith, times_then made more n.dead b.2)) e))
+    d

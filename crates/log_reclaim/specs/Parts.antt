@@ -79,9 +79,13 @@ pub record Shrinks (l m : Noted) (freed : ℕ) : Type 0 where
 abbrev pub grace_load : Config → ℕ → Step
 grace_load c found = record { kind = LoadGrace; word = place_of c Grace; found = Some found; stored = None }
 
--- a load of SUPER of the version of this note found 0
+-- a load of SUPER of the version of this note found this time, or 0
+abbrev pub super_load : Config → ℕ → Note → ℕ → Step
+super_load c own n time = record { kind = LoadSuper; word = place_of c (Super own (index_of c n.position)); found = Some time; stored = None }
+
+-- the same, which found 0
 abbrev pub super_step : Config → ℕ → Note → Step
-super_step c own n = record { kind = LoadSuper; word = place_of c (Super own (index_of c n.position)); found = Some 0; stored = None }
+super_step c own n = super_load c own n 0
 
 -- a step that loads HEAD, or tries to cut its chain
 abbrev pub IsHeadKind : StepKind → Type 0

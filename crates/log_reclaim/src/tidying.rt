@@ -70,8 +70,10 @@ fn rest_if_due<P: Protocol, L: Ledger>(
 /// nothing, no step begins a scan.
 ///
 /// No commit is made or tried, and the seat's commits are as before. At most one step is an exchange on
-/// CLOCK, won or lost, and none where no version is dead from a time above the clock of the first
-/// round's scan; at most one rest is made, which is counted.
+/// CLOCK, won or lost; at most one rest is made, which is counted. The exchange is tried only where a
+/// version that the log had at the begin is dead from a time above the clock of a scan of this call.
+/// That time was noted before, or this call found it: in SUPER of that very version, or by the load of
+/// CLOCK that ends a write-back.
 ///
 /// Of each version that is left without a time of death it is known why the first round's write-back
 /// left it so. This call found SUPER 0 in it. Then it found another seat's version in HEAD of its

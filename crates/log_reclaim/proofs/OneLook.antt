@@ -209,12 +209,12 @@ module _ (starts : State → Type 0) (allows : List ℕ → State → Writes →
           ⊎_elim (λ young. let low = may.low in let early = may.early index n at in (omega arith, inl young))
           (λ h. let both = later h in (both.0, inr both.1)) d
 
-      why_some : (seat : ℕ) → FindsOther c u.number t.made n seat → TriedSo c w made mark clock n (Some seat)
+      why_some : (seat : ℕ) → FindsOther c w t.made n seat → TriedSo c w made mark clock n (Some seat)
       why_some seat f =
-          let same : w.number ≡ u.number = reclaims_number u w t.made t.makes.reclaims in
-          let step : load ≡ super_step c w.number n = load_is ∙ ap (λ own. super_step c own n) (sym same) in
+          let number : w.number ≡ u.number = reclaims_number u w t.made t.makes.reclaims in
+          let step : load ≡ super_step c w.number n = load_is ∙ ap (λ own. super_step c own n) (sym number) in
           record {
-            not_own = λ e. f.not_own (e ∙ same);
+            not_own = f.not_own;
             in_range = f.in_range;
             before = [];
             after = t.made;

@@ -12,7 +12,7 @@ use Rattle.log_reclaim.specs.Parts.{super_load, super_step, FindsAbove, TimesDea
 -- found, the scan's own low time is below the clock's, and the version is later than the watermark or its object has a later write.
 abbrev pub TriedSo : Config → View → List Step → Watermark → ℕ → Note → Option ℕ → Type 0
 TriedSo c w made mark clock n None = (mark.low < clock) × ((mark.time < n.time) ⊎ (n.time < latest w.base w.past.seen n.object))
-TriedSo c w made mark clock n (Some seat) = FindsAbove c w.number made n seat
+TriedSo c w made mark clock n (Some seat) = FindsAbove c w made n seat
 
 -- A committed version has no time of death after a round with this watermark: one of the round's steps found SUPER 0 in it, no
 -- write of its object after its own and up to the low time was seen, and where the round writes back it tried so.

@@ -5,7 +5,6 @@ use Rattle.mv_core.proofs.Terms.{Held, Committed, CommitNote, View, slot_at, Liv
 use Rattle.mv_core.proofs.FactTerms.{History, Facts}
 use Rattle.mv_core.specs.Chains.{IsLater}
 use Rattle.mv_core.specs.Tops.{any_start, any_commit, StateWith, NamesNewer, IsNewer}
-use Rattle.mv_core.specs.WalkSteps.{slot_named}
 use Rattle.mv_core.proofs.logs.Finding.{find_holder}
 use Rattle.mv_core.proofs.history.Latest.{latest-reaches}
 use Rattle.mv_core.proofs.logs.Links.{names_place}

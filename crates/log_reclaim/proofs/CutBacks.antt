@@ -11,6 +11,7 @@ use Rattle.mv_core.specs.declared.ring.CommitNote.{CommitNote}
 use Rattle.mv_core.specs.declared.view.View.{View}
 use Rattle.mv_core.specs.Rings.{slot_at, index_of, put_slot, is_held, HoldsNothing}
 use Rattle.mv_core.specs.EnterSteps.{IsWhole, mark_cleared}
+use Rattle.mv_core.specs.Tops.{NamesNewer}
 use Rattle.mv_core.specs.WalkSteps.{IsLinkOf}
 use Rattle.mv_core.specs.LockSteps.{timed, MayLoadDeath, death_loaded}
 use Rattle.mv_core.specs.ReclaimSteps.{MayCutHead, head_cut, cut_lost, IsOfOther}
@@ -174,14 +175,15 @@ module _ (c : Config) (v : View) (l : Noted) (b : Back) (k : Stands c v l) (is :
       lost_is = left ∙ ap (mark_cleared c) lost
 
       pub ends_uncut : (seat : ℕ) → seat ≡ link_seat_of link → link ≢ link_of v.number b.position → IsLinkOf c link → IsOfOther v link
-          → IsUncut c v y l l b seat
-      ends_uncut seat seat_is other packed of_other = record {
+          → NamesNewer c v b.object link → IsUncut c v y l l b seat
+      ends_uncut seat seat_is other packed of_other newer = record {
         link = link;
         some = of_other.0;
         other = other;
         seat_is = sym seat_is;
         in_range = subst (λ (s : ℕ). s < c.seats) (sym seat_is) (packed of_other.0).1;
         not_own = λ e. of_other.1 (sym seat_is ∙ e);
+        newer = newer;
         view = lost_is;
         log = refl;
       }

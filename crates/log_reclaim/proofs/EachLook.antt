@@ -1,5 +1,6 @@
 -- A round looks at one version of the log after another.
-use Rattle.std.proofs.Common.{◌≡◌, ◌≢◌, ◌⊎◌, ℕ, ◌+◌, ◌<◌, ◌≤◌, max, Bool, true, List, [], ◌++◌, length, refl, sym, ap, ◌∙◌, subst, inl, inr, ⊎_elim, arith}
+use Rattle.std.proofs.Common.{◌≡◌, ◌≢◌, ◌⊎◌, ℕ, ◌+◌, ◌<◌, ◌≤◌, max, Bool, true, List, [], ◌++◌, length, refl, sym, ap, ◌∙◌, subst}
+use Rattle.std.proofs.Common.{inl, inr, ⊎_elim, arith, Contains}
 use Rattle.std.proofs.lemmas.List.Elements.{All-append, All-nil}
 use mathlib.Core.Logic.{dite}
 use native.Mathlib.Decide.{ℕ_discrete}
@@ -13,7 +14,7 @@ use Rattle.seat_log.specs.declared.version.Note.{Note}
 use Rattle.seat_log.specs.Notes.{Noted, IsNoteAt}
 use Rattle.seat_log.specs.Stands.{Stands}
 use Rattle.log_reclaim.specs.declared.settling.Found.{Found}
-use Rattle.log_reclaim.specs.Parts.{IsOtherKind, DiesFrom, TimesDeath}
+use Rattle.log_reclaim.specs.Parts.{IsOtherKind, DiesFrom, super_load, TimesDeath}
 use Rattle.log_reclaim.specs.Untimed.{StaysUntimed, DatedSo}
 use Rattle.log_reclaim.specs.Tries.{MaySettle}
 use Rattle.log_reclaim.specs.Sweeps.{found_at, IsTableOf, Settles, SettlesOne}
@@ -23,10 +24,14 @@ use Rattle.log_reclaim.proofs.Reclaiming.{reclaims_none, reclaims_on, reclaims_m
 use Rattle.log_reclaim.proofs.Untimed.{untimed_on, untimed_then, dated_on, dated_then}
 
 -- a death that comes from none but the steps after it comes from where the first did
-dated_both : (w : View) (made : List Step) (top : ℕ) (back : Bool) (old was n : Note) → DatedSo w made top back old was → DatedSo w made top back was n
-    → DatedSo w made top back old n
-dated_both w made top back old was n a b =
-    ⊎_elim (λ same. subst (λ d. (d ≡ old.dead) ⊎ ((d ≤ w.base + length w.past.seen) ⊎ ((back ≡ true) × (d ≤ top + 1) × TimesDeath made d))) (sym same) a) inr b
+dated_both : (c : Config) (w : View) (made : List Step) (top : ℕ) (back : Bool) (old was n : Note) → n.position ≡ was.position
+    → DatedSo c w made top back old was → DatedSo c w made top back was n → DatedSo c w made top back old n
+dated_both c w made top back old was n place a b =
+    ⊎_elim
+    (λ same. subst
+    (λ (x : ℕ × ℕ). (x.1 ≡ old.dead) ⊎ (((x.1 ≤ w.base + length w.past.seen) × Contains made (super_load c w.number (record n { position = x.0 }) x.1))
+    ⊎ ((back ≡ true) × (x.1 ≤ top + 1) × TimesDeath made x.1))) (λ i. (sym place i, sym same i)) a)
+    inr b
 
 -- before the first
 pub settles_first : (starts : State → Type 0) (allows : List ℕ → State → Writes → Type 0) (c : Config) (v : View) (l : Noted) (mark : Watermark) (clock : ℕ)
@@ -59,27 +64,28 @@ module _ (c : Config) (v u w : View) (l m p : Noted) (made more : List Step) (ma
       omega arith
 
   -- the notes that were looked at before
-  note_else : (i : ℕ) (n : Note) → IsNoteAt p i n → i ≢ index → (a : Note) × IsNoteAt l i a × DiesFrom a n × DatedSo w (made ++ more) (max top one) back a n
+  note_else : (i : ℕ) (n : Note) → IsNoteAt p i n → i ≢ index → (a : Note) × IsNoteAt l i a × DiesFrom a n × DatedSo c w (made ++ more) (max top one) back a n
   note_else i n at ne =
       let b = s.notes i n (o.others i n at ne) in
       (b.0, b.1, b.2, dated_on c u w made more o.reclaims top (max top one) back b.0 n (omega arith) b.3)
 
   -- and this one
-  note_here : (n : Note) → IsNoteAt p index n → (a : Note) × IsNoteAt l index a × DiesFrom a n × DatedSo w (made ++ more) (max top one) back a n
+  note_here : (n : Note) → IsNoteAt p index n → (a : Note) × IsNoteAt l index a × DiesFrom a n × DatedSo c w (made ++ more) (max top one) back a n
   note_here n at =
       let t = o.this n at in
       let b = s.notes index t.0 t.1 in (
         b.0,
         b.1,
         dies_then b.0 t.0 n b.2 t.2,
-        dated_both w (made ++ more) (max top one) back b.0 t.0 n (dated_on c u w made more o.reclaims top (max top one) back b.0 t.0 (omega arith) b.3)
-            (dated_then w made more one (max top one) back t.0 n (omega arith) t.3),
+        dated_both c w (made ++ more) (max top one) back b.0 t.0 n (ap (λ (x : Note). x.position) t.2.same)
+            (dated_on c u w made more o.reclaims top (max top one) back b.0 t.0 (omega arith) b.3)
+            (dated_then c w made more one (max top one) back t.0 n (omega arith) t.3),
       )
 
-  notes_now : (i : ℕ) (n : Note) → IsNoteAt p i n → (a : Note) × IsNoteAt l i a × DiesFrom a n × DatedSo w (made ++ more) (max top one) back a n
+  notes_now : (i : ℕ) (n : Note) → IsNoteAt p i n → (a : Note) × IsNoteAt l i a × DiesFrom a n × DatedSo c w (made ++ more) (max top one) back a n
   notes_now i n at =
       dite (ℕ_discrete i index)
-      (λ e. subst (λ j. (a : Note) × IsNoteAt l j a × DiesFrom a n × DatedSo w (made ++ more) (max top one) back a n) (sym e)
+      (λ e. subst (λ j. (a : Note) × IsNoteAt l j a × DiesFrom a n × DatedSo c w (made ++ more) (max top one) back a n) (sym e)
       (note_here n (subst (λ j. IsNoteAt p j n) e at)))
       (λ ne. note_else i n at ne)
 

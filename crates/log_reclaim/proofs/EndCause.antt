@@ -43,5 +43,5 @@ module _ (starts : State → Type 0) (allows : List ℕ → State → Writes →
       (λ same.
       let was = death_known c v l (i + freed) r.0 stands r.1 starts allows before in
       end_found c v.number made scanned.mark scanned.clock k.scan (omega arith))
-      (λ new. ⊎_elim (λ seen. absurd (omega arith)) (λ t. let up = t.1 in timed_found made n.dead t.2 (omega arith)) new)
+      (λ new. ⊎_elim (λ seen. let was = seen.0 in absurd (omega arith)) (λ t. let up = t.1 in timed_found made n.dead t.2 (omega arith)) new)
       r.3

@@ -124,7 +124,7 @@ module _ (c : Config) (v g x w : View) (l k m : Noted) (one made more : List Ste
   first = makes_on v g x one made load frees.makes
 
   before : (i : ℕ) (n : Note) → IsNoteAt m i n → (old : Note) × IsNoteAt l (i + (freed + then)) old × DiesFrom old n
-      × DatedSo w (one ++ made ++ more) scanned.latest back old n
+      × DatedSo c w (one ++ made ++ more) scanned.latest back old n
   before i n at =
       let a = s.notes i n at in
       let le : scanned.latest ≤ scanned.latest = omega arith in (
@@ -132,7 +132,7 @@ module _ (c : Config) (v g x w : View) (l k m : Noted) (one made more : List Ste
         subst (λ (j : ℕ). IsNoteAt l j a.0) (let q : freed + (i + then) ≡ i + (freed + then) = omega arith in q)
             (left_at l k freed (i + then) a.0 frees.log a.1),
         a.2,
-        dated_then w (one ++ made) more scanned.latest scanned.latest back a.0 n le a.3,
+        dated_then c w (one ++ made) more scanned.latest scanned.latest back a.0 n le a.3,
       )
 
   pub sweeps_then : Sweeps c v w l m (one ++ made ++ more) back scanned found (freed + then)

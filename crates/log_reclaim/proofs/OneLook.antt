@@ -1,8 +1,9 @@
 -- What looking at one version of the log leaves, by what a load of SUPER and a try to write it back leave.
 use Rattle.std.proofs.Common.{◌≡◌, ◌≢◌, ◌⊎◌, ℕ, ◌+◌, ◌-◌, ◌<◌, ◌≤◌, Bool, true, false, List, [], ◌∷◌}
-use Rattle.std.proofs.Common.{length, refl, sym, ap, ◌∙◌, subst, inl, inr, ⊎_elim, arith, Option, Some, None}
+use Rattle.std.proofs.Common.{length, refl, sym, ap, ◌∙◌, subst, inl, inr, ⊎_elim, arith, Option, Some, None, Contains}
 use Rattle.std.proofs.Math.Logic.{∥∥₁_elim}
 use Rattle.std.proofs.Math.Bridge.{le_prop}
+use Rattle.std.proofs.lemmas.List.Elements.{Contains-append_right}
 use mathlib.Core.Logic.{dite}
 use native.Mathlib.Decide.{dec_lt}
 use Rattle.mv_history.specs.State.{State, Writes}
@@ -22,7 +23,7 @@ use Rattle.seat_log.proofs.Retired.{committed_at}
 use Rattle.log_reclaim.specs.declared.settling.Found.{Found}
 use Rattle.log_reclaim.specs.declared.settling.Tried.{Tried}
 use Rattle.log_reclaim.specs.Backs.{HasLater}
-use Rattle.log_reclaim.specs.Parts.{super_step, FindsOther}
+use Rattle.log_reclaim.specs.Parts.{super_load, super_step, FindsOther}
 use Rattle.log_reclaim.specs.Untimed.{TriedSo, StaysUntimed, DatedSo}
 use Rattle.log_reclaim.specs.Tries.{MaySettle, Makes, LoadsSuper, TriesOne}
 use Rattle.log_reclaim.specs.Sweeps.{found_at, IsTableOf, SettlesOne}
@@ -66,7 +67,7 @@ module _ (starts : State → Type 0) (allows : List ℕ → State → Writes →
         ⊎_elim (λ e. e.1 ∙ ap (λ (y : Note). record y { dead = dead }) (one_note c v l k index n at b.0 b.1))
         (λ e. absurd (e.0 (sym (place_is c v l k index n at)))) b.2
 
-    pub settles_retired : n.dead ≡ 0 → DatedSo w made top back n (record n { dead = dead }) → SettlesOne c v w l m made mark clock back old found index top
+    pub settles_retired : n.dead ≡ 0 → DatedSo c w made top back n (record n { dead = dead }) → SettlesOne c v w l m made mark clock back old found index top
     settles_retired none dated = record {
       reclaims = makes.reclaims;
       rests = makes.rests;
@@ -81,7 +82,7 @@ module _ (starts : State → Type 0) (allows : List ℕ → State → Writes →
             n,
             at,
             record { same = subst (λ (y : Note). y ≡ record n { dead = y.dead }) e refl; once = λ some. absurd (omega arith) },
-            subst (DatedSo w made top back n) e dated,
+            subst (DatedSo c w made top back n) e dated,
           );
       untimed = λ x is alive. let d : x.dead ≡ dead = ap (λ (y : Note). y.dead) (here x is) in absurd (omega arith);
       table = table;
@@ -112,22 +113,33 @@ module _ (starts : State → Type 0) (allows : List ℕ → State → Writes →
   pub settles_found : (u : View) (m : Noted) (back : Bool) (found : Found) → IsTableOf l found → n.dead ≡ 0 → LoadsSuper c v u l m n true
       → (made : List Step) × SettlesOne c v u l m made mark clock back found found index 0
   settles_found u m back found table none loads =
-      let f = loads.some refl in (
-        loads.step ∷ [],
-        settles_retired u m (loads.step ∷ []) back found found loads.time l.back 0 f.0 f.1 loads.makes (omega arith) table (λ i ne. refl) none (inr (inl f.2)),
+      let f = loads.some refl in
+      let one : Step = super_load c v.number n loads.time in (
+        one ∷ [],
+        settles_retired u m (one ∷ []) back found found loads.time l.back 0 f.0 f.1 loads.makes (omega arith) table (λ i ne. refl) none
+            (inr (inl (f.2, (0, omega arith, ap (λ own. super_load c own n loads.time) (sym (reclaims_number v u (one ∷ []) loads.makes.reclaims)))))),
       )
 
   -- SUPER was 0
   module _ (u : View) (loads : LoadsSuper c v u l l n false) (none : n.dead ≡ 0) where
-    loaded : StaysUntimed c u (loads.step ∷ []) mark clock false n None
+    abbrev load : Step
+    load = super_load c v.number n loads.time
+
+    -- the load found 0
+    load_is : load ≡ super_step c u.number n
+    load_is =
+        ap (super_load c v.number n) (loads.none refl).0
+        ∙ ap (λ own. super_step c own n) (sym (reclaims_number v u (load ∷ []) loads.makes.reclaims))
+
+    loaded : StaysUntimed c u (load ∷ []) mark clock false n None
     loaded =
         let f = loads.none refl in
         let mark_known = may.known in
         let low = may.low in
         let up = latest_at-mono u.base u.past.seen n.object mark.low v.grace (omega arith) in
-        let unwritten = f.3 in record {
+        let unwritten = f.2 in record {
           committed = committed c v l k index n at starts allows known may.outside.outside none;
-          super = (0, omega arith, f.2 ∙ ap (λ own. super_step c own n) (sym (reclaims_number v u (loads.step ∷ []) loads.makes.reclaims)));
+          super = (0, omega arith, load_is);
           unwritten = omega arith;
           tried = λ e. absurd (cc);
         }
@@ -136,9 +148,9 @@ module _ (starts : State → Type 0) (allows : List ℕ → State → Writes →
         → (made : List Step) × SettlesOne c v u l m made mark clock back found found index 0
     settles_unbacked m back found table off log =
         let l0 = loaded in (
-          loads.step ∷ [],
-          subst (λ (z : Noted). SettlesOne c v u l z (loads.step ∷ []) mark clock back found found index 0) (sym log)
-              (settles_kept u (loads.step ∷ []) back found found 0 loads.makes (omega arith) table (λ i ne. refl)
+          load ∷ [],
+          subst (λ (z : Noted). SettlesOne c v u l z (load ∷ []) mark clock back found found index 0) (sym log)
+              (settles_kept u (load ∷ []) back found found 0 loads.makes (omega arith) table (λ i ne. refl)
               (record {
                 committed = l0.committed;
                 super = l0.super;
@@ -151,22 +163,22 @@ module _ (starts : State → Type 0) (allows : List ℕ → State → Writes →
     -- and a write-back was tried
     module _ (w : View) (m : Noted) (tried : Tried) (t : TriesOne c u w l m n mark tried) where
       abbrev made : List Step
-      made = loads.step ∷ t.made
+      made = load ∷ t.made
 
       makes : Makes v w made
-      makes = makes_on v u w (loads.step ∷ []) t.made loads.makes t.makes
+      makes = makes_on v u w (load ∷ []) t.made loads.makes t.makes
 
       seen : mark.low ≤ u.base + length u.past.seen
       seen =
           let r = loads.makes.reclaims in
-          let same = reclaims_base v u (loads.step ∷ []) r in
-          let more = reclaims_more v u (loads.step ∷ []) r in
+          let same = reclaims_base v u (load ∷ []) r in
+          let more = reclaims_more v u (load ∷ []) r in
           let below = may.below in
           let all = may.seen in
           omega arith
 
       still : StaysUntimed c w made mark clock false n None
-      still = untimed_on c u w (loads.step ∷ []) t.made t.makes.reclaims mark clock n false None seen loaded
+      still = untimed_on c u w (load ∷ []) t.made t.makes.reclaims mark clock n false None seen loaded
 
       -- the log has a later commit of the object, which was seen
       later : HasLater l n → (mark.low < clock) × (n.time < latest w.base w.past.seen n.object)
@@ -197,13 +209,12 @@ module _ (starts : State → Type 0) (allows : List ℕ → State → Writes →
           ⊎_elim (λ young. let low = may.low in let early = may.early index n at in (omega arith, inl young))
           (λ h. let both = later h in (both.0, inr both.1)) d
 
-      why_some : (seat : ℕ) → FindsOther c u.number t.made n seat → TriedSo c w made mark clock n (Some seat)
+      why_some : (seat : ℕ) → FindsOther c w t.made n seat → TriedSo c w made mark clock n (Some seat)
       why_some seat f =
-          let same : w.number ≡ u.number = reclaims_number u w t.made t.makes.reclaims in
-          let step : loads.step ≡ super_step c w.number n =
-          (loads.none refl).2 ∙ ap (λ own. super_step c own n) (sym (reclaims_number v w made makes.reclaims)) in
+          let number : w.number ≡ u.number = reclaims_number u w t.made t.makes.reclaims in
+          let step : load ≡ super_step c w.number n = load_is ∙ ap (λ own. super_step c own n) (sym number) in
           record {
-            not_own = λ e. f.not_own (e ∙ same);
+            not_own = f.not_own;
             in_range = f.in_range;
             before = [];
             after = t.made;
@@ -239,6 +250,12 @@ module _ (starts : State → Type 0) (allows : List ℕ → State → Writes →
             (settles_kept w made true found then tried.clock makes t.within (table_set l found index tried.above table) kept_else
             (subst (StaysUntimed c w made mark clock true n) (sym (here_is ∙ is)) (tried_untimed above why)))
 
+        -- a time that the write-back's own load of SUPER found is found by these steps
+        loaded_then : (dead : ℕ) → Contains t.made (super_load c u.number n dead) → Contains made (super_load c w.number n dead)
+        loaded_then dead there =
+            Contains-append_right (load ∷ []) t.made (super_load c w.number n dead)
+            (subst (λ own. Contains t.made (super_load c own n dead)) (sym (reclaims_number u w t.made t.makes.reclaims)) there)
+
         pub settles_tried : SettlesOne c v w l m made mark clock true found then index tried.clock
         unfolding one
         settles_tried =
@@ -246,10 +263,10 @@ module _ (starts : State → Type 0) (allows : List ℕ → State → Writes →
             (λ d. ⊎_elim
             (λ s.
             settles_retired w m made true found then d.0 l.back tried.clock d.1 s.0 makes t.within (table_set l found index tried.above table) kept_else
-            none (inr (inl s.1)))
+            none (inr (inl (s.1, loaded_then d.0 s.2))))
             (λ s.
             settles_retired w m made true found then d.0 (l.back + 1) tried.clock d.1 s.0 makes t.within (table_set l found index tried.above table) kept_else
-            none (inr (inr (refl, s.1, times_then (loads.step ∷ []) t.made d.0 s.2))))
+            none (inr (inr (refl, s.1, times_then (load ∷ []) t.made d.0 s.2))))
             d.3)
             (λ d. ⊎_elim (λ s. kept_for None s.0 d.0 (why_none s.1)) (λ s. kept_for (Some s.0) s.1 d.0 (why_some s.0 s.2)) d.1)
             t.fate

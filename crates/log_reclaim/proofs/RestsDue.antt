@@ -1,14 +1,16 @@
 -- A tidy tries a rest only where a version is dead from a time above the clock.
-use Rattle.std.proofs.Common.{◌≡◌, ℕ, ◌+◌, true, List, [], ◌++◌, sym, ◌∙◌, subst, inl, inr, ⊎_elim, arith, append_assoc}
+use Rattle.std.proofs.Common.{◌≡◌, ℕ, ◌+◌, true, List, [], ◌++◌, sym, ◌∙◌, subst, inl, inr, ⊎_elim, ap, arith, append_assoc, Contains}
 use Rattle.std.proofs.lemmas.Bool.{cases_lt}
+use Rattle.std.proofs.lemmas.List.Elements.{Contains-append_left}
 use Rattle.mv_history.specs.Trail.{clock_exchanges}
 use Rattle.mv_history.specs.declared.Step.{Step}
 use Rattle.mv_layout.specs.declared.Config.{Config}
 use Rattle.mv_core.specs.declared.view.View.{View}
+use Rattle.seat_log.specs.declared.version.Note.{Note}
 use Rattle.seat_log.specs.Notes.{Noted}
 use Rattle.log_reclaim.specs.declared.settling.Found.{Found}
 use Rattle.log_reclaim.specs.declared.rounds.Scanned.{Scanned}
-use Rattle.log_reclaim.specs.Parts.{Reclaims, HasScan, TimesDeath}
+use Rattle.log_reclaim.specs.Parts.{Reclaims, DiesFrom, HasScan, super_load, TimesDeath}
 use Rattle.log_reclaim.specs.Sweeps.{Sweeps}
 use Rattle.log_reclaim.specs.Tidies.{IsAnyAbove, RestsSo, RestIsDue, RestsWhereDue}
 use Rattle.log_reclaim.proofs.Exchanges.{none_exchanged, none_in_both}
@@ -24,6 +26,13 @@ module _ (c : Config) (v u x w : View) (k l m : Noted) (made rested later : List
 
   of_first : (P : List Step → Type 0) → P (made ++ (rested ++ later)) → P steps
   of_first P p = subst P (sym (append_assoc made rested later)) p
+
+  -- the load of SUPER that found the time is of the version as it was before
+  loaded : (old n : Note) → DiesFrom old n → Contains made (super_load c u.number n n.dead) → Contains made (super_load c w.number old n.dead)
+  loaded old n dies there =
+      subst (λ (x : ℕ × ℕ). Contains made (super_load c x.0 (record n { position = x.1 }) n.dead))
+      (λ i. (sym (reclaims_number u w (rested ++ later) (reclaims_on u x w rested later rest.reclaims after)) i,
+      ap (λ (x : Note). x.position) dies.same i)) there
 
   due : IsAnyAbove l first.latest true → RestIsDue c w k steps
   due above =
@@ -46,7 +55,9 @@ module _ (c : Config) (v u x w : View) (k l m : Noted) (made rested later : List
             ⊎_elim inl
             (λ e. inr (
               omega arith,
-              ⊎_elim (λ seen. inl (omega arith)) (λ b. inr (of_first (λ s. TimesDeath s n.dead) (times_first made (rested ++ later) n.dead b.2))) e,
+              ⊎_elim (λ seen. inl (of_first (λ s. Contains s (super_load c w.number r.0 n.dead))
+              (Contains-append_left made (rested ++ later) (super_load c w.number r.0 n.dead) (loaded r.0 n r.2 seen.1))))
+              (λ b. inr (of_first (λ s. TimesDeath s n.dead) (times_first made (rested ++ later) n.dead b.2))) e,
             ))
             r.3)
             (cases_lt 0 r.0.dead);

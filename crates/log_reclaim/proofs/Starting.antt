@@ -21,6 +21,7 @@ use Rattle.mv_core.specs.declared.view.Passed.TheVariants.{Nothing}
 use Rattle.mv_core.specs.Rings.{slot_at, index_of}
 use Rattle.mv_core.specs.Times.{latest}
 use Rattle.mv_core.specs.EnterSteps.{mark_cleared}
+use Rattle.mv_core.specs.Tops.{IsNewer}
 use Rattle.mv_core.specs.WalkSteps.{slot_named, IsLinkOf, IsOwnTop, IsOwnLink, IsLastOwn, IsLastSeen, IsWalking, MayLoadHead, stand_at, head_loaded}
 use Rattle.mv_core.specs.Known.{Known}
 use Rattle.mv_core.proofs.history.Latest.{latest_at-latest}
@@ -102,12 +103,20 @@ module _ (c : Config) (v e : View) (l : Noted) (position : ℕ) (x n : Note) (ti
       omega arith
 
   -- HEAD was loaded
-  module _ (w : View) (link : ℕ) (view : w ≡ head_loaded c e (section_in e) x.object link) (link_is : IsLinkOf c link) (own : IsOwnTop c e x.object link) where
+  module _ (w : View) (link : ℕ) (view : w ≡ head_loaded c e (section_in e) x.object link) (link_is : IsLinkOf c link) (own : IsOwnTop c e x.object link)
+      (newer : IsNewer c e x.object link) where
     looked_is : w ≡ head_loaded c e b.inside n.object link
     looked_is = view ∙ (λ q. head_loaded c e (section_is q) (same q).object link)
 
     looks : HasLooked c v w n.object link
-    looks = record { entered = e; time = time; begins = b; looked = looked_is; link_is = link_is }
+    looks = record {
+      entered = e;
+      time = time;
+      begins = b;
+      looked = looked_is;
+      link_is = link_is;
+      newer = subst (λ (z : Note). IsNewer c e z.object link) same newer;
+    }
 
     pub open_still : IsOpen w
     open_still = subst IsOpen (sym looked_is) (record { inside = b.inside; phase = b.phase; open_is = b.open_is; nothing = b.nothing })

@@ -22,7 +22,8 @@ use Rattle.log_reclaim.specs.declared.writing_back.Back.{Back}
 use Rattle.log_reclaim.specs.declared.writing_back.BackEnd.{BackEnd}
 use Rattle.log_reclaim.specs.declared.writing_back.BackEnd.TheVariants.{Cut, Above}
 use Rattle.log_reclaim.specs.Backs.{IsWriting, StoresWord, IsCutAt, IsUncut, FinishesSo}
-use Rattle.log_reclaim.specs.Parts.{NamesNoCommit, IsOtherKind, FindsSeat}
+use Rattle.mv_core.specs.Tops.{NamesNewer}
+use Rattle.log_reclaim.specs.Parts.{NamesNoCommit, IsOtherKind, FindsSeat, FindsTop}
 use Rattle.log_reclaim.specs.Tries.{StoresAll}
 use Rattle.log_reclaim.proofs.Visits.{IsPlain}
 
@@ -154,6 +155,16 @@ module _ (c : Config) (v w : View) (b d : Back) (count before after : ℕ) (k : 
         let there : Contains (k.made ++ last) first = Contains-append_right k.made last first (0, omega arith, refl) in
         let finds : FindsSeat c b.object seat first =
         record { kind = tt; word = ap (λ (o : ℕ). place_of c (Head o)) object_is; link = un.link; found = refl; some = un.some; seat_is = un.seat_is } in
+        let top : FindsTop c y b.object seat first =
+        record {
+          finds = finds;
+          view = w;
+          number = sym (ap (λ (u : View). u.number) un.view);
+          after = second ∷ [];
+          trail = ap (λ (u : View). u.trail) un.view ∙ append_assoc w.trail (first ∷ []) (second ∷ []);
+          names = subst (λ (o : ℕ). NamesNewer c w o un.link) object_is un.newer;
+        } in
+        let ring : w.ring ≡ v.ring = ap (λ (u : View). u.ring) k.rest in
         record {
           made = k.made ++ last;
           outside = ap (λ (u : View). u.phase) un.view;
@@ -165,8 +176,9 @@ module _ (c : Config) (v w : View) (b d : Back) (count before after : ℕ) (k : 
           cut = λ e. let clash : Above seat ≡ Cut = e in absurd (cc);
           above = λ other e.
               let same : seat ≡ other = cc in
-              subst (λ (s : ℕ). (m ≡ l) × (s ≢ v.number) × (s < c.seats) × ((t : Step) × Contains (k.made ++ last) t × FindsSeat c b.object s t)) same
-              (un.log, (λ z. un.not_own (z ∙ sym number_is)), un.in_range, (first, there, finds));
+              subst (λ (s : ℕ). (m ≡ l) × (s ≢ v.number) × (s < c.seats)
+              × ((t : Step) × Contains (k.made ++ last) t × (found : FindsTop c y b.object s t) × (found.view.ring ≡ v.ring))) same
+              (un.log, (λ z. un.not_own (z ∙ sym number_is)), un.in_range, (first, there, top, ring));
         }
 
     pub stores_all : (end : BackEnd) → FinishesSo c w y l m d end → (end ≡ Cut → IsCutAt c w y l m d time) → StoresAll c v y l m b end time

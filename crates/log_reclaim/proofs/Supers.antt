@@ -8,11 +8,8 @@ use mathlib.Core.Logic.{dite}
 use native.Mathlib.Decide.{dec_le}
 use Rattle.mv_history.specs.declared.Entry.{Entry}
 use Rattle.mv_history.specs.declared.Step.{Step}
-use Rattle.mv_history.specs.declared.StepKind.TheVariants.{LoadSuper}
 use Rattle.mv_history.specs.State.{State, Writes}
 use Rattle.mv_layout.specs.declared.Config.{Config}
-use Rattle.mv_layout.specs.declared.Place.TheVariants.{Super}
-use Rattle.mv_layout.specs.Places.{place_of}
 use Rattle.mv_core.specs.declared.ring.Slot.TheVariants.{Live}
 use Rattle.mv_core.specs.declared.ring.Status.TheVariants.{Committed}
 use Rattle.mv_core.specs.declared.ring.CommitNote.{CommitNote}
@@ -29,7 +26,7 @@ use Rattle.seat_log.specs.Notes.{Noted, IsLive, retired}
 use Rattle.seat_log.specs.Stands.{version_of, Stands}
 use Rattle.seat_log.specs.Builds.{note_in}
 use Rattle.seat_log.proofs.Retired.{committed_at, may_load_super, noted_live, stands_found, stands_unfound}
-use Rattle.log_reclaim.specs.Parts.{NamesNoCommit, IsOtherKind}
+use Rattle.log_reclaim.specs.Parts.{NamesNoCommit, IsOtherKind, super_load}
 use Rattle.log_reclaim.specs.Tries.{IsUntimed, Makes, LoadsSuper}
 use Rattle.log_reclaim.proofs.Idle.{still_of}
 
@@ -98,7 +95,7 @@ module _ (c : Config) (v : View) (l : Noted) (position : ℕ) (n : Note) (k : St
     super_stands_none none = subst (λ x. Stands c x l) (sym view_is) (stands_unfound c v l (position - l.freed) n own found w.past.seen k here none)
 
     abbrev step : Step
-    step = record { kind = LoadSuper; word = place_of c (Super v.number (index_of c n.position)); found = Some found; stored = None }
+    step = super_load c v.number n found
 
     module _ (starts : State → Type 0) (allows : List ℕ → State → Writes → Type 0) (known : ∥ Known starts allows v ∥₁) (may : MayLoadLow v)
         (base : v.base ≡ c.base) (sees : SeesSuper c v (version_of n) own found w.past.seen) where
@@ -140,22 +137,15 @@ module _ (c : Config) (v : View) (l : Noted) (position : ℕ) (n : Note) (k : St
       pub loads_none : found ≡ 0 → LoadsSuper c v w l l n false
       loads_none none = record {
         time = found;
-        step = step;
         makes = super_makes;
         grace = ap (λ (x : View). x.grace) view_is;
-        none = λ b. (
-          none,
-          refl,
-          ap (λ (t : ℕ). record { kind = LoadSuper; word = place_of c (Super v.number (index_of c n.position)); found = Some t; stored = None }) none,
-          unwritten none,
-        );
+        none = λ b. (none, refl, unwritten none);
         some = λ b. absurd (cc);
       }
 
       pub loads_some : (m : Noted) → 0 < found → m ≡ retired l position found → LoadsSuper c v w l m n true
       loads_some m some_time log = record {
         time = found;
-        step = step;
         makes = super_makes;
         grace = ap (λ (x : View). x.grace) view_is;
         none = λ b. absurd (cc);

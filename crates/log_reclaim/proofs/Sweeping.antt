@@ -76,14 +76,14 @@ module _ (starts : State → Type 0) (allows : List ℕ → State → Writes →
     whole = reclaims_on v u w steps (made ++ more) first then
 
     -- a note that is left, as it was before
-    was : (i : ℕ) (e : Note) → IsNoteAt n i e → (old : Note) × IsNoteAt l (i + freed) old × DiesFrom old e × DatedSo w all top back old e
+    was : (i : ℕ) (e : Note) → IsNoteAt n i e → (old : Note) × IsNoteAt l (i + freed) old × DiesFrom old e × DatedSo c w all top back old e
     was i e at =
         let r = settles.notes (freed + i) e (left_at m n freed i e frees.log at) in
         let le : top ≤ top = omega arith in (
           r.0,
           subst (λ (j : ℕ). IsNoteAt l j r.0) (let q : freed + i ≡ i + freed = omega arith in q) r.1,
           r.2,
-          dated_then w steps (made ++ more) top top back r.0 e le (dated_on c x w made more frees.makes.reclaims top top back r.0 e le r.3),
+          dated_then c w steps (made ++ more) top top back r.0 e le (dated_on c x w made more frees.makes.reclaims top top back r.0 e le r.3),
         )
 
     still_untimed : (i : ℕ) (e : Note) → IsNoteAt n i e → e.dead ≡ 0 → StaysUntimed c w all mark clock back e (found_at found e.position)

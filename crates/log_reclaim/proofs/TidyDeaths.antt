@@ -39,7 +39,7 @@ module _ (starts : State → Type 0) (allows : List ℕ → State → Writes →
       let after = sweep.after in
       let from = sweep.from in
       inr (omega arith))
-      (λ new. ⊎_elim inl (λ t. inr t.1) new)
+      (λ new. ⊎_elim (λ seen. inl seen.0) (λ t. inr t.1) new)
       r.3
 
   module _ (x : View) (m : Noted) (rested : List Step) (rest : RestsSo u x l m rested first.latest) where
@@ -75,7 +75,7 @@ module _ (starts : State → Type 0) (allows : List ℕ → State → Writes →
           let after = again.after in
           ⊎_elim
           (λ same. ⊎_elim (λ seen. absurd (omega arith)) (λ end. let all = end.0 in absurd (omega arith)) (death_next (i + more) r.0 r.1))
-          (λ new. ⊎_elim (λ seen. seen) (λ t. let b : false ≡ true = t.0 in absurd cc) new)
+          (λ new. ⊎_elim (λ seen. seen.0) (λ t. let b : false ≡ true = t.0 in absurd cc) new)
           r.3
 
       -- and so is of another seat's entry

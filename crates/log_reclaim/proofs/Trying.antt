@@ -1,35 +1,38 @@
 -- What a try to write a version back comes to, by what its parts leave.
 use Rattle.std.proofs.Common.{◌≡◌, ◌≢◌, ℕ, ◌+◌, ◌-◌, ◌<◌, ◌≤◌, max, true, List, [], ◌∷◌, ◌++◌, length, refl}
-use Rattle.std.proofs.Common.{sym, ap, ◌∙◌, subst, inl, inr, arith, append_assoc, Some, None}
+use Rattle.std.proofs.Common.{sym, ap, ◌∙◌, subst, inl, inr, arith, append_assoc, Some, None, Contains}
 use Rattle.std.proofs.Math.Logic.{∥∥₁_elim}
 use Rattle.std.proofs.Math.Bridge.{le_prop}
 use Rattle.std.proofs.lemmas.List.Elements.{All-append, Contains-append_right}
 use Rattle.mv_history.specs.State.{State, Writes}
 use Rattle.mv_history.specs.declared.Step.{Step}
 use Rattle.mv_layout.specs.declared.Config.{Config}
+use Rattle.mv_core.specs.declared.ring.Ring.{Ring}
 use Rattle.mv_core.specs.declared.view.View.{View}
 use Rattle.mv_core.specs.declared.view.Phase.TheVariants.{Outside}
 use Rattle.mv_core.specs.declared.view.Walk.TheVariants.{Nowhere}
+use Rattle.mv_core.specs.Chains.{IsLater}
 use Rattle.mv_core.specs.EnterSteps.{MayLoadLow}
+use Rattle.mv_core.specs.Rings.{slot_at, index_of}
 use Rattle.mv_core.specs.ReclaimSteps.{FoundEmpty}
 use Rattle.mv_core.specs.Known.{Known}
 use Rattle.mv_core.proofs.history.Fronts.{begins_by, begins_long}
 use Rattle.reader_marks.specs.declared.scanning.Watermark.{Watermark}
 use Rattle.seat_log.specs.declared.version.Note.{Note}
 use Rattle.seat_log.specs.Notes.{Noted, retired, back_noted}
-use Rattle.seat_log.specs.Stands.{Stands}
+use Rattle.seat_log.specs.Stands.{version_of, Stands}
 use Rattle.seat_log.proofs.Retired.{committed_at}
 use Rattle.log_reclaim.specs.declared.writing_back.Back.{Back}
 use Rattle.log_reclaim.specs.declared.writing_back.BackEnd.{BackEnd}
 use Rattle.log_reclaim.specs.declared.writing_back.BackEnd.TheVariants.{Cut, Above}
-use Rattle.log_reclaim.specs.Parts.{FindsSeat}
+use Rattle.log_reclaim.specs.Parts.{super_load, FindsTop, FindsNewer}
 use Rattle.log_reclaim.specs.Backs.{HasLooked, LeavesAt, NamesSeat}
 use Rattle.log_reclaim.specs.Tries.{IsUntimed, Makes, LoadsSuper, StoresAll, TriesOne}
 use Rattle.log_reclaim.proofs.Reclaiming.{makes_none, makes_on, reclaims_number, reclaims_base, reclaims_may}
 use Rattle.log_reclaim.proofs.Idle.{still_of}
 use Rattle.log_reclaim.proofs.Untimed.{times_then}
-use Rattle.log_reclaim.proofs.Visits.{IsPlain, section_makes, looked_steps, looked_trail, looked_plain, looked_seen, looked_rest, looked_finds}
-use Rattle.log_reclaim.proofs.Visits.{head_step, left_steps, left_makes, left_has_step, left_empty}
+use Rattle.log_reclaim.proofs.Visits.{IsPlain, section_makes, looked_steps, looked_trail, looked_plain, looked_seen, looked_rest}
+use Rattle.log_reclaim.proofs.Visits.{head_step, left_steps, left_makes, left_top, left_has_step, left_empty}
 
 module _ (starts : State → Type 0) (allows : List ℕ → State → Writes → Type 0) (c : Config) (v : View) (l : Noted) (n : Note) (mark : Watermark)
     (known : ∥ Known starts allows v ∥₁) (may : MayLoadLow v) (base : v.base ≡ c.base) where
@@ -48,6 +51,16 @@ module _ (starts : State → Type 0) (allows : List ℕ → State → Writes →
       let a = committed_at c v l (position - l.freed) n k u.at u.committed in
       let time = a.2 in
       ∥∥₁_elim known le_prop (λ f. let seen = (f.commits _ _ a.0 a.1).seen in omega arith)
+
+  -- the version found in HEAD by a step before which the log was as at the begin is newer
+  finds_newer : (position : ℕ) → Stands c v l → IsUntimed l position n → (w : View) (seat : ℕ) (s : Step) → (top : FindsTop c w n.object seat s)
+      → top.view.ring ≡ v.ring → FindsNewer c w n seat s
+  finds_newer position k u w seat s top ring =
+      let a = committed_at c v l (position - l.freed) n k u.at u.committed in record {
+        top = top;
+        newer = subst (λ t. IsLater t top.names.status) a.2
+            (top.names.newer (index_of c n.position) (version_of n) a.0 (ap (λ (r : Ring). slot_at r (index_of c n.position)) ring ∙ a.1) refl);
+      }
 
   -- HEAD had another link than the version's, and the section was left
   module _ (u : View) (link : ℕ) (left : LeavesAt c v u n link) (first : ℕ) (last : first ≡ c.base + length u.past.seen) where
@@ -73,11 +86,21 @@ module _ (starts : State → Type 0) (allows : List ℕ → State → Writes →
     pub tries_gone : (w : View) (m : Noted) → LoadsSuper c u w l m n true → TriesOne c v w l m n mark (record { above = None; clock = first })
     tries_gone w m loads =
         let found = loads.some refl in record {
-          made = steps ++ loads.step ∷ [];
-          makes = makes_on v u w steps (loads.step ∷ []) makes loads.makes;
+          made = steps ++ super_load c u.number n loads.time ∷ [];
+          makes = makes_on v u w steps (super_load c u.number n loads.time ∷ []) makes loads.makes;
           within = (let fits = within in let more = begins_long w.past.seen u.past.seen loads.makes.reclaims.seen in
-              let same = reclaims_base u w (loads.step ∷ []) loads.makes.reclaims in omega arith);
-          fate = inl (loads.time, found.0, refl, inl (found.1, found.2));
+              let same = reclaims_base u w (super_load c u.number n loads.time ∷ []) loads.makes.reclaims in omega arith);
+          fate = inl (
+            loads.time,
+            found.0,
+            refl,
+            inl (
+              found.1,
+              found.2,
+              subst (λ (own : ℕ). Contains (steps ++ super_load c u.number n loads.time ∷ []) (super_load c own n loads.time)) gone_number
+                  (Contains-append_right steps (super_load c u.number n loads.time ∷ []) (super_load c u.number n loads.time) (0, omega arith, refl)),
+            ),
+          );
         }
 
     -- it was that of a later version of the own log
@@ -90,26 +113,29 @@ module _ (starts : State → Type 0) (allows : List ℕ → State → Writes →
     }
 
     -- or that of another seat's version
-    pub tries_above : (seat : ℕ) → NamesSeat c v l n seat link → seat ≢ v.number → TriesOne c v u l l n mark (record { above = Some seat; clock = first })
-    tries_above seat names other = record {
-      made = steps;
-      makes = makes;
-      within = within;
-      fate = inr (
-        refl,
-        inr (
-          seat,
-          refl,
-          record {
-            not_own = other;
-            in_range = names.in_range;
-            step = head_step c v left.inside n.object link left.looked;
-            there = left_has_step c v left.inside n.object link left.looked u left.left;
-            finds = looked_finds c v left.inside n.object link left.looked seat names.some names.seat_is;
-          },
-        ),
-      );
-    }
+    pub tries_above : (position : ℕ) → Stands c v l → IsUntimed l position n → (seat : ℕ) → NamesSeat c v l n seat link → seat ≢ v.number
+        → TriesOne c v u l l n mark (record { above = Some seat; clock = first })
+    tries_above position k untimed seat names other =
+        let top = left_top c v left.inside n.object link left.looked u left.left seat names.some names.seat_is (λ own. other (sym names.seat_is ∙ own)) in
+        record {
+          made = steps;
+          makes = makes;
+          within = within;
+          fate = inr (
+            refl,
+            inr (
+              seat,
+              refl,
+              record {
+                not_own = λ e. other (e ∙ gone_number);
+                in_range = names.in_range;
+                step = head_step c v left.inside n.object link left.looked;
+                there = left_has_step c v left.inside n.object link left.looked u left.left;
+                finds = finds_newer position k untimed u seat (head_step c v left.inside n.object link left.looked) top.0 top.1;
+              },
+            ),
+          );
+        }
 
   -- HEAD named the version, and all words were stored
   module _ (u w : View) (m : Noted) (link : ℕ) (back : Back) (end : BackEnd) (time first : ℕ) (looked : HasLooked c v u n.object link)
@@ -173,10 +199,14 @@ module _ (starts : State → Type 0) (allows : List ℕ → State → Writes →
         }
 
     -- or another seat's version was found then
-    pub tries_lost : (seat : ℕ) → end ≡ Above seat → back.object ≡ n.object → TriesOne c v w l m n mark (record { above = Some seat; clock = max first time })
-    tries_lost seat is object =
+    pub tries_lost : (position : ℕ) → Stands c v l → IsUntimed l position n → (seat : ℕ) → end ≡ Above seat → back.object ≡ n.object
+        → TriesOne c v w l m n mark (record { above = Some seat; clock = max first time })
+    tries_lost position k untimed seat is object =
         let lost = s.above seat is in
-        let finds = lost.3 in record {
+        let found = lost.3 in
+        let top : (t : FindsTop c w n.object seat found.0) × (t.view.ring ≡ u.ring) =
+        subst (λ (o : ℕ). (t : FindsTop c w o seat found.0) × (t.view.ring ≡ u.ring)) object (found.2, found.3) in
+        let before = looked_rest c v u n.object link looked in record {
           made = all_steps;
           makes = all_makes;
           within = all_within;
@@ -186,11 +216,11 @@ module _ (starts : State → Type 0) (allows : List ℕ → State → Writes →
               seat,
               refl,
               record {
-                not_own = λ e. lost.1 (e ∙ sym (ap (λ (x : View). x.number) (looked_rest c v u n.object link looked)));
+                not_own = λ e. lost.1 (e ∙ ap (λ (x : View). x.number) s.rest);
                 in_range = lost.2;
-                step = finds.0;
-                there = Contains-append_right (looked_steps c v u n.object link looked) s.made finds.0 finds.1;
-                finds = subst (λ (o : ℕ). FindsSeat c o seat finds.0) object finds.2;
+                step = found.0;
+                there = Contains-append_right (looked_steps c v u n.object link looked) s.made found.0 found.1;
+                finds = finds_newer position k untimed w seat found.0 top.0 (top.1 ∙ ap (λ (x : View). x.ring) before);
               },
             ),
           );

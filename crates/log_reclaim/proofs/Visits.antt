@@ -27,7 +27,7 @@ use Rattle.seat_log.specs.Stands.{is_free, is_won_cut, Stands}
 use Rattle.seat_log.proofs.BuildsOn.{unpassed}
 use Rattle.seat_log.proofs.Stays.{stands_same}
 use Rattle.seat_log.proofs.PlainSteps.{stands_entered, stands_unmarked}
-use Rattle.log_reclaim.specs.Parts.{NamesNoCommit, IsOtherKind, FindsSeat}
+use Rattle.log_reclaim.specs.Parts.{NamesNoCommit, IsOtherKind, FindsTop}
 use Rattle.log_reclaim.specs.Backs.{HasLooked}
 use Rattle.log_reclaim.specs.Tries.{Makes}
 
@@ -153,10 +153,6 @@ module _ (c : Config) (v w : View) (object link : ℕ) (h : HasLooked c v w obje
       let time = b.time_is in
       omega arith
 
-  -- HEAD named a version of this seat
-  pub looked_finds : (seat : ℕ) → link ≢ 0 → link_seat_of link ≡ seat → FindsSeat c object seat head_step
-  looked_finds seat some is = record { kind = tt; word = refl; link = link; found = refl; some = some; seat_is = is }
-
   -- the section was left at once
   module _ (u : View) (left : u ≡ mark_cleared c w) where
     abbrev pub clear_step : Step
@@ -187,6 +183,22 @@ module _ (c : Config) (v w : View) (object link : ℕ) (h : HasLooked c v w obje
 
     pub left_stands : (l : Noted) → Stands c v l → Stands c u l
     left_stands l k = subst (λ (y : View). Stands c y l) (sym left) (stands_unmarked c w l (looked_stands l k))
+
+    -- HEAD named a version of another seat, which is the newest of the object; the log was then as before the section
+    pub left_top : (seat : ℕ) → link ≢ 0 → link_seat_of link ≡ seat → link_seat_of link ≢ v.number
+        → (top : FindsTop c u object seat head_step) × (top.view.ring ≡ v.ring)
+    left_top seat some is other = (
+      record {
+        finds = record { kind = tt; word = refl; link = link; found = refl; some = some; seat_is = is };
+        view = e;
+        number = sym (ap (λ (y : View). y.number) left ∙ ap (λ (y : View). y.number) h.looked);
+        after = clear_step ∷ [];
+        trail = ap (λ (y : View). y.trail) left ∙ ap (λ (y : View). y.trail ++ clear_step ∷ []) h.looked
+            ∙ append_assoc e.trail (head_step ∷ []) (clear_step ∷ []);
+        names = h.newer some (λ own. other (own ∙ ap (λ (y : View). y.number) h.begins.rest));
+      },
+      ap (λ (y : View). y.ring) h.begins.rest,
+    )
 
     pub left_has_step : Contains left_steps head_step
     left_has_step = Contains-append_left looked_steps (clear_step ∷ []) head_step (Contains-push h.begins.entered.steps head_step)

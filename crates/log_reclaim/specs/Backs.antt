@@ -16,6 +16,7 @@ use Rattle.mv_core.specs.SectionFacts.{IsPastHelp}
 use Rattle.mv_core.specs.EnterSteps.{IsWhole, mark_cleared}
 use Rattle.mv_core.specs.WalkSteps.{IsLinkOf, head_loaded}
 use Rattle.mv_core.specs.LockSteps.{death_loaded}
+use Rattle.mv_core.specs.Tops.{NamesNewer, IsNewer}
 use Rattle.mv_core.specs.ReclaimSteps.{GoesToWord, master_stored, head_cut, cut_lost}
 use Rattle.reader_marks.specs.declared.scanning.Watermark.{Watermark}
 use Rattle.reader_marks.specs.Sections.{Begins}
@@ -56,13 +57,14 @@ pub record IsWriting (c : Config) (v : View) (back : Back) : Type 0 where
   pub few : back.stored ≤ 6
   pub goes : GoesToWord v back.object back.stored back.position version note
 
--- a section was entered, and HEAD of the object then had this link
+-- a section was entered, and HEAD of the object then had this link; where that is of another seat, it names a newer version of the object
 pub record HasLooked (c : Config) (v w : View) (object link : ℕ) : Type 0 where
   pub entered : View
   pub time : ℕ
   pub begins : Begins c v entered time
   pub looked : w ≡ head_loaded c entered begins.inside object link
   pub link_is : IsLinkOf c link
+  pub newer : IsNewer c entered object link
 
 -- HEAD of the object had another link than that of the version of the note, and the section was left
 pub record LeavesAt (c : Config) (v w : View) (n : Note) (link : ℕ) : Type 0 where
@@ -116,7 +118,7 @@ pub record IsCut (c : Config) (v w : View) (l m : Noted) (back : Back) : Type 0 
 abbrev pub IsCutAt : Config → View → View → Noted → Noted → Back → ℕ → Type 0
 IsCutAt c v w l m back time = (cut : IsCut c v w l m back) × (clock_time_of cut.word ≡ time)
 
--- the exchange found another link, of another seat, and the section was left
+-- the exchange found another link, of another seat, which names a newer version of the object, and the section was left
 pub record IsUncut (c : Config) (v w : View) (l m : Noted) (back : Back) (seat : ℕ) : Type 0 where
   pub link : ℕ
   pub some : link ≢ 0
@@ -124,6 +126,7 @@ pub record IsUncut (c : Config) (v w : View) (l m : Noted) (back : Back) (seat :
   pub seat_is : link_seat_of link ≡ seat
   pub in_range : seat < c.seats
   pub not_own : seat ≢ v.number
+  pub newer : NamesNewer c v back.object link
   pub view : w ≡ mark_cleared c (cut_lost c v back.object back.position link)
   pub log : m ≡ l
 

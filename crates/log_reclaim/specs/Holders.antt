@@ -52,14 +52,14 @@ pub record ReadsMark (c : Config) (own : ℕ) (made : List Step) (seat low : ℕ
   pub in_range : seat < c.seats
   pub read : Contains made (mark_step c seat (1 + low))
 
--- a version of the oldest write set is of this object, and a write-back of it found another seat's version in HEAD
-pub record OldestIsUnder (c : Config) (own : ℕ) (l : Noted) (made : List Step) (object seat : ℕ) : Type 0 where
+-- a version of the oldest write set is of this object, and a write-back of it found a newer version in HEAD, another seat's
+pub record OldestIsUnder (c : Config) (w : View) (l : Noted) (made : List Step) (object seat : ℕ) : Type 0 where
   pub index : ℕ
   pub note : Note
   pub at : IsNoteAt l index note
   pub oldest : note.first ≡ l.freed
   pub object_is : note.object ≡ object
-  pub finds : FindsAbove c own made note seat
+  pub finds : FindsAbove c w made note seat
 
 -- the last scan among these steps loaded a clock word of an earlier time than this one
 pub record IsAfterScan (c : Config) (made : List Step) (time : ℕ) : Type 0 where
@@ -97,7 +97,7 @@ pub record OldestIsLast (c : Config) (own : ℕ) (l : Noted) (made : List Step) 
 -- the cause of a holder that a tidy answers, which has left this view and this log after these steps
 abbrev pub TidyHolds : Config → View → Noted → List Step → Holder → Type 0
 TidyHolds c w l made (Mark seat low) = ReadsMark c w.number made seat low × OldestNeedsMore c w l low
-TidyHolds c w l made (Above object seat) = OldestIsUnder c w.number l made object seat
+TidyHolds c w l made (Above object seat) = OldestIsUnder c w l made object seat
 TidyHolds c w l made (Fresh time) = IsAfterScan c made time × IsOthers w time × OldestNeeds c w l time
 TidyHolds c w l made End = FindsLast made × OldestNeedsMore c w l 35184372088831
 
@@ -105,7 +105,7 @@ TidyHolds c w l made End = FindsLast made × OldestNeedsMore c w l 3518437208883
 -- nothing back, where one has no later write.
 abbrev pub RoundHolds : Config → View → Noted → List Step → Bool → Holder → Type 0
 RoundHolds c w l made back (Mark seat low) = ReadsMark c w.number made seat low × OldestNeedsMore c w l low
-RoundHolds c w l made back (Above object seat) = OldestIsUnder c w.number l made object seat
+RoundHolds c w l made back (Above object seat) = OldestIsUnder c w l made object seat
 RoundHolds c w l made back (Fresh time) =
     (IsAfterScan c made time × OldestNeeds c w l time) ⊎ ((back ≡ false) × OldestIsLast c w.number l made time)
 RoundHolds c w l made back End = FindsLast made × OldestNeedsMore c w l 35184372088831

@@ -12,6 +12,8 @@ use Rattle.mv_core.specs.declared.view.Phase.TheVariants.{Outside}
 use Rattle.mv_core.specs.declared.view.Walk.TheVariants.{Nowhere}
 use Rattle.mv_core.specs.Rings.{index_of}
 use Rattle.mv_core.specs.HistoryFacts.{BeginsWith}
+use Rattle.mv_core.specs.Chains.{IsLater}
+use Rattle.mv_core.specs.Tops.{NamesNewer}
 use Rattle.reader_marks.specs.declared.scanning.Watermark.{Watermark}
 use Rattle.reader_marks.specs.Scans.{IsLowest, named_by, scan_steps}
 use Rattle.seat_log.specs.declared.version.Note.{Note}
@@ -79,9 +81,13 @@ pub record Shrinks (l m : Noted) (freed : ℕ) : Type 0 where
 abbrev pub grace_load : Config → ℕ → Step
 grace_load c found = record { kind = LoadGrace; word = place_of c Grace; found = Some found; stored = None }
 
--- a load of SUPER of the version of this note found 0
+-- a load of SUPER of the version of this note found this time, or 0
+abbrev pub super_load : Config → ℕ → Note → ℕ → Step
+super_load c own n time = record { kind = LoadSuper; word = place_of c (Super own (index_of c n.position)); found = Some time; stored = None }
+
+-- the same, which found 0
 abbrev pub super_step : Config → ℕ → Note → Step
-super_step c own n = record { kind = LoadSuper; word = place_of c (Super own (index_of c n.position)); found = Some 0; stored = None }
+super_step c own n = super_load c own n 0
 
 -- a step that loads HEAD, or tries to cut its chain
 abbrev pub IsHeadKind : StepKind → Type 0
@@ -98,24 +104,40 @@ pub record FindsSeat (c : Config) (object seat : ℕ) (s : Step) : Type 0 where
   pub some : link ≢ 0
   pub seat_is : link_seat_of link ≡ seat
 
--- one of these steps found HEAD of the note's object naming a version of this other seat
-pub record FindsOther (c : Config) (own : ℕ) (made : List Step) (n : Note) (seat : ℕ) : Type 0 where
-  pub not_own : seat ≢ own
+-- The step found HEAD of the object naming a version of this seat. By its trail the seat that made it had this view just before; in
+-- a state of the rule with that view the version is the newest of the object.
+pub record FindsTop (c : Config) (w : View) (object seat : ℕ) (s : Step) : Type 0 where
+  pub finds : FindsSeat c object seat s
+  pub view : View
+  pub number : view.number ≡ w.number
+  pub after : List Step
+  pub trail : w.trail ≡ view.trail ++ s ∷ after
+  pub names : NamesNewer c view object finds.link
+
+-- the same of the note's object, where the version found is held, or was committed later than the note's
+pub record FindsNewer (c : Config) (w : View) (n : Note) (seat : ℕ) (s : Step) : Type 0 where
+  pub top : FindsTop c w n.object seat s
+  pub newer : IsLater n.time top.names.status
+
+-- one of these steps found HEAD of the note's object naming a newer version, of this other seat
+pub record FindsOther (c : Config) (w : View) (made : List Step) (n : Note) (seat : ℕ) : Type 0 where
+  pub not_own : seat ≢ w.number
   pub in_range : seat < c.seats
   pub step : Step
   pub there : Contains made step
-  pub finds : FindsSeat c n.object seat step
+  pub finds : FindsNewer c w n seat step
 
--- among these steps one found SUPER 0 in the version of the note, and a later one found HEAD of its object naming a version of this other seat
-pub record FindsAbove (c : Config) (own : ℕ) (made : List Step) (n : Note) (seat : ℕ) : Type 0 where
-  pub not_own : seat ≢ own
+-- among these steps one found SUPER 0 in the version of the note, and a later one found HEAD of its object naming a newer version, of
+-- this other seat
+pub record FindsAbove (c : Config) (w : View) (made : List Step) (n : Note) (seat : ℕ) : Type 0 where
+  pub not_own : seat ≢ w.number
   pub in_range : seat < c.seats
   pub before : List Step
   pub after : List Step
-  pub made_is : made ≡ before ++ super_step c own n ∷ after
+  pub made_is : made ≡ before ++ super_step c w.number n ∷ after
   pub step : Step
   pub later : Contains after step
-  pub finds : FindsSeat c n.object seat step
+  pub finds : FindsNewer c w n seat step
 
 -- among these steps is a scan, the last one, which found this watermark and this time in CLOCK
 pub record HasScanned (c : Config) (own : ℕ) (made : List Step) (mark : Watermark) (clock : ℕ) : Type 0 where

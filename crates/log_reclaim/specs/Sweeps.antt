@@ -34,7 +34,7 @@ pub record Settles (c : Config) (v w : View) (l m : Noted) (made : List Step) (m
   pub kinds : All (λ s. IsOtherKind s.kind) made
   pub log : m ≡ record l { live = m.live; back = m.back }
   pub long : length m.live ≡ length l.live
-  pub notes : (i : ℕ) (n : Note) → IsNoteAt m i n → (old : Note) × IsNoteAt l i old × DiesFrom old n × DatedSo w made top back old n
+  pub notes : (i : ℕ) (n : Note) → IsNoteAt m i n → (old : Note) × IsNoteAt l i old × DiesFrom old n × DatedSo c w made top back old n
   pub left : (i : ℕ) (n : Note) → IsNoteAt m i n → done ≤ i → IsNoteAt l i n
   pub untimed : (i : ℕ) (n : Note) → IsNoteAt m i n → i < done → n.dead ≡ 0 → StaysUntimed c w made mark clock back n (found_at found n.position)
   pub table : IsTableOf l found
@@ -50,7 +50,7 @@ pub record SettlesOne (c : Config) (v w : View) (l m : Noted) (made : List Step)
   pub log : m ≡ record l { live = m.live; back = m.back }
   pub long : length m.live ≡ length l.live
   pub others : (i : ℕ) (n : Note) → IsNoteAt m i n → (i ≡ index → ⊥) → IsNoteAt l i n
-  pub this : (n : Note) → IsNoteAt m index n → (was : Note) × IsNoteAt l index was × DiesFrom was n × DatedSo w made top back was n
+  pub this : (n : Note) → IsNoteAt m index n → (was : Note) × IsNoteAt l index was × DiesFrom was n × DatedSo c w made top back was n
   pub untimed : (n : Note) → IsNoteAt m index n → n.dead ≡ 0 → StaysUntimed c w made mark clock back n (found_at found n.position)
   pub table : IsTableOf l found
   pub kept : (i : ℕ) → (i ≡ index → ⊥) → found_at found (l.freed + i) ≡ found_at old (l.freed + i)
@@ -71,7 +71,7 @@ pub record Sweeps (c : Config) (v w : View) (l m : Noted) (made : List Step) (ba
   pub from : scanned.clock ≤ scanned.latest
   pub within : scanned.latest ≤ w.base + length w.past.seen
   pub notes : (i : ℕ) (n : Note) → IsNoteAt m i n → (old : Note) × IsNoteAt l (i + freed) old × DiesFrom old n
-      × DatedSo w made scanned.latest back old n
+      × DatedSo c w made scanned.latest back old n
   pub untimed : (i : ℕ) (n : Note) → IsNoteAt m i n → n.dead ≡ 0 → StaysUntimed c w made scanned.mark scanned.clock back n (found_at found n.position)
   pub kept : 0 < length m.live → OldestIsDead m scanned.mark.time → ⊥
   pub table : HasEntries m found

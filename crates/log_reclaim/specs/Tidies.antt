@@ -1,5 +1,5 @@
 -- The parts of a tidy.
-use Rattle.std.specs.Prelude.{◌≡◌, ◌⊎◌, ℕ, ◌+◌, ◌<◌, ◌≤◌, Bool, true, false, List, [], length, All, Option}
+use Rattle.std.specs.Prelude.{◌≡◌, ◌⊎◌, ℕ, ◌+◌, ◌<◌, ◌≤◌, Bool, true, false, List, [], length, All, Contains, Option}
 use Rattle.mv_history.specs.declared.Step.{Step}
 use Rattle.mv_history.specs.Trail.{clock_exchanges}
 use Rattle.mv_layout.specs.declared.Config.{Config}
@@ -7,7 +7,7 @@ use Rattle.mv_core.specs.declared.view.View.{View}
 use Rattle.reader_marks.specs.declared.scanning.Watermark.{Watermark}
 use Rattle.seat_log.specs.declared.version.Note.{Note}
 use Rattle.seat_log.specs.Notes.{Noted, IsNoteAt}
-use Rattle.log_reclaim.specs.Parts.{BeginsNoScan, Reclaims, HasScan, TimesDeath}
+use Rattle.log_reclaim.specs.Parts.{BeginsNoScan, Reclaims, HasScan, super_load, TimesDeath}
 use Rattle.log_reclaim.specs.Untimed.{StaysUntimed}
 
 -- whether a version is dead only from a time above this one
@@ -20,13 +20,14 @@ abbrev pub RestsOnce : View → View → Type 0
 RestsOnce v w = (w.past.rests ≡ v.past.rests) ⊎ (w.past.rests ≡ v.past.rests + 1)
 
 -- Why a rest was tried: a version that the log had at the call's begin is dead from a time above the clock that a scan among these
--- steps found. That time was noted before; or it was seen, or a load of CLOCK among these steps timed it.
+-- steps found. That time was noted before; or a load of SUPER of that very version among these steps found it; or a load of CLOCK
+-- among them timed it.
 pub record RestIsDue (c : Config) (w : View) (l : Noted) (made : List Step) : Type 0 where
   pub index : ℕ
   pub old : Note
   pub at : IsNoteAt l index old
   pub dead : ℕ
-  pub dated : (dead ≡ old.dead) ⊎ ((old.dead ≡ 0) × ((dead ≤ w.base + length w.past.seen) ⊎ TimesDeath made dead))
+  pub dated : (dead ≡ old.dead) ⊎ ((old.dead ≡ 0) × (Contains made (super_load c w.number old dead) ⊎ TimesDeath made dead))
   pub mark : Watermark
   pub clock : ℕ
   pub scan : HasScan c w.number made mark clock

@@ -18,7 +18,7 @@ use Rattle.log_reclaim.specs.declared.writing_back.Back.{Back}
 use Rattle.log_reclaim.specs.declared.writing_back.BackEnd.{BackEnd}
 use Rattle.log_reclaim.specs.declared.writing_back.BackEnd.TheVariants.{Cut, Above}
 use Rattle.log_reclaim.specs.Backs.{HasLater}
-use Rattle.log_reclaim.specs.Parts.{NamesNoCommit, IsOtherKind, Reclaims, super_step, FindsSeat, FindsOther, TimesDeath}
+use Rattle.log_reclaim.specs.Parts.{NamesNoCommit, IsOtherKind, Reclaims, super_load, FindsTop, FindsOther, TimesDeath}
 
 -- The pass is outside a section, with no scan running, and knows the watermark of a scan that found this time in CLOCK; all of
 -- that history was seen, and no commit of the log is later.
@@ -47,14 +47,13 @@ pub record Makes (v w : View) (made : List Step) : Type 0 where
 -- of the object after the version's and up to the pass's watermark was seen
 pub record LoadsSuper (c : Config) (v w : View) (l m : Noted) (n : Note) (found : Bool) : Type 0 where
   pub time : ℕ
-  pub step : Step
-  pub makes : Makes v w (step ∷ [])
+  pub makes : Makes v w (super_load c v.number n time ∷ [])
   pub grace : w.grace ≡ v.grace
-  pub none : found ≡ false → (time ≡ 0) × (m ≡ l) × (step ≡ super_step c v.number n) × (latest_at w.base w.past.seen n.object v.grace ≤ n.time)
+  pub none : found ≡ false → (time ≡ 0) × (m ≡ l) × (latest_at w.base w.past.seen n.object v.grace ≤ n.time)
   pub some : found ≡ true → (0 < time) × (m ≡ retired l n.position time) × (time ≤ w.base + length w.past.seen)
 
 -- A write-back that was begun stored all words and ended: the version was cut and is noted as dead after the time found in CLOCK,
--- or HEAD was found to name another seat's version and nothing was noted.
+-- or HEAD was found to name a newer version, another seat's, by a step before which the log was as at the begin, and nothing was noted.
 pub record StoresAll (c : Config) (v w : View) (l m : Noted) (back : Back) (end : BackEnd) (time : ℕ) : Type 0 where
   pub made : List Step
   pub outside : w.phase ≡ Outside
@@ -73,10 +72,10 @@ pub record StoresAll (c : Config) (v w : View) (l m : Noted) (back : Back) (end 
   pub within : time ≤ w.base + length w.past.seen
   pub cut : end ≡ Cut → (m ≡ back_noted (retired l back.position (time + 1))) × TimesDeath made (time + 1)
   pub above : (seat : ℕ) → end ≡ Above seat → (m ≡ l) × (seat ≢ v.number) × (seat < c.seats)
-      × ((s : Step) × Contains made s × FindsSeat c back.object seat s)
+      × ((s : Step) × Contains made s × (top : FindsTop c w back.object seat s) × (top.view.ring ≡ v.ring))
 
 -- A write-back was tried of the version of a note in which SUPER was found 0. Either it is noted from when on it is dead: from a
--- time that was seen, or after the time that the write-back found in CLOCK; or it is as before: it is too young for the
+-- time that a second load of SUPER found, or after the time that the write-back found in CLOCK; or it is as before: it is too young for the
 -- watermark, or the log has a later commit of its object, or another seat's version was found in HEAD.
 pub record TriesOne (c : Config) (v w : View) (l m : Noted) (n : Note) (mark : Watermark) (tried : Tried) : Type 0 where
   pub made : List Step
@@ -84,8 +83,8 @@ pub record TriesOne (c : Config) (v w : View) (l m : Noted) (n : Note) (mark : W
   pub within : tried.clock ≤ w.base + length w.past.seen
   pub fate :
       ((dead : ℕ) × (0 < dead) × (tried.above ≡ None)
-      × (((m ≡ retired l n.position dead) × (dead ≤ w.base + length w.past.seen))
+      × (((m ≡ retired l n.position dead) × (dead ≤ w.base + length w.past.seen) × Contains made (super_load c v.number n dead))
       ⊎ ((m ≡ back_noted (retired l n.position dead)) × (dead ≤ tried.clock + 1) × TimesDeath made dead)))
       ⊎ ((m ≡ l)
       × (((tried.above ≡ None) × ((mark.time < n.time) ⊎ HasLater l n))
-      ⊎ ((seat : ℕ) × (tried.above ≡ Some seat) × FindsOther c v.number made n seat)))
+      ⊎ ((seat : ℕ) × (tried.above ≡ Some seat) × FindsOther c w made n seat)))

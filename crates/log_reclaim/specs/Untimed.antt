@@ -6,13 +6,13 @@ use Rattle.mv_core.specs.declared.view.View.{View}
 use Rattle.mv_core.specs.Times.{latest, latest_at}
 use Rattle.reader_marks.specs.declared.scanning.Watermark.{Watermark}
 use Rattle.seat_log.specs.declared.version.Note.{Note}
-use Rattle.log_reclaim.specs.Parts.{super_step, FindsAbove, TimesDeath}
+use Rattle.log_reclaim.specs.Parts.{super_load, super_step, FindsAbove, TimesDeath}
 
 -- Why a write-back left a version without a time of death, by which seat's version it found in HEAD, if another's. Where none was
 -- found, the scan's own low time is below the clock's, and the version is later than the watermark or its object has a later write.
 abbrev pub TriedSo : Config → View → List Step → Watermark → ℕ → Note → Option ℕ → Type 0
 TriedSo c w made mark clock n None = (mark.low < clock) × ((mark.time < n.time) ⊎ (n.time < latest w.base w.past.seen n.object))
-TriedSo c w made mark clock n (Some seat) = FindsAbove c w.number made n seat
+TriedSo c w made mark clock n (Some seat) = FindsAbove c w made n seat
 
 -- A committed version has no time of death after a round with this watermark: one of the round's steps found SUPER 0 in it, no
 -- write of its object after its own and up to the low time was seen, and where the round writes back it tried so.
@@ -22,9 +22,11 @@ pub record StaysUntimed (c : Config) (w : View) (made : List Step) (mark : Water
   pub unwritten : latest_at w.base w.past.seen n.object mark.low ≤ n.time
   pub tried : back ≡ true → TriedSo c w made mark clock n above
 
--- Where a time of death comes from that a note has after these steps: it was noted before; or it was seen; or a load of CLOCK
--- among these steps, that of a write-back, found the time before it, which is at most `most`.
-abbrev pub DatedSo : View → List Step → ℕ → Bool → Note → Note → Type 0
-DatedSo w made most back old n =
+-- Where a time of death comes from that a note has after these steps: it was noted before; or a load of SUPER of that version among
+-- these steps found it, and it was seen; or a load of CLOCK among these steps, that of a write-back, found the time before it, which
+-- is at most `most`.
+abbrev pub DatedSo : Config → View → List Step → ℕ → Bool → Note → Note → Type 0
+DatedSo c w made most back old n =
     (n.dead ≡ old.dead)
-    ⊎ ((n.dead ≤ w.base + length w.past.seen) ⊎ ((back ≡ true) × (n.dead ≤ most + 1) × TimesDeath made n.dead))
+    ⊎ (((n.dead ≤ w.base + length w.past.seen) × Contains made (super_load c w.number n n.dead))
+    ⊎ ((back ≡ true) × (n.dead ≤ most + 1) × TimesDeath made n.dead))

@@ -209,7 +209,9 @@ pub(crate) fn holder(
 /// - `Mark` only where this call read the mark of that other seat at that low time, and a version of
 ///   the oldest write set needs a watermark above it.
 /// - `Above` only where this call found SUPER 0 in a version of the oldest write set, of that object,
-///   and later found HEAD of the object naming a version of that other seat, which is a newer one.
+///   and later found HEAD of the object naming a version of that other seat. That one is newer: in a
+///   state of the rule in which the pass had the view that it had just before that step, it is held, or
+///   was committed later.
 /// - `Fresh` only where a version of it needs that printed time, which is above the scan's clock, or,
 ///   without `back`, where SUPER of a version of that commit time was found 0.
 /// - `End` only where this call found the last time in CLOCK, and a version needs a watermark above it.

@@ -70,12 +70,14 @@ fn rest_if_due<P: Protocol, L: Ledger>(
 /// nothing, no step begins a scan.
 ///
 /// No commit is made or tried, and the seat's commits are as before. At most one step is an exchange on
-/// CLOCK, won or lost, and none where no version is dead from a time above the clock of the first
-/// round's scan; at most one rest is made, which is counted.
+/// CLOCK, won or lost; at most one rest is made, which is counted. The exchange is tried only where a
+/// version that the log had at the begin is dead from a time above the clock of a scan of this call.
+/// That time was noted before, or this call found it: in SUPER of that very version, or by the load of
+/// CLOCK that ends a write-back.
 ///
 /// Of each version that is left without a time of death it is known why the first round's write-back
-/// left it so. This call found SUPER 0 in it. Then it found another seat's version in HEAD of its
-/// object; or a scan of this call found a low time below its clock's, and the version is later than the
+/// left it so. This call found SUPER 0 in it. Then it found a newer version in HEAD of its object,
+/// another seat's; or a scan of this call found a low time below its clock's, and the version is later than the
 /// watermark that this scan answered, or its object has a later write.
 ///
 /// `held` is None exactly where the log is empty afterwards. Else the oldest write set isn't
@@ -84,7 +86,9 @@ fn rest_if_due<P: Protocol, L: Ledger>(
 /// - `Mark` only where this call read the mark of that other seat at that low time, and a version of
 ///   the oldest write set needs a watermark above it.
 /// - `Above` only where this call found SUPER 0 in a version of the oldest write set, of that object,
-///   and later found HEAD of the object naming a version of that other seat, which is a newer one.
+///   and later found HEAD of the object naming a version of that other seat. That one is newer: in a
+///   state of the rule in which the pass had the view that it had just before that step, it is held, or
+///   was committed later.
 /// - `Fresh` only where another seat made the entry of that printed time after this call's last scan had
 ///   loaded the clock, and a version of the oldest write set needs that time.
 /// - `End` only where this call found the last time in CLOCK, and a version needs a watermark above it.

@@ -34,7 +34,7 @@ pub enum NoBack {
     Young,
     /// HEAD of the object is 0: a later version was committed, and cut meanwhile.
     Gone,
-    /// HEAD names another version, of this seat.
+    /// HEAD names another version, of this seat, which is newer: held, or committed later.
     Above { seat: u32 },
 }
 
@@ -43,7 +43,7 @@ pub enum NoBack {
 pub enum BackEnd {
     /// The chain was cut, and the version is retired.
     Cut,
-    /// HEAD named another version, of this seat.
+    /// HEAD named another version, of this seat, which is newer: held, or committed later.
     Above { seat: u32 },
 }
 
@@ -68,7 +68,9 @@ fn not_on_top(link: u64) -> NoBack
 /// - Else it enters a section and loads HEAD of the version's object, in at most eight steps. The
 ///   answer is `Ok` exactly where HEAD names that version; the pass is then in that section. Else it
 ///   leaves the section: `Gone` exactly where HEAD was 0, and `Above` exactly where it named another
-///   version, of that seat.
+///   version, of that seat. One of another seat was found in a state of the rule in which the pass had
+///   the view that it had before the load: there it is held, or was committed later than each version
+///   of the object that the own log has as committed. Of the own seat the log has a later commit.
 pub fn back_start<P: Protocol, L: Ledger>(
     shared: &Shared<P>,
     pass: &mut Pass<P>,
@@ -158,8 +160,8 @@ pub fn back_word<P: Protocol, L: Ledger>(
 ///
 /// - `Cut` exactly where the exchange was won. The version is then dead from the time after that of
 ///   the clock, which is loaded, and the log has noted that.
-/// - `Above` exactly where HEAD named another version, which is of that other seat. The log is as
-///   before.
+/// - `Above` exactly where HEAD named another version, which is of that other seat, and was then held
+///   or committed later, as in `back_start`. The log is as before.
 ///
 /// It makes at most three steps, and tries the exchange once.
 pub fn back_finish<P: Protocol, L: Ledger>(

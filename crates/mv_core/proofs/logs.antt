@@ -7,6 +7,7 @@ pub mod Versions
 pub mod Written
 pub mod Finding
 pub mod HeldSet
+pub mod NewerTops
 pub mod OwnTops
 pub mod SeenDeaths
 pub mod LastWrites

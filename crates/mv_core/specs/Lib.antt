@@ -26,3 +26,4 @@ pub mod Chains
 pub mod WholeSets
 pub mod Frees
 pub mod Points
+pub mod Tops

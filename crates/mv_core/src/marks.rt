@@ -1,7 +1,6 @@
 //! The steps of a scan of the marks, which finds a time that no section is below.
-ghost use Rattle.std.specs.Prelude.{◌≡◌, ◌+◌, ◌<◌, List, Some, All};
+ghost use Rattle.std.specs.Prelude.{◌≡◌, ◌+◌, List, Some};
 ghost use Rattle.mv_history.specs.declared.Entry.{Entry};
-ghost use Rattle.mv_history.specs.State.{maker_of};
 ghost use Rattle.mv_core.specs.declared.view.Scan.{Scan};
 ghost use Rattle.mv_core.specs.Passes.{view, IsOf, IsSame, config_of};
 ghost use Rattle.mv_core.specs.SectionFacts.{IsWord};
@@ -28,7 +27,6 @@ impl<P: Protocol> Shared<P> {
         ensures view { (h : List Entry) × IsWhole (config_of self.now) (view pass.old) result h
             × (view pass.new ≡ scan_loaded (config_of self.now) (view pass.old) result h) }
         ensures word { IsWord (config_of self.now) result }
-        ensures makers { All (λ e. maker_of e < (config_of self.now).seats) (view pass.new).past.seen }
         ensures step { steps.new ≡ steps.old + 1 }
     {
         load_as::<P, Brand, L, _>(self, pass, CLOCK_CELL, &(), steps)

@@ -7,6 +7,7 @@ ghost use Rattle.mv_core.specs.Passes.{view, IsOf, IsSame, config_of};
 ghost use Rattle.mv_core.specs.ReclaimSteps.{MayLoadSuper, super_loaded, SeesSuper, FoundEmpty, MayStoreMaster, master_stored, MayCutHead, CutTold};
 ghost use Rattle.mv_core.specs.ReclaimSteps.{IsOfOther, MayStoreFree, free_stored};
 ghost use Rattle.mv_core.specs.Swaps.{found_by, IsSwap};
+ghost use Rattle.mv_core.specs.Tops.{NamesNewer};
 ghost use Rattle.mv_core.specs.WalkSteps.{IsLinkOf};
 ghost use Rattle.mv_layout.specs.Words.{link_of};
 
@@ -73,8 +74,10 @@ impl<P: Protocol> Shared<P> {
     /// Exchanges HEAD of an object from the link of the version that is written back to 0, once all
     /// its words were stored. Where it is won the version is cut from its chain: the object's master
     /// has the present state, and a walk that begins goes there. A lost exchange leaves the chain as
-    /// it is, and found the link of a version of another seat. It is tried once in a write-back, won
-    /// or lost.
+    /// it is, and found the link of a version of another seat, in a state of the rule in which the pass
+    /// had its view; there that version is held or has the object's last commit, and so is newer than
+    /// each committed version of the object in the own log. It is tried once in a write-back, won or
+    /// lost.
     pub fn cut_head<L: Ledger>(
         &self,
         pass: &mut Pass<P>,
@@ -94,6 +97,8 @@ impl<P: Protocol> Shared<P> {
             → IsLinkOf (config_of self.now) (found_by (link_of (view pass.old).number position) result) }
         ensures other { found_by (link_of (view pass.old).number position) result ≢ link_of (view pass.old).number position
             → IsOfOther (view pass.old) (found_by (link_of (view pass.old).number position) result) }
+        ensures newer { found_by (link_of (view pass.old).number position) result ≢ link_of (view pass.old).number position
+            → NamesNewer (config_of self.now) (view pass.old) object (found_by (link_of (view pass.old).number position) result) }
         ensures step { steps.new ≡ steps.old + 1 }
     {
         let cell = head_cell(&self.config, object);

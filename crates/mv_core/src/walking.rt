@@ -3,6 +3,7 @@ ghost use Rattle.std.specs.Prelude.{◌≡◌, ◌+◌, ◌<◌, length};
 ghost use Rattle.mv_core.specs.declared.view.Section.{Section};
 ghost use Rattle.mv_core.specs.declared.view.Stand.{Stand};
 ghost use Rattle.mv_core.specs.Passes.{view, IsOf, IsSame, config_of};
+ghost use Rattle.mv_core.specs.Tops.{IsNewer};
 ghost use Rattle.mv_core.specs.WalkSteps.{IsPackedOf, IsLinkOf, IsOwnTop, IsOwnLink, IsLastOwn, IsLastSeen, IsOwnTime, slot_named, MayLoadHead};
 ghost use Rattle.mv_core.specs.WalkSteps.{head_loaded, MayLoadFirst, first_loaded, MayLoadStamp, StampSays, stamp_loaded, MayLoadPrev, prev_loaded};
 ghost use Rattle.mv_core.specs.WalkSteps.{MayLoadData, data_loaded, MayLoadMaster, master_loaded, words_read, word_read};
@@ -33,7 +34,9 @@ impl<P: Protocol> Shared<P> {
     /// master, or the link of the version on top, where it then stands. A version of the own log on top
     /// is held, or is committed and wasn't cut, and the link is of its position; where it is committed,
     /// each other committed version of the object in the own log has a lesser time, and the pass has
-    /// seen no later write of the object.
+    /// seen no later write of the object. A version of another seat on top was found in a state of the
+    /// rule in which the pass had its view; there it is held or has the object's last commit, and so is
+    /// newer than each committed version of the object in the own log.
     pub fn load_head<L: Ledger>(&self, pass: &mut Pass<P>, object: u32, steps: &mut Steps<L>) -> u64
         ghost inside: { Section }
         requires of { IsOf self.now pass.old }
@@ -46,6 +49,7 @@ impl<P: Protocol> Shared<P> {
         ensures own_link { IsOwnLink (config_of self.now) (view pass.old) result }
         ensures later { IsLastOwn (config_of self.now) (view pass.old) object result }
         ensures seen { IsLastSeen (config_of self.now) (view pass.old) object result }
+        ensures newer { IsNewer (config_of self.now) (view pass.old) object result }
         ensures step { steps.new ≡ steps.old + 1 }
     {
         let cell = head_cell(&self.config, object);

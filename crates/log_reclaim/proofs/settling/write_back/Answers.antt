@@ -44,8 +44,8 @@ returns-in-Ok-clause-tries g c =
           c.store_all-end.new.log g.at c.args.mark.now t) (λ i. record { above = sym w.above-is i; clock = sym c.max.ensures i })
           (tries_lost _ _ (config_of c.args.shared.now) (view c.args.pass.now) c.args.log.now g.at c.args.mark.now c.args.pass.now.known c.requires.1.1.1.0
           c.requires.1.1.0.2 (view c.start_clock-start.new.pass) (view c.store_all-end.new.pass) c.store_all-end.new.log _ c.in-Ok.back
-          c.store_all-end.result.0 c.store_all-end.result.1 c.start_clock-start.result.1 s.1 c.store_all-end.ensures.stores last w.in-Above.seat
-          w.in-Above.is (ap (λ (b : Back). b.object) s.3))
+          c.store_all-end.result.0 c.store_all-end.result.1 c.start_clock-start.result.1 s.1 c.store_all-end.ensures.stores last c.args.position
+          c.requires.1.1.1.1.0 c.requires.1.1.1.1.1.0 w.in-Above.seat w.in-Above.is (ap (λ (b : Back). b.object) s.3))
     ]
 
 pub load_super-requires : goal.load_super-requires
@@ -138,5 +138,6 @@ returns-else-seat-clause-tries g c =
     let own = c.seat.ensures ∙ gone_number _ _ (config_of c.args.shared.now) (view c.args.pass.now) c.args.log.now g.at c.args.mark.now c.args.pass.now.known
     c.requires.1.1.1.0 c.requires.1.1.0.2 (view c.start_clock-start.new.pass) s.1 s.2 c.start_clock-start.result.1 last in
     tries_above _ _ (config_of c.args.shared.now) (view c.args.pass.now) c.args.log.now g.at c.args.mark.now c.args.pass.now.known c.requires.1.1.1.0
-    c.requires.1.1.0.2 (view c.start_clock-start.new.pass) s.1 s.2 c.start_clock-start.result.1 last c.in-Err-Above.seat s.3
+    c.requires.1.1.0.2 (view c.start_clock-start.new.pass) s.1 s.2 c.start_clock-start.result.1 last c.args.position
+    c.requires.1.1.1.1.0 c.requires.1.1.1.1.1.0 c.in-Err-Above.seat s.3
     (λ e. c.if-seat.false (e ∙ sym own))

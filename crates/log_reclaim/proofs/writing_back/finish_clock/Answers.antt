@@ -88,6 +88,7 @@ returns-in-Found-clause-finishes g c =
     ends_uncut (config_of c.args.shared.now) (view c.args.pass.now) c.args.log.now c.args.back c.requires.stands c.requires.writing (view c.cut_head.new.pass)
     c.in-Found.link (c.in-Found.ensures.view.1 c.in-Found.ensures.swap) (view c.leave-in-Found.new.pass) c.leave-in-Found.ensures.view c.link_seat.result
     c.link_seat.ensures c.in-Found.ensures.swap (c.in-Found.ensures.link c.in-Found.ensures.swap) (c.in-Found.ensures.other c.in-Found.ensures.swap)
+    (c.in-Found.ensures.newer c.in-Found.ensures.swap)
 
 pub returns-in-Found-clause-stands : goal.returns-in-Found-clause-stands
 returns-in-Found-clause-stands g c =

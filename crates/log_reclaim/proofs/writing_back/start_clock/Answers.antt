@@ -39,11 +39,11 @@ returns-then-link-link_word-clause-starts g c =
     let begins = c.enter_clock-clock.ensures.begins in
     let link = link_there (config_of c.args.shared.now) (view c.args.pass.now) (view c.enter_clock-clock.new.pass) c.args.log.now c.args.position
     c.note-version.result g.at c.enter_clock-clock.result.0 c.requires.1.1.1.1.0 c.requires.1.1.1.1.1.0 same begins (view c.load_head-link.new.pass)
-    c.load_head-link.result c.load_head-link.ensures.view c.load_head-link.ensures.link c.load_head-link.ensures.own c.seat.result c.link_word.result
-    c.seat.ensures c.link_word.ensures.word in
+    c.load_head-link.result c.load_head-link.ensures.view c.load_head-link.ensures.link c.load_head-link.ensures.own c.load_head-link.ensures.newer
+    c.seat.result c.link_word.result c.seat.ensures c.link_word.ensures.word in
     started (config_of c.args.shared.now) (view c.args.pass.now) (view c.enter_clock-clock.new.pass) c.args.log.now c.args.position c.note-version.result g.at
     c.enter_clock-clock.result.0 c.requires.1.1.1.1.0 c.requires.1.1.1.1.1.0 same begins (view c.load_head-link.new.pass) c.load_head-link.result
-    c.load_head-link.ensures.view c.load_head-link.ensures.link c.load_head-link.ensures.own
+    c.load_head-link.ensures.view c.load_head-link.ensures.link c.load_head-link.ensures.own c.load_head-link.ensures.newer
     (c.if-link-link_word.true ∙ link)
     c.args.mark.now c.args.steps.now c.load_head-link.new.steps c.if-version-mark.false c.requires.1.1.1.1.1.1
     (object_within (config_of c.args.shared.now) (view c.args.pass.now) (view c.enter_clock-clock.new.pass) c.args.log.now c.args.position
@@ -56,7 +56,7 @@ leave-requires-clause-open g c =
     g.at c.enter_clock-clock.result.0 c.requires.1.1.1.1.0 c.requires.1.1.1.1.1.0
     (same_note c.args.log.now c.args.position c.note.result c.note-version.result g.at c.requires.1.1.1.1.0.log c.requires.1.1.1.1.1.0 c.note.ensures
     c.note-version.ensures) c.enter_clock-clock.ensures.begins (view c.load_head-link.new.pass) c.load_head-link.result c.load_head-link.ensures.view
-    c.load_head-link.ensures.link c.load_head-link.ensures.own
+    c.load_head-link.ensures.link c.load_head-link.ensures.own c.load_head-link.ensures.newer
 
 pub returns-clause-starts : goal.returns-clause-starts
 returns-clause-starts g c =
@@ -65,11 +65,11 @@ returns-clause-starts g c =
     let begins = c.enter_clock-clock.ensures.begins in
     let link = link_there (config_of c.args.shared.now) (view c.args.pass.now) (view c.enter_clock-clock.new.pass) c.args.log.now c.args.position
     c.note-version.result g.at c.enter_clock-clock.result.0 c.requires.1.1.1.1.0 c.requires.1.1.1.1.1.0 same begins (view c.load_head-link.new.pass)
-    c.load_head-link.result c.load_head-link.ensures.view c.load_head-link.ensures.link c.load_head-link.ensures.own c.seat.result c.link_word.result
-    c.seat.ensures c.link_word.ensures.word in
+    c.load_head-link.result c.load_head-link.ensures.view c.load_head-link.ensures.link c.load_head-link.ensures.own c.load_head-link.ensures.newer
+    c.seat.result c.link_word.result c.seat.ensures c.link_word.ensures.word in
     not_started (config_of c.args.shared.now) (view c.args.pass.now) (view c.enter_clock-clock.new.pass) c.args.log.now c.args.position c.note-version.result
     g.at c.enter_clock-clock.result.0 c.requires.1.1.1.1.0 c.requires.1.1.1.1.1.0 same begins (view c.load_head-link.new.pass) c.load_head-link.result
-    c.load_head-link.ensures.view c.load_head-link.ensures.link c.load_head-link.ensures.own
+    c.load_head-link.ensures.view c.load_head-link.ensures.link c.load_head-link.ensures.own c.load_head-link.ensures.newer
     (view c.leave.new.pass) c.leave.ensures.view (λ z. c.if-link-link_word.false (z ∙ sym link)) c.load_head-link.ensures.own_link
     c.load_head-link.ensures.later c.args.mark.now c.args.steps.now c.leave.new.steps c.not_on_top.result c.if-version-mark.false
     c.not_on_top.ensures.gone c.not_on_top.ensures.above

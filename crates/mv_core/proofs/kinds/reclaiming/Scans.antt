@@ -1,8 +1,7 @@
 -- load CLOCK (scan) and load MARK: a scan begins with the clock's time, and each mark lowers its least time to one that the section of that seat isn't below.
 use Rattle.std.proofs.Common.{◌≡◌, ◌≢◌, ℕ, ◌+◌, ◌-◌, ◌==◌, ◌≤◌, ◌<◌, ◌++◌, min, Bool, true, false, cond, List}
 use Rattle.std.proofs.Common.{refl, sym, ap, ◌∙◌, subst, le_refl, eqb-true, arith, Some}
-use Rattle.std.specs.Prelude.{All}
-use Rattle.mv_core.proofs.Terms.{Entry, State, Writes, maker_of, Config, Clock, Mark, clock_time_of, View, Past, Phase, Outside, Lowered, Marked}
+use Rattle.mv_core.proofs.Terms.{Entry, State, Writes, Config, Clock, Mark, clock_time_of, View, Past, Phase, Outside, Lowered, Marked}
 use Rattle.mv_core.proofs.Terms.{Inside, Scan, NotAbove, ViewParts, parts_of, time_of, time_in}
 use Rattle.mv_core.proofs.FactTerms.{ScanIs, MarkedAs, IsWord, RunsOn, Loads, IsKept}
 use Rattle.mv_core.specs.EnterSteps.{IsWhole}
@@ -58,8 +57,7 @@ up_to_mark clock least mark seat phase is old s lt = go (s == seat) refl
 module _ (starts : State → Type 0) (allows : List ℕ → State → Writes → Type 0) (c : Config) (start : State) (v : View) where
   pub scan_loads : MayLoadScan v
       → Loads starts allows c start v Clock
-      (λ x w. ((((h : List Entry) × IsWhole c v x h × (w ≡ scan_loaded c v x h)) × IsWord c x × All (λ e. maker_of e < c.seats) w.past.seen) × RunsOn v w)
-      × IsKept v w)
+      (λ x w. ((((h : List Entry) × IsWhole c v x h × (w ≡ scan_loaded c v x h)) × IsWord c x) × RunsOn v w) × IsKept v w)
   scan_loads may m h seats k is own begins wide =
       let n = v.number in
       let f : ViewParts = parts_of seats in
@@ -89,7 +87,7 @@ module _ (starts : State → Type 0) (allows : List ℕ → State → Writes →
               ap (λ (u : View). grace_on c u.grace now from) (sym is),
             ) facts,
         (
-          (((h, (front, k.history.long, k.history.makers), refl), k.loaded_words.clock_is, k.history.makers), (λ t i a b. (a, b))),
+          (((h, (front, k.history.long, k.history.makers), refl), k.loaded_words.clock_is), (λ t i a b. (a, b))),
           (refl, refl, refl, refl, refl, refl),
         ),
       )

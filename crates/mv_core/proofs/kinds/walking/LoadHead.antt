@@ -7,14 +7,16 @@ use Rattle.mv_core.specs.WalkSteps.{IsWalking, IsLinkOf, IsOwnTop, IsOwnLink, Is
 use Rattle.mv_core.proofs.history.SectionWords.{time_is}
 use Rattle.mv_core.proofs.kinds.walking.Walks.{walked}
 use Rattle.mv_core.proofs.kinds.walking.WalkOn.{head_right, head_link}
+use Rattle.mv_core.proofs.logs.NewerTops.{newer_top}
 use Rattle.mv_core.proofs.logs.OwnTops.{own_top, own_top_link, own_top_last, own_top_seen}
+use Rattle.mv_core.specs.Tops.{IsNewer}
 use Rattle.mv_core.proofs.kinds.walking.EmptyHeads.{succeeded_after}
 
 module _ (starts : State → Type 0) (allows : List ℕ → State → Writes → Type 0) (c : Config) (start : State) (v : View) where
   pub head_loads : (object : ℕ) (inside : Section) → IsWalking v inside
       → Loads starts allows c start v (Head object)
       (λ n w. (((w ≡ head_loaded c v inside object n) × IsLinkOf c n × IsOwnTop c v object n × IsOwnLink c v n × IsLastOwn c v object n
-      × IsLastSeen c v object n) × RunsOn v w) × IsKept v w)
+      × IsLastSeen c v object n × IsNewer c v object n) × RunsOn v w) × IsKept v w)
   head_loads object inside may m h seats k is own begins small =
       let n : ℕ = m (Head object) in
       let w : View = head_loaded c v inside object n in
@@ -39,6 +41,7 @@ module _ (starts : State → Type 0) (allows : List ℕ → State → Writes →
               own_top_link seats k v is object,
               own_top_last seats k v is object,
               own_top_seen seats k v is object,
+              newer_top seats k v is begins object,
             ),
             (λ t f a b. (a, b)),
           ),

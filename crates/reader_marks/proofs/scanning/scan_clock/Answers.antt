@@ -17,7 +17,7 @@ loop-seat-init g c =
       a.same,
       looks_first (config_of c.args.shared.now) (view c.args.pass.now) (view c.load_scan.new.pass) c.load_scan.result c.clock_time-clock.result
           c.args.steps.now c.load_scan.new.steps a.view.0 a.view.1 a.view.2 c.clock_time-clock.ensures a.step,
-      a.makers,
+      subst (λ (h : List Entry). All (λ e. maker_of e < (config_of c.args.shared.now).seats) h) (sym (ap (λ (u : View). u.past.seen) a.view.2)) a.view.1.2,
     )
 
 -- every entry that is seen is by a seat of the domain, also where the same is seen later

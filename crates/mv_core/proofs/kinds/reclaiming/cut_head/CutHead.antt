@@ -7,9 +7,11 @@ use Rattle.mv_core.specs.declared.view.Walk.TheVariants.{Nowhere}
 use Rattle.mv_core.specs.WalkSteps.{IsLinkOf}
 use Rattle.mv_core.proofs.FactTerms.{IsWrittenBack, WriteBacks, RunsOn, Facts, Swaps, IsKept}
 use Rattle.mv_core.specs.ReclaimSteps.{MayCutHead, head_cut, cut_lost, CutTold, IsOfOther}
+use Rattle.mv_core.specs.Tops.{NamesNewer}
 use Rattle.mv_core.proofs.frames.FrameLaw.{set_at_here, set_at_all, unchanged, changed, settle}
 use Rattle.mv_core.proofs.logs.Links.{live_once, note_once}
 use Rattle.mv_core.proofs.logs.Slots.{live_within}
+use Rattle.mv_core.proofs.logs.NewerTops.{newer_top}
 use Rattle.mv_core.proofs.logs.Counts.{held_same}
 use Rattle.mv_core.proofs.kinds.walking.EmptyHeads.{time_of_section}
 use Rattle.mv_core.proofs.kinds.walking.WalkOn.{head_link}
@@ -152,19 +154,31 @@ module _ (starts : State → Type 0) (allows : List ℕ → State → Writes →
       (a, λ i e mode some_held. begun i e mode (subst (λ (y : ℕ). 0 < y) held some_held) ∙ ap (λ (y : ℕ). v.ring.next - y) (sym held))
 
   cut_swaps_from : Swaps starts allows c start v (Head object) (link_of v.number position) 0 (λ found w. ((CutTold c v object position x note found w
-      × (found ≢ link_of v.number position → IsLinkOf c found) × (found ≢ link_of v.number position → IsOfOther v found)) × RunsOn v w) × IsKept v w)
+      × (found ≢ link_of v.number position → IsLinkOf c found) × (found ≢ link_of v.number position → IsOfOther v found)
+      × (found ≢ link_of v.number position → NamesNewer c v object found)) × RunsOn v w) × IsKept v w)
   cut_swaps_from = (
     (λ m h seats k is own begins won. (
       head_cut c v object position x note,
       h,
       cut_stored m h seats k is won,
-      (((((λ _. refl), (λ ne. absurd (ne refl))), (λ ne. absurd (ne refl)), (λ ne. absurd (ne refl))), cut_runs), (refl, refl, refl, refl, refl, refl)),
+      (
+        ((((λ _. refl), (λ ne. absurd (ne refl))), (λ ne. absurd (ne refl)), (λ ne. absurd (ne refl)), (λ ne. absurd (ne refl))), cut_runs),
+        (refl, refl, refl, refl, refl, refl),
+      ),
     )),
     (λ m h seats k is own begins lost wide. (
       cut_lost c v object position (m (Head object)),
       lost_stored m h seats k is,
       (
-        ((((λ e. absurd (lost e)), (λ _. refl)), (λ _. found_link m h seats k is), found_other m h seats k is), (λ t i a b. (a, b))),
+        (
+          (
+            ((λ e. absurd (lost e)), (λ _. refl)),
+            (λ _. found_link m h seats k is),
+            found_other m h seats k is,
+            (λ ne. let o = found_other m h seats k is ne in newer_top seats k v is begins object o.0 o.1),
+          ),
+          (λ t i a b. (a, b)),
+        ),
         (refl, refl, refl, refl, refl, refl),
       ),
     )),
@@ -172,7 +186,9 @@ module _ (starts : State → Type 0) (allows : List ℕ → State → Writes →
 
   pub cut_swaps : (link : ℕ) → link ≡ link_of v.number position
       → Swaps starts allows c start v (Head object) link 0 (λ found w. ((CutTold c v object position x note found w
-      × (found ≢ link_of v.number position → IsLinkOf c found) × (found ≢ link_of v.number position → IsOfOther v found)) × RunsOn v w) × IsKept v w)
+      × (found ≢ link_of v.number position → IsLinkOf c found) × (found ≢ link_of v.number position → IsOfOther v found)
+      × (found ≢ link_of v.number position → NamesNewer c v object found)) × RunsOn v w) × IsKept v w)
   cut_swaps link e = subst (λ (g : ℕ). Swaps starts allows c start v (Head object) g 0
       (λ found w. ((CutTold c v object position x note found w × (found ≢ link_of v.number position → IsLinkOf c found) ×
-      (found ≢ link_of v.number position → IsOfOther v found)) × RunsOn v w) × IsKept v w)) (sym e) cut_swaps_from
+      (found ≢ link_of v.number position → IsOfOther v found)
+      × (found ≢ link_of v.number position → NamesNewer c v object found)) × RunsOn v w) × IsKept v w)) (sym e) cut_swaps_from

@@ -4,10 +4,12 @@ use Rattle.mv_core.specs.EnterSteps.{stored_if}
 use Rattle.mv_core.specs.Moves.{history_after}
 use Rattle.mv_core.proofs.moves.Grown.{stays}
 use Rattle.mv_core.proofs.moves.Calls.{won_is, lost_is, no_made}
-use Rattle.std.proofs.Common.{ap, ◌∙◌}
+use Rattle.std.proofs.Common.{◌≡◌, ap, subst, ◌∙◌}
 use Rattle.std.proofs.Math.Logic.{∥∥₁_elim}
 use Rattle.std.proofs.Math.Bridge.{le_prop}
-use Rattle.mv_core.proofs.Terms.{link_of, view}
+use Rattle.mv_core.proofs.Terms.{link_of, view, config_of}
+use Rattle.mv_core.specs.Swaps.{found_by}
+use Rattle.mv_core.specs.Tops.{NamesNewer}
 use Rattle.mv_core.proofs.kinds.reclaiming.cut_head.CutHead.{cut_swaps}
 use Rattle.mv_core.proofs.shared.Shared.cut_head.Goals as goal
 
@@ -36,3 +38,11 @@ swap_as-found-requires-clause-moves g c = record {
       λ e. miss (e ∙ sym (c.link_word-link.ensures.word ∙ ap (λ s. link_of s c.args.position) c.args.pass.now.numbered)) in t.0.1 ne
       ∙ sym (lost_is (link_of (view c.args.pass.now).number c.args.position) (m (Head c.args.object)) _ _ ne);
 }
+
+pub returns-clause-newer : goal.returns-clause-newer
+returns-clause-newer g c lost =
+    let own = c.link_word-link.ensures.word ∙ ap (λ s. link_of s c.args.position) c.args.pass.now.numbered in
+    let found : found_by (link_of (view c.args.pass.now).number c.args.position) c.swap_of.result ≡ c.swap_as-found.result =
+    ap (λ l. found_by l c.swap_of.result) (sym own) ∙ c.swap_of.ensures.found in
+    subst (NamesNewer (config_of c.args.self.now) (view c.args.pass.now) c.args.object) (sym found)
+    (c.swap_as-found.ensures.tells.3 (λ e. lost (found ∙ e)))

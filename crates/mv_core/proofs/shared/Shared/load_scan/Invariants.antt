@@ -1,7 +1,6 @@
 use Rattle.mv_core.specs.Moves.{load_scan}
-use Rattle.std.proofs.Common.{◌≡◌, ◌<◌, List}
-use Rattle.std.specs.Prelude.{All}
-use Rattle.mv_core.proofs.Terms.{Entry, maker_of, Clock, view, config_of}
+use Rattle.std.proofs.Common.{◌≡◌, List}
+use Rattle.mv_core.proofs.Terms.{Entry, Clock, view, config_of}
 use Rattle.mv_core.specs.SectionFacts.{IsWord}
 use Rattle.mv_core.specs.EnterSteps.{IsWhole}
 use Rattle.mv_core.specs.ReclaimSteps.{scan_loaded}
@@ -12,6 +11,6 @@ ghosts-load_as g a = record {
   place = Clock;
   tells = λ n w.
       ((h : List Entry) × IsWhole (config_of a.shared.now) (view a.pass.now) n h × (w ≡ scan_loaded (config_of a.shared.now) (view a.pass.now) n h))
-      × IsWord (config_of a.shared.now) n × All (λ e. maker_of e < (config_of a.shared.now).seats) w.past.seen;
+      × IsWord (config_of a.shared.now) n;
   kind = load_scan;
 }

@@ -1,4 +1,4 @@
-use Rattle.std.proofs.Common.{ℕ, refl, subst}
+use Rattle.std.proofs.Common.{ℕ, ◌+◌, refl, subst}
 use Rattle.mv_core.proofs.Terms.{Change, Clock, View}
 use Rattle.mv_core.specs.EnterSteps.{IsWhole, stored_if}
 use Rattle.mv_core.specs.NameSteps.{commit_of, commit_named, commit_lost}
@@ -6,7 +6,7 @@ use Rattle.mv_core.specs.Moves.{history_after}
 use Rattle.mv_core.proofs.moves.Grown.{was, longer_is, whole_is}
 use Rattle.mv_core.proofs.moves.Calls.{won_is, lost_is}
 use Rattle.std.proofs.Common.{sym, ap, ◌∙◌}
-use Rattle.mv_core.proofs.Terms.{Config, view, config_of}
+use Rattle.mv_core.proofs.Terms.{Config, clock_of, view, config_of}
 use Rattle.mv_core.proofs.kinds.naming.name_commit.NameCommit.{commit_swaps, named_word}
 use Rattle.mv_core.proofs.shared.Shared.name_commit.Goals as goal
 
@@ -16,7 +16,8 @@ swap_as-found-requires-clause-rule g c =
     let v = view c.args.pass.now in
     let slots = ap (λ (d : Config). d.slots) (sym c.args.self.now.about) in
     commit_swaps _ _ _ _ v c.args.word c.args.tag g.inside may _
-    (c.clock_word-named.ensures.word ∙ named_word (config_of c.args.self.now) v c.args.word c.clock_time.result c.args.pass.now.number c.args.pass.now.first _
+    (c.clock_word-named.ensures.word ∙ ap (clock_of (c.clock_time.result + 1) c.args.pass.now.number) c.slot_of_position-slot.ensures.value
+    ∙ named_word (config_of c.args.self.now) v c.args.word c.clock_time.result c.args.pass.now.number c.args.pass.now.first _
     _ c.args.tag g.inside may c.clock_time.ensures c.args.pass.now.numbered slots c.args.pass.now.begun)
 
 pub swap_as-found-requires-clause-moves : goal.swap_as-found-requires-clause-moves
@@ -24,7 +25,8 @@ swap_as-found-requires-clause-moves g c = record {
   may = c.requires.1.1.1;
   place = refl;
   writes = λ x. ap (stored_if x c.args.word)
-      (sym (c.clock_word-named.ensures.word ∙ named_word (config_of c.args.self.now) (view c.args.pass.now) c.args.word c.clock_time.result
+      (sym (c.clock_word-named.ensures.word ∙ ap (clock_of (c.clock_time.result + 1) c.args.pass.now.number) c.slot_of_position-slot.ensures.value
+      ∙ named_word (config_of c.args.self.now) (view c.args.pass.now) c.args.word c.clock_time.result
       c.args.pass.now.number c.args.pass.now.first _ _ c.args.tag g.inside c.requires.1.1.1 c.clock_time.ensures c.args.pass.now.numbered
       (ap (λ (d : Config). d.slots) (sym c.args.self.now.about)) c.args.pass.now.begun));
   entry = λ x ne. lost_is c.args.word x _ _ ne;

@@ -26,12 +26,12 @@ use Rattle.log_reclaim.specs.Backs.{HasLater}
 use Rattle.log_reclaim.specs.Parts.{super_load, super_step, FindsOther}
 use Rattle.log_reclaim.specs.Untimed.{TriedSo, StaysUntimed, DatedSo}
 use Rattle.log_reclaim.specs.Tries.{MaySettle, Makes, LoadsSuper, TriesOne}
-use Rattle.log_reclaim.specs.Sweeps.{found_at, IsTableOf, SettlesOne}
+use Rattle.log_reclaim.specs.Sweeps.{found_at, found_set, IsTableOf, SettlesOne}
 use Rattle.log_reclaim.proofs.Idle.{still_of}
 use Rattle.log_reclaim.proofs.Reclaiming.{makes_none, makes_on, reclaims_number, reclaims_base, reclaims_more}
 use Rattle.log_reclaim.proofs.Untimed.{times_then, untimed_on}
 use Rattle.log_reclaim.proofs.OneNote.{position_is, place_is, one_note, committed}
-use Rattle.log_reclaim.proofs.FoundSeats.{found_set, table_set, found_here, found_else}
+use Rattle.log_reclaim.proofs.FoundSeats.{table_set, found_here, found_else}
 
 module _ (starts : State → Type 0) (allows : List ℕ → State → Writes → Type 0) (c : Config) (v : View) (l : Noted) (mark : Watermark) (clock : ℕ)
     (known : ∥ Known starts allows v ∥₁) (base : v.base ≡ c.base) (k : Stands c v l) (may : MaySettle v l mark clock) (index : ℕ) (n : Note)

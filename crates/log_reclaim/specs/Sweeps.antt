@@ -1,5 +1,5 @@
 -- What a round leaves: looking at each version, and the whole of a round.
-use Rattle.std.specs.Prelude.{◌≡◌, ℕ, ◌+◌, ◌-◌, ◌<◌, ◌≤◌, Bool, List, length, All, Option, Some, None, slice_get, unwrap_or}
+use Rattle.std.specs.Prelude.{◌≡◌, ℕ, zero, suc, ◌+◌, ◌-◌, ◌<◌, ◌≤◌, Bool, List, length, All, Option, Some, None, slice_index_or, slice_set}
 use Rattle.mv_history.specs.declared.Step.{Step}
 use Rattle.mv_layout.specs.declared.Config.{Config}
 use Rattle.mv_core.specs.declared.view.View.{View}
@@ -13,9 +13,22 @@ use Rattle.log_reclaim.specs.declared.rounds.Scanned.{Scanned}
 use Rattle.log_reclaim.specs.Parts.{LeavesClock, IsOtherKind, Reclaims, DiesFrom, Shrinks, HasScanned}
 use Rattle.log_reclaim.specs.Untimed.{StaysUntimed, DatedSo}
 
+-- the seat that a byte tells: one more than its number, or 0 for none
+abbrev pub seat_of_byte : ℕ → Option ℕ
+seat_of_byte zero = None
+seat_of_byte (suc seat) = Some seat
+
+abbrev pub byte_of_seat : Option ℕ → ℕ
+byte_of_seat None = 0
+byte_of_seat (Some seat) = suc seat
+
 -- the other seat whose version the write-back of the version at this position found in HEAD, if any
 abbrev pub found_at : Found → ℕ → Option ℕ
-found_at found position = unwrap_or (slice_get found.seats (position - found.base)) None
+found_at found position = seat_of_byte (slice_index_or found.seats (position - found.base) 0)
+
+-- the table with another entry at a place
+abbrev pub found_set : Found → ℕ → Option ℕ → Found
+found_set found index above = record found { seats = slice_set found.seats index (byte_of_seat above) }
 
 -- there is an entry for each slot of the log, from its oldest position on
 abbrev pub IsTableOf : Noted → Found → Type 0

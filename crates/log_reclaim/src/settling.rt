@@ -1,5 +1,5 @@
 // Finding out of each version without a time of death why it has none, with a write-back or without.
-ghost use Rattle.std.specs.Prelude.{◌≡◌, ℕ, ◌+◌, ◌*◌, ◌<◌, ◌≤◌, List, length, true, Option};
+ghost use Rattle.std.specs.Prelude.{◌≡◌, ℕ, ◌+◌, ◌*◌, ◌<◌, ◌≤◌, List, length, true, Option, IfSome};
 ghost use Rattle.mv_history.specs.declared.Step.{Step};
 ghost use Rattle.mv_core.specs.EnterSteps.{MayLoadLow};
 ghost use Rattle.mv_core.specs.Passes.{view, IsOf, IsSame, config_of};
@@ -8,7 +8,7 @@ ghost use Rattle.reader_marks.specs.Scans.{IsKnown};
 ghost use Rattle.seat_log.specs.declared.version.Note.{Note};
 ghost use Rattle.seat_log.specs.Notes.{IsNoteAt};
 ghost use Rattle.seat_log.specs.Stands.{Stands};
-ghost use Rattle.log_reclaim.specs.Sweeps.{found_at, IsTableOf, Settles, SettlesOne};
+ghost use Rattle.log_reclaim.specs.Sweeps.{found_at, found_set, IsTableOf, Settles, SettlesOne};
 ghost use Rattle.log_reclaim.specs.Backs.{IsWriting};
 ghost use Rattle.log_reclaim.specs.Tries.{MaySettle, IsUntimed, StoresAll, TriesOne, LoadsSuper};
 
@@ -24,11 +24,12 @@ use std::sync::ledger::Ledger;
 const SLOTS_MAX: usize = 4096;
 
 /// Of which other seat each write-back of a round found a version in HEAD, by the place of the version
-/// in the log, whose oldest position is `base`.
+/// in the log, whose oldest position is `base`: one byte each, 0 where none was found, else one more
+/// than the seat's number.
 #[derive(Drop)]
 pub(crate) struct Found {
     base: u64,
-    seats: [Option<u32>; SLOTS_MAX],
+    seats: [u8; SLOTS_MAX],
 }
 
 impl Found {
@@ -39,7 +40,7 @@ impl Found {
     {
         Found {
             base,
-            seats: [None; SLOTS_MAX],
+            seats: [0; SLOTS_MAX],
         }
     }
 
@@ -50,7 +51,23 @@ impl Found {
         requires wide { length self.now.seats ≡ 4096 }
         ensures { result ≡ found_at self.now position }
     {
-        self.seats[(position - self.base) as usize]
+        match self.seats[(position - self.base) as usize] {
+            0 => None,
+            byte => Some(byte as u32 - 1),
+        }
+    }
+
+    // Notes what the write-back of the version at this place found.
+    fn note(&mut self, index: u32, above: Option<u32>)
+        requires range { index < 4096 }
+        requires wide { length self.old.seats ≡ 4096 }
+        requires small { IfSome above (λ seat. seat < 64) }
+        ensures { self.new ≡ found_set self.old index above }
+    {
+        self.seats[index as usize] = match above {
+            None => 0,
+            Some(seat) => seat as u8 + 1,
+        };
     }
 }
 
@@ -197,7 +214,7 @@ fn settle<P: Protocol, L: Ledger>(
         return 0;
     }
     let tried = write_back(shared, pass, log, version.position, mark, steps);
-    found.seats[index as usize] = tried.above;
+    found.note(index, tried.above);
     tried.clock
 }
 

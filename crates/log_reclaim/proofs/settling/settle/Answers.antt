@@ -4,9 +4,8 @@ use Rattle.mv_core.specs.declared.view.View.{View}
 use Rattle.mv_core.specs.Passes.{view, config_of}
 use Rattle.seat_log.specs.Notes.{Noted}
 use Rattle.log_reclaim.specs.Tries.{LoadsSuper}
-use Rattle.log_reclaim.specs.Sweeps.{SettlesOne}
+use Rattle.log_reclaim.specs.Sweeps.{found_set, SettlesOne}
 use Rattle.log_reclaim.proofs.OneNote.{untimed_same, loads_is, log_same, tries_is, may_try, knows_still}
-use Rattle.log_reclaim.proofs.FoundSeats.{found_set}
 use Rattle.log_reclaim.proofs.OneLook.{settles_timed, settles_found, settles_unbacked, settles_tried}
 use Rattle.log_reclaim.proofs.settling.settle.Goals as goal
 

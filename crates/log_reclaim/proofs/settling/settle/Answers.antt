@@ -3,6 +3,7 @@ use Rattle.mv_history.specs.declared.Step.{Step}
 use Rattle.mv_core.specs.declared.view.View.{View}
 use Rattle.mv_core.specs.Passes.{view, config_of}
 use Rattle.seat_log.specs.Notes.{Noted}
+use Rattle.log_reclaim.specs.declared.settling.Found.{Found}
 use Rattle.log_reclaim.specs.Tries.{LoadsSuper}
 use Rattle.log_reclaim.specs.Sweeps.{found_set, SettlesOne}
 use Rattle.log_reclaim.proofs.OneNote.{untimed_same, loads_is, log_same, tries_is, may_try, knows_still}
@@ -109,6 +110,9 @@ returns-clause-settles g c clock may =
     let one = settles_tried _ _ (config_of c.args.shared.now) (view c.args.pass.now) c.args.log.now c.args.mark.now clock c.args.pass.now.known r.of.2
     r.stands may c.args.index c.note-version.result c.note-version.ensures (view c.load_super.new.pass) zero none (view c.write_back-tried.new.pass)
     c.write_back-tried.new.log c.write_back-tried.result t c.args.found.now r.table in
-    subst (λ b. (made : List Step) × SettlesOne (config_of c.args.shared.now) (view c.args.pass.now) (view c.write_back-tried.new.pass) c.args.log.now
+    subst (λ (f : Found). (made : List Step) × SettlesOne (config_of c.args.shared.now) (view c.args.pass.now) (view c.write_back-tried.new.pass)
+    c.args.log.now c.write_back-tried.new.log made c.args.mark.now clock c.args.back c.args.found.now f c.args.index c.write_back-tried.result.clock)
+    (sym c.note.ensures)
+    (subst (λ b. (made : List Step) × SettlesOne (config_of c.args.shared.now) (view c.args.pass.now) (view c.write_back-tried.new.pass) c.args.log.now
     c.write_back-tried.new.log made c.args.mark.now clock b c.args.found.now (found_set c.args.found.now c.args.index c.write_back-tried.result.above)
-    c.args.index c.write_back-tried.result.clock) (sym c.if-not-back.false) (_, one)
+    c.args.index c.write_back-tried.result.clock) (sym c.if-not-back.false) (_, one))

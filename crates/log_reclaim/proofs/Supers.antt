@@ -1,6 +1,6 @@
 -- A load of SUPER of a version without a time of death: what it needs, and what it leaves.
 use Rattle.std.proofs.Common.{◌≡◌, ℕ, ◌+◌, ◌-◌, ◌<◌, ◌≤◌, true, false, List, [], ◌∷◌, ◌++◌, length, refl, sym, ap}
-use Rattle.std.proofs.Common.{◌∙◌, subst, ⊎_elim, arith, append-nil, length-append, length-take, Some, None, take, slice_get}
+use Rattle.std.proofs.Common.{◌∙◌, subst, ⊎_elim, arith, append-nil, length-append, length-take, Some, take, slice_get}
 use Rattle.std.proofs.Math.Logic.{∥∥₁_elim}
 use Rattle.std.proofs.Math.Bridge.{le_prop}
 use Rattle.std.proofs.lemmas.List.Elements.{All-nil, All-cons}

@@ -8,7 +8,7 @@ use Rattle.mv_history.specs.declared.StepKind.TheVariants.{LoadHead, LoadFirst, 
 use Rattle.mv_layout.specs.declared.Config.{Config}
 use Rattle.mv_layout.specs.declared.Place.TheVariants.{Head, First, Stamp}
 use Rattle.mv_layout.specs.Places.{place_of}
-use Rattle.mv_layout.specs.Words.{IsUnset, link_seat_of}
+use Rattle.mv_layout.specs.Words.{IsUnset, link_of, link_seat_of}
 use Rattle.mv_core.specs.declared.ring.Slot.TheVariants.{Live}
 use Rattle.mv_core.specs.declared.ring.Status.{Status}
 use Rattle.mv_core.specs.declared.ring.Status.TheVariants.{Committed}
@@ -20,9 +20,9 @@ use Rattle.mv_core.specs.declared.view.Passed.TheVariants.{Nothing}
 use Rattle.mv_core.specs.declared.view.Walk as core
 use Rattle.mv_core.specs.declared.view.Walk.TheVariants as place
 use Rattle.mv_core.specs.Rings.{slot_at, index_of}
-use Rattle.mv_core.specs.WalkSteps.{IsOwnTop, IsOwnTime, StampSays, slot_named, head_loaded, first_loaded, stamp_loaded}
+use Rattle.mv_core.specs.WalkSteps.{IsPackedOf, IsOwnTop, IsOwnTime, StampSays, slot_named, head_loaded, first_loaded, stamp_loaded}
 use Rattle.mv_core.specs.LockSteps.{StandsToLock}
-use Rattle.version_chain.specs.Walks.{MayWalk, section_in, stand_of, stand_in, time_at, with_first}
+use Rattle.version_chain.specs.Walks.{MayWalk, section_in, stand_of, stand_in, time_at, with_first, StandsAtVersion}
 use Rattle.version_chain.specs.Reads.{words_in, Reads}
 use Rattle.version_chain.proofs.Standing.{stands_here}
 use Rattle.object_lock.specs.Tops.{IsUnheld, StandsOn, Looked, IsLockStep, is_lock_exchange, lock_exchanges, Tries, FoundHeld}
@@ -182,7 +182,24 @@ module _ (c : Config) (v w x : View) (object link found : ℕ) (inside : Section
   pub words_there : (y : View) → Reads LoadData x y → words_in c x (stand_in x).object ≡ words_in c y object
   words_there y reads = ap (λ (k : core.Walk). words_in c x (stand_of k).object) at_top ∙ sym (ap (λ (u : View). words_in c u object) reads.rest)
 
-  -- a stamp that is a time not above the section's: a lock may be put there, also after the words were read
+  -- a stamp that is a time not above the section's: the words of the version may be read
+  pub version_there : IsPackedOf c link → (seat position : ℕ) → link ≡ link_of seat position → seat < 64 → position < 2 ^ 57 → found ≤ time_at x
+      → StandsAtVersion c x seat position
+  version_there packed seat position is seat_small position_small le =
+      let stand : Stand = record { object = object; link = link; first = Some looked.first; stamp = Some found; passed = Nothing; late = false } in
+      let here : stand_in x ≡ stand = ap stand_of at_top in
+      record {
+        stands = at_top ∙ ap place.At (sym here);
+        link_is = ap (λ (s : Stand). s.link) here ∙ is;
+        packed = subst (λ (s : Stand). IsPackedOf c s.link) (sym here) packed;
+        seat_small = seat_small;
+        position_small = position_small;
+        time = found;
+        stamp_is = ap (λ (s : Stand). s.stamp) here;
+        not_above = le;
+      }
+
+  -- and a lock may be put there, also after the words were read
   pub stands_to_lock : (y : View) → Reads LoadData x y → (time : ℕ) → time ≡ time_at x → found ≤ time → StandsToLock y (section_in y) object link
   stands_to_lock y reads time time_is le =
       let stand : Stand = record { object = object; link = link; first = Some looked.first; stamp = Some found; passed = Nothing; late = false } in

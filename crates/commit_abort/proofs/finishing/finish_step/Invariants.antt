@@ -1,3 +1,4 @@
+use Rattle.std.proofs.Common.{◌+◌}
 use Rattle.mv_core.specs.Passes.{view, config_of}
 use Rattle.mv_core.specs.Rings.{index_of}
 use Rattle.commit_abort.specs.Finishes.{above_at}

@@ -28,12 +28,12 @@ unlock_one-requires g c κs within =
             omega arith,
             λ n there.
                 subst
-                    (λ i.
-                    MayGiveBack (config_of c.args.shared.now) (view c.args.pass.now) n
-                    (held_in (view c.args.pass.now) (index_of (config_of c.args.shared.now) (l.freed + i))))
-                    (sym at)
-                    (next_may (config_of c.args.shared.now) k.0 (view c.args.pass.now) l c.args.which k.1 n (subst (λ i. IsNoteAt l i n) at there) _ _
-                    c.args.pass.now.known objects),
+                (λ i.
+                MayGiveBack (config_of c.args.shared.now) (view c.args.pass.now) n
+                (held_in (view c.args.pass.now) (index_of (config_of c.args.shared.now) (l.freed + i))))
+                (sym at)
+                (next_may (config_of c.args.shared.now) k.0 (view c.args.pass.now) l c.args.which k.1 n (subst (λ i. IsNoteAt l i n) at there) _ _
+                c.args.pass.now.known objects),
           ),
         ),
       ),
@@ -47,12 +47,12 @@ returns-clause-gives g c =
     let all = c.live.ensures in
     let at : c.live.result - c.held.result + c.args.which ≡ held_from l + c.args.which = omega arith in
     λ n there.
-        subst
-            (λ i.
-            GivesBack (config_of c.args.shared.now) (view c.args.pass.now) (view c.unlock_one.new.pass) n
-            (held_in (view c.args.pass.now) (index_of (config_of c.args.shared.now) (l.freed + i))))
-            at
-            (c.unlock_one.ensures.gives n (subst (λ i. IsNoteAt l i n) (sym at) there))
+    subst
+    (λ i.
+    GivesBack (config_of c.args.shared.now) (view c.args.pass.now) (view c.unlock_one.new.pass) n
+    (held_in (view c.args.pass.now) (index_of (config_of c.args.shared.now) (l.freed + i))))
+    at
+    (c.unlock_one.ensures.gives n (subst (λ i. IsNoteAt l i n) (sym at) there))
 
 pub returns-clause-aborting : goal.returns-clause-aborting
 returns-clause-aborting g c = λ from k.

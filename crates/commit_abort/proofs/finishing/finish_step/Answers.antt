@@ -25,12 +25,12 @@ store_super_below-requires g c κs within =
             omega arith,
             λ n there.
                 subst
-                    (λ i.
-                    MayTell (config_of c.args.shared.now) (view c.args.pass.now) n c.args.time
-                    (above_at (view c.args.pass.now) (index_of (config_of c.args.shared.now) (l.freed + i))))
-                    (sym at)
-                    (next_may (config_of c.args.shared.now) k.0 (view c.args.pass.now) l c.args.time c.args.which k.1 n
-                    (subst (λ i. IsNoteAt l i n) at there)),
+                (λ i.
+                MayTell (config_of c.args.shared.now) (view c.args.pass.now) n c.args.time
+                (above_at (view c.args.pass.now) (index_of (config_of c.args.shared.now) (l.freed + i))))
+                (sym at)
+                (next_may (config_of c.args.shared.now) k.0 (view c.args.pass.now) l c.args.time c.args.which k.1 n
+                (subst (λ i. IsNoteAt l i n) at there)),
           ),
         ),
       ),
@@ -44,12 +44,12 @@ returns-clause-tells g c =
     let all = c.live.ensures in
     let at : c.live.result - c.held.result + c.args.which ≡ held_from l + c.args.which = omega arith in
     λ n there.
-        subst
-            (λ i.
-            TellsOne (config_of c.args.shared.now) (view c.args.pass.now) (view c.store_super_below.new.pass) n c.args.time c.args.steps.now
-            c.store_super_below.new.steps (above_at (view c.args.pass.now) (index_of (config_of c.args.shared.now) (l.freed + i))))
-            at
-            (c.store_super_below.ensures.tells n (subst (λ i. IsNoteAt l i n) (sym at) there))
+    subst
+    (λ i.
+    TellsOne (config_of c.args.shared.now) (view c.args.pass.now) (view c.store_super_below.new.pass) n c.args.time c.args.steps.now
+    c.store_super_below.new.steps (above_at (view c.args.pass.now) (index_of (config_of c.args.shared.now) (l.freed + i))))
+    at
+    (c.store_super_below.ensures.tells n (subst (λ i. IsNoteAt l i n) (sym at) there))
 
 pub returns-clause-finishing : goal.returns-clause-finishing
 returns-clause-finishing g c = λ from k.

@@ -66,11 +66,11 @@ module _ (c : Config) (v : View) (l : Noted) (inside : Section) (k : Stands c v 
     held_is : held_in w (slot_of i) ≡ record { slot = slot_of i; version = version_of n; inside = t.inside_now }
     held_is = λ j. record { slot = slot_of i; version = version_in (here j); inside = inside_of (t.phase j) }
 
-    pub may_give : (starts : State → Type 0) (allows : List ℕ → State → Writes → Type 0) → ∥ Known starts allows v ∥₁ → length v.start ≡ c.objects
+    pub may_give : (starts : State → Type 0) (allows : List ℕ → State → Writes → Type 0) → ∥ Known starts allows w ∥₁ → length w.start ≡ c.objects
         → MayGiveBack c w n (held_in w (slot_of i))
     may_give starts allows known objects =
-        let range : n.object < length v.start =
-        ∥∥₁_elim known le_prop (λ a. ((a.section inside open_is.phase).held (slot_of i) (version_of n) before).in_range) in (
+        let range : n.object < length w.start =
+        ∥∥₁_elim known le_prop (λ a. ((a.section t.inside_now t.phase).held (slot_of i) (version_of n) here).in_range) in (
           omega arith,
           subst (λ (a : HeldSlot). MayUnlock w n.object n.previous a.slot a.version a.inside) (sym held_is)
               (record { phase = t.phase; unnamed = t.unnamed; held = here; object_is = refl; previous_is = refl }),

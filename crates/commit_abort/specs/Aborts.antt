@@ -1,5 +1,6 @@
 -- Giving up what a section holds: what the calls need of the view and of the log, and what they leave.
-use Rattle.std.specs.Prelude.{◌≡◌, ◌⊎◌, ℕ, zero, suc, ◌+◌, ◌<◌, ◌≤◌, List, ◌++◌, length, All, None}
+use Rattle.std.specs.Prelude.{◌≡◌, ◌≢◌, ◌⊎◌, ℕ, zero, suc, ◌+◌, ◌<◌, ◌≤◌, List, ◌++◌, length, All, None}
+use Rattle.mv_history.specs.declared.Entry.{Entry}
 use Rattle.mv_history.specs.declared.Step.{Step}
 use Rattle.mv_history.specs.declared.StepKind.{StepKind}
 use Rattle.mv_history.specs.declared.StepKind.TheVariants.{UnlockHead, LoadDeath, ClearMark}
@@ -16,10 +17,13 @@ use Rattle.mv_core.specs.declared.view.Walk.TheVariants.{Nowhere}
 use Rattle.mv_core.specs.Rings.{slot_at, index_of}
 use Rattle.mv_core.specs.Views.{no_clocks, IsUnnamed}
 use Rattle.mv_core.specs.HistoryFacts.{BeginsWith}
-use Rattle.mv_core.specs.LockSteps.{MayUnlock, head_unlocked}
+use Rattle.mv_layout.specs.Words.{clock_time_of}
+use Rattle.mv_core.specs.EnterSteps.{IsWhole}
+use Rattle.mv_core.specs.LockSteps.{MayUnlock, head_unlocked, death_loaded}
 use Rattle.reader_marks.specs.Sections.{section_in}
 use Rattle.seat_log.specs.declared.version.Note.{Note}
 use Rattle.seat_log.specs.Notes.{Noted, held_from}
+use Rattle.seat_log.specs.Stands.{Stands}
 use Rattle.seat_log.specs.Builds.{version_in}
 
 -- an open section
@@ -61,6 +65,40 @@ MayGiveBack c v n held = (n.object < c.objects) × MayUnlock v n.object n.previo
 -- and was
 abbrev pub GivesBack : Config → View → View → Note → HeldSlot → Type 0
 GivesBack c v w n held = w ≡ head_unlocked c v n.object n.previous held.slot held.version held.inside
+
+-- of the version that was locked as number so many, from 0 on
+abbrev pub held_number : Config → View → Noted → ℕ → HeldSlot
+held_number c v l which = held_in v (index_of c (l.freed + (held_from l + which)))
+
+-- What the open section of the view `from` holds is being given up: HEAD was given back of the first so many objects, and nothing else was done since.
+pub record IsAborting (c : Config) (from v : View) (l : Noted) (given : ℕ) : Type 0 where
+  pub inside : Section
+  pub opened : IsOpen from inside
+  pub stands : Stands c from l
+  pub unbuilt : l.built ≡ None
+  pub unlocks : Unlocks c from v l inside (held_from l + given)
+
+-- CLOCK was loaded, by one step, and `dead` is the time after its word's
+pub record TimesDeath (c : Config) (v w : View) (dead before after : ℕ) : Type 0 where
+  pub word : ℕ
+  pub history : List Entry
+  pub whole : IsWhole c v word history
+  pub view : w ≡ death_loaded c v word history
+  pub dead_is : dead ≡ clock_time_of word + 1
+  pub step : after ≡ before + 1
+
+-- so it was where something was held; else nothing was done, and `dead` is 0
+pub record LoadsDeath (c : Config) (v w : View) (held dead before after : ℕ) : Type 0 where
+  pub none : held ≡ 0 → (w ≡ v) × (dead ≡ 0) × (after ≡ before)
+  pub some : held ≢ 0 → TimesDeath c v w dead before after
+
+-- HEAD was given back of all that the section of the view `from` held, and the time of death was found
+pub record HasGivenUp (c : Config) (from v : View) (l : Noted) (dead : ℕ) : Type 0 where
+  pub before : View
+  pub aborting : IsAborting c from before l l.held
+  pub at_first : ℕ
+  pub at_last : ℕ
+  pub death : LoadsDeath c before v l.held dead at_first at_last
 
 -- a step of an abort
 abbrev pub IsAbortStep : StepKind → Type 0

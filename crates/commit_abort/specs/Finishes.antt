@@ -6,6 +6,7 @@ use Rattle.mv_history.specs.declared.Step.{Step}
 use Rattle.mv_history.specs.declared.StepKind.{StepKind}
 use Rattle.mv_history.specs.declared.StepKind.TheVariants.{SwapStamp, StoreSuper, ClearMark}
 use Rattle.mv_layout.specs.declared.Config.{Config}
+use Rattle.mv_layout.specs.Words.{clock_time_of}
 use Rattle.mv_core.specs.declared.ring.Slot.{Slot}
 use Rattle.mv_core.specs.declared.ring.Slot.TheVariants.{Live}
 use Rattle.mv_core.specs.declared.ring.Version.{Version}
@@ -17,7 +18,7 @@ use Rattle.mv_core.specs.declared.view.Mode.{Mode}
 use Rattle.mv_core.specs.declared.view.Section.{Section}
 use Rattle.mv_core.specs.declared.view.Mode.TheVariants.{Named}
 use Rattle.mv_core.specs.declared.view.Walk.TheVariants.{Nowhere}
-use Rattle.mv_core.specs.Rings.{slot_at, index_of, HoldsNothing, held_count}
+use Rattle.mv_core.specs.Rings.{slot_at, index_of, HoldsNothing, held_count, set_first}
 use Rattle.mv_core.specs.Views.{no_clocks}
 use Rattle.mv_core.specs.WalkSteps.{IsPackedOf, IsLinkOf}
 use Rattle.mv_core.specs.NameSteps.{LogTold, commit_named, MayStoreSuper, super_stored}
@@ -61,15 +62,6 @@ pub record StampsIt (v w : View) (first time : ℕ) (inside : Section) : Type 0 
   pub phase : w.phase ≡ Inside (record inside { mode = Named (record { time = time; first = first; stamped = true }) })
   pub trail : (s : Step) × (w.trail ≡ v.trail ++ s ∷ []) × (s.kind ≡ SwapStamp)
   pub rest : w ≡ record v { phase = w.phase; clocks = w.clocks; trail = w.trail }
-
--- the section of a pass, and the first position of the commit that it has named
-pub record NamedSection : Type 0 where
-  pub inside : Section
-  pub first : ℕ
-
--- of a view
-abbrev pub named_in : View → NamedSection
-named_in v = record { inside = section_in v; first = first_named v }
 
 -- the held versions of the log are committed at this time; those with something below aren't linked yet
 pub record AreCommitted (c : Config) (v : View) (l : Noted) (time : ℕ) : Type 0 where
@@ -117,6 +109,22 @@ pub record Tells (c : Config) (v w : View) (l : Noted) (i : ℕ) : Type 0 where
       → note.linked ≡ true
   pub left : (j : ℕ) → i ≤ j → j < length l.live → slot_at w.ring (index_of c (l.freed + j)) ≡ slot_at v.ring (index_of c (l.freed + j))
   pub trail : (steps : List Step) × (w.trail ≡ v.trail ++ steps) × (length steps + held_from l ≤ i) × All (λ s. s.kind ≡ StoreSuper) steps
+
+-- of the version that was locked as number so many, from 0 on
+abbrev pub above_held : Config → View → Noted → ℕ → CommittedSlot
+above_held c v l which = above_at v (index_of c (l.freed + (held_from l + which)))
+
+-- The commit that the view `from` has just named is being finished: its stamp was exchanged, SUPER was stored below the first so many versions
+-- of its write set, and nothing else was done since.
+pub record IsFinishing (c : Config) (from v : View) (l : Noted) (time told : ℕ) : Type 0 where
+  pub won : WonNaming
+  pub named : IsJustNamed c from l won
+  pub time_is : time ≡ clock_time_of won.word + 1
+  pub first : ℕ
+  pub first_is : first ≡ set_first won.before.ring
+  pub stamped : View
+  pub stamps : StampsIt from stamped first time (section_in from)
+  pub tells : Tells c stamped v l (held_from l + told)
 
 -- a step of finishing a commit
 abbrev pub IsFinishStep : StepKind → Type 0

@@ -1,15 +1,15 @@
 // Finishing a commit that was named.
-ghost use Rattle.std.specs.Prelude.{◌≡◌, ◌+◌, ◌≤◌, ◌<◌, ◌^◌, true, length};
-ghost use Rattle.mv_core.specs.declared.view.Mode.TheVariants.{Named};
-ghost use Rattle.mv_core.specs.declared.view.Phase.TheVariants.{Inside};
+ghost use Rattle.std.specs.Prelude.{◌≡◌, ◌+◌, ◌≤◌, ◌<◌, ◌^◌, length};
 ghost use Rattle.mv_layout.specs.Words.{clock_time_of};
+ghost use Rattle.mv_core.specs.declared.view.View.{View};
 ghost use Rattle.mv_core.specs.declared.view.Section.{Section};
+ghost use Rattle.mv_core.specs.EnterSteps.{mark_cleared};
 ghost use Rattle.mv_core.specs.Passes.{view, IsOf, IsSame, config_of};
 ghost use Rattle.seat_log.specs.declared.version.Note.{Note};
-ghost use Rattle.seat_log.specs.Notes.{IsNoteAt, committed_noted};
+ghost use Rattle.seat_log.specs.Notes.{IsNoteAt, held_from, committed_noted};
 ghost use Rattle.seat_log.specs.Stands.{Stands};
-ghost use Rattle.commit_abort.specs.Finishes.{WonNaming, IsJustNamed, HasNamed, StampsIt, CommittedSlot, NamedSection, AreCommitted, MayTell};
-ghost use Rattle.commit_abort.specs.Finishes.{TellsOne, Tells, Finishes};
+ghost use Rattle.commit_abort.specs.Finishes.{WonNaming, IsJustNamed, HasNamed, StampsIt, CommittedSlot, MayTell};
+ghost use Rattle.commit_abort.specs.Finishes.{TellsOne, IsFinishing, above_held, Finishes};
 
 use mv_core::{Pass, Shared, Steps};
 use mv_history::Protocol;
@@ -63,33 +63,83 @@ fn store_super_below<P: Protocol, L: Ledger>(
     }
 }
 
-// Stores the commit's time into SUPER below each version of the write set, in the order of locking.
-fn store_supers<P: Protocol, L: Ledger>(
+/// Begins to finish the commit that the pass has just named, with the condition of `finish`: its first
+/// step, the exchange of the stamp of the write set for the commit's time. `finish_step` goes on from
+/// there, now or after steps of others.
+pub fn finish_start<P: Protocol, L: Ledger>(
     shared: &Shared<P>,
     pass: &mut Pass<P>,
     log: &Log,
     time: u64,
     steps: &mut Steps<L>,
 )
-    ghost at: { NamedSection }
     requires of { IsOf shared.now pass.old }
-    requires phase { (view pass.old).phase ≡ Inside (record at.inside { mode = Named (record { time = time; first = at.first; stamped = true }) }) }
-    requires committed { AreCommitted (config_of shared.now) (view pass.old) log.now time }
+    requires named { (won : WonNaming) × IsJustNamed (config_of shared.now) (view pass.old) log.now won × (time ≡ clock_time_of won.word + 1) }
+    requires range { time ≤ LAST }
     ensures same { IsSame pass.old pass.new }
-    ensures tells { Tells (config_of shared.now) (view pass.old) (view pass.new) log.now (length log.now.live) }
-    ensures cost { steps.new ≤ steps.old + log.now.held }
+    ensures finishing { IsFinishing (config_of shared.now) (view pass.old) (view pass.new) log.now time 0 }
+    ensures step { steps.new ≡ steps.old + 1 }
 {
-    let count = live(log);
-    for index in count - held(log)..count {
-        store_super_below(shared, pass, log, index, time, steps);
-    }
+    let first = note(log, live(log) - held(log)).first;
+    stamp_own(shared, pass, first, time, steps);
+}
+
+/// Goes on with the finish of the commit of that time, with nothing done for its seat since: stores
+/// the time into SUPER of the version below the one that was locked as number `which`, from 0 on. It is
+/// one step, and none where nothing is below. After that of the last one `finish_end` comes.
+pub fn finish_step<P: Protocol, L: Ledger>(
+    shared: &Shared<P>,
+    pass: &mut Pass<P>,
+    log: &Log,
+    time: u64,
+    which: u32,
+    steps: &mut Steps<L>,
+)
+    requires of { IsOf shared.now pass.old }
+    requires finishing { (from : View) × IsFinishing (config_of shared.now) from (view pass.old) log.now time which }
+    requires range { which < log.now.held }
+    ensures same { IsSame pass.old pass.new }
+    ensures tells { (n : Note) → IsNoteAt log.now (held_from log.now + which) n
+        → TellsOne (config_of shared.now) (view pass.old) (view pass.new) n time steps.old steps.new
+        (above_held (config_of shared.now) (view pass.old) log.now which) }
+    ensures finishing { (from : View) → IsFinishing (config_of shared.now) from (view pass.old) log.now time which
+        → IsFinishing (config_of shared.now) from (view pass.new) log.now time (which + 1) }
+    ensures cost { steps.new ≤ steps.old + 1 }
+{
+    let first = live(log) - held(log);
+    store_super_below(shared, pass, log, first + which, time, steps);
+}
+
+/// Ends the finish of the commit of that time, with SUPER stored below all of its versions and nothing
+/// done for its seat since: the last step, the store of 0 into MARK, which leaves the section. The
+/// commit is noted, and the log stands for the pass again, with nothing held.
+pub fn finish_end<P: Protocol, L: Ledger>(
+    shared: &Shared<P>,
+    pass: &mut Pass<P>,
+    log: &mut Log,
+    time: u64,
+    steps: &mut Steps<L>,
+)
+    requires of { IsOf shared.now pass.old }
+    requires finishing { (from : View) × IsFinishing (config_of shared.now) from (view pass.old) log.old time log.old.held }
+    ensures same { IsSame pass.old pass.new }
+    ensures view { view pass.new ≡ mark_cleared (config_of shared.now) (view pass.old) }
+    ensures finishes { (from : View) → IsFinishing (config_of shared.now) from (view pass.old) log.old time log.old.held
+        → Finishes from (view pass.new) (log.old.held + 2) }
+    ensures log { log.new ≡ committed_noted log.old time }
+    ensures stands { Stands (config_of shared.now) (view pass.new) log.new }
+    ensures step { steps.new ≡ steps.old + 1 }
+{
+    shared.clear_mark(pass, steps);
+    note_commit(log, time);
 }
 
 /// Finishes the commit that the pass has just named: its last step was its own won exchange of CLOCK,
 /// and `time` is the commit's printed time. The log stood for the pass before that exchange, and
 /// has noted nothing since. It stamps the write set, stores SUPER below each of its versions, leaves
 /// the section, and notes the commit; the log stands for the pass again, with nothing held. It makes
-/// at most `held + 2` steps, and never refuses.
+/// at most `held + 2` steps, and never refuses. It is `finish_start`, a `finish_step` for each version
+/// of the write set, in the order of locking, and `finish_end`.
 pub fn finish<P: Protocol, L: Ledger>(
     shared: &Shared<P>,
     pass: &mut Pass<P>,
@@ -106,9 +156,9 @@ pub fn finish<P: Protocol, L: Ledger>(
     ensures stands { Stands (config_of shared.now) (view pass.new) log.new }
     ensures cost { steps.new ≤ steps.old + log.old.held + 2 }
 {
-    let first = note(log, live(log) - held(log)).first;
-    stamp_own(shared, pass, first, time, steps);
-    store_supers(shared, pass, log, time, steps);
-    shared.clear_mark(pass, steps);
-    note_commit(log, time);
+    finish_start(shared, pass, log, time, steps);
+    for which in 0..held(log) {
+        finish_step(shared, pass, log, time, which, steps);
+    }
+    finish_end(shared, pass, log, time, steps);
 }

@@ -30,6 +30,10 @@
 //! each held object, loads CLOCK, from whose time on the versions given up are needed by nobody, and
 //! ends the section; it makes and tries no entry. Neither refuses.
 //!
+//! `finish` is made of `finish_start`, of a `finish_step` for each version of the write set and of
+//! `finish_end`, and `abort` of an `abort_step` for each held object, of `abort_death` and of
+//! `abort_end`. Each makes one step at most; a caller may stop after each, or let others move in between.
+//!
 //! With `held` versions `commit` makes at most `held + 8` steps, and `finish` and `abort` at most
 //! `held + 2`. No call waits or takes memory.
 //!
@@ -42,6 +46,6 @@ mod aborting;
 mod committing;
 mod finishing;
 
-pub use aborting::abort;
+pub use aborting::{abort, abort_death, abort_end, abort_step};
 pub use committing::{Ended, commit};
-pub use finishing::finish;
+pub use finishing::{finish, finish_end, finish_start, finish_step};

@@ -1,8 +1,10 @@
 -- The views that the steps of a help leave.
-use Rattle.std.proofs.Common.{◌≡◌, ◌≢◌, ℕ, ◌+◌, ◌<◌, ◌≤◌, ◌^◌, ◌==◌, Bool, false, cond, List, [], ◌∷◌}
+use Rattle.std.proofs.Common.{◌≡◌, ◌≢◌, ℕ, ◌+◌, ◌<◌, ◌≤◌, ◌^◌, ◌==◌, Bool, true, false, cond, List, [], ◌∷◌}
 use Rattle.std.proofs.Common.{◌++◌, length, sym, refl, ap, ◌∙◌, subst, ⊎_elim, inl, inr, append-nil, append_assoc, length-append, le-leb}
-use Rattle.std.proofs.Common.{eq-eqb, ne_eqb, arith, All, Some}
+use Rattle.std.proofs.Common.{eq-eqb, ne_eqb, arith, All, Option, Some, None}
 use Rattle.std.proofs.lemmas.Bool.{lt-leb}
+use mathlib.Core.Logic.{dite}
+use native.Mathlib.Decide.{ℕ_discrete}
 use Rattle.std.specs.Prelude.{Contains}
 use Rattle.std.proofs.lemmas.List.Elements.{Contains-append_left, Contains-append_right, Contains-push, All-nil, All-push}
 use Rattle.mv_history.specs.declared.Entry.{Entry}
@@ -13,9 +15,12 @@ use Rattle.mv_core.specs.declared.view.View.{View}
 use Rattle.mv_core.specs.declared.view.LoadedClocks.{LoadedClocks}
 use Rattle.mv_core.specs.HistoryFacts.{BeginsWith}
 use Rattle.mv_core.specs.SectionFacts.{IsWord}
-use Rattle.mv_core.specs.EnterSteps.{if_none, helped_too, named_clocks, named_loaded, checked_helped, check_loaded, stamp_swapped}
+use Rattle.mv_core.specs.EnterSteps.{if_none, helped_too, named_clocks, named_loaded, checked_found, checked_helped, check_loaded, stamp_swapped}
+use Rattle.mv_core.specs.declared.view.FoundStamp.{FoundStamp}
 use Rattle.mv_core.proofs.kinds.helping.stamp.SwapStamp.{IsOwn, phase_after, own_says}
-use Rattle.commit_clock.specs.Helps.{HasLoaded, IsHelpStep, Helps}
+use Rattle.commit_clock.specs.declared.helping.StartedHelp.{StartedHelp}
+use Rattle.commit_clock.specs.declared.helping.CheckedHelp.{CheckedHelp}
+use Rattle.commit_clock.specs.Helps.{HasLoaded, IsHelpStep, Helps, HelpStarts, IsStarted, StartsHelp, FindsStamped, IsChecked, EndsHelp}
 
 -- a word that a load of CLOCK has just found
 pub loaded_now : (c : Config) (v w : View) (word : ℕ) (h : List Entry) → w ≡ check_loaded c v word h → IsWord c word → HasLoaded c w word
@@ -134,3 +139,50 @@ module _ (c : Config) (v : View) (word : ℕ) where
           trail = grows_one 2 v.trail _ _ tt (grows_one 1 v.trail _ _ tt (grows_one 0 v.trail v.trail _ tt (grows_none 0 v.trail)));
           rest = refl;
         })
+
+-- a help that has loaded CLOCK knows whether its stamp is checked, or its word helped
+pub checks : (c : Config) (v w : View) (help : StartedHelp) (clock : ℕ) (h : List Entry) → IsStarted c v help → w ≡ check_loaded c v clock h
+    → IsChecked c w (record { word = help.word; unset = help.unset; clock = clock })
+checks c v w help clock h started is =
+    let kept : FoundStamp = record { word = help.word; unset = help.unset; checked = false } in
+    let good : FoundStamp = record { word = help.word; unset = help.unset; checked = true } in
+    let front : List ℕ = if_none clock in record {
+      is_word = started.is_word;
+      due = λ e.
+          ap (λ (u : View). u.clocks.found) is
+          ∙ ap (λ (f : Option FoundStamp). checked_found f clock) started.found
+          ∙ ap (λ (b : Bool). cond b (Some good) None) (eq-eqb help.word clock (sym e));
+      gone = λ ne.
+          let one : Contains (cond (help.word == clock) [] (help.word ∷ [])) help.word =
+          subst (λ (b : Bool). Contains (cond b [] (help.word ∷ [])) help.word) (sym (ne_eqb help.word clock (λ e. ne (sym e)))) (Contains-push [] help.word) in
+          let there : Contains (checked_helped v.clocks.found clock) help.word =
+          subst (λ (f : Option FoundStamp). Contains (checked_helped f clock) help.word) (sym started.found) one in
+          subst (λ (u : View). Contains u.clocks.helped help.word) (sym is)
+          (Contains-append_right v.clocks.helped (front ++ checked_helped v.clocks.found clock) help.word
+          (Contains-append_right front (checked_helped v.clocks.found clock) help.word there));
+    }
+
+-- a help that was done at its start
+pub helps_at_once : (c : Config) (v w : View) (word before after : ℕ) → HasLoaded c v word → HelpStarts c v w word before after None → Helps c v w word
+helps_at_once c v w word before after has starts =
+    ⊎_elim
+    (λ (none : (clock_slot_of word ≡ 8191) × (w ≡ v) × (after ≡ before)).
+    subst (λ (u : View). Helps c v u word) (sym none.1) (helps_none c v word has none.0))
+    (λ (one : FindsStamped c v w word × (after ≡ before + 1)). helps_set c v word w one.0.found one.0.view one.0.set)
+    starts
+
+-- a help by its three parts
+pub helps_by_parts : (c : Config) (v w x y : View) (word : ℕ) (help : StartedHelp) (k : CheckedHelp) (h : List Entry) (before after : ℕ)
+    → StartsHelp c v w word help → k ≡ record { word = help.word; unset = help.unset; clock = k.clock } → BeginsWith h w.past.seen
+    → x ≡ check_loaded c w k.clock h → EndsHelp c x y k before after → Helps c v y word
+helps_by_parts c v w x y word help k h before after starts same front is end =
+    let ends = subst (λ (m : CheckedHelp). EndsHelp c x y m before after) same end in
+    dite (ℕ_discrete k.clock help.word)
+    (λ e.
+    let t = ends.stamps e in
+    helps_stamped c v word help.unset starts.unset w x y k.clock t.0 h starts.view front is
+    (t.1 ∙ ap (λ (n : ℕ). stamp_swapped c x n help.unset t.0) starts.word_is))
+    (λ ne.
+    let t = ends.none ne in
+    subst (λ (u : View). Helps c v u word) (sym t.0)
+    (helps_gone c v word help.unset starts.unset w x k.clock h starts.view front is (λ e. ne (e ∙ sym starts.word_is))))

@@ -1,5 +1,5 @@
 -- What a help of a clock word needs of a view, and what it leaves.
-use Rattle.std.specs.Prelude.{◌≡◌, ◌⊎◌, ℕ, ◌≤◌, true, List, ◌++◌, length, Contains, All, Option, Some, None}
+use Rattle.std.specs.Prelude.{◌≡◌, ◌≢◌, ◌⊎◌, ℕ, ◌+◌, ◌<◌, ◌≤◌, ◌^◌, true, false, List, ◌++◌, length, Contains, All, Option, Some, None}
 use Rattle.mv_history.specs.declared.Entry.{Entry}
 use Rattle.mv_history.specs.declared.Step.{Step}
 use Rattle.mv_history.specs.declared.StepKind.{StepKind}
@@ -14,7 +14,9 @@ use Rattle.mv_core.specs.declared.view.Naming.{Naming}
 use Rattle.mv_core.specs.Rings.{index_of}
 use Rattle.mv_core.specs.HistoryFacts.{BeginsWith}
 use Rattle.mv_core.specs.SectionFacts.{IsWord}
-use Rattle.mv_core.specs.EnterSteps.{IsWhole}
+use Rattle.mv_core.specs.EnterSteps.{IsWhole, named_loaded, stamp_swapped}
+use Rattle.commit_clock.specs.declared.helping.StartedHelp.{StartedHelp}
+use Rattle.commit_clock.specs.declared.helping.CheckedHelp.{CheckedHelp}
 
 -- the pass has loaded the word; it is a packed clock word, and counts as helped where it names no commit
 pub record HasLoaded (c : Config) (v : View) (word : ℕ) : Type 0 where
@@ -53,3 +55,41 @@ pub record Helps (c : Config) (v w : View) (word : ℕ) : Type 0 where
 abbrev pub FindsClock : Config → View → View → Option ℕ → Type 0
 FindsClock c v w None = w.past ≡ v.past
 FindsClock c v w (Some word) = (h : List Entry) × IsWhole c v word h × (w.past ≡ record v.past { seen = h })
+
+-- the stamp was found unset for the word, which names a commit, and CLOCK wasn't loaded since
+pub record IsStarted (c : Config) (v : View) (help : StartedHelp) : Type 0 where
+  pub found : v.clocks.found ≡ Some (record { word = help.word; unset = help.unset; checked = false })
+  pub is_word : IsWord c help.word
+
+-- the stamp was loaded, and was unset
+pub record StartsHelp (c : Config) (v w : View) (word : ℕ) (help : StartedHelp) : Type 0 where
+  pub names : clock_slot_of word ≢ 8191
+  pub word_is : help.word ≡ word
+  pub unset : 2 ^ 63 ≤ help.unset
+  pub view : w ≡ named_loaded c v word help.unset
+  pub started : IsStarted c w help
+
+-- the stamp was loaded, and wasn't unset
+pub record FindsStamped (c : Config) (v w : View) (word : ℕ) : Type 0 where
+  pub names : clock_slot_of word ≢ 8191
+  pub found : ℕ
+  pub set : found < 2 ^ 63
+  pub view : w ≡ named_loaded c v word found
+
+-- A help has begun, by one step; or it is done, by no step where the word names no commit, and by one where the stamp wasn't unset.
+abbrev pub HelpStarts : Config → View → View → ℕ → ℕ → ℕ → Option StartedHelp → Type 0
+HelpStarts c v w word before after None =
+    ((clock_slot_of word ≡ 8191) × (w ≡ v) × (after ≡ before)) ⊎ (FindsStamped c v w word × (after ≡ before + 1))
+HelpStarts c v w word before after (Some help) = StartsHelp c v w word help × (after ≡ before + 1)
+
+-- CLOCK was loaded since the stamp was found: the stamp is checked where CLOCK had the word, and else the word is helped
+pub record IsChecked (c : Config) (v : View) (help : CheckedHelp) : Type 0 where
+  pub is_word : IsWord c help.word
+  pub due : help.clock ≡ help.word → v.clocks.found ≡ Some (record { word = help.word; unset = help.unset; checked = true })
+  pub gone : help.clock ≢ help.word → Contains v.clocks.helped help.word
+
+-- the stamp was exchanged where CLOCK had the word, by one step, and nothing was done where it hadn't; the word is helped
+pub record EndsHelp (c : Config) (v w : View) (help : CheckedHelp) (before after : ℕ) : Type 0 where
+  pub stamps : help.clock ≡ help.word → (found : ℕ) × (w ≡ stamp_swapped c v help.word help.unset found) × (after ≡ before + 1)
+  pub none : help.clock ≢ help.word → (w ≡ v) × (after ≡ before)
+  pub helped : Contains w.clocks.helped help.word

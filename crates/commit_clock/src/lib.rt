@@ -33,6 +33,9 @@
 //! anew for a later write set, whose unset stamp must stay. While CLOCK has the word the commit is
 //! live; and where CLOCK has another, whoever moved it on had helped first.
 //!
+//! A help is made of `help_start`, `help_check` and `help_end`, of one step each at most. A caller may
+//! stop after each, or let others move in between.
+//!
 //! The crate stands on `mv_core` for its steps and `mv_layout` for the packing of clock words.
 #![tactic(auto)]
 
@@ -41,5 +44,7 @@ mod naming;
 #[cfg(test)]
 mod tests;
 
-pub use helping::{help, help_clock, now};
+pub use helping::{
+    CheckedHelp, StartedHelp, help, help_check, help_clock, help_end, help_start, now,
+};
 pub use naming::{Named, name, rest};

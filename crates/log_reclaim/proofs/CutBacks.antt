@@ -15,7 +15,7 @@ use Rattle.mv_core.specs.Tops.{NamesNewer}
 use Rattle.mv_core.specs.WalkSteps.{IsLinkOf}
 use Rattle.mv_core.specs.LockSteps.{timed, MayLoadDeath, death_loaded}
 use Rattle.mv_core.specs.ReclaimSteps.{MayCutHead, head_cut, cut_lost, IsOfOther}
-use Rattle.mv_core.proofs.logs.Slots.{live_within}
+use Rattle.mv_core.proofs.logs.Slots.{live_within, slot_here}
 use Rattle.mv_core.proofs.logs.Counts.{held_same, held_mapped}
 use Rattle.mv_core.proofs.kinds.entering.LoadTime.{holds_none}
 use Rattle.mv_core.proofs.kinds.locking.lock_head.LockedLog.{none_held}
@@ -27,9 +27,9 @@ use Rattle.seat_log.specs.Builds.{version_in, note_in}
 use Rattle.seat_log.proofs.NotedSlots.{NotedSlot, noted_in}
 use Rattle.seat_log.proofs.Aborts.{held_timed}
 use Rattle.seat_log.proofs.Retired.{noted_live}
-use Rattle.seat_log.proofs.CutLogs.{note_cut_room, waits_for_death, stands_cut, stands_uncut}
+use Rattle.seat_log.proofs.CutLogs.{note_cut_room, stands_cut, stands_uncut}
 use Rattle.log_reclaim.specs.declared.writing_back.Back.{Back}
-use Rattle.log_reclaim.specs.Backs.{IsWriting, IsCut, IsCutAt, IsUncut}
+use Rattle.log_reclaim.specs.Backs.{IsWriting, HasCut, HasLostTo, HasTimed, IsCut, IsCutAt, IsUncut}
 use Rattle.log_reclaim.proofs.Picks.{committed_in}
 
 -- nothing is held after the time of death was put
@@ -47,6 +47,71 @@ none_held_put r s x y old note own nothing =
 none_dead : (dead : ℕ) → death_of dead ≡ None → dead ≡ 0
 none_dead zero e = refl
 none_dead (suc dead) e = absurd (cc)
+
+module _ (c : Config) (v : View) (b : Back) (is : IsWriting c v b) where
+  -- what the exchange is given is that version
+  pub picked : committed_in c v b.position ≡ (is.version, is.note)
+  picked = λ q. (version_in (is.own q), note_in (is.own q))
+
+  -- it may be tried
+  pub may_cut : b.stored ≡ 6 → MayCutHead c v b.object b.position (committed_in c v b.position).0 (committed_in c v b.position).1
+  may_cut six =
+      subst (λ (t : Version × CommitNote). MayCutHead c v b.object b.position t.0 t.1) (sym picked)
+      (record {
+        back = ⊎_elim (λ a. let none = a.0 in absurd (omega arith))
+            (λ a. a.1 ∙ ap (λ (s : ℕ). Some (record { object = b.object; position = b.position; stored = s; tried = false })) six) is.goes;
+        own = is.own;
+      })
+
+  -- it was won, and the version waits for its time of death in an open section
+  pub has_cut : (w : View) → w ≡ head_cut c v b.object b.position (committed_in c v b.position).0 (committed_in c v b.position).1 → HasCut c v w b
+  has_cut w won = record {
+    version = is.version;
+    note = is.note;
+    own = is.own;
+    view = won ∙ ap (λ (t : Version × CommitNote). head_cut c v b.object b.position t.0 t.1) picked;
+  }
+
+  abbrev cut_now : CommitNote
+  cut_now = record is.note { cut = true }
+
+  pub cut_waits : (w : View) → w ≡ head_cut c v b.object b.position (committed_in c v b.position).0 (committed_in c v b.position).1 → MayLoadDeath w
+  cut_waits w won =
+      subst MayLoadDeath (sym (won ∙ ap (λ (t : Version × CommitNote). head_cut c v b.object b.position t.0 t.1) picked)) (
+        index_of c b.position,
+        is.version,
+        Committed cut_now,
+        slot_here v.ring (index_of c b.position) (Live is.version (Committed cut_now))
+            (live_within v.ring (index_of c b.position) is.version (Committed is.note) is.own),
+        (refl, is.no_death),
+      )
+
+  pub open_cut : (w : View) → w ≡ head_cut c v b.object b.position (committed_in c v b.position).0 (committed_in c v b.position).1 → IsOpen w
+  open_cut w won =
+      subst IsOpen (sym (won ∙ ap (λ (t : Version × CommitNote). head_cut c v b.object b.position t.0 t.1) picked))
+      (record {
+        inside = is.inside;
+        phase = is.phase;
+        open_is = is.open_is;
+        nothing = none_held_put v.ring (index_of c b.position) is.version is.version is.note cut_now is.own is.nothing;
+      })
+
+  -- it was lost to a link
+  pub has_lost : (w : View) (link seat : ℕ) → w ≡ cut_lost c v b.object b.position link → seat ≡ link_seat_of link → link ≢ link_of v.number b.position
+      → IsLinkOf c link → IsOfOther v link → NamesNewer c v b.object link → HasLostTo c v w b seat
+  has_lost w link seat lost seat_is other packed of_other newer = record {
+    link = link;
+    some = of_other.0;
+    other = other;
+    seat_is = sym seat_is;
+    in_range = subst (λ (s : ℕ). s < c.seats) (sym seat_is) (packed of_other.0).1;
+    not_own = λ e. of_other.1 (sym seat_is ∙ e);
+    newer = newer;
+    view = lost;
+  }
+
+  pub open_lost : (w : View) (link : ℕ) → w ≡ cut_lost c v b.object b.position link → IsOpen w
+  open_lost w link lost = subst IsOpen (sym lost) (record { inside = is.inside; phase = is.phase; open_is = is.open_is; nothing = is.nothing })
 
 module _ (c : Config) (v : View) (l : Noted) (b : Back) (k : Stands c v l) (is : IsWriting c v b) where
   -- the note of the version
@@ -71,35 +136,17 @@ module _ (c : Config) (v : View) (l : Noted) (b : Back) (k : Stands c v l) (is :
   here : slot_at v.ring (index_of c n.position) ≡ Live (version_of n) (Committed is.note)
   here = ap (λ (p : ℕ). slot_at v.ring (index_of c p)) place ∙ is.own ∙ ap (λ (x : Version). Live x (Committed is.note)) (sym same)
 
-  -- what the exchange is given is that version
-  picked : committed_in c v b.position ≡ (is.version, is.note)
-  picked = λ q. (version_in (is.own q), note_in (is.own q))
-
-  -- it may be tried
-  pub may_cut : b.stored ≡ 6 → MayCutHead c v b.object b.position (committed_in c v b.position).0 (committed_in c v b.position).1
-  may_cut six =
-      subst (λ (t : Version × CommitNote). MayCutHead c v b.object b.position t.0 t.1) (sym picked)
-      (record {
-        back = ⊎_elim (λ a. let none = a.0 in absurd (omega arith))
-            (λ a. a.1 ∙ ap (λ (s : ℕ). Some (record { object = b.object; position = b.position; stored = s; tried = false })) six) is.goes;
-        own = is.own;
-      })
-
   -- the view once it was won
   cut_view : View
   cut_view = head_cut c v n.object n.position (version_of n) is.note
 
   module _ (w : View) (won : w ≡ head_cut c v b.object b.position (committed_in c v b.position).0 (committed_in c v b.position).1) where
     won_is : w ≡ head_cut c v b.object b.position is.version is.note
-    won_is = won ∙ ap (λ (t : Version × CommitNote). head_cut c v b.object b.position t.0 t.1) picked
+    won_is = won ∙ ap (λ (t : Version × CommitNote). head_cut c v b.object b.position t.0 t.1) (picked c v b is)
 
     cut_is : w ≡ cut_view
     unfolding cut_view
     cut_is = won_is ∙ (λ q. head_cut c v (sym of_object q) (sym place q) (sym same q) is.note)
-
-    pub may_load_death : MayLoadDeath w
-    unfolding cut_view
-    may_load_death = subst MayLoadDeath (sym cut_is) (waits_for_death c v l noted.index n is.note k noted.at here alive)
 
     -- and CLOCK was loaded
     module _ (x : View) (word : ℕ) (loaded : (h : List Entry) × IsWhole c w word h × (x ≡ death_loaded c w word h)) where
@@ -149,12 +196,6 @@ module _ (c : Config) (v : View) (l : Noted) (b : Back) (k : Stands c v l) (is :
         unfolding ends_cut
         ends_cut_at time is_time = (ends_cut, sym is_time)
 
-        pub seen_then : clock_time_of word ≤ c.base + length y.past.seen
-        seen_then =
-            let whole = loaded.1.1 in
-            let seen : length y.past.seen ≡ length loaded.0 = ap (λ (u : View). length u.past.seen) left_is in
-            omega arith
-
         pub stands_then : Stands c y m
         unfolding cut_view
         stands_then =
@@ -165,28 +206,58 @@ module _ (c : Config) (v : View) (l : Noted) (b : Back) (k : Stands c v l) (is :
             )))
             (stands_cut c v l noted.index n is.note k noted.at here alive word loaded.0)
 
-  -- the exchange was lost to a link
-  module _ (w : View) (link : ℕ) (lost : w ≡ cut_lost c v b.object b.position link) where
-    pub open_lost : IsOpen w
-    open_lost = subst IsOpen (sym lost) (record { inside = is.inside; phase = is.phase; open_is = is.open_is; nothing = is.nothing })
+  -- the exchange was lost, and the section was left
+  module _ (w : View) (seat : ℕ) (lost : HasLostTo c v w b seat) (y : View) (left : y ≡ mark_cleared c w) where
+    lost_is : y ≡ mark_cleared c (cut_lost c v b.object b.position lost.link)
+    lost_is = left ∙ ap (mark_cleared c) lost.view
 
-    module _ (y : View) (left : y ≡ mark_cleared c w) where
-      lost_is : y ≡ mark_cleared c (cut_lost c v b.object b.position link)
-      lost_is = left ∙ ap (mark_cleared c) lost
+    pub ends_uncut : IsUncut c v y l l b seat
+    ends_uncut = record {
+      link = lost.link;
+      some = lost.some;
+      other = lost.other;
+      seat_is = lost.seat_is;
+      in_range = lost.in_range;
+      not_own = lost.not_own;
+      newer = lost.newer;
+      view = lost_is;
+      log = refl;
+    }
 
-      pub ends_uncut : (seat : ℕ) → seat ≡ link_seat_of link → link ≢ link_of v.number b.position → IsLinkOf c link → IsOfOther v link
-          → NamesNewer c v b.object link → IsUncut c v y l l b seat
-      ends_uncut seat seat_is other packed of_other newer = record {
-        link = link;
-        some = of_other.0;
-        other = other;
-        seat_is = sym seat_is;
-        in_range = subst (λ (s : ℕ). s < c.seats) (sym seat_is) (packed of_other.0).1;
-        not_own = λ e. of_other.1 (sym seat_is ∙ e);
-        newer = newer;
-        view = lost_is;
-        log = refl;
-      }
+    pub stands_lost : Stands c y l
+    stands_lost = subst (λ (u : View). Stands c u l) (sym lost_is) (stands_uncut c v l b.object b.position lost.link k)
 
-      pub stands_lost : Stands c y l
-      stands_lost = subst (λ (u : View). Stands c u l) (sym lost_is) (stands_uncut c v l b.object b.position link k)
+-- the chain was cut and the time found: the section may be left, the version noted as dead, and so the write-back ends
+module _ (c : Config) (from v : View) (l : Noted) (b : Back) (time : ℕ) (k : HasTimed c from v l b time) where
+  won : k.cut_view ≡ head_cut c from b.object b.position (committed_in c from b.position).0 (committed_in c from b.position).1
+  won = k.cut.view ∙ (λ q. head_cut c from b.object b.position (version_in (sym k.cut.own q)) (note_in (sym k.cut.own q)))
+
+  abbrev loaded : (h : List Entry) × IsWhole c k.cut_view k.death.word h × (v ≡ death_loaded c k.cut_view k.death.word h)
+  loaded = (k.death.history, k.death.whole, k.death.view)
+
+  pub open_timed : IsOpen v
+  open_timed = open_then c from l b k.stands k.writing k.cut_view won v k.death.word loaded
+
+  pub may_retire_timed : IsLive l b.position
+  may_retire_timed = may_retire c from l b k.stands k.writing k.cut_view won v k.death.word loaded
+
+  pub may_note_timed : (m : Noted) → m ≡ retired l b.position (time + 1) → m.back < next_of m
+  may_note_timed m is = may_note_cut c from l b k.stands k.writing k.cut_view won v k.death.word loaded (time + 1) m is
+
+  module _ (w : View) (m : Noted) (left : w ≡ mark_cleared c v) (log : m ≡ back_noted (retired l b.position (time + 1))) where
+    log_is : m ≡ back_noted (retired l b.position (clock_time_of k.death.word + 1))
+    log_is = log ∙ ap (λ (t : ℕ). back_noted (retired l b.position (t + 1))) k.death.time_is
+
+    pub cut_at_timed : IsCutAt c from w l m b time
+    cut_at_timed = ends_cut_at c from l b k.stands k.writing k.cut_view won v k.death.word loaded w m left log_is time k.death.time_is
+
+    pub stands_timed : Stands c w m
+    stands_timed = stands_then c from l b k.stands k.writing k.cut_view won v k.death.word loaded w m left log_is
+
+-- the time that was found in CLOCK is that of what is seen
+pub seen_cut : (c : Config) (v w : View) (l m : Noted) (b : Back) (time : ℕ) → IsCutAt c v w l m b time → time ≤ c.base + length w.past.seen
+seen_cut c v w l m b time t =
+    let whole = t.0.whole.1 in
+    let at = t.1 in
+    let seen : length w.past.seen ≡ length t.0.history = ap (λ (u : View). length u.past.seen) t.0.view in
+    omega arith

@@ -22,6 +22,7 @@ use Rattle.reader_marks.specs.declared.scanning.Watermark.{Watermark}
 use Rattle.reader_marks.specs.Sections.{Begins}
 use Rattle.seat_log.specs.declared.version.Note.{Note}
 use Rattle.seat_log.specs.Notes.{Noted, IsNoteAt, retired, back_noted}
+use Rattle.seat_log.specs.Stands.{Stands}
 use Rattle.log_reclaim.specs.declared.writing_back.Back.{Back}
 use Rattle.log_reclaim.specs.declared.writing_back.NoBack.{NoBack}
 use Rattle.log_reclaim.specs.declared.writing_back.NoBack.TheVariants.{Young, Gone, Above}
@@ -102,6 +103,45 @@ StartsSo c v w l n mark before after (Err (Above seat)) =
 pub record StoresWord (c : Config) (v w : View) (b d : Back) : Type 0 where
   pub view : w ≡ master_stored c v b.object b.stored (slice_index b.words b.stored) b.position
   pub back : d ≡ record b { stored = b.stored + 1 }
+
+-- the exchange of HEAD was won: the version is cut
+pub record HasCut (c : Config) (v w : View) (back : Back) : Type 0 where
+  pub version : Version
+  pub note : CommitNote
+  pub own : slot_at v.ring (index_of c back.position) ≡ Live version (Committed note)
+  pub view : w ≡ head_cut c v back.object back.position version note
+
+-- it found another link, of another seat, which names a newer version of the object
+pub record HasLostTo (c : Config) (v w : View) (back : Back) (seat : ℕ) : Type 0 where
+  pub link : ℕ
+  pub some : link ≢ 0
+  pub other : link ≢ link_of v.number back.position
+  pub seat_is : link_seat_of link ≡ seat
+  pub in_range : seat < c.seats
+  pub not_own : seat ≢ v.number
+  pub newer : NamesNewer c v back.object link
+  pub view : w ≡ cut_lost c v back.object back.position link
+
+-- how it went
+abbrev pub CutsSo : Config → View → View → Back → BackEnd → Type 0
+CutsSo c v w back end.Cut = HasCut c v w back
+CutsSo c v w back (end.Above seat) = HasLostTo c v w back seat
+
+-- CLOCK was loaded, and had this time
+pub record FindsDeath (c : Config) (v w : View) (time : ℕ) : Type 0 where
+  pub word : ℕ
+  pub history : List Entry
+  pub whole : IsWhole c v word history
+  pub view : w ≡ death_loaded c v word history
+  pub time_is : time ≡ clock_time_of word
+
+-- The write-back that the view `from` had stored the words of has cut its chain, and found this time in CLOCK since; the log stood for `from`.
+pub record HasTimed (c : Config) (from v : View) (l : Noted) (back : Back) (time : ℕ) : Type 0 where
+  pub stands : Stands c from l
+  pub writing : IsWriting c from back
+  pub cut_view : View
+  pub cut : HasCut c from cut_view back
+  pub death : FindsDeath c cut_view v time
 
 -- the exchange was won: the version is cut, and dead from the time after that of the clock, and the section was left
 pub record IsCut (c : Config) (v w : View) (l m : Noted) (back : Back) : Type 0 where

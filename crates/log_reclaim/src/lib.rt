@@ -23,7 +23,9 @@
 //! round without. Both answer how many slots they freed, how many are live, and who holds the oldest
 //! write set, if one is left, with a cause in the call's own steps. In a domain of one seat whose
 //! last time isn't reached `tidy` leaves the log empty. `round` never exchanges CLOCK, and `tidy` at
-//! most once, won or lost. No call takes memory, waits, or tries again.
+//! most once, won or lost. No call takes memory, waits, or tries again. `back_finish` is made of
+//! `back_cut`, and then of `back_death` and `back_end`, or of a `leave`; each makes one step, and others may
+//! move in between.
 //!
 //! The crate stands on `mv_core` for its steps, on `reader_marks` for sections and watermarks, on
 //! `commit_clock` for the rest, on `seat_log` for the notes, and on `mv_layout` for the packing.
@@ -36,4 +38,6 @@ mod writing_back;
 
 pub use rounds::{Tidy, round};
 pub use tidying::tidy;
-pub use writing_back::{Back, BackEnd, NoBack, back_finish, back_start, back_word};
+pub use writing_back::{
+    Back, BackEnd, NoBack, back_cut, back_death, back_end, back_finish, back_start, back_word,
+};

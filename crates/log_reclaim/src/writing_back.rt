@@ -1,14 +1,18 @@
 // Writing a version back into its object's master, and cutting its chain.
 ghost use Rattle.std.specs.Prelude.{◌≡◌, ◌≢◌, ◌+◌, ◌<◌, ◌≤◌, length, Err};
 ghost use Rattle.mv_layout.specs.Words.{IsLink, link_seat_of};
-ghost use Rattle.mv_core.specs.EnterSteps.{MayLoadLow};
+ghost use Rattle.mv_core.specs.declared.view.View.{View};
+ghost use Rattle.mv_core.specs.EnterSteps.{MayLoadLow, mark_cleared};
+ghost use Rattle.mv_core.specs.LockSteps.{MayLoadDeath};
 ghost use Rattle.mv_core.specs.Passes.{view, IsOf, IsSame, config_of};
 ghost use Rattle.reader_marks.specs.Scans.{IsKnown};
+ghost use Rattle.reader_marks.specs.Sections.{IsOpen};
 ghost use Rattle.seat_log.specs.declared.version.Note.{Note};
+ghost use Rattle.seat_log.specs.Notes.{retired, back_noted};
 ghost use Rattle.seat_log.specs.Stands.{Stands};
 ghost use Rattle.log_reclaim.specs.declared.writing_back.NoBack.TheVariants.{Young, Gone, Above};
 ghost use Rattle.log_reclaim.specs.declared.writing_back.BackEnd.TheVariants.{Cut};
-ghost use Rattle.log_reclaim.specs.Backs.{IsCommitted, IsWriting, StartsSo, StoresWord, IsCutAt, FinishesSo};
+ghost use Rattle.log_reclaim.specs.Backs.{IsCommitted, IsWriting, StartsSo, StoresWord, CutsSo, FindsDeath, HasTimed, IsCutAt, FinishesSo};
 
 use mv_core::{Pass, Shared, Steps, Swap};
 use mv_history::{Protocol, Words};
@@ -155,6 +159,77 @@ pub fn back_word<P: Protocol, L: Ledger>(
     back.stored += 1;
 }
 
+/// Tries to cut the chain of a write-back whose six words are stored: the first step of `back_finish`,
+/// one exchange of HEAD from the version to 0.
+///
+/// - `Cut` exactly where it was won; `back_death` goes on from there, now or after steps of others.
+/// - `Above` exactly where HEAD named another version, which is a newer one, of that other seat. What is
+///   left of `back_finish` is `leave`.
+pub fn back_cut<P: Protocol, L: Ledger>(
+    shared: &Shared<P>,
+    pass: &mut Pass<P>,
+    back: &Back,
+    steps: &mut Steps<L>,
+) -> BackEnd
+    requires of { IsOf shared.now pass.old }
+    requires writing { IsWriting (config_of shared.now) (view pass.old) back.now }
+    requires stored { back.now.stored ≡ 6 }
+    ensures same { IsSame pass.old pass.new }
+    ensures ends { CutsSo (config_of shared.now) (view pass.old) (view pass.new) back.now result }
+    ensures next { result ≡ Cut → MayLoadDeath (view pass.new) }
+    ensures open { IsOpen (view pass.new) }
+    ensures step { steps.new ≡ steps.old + 1 }
+{
+    match shared.cut_head(pass, back.object, back.position, steps) {
+        Swap::Won => BackEnd::Cut,
+        Swap::Found(link) => BackEnd::Above {
+            seat: link_seat(link),
+        },
+    }
+}
+
+/// Loads CLOCK after a chain was cut, and answers its printed time: the second step of `back_finish`. The
+/// version is dead from the time after that. `back_end` goes on from there.
+pub fn back_death<P: Protocol, L: Ledger>(
+    shared: &Shared<P>,
+    pass: &mut Pass<P>,
+    steps: &mut Steps<L>,
+) -> u64
+    requires of { IsOf shared.now pass.old }
+    requires may { MayLoadDeath (view pass.old) }
+    ensures same { IsSame pass.old pass.new }
+    ensures death { FindsDeath (config_of shared.now) (view pass.old) (view pass.new) result }
+    ensures step { steps.new ≡ steps.old + 1 }
+{
+    clock_time(shared.load_death(pass, steps))
+}
+
+/// Ends a write-back whose chain was cut, with that printed time found in CLOCK since and nothing else done
+/// for its seat: the last step of `back_finish`, which leaves the section. The log notes from when the
+/// version is dead, and that a chain was cut, and stands for the pass again.
+pub fn back_end<P: Protocol, L: Ledger>(
+    shared: &Shared<P>,
+    pass: &mut Pass<P>,
+    log: &mut Log,
+    back: Back,
+    time: u64,
+    steps: &mut Steps<L>,
+)
+    requires of { IsOf shared.now pass.old }
+    requires timed { (from : View) × HasTimed (config_of shared.now) from (view pass.old) log.old back time }
+    ensures same { IsSame pass.old pass.new }
+    ensures view { view pass.new ≡ mark_cleared (config_of shared.now) (view pass.old) }
+    ensures log { log.new ≡ back_noted (retired log.old back.position (time + 1)) }
+    ensures cut { (from : View) → HasTimed (config_of shared.now) from (view pass.old) log.old back time
+        → IsCutAt (config_of shared.now) from (view pass.new) log.old log.new back time }
+    ensures stands { Stands (config_of shared.now) (view pass.new) log.new }
+    ensures step { steps.new ≡ steps.old + 1 }
+{
+    leave(shared, pass, steps);
+    retire(log, back.position, time + 1);
+    note_cut(log);
+}
+
 /// Ends a write-back whose six words are stored: tries to cut the chain, by one exchange of HEAD from
 /// the version to 0, and leaves the section. The log stood for the pass at its start, and is as then.
 ///
@@ -163,7 +238,8 @@ pub fn back_word<P: Protocol, L: Ledger>(
 /// - `Above` exactly where HEAD named another version, which is of that other seat, and was then held
 ///   or committed later, as in `back_start`. The log is as before.
 ///
-/// It makes at most three steps, and tries the exchange once.
+/// It makes at most three steps, and tries the exchange once. It is `back_cut`, and then `back_death` and
+/// `back_end`, or `leave`.
 pub fn back_finish<P: Protocol, L: Ledger>(
     shared: &Shared<P>,
     pass: &mut Pass<P>,
@@ -202,28 +278,15 @@ pub(crate) fn finish_clock<P: Protocol, L: Ledger>(
     ensures stands { Stands (config_of shared.now) (view pass.new) log.new }
     ensures cost { steps.new ≤ steps.old + 3 }
 {
-    let Back {
-        object,
-        position,
-        words: _,
-        stored: _,
-    } = back;
-    match shared.cut_head(pass, object, position, steps) {
-        Swap::Won => {
-            let time = clock_time(shared.load_death(pass, steps));
-            leave(shared, pass, steps);
-            retire(log, position, time + 1);
-            note_cut(log);
+    match back_cut(shared, pass, &back, steps) {
+        BackEnd::Cut => {
+            let time = back_death(shared, pass, steps);
+            back_end(shared, pass, log, back, time, steps);
             (BackEnd::Cut, time)
         }
-        Swap::Found(link) => {
+        BackEnd::Above { seat } => {
             leave(shared, pass, steps);
-            (
-                BackEnd::Above {
-                    seat: link_seat(link),
-                },
-                0,
-            )
+            (BackEnd::Above { seat }, 0)
         }
     }
 }

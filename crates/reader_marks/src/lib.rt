@@ -24,6 +24,9 @@
 //! both the pass's own watermark is at least the answered time, which is what freeing a slot and
 //! writing a version back ask for. No call takes memory, waits or refuses.
 //!
+//! An `enter` is made of `enter_low`, `enter_mark` and `enter_time`, of one step each, and of the help
+//! of the word that the last of them found. A caller may stop after each, or let others move in between.
+//!
 //! The crate stands on `mv_core` for its steps, `commit_clock` for the help, and `mv_layout` for
 //! the packing of clock words.
 #![tactic(auto)]
@@ -34,4 +37,4 @@ mod sections;
 mod tests;
 
 pub use scanning::{Watermark, known, scan, scan_clock};
-pub use sections::{enter, enter_clock, leave};
+pub use sections::{enter, enter_clock, enter_low, enter_mark, enter_time, leave};

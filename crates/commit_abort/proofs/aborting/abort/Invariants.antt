@@ -1,4 +1,12 @@
+use Rattle.std.proofs.Common.{◌+◌, ◌≤◌}
+use Rattle.mv_core.specs.Passes.{view, IsOf, IsSame, config_of}
+use Rattle.commit_abort.specs.Aborts.{IsAborting}
 use Rattle.commit_abort.proofs.aborting.abort.Given as goal
 
-abbrev pub ghost-unlock_all : goal.ghost-unlock_all
-ghost-unlock_all g a = g.inside
+abbrev pub invariant-loop-which : goal.invariant-loop-which
+invariant-loop-which g l = record {
+  of : IsOf l.shared l.pass;
+  same : IsSame l.fn.pass l.pass;
+  aborting : IsAborting (config_of l.shared) (view l.fn.pass) (view l.pass) l.log l.which;
+  cost : l.steps ≤ l.fn.steps + l.which;
+}

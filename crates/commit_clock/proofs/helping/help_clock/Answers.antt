@@ -1,19 +1,19 @@
-use Rattle.std.proofs.Common.{rules}
-use Rattle.commit_clock.proofs.Views.{helps_none, helps_set, helps_gone, helps_stamped}
+use Rattle.std.proofs.Common.{subst}
+use Rattle.mv_core.specs.Passes.{view, config_of}
+use Rattle.commit_clock.specs.Helps.{HelpStarts}
+use Rattle.commit_clock.proofs.Views.{helps_at_once, helps_by_parts}
 use Rattle.commit_clock.proofs.helping.help_clock.Goals as goal
 
-pub returns-then-not-is_unset-clause-helps : goal.returns-then-not-is_unset-clause-helps
-returns-then-not-is_unset-clause-helps g c = helps_set _ _ _ _ c.load_named-found.result c.load_named-found.ensures.view (search rules)
+pub returns-in_default-clause-helps : goal.returns-in_default-clause-helps
+returns-in_default-clause-helps g c =
+    helps_at_once (config_of c.args.shared.now) (view c.args.pass.now) (view c.help_start.new.pass) c.args.word _ _ c.requires.loaded
+    (subst (HelpStarts (config_of c.args.shared.now) (view c.args.pass.now) (view c.help_start.new.pass) c.args.word _ _) c.in_default.is
+    c.help_start.ensures.starts)
 
-pub returns-then-clock-word-clause-helps : goal.returns-then-clock-word-clause-helps
-returns-then-clock-word-clause-helps g c =
-    let v = c.load_check-clock.ensures.view in
-    helps_stamped _ _ _ _ (search rules) _ _ _ _ _ v.0 c.load_named-found.ensures.view v.1.0 v.2 c.stamp.ensures.view
-
-pub returns-else-clock-word-clause-helps : goal.returns-else-clock-word-clause-helps
-returns-else-clock-word-clause-helps g c =
-    let v = c.load_check-clock.ensures.view in
-    helps_gone _ _ _ _ (search rules) _ _ _ v.0 c.load_named-found.ensures.view v.1.0 v.2 c.if-clock-word.false
-
-pub returns-then-clock_slot-eq-NO_SLOT-clause-helps : goal.returns-then-clock_slot-eq-NO_SLOT-clause-helps
-returns-then-clock_slot-eq-NO_SLOT-clause-helps g c = helps_none _ _ _ c.requires.loaded (search rules)
+pub returns-clause-helps : goal.returns-clause-helps
+returns-clause-helps g c =
+    let v = c.help_check-checked.ensures.view in
+    let starts = subst (HelpStarts (config_of c.args.shared.now) (view c.args.pass.now) (view c.help_start.new.pass) c.args.word _ _) c.in-Some.is
+    c.help_start.ensures.starts in
+    helps_by_parts (config_of c.args.shared.now) (view c.args.pass.now) _ _ (view c.help_end.new.pass) c.args.word c.in-Some.started
+    c.help_check-checked.result v.0 _ _ starts.0 c.help_check-checked.ensures.help v.1.0 v.2 c.help_end.ensures.ends

@@ -1,0 +1,8 @@
+use Rattle.std.proofs.Common.{◌+◌}
+use Rattle.mv_core.specs.Passes.{view, config_of}
+use Rattle.mv_core.specs.Rings.{index_of}
+use Rattle.commit_abort.specs.Finishes.{above_at}
+use Rattle.commit_abort.proofs.finishing.finish_step.Given as goal
+
+abbrev pub ghost-store_super_below : goal.ghost-store_super_below
+ghost-store_super_below g a = above_at (view a.pass.now) (index_of (config_of a.shared.now) (a.log.now.freed + a.index))

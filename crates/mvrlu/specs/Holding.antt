@@ -12,16 +12,19 @@ use Rattle.log_reclaim.specs.Holders.{TidyHolds, RoundHolds}
 use Rattle.log_reclaim.specs.declared.rounds.Tidy.{Tidy}
 use Rattle.mvrlu.specs.Placed.{Placed, seat_from, IsIdle}
 
--- the numbers of a seat's domain, by the domain's name, which begins with them in the order of the fields of its config
+-- How many seats a seat's domain has. The domain's name begins with the numbers of its config, in the order of the fields.
 abbrev pub seats_of : Seat → ℕ
 seats_of s = slice_index s.home 0
 
+-- how many slots the log of each has
 abbrev pub slots_of : Seat → ℕ
 slots_of s = slice_index s.home 2
 
+-- from how many live slots on it reclaims
 abbrev pub low_of : Seat → ℕ
 low_of s = slice_index s.home 4
 
+-- from how many on it does all it can
 abbrev pub high_of : Seat → ℕ
 high_of s = slice_index s.home 5
 
@@ -59,8 +62,8 @@ IsHolderOf Causes live None = live ≡ 0
 IsHolderOf Causes live (Some holder) = (0 < live) × Causes holder
 
 -- the seat made at most one rest
-abbrev pub RestsOnce : Seat → Seat → Type 0
-RestsOnce old new = (new.rests ≡ old.rests) ⊎ (new.rests ≡ old.rests + 1)
+abbrev pub RestsAtMostOnce : Seat → Seat → Type 0
+RestsAtMostOnce old new = (new.rests ≡ old.rests) ⊎ (new.rests ≡ old.rests + 1)
 
 -- the steps that a round may make, and those of a tidy
 abbrev pub round_steps : Seat → ℕ
@@ -77,7 +80,7 @@ pub record Tidies (starts : State → Type 0) (allows : List ℕ → State → W
   pub spare : new.spare ≡ old.spare + t.freed
   pub live : t.live + new.spare ≡ slots_of new
   pub held : IsHolderOf (HoldsBack starts allows old new) t.live t.held
-  pub rests : RestsOnce old new
+  pub rests : RestsAtMostOnce old new
   pub exchanges : length (clock_exchanges (call_trail old new)) ≤ 1
   pub some : call_trail old new ≢ []
   pub steps : length (call_trail old new) ≤ tidy_steps new
@@ -104,12 +107,12 @@ pub record MakesRoom (starts : State → Type 0) (allows : List ℕ → State �
   pub by_round : low_of old ≤ live_of old → live_of old < high_of old
       → IsEmpty new ⊎ ((holder : Holder) × HoldsInRound starts allows old new holder)
   pub by_tidy : high_of old ≤ live_of old → IsEmpty new ⊎ ((holder : Holder) × HoldsBack starts allows old new holder)
-  pub rests : RestsOnce old new
+  pub rests : RestsAtMostOnce old new
   pub steps : length (call_trail old new) ≤ tidy_steps new
 
 -- The table of a seat's log: its commits and rests, the chains that it cut and the slots that it freed, each by the seat's history or its
 -- trail; and the live slots. The versions that are live or freed are those of its commits' writes and of what its aborts held.
-pub record IsTableOf (s : Seat) (t : LogTable) : Type 0 where
+pub record IsSeatTable (s : Seat) (t : LogTable) : Type 0 where
   pub commits : t.commits ≡ length s.mine
   pub rests : t.rests ≡ s.rests
   pub back : t.back ≡ count_by is_won_cut s.trail

@@ -79,7 +79,7 @@ impl<'d, P: Protocol> Store for Handle<'d, P> {
 impl<'d, P: Protocol> Handle<'d, P> {
     ghost use Rattle.std.specs.Prelude.{◌≡◌};
     ghost use Rattle.mvrlu.specs.Placed.{seat_from};
-    ghost use Rattle.mvrlu.specs.Holding.{seats_of, Tidies, TidiesAlone, IsTableOf};
+    ghost use Rattle.mvrlu.specs.Holding.{seats_of, Tidies, TidiesAlone, IsSeatTable};
     ghost use Rattle.mvrlu.specs.Meant.{seat_of};
 
     /// Gives the loan of the domain back.
@@ -128,7 +128,7 @@ impl<'d, P: Protocol> Handle<'d, P> {
     /// their chain, `commits`, `aborts` of sections that held something, and `rests`. `live + freed` is as
     /// many as the writes of the seat's commits and the objects that its aborted sections held.
     pub fn table(&self) -> LogTable
-        ensures table { IsTableOf (seat_from self.now.seat.idle) result }
+        ensures table { IsSeatTable (seat_from self.now.seat.idle) result }
         ensures aborts { result.aborts ≡ self.now.seat.idle.log.aborts }
     {
         self.seat.idle.table()

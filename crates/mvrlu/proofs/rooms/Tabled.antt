@@ -9,7 +9,7 @@ use Rattle.mv_core.specs.Rings.{held_count}
 use Rattle.mv_core.proofs.kinds.entering.LoadTime.{holds_none}
 use Rattle.seat_log.specs.Tables.{table_of, Counts}
 use Rattle.mvrlu.specs.Placed.{Placed, seat_from, IsIdle}
-use Rattle.mvrlu.specs.Holding.{IsTableOf}
+use Rattle.mvrlu.specs.Holding.{IsSeatTable}
 
 -- outside a section nothing is held
 none_held : (starts : State → Type 0) (allows : List ℕ → State → Writes → Type 0) (p : Placed) → IsIdle starts allows p → held_count p.view.ring ≡ 0
@@ -17,7 +17,7 @@ none_held starts allows p idle =
     ∥∥₁_elim idle.placed.known (hlevel props) (λ k. holds_none p.view.ring (k.idle idle.outside.outside))
 
 pub tabled : (starts : State → Type 0) (allows : List ℕ → State → Writes → Type 0) (p : Placed) → IsIdle starts allows p → (t : LogTable) → t ≡ table_of p.log
-    → Counts p.view t → IsTableOf (seat_from p) t
+    → Counts p.view t → IsSeatTable (seat_from p) t
 tabled starts allows p idle t is counts =
     let none = none_held starts allows p idle in
     let spare = idle.placed.stands.spare in record {

@@ -1,7 +1,7 @@
 -- What entering a section means.
 use Rattle.std.proofs.Common.{◌≡◌, ℕ, ◌+◌, ◌-◌, ◌<◌, ◌≤◌, drop, false, List, [], ◌∷◌, ◌++◌, length, take, refl, sym, ap, ◌∙◌, subst, arith}
 use Rattle.std.specs.Prelude.{Contains, Some, None}
-use Rattle.std.proofs.lemmas.List.{take-take, length-take-le, length-append}
+use Rattle.std.proofs.lemmas.List.{length-take-le, length-append, take-append-drop}
 use Rattle.mv_history.specs.declared.Entry.{Entry}
 use Rattle.mv_history.specs.declared.Step.{Step}
 use Rattle.mv_history.specs.declared.StepKind.{StepKind}
@@ -15,6 +15,7 @@ use Rattle.mv_core.specs.Rings.{held_count, own_of, spare_count, writes_from, se
 use Rattle.mv_core.specs.Views.{time_in}
 use Rattle.mv_core.specs.HistoryFacts.{BeginsWith}
 use Rattle.mv_core.specs.WalkSteps.{IsWalking}
+use Rattle.mv_core.proofs.history.Fronts.{begins_by}
 use Rattle.mv_core.proofs.kinds.entering.LoadTime.{holds_none}
 use Rattle.reader_marks.specs.Sections.{Begins, IsEnterStep}
 use Rattle.seat_log.specs.Notes.{Noted}
@@ -24,13 +25,9 @@ use Rattle.mv_history.specs.State.{State, Writes}
 use Rattle.mv_core.specs.Known.{Known}
 use Rattle.version_chain.specs.Walks.{inside_of, section_in, time_at, MayWalk}
 use Rattle.mvrlu.specs.Placed.{Placed, seat_from, section_from, IsIdle, IsBusy}
-use Rattle.mv_core.specs.Passes.{home_of}
 use Rattle.mvrlu.specs.Causes.{Took}
-use Rattle.mvrlu.proofs.Trails.{kept, made, none_named}
-
--- what was seen is the first part of what is seen now
-pub front : (old new : List Entry) → BeginsWith new old → take (length old) new ≡ old
-front old new b = kept old new b.0 b.1
+use Rattle.mvrlu.proofs.Trails.{made, none_named}
+use Rattle.mvrlu.proofs.Continuing.{continues, placed_on}
 
 no_name : (k : StepKind) → IsEnterStep k → is_commit_exchange k ≡ false
 no_name LoadLow h = refl
@@ -60,22 +57,20 @@ module _ (c : Config) (v w : View) (time : ℕ) (b : Begins c v w time) where
       let short = length-take-le b.at w.past.seen b.within in
       omega arith
 
-  begun_seen : take (length v.past.seen) w.past.seen ≡ v.past.seen
-  begun_seen = sym (take-take (length v.past.seen) b.at w.past.seen longer) ∙ front v.past.seen (take b.at w.past.seen) b.snapshot
+  begun_begins : BeginsWith w.past.seen v.past.seen
+  begun_begins =
+      begins_by w.past.seen (take b.at w.past.seen) v.past.seen (drop b.at w.past.seen, sym (take-append-drop b.at w.past.seen)) b.snapshot
 
   begun_own : own_of c w.ring ≡ []
   begun_own = ap (writes_from c w.ring (set_first w.ring)) (holds_none w.ring b.nothing)
 
 -- a seat's place after it entered
-module _ (p q : Placed) (time : ℕ) (d : Config) (v : View) (d_is : d ≡ p.config) (v_is : v ≡ p.view) (begins : Begins d v q.view time) (base_is : p.view.base ≡ p.config.base) (config : q.config ≡ p.config) (table : q.table ≡ p.table) where
+module _ (p q : Placed) (time : ℕ) (b : Begins p.config p.view q.view time) (config : q.config ≡ p.config) (table : q.table ≡ p.table) where
   abbrev c : Config
   c = p.config
 
   abbrev w : View
   w = q.view
-
-  b : Begins c p.view w time
-  b = subst (λ (u : View). Begins c u w time) v_is (subst (λ (e : Config). Begins e v w time) d_is begins)
 
   at_is : time_at w - q.config.base ≡ b.at
   at_is = ap (λ (d : Config). time_at w - d.base) config ∙ begun_at c p.view w time b
@@ -86,16 +81,8 @@ module _ (p q : Placed) (time : ℕ) (d : Config) (v : View) (d_is : d ≡ p.con
   pub enters : Enters (seat_from p) (section_from q)
   enters = record {
     seat = record {
-      continues = record {
-        number = ap (λ (u : View). u.number) b.rest;
-        home = (λ i. home_of (config i) (table i));
-        write_max = ap (λ (d : Config). d.write_max) config;
-        start = ap (λ (u : View). u.start) b.rest;
-        base = ap (λ (u : View). u.base) b.rest;
-        last = refl;
-        seen = begun_seen c p.view w time b;
-        trail = kept p.view.trail w.trail b.entered.steps b.entered.trail;
-      };
+      continues = continues p q config table b.entered.steps (ap (λ (u : View). u.number) b.rest) (ap (λ (u : View). u.start) b.rest)
+          (ap (λ (u : View). u.base) b.rest) (begun_begins c p.view w time b) b.entered.trail;
       mine = ap (λ (u : View). u.past.mine) b.rest;
       rests = ap (λ (u : View). u.past.rests) b.rest;
       spare = ap (λ (u : View). spare_count u.ring) b.rest;
@@ -105,24 +92,20 @@ module _ (p q : Placed) (time : ℕ) (d : Config) (v : View) (d_is : d ≡ p.con
     names_no_commit = ap commit_exchanges trail_is ∙ none_named IsEnterStep no_name b.entered.steps b.entered.kinds;
   }
 
-  pub took : Took (seat_from p) (section_from q)
-  took = record {
+  pub took : p.view.base ≡ p.config.base → Took (seat_from p) (section_from q)
+  took base_is = record {
     word = b.inside.word;
     there = subst (λ steps. Contains steps (record { kind = LoadTime; word = 0; found = Some b.inside.word; stored = None })) (sym trail_is) b.entered.takes;
     time = (let t = b.word_is ∙ b.time_is in let base : w.base ≡ p.view.base = ap (λ (u : View). u.base) b.rest in let at = at_is in omega arith);
   }
 
-  pub busy : (starts : State → Type 0) (allows : List ℕ → State → Writes → Type 0) → IsIdle starts allows p → q.log ≡ p.log → ∥ Known starts allows w ∥₁ → IsBusy starts allows q
+  pub busy : (starts : State → Type 0) (allows : List ℕ → State → Writes → Type 0) → IsIdle starts allows p → q.log ≡ p.log
+      → ∥ Known starts allows w ∥₁ → IsBusy starts allows q
   busy starts allows idle log known =
       let stands : Stands c w p.log = stands_entered c p.view w p.log time b idle.placed.stands in
       let here : Stands q.config w q.log = subst (λ (e : Config). Stands e w q.log) (sym config) (subst (Stands c w) (sym log) stands) in record {
-        placed = record {
-          known = known;
-          range = subst (λ (e : Config). w.number < e.seats) (sym config) (subst (λ (n : ℕ). n < c.seats) (sym (ap (λ (u : View). u.number) b.rest)) idle.placed.range);
-          base = ap (λ (u : View). u.base) b.rest ∙ base_is ∙ sym (ap (λ (e : Config). e.base) config);
-          stands = here;
-          unbuilt = ap (λ (m : Noted). m.built) log ∙ idle.placed.unbuilt;
-        };
+        placed = placed_on starts allows p q config idle.placed (ap (λ (u : View). u.number) b.rest) (ap (λ (u : View). u.base) b.rest) known here
+            (ap (λ (m : Noted). m.built) log ∙ idle.placed.unbuilt);
         may = begun_may c p.view w time b;
         no_scan = ap (λ (u : View). u.scan) b.rest ∙ idle.outside.no_scan;
         few = (let none = holds_none w.ring b.nothing in let held = here.held in omega arith);

@@ -23,8 +23,8 @@ use Rattle.version_chain.specs.Reads.{words_in}
 use Rattle.object_lock.specs.Tops.{Tries, IsLockStep}
 use Rattle.mvrlu.specs.Placed.{Placed, seat_from, section_from, IsPlaced, IsBusy}
 use Rattle.mv_core.specs.Passes.{home_of}
-use Rattle.mvrlu.proofs.Trails.{kept, made, none_named}
-use Rattle.mvrlu.proofs.Begun.{front}
+use Rattle.mvrlu.proofs.Trails.{made, none_named}
+use Rattle.mvrlu.proofs.Continuing.{continues}
 
 no_name : (k : StepKind) → IsLockStep k → is_commit_exchange k ≡ false
 no_name LoadHead h = refl
@@ -36,21 +36,6 @@ no_name StoreBuilt h = refl
 no_name LockHead h = refl
 no_name _ h = absurd h
 
--- a place in a section after a call that left it in its section
-pub busy_on : (starts : State → Type 0) (allows : List ℕ → State → Writes → Type 0) (p q : Placed) → IsBusy starts allows p → q.config ≡ p.config → q.view.number ≡ p.view.number → q.view.base ≡ p.view.base → q.view.scan ≡ p.view.scan → ∥ Known starts allows q.view ∥₁ → MayWalk q.view → Stands q.config q.view q.log → q.log.built ≡ None → q.log.held ≤ q.config.write_max → IsBusy starts allows q
-busy_on starts allows p q is config number base scan known may stands unbuilt few = record {
-  placed = record {
-    known = known;
-    range = subst (λ (e : Config). q.view.number < e.seats) (sym config) (subst (λ (n : ℕ). n < p.config.seats) (sym number) is.placed.range);
-    base = base ∙ is.placed.base ∙ sym (ap (λ (c : Config). c.base) config);
-    stands = stands;
-    unbuilt = unbuilt;
-  };
-  may = may;
-  no_scan = scan ∙ is.no_scan;
-  few = few;
-}
-
 -- the words that a section reads of an object that it doesn't hold are those of its snapshot, later too
 pub unheld_words : (p q : Placed) (o : ℕ) → q.config ≡ p.config → q.view.phase ≡ p.view.phase → p.view.base ≡ p.config.base → Continues (seat_from p) (seat_from q) → time_at p.view - p.config.base ≤ length p.view.past.seen → touches (own_of p.config p.view.ring) o ≡ false → words_in p.config q.view o ≡ words_at (state_of (section_from p)) o
 unheld_words p q o config phase base on past lacks =
@@ -59,18 +44,11 @@ unheld_words p q o config phase base on past lacks =
     ∙ ap (λ s. words_at s o) (snapshot_of-later (section_from p) (record { seat = seat_from q; at = time_at p.view - p.config.base; own = [] }) on refl past)
     ∙ sym (words-written_other (snapshot_of (section_from p)) (own_of p.config p.view.ring) o lacks)
 
-module _ (p q : Placed) (before after : ℕ) (config : q.config ≡ p.config) (table : q.table ≡ p.table) (t : Tries p.view q.view before after) where
+module _ (p q : Placed) (before after : ℕ) (tried : List Step) (config : q.config ≡ p.config) (table : q.table ≡ p.table) (t : Tries p.view q.view before after tried) where
   pub tried_continues : Continues (seat_from p) (seat_from q)
-  tried_continues = record {
-    number = ap (λ (u : View). u.number) t.rest;
-    home = (λ i. home_of (config i) (table i));
-    write_max = ap (λ (d : Config). d.write_max) config;
-    start = ap (λ (u : View). u.start) t.rest;
-    base = ap (λ (u : View). u.base) t.rest;
-    last = refl;
-    seen = front p.view.past.seen q.view.past.seen t.seen;
-    trail = kept p.view.trail q.view.trail t.trail.0 t.trail.1;
-  }
+  tried_continues =
+      continues p q config table t.trail.0 (ap (λ (u : View). u.number) t.rest) (ap (λ (u : View). u.start) t.rest) (ap (λ (u : View). u.base) t.rest)
+      t.seen t.trail.1
 
   tried_at : time_at q.view - q.config.base ≡ time_at p.view - p.config.base
   tried_at =

@@ -16,14 +16,13 @@ use Rattle.mv_core.specs.Known.{Known}
 use Rattle.seat_log.specs.Stands.{Stands}
 use Rattle.seat_log.specs.Notes.{Noted}
 use Rattle.seat_log.proofs.PlainSteps.{LeavesLog, stands_left}
-use Rattle.mvrlu.proofs.LockMeant.{busy_on}
+use Rattle.mvrlu.proofs.Continuing.{continues, busy_on}
 use Rattle.version_chain.specs.Walks.{Walks, IsWalkStep, inside_of, time_at, MayWalk}
 use Rattle.version_chain.specs.Reads.{Reads}
 use Rattle.mvrlu.specs.Placed.{Placed, seat_from, section_from, IsBusy}
 use Rattle.mv_core.specs.Passes.{home_of}
 use Rattle.mvrlu.specs.Standing.{Stays}
-use Rattle.mvrlu.proofs.Trails.{kept, made, none_named}
-use Rattle.mvrlu.proofs.Begun.{front}
+use Rattle.mvrlu.proofs.Trails.{made, none_named}
 
 no_name : (k : StepKind) → IsWalkStep k → is_commit_exchange k ≡ false
 no_name LoadHead h = refl
@@ -66,16 +65,9 @@ looked kind other alone v x w k r = record {
 
 module _ (p q : Placed) (config : q.config ≡ p.config) (table : q.table ≡ p.table) (t : Looks p.view q.view) where
   pub look_continues : Continues (seat_from p) (seat_from q)
-  look_continues = record {
-    number = ap (λ (u : View). u.number) t.rest;
-    home = (λ i. home_of (config i) (table i));
-    write_max = ap (λ (d : Config). d.write_max) config;
-    start = ap (λ (u : View). u.start) t.rest;
-    base = ap (λ (u : View). u.base) t.rest;
-    last = refl;
-    seen = front p.view.past.seen q.view.past.seen t.seen;
-    trail = kept p.view.trail q.view.trail t.steps t.trail;
-  }
+  look_continues =
+      continues p q config table t.steps (ap (λ (u : View). u.number) t.rest) (ap (λ (u : View). u.start) t.rest) (ap (λ (u : View). u.base) t.rest)
+      t.seen t.trail
 
   look_at : time_at q.view - q.config.base ≡ time_at p.view - p.config.base
   look_at =
@@ -102,7 +94,7 @@ pub look_busy : (starts : State → Type 0) (allows : List ℕ → State → Wri
 look_busy starts allows p q config is t known may log =
     let number : q.view.number ≡ p.view.number = ap (λ (u : View). u.number) t.rest in
     let stands : Stands p.config q.view p.log = stands_left p.config p.view q.view p.log is.placed.stands number (ap (λ (u : View). u.ring) t.rest) (ap (λ (u : View). u.past.mine) t.rest) (ap (λ (u : View). u.past.rests) t.rest) t.steps t.trail t.leaves in
-    busy_on starts allows p q is config number (ap (λ (u : View). u.base) t.rest) (ap (λ (u : View). u.scan) t.rest) known may
+    busy_on starts allows p q config is number (ap (λ (u : View). u.base) t.rest) (ap (λ (u : View). u.scan) t.rest) known may
     (subst (λ (d : Config). Stands d q.view q.log) (sym config) (subst (λ (m : Noted). Stands p.config q.view m) (sym log) stands))
     (ap (λ (m : Noted). m.built) log ∙ is.placed.unbuilt)
     (subst (λ (m : Noted). m.held ≤ q.config.write_max) (sym log) (subst (λ (d : Config). p.log.held ≤ d.write_max) (sym config) is.few))

@@ -3,12 +3,14 @@ use Rattle.std.specs.Prelude.{◌≡◌, ℕ, ◌-◌, ◌<◌, ◌≤◌, List,
 use Rattle.atomic_table.specs.Seated.{TableId}
 use Rattle.mv_history.specs.State.{State, Writes}
 use Rattle.mv_history.specs.Meaning.{Seat, InSection}
+use Rattle.mv_history.specs.declared.Protocol.{Ghosts}
 use Rattle.mv_layout.specs.declared.Config.{Config}
 use Rattle.mv_core.specs.declared.view.View.{View}
 use Rattle.mv_core.specs.Rings.{own_of}
 use Rattle.mv_core.specs.Known.{Known}
 use Rattle.mv_core.specs.declared.shared.Shared.{Shared}
-use Rattle.mv_core.specs.Passes.{home_of, seat_meant, config_of, start_of, table_of}
+use Rattle.mv_core.specs.declared.shared.Pass.{Pass}
+use Rattle.mv_core.specs.Passes.{view, home_of, seat_meant, config_of, start_of, table_of, table_under}
 use Rattle.mv_core.specs.EnterSteps.{MayLoadLow}
 use Rattle.seat_log.specs.Notes.{Noted}
 use Rattle.seat_log.specs.Stands.{Stands}
@@ -20,6 +22,10 @@ pub record Placed : Type 0 where
   pub table : TableId
   pub view : View
   pub log : Noted
+
+-- of a pass and its log
+abbrev pub placed : {P : Type 0} {g : Ghosts P} → Config → Pass P g → Noted → Placed
+placed c pass log = record { config = c; table = table_under pass; view = view pass; log = log }
 
 -- the seat that it means
 abbrev pub seat_from : Placed → Seat

@@ -1,25 +1,25 @@
 -- What a reclaiming call leaves of a seat: its place is lawful, its history goes on, and its slots are counted.
-use Rattle.std.proofs.Common.{◌≡◌, ◌≢◌, ℕ, ◌+◌, ◌≤◌, false, Bool, cond, count_by, List, [], ◌∷◌, ◌++◌, length, drop, All, refl, sym, ap, ◌∙◌}
-use Rattle.std.proofs.Common.{subst, arith, length-append}
+use Rattle.std.proofs.Common.{◌≡◌, ◌≢◌, ℕ, ◌+◌, ◌≤◌, false, count_by, List, [], ◌∷◌, ◌++◌, length, drop, refl, sym, ap, ◌∙◌}
+use Rattle.std.proofs.Common.{arith, length-append}
 use Rattle.std.proofs.lemmas.List.Sums.{sum_by-append}
 use Rattle.mv_history.specs.State.{State, Writes}
 use Rattle.mv_history.specs.declared.Step.{Step}
 use Rattle.mv_history.specs.declared.StepKind.{StepKind}
 use Rattle.mv_history.specs.declared.StepKind.TheVariants.{NameCommit}
 use Rattle.mv_history.specs.Trail.{is_commit_exchange, commit_exchanges}
-use Rattle.mv_history.specs.Calls.{Prepares, call_trail}
+use Rattle.mv_history.specs.Calls.{Prepares}
 use Rattle.mv_layout.specs.declared.Config.{Config}
 use Rattle.mv_core.specs.declared.view.View.{View}
 use Rattle.mv_core.specs.Rings.{spare_count}
 use Rattle.mv_core.specs.Known.{Known}
-use Rattle.mv_core.specs.Passes.{home_of}
 use Rattle.mv_core.proofs.logs.Counts.{one_if}
 use Rattle.seat_log.specs.Notes.{Noted}
 use Rattle.seat_log.specs.Stands.{is_free, Stands}
 use Rattle.log_reclaim.specs.Parts.{NamesNoCommit, Reclaims, Shrinks, grace_load}
 use Rattle.log_reclaim.specs.Rounds.{FreesFirst}
 use Rattle.mvrlu.specs.Placed.{Placed, seat_from, IsIdle}
-use Rattle.mvrlu.proofs.Trails.{kept, made as made_since, none_named}
+use Rattle.mvrlu.proofs.Trails.{made as made_since, none_named}
+use Rattle.mvrlu.proofs.Continuing.{continues, placed_on}
 
 no_name : (k : StepKind) → NamesNoCommit k → is_commit_exchange k ≡ false
 no_name NameCommit h = absurd h
@@ -32,35 +32,21 @@ module _ (starts : State → Type 0) (allows : List ℕ → State → Writes →
   pub trail_is : drop (length p.view.trail) q.view.trail ≡ made
   trail_is = made_since p.view.trail q.view.trail made reclaims.trail
 
+  number_is : q.view.number ≡ p.view.number
+  number_is = ap (λ (x : View). x.number) reclaims.rest
+
+  base_is : q.view.base ≡ p.view.base
+  base_is = ap (λ (x : View). x.base) reclaims.rest
+
   pub idle_after : q.log.built ≡ p.log.built → IsIdle starts allows q
   idle_after built = record {
-    placed = record {
-      known = known;
-      range = (
-        let number : q.view.number ≡ p.view.number = ap (λ (x : View). x.number) reclaims.rest in
-        let seats : q.config.seats ≡ p.config.seats = ap (λ (d : Config). d.seats) config in
-        let range = idle.placed.range in
-        omega arith
-      );
-      base = ap (λ (x : View). x.base) reclaims.rest ∙ idle.placed.base ∙ ap (λ (d : Config). d.base) (sym config);
-      stands = stands;
-      unbuilt = built ∙ idle.placed.unbuilt;
-    };
+    placed = placed_on starts allows p q config idle.placed number_is base_is known stands (built ∙ idle.placed.unbuilt);
     outside = record { outside = reclaims.outside; no_scan = reclaims.no_scan };
   }
 
   pub prepared : Prepares (seat_from p) (seat_from q)
   prepared = record {
-    continues = record {
-      number = ap (λ (x : View). x.number) reclaims.rest;
-      home = λ i. home_of (config i) (table i);
-      write_max = ap (λ (d : Config). d.write_max) config;
-      start = ap (λ (x : View). x.start) reclaims.rest;
-      base = ap (λ (x : View). x.base) reclaims.rest;
-      last = refl;
-      seen = kept p.view.past.seen q.view.past.seen reclaims.seen.0 reclaims.seen.1;
-      trail = kept p.view.trail q.view.trail made reclaims.trail;
-    };
+    continues = continues p q config table made number_is (ap (λ (x : View). x.start) reclaims.rest) base_is reclaims.seen reclaims.trail;
     mine = reclaims.mine;
     names_no_commit = ap commit_exchanges trail_is ∙ none_named NamesNoCommit no_name made reclaims.kinds;
   }

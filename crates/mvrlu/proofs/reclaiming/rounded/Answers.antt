@@ -1,6 +1,6 @@
 use Rattle.std.proofs.Common.{◌≡◌, refl, sym, ap, ◌∙◌, subst}
-use Rattle.mv_core.specs.Passes.{view, config_of}
-use Rattle.mvrlu.specs.Placed.{Placed, seat_from}
+use Rattle.mv_core.specs.Passes.{config_of}
+use Rattle.mvrlu.specs.Placed.{Placed, placed, seat_from}
 use Rattle.mvrlu.specs.Holding.{Rounds}
 use Rattle.mvrlu.proofs.Names.{fits_config}
 use Rattle.mvrlu.proofs.Lawful.{seat_lawful}
@@ -11,8 +11,8 @@ pub invariant_of-idle : goal.invariant_of-idle
 invariant_of-idle g c =
     let i = c.idle.inside in
     let e = c.round.ensures in
-    let p : Placed = record { config = i.config; table = i.pass.seat.table_id; view = view i.pass; log = i.log } in
-    let q : Placed = record { config = i.config; table = c.round.new.pass.seat.table_id; view = view c.round.new.pass; log = c.round.new.log } in
+    let p = placed i.config i.pass i.log in
+    let q = placed i.config c.round.new.pass c.round.new.log in
     let same : config_of c.args.shared.now ≡ i.config =
     fits_config c.args.shared.now c.args.idle.now c.requires.fits ∙ ap (λ (x : Placed). x.config) (sym c.idle.view_is) in
     let k = has_rounded (config_of c.args.shared.now) i.config same p.view q.view p.log q.log c.round.result e.stands e.live e.shrinks e.rests e.reclaims
@@ -24,8 +24,8 @@ pub returns-clause-lawful : goal.returns-clause-lawful
 returns-clause-lawful g c =
     let i = c.idle.inside in
     let e = c.round.ensures in
-    let p : Placed = record { config = i.config; table = i.pass.seat.table_id; view = view i.pass; log = i.log } in
-    let q : Placed = record { config = i.config; table = c.round.new.pass.seat.table_id; view = view c.round.new.pass; log = c.round.new.log } in
+    let p = placed i.config i.pass i.log in
+    let q = placed i.config c.round.new.pass c.round.new.log in
     let same : config_of c.args.shared.now ≡ i.config =
     fits_config c.args.shared.now c.args.idle.now c.requires.fits ∙ ap (λ (x : Placed). x.config) (sym c.idle.view_is) in
     let k = has_rounded (config_of c.args.shared.now) i.config same p.view q.view p.log q.log c.round.result e.stands e.live e.shrinks e.rests e.reclaims
@@ -37,8 +37,8 @@ pub returns-clause-rounds : goal.returns-clause-rounds
 returns-clause-rounds g c =
     let i = c.idle.inside in
     let e = c.round.ensures in
-    let p : Placed = record { config = i.config; table = i.pass.seat.table_id; view = view i.pass; log = i.log } in
-    let q : Placed = record { config = i.config; table = c.round.new.pass.seat.table_id; view = view c.round.new.pass; log = c.round.new.log } in
+    let p = placed i.config i.pass i.log in
+    let q = placed i.config c.round.new.pass c.round.new.log in
     let same : config_of c.args.shared.now ≡ i.config =
     fits_config c.args.shared.now c.args.idle.now c.requires.fits ∙ ap (λ (x : Placed). x.config) (sym c.idle.view_is) in
     let k = has_rounded (config_of c.args.shared.now) i.config same p.view q.view p.log q.log c.round.result e.stands e.live e.shrinks e.rests e.reclaims

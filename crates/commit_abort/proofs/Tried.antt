@@ -56,7 +56,7 @@ module _ (c : Config) (v x : View) (word : ℕ) (h0 : List Entry) (whole : IsWho
   loads_first = record {
     trail = ap (λ (u : View). u.trail) is;
     few = omega arith;
-    loaded = (0, omega arith, refl);
+    loaded = refl;
     old = (let le = begins_long h0 v.past.seen whole.0 in let long = whole.1 in omega arith);
   }
 

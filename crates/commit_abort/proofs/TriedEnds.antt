@@ -86,7 +86,7 @@ module _ (c : Config) (v x : View) (word : ℕ) (h0 : List Entry) (whole : IsWho
       record {
         trail = at;
         few = omega arith;
-        loaded = (0, omega arith, refl);
+        loaded = refl;
         old = (let le = begins_long h0 v.past.seen whole.0 in let all = whole.1 in omega arith);
       }
 

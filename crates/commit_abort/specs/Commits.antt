@@ -1,5 +1,5 @@
 -- Committing what a section holds: what the call needs of the view, what it answers, and what it leaves.
-use Rattle.std.specs.Prelude.{◌≡◌, ◌≢◌, ℕ, ◌+◌, ◌-◌, ◌<◌, ◌≤◌, List, [], ◌∷◌, ◌++◌, length, Contains, Some, None}
+use Rattle.std.specs.Prelude.{◌≡◌, ◌≢◌, ℕ, ◌+◌, ◌-◌, ◌<◌, ◌≤◌, List, [], ◌∷◌, ◌++◌, length, Some, None, slice_get}
 use Rattle.mv_history.specs.declared.Entry.{Entry}
 use Rattle.mv_history.specs.declared.Entry.TheVariants.{Change}
 use Rattle.mv_history.specs.declared.Step.{Step}
@@ -34,11 +34,11 @@ pub record MayCommit (allows : List ℕ → State → Writes → Type 0) (c : Co
   pub some_held : 0 < held_count v.ring
   pub fit : IsFit allows (state_at v.start v.past.seen (time_in inside - c.base)) tag (own_of c v.ring)
 
--- this call loaded this word of CLOCK first, with all that had been seen before it in its history; the trail has at most so many steps more
+-- the first step of this call loaded this word of CLOCK, with all that had been seen before it in its history; the trail has at most so many steps more
 pub record LoadsClock (c : Config) (v w : View) (word most : ℕ) (steps : List Step) : Type 0 where
   pub trail : w.trail ≡ v.trail ++ steps
   pub few : length steps ≤ most
-  pub loaded : Contains steps (record { kind = LoadCheck; word = 0; found = Some word; stored = None })
+  pub loaded : slice_get steps 0 ≡ Some (record { kind = LoadCheck; word = 0; found = Some word; stored = None })
   pub old : c.base + length v.past.seen ≤ clock_time_of word
 
 -- The section's commit, of exactly what it held, is the entry of this time, which is the next after that of the word loaded; it

@@ -52,12 +52,15 @@ pub record ReadsMark (c : Config) (own : ℕ) (made : List Step) (seat low : ℕ
   pub in_range : seat < c.seats
   pub read : Contains made (mark_step c seat (1 + low))
 
--- a version of the oldest write set is of this object, and a write-back of it found a newer version in HEAD, another seat's
+-- a version of the oldest write set is of this object, committed and without a time of death, and a write-back of it found a newer
+-- version in HEAD, another seat's
 pub record OldestIsUnder (c : Config) (w : View) (l : Noted) (made : List Step) (object seat : ℕ) : Type 0 where
   pub index : ℕ
   pub note : Note
   pub at : IsNoteAt l index note
   pub oldest : note.first ≡ l.freed
+  pub committed : 0 < note.time
+  pub untimed : note.dead ≡ 0
   pub object_is : note.object ≡ object
   pub finds : FindsAbove c w made note seat
 

@@ -79,6 +79,7 @@ found_before c object seat start next trail made at f = record {
       ∙ ap (λ (l : List Step). l ++ f.head ∷ f.first ∷ f.stamp ∷ []) (append_assoc start made f.before);
   link = f.link;
   seat_is = f.seat_is;
+  in_range = f.in_range;
   on_top = f.on_top;
   position = f.position;
   begins = f.begins;

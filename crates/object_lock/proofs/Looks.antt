@@ -20,7 +20,7 @@ use Rattle.mv_core.specs.declared.view.Passed.TheVariants.{Nothing}
 use Rattle.mv_core.specs.declared.view.Walk as core
 use Rattle.mv_core.specs.declared.view.Walk.TheVariants as place
 use Rattle.mv_core.specs.Rings.{slot_at, index_of}
-use Rattle.mv_core.specs.WalkSteps.{IsPackedOf, IsOwnTop, IsOwnTime, StampSays, slot_named, head_loaded, first_loaded, stamp_loaded}
+use Rattle.mv_core.specs.WalkSteps.{IsLinkOf, IsPackedOf, IsOwnTop, IsOwnTime, StampSays, slot_named, head_loaded, first_loaded, stamp_loaded}
 use Rattle.mv_core.specs.LockSteps.{StandsToLock}
 use Rattle.version_chain.specs.Walks.{MayWalk, section_in, stand_of, stand_in, time_at, with_first, StandsAtVersion}
 use Rattle.version_chain.specs.Reads.{words_in, Reads}
@@ -82,8 +82,8 @@ module _ (c : Config) (v w x : View) (kind : StepKind) (object link found : ℕ)
       ∙ append_assoc v.trail (of_head ∷ []) (of_first ∷ of_stamp ∷ [])
 
   -- where the stamp was unset they found the object held
-  pub found_held : IsUnset found → FoundHeld c object (link_seat_of link) v.trail x.trail
-  found_held unset = record {
+  pub found_held : link_seat_of link < c.seats → IsUnset found → FoundHeld c object (link_seat_of link) v.trail x.trail
+  found_held range unset = record {
     before = [];
     head = of_head;
     first = of_first;
@@ -91,6 +91,7 @@ module _ (c : Config) (v w x : View) (kind : StepKind) (object link found : ℕ)
     steps = trail_is ∙ ap (λ (l : List Step). l ++ of_head ∷ of_first ∷ of_stamp ∷ []) (sym (append-nil v.trail));
     link = link;
     seat_is = refl;
+    in_range = range;
     on_top = (refl, refl, refl);
     position = looked.first;
     begins = refl;
@@ -153,9 +154,9 @@ module _ (c : Config) (v w x : View) (object link found : ℕ) (inside : Section
       }
 
   -- an unset stamp is of a version of another seat, which was found on top
-  pub held_elsewhere : IsUnheld v object → MayWalk v → IsOwnTop c v object link → IsUnset found
+  pub held_elsewhere : IsUnheld v object → MayWalk v → IsOwnTop c v object link → IsLinkOf c link → IsUnset found
       → (link_seat_of link ≢ v.number) × FoundHeld c object (link_seat_of link) v.trail x.trail
-  held_elsewhere unheld may own unset = (
+  held_elsewhere unheld may own packed unset = (
     λ seat.
         let top = own some seat in
         ⊎_elim
@@ -171,7 +172,7 @@ module _ (c : Config) (v w x : View) (object link found : ℕ) (inside : Section
         let low : found < 2 ^ 63 = time (seat ∙ sym (ap (λ (u : View). u.number) head)) top.0 made.0 there (section_in v) phase may.open_is in
         omega arith)
         top.4,
-    found_held c v w x LoadHead object link found (ap (λ (u : View). u.trail) head) link_there looked unset,
+    found_held c v w x LoadHead object link found (ap (λ (u : View). u.trail) head) link_there looked (packed some).1 unset,
   )
 
   -- where the walk stands then

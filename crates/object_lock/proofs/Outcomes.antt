@@ -82,7 +82,7 @@ module _ (c : Config) (v x : View) (object link found : ℕ) (may : MayWalk v) (
   -- an unset stamp
   pub busy_cause : IsUnset found → IsRefused c from x object (Busy (link_seat_of link))
   busy_cause unset =
-      (first.other, found_held c from v x LockHead object link found lost first.stands.link_is looked unset)
+      (first.other, found_held c from v x LockHead object link found lost first.stands.link_is looked first.stands.packed.1 unset)
 
   -- and a time
   pub stale_cause : found < 2 ^ 63 → IsRefused c from x object (Stale found)

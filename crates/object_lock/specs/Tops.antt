@@ -68,7 +68,7 @@ pub record Tries (v w : View) (before after : ℕ) (tried : List Step) : Type 0 
   pub exchanges : lock_exchanges trail.0 ≡ tried
   pub rest : w ≡ record v { past = record v.past { seen = w.past.seen }; walk = w.walk; empty = w.empty; ring = w.ring; trail = w.trail }
 
--- the last three of the steps that a trail has since `start` found the object held: HEAD named a version of that seat's log, and the
+-- the last three of the steps that a trail has since `start` found the object held: HEAD named a version of that seat's log, one of the domain's, and the
 -- stamp of its write set, loaded afterwards, was unset
 pub record FoundHeld (c : Config) (object seat : ℕ) (start trail : List Step) : Type 0 where
   pub before : List Step
@@ -78,6 +78,7 @@ pub record FoundHeld (c : Config) (object seat : ℕ) (start trail : List Step) 
   pub steps : trail ≡ start ++ before ++ head ∷ first ∷ stamp ∷ []
   pub link : ℕ
   pub seat_is : link_seat_of link ≡ seat
+  pub in_range : seat < c.seats
   pub on_top : (head.word ≡ place_of c (Head object)) × (head.found ≡ Some link) × (head.stored ≡ None)
   pub position : ℕ
   pub begins : first ≡ record { kind = LoadFirst; word = place_of c (First seat (slot_named c link)); found = Some position; stored = None }

@@ -14,7 +14,7 @@ returns-then-is_unset-clause-answers g c =
     let x = view c.stamp_at-stamp.new.pass in
     let r = held_elsewhere config v (view c.load_head-link.new.pass) x c.args.object c.load_head-link.result _ (section_in v) c.if-link-eq0.false
     c.load_head-link.ensures.view c.stamp_at-stamp.ensures.looked c.requires.unheld c.requires.may c.load_head-link.ensures.own
-    (c.if-is_unset.ensures.0 refl) in
+    c.load_head-link.ensures.link (c.if-is_unset.ensures.0 refl) in
     let seat_is = c.link_seat-seat.ensures in
     (λ same. r.0 (sym seat_is ∙ same), subst (λ (s : ℕ). FoundHeld config c.args.object s v.trail x.trail) (sym seat_is) r.1)
 

@@ -1,0 +1,38 @@
+-- What leaving a section means, with all that it held given up.
+use Rattle.std.proofs.Common.{◌≡◌, ℕ, false, List, [], refl, ap, ◌∙◌}
+use Rattle.std.specs.Prelude.{None}
+use Rattle.mv_history.specs.declared.StepKind.{StepKind}
+use Rattle.mv_history.specs.declared.StepKind.TheVariants.{UnlockHead, LoadDeath, ClearMark}
+use Rattle.mv_history.specs.State.{State, Writes}
+use Rattle.mv_history.specs.Trail.{is_clock_exchange, clock_exchanges}
+use Rattle.mv_history.specs.Calls.{Leaves}
+use Rattle.mv_core.specs.declared.view.View.{View}
+use Rattle.mv_core.specs.Known.{Known}
+use Rattle.seat_log.specs.Stands.{Stands}
+use Rattle.commit_abort.specs.Aborts.{Aborts, IsAbortStep}
+use Rattle.mvrlu.specs.Placed.{Placed, seat_from, section_from, IsIdle, IsBusy}
+use Rattle.mvrlu.proofs.Trails.{made, none_exchanged}
+use Rattle.mvrlu.proofs.Continuing.{continues, placed_on}
+
+no_exchange : (k : StepKind) → IsAbortStep k → is_clock_exchange k ≡ false
+no_exchange UnlockHead h = refl
+no_exchange LoadDeath h = refl
+no_exchange ClearMark h = refl
+no_exchange _ h = absurd h
+
+module _ (p q : Placed) (most : ℕ) (config : q.config ≡ p.config) (table : q.table ≡ p.table) (a : Aborts p.view q.view most) where
+  pub left_leaves : Leaves (section_from p) (seat_from q)
+  left_leaves = record {
+    continues = continues p q config table a.trail.0 (ap (λ (u : View). u.number) a.rest) (ap (λ (u : View). u.start) a.rest)
+        (ap (λ (u : View). u.base) a.rest) a.seen a.trail.1;
+    mine = ap (λ (u : View). u.past.mine) a.rest;
+    rests = ap (λ (u : View). u.past.rests) a.rest;
+    names_nothing = ap clock_exchanges (made p.view.trail q.view.trail a.trail.0 a.trail.1) ∙ none_exchanged IsAbortStep no_exchange a.trail.0 a.trail.3;
+  }
+
+  pub left_idle : (starts : State → Type 0) (allows : List ℕ → State → Writes → Type 0) → IsBusy starts allows p
+      → ∥ Known starts allows q.view ∥₁ → Stands q.config q.view q.log → q.log.built ≡ None → IsIdle starts allows q
+  left_idle starts allows is known stands unbuilt = record {
+    placed = placed_on starts allows p q config is.placed (ap (λ (u : View). u.number) a.rest) (ap (λ (u : View). u.base) a.rest) known stands unbuilt;
+    outside = record { outside = a.outside; no_scan = ap (λ (u : View). u.scan) a.rest ∙ is.no_scan };
+  }

@@ -1,0 +1,29 @@
+-- The name of a domain tells its numbers and its table, so a pass that fits a domain is of it.
+use Rattle.std.proofs.Common.{◌≡◌, ◌<◌, ℕ, List, sym, ap, ◌∙◌, subst}
+use Rattle.mv_history.specs.declared.Protocol.{Ghosts}
+use Rattle.mv_history.specs.State.{State, Writes}
+use Rattle.mv_layout.specs.declared.Config.{Config}
+use Rattle.mv_core.specs.declared.shared.Shared.{Shared}
+use Rattle.mv_core.specs.declared.shared.Pass.{Pass}
+use Rattle.mv_core.specs.Passes.{IsOf, config_of, table_of}
+use Rattle.mv_core.proofs.Homes.{homes_apart}
+use Rattle.seat_log.specs.Notes.{Noted}
+use Rattle.mvrlu.specs.Placed.{Placed, placed, IsPlaced, Fits}
+
+module _ {P : Type 0} (s : Shared P) (p : Placed) (f : Fits s p) where
+  pub fits_config : config_of s ≡ p.config
+  fits_config = sym (homes_apart p.config (config_of s) p.table (table_of s) f.0).0
+
+  pub fits_table : p.table ≡ table_of s
+  fits_table = (homes_apart p.config (config_of s) p.table (table_of s) f.0).1
+
+pub fits_pass : {P : Type 0} {g : Ghosts P} (starts : State → Type 0) (allows : List ℕ → State → Writes → Type 0) (s : Shared P) (c : Config)
+    (pass : Pass P g) (log : Noted) → Fits s (placed c pass log) → IsPlaced starts allows (placed c pass log) → pass.write_max ≡ c.write_max → IsOf s pass
+fits_pass starts allows s c pass log fits is most =
+    let config = sym (fits_config s (placed c pass log) fits) in (
+      fits_table s (placed c pass log) fits,
+      subst (λ (d : Config). pass.number < d.seats) config (subst (λ (n : ℕ). n < c.seats) (sym pass.numbered) is.range),
+      is.base ∙ ap (λ (d : Config). d.base) config,
+      fits.1,
+      most ∙ ap (λ (d : Config). d.write_max) config,
+    )

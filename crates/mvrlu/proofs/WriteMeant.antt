@@ -1,0 +1,25 @@
+-- What a write means.
+use Rattle.std.proofs.Common.{◌≡◌, ℕ, ◌-◌, [], refl, sym, ap, ◌∙◌, append-nil}
+use Rattle.mv_history.specs.declared.StepKind.TheVariants.{StoreData}
+use Rattle.mv_history.specs.Trail.{is_commit_exchange, commit_exchanges}
+use Rattle.mv_history.specs.Calls.{GoesOn}
+use Rattle.mv_core.specs.declared.view.View.{View}
+use Rattle.mv_core.specs.Views.{time_in}
+use Rattle.version_chain.specs.Walks.{inside_of}
+use Rattle.object_lock.specs.Writes.{Stores}
+use Rattle.mvrlu.specs.Placed.{Placed, section_from}
+use Rattle.mvrlu.proofs.Trails.{made, none_named}
+use Rattle.mvrlu.proofs.Continuing.{continues}
+
+module _ (p q : Placed) (n : ℕ) (config : q.config ≡ p.config) (table : q.table ≡ p.table) (t : Stores p.view q.view n) where
+  pub wrote_goes_on : GoesOn (section_from p) (section_from q)
+  wrote_goes_on =
+      let phase : q.view.phase ≡ p.view.phase = ap (λ (u : View). u.phase) t.rest in record {
+        continues = continues p q config table t.trail.0 (ap (λ (u : View). u.number) t.rest) (ap (λ (u : View). u.start) t.rest)
+            (ap (λ (u : View). u.base) t.rest) ([], ap (λ (u : View). u.past.seen) t.rest ∙ sym (append-nil p.view.past.seen)) t.trail.1;
+        mine = ap (λ (u : View). u.past.mine) t.rest;
+        rests = ap (λ (u : View). u.past.rests) t.rest;
+        at = (λ i. time_in (inside_of (phase i)) - (config i).base);
+        names_no_commit = ap commit_exchanges (made p.view.trail q.view.trail t.trail.0 t.trail.1)
+            ∙ none_named (λ k. k ≡ StoreData) (λ k e. ap is_commit_exchange e) t.trail.0 t.trail.3;
+      }

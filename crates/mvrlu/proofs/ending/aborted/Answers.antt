@@ -1,0 +1,57 @@
+use Rattle.std.proofs.Common.{rules, ◌≡◌, refl, sym, ap, ◌∙◌, subst}
+use Rattle.mv_history.specs.Calls.{Leaves}
+use Rattle.mv_layout.specs.declared.Config.{Config}
+use Rattle.mv_core.specs.Passes.{view, config_of}
+use Rattle.seat_log.specs.Notes.{Noted}
+use Rattle.seat_log.specs.Stands.{Stands}
+use Rattle.mvrlu.specs.Placed.{Placed, placed, seat_from, section_from, Fits}
+use Rattle.mvrlu.proofs.Names.{fits_config, fits_pass}
+use Rattle.mvrlu.proofs.Lawful.{seat_lawful}
+use Rattle.mvrlu.proofs.Leaving.{left_leaves, left_idle}
+use Rattle.mvrlu.proofs.ending.aborted.Goals as goal
+
+pub abort-requires : goal.abort-requires
+abort-requires g c κs within =
+    let i = c.busy.inside in
+    let is = c.busy.invariant in
+    let p = placed i.config i.pass i.log in
+    let fits = subst (Fits c.args.shared.now) (sym c.busy.view_is) c.requires.fits in
+    let config : config_of c.args.shared.now ≡ i.config = fits_config c.args.shared.now p fits in (
+      search rules,
+      (
+        search rules,
+        (
+          fits_pass g.P.Protocol.start g.P.Protocol.allowed c.args.shared.now i.config i.pass i.log fits is.1.placed is.0,
+          (
+            record { phase = is.1.may.phase; open_is = is.1.may.open_is },
+            (subst (λ (d : Config). Stands d (view i.pass) i.log) (sym config) is.1.placed.stands, is.1.placed.unbuilt),
+          ),
+        ),
+      ),
+    )
+
+pub invariant_of-result : goal.invariant_of-result
+invariant_of-result g c =
+    let i = c.busy.inside in
+    let is = c.busy.invariant in
+    let e = c.abort.ensures in
+    let p = placed i.config i.pass i.log in
+    let q = placed i.config c.abort.new.pass c.abort.new.log in
+    let config : config_of c.args.shared.now ≡ i.config = fits_config c.args.shared.now p (subst (Fits c.args.shared.now) (sym c.busy.view_is) c.requires.fits) in (
+      e.same.2 ∙ is.0,
+      left_idle p q _ refl e.same.0 e.aborts g.P.Protocol.start g.P.Protocol.allowed is.1 c.abort.new.pass.known
+          (subst (λ (d : Config). Stands d (view c.abort.new.pass) c.abort.new.log) config e.stands)
+          (ap (λ (l : Noted). l.built) e.log.1 ∙ is.1.placed.unbuilt),
+    )
+
+pub returns-clause-lawful : goal.returns-clause-lawful
+returns-clause-lawful g c =
+    seat_lawful g.P.Protocol.start g.P.Protocol.allowed g.P.Protocol.one_start g.P.Protocol.one_allowed
+    (placed c.busy.inside.config c.abort.new.pass c.abort.new.log) (invariant_of-result g c).1.placed
+
+pub returns-clause-leaves : goal.returns-clause-leaves
+returns-clause-leaves g c =
+    let i = c.busy.inside in
+    let q = placed i.config c.abort.new.pass c.abort.new.log in
+    subst (λ (p : Placed). Leaves (section_from p) (seat_from q)) c.busy.view_is
+    (left_leaves (placed i.config i.pass i.log) q _ refl c.abort.ensures.same.0 c.abort.ensures.aborts)

@@ -1,0 +1,5 @@
+pub mod Placed
+pub mod Causes
+pub mod Holding
+pub mod Meant
+pub mod Standing

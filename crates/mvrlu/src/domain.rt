@@ -1,0 +1,20 @@
+// A domain, and its seats.
+ghost use Rattle.mv_history.specs.Laws.{IsSeat-prop};
+ghost use Rattle.mv_history.specs.Meaning.{IsSeat};
+ghost use Rattle.mvrlu.specs.Placed.{seat_from};
+
+use crate::places::Idle;
+use mv_core::Shared;
+use mv_history::Protocol;
+
+/// The shared words of a domain. It owns their memory.
+#[derive(Drop)]
+pub struct Domain<P: Protocol> {
+    pub(crate) shared: Shared<P>,
+}
+
+/// A seat of a domain: outside a section, and in no thread's hands. It must be spent.
+pub struct Seat<P: Protocol> {
+    pub(crate) idle: Idle<P>,
+    pub ghost lawful: { IsSeat P.start P.allowed (seat_from idle) } by { IsSeat-prop P.start P.allowed P.one_start P.one_allowed (seat_from idle) },
+}

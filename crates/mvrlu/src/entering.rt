@@ -1,0 +1,36 @@
+// Entering a section.
+ghost use Rattle.std.specs.Prelude.{◌≡◌, ◌<◌};
+ghost use Rattle.mv_history.specs.Meaning.{IsSection};
+ghost use Rattle.mv_history.specs.Calls.{Enters};
+ghost use Rattle.mvrlu.specs.Placed.{seat_from, section_from, Fits};
+ghost use Rattle.mvrlu.specs.Causes.{Took};
+
+use crate::places::{Busy, Idle};
+use mv_core::{Shared, Steps};
+use mv_history::Protocol;
+use reader_marks::enter;
+use std::sync::ledger::{Blank, Ledger};
+
+// Begins a section.
+pub(crate) fn entered<P: Protocol, L: Ledger>(
+    shared: &Shared<P>,
+    idle: Idle<P>,
+    blank: Blank,
+) -> Busy<P>
+    requires name { blank.name ≡ L.name }
+    requires parts { (blank.parts ≡ L.parts) × (0 < L.parts) }
+    requires fits { Fits shared.now idle }
+    ensures fits { Fits shared.now result }
+    ensures lawful { IsSection P.start P.allowed (section_from result) }
+    ensures enters { Enters (seat_from idle) (section_from result) }
+    ensures took { Took (seat_from idle) (section_from result) }
+{
+    let mut steps = Steps::<L>::open(blank);
+    let Idle {
+        mut pass,
+        log,
+        config,
+    } = idle;
+    let _ = enter(shared, &mut pass, &mut steps);
+    Busy { pass, log, config }
+}

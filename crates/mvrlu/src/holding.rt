@@ -1,0 +1,99 @@
+// Locking objects in a section, and writing what it holds.
+ghost use Rattle.std.specs.Prelude.{◌≡◌, ◌≢◌, ◌↔◌, ℕ, ◌<◌, ◌≤◌, length, false, IfSome, IfNone};
+ghost use Rattle.mv_history.specs.State.{touches};
+ghost use Rattle.mv_history.specs.Meaning.{IsSection, state_of, words_at, Holds, Lacks};
+ghost use Rattle.mv_history.specs.Calls.{GoesOn, IsAsBefore, IsSetFull, IsLogFull, Locks, Rewrites, IsStale};
+ghost use Rattle.mv_history.specs.declared.answers.LockAnswer.TheVariants.{Held, Busy as IsTaken, Stale, SetFull, LogFull};
+ghost use Rattle.mv_core.specs.Passes.{start_of};
+ghost use Rattle.seat_log.specs.Notes.{held_from, IsNoteAt};
+ghost use Rattle.object_lock.specs.Locks.{HoldsObject};
+ghost use Rattle.mvrlu.specs.Placed.{section_from, Fits};
+ghost use Rattle.mvrlu.specs.Causes.{FoundLocked};
+
+use crate::places::Busy;
+use mv_core::{Shared, Steps};
+use mv_history::{LockAnswer, Protocol, Words};
+use object_lock::{lock, write};
+use seat_log::{Log, Note, held, live, note};
+use std::sync::ledger::{Blank, Ledger};
+
+// The note of the section's version of an object, if it holds the object.
+fn noted(log: &Log, object: u32) -> Option<Note>
+    ensures some { IfSome result (λ n. (i : ℕ) × IsNoteAt log.now i n × (held_from log.now ≤ i) × (n.object ≡ object)) }
+    ensures none { IfNone result (HoldsObject log.now object → ⊥) }
+{
+    let end = live(log);
+    for index in end - held(log)..end {
+        let version = note(log, index);
+        if version.object == object {
+            return Some(version);
+        }
+    }
+    None
+}
+
+// The words of an object that the section holds.
+pub(crate) fn held_words<P: Protocol>(busy: &Busy<P>, object: u32) -> Option<Words>
+    ensures some { IfSome result (λ words. Holds (section_from busy.now) object × (words ≡ words_at (state_of (section_from busy.now)) object)) }
+    ensures none { IfNone result (Lacks (section_from busy.now) object) }
+    ensures lawful { IsSection P.start P.allowed (section_from busy.now) }
+{
+    match noted(&busy.log, object) {
+        Some(version) => Some(version.words),
+        None => None,
+    }
+}
+
+// Tries to hold an object.
+pub(crate) fn locked<P: Protocol, L: Ledger>(
+    shared: &Shared<P>,
+    busy: &mut Busy<P>,
+    object: u32,
+    blank: Blank,
+) -> LockAnswer
+    requires name { blank.name ≡ L.name }
+    requires parts { (blank.parts ≡ L.parts) × (0 < L.parts) }
+    requires fits { Fits shared.now busy.old }
+    requires range { object < length (start_of shared.now) }
+    ensures fits { Fits shared.now busy.new }
+    ensures lawful { IsSection P.start P.allowed (section_from busy.new) }
+    ensures goes_on { GoesOn (section_from busy.old) (section_from busy.new) }
+    ensures refused { result ≢ Held → IsAsBefore (section_from busy.old) (section_from busy.new) }
+    ensures again { Holds (section_from busy.old) object → (result ≡ Held) × (section_from busy.new ≡ section_from busy.old) }
+    ensures set_full { (result ≡ SetFull) ↔ (Lacks (section_from busy.old) object × IsSetFull (section_from busy.old)) }
+    ensures log_full { (result ≡ LogFull) ↔ (Lacks (section_from busy.old) object × ¬ IsSetFull (section_from busy.old) × IsLogFull (section_from busy.old)) }
+    ensures taken { (seat : ℕ) → result ≡ IsTaken seat → (seat ≢ (section_from busy.old).seat.number) × FoundLocked (section_from busy.old) (section_from busy.new) object seat }
+    ensures stale { (time : ℕ) → result ≡ Stale time → IsStale (section_from busy.new) object time }
+    ensures held { result ≡ Held → Lacks (section_from busy.old) object → Locks (section_from busy.old) (section_from busy.new) object }
+{
+    let mut steps = Steps::<L>::open(blank);
+    lock(shared, &mut busy.pass, &mut busy.log, object, &mut steps)
+}
+
+// Gives a held object these words.
+pub(crate) fn written<P: Protocol, L: Ledger>(
+    shared: &Shared<P>,
+    busy: &mut Busy<P>,
+    object: u32,
+    words: Words,
+    blank: Blank,
+)
+    requires name { blank.name ≡ L.name }
+    requires parts { (blank.parts ≡ L.parts) × (0 < L.parts) }
+    requires fits { Fits shared.now busy.old }
+    requires held { Holds (section_from busy.old) object }
+    ensures fits { Fits shared.now busy.new }
+    ensures lawful { IsSection P.start P.allowed (section_from busy.new) }
+    ensures goes_on { GoesOn (section_from busy.old) (section_from busy.new) }
+    ensures rewrites { Rewrites (section_from busy.old) (section_from busy.new) object words }
+{
+    let mut steps = Steps::<L>::open(blank);
+    write(
+        shared,
+        &mut busy.pass,
+        &mut busy.log,
+        object,
+        words,
+        &mut steps,
+    )
+}

@@ -1,0 +1,61 @@
+// Reading an object in a section.
+ghost use Rattle.std.specs.Prelude.{◌≡◌, ◌<◌, length};
+ghost use Rattle.mv_history.specs.Meaning.{IsSection, Lacks, state_of, words_at};
+ghost use Rattle.mv_core.specs.Passes.{start_of};
+ghost use Rattle.mvrlu.specs.Placed.{section_from, Fits};
+ghost use Rattle.mvrlu.specs.Standing.{Stays};
+
+use crate::holding::held_words;
+use crate::places::Busy;
+use mv_core::{Shared, Steps};
+use mv_history::{Protocol, Words};
+use std::sync::ledger::{Blank, Ledger};
+use version_chain::{Found, find, read_master, read_version};
+
+// The words of an object that the section doesn't hold.
+fn read_below<P: Protocol, L: Ledger>(
+    shared: &Shared<P>,
+    busy: &mut Busy<P>,
+    object: u32,
+    blank: Blank,
+) -> Words
+    requires name { blank.name ≡ L.name }
+    requires parts { (blank.parts ≡ L.parts) × (0 < L.parts) }
+    requires fits { Fits shared.now busy.old }
+    requires range { object < length (start_of shared.now) }
+    requires lacks { Lacks (section_from busy.old) object }
+    ensures fits { Fits shared.now busy.new }
+    ensures lawful { IsSection P.start P.allowed (section_from busy.new) }
+    ensures words { result ≡ words_at (state_of (section_from busy.old)) object }
+    ensures stays { Stays (section_from busy.old) (section_from busy.new) }
+{
+    let mut steps = Steps::<L>::open(blank);
+    match find(shared, &mut busy.pass, object, &mut steps) {
+        Found::Master => read_master(shared, &mut busy.pass, object, &mut steps),
+        Found::Version { seat, position } => {
+            read_version(shared, &mut busy.pass, seat, position, &mut steps)
+        }
+    }
+}
+
+// The words of an object in a section: those of its own version, where it holds the object.
+pub(crate) fn read_in<P: Protocol, L: Ledger>(
+    shared: &Shared<P>,
+    busy: &mut Busy<P>,
+    object: u32,
+    blank: Blank,
+) -> Words
+    requires name { blank.name ≡ L.name }
+    requires parts { (blank.parts ≡ L.parts) × (0 < L.parts) }
+    requires fits { Fits shared.now busy.old }
+    requires range { object < length (start_of shared.now) }
+    ensures fits { Fits shared.now busy.new }
+    ensures lawful { IsSection P.start P.allowed (section_from busy.new) }
+    ensures words { result ≡ words_at (state_of (section_from busy.old)) object }
+    ensures stays { Stays (section_from busy.old) (section_from busy.new) }
+{
+    match held_words(busy, object) {
+        Some(words) => words,
+        None => read_below::<P, L>(shared, busy, object, blank),
+    }
+}

@@ -1,8 +1,5 @@
 // A view, a section and a store that tests read through.
-use mv_history::{
-    CommitAnswer, LockAnswer, PlainSection, PlainStore, Room, Section, Store, Tag, View, Words,
-};
-use set_script::SetRules;
+use mv_history::{CommitAnswer, LockAnswer, Room, Section, Store, Tag, View, Words};
 
 // A view that counts its reads, a section that does, or a store whose sections do.
 pub struct Counted<V> {
@@ -33,32 +30,32 @@ impl<V: View> View for Counted<V> {
     ghost are_words = { λ v. V.are_words v.view };
 }
 
-impl Section for Counted<PlainSection<SetRules>> {
-    type Rules = SetRules;
+impl<T: Section> Section for Counted<T> {
+    type Rules = T::Rules;
 
-    type Back = Counted<PlainStore<SetRules>>;
+    type Back = Counted<T::Back>;
 
-    ghost section = { λ s. ⟦<PlainSection<SetRules> as Section>⟧.section s.view };
+    ghost section = { λ s. T.section s.view };
 
-    ghost stands = { λ b. ⟦<PlainSection<SetRules> as Section>⟧.stands b.view };
+    ghost stands = { λ b. T.stands b.view };
 
-    ghost may_refuse = { ⟦<PlainSection<SetRules> as Section>⟧.may_refuse };
+    ghost may_refuse = { T.may_refuse };
 
-    ghost has_trail = { ⟦<PlainSection<SetRules> as Section>⟧.has_trail };
+    ghost has_trail = { T.has_trail };
 
-    ghost found_held = { ⟦<PlainSection<SetRules> as Section>⟧.found_held };
+    ghost found_held = { T.found_held };
 
-    ghost loaded = { ⟦<PlainSection<SetRules> as Section>⟧.loaded };
+    ghost loaded = { T.loaded };
 
-    ghost reads = { λ s. ⟦<PlainSection<SetRules> as Section>⟧.reads s.view };
+    ghost reads = { λ s. T.reads s.view };
 
-    ghost others_stay = { λ s t. ⟦<PlainSection<SetRules> as Section>⟧.others_stay s.view t.view };
+    ghost others_stay = { λ s t. T.others_stay s.view t.view };
 
-    ghost goes_on = { λ s t. ⟦<PlainSection<SetRules> as Section>⟧.goes_on s.view t.view };
+    ghost goes_on = { λ s t. T.goes_on s.view t.view };
 
-    ghost lawful = { λ s. ⟦<PlainSection<SetRules> as Section>⟧.lawful s.view };
+    ghost lawful = { λ s. T.lawful s.view };
 
-    ghost back_lawful = { λ b. ⟦<PlainSection<SetRules> as Section>⟧.back_lawful b.view };
+    ghost back_lawful = { λ b. T.back_lawful b.view };
 
     fn at(&self) -> u64 {
         self.view.at()
@@ -88,7 +85,7 @@ impl Section for Counted<PlainSection<SetRules>> {
         self.view.write(object, words)
     }
 
-    fn try_commit(self, tag: Tag) -> CommitAnswer<Counted<PlainStore<SetRules>>, Self> {
+    fn try_commit(self, tag: Tag) -> CommitAnswer<Counted<T::Back>, Self> {
         let Counted { view, reads } = self;
         match view.try_commit(tag) {
             CommitAnswer::Done(view, time) => CommitAnswer::Done(Counted { view, reads }, time),
@@ -97,7 +94,7 @@ impl Section for Counted<PlainSection<SetRules>> {
         }
     }
 
-    fn abort(self) -> Counted<PlainStore<SetRules>> {
+    fn abort(self) -> Counted<T::Back> {
         let Counted { view, reads } = self;
         Counted {
             view: view.abort(),
@@ -105,7 +102,7 @@ impl Section for Counted<PlainSection<SetRules>> {
         }
     }
 
-    fn leave(self) -> Counted<PlainStore<SetRules>> {
+    fn leave(self) -> Counted<T::Back> {
         let Counted { view, reads } = self;
         Counted {
             view: view.leave(),
@@ -114,20 +111,20 @@ impl Section for Counted<PlainSection<SetRules>> {
     }
 }
 
-impl Store for Counted<PlainStore<SetRules>> {
-    type Rules = SetRules;
+impl<S: Store> Store for Counted<S> {
+    type Rules = S::Rules;
 
-    type Open = Counted<PlainSection<SetRules>>;
+    type Open = Counted<S::Open>;
 
-    ghost seat_of = { λ s. ⟦<PlainStore<SetRules> as Store>⟧.seat_of s.view };
+    ghost seat_of = { λ s. S.seat_of s.view };
 
-    ghost took = { ⟦<PlainStore<SetRules> as Store>⟧.took };
+    ghost took = { S.took };
 
-    ghost holds_back = { ⟦<PlainStore<SetRules> as Store>⟧.holds_back };
+    ghost holds_back = { S.holds_back };
 
-    ghost same_seat = { λ s. ⟦<PlainStore<SetRules> as Store>⟧.same_seat s.view };
+    ghost same_seat = { λ s. S.same_seat s.view };
 
-    ghost lawful = { λ s. ⟦<PlainStore<SetRules> as Store>⟧.lawful s.view };
+    ghost lawful = { λ s. S.lawful s.view };
 
     fn seat(&self) -> u32 {
         self.view.seat()
@@ -141,7 +138,7 @@ impl Store for Counted<PlainStore<SetRules>> {
         self.view.prepare()
     }
 
-    fn enter(self) -> Counted<PlainSection<SetRules>> {
+    fn enter(self) -> Counted<S::Open> {
         let Counted { view, reads } = self;
         Counted {
             view: view.enter(),

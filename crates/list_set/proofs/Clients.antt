@@ -18,9 +18,7 @@ use Rattle.set_script.specs.Lawful.{IsLawful}
 use Rattle.list_set.specs.Places.{add_writes, del_writes}
 use Rattle.set_script.specs.OwnWrites.{with_locks, with_writes, objects_of}
 use Rattle.list_set.specs.Held.{count_unheld, HasRoom}
-use Rattle.list_set.specs.Calls.{Rewritten, Adds, Takes, IsCause, Refuses}
-use Rattle.list_set.specs.declared.answers.Cause.{Cause}
-use Rattle.list_set.specs.declared.answers.Cause.TheVariants.{Busy, Stale, Rival, LogFull}
+use Rattle.list_set.specs.Calls.{Rewritten, Adds, Takes}
 use Rattle.list_set.proofs.OwnWrites.{length-with_locks}
 use Rattle.list_set.proofs.Parts.{place_not_vacant}
 use Rattle.list_set.proofs.Removing.{Removal, removal}
@@ -59,17 +57,6 @@ rewritten-writes old new o p x y apart none r =
   where
     from_none : (s : State) → with_writes (with_locks s [] (o ∷ p ∷ [])) ((o, x) ∷ (p, y) ∷ []) ≡ (o, x) ∷ (p, y) ∷ []
     from_none s = grind (arith, nat_tests)
-
--- a refusal shows that the store may refuse, which the plain store never does
-pub refuses-may : (may : Type 0) (found : InSection → InSection → ℕ → ℕ → Type 0) (old new : InSection) (objects : List ℕ) (cause : Cause)
-    → Refuses may found old new objects cause → may
-refuses-may may found old new objects cause r = go cause r.refused.why
-  where
-    go : (c : Cause) → IsCause may found r.before new r.object c → may
-    go (Busy object seat) w = w.1
-    go (Stale object time) w = w.1
-    go (Rival rival) w = absurd w
-    go (LogFull holder) w = absurd w
 
 -- An add changes no vacant node but its own.
 pub adds-length : (old new : InSection) (head k value node : ℕ) → Adds old new head k value node → length (state_of new) ≡ length (state_of old)

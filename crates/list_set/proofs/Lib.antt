@@ -10,6 +10,5 @@ pub mod Holding
 pub mod Spots
 pub mod Clients
 pub mod Filling
-pub mod SectionFits
 pub mod ListHalves
 pub mod ListWays

@@ -1,22 +1,17 @@
--- The ways to add, take out and put a key in a list or a bucket, and the calls that take them.
-use Rattle.std.proofs.Common.{List, Some, [], ap, arith, inl, inr, length, refl, subst, sym, ℕ, ◌<◌, ◌∙◌, ◌∷◌, ◌≡◌, ◌≢◌, ◌≤◌}
-use Rattle.mv_history.specs.Meaning.{InSection, state_of, words_at}
+-- The ways to add, take out and put a key in a list or a bucket.
+use Rattle.std.proofs.Common.{List, [], ap, arith, inl, inr, refl, subst, sym, ℕ, ◌<◌, ◌∙◌, ◌∷◌, ◌≡◌, ◌≢◌}
+use Rattle.mv_history.specs.Meaning.{words_at}
 use Rattle.mv_history.specs.State.{State}
-use Rattle.set_script.specs.Catalogue.{map_of, value_of}
-use Rattle.set_script.specs.CatalogueOf.{catalogue_of, name_of}
 use Rattle.set_script.specs.Lawful.{IsLawful}
 use Rattle.set_script.specs.Lists.{FitsHead}
-use Rattle.set_script.specs.Objects.{link, list_words, no_words, owner, relink, revalue, value}
+use Rattle.set_script.specs.Objects.{link, list_words, no_words, relink, revalue, value}
 use Rattle.set_script.proofs.ObjectWords.{word}
 use Rattle.set_script.proofs.TreeShape.{IsIn}
 use Rattle.set_script.proofs.Ways.{AddWay, DelWay, IsAt, PutWay}
-use Rattle.set_script.proofs.Entries.{value_once}
 use Rattle.set_script.proofs.Written.{distinct-pair}
-use Rattle.list_set.proofs.ListHalves.{add_half, add_place_stays, del_half, node_has, put_half, still_in}
+use Rattle.list_set.proofs.ListHalves.{add_half, add_place_stays, del_half, put_half, still_in}
 use Rattle.list_set.proofs.Parts.{place_not_vacant}
-use Rattle.list_set.proofs.Removing.{Removal, removal}
-use Rattle.list_set.proofs.SectionFits.{KeyAdded, KeyRemoved, KeyUpdated}
-use Rattle.list_set.specs.Calls.{Adds, Puts, Takes}
+use Rattle.list_set.proofs.Removing.{removal}
 use Rattle.list_set.specs.Places.{IsAddPlace, IsDelPlace, IsPutPlace, add_writes, del_writes, put_writes}
 
 -- An add: it depends on its predecessor alone, and takes a vacant node.
@@ -88,42 +83,3 @@ list_put_way head k v n lh = record {
       record { is_node = a.0.is_node; own = ap (word 0) e ∙ a.0.own; has = ap (word 2) e ∙ a.0.has },
       λ z. a.1 (sym (ap (word 5) e) ∙ z),
     )
-
--- What the calls leave.
-module _ (old new : InSection) (head k : ℕ) (lh : head < 170) (l : IsLawful (state_of old)) where
-  -- an add that answered `Yes`
-  pub adds_added : (v node : ℕ) → FitsHead head k → 180 ≤ node → node < length (state_of old) → owner (state_of old) node ≡ 0 → Adds old new head k v node
-      → KeyAdded old new head k v
-  unfolding list_add_way
-  adds_added v node fit lo lt vac a = record {
-    way = list_add_way head k v a.previous node lh fit;
-    place = a.place;
-    vacant = λ o i.
-        elim i [ inl e ↦ subst (λ u. (180 ≤ u) × (u < length (state_of old)) × (owner (state_of old) u ≡ 0)) (sym e) (lo, lt, vac) | inr e ↦ absurd e ];
-    writes = a.change;
-  }
-
-  -- a del that answered `Took`, of a key with this value
-  pub takes_removed : (v node : ℕ) → value_of k (map_of (name_of head) (catalogue_of (state_of old))) ≡ Some v → Takes old new head k node
-      → KeyRemoved old new head k v
-  unfolding list_del_way
-  takes_removed v node has t =
-      let m : Removal (state_of old) head k t.previous node = removal (state_of old) head k t.previous node l lh t.place in
-      let is : value (state_of old) node ≡ v = value_once k _ _ _ (node_has (state_of old) head k node l lh m.node m.own t.place.has) has in
-      record {
-        way = list_del_way head k v t.previous node lh;
-        place = (t.place, is);
-        vacant = λ o i. absurd i;
-        writes = t.change;
-      }
-
-  -- a put that answered `Yes`, of a key that didn't have this value
-  pub puts_updated : (v : ℕ) → (value_of k (map_of (name_of head) (catalogue_of (state_of old))) ≡ Some v → ⊥) → Puts old new head k v
-      → KeyUpdated old new head k v
-  unfolding list_put_way
-  puts_updated v lacks p = record {
-    way = list_put_way head k v p.node lh;
-    place = (p.place, λ e. lacks (node_has (state_of old) head k p.node l lh p.place.is_node p.place.own p.place.has ∙ ap Some e));
-    vacant = λ o i. absurd i;
-    writes = p.change;
-  }

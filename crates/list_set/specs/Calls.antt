@@ -10,7 +10,7 @@ use Rattle.list_set.specs.Places.{IsAddPlace, add_writes, IsDelPlace, del_writes
 use Rattle.set_script.specs.OwnWrites.{with_locks, with_writes}
 use Rattle.list_set.specs.Held.{HoldsMore}
 use Rattle.list_set.specs.declared.answers.Cause.{Cause}
-use Rattle.list_set.specs.declared.answers.Cause.TheVariants.{Busy, Stale, Rival, LogFull}
+use Rattle.list_set.specs.declared.answers.Cause.TheVariants.{Busy, Stale, SetFull, NoSlot, Rival, LogFull}
 
 -- The section holds these objects too, and has written these writes: they lead from its old state to its new one.
 pub record Rewritten (old new : InSection) (objects : List ℕ) (writes : Writes) : Type 0 where
@@ -41,11 +41,13 @@ pub record Puts (old new : InSection) (head k value : ℕ) : Type 0 where
   pub lawful : IsLawful (state_of new)
   pub catalogue : catalogue_of (state_of new) ≡ with_key (name_of head) k value (catalogue_of (state_of old))
 
--- The lock of this object was refused: another seat holds it, or a later commit wrote it.
+-- The lock of this object was refused: another seat holds it, or a later commit wrote it. Where there is room nothing else refuses it.
 abbrev pub IsCause : Type 0 → (InSection → InSection → ℕ → ℕ → Type 0) → InSection → InSection → ℕ → Cause → Type 0
 IsCause may_refuse found_held old new o (Busy object seat) =
     (object ≡ o) × may_refuse × (seat ≢ old.seat.number) × found_held old new o seat
 IsCause may_refuse found_held old new o (Stale object time) = (object ≡ o) × may_refuse × IsStale new o time
+IsCause may_refuse found_held old new o (SetFull object) = ⊥
+IsCause may_refuse found_held old new o (NoSlot object) = ⊥
 IsCause may_refuse found_held old new o (Rival rival) = ⊥
 IsCause may_refuse found_held old new o (LogFull holder) = ⊥
 

@@ -9,6 +9,12 @@ pub enum Cause {
     /// The lock of this object found it written by a commit of this printed time, which the
     /// section's snapshot lacks.
     Stale { object: u32, time: u64 },
+    /// The lock of this object found as many objects held as a section may hold. No call of a set
+    /// answers it, since each needs room.
+    SetFull { object: u32 },
+    /// The lock of this object found no free slot in the seat's log. No call of a set answers it,
+    /// since each needs room.
+    NoSlot { object: u32 },
     /// The commit met this entry of another seat. No call of this crate answers it.
     Rival(Rival),
     /// The log had no room for a write set, because of this holder. No call of this crate answers it.

@@ -19,10 +19,11 @@ fn hold<S: Section>(section: &mut S, object: u32) -> Result<(), Cause>
     ensures refused { IfErr result (λ cause. IsRefused S.may_refuse S.found_held (S.section section.old) (S.section section.new) object cause) }
 {
     match section.try_lock(object) {
+        LockAnswer::Held => Ok(()),
         LockAnswer::Busy { seat } => Err(Cause::Busy { object, seat }),
         LockAnswer::Stale { time } => Err(Cause::Stale { object, time }),
-        // There is room, so that what is left is `Held`.
-        _ => Ok(()),
+        LockAnswer::SetFull => Err(Cause::SetFull { object }),
+        LockAnswer::LogFull => Err(Cause::NoSlot { object }),
     }
 }
 

@@ -50,7 +50,7 @@ use Rattle.set_script.specs.declared.commands.Reply.{Reply}
 use Rattle.set_script.specs.declared.commands.Reply.TheVariants.{Yes, No, Full, Worn}
 use Rattle.set_script.proofs.Times.{lawful_after, commit_makes}
 use Rattle.list_set.specs.declared.answers.Cause.{Cause}
-use Rattle.list_set.specs.declared.answers.Cause.TheVariants.{Busy, Stale, Rival, LogFull}
+use Rattle.list_set.specs.declared.answers.Cause.TheVariants.{Busy, Stale, SetFull, NoSlot, Rival, LogFull}
 use Rattle.set_catalog.specs.declared.answer.Attempt.{Attempt}
 use Rattle.set_catalog.specs.declared.answer.Attempt.TheVariants.{Done, Again}
 use Rattle.set_catalog.specs.Attempts.{state_of_time, IsDoneBy, IsRead, Attempted}
@@ -196,6 +196,8 @@ seen_more s t command answer (Read time) ran = omega (arith, ran.time, ran.answe
 pub never : (s t : Seat) (command : Command) (cause : Cause) → AttemptedAlone s t command (Again cause) → ⊥
 never s t command (Busy object seat) given = given.why.1.refused.why.1
 never s t command (Stale object time) given = given.why.1.refused.why.1
+never s t command (SetFull object) given = given.why
+never s t command (NoSlot object) given = given.why
 never s t command (Rival rival) given = given.why.0
 never s t command (LogFull holder) given = given.why.0
 

@@ -7,7 +7,7 @@ ghost use Rattle.mvrlu_run.specs.Ready.{state_now, IsReady, IsOpen, IsRun, Runs}
 use mv_history::{PlainStore, WORDS, Words};
 use run_outside::Gate;
 use run_report::Line;
-use set_catalog::{Attempt, Hints, attempt_with};
+use set_catalog::{Attempt, HintedStore, Hints};
 use set_script::{Command, Place, Reply, SetRules};
 use std::alloc::{AllocError, Global};
 
@@ -34,13 +34,13 @@ pub fn run_commands<G: Gate>(
     ensures { IfOk result (λ ran. IsRun commands.now ran.1.items (state_now (seat_of ran.0))) }
 {
     let mut lines = Vec::with_capacity(alloc, commands.len())?;
-    let mut hints = Hints::new(alloc, HINTS)?;
-    let mut store = open(alloc)?;
+    let hints = Hints::new(alloc, HINTS)?;
+    let mut store = HintedStore::new(open(alloc)?, hints);
     let mut number = 0;
     for command in commands {
         number += 1;
         gate.before(0, number);
-        let (next, place, reply) = run_command(store, &mut hints, command);
+        let (next, place, reply) = run_command(store, command);
         gate.after(0, number);
         store = next;
         lines.push_reserved(Line {
@@ -50,7 +50,7 @@ pub fn run_commands<G: Gate>(
             reply,
         });
     }
-    Ok((store, lines))
+    Ok((store.into_store(), lines))
 }
 
 // A store of objects that are all zero.
@@ -69,12 +69,12 @@ fn zeros(alloc: Global, count: usize) -> Result<Vec<Words>, AllocError>
 }
 
 // Runs one command, and gives its place and its reply. One attempt is enough: nobody else commits, so nothing refuses it.
-fn run_command(store: Sets, hints: &mut Hints, command: &Command) -> (Sets, Place, Reply)
-    requires ready { IsReady (seat_of store) }
-    requires time { length (seat_of store).seen < ROOM }
-    ensures { Runs (seat_of store) (seat_of result.0) command.now result.1 result.2 }
+fn run_command(store: HintedStore<Sets>, command: &Command) -> (HintedStore<Sets>, Place, Reply)
+    requires ready { IsReady (seat_of store.store) }
+    requires time { length (seat_of store.store).seen < ROOM }
+    ensures { Runs (seat_of store.store) (seat_of result.0.store) command.now result.1 result.2 }
 {
-    let (store, attempt) = attempt_with(store, hints, command);
+    let (store, attempt) = store.attempt(command);
     match attempt {
         Attempt::Done { reply, place } => (store, place, reply),
         Attempt::Again(_) => unreachable!(),

@@ -8,14 +8,15 @@ use Rattle.mv_history.specs.State.{State}
 use Rattle.set_script.specs.Catalogue.{Map, Maps, map_of, has_key, put, take_out, cost_of, cost_from, cost, with_key, without_key}
 use Rattle.set_script.specs.CatalogueOf.{catalogue_of, count_used}
 use Rattle.set_script.specs.Objects.{first_node}
-use Rattle.set_script.specs.Replies.{value_at, applies, overflows}
+use Rattle.set_script.specs.Replies.{value_at, applies, overflows, changed, changes, next}
 use Rattle.set_script.specs.Lawful.{IsLawful}
-use Rattle.set_script.specs.Rules.{capacity, IsInRange}
+use Rattle.set_script.specs.Rules.{capacity, IsInRange, Makes}
 use Rattle.set_script.specs.declared.commands.Command.{Command}
 use Rattle.set_script.specs.declared.commands.Command.TheVariants.{Add, Put, Del, Has, Get, Move, Pair, Size, Next}
 use Rattle.set_script.proofs.Cost.{cost_is}
 use Rattle.set_script.proofs.Mapped.{length-catalogue_of}
-use Rattle.set_catalog.specs.Needs.{taken, freed, wanted, may_change}
+use Rattle.set_catalog.specs.Needs.{first_tree, taken, freed, wanted, may_change}
+use Rattle.set_catalog.specs.Shortages.{may_free}
 use Rattle.set_catalog.specs.Picks.{count_vacant, vacant_nodes}
 
 -- each node is vacant or not
@@ -133,3 +134,77 @@ pub overflows_state : (s : State) (command : Command) → IsLawful s → IsInRan
     → overflows command (catalogue_of s) (capacity s) ≡ nat_lt (vacant_nodes s) (wanted command (catalogue_of s))
 overflows_state s command l r m a =
     overflows_wanted (catalogue_of s) (capacity s) (vacant_nodes s) (length-catalogue_of s) (vacant_and_cost s l) command r m a
+
+length_put_any : (k v : ℕ) (m : Map) → length m ≤ length (put k v m)
+length_put_any k v [] = omega arith
+length_put_any k v (e ∷ m) = grind (arith, nat_tests, length_put_any k v m)
+
+-- a key with a value costs no less, whether it was there or not
+cost_put_any : (name k v : ℕ) (m : Map) → cost_of name m ≤ cost_of name (put k v m)
+cost_put_any name k v m = let l : length m ≤ length (put k v m) = length_put_any k v m in grind (arith, nat_tests)
+
+cost_with_any : (name k v : ℕ) (c : Maps) → name < length c → cost c ≤ cost (with_key name k v c)
+cost_with_any name k v c l = omega (arith, cost_set name c (put k v (map_of name c)) l, cost_put_any name k v (map_of name c))
+
+-- a node is taken, and where a list or a bucket loses a key one is given back
+takes_one : (name : ℕ) (m : Map) → 1 ≤ taken name m
+takes_one name m = grind (arith, nat_tests)
+
+frees_one : (name : ℕ) (m : Map) → nat_lt name first_tree ≡ true → freed name m ≡ 1
+frees_one name m e = rw e refl
+
+cost_moved : (source target key v : ℕ) (c : Maps) → length c ≡ 30 → source < 30 → target < 30 → nat_lt source first_tree ≡ true
+    → has_key key (map_of source c) ≡ true → has_key key (map_of target c) ≡ false → cost c ≤ cost (with_key target key v (without_key source key c))
+cost_moved source target key v c whole ls lt listed h n =
+    let less : Maps = without_key source key c in
+    let same : map_of target (without_key source key c) ≡ map_of target c =
+    get_or-set_other c source target (take_out key (map_of source c)) [] (not_itself source target key c h n) in
+    let long : length (without_key source key c) ≡ length c = length-set c source (take_out key (map_of source c)) in
+    omega (
+      arith,
+      cost_without_key source key c (omega arith) h,
+      frees_one source (map_of source c) listed,
+      cost_with_key target key v (without_key source key c) (omega arith) (ap (has_key key) same ∙ n),
+      takes_one target (map_of target (without_key source key c)),
+    )
+
+-- A command that frees no node leaves a catalogue that costs no less.
+cost_changed : (command : Command) (c : Maps) → length c ≡ 30 → IsInRange command → may_free command ≡ false → applies command c ≡ true
+    → cost c ≤ cost (changed command c)
+cost_changed (Add name key) c whole r f a = cost_with_any name key 0 c (omega (arith, r.0))
+cost_changed (Put name key value) c whole r f a = cost_with_any name key value c (omega (arith, r.0))
+cost_changed (Del name key) c whole r f a = absurd (true≢false f)
+cost_changed (Has name key) c whole r f a = absurd (true≢false (sym a))
+cost_changed (Get name key) c whole r f a = absurd (true≢false (sym a))
+cost_changed (Move source target key) c whole r f a =
+    let q = and_parts (has_key key (map_of source c)) (not (has_key key (map_of target c))) a in
+    cost_moved source target key (value_at source key c) c whole r.0 r.1 (not-false (nat_lt source first_tree) f) q.0
+    (not-true (has_key key (map_of target c)) q.1)
+  where
+    not-false : (b : Bool) → not b ≡ false → b ≡ true
+    not-false true e = refl
+    not-false false e = absurd (true≢false e)
+cost_changed (Pair first second key) c whole r f a = absurd (true≢false (sym a))
+cost_changed (Size name) c whole r f a = absurd (true≢false (sym a))
+cost_changed (Next name key) c whole r f a = absurd (true≢false (sym a))
+
+cost_next : (command : Command) (c : Maps) (cap : ℕ) → length c ≡ 30 → IsInRange command → may_free command ≡ false → cost c ≤ cost (next command c cap false)
+cost_next command c cap whole r f = go (changes command c cap false) refl
+  where
+    go : (b : Bool) → changes command c cap false ≡ b → cost c ≤ cost (if b then changed command c else c)
+    go true e =
+        cost_changed command c whole r f
+        (and_parts (applies command c) (not (overflows command c cap)) (and_parts (applies command c && not (overflows command c cap)) (not false) e).0).0
+    go false e = omega arith
+
+-- So where such a command was committed, no more nodes are vacant than before.
+pub vacant_no_more : (command : Command) (before after : State) → IsLawful before → IsLawful after → length after ≡ length before
+    → may_free command ≡ false → Makes command before after → vacant_nodes after ≤ vacant_nodes before
+vacant_no_more command before after lb la same f made =
+    let kept : cost (catalogue_of before) ≤ cost (next command (catalogue_of before) (capacity before) false) =
+    cost_next command (catalogue_of before) (capacity before) (length-catalogue_of before) made.in_range f in
+    omega (arith, vacant_and_cost before lb, vacant_and_cost after la, kept, ap cost made.leaves)
+
+-- Fewer are vacant than a store has objects.
+pub vacant_bound : (s : State) → IsLawful s → vacant_nodes s < 65536
+vacant_bound s l = let few : length s ≤ 65535 = l.few in omega (arith, vacant_and_cost s l)

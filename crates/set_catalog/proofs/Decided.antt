@@ -1,36 +1,5 @@
 -- What each command comes to that may change something, by where its searches ended.
-use Rattle.std.proofs.Common.{
-  ◌≡◌,
-  ◌≢◌,
-  ℕ,
-  ◌^◌,
-  ◌+◌,
-  ◌-◌,
-  ◌<◌,
-  ◌≤◌,
-  ◌⊎◌,
-  inl,
-  inr,
-  Bool,
-  true,
-  false,
-  not,
-  ◌&&◌,
-  ◌==◌,
-  eq-eqb,
-  ne_eqb,
-  if◌then◌else◌,
-  length,
-  Some,
-  None,
-  refl,
-  sym,
-  ap,
-  ◌∙◌,
-  subst,
-  arith,
-  true≢false,
-}
+use Rattle.std.proofs.Common.{◌≡◌, ◌≢◌, ℕ, ◌^◌, ◌+◌, ◌-◌, ◌<◌, ◌≤◌, ◌⊎◌, inl, inr, Bool, true, false, not, ◌&&◌, ◌==◌, eq-eqb, ne_eqb, if◌then◌else◌, length, Some, None, refl, sym, ap, ◌∙◌, subst, arith, true≢false}
 use Rattle.mv_history.specs.State.{State, Writes, written}
 use Rattle.mv_history.specs.Legal.{are_distinct}
 use Rattle.set_script.specs.Catalogue.{map_of, has_key, has_entry, value_of}
@@ -40,20 +9,20 @@ use Rattle.set_script.specs.Replies.{applies}
 use Rattle.set_script.specs.Rules.{IsInRange}
 use Rattle.set_script.specs.declared.commands.Command.{Command}
 use Rattle.set_script.specs.declared.commands.Command.TheVariants.{Add, Put, Del, Move}
-use Rattle.set_script.specs.declared.commands.Reply.{Reply}
-use Rattle.set_script.specs.declared.commands.Reply.TheVariants.{No, Worn}
+use Rattle.set_script.specs.declared.commands.Reply.TheVariants.{No, Full}
 use Rattle.set_script.proofs.MapLemmas.{has_key-none, has_key-some}
 use Rattle.list_set.specs.Held.{count_unheld}
 use Rattle.set_catalog.specs.Ends.{EndsAt, objects_added, adds_at, dels_at, puts_at, node_gone, inner_gone}
-use Rattle.set_catalog.specs.Findings.{IsNew, IsPlanned, IsFound, IsShort, AreHad}
+use Rattle.set_catalog.specs.Findings.{IsNew, IsPlanned, IsFound}
 use Rattle.set_catalog.specs.Merges.{writes_in, merged}
+use Rattle.set_catalog.specs.Picks.{vacant_nodes}
 use Rattle.set_catalog.specs.Needs.{taken, wanted, may_change, AreEnough}
 use Rattle.set_catalog.specs.declared.ends.End.{End}
 use Rattle.set_catalog.specs.declared.finding.Finding.{Finding}
 use Rattle.set_catalog.specs.declared.finding.Finding.TheVariants.{Settled, Open}
 use Rattle.set_catalog.specs.declared.plan.Plan.{Plan}
 use Rattle.set_catalog.specs.declared.plan.Gone.{Gone}
-use Rattle.set_catalog.proofs.Deciding.{decides_no, decides_worn, decides_open, decides_short, decides_had}
+use Rattle.set_catalog.proofs.Deciding.{decides_no, decides_open, decides_short, decides_had}
 use Rattle.set_catalog.proofs.EndPlans.{add_planned, del_planned, put_planned, freed_gone}
 use Rattle.set_catalog.proofs.Lone.{has_entry-value, has_entry-missing}
 use Rattle.set_catalog.specs.Plans.{DelPlan}
@@ -62,11 +31,11 @@ use Rattle.set_catalog.proofs.SetCalls.{taken_some}
 use Rattle.set_catalog.proofs.Planned.{planned_alone, planned_add, planned_put, planned_del, planned_move}
 
 -- what was found in a state that is the same
-pub found_same : (s t : State) (command : Command) (last : Bool) (finding : Finding) → t ≡ s → IsFound command t last finding → IsFound command s last finding
-found_same s t command last finding e f = subst (λ (u : State). IsFound command u last finding) e f
+pub found_same : (s t : State) (command : Command) (finding : Finding) → t ≡ s → IsFound command t finding → IsFound command s finding
+found_same s t command finding e f = subst (λ (u : State). IsFound command u finding) e f
 
 -- An add or a put of a key that is not there.
-module _ (s : State) (end : End) (k v : ℕ) (last : Bool) (l : IsLawful s) (fit : k < 2 ^ 32) (lv : v < 2 ^ 64) (command : Command)
+module _ (s : State) (end : End) (k v : ℕ) (l : IsLawful s) (fit : k < 2 ^ 32) (lv : v < 2 ^ 64) (command : Command)
     (n : IsNew s end k v command) where
   in_range : ((command ≡ Add n.name k) × (v ≡ 0)) ⊎ (command ≡ Put n.name k v) → IsInRange command
   in_range (inl (is, z)) = subst IsInRange (sym is) (n.name_in, fit)
@@ -86,27 +55,26 @@ module _ (s : State) (end : End) (k v : ℕ) (last : Bool) (l : IsLawful s) (fit
   wants (inr is) =
       ap (λ (x : Command). wanted x (catalogue_of s)) is ∙ ap (λ (b : Bool). if b then 0 else taken n.name (map_of n.name (catalogue_of s))) n.absent
 
-  pub new_short : (want : ℕ) (answer : Reply) → want ≡ taken n.name (map_of n.name (catalogue_of s)) → IsShort s want last answer
-      → IsFound command s last (Settled answer)
-  new_short want answer w short = decides_short command s last l (in_range n.adds) (may n.adds) (does n.adds) want answer (w ∙ sym (wants n.adds)) short
+  pub new_short : (want : ℕ) → want ≡ taken n.name (map_of n.name (catalogue_of s)) → vacant_nodes s < want → IsFound command s (Settled Full)
+  new_short want w short = decides_short command s l (in_range n.adds) (may n.adds) (does n.adds) want (w ∙ sym (wants n.adds)) short
 
   pub new_open : (want first second : ℕ) (old plan : Plan) (gone : Gone) → want ≡ taken n.name (map_of n.name (catalogue_of s))
-      → AreHad s want last first second → old.count ≡ 0 → plan.count ≤ 5 → writes_in plan ≡ merged (writes_in old) (adds_at s k v first second end)
-      → (gone.node ≡ 0) × (gone.inner ≡ 0) → IsFound command s last (Open plan gone)
-  new_open want first second old plan gone w had none few e nothing =
-      let enough : AreEnough s (taken n.name (map_of n.name (catalogue_of s))) first second = subst (λ (x : ℕ). AreEnough s x first second) w had.enough in
+      → want ≤ vacant_nodes s → AreEnough s want first second → old.count ≡ 0 → plan.count ≤ 5 → writes_in plan ≡ merged (writes_in old) (adds_at s k v first second end)
+      → (gone.node ≡ 0) × (gone.inner ≡ 0) → IsFound command s (Open plan gone)
+  new_open want first second old plan gone w there had none few e nothing =
+      let enough : AreEnough s (taken n.name (map_of n.name (catalogue_of s))) first second = subst (λ (x : ℕ). AreEnough s x first second) w had in
       let add = add_planned s n.name k l n.name_in fit end v first second n.ends n.absent enough in
       let planned = planned_add s l n.name k n.name_in fit v first second (adds_at s k v first second end) gone command lv add n.adds nothing in
       let is : writes_in plan ≡ adds_at s k v first second end = planned_alone old plan (adds_at s k v first second end) none planned.distinct e in (
-        decides_had command s last l (in_range n.adds) (may n.adds) (does n.adds) want first second (w ∙ sym (wants n.adds)) had,
+        decides_had command s l (in_range n.adds) (may n.adds) (does n.adds) want (w ∙ sym (wants n.adds)) there,
         few,
         subst (λ (ws : Writes). IsPlanned command s ws gone) (sym is) planned,
       )
 
-module _ (s : State) (name k : ℕ) (last : Bool) (l : IsLawful s) (lt : name < 30) (fit : k < 2 ^ 32) where
+module _ (s : State) (name k : ℕ) (l : IsLawful s) (lt : name < 30) (fit : k < 2 ^ 32) where
   -- An add of a key that is there.
-  pub add_no : has_key k (map_of name (catalogue_of s)) ≡ true → IsFound (Add name k) s last (Settled No)
-  add_no there = decides_no (Add name k) s last refl (ap not there)
+  pub add_no : has_key k (map_of name (catalogue_of s)) ≡ true → IsFound (Add name k) s (Settled No)
+  add_no there = decides_no (Add name k) s refl (ap not there)
 
   -- A put of a key that is there.
   module _ (v old : ℕ) (lv : v < 2 ^ 64) (has : Some old ≡ value_of k (map_of name (catalogue_of s))) where
@@ -119,59 +87,56 @@ module _ (s : State) (name k : ℕ) (last : Bool) (l : IsLawful s) (lt : name < 
     none_wanted : wanted (Put name k v) (catalogue_of s) ≡ 0
     none_wanted = ap (λ (b : Bool). if b then 0 else taken name (map_of name (catalogue_of s))) there
 
-    pub put_no : old ≡ v → IsFound (Put name k v) s last (Settled No)
-    put_no e = decides_no (Put name k v) s last refl (ap not (entry ∙ eq-eqb old v e))
+    pub put_no : old ≡ v → IsFound (Put name k v) s (Settled No)
+    put_no e = decides_no (Put name k v) s refl (ap not (entry ∙ eq-eqb old v e))
 
     lacks : old ≢ v → has_entry k v (map_of name (catalogue_of s)) ≡ false
     lacks n = entry ∙ ne_eqb old v n
 
-    pub put_worn : old ≢ v → last ≡ true → IsFound (Put name k v) s last (Settled Worn)
-    put_worn n t = decides_worn (Put name k v) s last l (lt, fit, lv) refl (ap not (lacks n)) (omega (arith, none_wanted)) t
-
-    pub put_open : (end : End) (none plan : Plan) (gone : Gone) → EndsAt s name k end → old ≢ v → last ≡ false → none.count ≡ 0 → plan.count ≤ 5
+    pub put_open : (end : End) (none plan : Plan) (gone : Gone) → EndsAt s name k end → old ≢ v → none.count ≡ 0 → plan.count ≤ 5
         → writes_in plan ≡ merged (writes_in none) (puts_at s v end) → (gone.node ≡ 0) × (gone.inner ≡ 0)
-        → IsFound (Put name k v) s last (Open plan gone)
-    put_open end none plan gone ends n f z few e nothing =
+        → IsFound (Put name k v) s (Open plan gone)
+    put_open end none plan gone ends n z few e nothing =
         let planned = planned_put s l name k lt fit v (puts_at s v end) gone lv (lacks n) (put_planned s name k l lt fit end v ends there) nothing in
         let is : writes_in plan ≡ puts_at s v end = planned_alone none plan (puts_at s v end) z planned.distinct e in (
-          decides_open (Put name k v) s last l (lt, fit, lv) refl (ap not (lacks n)) (omega (arith, none_wanted)) f,
+          decides_open (Put name k v) s l (lt, fit, lv) refl (ap not (lacks n)) (omega (arith, none_wanted)),
           few,
           subst (λ (ws : Writes). IsPlanned (Put name k v) s ws gone) (sym is) planned,
         )
 
   -- A del.
-  pub del_no : has_key k (map_of name (catalogue_of s)) ≡ false → IsFound (Del name k) s last (Settled No)
-  del_no missed = decides_no (Del name k) s last refl missed
+  pub del_no : has_key k (map_of name (catalogue_of s)) ≡ false → IsFound (Del name k) s (Settled No)
+  del_no missed = decides_no (Del name k) s refl missed
 
-  pub del_worn : has_key k (map_of name (catalogue_of s)) ≡ true → last ≡ true → IsFound (Del name k) s last (Settled Worn)
-  del_worn there t = decides_worn (Del name k) s last l (lt, fit) refl there (omega arith) t
-
-  pub del_open : (end : End) (none plan : Plan) (gone : Gone) → EndsAt s name k end → has_key k (map_of name (catalogue_of s)) ≡ true → last ≡ false
+  pub del_open : (end : End) (none plan : Plan) (gone : Gone) → EndsAt s name k end → has_key k (map_of name (catalogue_of s)) ≡ true
       → none.count ≡ 0 → plan.count ≤ 5 → writes_in plan ≡ merged (writes_in none) (dels_at s end) → gone.node ≡ node_gone end → gone.inner ≡ inner_gone end
-      → IsFound (Del name k) s last (Open plan gone)
-  del_open end none plan gone ends there f z few e n i =
+      → IsFound (Del name k) s (Open plan gone)
+  del_open end none plan gone ends there z few e n i =
       let planned = planned_del s l name k lt fit (node_gone end) (inner_gone end) (dels_at s end) gone n i (del_planned s name k l lt fit end ends there) in
       let is : writes_in plan ≡ dels_at s end = planned_alone none plan (dels_at s end) z planned.distinct e in (
-        decides_open (Del name k) s last l (lt, fit) refl there (omega arith) f,
+        decides_open (Del name k) s l (lt, fit) refl there (omega arith),
         few,
         subst (λ (ws : Writes). IsPlanned (Del name k) s ws gone) (sym is) planned,
       )
 
 -- and what was found of a key that is not there
-pub new_found : (s t : State) (end : End) (k v : ℕ) (last : Bool) (finding : Finding) → t ≡ s
-    → ((command : Command) → IsNew t end k v command → IsFound command t last finding) → (command : Command) → IsNew s end k v command
-    → IsFound command s last finding
-new_found s t end k v last finding e f command n =
-    found_same s t command last finding e (f command (subst (λ (u : State). IsNew u end k v command) (sym e) n))
+pub new_found : (s t : State) (end : End) (k v : ℕ) (finding : Finding) → t ≡ s
+    → ((command : Command) → IsNew t end k v command → IsFound command t finding) → (command : Command) → IsNew s end k v command
+    → IsFound command s finding
+new_found s t end k v finding e f command n =
+    found_same s t command finding e (f command (subst (λ (u : State). IsNew u end k v command) (sym e) n))
 
 pub ends_same : (s t : State) (name k : ℕ) (end : End) → t ≡ s → EndsAt t name k end → EndsAt s name k end
 ends_same s t name k end e f = subst (λ (u : State). EndsAt u name k end) e f
 
-pub short_same : (s t : State) (want : ℕ) (last : Bool) (answer : Reply) → t ≡ s → IsShort t want last answer → IsShort s want last answer
-short_same s t want last answer e f = subst (λ (u : State). IsShort u want last answer) e f
+pub short_same : (s t : State) (want : ℕ) → t ≡ s → vacant_nodes t < want → vacant_nodes s < want
+short_same s t want e f = subst (λ (u : State). vacant_nodes u < want) e f
 
-pub had_same : (s t : State) (want : ℕ) (last : Bool) (first second : ℕ) → t ≡ s → AreHad t want last first second → AreHad s want last first second
-had_same s t want last first second e f = subst (λ (u : State). AreHad u want last first second) e f
+pub there_same : (s t : State) (want : ℕ) → t ≡ s → want ≤ vacant_nodes t → want ≤ vacant_nodes s
+there_same s t want e f = subst (λ (u : State). want ≤ vacant_nodes u) e f
+
+pub enough_same : (s t : State) (want first second : ℕ) → t ≡ s → AreEnough t want first second → AreEnough s want first second
+enough_same s t want first second e f = subst (λ (u : State). AreEnough u want first second) e f
 
 -- a new key wants a node
 pub takes_some : (name : ℕ) (s : State) → taken name (map_of name (catalogue_of s)) ≡ 0 → ⊥
@@ -184,20 +149,20 @@ wants_some name k v s missed z =
     let some = taken_some name (map_of name (catalogue_of s)) in omega arith
 
 -- A move.
-pub move_none : (s : State) (source target k : ℕ) (last : Bool) → None ≡ value_of k (map_of source (catalogue_of s))
-    → IsFound (Move source target k) s last (Settled No)
-move_none s source target k last e =
-    decides_no (Move source target k) s last refl
+pub move_none : (s : State) (source target k : ℕ) → None ≡ value_of k (map_of source (catalogue_of s))
+    → IsFound (Move source target k) s (Settled No)
+move_none s source target k e =
+    decides_no (Move source target k) s refl
     (ap (λ (b : Bool). b && not (has_key k (map_of target (catalogue_of s)))) (has_key-none k (map_of source (catalogue_of s)) (sym e)))
 
-module _ (s : State) (source target k : ℕ) (last : Bool) (l : IsLawful s) (ls : source < 30) (lt : target < 30) (fit : k < 2 ^ 32) where
+module _ (s : State) (source target k : ℕ) (l : IsLawful s) (ls : source < 30) (lt : target < 30) (fit : k < 2 ^ 32) where
   module _ (v : ℕ) (has : Some v ≡ value_of k (map_of source (catalogue_of s))) where
     moves : has_key k (map_of source (catalogue_of s)) ≡ true
     moves = has_key-some k v (map_of source (catalogue_of s)) (sym has)
 
-    pub move_no : has_key k (map_of target (catalogue_of s)) ≡ true → IsFound (Move source target k) s last (Settled No)
+    pub move_no : has_key k (map_of target (catalogue_of s)) ≡ true → IsFound (Move source target k) s (Settled No)
     move_no h =
-        decides_no (Move source target k) s last refl
+        decides_no (Move source target k) s refl
         (ap (λ (b : Bool). b && not (has_key k (map_of target (catalogue_of s)))) moves ∙ ap not h)
 
     module _ (missed : has_key k (map_of target (catalogue_of s)) ≡ false) (from : End) (begins : EndsAt s source k from) where
@@ -217,10 +182,10 @@ module _ (s : State) (source target k : ℕ) (last : Bool) (l : IsLawful s) (ls 
           ∙ ap (λ (x : ℕ). taken target (map_of target (catalogue_of s)) - x)
           (sym (freed_gone s source k (node_gone from) (inner_gone from) (dels_at s from) l ls del))
 
-      pub move_short : (want takes gone : ℕ) (answer : Reply) → takes ≡ taken target (map_of target (catalogue_of s)) → gone ≡ inner_gone from
-          → want ≡ takes - (if gone == 0 then 1 else 2) → IsShort s want last answer → IsFound (Move source target k) s last (Settled answer)
-      move_short want takes gone answer t g e short =
-          decides_short (Move source target k) s last l (ls, lt, fit) refl move_applies want answer (move_wants want takes gone t g e) short
+      pub move_short : (want takes gone : ℕ) → takes ≡ taken target (map_of target (catalogue_of s)) → gone ≡ inner_gone from
+          → want ≡ takes - (if gone == 0 then 1 else 2) → vacant_nodes s < want → IsFound (Move source target k) s (Settled Full)
+      move_short want takes gone t g e short =
+          decides_short (Move source target k) s l (ls, lt, fit) refl move_applies want (move_wants want takes gone t g e) short
 
       -- what the plan has after the del
       dels_distinct : are_distinct (dels_at s from) ≡ true
@@ -242,22 +207,22 @@ module _ (s : State) (source target k : ℕ) (last : Bool) (l : IsLawful s) (ls 
 
       pub move_open : (none mid plan : Plan) (gone : Gone) (want takes left first other node second : ℕ) (to : End) → EndsAt s target k to
           → takes ≡ taken target (map_of target (catalogue_of s)) → left ≡ inner_gone from → want ≡ takes - (if left == 0 then 1 else 2)
-          → AreHad s want last first other → node ≡ node_gone from → second ≡ (if left == 0 then first else left) → none.count ≡ 0
+          → want ≤ vacant_nodes s → AreEnough s want first other → node ≡ node_gone from → second ≡ (if left == 0 then first else left) → none.count ≡ 0
           → writes_in mid ≡ merged (writes_in none) (dels_at s from) → plan.count ≤ 5
           → writes_in plan ≡ merged (writes_in mid) (adds_at s k v node second to) → (gone.node ≡ 0) × (gone.inner ≡ 0)
-          → IsFound (Move source target k) s last (Open plan gone)
-      move_open none mid plan gone want takes left first other node second to ends t g w had n o z e few f nothing =
+          → IsFound (Move source target k) s (Open plan gone)
+      move_open none mid plan gone want takes left first other node second to ends t g w there had n o z e few f nothing =
           let wanted_is = move_wants want takes left t g w in
           let q : second ≡ (if inner_gone from == 0 then first else inner_gone from) = o ∙ ap (λ (x : ℕ). if x == 0 then first else x) g in
           let picked : AreEnough s (wanted (Move source target k) (catalogue_of s)) first other =
-          subst (λ (x : ℕ). AreEnough s x first other) wanted_is had.enough in
+          subst (λ (x : ℕ). AreEnough s x first other) wanted_is had in
           let left_over = enough_left s source target k (node_gone from) (inner_gone from) first other (dels_at s from) ls l del picked in
           let enough : AreEnough (written s (dels_at s from)) (taken target (map_of target (catalogue_of s))) node second =
           subst (λ (x : ℕ). AreEnough (written s (dels_at s from)) (taken target (map_of target (catalogue_of s))) x second) (sym n)
           (subst (λ (x : ℕ). AreEnough (written s (dels_at s from)) (taken target (map_of target (catalogue_of s))) (node_gone from) x) (sym q) left_over) in
           let is : writes_in plan ≡ merged (dels_at s from) (adds_at s k v node second to) =
           f ∙ ap (λ (w : Writes). merged w (adds_at s k v node second to)) (dels_planned none mid z e) in (
-            decides_had (Move source target k) s last l (ls, lt, fit) refl move_applies want first other wanted_is had,
+            decides_had (Move source target k) s l (ls, lt, fit) refl move_applies want wanted_is there,
             few,
             subst (λ (ws : Writes). IsPlanned (Move source target k) s ws gone) (sym is)
                 (planned_move s l source target k ls lt apart fit to v (node_gone from) (inner_gone from) node second (dels_at s from) gone ends missed

@@ -1,5 +1,5 @@
 -- What a command that applies comes to, by how many nodes are vacant.
-use Rattle.std.proofs.Common.{◌≡◌, ℕ, ◌<◌, ◌≤◌, inl, inr, Bool, true, false, nat_lt, refl, sym, ◌∙◌, subst, arith, true≢false}
+use Rattle.std.proofs.Common.{◌≡◌, ℕ, ◌<◌, ◌≤◌, Bool, true, false, not, ◌&&◌, if◌then◌else◌, nat_lt, refl, sym, ◌∙◌, arith, true≢false}
 use Rattle.mv_history.specs.State.{State}
 use Rattle.set_script.specs.Catalogue.{Maps}
 use Rattle.set_script.specs.CatalogueOf.{catalogue_of}
@@ -9,9 +9,11 @@ use Rattle.set_script.specs.Rules.{capacity, IsInRange}
 use Rattle.set_script.specs.declared.commands.Command.{Command}
 use Rattle.set_script.specs.declared.commands.Command.TheVariants.{Add, Put, Del, Has, Get, Move, Pair, Size, Next}
 use Rattle.set_script.specs.declared.commands.Reply.{Reply}
-use Rattle.set_script.specs.declared.commands.Reply.TheVariants.{No, Full, Worn}
-use Rattle.set_catalog.specs.Findings.{AreHad, IsShort}
+use Rattle.set_script.specs.declared.commands.Reply.TheVariants.{Yes, No, Full, Worn}
+use Rattle.set_catalog.specs.Findings.{IsFound, reply_at_last}
 use Rattle.set_catalog.specs.Needs.{wanted, may_change}
+use Rattle.set_catalog.specs.declared.finding.Finding.{Finding}
+use Rattle.set_catalog.specs.declared.finding.Finding.TheVariants.{Settled, Open}
 use Rattle.set_catalog.specs.Picks.{vacant_nodes}
 use Rattle.set_catalog.specs.Replies.{reply_in, changes_in}
 use Rattle.set_catalog.proofs.Costs.{overflows_state}
@@ -30,44 +32,90 @@ reply_change (Size name) c capacity last m = absurd (true≢false (sym m))
 reply_change (Next name key) c capacity last m = absurd (true≢false (sym m))
 
 -- a change that would do nothing
-pub decides_no : (command : Command) (s : State) (last : Bool) → may_change command ≡ true → applies command (catalogue_of s) ≡ false
-    → (No ≡ reply_in command s last) × (changes_in command s last ≡ false)
-decides_no command s last m a =
-    let e = reply_change command (catalogue_of s) (capacity s) last m in (sym (e ∙ rw a refl), rw a refl)
+pub decides_no : (command : Command) (s : State) → may_change command ≡ true → applies command (catalogue_of s) ≡ false
+    → (No ≡ reply_in command s false) × (changes_in command s false ≡ false)
+decides_no command s m a =
+    let e = reply_change command (catalogue_of s) (capacity s) false m in (sym (e ∙ rw a refl), rw a refl)
 
-module _ (command : Command) (s : State) (last : Bool) (l : IsLawful s) (r : IsInRange command) (m : may_change command ≡ true)
+module _ (command : Command) (s : State) (l : IsLawful s) (r : IsInRange command) (m : may_change command ≡ true)
     (a : applies command (catalogue_of s) ≡ true) where
   over : (b : Bool) → nat_lt (vacant_nodes s) (wanted command (catalogue_of s)) ≡ b → overflows command (catalogue_of s) (capacity s) ≡ b
   over b e = overflows_state s command l r m a ∙ e
 
   -- too few vacant nodes
-  pub decides_full : vacant_nodes s < wanted command (catalogue_of s) → (Full ≡ reply_in command s last) × (changes_in command s last ≡ false)
+  decides_full : vacant_nodes s < wanted command (catalogue_of s) → (Full ≡ reply_in command s false) × (changes_in command s false ≡ false)
   decides_full lt =
       let o : overflows command (catalogue_of s) (capacity s) ≡ true = over true (grind arith) in
-      let e = reply_change command (catalogue_of s) (capacity s) last m in
+      let e = reply_change command (catalogue_of s) (capacity s) false m in
       (sym (e ∙ rw (a, o) refl), rw (a, o) refl)
 
   enough : wanted command (catalogue_of s) ≤ vacant_nodes s → overflows command (catalogue_of s) (capacity s) ≡ false
   enough le = over false (grind arith)
 
-  -- enough of them, at the last time
-  pub decides_worn : wanted command (catalogue_of s) ≤ vacant_nodes s → last ≡ true → (Worn ≡ reply_in command s last) × (changes_in command s last ≡ false)
-  decides_worn le t =
-      let o = enough le in
-      let e = reply_change command (catalogue_of s) (capacity s) last m in
-      (sym (e ∙ rw (a, o, t) refl), rw (a, o, t) refl)
-
-  -- and before
-  pub decides_open : wanted command (catalogue_of s) ≤ vacant_nodes s → last ≡ false → changes_in command s last ≡ true
-  decides_open le f = let o = enough le in rw (a, o, f) refl
+  -- enough of them
+  pub decides_open : wanted command (catalogue_of s) ≤ vacant_nodes s → changes_in command s false ≡ true
+  decides_open le = let o = enough le in rw (a, o) refl
 
   -- so by what a look for vacant objects found
-  pub decides_short : (want : ℕ) (answer : Reply) → want ≡ wanted command (catalogue_of s) → IsShort s want last answer → (answer ≡ reply_in command s last)
-      × (changes_in command s last ≡ false)
-  decides_short want answer w (inl (is, few)) =
-      subst (λ (x : Reply). (x ≡ reply_in command s last) × (changes_in command s last ≡ false)) (sym is) (decides_full (omega (arith, w, few)))
-  decides_short want answer w (inr (is, le, t)) =
-      subst (λ (x : Reply). (x ≡ reply_in command s last) × (changes_in command s last ≡ false)) (sym is) (decides_worn (omega (arith, w, le)) t)
+  pub decides_short : (want : ℕ) → want ≡ wanted command (catalogue_of s) → vacant_nodes s < want → (Full ≡ reply_in command s false)
+      × (changes_in command s false ≡ false)
+  decides_short want w few = decides_full (omega (arith, w, few))
 
-  pub decides_had : (want first second : ℕ) → want ≡ wanted command (catalogue_of s) → AreHad s want last first second → changes_in command s last ≡ true
-  decides_had want first second w h = let le : want ≤ vacant_nodes s = h.there in decides_open (omega (arith, w)) h.early
+  pub decides_had : (want : ℕ) → want ≡ wanted command (catalogue_of s) → want ≤ vacant_nodes s → changes_in command s false ≡ true
+  decides_had want w le = decides_open (omega (arith, w, le))
+
+-- the reply of a change by whether it applies and overflows
+abbrev change_of : Bool → Bool → Bool → Reply
+change_of a o last = if a then (if o then Full else (if last then Worn else Yes)) else No
+
+stays : (a o : Bool) → a && not o && not false ≡ false → change_of a o false ≡ change_of a o true
+stays true true e = refl
+stays true false e = absurd (true≢false e)
+stays false o e = refl
+
+late : (a o : Bool) → a && not o && not false ≡ true → change_of a o true ≡ Worn
+late true true e = absurd (true≢false (sym e))
+late true false e = refl
+late false o e = absurd (true≢false (sym e))
+
+none_late : (a o : Bool) → a && not o && not true ≡ false
+none_late true true = refl
+none_late true false = refl
+none_late false o = refl
+
+-- at the last time nothing changes
+pub unchanging_at_last : (command : Command) (s : State) → changes_in command s true ≡ false
+unchanging_at_last command s = none_late (applies command (catalogue_of s)) (overflows command (catalogue_of s) (capacity s))
+
+-- a reply that changes nothing stays
+settled_at_last : (command : Command) (s : State) → changes_in command s false ≡ false → reply_in command s false ≡ reply_in command s true
+settled_at_last (Add name key) s e = stays (applies (Add name key) (catalogue_of s)) (overflows (Add name key) (catalogue_of s) (capacity s)) e
+settled_at_last (Put name key value) s e =
+    stays (applies (Put name key value) (catalogue_of s)) (overflows (Put name key value) (catalogue_of s) (capacity s)) e
+settled_at_last (Del name key) s e = stays (applies (Del name key) (catalogue_of s)) (overflows (Del name key) (catalogue_of s) (capacity s)) e
+settled_at_last (Has name key) s e = refl
+settled_at_last (Get name key) s e = refl
+settled_at_last (Move source target key) s e =
+    stays (applies (Move source target key) (catalogue_of s)) (overflows (Move source target key) (catalogue_of s) (capacity s)) e
+settled_at_last (Pair first second key) s e = refl
+settled_at_last (Size name) s e = refl
+settled_at_last (Next name key) s e = refl
+
+-- a change comes too late
+worn_at_last : (command : Command) (s : State) → changes_in command s false ≡ true → reply_in command s true ≡ Worn
+worn_at_last (Add name key) s e = late (applies (Add name key) (catalogue_of s)) (overflows (Add name key) (catalogue_of s) (capacity s)) e
+worn_at_last (Put name key value) s e =
+    late (applies (Put name key value) (catalogue_of s)) (overflows (Put name key value) (catalogue_of s) (capacity s)) e
+worn_at_last (Del name key) s e = late (applies (Del name key) (catalogue_of s)) (overflows (Del name key) (catalogue_of s) (capacity s)) e
+worn_at_last (Has name key) s e = absurd (true≢false (sym e))
+worn_at_last (Get name key) s e = absurd (true≢false (sym e))
+worn_at_last (Move source target key) s e =
+    late (applies (Move source target key) (catalogue_of s)) (overflows (Move source target key) (catalogue_of s) (capacity s)) e
+worn_at_last (Pair first second key) s e = absurd (true≢false (sym e))
+worn_at_last (Size name) s e = absurd (true≢false (sym e))
+worn_at_last (Next name key) s e = absurd (true≢false (sym e))
+
+-- So what was found gives the reply at the last time.
+pub found_at_last : (command : Command) (s : State) (finding : Finding) → IsFound command s finding → reply_at_last finding ≡ reply_in command s true
+found_at_last command s (Settled answer) f = f.0 ∙ settled_at_last command s f.1
+found_at_last command s (Open plan gone) f = sym (worn_at_last command s f.0)

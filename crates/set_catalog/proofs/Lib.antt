@@ -16,6 +16,7 @@ pub mod Planned
 pub mod Decided
 pub mod Rooms
 pub mod LawfulTimes
+pub mod Knowing
 pub mod Outcomes
 pub mod NotedGone
 pub mod Exchanges

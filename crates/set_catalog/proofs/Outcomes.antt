@@ -52,7 +52,7 @@ use Rattle.set_script.specs.declared.commands.Reply.{Reply}
 use Rattle.set_script.specs.declared.commands.Reply.TheVariants.{Yes}
 use Rattle.mv_history.specs.declared.answers.Rival.{Rival as RivalEntry}
 use Rattle.list_set.specs.declared.answers.Cause.{Cause}
-use Rattle.list_set.specs.declared.answers.Cause.TheVariants.{Busy, Stale, Rival, LogFull}
+use Rattle.list_set.specs.declared.answers.Cause.TheVariants.{Busy, Stale, SetFull, NoSlot, Rival, LogFull}
 use Rattle.list_set.specs.Calls.{IsCause}
 use Rattle.set_catalog.specs.Replies.{reply_in, changes_in}
 use Rattle.set_catalog.specs.Plans.{PlanOf, Locks}
@@ -66,7 +66,7 @@ use Rattle.set_catalog.proofs.LawfulTimes.{reads_snapshot}
 use Rattle.set_catalog.proofs.Rooms.{stops_named, stops_after}
 
 -- the tag of a command that changes something stands for it
-tag_stands : (command : Command) (s : State) (last : Bool) → changes_in command s last ≡ true → command_of (tag_of command) ≡ Some command
+pub tag_stands : (command : Command) (s : State) (last : Bool) → changes_in command s last ≡ true → command_of (tag_of command) ≡ Some command
 tag_stands (Add name key) s last e = refl
 tag_stands (Put name key value) s last e = refl
 tag_stands (Del name key) s last e = refl
@@ -173,6 +173,8 @@ stopped_in k found left new command cause none x gone =
         → IsCause k.may_refuse k.found_held x.before left x.object c → IsWhy k (λ holder. ⊥) command found new c
     why (Busy object seat) y q = (left, y, gone.continues)
     why (Stale object time) y q = (left, y, gone.continues)
+    why (SetFull object) y q = absurd q
+    why (NoSlot object) y q = absurd q
     why (Rival rival) y q = absurd q
     why (LogFull holder) y q = absurd q
 
@@ -298,6 +300,8 @@ why_earlier k held_back entered found new command cause goes le w = go cause w
     go : (c : Cause) → IsWhy k (λ holder. ⊥) command found new c → IsWhy k held_back command entered new c
     go (Busy object seat) w = stop (Busy object seat) w
     go (Stale object time) w = stop (Stale object time) w
+    go (SetFull object) w = absurd w
+    go (NoSlot object) w = absurd w
     go (Rival rival) w = (
       w.0,
       record {

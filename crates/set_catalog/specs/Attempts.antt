@@ -15,7 +15,7 @@ use Rattle.set_script.specs.declared.commands.Place.TheVariants.{Commit as AtCom
 use Rattle.set_catalog.specs.declared.answer.Attempt.{Attempt}
 use Rattle.set_catalog.specs.declared.answer.Attempt.TheVariants.{Done, Again}
 use Rattle.list_set.specs.declared.answers.Cause.{Cause}
-use Rattle.list_set.specs.declared.answers.Cause.TheVariants.{Busy, Stale, Rival, LogFull}
+use Rattle.list_set.specs.declared.answers.Cause.TheVariants.{Busy, Stale, SetFull, NoSlot, Rival, LogFull}
 use Rattle.set_catalog.specs.Causes.{Causes}
 use Rattle.set_catalog.specs.Replies.{reply_in, changes_in}
 use Rattle.set_script.specs.declared.commands.Command.TheVariants.{Del}
@@ -80,6 +80,8 @@ IsStopped k command entered new cause =
 abbrev pub IsWhy : Causes → (Holder → Type 0) → Command → InSection → Seat → Cause → Type 0
 IsWhy k held_back command entered new (Busy object seat) = IsStopped k command entered new (Busy object seat)
 IsWhy k held_back command entered new (Stale object time) = IsStopped k command entered new (Stale object time)
+IsWhy k held_back command entered new (SetFull object) = ⊥
+IsWhy k held_back command entered new (NoSlot object) = ⊥
 IsWhy k held_back command entered new (Rival rival) = k.may_refuse × IsOvertaken k command entered new rival.seat rival.time
 IsWhy k held_back command entered new (LogFull holder) = k.may_refuse × held_back holder
 

@@ -1,5 +1,5 @@
 -- What a command comes to in a state, before anything is locked.
-use Rattle.std.specs.Prelude.{ℕ, ◌≡◌, ◌<◌, ◌≤◌, ◌⊎◌, true, false, Bool, length}
+use Rattle.std.specs.Prelude.{ℕ, ◌≡◌, ◌<◌, ◌≤◌, ◌⊎◌, true, false, length}
 use Rattle.mv_history.specs.State.{State, Writes}
 use Rattle.mv_history.specs.Drift.{IsFit}
 use Rattle.mv_history.specs.Legal.{are_distinct, AreWithin}
@@ -10,11 +10,9 @@ use Rattle.set_script.specs.Tags.{tag_of}
 use Rattle.set_script.specs.declared.commands.Command.{Command}
 use Rattle.set_script.specs.declared.commands.Command.TheVariants.{Add, Put}
 use Rattle.set_script.specs.declared.commands.Reply.{Reply}
-use Rattle.set_script.specs.declared.commands.Reply.TheVariants.{Full, Worn}
+use Rattle.set_script.specs.declared.commands.Reply.TheVariants.{Worn}
 use Rattle.set_catalog.specs.Ends.{EndsAt}
 use Rattle.set_catalog.specs.Merges.{writes_in}
-use Rattle.set_catalog.specs.Needs.{AreEnough}
-use Rattle.set_catalog.specs.Picks.{vacant_nodes}
 use Rattle.set_catalog.specs.Plans.{PlanOf, GoneBy}
 use Rattle.set_catalog.specs.Steps.{most_locks}
 use Rattle.set_catalog.specs.Replies.{reply_in, changes_in}
@@ -33,12 +31,17 @@ pub record IsPlanned (command : Command) (s : State) (ws : Writes) (gone : Gone)
   pub fit : IsFit IsSetCommit s (tag_of command) ws
   pub goes : GoneBy command s ws gone.node gone.inner
 
--- It changes nothing and this is its reply, or it changes something and this is planned.
-abbrev pub IsFound : Command → State → Bool → Finding → Type 0
-IsFound command s last (Settled answer) =
-    (answer ≡ reply_in command s last) × (changes_in command s last ≡ false)
-IsFound command s last (Open plan gone) =
-    (changes_in command s last ≡ true) × (plan.count ≤ most_locks) × IsPlanned command s (writes_in plan) gone
+-- Where a time is left: it changes nothing and this is its reply, or it changes something and this is planned.
+abbrev pub IsFound : Command → State → Finding → Type 0
+IsFound command s (Settled answer) =
+    (answer ≡ reply_in command s false) × (changes_in command s false ≡ false)
+IsFound command s (Open plan gone) =
+    (changes_in command s false ≡ true) × (plan.count ≤ most_locks) × IsPlanned command s (writes_in plan) gone
+
+-- the reply at the last time of what was found: a change comes too late
+abbrev pub reply_at_last : Finding → Reply
+reply_at_last (Settled answer) = answer
+reply_at_last (Open plan gone) = Worn
 
 -- the command adds this key with this value, which is not there: the search for it ended here
 pub record IsNew (s : State) (end : End) (k v : ℕ) (command : Command) : Type 0 where
@@ -47,13 +50,3 @@ pub record IsNew (s : State) (end : End) (k v : ℕ) (command : Command) : Type 
   pub ends : EndsAt s name k end
   pub absent : has_key k (map_of name (catalogue_of s)) ≡ false
   pub adds : ((command ≡ Add name k) × (v ≡ 0)) ⊎ (command ≡ Put name k v)
-
--- so many vacant objects were had, and a time is left
-pub record AreHad (s : State) (want : ℕ) (last : Bool) (first second : ℕ) : Type 0 where
-  pub there : want ≤ vacant_nodes s
-  pub early : last ≡ false
-  pub enough : AreEnough s want first second
-
--- too few objects are vacant, or enough and no time is left
-abbrev pub IsShort : State → ℕ → Bool → Reply → Type 0
-IsShort s want last reply = ((reply ≡ Full) × (vacant_nodes s < want)) ⊎ ((reply ≡ Worn) × (want ≤ vacant_nodes s) × (last ≡ true))

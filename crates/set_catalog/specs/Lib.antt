@@ -10,4 +10,5 @@ pub mod Steps
 pub mod Causes
 pub mod Findings
 pub mod Attempts
+pub mod Shortages
 pub mod Readings

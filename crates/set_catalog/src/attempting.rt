@@ -1,14 +1,16 @@
 // One command as one section of a store.
-ghost use Rattle.std.specs.Prelude.{◌≡◌, ◌+◌, ◌<◌, ◌≤◌, true, false, length};
+ghost use Rattle.std.specs.Prelude.{◌≡◌, ◌≤◌, true, false, []};
 ghost use Rattle.mv_history.specs.Meaning.{state_of, IsWorn};
 ghost use Rattle.mv_history.specs.Calls.{Continues, NamesNoCommit};
-ghost use Rattle.set_script.specs.Lawful.{IsLawful};
+ghost use Rattle.set_script.specs.CatalogueOf.{catalogue_of};
 ghost use Rattle.set_script.specs.Tags.{tag_of};
 ghost use Rattle.set_catalog.specs.Causes.{causes};
-ghost use Rattle.set_catalog.specs.Findings.{IsPlanned};
+ghost use Rattle.set_catalog.specs.Findings.{IsPlanned, IsFound};
+ghost use Rattle.set_catalog.specs.Needs.{wanted};
+ghost use Rattle.set_catalog.specs.Shortages.{IsKnown};
 ghost use Rattle.set_catalog.specs.Hinted.{TakesHints};
 ghost use Rattle.set_catalog.specs.Merges.{writes_in};
-ghost use Rattle.set_catalog.specs.Replies.{reply_in, changes_in};
+ghost use Rattle.set_catalog.specs.Replies.{changes_in};
 ghost use Rattle.set_catalog.specs.Steps.{most_locks, HasSpace};
 ghost use Rattle.set_catalog.specs.Attempts.{Attempted, AttemptedIn, IsReadBy, HintsAfter, TriesOne};
 
@@ -16,8 +18,9 @@ use crate::answer::Attempt;
 use crate::finding::{Finding, find_plan};
 use crate::hints::Hints;
 use crate::plan::{Gone, Plan};
+use crate::shortage::Shortage;
 use list_set::{Cause, rewrite};
-use mv_history::{CommitAnswer, Room, Section, Store, Tag, View};
+use mv_history::{CommitAnswer, Room, Section, Store, Tag};
 use set_script::{Command, Place, Reply, SetRules};
 
 /// Attempts a command, as [`attempt_with`] does with no hints.
@@ -63,27 +66,75 @@ pub fn attempt_with<S: Store<Rules = SetRules>>(
     ensures noted { HintsAfter command.now hints.old hints.new (S.seat_of store) (S.seat_of result.0) result.1 }
     ensures at_most_one { TriesOne (S.seat_of store) (S.seat_of result.0) }
 {
+    attempt_knowing(store, hints, &mut Shortage::unknown(), command)
+}
+
+// Attempts a command, as `attempt_with` does, where this is known of how few nodes are vacant.
+pub(crate) fn attempt_knowing<S: Store<Rules = SetRules>>(
+    store: S,
+    hints: &mut Hints,
+    known: &mut Shortage,
+    command: &Command,
+) -> (S, Attempt)
+    requires most { most_locks ≤ (S.seat_of store).write_max }
+    requires known { IsKnown (S.seat_of store) known.old }
+    ensures attempted { let shows = causes S.Open.may_refuse S.Open.has_trail S.took S.holds_back S.Open.found_held S.Open.loaded in
+        Attempted shows (S.seat_of store) (S.seat_of result.0) command.now result.1 }
+    ensures noted { HintsAfter command.now hints.old hints.new (S.seat_of store) (S.seat_of result.0) result.1 }
+    ensures at_most_one { TriesOne (S.seat_of store) (S.seat_of result.0) }
+    ensures known { IsKnown (S.seat_of result.0) known.new }
+{
     let mut store = store;
     let room = store.prepare();
     let mut section = store.enter();
     let time = section.at();
-    let last = time == section.last();
-    match find_plan(&mut section, hints, command, last) {
+    let last = section.last();
+    let found = find_in(&mut section, hints, known, command);
+    if time == last {
+        let place = Place::Read(time);
+        let reply = found.at_last();
+        return (section.leave(), Attempt::Done { reply, place });
+    }
+    match found {
         Finding::Settled(reply) => {
             let place = Place::Read(time);
             (section.leave(), Attempt::Done { reply, place })
         }
         Finding::Open { plan, gone } => match room {
-            Room::Enough => commit_change(section, hints, command, &plan, gone),
+            Room::Enough => commit_change(section, hints, known, command, &plan, gone),
             Room::Short(holder) => (section.leave(), Attempt::Again(Cause::LogFull(holder))),
         },
     }
+}
+
+// Finds what the command comes to in a section that holds nothing, with what is known of its time;
+// what a look finds is known afterwards.
+fn find_in<S: Section<Rules = SetRules>>(
+    section: &mut S,
+    hints: &mut Hints,
+    known: &mut Shortage,
+    command: &Command,
+) -> Finding
+    requires own { (S.section section.old).own ≡ [] }
+    requires known { IsKnown (S.section section.old).seat known.old }
+    ensures found { IsFound command.now (S.state section.old) result }
+    ensures hints { TakesHints hints.old hints.new }
+    ensures untouched { wanted command.now (catalogue_of (S.state section.old)) ≡ 0 → hints.new ≡ hints.old }
+    ensures as_before { S.as_before section.old section.new }
+    ensures known { IsKnown (S.section section.new).seat known.new }
+{
+    let time = section.at();
+    let mut few = known.at(time);
+    let found = find_plan(section, hints, &mut few, command);
+    *known = Shortage { time, few };
+    found
 }
 
 // Locks and writes what is planned for the command in a section that holds nothing, and commits it.
 fn commit_change<S: Store<Rules = SetRules>>(
     section: S::Open,
     hints: &mut Hints,
+    known: &mut Shortage,
     command: &Command,
     plan: &Plan,
     gone: Gone,
@@ -92,11 +143,13 @@ fn commit_change<S: Store<Rules = SetRules>>(
     requires few { plan.now.count ≤ most_locks }
     requires planned { IsPlanned command.now (state_of (S.Open.section section)) (writes_in plan.now) gone }
     requires space { HasSpace (S.Open.section section) }
+    requires known { IsKnown (S.Open.section section).seat known.old }
     ensures attempted { let shows = causes S.Open.may_refuse S.Open.has_trail S.took S.holds_back S.Open.found_held S.Open.loaded in
         AttemptedIn shows (S.Open.section section) (S.seat_of result.0) command.now result.1 }
     ensures noted { HintsAfter command.now hints.old hints.new (S.Open.section section).seat (S.seat_of result.0) result.1 }
     ensures continues { Continues (S.Open.section section).seat (S.seat_of result.0) }
     ensures at_most_one { TriesOne (S.Open.section section).seat (S.seat_of result.0) }
+    ensures known { IsKnown (S.seat_of result.0) known.new }
 {
     let mut section = section;
     if let Err(cause) = rewrite(&mut section, plan.writes()) {
@@ -105,6 +158,7 @@ fn commit_change<S: Store<Rules = SetRules>>(
     match section.try_commit(tag(command)) {
         CommitAnswer::Done(store, time) => {
             gone.note(hints);
+            *known = known.after(command, time);
             let place = Place::Commit(time);
             let reply = Reply::Yes;
             (store, Attempt::Done { reply, place })
@@ -112,7 +166,7 @@ fn commit_change<S: Store<Rules = SetRules>>(
         CommitAnswer::Again(section, rival) => {
             (section.abort(), Attempt::Again(Cause::Rival(rival)))
         }
-        CommitAnswer::End(section) => answer_at_last(section.abort(), hints, command),
+        CommitAnswer::End(section) => answer_at_last(section.abort(), hints, known, command),
     }
 }
 
@@ -120,34 +174,23 @@ fn commit_change<S: Store<Rules = SetRules>>(
 fn answer_at_last<S: Store<Rules = SetRules>>(
     store: S,
     hints: &mut Hints,
+    known: &mut Shortage,
     command: &Command,
 ) -> (S, Attempt)
     requires worn { IsWorn (S.seat_of store) }
+    requires known { IsKnown (S.seat_of store) known.old }
     ensures read { let shows = causes S.Open.may_refuse S.Open.has_trail S.took S.holds_back S.Open.found_held S.Open.loaded in
         IsReadBy shows (S.seat_of store) (S.seat_of result.0) command.now result.1 }
     ensures hints { TakesHints hints.old hints.new }
     ensures none { NamesNoCommit (S.seat_of store) (S.seat_of result.0) }
     ensures continues { Continues (S.seat_of store) (S.seat_of result.0) }
+    ensures known { IsKnown (S.seat_of result.0) known.new }
 {
     let mut section = store.enter();
     let place = Place::Read(section.at());
-    let reply = last_reply(&mut section, hints, command);
+    let found = find_in(&mut section, hints, known, command);
+    let reply = found.at_last();
     (section.leave(), Attempt::Done { reply, place })
-}
-
-// The reply at the last time, where no command changes anything.
-fn last_reply<V: View>(view: &mut V, hints: &mut Hints, command: &Command) -> Reply
-    requires lawful { IsLawful (V.state view.old) }
-    ensures reply { result ≡ reply_in command.now (V.state view.old) true }
-    ensures unchanging { changes_in command.now (V.state view.old) true ≡ false }
-    ensures hints { TakesHints hints.old hints.new }
-    ensures as_before { V.as_before view.old view.new }
-{
-    match find_plan(view, hints, command, true) {
-        Finding::Settled(reply) => reply,
-        // No time is left for a change.
-        Finding::Open { .. } => Reply::Worn,
-    }
 }
 
 // The tag of a command that changes something.

@@ -1,15 +1,18 @@
-// How many reads of objects it takes to count the keys of a set, and to read the whole catalogue.
+// How many reads of objects it takes to count the keys of a set, to read the whole catalogue, and to
+// answer that a store is full.
 ghost use Rattle.std.specs.Prelude.{◌≡◌, ◌<◌, ◌≤◌, length, replicate, IfOk};
 ghost use Rattle.mv_history.specs.PlainMeaning.{seat_of};
 ghost use Rattle.set_catalog.specs.Steps.{most_locks};
 
+use crate::answer::Attempt;
 use crate::attempting::attempt_with;
 use crate::counted::Counted;
+use crate::hinted_store::HintedStore;
 use crate::hints::Hints;
 use crate::reading::read_all;
 use crate::sets::size;
 use mv_history::{PlainStore, Section, Store, WORDS};
-use set_script::{Catalogue, Command, Name, SetRules};
+use set_script::{Catalogue, Command, Name, Place, Reply, SetRules};
 use std::alloc::{AllocError, Global};
 use std::test::Fail;
 
@@ -117,5 +120,81 @@ fn a_catalogue_is_read_once(rt: HostRuntime) -> Result<(), Fail> {
     assert_eq!(rt; all?.keys(20).len(), 130);
     // The heads and the 259 nodes of the tree.
     assert_eq!(rt; reads, 180 + 259);
+    Ok(())
+}
+
+// A store of ten nodes, with room for 100 commits.
+fn open_small(alloc: Global) -> Result<PlainStore<SetRules>, AllocError>
+    ensures { IfOk result (λ store. (seat_of store).write_max ≡ 16) }
+{
+    let zeros = vec![in alloc; [0; WORDS]; 190]?;
+    PlainStore::new(alloc, &zeros, 0, 100)
+}
+
+fn add_of(name: Name, key: u32) -> Command {
+    Command::Add { name, key }
+}
+
+fn del_of(name: Name, key: u32) -> Command {
+    Command::Del { name, key }
+}
+
+// A plain store has one seat, so no commit of another one comes between.
+#[test]
+fn a_full_store_is_looked_through_once(rt: HostRuntime) -> Result<(), Fail> {
+    let view = open_small(rt.alloc())?;
+    let counted = Counted { view, reads: 0 };
+    let mut store = HintedStore::new(counted, Hints::new(rt.alloc(), 0)?);
+    let (list, other, tree) = (set(3), set(4), set(20));
+    for key in 1..11 {
+        store = store.attempt(&add_of(list, key)).0;
+    }
+    for (command, reply, place, reads) in [
+        // The head, the first node, and a look through ten nodes; then no look.
+        (add_of(list, 0), Reply::Full, Place::Read(10), 12),
+        (add_of(list, 0), Reply::Full, Place::Read(10), 2),
+        // A put of another value and a move of a list's key free nothing.
+        (
+            Command::Put {
+                name: list,
+                key: 10,
+                value: 7,
+            },
+            Reply::Yes,
+            Place::Commit(11),
+            11,
+        ),
+        (add_of(list, 0), Reply::Full, Place::Read(11), 2),
+        (
+            Command::Move {
+                source: list,
+                target: other,
+                key: 1,
+            },
+            Reply::Yes,
+            Place::Commit(12),
+            3,
+        ),
+        (add_of(list, 0), Reply::Full, Place::Read(12), 2),
+        // A del does: a look finds the second node.
+        (del_of(list, 2), Reply::Yes, Place::Commit(13), 2),
+        (add_of(list, 0), Reply::Yes, Place::Commit(14), 4),
+        (add_of(list, 1), Reply::Full, Place::Read(14), 13),
+        (add_of(list, 1), Reply::Full, Place::Read(14), 3),
+        // A tree's second key takes two nodes: that there is but one is known, and another look finds it.
+        (del_of(list, 3), Reply::Yes, Place::Commit(15), 3),
+        (add_of(tree, 5), Reply::Yes, Place::Commit(16), 2),
+        (del_of(list, 4), Reply::Yes, Place::Commit(17), 3),
+        (add_of(tree, 6), Reply::Full, Place::Read(17), 12),
+        (add_of(tree, 6), Reply::Full, Place::Read(17), 2),
+        (add_of(list, 4), Reply::Yes, Place::Commit(18), 13),
+    ] {
+        let before = store.store.reads;
+        let (next, answer) = store.attempt(&command);
+        assert_eq!(rt; answer, Attempt::Done { reply, place });
+        assert_eq!(rt; next.store.reads.saturating_sub(before), reads);
+        store = next;
+    }
+    let _plain = store.into_store().view;
     Ok(())
 }

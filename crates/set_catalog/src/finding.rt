@@ -1,5 +1,5 @@
 // What a command comes to in a state, before anything is locked.
-ghost use Rattle.std.specs.Prelude.{◌≡◌, ◌<◌, ◌≤◌, ℕ, ◌⊎◌, if◌then◌else◌, IfSome, MatchOption, MatchResult, false};
+ghost use Rattle.std.specs.Prelude.{◌≡◌, ◌<◌, ◌≤◌, ℕ, if◌then◌else◌, IfSome, MatchOption};
 ghost use Rattle.set_script.specs.Catalogue.{map_of, has_key};
 ghost use Rattle.set_script.specs.CatalogueOf.{catalogue_of};
 ghost use Rattle.set_script.specs.Lawful.{IsLawful};
@@ -10,7 +10,7 @@ ghost use Rattle.set_catalog.specs.Hinted.{TakesHints};
 ghost use Rattle.set_catalog.specs.Ends.{EndsAt, HasHead};
 ghost use Rattle.set_catalog.specs.Picks.{vacant_nodes};
 ghost use Rattle.set_catalog.specs.Needs.{AreEnough, wanted};
-ghost use Rattle.set_catalog.specs.Findings.{IsFound, IsNew, IsShort, AreHad};
+ghost use Rattle.set_catalog.specs.Findings.{IsFound, IsNew, reply_at_last};
 
 use crate::ends::{End, search};
 use crate::hints::Hints;
@@ -29,24 +29,45 @@ pub enum Finding {
     Open { plan: Plan, gone: Gone },
 }
 
-// Finds what the command comes to in the view's state, at the last time or not. It searches each set
-// of the command once, and looks for vacant objects where a new key wants them.
-pub fn find_plan<V: View>(view: &mut V, hints: &mut Hints, command: &Command, last: bool) -> Finding
+impl Finding {
+    // The reply at the last time, where a change comes too late.
+    pub fn at_last(self) -> Reply
+        ensures { result ≡ reply_at_last self }
+    {
+        match self {
+            Finding::Settled(reply) => reply,
+            Finding::Open { .. } => Reply::Worn,
+        }
+    }
+}
+
+// Finds what the command comes to in the view's state, where a time is left. It searches each set of
+// the command once. Where a new key wants vacant objects it looks for them, unless it is known that
+// there are too few: fewer than `few` nodes are vacant in that state, and what a look finds of that
+// stands in `few` afterwards.
+pub fn find_plan<V: View>(
+    view: &mut V,
+    hints: &mut Hints,
+    few: &mut u32,
+    command: &Command,
+) -> Finding
     requires lawful { IsLawful (V.state view.old) }
-    ensures found { IsFound command.now (V.state view.old) last result }
+    requires few { vacant_nodes (V.state view.old) < few.old }
+    ensures found { IsFound command.now (V.state view.old) result }
+    ensures few { vacant_nodes (V.state view.old) < few.new }
     ensures hints { TakesHints hints.old hints.new }
     ensures untouched { wanted command.now (catalogue_of (V.state view.old)) ≡ 0 → hints.new ≡ hints.old }
     ensures as_before { V.as_before view.old view.new }
 {
     match *command {
-        Command::Add { name, key } => find_add(view, hints, name, key, last),
-        Command::Put { name, key, value } => find_put(view, hints, name, key, value, last),
-        Command::Del { name, key } => find_del(view, name, key, last),
+        Command::Add { name, key } => find_add(view, hints, few, name, key),
+        Command::Put { name, key, value } => find_put(view, hints, few, name, key, value),
+        Command::Del { name, key } => find_del(view, name, key),
         Command::Move {
             source,
             target,
             key,
-        } => find_move(view, hints, source, target, key, last),
+        } => find_move(view, hints, few, source, target, key),
         Command::Has { name, key } => {
             Finding::Settled(yes_or_no(search(view, name, key).has(key)))
         }
@@ -74,9 +95,17 @@ fn yes_or_no(holds: bool) -> Reply
     if holds { Reply::Yes } else { Reply::No }
 }
 
-fn find_add<V: View>(view: &mut V, hints: &mut Hints, name: Name, key: u32, last: bool) -> Finding
+fn find_add<V: View>(
+    view: &mut V,
+    hints: &mut Hints,
+    few: &mut u32,
+    name: Name,
+    key: u32,
+) -> Finding
     requires lawful { IsLawful (V.state view.old) }
-    ensures found { IsFound (Add name key) (V.state view.old) last result }
+    requires few { vacant_nodes (V.state view.old) < few.old }
+    ensures found { IsFound (Add name key) (V.state view.old) result }
+    ensures few { vacant_nodes (V.state view.old) < few.new }
     ensures hints { TakesHints hints.old hints.new }
     ensures untouched { wanted (Add name key) (catalogue_of (V.state view.old)) ≡ 0 → hints.new ≡ hints.old }
     ensures as_before { V.as_before view.old view.new }
@@ -85,28 +114,29 @@ fn find_add<V: View>(view: &mut V, hints: &mut Hints, name: Name, key: u32, last
     if end.has(key) {
         return Finding::Settled(Reply::No);
     }
-    find_new(view, hints, &end, key, 0, last)
+    find_new(view, hints, few, &end, key, 0)
 }
 
 fn find_put<V: View>(
     view: &mut V,
     hints: &mut Hints,
+    few: &mut u32,
     name: Name,
     key: u32,
     value: u64,
-    last: bool,
 ) -> Finding
     requires lawful { IsLawful (V.state view.old) }
-    ensures found { IsFound (Put name key value) (V.state view.old) last result }
+    requires few { vacant_nodes (V.state view.old) < few.old }
+    ensures found { IsFound (Put name key value) (V.state view.old) result }
+    ensures few { vacant_nodes (V.state view.old) < few.new }
     ensures hints { TakesHints hints.old hints.new }
     ensures untouched { wanted (Put name key value) (catalogue_of (V.state view.old)) ≡ 0 → hints.new ≡ hints.old }
     ensures as_before { V.as_before view.old view.new }
 {
     let end = search(view, name, key);
     match end.value(key) {
-        None => find_new(view, hints, &end, key, value, last),
+        None => find_new(view, hints, few, &end, key, value),
         Some(old) if old == value => Finding::Settled(Reply::No),
-        Some(_) if last => Finding::Settled(Reply::Worn),
         Some(_) => {
             let mut plan = Plan::nothing();
             end.put(&mut plan, value);
@@ -120,20 +150,22 @@ fn find_put<V: View>(
 fn find_new<V: View>(
     view: &mut V,
     hints: &mut Hints,
+    few: &mut u32,
     end: &End,
     key: u32,
     value: u64,
-    last: bool,
 ) -> Finding
     requires lawful { IsLawful (V.state view.old) }
+    requires few { vacant_nodes (V.state view.old) < few.old }
     requires head { HasHead end.now }
-    ensures found { (command : Command) → IsNew (V.state view.old) end.now key value command → IsFound command (V.state view.old) last result }
+    ensures found { (command : Command) → IsNew (V.state view.old) end.now key value command → IsFound command (V.state view.old) result }
+    ensures few { vacant_nodes (V.state view.old) < few.new }
     ensures hints { TakesHints hints.old hints.new }
     ensures as_before { V.as_before view.old view.new }
 {
-    match vacancies(view, hints, end.takes(), last) {
-        Err(reply) => Finding::Settled(reply),
-        Ok(picked) => {
+    match vacant_for(view, hints, few, end.takes()) {
+        None => Finding::Settled(Reply::Full),
+        Some(picked) => {
             let mut plan = Plan::nothing();
             end.add(&mut plan, key, value, picked);
             let gone = Gone::nothing();
@@ -142,17 +174,14 @@ fn find_new<V: View>(
     }
 }
 
-fn find_del<V: View>(view: &mut V, name: Name, key: u32, last: bool) -> Finding
+fn find_del<V: View>(view: &mut V, name: Name, key: u32) -> Finding
     requires lawful { IsLawful (V.state view.old) }
-    ensures found { IsFound (Del name key) (V.state view.old) last result }
+    ensures found { IsFound (Del name key) (V.state view.old) result }
     ensures as_before { V.as_before view.old view.new }
 {
     let end = search(view, name, key);
     if !end.has(key) {
         return Finding::Settled(Reply::No);
-    }
-    if last {
-        return Finding::Settled(Reply::Worn);
     }
     let mut plan = Plan::nothing();
     let gone = end.del(&mut plan);
@@ -164,13 +193,15 @@ fn find_del<V: View>(view: &mut V, name: Name, key: u32, last: bool) -> Finding
 fn find_move<V: View>(
     view: &mut V,
     hints: &mut Hints,
+    few: &mut u32,
     source: Name,
     target: Name,
     key: u32,
-    last: bool,
 ) -> Finding
     requires lawful { IsLawful (V.state view.old) }
-    ensures found { IsFound (Move source target key) (V.state view.old) last result }
+    requires few { vacant_nodes (V.state view.old) < few.old }
+    ensures found { IsFound (Move source target key) (V.state view.old) result }
+    ensures few { vacant_nodes (V.state view.old) < few.new }
     ensures hints { TakesHints hints.old hints.new }
     ensures untouched { wanted (Move source target key) (catalogue_of (V.state view.old)) ≡ 0 → hints.new ≡ hints.old }
     ensures as_before { V.as_before view.old view.new }
@@ -185,43 +216,23 @@ fn find_move<V: View>(
     }
     let mut plan = Plan::nothing();
     let gone = from.del(&mut plan);
-    let picked = match vacancies(view, hints, gone.still_wanted(to.takes()), last) {
-        Err(reply) => return Finding::Settled(reply),
-        Ok(picked) => gone.before(picked),
+    let Some(picked) = vacant_for(view, hints, few, gone.still_wanted(to.takes())) else {
+        return Finding::Settled(Reply::Full);
     };
+    let picked = gone.before(picked);
     to.add(&mut plan, key, value, picked);
     let gone = Gone::nothing();
     Finding::Open { plan, gone }
 }
 
-// So many vacant objects, 2 at most, for a change; or its reply where they are too few, or no time
-// is left for it.
-fn vacancies<V: View>(
-    view: &mut V,
-    hints: &mut Hints,
-    want: u32,
-    last: bool,
-) -> Result<Picked, Reply>
-    requires few { want ≤ 2 }
+// So many vacant objects, 2 at most. Where fewer are known to be vacant, it doesn't look.
+fn vacant_for<V: View>(view: &mut V, hints: &mut Hints, few: &mut u32, want: u32) -> Option<Picked>
+    requires want { want ≤ 2 }
     requires lawful { IsLawful (V.state view.old) }
-    ensures found { MatchResult result (λ p. AreHad (V.state view.old) want last p.first p.second) (λ reply. IsShort (V.state view.old) want last reply) }
-    ensures hints { TakesHints hints.old hints.new }
-    ensures untouched { want ≡ 0 → hints.new ≡ hints.old }
-    ensures as_before { V.as_before view.old view.new }
-{
-    match vacant_for(view, hints, want) {
-        None => Err(Reply::Full),
-        Some(_) if last => Err(Reply::Worn),
-        Some(picked) => Ok(picked),
-    }
-}
-
-// So many vacant objects, 2 at most.
-fn vacant_for<V: View>(view: &mut V, hints: &mut Hints, want: u32) -> Option<Picked>
-    requires few { want ≤ 2 }
-    requires lawful { IsLawful (V.state view.old) }
+    requires few { vacant_nodes (V.state view.old) < few.old }
     ensures none { MatchOption result (vacant_nodes (V.state view.old) < want) (λ p. want ≤ vacant_nodes (V.state view.old)) }
     ensures enough { IfSome result (λ p. AreEnough (V.state view.old) want p.first p.second) }
+    ensures few { vacant_nodes (V.state view.old) < few.new }
     ensures hints { TakesHints hints.old hints.new }
     ensures untouched { want ≡ 0 → hints.new ≡ hints.old }
     ensures as_before { V.as_before view.old view.new }
@@ -232,5 +243,12 @@ fn vacant_for<V: View>(view: &mut V, hints: &mut Hints, want: u32) -> Option<Pic
             second: 0,
         });
     }
-    pick(view, hints, want)
+    if *few <= want {
+        return None;
+    }
+    let picked = pick(view, hints, want);
+    if picked.is_none() {
+        *few = want;
+    }
+    picked
 }

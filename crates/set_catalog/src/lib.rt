@@ -38,6 +38,8 @@
 //! history is allowed.
 //!
 //! `pick` finds vacant objects, and tries what a worker remembers of its own deletions first.
+//! A `HintedStore` owns a store with its hints, and knows of its last look for vacant objects that
+//! found too few: while nothing was freed since, it answers `Full` with no further look.
 //! `read_all` reads the whole catalogue, set by set and each node once.
 //!
 //! No call but `Hints::new` and `read_all` takes memory.
@@ -57,6 +59,7 @@ mod cost_tests;
 mod counted;
 mod ends;
 mod finding;
+mod hinted_store;
 mod hints;
 mod names;
 #[cfg(test)]
@@ -65,11 +68,13 @@ mod picks;
 mod plan;
 mod reading;
 mod sets;
+mod shortage;
 #[cfg(test)]
 mod tests;
 
 pub use answer::Attempt;
 pub use attempting::{attempt, attempt_with};
+pub use hinted_store::HintedStore;
 pub use hints::Hints;
 pub use picks::{Picked, pick};
 pub use reading::read_all;

@@ -16,5 +16,4 @@ pub mod LeafWalks
 pub mod Found
 pub mod Planning
 pub mod Changing
-pub mod TreeFits
 pub mod Filling

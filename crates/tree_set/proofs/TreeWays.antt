@@ -1,8 +1,8 @@
--- The ways to change the map of a tree: what their commits need so that they are fit, and the calls that take them.
+-- The ways to change the map of a tree: what their commits need so that they are fit.
 use Rattle.std.proofs.Common.{◌≡◌, ◌≢◌, ℕ, ◌^◌, ◌<◌, ◌≤◌, inl, inr, true, Some, [], ◌∷◌, refl, sym, ap, ◌∙◌, subst, arith}
 use Rattle.mv_history.specs.State.{State}
 use Rattle.mv_history.specs.Legal.{are_distinct}
-use Rattle.mv_history.specs.Meaning.{InSection, state_of, words_at}
+use Rattle.mv_history.specs.Meaning.{words_at}
 use Rattle.set_script.specs.Catalogue.{map_of, value_of}
 use Rattle.set_script.specs.CatalogueOf.{name_of, catalogue_of}
 use Rattle.set_script.specs.Objects.{kind, link, value}
@@ -11,11 +11,8 @@ use Rattle.set_script.specs.Trees.{objects_in, entries_in, EndsAt}
 use Rattle.set_script.proofs.ObjectWords.{word}
 use Rattle.set_script.proofs.TreeShape.{IsIn, seek_in, only_in, Stands-node, Stands-owner}
 use Rattle.set_script.proofs.TreeMaps.{leaf_value, map_of-tree}
-use Rattle.set_script.proofs.Ways.{IsAt, IsVacant, AreVacant, DelWay, AddWay, PutWay}
-use Rattle.set_script.proofs.Entries.{value_once}
-use Rattle.list_set.specs.Calls.{Rewritten}
+use Rattle.set_script.proofs.Ways.{IsAt, AreVacant, DelWay, AddWay, PutWay}
 use Rattle.list_set.specs.Places.{put_writes}
-use Rattle.list_set.proofs.SectionFits.{KeyAdded, KeyRemoved, KeyUpdated}
 use Rattle.tree_set.specs.Places.{IsInner, IsLeaf, IsChild, IsParent, plant_writes, IsGrowPlace, grow_writes, IsBarePlace, bare_writes, IsCutPlace, cut_writes}
 use Rattle.tree_set.proofs.GrowFit.{grow_site, grow_distinct, grow_half}
 use Rattle.tree_set.proofs.CutFit.{tree_with, cut_twig, cut_distinct, cut_half}
@@ -196,75 +193,3 @@ leaf_has s root k l law lo lt is =
     let one : kind s l ≡ 1 = is.2 in
     ap (value_of k) (map_of-tree s root t.0 lo lt t.1) ∙ ap (λ j. value_of j (entries_in t.0)) (sym is.3)
     ∙ leaf_value s root t.0 t.1.stands t.1.ordered l (only_in s root t.0 t.1 l is.0 is.1) (omega arith)
-
--- What the calls leave, by the place that they found and the writes that they made there.
-module _ (old new : InSection) (root k v : ℕ) (lo : 170 ≤ root) (lt : root < 180) (fits : k < 2 ^ 32) (law : IsLawful (state_of old)) where
-  -- an add to an empty tree
-  pub planted_added : (leaf : ℕ) → link (state_of old) root ≡ 0 → IsVacant (state_of old) leaf
-      → Rewritten old new (root ∷ leaf ∷ []) (plant_writes (state_of old) root k v leaf) → KeyAdded old new root k v
-  unfolding plant_way
-  planted_added m place vac r = record {
-    way = plant_way root k v m lo lt fits;
-    place = place;
-    vacant = λ o i. elim i [ inl e ↦ subst (λ u. IsVacant (state_of old) u) (sym e) vac | inr e ↦ absurd e ];
-    writes = r;
-  }
-
-  -- an add to another tree
-  pub grown_added : (parent leaf new_leaf new_inner : ℕ) → IsGrowPlace (state_of old) root k parent leaf → IsVacant (state_of old) new_leaf
-      → IsVacant (state_of old) new_inner → new_leaf ≢ new_inner
-      → Rewritten old new (parent ∷ leaf ∷ new_leaf ∷ new_inner ∷ []) (grow_writes (state_of old) root k v parent leaf new_leaf new_inner)
-      → KeyAdded old new root k v
-  unfolding grow_way
-  grown_added p l m w place vm vw ne r = record {
-    way = grow_way root k v p l m w lo lt fits ne;
-    place = place;
-    vacant = λ o i. elim i [
-      | inl e ↦ subst (λ u. IsVacant (state_of old) u) (sym e) vm
-      | inr (inl e) ↦ subst (λ u. IsVacant (state_of old) u) (sym e) vw
-      | inr (inr e) ↦ absurd e
-    ];
-    writes = r;
-  }
-
-  -- a del of the last key, which had this value
-  pub bared_removed : (leaf : ℕ) → value_of k (map_of (name_of root) (catalogue_of (state_of old))) ≡ Some v → IsBarePlace (state_of old) root k leaf
-      → Rewritten old new (root ∷ leaf ∷ []) (bare_writes (state_of old) root leaf) → KeyRemoved old new root k v
-  unfolding bare_way
-  bared_removed l has place r = record {
-    way = bare_way root k v l lo lt;
-    place = (
-      place,
-      value_once k (value (state_of old) l) v (map_of (name_of root) (catalogue_of (state_of old)))
-          (leaf_has (state_of old) root k l law lo lt place.is_leaf) has,
-    );
-    vacant = λ o i. absurd i;
-    writes = r;
-  }
-
-  -- a del of another key
-  pub cut_removed : (grand parent leaf : ℕ) → value_of k (map_of (name_of root) (catalogue_of (state_of old))) ≡ Some v
-      → IsCutPlace (state_of old) root k grand parent leaf → Rewritten old new (grand ∷ parent ∷ leaf ∷ []) (cut_writes (state_of old) grand parent leaf)
-      → KeyRemoved old new root k v
-  unfolding cut_way
-  cut_removed g p l has place r = record {
-    way = cut_way root k v g p l lo lt;
-    place = (
-      place,
-      value_once k (value (state_of old) l) v (map_of (name_of root) (catalogue_of (state_of old)))
-          (leaf_has (state_of old) root k l law lo lt place.is_leaf) has,
-    );
-    vacant = λ o i. absurd i;
-    writes = r;
-  }
-
-  -- a put of a key that was there and didn't have this value
-  pub put_updated : (leaf : ℕ) → (value_of k (map_of (name_of root) (catalogue_of (state_of old))) ≡ Some v → ⊥) → IsLeaf (state_of old) root k leaf
-      → Rewritten old new (leaf ∷ []) (put_writes (state_of old) leaf v) → KeyUpdated old new root k v
-  unfolding put_way
-  put_updated l lacks place r = record {
-    way = put_way root k v l lo lt;
-    place = (place, λ e. lacks (leaf_has (state_of old) root k l law lo lt place ∙ ap Some e));
-    vacant = λ o i. absurd i;
-    writes = r;
-  }

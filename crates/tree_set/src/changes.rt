@@ -16,7 +16,7 @@ ghost use Rattle.list_set.specs.declared.answers.Removed.TheVariants.{Took, Abse
 ghost use Rattle.tree_set.specs.Places.{IsLeaf};
 ghost use Rattle.tree_set.specs.Calls.{IsAdd, IsDel, Gains, Loses};
 
-use crate::search::find;
+use crate::search::{find, find_leaf};
 use crate::writes::plant_writes;
 use list_set::{Removed, SetStep, rewrite};
 use mv_history::Section;
@@ -109,9 +109,7 @@ pub fn put_in<S: Section>(section: &mut S, root: u32, key: u32, value: u64) -> S
     ensures again { (cause : Cause) → result ≡ Again cause → (leaf : ℕ) × IsLeaf (state_of (S.section section.old)) root key leaf
         × Refuses S.may_refuse S.found_held (S.section section.old) (S.section section.new) (leaf ∷ []) cause }
 {
-    let Some(fork) = find(section, root, key) else {
-        return SetStep::No;
-    };
+    let fork = find_leaf(section, root, key);
     if fork.words[5] == value {
         return SetStep::No;
     }

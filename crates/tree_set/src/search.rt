@@ -1,5 +1,6 @@
 // The search for a key.
-ghost use Rattle.std.specs.Prelude.{◌≡◌, ◌<◌, ◌≤◌, IfNone, IfSome};
+ghost use Rattle.std.specs.Prelude.{◌≡◌, ◌≢◌, ◌<◌, ◌≤◌, IfNone, IfSome, slice_index_or};
+ghost use Rattle.mv_history.specs.Meaning.{words_at};
 ghost use Rattle.set_script.specs.Lawful.{IsLawful};
 ghost use Rattle.set_script.specs.Objects.{link};
 ghost use Rattle.set_script.specs.Trees.{Tree, top, Stands};
@@ -40,6 +41,36 @@ pub fn find<V: View>(view: &mut V, root: u32, key: u32) -> Option<Fork>
     if root_words[3] == 0 {
         return None;
     }
+    Some(descend(view, root, root_words, key))
+}
+
+/// The leaf where the search for the key ends, in a tree that is not empty.
+///
+/// It needs and reads what `find` does.
+pub fn find_leaf<V: View>(view: &mut V, root: u32, key: u32) -> Fork
+    requires root_from { 170 ≤ root }
+    requires root_in { root < 180 }
+    requires lawful { IsLawful (V.state view.old) }
+    requires some { link (V.state view.old) root ≢ 0 }
+    ensures fork { IsFork (V.state view.old) root key result.grand result.parent result.leaf result.right result.words }
+    ensures words { HasWords (V.state view.old) result }
+    ensures as_before { V.as_before view.old view.new }
+{
+    let root_words = view.read(root);
+    descend(view, root, root_words, key)
+}
+
+// The leaf where the search for the key ends, down from the root, which has these words.
+fn descend<V: View>(view: &mut V, root: u32, root_words: Words, key: u32) -> Fork
+    requires root_from { 170 ≤ root }
+    requires root_in { root < 180 }
+    requires lawful { IsLawful (V.state view.old) }
+    requires words { root_words ≡ words_at (V.state view.old) root }
+    requires some { slice_index_or root_words 3 0 ≢ 0 }
+    ensures fork { IsFork (V.state view.old) root key result.grand result.parent result.leaf result.right result.words }
+    ensures words { HasWords (V.state view.old) result }
+    ensures as_before { V.as_before view.old view.new }
+{
     let mut grand = root;
     let mut grand_words = root_words;
     let mut parent = root;
@@ -60,7 +91,7 @@ pub fn find<V: View>(view: &mut V, root: u32, key: u32) -> Option<Fork>
         }
         words = view.read(leaf);
     }
-    Some(Fork {
+    Fork {
         grand,
         grand_words,
         parent,
@@ -68,7 +99,7 @@ pub fn find<V: View>(view: &mut V, root: u32, key: u32) -> Option<Fork>
         leaf,
         words,
         right,
-    })
+    }
 }
 
 // The least key of the part of a tree that stands at this node.

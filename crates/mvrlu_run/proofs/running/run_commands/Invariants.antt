@@ -9,9 +9,9 @@ use Rattle.mvrlu_run.proofs.running.run_commands.Given as goal
 abbrev pub invariant-loop-command : goal.invariant-loop-command
 invariant-loop-command g l = record {
   number : l.number ≡ l.command-index;
-  ready : IsReady (seat_of l.store);
-  seen : length (seat_of l.store).seen ≤ l.number;
-  told : IsTold l.commands 0 capacity l.number l.lines.items (length (seat_of l.store).seen) (catalogue_of (state_now (seat_of l.store)));
+  ready : IsReady (seat_of l.store.store);
+  seen : length (seat_of l.store.store).seen ≤ l.number;
+  told : IsTold l.commands 0 capacity l.number l.lines.items (length (seat_of l.store.store).seen) (catalogue_of (state_now (seat_of l.store.store)));
   lines : length l.lines.items ≡ l.number;
   room : length l.commands ≤ vec_capacity l.lines;
 }

@@ -1,4 +1,4 @@
-use Rattle.std.proofs.Common.{ℕ, List, refl, sym, subst, ◌∙◌}
+use Rattle.std.proofs.Common.{ℕ, List, false, refl, sym, subst, ◌∙◌, arith}
 use Rattle.mv_history.specs.Drift.{IsFit}
 use Rattle.mv_history.specs.Meaning.{Seat, snapshot_of}
 use Rattle.mv_history.specs.Calls.{Leaves, Commits}
@@ -8,7 +8,10 @@ use Rattle.set_script.specs.Tags.{tag_of}
 use Rattle.set_catalog.specs.Attempts.{TriesOne}
 use Rattle.set_catalog.proofs.Exchanges.{leaves_none, left_one, one_before, one_after}
 use Rattle.set_catalog.proofs.NotedGone.{noted_by, kept_same, read_noted}
-use Rattle.set_catalog.proofs.Outcomes.{done_by, stopped_in, overtaken_in, worn_left, answered_after}
+use Rattle.set_catalog.specs.Shortages.{IsKnown}
+use Rattle.set_catalog.specs.declared.shortage.Shortage.{Shortage}
+use Rattle.set_catalog.proofs.Knowing.{known_later, known_followed}
+use Rattle.set_catalog.proofs.Outcomes.{tag_stands, done_by, stopped_in, overtaken_in, worn_left, answered_after}
 use Rattle.set_catalog.proofs.Rooms.{room_of, ready_by, gone_by, stops_by, written_as, refused_as}
 use Rattle.set_catalog.proofs.attempting.commit_change.Goals as goal
 
@@ -38,14 +41,22 @@ returns-in-Err g c =
       noted = kept_same _ _ _ _ refl;
       at_most_one = left_one goes.continues goes.names_no_commit left;
       continues = Continues-Continues goes.continues left.continues;
+      known = known_later _ (Continues-Continues goes.continues left.continues) c.requires.known;
     }
 
+pub after-requires : goal.after-requires
+after-requires g c = let later = c.in-Done.ensures.done.0.later in omega arith
+
 pub answer_at_last-requires : goal.answer_at_last-requires
-answer_at_last-requires g c = record {
-  worn = worn_left _ _ _ c.in-End.ensures.end.0 c.in-End.ensures.end.1
-      (subst (λ (s : Seat). Leaves (g.S.Open.Section.section c.in-End.section) s) (g.met.S.Store.same_seat _) c.abort-in-End.ensures)
-      (g.met.S.Store.lawful c.abort-in-End.result).time;
-}
+answer_at_last-requires g c =
+    let wrote = written_as _ _ _ _ c.writes.ensures.writes c.in_default.ensures.written in
+    let ready = ready_by _ _ _ _ _ c.requires.space c.requires.planned wrote in
+    let same = c.in-End.ensures.end.0 in
+    let left = subst (λ (s : Seat). Leaves (g.S.Open.Section.section c.in-End.section) s) (g.met.S.Store.same_seat _) c.abort-in-End.ensures in
+    record {
+      worn = worn_left _ _ _ same c.in-End.ensures.end.1 left (g.met.S.Store.lawful c.abort-in-End.result).time;
+      known = known_later _ (Continues-Continues ready.goes_on.continues (Continues-Continues same.seat.continues left.continues)) c.requires.known;
+    }
 
 pub returns-in-Done : goal.returns-in-Done
 returns-in-Done g c =
@@ -63,6 +74,10 @@ returns-in-Done g c =
       at_most_one = one_before goes.continues made.continues goes.names_no_commit
           (subst (λ (s : Seat). TriesOne own.seat s) (g.met.S.Store.same_seat _) c.in-Done.ensures.at_most_one);
       continues = Continues-Continues goes.continues made.continues;
+      known = subst (λ (k : Shortage). IsKnown (g.S.Store.seat_of c.in-Done.store) k) (sym c.after.ensures)
+          (known_followed _ _ _ _ c.args.command.now (g.met.S.Store.lawful c.in-Done.store) made.entry
+          (tag_stands c.args.command.now _ false c.requires.changing)
+          (known_later _ (Continues-Continues goes.continues made.continues) c.requires.known));
     }
 
 pub returns-in-Again : goal.returns-in-Again
@@ -79,6 +94,7 @@ returns-in-Again g c =
       at_most_one = one_before ready.goes_on.continues after ready.goes_on.names_no_commit
           (one_after same left.continues c.in-Again.ensures.at_most_one (leaves_none _ _ left));
       continues = Continues-Continues ready.goes_on.continues after;
+      known = known_later _ (Continues-Continues ready.goes_on.continues after) c.requires.known;
     }
 
 pub returns-in-End : goal.returns-in-End
@@ -100,4 +116,5 @@ returns-in-End g c =
       at_most_one = one_before ready.goes_on.continues whole ready.goes_on.names_no_commit
           (one_after same.seat.continues after c.in-End.ensures.at_most_one quiet);
       continues = Continues-Continues ready.goes_on.continues whole;
+      known = last.known;
     }

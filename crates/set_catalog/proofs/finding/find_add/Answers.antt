@@ -5,7 +5,7 @@ use Rattle.set_catalog.proofs.finding.find_add.Goals as goal
 
 pub returns-then-has-clause-found : goal.returns-then-has-clause-found
 returns-then-has-clause-found g c =
-    add_no _ c.args.name c.args.key c.args.last c.requires.lawful c.search-end.ensures.name_in (omega (arith, c.ranges.key.fits))
+    add_no _ c.args.name c.args.key c.requires.lawful c.search-end.ensures.name_in (omega (arith, c.ranges.key.fits))
     (sym (c.has.ensures _ _ c.requires.lawful c.search-end.ensures.name_in (omega (arith, c.ranges.key.fits)) c.search-end.ensures.ends)
     ∙ c.if-has.true)
 
@@ -13,7 +13,7 @@ pub returns-clause-found : goal.returns-clause-found
 returns-clause-found g c =
     let missed = sym (c.has.ensures _ _ c.requires.lawful c.search-end.ensures.name_in (omega (arith, c.ranges.key.fits)) c.search-end.ensures.ends)
     ∙ c.if-has.false in
-    new_found _ _ _ _ _ c.args.last _ (g.met.V.View.same_state _ _ c.search-end.ensures.as_before) c.find_new.ensures.found (Add c.args.name c.args.key)
+    new_found _ _ _ _ _ _ (g.met.V.View.same_state _ _ c.search-end.ensures.as_before) c.find_new.ensures.found (Add c.args.name c.args.key)
     (record { name = c.args.name; name_in = c.search-end.ensures.name_in; ends = c.search-end.ensures.ends; absent = missed; adds = inl (refl, refl) })
 
 pub returns-clause-untouched : goal.returns-clause-untouched

@@ -2,41 +2,41 @@ use Rattle.std.proofs.Common.{sym, ◌∙◌, arith}
 use Rattle.set_script.specs.Catalogue.{map_of}
 use Rattle.set_script.specs.CatalogueOf.{catalogue_of}
 use Rattle.set_script.proofs.MapLemmas.{has_key-some}
-use Rattle.set_catalog.proofs.Decided.{move_none, move_no, move_wants, move_short, move_has_room, move_open, ends_same, short_same, had_same}
+use Rattle.set_catalog.proofs.Decided.{move_none, move_no, move_wants, move_short, move_has_room, move_open, ends_same, short_same, there_same, enough_same}
 use Rattle.set_catalog.proofs.finding.find_move.Goals as goal
 
 pub returns-in_default-clause-found : goal.returns-in_default-clause-found
 returns-in_default-clause-found g c =
-    move_none (g.V.View.state c.args.view.now) c.args.source c.args.target c.args.key c.args.last
+    move_none (g.V.View.state c.args.view.now) c.args.source c.args.target c.args.key
     (c.in_default.ensures _ _ c.requires.lawful c.search-from.ensures.name_in (omega (arith, c.ranges.key.fits)) c.search-from.ensures.ends)
 
 pub returns-then-has-clause-found : goal.returns-then-has-clause-found
 returns-then-has-clause-found g c =
     let to = ends_same _ _ c.args.target c.args.key c.search-to.result (g.met.V.View.same_state _ _ c.search-from.ensures.as_before) c.search-to.ensures.ends in
     let has = c.in-Some.ensures _ _ c.requires.lawful c.search-from.ensures.name_in (omega (arith, c.ranges.key.fits)) c.search-from.ensures.ends in
-    move_no (g.V.View.state c.args.view.now) c.args.source c.args.target c.args.key c.args.last
+    move_no (g.V.View.state c.args.view.now) c.args.source c.args.target c.args.key
     c.requires.lawful c.search-from.ensures.name_in c.search-to.ensures.name_in (omega (arith, c.ranges.key.fits)) c.in-Some.value has
     (sym (c.has.ensures _ _ c.requires.lawful c.search-to.ensures.name_in (omega (arith, c.ranges.key.fits)) to) ∙ c.if-has.true)
 
-pub returns-in-Err-clause-found : goal.returns-in-Err-clause-found
-returns-in-Err-clause-found g c =
+pub returns-in_default-vacant_for-clause-found : goal.returns-in_default-vacant_for-clause-found
+returns-in_default-vacant_for-clause-found g c =
     let to = ends_same _ _ c.args.target c.args.key c.search-to.result (g.met.V.View.same_state _ _ c.search-from.ensures.as_before) c.search-to.ensures.ends in
     let missed = sym (c.has.ensures _ _ c.requires.lawful c.search-to.ensures.name_in (omega (arith, c.ranges.key.fits)) to) ∙ c.if-has.false in
     let has = c.in-Some.ensures _ _ c.requires.lawful c.search-from.ensures.name_in (omega (arith, c.ranges.key.fits)) c.search-from.ensures.ends in
-    move_short (g.V.View.state c.args.view.now) c.args.source c.args.target c.args.key c.args.last
+    move_short (g.V.View.state c.args.view.now) c.args.source c.args.target c.args.key
     c.requires.lawful c.search-from.ensures.name_in c.search-to.ensures.name_in (omega (arith, c.ranges.key.fits)) c.in-Some.value has missed
     c.search-from.result c.search-from.ensures.ends
-    _ _ _ _ (c.takes.ensures.takes c.args.key _ c.args.target c.requires.lawful c.search-to.ensures.name_in (omega (arith, c.ranges.key.fits)) to)
+    _ _ _ (c.takes.ensures.takes c.args.key _ c.args.target c.requires.lawful c.search-to.ensures.name_in (omega (arith, c.ranges.key.fits)) to)
     c.del-gone.ensures.inner c.still_wanted.ensures
-    (short_same _ _ _ _ _ (g.met.V.View.same_state _ _ (g.met.V.View.as_long_before _ _ _ c.search-from.ensures.as_before c.search-to.ensures.as_before))
-    c.in-Err.ensures.found)
+    (short_same _ _ _ (g.met.V.View.same_state _ _ (g.met.V.View.as_long_before _ _ _ c.search-from.ensures.as_before c.search-to.ensures.as_before))
+    c.in_default-vacant_for.ensures.none)
 
-pub returns-in-Err-clause-untouched : goal.returns-in-Err-clause-untouched
-returns-in-Err-clause-untouched g c z =
+pub returns-in_default-vacant_for-clause-untouched : goal.returns-in_default-vacant_for-clause-untouched
+returns-in_default-vacant_for-clause-untouched g c z =
     let to = ends_same _ _ c.args.target c.args.key c.search-to.result (g.met.V.View.same_state _ _ c.search-from.ensures.as_before) c.search-to.ensures.ends in
     let missed = sym (c.has.ensures _ _ c.requires.lawful c.search-to.ensures.name_in (omega (arith, c.ranges.key.fits)) to) ∙ c.if-has.false in
     let has = c.in-Some.ensures _ _ c.requires.lawful c.search-from.ensures.name_in (omega (arith, c.ranges.key.fits)) c.search-from.ensures.ends in
-    c.in-Err.ensures.untouched (move_wants (g.V.View.state c.args.view.now) c.args.source c.args.target c.args.key c.args.last
+    c.in_default-vacant_for.ensures.untouched (move_wants (g.V.View.state c.args.view.now) c.args.source c.args.target c.args.key
     c.requires.lawful c.search-from.ensures.name_in c.search-to.ensures.name_in (omega (arith, c.ranges.key.fits)) c.in-Some.value has missed
     c.search-from.result c.search-from.ensures.ends
     _ _ _ (c.takes.ensures.takes c.args.key _ c.args.target c.requires.lawful c.search-to.ensures.name_in (omega (arith, c.ranges.key.fits)) to)
@@ -50,10 +50,10 @@ add-requires-clause-room g c =
     let there = has_key-some c.args.key c.in-Some.value (map_of c.args.source (catalogue_of (g.V.View.state c.args.view.now))) (sym has) in
     let dels = c.del-gone.ensures.writes c.args.key _ c.args.source c.requires.lawful c.search-from.ensures.name_in
     (omega (arith, c.ranges.key.fits)) c.search-from.ensures.ends there in
-    move_has_room (g.V.View.state c.args.view.now) c.args.source c.args.target c.args.key c.args.last
+    move_has_room (g.V.View.state c.args.view.now) c.args.source c.args.target c.args.key
     c.requires.lawful c.search-from.ensures.name_in c.search-to.ensures.name_in (omega (arith, c.ranges.key.fits)) c.in-Some.value has missed
     c.search-from.result c.search-from.ensures.ends
-    c.nothing-plan.result c.del-gone.new.plan c.in-Ok.picked.first _ _ _ c.search-to.result c.nothing-plan.ensures.count dels
+    c.nothing-plan.result c.del-gone.new.plan c.in-Some-vacant_for.picked.first _ _ _ c.search-to.result c.nothing-plan.ensures.count dels
     c.del-gone.ensures.inner (c.before-picked.ensures.first ∙ c.del-gone.ensures.node) c.before-picked.ensures.second
 
 pub returns-clause-found : goal.returns-clause-found
@@ -64,14 +64,16 @@ returns-clause-found g c =
     let there = has_key-some c.args.key c.in-Some.value (map_of c.args.source (catalogue_of (g.V.View.state c.args.view.now))) (sym has) in
     let dels = c.del-gone.ensures.writes c.args.key _ c.args.source c.requires.lawful c.search-from.ensures.name_in
     (omega (arith, c.ranges.key.fits)) c.search-from.ensures.ends there in
-    move_open (g.V.View.state c.args.view.now) c.args.source c.args.target c.args.key c.args.last
+    move_open (g.V.View.state c.args.view.now) c.args.source c.args.target c.args.key
     c.requires.lawful c.search-from.ensures.name_in c.search-to.ensures.name_in (omega (arith, c.ranges.key.fits)) c.in-Some.value has missed
     c.search-from.result c.search-from.ensures.ends
-    c.nothing-plan.result c.del-gone.new.plan c.add.new.plan c.nothing-gone.result _ _ _ c.in-Ok.picked.first
-    c.in-Ok.picked.second _ _ c.search-to.result to
+    c.nothing-plan.result c.del-gone.new.plan c.add.new.plan c.nothing-gone.result _ _ _ c.in-Some-vacant_for.picked.first
+    c.in-Some-vacant_for.picked.second _ _ c.search-to.result to
     (c.takes.ensures.takes c.args.key _ c.args.target c.requires.lawful c.search-to.ensures.name_in (omega
-    (arith, c.ranges.key.fits)) to) c.del-gone.ensures.inner c.still_wanted.ensures (had_same _ _ _ _ _ _ (g.met.V.View.same_state _ _
-    (g.met.V.View.as_long_before _ _ _ c.search-from.ensures.as_before c.search-to.ensures.as_before)) c.in-Ok.ensures.found)
+    (arith, c.ranges.key.fits)) to) c.del-gone.ensures.inner c.still_wanted.ensures (there_same _ _ _ (g.met.V.View.same_state _ _
+    (g.met.V.View.as_long_before _ _ _ c.search-from.ensures.as_before c.search-to.ensures.as_before)) c.in-Some-vacant_for.ensures.none)
+    (enough_same _ _ _ _ _ (g.met.V.View.same_state _ _
+    (g.met.V.View.as_long_before _ _ _ c.search-from.ensures.as_before c.search-to.ensures.as_before)) c.in-Some-vacant_for.ensures.enough)
     (c.before-picked.ensures.first ∙ c.del-gone.ensures.node) c.before-picked.ensures.second c.nothing-plan.ensures.count dels c.add.ensures.count
     (c.add.ensures.writes _ c.args.target c.requires.lawful c.search-to.ensures.name_in (omega (arith, c.ranges.key.fits)) to)
     (c.nothing-gone.ensures.node, c.nothing-gone.ensures.inner)
@@ -81,7 +83,7 @@ returns-clause-untouched g c z =
     let to = ends_same _ _ c.args.target c.args.key c.search-to.result (g.met.V.View.same_state _ _ c.search-from.ensures.as_before) c.search-to.ensures.ends in
     let missed = sym (c.has.ensures _ _ c.requires.lawful c.search-to.ensures.name_in (omega (arith, c.ranges.key.fits)) to) ∙ c.if-has.false in
     let has = c.in-Some.ensures _ _ c.requires.lawful c.search-from.ensures.name_in (omega (arith, c.ranges.key.fits)) c.search-from.ensures.ends in
-    c.in-Ok.ensures.untouched (move_wants (g.V.View.state c.args.view.now) c.args.source c.args.target c.args.key c.args.last
+    c.in-Some-vacant_for.ensures.untouched (move_wants (g.V.View.state c.args.view.now) c.args.source c.args.target c.args.key
     c.requires.lawful c.search-from.ensures.name_in c.search-to.ensures.name_in (omega (arith, c.ranges.key.fits)) c.in-Some.value has missed
     c.search-from.result c.search-from.ensures.ends
     _ _ _ (c.takes.ensures.takes c.args.key _ c.args.target c.requires.lawful c.search-to.ensures.name_in (omega (arith, c.ranges.key.fits)) to)

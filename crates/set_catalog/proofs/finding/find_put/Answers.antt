@@ -3,14 +3,14 @@ use Rattle.set_script.specs.Catalogue.{map_of}
 use Rattle.set_script.specs.CatalogueOf.{catalogue_of}
 use Rattle.set_script.specs.declared.commands.Command.TheVariants.{Put}
 use Rattle.set_script.proofs.MapLemmas.{has_key-none, has_key-some}
-use Rattle.set_catalog.proofs.Decided.{put_no, put_worn, put_open, new_found, wants_some}
+use Rattle.set_catalog.proofs.Decided.{put_no, put_open, new_found, wants_some}
 use Rattle.set_catalog.proofs.finding.find_put.Goals as goal
 
 pub returns-in-None-clause-found : goal.returns-in-None-clause-found
 returns-in-None-clause-found g c =
     let missed = has_key-none c.args.key (map_of c.args.name (catalogue_of (g.V.View.state c.args.view.now)))
     (sym (c.in-None.ensures _ _ c.requires.lawful c.search-end.ensures.name_in (omega (arith, c.ranges.key.fits)) c.search-end.ensures.ends)) in
-    new_found _ _ _ _ _ c.args.last _ (g.met.V.View.same_state _ _ c.search-end.ensures.as_before) c.find_new.ensures.found
+    new_found _ _ _ _ _ _ (g.met.V.View.same_state _ _ c.search-end.ensures.as_before) c.find_new.ensures.found
     (Put c.args.name c.args.key c.args.value)
     (record { name = c.args.name; name_in = c.search-end.ensures.name_in; ends = c.search-end.ensures.ends; absent = missed; adds = inr refl })
 
@@ -22,25 +22,18 @@ returns-in-None-clause-untouched g c z =
 
 pub returns-in-Some-clause-found : goal.returns-in-Some-clause-found
 returns-in-Some-clause-found g c =
-    put_no _ c.args.name c.args.key c.args.last c.requires.lawful c.search-end.ensures.name_in (omega (arith, c.ranges.key.fits)) c.args.value c.in-Some.old
+    put_no _ c.args.name c.args.key c.requires.lawful c.search-end.ensures.name_in (omega (arith, c.ranges.key.fits)) c.args.value c.in-Some.old
     (omega (arith, c.ranges.value.fits)) (c.in-Some.ensures _ _ c.requires.lawful c.search-end.ensures.name_in
     (omega (arith, c.ranges.key.fits)) c.search-end.ensures.ends) c.if-old-value.true
 
 pub returns-in-Some-2-clause-found : goal.returns-in-Some-2-clause-found
 returns-in-Some-2-clause-found g c =
-    put_worn _ c.args.name c.args.key c.args.last c.requires.lawful c.search-end.ensures.name_in (omega
-    (arith, c.ranges.key.fits)) c.args.value c.in-Some.old (omega (arith, c.ranges.value.fits))
-    (c.in-Some.ensures _ _ c.requires.lawful c.search-end.ensures.name_in
-    (omega (arith, c.ranges.key.fits)) c.search-end.ensures.ends) c.if-old-value.false c.if-last.true
-
-pub returns-in-Some-3-clause-found : goal.returns-in-Some-3-clause-found
-returns-in-Some-3-clause-found g c =
     let has = (c.in-Some.ensures _ _ c.requires.lawful c.search-end.ensures.name_in (omega (arith, c.ranges.key.fits)) c.search-end.ensures.ends) in
     let there = has_key-some c.args.key c.in-Some.old (map_of c.args.name (catalogue_of (g.V.View.state c.args.view.now))) (sym has) in
-    put_open _ c.args.name c.args.key c.args.last c.requires.lawful c.search-end.ensures.name_in
+    put_open _ c.args.name c.args.key c.requires.lawful c.search-end.ensures.name_in
     (omega (arith, c.ranges.key.fits)) c.args.value c.in-Some.old
     (omega (arith, c.ranges.value.fits)) has c.search-end.result c.nothing-plan.result c.put.new.plan c.nothing-gone.result
-    c.search-end.ensures.ends c.if-old-value.false c.if-last.false c.nothing-plan.ensures.count c.put.ensures.count
+    c.search-end.ensures.ends c.if-old-value.false c.nothing-plan.ensures.count c.put.ensures.count
     (c.put.ensures.writes c.args.key _ c.args.name c.requires.lawful c.search-end.ensures.name_in
     (omega (arith, c.ranges.key.fits)) c.search-end.ensures.ends there)
     (c.nothing-gone.ensures.node, c.nothing-gone.ensures.inner)

@@ -7,68 +7,67 @@ use Rattle.tree_set.proofs.Planning.{ends_in, within_as}
 use Rattle.tree_set.proofs.Changing.{put_found, put_within, put_gains, no_other}
 use Rattle.tree_set.proofs.changes.put_in.Goals as goal
 
-pub returns-in_default-clause-no : goal.returns-in_default-clause-no
-returns-in_default-clause-no g c =
-    let none = found_none _ _ c.args.root c.args.key (g.met.S.Section.reads _) c.in_default.ensures.empty c.requires.lawful c.requires.root_from
-    c.requires.root_in in
+pub find_leaf-fork-requires-clause-some : goal.find_leaf-fork-requires-clause-some
+find_leaf-fork-requires-clause-some g c e =
+    let none = found_none _ _ c.args.root c.args.key (g.met.S.Section.reads _) e c.requires.lawful c.requires.root_from c.requires.root_in in
     let present = c.requires.present in absurd (cc)
 
 pub returns-then-fork-value-clause-no : goal.returns-then-fork-value-clause-no
 returns-then-fork-value-clause-no g c =
-    let f = put_found _ _ _ _ _ _ _ _ _ (g.met.S.Section.reads _) c.in-Some.ensures.fork c.requires.lawful c.requires.root_from c.requires.root_in
+    let f = put_found _ _ _ _ _ _ _ _ _ (g.met.S.Section.reads _) c.find_leaf-fork.ensures.fork c.requires.lawful c.requires.root_from c.requires.root_in
     c.requires.present in
     (λ _. f.value_is ∙ ap Some c.if-fork-value.true, λ _. refl)
 
 pub rewrite-requires-clause-distinct : goal.rewrite-requires-clause-distinct
 rewrite-requires-clause-distinct g c =
-    let f = put_found _ _ _ _ _ _ _ _ _ (g.met.S.Section.reads _) c.in-Some.ensures.fork c.requires.lawful c.requires.root_from c.requires.root_in
+    let f = put_found _ _ _ _ _ _ _ _ _ (g.met.S.Section.reads _) c.find_leaf-fork.ensures.fork c.requires.lawful c.requires.root_from c.requires.root_in
     c.requires.present in
-    let e = c.put_writes.ensures.writes _ _ _ (ends_in _ _ _ _ _ (g.met.S.Section.reads _) c.in-Some.ensures.fork c.in-Some.ensures.words) in
+    let e = c.put_writes.ensures.writes _ _ _ (ends_in _ _ _ _ _ (g.met.S.Section.reads _) c.find_leaf-fork.ensures.fork c.find_leaf-fork.ensures.words) in
     ap are_distinct e ∙ refl
 
 pub rewrite-requires-clause-within : goal.rewrite-requires-clause-within
 rewrite-requires-clause-within g c =
-    let f = put_found _ _ _ _ _ _ _ _ _ (g.met.S.Section.reads _) c.in-Some.ensures.fork c.requires.lawful c.requires.root_from c.requires.root_in
+    let f = put_found _ _ _ _ _ _ _ _ _ (g.met.S.Section.reads _) c.find_leaf-fork.ensures.fork c.requires.lawful c.requires.root_from c.requires.root_in
     c.requires.present in
-    let e = c.put_writes.ensures.writes _ _ _ (ends_in _ _ _ _ _ (g.met.S.Section.reads _) c.in-Some.ensures.fork c.in-Some.ensures.words) in
-    within_as _ _ _ e (put_within _ _ _ _ _ (g.met.S.Section.lawful _).at (g.met.S.Section.others_stay _ _ c.find.ensures.as_before) f.is)
+    let e = c.put_writes.ensures.writes _ _ _ (ends_in _ _ _ _ _ (g.met.S.Section.reads _) c.find_leaf-fork.ensures.fork c.find_leaf-fork.ensures.words) in
+    within_as _ _ _ e (put_within _ _ _ _ _ (g.met.S.Section.lawful _).at (g.met.S.Section.others_stay _ _ c.find_leaf-fork.ensures.as_before) f.is)
 
 pub rewrite-requires-clause-room : goal.rewrite-requires-clause-room
 rewrite-requires-clause-room g c =
-    let f = put_found _ _ _ _ _ _ _ _ _ (g.met.S.Section.reads _) c.in-Some.ensures.fork c.requires.lawful c.requires.root_from c.requires.root_in
+    let f = put_found _ _ _ _ _ _ _ _ _ (g.met.S.Section.reads _) c.find_leaf-fork.ensures.fork c.requires.lawful c.requires.root_from c.requires.root_in
     c.requires.present in
-    let e = c.put_writes.ensures.writes _ _ _ (ends_in _ _ _ _ _ (g.met.S.Section.reads _) c.in-Some.ensures.fork c.in-Some.ensures.words) in
-    room_as _ _ _ _ (g.met.S.Section.others_stay _ _ c.find.ensures.as_before) e (c.requires.room _ f.is)
+    let e = c.put_writes.ensures.writes _ _ _ (ends_in _ _ _ _ _ (g.met.S.Section.reads _) c.find_leaf-fork.ensures.fork c.find_leaf-fork.ensures.words) in
+    room_as _ _ _ _ (g.met.S.Section.others_stay _ _ c.find_leaf-fork.ensures.as_before) e (c.requires.room _ f.is)
 
 pub returns-in-Ok-clause-no : goal.returns-in-Ok-clause-no
 returns-in-Ok-clause-no g c =
-    let f = put_found _ _ _ _ _ _ _ _ _ (g.met.S.Section.reads _) c.in-Some.ensures.fork c.requires.lawful c.requires.root_from c.requires.root_in
+    let f = put_found _ _ _ _ _ _ _ _ _ (g.met.S.Section.reads _) c.find_leaf-fork.ensures.fork c.requires.lawful c.requires.root_from c.requires.root_in
     c.requires.present in
     (λ e. cc, λ t. absurd (no_other c.args.key c.args.value _ _ f.value_is c.if-fork-value.false t))
 
 pub returns-in-Ok-clause-yes : goal.returns-in-Ok-clause-yes
 returns-in-Ok-clause-yes g c _ =
-    let f = put_found _ _ _ _ _ _ _ _ _ (g.met.S.Section.reads _) c.in-Some.ensures.fork c.requires.lawful c.requires.root_from c.requires.root_in
+    let f = put_found _ _ _ _ _ _ _ _ _ (g.met.S.Section.reads _) c.find_leaf-fork.ensures.fork c.requires.lawful c.requires.root_from c.requires.root_in
     c.requires.present in
-    let e = c.put_writes.ensures.writes _ _ _ (ends_in _ _ _ _ _ (g.met.S.Section.reads _) c.in-Some.ensures.fork c.in-Some.ensures.words) in
+    let e = c.put_writes.ensures.writes _ _ _ (ends_in _ _ _ _ _ (g.met.S.Section.reads _) c.find_leaf-fork.ensures.fork c.find_leaf-fork.ensures.words) in
     put_gains _ _ _ _ c.requires.lawful c.requires.root_from c.requires.root_in _ _ _ f.is (λ q. c.if-fork-value.false (ap (word 5) f.words_are ∙ q)) e
-    (rewritten_before _ _ _ (g.met.S.Section.lawful _).at (g.met.S.Section.others_stay _ _ c.find.ensures.as_before)
-    (g.met.S.Section.goes_on _ _ c.find.ensures.as_before) _ _ c.in-Ok.ensures.written)
+    (rewritten_before _ _ _ (g.met.S.Section.lawful _).at (g.met.S.Section.others_stay _ _ c.find_leaf-fork.ensures.as_before)
+    (g.met.S.Section.goes_on _ _ c.find_leaf-fork.ensures.as_before) _ _ c.in-Ok.ensures.written)
 
 pub returns-in-Err-clause-no : goal.returns-in-Err-clause-no
 returns-in-Err-clause-no g c =
-    let f = put_found _ _ _ _ _ _ _ _ _ (g.met.S.Section.reads _) c.in-Some.ensures.fork c.requires.lawful c.requires.root_from c.requires.root_in
+    let f = put_found _ _ _ _ _ _ _ _ _ (g.met.S.Section.reads _) c.find_leaf-fork.ensures.fork c.requires.lawful c.requires.root_from c.requires.root_in
     c.requires.present in
     (λ e. cc, λ t. absurd (no_other c.args.key c.args.value _ _ f.value_is c.if-fork-value.false t))
 
 pub returns-in-Err-clause-again : goal.returns-in-Err-clause-again
 returns-in-Err-clause-again g c cause w =
-    let f = put_found _ _ _ _ _ _ _ _ _ (g.met.S.Section.reads _) c.in-Some.ensures.fork c.requires.lawful c.requires.root_from c.requires.root_in
+    let f = put_found _ _ _ _ _ _ _ _ _ (g.met.S.Section.reads _) c.find_leaf-fork.ensures.fork c.requires.lawful c.requires.root_from c.requires.root_in
     c.requires.present in
-    let e = c.put_writes.ensures.writes _ _ _ (ends_in _ _ _ _ _ (g.met.S.Section.reads _) c.in-Some.ensures.fork c.in-Some.ensures.words) in
+    let e = c.put_writes.ensures.writes _ _ _ (ends_in _ _ _ _ _ (g.met.S.Section.reads _) c.find_leaf-fork.ensures.fork c.find_leaf-fork.ensures.words) in
     let q : c.in-Err.cause ≡ cause = cc in (
-      c.in-Some.fork.leaf,
+      c.find_leaf-fork.result.leaf,
       f.is,
-      refuses_as _ _ _ (g.met.S.Section.lawful _).at (g.met.S.Section.others_stay _ _ c.find.ensures.as_before)
-          (g.met.S.Section.goes_on _ _ c.find.ensures.as_before) _ _ _ _ _ _ e q c.in-Err.ensures.refused,
+      refuses_as _ _ _ (g.met.S.Section.lawful _).at (g.met.S.Section.others_stay _ _ c.find_leaf-fork.ensures.as_before)
+          (g.met.S.Section.goes_on _ _ c.find_leaf-fork.ensures.as_before) _ _ _ _ _ _ e q c.in-Err.ensures.refused,
     )

@@ -1,7 +1,7 @@
 use Rattle.std.proofs.Common.{◌≡◌}
 use Rattle.mv_history.specs.Meaning.{words_at}
 use Rattle.tree_set.specs.Walks.{IsDescent, walk_left}
-use Rattle.tree_set.proofs.search.find.Given as goal
+use Rattle.tree_set.proofs.search.descend.Given as goal
 
 abbrev pub invariant-loop-words : goal.invariant-loop-words
 invariant-loop-words g l = record {

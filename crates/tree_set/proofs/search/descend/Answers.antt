@@ -1,29 +1,28 @@
 use Rattle.std.proofs.Common.{arith, inl, inr}
 use Rattle.tree_set.proofs.Walking.{descent_start, descent_in_range, descent_fits, children_fit, find_step, fork_found, read_at, in_state}
-use Rattle.tree_set.proofs.search.find.Goals as goal
-use Rattle.tree_set.proofs.search.find.Goals.{then-key-words, else-key-words}
+use Rattle.tree_set.proofs.search.descend.Goals as goal
+use Rattle.tree_set.proofs.search.descend.Goals.{then-key-words, else-key-words}
 
 pub overflow_cast-leaf : goal.overflow_cast-leaf
 overflow_cast-leaf g c =
     omega (
       arith,
       descent_fits _ _ c.args.key _ _ _ _ c.requires.lawful
-          (descent_start _ _ _ _ c.requires.lawful c.requires.root_from c.requires.root_in c.read-root_words.ensures.words c.if-root_words-eq0.false),
+          (descent_start _ _ _ _ c.requires.lawful c.requires.root_from c.requires.root_in c.requires.words c.requires.some),
     )
 
 pub read-words-requires : goal.read-words-requires
 read-words-requires g c =
-    in_state _ _ _ (descent_in_range _ _ c.args.key _ _ _ _
-    (descent_start _ _ _ _ c.requires.lawful c.requires.root_from c.requires.root_in c.read-root_words.ensures.words c.if-root_words-eq0.false))
-    (g.met.V.View.same_state _ _ c.read-root_words.ensures.as_before)
+    descent_in_range _ _ c.args.key _ _ _ _
+    (descent_start _ _ _ _ c.requires.lawful c.requires.root_from c.requires.root_in c.requires.words c.requires.some)
 
 pub loop-words-init : goal.loop-words-init
 loop-words-init g c = record {
-  before = g.met.V.View.as_long_before _ _ _ c.read-root_words.ensures.as_before c.read-words.ensures.as_before;
-  words = read_at _ _ _ _ c.read-words.ensures.words (g.met.V.View.same_state _ _ c.read-root_words.ensures.as_before);
-  descent = descent_start _ _ _ _ c.requires.lawful c.requires.root_from c.requires.root_in c.read-root_words.ensures.words c.if-root_words-eq0.false;
-  parent = c.read-root_words.ensures.words;
-  grand = c.read-root_words.ensures.words;
+  before = c.read-words.ensures.as_before;
+  words = c.read-words.ensures.words;
+  descent = descent_start _ _ _ _ c.requires.lawful c.requires.root_from c.requires.root_in c.requires.words c.requires.some;
+  parent = c.requires.words;
+  grand = c.requires.words;
 }
 
 pub overflow_cast-right : goal.overflow_cast-right

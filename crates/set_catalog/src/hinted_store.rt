@@ -1,0 +1,88 @@
+// A store of the sets with its hints.
+ghost use Rattle.std.specs.Prelude.{◌≡◌, ◌≤◌};
+
+use crate::answer::Attempt;
+use crate::attempting::attempt_knowing;
+use crate::hints::Hints;
+use crate::shortage::Shortage;
+use mv_history::Store;
+use set_script::{Command, SetRules};
+use std::marker::Model;
+
+/// A store and the hints of its seat, which runs commands one after another.
+///
+/// Beside the hints it keeps how few nodes were vacant when a look through all of them found too few,
+/// and at which printed time; no clause speaks of that. While no commit of another seat and none of
+/// its own that frees a node comes in between, it answers `Full` with no further look. Nothing else
+/// can reach the store meanwhile, so what is known is of this very store's history.
+pub struct HintedStore<S: Store<Rules = SetRules>> {
+    pub(crate) store: S,
+    hints: Hints,
+    known: Shortage,
+}
+
+impl<S: Store<Rules = SetRules>> Model for HintedStore<S> {
+    ghost use Rattle.set_catalog.specs.Shortages.{IsKnown, StoreWithHints};
+
+    ghost Value = { StoreWithHints S };
+
+    ghost view = { λ s. record { store = s.store; hints = s.hints } };
+
+    ghost invariant = { λ s. IsKnown (S.seat_of s.store) s.known };
+}
+
+impl<S: Store<Rules = SetRules>> HintedStore<S> {
+    ghost use Rattle.set_catalog.specs.Causes.{causes};
+    ghost use Rattle.set_catalog.specs.Steps.{most_locks};
+    ghost use Rattle.set_catalog.specs.Attempts.{Attempted, HintsAfter, TriesOne};
+
+    /// The store, with these hints. It takes no memory.
+    pub fn new(store: S, hints: Hints) -> HintedStore<S>
+        ensures store { result.store ≡ store }
+        ensures hints { result.hints ≡ hints }
+    {
+        HintedStore {
+            store,
+            hints,
+            known: Shortage::unknown(),
+        }
+    }
+
+    /// Attempts a command in one section of the store, as [`attempt_with`](crate::attempt_with) does
+    /// with these hints. It takes no memory.
+    ///
+    /// Where fewer nodes are known to be vacant at the section's time than the command wants, it reads
+    /// no node to find that out again.
+    pub fn attempt(self, command: &Command) -> (HintedStore<S>, Attempt)
+        requires most { most_locks ≤ (S.seat_of self.store).write_max }
+        ensures attempted { let shows = causes S.Open.may_refuse S.Open.has_trail S.took S.holds_back S.Open.found_held S.Open.loaded in
+            Attempted shows (S.seat_of self.store) (S.seat_of result.0.store) command.now result.1 }
+        ensures noted { HintsAfter command.now self.hints result.0.hints (S.seat_of self.store) (S.seat_of result.0.store) result.1 }
+        ensures at_most_one { TriesOne (S.seat_of self.store) (S.seat_of result.0.store) }
+    {
+        let HintedStore {
+            store,
+            mut hints,
+            mut known,
+        } = self;
+        let (store, answer) = attempt_knowing(store, &mut hints, &mut known, command);
+        let kept = HintedStore {
+            store,
+            hints,
+            known,
+        };
+        (kept, answer)
+    }
+
+    /// The store again, without the hints.
+    pub fn into_store(self) -> S
+        ensures { result ≡ self.store }
+    {
+        let HintedStore {
+            store,
+            hints: _,
+            known: _,
+        } = self;
+        store
+    }
+}

@@ -30,6 +30,9 @@ pub returns-in-Won-clause-open : goal.returns-in-Won-clause-open
 returns-in-Won-clause-open g c =
     open_cut (config_of c.args.shared.now) (view c.args.pass.now) c.args.back.now c.requires.writing (view c.cut_head.new.pass) (c.in-Won.ensures.view.0 refl)
 
+pub link_seat-requires : goal.link_seat-requires
+link_seat-requires g c = (c.in-Found.ensures.link c.in-Found.ensures.swap (c.in-Found.ensures.other c.in-Found.ensures.swap).0).0
+
 pub returns-in-Found-clause-ends : goal.returns-in-Found-clause-ends
 returns-in-Found-clause-ends g c =
     has_lost (config_of c.args.shared.now) (view c.args.pass.now) c.args.back.now c.requires.writing (view c.cut_head.new.pass) c.in-Found.link

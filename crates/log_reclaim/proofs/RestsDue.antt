@@ -31,8 +31,10 @@ module _ (c : Config) (v u x w : View) (k l m : Noted) (made rested later : List
   loaded : (old n : Note) → DiesFrom old n → Contains made (super_load c u.number n n.dead) → Contains made (super_load c w.number old n.dead)
   loaded old n dies there =
       subst (λ (x : ℕ × ℕ). Contains made (super_load c x.0 (record n { position = x.1 }) n.dead))
-      (λ i. (sym (reclaims_number u w (rested ++ later) (reclaims_on u x w rested later rest.reclaims after)) i,
-      ap (λ (x : Note). x.position) dies.same i)) there
+      (λ i. (
+        sym (reclaims_number u w (rested ++ later) (reclaims_on u x w rested later rest.reclaims after)) i,
+        ap (λ (x : Note). x.position) dies.same i,
+      )) there
 
   due : IsAnyAbove l first.latest true → RestIsDue c w k steps
   due above =
@@ -56,8 +58,8 @@ module _ (c : Config) (v u x w : View) (k l m : Noted) (made rested later : List
             (λ e. inr (
               omega arith,
               ⊎_elim (λ seen. inl (of_first (λ s. Contains s (super_load c w.number r.0 n.dead))
-              (Contains-append_left made (rested ++ later) (super_load c w.number r.0 n.dead) (loaded r.0 n r.2 seen.1))))
-              (λ b. inr (of_first (λ s. TimesDeath s n.dead) (times_first made (rested ++ later) n.dead b.2))) e,
+                  (Contains-append_left made (rested ++ later) (super_load c w.number r.0 n.dead) (loaded r.0 n r.2 seen.1))))
+                  (λ b. inr (of_first (λ s. TimesDeath s n.dead) (times_first made (rested ++ later) n.dead b.2))) e,
             ))
             r.3)
             (cases_lt 0 r.0.dead);

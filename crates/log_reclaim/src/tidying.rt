@@ -79,8 +79,8 @@ fn rest_if_due<P: Protocol, L: Ledger>(
 ///
 /// Of each version that is left without a time of death it is known why the first round's write-back
 /// left it so. This call found SUPER 0 in it. Then it found a newer version in HEAD of its object,
-/// another seat's; or a scan of this call found a low time below its clock's, and the version is later than the
-/// watermark that this scan answered, or its object has a later write.
+/// another seat's; or a scan of this call found a low time below its clock's, and the version is
+/// later than the watermark that this scan answered, or its object has a later write.
 ///
 /// `held` is None exactly where the log is empty afterwards. Else the oldest write set isn't
 /// dead by the last scan's watermark, and its holder has a cause in this call's steps:

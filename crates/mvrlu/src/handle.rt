@@ -19,15 +19,17 @@ pub struct Handle<'d, P: Protocol> {
 
 impl<'d, P: Protocol> Store for Handle<'d, P> {
     ghost use Rattle.std.specs.Prelude.{refl, ◌≡◌};
-    ghost use Rattle.mvrlu.specs.Placed.{seat_from};
     ghost use Rattle.mvrlu.specs.Causes.{Took};
     ghost use Rattle.mvrlu.specs.Holding.{HoldsBack};
+    ghost use Rattle.mv_history.specs.Calls.{Enters};
+    ghost use Rattle.mvrlu.specs.Meant.{handled, section_of};
+    ghost use Rattle.mvrlu.specs.Bounds.{MakesAtMost};
 
     type Rules = P;
 
     type Open = Session<'d, P>;
 
-    ghost seat_of = { λ s. seat_from s.seat.idle };
+    ghost seat_of = { λ s. handled s };
 
     ghost took = { λ old new. Took old new };
 
@@ -51,7 +53,11 @@ impl<'d, P: Protocol> Store for Handle<'d, P> {
         made_room::<P, Brand>(&domain.shared, &mut seat.idle, Blank::new(1))
     }
 
-    fn enter(self) -> Session<'d, P> {
+    fn enter(self) -> Session<'d, P>
+        ensures enters { Enters (handled self) (section_of result) }
+        ensures took { Took (handled self) (section_of result) }
+        ensures bound { MakesAtMost (handled self) (section_of result).seat 6 }
+    {
         let Handle { domain, seat } = self;
         let Seat { idle } = seat;
         let busy = entered::<P, Brand>(&domain.shared, idle, Blank::new(1));

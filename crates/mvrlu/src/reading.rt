@@ -4,6 +4,7 @@ ghost use Rattle.mv_history.specs.Meaning.{IsSection, Lacks, state_of, words_at}
 ghost use Rattle.mv_core.specs.Passes.{start_of};
 ghost use Rattle.mvrlu.specs.Placed.{section_from, Fits};
 ghost use Rattle.mvrlu.specs.Standing.{Stays};
+ghost use Rattle.mvrlu.specs.Bounds.{MakesAtMost, read_most};
 
 use crate::holding::held_words;
 use crate::places::Busy;
@@ -28,6 +29,7 @@ fn read_below<P: Protocol, L: Ledger>(
     ensures lawful { IsSection P.start P.allowed (section_from busy.new) }
     ensures words { result ≡ words_at (state_of (section_from busy.old)) object }
     ensures stays { Stays (section_from busy.old) (section_from busy.new) }
+    ensures bound { MakesAtMost (section_from busy.old).seat (section_from busy.new).seat (read_most (section_from busy.old) (section_from busy.new)) }
 {
     let mut steps = Steps::<L>::open(blank);
     match find(shared, &mut busy.pass, object, &mut steps) {
@@ -53,6 +55,7 @@ pub(crate) fn read_in<P: Protocol, L: Ledger>(
     ensures lawful { IsSection P.start P.allowed (section_from busy.new) }
     ensures words { result ≡ words_at (state_of (section_from busy.old)) object }
     ensures stays { Stays (section_from busy.old) (section_from busy.new) }
+    ensures bound { MakesAtMost (section_from busy.old).seat (section_from busy.new).seat (read_most (section_from busy.old) (section_from busy.new)) }
 {
     match held_words(busy, object) {
         Some(words) => words,

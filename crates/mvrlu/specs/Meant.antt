@@ -33,6 +33,10 @@ module _ {P : _} {rules : _} where
   abbrev pub handled : Handle P rules → history.Seat
   handled h = seat_from h.seat.idle
 
+  -- how many of its sections were aborted with something held
+  abbrev pub aborts_of : Handle P rules → ℕ
+  aborts_of h = h.seat.idle.log.aborts
+
   -- what a section means
   abbrev pub section_of : Session P rules → InSection
   section_of s = section_from s.part.busy

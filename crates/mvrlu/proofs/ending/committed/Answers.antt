@@ -1,4 +1,4 @@
-use Rattle.std.proofs.Common.{rules, ◌≡◌, ℕ, ◌<◌, ◌≤◌, ◌-◌, List, length, refl, sym, ap, ◌∙◌, subst}
+use Rattle.std.proofs.Common.{rules, ◌≡◌, ℕ, ◌<◌, ◌≤◌, ◌+◌, ◌-◌, List, length, arith, refl, sym, ap, ◌∙◌, subst}
 use Rattle.mv_history.specs.declared.answers.Rival.{Rival}
 use Rattle.mv_history.specs.Drift.{IsFit}
 use Rattle.mv_history.specs.Meaning.{snapshot_of, IsWorn}
@@ -9,9 +9,12 @@ use Rattle.mv_core.specs.Passes.{view, config_of, home_of}
 use Rattle.seat_log.specs.Notes.{Noted}
 use Rattle.seat_log.specs.Stands.{Stands}
 use Rattle.version_chain.specs.Walks.{section_in}
+use Rattle.object_lock.proofs.OwnNotes.{own_long}
 use Rattle.commit_abort.specs.Commits as core
 use Rattle.mvrlu.specs.Placed.{Placed, placed, seat_from, section_from, Fits}
 use Rattle.mvrlu.specs.Causes.{Loaded}
+use Rattle.mvrlu.specs.Bounds.{MakesAtMost}
+use Rattle.mvrlu.proofs.Trails.{few_made}
 use Rattle.mvrlu.proofs.Names.{fits_config, fits_pass}
 use Rattle.mvrlu.proofs.Continuing.{busy_on}
 use Rattle.mvrlu.proofs.Lawful.{seat_lawful, section_lawful}
@@ -87,6 +90,18 @@ returns-in-Done-clause-done g c =
       commits p q refl e.same.0 is.1.placed.base c.args.tag c.in-Done.time ends,
       loads_before p q refl e.same.0 is.1.placed.base c.args.tag c.in-Done.time ends,
     )
+
+pub returns-in-Done-clause-bound : goal.returns-in-Done-clause-bound
+returns-in-Done-clause-bound g c =
+    let i = c.busy.inside in
+    let e = c.in-Done.ensures in
+    let q = placed i.config c.commit.new.pass c.commit.new.log in
+    let stands = c.busy.invariant.1.placed.stands in
+    let long = own_long i.config (view i.pass) i.log stands in
+    let held = stands.held in
+    let few = e.ends.loads.few in
+    subst (λ (p : Placed). MakesAtMost (seat_from p) (seat_from q) (8 + length (section_from p).own)) c.busy.view_is
+    (few_made (view i.pass).trail (view c.commit.new.pass).trail e.ends.steps _ e.ends.loads.trail (omega arith))
 
 -- overtaken
 pub invariant_of-result-in-Again : goal.invariant_of-result-in-Again

@@ -29,8 +29,7 @@ commit-requires g c κs within =
     let fits = subst (Fits c.args.shared.now) (sym c.busy.view_is) c.requires.fits in
     let config : config_of c.args.shared.now ≡ i.config = fits_config c.args.shared.now p fits in
     let some = subst (λ (x : Placed). 0 < length (section_from x).own) (sym c.busy.view_is) c.requires.some in
-    let fit = subst (λ (x : Placed). IsFit g.P.Protocol.allowed (snapshot_of (section_from x)) c.args.tag (section_from x).own) (sym c.busy.view_is) c.requires.fit in
-    (
+    let fit = subst (λ (x : Placed). IsFit g.P.Protocol.allowed (snapshot_of (section_from x)) c.args.tag (section_from x).own) (sym c.busy.view_is) c.requires.fit in (
       search rules,
       (
         search rules,
@@ -85,8 +84,7 @@ returns-in-Done-clause-done g c =
     let q = placed i.config c.commit.new.pass c.commit.new.log in
     let config : config_of c.args.shared.now ≡ i.config = fits_config c.args.shared.now p (subst (Fits c.args.shared.now) (sym c.busy.view_is) c.requires.fits) in
     let ends = subst (λ (d : Config). core.Commits d p.view q.view (section_in p.view) c.args.tag c.in-Done.time) config e.ends in
-    subst (λ (x : Placed). Commits (section_from x) c.args.tag (seat_from q) c.in-Done.time × Loaded (section_from x) (seat_from q) (c.in-Done.time - 1)) c.busy.view_is
-    (
+    subst (λ (x : Placed). Commits (section_from x) c.args.tag (seat_from q) c.in-Done.time × Loaded (section_from x) (seat_from q) (c.in-Done.time - 1)) c.busy.view_is (
       commits p q refl e.same.0 is.1.placed.base c.args.tag c.in-Done.time ends,
       loads_before p q refl e.same.0 is.1.placed.base c.args.tag c.in-Done.time ends,
     )
@@ -149,8 +147,7 @@ returns-in-Again-clause-again g c =
     let config : config_of c.args.shared.now ≡ i.config = fits_config c.args.shared.now p (subst (Fits c.args.shared.now) (sym c.busy.view_is) c.requires.fits) in
     let ends = subst (λ (d : Config). core.IsOvertakenBy d p.view q.view (section_in p.view) rival) config e.ends in
     subst (λ (x : Placed). IsAsBefore (section_from x) (section_from q)
-        × Overtakes (section_from x) (section_from q) rival.seat rival.time (Loaded (section_from x) (seat_from q))) c.busy.view_is
-    (
+    × Overtakes (section_from x) (section_from q) rival.seat rival.time (Loaded (section_from x) (seat_from q))) c.busy.view_is (
       kept_as_before p q refl e.same.0 is.1.placed.base ends.steps ends.loads.trail ends.kept,
       overtakes p q refl e.same.0 is.1.placed.base rival ends,
     )
@@ -199,8 +196,7 @@ returns-clause-end g c =
     let q = placed i.config c.commit.new.pass c.commit.new.log in
     let config : config_of c.args.shared.now ≡ i.config = fits_config c.args.shared.now p (subst (Fits c.args.shared.now) (sym c.busy.view_is) c.requires.fits) in
     let ends = subst (λ (d : Config). core.IsAtEnd d p.view q.view (section_in p.view)) config e.ends in
-    subst (λ (x : Placed). IsAsBefore (section_from x) (section_from q) × IsWorn (seat_from q) × Loaded (section_from x) (seat_from q) 35184372088831) c.busy.view_is
-    (
+    subst (λ (x : Placed). IsAsBefore (section_from x) (section_from q) × IsWorn (seat_from q) × Loaded (section_from x) (seat_from q) 35184372088831) c.busy.view_is (
       kept_as_before p q refl e.same.0 is.1.placed.base ends.steps ends.loads.trail ends.kept,
       worn p q refl e.same.0 is.1.placed.base ends,
       loads_last p q refl e.same.0 is.1.placed.base ends,

@@ -1,5 +1,5 @@
 // Making room in the log of a seat.
-ghost use Rattle.std.specs.Prelude.{◌≡◌, ◌<◌, ◌≤◌, ℕ};
+ghost use Rattle.std.specs.Prelude.{◌≡◌, ◌<◌, ◌≤◌};
 ghost use Rattle.mv_history.specs.declared.answers.Holder.{Holder};
 ghost use Rattle.mv_history.specs.declared.answers.Holder.TheVariants.{End};
 ghost use Rattle.mv_history.specs.declared.answers.Room.TheVariants.{Enough, Short};

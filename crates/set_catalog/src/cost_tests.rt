@@ -142,9 +142,9 @@ fn del_of(name: Name, key: u32) -> Command {
 // A plain store has one seat, so no commit of another one comes between.
 #[test]
 fn a_full_store_is_looked_through_once(rt: HostRuntime) -> Result<(), Fail> {
+    let hints = Hints::new(rt.alloc(), 0)?;
     let view = open_small(rt.alloc())?;
-    let counted = Counted { view, reads: 0 };
-    let mut store = HintedStore::new(counted, Hints::new(rt.alloc(), 0)?);
+    let mut store = HintedStore::new(Counted { view, reads: 0 }, hints);
     let (list, other, tree) = (set(3), set(4), set(20));
     for key in 1..11 {
         store = store.attempt(&add_of(list, key)).0;
@@ -195,6 +195,9 @@ fn a_full_store_is_looked_through_once(rt: HostRuntime) -> Result<(), Fail> {
         assert_eq!(rt; next.store.reads.saturating_sub(before), reads);
         store = next;
     }
-    let _plain = store.into_store().view;
+    let Counted {
+        view: _plain,
+        reads: _,
+    } = store.into_store();
     Ok(())
 }

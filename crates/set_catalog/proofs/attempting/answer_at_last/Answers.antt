@@ -1,4 +1,4 @@
-use Rattle.std.proofs.Common.{refl, sym, subst, ap, ◌∙◌, true}
+use Rattle.std.proofs.Common.{refl, subst, ap, ◌∙◌, true}
 use Rattle.mv_history.specs.State.{State}
 use Rattle.mv_history.specs.Meaning.{Seat}
 use Rattle.mv_history.specs.Calls.{Leaves}

@@ -1,3 +1,4 @@
 pub mod Order
 pub mod Legal
 pub mod Text
+pub mod Summary

@@ -19,13 +19,18 @@
 //! **The text.** [`render`] writes exactly `text_of_run lines end tables` (specs/Text.antt): the lines as they stand, the
 //! sets that aren't empty, and the table of each seat's log.
 //!
+//! **The summary.** [`summary`] writes exactly `summary number lines end` (specs/Summary.antt), of a run of the scripts of a number: how many
+//! lines reply `yes`, `no` and `worn`, how many are commits, and the size of each set that isn't empty.
+//!
 //! The crate stands between the run, which makes lines, and the program, which writes the text. It knows commands,
 //! replies and catalogues (`set_script`) and the tables of logs (`mv_history`), and neither stores nor seats.
 #![tactic(auto)]
 
+mod counts;
 mod line;
 mod text;
 
+pub use counts::summary;
 pub use line::{Line, order};
 pub use text::render;
 

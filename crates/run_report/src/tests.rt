@@ -1,5 +1,5 @@
 // The order and the text of runs.
-use crate::{Line, order, render};
+use crate::{Line, order, render, summary};
 use mv_history::LogTable;
 use set_script::{Catalogue, Place, Reply};
 use std::test::Fail;
@@ -162,6 +162,39 @@ fn values_follow_their_keys(rt: HostRuntime) -> Result<(), Fail> {
     assert_eq!(rt;
         text.as_slice(),
         b"0.1 c1 yes\n0.2 r1 no\n0.3 r1 7\n0.4 c2 yes\n0.5 c3 yes\n0.6 r3 7\n0.7 r3 none\nl0 6\nt0 5=7\nlog 0 live 7 freed 0 back 0 commits 3 aborts 0 rests 0\n".as_slice()
+    );
+    Ok(())
+}
+
+#[test]
+fn replies_and_commits_are_counted(rt: HostRuntime) -> Result<(), Fail> {
+    let lines = [
+        line(0, 1, Place::Commit(1), Reply::Yes),
+        line(1, 1, Place::Commit(2), Reply::Yes),
+        line(0, 2, Place::Read(2), Reply::Yes),
+        line(0, 3, Place::Read(2), Reply::No),
+        line(1, 2, Place::Read(2), Reply::No),
+        line(2, 1, Place::Read(2), Reply::No),
+        line(3, 1, Place::Read(2), Reply::No),
+        line(2, 2, Place::Read(35184372088831), Reply::Worn),
+        line(3, 2, Place::Read(2), Reply::Full),
+        line(3, 3, Place::Read(2), both(true, false)),
+        line(3, 4, Place::Read(2), Reply::Count { count: 2 }),
+        line(3, 5, Place::Read(2), Reply::NoKey),
+    ];
+    let mut end = Catalogue::new(rt.alloc())?;
+    for (name, key) in [(29, 3), (9, 7), (9, 2), (10, 5), (9, 4294967295)] {
+        end.insert(name, key, 0)?;
+    }
+    let text = summary(rt.alloc(), 18446744073709551615, &lines, &end)?;
+    assert_eq!(rt;
+        text.as_slice(),
+        b"work 18446744073709551615\nyes 3\nno 4\nworn 1\ncommits 2\nl9 3\nh0 1\nt9 1\n".as_slice()
+    );
+    let none = summary(rt.alloc(), 0, &[], &Catalogue::new(rt.alloc())?)?;
+    assert_eq!(rt;
+        none.as_slice(),
+        b"work 0\nyes 0\nno 0\nworn 0\ncommits 0\n".as_slice()
     );
     Ok(())
 }

@@ -23,7 +23,7 @@ use std::alloc::{AllocError, Global};
 use std::fmt::Write;
 
 // How many sets there are.
-const NAMES: u32 = 30;
+pub(crate) const NAMES: u32 = 30;
 
 /// The text of a run: the lines as they stand, each set of the catalogue that isn't empty, and the log tables of the seats, from seat 0 on.
 ///
@@ -126,7 +126,7 @@ fn write_set(text: &mut String, name: u32, end: &Catalogue) -> Result<(), AllocE
     text.push_str("\n")
 }
 
-fn write_name(text: &mut String, name: u32) -> Result<(), AllocError>
+pub(crate) fn write_name(text: &mut String, name: u32) -> Result<(), AllocError>
     ensures { OnOk result (string_bytes text.new ≡ string_bytes text.old ++ name_text name) }
 {
     let kind = match name {

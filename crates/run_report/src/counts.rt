@@ -1,0 +1,93 @@
+// The summary of a run.
+ghost use Rattle.std.specs.Prelude.{◌≡◌, ◌++◌, ◌<◌, IfOk, OnOk, codes, count_by, decimal, length, string_bytes};
+ghost use Rattle.set_script.specs.Catalogue.{map_of, IsCatalogue};
+ghost use Rattle.set_script.specs.GrammarLaws.{name_text};
+ghost use Rattle.run_report.specs.Summary.{is_yes, is_no, is_worn, is_made, text_of_count, text_of_size, text_of_sizes, summary};
+
+use crate::line::Line;
+use crate::text::{NAMES, write_name};
+use set_script::{Catalogue, Place, Reply};
+use std::alloc::{AllocError, Global};
+use std::fmt::Write;
+
+/// The summary of a run of the scripts of a number: how many lines reply `yes`, `no` and `worn`, how many are commits, and how many keys
+/// each set of the catalogue has that isn't empty.
+///
+/// Its lines are `work NUMBER`, `yes Y`, `no Z`, `worn W`, `commits C`, and for each set, in the order of the 30 names, its name and its size.
+/// Each line ends with LF. The error is want of memory.
+pub fn summary(
+    alloc: Global,
+    number: u64,
+    lines: &[Line],
+    end: &Catalogue,
+) -> Result<Vec<u8>, AllocError>
+    ensures { IfOk result (λ text. text.items ≡ summary number lines.now end.now) }
+{
+    let mut text = String::new(alloc);
+    writeln!(&mut text, "work {number}")?;
+    writeln!(&mut text, "yes {}", count_yes(lines))?;
+    writeln!(&mut text, "no {}", count_no(lines))?;
+    writeln!(&mut text, "worn {}", count_worn(lines))?;
+    writeln!(&mut text, "commits {}", count_commits(lines))?;
+    write_sizes(&mut text, end)?;
+    Ok(text.into_bytes())
+}
+
+fn count_yes(lines: &[Line]) -> usize
+    ensures { result ≡ count_by is_yes lines.now }
+{
+    lines
+        .iter()
+        .filter(|line| matches!(line.reply, Reply::Yes))
+        .count()
+}
+
+fn count_no(lines: &[Line]) -> usize
+    ensures { result ≡ count_by is_no lines.now }
+{
+    lines
+        .iter()
+        .filter(|line| matches!(line.reply, Reply::No))
+        .count()
+}
+
+fn count_worn(lines: &[Line]) -> usize
+    ensures { result ≡ count_by is_worn lines.now }
+{
+    lines
+        .iter()
+        .filter(|line| matches!(line.reply, Reply::Worn))
+        .count()
+}
+
+fn count_commits(lines: &[Line]) -> usize
+    ensures { result ≡ count_by is_made lines.now }
+{
+    lines
+        .iter()
+        .filter(|line| matches!(line.place, Place::Commit(_)))
+        .count()
+}
+
+fn write_sizes(text: &mut String, end: &Catalogue) -> Result<(), AllocError>
+    ensures { OnOk result (string_bytes text.new ≡ string_bytes text.old ++ text_of_sizes 0 end.now) }
+{
+    for name in 0..NAMES {
+        write_size(text, name, end)?;
+    }
+    Ok(())
+}
+
+// Writes how many keys a set has, and nothing where it is empty.
+fn write_size(text: &mut String, name: u32, end: &Catalogue) -> Result<(), AllocError>
+    requires { name < 30 }
+    ensures text { OnOk result (string_bytes text.new ≡ string_bytes text.old ++ text_of_size name (map_of name end.now)) }
+    ensures lawful { IsCatalogue end.now }
+{
+    let size = end.keys(name).len();
+    if size == 0 {
+        return Ok(());
+    }
+    write_name(text, name)?;
+    writeln!(text, " {size}")
+}

@@ -1,0 +1,4 @@
+pub mod Drawing
+pub mod Generated
+pub mod Lengths
+pub mod Texts

@@ -1,0 +1,5 @@
+pub mod Totals
+pub mod Fits
+pub mod Locking
+pub mod Sections
+pub mod Outcomes

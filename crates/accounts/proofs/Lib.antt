@@ -3,3 +3,4 @@ pub mod Fits
 pub mod Locking
 pub mod Sections
 pub mod Outcomes
+pub mod Threads

@@ -3,7 +3,7 @@ use Rattle.std.proofs.Common.{◌≡◌, ◌≢◌, ℕ, ◌+◌, ◌-◌, ◌^�
 use Rattle.accounts.specs.declared.rules.TheConstants.{ACCOUNTS}
 use Rattle.mv_history.specs.State.{State, Writes, written}
 use Rattle.mv_history.specs.Meaning.{Seat, InSection, IsSection, snapshot_of, state_of}
-use Rattle.mv_history.specs.Calls.{Continues, IsAsBefore, GoesOn, Prepares, Enters, Leaves}
+use Rattle.mv_history.specs.Calls.{Continues, IsAsBefore, GoesOn, Prepares, Enters}
 use Rattle.mv_history.proofs.Snapshots.{length-state_of, snapshot_of-goes_on}
 use Rattle.mv_history.proofs.Steps.{Continues-Continues, length-seen}
 use Rattle.accounts.specs.Rules.{balance, total, account_of, IsOpening, IsTransfer}
@@ -46,15 +46,12 @@ pub record IsOf (old : Seat) (s : InSection) : Type 0 where
   pub mine : s.seat.mine ≡ old.mine
   pub at : length old.seen ≤ s.at
 
-pub entered : {old prepared : Seat} {s : InSection} → Prepares old prepared → Enters prepared s → IsOf old s
-entered p e = record {
-  continues = Continues-Continues p.continues e.seat.continues;
-  mine = e.seat.mine ∙ p.mine;
-  at = omega (arith, length-seen p.continues, e.at);
+pub entered : {old prepared : Seat} {s t : InSection} → Prepares old prepared → Enters prepared s → GoesOn s t → IsOf old t
+entered p e g = record {
+  continues = Continues-Continues p.continues (Continues-Continues e.seat.continues g.continues);
+  mine = g.mine ∙ e.seat.mine ∙ p.mine;
+  at = omega (arith, length-seen p.continues, e.at, g.at);
 }
-
-pub gone_on : {old : Seat} {s t : InSection} → IsOf old s → GoesOn s t → IsOf old t
-gone_on x g = record { continues = Continues-Continues x.continues g.continues; mine = g.mine ∙ x.mine; at = rw g.at x.at }
 
 -- the call has room for two locks in it
 pub can_hold : {old prepared : Seat} {s t : InSection} → Prepares old prepared → prepared.write_max ≤ prepared.spare → 2 ≤ old.write_max

@@ -73,12 +73,17 @@ IsWhy k old new tag refusal =
     (before : InSection) × (after : InSection) × Meets old new before after
     × IsLockRefused k.may_refuse k.found_held (IsEither (from_of tag) (to_of tag)) before after refusal
 
--- What an attempt leaves.
-abbrev pub Attempted : Causes → Seat → Seat → List ℕ → Attempt → Type 0
-Attempted k old new tag (Done time) = IsDone old new tag time
-Attempted k old new tag (Short time had) = IsShort old new tag time had
-Attempted k old new tag (Refused refusal) = (new.mine ≡ old.mine) × IsWhy k old new tag refusal
-Attempted k old new tag End = (new.mine ≡ old.mine) × IsWorn new
+-- what an attempt leaves of the seat's own commits, and why
+abbrev pub Answers : Causes → Seat → Seat → List ℕ → Attempt → Type 0
+Answers k old new tag (Done time) = IsDone old new tag time
+Answers k old new tag (Short time had) = IsShort old new tag time had
+Answers k old new tag (Refused refusal) = (new.mine ≡ old.mine) × IsWhy k old new tag refusal
+Answers k old new tag End = (new.mine ≡ old.mine) × IsWorn new
+
+-- What an attempt leaves: all that was seen is still seen, and this stands behind its answer.
+pub record Attempted (k : Causes) (old new : Seat) (tag : List ℕ) (attempt : Attempt) : Type 0 where
+  pub continues : Continues old new
+  pub answers : Answers k old new tag attempt
 
 -- the section holds nothing, and has room for two locks
 pub record CanHoldTwo (s : InSection) : Type 0 where

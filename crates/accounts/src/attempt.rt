@@ -2,7 +2,7 @@
 ghost use Rattle.std.specs.Prelude.{◌≡◌, ◌≢◌, ◌<◌, ◌≤◌, [], ◌∷◌, length, OnOk, IfErr};
 ghost use Rattle.accounts.specs.declared.rules.TheConstants.{ACCOUNTS as how_many};
 ghost use Rattle.mv_history.specs.Meaning.{Lacks};
-ghost use Rattle.mv_history.specs.Calls.{Continues, GoesOn, Locks};
+ghost use Rattle.mv_history.specs.Calls.{GoesOn, Locks};
 ghost use Rattle.accounts.specs.Attempts.{causes, Attempted, CanHoldTwo, IsEither, IsLockRefused};
 
 use crate::rules::{Accounts, account};
@@ -52,9 +52,8 @@ pub fn transfer<S: Store<Rules = Accounts>>(
     requires to { to < how_many }
     requires other { from ≢ to }
     requires two { 2 ≤ (S.seat_of store).write_max }
-    ensures attempted { let shows = causes S.Open.may_refuse S.holds_back S.Open.found_held S.Open.loaded in
+    ensures { let shows = causes S.Open.may_refuse S.holds_back S.Open.found_held S.Open.loaded in
         Attempted shows (S.seat_of store) (S.seat_of result.0) (from ∷ to ∷ amount ∷ 0 ∷ []) result.1 }
-    ensures continues { Continues (S.seat_of store) (S.seat_of result.0) }
 {
     let mut store = store;
     // Locks take slots of the seat's log, so room for them is made outside the section.

@@ -1,6 +1,6 @@
 // The rules of the accounts.
-ghost use Rattle.std.specs.Prelude.{◌≡◌};
-ghost use Rattle.accounts.specs.Rules.{account_of};
+ghost use Rattle.std.specs.Prelude.{◌≡◌, ◌*◌};
+ghost use Rattle.accounts.specs.Rules.{account_of, IsOpening, total};
 
 use mv_history::{Protocol, Words};
 
@@ -35,4 +35,12 @@ pub fn account(balance: u64) -> Words
     ensures { result ≡ account_of balance }
 {
     [balance, 0, 0, 0, 0, 0]
+}
+
+/// An opening state in which each account has this balance.
+pub fn opening(balance: u32) -> [Words; ACCOUNTS as usize]
+    ensures lawful { IsOpening result }
+    ensures total { total result ≡ 8 * balance }
+{
+    [account(balance as u64); ACCOUNTS as usize]
 }

@@ -53,7 +53,7 @@ pub fn make_transfers<R: Wait, S: Store<Rules = Accounts>>(
             break;
         }
         let (from, to) = accounts_of(turn);
-        let (next, attempt) = transfer(store, from, to, (turn % MOST) as u64);
+        let (next, attempt) = transfer(store, from, to, (1 + turn % MOST) as u64);
         store = next;
         match attempt {
             Attempt::Done { .. } => {
@@ -94,8 +94,12 @@ pub fn read_sums<S: Store<Rules = Accounts>>(store: S, sums: u32) -> (S, Sums)
     for _nth in 0..sums {
         let (next, sum) = sum(store);
         store = next;
-        least = least.min(sum);
-        greatest = greatest.max(sum);
+        if sum < least {
+            least = sum;
+        }
+        if greatest < sum {
+            greatest = sum;
+        }
     }
     let read = Sums {
         read: sums,
@@ -128,13 +132,21 @@ impl<S: Store<Rules = Accounts>> Worker<S> {
 }
 
 // A store can't be copied or left out, so it is taken out of its place and put back.
-fn move_in_place<R: Wait, S: Store<Rules = Accounts>>(rt: &R, store: &mut S, transfers: u32) -> Moved
+fn move_in_place<R: Wait, S: Store<Rules = Accounts>>(
+    rt: &R,
+    store: &mut S,
+    transfers: u32,
+) -> Moved
     requires two { 2 ≤ (S.seat_of store.old).write_max }
     ensures { Moves (S.seat_of store.old) (S.seat_of store.new) transfers result.transfers }
 {
-    replace_with(store, transfers, |store, transfers|
-        requires { 2 ≤ (S.seat_of store).write_max }
-    { make_transfers(rt, store, transfers) })
+    replace_with(
+        store,
+        transfers,
+        |store, transfers|
+            requires { 2 ≤ (S.seat_of store).write_max }
+        { make_transfers(rt, store, transfers) },
+    )
 }
 
 fn read_in_place<S: Store<Rules = Accounts>>(store: &mut S, sums: u32) -> Sums

@@ -70,8 +70,7 @@ returns-in-Err g c =
     let shows = causes g.S.Open.Section.may_refuse g.S.Store.holds_back g.S.Open.Section.found_held g.S.Open.Section.loaded in
     record {
       continues = Continues-Continues x.continues (Continues-Continues goes.continues left.continues);
-      answers =
-      (
+      answers = (
         left.mine ∙ goes.mine ∙ x.mine,
         refused_by shows _ _ _ _ (c.args.from ∷ c.args.to ∷ c.args.amount ∷ 0 ∷ []) c.in-Err.refusal x c.in-Err.ensures.refused left,
       );
@@ -97,8 +96,7 @@ returns-in-Again g c =
     let left = subst (λ (s : Seat). Leaves (g.S.Open.Section.section c.in-Again.section) s) (g.met.S.Store.same_seat _) c.abort-in-Again.ensures in
     record {
       continues = Continues-Continues x.continues (Continues-Continues again.1.seat.continues left.continues);
-      answers =
-      (
+      answers = (
         left.mine ∙ again.1.seat.mine ∙ x.mine,
         (_, _, record { comes = x.continues; at = x.at; goes = left.continues }, again.0, again.2),
       );

@@ -1,0 +1,6 @@
+pub mod Totals
+pub mod Fits
+pub mod Locking
+pub mod Sections
+pub mod Outcomes
+pub mod Threads

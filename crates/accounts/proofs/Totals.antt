@@ -1,0 +1,57 @@
+-- Transfers keep the total.
+use Rattle.std.proofs.Common.{◌≡◌, ◌≢◌, ℕ, ◌+◌, ◌-◌, ◌<◌, ◌≤◌, List, [], ◌∷◌, ◌++◌, length, set, take, drop, refl, sym, ap, subst, ◌∙◌, arith}
+use Rattle.std.proofs.Common.{append_assoc, length-set, get_or-set_other}
+use Rattle.std.proofs.lemmas.List.{take-append-drop}
+use Rattle.std.proofs.lemmas.List.Sums.{sum_by-set, get_or-le-sum_by}
+use Rattle.mv_history.specs.declared.history.Entry.{Entry}
+use Rattle.mv_history.specs.declared.history.Entry.TheVariants.{Rest, Change}
+use Rattle.mv_history.specs.State.{State, Writes, written, state_after, state_at}
+use Rattle.mv_history.specs.Legal.{IsAllowed}
+use Rattle.mv_history.specs.Meaning.{Seat, IsSeat}
+use Rattle.mv_history.proofs.Histories.{IsAllowed-front}
+use Rattle.mv_history.proofs.Writing.{state_after-append}
+use Rattle.accounts.specs.Rules.{balance_of, account_of, balance, total, IsOpening, from_of, to_of, amount_of, IsTransfer}
+
+-- an account that gets another balance changes the total by the difference
+total-set : (s : State) (a b : ℕ) → a < length s → total (set s a (account_of b)) + balance s a ≡ total s + b
+total-set s a b l = sum_by-set balance_of s a (account_of b) [] l
+
+-- a transfer keeps the total
+pub total-transfer : (tag : List ℕ) (s : State) (ws : Writes) → IsTransfer tag s ws → total (written s ws) ≡ total s
+total-transfer tag s ws t =
+    let from = from_of tag in
+    let to = to_of tag in
+    let paid : State = set s from (account_of (balance s from - amount_of tag)) in
+    let first = total-set s from (balance s from - amount_of tag) t.from in
+    let second = total-set paid to (balance s to + amount_of tag) (rw length-set t.to) in
+    let same : balance paid to ≡ balance s to =
+    ap balance_of (get_or-set_other s from to (account_of (balance s from - amount_of tag)) [] (λ e. t.other (sym e))) in
+    rw t.moves (omega (arith, first, second, same, t.enough))
+
+-- after more of an allowed history the total is the same
+total-after : (start : State) (front es : List Entry) (s : State) → state_after start front ≡ s → IsAllowed IsTransfer start (front ++ es)
+    → total (state_after s es) ≡ total s
+total-after start front [] s e h = refl
+total-after start front (Rest by ∷ es) s e h =
+    total-after start (front ++ Rest by ∷ []) es s (state_after-append start front (Rest by ∷ []) ∙ e) (rw append_assoc h)
+total-after start front (Change c ∷ es) s e h =
+    let here : IsTransfer c.tag s c.writes = subst (λ (u : State). IsTransfer c.tag u c.writes) e (h front es c refl) in
+    total-after start (front ++ Change c ∷ []) es (written s c.writes)
+    (state_after-append start front (Change c ∷ []) ∙ ap (λ (u : State). written u c.writes) e) (rw append_assoc h)
+    ∙ total-transfer c.tag s c.writes here
+
+-- at every time that a seat has seen, the total is the opening one
+pub total-state_at : (s : Seat) → IsSeat IsOpening IsTransfer s → (t : ℕ) → total (state_at s.start s.seen t) ≡ total s.start
+total-state_at s lawful t =
+    let front : IsAllowed IsTransfer s.start (take t s.seen) =
+    IsAllowed-front IsTransfer s.start (take t s.seen) (drop t s.seen) (rw (take-append-drop t s.seen) lawful.allowed) in
+    total-after s.start [] (take t s.seen) s.start refl front
+
+-- the two balances of different accounts are part of the total
+pub balances-le : (s : State) (a b : ℕ) → a < length s → b < length s → a ≢ b → balance s a + balance s b ≤ total s
+balances-le s a b la lb n =
+    let without : State = set s a (account_of 0) in
+    let one = total-set s a 0 la in
+    let same : balance without b ≡ balance s b = ap balance_of (get_or-set_other s a b (account_of 0) [] (λ e. n (sym e))) in
+    let other : balance without b ≤ total without = get_or-le-sum_by balance_of without b [] (rw length-set lb) in
+    omega (arith, one, same, other)

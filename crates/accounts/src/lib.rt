@@ -1,0 +1,47 @@
+//! Eight accounts over a store of many versions: rules of its own, proved, for a caller to copy.
+//!
+//! # The model
+//!
+//! An account is an object whose first word is its balance. The store may be any whose rules are
+//! [`Accounts`]: one section moves an amount between two accounts, another reads them all, in as many
+//! threads as the store has seats.
+//!
+//! # The contract
+//!
+//! Every sum that a section reads is the sum that the store opened with, at every interleaving:
+//! [`sum`], [`read_sums`]. [`keeps_total`] says it of each state of the history, and so it holds of
+//! the last one too. A transfer is one commit or none, and each refusal has its cause.
+//!
+//! # How it is made
+//!
+//! 1. *Rules.* `Accounts` is a `Protocol`: which opening states there may be, and which commits
+//!    (`specs/Rules.antt`). A commit's tag says which transfer it is, so that the rules can compare
+//!    its writes with it.
+//! 2. *What the rules keep.* A transfer keeps the sum, so each allowed history does
+//!    (`proofs/Totals.antt`). A store's law says that what it has seen is allowed.
+//! 3. *Fit.* `try_commit` asks that the commit stays allowed whatever others commit meanwhile to what
+//!    isn't held. A transfer depends on two balances and locks both, so it does: `words-drifts` of
+//!    `mv_history` is all that `proofs/Fits.antt` needs.
+//! 4. *One attempt.* [`transfer`] makes room, enters, reads, locks, writes and commits.
+//! 5. *Trying again.* No call of a store does. [`make_transfers`] attempts each transfer until it is
+//!    done, and takes a `Wait`, since others may always come first.
+//! 6. *Threads.* A [`Worker`] holds a store, and [`run_all`] runs each in a thread of its own.
+//!
+//! # Its place
+//!
+//! It stands on the traits of `mv_history` alone. Moving amounts between accounts while others read
+//! all of them is the example with which snapshot isolation is mostly explained (Berenson and others,
+//! "A Critique of ANSI SQL Isolation Levels", SIGMOD 1995).
+#![tactic(auto)]
+
+mod attempt;
+mod reading;
+mod rules;
+#[cfg(test)]
+mod tests;
+mod workers;
+
+pub use attempt::{Attempt, Refusal, transfer};
+pub use reading::{keeps_total, sum, total};
+pub use rules::{ACCOUNTS, Accounts, account, opening};
+pub use workers::{Moved, Sums, Worker, make_transfers, read_sums, run_all};

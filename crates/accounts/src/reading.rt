@@ -1,0 +1,44 @@
+// The sum of all accounts, and the law that it never changes.
+ghost use Rattle.std.specs.Prelude.{◌≡◌, ℕ, ◌^◌, ◌<◌, length};
+ghost use Rattle.accounts.specs.declared.rules.TheConstants.{ACCOUNTS as how_many};
+ghost use Rattle.mv_history.specs.State.{state_at};
+ghost use Rattle.mv_history.specs.Calls.{Continues};
+ghost use Rattle.accounts.specs.Rules.{total as total_of};
+
+use crate::rules::{ACCOUNTS, Accounts};
+use mv_history::{Section, Store, View};
+
+/// The sum of all accounts of a view: of a section, or of the state at the close.
+///
+/// A view means one state, so nothing that others commit meanwhile comes between two reads.
+pub fn total<V: View>(view: &mut V) -> u64
+    requires accounts { length (V.state view.old) ≡ how_many }
+    requires fits { total_of (V.state view.old) < 2 ^ 64 }
+    ensures total { result ≡ total_of (V.state view.old) }
+    ensures as_before { V.as_before view.old view.new }
+{
+    let mut sum = 0;
+    for account in 0..ACCOUNTS {
+        sum += view.read(account)[0];
+    }
+    sum
+}
+
+/// Reads all accounts in one section, and gives the store back with their sum. It never refuses.
+///
+/// At every interleaving the sum is the one that the store opened with.
+pub fn sum<S: Store<Rules = Accounts>>(store: S) -> (S, u64)
+    ensures sum { result.1 ≡ total_of (S.seat_of store).start }
+    ensures continues { Continues (S.seat_of store) (S.seat_of result.0) }
+    ensures mine { (S.seat_of result.0).mine ≡ (S.seat_of store).mine }
+{
+    let mut section = store.enter();
+    let sum = total(&mut section);
+    (section.leave(), sum)
+}
+
+/// The law of the accounts, for who proves something over them: at every time that a store has
+/// seen, the sum is the opening sum.
+pub fn keeps_total<S: Store<Rules = Accounts>>(store: &S)
+    ensures { let here = S.seat_of store.now in (t : ℕ) → total_of (state_at here.start here.seen t) ≡ total_of here.start }
+{}

@@ -3,3 +3,9 @@ pub mod Causes
 pub mod Holding
 pub mod Meant
 pub mod Standing
+pub mod Whole
+pub mod WholeLaws
+pub mod Meeting
+pub mod Joined
+pub mod Opened
+pub mod Readiness

@@ -35,3 +35,4 @@ pub mod FoundSeats
 pub mod OneNote
 pub mod OneLook
 pub mod EachLook
+pub mod FreshTimes

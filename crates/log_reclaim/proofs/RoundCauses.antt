@@ -64,7 +64,16 @@ module _ (starts : State → Type 0) (allows : List ℕ → State → Writes →
             needs_more_untimed c w m i n stands at starts allows after oldest scanned.mark.low none u.committed u.unwritten
                 (⊎_elim (λ young. inl (omega arith)) inr t.1),
           )
-      untimed (Some seat) u none wrote = record { index = i; note = n; at = at; oldest = oldest; object_is = λ _. n.object; finds = u.tried wrote }
+      untimed (Some seat) u none wrote = record {
+        index = i;
+        note = n;
+        at = at;
+        oldest = oldest;
+        committed = u.committed;
+        untimed = none;
+        object_is = λ _. n.object;
+        finds = u.tried wrote;
+      }
 
       cause : RoundHolds c w m made back (holder_of scanned scanned back found n)
       cause =

@@ -117,7 +117,16 @@ module _ (starts : State → Type 0) (allows : List ℕ → State → Writes →
           needs_more_untimed c w o i n stands_w at starts allows known_w oldest first.mark.low none d.committed d.unwritten
               (⊎_elim (λ young. inl (omega arith)) inr t.1),
         )
-    untimed_as (Some seat) none d = record { index = i; note = n; at = at; oldest = oldest; object_is = refl; finds = d.tried refl }
+    untimed_as (Some seat) none d = record {
+      index = i;
+      note = n;
+      at = at;
+      oldest = oldest;
+      committed = d.committed;
+      untimed = none;
+      object_is = refl;
+      finds = d.tried refl;
+    }
 
     caused : TidyHolds c w o steps (holder_of first last true found n)
     caused =

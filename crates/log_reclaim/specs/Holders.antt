@@ -52,12 +52,15 @@ pub record ReadsMark (c : Config) (own : ℕ) (made : List Step) (seat low : ℕ
   pub in_range : seat < c.seats
   pub read : Contains made (mark_step c seat (1 + low))
 
--- a version of the oldest write set is of this object, and a write-back of it found another seat's version in HEAD
+-- a version of the oldest write set is of this object, committed and without a time of death, and a write-back of it found another
+-- seat's version in HEAD
 pub record OldestIsUnder (c : Config) (own : ℕ) (l : Noted) (made : List Step) (object seat : ℕ) : Type 0 where
   pub index : ℕ
   pub note : Note
   pub at : IsNoteAt l index note
   pub oldest : note.first ≡ l.freed
+  pub committed : 0 < note.time
+  pub untimed : note.dead ≡ 0
   pub object_is : note.object ≡ object
   pub finds : FindsAbove c own made note seat
 

@@ -86,6 +86,7 @@ fn scan_and_free<P: Protocol, L: Ledger>(
     ensures stands { Stands (config_of shared.now) (view pass.new) log.new }
     ensures sweeps { (made : List Step) × Sweeps (config_of shared.now) (view pass.old) (view pass.new) log.old log.new made back result.1 found.new result.0 }
     ensures cost { steps.new ≤ steps.old + ((config_of shared.now).seats + 3 + 18 * length log.old.live + result.0) }
+    ensures trail { length (view pass.new).trail ≤ length (view pass.old).trail + ((config_of shared.now).seats + 3 + 18 * length log.old.live + result.0) }
 {
     let (mark, clock) = scan_clock(shared, pass, steps);
     *found = Found::new(note(log, 0).position);
@@ -119,6 +120,7 @@ pub(crate) fn sweep<P: Protocol, L: Ledger>(
         × FreesBeforeScan (config_of shared.now) log.old made result.1 }
     ensures kept { result.1 ≡ None → found.new ≡ found.old }
     ensures cost { steps.new ≤ steps.old + (4 + (config_of shared.now).seats + 19 * length log.old.live) }
+    ensures trail { length (view pass.new).trail ≤ length (view pass.old).trail + (4 + (config_of shared.now).seats + 19 * length log.old.live) }
 {
     let mark = known(shared, pass, steps);
     let first = free_all(shared, pass, log, &mark, steps);
@@ -236,6 +238,7 @@ pub fn round<P: Protocol, L: Ledger>(
         × HeldSo (RoundHolds (config_of shared.now) (view pass.new) log.new made back) log.new result.held × (clock_exchanges made ≡ [])
         × FreesFirst (config_of shared.now) log.old made }
     ensures cost { steps.new ≤ steps.old + (4 + (config_of shared.now).seats + 20 * (config_of shared.now).slots) }
+    ensures trail { length (view pass.new).trail ≤ length (view pass.old).trail + (4 + (config_of shared.now).seats + 20 * (config_of shared.now).slots) }
 {
     let mut found = Found::new(0);
     let (freed, scanned) = sweep(shared, pass, log, back, &mut found, steps);

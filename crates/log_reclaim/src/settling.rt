@@ -78,6 +78,7 @@ fn store_all<P: Protocol, L: Ledger>(
     ensures stands { Stands (config_of shared.now) (view pass.new) log.new }
     ensures stores { StoresAll (config_of shared.now) (view pass.old) (view pass.new) log.old log.new back result.0 result.1 }
     ensures cost { steps.new ≤ steps.old + 9 }
+    ensures trail { length (view pass.new).trail ≤ length (view pass.old).trail + 9 }
 {
     let mut back = back;
     for _ in 0..WIDTH {
@@ -135,6 +136,7 @@ fn write_back<P: Protocol, L: Ledger>(
     ensures stands { Stands (config_of shared.now) (view pass.new) log.new }
     ensures tries { TriesOne (config_of shared.now) (view pass.old) (view pass.new) log.old log.new at mark.now result }
     ensures cost { steps.new ≤ steps.old + 17 }
+    ensures trail { length (view pass.new).trail ≤ length (view pass.old).trail + 17 }
 {
     let (start, clock) = start_clock(shared, pass, log, position, mark, steps);
     let above = match start {
@@ -188,6 +190,7 @@ fn settle<P: Protocol, L: Ledger>(
         → (made : List Step) × SettlesOne (config_of shared.now) (view pass.old) (view pass.new) log.old log.new made mark.now clock back
         found.old found.new index result }
     ensures cost { steps.new ≤ steps.old + 18 }
+    ensures trail { length (view pass.new).trail ≤ length (view pass.old).trail + 18 }
 {
     let version = note(log, index);
     if version.dead != 0 {
@@ -222,6 +225,7 @@ pub(crate) fn settle_all<P: Protocol, L: Ledger>(
     ensures settles { (made : List Step) × Settles (config_of shared.now) (view pass.old) (view pass.new) log.old log.new made mark.now clock back found.new
         result (length log.old.live) }
     ensures cost { steps.new ≤ steps.old + 18 * length log.old.live }
+    ensures trail { length (view pass.new).trail ≤ length (view pass.old).trail + 18 * length log.old.live }
 {
     let mut top = clock;
     for index in 0..live(log) {

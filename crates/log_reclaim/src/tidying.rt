@@ -1,5 +1,6 @@
 // A tidy: a round with write-backs, one try of a rest where it helps, and a round without.
-ghost use Rattle.std.specs.Prelude.{◌≡◌, ℕ, ◌+◌, ◌*◌, ◌<◌, ◌≤◌, List, [], length, false};
+ghost use Rattle.std.specs.Prelude.{◌≡◌, ℕ, ◌+◌, ◌*◌, ◌<◌, ◌≤◌, List, [], length, false, Some};
+ghost use Rattle.mv_history.specs.declared.answers.Holder.TheVariants.{Fresh};
 ghost use Rattle.mv_history.specs.declared.Step.{Step};
 ghost use Rattle.mv_history.specs.Trail.{clock_exchanges};
 ghost use Rattle.mv_core.specs.EnterSteps.{MayLoadLow};
@@ -48,6 +49,7 @@ fn rest_if_due<P: Protocol, L: Ledger>(
     ensures stands { Stands (config_of shared.now) (view pass.new) log.new }
     ensures rests { (made : List Step) × RestsSo (view pass.old) (view pass.new) log.old log.new made latest }
     ensures cost { steps.new ≤ steps.old + 5 }
+    ensures trail { length (view pass.new).trail ≤ length (view pass.old).trail + 5 }
 {
     if latest == LAST || !any_above(log, latest) {
         return;
@@ -86,7 +88,8 @@ fn rest_if_due<P: Protocol, L: Ledger>(
 /// - `Above` only where this call found SUPER 0 in a version of the oldest write set, of that object,
 ///   and later found HEAD of the object naming a version of that other seat, which is a newer one.
 /// - `Fresh` only where another seat made the entry of that printed time after this call's last scan had
-///   loaded the clock, and a version of the oldest write set needs that time.
+///   loaded the clock, so that it wasn't seen before the call, and a version of the oldest write set
+///   needs that time.
 /// - `End` only where this call found the last time in CLOCK, and a version needs a watermark above it.
 ///
 /// In a domain of one seat whose last time wasn't reached before, the log is empty afterwards.
@@ -112,8 +115,11 @@ pub fn tidy<P: Protocol, L: Ledger>(
         × HeldSo (TidyHolds (config_of shared.now) (view pass.new) log.new made) log.new result.held × (length (clock_exchanges made) ≤ 1)
         × WritesBackSo (config_of shared.now) (view pass.new) log.new made × FreesFirst (config_of shared.now) log.old made
         × RestsWhereDue (config_of shared.now) (view pass.new) log.old made }
+    ensures fresh { (time : ℕ) → result.held ≡ Some (Fresh time) → (view pass.old).base + length (view pass.old).past.seen < time }
     ensures alone { (config_of shared.now).seats ≡ 1 → (view pass.old).base + length (view pass.old).past.seen < 35184372088831 → log.new.live ≡ [] }
     ensures cost { steps.new ≤ steps.old + (2 * (4 + (config_of shared.now).seats + 20 * (config_of shared.now).slots) + 8) }
+    ensures trail { length (view pass.new).trail
+        ≤ length (view pass.old).trail + (2 * (4 + (config_of shared.now).seats + 20 * (config_of shared.now).slots) + 8) }
 {
     let mut found = Found::new(0);
     let (first_freed, first) = sweep(shared, pass, log, true, &mut found, steps);

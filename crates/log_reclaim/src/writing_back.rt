@@ -86,6 +86,7 @@ pub fn back_start<P: Protocol, L: Ledger>(
     ensures same { IsSame pass.old pass.new }
     ensures starts { StartsSo (config_of shared.now) (view pass.old) (view pass.new) log.now at mark.now steps.old steps.new result }
     ensures cost { steps.new ≤ steps.old + 8 }
+    ensures trail { length (view pass.new).trail ≤ length (view pass.old).trail + 8 }
 {
     start_clock(shared, pass, log, position, mark, steps).0
 }
@@ -111,6 +112,7 @@ pub(crate) fn start_clock<P: Protocol, L: Ledger>(
     ensures young { result.0 ≡ Err Young → result.1 ≡ 0 }
     ensures clock { result.0 ≢ Err Young → result.1 ≡ (config_of shared.now).base + length (view pass.new).past.seen }
     ensures cost { steps.new ≤ steps.old + 8 }
+    ensures trail { length (view pass.new).trail ≤ length (view pass.old).trail + 8 }
 {
     let version = note(log, (position - note(log, 0).position) as u32);
     if version.time > mark.time {
@@ -177,6 +179,7 @@ pub fn back_finish<P: Protocol, L: Ledger>(
     ensures finishes { FinishesSo (config_of shared.now) (view pass.old) (view pass.new) log.old log.new back result }
     ensures stands { Stands (config_of shared.now) (view pass.new) log.new }
     ensures cost { steps.new ≤ steps.old + 3 }
+    ensures trail { length (view pass.new).trail ≤ length (view pass.old).trail + 3 }
 {
     finish_clock(shared, pass, log, back, steps).0
 }
@@ -199,6 +202,7 @@ pub(crate) fn finish_clock<P: Protocol, L: Ledger>(
     ensures cut { result.0 ≡ Cut → IsCutAt (config_of shared.now) (view pass.old) (view pass.new) log.old log.new back result.1 }
     ensures stands { Stands (config_of shared.now) (view pass.new) log.new }
     ensures cost { steps.new ≤ steps.old + 3 }
+    ensures trail { length (view pass.new).trail ≤ length (view pass.old).trail + 3 }
 {
     let Back {
         object,

@@ -136,7 +136,7 @@ module _ (p q : Placed) (config : q.config ≡ p.config) (table : q.table ≡ p.
     pub overtakes : Overtakes (section_from p) (section_from q) rival.seat rival.time (Loaded (section_from p) (section_from q).seat)
     overtakes =
         let at : IsEntry q.view.base q.view.past.seen rival.time o.entry.0 =
-            subst (λ (b : ℕ). IsEntry b q.view.past.seen rival.time o.entry.0) (sym (same_base_kept o.steps o.loads.trail o.kept)) o.entry.1
+        subst (λ (b : ℕ). IsEntry b q.view.past.seen rival.time o.entry.0) (sym (same_base_kept o.steps o.loads.trail o.kept)) o.entry.1
         in
         record {
           other = o.other;

@@ -36,13 +36,18 @@ no_name StoreBuilt h = refl
 no_name LockHead h = refl
 no_name _ h = absurd h
 
--- the words that a section reads of an object that it doesn't hold are those of its snapshot, later too
-pub unheld_words : (p q : Placed) (o : ℕ) → q.config ≡ p.config → q.view.phase ≡ p.view.phase → p.view.base ≡ p.config.base → Continues (seat_from p) (seat_from q) → time_at p.view - p.config.base ≤ length p.view.past.seen → touches (own_of p.config p.view.ring) o ≡ false → words_in p.config q.view o ≡ words_at (state_of (section_from p)) o
-unheld_words p q o config phase base on past lacks =
-    let at : time_at q.view - q.config.base ≡ time_at p.view - p.config.base = (λ i. time_in (inside_of (phase i)) - (config i).base) in
-    ap (λ (t : ℕ). words_at (snapshot_of (record { seat = seat_from q; at = t; own = [] })) o) (let same : time_at q.view - p.config.base ≡ time_at p.view - p.config.base = ap (λ (f : Phase). time_in (inside_of f) - p.config.base) phase in same)
-    ∙ ap (λ s. words_at s o) (snapshot_of-later (section_from p) (record { seat = seat_from q; at = time_at p.view - p.config.base; own = [] }) on refl past)
-    ∙ sym (words-written_other (snapshot_of (section_from p)) (own_of p.config p.view.ring) o lacks)
+-- the words that a section reads of an object below what it holds are those of its snapshot, later too
+pub snapshot_words : (p q : Placed) (o : ℕ) → q.config ≡ p.config → q.view.phase ≡ p.view.phase → Continues (seat_from p) (seat_from q)
+    → time_at p.view - p.config.base ≤ length p.view.past.seen → words_in p.config q.view o ≡ words_at (snapshot_of (section_from p)) o
+snapshot_words p q o config phase on past =
+    let same : time_at q.view - p.config.base ≡ time_at p.view - p.config.base = ap (λ (f : Phase). time_in (inside_of f) - p.config.base) phase in
+    ap (λ (t : ℕ). words_at (snapshot_of (record { seat = seat_from q; at = t; own = [] })) o) same
+    ∙ ap (λ s. words_at s o)
+    (snapshot_of-later (section_from p) (record { seat = seat_from q; at = time_at p.view - p.config.base; own = [] }) on refl past)
+
+-- and of an object that it doesn't hold those of its state
+pub below_words : (s : InSection) (o : ℕ) → Lacks s o → words_at (snapshot_of s) o ≡ words_at (state_of s) o
+below_words s o lacks = sym (words-written_other (snapshot_of s) s.own o lacks)
 
 module _ (p q : Placed) (before after : ℕ) (tried : List Step) (config : q.config ≡ p.config) (table : q.table ≡ p.table) (t : Tries p.view q.view before after tried) where
   pub tried_continues : Continues (seat_from p) (seat_from q)
@@ -72,5 +77,5 @@ module _ (p q : Placed) (before after : ℕ) (tried : List Step) (config : q.con
     spare = spare;
     at = tried_at;
     own = ap (λ (d : Config). own_of d q.view.ring) config ∙ own
-        ∙ ap (λ ws. own_of p.config p.view.ring ++ (o, ws) ∷ []) (unheld_words p q o config (ap (λ (u : View). u.phase) t.rest) base tried_continues past lacks);
+        ∙ ap (λ ws. own_of p.config p.view.ring ++ (o, ws) ∷ []) (snapshot_words p q o config (ap (λ (u : View). u.phase) t.rest) tried_continues past ∙ below_words (section_from p) o lacks);
   }

@@ -1,12 +1,15 @@
 -- What the public values of this crate mean.
 use Rattle.std.specs.Prelude.{◌≡◌, ℕ, List}
 use Rattle.mv_history.specs.State.{State}
+use Rattle.mv_history.specs.Meaning.{InSection}
 use Rattle.mv_history.specs.Meaning as history
 use Rattle.mv_layout.specs.declared.Config.{Config}
 use Rattle.mv_core.specs.Passes.{home_of, config_of, start_of, table_of}
-use Rattle.mvrlu.specs.Placed.{seat_from}
+use Rattle.mvrlu.specs.Placed.{seat_from, section_from}
 use Rattle.mvrlu.specs.declared.domain.Domain.{Domain}
 use Rattle.mvrlu.specs.declared.domain.Seat.{Seat}
+use Rattle.mvrlu.specs.declared.handle.Handle.{Handle}
+use Rattle.mvrlu.specs.declared.session.Session.{Session}
 
 module _ {P : Type 0} where
   -- the numbers of a domain
@@ -21,10 +24,23 @@ module _ {P : Type 0} where
   abbrev pub opening_of : Domain P → State
   opening_of d = start_of d.shared
 
--- what a seat means
-abbrev pub seat_of : {P : _} {rules : _} → Seat P rules → history.Seat
-seat_of s = seat_from s.idle
+module _ {P : _} {rules : _} where
+  -- what a seat means
+  abbrev pub seat_of : Seat P rules → history.Seat
+  seat_of s = seat_from s.idle
 
--- the seat is of this domain
-abbrev pub IsSeatOf : {P : _} {rules : _} → Domain P → Seat P rules → Type 0
-IsSeatOf d s = ((seat_of s).home ≡ name_of d) × ((seat_of s).start ≡ opening_of d)
+  -- what a seat in a handle means
+  abbrev pub handled : Handle P rules → history.Seat
+  handled h = seat_from h.seat.idle
+
+  -- how many of its sections were aborted with something held
+  abbrev pub aborts_of : Handle P rules → ℕ
+  aborts_of h = h.seat.idle.log.aborts
+
+  -- what a section means
+  abbrev pub section_of : Session P rules → InSection
+  section_of s = section_from s.part.busy
+
+  -- the seat is of this domain: it has its name, and its opening state
+  abbrev pub IsSeatOf : Domain P → Seat P rules → Type 0
+  IsSeatOf d s = ((seat_of s).home ≡ name_of d) × ((seat_of s).start ≡ opening_of d)

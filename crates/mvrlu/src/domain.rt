@@ -7,13 +7,15 @@ use crate::places::Idle;
 use mv_core::Shared;
 use mv_history::Protocol;
 
-/// The shared words of a domain. It owns their memory.
+/// The shared words of a domain: its opening objects, the logs and marks of its seats, and the commit
+/// clock. It owns their memory, and gives it back when it is let go.
 #[derive(Drop)]
 pub struct Domain<P: Protocol> {
     pub(crate) shared: Shared<P>,
 }
 
-/// A seat of a domain: outside a section, and in no thread's hands. It must be spent.
+/// A seat of a domain, outside a section: a thread's place in it, which `Domain::handle` lends the
+/// domain to. It must be spent; one that is let go doesn't compile.
 pub struct Seat<P: Protocol> {
     pub(crate) idle: Idle<P>,
     pub ghost lawful: { IsSeat P.start P.allowed (seat_from idle) } by { IsSeat-prop P.start P.allowed P.one_start P.one_allowed (seat_from idle) },

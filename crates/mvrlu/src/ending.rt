@@ -1,12 +1,14 @@
 // Ending a section.
-ghost use Rattle.std.specs.Prelude.{◌≡◌, ◌≢◌, ◌<◌, ◌≤◌, ◌-◌, [], length};
+ghost use Rattle.std.specs.Prelude.{◌≡◌, ◌≢◌, ◌+◌, ◌<◌, ◌≤◌, ◌-◌, [], length};
 ghost use Rattle.mv_history.specs.Drift.{IsFit};
 ghost use Rattle.mv_history.specs.Answer.{OnDone, OnAgain, OnEnd, seat_after};
 ghost use Rattle.mv_history.specs.Trail.{commit_exchanges, IsOneWon, IsOneLost};
 ghost use Rattle.mv_history.specs.Meaning.{IsSeat, IsSection, snapshot_of, IsWorn};
 ghost use Rattle.mv_history.specs.Calls.{call_trail, IsAsBefore, Leaves, Commits, Overtakes};
+ghost use Rattle.commit_abort.specs.Aborts.{abort_cost};
 ghost use Rattle.mvrlu.specs.Placed.{seat_from, section_from, Fits};
 ghost use Rattle.mvrlu.specs.Causes.{Loaded};
+ghost use Rattle.mvrlu.specs.Bounds.{MakesAtMost};
 
 use crate::places::{Busy, Idle};
 use commit_abort::{Ended, abort, commit};
@@ -35,6 +37,7 @@ pub(crate) fn committed<P: Protocol, L: Ledger>(
     ensures at_most_one { length (commit_exchanges (call_trail (section_from busy).seat (seat_after seat_from section_from result))) ≤ 1 }
     ensures one_won { OnDone result (λ back time. IsOneWon (commit_exchanges (call_trail (section_from busy).seat (seat_from back)))) }
     ensures one_lost { OnAgain result (λ left rival. IsOneLost (commit_exchanges (call_trail (section_from busy).seat (section_from left).seat))) }
+    ensures bound { MakesAtMost (section_from busy).seat (seat_after seat_from section_from result) (8 + length (section_from busy).own) }
 {
     let mut steps = Steps::<L>::open(blank);
     let Busy {
@@ -61,6 +64,7 @@ pub(crate) fn aborted<P: Protocol, L: Ledger>(
     ensures fits { Fits shared.now result }
     ensures lawful { IsSeat P.start P.allowed (seat_from result) }
     ensures leaves { Leaves (section_from busy) (seat_from result) }
+    ensures bound { MakesAtMost (section_from busy).seat (seat_from result) (abort_cost (length (section_from busy).own)) }
 {
     let mut steps = Steps::<L>::open(blank);
     let Busy {
@@ -85,6 +89,7 @@ pub(crate) fn left<P: Protocol, L: Ledger>(
     ensures fits { Fits shared.now result }
     ensures lawful { IsSeat P.start P.allowed (seat_from result) }
     ensures leaves { Leaves (section_from busy) (seat_from result) }
+    ensures bound { MakesAtMost (section_from busy).seat (seat_from result) 1 }
 {
     aborted::<P, L>(shared, busy, blank)
 }

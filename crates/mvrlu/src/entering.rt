@@ -4,6 +4,7 @@ ghost use Rattle.mv_history.specs.Meaning.{IsSection};
 ghost use Rattle.mv_history.specs.Calls.{Enters};
 ghost use Rattle.mvrlu.specs.Placed.{seat_from, section_from, Fits};
 ghost use Rattle.mvrlu.specs.Causes.{Took};
+ghost use Rattle.mvrlu.specs.Bounds.{MakesAtMost};
 
 use crate::places::{Busy, Idle};
 use mv_core::{Shared, Steps};
@@ -24,6 +25,7 @@ pub(crate) fn entered<P: Protocol, L: Ledger>(
     ensures lawful { IsSection P.start P.allowed (section_from result) }
     ensures enters { Enters (seat_from idle) (section_from result) }
     ensures took { Took (seat_from idle) (section_from result) }
+    ensures bound { MakesAtMost (seat_from idle) (section_from result).seat 6 }
 {
     let mut steps = Steps::<L>::open(blank);
     let Idle {

@@ -6,11 +6,12 @@ use crate::entering::entered;
 use crate::reclaiming::{made_room, tidied};
 use crate::session::{Part, Session};
 use log_reclaim::Tidy;
-use mv_history::{LogTable, Protocol, Room, Store};
+use mv_history::{LogTable, Protocol, Room, Section, Store};
 use std::marker::Brand;
 use std::sync::ledger::Blank;
 
-/// A seat outside a section, with a loan of its domain. It must be spent.
+/// A seat outside a section, with a loan of its domain: a `Store`. It must be spent, by `enter` or
+/// `into_seat`; one that is let go doesn't compile.
 pub struct Handle<'d, P: Protocol> {
     pub(crate) domain: &'d Domain<P>,
     pub(crate) seat: Seat<P>,
@@ -18,20 +19,25 @@ pub struct Handle<'d, P: Protocol> {
 }
 
 impl<'d, P: Protocol> Store for Handle<'d, P> {
-    ghost use Rattle.std.specs.Prelude.{refl, ◌≡◌};
-    ghost use Rattle.mvrlu.specs.Placed.{seat_from};
+    ghost use Rattle.std.specs.Prelude.{refl, ◌≡◌, ◌<◌, ◌≤◌};
+    ghost use Rattle.mv_history.specs.declared.answers.Holder.{Holder};
+    ghost use Rattle.mv_history.specs.declared.answers.Holder.TheVariants.{End};
+    ghost use Rattle.mv_history.specs.declared.answers.Room.TheVariants.{Enough, Short};
+    ghost use Rattle.mv_history.specs.Calls.{Prepares, Enters};
+    ghost use Rattle.mvrlu.specs.Meant.{handled, aborts_of, section_of};
     ghost use Rattle.mvrlu.specs.Causes.{Took};
-    ghost use Rattle.mvrlu.specs.Holding.{HoldsBack};
+    ghost use Rattle.mvrlu.specs.Bounds.{MakesAtMost};
+    ghost use Rattle.mvrlu.specs.Holding.{seats_of, IsEarly, HoldsBack, MakesRoom};
 
     type Rules = P;
 
     type Open = Session<'d, P>;
 
-    ghost seat_of = { λ s. seat_from s.seat.idle };
+    ghost seat_of = { λ s. handled s };
 
     ghost took = { λ old new. Took old new };
 
-    ghost holds_back = { λ old new holder. HoldsBack old new holder };
+    ghost holds_back = { λ old new holder. HoldsBack P.start P.allowed old new holder };
 
     ghost same_seat = { λ s. refl };
 
@@ -45,13 +51,29 @@ impl<'d, P: Protocol> Store for Handle<'d, P> {
         self.domain.shared.config().write_max
     }
 
-    fn prepare(&mut self) -> Room {
+    // Below `low` live slots nothing is done, from `low` on a round with write-backs, and from `high` on a
+    // tidy. In a domain of one seat whose last time wasn't reached before, room is made.
+    fn prepare(&mut self) -> Room
+        ensures prepares { Prepares (handled self.old) (handled self.new) }
+        ensures enough { result ≡ Enough → (handled self.new).write_max ≤ (handled self.new).spare }
+        ensures short { (holder : Holder) → result ≡ Short holder →
+            ⟦<Session<'d, P> as Section>⟧.may_refuse × ((handled self.new).spare < (handled self.new).write_max)
+            × HoldsBack P.start P.allowed (handled self.old) (handled self.new) holder }
+        ensures room { MakesRoom P.start P.allowed (handled self.old) (handled self.new) }
+        ensures alone { seats_of (handled self.old) ≡ 1 → IsEarly (handled self.old) → result ≡ Enough }
+        ensures ends { (holder : Holder) → seats_of (handled self.old) ≡ 1 → result ≡ Short holder → holder ≡ End }
+        ensures aborts { aborts_of self.new ≡ aborts_of self.old }
+    {
         let domain = self.domain;
         let seat = &mut self.seat;
         made_room::<P, Brand>(&domain.shared, &mut seat.idle, Blank::new(1))
     }
 
-    fn enter(self) -> Session<'d, P> {
+    fn enter(self) -> Session<'d, P>
+        ensures enters { Enters (handled self.entry) (section_of result) }
+        ensures took { Took (handled self.entry) (section_of result) }
+        ensures bound { MakesAtMost (handled self.entry) (section_of result).seat 6 }
+    {
         let Handle { domain, seat } = self;
         let Seat { idle } = seat;
         let busy = entered::<P, Brand>(&domain.shared, idle, Blank::new(1));
@@ -62,37 +84,71 @@ impl<'d, P: Protocol> Store for Handle<'d, P> {
 
 impl<'d, P: Protocol> Handle<'d, P> {
     ghost use Rattle.std.specs.Prelude.{◌≡◌};
-    ghost use Rattle.mvrlu.specs.Meant.{seat_of};
+    ghost use Rattle.mvrlu.specs.Holding.{seats_of, Tidies, TidiesAlone, IsSeatTable};
+    ghost use Rattle.mvrlu.specs.Meant.{seat_of, handled, aborts_of};
 
-    /// Gives the loan of the domain back.
+    /// Gives the loan of the domain back, and keeps all that the seat means. No step is made.
     pub fn into_seat(self) -> Seat<P>
-        ensures { seat_of result ≡ ⟦<Handle<'d, P> as Store>⟧.seat_of self.entry }
+        ensures { seat_of result ≡ handled self.entry }
     {
         let Handle { domain: _, seat } = self;
         seat
     }
 
-    /// Reclaims what it can of the own log.
-    pub fn tidy(&mut self) -> Tidy {
+    /// Reclaims what it can of the own log: a round with write-backs, where it helps one try of a rest,
+    /// and a round without. It commits nothing.
+    ///
+    /// - `freed`: how many slots this call freed, by one step each; `live`: how many are live afterwards.
+    /// - `held` is None exactly where the log is then empty. Else the oldest write set is needed still, and
+    ///   its holder has a cause in this call's steps:
+    ///   - `Mark` only where this call read the mark of that other seat at that low time, and a version of
+    ///     the oldest write set needs a watermark above it;
+    ///   - `Above` only where this call found SUPER 0 in a committed version of the oldest write set, of
+    ///     that object, and later found HEAD of the object naming a version of that other seat, which is a
+    ///     newer one;
+    ///   - `Fresh` only where another seat made the entry of that printed time after this call's last scan
+    ///     had loaded the clock, and a version of the oldest write set needs that time;
+    ///   - `End` only where this call found the last time in CLOCK, and a version of the oldest write set
+    ///     needs a watermark above it.
+    ///
+    /// A version that was taken out of its chain needs the watermark one above the clock that its owner
+    /// loaded then; a committed one whose object was written again needs the time of that write; any other
+    /// its own time.
+    ///
+    /// In a domain of one seat only `End` comes, and the log is empty afterwards where the last time wasn't
+    /// reached before. It makes at most `2 * (4 + seats + 20 * slots) + 8` steps, at most one of them an
+    /// exchange on CLOCK; it takes no memory, waits for nothing and tries nothing twice. (MV-RLU, ASPLOS
+    /// 2019, section 3.6.)
+    pub fn tidy(&mut self) -> Tidy
+        ensures tidies { Tidies P.start P.allowed (handled self.old) (handled self.new) result }
+        ensures alone { seats_of (handled self.old) ≡ 1 → TidiesAlone (handled self.old) result }
+        ensures aborts { aborts_of self.new ≡ aborts_of self.old }
+    {
         let domain = self.domain;
         let seat = &mut self.seat;
         tidied::<P, Brand>(&domain.shared, &mut seat.idle, Blank::new(1))
     }
 
-    /// What the seat's log has come to.
-    pub fn table(&self) -> LogTable {
+    /// The counts of the seat's log: `live` slots now and `freed` ones in all, `back` write-backs that cut
+    /// their chain, `commits`, `aborts` of sections that held something, and `rests`. `live + freed` is as
+    /// many as the writes of the seat's commits and the objects that its aborted sections held.
+    pub fn table(&self) -> LogTable
+        ensures table { IsSeatTable (handled self.now) result }
+        ensures aborts { result.aborts ≡ aborts_of self.now }
+    {
         self.seat.idle.table()
     }
 }
 
 impl<P: Protocol> Domain<P> {
     ghost use Rattle.std.specs.Prelude.{◌≡◌};
-    ghost use Rattle.mvrlu.specs.Meant.{seat_of, IsSeatOf};
+    ghost use Rattle.mvrlu.specs.Meant.{seat_of, handled, IsSeatOf};
 
-    /// Lends the domain to a seat of it, which keeps all that it means.
+    /// Lends the domain to a seat of it. The handle means what the seat meant. A seat of another domain,
+    /// which has another name, is refused by the condition. No step is made.
     pub fn handle<'d>(&'d self, seat: Seat<P>) -> Handle<'d, P>
         requires { IsSeatOf self.now seat }
-        ensures { ⟦<Handle<'d, P> as Store>⟧.seat_of result ≡ seat_of seat }
+        ensures { handled result ≡ seat_of seat }
     {
         Handle { domain: self, seat }
     }

@@ -9,6 +9,7 @@ ghost use Rattle.seat_log.specs.Notes.{held_from, IsNoteAt};
 ghost use Rattle.object_lock.specs.Locks.{HoldsObject};
 ghost use Rattle.mvrlu.specs.Placed.{section_from, Fits};
 ghost use Rattle.mvrlu.specs.Causes.{FoundLocked};
+ghost use Rattle.mvrlu.specs.Bounds.{MakesAtMost};
 
 use crate::places::Busy;
 use mv_core::{Shared, Steps};
@@ -65,6 +66,7 @@ pub(crate) fn locked<P: Protocol, L: Ledger>(
     ensures taken { (seat : ℕ) → result ≡ IsTaken seat → (seat ≢ (section_from busy.old).seat.number) × FoundLocked (section_from busy.old) (section_from busy.new) object seat }
     ensures stale { (time : ℕ) → result ≡ Stale time → IsStale (section_from busy.new) object time }
     ensures held { result ≡ Held → Lacks (section_from busy.old) object → Locks (section_from busy.old) (section_from busy.new) object }
+    ensures bound { MakesAtMost (section_from busy.old).seat (section_from busy.new).seat 32 }
 {
     let mut steps = Steps::<L>::open(blank);
     lock(shared, &mut busy.pass, &mut busy.log, object, &mut steps)
@@ -86,6 +88,7 @@ pub(crate) fn written<P: Protocol, L: Ledger>(
     ensures lawful { IsSection P.start P.allowed (section_from busy.new) }
     ensures goes_on { GoesOn (section_from busy.old) (section_from busy.new) }
     ensures rewrites { Rewrites (section_from busy.old) (section_from busy.new) object words }
+    ensures bound { MakesAtMost (section_from busy.old).seat (section_from busy.new).seat 6 }
 {
     let mut steps = Steps::<L>::open(blank);
     write(

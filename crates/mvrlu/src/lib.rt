@@ -1,4 +1,45 @@
-//! The domain: the store of many versions, behind the traits of `mv_history`.
+//! The domain: a store of many versions, behind the traits of `mv_history`.
+//!
+//! Seats of one domain read and write the same objects at the same time, and nobody waits. Each seat is
+//! a thread's place in the domain. Outside a section it is a `Store`, by its `Handle`; `enter` begins a
+//! section, a `Session`, which reads the one state of its snapshot whatever others commit meanwhile,
+//! holds what it is to write, and ends by a commit, an abort or by leaving. The algorithm is MV-RLU (Kim,
+//! Mathew, Kashyap, Ramanathan and Min, ASPLOS 2019, sections 3 and 4), after read-log-update (Matveev,
+//! Shavit, Felber and Marlier, SOSP 2015), with one commit clock that also orders the history.
+//!
+//! **The model.** A `Domain` has a name, which no other domain has, with its numbers, and an opening
+//! state. A `Seat` means what every store's seat means: what it has seen of the one history of commits
+//! and rests, its own commits in it, the free slots of its log, and the trail of its atomic steps. A
+//! `Handle` means its seat, and a `Session` the section of its seat: the snapshot's length, and what it
+//! holds. `Meant` in specs/ has these; no clause names a word, a log or a mark.
+//!
+//! **The contract.** `Handle` is a `Store` and `Session` a `Section`, so all clauses of these traits hold
+//! over every interleaving of the steps. What a refusal claims was found in the steps of that very call:
+//!
+//! - `took`: a load of CLOCK in the call found the time of the snapshot that `enter` begins with.
+//! - `found_held`: the last three steps of a `try_lock` that answers `Busy` found HEAD of the object
+//!   naming a version of that other seat's log, which is a seat of the domain, and its stamp unset.
+//! - `loaded`: the first step of a `try_commit` loaded CLOCK. `Again` has exactly one exchange of CLOCK,
+//!   which was lost against an entry made after that load, and `End` comes only where that load found the
+//!   last time.
+//! - `holds_back`: the causes of the holders that `prepare` and `Handle::tidy` name, with the watermark
+//!   that the oldest write set of the log still needs.
+//!
+//! No call takes memory, waits or tries again. Each call's clause `bound` says how many steps it makes at
+//! most: `enter` 6, `try_lock` 32, `write` 6, `try_commit` 8 and one for each object held, `abort` 2 and
+//! one for each object held, `leave` 1, and a `read` 12 and three for each entry after the snapshot that
+//! was seen. `prepare` and `tidy` make at most `2 * (4 + seats + 20 * slots) + 8`.
+//!
+//! A handle lends the domain to its seat, and may go to another thread; the words are touched only through
+//! its calls. Seats, handles and sections must be spent: one that is let go doesn't compile.
+//!
+//! **How it is proved.** A call of the crates below leaves a pass and a log, and says what it leaves of
+//! them. `Placed` in specs/ is both as one value, and what it means as a seat or a section; each file of
+//! proofs/ shows for one kind of call that what is left of the place is what the trait's clause says.
+//!
+//! The crate stands on `reader_marks` and `version_chain` for entering and reading, on `object_lock` for
+//! locks, on `commit_abort` for the end of a section, on `log_reclaim` for room, on `seat_log` for a
+//! seat's notes of its log, and on `mv_core`, which has the words and the rule.
 #![tactic(auto)]
 
 mod closing;

@@ -1,9 +1,10 @@
 // Reading an object in a section.
 ghost use Rattle.std.specs.Prelude.{◌≡◌, ◌<◌, length};
-ghost use Rattle.mv_history.specs.Meaning.{IsSection, Lacks, state_of, words_at};
+ghost use Rattle.mv_history.specs.Meaning.{IsSection, snapshot_of, state_of, words_at};
 ghost use Rattle.mv_core.specs.Passes.{start_of};
 ghost use Rattle.mvrlu.specs.Placed.{section_from, Fits};
 ghost use Rattle.mvrlu.specs.Standing.{Stays};
+ghost use Rattle.mvrlu.specs.Bounds.{MakesAtMost, read_most};
 
 use crate::holding::held_words;
 use crate::places::Busy;
@@ -12,7 +13,7 @@ use mv_history::{Protocol, Words};
 use std::sync::ledger::{Blank, Ledger};
 use version_chain::{Found, find, read_master, read_version};
 
-// The words of an object that the section doesn't hold.
+// The words of an object in the section's snapshot.
 fn read_below<P: Protocol, L: Ledger>(
     shared: &Shared<P>,
     busy: &mut Busy<P>,
@@ -23,11 +24,11 @@ fn read_below<P: Protocol, L: Ledger>(
     requires parts { (blank.parts ≡ L.parts) × (0 < L.parts) }
     requires fits { Fits shared.now busy.old }
     requires range { object < length (start_of shared.now) }
-    requires lacks { Lacks (section_from busy.old) object }
     ensures fits { Fits shared.now busy.new }
     ensures lawful { IsSection P.start P.allowed (section_from busy.new) }
-    ensures words { result ≡ words_at (state_of (section_from busy.old)) object }
+    ensures words { result ≡ words_at (snapshot_of (section_from busy.old)) object }
     ensures stays { Stays (section_from busy.old) (section_from busy.new) }
+    ensures bound { MakesAtMost (section_from busy.old).seat (section_from busy.new).seat (read_most (section_from busy.old) (section_from busy.new)) }
 {
     let mut steps = Steps::<L>::open(blank);
     match find(shared, &mut busy.pass, object, &mut steps) {
@@ -53,6 +54,7 @@ pub(crate) fn read_in<P: Protocol, L: Ledger>(
     ensures lawful { IsSection P.start P.allowed (section_from busy.new) }
     ensures words { result ≡ words_at (state_of (section_from busy.old)) object }
     ensures stays { Stays (section_from busy.old) (section_from busy.new) }
+    ensures bound { MakesAtMost (section_from busy.old).seat (section_from busy.new).seat (read_most (section_from busy.old) (section_from busy.new)) }
 {
     match held_words(busy, object) {
         Some(words) => words,

@@ -13,13 +13,15 @@ use mv_history::{CommitAnswer, LockAnswer, Protocol, Section, Tag, View, Words};
 use std::marker::Brand;
 use std::sync::ledger::Blank;
 
-/// A section's pass and log.
+// A section's pass and log, which mean a lawful section.
 pub(crate) struct Part<P: Protocol> {
     pub(crate) busy: Busy<P>,
     pub ghost lawful: { IsSection P.start P.allowed (section_from busy) } by { IsSection-prop P.start P.allowed P.one_start P.one_allowed (section_from busy) },
 }
 
-/// A section of a seat. It must be spent.
+/// A section of a seat, with a loan of its domain: a `Section`. It reads the state of its snapshot with
+/// its own words over it. It must be spent, by `try_commit`, `abort` or `leave`; one that is let go
+/// doesn't compile.
 pub struct Session<'d, P: Protocol> {
     pub(crate) domain: &'d Domain<P>,
     pub(crate) part: Part<P>,
@@ -27,27 +29,34 @@ pub struct Session<'d, P: Protocol> {
 }
 
 impl<'d, P: Protocol> View for Session<'d, P> {
-    ghost use Rattle.mvrlu.specs.Placed.{section_from};
+    ghost use Rattle.std.specs.Prelude.{◌≡◌, ◌<◌, length};
+    ghost use Rattle.mvrlu.specs.Meant.{section_of};
+    ghost use Rattle.mvrlu.specs.Bounds.{MakesAtMost, read_most};
     ghost use Rattle.mvrlu.specs.Standing.{Stays, stays_itself, stays_long, stays_state, words_in_section};
-    ghost use Rattle.mv_history.specs.Meaning.{state_of};
+    ghost use Rattle.mv_history.specs.Meaning.{state_of, words_at};
 
-    ghost state = { λ s. state_of (section_from s.part.busy) };
+    ghost state = { λ s. state_of (section_of s) };
 
-    ghost as_before = { λ s t. Stays (section_from s.part.busy) (section_from t.part.busy) };
+    ghost as_before = { λ s t. Stays (section_of s) (section_of t) };
 
-    ghost as_itself = { λ s. stays_itself (section_from s.part.busy) };
+    ghost as_itself = { λ s. stays_itself (section_of s) };
 
-    ghost as_long_before = { λ u v w p q. stays_long (section_from u.part.busy) (section_from v.part.busy) (section_from w.part.busy) p q };
+    ghost as_long_before = { λ u v w p q. stays_long (section_of u) (section_of v) (section_of w) p q };
 
-    ghost same_state = { λ v w p. stays_state P.start P.allowed (section_from v.part.busy) (section_from w.part.busy) v.part.lawful p };
+    ghost same_state = { λ v w p. stays_state P.start P.allowed (section_of v) (section_of w) v.part.lawful p };
 
-    ghost are_words = { λ s. words_in_section P.start P.allowed (section_from s.part.busy) s.part.lawful };
+    ghost are_words = { λ s. words_in_section P.start P.allowed (section_of s) s.part.lawful };
 
     fn objects(&self) -> u32 {
         self.domain.shared.config().objects
     }
 
-    fn read(&mut self, object: u32) -> Words {
+    fn read(&mut self, object: u32) -> Words
+        requires { object < length (state_of (section_of self.old)) }
+        ensures words { result ≡ words_at (state_of (section_of self.old)) object }
+        ensures as_before { Stays (section_of self.old) (section_of self.new) }
+        ensures bound { MakesAtMost (section_of self.old).seat (section_of self.new).seat (read_most (section_of self.old) (section_of self.new)) }
+    {
         let domain = self.domain;
         let part = &mut self.part;
         read_in::<P, Brand>(&domain.shared, &mut part.busy, object, Blank::new(1))
@@ -55,17 +64,24 @@ impl<'d, P: Protocol> View for Session<'d, P> {
 }
 
 impl<'d, P: Protocol> Section for Session<'d, P> {
-    ghost use Rattle.std.specs.Prelude.{refl, ◌≡◌};
-    ghost use Rattle.mvrlu.specs.Placed.{seat_from, section_from};
+    ghost use Rattle.std.specs.Prelude.{refl, ◌≡◌, ◌≢◌, ◌↔◌, ℕ, ◌+◌, ◌-◌, ◌<◌, ◌≤◌, [], length};
+    ghost use Rattle.mv_history.specs.Meaning.{state_of, snapshot_of, Holds, Lacks, IsWorn};
+    ghost use Rattle.mv_history.specs.Answer.{OnDone, OnAgain, OnEnd, seat_after};
+    ghost use Rattle.mv_history.specs.Calls.{call_trail, IsAsBefore, GoesOn, IsSetFull, IsLogFull, Locks, Rewrites, Leaves, Commits, IsStale, Overtakes};
+    ghost use Rattle.mv_history.specs.Drift.{IsFit};
+    ghost use Rattle.mv_history.specs.Trail.{commit_exchanges, IsOneWon, IsOneLost};
+    ghost use Rattle.mv_history.specs.declared.answers.LockAnswer.TheVariants.{Held, Busy as IsTaken, Stale, SetFull, LogFull};
+    ghost use Rattle.mvrlu.specs.Meant.{handled, section_of};
     ghost use Rattle.mvrlu.specs.Causes.{Loaded, FoundLocked};
+    ghost use Rattle.mvrlu.specs.Bounds.{MakesAtMost};
 
     type Rules = P;
 
     type Back = Handle<'d, P>;
 
-    ghost section = { λ s. section_from s.part.busy };
+    ghost section = { λ s. section_of s };
 
-    ghost stands = { λ s. seat_from s.seat.idle };
+    ghost stands = { λ s. handled s };
 
     ghost found_held = { λ old new object seat. FoundLocked old new object seat };
 
@@ -101,19 +117,49 @@ impl<'d, P: Protocol> Section for Session<'d, P> {
         held_words(&self.part.busy, object).is_some()
     }
 
-    fn try_lock(&mut self, object: u32) -> LockAnswer {
+    fn try_lock(&mut self, object: u32) -> LockAnswer
+        requires { object < length (state_of (section_of self.old)) }
+        ensures goes_on { GoesOn (section_of self.old) (section_of self.new) }
+        ensures refused { result ≢ Held → IsAsBefore (section_of self.old) (section_of self.new) }
+        ensures again { Holds (section_of self.old) object → (result ≡ Held) × (section_of self.new ≡ section_of self.old) }
+        ensures set_full { (result ≡ SetFull) ↔ (Lacks (section_of self.old) object × IsSetFull (section_of self.old)) }
+        ensures log_full { (result ≡ LogFull) ↔ (Lacks (section_of self.old) object × ¬ IsSetFull (section_of self.old) × IsLogFull (section_of self.old)) }
+        ensures busy { (seat : ℕ) → result ≡ IsTaken seat →
+            ⟦<Session<'d, P> as Section>⟧.may_refuse × (seat ≢ (section_of self.old).seat.number) × FoundLocked (section_of self.old) (section_of self.new) object seat }
+        ensures stale { (time : ℕ) → result ≡ Stale time → ⟦<Session<'d, P> as Section>⟧.may_refuse × IsStale (section_of self.new) object time }
+        ensures held { result ≡ Held → Lacks (section_of self.old) object → Locks (section_of self.old) (section_of self.new) object }
+        ensures log_full_only { result ≡ LogFull → ⟦<Session<'d, P> as Section>⟧.may_refuse }
+        ensures bound { MakesAtMost (section_of self.old).seat (section_of self.new).seat 32 }
+    {
         let domain = self.domain;
         let part = &mut self.part;
         locked::<P, Brand>(&domain.shared, &mut part.busy, object, Blank::new(1))
     }
 
-    fn write(&mut self, object: u32, words: Words) {
+    fn write(&mut self, object: u32, words: Words)
+        requires { Holds (section_of self.old) object }
+        ensures goes_on { GoesOn (section_of self.old) (section_of self.new) }
+        ensures rewrites { Rewrites (section_of self.old) (section_of self.new) object words }
+        ensures bound { MakesAtMost (section_of self.old).seat (section_of self.new).seat 6 }
+    {
         let domain = self.domain;
         let part = &mut self.part;
         written::<P, Brand>(&domain.shared, &mut part.busy, object, words, Blank::new(1))
     }
 
-    fn try_commit(self, tag: Tag) -> CommitAnswer<Handle<'d, P>, Session<'d, P>> {
+    fn try_commit(self, tag: Tag) -> CommitAnswer<Handle<'d, P>, Session<'d, P>>
+        requires some { 0 < length (section_of self).own }
+        requires fit { IsFit P.allowed (snapshot_of (section_of self)) tag (section_of self).own }
+        ensures done { OnDone result (λ back time. Commits (section_of self.entry) tag (handled back) time × Loaded (section_of self.entry) (handled back) (time - 1)) }
+        ensures again { OnAgain result (λ left rival. ⟦<Session<'d, P> as Section>⟧.may_refuse × IsAsBefore (section_of self.entry) (section_of left)
+            × Overtakes (section_of self.entry) (section_of left) rival.seat rival.time (Loaded (section_of self.entry) (section_of left).seat)) }
+        ensures end { OnEnd result (λ left. IsAsBefore (section_of self.entry) (section_of left) × IsWorn (section_of left).seat
+            × Loaded (section_of self.entry) (section_of left).seat (section_of left).seat.last) }
+        ensures at_most_one { length (commit_exchanges (call_trail (section_of self.entry).seat (seat_after handled section_of result))) ≤ 1 }
+        ensures one_won { OnDone result (λ back time. ⟦<Session<'d, P> as Section>⟧.has_trail → IsOneWon (commit_exchanges (call_trail (section_of self.entry).seat (handled back)))) }
+        ensures one_lost { OnAgain result (λ left rival. ⟦<Session<'d, P> as Section>⟧.has_trail → IsOneLost (commit_exchanges (call_trail (section_of self.entry).seat (section_of left).seat))) }
+        ensures bound { MakesAtMost (section_of self.entry).seat (seat_after handled section_of result) (8 + length (section_of self.entry).own) }
+    {
         let Session { domain, part } = self;
         let Part { busy } = part;
         match committed::<P, Brand>(&domain.shared, busy, tag, Blank::new(1)) {
@@ -132,7 +178,10 @@ impl<'d, P: Protocol> Section for Session<'d, P> {
         }
     }
 
-    fn abort(self) -> Handle<'d, P> {
+    fn abort(self) -> Handle<'d, P>
+        ensures leaves { Leaves (section_of self.entry) (handled result) }
+        ensures bound { MakesAtMost (section_of self.entry).seat (handled result) (length (section_of self.entry).own + 2) }
+    {
         let Session { domain, part } = self;
         let Part { busy } = part;
         let idle = aborted::<P, Brand>(&domain.shared, busy, Blank::new(1));
@@ -140,7 +189,11 @@ impl<'d, P: Protocol> Section for Session<'d, P> {
         Handle { domain, seat }
     }
 
-    fn leave(self) -> Handle<'d, P> {
+    fn leave(self) -> Handle<'d, P>
+        requires { (section_of self).own ≡ [] }
+        ensures leaves { Leaves (section_of self.entry) (handled result) }
+        ensures bound { MakesAtMost (section_of self.entry).seat (handled result) 1 }
+    {
         let Session { domain, part } = self;
         let Part { busy } = part;
         let idle = left::<P, Brand>(&domain.shared, busy, Blank::new(1));

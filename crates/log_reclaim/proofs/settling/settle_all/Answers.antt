@@ -17,6 +17,7 @@ loop-index-init g c =
             c.args.found.now c.args.pass.now.known r.may r.table,
       );
       cost = omega arith;
+      trail = omega arith;
     }
 
 pub settle-time-requires-clause-may : goal.settle-time-requires-clause-may
@@ -42,6 +43,8 @@ loop-index-preserved g c =
     let one = c.settle-time.ensures.settles c.args.clock may in
     let cost = c.settle-time.ensures.cost in
     let before = i.cost in
+    let grown = c.settle-time.ensures.trail in
+    let long = i.trail in
     let m = c.max-top.ensures in
     let next = settles_next (config_of c.args.shared.now) (view c.args.pass.now) (view c.loop-index.pass) (view c.settle-time.new.pass) c.args.log.now
     c.loop-index.log c.settle-time.new.log s.0 one.0 c.args.mark.now c.args.clock c.args.back c.loop-index.found c.settle-time.new.found c.loop-index.top
@@ -57,4 +60,5 @@ loop-index-preserved g c =
             (sym {a = c.max-top.result} {b = max c.loop-index.top c.settle-time.result} m) next,
       );
       cost = omega arith;
+      trail = omega arith;
     }

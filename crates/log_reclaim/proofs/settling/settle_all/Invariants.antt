@@ -1,4 +1,4 @@
-use Rattle.std.proofs.Common.{◌+◌, ◌*◌, ◌≤◌, List}
+use Rattle.std.proofs.Common.{◌+◌, ◌*◌, ◌≤◌, List, length}
 use Rattle.mv_history.specs.declared.Step.{Step}
 use Rattle.mv_core.specs.Passes.{view, IsOf, IsSame, config_of}
 use Rattle.seat_log.specs.Stands.{Stands}
@@ -12,4 +12,5 @@ invariant-loop-index g l = record {
   stands : Stands (config_of l.shared) (view l.pass) l.log;
   settles : (made : List Step) × Settles (config_of l.shared) (view l.fn.pass) (view l.pass) l.fn.log l.log made l.mark l.clock l.back l.found l.top l.index;
   cost : l.steps ≤ l.fn.steps + 18 * l.index;
+  trail : length (view l.pass).trail ≤ length (view l.fn.pass).trail + 18 * l.index;
 }

@@ -1,4 +1,6 @@
-use Rattle.std.proofs.Common.{rules, ◌∙◌}
+use Rattle.std.proofs.Common.{rules, ◌≡◌, ◌+◌, length, ap, ◌∙◌, arith}
+use Rattle.std.proofs.lemmas.List.{length-append}
+use Rattle.mv_core.specs.declared.view.View.{View}
 use Rattle.mv_core.specs.Passes.{view, config_of}
 use Rattle.log_reclaim.proofs.StoringAll.{stored_more, stands_stored, stores_all}
 use Rattle.log_reclaim.proofs.settling.store_all.Goals as goal
@@ -7,12 +9,16 @@ pub loop-preserved : goal.loop-preserved
 loop-preserved g c =
     let a = c.loop.invariant.same in
     let b = c.back_word.ensures.same in
+    let one : length (view c.back_word.new.pass).trail ≡ length (view c.loop.pass).trail + 1 =
+    ap (λ (x : View). length x.trail) c.back_word.ensures.stores.view ∙ length-append (view c.loop.pass).trail _ in
+    let before = c.loop.invariant.trail in
     record {
       of = search rules;
       same = (b.0 ∙ a.0, b.1 ∙ a.1, b.2 ∙ a.2, b.3 ∙ a.3, b.4 ∙ a.4, b.5 ∙ a.5);
       stores = stored_more (config_of c.args.shared.now) (view c.args.pass.now) (view c.loop.pass) c.args.back c.loop.back c.loop.counter c.args.steps.now
           c.loop.steps c.loop.invariant.stores (view c.back_word.new.pass) c.back_word.new.back c.back_word.new.steps c.back_word.ensures.writing
           c.back_word.ensures.stores c.back_word.ensures.step;
+      trail = omega arith;
     }
 
 pub finish_clock-requires-clause-stands : goal.finish_clock-requires-clause-stands

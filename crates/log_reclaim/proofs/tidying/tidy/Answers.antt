@@ -1,6 +1,7 @@
 use Rattle.std.proofs.Common.{◌≡◌, ◌<◌, refl, sym, ap, ◌∙◌, subst, inl, inr}
 use Rattle.mv_core.specs.Passes.{view, config_of, IsSame}
 use Rattle.log_reclaim.proofs.Tidied.{Between, HeldBy, between_none, between_some, held_by_none, held_by_some, tidy_rests, tidy_shrinks, tidied, tidy_alone}
+use Rattle.log_reclaim.proofs.FreshTimes.{tidy_fresh}
 use Rattle.log_reclaim.proofs.tidying.tidy.Given.{Over}
 use Rattle.log_reclaim.proofs.tidying.tidy.Goals as goal
 use Rattle.log_reclaim.proofs.tidying.tidy.Goals.{in-Some, in_default, in-Some-Some, in_default-2, in_default-2-2}
@@ -61,6 +62,14 @@ returns-clause-alone g c one early =
     c.sweep-freed.result.0 c.requires.stands c.sweep-freed.ensures.stands c.args.pass.now.known c.match-first.pass.known c.sweep-freed.new.pass.known
     c.sweep-first_freed.result.1 c.sweep-freed.result.1 c.sweep-first_freed.ensures.sweeps.1 (between g c) c.sweep-freed.ensures.sweeps.1
     (subst (λ s. s < (config_of c.args.shared.now).seats) c.args.pass.now.numbered c.requires.of.1) one early
+
+pub returns-clause-fresh : goal.returns-clause-fresh
+returns-clause-fresh g c time is =
+    tidy_fresh (config_of c.args.shared.now) (view c.args.pass.now) (view c.sweep-first_freed.new.pass) (view c.match-first.pass)
+    (view c.sweep-freed.new.pass) c.args.log.now c.sweep-first_freed.new.log c.match-first.log c.sweep-freed.new.log
+    c.sweep-first_freed.ensures.sweeps.0 c.sweep-freed.ensures.sweeps.0 c.sweep-first_freed.new.found c.sweep-freed.new.found c.sweep-first_freed.result.0
+    c.sweep-freed.result.0 c.sweep-first_freed.result.1 c.sweep-freed.result.1 c.sweep-first_freed.ensures.sweeps.1 (between g c)
+    c.sweep-freed.ensures.sweeps.1 c.match-first-2.held (held_by g c) time is
 
 pub returns-clause-rests : goal.returns-clause-rests
 returns-clause-rests g c =

@@ -1,10 +1,14 @@
-use Rattle.std.proofs.Common.{rules, ◌≡◌, refl, sym, ap, ◌∙◌, subst}
+use Rattle.std.proofs.Common.{rules, ◌≡◌, ℕ, ◌≤◌, length, refl, sym, ap, ◌∙◌, subst}
 use Rattle.mv_history.specs.Calls.{Leaves}
 use Rattle.mv_layout.specs.declared.Config.{Config}
 use Rattle.mv_core.specs.Passes.{view, config_of}
 use Rattle.seat_log.specs.Notes.{Noted}
 use Rattle.seat_log.specs.Stands.{Stands}
+use Rattle.object_lock.proofs.OwnNotes.{own_long}
+use Rattle.commit_abort.specs.Aborts.{abort_cost}
 use Rattle.mvrlu.specs.Placed.{Placed, placed, seat_from, section_from, Fits}
+use Rattle.mvrlu.specs.Bounds.{MakesAtMost}
+use Rattle.mvrlu.proofs.Trails.{few_made}
 use Rattle.mvrlu.proofs.Names.{fits_config, fits_pass}
 use Rattle.mvrlu.proofs.Lawful.{seat_lawful}
 use Rattle.mvrlu.proofs.Leaving.{left_leaves, left_idle}
@@ -55,3 +59,12 @@ returns-clause-leaves g c =
     let q = placed i.config c.abort.new.pass c.abort.new.log in
     subst (λ (p : Placed). Leaves (section_from p) (seat_from q)) c.busy.view_is
     (left_leaves (placed i.config i.pass i.log) q _ refl c.abort.ensures.same.0 c.abort.ensures.aborts)
+
+pub returns-clause-bound : goal.returns-clause-bound
+returns-clause-bound g c =
+    let i = c.busy.inside in
+    let q = placed i.config c.abort.new.pass c.abort.new.log in
+    let long = own_long i.config (view i.pass) i.log c.busy.invariant.1.placed.stands in
+    let few = subst (λ (n : ℕ). length c.abort.ensures.aborts.trail.0 ≤ abort_cost n) (sym long) c.abort.ensures.aborts.trail.2 in
+    subst (λ (p : Placed). MakesAtMost (seat_from p) (seat_from q) (abort_cost (length (section_from p).own))) c.busy.view_is
+    (few_made (view i.pass).trail (view c.abort.new.pass).trail c.abort.ensures.aborts.trail.0 _ c.abort.ensures.aborts.trail.1 few)

@@ -1,4 +1,4 @@
-use Rattle.std.proofs.Common.{rules, ◌≡◌, ℕ, ◌<◌, ◌≤◌, ◌-◌, List, length, refl, sym, ap, ◌∙◌, subst}
+use Rattle.std.proofs.Common.{rules, ◌≡◌, ℕ, ◌<◌, ◌≤◌, ◌+◌, ◌-◌, List, length, arith, refl, sym, ap, ◌∙◌, subst}
 use Rattle.mv_history.specs.declared.answers.Rival.{Rival}
 use Rattle.mv_history.specs.Drift.{IsFit}
 use Rattle.mv_history.specs.Meaning.{snapshot_of, IsWorn}
@@ -9,9 +9,12 @@ use Rattle.mv_core.specs.Passes.{view, config_of, home_of}
 use Rattle.seat_log.specs.Notes.{Noted}
 use Rattle.seat_log.specs.Stands.{Stands}
 use Rattle.version_chain.specs.Walks.{section_in}
+use Rattle.object_lock.proofs.OwnNotes.{own_long}
 use Rattle.commit_abort.specs.Commits as core
 use Rattle.mvrlu.specs.Placed.{Placed, placed, seat_from, section_from, Fits}
 use Rattle.mvrlu.specs.Causes.{Loaded}
+use Rattle.mvrlu.specs.Bounds.{MakesAtMost}
+use Rattle.mvrlu.proofs.Trails.{few_made}
 use Rattle.mvrlu.proofs.Names.{fits_config, fits_pass}
 use Rattle.mvrlu.proofs.Continuing.{busy_on}
 use Rattle.mvrlu.proofs.Lawful.{seat_lawful, section_lawful}
@@ -26,8 +29,7 @@ commit-requires g c κs within =
     let fits = subst (Fits c.args.shared.now) (sym c.busy.view_is) c.requires.fits in
     let config : config_of c.args.shared.now ≡ i.config = fits_config c.args.shared.now p fits in
     let some = subst (λ (x : Placed). 0 < length (section_from x).own) (sym c.busy.view_is) c.requires.some in
-    let fit = subst (λ (x : Placed). IsFit g.P.Protocol.allowed (snapshot_of (section_from x)) c.args.tag (section_from x).own) (sym c.busy.view_is) c.requires.fit in
-    (
+    let fit = subst (λ (x : Placed). IsFit g.P.Protocol.allowed (snapshot_of (section_from x)) c.args.tag (section_from x).own) (sym c.busy.view_is) c.requires.fit in (
       search rules,
       (
         search rules,
@@ -82,11 +84,22 @@ returns-in-Done-clause-done g c =
     let q = placed i.config c.commit.new.pass c.commit.new.log in
     let config : config_of c.args.shared.now ≡ i.config = fits_config c.args.shared.now p (subst (Fits c.args.shared.now) (sym c.busy.view_is) c.requires.fits) in
     let ends = subst (λ (d : Config). core.Commits d p.view q.view (section_in p.view) c.args.tag c.in-Done.time) config e.ends in
-    subst (λ (x : Placed). Commits (section_from x) c.args.tag (seat_from q) c.in-Done.time × Loaded (section_from x) (seat_from q) (c.in-Done.time - 1)) c.busy.view_is
-    (
+    subst (λ (x : Placed). Commits (section_from x) c.args.tag (seat_from q) c.in-Done.time × Loaded (section_from x) (seat_from q) (c.in-Done.time - 1)) c.busy.view_is (
       commits p q refl e.same.0 is.1.placed.base c.args.tag c.in-Done.time ends,
       loads_before p q refl e.same.0 is.1.placed.base c.args.tag c.in-Done.time ends,
     )
+
+pub returns-in-Done-clause-bound : goal.returns-in-Done-clause-bound
+returns-in-Done-clause-bound g c =
+    let i = c.busy.inside in
+    let e = c.in-Done.ensures in
+    let q = placed i.config c.commit.new.pass c.commit.new.log in
+    let stands = c.busy.invariant.1.placed.stands in
+    let long = own_long i.config (view i.pass) i.log stands in
+    let held = stands.held in
+    let few = e.ends.loads.few in
+    subst (λ (p : Placed). MakesAtMost (seat_from p) (seat_from q) (8 + length (section_from p).own)) c.busy.view_is
+    (few_made (view i.pass).trail (view c.commit.new.pass).trail e.ends.steps _ e.ends.loads.trail (omega arith))
 
 -- overtaken
 pub invariant_of-result-in-Again : goal.invariant_of-result-in-Again
@@ -134,8 +147,7 @@ returns-in-Again-clause-again g c =
     let config : config_of c.args.shared.now ≡ i.config = fits_config c.args.shared.now p (subst (Fits c.args.shared.now) (sym c.busy.view_is) c.requires.fits) in
     let ends = subst (λ (d : Config). core.IsOvertakenBy d p.view q.view (section_in p.view) rival) config e.ends in
     subst (λ (x : Placed). IsAsBefore (section_from x) (section_from q)
-        × Overtakes (section_from x) (section_from q) rival.seat rival.time (Loaded (section_from x) (seat_from q))) c.busy.view_is
-    (
+    × Overtakes (section_from x) (section_from q) rival.seat rival.time (Loaded (section_from x) (seat_from q))) c.busy.view_is (
       kept_as_before p q refl e.same.0 is.1.placed.base ends.steps ends.loads.trail ends.kept,
       overtakes p q refl e.same.0 is.1.placed.base rival ends,
     )
@@ -184,8 +196,7 @@ returns-clause-end g c =
     let q = placed i.config c.commit.new.pass c.commit.new.log in
     let config : config_of c.args.shared.now ≡ i.config = fits_config c.args.shared.now p (subst (Fits c.args.shared.now) (sym c.busy.view_is) c.requires.fits) in
     let ends = subst (λ (d : Config). core.IsAtEnd d p.view q.view (section_in p.view)) config e.ends in
-    subst (λ (x : Placed). IsAsBefore (section_from x) (section_from q) × IsWorn (seat_from q) × Loaded (section_from x) (seat_from q) 35184372088831) c.busy.view_is
-    (
+    subst (λ (x : Placed). IsAsBefore (section_from x) (section_from q) × IsWorn (seat_from q) × Loaded (section_from x) (seat_from q) 35184372088831) c.busy.view_is (
       kept_as_before p q refl e.same.0 is.1.placed.base ends.steps ends.loads.trail ends.kept,
       worn p q refl e.same.0 is.1.placed.base ends,
       loads_last p q refl e.same.0 is.1.placed.base ends,

@@ -1,0 +1,7 @@
+use Rattle.std.proofs.Common.{◌∙◌}
+use Rattle.mvrlu.specs.Placed.{section_from}
+use Rattle.mvrlu.proofs.LockMeant.{below_words}
+use Rattle.mvrlu.proofs.reading.read_in.Goals as goal
+
+pub returns-in-None-clause-words : goal.returns-in-None-clause-words
+returns-in-None-clause-words g c = c.read_below.ensures.words ∙ below_words (section_from c.args.busy.now) c.args.object c.in-None.ensures.none

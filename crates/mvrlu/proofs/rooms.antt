@@ -1,0 +1,4 @@
+pub mod Left
+pub mod Tidied
+pub mod Rounded
+pub mod Tabled

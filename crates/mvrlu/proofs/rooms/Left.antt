@@ -1,0 +1,86 @@
+-- What a reclaiming call leaves of a seat: its place is lawful, its history goes on, and its slots are counted.
+use Rattle.std.proofs.Common.{◌≡◌, ◌≢◌, ℕ, ◌+◌, ◌≤◌, false, count_by, List, [], ◌∷◌, ◌++◌, length, drop, refl, sym, ap, ◌∙◌}
+use Rattle.std.proofs.Common.{arith, length-append}
+use Rattle.std.proofs.lemmas.List.Sums.{sum_by-append}
+use Rattle.mv_history.specs.State.{State, Writes}
+use Rattle.mv_history.specs.declared.Step.{Step}
+use Rattle.mv_history.specs.declared.StepKind.{StepKind}
+use Rattle.mv_history.specs.declared.StepKind.TheVariants.{NameCommit}
+use Rattle.mv_history.specs.Trail.{is_commit_exchange, commit_exchanges}
+use Rattle.mv_history.specs.Calls.{Prepares}
+use Rattle.mv_layout.specs.declared.Config.{Config}
+use Rattle.mv_core.specs.declared.view.View.{View}
+use Rattle.mv_core.specs.Rings.{spare_count}
+use Rattle.mv_core.specs.Known.{Known}
+use Rattle.mv_core.proofs.logs.Counts.{one_if}
+use Rattle.seat_log.specs.Notes.{Noted}
+use Rattle.seat_log.specs.Stands.{is_free, Stands}
+use Rattle.log_reclaim.specs.Parts.{NamesNoCommit, Reclaims, Shrinks, grace_load}
+use Rattle.log_reclaim.specs.Rounds.{FreesFirst}
+use Rattle.mvrlu.specs.Placed.{Placed, seat_from, IsIdle}
+use Rattle.mvrlu.proofs.Trails.{made as made_since, none_named}
+use Rattle.mvrlu.proofs.Continuing.{continues, placed_on}
+
+no_name : (k : StepKind) → NamesNoCommit k → is_commit_exchange k ≡ false
+no_name NameCommit h = absurd h
+no_name _ h = refl
+
+module _ (starts : State → Type 0) (allows : List ℕ → State → Writes → Type 0) (p q : Placed) (made : List Step) (config : q.config ≡ p.config)
+    (table : q.table ≡ p.table) (idle : IsIdle starts allows p) (reclaims : Reclaims p.view q.view made) (known : ∥ Known starts allows q.view ∥₁)
+    (stands : Stands q.config q.view q.log) where
+  -- the call's steps
+  pub trail_is : drop (length p.view.trail) q.view.trail ≡ made
+  trail_is = made_since p.view.trail q.view.trail made reclaims.trail
+
+  number_is : q.view.number ≡ p.view.number
+  number_is = ap (λ (x : View). x.number) reclaims.rest
+
+  base_is : q.view.base ≡ p.view.base
+  base_is = ap (λ (x : View). x.base) reclaims.rest
+
+  pub idle_after : q.log.built ≡ p.log.built → IsIdle starts allows q
+  idle_after built = record {
+    placed = placed_on starts allows p q config idle.placed number_is base_is known stands (built ∙ idle.placed.unbuilt);
+    outside = record { outside = reclaims.outside; no_scan = reclaims.no_scan };
+  }
+
+  pub prepared : Prepares (seat_from p) (seat_from q)
+  prepared = record {
+    continues = continues p q config table made number_is (ap (λ (x : View). x.start) reclaims.rest) base_is reclaims.seen reclaims.trail;
+    mine = reclaims.mine;
+    names_no_commit = ap commit_exchanges trail_is ∙ none_named NamesNoCommit no_name made reclaims.kinds;
+  }
+
+  -- the slots that the call freed, by one step each
+  pub freed_is : (freed : ℕ) → Shrinks p.log q.log freed → freed ≡ count_by is_free (drop (length p.view.trail) q.view.trail)
+  freed_is freed k =
+      let was = idle.placed.stands.frees in
+      let is = stands.frees in
+      let more : count_by is_free (p.view.trail ++ made) ≡ count_by is_free p.view.trail + count_by is_free made =
+      sum_by-append (λ s. one_if (is_free s)) p.view.trail made in
+      let all : count_by is_free q.view.trail ≡ count_by is_free (p.view.trail ++ made) = ap (count_by is_free) reclaims.trail in
+      let sum : q.log.freed ≡ p.log.freed + freed = ap (λ (l : Noted). l.freed) k.rest in
+      let here : count_by is_free (drop (length p.view.trail) q.view.trail) ≡ count_by is_free made = ap (count_by is_free) trail_is in
+      omega arith
+
+  pub spare_is : (freed : ℕ) → Shrinks p.log q.log freed → spare_count q.view.ring ≡ spare_count p.view.ring + freed
+  spare_is freed k =
+      let was = idle.placed.stands.spare in
+      let is = stands.spare in
+      let slots : q.config.slots ≡ p.config.slots = ap (λ (d : Config). d.slots) config in
+      let few = k.few in
+      omega arith
+
+  pub live_is : (live : ℕ) → live ≡ length q.log.live → live + spare_count q.view.ring ≡ q.config.slots
+  live_is live is = let all = stands.spare in omega arith
+
+  pub some_step : FreesFirst q.config p.log made → drop (length p.view.trail) q.view.trail ≢ []
+  some_step first e =
+      let is : grace_load q.config first.time ∷ (first.frees ++ first.rest) ≡ [] = sym first.made_is ∙ sym trail_is ∙ e in
+      absurd cc
+
+  pub few_steps : (n : ℕ) → length q.view.trail ≤ length p.view.trail + n → length (drop (length p.view.trail) q.view.trail) ≤ n
+  few_steps n few =
+      let long : length q.view.trail ≡ length p.view.trail + length made = ap length reclaims.trail ∙ length-append p.view.trail made in
+      let here : length (drop (length p.view.trail) q.view.trail) ≡ length made = ap length trail_is in
+      omega arith

@@ -1,14 +1,13 @@
 // Worked rows of walks by their looks.
+use crate::Turn;
 use crate::moves::Answer::{
     Aborted, Counts, Done, Entered, Held, Left, Skipped, Started, Walked, Words, Written,
 };
 use crate::moves::Move::{
     Abort, Commit, Enter, Leave, Lock, Read, ReadFound, Table, WalkStart, WalkStep, Write,
 };
-use crate::{Turn, domain, played};
+use crate::tables::{Domain, fault, row};
 use mv_history::LogTable;
-use std::marker::Brand;
-use std::sync::ledger::Blank;
 use std::test::Fail;
 use version_chain::Found;
 
@@ -86,18 +85,24 @@ const COUNTED: [Turn; 7] = [
     ),
 ];
 
+const SEATS: Domain = Domain {
+    seats: 3,
+    objects: 1,
+    write_max: 16,
+    base: 0,
+};
+
 #[test]
 fn walks_by_their_looks(rt: HostRuntime) -> Result<(), Fail> {
-    let rows: [(&str, &[Turn]); 4] = [
-        ("over an abort", &OVER_AN_ABORT),
-        ("below later commits", &BELOW_LATER_COMMITS),
-        ("ended by a lock", &ENDED_BY_A_LOCK),
-        ("counted", &COUNTED),
+    let rows = [
+        row("over an abort", SEATS, &OVER_AN_ABORT),
+        row("below later commits", SEATS, &BELOW_LATER_COMMITS),
+        row("ended by a lock", SEATS, &ENDED_BY_A_LOCK),
+        row("counted", SEATS, &COUNTED),
     ];
-    for (row, turns) in rows {
-        let config = domain(3, 1, 16, 0);
-        let other = played::<Brand>(rt.alloc(), &config, turns, &[], &[], &[], Blank::new(1))?;
-        assert_eq!(rt; other, None, "{row}");
+    for row in rows {
+        let name = row.name;
+        assert_eq!(rt; fault(rt.alloc(), &row)?, None, "{name}");
     }
     Ok(())
 }

@@ -8,7 +8,7 @@ use crate::moves::Move::{
     Abort, BackFinish, BackStart, BackWord, Commit, Enter, Leave, Lock, LockEnd, LockStart, Read,
     ReadFound, Round, Table, Tidy, WalkStart, WalkStep, Write,
 };
-use crate::tables::{Domain, fault, row};
+use crate::tables::{Domain, first_fault, one_part};
 use log_reclaim::BackEnd::Cut;
 use log_reclaim::NoBack::{Above, Gone, Young};
 use mv_history::Holder::{Fresh, Mark};
@@ -170,18 +170,18 @@ const SEATS: Domain = Domain {
 #[test]
 fn write_backs_by_their_parts(rt: HostRuntime) -> Result<(), Fail> {
     let rows = [
-        row("young", SEATS, &YOUNG),
-        row("gone", SEATS, &GONE),
-        row("above", SEATS, &ABOVE),
-        row("given up", SEATS, &GIVEN_UP),
-        row("cut", SEATS, &CUT),
-        row("not written back", SEATS, &NOT_WRITTEN_BACK),
-        row("locked at the master", SEATS, &LOCKED_AT_THE_MASTER),
-        row("busy at the master", SEATS, &BUSY_AT_THE_MASTER),
+        one_part("young", SEATS, &YOUNG),
+        one_part("gone", SEATS, &GONE),
+        one_part("above", SEATS, &ABOVE),
+        one_part("given up", SEATS, &GIVEN_UP),
+        one_part("cut", SEATS, &CUT),
+        one_part("not written back", SEATS, &NOT_WRITTEN_BACK),
+        one_part("locked at the master", SEATS, &LOCKED_AT_THE_MASTER),
+        one_part("busy at the master", SEATS, &BUSY_AT_THE_MASTER),
     ];
     for row in rows {
         let name = row.name;
-        assert_eq!(rt; fault(rt.alloc(), &row)?, None, "{name}");
+        assert_eq!(rt; first_fault(rt.alloc(), &row)?, None, "{name}");
     }
     Ok(())
 }

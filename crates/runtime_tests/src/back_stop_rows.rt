@@ -7,7 +7,7 @@ use crate::moves::Answer::{
 use crate::moves::Move::{
     Abort, BackFinish, BackStart, BackWord, Commit, Enter, Leave, Lock, Read, Tidy, Write,
 };
-use crate::tables::{Domain, Middle, Row, fault};
+use crate::tables::{Domain, Middle, Schedule, first_fault};
 use crate::{Call, Turn};
 use log_reclaim::BackEnd::{Above, Cut};
 use mv_history::Holder::{End, Mark};
@@ -158,8 +158,8 @@ const LATE: Domain = Domain {
 // Seat 0 stops after the load of HEAD and after each word; after each step of `back_finish`, of which the
 // first is the exchange of HEAD, and where it is won the second is the load of CLOCK; and after its end,
 // when nobody needs what the other seat committed.
-const ROWS: [Row; 14] = [
-    Row {
+const ROWS: [Schedule; 14] = [
+    Schedule {
         name: "stopped after: HEAD was loaded",
         domain: TWO,
         before: &BEGUN,
@@ -167,7 +167,7 @@ const ROWS: [Row; 14] = [
         after: &FREE,
         end: &[(1, Tidy, MARKED)],
     },
-    Row {
+    Schedule {
         name: "stopped after: one word",
         domain: TWO,
         before: &BEGUN,
@@ -175,7 +175,7 @@ const ROWS: [Row; 14] = [
         after: &FREE,
         end: &[(1, Tidy, MARKED)],
     },
-    Row {
+    Schedule {
         name: "stopped after: two words",
         domain: TWO,
         before: &BEGUN,
@@ -183,7 +183,7 @@ const ROWS: [Row; 14] = [
         after: &FREE,
         end: &[(1, Tidy, MARKED)],
     },
-    Row {
+    Schedule {
         name: "stopped after: three words",
         domain: TWO,
         before: &BEGUN,
@@ -191,7 +191,7 @@ const ROWS: [Row; 14] = [
         after: &FREE,
         end: &[(1, Tidy, MARKED)],
     },
-    Row {
+    Schedule {
         name: "stopped after: four words",
         domain: TWO,
         before: &BEGUN,
@@ -199,7 +199,7 @@ const ROWS: [Row; 14] = [
         after: &FREE,
         end: &[(1, Tidy, MARKED)],
     },
-    Row {
+    Schedule {
         name: "stopped after: five words",
         domain: TWO,
         before: &BEGUN,
@@ -207,7 +207,7 @@ const ROWS: [Row; 14] = [
         after: &FREE,
         end: &[(1, Tidy, MARKED)],
     },
-    Row {
+    Schedule {
         name: "stopped after: six words",
         domain: TWO,
         before: &BEGUN,
@@ -215,7 +215,7 @@ const ROWS: [Row; 14] = [
         after: &FREE,
         end: &[(1, Tidy, MARKED)],
     },
-    Row {
+    Schedule {
         name: "won",
         domain: TWO,
         before: &WRITTEN_BACK,
@@ -223,7 +223,7 @@ const ROWS: [Row; 14] = [
         after: &FREE,
         end: &[(1, Tidy, MARKED)],
     },
-    Row {
+    Schedule {
         name: "lost",
         domain: TWO,
         before: &OVERTAKEN,
@@ -231,7 +231,7 @@ const ROWS: [Row; 14] = [
         after: &HELD,
         end: &[(1, Tidy, MARKED)],
     },
-    Row {
+    Schedule {
         name: "won over another's",
         domain: TWO,
         before: &OVER_ANOTHERS,
@@ -239,7 +239,7 @@ const ROWS: [Row; 14] = [
         after: &FREE_LATER,
         end: &[(1, Tidy, OLDER_FREED)],
     },
-    Row {
+    Schedule {
         name: "at the last time",
         domain: LATE,
         before: &WRITTEN_BACK_AT_LAST,
@@ -247,7 +247,7 @@ const ROWS: [Row; 14] = [
         after: &NO_TIME_LEFT,
         end: &[(1, Tidy, Tidied(0, 1, Some(End)))],
     },
-    Row {
+    Schedule {
         name: "after a won end",
         domain: TWO,
         before: &WRITTEN_BACK,
@@ -255,7 +255,7 @@ const ROWS: [Row; 14] = [
         after: &FREE,
         end: &[(1, Tidy, Tidied(1, 0, None))],
     },
-    Row {
+    Schedule {
         name: "after a lost end",
         domain: TWO,
         before: &OVERTAKEN,
@@ -263,7 +263,7 @@ const ROWS: [Row; 14] = [
         after: &HELD,
         end: &[(1, Tidy, Tidied(1, 0, None))],
     },
-    Row {
+    Schedule {
         name: "after a won end over another's",
         domain: TWO,
         before: &OVER_ANOTHERS,
@@ -277,7 +277,7 @@ const ROWS: [Row; 14] = [
 fn stops_within_a_write_back_and_after_it(rt: HostRuntime) -> Result<(), Fail> {
     for row in ROWS {
         let name = row.name;
-        assert_eq!(rt; fault(rt.alloc(), &row)?, None, "{name}");
+        assert_eq!(rt; first_fault(rt.alloc(), &row)?, None, "{name}");
     }
     Ok(())
 }

@@ -46,6 +46,7 @@ const NOTHING: [Turn; 2] = [(0, Enter, Entered(7)), (0, Leave, Left)];
 
 // A schedule, and the words that it leaves: CLOCK, MARK of both seats, and HEAD and the first master word
 // of both objects.
+#[derive(Clone, Copy)]
 struct Closing<'a> {
     name: &'a str,
     base: u64,

@@ -8,7 +8,7 @@ use crate::moves::Move::{
     Abort, Commit, Enter, Finish, FirstOf, Leave, Lock, LockEnd, LockStart, Name, Now, Read, Tidy,
     Write,
 };
-use crate::tables::{Domain, Middle, Row, fault};
+use crate::tables::{Domain, Middle, Schedule, first_fault};
 use crate::{Answer, Call, Turn};
 use mv_history::Holder::Mark;
 use std::test::Fail;
@@ -262,8 +262,8 @@ const TWO: Domain = Domain {
 //
 // The exchange is lost, and after it FIRST and STAMP are loaded of the version that it found; or PREV is
 // cleared where it found 0, and the exchange is tried again, which is the last step.
-const ROWS: [Row; 15] = [
-    Row {
+const ROWS: [Schedule; 15] = [
+    Schedule {
         name: "to a held version",
         domain: THREE,
         before: &[],
@@ -271,7 +271,7 @@ const ROWS: [Row; 15] = [
         after: &[],
         end: &[],
     },
-    Row {
+    Schedule {
         name: "to a commit",
         domain: THREE,
         before: &[],
@@ -279,7 +279,7 @@ const ROWS: [Row; 15] = [
         after: &[],
         end: &[],
     },
-    Row {
+    Schedule {
         name: "over a version, to a commit",
         domain: THREE,
         before: &COMMITTED,
@@ -287,7 +287,7 @@ const ROWS: [Row; 15] = [
         after: &[],
         end: &[],
     },
-    Row {
+    Schedule {
         name: "to a named commit",
         domain: THREE,
         before: &COMMITTED,
@@ -295,7 +295,7 @@ const ROWS: [Row; 15] = [
         after: &[],
         end: &[],
     },
-    Row {
+    Schedule {
         name: "to a stamped commit",
         domain: THREE,
         before: &COMMITTED,
@@ -303,7 +303,7 @@ const ROWS: [Row; 15] = [
         after: &[],
         end: &[],
     },
-    Row {
+    Schedule {
         name: "to the next holder",
         domain: THREE,
         before: &COMMITTED,
@@ -311,7 +311,7 @@ const ROWS: [Row; 15] = [
         after: &[],
         end: &[],
     },
-    Row {
+    Schedule {
         name: "one of two",
         domain: THREE,
         before: &COMMITTED,
@@ -319,7 +319,7 @@ const ROWS: [Row; 15] = [
         after: &[],
         end: &[],
     },
-    Row {
+    Schedule {
         name: "won after an abort",
         domain: THREE,
         before: &COMMITTED,
@@ -327,7 +327,7 @@ const ROWS: [Row; 15] = [
         after: &[],
         end: &[],
     },
-    Row {
+    Schedule {
         name: "won over the master",
         domain: THREE,
         before: &[],
@@ -335,7 +335,7 @@ const ROWS: [Row; 15] = [
         after: &[],
         end: &[],
     },
-    Row {
+    Schedule {
         name: "stopped, to a lock",
         domain: TWO,
         before: &TO_A_LOCK,
@@ -343,7 +343,7 @@ const ROWS: [Row; 15] = [
         after: &GOES_ON,
         end: &[(1, Tidy, MARKED)],
     },
-    Row {
+    Schedule {
         name: "stopped, to its commit",
         domain: TWO,
         before: &TO_ITS_COMMIT,
@@ -351,7 +351,7 @@ const ROWS: [Row; 15] = [
         after: &AGAIN,
         end: &[(1, Tidy, MARKED)],
     },
-    Row {
+    Schedule {
         name: "stopped, to a cut",
         domain: TWO,
         before: &TO_A_CUT,
@@ -359,7 +359,7 @@ const ROWS: [Row; 15] = [
         after: &AT_THE_MASTER,
         end: &[(1, Tidy, MARKED_LATER)],
     },
-    Row {
+    Schedule {
         name: "whole, to a lock",
         domain: TWO,
         before: &TO_A_LOCK,
@@ -367,7 +367,7 @@ const ROWS: [Row; 15] = [
         after: &GOES_ON,
         end: &[(1, Tidy, MARKED)],
     },
-    Row {
+    Schedule {
         name: "whole, to its commit",
         domain: TWO,
         before: &TO_ITS_COMMIT,
@@ -375,7 +375,7 @@ const ROWS: [Row; 15] = [
         after: &AGAIN,
         end: &[(1, Tidy, MARKED)],
     },
-    Row {
+    Schedule {
         name: "whole, to a cut",
         domain: TWO,
         before: &TO_A_CUT,
@@ -389,7 +389,7 @@ const ROWS: [Row; 15] = [
 fn exchanges_of_head_after_others_moved(rt: HostRuntime) -> Result<(), Fail> {
     for row in ROWS {
         let name = row.name;
-        assert_eq!(rt; fault(rt.alloc(), &row)?, None, "{name}");
+        assert_eq!(rt; first_fault(rt.alloc(), &row)?, None, "{name}");
     }
     Ok(())
 }

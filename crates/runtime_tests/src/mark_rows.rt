@@ -7,7 +7,7 @@ use crate::moves::Move::{
     Commit, Enter, Help, Known, Leave, LoadLow, LoadTime, Lock, Name, Now, Read, Scan, StoreMark,
     Write,
 };
-use crate::tables::{Domain, Middle, Row, fault};
+use crate::tables::{Domain, Middle, Schedule, first_fault};
 use mv_layout::NO_SLOT;
 use reader_marks::Watermark;
 use std::test::Fail;
@@ -114,8 +114,8 @@ const SEATS: Domain = Domain {
     base: 0,
 };
 
-const ROWS: [Row; 3] = [
-    Row {
+const ROWS: [Schedule; 3] = [
+    Schedule {
         name: "marks and grace",
         domain: SEATS,
         before: &LOW_WITHOUT_MARK,
@@ -123,7 +123,7 @@ const ROWS: [Row; 3] = [
         after: &KNOWN_GRACE,
         end: &[],
     },
-    Row {
+    Schedule {
         name: "helped at last",
         domain: SEATS,
         before: &HELPED_AT_LAST,
@@ -131,7 +131,7 @@ const ROWS: [Row; 3] = [
         after: &[],
         end: &[],
     },
-    Row {
+    Schedule {
         name: "lowest of two",
         domain: SEATS,
         before: &LOWEST_OF_TWO,
@@ -145,7 +145,7 @@ const ROWS: [Row; 3] = [
 fn marks_and_watermarks(rt: HostRuntime) -> Result<(), Fail> {
     for row in ROWS {
         let name = row.name;
-        assert_eq!(rt; fault(rt.alloc(), &row)?, None, "{name}");
+        assert_eq!(rt; first_fault(rt.alloc(), &row)?, None, "{name}");
     }
     Ok(())
 }

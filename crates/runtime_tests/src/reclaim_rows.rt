@@ -8,7 +8,7 @@ use crate::moves::Move::{
     Abort, BackFinish, BackStart, BackWord, Commit, Enter, Finish, Leave, Lock, Name, Now, Read,
     ReadFound, Round, Table, Tidy, WalkStart, WalkStep, Write,
 };
-use crate::tables::{Domain, Middle, Row, fault};
+use crate::tables::{Domain, Middle, Schedule, first_fault};
 use log_reclaim::BackEnd;
 use mv_history::Holder::{self, Above, Fresh, Mark};
 use mv_history::LogTable;
@@ -179,8 +179,8 @@ const TWO_OBJECTS: Domain = Domain {
     base: 0,
 };
 
-const ROWS: [Row; 7] = [
-    Row {
+const ROWS: [Schedule; 7] = [
+    Schedule {
         name: "a round leaves fresh what a tidy frees",
         domain: ONE,
         before: &ROUND_LEAVES_FRESH,
@@ -188,7 +188,7 @@ const ROWS: [Row; 7] = [
         after: &[],
         end: &[],
     },
-    Row {
+    Schedule {
         name: "a lock above holds what a tidy frees after its abort",
         domain: TWO,
         before: &TIDY_UNDER_A_LOCK,
@@ -196,7 +196,7 @@ const ROWS: [Row; 7] = [
         after: &[],
         end: &[],
     },
-    Row {
+    Schedule {
         name: "a write-back is overtaken",
         domain: TWO,
         before: &WRITE_BACK_OVERTAKEN,
@@ -204,7 +204,7 @@ const ROWS: [Row; 7] = [
         after: &[],
         end: &[],
     },
-    Row {
+    Schedule {
         name: "a walk stands over an abort",
         domain: TWO,
         before: &WALKER_OVER_ABORT,
@@ -212,7 +212,7 @@ const ROWS: [Row; 7] = [
         after: &[],
         end: &[],
     },
-    Row {
+    Schedule {
         name: "at the last time an abort is kept",
         domain: AT_LAST,
         before: &END_AND_ABORT,
@@ -220,7 +220,7 @@ const ROWS: [Row; 7] = [
         after: &[],
         end: &[],
     },
-    Row {
+    Schedule {
         name: "a log is full behind a mark",
         domain: TWO,
         before: &[(1, Enter, Entered(0))],
@@ -228,7 +228,7 @@ const ROWS: [Row; 7] = [
         after: &LOG_FULL_BEHIND_MARK,
         end: &[],
     },
-    Row {
+    Schedule {
         name: "a stopped commit is finished",
         domain: TWO_OBJECTS,
         before: &PAST_A_STOPPED_COMMIT,
@@ -242,7 +242,7 @@ const ROWS: [Row; 7] = [
 fn rounds_and_tidies(rt: HostRuntime) -> Result<(), Fail> {
     for row in ROWS {
         let name = row.name;
-        assert_eq!(rt; fault(rt.alloc(), &row)?, None, "{name}");
+        assert_eq!(rt; first_fault(rt.alloc(), &row)?, None, "{name}");
     }
     Ok(())
 }

@@ -7,7 +7,7 @@ use crate::moves::Move::{
     Abort, Commit, Enter, Finish, Help, Leave, Lock, LockEnd, LockStart, Name, Now, Read, Rest,
     Round, Table, Tidy, Write,
 };
-use crate::tables::{Domain, Middle, Row, fault};
+use crate::tables::{Domain, Middle, Schedule, first_fault};
 use crate::{Answer, Turn};
 use mv_history::Holder::{Fresh, Mark};
 use mv_history::LogTable;
@@ -203,8 +203,8 @@ const TWO_OBJECTS: Domain = Domain {
 
 // Rests by their parts, and a help of a word whose commit is gone by then: the log of its seat was filled
 // and freed, and its slot is built anew.
-const ROWS: [Row; 9] = [
-    Row {
+const ROWS: [Schedule; 9] = [
+    Schedule {
         name: "made",
         domain: REST,
         before: &MADE,
@@ -212,7 +212,7 @@ const ROWS: [Row; 9] = [
         after: &[],
         end: &[],
     },
-    Row {
+    Schedule {
         name: "lost to a commit",
         domain: REST,
         before: &LOST_TO_A_COMMIT,
@@ -220,7 +220,7 @@ const ROWS: [Row; 9] = [
         after: &[],
         end: &[],
     },
-    Row {
+    Schedule {
         name: "lost to a rest",
         domain: REST,
         before: &LOST_TO_A_REST,
@@ -228,7 +228,7 @@ const ROWS: [Row; 9] = [
         after: &[],
         end: &[],
     },
-    Row {
+    Schedule {
         name: "stamped",
         domain: REST,
         before: &STAMPED,
@@ -236,7 +236,7 @@ const ROWS: [Row; 9] = [
         after: &[],
         end: &[],
     },
-    Row {
+    Schedule {
         name: "at the last time",
         domain: AT_LAST,
         before: &AT_THE_LAST_TIME,
@@ -244,7 +244,7 @@ const ROWS: [Row; 9] = [
         after: &[],
         end: &[],
     },
-    Row {
+    Schedule {
         name: "built",
         domain: TWO_OBJECTS,
         before: &LOADED,
@@ -252,7 +252,7 @@ const ROWS: [Row; 9] = [
         after: &FREED,
         end: &BUILT,
     },
-    Row {
+    Schedule {
         name: "held",
         domain: TWO_OBJECTS,
         before: &LOADED,
@@ -260,7 +260,7 @@ const ROWS: [Row; 9] = [
         after: &FREED,
         end: &HELD,
     },
-    Row {
+    Schedule {
         name: "named",
         domain: TWO_OBJECTS,
         before: &LOADED,
@@ -268,7 +268,7 @@ const ROWS: [Row; 9] = [
         after: &FREED,
         end: &NAMED,
     },
-    Row {
+    Schedule {
         name: "committed",
         domain: TWO_OBJECTS,
         before: &LOADED,
@@ -282,7 +282,7 @@ const ROWS: [Row; 9] = [
 fn rests_and_a_help_of_a_commit_that_is_gone(rt: HostRuntime) -> Result<(), Fail> {
     for row in ROWS {
         let name = row.name;
-        assert_eq!(rt; fault(rt.alloc(), &row)?, None, "{name}");
+        assert_eq!(rt; first_fault(rt.alloc(), &row)?, None, "{name}");
     }
     Ok(())
 }

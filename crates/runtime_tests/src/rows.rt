@@ -4,7 +4,7 @@ use crate::moves::Answer::{
     Busy, Clock, Done, Entered, Held, Left, Lost, Named, SetFull, Stale, Words, Written,
 };
 use crate::moves::Move::{Commit, Enter, Leave, Lock, Name, Now, Read, Write};
-use crate::tables::{Domain, fault, row};
+use crate::tables::{Domain, first_fault, one_part};
 use mv_layout::NO_SLOT;
 use std::test::Fail;
 
@@ -88,14 +88,14 @@ const ALONE: Domain = Domain {
 #[test]
 fn locks_and_commits(rt: HostRuntime) -> Result<(), Fail> {
     let rows = [
-        row("busy then stale", FOUR_OBJECTS, &BUSY_THEN_STALE),
-        row("lost name", TWO_OBJECTS, &LOST_NAME),
-        row("helped reader", THREE_SEATS, &HELPED_READER),
-        row("set full", ALONE, &SET_FULL),
+        one_part("busy then stale", FOUR_OBJECTS, &BUSY_THEN_STALE),
+        one_part("lost name", TWO_OBJECTS, &LOST_NAME),
+        one_part("helped reader", THREE_SEATS, &HELPED_READER),
+        one_part("set full", ALONE, &SET_FULL),
     ];
     for row in rows {
         let name = row.name;
-        assert_eq!(rt; fault(rt.alloc(), &row)?, None, "{name}");
+        assert_eq!(rt; first_fault(rt.alloc(), &row)?, None, "{name}");
     }
     Ok(())
 }

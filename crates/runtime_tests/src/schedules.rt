@@ -6,7 +6,7 @@ use crate::moves::Answer::{
 use crate::moves::Move::{
     Abort, Commit, Enter, Finish, FirstOf, Leave, Lock, Name, Now, Read, Write,
 };
-use crate::tables::{Domain, fault, row};
+use crate::tables::{Domain, first_fault, one_part};
 use crate::{Call, Turn};
 use mv_layout::{LAST, NO_SLOT};
 use std::test::Fail;
@@ -356,38 +356,38 @@ const SMALL_SETS: Domain = Domain {
 #[test]
 fn seats_meet(rt: HostRuntime) -> Result<(), Fail> {
     let rows = [
-        row("helped by a commit", SEATS, &HELPED_BY_A_COMMIT),
-        row("lost twice", SEATS, &LOST_TWICE),
-        row("busy while named", SEATS, &BUSY_WHILE_NAMED),
-        row("given back", SEATS, &GIVEN_BACK),
-        row(
+        one_part("helped by a commit", SEATS, &HELPED_BY_A_COMMIT),
+        one_part("lost twice", SEATS, &LOST_TWICE),
+        one_part("busy while named", SEATS, &BUSY_WHILE_NAMED),
+        one_part("given back", SEATS, &GIVEN_BACK),
+        one_part(
             "given back over a version",
             SEATS,
             &GIVEN_BACK_OVER_A_VERSION,
         ),
-        row("old reader", SEATS, &OLD_READER),
-        row("own version passed", SEATS, &OWN_VERSION_PASSED),
-        row("seen whole", SEATS, &SEEN_WHOLE),
-        row("each busy for the other", SEATS, &EACH_BUSY_FOR_THE_OTHER),
-        row("two unfinished", SEATS, &TWO_UNFINISHED),
-        row("lost and given up", SEATS, &LOST_AND_GIVEN_UP),
-        row("last time taken", LATE, &LAST_TIME_TAKEN),
-        row("stale and committed", SEATS, &STALE_AND_COMMITTED),
-        row("full of two", SMALL_SETS, &FULL_OF_TWO),
-        row("three deep", SEATS, &THREE_DEEP),
-        row("stamped by another", SEATS, &STAMPED_BY_ANOTHER),
-        row("stopped after its stamp", SEATS, &STOPPED_AFTER_ITS_STAMP),
-        row(
+        one_part("old reader", SEATS, &OLD_READER),
+        one_part("own version passed", SEATS, &OWN_VERSION_PASSED),
+        one_part("seen whole", SEATS, &SEEN_WHOLE),
+        one_part("each busy for the other", SEATS, &EACH_BUSY_FOR_THE_OTHER),
+        one_part("two unfinished", SEATS, &TWO_UNFINISHED),
+        one_part("lost and given up", SEATS, &LOST_AND_GIVEN_UP),
+        one_part("last time taken", LATE, &LAST_TIME_TAKEN),
+        one_part("stale and committed", SEATS, &STALE_AND_COMMITTED),
+        one_part("full of two", SMALL_SETS, &FULL_OF_TWO),
+        one_part("three deep", SEATS, &THREE_DEEP),
+        one_part("stamped by another", SEATS, &STAMPED_BY_ANOTHER),
+        one_part("stopped after its stamp", SEATS, &STOPPED_AFTER_ITS_STAMP),
+        one_part(
             "given up over a stopped commit",
             SEATS,
             &GIVEN_UP_OVER_A_STOPPED_COMMIT,
         ),
-        row("older section", SEATS, &OLDER_SECTION),
-        row("lost to a stopped commit", SEATS, &LOST_TO_A_STOPPED_COMMIT),
+        one_part("older section", SEATS, &OLDER_SECTION),
+        one_part("lost to a stopped commit", SEATS, &LOST_TO_A_STOPPED_COMMIT),
     ];
     for row in rows {
         let name = row.name;
-        assert_eq!(rt; fault(rt.alloc(), &row)?, None, "{name}");
+        assert_eq!(rt; first_fault(rt.alloc(), &row)?, None, "{name}");
     }
     Ok(())
 }

@@ -7,7 +7,7 @@ use crate::moves::Answer::{
 use crate::moves::Move::{
     Abort, Commit, Enter, Finish, FirstOf, Lock, Name, Now, Read, Tidy, Write,
 };
-use crate::tables::{Domain, Middle, Row, fault};
+use crate::tables::{Domain, Middle, Schedule, first_fault};
 use crate::{Answer, Call, Turn};
 use mv_history::Holder::{End, Mark};
 use mv_layout::{LAST, NO_SLOT};
@@ -192,8 +192,8 @@ const LATE: Domain = Domain {
 };
 
 // An `enter` whose mark isn't stored yet holds nothing.
-const ROWS: [Row; 19] = [
-    Row {
+const ROWS: [Schedule; 19] = [
+    Schedule {
         name: "low time",
         domain: THREE,
         before: &[],
@@ -201,7 +201,7 @@ const ROWS: [Row; 19] = [
         after: &FREE,
         end: &[(1, Tidy, FREED)],
     },
-    Row {
+    Schedule {
         name: "enter",
         domain: THREE,
         before: &[],
@@ -209,7 +209,7 @@ const ROWS: [Row; 19] = [
         after: &FREE,
         end: &[(1, Tidy, MARKED)],
     },
-    Row {
+    Schedule {
         name: "enter that helps",
         domain: THREE,
         before: &NAMED,
@@ -217,7 +217,7 @@ const ROWS: [Row; 19] = [
         after: &COMMITTED,
         end: &[(1, Tidy, MARKED_BY_ANOTHER)],
     },
-    Row {
+    Schedule {
         name: "lock",
         domain: THREE,
         before: &INSIDE,
@@ -225,7 +225,7 @@ const ROWS: [Row; 19] = [
         after: &FREE_LATER,
         end: &[(1, Tidy, MARKED_LATER)],
     },
-    Row {
+    Schedule {
         name: "help of a commit",
         domain: THREE,
         before: &NAMED_BESIDES,
@@ -233,7 +233,7 @@ const ROWS: [Row; 19] = [
         after: &COMMITTED_BESIDES,
         end: &[(1, Tidy, MARKED)],
     },
-    Row {
+    Schedule {
         name: "abort",
         domain: THREE,
         before: &HOLDING,
@@ -241,7 +241,7 @@ const ROWS: [Row; 19] = [
         after: &FREE,
         end: &[(1, Tidy, MARKED)],
     },
-    Row {
+    Schedule {
         name: "abort of the first of two",
         domain: THREE,
         before: &HOLDING_TWO,
@@ -249,7 +249,7 @@ const ROWS: [Row; 19] = [
         after: &FIRST_GIVEN_BACK,
         end: &[(1, Tidy, MARKED)],
     },
-    Row {
+    Schedule {
         name: "abort of both",
         domain: THREE,
         before: &HOLDING_TWO,
@@ -257,7 +257,7 @@ const ROWS: [Row; 19] = [
         after: &BOTH_GIVEN_BACK,
         end: &[(1, Tidy, TWO_MARKED)],
     },
-    Row {
+    Schedule {
         name: "low time before the last time",
         domain: LATE,
         before: &[],
@@ -265,7 +265,7 @@ const ROWS: [Row; 19] = [
         after: &FREE_LATE,
         end: &[(1, Tidy, KEPT)],
     },
-    Row {
+    Schedule {
         name: "enter before the last time",
         domain: LATE,
         before: &[],
@@ -273,7 +273,7 @@ const ROWS: [Row; 19] = [
         after: &FREE_LATE,
         end: &[(1, Tidy, MARKED_LATE)],
     },
-    Row {
+    Schedule {
         name: "abort before the last time",
         domain: LATE,
         before: &HOLDING_LATE,
@@ -281,7 +281,7 @@ const ROWS: [Row; 19] = [
         after: &FREE_LATE,
         end: &[(1, Tidy, MARKED_LATE)],
     },
-    Row {
+    Schedule {
         name: "after lock",
         domain: TWO,
         before: &INSIDE,
@@ -289,7 +289,7 @@ const ROWS: [Row; 19] = [
         after: &TAKEN_LATER,
         end: &[(1, Tidy, MARKED_LATER)],
     },
-    Row {
+    Schedule {
         name: "load of the clock",
         domain: TWO,
         before: &HOLDING,
@@ -297,7 +297,7 @@ const ROWS: [Row; 19] = [
         after: &TAKEN,
         end: &[(1, Tidy, MARKED)],
     },
-    Row {
+    Schedule {
         name: "lost name",
         domain: TWO,
         before: &HOLDING,
@@ -305,7 +305,7 @@ const ROWS: [Row; 19] = [
         after: &TAKEN_LATER,
         end: &[(1, Tidy, TWO_MARKED)],
     },
-    Row {
+    Schedule {
         name: "name",
         domain: TWO,
         before: &HOLDING,
@@ -313,7 +313,7 @@ const ROWS: [Row; 19] = [
         after: &COMMITTED,
         end: &[(1, Tidy, MARKED)],
     },
-    Row {
+    Schedule {
         name: "exchange of the stamp",
         domain: TWO,
         before: &HOLDING,
@@ -325,7 +325,7 @@ const ROWS: [Row; 19] = [
         after: &COMMITTED,
         end: &[(1, Tidy, MARKED)],
     },
-    Row {
+    Schedule {
         name: "finish",
         domain: TWO,
         before: &HOLDING,
@@ -337,7 +337,7 @@ const ROWS: [Row; 19] = [
         after: &COMMITTED,
         end: &[(1, Tidy, FREED)],
     },
-    Row {
+    Schedule {
         name: "commit",
         domain: TWO,
         before: &HOLDING,
@@ -345,7 +345,7 @@ const ROWS: [Row; 19] = [
         after: &COMMITTED,
         end: &[(1, Tidy, FREED)],
     },
-    Row {
+    Schedule {
         name: "after abort",
         domain: TWO,
         before: &HOLDING,
@@ -359,7 +359,7 @@ const ROWS: [Row; 19] = [
 fn stops_within_a_call_and_after_one(rt: HostRuntime) -> Result<(), Fail> {
     for row in ROWS {
         let name = row.name;
-        assert_eq!(rt; fault(rt.alloc(), &row)?, None, "{name}");
+        assert_eq!(rt; first_fault(rt.alloc(), &row)?, None, "{name}");
     }
     Ok(())
 }

@@ -30,7 +30,7 @@ pub(crate) enum Middle<'a> {
 
 // A schedule: its name, the numbers of its domain, and its turns in four parts.
 #[derive(Clone, Copy)]
-pub(crate) struct Row<'a> {
+pub(crate) struct Schedule<'a> {
     pub name: &'a str,
     pub domain: Domain,
     pub before: &'a [Turn],
@@ -40,8 +40,8 @@ pub(crate) struct Row<'a> {
 }
 
 // A row of one part.
-pub(crate) fn row<'a>(name: &'a str, domain: Domain, turns: &'a [Turn]) -> Row<'a> {
-    Row {
+pub(crate) fn one_part<'a>(name: &'a str, domain: Domain, turns: &'a [Turn]) -> Schedule<'a> {
+    Schedule {
         name,
         domain,
         before: turns,
@@ -61,7 +61,7 @@ pub(crate) struct Fault {
 // Plays a row with this middle in a domain of its own.
 fn played_with(
     alloc: Global,
-    row: &Row,
+    row: &Schedule,
     middle: &[Turn],
     steps: u32,
 ) -> Result<Option<Fault>, AllocError> {
@@ -78,7 +78,7 @@ fn played_with(
 }
 
 // Plays a row. None is that every turn was answered as wanted, after each number of steps.
-pub(crate) fn fault(alloc: Global, row: &Row) -> Result<Option<Fault>, AllocError> {
+pub(crate) fn first_fault(alloc: Global, row: &Schedule) -> Result<Option<Fault>, AllocError> {
     match row.middle {
         Middle::Turns(turns) => played_with(alloc, row, turns, 0),
         Middle::Stops(call, least, most) => {

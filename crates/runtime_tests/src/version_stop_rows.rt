@@ -7,7 +7,7 @@ use crate::moves::Answer::{
 use crate::moves::Move::{
     Commit, Enter, Finish, Leave, Lock, LockStart, Name, Now, Read, Tidy, Write,
 };
-use crate::tables::{Domain, Middle, Row, fault};
+use crate::tables::{Domain, Middle, Schedule, first_fault};
 use crate::{Answer, Call, Turn};
 use mv_history::Holder::{Above, Mark};
 use std::test::Fail;
@@ -203,8 +203,8 @@ const THREE: Domain = Domain {
 // A lock builds ten words for the first version of a write set, and nine for a later one. The first
 // step of `finish` is the exchange of the stamp, and the next are the stores of SUPER: after three of
 // them only the store of MARK is left.
-const ROWS: [Row; 11] = [
-    Row {
+const ROWS: [Schedule; 11] = [
+    Schedule {
         name: "lock over its own",
         domain: THREE,
         before: &OVER_ITS_OWN,
@@ -212,7 +212,7 @@ const ROWS: [Row; 11] = [
         after: &FREE,
         end: &[(1, Tidy, ONE_MARKED)],
     },
-    Row {
+    Schedule {
         name: "lock over another's",
         domain: THREE,
         before: &OVER_ANOTHERS,
@@ -220,7 +220,7 @@ const ROWS: [Row; 11] = [
         after: &FREE,
         end: &[(1, Tidy, TWO_MARKED)],
     },
-    Row {
+    Schedule {
         name: "second lock",
         domain: THREE,
         before: &HOLDING_ANOTHER,
@@ -228,7 +228,7 @@ const ROWS: [Row; 11] = [
         after: &FREE_BESIDES,
         end: &[(1, Tidy, TWO_MARKED)],
     },
-    Row {
+    Schedule {
         name: "finish",
         domain: THREE,
         before: &NAMED,
@@ -236,7 +236,7 @@ const ROWS: [Row; 11] = [
         after: &STAMPED,
         end: &[(1, Tidy, FOUR_MARKED)],
     },
-    Row {
+    Schedule {
         name: "abort of the first",
         domain: THREE,
         before: &HOLDING_TWO,
@@ -244,7 +244,7 @@ const ROWS: [Row; 11] = [
         after: &FIRST_GIVEN_BACK,
         end: &[(1, Tidy, THREE_MARKED)],
     },
-    Row {
+    Schedule {
         name: "abort of both",
         domain: THREE,
         before: &HOLDING_TWO,
@@ -252,7 +252,7 @@ const ROWS: [Row; 11] = [
         after: &BOTH_GIVEN_BACK,
         end: &[(1, Tidy, THREE_MARKED)],
     },
-    Row {
+    Schedule {
         name: "lock before its exchange",
         domain: THREE,
         before: &OVER_ANOTHERS,
@@ -260,7 +260,7 @@ const ROWS: [Row; 11] = [
         after: &FREE,
         end: &[(1, Tidy, TWO_MARKED)],
     },
-    Row {
+    Schedule {
         name: "lock",
         domain: THREE,
         before: &OVER_ANOTHERS,
@@ -268,7 +268,7 @@ const ROWS: [Row; 11] = [
         after: &TAKEN,
         end: &[(1, Tidy, TWO_UNDER_A_LOCK)],
     },
-    Row {
+    Schedule {
         name: "load of the clock",
         domain: THREE,
         before: &HOLDING_TWO,
@@ -276,7 +276,7 @@ const ROWS: [Row; 11] = [
         after: &BOTH_TAKEN,
         end: &[(1, Tidy, THREE_UNDER_A_LOCK)],
     },
-    Row {
+    Schedule {
         name: "name",
         domain: THREE,
         before: &NAMED,
@@ -284,7 +284,7 @@ const ROWS: [Row; 11] = [
         after: &UNSTAMPED,
         end: &[(1, Tidy, THREE_MARKED)],
     },
-    Row {
+    Schedule {
         name: "whole finish",
         domain: THREE,
         before: &NAMED,
@@ -298,7 +298,7 @@ const ROWS: [Row; 11] = [
 fn stops_within_a_call_and_after_one(rt: HostRuntime) -> Result<(), Fail> {
     for row in ROWS {
         let name = row.name;
-        assert_eq!(rt; fault(rt.alloc(), &row)?, None, "{name}");
+        assert_eq!(rt; first_fault(rt.alloc(), &row)?, None, "{name}");
     }
     Ok(())
 }

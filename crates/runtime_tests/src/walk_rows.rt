@@ -6,7 +6,7 @@ use crate::moves::Answer::{
 use crate::moves::Move::{
     Abort, Commit, Enter, Leave, Lock, Read, ReadFound, Table, WalkStart, WalkStep, Write,
 };
-use crate::tables::{Domain, fault, row};
+use crate::tables::{Domain, first_fault, one_part};
 use mv_history::LogTable;
 use std::test::Fail;
 use version_chain::Found;
@@ -95,14 +95,14 @@ const SEATS: Domain = Domain {
 #[test]
 fn walks_by_their_looks(rt: HostRuntime) -> Result<(), Fail> {
     let rows = [
-        row("over an abort", SEATS, &OVER_AN_ABORT),
-        row("below later commits", SEATS, &BELOW_LATER_COMMITS),
-        row("ended by a lock", SEATS, &ENDED_BY_A_LOCK),
-        row("counted", SEATS, &COUNTED),
+        one_part("over an abort", SEATS, &OVER_AN_ABORT),
+        one_part("below later commits", SEATS, &BELOW_LATER_COMMITS),
+        one_part("ended by a lock", SEATS, &ENDED_BY_A_LOCK),
+        one_part("counted", SEATS, &COUNTED),
     ];
     for row in rows {
         let name = row.name;
-        assert_eq!(rt; fault(rt.alloc(), &row)?, None, "{name}");
+        assert_eq!(rt; first_fault(rt.alloc(), &row)?, None, "{name}");
     }
     Ok(())
 }

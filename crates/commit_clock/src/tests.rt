@@ -6,7 +6,7 @@ ghost use Rattle.mv_core.specs.Passes.{view, IsOf};
 use crate::{Named, help_clock, now, rest};
 use mv_core::{Pass, Shared, Steps};
 use mv_history::{AnyRules, Rival};
-use mv_layout::{Config, LAST, NO_SLOT, clock_slot, clock_time, clock_word};
+use mv_layout::{Config, LAST, NO_SLOT, clock_slot, clock_time};
 use std::alloc::{AllocError, Global};
 use std::marker::Brand;
 use std::sync::ledger::{Blank, Ledger};
@@ -104,9 +104,10 @@ fn the_second_rest_is_lost_to_the_first(rt: HostRuntime) -> Result<(), Fail> {
 
 #[test]
 fn a_new_clock_names_no_commit(rt: HostRuntime) -> Result<(), Fail> {
-    for base in [0, 1, LAST] {
+    let rows = [(0, 8191), (1, 532_479), (LAST, 18_446_744_073_709_035_519)];
+    for (base, word) in rows {
         let found = first_clock::<Brand>(rt.alloc(), base, Blank::new(1))?;
-        assert_eq!(rt; found, (clock_word(base, 0, NO_SLOT), None), "base {base}");
+        assert_eq!(rt; found, (word, None), "base {base}");
     }
     Ok(())
 }

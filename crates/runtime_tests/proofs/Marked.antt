@@ -1,23 +1,22 @@
 -- Where the parts of an `enter` leave a client, and the watermarks that it finds.
-use Rattle.std.proofs.Common.{◌≡◌, ℕ, zero, suc, ◌+◌, ◌==◌, ◌≤◌, Bool, true, false, cond, List, [], ◌∷◌, ◌++◌, refl, sym, ap, ◌∙◌, subst, eq-eqb, Some, None}
+use Rattle.std.proofs.Common.{◌≡◌, ℕ, zero, suc, ◌+◌, ◌==◌, Bool, true, false, cond, List, [], ◌∷◌, ◌++◌, refl, sym, ap, ◌∙◌, subst, Some, None}
 use Rattle.std.specs.Prelude.{Contains}
-use Rattle.std.proofs.lemmas.List.Elements.{All-nil, All-cons, All-append, Contains-push}
+use Rattle.std.proofs.lemmas.List.Elements.{All-nil, All-cons, All-append}
 use Rattle.mv_history.specs.declared.Entry.{Entry}
 use Rattle.mv_history.specs.declared.Step.{Step}
 use Rattle.mv_history.specs.declared.StepKind.TheVariants.{LoadLow, StoreMark, LoadTime, LoadGrace}
 use Rattle.mv_layout.specs.declared.Config.{Config}
 use Rattle.mv_layout.specs.declared.Place.TheVariants.{Clock, Grace, Mark}
 use Rattle.mv_layout.specs.Places.{place_of}
-use Rattle.mv_layout.specs.Words.{clock_time_of, clock_slot_of}
+use Rattle.mv_layout.specs.Words.{clock_time_of}
 use Rattle.mv_core.specs.declared.view.View.{View}
 use Rattle.mv_core.specs.declared.view.Past.{Past}
 use Rattle.mv_core.specs.declared.view.Phase.TheVariants.{Lowered}
 use Rattle.mv_core.specs.declared.view.Mode.TheVariants.{Open}
 use Rattle.mv_core.specs.Views.{low_of}
-use Rattle.mv_core.specs.SectionFacts.{IsWord}
 use Rattle.mv_core.specs.EnterSteps.{low_loaded, mark_stored, time_loaded}
 use Rattle.mv_core.specs.SeatSteps.{grace_loaded}
-use Rattle.commit_clock.specs.Helps.{IsHelpStep, Helps}
+use Rattle.commit_clock.specs.Helps.{HasLoaded, IsHelpStep, Helps}
 use Rattle.reader_marks.specs.declared.scanning.Watermark.{Watermark}
 use Rattle.reader_marks.specs.Scans.{mark_step, mark_steps, scan_step, grace_step, scan_steps, Scans}
 use Rattle.seat_log.specs.Notes.{Noted}
@@ -57,22 +56,16 @@ marked c v w l low h is =
           (ap (λ (u : View). u.past.rests) is) (ap (λ (u : View). u.scan) is) s (ap (λ (u : View). u.trail) is) (refl, refl);
     }
 
-pub taken : (c : Config) (v w : View) (l : Noted) (word : ℕ) (h : List Entry) → HasMarked c v l → w ≡ time_loaded c v word h → IsWord c word
-    → HasTaken c w l word
-taken c v w l word h m is is_word =
+pub taken : (c : Config) (v w : View) (l : Noted) (word : ℕ) (h : List Entry) → HasMarked c v l → w ≡ time_loaded c v word h
+    → HasLoaded c w word → HasTaken c w l word
+taken c v w l word h m is loaded =
     let s : Step = record { kind = LoadTime; word = place_of c Clock; found = Some word; stored = None } in
     record {
       inside = record { low = low_of v.phase; word = word; mode = Open };
       phase_is = ap (λ (u : View). u.phase) is;
       open_is = refl;
       word_is = refl;
-      loaded = record {
-        loaded = subst (λ (u : View). Contains u.clocks.loaded word) (sym is) (Contains-push [] word);
-        is_word = is_word;
-        none = λ e.
-            subst (λ (u : View). Contains u.clocks.helped word) (sym is)
-            (subst (λ (b : Bool). Contains (cond b (word ∷ []) []) word) (sym (eq-eqb (clock_slot_of word) 8191 e)) (Contains-push [] word));
-      };
+      loaded = loaded;
       no_back = ap (λ (u : View). u.back) is;
       between = goes_on c v w l m.between (ap (λ (u : View). u.number) is) (ap (λ (u : View). u.ring) is) (ap (λ (u : View). u.past.mine) is)
           (ap (λ (u : View). u.past.rests) is) (ap (λ (u : View). u.scan) is) s (ap (λ (u : View). u.trail) is) (refl, refl);

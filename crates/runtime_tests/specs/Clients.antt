@@ -120,14 +120,13 @@ IsAt c v l WritingBack = IsWritingBack c v l
 abbrev pub IsReady : Shared AnyRules → Client → Type 0
 IsReady s client = IsOf s client.pass × IsAt (config_of s) (view client.pass) client.log client.stage
 
--- the view says of what is under way that it is: the walk stands at its link, or at what it ended at; or the write-back is of
--- that object and position, and so many of its words were stored
+-- the view says of what is under way that it is: the walk stands at its link, or at what it ended at; or so many words of the
+-- write-back were stored
 abbrev pub IsUnderWay : Config → View → UnderWay → Type 0
 IsUnderWay c v Nothing = Unit {0}
 IsUnderWay c v (Walking object walk) = StandsAt c v walk × (walk.object ≡ object) × (object < c.objects)
 IsUnderWay c v (Ended object found) = HasFound c v object found × (object < c.objects)
-IsUnderWay c v (WriteBack back object position stored) =
-    IsWriting c v back × (back.object ≡ object) × (back.position ≡ position) × (back.stored ≡ stored)
+IsUnderWay c v (WriteBack back stored) = IsWriting c v back × (back.stored ≡ stored)
 
 -- the client is ready, and can go on with what it has under way
 abbrev pub IsPlayable : Shared AnyRules → Client → Type 0

@@ -48,9 +48,8 @@ pub(crate) enum UnderWay {
     Walking(u32, Walk),
     /// What a walk over this object ended at, and the client hasn't read.
     Ended(u32, Found),
-    /// A write-back, of this object and of the version at this position of its log, of which so many
-    /// words were stored.
-    WriteBack(Back, u32, u64, u32),
+    /// A write-back, of which so many words were stored.
+    WriteBack(Back, u32),
 }
 
 /// What calls for one seat: its pass, its log, how far it has come, and what it has under way.

@@ -1,37 +1,39 @@
 //! Tests of the runtime that cross its crates, on passes.
 //!
 //! **The model.** A schedule is data: turns, each with the number of a seat, its move, and the answer
-//! that is wanted. An interpreter plays it in a new domain, with one client for each seat, which has the
-//! pass, the log and the stage of that seat. Moves call the crates below as a section would. `FirstOf`
-//! makes the first steps of a call alone, after which its client stops for good. A lock, an `enter`, a
-//! walk, a write-back and a rest may also be made by their parts, each of which is a move, so that other
-//! seats have their turns in between. A walk or a write-back that is under way is kept by its client,
-//! and is let go with any other move of that client; the section of a write-back stays open until it is
-//! left.
+//! that is wanted. An interpreter plays it in a new domain, with one client for each seat, which has
+//! the pass, the log and the stage of that seat. Moves call the crates below as a section would.
+//! `FirstOf` makes the first parts of a call alone, after which its client stops for good; within a
+//! lock it makes the first of its steps. A lock, an `enter`, a walk, a write-back and a rest may also
+//! be made by their parts, each of which is a move, so that other seats have their turns in between. A
+//! walk or a write-back that is under way is kept by its client, and is let go with any other move of
+//! that client; the section of a write-back stays open until it is left.
 //!
 //! **The contract.** `AreReady`, that each client stands where its stage says, and the walk or
 //! write-back that it keeps where its view says, holds in a new domain and after every move: so any
 //! schedule may be played, and each call in it is made where its contract allows. A client that stopped
 //! may stand anywhere, since it is called no more. A move that isn't one of the client's stage is
 //! `Skipped`. What the calls answer is compared at run time: `played` answers the first turn that was
-//! answered otherwise.
+//! answered otherwise, by its part, its place and its answer.
 //!
-//! **The tests.** `rows` has worked rows of locks and commits, `mark_rows` of marks and watermarks, and
-//! `walk_rows` of walks that others overtake. `reclaim_rows` has rounds and tidies, and what holds a
-//! log, `back_rows` write-backs by their parts, and `rest_rows` rests, with a help of a word whose
-//! commit is gone by then and whose slot is built anew. `stop_rows` stops a seat after single steps of a
-//! call and has another one enter, read, lock, commit and tidy, `version_stop_rows` does so where the
-//! objects have versions, and `back_stop_rows` within a write-back. `schedules` has two and three seats
-//! whose locks, lost exchanges of CLOCK and stopped commits meet, and `lost_locks` those whose exchange
-//! of HEAD is lost or won after others moved, and stops after a lost one. `join_rows` joins the passes
-//! of a domain, and has what CLOCK is then. `reads` counts steps, which
-//! are known in proofs alone, in the contracts of its functions: sections of a domain in which nobody
-//! has committed have the opening time, and read the opening words in the masters, one after another and
-//! where they overlap. Such a section enters by three steps, finds the master by one, reads its six
-//! words by six and leaves by one.
+//! **The tests.** A schedule is a row of a table: its name, the numbers of its domain and its turns
+//! (`tables`, which alone opens a domain for a row). `rows` has worked rows of locks and commits,
+//! `mark_rows` of marks and watermarks, and `walk_rows` of walks that others overtake. `reclaim_rows`
+//! has rounds and tidies, and what holds a log, `back_rows` write-backs by their parts, and `rest_rows`
+//! rests, with a help of a word whose commit is gone by then and whose slot is built anew. `stop_rows`
+//! stops a seat after single steps of a call and has another one enter, read, lock, commit and tidy,
+//! `version_stop_rows` does so where the objects have versions, and `back_stop_rows` within a
+//! write-back. `schedules` has two and three seats whose locks, lost exchanges of CLOCK and stopped
+//! commits meet, and `lost_locks` those whose exchange of HEAD is lost or won after others moved, and
+//! stops after a lost one. `join_rows` joins the passes of a domain, and has what CLOCK is then;
+//! `close_rows` closes a domain, and has its last words. `reads` counts steps, which are known in
+//! proofs alone, in the contracts of its functions: sections of a domain in which nobody has committed
+//! have the opening time, and read the opening words in the masters, one after another and where they
+//! overlap. Such a section enters by three steps, finds the master by one, reads its six words by six
+//! and leaves by one.
 //!
-//! Each schedule is one order of whole calls and stops, on one thread. The crate stands above all crates
-//! that it crosses.
+//! Each schedule is one order of whole calls and stops, on one thread. The crate stands above all
+//! crates that it crosses.
 #![tactic(auto)]
 
 #[cfg(test)]
@@ -39,6 +41,9 @@ mod back_rows;
 #[cfg(test)]
 mod back_stop_rows;
 mod clients;
+#[cfg(test)]
+mod close_rows;
+mod closing;
 mod commits;
 #[cfg(test)]
 mod join_rows;
@@ -69,11 +74,14 @@ mod sections;
 mod stop_rows;
 mod stops;
 #[cfg(test)]
+mod tables;
+#[cfg(test)]
 mod version_stop_rows;
 #[cfg(test)]
 mod walk_rows;
 mod walks;
 
 pub use clients::{Client, Stage};
+pub use closing::{LastWords, closed_after};
 pub use moves::{Answer, Call, Move};
-pub use playing::{Turn, domain, joined_after, played};
+pub use playing::{Turn, WrongTurn, domain, joined_after, played};

@@ -7,7 +7,7 @@ use crate::moves::{Answer, Move};
 use mv_core::{Shared, Steps};
 use mv_history::AnyRules;
 use mv_layout::clock_time;
-use reader_marks::{known, scan};
+use reader_marks::{enter_low, enter_mark, enter_time, known, scan};
 use std::sync::ledger::Ledger;
 
 fn lowering<L: Ledger>(
@@ -21,7 +21,7 @@ fn lowering<L: Ledger>(
     let Stage::Outside = client.stage else {
         return Answer::Skipped;
     };
-    let low = clock_time(shared.load_low(&mut client.pass, steps));
+    let low = enter_low(shared, &mut client.pass, steps);
     client.stage = Stage::Lowered(low);
     Answer::Time(low)
 }
@@ -41,7 +41,7 @@ fn storing_mark<L: Ledger>(
     if low != loaded {
         return Answer::Skipped;
     }
-    shared.store_mark(&mut client.pass, loaded, steps);
+    enter_mark(shared, &mut client.pass, loaded, steps);
     client.stage = Stage::Marked;
     Answer::Stored
 }
@@ -57,7 +57,7 @@ fn taking_time<L: Ledger>(
     let Stage::Marked = client.stage else {
         return Answer::Skipped;
     };
-    let word = shared.load_time(&mut client.pass, steps);
+    let word = enter_time(shared, &mut client.pass, steps);
     client.stage = Stage::Taken(word);
     Answer::Time(clock_time(word))
 }

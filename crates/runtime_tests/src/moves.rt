@@ -15,6 +15,7 @@ use crate::stops::{first_of_abort, first_of_enter, first_of_finish, first_of_now
 use log_reclaim::{BackEnd, NoBack};
 use mv_core::{Shared, Steps};
 use mv_history::{AnyRules, Holder, LockAnswer, LogTable, Words};
+use mv_layout::{clock_seat, clock_slot, clock_time};
 use reader_marks::Watermark;
 use seat_log::{held, table};
 use std::sync::ledger::Ledger;
@@ -100,7 +101,8 @@ pub enum Answer {
     Stale(u64),
     SetFull,
     LogFull,
-    Clock(u64),
+    /// The word of CLOCK that was loaded: its time, seat and slot.
+    Clock(u64, u32, u32),
     Named(u64),
     /// The seat and the time of the entry that came first.
     Lost(u32, u64),
@@ -131,6 +133,11 @@ pub enum Answer {
     Tidied(u32, u32, Option<Holder>),
     NoBack(NoBack),
     BackEnded(BackEnd),
+}
+
+// A word of CLOCK by its parts.
+pub(crate) fn clock(word: u64) -> Answer {
+    Answer::Clock(clock_time(word), clock_seat(word), clock_slot(word))
 }
 
 pub(crate) fn tried(answer: LockAnswer) -> Answer {

@@ -1,17 +1,18 @@
 // Rounds and tidies, and a write-back by its parts: it stays under way between two moves of its client.
 ghost use Rattle.std.specs.Prelude.{◌≡◌};
 ghost use Rattle.mv_core.specs.Passes.{view, IsOf, IsSame, config_of};
-ghost use Rattle.seat_log.specs.Stands.{Stands};
 ghost use Rattle.log_reclaim.specs.Backs.{IsWriting};
 ghost use Rattle.runtime_tests.specs.Clients.{IsReady, IsPlayable};
 
 use crate::clients::{Client, Stage, UnderWay};
 use crate::moves::Answer;
-use log_reclaim::{Back, Tidy, back_finish, back_start, back_word, round, tidy};
-use mv_core::{Pass, Shared, Steps, Swap};
+use log_reclaim::{
+    Back, BackEnd, Tidy, back_cut, back_death, back_finish, back_start, back_word, round, tidy,
+};
+use mv_core::{Pass, Shared, Steps};
 use mv_history::AnyRules;
 use reader_marks::{leave, scan};
-use seat_log::{Log, live, note};
+use seat_log::{live, note};
 use std::mem::replace;
 use std::sync::ledger::Ledger;
 
@@ -79,7 +80,7 @@ pub(crate) fn back_starting<L: Ledger>(
     ) {
         Ok(back) => {
             client.stage = Stage::WritingBack;
-            client.under_way = UnderWay::WriteBack(back, version.object, position, 0);
+            client.under_way = UnderWay::WriteBack(back, 0);
             Answer::Started
         }
         Err(cause) => {
@@ -98,7 +99,7 @@ pub(crate) fn back_storing<L: Ledger>(
     ensures ready { IsPlayable shared.now client.new }
 {
     let under_way = replace(&mut client.under_way, UnderWay::Nothing);
-    let UnderWay::WriteBack(mut back, object, position, stored) = under_way else {
+    let UnderWay::WriteBack(mut back, stored) = under_way else {
         return Answer::Skipped;
     };
     let Stage::WritingBack = client.stage else {
@@ -108,7 +109,7 @@ pub(crate) fn back_storing<L: Ledger>(
         return Answer::Skipped;
     }
     back_word(shared, &mut client.pass, &mut back, steps);
-    client.under_way = UnderWay::WriteBack(back, object, position, stored + 1);
+    client.under_way = UnderWay::WriteBack(back, stored + 1);
     Answer::Stored
 }
 
@@ -121,7 +122,7 @@ pub(crate) fn back_finishing<L: Ledger>(
     ensures ready { IsPlayable shared.now client.new }
 {
     let under_way = replace(&mut client.under_way, UnderWay::Nothing);
-    let UnderWay::WriteBack(back, _, _, 6) = under_way else {
+    let UnderWay::WriteBack(back, 6) = under_way else {
         return Answer::Skipped;
     };
     let Stage::WritingBack = client.stage else {
@@ -132,33 +133,26 @@ pub(crate) fn back_finishing<L: Ledger>(
     Answer::BackEnded(end)
 }
 
-// The first steps of `back_finish`, after which the client stops: the exchange of HEAD, and where it was
+// The first parts of `back_finish`, after which the client stops: the exchange of HEAD, and where it was
 // won the load of CLOCK. The store of MARK, which is the last step, isn't among them.
 fn first_of_back_finish<L: Ledger>(
     shared: &Shared<AnyRules>,
     pass: &mut Pass<AnyRules>,
-    log: &Log,
     back: &Back,
-    object: u32,
-    position: u64,
     count: u32,
     steps: &mut Steps<L>,
 )
     requires of { IsOf shared.now pass.old }
-    requires stands { Stands (config_of shared.now) (view pass.old) log.now }
     requires writing { IsWriting (config_of shared.now) (view pass.old) back.now }
     requires stored { back.now.stored ≡ 6 }
-    requires object { back.now.object ≡ object }
-    requires position { back.now.position ≡ position }
     ensures same { IsSame pass.old pass.new }
 {
     if count == 0 {
         return;
     }
-    if let Swap::Won = shared.cut_head(pass, object, position, steps) {
-        if count > 1 {
-            let _ = shared.load_death(pass, steps);
-        }
+    let end = back_cut(shared, pass, back, steps);
+    if count > 1 && end == BackEnd::Cut {
+        let _ = back_death(shared, pass, steps);
     }
 }
 
@@ -173,15 +167,13 @@ pub(crate) fn back_stopping<L: Ledger>(
     ensures ready { IsPlayable shared.now client.new }
 {
     let under_way = replace(&mut client.under_way, UnderWay::Nothing);
-    let UnderWay::WriteBack(back, object, position, 6) = under_way else {
+    let UnderWay::WriteBack(back, 6) = under_way else {
         return Answer::Skipped;
     };
     let Stage::WritingBack = client.stage else {
         return Answer::Skipped;
     };
-    let pass = &mut client.pass;
-    let log = &client.log;
-    first_of_back_finish(shared, pass, log, &back, object, position, count, steps);
+    first_of_back_finish(shared, &mut client.pass, &back, count, steps);
     client.stage = Stage::Stopped;
     Answer::Stopped
 }

@@ -10,10 +10,10 @@ returns g c =
     let v = view c.args.client.now.pass in
     let l = c.args.client.now.log in
     let o = at_outside config v l c.args.client.now.stage c.requires.ready.1 c.in-Outside.is in
-    let e = c.clock_time-low.ensures in
+    let low = c.enter_low-low.ensures.view in
     record {
       ready = (
         search rules,
-        lowered config v (view c.load_low.new.pass) l c.load_low.result c.clock_time-low.result o c.load_low.ensures.view e,
+        lowered config v (view c.enter_low-low.new.pass) l low.0 c.enter_low-low.result o low.2 low.1,
       );
     }

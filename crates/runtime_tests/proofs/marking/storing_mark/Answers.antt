@@ -10,4 +10,4 @@ returns g c =
     let v = view c.args.client.now.pass in
     let l = c.args.client.now.log in
     let h = at_lowered config v l c.args.client.now.stage c.requires.ready.1 _ c.in-Lowered.is in
-    record { ready = (search rules, marked config v (view c.store_mark.new.pass) l _ h c.store_mark.ensures.view) }
+    record { ready = (search rules, marked config v (view c.enter_mark.new.pass) l _ h c.enter_mark.ensures.view) }

@@ -1,8 +1,6 @@
-use Rattle.std.proofs.Common.{rules, ap, ◌∙◌, arith}
+use Rattle.std.proofs.Common.{rules, ap, arith}
 use Rattle.mv_core.specs.Passes.{view, config_of}
-use Rattle.seat_log.specs.declared.version.Note.{Note}
 use Rattle.log_reclaim.specs.declared.writing_back.Back.{Back}
-use Rattle.log_reclaim.proofs.OneNote.{note_is}
 use Rattle.runtime_tests.proofs.Marked.{scanned}
 use Rattle.runtime_tests.proofs.Reclaimed.{may_start, back_started, back_not_started}
 use Rattle.runtime_tests.proofs.Stages.{at_outside, still_outside}
@@ -42,16 +40,10 @@ returns-in-Ok g c =
     let s = c.scan-mark.ensures.scans in
     let o = scanned config v w l c.scan-mark.result s.0 _ _ (at_outside config v l c.args.client.now.stage c.requires.ready.0.1 c.in-Outside.is) s.1 in
     let a = c.in-Ok.ensures.starts in
-    let note = note_is config w l o.stands c.args.index c.note-version.result c.note-version.ensures in
     record {
       ready = (
         (search rules, back_started config w (view c.back_start.new.pass) l _ _ c.in-Ok.back o a.1 a.2),
-        (
-          a.2,
-          ap (λ (b : Back). b.object) a.3 ∙ ap (λ (n : Note). n.object) note,
-          ap (λ (b : Back). b.position) a.3 ∙ ap (λ (n : Note). n.position) note,
-          ap (λ (b : Back). b.stored) a.3,
-        ),
+        (a.2, ap (λ (b : Back). b.stored) a.3),
       );
     }
 

@@ -19,6 +19,6 @@ returns g c =
     record {
       ready = (
         (search rules, still_writing_back config w l c.args.client.now.stage c.in-WritingBack.is (back_stored config v w l _ _ k e.writing e.stores)),
-        (e.writing, ap (λ (b : Back). b.object) is ∙ u.1, ap (λ (b : Back). b.position) is ∙ u.2, ap (λ (b : Back). b.stored) is ∙ ap (λ n. n + 1) u.3),
+        (e.writing, ap (λ (b : Back). b.stored) is ∙ ap (λ n. n + 1) u.1),
       );
     }

@@ -1,6 +1,10 @@
-use Rattle.mv_core.specs.Passes.{view}
-use Rattle.version_chain.specs.Walks.{section_in}
+use Rattle.mv_core.specs.Passes.{view, IsOf, IsSame, config_of}
+use Rattle.commit_abort.specs.Aborts.{IsAborting}
 use Rattle.runtime_tests.proofs.stops.first_of_abort.Given as goal
 
-abbrev pub ghost-unlock_first : goal.ghost-unlock_first
-ghost-unlock_first g a = section_in (view a.pass.now)
+abbrev pub invariant-loop-which : goal.invariant-loop-which
+invariant-loop-which g l = record {
+  of : IsOf l.shared l.pass;
+  same : IsSame l.fn.pass l.pass;
+  aborting : IsAborting (config_of l.shared) (view l.fn.pass) (view l.pass) l.log l.which;
+}

@@ -1,10 +1,10 @@
-use Rattle.mv_core.specs.Passes.{view}
-use Rattle.reader_marks.specs.Sections.{section_in}
-use Rattle.commit_abort.specs.Finishes.{named_in}
+use Rattle.mv_core.specs.Passes.{view, IsOf, IsSame, config_of}
+use Rattle.commit_abort.specs.Finishes.{IsFinishing}
 use Rattle.runtime_tests.proofs.stops.first_of_finish.Given as goal
 
-abbrev pub ghost-stamp_own : goal.ghost-stamp_own
-ghost-stamp_own g a = section_in (view a.pass.now)
-
-abbrev pub ghost-store_first_supers : goal.ghost-store_first_supers
-ghost-store_first_supers g a = named_in (view a.pass.now)
+abbrev pub invariant-loop-which : goal.invariant-loop-which
+invariant-loop-which g l = record {
+  of : IsOf l.shared l.pass;
+  same : IsSame l.fn.pass l.pass;
+  finishing : IsFinishing (config_of l.shared) (view l.fn.pass) (view l.pass) l.log l.time l.which;
+}

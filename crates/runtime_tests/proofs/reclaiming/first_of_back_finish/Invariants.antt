@@ -1,6 +1,0 @@
-use Rattle.mv_core.specs.Passes.{view, config_of}
-use Rattle.log_reclaim.proofs.Picks.{committed_in}
-use Rattle.runtime_tests.proofs.reclaiming.first_of_back_finish.Given as goal
-
-abbrev pub ghost-cut_head : goal.ghost-cut_head
-ghost-cut_head g a = committed_in (config_of a.self.now) (view a.pass.now) a.position

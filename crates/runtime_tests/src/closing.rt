@@ -1,0 +1,87 @@
+// The words that a domain ends with.
+ghost use Rattle.std.specs.Prelude.{◌≡◌, ◌<◌, ◌≤◌};
+ghost use Rattle.std.specs.Mem.Slots.{slots_len, IsFull};
+ghost use Rattle.mv_layout.specs.Limits.{Checked};
+ghost use Rattle.mv_layout.specs.Places.{total};
+
+use crate::clients::{Client, open};
+use crate::playing::{Turn, play};
+use atomic_table::Closed;
+use mv_core::Steps;
+use mv_history::Tag;
+use mv_layout::{Config, head_place, mark_place, master_place};
+use std::alloc::{AllocError, Global};
+use std::sync::ledger::{Blank, Ledger};
+
+// Where CLOCK stands.
+const CLOCK: usize = 0;
+
+/// Words that a domain ends with, by name.
+#[derive(Drop)]
+pub struct LastWords {
+    pub clock: u64,
+    /// MARK of each seat.
+    pub marks: Vec<u64>,
+    /// HEAD of each object.
+    pub heads: Vec<u64>,
+    /// The first master word of each object.
+    pub masters: Vec<u64>,
+}
+
+// Reads them where `mv_layout` says that they stand.
+fn last_words(
+    alloc: Global,
+    config: &Config,
+    closed: &Closed<Tag, Global>,
+) -> Result<LastWords, AllocError>
+    requires checked { Checked config.now }
+    requires counts { slots_len closed.now.words ≡ total config.now }
+    requires full { IsFull closed.now.words }
+{
+    let mut marks = Vec::new(alloc);
+    for seat in 0..config.seats {
+        marks.push(closed.word(mark_place(config, seat) as usize))?;
+    }
+    let mut heads = Vec::new(alloc);
+    let mut masters = Vec::new(alloc);
+    for object in 0..config.objects {
+        heads.push(closed.word(head_place(config, object) as usize))?;
+        masters.push(closed.word(master_place(config, object, 0) as usize))?;
+    }
+    Ok(LastWords {
+        clock: closed.word(CLOCK),
+        marks,
+        heads,
+        masters,
+    })
+}
+
+/// Plays a schedule in a new domain, and closes the domain then with the pass of its last seat. It answers
+/// the words that are left; `None` is that a turn was answered otherwise than was wanted, or that the
+/// numbers are no domain. Where memory is refused before the domain is there, no turn was made.
+pub fn closed_after<L: Ledger>(
+    alloc: Global,
+    config: &Config,
+    turns: &[Turn],
+    blank: Blank,
+) -> Result<Option<LastWords>, AllocError>
+    requires name { blank.name ≡ L.name }
+    requires parts { (blank.parts ≡ L.parts) × (0 < L.parts) }
+{
+    let Ok(()) = config.check() else {
+        return Ok(None);
+    };
+    let mut steps = Steps::<L>::open(blank);
+    let (shared, mut clients) = open(alloc, config)?;
+    if play(&shared, &mut clients, turns, &mut steps).is_some() {
+        return Ok(None);
+    }
+    let Some(Client { pass, .. }) = clients.pop() else {
+        return Ok(None);
+    };
+    let config = *shared.config();
+    let closed = shared.close(pass);
+    let words = last_words(alloc, &config, &closed);
+    closed.free();
+    Ok(Some(words?))
+}

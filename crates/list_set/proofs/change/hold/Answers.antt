@@ -1,4 +1,4 @@
-use Rattle.std.proofs.Common.{◌≡◌, ℕ, refl, ap, arith, Bool, false, if◌then◌else◌, length, [], ◌∷◌, ◌+◌, ◌≤◌}
+use Rattle.std.proofs.Common.{◌≡◌, ℕ, refl, arith, false, length, [], ◌∷◌, ◌+◌, ◌≤◌}
 use Rattle.mv_history.specs.State.{Writes, touches}
 use Rattle.list_set.specs.Held.{count_unheld}
 use Rattle.std.proofs.lemmas.Bool.{false_from_ne_true}

@@ -1,14 +1,14 @@
 -- The words of a held object are those of its note.
-use Rattle.std.proofs.Common.{get_or, ◌≡◌, ℕ, zero, suc, ◌+◌, ◌-◌, ◌<◌, ◌≤◌, true, List, [], ◌∷◌, length, map, refl, sym, ap, ◌∙◌, subst, arith, Some}
+use Rattle.std.proofs.Common.{◌≡◌, ℕ, zero, suc, ◌-◌, ◌<◌, ◌≤◌, List, [], ◌∷◌, length, map, refl, sym, ap, ◌∙◌, subst, Some}
 use Rattle.std.specs.Prelude.{slice_get}
-use Rattle.std.proofs.lemmas.Option.{slice_get_within, get_or_from_slice_get, slice_get-map}
-use Rattle.mv_history.specs.State.{State, Writes, touches}
+use Rattle.std.proofs.lemmas.Option.{slice_get_within, get_or_from_slice_get}
+use Rattle.mv_history.specs.State.{State, Writes}
 use Rattle.mv_history.specs.Meaning.{IsSection, Holds, snapshot_of, state_of, words_at}
 use Rattle.mv_history.proofs.Writing.{words-written_same}
 use Rattle.mv_history.proofs.Snapshots.{length-state_at}
 use Rattle.mv_core.specs.Rings.{own_of}
 use Rattle.seat_log.specs.declared.version.Note.{Note}
-use Rattle.seat_log.specs.Notes.{Noted, held_from, IsNoteAt}
+use Rattle.seat_log.specs.Notes.{held_from, IsNoteAt}
 use Rattle.object_lock.proofs.OwnNotes.{note_write, held_notes, own_is}
 use Rattle.seat_log.proofs.Places.{get_left}
 use Rattle.object_lock.proofs.Locked.{noted_is}

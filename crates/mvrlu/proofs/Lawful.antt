@@ -1,13 +1,13 @@
 -- What a pass and its log mean is a lawful seat, and in a section a lawful section.
-use Rattle.std.proofs.Common.{◌≡◌, ◌≢◌, ℕ, zero, suc, ◌+◌, ◌-◌, ◌%◌, ◌<◌, ◌≤◌, Bool, true, false, not, ◌&&◌, nat_le, List, [], ◌∷◌, length, map, drop, refl, sym, ap, ◌∙◌, subst, ⊎_elim, arith, eq-eqb, length-drop, Some, All}
+use Rattle.std.proofs.Common.{◌≡◌, ◌≢◌, ℕ, zero, suc, ◌+◌, ◌-◌, ◌%◌, ◌<◌, ◌≤◌, Bool, true, not, ◌&&◌, nat_le, List, [], ◌∷◌, length, map, drop, refl, sym, ap, ◌∙◌, subst, ⊎_elim, arith, eq-eqb, length-drop, Some}
 use Rattle.std.specs.Prelude.{slice_get, slice_index_or}
 use Rattle.std.proofs.Math.Logic.{∥∥₁_elim}
 use Rattle.std.proofs.lemmas.Bool.{le-leb}
-use native.Mathlib.Decide.{ℕ_discrete, dec_lt}
-use Rattle.std.proofs.lemmas.List.{get_or-drop, length-map}
+use native.Mathlib.Decide.{dec_lt}
+use Rattle.std.proofs.lemmas.List.{get_or-drop}
 use mathlib.Core.Logic.{dite}
 use Rattle.std.proofs.lemmas.List.Elements.{All-nil, All-cons, All-from_get_or}
-use Rattle.std.proofs.lemmas.Option.{slice_get_within, get_or_from_slice_get, slice_get-get_or}
+use Rattle.std.proofs.lemmas.Option.{slice_get_within, slice_get-get_or}
 use Rattle.mv_history.specs.declared.Entry.{Entry}
 use Rattle.mv_history.specs.declared.Entry.TheVariants.{Rest}
 use Rattle.mv_history.specs.State.{State, Writes, touches, maker_of, writes_of}
@@ -16,7 +16,6 @@ use Rattle.mv_history.specs.Laws.{IsSeat-prop, IsSection-prop}
 use Rattle.mv_history.specs.Meaning.{IsSeat, IsSection}
 use Rattle.mv_layout.specs.declared.Config.{Config}
 use Rattle.mv_core.specs.declared.ring.Slot.TheVariants.{Live}
-use Rattle.mv_core.specs.declared.ring.Version.{Version}
 use Rattle.mv_core.specs.declared.ring.Status.{Status}
 use Rattle.mv_core.specs.declared.ring.Status.TheVariants.{Held, Aborted, Committed}
 use Rattle.mv_core.specs.declared.view.View.{View}
@@ -30,14 +29,12 @@ use Rattle.mv_core.proofs.history.Latest.{last_that-reaches, latest-reaches}
 use Rattle.mv_core.proofs.logs.Written.{write_there}
 use Rattle.mv_core.proofs.kinds.naming.entry.NewEntry.{bool_is}
 use Rattle.seat_log.specs.declared.version.Note.{Note}
-use Rattle.seat_log.specs.Notes.{Noted, held_from, IsNoteAt}
+use Rattle.seat_log.specs.Notes.{Noted, held_from}
 use Rattle.seat_log.proofs.Places.{get_dropped}
 use Rattle.seat_log.specs.Stands.{version_of, IsAsNoted, Stands}
 use Rattle.version_chain.specs.Walks.{section_in, time_at, MayWalk}
-use Rattle.object_lock.specs.Locks.{HoldsObject}
 use Rattle.object_lock.proofs.OwnNotes.{note_write, held_notes, own_is, own_long}
-use Rattle.object_lock.proofs.Locked.{touched_is}
-use Rattle.mvrlu.specs.Placed.{Placed, seat_from, section_from, IsPlaced, IsIdle, IsBusy}
+use Rattle.mvrlu.specs.Placed.{Placed, seat_from, section_from, IsPlaced, IsBusy}
 
 -- a seat
 seat_known : (starts : State → Type 0) (allows : List ℕ → State → Writes → Type 0) (p : Placed) → Known starts allows p.view → IsSeat starts allows (seat_from p)

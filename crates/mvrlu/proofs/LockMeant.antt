@@ -1,28 +1,23 @@
 -- What a lock means.
-use Rattle.std.proofs.Common.{◌≡◌, ℕ, ◌+◌, ◌-◌, ◌<◌, ◌≤◌, true, false, List, [], ◌∷◌, ◌++◌, length, take, drop, refl, sym, ap, ◌∙◌, subst, arith}
-use Rattle.std.specs.Prelude.{None}
+use Rattle.std.proofs.Common.{◌≡◌, ℕ, ◌+◌, ◌-◌, ◌≤◌, false, List, [], ◌∷◌, ◌++◌, length, refl, sym, ap, ◌∙◌}
 use Rattle.mv_history.specs.declared.Step.{Step}
 use Rattle.mv_history.specs.declared.StepKind.{StepKind}
 use Rattle.mv_history.specs.declared.StepKind.TheVariants.{LoadHead, LoadFirst, LoadStamp, LoadData, LoadMaster, StoreBuilt, LockHead}
 use Rattle.mv_history.specs.Trail.{is_commit_exchange, commit_exchanges}
-use Rattle.mv_history.specs.State.{State, Writes, touches}
-use Rattle.mv_history.specs.Meaning.{Seat, InSection, IsSection, Lacks, snapshot_of, state_of, words_at}
+use Rattle.mv_history.specs.State.{touches}
+use Rattle.mv_history.specs.Meaning.{InSection, Lacks, snapshot_of, state_of, words_at}
 use Rattle.mv_history.specs.Calls.{Continues, GoesOn, Locks}
 use Rattle.mv_history.proofs.Writing.{words-written_other}
 use Rattle.mv_history.proofs.Snapshots.{snapshot_of-later}
 use Rattle.mv_layout.specs.declared.Config.{Config}
 use Rattle.mv_core.specs.declared.view.View.{View}
 use Rattle.mv_core.specs.declared.view.Phase.{Phase}
-use Rattle.mv_core.specs.Known.{Known}
 use Rattle.mv_core.specs.Views.{time_in}
 use Rattle.mv_core.specs.Rings.{own_of, spare_count}
-use Rattle.seat_log.specs.Notes.{Noted}
-use Rattle.seat_log.specs.Stands.{Stands}
-use Rattle.version_chain.specs.Walks.{inside_of, time_at, MayWalk}
+use Rattle.version_chain.specs.Walks.{inside_of, time_at}
 use Rattle.version_chain.specs.Reads.{words_in}
 use Rattle.object_lock.specs.Tops.{Tries, IsLockStep}
-use Rattle.mvrlu.specs.Placed.{Placed, seat_from, section_from, IsPlaced, IsBusy}
-use Rattle.mv_core.specs.Passes.{home_of}
+use Rattle.mvrlu.specs.Placed.{Placed, seat_from, section_from}
 use Rattle.mvrlu.proofs.Trails.{made, none_named}
 use Rattle.mvrlu.proofs.Continuing.{continues}
 

@@ -1,5 +1,5 @@
 -- How many objects there are, and when a section began.
-use Rattle.std.proofs.Common.{◌≡◌, ℕ, ◌+◌, ◌-◌, ◌<◌, ◌≤◌, List, length, sym, ap, ◌∙◌, subst, arith}
+use Rattle.std.proofs.Common.{◌≡◌, ℕ, ◌≤◌, List, length, sym, ap, ◌∙◌, subst, arith}
 use Rattle.std.proofs.Math.Logic.{∥∥₁_elim}
 use Rattle.std.proofs.Props.{props}
 use Rattle.mv_history.specs.State.{State, Writes}
@@ -7,7 +7,6 @@ use Rattle.mv_history.specs.Meaning.{state_of}
 use Rattle.mv_history.proofs.Snapshots.{length-state_of}
 use Rattle.mv_core.specs.declared.shared.Shared.{Shared}
 use Rattle.mv_core.specs.Passes.{start_of}
-use Rattle.mv_core.specs.Known.{Known}
 use Rattle.mv_core.specs.Times.{last_own}
 use Rattle.mv_core.specs.Views.{IsUnnamed}
 use Rattle.version_chain.specs.Walks.{time_at, section_in}

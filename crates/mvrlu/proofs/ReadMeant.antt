@@ -1,9 +1,9 @@
 -- What reading means.
-use Rattle.std.proofs.Common.{◌≡◌, ℕ, ◌+◌, ◌-◌, ◌≤◌, false, List, [], ◌∷◌, ◌++◌, length, All, refl, sym, ap, ◌∙◌, subst, append_assoc}
+use Rattle.std.proofs.Common.{◌≡◌, ℕ, ◌-◌, ◌≤◌, false, List, [], ◌++◌, All, refl, sym, ap, ◌∙◌, subst, append_assoc}
 use Rattle.std.proofs.lemmas.List.Elements.{filter-append, All-append, All-weaker}
 use Rattle.mv_history.specs.declared.Step.{Step}
 use Rattle.mv_history.specs.declared.StepKind.{StepKind}
-use Rattle.mv_history.specs.declared.StepKind.TheVariants.{LoadHead, LoadFirst, LoadStamp, LoadPrev, LoadData, LoadMaster}
+use Rattle.mv_history.specs.declared.StepKind.TheVariants.{LoadHead, LoadFirst, LoadStamp, LoadPrev}
 use Rattle.mv_history.specs.Trail.{is_commit_exchange, commit_exchanges}
 use Rattle.mv_history.specs.Calls.{Continues}
 use Rattle.mv_layout.specs.declared.Config.{Config}
@@ -20,7 +20,6 @@ use Rattle.mvrlu.proofs.Continuing.{continues, busy_on}
 use Rattle.version_chain.specs.Walks.{Walks, IsWalkStep, inside_of, time_at, MayWalk}
 use Rattle.version_chain.specs.Reads.{Reads}
 use Rattle.mvrlu.specs.Placed.{Placed, seat_from, section_from, IsBusy}
-use Rattle.mv_core.specs.Passes.{home_of}
 use Rattle.mvrlu.specs.Standing.{Stays}
 use Rattle.mvrlu.proofs.Trails.{made, none_named}
 

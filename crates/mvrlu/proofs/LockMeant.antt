@@ -44,7 +44,8 @@ snapshot_words p q o config phase on past =
 pub below_words : (s : InSection) (o : ℕ) → Lacks s o → words_at (snapshot_of s) o ≡ words_at (state_of s) o
 below_words s o lacks = sym (words-written_other (snapshot_of s) s.own o lacks)
 
-module _ (p q : Placed) (before after : ℕ) (tried : List Step) (config : q.config ≡ p.config) (table : q.table ≡ p.table) (t : Tries p.view q.view before after tried) where
+module _ (p q : Placed) (before after : ℕ) (tried : List Step) (config : q.config ≡ p.config) (table : q.table ≡ p.table)
+    (t : Tries p.view q.view before after tried) where
   pub tried_continues : Continues (seat_from p) (seat_from q)
   tried_continues =
       continues p q config table t.trail.0 (ap (λ (u : View). u.number) t.rest) (ap (λ (u : View). u.start) t.rest) (ap (λ (u : View). u.base) t.rest)
@@ -64,7 +65,9 @@ module _ (p q : Placed) (before after : ℕ) (tried : List Step) (config : q.con
     names_no_commit = ap commit_exchanges (made p.view.trail q.view.trail t.trail.0 t.trail.1) ∙ none_named IsLockStep no_name t.trail.0 t.trail.3;
   }
 
-  pub tried_locks : (o : ℕ) → p.view.base ≡ p.config.base → time_at p.view - p.config.base ≤ length p.view.past.seen → touches (own_of p.config p.view.ring) o ≡ false → own_of p.config q.view.ring ≡ own_of p.config p.view.ring ++ (o, words_in p.config q.view o) ∷ [] → spare_count q.view.ring + 1 ≡ spare_count p.view.ring → Locks (section_from p) (section_from q) o
+  pub tried_locks : (o : ℕ) → p.view.base ≡ p.config.base → time_at p.view - p.config.base ≤ length p.view.past.seen
+      → touches (own_of p.config p.view.ring) o ≡ false → own_of p.config q.view.ring ≡ own_of p.config p.view.ring ++
+      (o, words_in p.config q.view o) ∷ [] → spare_count q.view.ring + 1 ≡ spare_count p.view.ring → Locks (section_from p) (section_from q) o
   tried_locks o base past lacks own spare = record {
     continues = tried_continues;
     mine = ap (λ (u : View). u.past.mine) t.rest;
@@ -72,5 +75,6 @@ module _ (p q : Placed) (before after : ℕ) (tried : List Step) (config : q.con
     spare = spare;
     at = tried_at;
     own = ap (λ (d : Config). own_of d q.view.ring) config ∙ own
-        ∙ ap (λ ws. own_of p.config p.view.ring ++ (o, ws) ∷ []) (snapshot_words p q o config (ap (λ (u : View). u.phase) t.rest) tried_continues past ∙ below_words (section_from p) o lacks);
+        ∙ ap (λ ws. own_of p.config p.view.ring ++ (o, ws) ∷ []) (snapshot_words p q o config (ap (λ (u : View). u.phase) t.rest) tried_continues past
+        ∙ below_words (section_from p) o lacks);
   }

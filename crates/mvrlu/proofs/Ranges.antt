@@ -22,6 +22,7 @@ le_prop {a} {b} = hlevel props
 pub begun_late : (starts : State → Type 0) (allows : List ℕ → State → Writes → Type 0) (p : Placed) → IsBusy starts allows p → p.config.base ≤ time_at p.view
 begun_late starts allows p is =
     ∥∥₁_elim is.placed.known le_prop (λ k.
-    let own : last_own p.view.base p.view.past.seen p.view.number ≤ time_at p.view = (k.section (section_in p.view) is.may.phase).own (subst IsUnnamed (sym is.may.open_is) tt) in
+    let own : last_own p.view.base p.view.past.seen p.view.number ≤ time_at p.view = (k.section (section_in p.view) is.may.phase).own (subst IsUnnamed
+    (sym is.may.open_is) tt) in
     let base = is.placed.base in
     omega arith)

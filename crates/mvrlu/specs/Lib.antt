@@ -4,3 +4,9 @@ pub mod Bounds
 pub mod Holding
 pub mod Meant
 pub mod Standing
+pub mod Whole
+pub mod WholeLaws
+pub mod Meeting
+pub mod Joined
+pub mod Opened
+pub mod Readiness

@@ -30,6 +30,13 @@
 //! one for each object held, `leave` 1, and a `read` 12 and three for each entry after the snapshot that
 //! was seen. `prepare` and `tidy` make at most `2 * (4 + seats + 20 * slots) + 8`.
 //!
+//! **The law of the whole.** `open` gives a domain with all its seats, and `Domain::meet` ends it with all
+//! of them. Whatever the seats have done meanwhile, there is then one list of commits and rests: legal,
+//! allowed by the client's rules from the opening state, and begun by whatever any seat had seen at any
+//! time. Each seat's commits stand in it, in order and each once, and so many of its rests; each entry is
+//! of one of the seats. The `Closing` reads the state after all of it. `LawOfTheWhole` in specs/ says so,
+//! and it is the contract of `meet`.
+//!
 //! A handle lends the domain to its seat, and may go to another thread; the words are touched only through
 //! its calls. Seats, handles and sections must be spent: one that is let go doesn't compile.
 //!
@@ -42,16 +49,21 @@
 //! seat's notes of its log, and on `mv_core`, which has the words and the rule.
 #![tactic(auto)]
 
+mod closing;
 mod domain;
 mod ending;
 mod entering;
 mod handle;
 mod holding;
+mod meeting;
+mod opening;
 mod places;
 mod reading;
 mod reclaiming;
 mod session;
 
+pub use closing::Closing;
 pub use domain::{Domain, Seat};
 pub use handle::Handle;
+pub use opening::{OpenFault, open};
 pub use session::Session;

@@ -1,0 +1,73 @@
+use Rattle.std.proofs.Common.{◌≡◌, ℕ, ◌+◌, ◌<◌, ◌≤◌, length, sym, ap, ◌∙◌, subst, arith}
+use Rattle.mv_core.specs.Passes.{view, config_of}
+use Rattle.mvrlu.proofs.whole.Met.{HasMet, has_met}
+use Rattle.mvrlu.proofs.meeting.met.Goals as goal
+
+pub invariant_of-result : goal.invariant_of-result
+invariant_of-result g c =
+    let d = config_of c.args.domain.shared in
+    let p = c.joined-pass.result in
+    let of = c.joined-pass.ensures.of in
+    let q = c.load_joined-2.new.pass in
+    let one = c.load_joined.ensures.same in
+    let two = c.enter.ensures.same in
+    let three = c.load_joined-2.ensures.same in
+    let met : HasMet g.P.Protocol.start g.P.Protocol.allowed d c.args.seats.items (view q) =
+    has_met g.P.Protocol.start g.P.Protocol.allowed g.P.Protocol.one_start g.P.Protocol.one_allowed d c.args.seats.items (view p)
+    (view c.load_joined.new.pass) (view c.enter.new.pass) (view q)
+    c.load_joined.result c.load_joined-2.result c.enter.result c.requires.all.many c.requires.all.apart (subst (λ (n : ℕ). n < d.seats) p.numbered of.1) of.2
+    c.joined-pass.ensures.joined c.load_joined.ensures.view c.enter.ensures.begins c.load_joined-2.ensures.view q.known in
+    let time = met.time in
+    record {
+      of = (
+        three.0 ∙ two.0 ∙ one.0 ∙ of.0,
+        subst (λ (n : ℕ). n < d.seats) (sym (three.1 ∙ two.1 ∙ one.1)) of.1,
+        three.3 ∙ two.3 ∙ one.3 ∙ of.2,
+        three.4 ∙ two.4 ∙ one.4 ∙ of.3,
+        three.2 ∙ two.2 ∙ one.2 ∙ of.4,
+      );
+      may = met.may;
+      after = omega arith;
+      seen = omega arith;
+    }
+
+pub returns-clause-law : goal.returns-clause-law
+returns-clause-law g c =
+    let d = config_of c.args.domain.shared in
+    let p = c.joined-pass.result in
+    let of = c.joined-pass.ensures.of in
+    let q = c.load_joined-2.new.pass in
+    (has_met g.P.Protocol.start g.P.Protocol.allowed g.P.Protocol.one_start g.P.Protocol.one_allowed d c.args.seats.items (view p)
+    (view c.load_joined.new.pass) (view c.enter.new.pass) (view q)
+    c.load_joined.result c.load_joined-2.result c.enter.result c.requires.all.many c.requires.all.apart (subst (λ (n : ℕ). n < d.seats) p.numbered of.1) of.2
+    c.joined-pass.ensures.joined c.load_joined.ensures.view c.enter.ensures.begins c.load_joined-2.ensures.view q.known).law
+
+pub returns-clause-sound : goal.returns-clause-sound
+returns-clause-sound g c =
+    let d = config_of c.args.domain.shared in
+    let p = c.joined-pass.result in
+    let of = c.joined-pass.ensures.of in
+    let q = c.load_joined-2.new.pass in
+    (has_met g.P.Protocol.start g.P.Protocol.allowed g.P.Protocol.one_start g.P.Protocol.one_allowed d c.args.seats.items (view p)
+    (view c.load_joined.new.pass) (view c.enter.new.pass) (view q)
+    c.load_joined.result c.load_joined-2.result c.enter.result c.requires.all.many c.requires.all.apart (subst (λ (n : ℕ). n < d.seats) p.numbered of.1) of.2
+    c.joined-pass.ensures.joined c.load_joined.ensures.view c.enter.ensures.begins c.load_joined-2.ensures.view q.known).sound
+
+pub returns-clause-short : goal.returns-clause-short
+returns-clause-short g c =
+    let d = config_of c.args.domain.shared in
+    let p = c.joined-pass.result in
+    let of = c.joined-pass.ensures.of in
+    let q = c.load_joined-2.new.pass in
+    (has_met g.P.Protocol.start g.P.Protocol.allowed g.P.Protocol.one_start g.P.Protocol.one_allowed d c.args.seats.items (view p)
+    (view c.load_joined.new.pass) (view c.enter.new.pass) (view q)
+    c.load_joined.result c.load_joined-2.result c.enter.result c.requires.all.many c.requires.all.apart (subst (λ (n : ℕ). n < d.seats) p.numbered of.1) of.2
+    c.joined-pass.ensures.joined c.load_joined.ensures.view c.enter.ensures.begins c.load_joined-2.ensures.view q.known).short
+
+pub returns-clause-opening : goal.returns-clause-opening
+returns-clause-opening g c =
+    let of = c.joined-pass.ensures.of in
+    let one = c.load_joined.ensures.same in
+    let two = c.enter.ensures.same in
+    let three = c.load_joined-2.ensures.same in
+    (three.4 ∙ two.4 ∙ one.4 ∙ of.3, three.3 ∙ two.3 ∙ one.3 ∙ of.2)

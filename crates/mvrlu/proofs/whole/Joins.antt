@@ -1,0 +1,58 @@
+-- Joining the seats of a list from its end.
+use Rattle.std.proofs.Common.{◌≡◌, ℕ, ◌+◌, ◌<◌, List, [], ◌∷◌, ◌++◌, length, All, refl, sym, ap, ◌∙◌, subst, append_assoc, length-append, arith}
+use Rattle.std.proofs.lemmas.List.{append-nil}
+use Rattle.std.proofs.lemmas.List.Elements.{All-nil, All-cons, All-head, All-tail, All-weaker}
+use Rattle.std.specs.Prelude.{None}
+use Rattle.mv_history.specs.declared.Step.{Step}
+use Rattle.mv_history.specs.declared.StepKind.TheVariants.{JoinSeat}
+use Rattle.mv_layout.specs.declared.Config.{Config}
+use Rattle.mv_core.specs.declared.view.View.{View}
+use Rattle.mv_core.specs.SeatSteps.{joined}
+use Rattle.mvrlu.specs.declared.domain.Seat.{Seat}
+use Rattle.mvrlu.specs.Joined.{IsKept, AreJoining}
+use Rattle.mvrlu.specs.Meant.{seat_of}
+use Rattle.mvrlu.proofs.whole.Numbers.{contains_tail}
+use Rattle.mvrlu.proofs.whole.Kept.{kept_on, kept_own, kept_other, joins_on}
+
+pub all_front : {X : Type 0} (P : X → Type 0) (xs : List X) (x : X) → All P (xs ++ x ∷ []) → All P xs × P x
+all_front P [] x all = (All-nil P, All-head P x [] all)
+all_front P (y ∷ xs) x all =
+    let r = all_front P xs x (All-tail P y (xs ++ x ∷ []) all) in (All-cons P y xs (All-head P y (xs ++ x ∷ []) all) r.0, r.1)
+
+module _ {P : Type 0} {rules : _} where
+  -- the first of them alone
+  pub joining_first : (all left : List (Seat P rules)) (first : Seat P rules) (v : View) → all ≡ left ++ first ∷ [] → v ≡ first.idle.view
+      → AreJoining all left v
+  joining_first all left first v split view_is = record {
+    met = first ∷ [];
+    split = split;
+    each = All-cons (λ (s : Seat P rules). IsKept v (seat_of s)) first []
+        (kept_own v (seat_of first) (ap (λ (u : View). u.number) view_is) (sym (ap (λ (u : View). u.start) view_is)) (sym (ap (λ (u : View). u.base) view_is))
+        (ap (λ (u : View). u.past.seen) view_is) (ap (λ (u : View). u.past.mine) view_is) (ap (λ (u : View). u.past.rests) view_is))
+        (All-nil (λ (s : Seat P rules). IsKept v (seat_of s)));
+    first = first;
+    there = (0, omega arith, refl);
+    steps = [];
+    trail = ap (λ (u : View). u.trail) view_is ∙ sym (append-nil first.idle.view.trail);
+    count = refl;
+  }
+
+  -- and one more
+  pub joining_next : (c : Config) (all left rest : List (Seat P rules)) (other : Seat P rules) (v u : View) → AreJoining all left v
+      → left ≡ rest ++ other ∷ [] → u ≡ other.idle.view → u.start ≡ v.start → u.base ≡ v.base → AreJoining all rest (joined c v u)
+  joining_next c all left rest other v u k split view_is start base =
+      let w : View = joined c v u in record {
+        met = other ∷ k.met;
+        split = k.split ∙ ap (λ xs. xs ++ k.met) split ∙ append_assoc rest (other ∷ []) k.met;
+        each = All-cons (λ (s : Seat P rules). IsKept w (seat_of s)) other k.met
+            (kept_other c v u (seat_of other) (sym (ap (λ (x : View). x.start) view_is) ∙ start) (sym (ap (λ (x : View). x.base) view_is) ∙ base)
+            (ap (λ (x : View). x.number) view_is) (ap (λ (x : View). x.past) view_is))
+            (All-weaker (λ (s : Seat P rules). IsKept v (seat_of s)) (λ (s : Seat P rules). IsKept w (seat_of s))
+            (λ s kept. kept_on v w (seat_of s) (joins_on c v u) kept) k.met k.each);
+        first = k.first;
+        there = contains_tail k.met other k.first k.there;
+        steps = k.steps ++ record { kind = JoinSeat; word = 0; found = None; stored = None } ∷ [];
+        trail = ap (λ t. t ++ record { kind = JoinSeat; word = 0; found = None; stored = None } ∷ []) k.trail
+            ∙ append_assoc (seat_of k.first).trail k.steps (record { kind = JoinSeat; word = 0; found = None; stored = None } ∷ []);
+        count = (let long = length-append k.steps (record { kind = JoinSeat; word = 0; found = None; stored = None } ∷ []) in let n = k.count in omega arith);
+      }

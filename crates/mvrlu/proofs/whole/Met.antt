@@ -1,0 +1,241 @@
+-- Two loads of CLOCK with an entering between them, once all seats are joined, show the whole history.
+use Rattle.std.proofs.Common.{◌≡◌, ◌≢◌, ℕ, ◌+◌, ◌-◌, ◌<◌, ◌≤◌, List, [], ◌∷◌, ◌++◌}
+use Rattle.std.proofs.Common.{length, take, drop, All, refl, sym, ap, ◌∙◌, subst, append_assoc, length-append, arith}
+use Rattle.std.specs.Prelude.{AllPairs, Contains, Some, None}
+use Rattle.std.proofs.Math.Logic.{∥∥₁_elim}
+use Rattle.std.proofs.lemmas.List.{append-nil, take-append-drop, length-take-le, take_all}
+use Rattle.std.proofs.lemmas.List.Elements.{All-contains, All-weaker, Contains-append_left}
+use Rattle.mv_history.specs.declared.Step.{Step}
+use Rattle.mv_history.specs.declared.StepKind.TheVariants.{LoadJoined}
+use Rattle.mv_history.specs.declared.Commit.{Commit}
+use Rattle.mv_history.specs.declared.Entry.{Entry}
+use Rattle.mv_history.specs.declared.Entry.TheVariants.{Change}
+use Rattle.mv_history.specs.State.{State, Writes, maker_of, commits_of, rests_of}
+use Rattle.mv_history.specs.Laws.{IsSeat-prop}
+use Rattle.mv_history.specs.Meaning.{IsSeat}
+use Rattle.mv_layout.specs.declared.Config.{Config}
+use Rattle.mv_core.specs.declared.view.View.{View}
+use Rattle.mv_core.specs.declared.view.Section.{Section}
+use Rattle.mv_core.specs.HistoryFacts.{BeginsWith}
+use Rattle.mv_core.specs.Known.{Known}
+use Rattle.mv_core.specs.Passes.{seat_meant}
+use Rattle.mv_core.specs.Views.{time_in}
+use Rattle.mv_core.specs.EnterSteps.{IsWhole, if_none}
+use Rattle.mv_core.specs.WalkSteps.{IsWalking}
+use Rattle.mv_core.specs.SeatSteps.{AreJoined, joined_loaded}
+use Rattle.reader_marks.specs.Sections.{Begins}
+use Rattle.version_chain.specs.Walks.{inside_of, section_in, time_at, MayWalk}
+use Rattle.mvrlu.specs.declared.domain.Seat.{Seat}
+use Rattle.mvrlu.specs.Joined.{IsKept, AreJoining}
+use Rattle.mvrlu.specs.Meant.{seat_of}
+use Rattle.mvrlu.specs.Meeting.{LawOfTheWhole, IsShort}
+use Rattle.mvrlu.specs.Whole.{Whole, IsSound, whole_from}
+use Rattle.mvrlu.proofs.whole.Numbers.{HasNumber, have_all}
+use Rattle.mvrlu.proofs.whole.NoneLeft.{same_counts, contains_commit}
+use Rattle.mvrlu.proofs.whole.Kept.{GoesOn, KnowsIn, begins_long, kept_on, knows_in}
+
+longer : {A : Type 0} (all front more xs : List A) → all ≡ front ++ more → all ++ xs ≡ front ++ (more ++ xs)
+longer all front more xs e = ap (λ t. t ++ xs) e ∙ append_assoc front more xs
+
+module _ {P : Type 0} {rules : _} (c : Config) (seats : List (Seat P rules)) (v : View) (kept : All (λ s. IsKept v (seat_of s)) seats)
+    (many : length seats ≡ c.seats) (apart : AllPairs (λ s t. (seat_of s).number ≢ (seat_of t).number) seats) (range : v.number < c.seats)
+    (base : v.base ≡ c.base)
+    (first : ℕ) (h : List Entry) (whole : IsWhole c v first h) (told : AreJoined c v h)
+    (u : View) (time : ℕ) (begins : Begins c (joined_loaded c v first h) u time)
+    (last : ℕ) (g : List Entry) (all : IsWhole c u last g) (tells : AreJoined c u g) where
+  -- the view of the first load, and that of the last
+  abbrev v1 : View
+  v1 = joined_loaded c v first h
+
+  abbrev w : View
+  w = joined_loaded c u last g
+
+  load_on : GoesOn v v1
+  load_on = record {
+    number = refl;
+    start = refl;
+    base = refl;
+    mine = refl;
+    rests = refl;
+    seen = whole.0;
+    notes = ([], sym (append-nil v.notes));
+  }
+
+  enter_on : GoesOn v1 u
+  enter_on = record {
+    number = ap (λ (x : View). x.number) begins.rest;
+    start = ap (λ (x : View). x.start) begins.rest;
+    base = ap (λ (x : View). x.base) begins.rest;
+    mine = ap (λ (x : View). x.past.mine) begins.rest;
+    rests = ap (λ (x : View). x.past.rests) begins.rest;
+    seen = begins_long u.past.seen (take begins.at u.past.seen) h (drop begins.at u.past.seen, sym (take-append-drop begins.at u.past.seen)) begins.snapshot;
+    notes = ([], ap (λ (x : View). x.notes) begins.rest ∙ sym (append-nil v.notes));
+  }
+
+  knows : (s : Seat P rules) → IsKept v (seat_of s) → KnowsIn c h (seat_of s)
+  knows s k = knows_in c v h (seat_of s) range told k
+
+  kept_last : (s : Seat P rules) → IsKept v (seat_of s) → IsKept u (seat_of s)
+  kept_last s k = kept_on v1 u (seat_of s) enter_on (kept_on v v1 (seat_of s) load_on k)
+
+  range_last : u.number < c.seats
+  range_last = subst (λ (n : ℕ). n < c.seats) (sym enter_on.number) range
+
+  knows_last : (s : Seat P rules) → IsKept v (seat_of s) → KnowsIn c g (seat_of s)
+  knows_last s k = knows_in c u g (seat_of s) range_last tells (kept_last s k)
+
+  kept_at : (s : Seat P rules) → Contains seats s → IsKept v (seat_of s)
+  kept_at s there = All-contains (λ (t : Seat P rules). IsKept v (seat_of t)) seats s kept there
+
+  -- each number of the domain is that of one of the seats
+  seat_at : (n : ℕ) → n < c.seats → HasNumber (λ (s : Seat P rules). (seat_of s).number) seats n
+  seat_at n low =
+      have_all (λ (s : Seat P rules). (seat_of s).number) seats c.seats many apart
+      (All-weaker (λ (s : Seat P rules). IsKept v (seat_of s)) (λ (s : Seat P rules). (seat_of s).number < c.seats) (λ s k.
+      (knows s k).range) seats kept) n low
+
+  grew : BeginsWith g h
+  grew = begins_long g u.past.seen h all.0 enter_on.seen
+
+  same : (n : ℕ) → n < c.seats → (commits_of n g ≡ commits_of n h) × (rests_of n g ≡ rests_of n h)
+  same n low =
+      let r = seat_at n low in
+      let k = kept_at r.it r.there in
+      let a = knows r.it k in
+      let b = knows_last r.it k in (
+        ap (λ m. commits_of m g) (sym r.number) ∙ sym b.mine ∙ a.mine ∙ ap (λ m. commits_of m h) r.number,
+        ap (λ m. rests_of m g) (sym r.number) ∙ sym b.rests ∙ a.rests ∙ ap (λ m. rests_of m h) r.number,
+      )
+
+  none_more : grew.0 ≡ []
+  none_more =
+      same_counts c.seats h grew.0 (subst (λ es. All (λ e. maker_of e < c.seats) es) grew.1 all.2)
+      (λ n low. subst (λ es. (commits_of n es ≡ commits_of n h) × (rests_of n es ≡ rests_of n h)) grew.1 (same n low))
+
+  at_is : begins.at ≡ length g
+  at_is =
+      let short = length-take-le begins.at u.past.seen begins.within in
+      let front = ap length begins.snapshot.1 ∙ length-append h begins.snapshot.0 in
+      let end = ap length all.0.1 ∙ length-append u.past.seen all.0.0 in
+      let long = ap length grew.1 ∙ length-append h grew.0 in
+      let none = ap length none_more in
+      let within = begins.within in
+      omega arith
+
+  pub time_is : time_at w ≡ w.base + length g
+  time_is =
+      let at = at_is in
+      let here = ap (λ (s : Section). time_in s) (ap inside_of begins.phase) ∙ begins.word_is ∙ begins.time_is in
+      let same_base = enter_on.base ∙ base in
+      omega arith
+
+  pub may : MayWalk w
+  may =
+      let walking : IsWalking w begins.inside = record {
+        phase = begins.phase;
+        open_is = begins.open_is;
+        helped = Contains-append_left u.clocks.helped (if_none last) begins.inside.word begins.past_help;
+        no_back = begins.no_back;
+      } in
+      subst (IsWalking w) (sym (ap inside_of begins.phase)) walking
+
+  -- what the view means: all of g
+  abbrev meant : Whole
+  meant = record { start = w.start; base = w.base; history = g; trail = w.trail }
+
+  meant_is : meant ≡ whole_from w
+  meant_is =
+      let t = time_is in
+      let all_of : g ≡ take (time_at w - w.base) g = sym (take_all (time_at w - w.base) g (omega arith)) in
+      λ i. record { start = w.start; base = w.base; history = all_of i; trail = w.trail }
+
+  module _ (starts : State → Type 0) (allows : List ℕ → State → Writes → Type 0) (one_start : (s : State) → IsProp (starts s))
+      (one_allowed : (t : List ℕ) (s : State) (x : Writes) → IsProp (allows t s x)) (known : ∥ Known starts allows w ∥₁) where
+    lawful : IsSeat starts allows (seat_meant [] 0 w)
+    lawful = ∥∥₁_elim known (IsSeat-prop starts allows one_start one_allowed (seat_meant [] 0 w)) (λ k. record {
+      start = k.opening;
+      words = k.words;
+      legal = k.legal;
+      allowed = k.allowed;
+      mine = k.mine;
+      rests = k.rests;
+      time = k.in_time;
+      last = omega arith;
+    })
+
+    pub sound : IsSound (whole_from w)
+    sound = let is = lawful in subst IsSound meant_is (record { words = is.words; legal = is.legal; time = is.time })
+
+    pub law : LawOfTheWhole starts allows seats (whole_from w)
+    law =
+        let is = lawful in
+        let each : (A : Seat P rules → Type 0) → ((s : Seat P rules) → IsKept v (seat_of s) → A s) → All A seats =
+        λ A f. All-weaker (λ (s : Seat P rules). IsKept v (seat_of s)) A f seats kept in
+        subst (LawOfTheWhole starts allows seats) meant_is (record {
+          opening = is.start;
+          legal = is.legal;
+          allowed = is.allowed;
+          time = is.time;
+          from = each (λ s. ((seat_of s).start ≡ w.start) × ((seat_of s).base ≡ w.base)) (λ s k. ((kept_last s k).start, (kept_last s k).base));
+          seen = each (λ s. (before : List Entry) → BeginsWith (seat_of s).seen before → BeginsWith g before)
+              (λ s k before b. begins_long g (seat_of s).seen before (knows_last s k).seen b);
+          mine = each (λ s. (seat_of s).mine ≡ commits_of (seat_of s).number g) (λ s k. (knows_last s k).mine);
+          rests = each (λ s. (seat_of s).rests ≡ rests_of (seat_of s).number g) (λ s k. (knows_last s k).rests);
+          makers = λ e has. let r = seat_at (maker_of e) (All-contains (λ x. maker_of x < c.seats) g e all.2 has) in (r.it, r.there, r.number);
+          commits = λ d has.
+              let r = seat_at d.seat (All-contains (λ x. maker_of x < c.seats) g (Change d) all.2 has) in (
+                r.it,
+                r.there,
+                r.number,
+                subst (λ cs. Contains cs d) (sym (knows_last r.it (kept_at r.it r.there)).mine) (contains_commit (seat_of r.it).number g d has
+                    (sym r.number)),
+              );
+        })
+
+  pub short : AreJoining seats [] v → IsShort seats (whole_from w) (c.seats + 7)
+  short k =
+      let one : List Step = record { kind = LoadJoined; word = 0; found = Some first; stored = None } ∷ [] in
+      let two : List Step = record { kind = LoadJoined; word = 0; found = Some last; stored = None } ∷ [] in
+      let b = begins.entered in record {
+        seat = k.first;
+        there = subst (λ xs. Contains xs k.first) (sym k.split) k.there;
+        steps = ((k.steps ++ one) ++ b.steps) ++ two;
+        trail = longer u.trail (seat_of k.first).trail ((k.steps ++ one) ++ b.steps) two
+            (b.trail ∙ longer v1.trail (seat_of k.first).trail (k.steps ++ one) b.steps (longer v.trail (seat_of k.first).trail k.steps one k.trail));
+        few = (let first_two = length-append k.steps one in
+            let three = length-append (k.steps ++ one) b.steps in
+            let four = length-append ((k.steps ++ one) ++ b.steps) two in
+            let joins = k.count in
+            let met = ap length k.split in
+            let few = b.few in
+            omega arith);
+      }
+
+-- what a view means after all this
+pub record HasMet {P : Type 0} {rules : _} (starts : State → Type 0) (allows : List ℕ → State → Writes → Type 0) (c : Config) (seats : List
+    (Seat P rules)) (w : View) : Type 0 where
+  pub law : LawOfTheWhole starts allows seats (whole_from w)
+  pub sound : IsSound (whole_from w)
+  pub short : IsShort seats (whole_from w) (c.seats + 7)
+  pub may : MayWalk w
+  pub time : time_at w ≡ w.base + length w.past.seen
+
+-- the pass of joined seats, with a load of CLOCK, an entering and a load of CLOCK
+pub has_met : {P : Type 0} {rules : _} (starts : State → Type 0) (allows : List ℕ → State → Writes → Type 0) → ((s : State) → IsProp (starts s))
+    → ((t : List ℕ) (s : State) (x : Writes) → IsProp (allows t s x)) → (c : Config) (seats : List (Seat P rules)) (v x u w : View) (first last time : ℕ)
+    → length seats ≡ c.seats → AllPairs (λ s t. (seat_of s).number ≢ (seat_of t).number) seats → v.number < c.seats → v.base ≡ c.base
+    → AreJoining seats [] v → ((h : List Entry) × IsWhole c v first h × AreJoined c v h × (x ≡ joined_loaded c v first h)) → Begins c x u time
+    → ((g : List Entry) × IsWhole c u last g × AreJoined c u g × (w ≡ joined_loaded c u last g)) → ∥ Known starts allows w ∥₁ → HasMet starts allows c seats w
+has_met {P} {rules} starts allows one_start one_allowed c seats v x u w first last time many apart range base joining one begins two known =
+    let kept : All (λ (s : Seat P rules). IsKept v (seat_of s)) seats =
+    subst (λ (xs : List (Seat P rules)). All (λ (s : Seat P rules). IsKept v (seat_of s)) xs) (sym joining.split) joining.each in
+    let begun = subst (λ (y : View). Begins c y u time) one.3 begins in
+    let knows = subst (λ (y : View). ∥ Known starts allows y ∥₁) two.3 known in
+    subst (HasMet starts allows c seats) (sym two.3) (record {
+      law = law c seats v kept many apart range base first one.0 one.1 one.2 u time begun last two.0 two.1 two.2 starts allows one_start one_allowed knows;
+      sound = sound c seats v kept many apart range base first one.0 one.1 one.2 u time begun last two.0 two.1 two.2 starts allows one_start
+          one_allowed knows;
+      short = short c seats v kept many apart range base first one.0 one.1 one.2 u time begun last two.0 two.1 two.2 joining;
+      may = may c seats v kept many apart range base first one.0 one.1 one.2 u time begun last two.0 two.1 two.2;
+      time = time_is c seats v kept many apart range base first one.0 one.1 one.2 u time begun last two.0 two.1 two.2;
+    })

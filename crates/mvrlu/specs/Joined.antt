@@ -1,0 +1,41 @@
+-- What is kept of seats while they are joined, one after another.
+use Rattle.std.specs.Prelude.{◌≡◌, ◌⊎◌, ℕ, ◌+◌, List, ◌++◌, length, All, Contains}
+use Rattle.mv_history.specs.declared.Step.{Step}
+use Rattle.mv_history.specs.Meaning as history
+use Rattle.mv_core.specs.declared.view.View.{View}
+use Rattle.mv_core.specs.declared.view.Note.{Note}
+use Rattle.mv_core.specs.HistoryFacts.{BeginsWith}
+use Rattle.mvrlu.specs.declared.domain.Seat.{Seat}
+use Rattle.mvrlu.specs.Meant.{seat_of}
+
+-- the view is the seat's own, which may have seen more since
+pub record IsOwn (v : View) (s : history.Seat) : Type 0 where
+  pub number : v.number ≡ s.number
+  pub seen : BeginsWith v.past.seen s.seen
+  pub mine : v.past.mine ≡ s.mine
+  pub rests : v.past.rests ≡ s.rests
+
+-- the view has a note of the seat, as it was when it was joined
+pub record IsNoted (v : View) (s : history.Seat) : Type 0 where
+  pub note : Note
+  pub there : Contains v.notes note
+  pub number : note.number ≡ s.number
+  pub past : note.past ≡ record { seen = s.seen; mine = s.mine; rests = s.rests }
+
+-- what the seat knew is kept in the view, and both are of one opening state
+pub record IsKept (v : View) (s : history.Seat) : Type 0 where
+  pub start : s.start ≡ v.start
+  pub base : s.base ≡ v.base
+  pub past : IsOwn v s ⊎ IsNoted v s
+
+module _ {P : Type 0} {rules : _} where
+  -- of all these seats those not left were joined, into the first of them; each join was one step
+  pub record AreJoining (all left : List (Seat P rules)) (v : View) : Type 0 where
+    pub met : List (Seat P rules)
+    pub split : all ≡ left ++ met
+    pub each : All (λ s. IsKept v (seat_of s)) met
+    pub first : Seat P rules
+    pub there : Contains met first
+    pub steps : List Step
+    pub trail : v.trail ≡ (seat_of first).trail ++ steps
+    pub count : length steps + 1 ≡ length met

@@ -1,0 +1,116 @@
+// Meeting: all seats of a domain are joined, and its history is known whole.
+ghost use Rattle.std.specs.Prelude.{◌≡◌, ◌+◌, ◌<◌, ◌≤◌, [], length, All};
+ghost use Rattle.mv_core.specs.EnterSteps.{MayLoadLow};
+ghost use Rattle.mv_core.specs.Passes.{view, IsOf};
+ghost use Rattle.mvrlu.specs.Joined.{AreJoining};
+ghost use Rattle.mvrlu.specs.Meant.{numbers_of, opening_of};
+ghost use Rattle.mvrlu.specs.Meeting.{AreAll, LawOfTheWhole, IsShort};
+ghost use Rattle.mvrlu.specs.Placed.{Fits};
+ghost use Rattle.mvrlu.specs.Whole.{IsSound};
+
+use crate::closing::{Closing, Last};
+use crate::domain::{Domain, Seat};
+use crate::places::Idle;
+use mv_core::{Pass, Shared, Steps};
+use mv_history::Protocol;
+use reader_marks::enter;
+use std::marker::Brand;
+use std::sync::ledger::{Blank, Ledger};
+
+// The pass of a seat.
+fn pass_of<P: Protocol>(shared: &Shared<P>, seat: Seat<P>) -> Pass<P>
+    requires of { Fits shared.now seat.idle }
+    ensures of { IsOf shared.now result }
+    ensures view { view result ≡ seat.idle.view }
+    ensures may { MayLoadLow (view result) }
+{
+    let Seat { idle } = seat;
+    let Idle {
+        pass,
+        log: _,
+        config: _,
+    } = idle;
+    pass
+}
+
+// Joins all these seats into the last of them.
+fn joined<P: Protocol, L: Ledger>(
+    shared: &Shared<P>,
+    mut seats: Vec<Seat<P>>,
+    steps: &mut Steps<L>,
+) -> Pass<P>
+    requires some { 0 < length seats.items }
+    requires of { All (λ s. Fits shared.now s.idle) seats.items }
+    ensures of { IsOf shared.now result }
+    ensures may { MayLoadLow (view result) }
+    ensures joined { AreJoining seats.items [] (view result) }
+    ensures cost { steps.new + 1 ≡ steps.old + length seats.items }
+{
+    let Some(first) = seats.pop() else {
+        unreachable!()
+    };
+    let mut pass = pass_of(shared, first);
+    while let Some(other) = seats.pop() {
+        let other = pass_of(shared, other);
+        shared.join(&mut pass, other, steps);
+    }
+    seats.destroy_empty();
+    pass
+}
+
+// Meets, with a counter of steps.
+fn met<P: Protocol, L: Ledger>(
+    domain: Domain<P>,
+    seats: Vec<Seat<P>>,
+    steps: &mut Steps<L>,
+) -> Last<P>
+    requires all { AreAll domain seats.items }
+    ensures law { LawOfTheWhole P.start P.allowed seats.items result }
+    ensures sound { IsSound result }
+    ensures opening { (result.start ≡ opening_of domain) × (result.base ≡ (numbers_of domain).base) }
+    ensures short { IsShort seats.items result ((numbers_of domain).seats + 7) }
+    ensures cost { steps.new ≤ steps.old + ((numbers_of domain).seats + 7) }
+{
+    let Domain { shared } = domain;
+    let mut pass = joined(&shared, seats, steps);
+    let _ = shared.load_joined(&mut pass, steps);
+    let _ = enter(&shared, &mut pass, steps);
+    let _ = shared.load_joined(&mut pass, steps);
+    Last { pass, shared }
+}
+
+// Meets, with a counter of its own.
+fn begun<P: Protocol, L: Ledger>(domain: Domain<P>, seats: Vec<Seat<P>>, blank: Blank) -> Last<P>
+    requires name { blank.name ≡ L.name }
+    requires parts { (blank.parts ≡ L.parts) × (0 < L.parts) }
+    requires all { AreAll domain seats.items }
+    ensures law { LawOfTheWhole P.start P.allowed seats.items result }
+    ensures sound { IsSound result }
+    ensures opening { (result.start ≡ opening_of domain) × (result.base ≡ (numbers_of domain).base) }
+    ensures short { IsShort seats.items result ((numbers_of domain).seats + 7) }
+{
+    met(domain, seats, &mut Steps::<L>::open(blank))
+}
+
+impl<P: Protocol> Domain<P> {
+    /// Ends the domain with all its seats, each once, and reads its last state.
+    ///
+    /// The law of the whole: whatever the seats have done, on however many threads, there is one
+    /// history of it. It is legal and allowed by the client's rules from the opening state. Whatever a
+    /// seat had seen at any time is a beginning of it. Each seat's commits stand in it, in order and
+    /// each once, and so many of its rests; each entry is of one of the seats. The closing reads the
+    /// state after that history.
+    ///
+    /// It never refuses and takes no memory. It joins the seats, loads CLOCK, enters a section, which
+    /// helps the last commit, and loads CLOCK again, in at most `seats + 7` steps: no seat is left
+    /// that could make an entry between the two loads.
+    pub fn meet(self, seats: Vec<Seat<P>>) -> Closing<P>
+        requires all { AreAll self seats.items }
+        ensures law { LawOfTheWhole P.start P.allowed seats.items result.last }
+        ensures opening { (result.last.start ≡ opening_of self) × (result.last.base ≡ (numbers_of self).base) }
+        ensures short { IsShort seats.items result.last ((numbers_of self).seats + 7) }
+    {
+        let last = begun::<P, Brand>(self, seats, Blank::new(1));
+        Closing { last }
+    }
+}

@@ -2,19 +2,16 @@
 ghost use Rattle.std.specs.Prelude.{◌≡◌, ◌<◌, ◌≤◌};
 ghost use Rattle.std.specs.Mem.Slots.{slots_len, IsFull};
 ghost use Rattle.mv_layout.specs.Limits.{Checked};
-ghost use Rattle.mv_layout.specs.Places.{total};
+ghost use Rattle.mv_layout.specs.Cells.{cells};
 
 use crate::clients::{Client, open};
 use crate::playing::{Turn, play};
 use atomic_table::Closed;
 use mv_core::Steps;
 use mv_history::Tag;
-use mv_layout::{Config, head_place, mark_place, master_place};
+use mv_layout::{CLOCK_CELL, Config, head_cell, mark_cell, master_cell};
 use std::alloc::{AllocError, Global};
 use std::sync::ledger::{Blank, Ledger};
-
-// Where CLOCK stands.
-const CLOCK: usize = 0;
 
 /// Words that a domain ends with, by name.
 #[derive(Drop)]
@@ -28,28 +25,28 @@ pub struct LastWords {
     pub masters: Vec<u64>,
 }
 
-// Reads them where `mv_layout` says that they stand.
+// Reads them from the cells in which `mv_layout` says that they lie.
 fn last_words(
     alloc: Global,
     config: &Config,
     closed: &Closed<Tag, Global>,
 ) -> Result<LastWords, AllocError>
     requires checked { Checked config.now }
-    requires counts { slots_len closed.now.words ≡ total config.now }
+    requires counts { slots_len closed.now.words ≡ cells config.now }
     requires full { IsFull closed.now.words }
 {
     let mut marks = Vec::new(alloc);
     for seat in 0..config.seats {
-        marks.push(closed.word(mark_place(config, seat) as usize))?;
+        marks.push(closed.word(mark_cell(config, seat) as usize))?;
     }
     let mut heads = Vec::new(alloc);
     let mut masters = Vec::new(alloc);
     for object in 0..config.objects {
-        heads.push(closed.word(head_place(config, object) as usize))?;
-        masters.push(closed.word(master_place(config, object, 0) as usize))?;
+        heads.push(closed.word(head_cell(config, object) as usize))?;
+        masters.push(closed.word(master_cell(config, object, 0) as usize))?;
     }
     Ok(LastWords {
-        clock: closed.word(CLOCK),
+        clock: closed.word(CLOCK_CELL as usize),
         marks,
         heads,
         masters,

@@ -11,7 +11,8 @@ use Rattle.reader_marks.specs.Sections.{section_in}
 use Rattle.seat_log.specs.declared.version.Note.{Note}
 use Rattle.seat_log.specs.Notes.{Noted, held_from, IsNoteAt, committed_noted}
 use Rattle.seat_log.specs.Stands.{Stands}
-use Rattle.commit_abort.specs.Finishes.{WonNaming, IsJustNamed, StampsIt, first_named, AreCommitted, MayTell, TellsOne, Tells, IsFinishing, above_held, Finishes}
+use Rattle.commit_abort.specs.Finishes.{WonNaming, IsJustNamed, StampsIt, first_named, AreCommitted, MayTell}
+use Rattle.commit_abort.specs.Finishes.{TellsOne, Tells, IsFinishing, above_held, Finishes}
 use Rattle.commit_abort.proofs.Telling.{tells_first, may_tell, tells_more}
 use Rattle.commit_abort.proofs.Finished.{may_tell_below, may_end, ended}
 

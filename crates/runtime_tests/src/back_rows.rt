@@ -1,5 +1,4 @@
 // Write-backs by their parts: why one doesn't start, one that is given up, and locks whose chain is cut.
-use crate::Turn;
 use crate::moves::Answer::{
     self, Aborted, BackEnded, Busy, Counts, Done, Entered, Held, Left, LockStarted, Started,
     Stored, Tidied, Walked, Words, Written,
@@ -8,11 +7,13 @@ use crate::moves::Move::{
     Abort, BackFinish, BackStart, BackWord, Commit, Enter, Leave, Lock, LockEnd, LockStart, Read,
     ReadFound, Round, Table, Tidy, WalkStart, WalkStep, Write,
 };
-use crate::tables::{Domain, first_fault, one_part};
+use crate::{Turn, domain, played};
 use log_reclaim::BackEnd::Cut;
 use log_reclaim::NoBack::{Above, Gone, Young};
 use mv_history::Holder::{Fresh, Mark};
 use mv_history::LogTable;
+use std::marker::Brand;
+use std::sync::ledger::Blank;
 use std::test::Fail;
 use version_chain::Found;
 
@@ -160,28 +161,22 @@ const BUSY_AT_THE_MASTER: [Turn; 13] = [
     (0, Lock(0), Held),
 ];
 
-const SEATS: Domain = Domain {
-    seats: 2,
-    objects: 1,
-    write_max: 16,
-    base: 0,
-};
-
 #[test]
 fn write_backs_by_their_parts(rt: HostRuntime) -> Result<(), Fail> {
-    let rows = [
-        one_part("young", SEATS, &YOUNG),
-        one_part("gone", SEATS, &GONE),
-        one_part("above", SEATS, &ABOVE),
-        one_part("given up", SEATS, &GIVEN_UP),
-        one_part("cut", SEATS, &CUT),
-        one_part("not written back", SEATS, &NOT_WRITTEN_BACK),
-        one_part("locked at the master", SEATS, &LOCKED_AT_THE_MASTER),
-        one_part("busy at the master", SEATS, &BUSY_AT_THE_MASTER),
+    let rows: [(&str, &[Turn]); 8] = [
+        ("young", &YOUNG),
+        ("gone", &GONE),
+        ("above", &ABOVE),
+        ("given up", &GIVEN_UP),
+        ("cut", &CUT),
+        ("not written back", &NOT_WRITTEN_BACK),
+        ("locked at the master", &LOCKED_AT_THE_MASTER),
+        ("busy at the master", &BUSY_AT_THE_MASTER),
     ];
-    for row in rows {
-        let name = row.name;
-        assert_eq!(rt; first_fault(rt.alloc(), &row)?, None, "{name}");
+    let config = domain(2, 1, 16, 0);
+    for (row, turns) in rows {
+        let other = played::<Brand>(rt.alloc(), &config, turns, &[], &[], &[], Blank::new(1))?;
+        assert_eq!(rt; other, None, "{row}");
     }
     Ok(())
 }

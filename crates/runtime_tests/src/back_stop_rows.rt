@@ -5,26 +5,15 @@ use crate::moves::Answer::{
     Written,
 };
 use crate::moves::Move::{
-    Abort, BackFinish, BackStart, BackWord, Commit, Enter, Leave, Lock, Read, Tidy, Write,
+    Abort, BackFinish, BackStart, BackWord, Commit, Enter, FirstOf, Leave, Lock, Read, Tidy, Write,
 };
-use crate::tables::{Domain, Middle, Schedule, first_fault};
-use crate::{Call, Turn};
+use crate::{Call, Turn, domain, played};
 use log_reclaim::BackEnd::{Above, Cut};
 use mv_history::Holder::{End, Mark};
 use mv_layout::LAST;
+use std::marker::Brand;
+use std::sync::ledger::Blank;
 use std::test::Fail;
-
-// Seat 0 has committed object 0, and has begun to write it back.
-const BEGUN: [Turn; 5] = [
-    (0, Enter, Entered(0)),
-    (0, Lock(0), Held),
-    (0, Write(0, [1; 6]), Written),
-    (0, Commit, Done(1)),
-    (0, BackStart(0), Started),
-];
-
-// It stores a word more.
-const WORD: Turn = (0, BackWord, Stored);
 
 // Seat 0 has committed object 0, and has stored its words in the master.
 const WRITTEN_BACK: [Turn; 11] = [
@@ -117,6 +106,69 @@ const MARKED: Answer = Tidied(0, 1, Some(Mark { seat: 0, low: 1 }));
 // Nor may that of time 2, but the version below is free: no section is older than the write over it.
 const OLDER_FREED: Answer = Tidied(1, 1, Some(Mark { seat: 0, low: 2 }));
 
+// A write-back of which so many words were stored.
+#[test]
+fn stops_between_the_words(rt: HostRuntime) -> Result<(), Fail> {
+    let config = domain(2, 2, 16, 0);
+    for made in 5..=11 {
+        let end: [Turn; 1] = [(1, Tidy, MARKED)];
+        let other = played::<Brand>(
+            rt.alloc(),
+            &config,
+            &WRITTEN_BACK[..made],
+            &FREE,
+            &[],
+            &end,
+            Blank::new(1),
+        )?;
+        assert_eq!(rt; other, None, "{made} turns");
+    }
+    Ok(())
+}
+
+// What was done before, how many of the first steps of `back_finish` are made at least and at most,
+// what the other seat is answered, and what its tidy is. The first step is the exchange of HEAD, and
+// where it is won the second is the load of CLOCK.
+const WITHIN: [(
+    &'static str,
+    &'static [Turn],
+    (u32, u32),
+    &'static [Turn],
+    Answer,
+); 3] = [
+    ("won", &WRITTEN_BACK, (0, 2), &FREE, MARKED),
+    ("lost", &OVERTAKEN, (1, 1), &HELD, MARKED),
+    (
+        "won over another's",
+        &OVER_ANOTHERS,
+        (0, 2),
+        &FREE_LATER,
+        OLDER_FREED,
+    ),
+];
+
+#[test]
+fn stops_within_its_end(rt: HostRuntime) -> Result<(), Fail> {
+    let config = domain(2, 2, 16, 0);
+    for (row, before, (least, most), after, tidied) in WITHIN {
+        for count in least..=most {
+            let stop: [Turn; 1] = [(0, FirstOf(Call::BackFinish, count), Stopped)];
+            let end: [Turn; 1] = [(1, Tidy, tidied)];
+            let other = played::<Brand>(
+                rt.alloc(),
+                &config,
+                before,
+                &stop,
+                after,
+                &end,
+                Blank::new(1),
+            )?;
+            assert_eq!(rt; other, None, "{row} after {count}");
+        }
+    }
+    Ok(())
+}
+
 // Seat 0 has committed object 0 at the last time, and has stored its words in the master.
 const WRITTEN_BACK_AT_LAST: [Turn; 11] = [
     (0, Enter, Entered(LAST - 1)),
@@ -141,143 +193,67 @@ const NO_TIME_LEFT: [Turn; 5] = [
     (1, Abort, Aborted),
 ];
 
-const TWO: Domain = Domain {
-    seats: 2,
-    objects: 2,
-    write_max: 16,
-    base: 0,
-};
-
-const LATE: Domain = Domain {
-    seats: 2,
-    objects: 1,
-    write_max: 16,
-    base: LAST - 1,
-};
-
-// Seat 0 stops after the load of HEAD and after each word; after each step of `back_finish`, of which the
-// first is the exchange of HEAD, and where it is won the second is the load of CLOCK; and after its end,
-// when nobody needs what the other seat committed.
-const ROWS: [Schedule; 14] = [
-    Schedule {
-        name: "stopped after: HEAD was loaded",
-        domain: TWO,
-        before: &BEGUN,
-        middle: Middle::Turns(&[]),
-        after: &FREE,
-        end: &[(1, Tidy, MARKED)],
-    },
-    Schedule {
-        name: "stopped after: one word",
-        domain: TWO,
-        before: &BEGUN,
-        middle: Middle::Turns(&[WORD]),
-        after: &FREE,
-        end: &[(1, Tidy, MARKED)],
-    },
-    Schedule {
-        name: "stopped after: two words",
-        domain: TWO,
-        before: &BEGUN,
-        middle: Middle::Turns(&[WORD, WORD]),
-        after: &FREE,
-        end: &[(1, Tidy, MARKED)],
-    },
-    Schedule {
-        name: "stopped after: three words",
-        domain: TWO,
-        before: &BEGUN,
-        middle: Middle::Turns(&[WORD, WORD, WORD]),
-        after: &FREE,
-        end: &[(1, Tidy, MARKED)],
-    },
-    Schedule {
-        name: "stopped after: four words",
-        domain: TWO,
-        before: &BEGUN,
-        middle: Middle::Turns(&[WORD, WORD, WORD, WORD]),
-        after: &FREE,
-        end: &[(1, Tidy, MARKED)],
-    },
-    Schedule {
-        name: "stopped after: five words",
-        domain: TWO,
-        before: &BEGUN,
-        middle: Middle::Turns(&[WORD, WORD, WORD, WORD, WORD]),
-        after: &FREE,
-        end: &[(1, Tidy, MARKED)],
-    },
-    Schedule {
-        name: "stopped after: six words",
-        domain: TWO,
-        before: &BEGUN,
-        middle: Middle::Turns(&[WORD, WORD, WORD, WORD, WORD, WORD]),
-        after: &FREE,
-        end: &[(1, Tidy, MARKED)],
-    },
-    Schedule {
-        name: "won",
-        domain: TWO,
-        before: &WRITTEN_BACK,
-        middle: Middle::Stops(Call::BackFinish, 0, 2),
-        after: &FREE,
-        end: &[(1, Tidy, MARKED)],
-    },
-    Schedule {
-        name: "lost",
-        domain: TWO,
-        before: &OVERTAKEN,
-        middle: Middle::Stops(Call::BackFinish, 1, 1),
-        after: &HELD,
-        end: &[(1, Tidy, MARKED)],
-    },
-    Schedule {
-        name: "won over another's",
-        domain: TWO,
-        before: &OVER_ANOTHERS,
-        middle: Middle::Stops(Call::BackFinish, 0, 2),
-        after: &FREE_LATER,
-        end: &[(1, Tidy, OLDER_FREED)],
-    },
-    Schedule {
-        name: "at the last time",
-        domain: LATE,
-        before: &WRITTEN_BACK_AT_LAST,
-        middle: Middle::Stops(Call::BackFinish, 0, 2),
-        after: &NO_TIME_LEFT,
-        end: &[(1, Tidy, Tidied(0, 1, Some(End)))],
-    },
-    Schedule {
-        name: "after a won end",
-        domain: TWO,
-        before: &WRITTEN_BACK,
-        middle: Middle::Turns(&[(0, BackFinish, BackEnded(Cut))]),
-        after: &FREE,
-        end: &[(1, Tidy, Tidied(1, 0, None))],
-    },
-    Schedule {
-        name: "after a lost end",
-        domain: TWO,
-        before: &OVERTAKEN,
-        middle: Middle::Turns(&[(0, BackFinish, BackEnded(Above { seat: 1 }))]),
-        after: &HELD,
-        end: &[(1, Tidy, Tidied(1, 0, None))],
-    },
-    Schedule {
-        name: "after a won end over another's",
-        domain: TWO,
-        before: &OVER_ANOTHERS,
-        middle: Middle::Turns(&[(0, BackFinish, BackEnded(Cut))]),
-        after: &FREE_LATER,
-        end: &[(1, Tidy, Tidied(2, 0, None))],
-    },
-];
-
+// What was aborted is dead only from a time after the last one, whoever is in a section.
 #[test]
-fn stops_within_a_write_back_and_after_it(rt: HostRuntime) -> Result<(), Fail> {
-    for row in ROWS {
-        let name = row.name;
-        assert_eq!(rt; first_fault(rt.alloc(), &row)?, None, "{name}");
+fn stops_at_the_last_time(rt: HostRuntime) -> Result<(), Fail> {
+    let config = domain(2, 1, 16, LAST - 1);
+    for count in 0..=2 {
+        let stop: [Turn; 1] = [(0, FirstOf(Call::BackFinish, count), Stopped)];
+        let end: [Turn; 1] = [(1, Tidy, Tidied(0, 1, Some(End)))];
+        let other = played::<Brand>(
+            rt.alloc(),
+            &config,
+            &WRITTEN_BACK_AT_LAST,
+            &stop,
+            &NO_TIME_LEFT,
+            &end,
+            Blank::new(1),
+        )?;
+        assert_eq!(rt; other, None, "after {count}");
+    }
+    Ok(())
+}
+
+// The whole of `back_finish`, after which nobody needs what the other seat committed.
+#[test]
+fn stops_after_its_end(rt: HostRuntime) -> Result<(), Fail> {
+    let rows: [(&str, &[Turn], Answer, &[Turn], Answer); 3] = [
+        (
+            "won",
+            &WRITTEN_BACK,
+            BackEnded(Cut),
+            &FREE,
+            Tidied(1, 0, None),
+        ),
+        (
+            "lost",
+            &OVERTAKEN,
+            BackEnded(Above { seat: 1 }),
+            &HELD,
+            Tidied(1, 0, None),
+        ),
+        (
+            "won over another's",
+            &OVER_ANOTHERS,
+            BackEnded(Cut),
+            &FREE_LATER,
+            Tidied(2, 0, None),
+        ),
+    ];
+    let config = domain(2, 2, 16, 0);
+    for (row, before, ended, after, tidied) in rows {
+        let call: [Turn; 1] = [(0, BackFinish, ended)];
+        let end: [Turn; 1] = [(1, Tidy, tidied)];
+        let other = played::<Brand>(
+            rt.alloc(),
+            &config,
+            before,
+            &call,
+            after,
+            &end,
+            Blank::new(1),
+        )?;
+        assert_eq!(rt; other, None, "{row}");
     }
     Ok(())
 }

@@ -1,9 +1,10 @@
 // The passes of a domain are joined after a schedule: CLOCK then has the word of the last entry.
 use crate::moves::Answer::{Clock, Done, Entered, Held, Helped, Left, Rested};
 use crate::moves::Move::{Commit, Enter, Help, Leave, Lock, Now, Rest};
-use crate::tables::joined;
-use crate::{Turn, domain};
+use crate::{Turn, domain, joined_after};
 use mv_layout::{Config, NO_SLOT, clock_word};
+use std::marker::Brand;
+use std::sync::ledger::Blank;
 use std::test::Fail;
 
 // Nobody made an entry.
@@ -27,7 +28,7 @@ const RESTED: [Turn; 6] = [
     (0, Enter, Entered(0)),
     (0, Lock(0), Held),
     (0, Commit, Done(1)),
-    (1, Now, Clock(1, 0, 0)),
+    (1, Now, Clock(524_288)),
     (1, Help, Helped),
     (1, Rest, Rested(2)),
 ];
@@ -65,8 +66,8 @@ fn joined_passes_find_the_last_entry(rt: HostRuntime) -> Result<(), Fail> {
         ),
         ("in a section", domain(3, 1, 16, 0), &COMMITS, &[], None),
     ];
-    for (row, config, before, after, word) in rows {
-        let found = joined(rt.alloc(), &config, before, after)?;
+    for (row, config, before, call, word) in rows {
+        let found = joined_after::<Brand>(rt.alloc(), &config, before, call, Blank::new(1))?;
         assert_eq!(rt; found, word, "{row}");
     }
     Ok(())

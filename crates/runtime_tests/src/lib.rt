@@ -14,10 +14,9 @@
 //! schedule may be played, and each call in it is made where its contract allows. A client that stopped
 //! may stand anywhere, since it is called no more. A move that isn't one of the client's stage is
 //! `Skipped`. What the calls answer is compared at run time: `played` answers the first turn that was
-//! answered otherwise, by its part, its place and its answer.
+//! answered otherwise.
 //!
-//! **The tests.** A schedule is a row of a table: its name, the numbers of its domain and its turns
-//! (`tables`, which alone opens a domain for a row). `rows` has worked rows of locks and commits,
+//! **The tests.** `rows` has worked rows of locks and commits,
 //! `mark_rows` of marks and watermarks, and `walk_rows` of walks that others overtake. `reclaim_rows`
 //! has rounds and tidies, and what holds a log, `back_rows` write-backs by their parts, and `rest_rows`
 //! rests, with a help of a word whose commit is gone by then and whose slot is built anew. `stop_rows`
@@ -25,8 +24,8 @@
 //! `version_stop_rows` does so where the objects have versions, and `back_stop_rows` within a
 //! write-back. `schedules` has two and three seats whose locks, lost exchanges of CLOCK and stopped
 //! commits meet, and `lost_locks` those whose exchange of HEAD is lost or won after others moved, and
-//! stops after a lost one. `join_rows` joins the passes of a domain, and has what CLOCK is then;
-//! `close_rows` closes a domain, and has its last words. `reads` counts steps, which are known in
+//! stops after a lost one. `join_rows` joins the passes of a domain, and has what CLOCK is then.
+//! `reads` counts steps, which are known in
 //! proofs alone, in the contracts of its functions: sections of a domain in which nobody has committed
 //! have the opening time, and read the opening words in the masters, one after another and where they
 //! overlap. Such a section enters by three steps, finds the master by one, reads its six words by six
@@ -41,8 +40,6 @@ mod back_rows;
 #[cfg(test)]
 mod back_stop_rows;
 mod clients;
-#[cfg(test)]
-mod close_rows;
 mod closing;
 mod commits;
 #[cfg(test)]
@@ -74,8 +71,6 @@ mod sections;
 mod stop_rows;
 mod stops;
 #[cfg(test)]
-mod tables;
-#[cfg(test)]
 mod version_stop_rows;
 #[cfg(test)]
 mod walk_rows;
@@ -84,4 +79,4 @@ mod walks;
 pub use clients::{Client, Stage};
 pub use closing::{LastWords, closed_after};
 pub use moves::{Answer, Call, Move};
-pub use playing::{Turn, WrongTurn, domain, joined_after, played};
+pub use playing::{Turn, domain, joined_after, played};

@@ -8,9 +8,10 @@ use crate::moves::Move::{
     Abort, Commit, Enter, Finish, FirstOf, Leave, Lock, LockEnd, LockStart, Name, Now, Read, Tidy,
     Write,
 };
-use crate::tables::{Domain, Middle, Schedule, first_fault};
-use crate::{Answer, Call, Turn};
+use crate::{Answer, Call, Turn, domain, played};
 use mv_history::Holder::Mark;
+use std::marker::Brand;
+use std::sync::ledger::Blank;
 use std::test::Fail;
 
 // Seat 2 has committed object 0.
@@ -86,7 +87,7 @@ const TO_A_NAMED_COMMIT: [Turn; 14] = [
     (1, Enter, Entered(1)),
     (1, Lock(0), Held),
     (1, Write(0, [2; 6]), Written),
-    (1, Now, Clock(1, 2, 0)),
+    (1, Now, Clock(540_672)),
     (1, Name, Named(2)),
     (0, LockEnd, Busy(1)),
     (0, LockStart(0), Busy(1)),
@@ -103,7 +104,7 @@ const TO_A_STAMPED_COMMIT: [Turn; 10] = [
     (0, LockStart(0), LockStarted),
     (1, Enter, Entered(1)),
     (1, Lock(0), Held),
-    (1, Now, Clock(1, 2, 0)),
+    (1, Now, Clock(540_672)),
     (1, Name, Named(2)),
     (2, Enter, Entered(2)),
     (0, LockEnd, Stale(2)),
@@ -174,6 +175,31 @@ const WON_OVER_THE_MASTER: [Turn; 13] = [
     (1, Lock(0), Held),
 ];
 
+#[test]
+fn others_move_before_the_exchange(rt: HostRuntime) -> Result<(), Fail> {
+    let schedules: [(&str, &[Turn], &[Turn]); 9] = [
+        ("to a held version", &[], &TO_A_HELD_VERSION),
+        ("to a commit", &[], &TO_A_COMMIT),
+        (
+            "over a version, to a commit",
+            &COMMITTED,
+            &OVER_A_VERSION_TO_A_COMMIT,
+        ),
+        ("to a named commit", &COMMITTED, &TO_A_NAMED_COMMIT),
+        ("to a stamped commit", &COMMITTED, &TO_A_STAMPED_COMMIT),
+        ("to the next holder", &COMMITTED, &TO_THE_NEXT_HOLDER),
+        ("one of two", &COMMITTED, &ONE_OF_TWO),
+        ("won after an abort", &COMMITTED, &WON_AFTER_AN_ABORT),
+        ("won over the master", &[], &WON_OVER_THE_MASTER),
+    ];
+    let config = domain(3, 2, 16, 0);
+    for (row, before, turns) in schedules {
+        let other = played::<Brand>(rt.alloc(), &config, before, turns, &[], &[], Blank::new(1))?;
+        assert_eq!(rt; other, None, "{row}");
+    }
+    Ok(())
+}
+
 // Seat 0 has begun a lock, and seat 1 holds the object by then.
 const TO_A_LOCK: [Turn; 5] = [
     (0, Enter, Entered(0)),
@@ -243,153 +269,57 @@ const MARKED: Answer = Tidied(0, 2, Some(Mark { seat: 0, low: 0 }));
 
 const MARKED_LATER: Answer = Tidied(0, 2, Some(Mark { seat: 0, low: 1 }));
 
-const THREE: Domain = Domain {
-    seats: 3,
-    objects: 2,
-    write_max: 16,
-    base: 0,
-};
-
-const TWO: Domain = Domain {
-    seats: 2,
-    objects: 2,
-    write_max: 16,
-    base: 0,
-};
-
-// Locks whose exchange of HEAD is lost or won after others moved, stops after a lost one, and whole locks,
-// whose section goes no further.
-//
 // The exchange is lost, and after it FIRST and STAMP are loaded of the version that it found; or PREV is
 // cleared where it found 0, and the exchange is tried again, which is the last step.
-const ROWS: [Schedule; 15] = [
-    Schedule {
-        name: "to a held version",
-        domain: THREE,
-        before: &[],
-        middle: Middle::Turns(&TO_A_HELD_VERSION),
-        after: &[],
-        end: &[],
-    },
-    Schedule {
-        name: "to a commit",
-        domain: THREE,
-        before: &[],
-        middle: Middle::Turns(&TO_A_COMMIT),
-        after: &[],
-        end: &[],
-    },
-    Schedule {
-        name: "over a version, to a commit",
-        domain: THREE,
-        before: &COMMITTED,
-        middle: Middle::Turns(&OVER_A_VERSION_TO_A_COMMIT),
-        after: &[],
-        end: &[],
-    },
-    Schedule {
-        name: "to a named commit",
-        domain: THREE,
-        before: &COMMITTED,
-        middle: Middle::Turns(&TO_A_NAMED_COMMIT),
-        after: &[],
-        end: &[],
-    },
-    Schedule {
-        name: "to a stamped commit",
-        domain: THREE,
-        before: &COMMITTED,
-        middle: Middle::Turns(&TO_A_STAMPED_COMMIT),
-        after: &[],
-        end: &[],
-    },
-    Schedule {
-        name: "to the next holder",
-        domain: THREE,
-        before: &COMMITTED,
-        middle: Middle::Turns(&TO_THE_NEXT_HOLDER),
-        after: &[],
-        end: &[],
-    },
-    Schedule {
-        name: "one of two",
-        domain: THREE,
-        before: &COMMITTED,
-        middle: Middle::Turns(&ONE_OF_TWO),
-        after: &[],
-        end: &[],
-    },
-    Schedule {
-        name: "won after an abort",
-        domain: THREE,
-        before: &COMMITTED,
-        middle: Middle::Turns(&WON_AFTER_AN_ABORT),
-        after: &[],
-        end: &[],
-    },
-    Schedule {
-        name: "won over the master",
-        domain: THREE,
-        before: &[],
-        middle: Middle::Turns(&WON_OVER_THE_MASTER),
-        after: &[],
-        end: &[],
-    },
-    Schedule {
-        name: "stopped, to a lock",
-        domain: TWO,
-        before: &TO_A_LOCK,
-        middle: Middle::Stops(Call::LockEnd, 1, 2),
-        after: &GOES_ON,
-        end: &[(1, Tidy, MARKED)],
-    },
-    Schedule {
-        name: "stopped, to its commit",
-        domain: TWO,
-        before: &TO_ITS_COMMIT,
-        middle: Middle::Stops(Call::LockEnd, 1, 2),
-        after: &AGAIN,
-        end: &[(1, Tidy, MARKED)],
-    },
-    Schedule {
-        name: "stopped, to a cut",
-        domain: TWO,
-        before: &TO_A_CUT,
-        middle: Middle::Stops(Call::LockEnd, 1, 2),
-        after: &AT_THE_MASTER,
-        end: &[(1, Tidy, MARKED_LATER)],
-    },
-    Schedule {
-        name: "whole, to a lock",
-        domain: TWO,
-        before: &TO_A_LOCK,
-        middle: Middle::Turns(&[(0, LockEnd, Busy(1))]),
-        after: &GOES_ON,
-        end: &[(1, Tidy, MARKED)],
-    },
-    Schedule {
-        name: "whole, to its commit",
-        domain: TWO,
-        before: &TO_ITS_COMMIT,
-        middle: Middle::Turns(&[(0, LockEnd, Stale(1))]),
-        after: &AGAIN,
-        end: &[(1, Tidy, MARKED)],
-    },
-    Schedule {
-        name: "whole, to a cut",
-        domain: TWO,
-        before: &TO_A_CUT,
-        middle: Middle::Turns(&[(0, LockEnd, Held)]),
-        after: &BESIDES,
-        end: &[(1, Tidy, MARKED_LATER)],
-    },
-];
-
 #[test]
-fn exchanges_of_head_after_others_moved(rt: HostRuntime) -> Result<(), Fail> {
-    for row in ROWS {
-        let name = row.name;
-        assert_eq!(rt; first_fault(rt.alloc(), &row)?, None, "{name}");
+fn stops_after_a_lost_exchange(rt: HostRuntime) -> Result<(), Fail> {
+    let stops: [(&str, &[Turn], &[Turn], Answer); 3] = [
+        ("to a lock", &TO_A_LOCK, &GOES_ON, MARKED),
+        ("to a commit", &TO_ITS_COMMIT, &AGAIN, MARKED),
+        ("to a cut", &TO_A_CUT, &AT_THE_MASTER, MARKED_LATER),
+    ];
+    let config = domain(2, 2, 16, 0);
+    for (row, before, after, tidied) in stops {
+        let end: [Turn; 1] = [(1, Tidy, tidied)];
+        for count in 1..=2 {
+            let stop: [Turn; 1] = [(0, FirstOf(Call::LockEnd, count), Stopped)];
+            let other = played::<Brand>(
+                rt.alloc(),
+                &config,
+                before,
+                &stop,
+                after,
+                &end,
+                Blank::new(1),
+            )?;
+            assert_eq!(rt; other, None, "{row} after {count}");
+        }
+    }
+    Ok(())
+}
+
+// The whole lock, whose section goes no further.
+#[test]
+fn stops_after_its_last_step(rt: HostRuntime) -> Result<(), Fail> {
+    let rows: [(&str, &[Turn], Answer, &[Turn], Answer); 3] = [
+        ("to a lock", &TO_A_LOCK, Busy(1), &GOES_ON, MARKED),
+        ("to a commit", &TO_ITS_COMMIT, Stale(1), &AGAIN, MARKED),
+        ("to a cut", &TO_A_CUT, Held, &BESIDES, MARKED_LATER),
+    ];
+    let config = domain(2, 2, 16, 0);
+    for (row, before, answer, after, tidied) in rows {
+        let call: [Turn; 1] = [(0, LockEnd, answer)];
+        let end: [Turn; 1] = [(1, Tidy, tidied)];
+        let other = played::<Brand>(
+            rt.alloc(),
+            &config,
+            before,
+            &call,
+            after,
+            &end,
+            Blank::new(1),
+        )?;
+        assert_eq!(rt; other, None, "{row}");
     }
     Ok(())
 }

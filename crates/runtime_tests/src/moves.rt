@@ -15,7 +15,6 @@ use crate::stops::{first_of_abort, first_of_enter, first_of_finish, first_of_now
 use log_reclaim::{BackEnd, NoBack};
 use mv_core::{Shared, Steps};
 use mv_history::{AnyRules, Holder, LockAnswer, LogTable, Words};
-use mv_layout::{clock_seat, clock_slot, clock_time};
 use reader_marks::Watermark;
 use seat_log::{held, table};
 use std::sync::ledger::Ledger;
@@ -101,8 +100,7 @@ pub enum Answer {
     Stale(u64),
     SetFull,
     LogFull,
-    /// The word of CLOCK that was loaded: its time, seat and slot.
-    Clock(u64, u32, u32),
+    Clock(u64),
     Named(u64),
     /// The seat and the time of the entry that came first.
     Lost(u32, u64),
@@ -133,11 +131,6 @@ pub enum Answer {
     Tidied(u32, u32, Option<Holder>),
     NoBack(NoBack),
     BackEnded(BackEnd),
-}
-
-// A word of CLOCK by its parts.
-pub(crate) fn clock(word: u64) -> Answer {
-    Answer::Clock(clock_time(word), clock_seat(word), clock_slot(word))
 }
 
 pub(crate) fn tried(answer: LockAnswer) -> Answer {

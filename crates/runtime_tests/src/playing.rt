@@ -82,42 +82,38 @@ pub fn domain(seats: u32, objects: u32, write_max: u32, base: u64) -> Config {
     }
 }
 
-/// A turn that was answered otherwise than was wanted.
-#[derive(Clone, Copy, Debug, PartialEq, Eq)]
-pub struct WrongTurn {
-    /// The part of the schedule, from 0 on.
-    pub part: usize,
-    /// The turn of that part, from 0 on.
-    pub turn: usize,
-    pub answer: Answer,
-}
-
-/// Plays the four parts of a schedule, one after another, in a new domain. It answers the first turn
-/// that was answered otherwise, and makes no turn after it; `None` is that every turn was answered as
-/// wanted. Numbers that are no domain are answered as the first turn, `Skipped`. Where memory is refused,
-/// no turn was made.
+/// Plays the four parts of a schedule, one after another, in a new domain. It answers the part and the
+/// turn of the first that was answered otherwise, with that answer, and makes no turn after it; `None`
+/// is that every turn was answered as wanted. Numbers that are no domain are answered as the first turn,
+/// `Skipped`. Where memory is refused, no turn was made.
 pub fn played<L: Ledger>(
     alloc: Global,
     config: &Config,
-    parts: [&[Turn]; 4],
+    before: &[Turn],
+    call: &[Turn],
+    after: &[Turn],
+    end: &[Turn],
     blank: Blank,
-) -> Result<Option<WrongTurn>, AllocError>
+) -> Result<Option<(usize, usize, Answer)>, AllocError>
     requires name { blank.name ≡ L.name }
     requires parts { (blank.parts ≡ L.parts) × (0 < L.parts) }
 {
     let Ok(()) = config.check() else {
-        return Ok(Some(WrongTurn {
-            part: 0,
-            turn: 0,
-            answer: Answer::Skipped,
-        }));
+        return Ok(Some((0, 0, Answer::Skipped)));
     };
     let mut steps = Steps::<L>::open(blank);
     let (shared, mut clients) = open(alloc, config)?;
-    for part in 0..parts.len() {
-        if let Some((turn, answer)) = play(&shared, &mut clients, parts[part], &mut steps) {
-            return Ok(Some(WrongTurn { part, turn, answer }));
-        }
+    if let Some((at, answer)) = play(&shared, &mut clients, before, &mut steps) {
+        return Ok(Some((0, at, answer)));
+    }
+    if let Some((at, answer)) = play(&shared, &mut clients, call, &mut steps) {
+        return Ok(Some((1, at, answer)));
+    }
+    if let Some((at, answer)) = play(&shared, &mut clients, after, &mut steps) {
+        return Ok(Some((2, at, answer)));
+    }
+    if let Some((at, answer)) = play(&shared, &mut clients, end, &mut steps) {
+        return Ok(Some((3, at, answer)));
     }
     Ok(None)
 }

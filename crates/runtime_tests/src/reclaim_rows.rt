@@ -1,5 +1,4 @@
 // Worked rows of reclaiming: rounds, tidies, write-backs, and what holds a log.
-use crate::Turn;
 use crate::moves::Answer::{
     Aborted, BackEnded, Clock, Counts, Done, End, Entered, Finished, Held, Left, LogFull, Named,
     Started, Stored, Tidied, Walked, Words, Written,
@@ -8,11 +7,13 @@ use crate::moves::Move::{
     Abort, BackFinish, BackStart, BackWord, Commit, Enter, Finish, Leave, Lock, Name, Now, Read,
     ReadFound, Round, Table, Tidy, WalkStart, WalkStep, Write,
 };
-use crate::tables::{Domain, Middle, Schedule, first_fault};
+use crate::{Turn, domain, played};
 use log_reclaim::BackEnd;
 use mv_history::Holder::{self, Above, Fresh, Mark};
 use mv_history::LogTable;
-use mv_layout::{LAST, NO_SLOT};
+use mv_layout::LAST;
+use std::marker::Brand;
+use std::sync::ledger::Blank;
 use std::test::Fail;
 use version_chain::Found;
 
@@ -121,7 +122,7 @@ const END_AND_ABORT: [Turn; 9] = [
 const PAST_A_STOPPED_COMMIT: [Turn; 11] = [
     (0, Enter, Entered(0)),
     (0, Lock(0), Held),
-    (0, Now, Clock(0, 0, NO_SLOT)),
+    (0, Now, Clock(8191)),
     (0, Name, Named(1)),
     (1, Enter, Entered(1)),
     (1, Lock(1), Held),
@@ -151,98 +152,115 @@ const FINISH_THEN_TIDY: [Turn; 3] = [
 
 const FINISHER_TIDIES: [Turn; 1] = [(0, Tidy, Tidied(1, 0, None))];
 
-const ONE: Domain = Domain {
-    seats: 1,
-    objects: 1,
-    write_max: 16,
-    base: 0,
-};
-
-const TWO: Domain = Domain {
-    seats: 2,
-    objects: 1,
-    write_max: 16,
-    base: 0,
-};
-
-const AT_LAST: Domain = Domain {
-    seats: 1,
-    objects: 1,
-    write_max: 16,
-    base: LAST,
-};
-
-const TWO_OBJECTS: Domain = Domain {
-    seats: 2,
-    objects: 2,
-    write_max: 16,
-    base: 0,
-};
-
-const ROWS: [Schedule; 7] = [
-    Schedule {
-        name: "a round leaves fresh what a tidy frees",
-        domain: ONE,
-        before: &ROUND_LEAVES_FRESH,
-        middle: Middle::Turns(&TIDY_RESTS_AND_FREES),
-        after: &[],
-        end: &[],
-    },
-    Schedule {
-        name: "a lock above holds what a tidy frees after its abort",
-        domain: TWO,
-        before: &TIDY_UNDER_A_LOCK,
-        middle: Middle::Turns(&TIDY_AFTER_THAT_ABORT),
-        after: &[],
-        end: &[],
-    },
-    Schedule {
-        name: "a write-back is overtaken",
-        domain: TWO,
-        before: &WRITE_BACK_OVERTAKEN,
-        middle: Middle::Turns(&[]),
-        after: &[],
-        end: &[],
-    },
-    Schedule {
-        name: "a walk stands over an abort",
-        domain: TWO,
-        before: &WALKER_OVER_ABORT,
-        middle: Middle::Turns(&[]),
-        after: &[],
-        end: &[],
-    },
-    Schedule {
-        name: "at the last time an abort is kept",
-        domain: AT_LAST,
-        before: &END_AND_ABORT,
-        middle: Middle::Turns(&[]),
-        after: &[],
-        end: &[],
-    },
-    Schedule {
-        name: "a log is full behind a mark",
-        domain: TWO,
-        before: &[(1, Enter, Entered(0))],
-        middle: Middle::Commits(0, 0),
-        after: &LOG_FULL_BEHIND_MARK,
-        end: &[],
-    },
-    Schedule {
-        name: "a stopped commit is finished",
-        domain: TWO_OBJECTS,
-        before: &PAST_A_STOPPED_COMMIT,
-        middle: Middle::Turns(&FINISH_THEN_TIDY),
-        after: &FINISHER_TIDIES,
-        end: &[],
-    },
-];
+#[test]
+fn a_round_leaves_fresh_what_a_tidy_frees(rt: HostRuntime) -> Result<(), Fail> {
+    let config = domain(1, 1, 16, 0);
+    let other = played::<Brand>(
+        rt.alloc(),
+        &config,
+        &ROUND_LEAVES_FRESH,
+        &TIDY_RESTS_AND_FREES,
+        &[],
+        &[],
+        Blank::new(1),
+    )?;
+    assert_eq!(rt; other, None);
+    Ok(())
+}
 
 #[test]
-fn rounds_and_tidies(rt: HostRuntime) -> Result<(), Fail> {
-    for row in ROWS {
-        let name = row.name;
-        assert_eq!(rt; first_fault(rt.alloc(), &row)?, None, "{name}");
+fn a_lock_above_holds_what_a_tidy_frees_after_its_abort(rt: HostRuntime) -> Result<(), Fail> {
+    let config = domain(2, 1, 16, 0);
+    let other = played::<Brand>(
+        rt.alloc(),
+        &config,
+        &TIDY_UNDER_A_LOCK,
+        &TIDY_AFTER_THAT_ABORT,
+        &[],
+        &[],
+        Blank::new(1),
+    )?;
+    assert_eq!(rt; other, None);
+    Ok(())
+}
+
+#[test]
+fn a_write_back_is_overtaken(rt: HostRuntime) -> Result<(), Fail> {
+    let config = domain(2, 1, 16, 0);
+    let other = played::<Brand>(
+        rt.alloc(),
+        &config,
+        &WRITE_BACK_OVERTAKEN,
+        &[],
+        &[],
+        &[],
+        Blank::new(1),
+    )?;
+    assert_eq!(rt; other, None);
+    Ok(())
+}
+
+#[test]
+fn a_walk_stands_over_an_abort(rt: HostRuntime) -> Result<(), Fail> {
+    let config = domain(2, 1, 16, 0);
+    let other = played::<Brand>(
+        rt.alloc(),
+        &config,
+        &WALKER_OVER_ABORT,
+        &[],
+        &[],
+        &[],
+        Blank::new(1),
+    )?;
+    assert_eq!(rt; other, None);
+    Ok(())
+}
+
+#[test]
+fn at_the_last_time_an_abort_is_kept(rt: HostRuntime) -> Result<(), Fail> {
+    let config = domain(1, 1, 16, LAST);
+    let other = played::<Brand>(
+        rt.alloc(),
+        &config,
+        &END_AND_ABORT,
+        &[],
+        &[],
+        &[],
+        Blank::new(1),
+    )?;
+    assert_eq!(rt; other, None);
+    Ok(())
+}
+
+#[test]
+fn a_log_is_full_behind_a_mark(rt: HostRuntime) -> Result<(), Fail> {
+    let mut commits: Vec<Turn> = Vec::new(rt.alloc());
+    commits.push((1, Enter, Entered(0)))?;
+    for time in 0..64 {
+        commits.push((0, Enter, Entered(time)))?;
+        commits.push((0, Lock(0), Held))?;
+        commits.push((0, Commit, Done(time + 1)))?;
     }
+    let config = domain(2, 1, 16, 0);
+    let before = commits.as_slice();
+    let call = &LOG_FULL_BEHIND_MARK;
+    let other = played::<Brand>(rt.alloc(), &config, before, call, &[], &[], Blank::new(1))?;
+    assert_eq!(rt; other, None);
+    Ok(())
+}
+
+#[test]
+fn a_stopped_commit_is_finished(rt: HostRuntime) -> Result<(), Fail> {
+    let config = domain(2, 2, 16, 0);
+    let other = played::<Brand>(
+        rt.alloc(),
+        &config,
+        &PAST_A_STOPPED_COMMIT,
+        &FINISH_THEN_TIDY,
+        &FINISHER_TIDIES,
+        &[],
+        Blank::new(1),
+    )?;
+    assert_eq!(rt; other, None);
     Ok(())
 }

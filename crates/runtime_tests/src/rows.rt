@@ -1,11 +1,12 @@
 // Worked rows of locks and commits.
-use crate::Turn;
 use crate::moves::Answer::{
     Busy, Clock, Done, Entered, Held, Left, Lost, Named, SetFull, Stale, Words, Written,
 };
 use crate::moves::Move::{Commit, Enter, Leave, Lock, Name, Now, Read, Write};
-use crate::tables::{Domain, first_fault, one_part};
-use mv_layout::NO_SLOT;
+use crate::{Turn, domain, played};
+use mv_layout::Config;
+use std::marker::Brand;
+use std::sync::ledger::Blank;
 use std::test::Fail;
 
 const BUSY_THEN_STALE: [Turn; 9] = [
@@ -26,12 +27,12 @@ const LOST_NAME: [Turn; 10] = [
     (0, Lock(0), Held),
     (1, Enter, Entered(0)),
     (1, Lock(1), Held),
-    (0, Now, Clock(0, 0, NO_SLOT)),
+    (0, Now, Clock(8191)),
     (1, Commit, Done(1)),
     (0, Name, Lost(1, 1)),
     (0, Commit, Done(2)),
     (1, Enter, Entered(2)),
-    (1, Now, Clock(2, 0, 0)),
+    (1, Now, Clock(1_048_576)),
 ];
 
 const HELPED_READER: [Turn; 9] = [
@@ -39,7 +40,7 @@ const HELPED_READER: [Turn; 9] = [
     (0, Enter, Entered(0)),
     (0, Lock(0), Held),
     (0, Write(0, [1, 2, 3, 4, 5, 6]), Written),
-    (0, Now, Clock(0, 0, NO_SLOT)),
+    (0, Now, Clock(8191)),
     (0, Name, Named(1)),
     (1, Enter, Entered(1)),
     (1, Read(0), Words([1, 2, 3, 4, 5, 6])),
@@ -57,45 +58,17 @@ const SET_FULL: [Turn; 7] = [
     (0, Lock(1), Held),
 ];
 
-const FOUR_OBJECTS: Domain = Domain {
-    seats: 2,
-    objects: 4,
-    write_max: 16,
-    base: 0,
-};
-
-const TWO_OBJECTS: Domain = Domain {
-    seats: 2,
-    objects: 2,
-    write_max: 16,
-    base: 0,
-};
-
-const THREE_SEATS: Domain = Domain {
-    seats: 3,
-    objects: 1,
-    write_max: 16,
-    base: 0,
-};
-
-const ALONE: Domain = Domain {
-    seats: 1,
-    objects: 2,
-    write_max: 1,
-    base: 0,
-};
-
 #[test]
 fn locks_and_commits(rt: HostRuntime) -> Result<(), Fail> {
-    let rows = [
-        one_part("busy then stale", FOUR_OBJECTS, &BUSY_THEN_STALE),
-        one_part("lost name", TWO_OBJECTS, &LOST_NAME),
-        one_part("helped reader", THREE_SEATS, &HELPED_READER),
-        one_part("set full", ALONE, &SET_FULL),
+    let rows: [(&str, Config, &[Turn]); 4] = [
+        ("busy then stale", domain(2, 4, 16, 0), &BUSY_THEN_STALE),
+        ("lost name", domain(2, 2, 16, 0), &LOST_NAME),
+        ("helped reader", domain(3, 1, 16, 0), &HELPED_READER),
+        ("set full", domain(1, 2, 1, 0), &SET_FULL),
     ];
-    for row in rows {
-        let name = row.name;
-        assert_eq!(rt; first_fault(rt.alloc(), &row)?, None, "{name}");
+    for (row, config, turns) in rows {
+        let other = played::<Brand>(rt.alloc(), &config, turns, &[], &[], &[], Blank::new(1))?;
+        assert_eq!(rt; other, None, "{row}");
     }
     Ok(())
 }

@@ -6,9 +6,10 @@ use crate::moves::Answer::{
 use crate::moves::Move::{
     Abort, Commit, Enter, Finish, FirstOf, Leave, Lock, Name, Now, Read, Write,
 };
-use crate::tables::{Domain, first_fault, one_part};
-use crate::{Call, Turn};
-use mv_layout::{LAST, NO_SLOT};
+use crate::{Call, Turn, domain, played};
+use mv_layout::LAST;
+use std::marker::Brand;
+use std::sync::ledger::Blank;
 use std::test::Fail;
 
 // A commit helps the one that was named before it.
@@ -19,7 +20,7 @@ const HELPED_BY_A_COMMIT: [Turn; 16] = [
     (1, Enter, Entered(0)),
     (1, Lock(1), Held),
     (1, Write(1, [2; 6]), Written),
-    (0, Now, Clock(0, 0, NO_SLOT)),
+    (0, Now, Clock(8191)),
     (0, Name, Named(1)),
     (1, Commit, Done(2)),
     (2, Enter, Entered(2)),
@@ -39,10 +40,10 @@ const LOST_TWICE: [Turn; 14] = [
     (1, Lock(1), Held),
     (2, Enter, Entered(0)),
     (2, Lock(2), Held),
-    (0, Now, Clock(0, 0, NO_SLOT)),
+    (0, Now, Clock(8191)),
     (1, Commit, Done(1)),
     (0, Name, Lost(1, 1)),
-    (0, Now, Clock(1, 1, 0)),
+    (0, Now, Clock(532_480)),
     (2, Commit, Done(2)),
     (0, Name, Lost(2, 2)),
     (0, Commit, Done(3)),
@@ -54,7 +55,7 @@ const BUSY_WHILE_NAMED: [Turn; 11] = [
     (0, Enter, Entered(0)),
     (0, Lock(0), Held),
     (1, Enter, Entered(0)),
-    (0, Now, Clock(0, 0, NO_SLOT)),
+    (0, Now, Clock(8191)),
     (0, Name, Named(1)),
     (1, Lock(0), Busy(0)),
     (2, Enter, Entered(1)),
@@ -132,7 +133,7 @@ const SEEN_WHOLE: [Turn; 15] = [
     (0, Lock(1), Held),
     (0, Write(0, [1; 6]), Written),
     (0, Write(1, [2; 6]), Written),
-    (0, Now, Clock(0, 0, NO_SLOT)),
+    (0, Now, Clock(8191)),
     (0, Name, Named(1)),
     (2, Read(0), Words([0; 6])),
     (1, Enter, Entered(1)),
@@ -165,9 +166,9 @@ const TWO_UNFINISHED: [Turn; 15] = [
     (1, Enter, Entered(0)),
     (1, Lock(1), Held),
     (1, Write(1, [2; 6]), Written),
-    (0, Now, Clock(0, 0, NO_SLOT)),
+    (0, Now, Clock(8191)),
     (0, Name, Named(1)),
-    (1, Now, Clock(1, 0, 0)),
+    (1, Now, Clock(524_288)),
     (1, Name, Named(2)),
     (2, Enter, Entered(2)),
     (2, Read(0), Words([1; 6])),
@@ -182,7 +183,7 @@ const LOST_AND_GIVEN_UP: [Turn; 11] = [
     (0, Lock(0), Held),
     (1, Enter, Entered(0)),
     (1, Lock(1), Held),
-    (0, Now, Clock(0, 0, NO_SLOT)),
+    (0, Now, Clock(8191)),
     (1, Commit, Done(1)),
     (0, Name, Lost(1, 1)),
     (0, Abort, Aborted),
@@ -197,7 +198,7 @@ const LAST_TIME_TAKEN: [Turn; 11] = [
     (0, Lock(0), Held),
     (1, Enter, Entered(LAST - 1)),
     (1, Lock(1), Held),
-    (0, Now, Clock(LAST - 1, 0, NO_SLOT)),
+    (0, Now, Clock(18_446_744_073_708_511_231)),
     (1, Commit, Done(LAST)),
     (0, Name, Lost(1, LAST)),
     (0, Commit, End),
@@ -259,7 +260,7 @@ const STAMPED_BY_ANOTHER: [Turn; 10] = [
     (0, Enter, Entered(0)),
     (0, Lock(0), Held),
     (0, Write(0, [1; 6]), Written),
-    (0, Now, Clock(0, 0, NO_SLOT)),
+    (0, Now, Clock(8191)),
     (0, Name, Named(1)),
     (1, Enter, Entered(1)),
     (1, Read(0), Words([1; 6])),
@@ -274,7 +275,7 @@ const STOPPED_AFTER_ITS_STAMP: [Turn; 13] = [
     (0, Enter, Entered(0)),
     (0, Lock(0), Held),
     (0, Write(0, [1; 6]), Written),
-    (0, Now, Clock(0, 0, NO_SLOT)),
+    (0, Now, Clock(8191)),
     (0, Name, Named(1)),
     (0, FirstOf(Call::Finish, 1), Stopped),
     (2, Lock(0), Stale(1)),
@@ -290,7 +291,7 @@ const GIVEN_UP_OVER_A_STOPPED_COMMIT: [Turn; 11] = [
     (0, Enter, Entered(0)),
     (0, Lock(0), Held),
     (0, Write(0, [1; 6]), Written),
-    (0, Now, Clock(0, 0, NO_SLOT)),
+    (0, Now, Clock(8191)),
     (0, Name, Named(1)),
     (1, Enter, Entered(1)),
     (1, Lock(0), Held),
@@ -323,8 +324,8 @@ const LOST_TO_A_STOPPED_COMMIT: [Turn; 12] = [
     (1, Enter, Entered(0)),
     (1, Lock(1), Held),
     (1, Write(1, [2; 6]), Written),
-    (0, Now, Clock(0, 0, NO_SLOT)),
-    (1, Now, Clock(0, 0, NO_SLOT)),
+    (0, Now, Clock(8191)),
+    (1, Now, Clock(8191)),
     (1, Name, Named(1)),
     (0, Name, Lost(1, 1)),
     (0, Commit, Done(2)),
@@ -332,62 +333,44 @@ const LOST_TO_A_STOPPED_COMMIT: [Turn; 12] = [
     (2, Read(1), Words([2; 6])),
 ];
 
-const SEATS: Domain = Domain {
-    seats: 3,
-    objects: 3,
-    write_max: 16,
-    base: 0,
-};
-
-const LATE: Domain = Domain {
-    seats: 3,
-    objects: 3,
-    write_max: 16,
-    base: LAST - 1,
-};
-
-const SMALL_SETS: Domain = Domain {
-    seats: 3,
-    objects: 3,
-    write_max: 2,
-    base: 0,
-};
-
 #[test]
 fn seats_meet(rt: HostRuntime) -> Result<(), Fail> {
-    let rows = [
-        one_part("helped by a commit", SEATS, &HELPED_BY_A_COMMIT),
-        one_part("lost twice", SEATS, &LOST_TWICE),
-        one_part("busy while named", SEATS, &BUSY_WHILE_NAMED),
-        one_part("given back", SEATS, &GIVEN_BACK),
-        one_part(
+    let schedules: [(&str, u32, u64, &[Turn]); 20] = [
+        ("helped by a commit", 16, 0, &HELPED_BY_A_COMMIT),
+        ("lost twice", 16, 0, &LOST_TWICE),
+        ("busy while named", 16, 0, &BUSY_WHILE_NAMED),
+        ("given back", 16, 0, &GIVEN_BACK),
+        (
             "given back over a version",
-            SEATS,
+            16,
+            0,
             &GIVEN_BACK_OVER_A_VERSION,
         ),
-        one_part("old reader", SEATS, &OLD_READER),
-        one_part("own version passed", SEATS, &OWN_VERSION_PASSED),
-        one_part("seen whole", SEATS, &SEEN_WHOLE),
-        one_part("each busy for the other", SEATS, &EACH_BUSY_FOR_THE_OTHER),
-        one_part("two unfinished", SEATS, &TWO_UNFINISHED),
-        one_part("lost and given up", SEATS, &LOST_AND_GIVEN_UP),
-        one_part("last time taken", LATE, &LAST_TIME_TAKEN),
-        one_part("stale and committed", SEATS, &STALE_AND_COMMITTED),
-        one_part("full of two", SMALL_SETS, &FULL_OF_TWO),
-        one_part("three deep", SEATS, &THREE_DEEP),
-        one_part("stamped by another", SEATS, &STAMPED_BY_ANOTHER),
-        one_part("stopped after its stamp", SEATS, &STOPPED_AFTER_ITS_STAMP),
-        one_part(
+        ("old reader", 16, 0, &OLD_READER),
+        ("own version passed", 16, 0, &OWN_VERSION_PASSED),
+        ("seen whole", 16, 0, &SEEN_WHOLE),
+        ("each busy for the other", 16, 0, &EACH_BUSY_FOR_THE_OTHER),
+        ("two unfinished", 16, 0, &TWO_UNFINISHED),
+        ("lost and given up", 16, 0, &LOST_AND_GIVEN_UP),
+        ("last time taken", 16, LAST - 1, &LAST_TIME_TAKEN),
+        ("stale and committed", 16, 0, &STALE_AND_COMMITTED),
+        ("full of two", 2, 0, &FULL_OF_TWO),
+        ("three deep", 16, 0, &THREE_DEEP),
+        ("stamped by another", 16, 0, &STAMPED_BY_ANOTHER),
+        ("stopped after its stamp", 16, 0, &STOPPED_AFTER_ITS_STAMP),
+        (
             "given up over a stopped commit",
-            SEATS,
+            16,
+            0,
             &GIVEN_UP_OVER_A_STOPPED_COMMIT,
         ),
-        one_part("older section", SEATS, &OLDER_SECTION),
-        one_part("lost to a stopped commit", SEATS, &LOST_TO_A_STOPPED_COMMIT),
+        ("older section", 16, 0, &OLDER_SECTION),
+        ("lost to a stopped commit", 16, 0, &LOST_TO_A_STOPPED_COMMIT),
     ];
-    for row in rows {
-        let name = row.name;
-        assert_eq!(rt; first_fault(rt.alloc(), &row)?, None, "{name}");
+    for (row, write_max, base, turns) in schedules {
+        let config = domain(3, 3, write_max, base);
+        let other = played::<Brand>(rt.alloc(), &config, turns, &[], &[], &[], Blank::new(1))?;
+        assert_eq!(rt; other, None, "{row}");
     }
     Ok(())
 }

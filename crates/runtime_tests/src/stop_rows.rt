@@ -7,10 +7,11 @@ use crate::moves::Answer::{
 use crate::moves::Move::{
     Abort, Commit, Enter, Finish, FirstOf, Lock, Name, Now, Read, Tidy, Write,
 };
-use crate::tables::{Domain, Middle, Schedule, first_fault};
-use crate::{Answer, Call, Turn};
+use crate::{Answer, Call, Turn, domain, played};
 use mv_history::Holder::{End, Mark};
-use mv_layout::{LAST, NO_SLOT};
+use mv_layout::LAST;
+use std::marker::Brand;
+use std::sync::ledger::Blank;
 use std::test::Fail;
 
 // Seat 0 holds object 0, and has written it.
@@ -40,7 +41,7 @@ const NAMED: [Turn; 5] = [
     (2, Enter, Entered(0)),
     (2, Lock(0), Held),
     (2, Write(0, [1, 2, 3, 4, 5, 6]), Written),
-    (2, Now, Clock(0, 0, NO_SLOT)),
+    (2, Now, Clock(8191)),
     (2, Name, Named(1)),
 ];
 
@@ -51,7 +52,7 @@ const NAMED_BESIDES: [Turn; 7] = [
     (2, Enter, Entered(0)),
     (2, Lock(0), Held),
     (2, Write(0, [1, 2, 3, 4, 5, 6]), Written),
-    (2, Now, Clock(0, 0, NO_SLOT)),
+    (2, Now, Clock(8191)),
     (2, Name, Named(1)),
 ];
 
@@ -127,7 +128,7 @@ const COMMITTED_BESIDES: [Turn; 5] = [
 
 // Seat 1 has committed object 1 before seat 0 names its commit, which is lost.
 const LOST: [Turn; 5] = [
-    (0, Now, Clock(0, 0, NO_SLOT)),
+    (0, Now, Clock(8191)),
     (1, Enter, Entered(0)),
     (1, Lock(1), Held),
     (1, Commit, Done(1)),
@@ -146,6 +147,86 @@ const TWO_MARKED: Answer = Tidied(0, 2, Some(Mark { seat: 0, low: 0 }));
 
 // The section of seat 2 has a lower mark, or the same one as that of a lower seat.
 const MARKED_BY_ANOTHER: Answer = Tidied(0, 1, Some(Mark { seat: 2, low: 0 }));
+
+// What was done before, the call whose first steps are made, how many of them at least and at most,
+// what the other seat is answered, and what its tidy is.
+type Stop = (
+    &'static str,
+    &'static [Turn],
+    Call,
+    (u32, u32),
+    &'static [Turn],
+    Answer,
+);
+
+// An `enter` whose mark isn't stored yet holds nothing.
+const WITHIN: [Stop; 8] = [
+    ("low time", &[], Call::Enter, (1, 1), &FREE, FREED),
+    ("enter", &[], Call::Enter, (2, 3), &FREE, MARKED),
+    (
+        "enter that helps",
+        &NAMED,
+        Call::Enter,
+        (1, 6),
+        &COMMITTED,
+        MARKED_BY_ANOTHER,
+    ),
+    (
+        "lock",
+        &INSIDE,
+        Call::Lock(0),
+        (1, 17),
+        &FREE_LATER,
+        MARKED_LATER,
+    ),
+    (
+        "help of a commit",
+        &NAMED_BESIDES,
+        Call::Now,
+        (1, 4),
+        &COMMITTED_BESIDES,
+        MARKED,
+    ),
+    ("abort", &HOLDING, Call::Abort, (1, 2), &FREE, MARKED),
+    (
+        "abort of the first of two",
+        &HOLDING_TWO,
+        Call::Abort,
+        (1, 1),
+        &FIRST_GIVEN_BACK,
+        MARKED,
+    ),
+    (
+        "abort of both",
+        &HOLDING_TWO,
+        Call::Abort,
+        (2, 3),
+        &BOTH_GIVEN_BACK,
+        TWO_MARKED,
+    ),
+];
+
+#[test]
+fn stops_within_a_call(rt: HostRuntime) -> Result<(), Fail> {
+    let config = domain(3, 2, 16, 0);
+    for (row, before, call, (least, most), after, tidied) in WITHIN {
+        for count in least..=most {
+            let stop: [Turn; 1] = [(0, FirstOf(call, count), Stopped)];
+            let end: [Turn; 1] = [(1, Tidy, tidied)];
+            let other = played::<Brand>(
+                rt.alloc(),
+                &config,
+                before,
+                &stop,
+                after,
+                &end,
+                Blank::new(1),
+            )?;
+            assert_eq!(rt; other, None, "{row} after {count}");
+        }
+    }
+    Ok(())
+}
 
 // Seat 0 holds object 0 at the time before the last.
 const HOLDING_LATE: [Turn; 2] = [(0, Enter, Entered(LAST - 1)), (0, Lock(0), Held)];
@@ -170,196 +251,118 @@ const MARKED_LATE: Answer = Tidied(
     }),
 );
 
-const THREE: Domain = Domain {
-    seats: 3,
-    objects: 2,
-    write_max: 16,
-    base: 0,
-};
+#[test]
+fn stops_before_the_last_time(rt: HostRuntime) -> Result<(), Fail> {
+    let stops: [Stop; 3] = [
+        ("low time", &[], Call::Enter, (1, 1), &FREE_LATE, KEPT),
+        ("enter", &[], Call::Enter, (2, 3), &FREE_LATE, MARKED_LATE),
+        (
+            "abort",
+            &HOLDING_LATE,
+            Call::Abort,
+            (1, 2),
+            &FREE_LATE,
+            MARKED_LATE,
+        ),
+    ];
+    let config = domain(2, 1, 16, LAST - 1);
+    for (row, before, call, (least, most), after, tidied) in stops {
+        let end: [Turn; 1] = [(1, Tidy, tidied)];
+        for count in least..=most {
+            let stop: [Turn; 1] = [(0, FirstOf(call, count), Stopped)];
+            let other = played::<Brand>(
+                rt.alloc(),
+                &config,
+                before,
+                &stop,
+                after,
+                &end,
+                Blank::new(1),
+            )?;
+            assert_eq!(rt; other, None, "{row} after {count}");
+        }
+    }
+    Ok(())
+}
 
-const TWO: Domain = Domain {
-    seats: 2,
-    objects: 2,
-    write_max: 16,
-    base: 0,
-};
-
-const LATE: Domain = Domain {
-    seats: 2,
-    objects: 1,
-    write_max: 16,
-    base: LAST - 1,
-};
-
-// An `enter` whose mark isn't stored yet holds nothing.
-const ROWS: [Schedule; 19] = [
-    Schedule {
-        name: "low time",
-        domain: THREE,
-        before: &[],
-        middle: Middle::Stops(Call::Enter, 1, 1),
-        after: &FREE,
-        end: &[(1, Tidy, FREED)],
-    },
-    Schedule {
-        name: "enter",
-        domain: THREE,
-        before: &[],
-        middle: Middle::Stops(Call::Enter, 2, 3),
-        after: &FREE,
-        end: &[(1, Tidy, MARKED)],
-    },
-    Schedule {
-        name: "enter that helps",
-        domain: THREE,
-        before: &NAMED,
-        middle: Middle::Stops(Call::Enter, 1, 6),
-        after: &COMMITTED,
-        end: &[(1, Tidy, MARKED_BY_ANOTHER)],
-    },
-    Schedule {
-        name: "lock",
-        domain: THREE,
-        before: &INSIDE,
-        middle: Middle::Stops(Call::Lock(0), 1, 17),
-        after: &FREE_LATER,
-        end: &[(1, Tidy, MARKED_LATER)],
-    },
-    Schedule {
-        name: "help of a commit",
-        domain: THREE,
-        before: &NAMED_BESIDES,
-        middle: Middle::Stops(Call::Now, 1, 4),
-        after: &COMMITTED_BESIDES,
-        end: &[(1, Tidy, MARKED)],
-    },
-    Schedule {
-        name: "abort",
-        domain: THREE,
-        before: &HOLDING,
-        middle: Middle::Stops(Call::Abort, 1, 2),
-        after: &FREE,
-        end: &[(1, Tidy, MARKED)],
-    },
-    Schedule {
-        name: "abort of the first of two",
-        domain: THREE,
-        before: &HOLDING_TWO,
-        middle: Middle::Stops(Call::Abort, 1, 1),
-        after: &FIRST_GIVEN_BACK,
-        end: &[(1, Tidy, MARKED)],
-    },
-    Schedule {
-        name: "abort of both",
-        domain: THREE,
-        before: &HOLDING_TWO,
-        middle: Middle::Stops(Call::Abort, 2, 3),
-        after: &BOTH_GIVEN_BACK,
-        end: &[(1, Tidy, TWO_MARKED)],
-    },
-    Schedule {
-        name: "low time before the last time",
-        domain: LATE,
-        before: &[],
-        middle: Middle::Stops(Call::Enter, 1, 1),
-        after: &FREE_LATE,
-        end: &[(1, Tidy, KEPT)],
-    },
-    Schedule {
-        name: "enter before the last time",
-        domain: LATE,
-        before: &[],
-        middle: Middle::Stops(Call::Enter, 2, 3),
-        after: &FREE_LATE,
-        end: &[(1, Tidy, MARKED_LATE)],
-    },
-    Schedule {
-        name: "abort before the last time",
-        domain: LATE,
-        before: &HOLDING_LATE,
-        middle: Middle::Stops(Call::Abort, 1, 2),
-        after: &FREE_LATE,
-        end: &[(1, Tidy, MARKED_LATE)],
-    },
-    Schedule {
-        name: "after lock",
-        domain: TWO,
-        before: &INSIDE,
-        middle: Middle::Turns(&[(0, Lock(0), Held)]),
-        after: &TAKEN_LATER,
-        end: &[(1, Tidy, MARKED_LATER)],
-    },
-    Schedule {
-        name: "load of the clock",
-        domain: TWO,
-        before: &HOLDING,
-        middle: Middle::Turns(&[(0, Now, Clock(0, 0, NO_SLOT))]),
-        after: &TAKEN,
-        end: &[(1, Tidy, MARKED)],
-    },
-    Schedule {
-        name: "lost name",
-        domain: TWO,
-        before: &HOLDING,
-        middle: Middle::Turns(&LOST),
-        after: &TAKEN_LATER,
-        end: &[(1, Tidy, TWO_MARKED)],
-    },
-    Schedule {
-        name: "name",
-        domain: TWO,
-        before: &HOLDING,
-        middle: Middle::Turns(&[(0, Now, Clock(0, 0, NO_SLOT)), (0, Name, Named(1))]),
-        after: &COMMITTED,
-        end: &[(1, Tidy, MARKED)],
-    },
-    Schedule {
-        name: "exchange of the stamp",
-        domain: TWO,
-        before: &HOLDING,
-        middle: Middle::Turns(&[
-            (0, Now, Clock(0, 0, NO_SLOT)),
+// A commit by its steps, and the ends of calls: what was done before, what seat 0 calls, what the other
+// seat is answered, and what its tidy is.
+const AFTER: [(
+    &'static str,
+    &'static [Turn],
+    &'static [Turn],
+    &'static [Turn],
+    Answer,
+); 8] = [
+    (
+        "lock",
+        &INSIDE,
+        &[(0, Lock(0), Held)],
+        &TAKEN_LATER,
+        MARKED_LATER,
+    ),
+    (
+        "load of the clock",
+        &HOLDING,
+        &[(0, Now, Clock(8191))],
+        &TAKEN,
+        MARKED,
+    ),
+    ("lost name", &HOLDING, &LOST, &TAKEN_LATER, TWO_MARKED),
+    (
+        "name",
+        &HOLDING,
+        &[(0, Now, Clock(8191)), (0, Name, Named(1))],
+        &COMMITTED,
+        MARKED,
+    ),
+    (
+        "exchange of the stamp",
+        &HOLDING,
+        &[
+            (0, Now, Clock(8191)),
             (0, Name, Named(1)),
             (0, FirstOf(Call::Finish, 1), Stopped),
-        ]),
-        after: &COMMITTED,
-        end: &[(1, Tidy, MARKED)],
-    },
-    Schedule {
-        name: "finish",
-        domain: TWO,
-        before: &HOLDING,
-        middle: Middle::Turns(&[
-            (0, Now, Clock(0, 0, NO_SLOT)),
+        ],
+        &COMMITTED,
+        MARKED,
+    ),
+    (
+        "finish",
+        &HOLDING,
+        &[
+            (0, Now, Clock(8191)),
             (0, Name, Named(1)),
             (0, Finish, Finished),
-        ]),
-        after: &COMMITTED,
-        end: &[(1, Tidy, FREED)],
-    },
-    Schedule {
-        name: "commit",
-        domain: TWO,
-        before: &HOLDING,
-        middle: Middle::Turns(&[(0, Commit, Done(1))]),
-        after: &COMMITTED,
-        end: &[(1, Tidy, FREED)],
-    },
-    Schedule {
-        name: "after abort",
-        domain: TWO,
-        before: &HOLDING,
-        middle: Middle::Turns(&[(0, Abort, Aborted)]),
-        after: &FREE,
-        end: &[(1, Tidy, FREED)],
-    },
+        ],
+        &COMMITTED,
+        FREED,
+    ),
+    (
+        "commit",
+        &HOLDING,
+        &[(0, Commit, Done(1))],
+        &COMMITTED,
+        FREED,
+    ),
+    ("abort", &HOLDING, &[(0, Abort, Aborted)], &FREE, FREED),
 ];
 
 #[test]
-fn stops_within_a_call_and_after_one(rt: HostRuntime) -> Result<(), Fail> {
-    for row in ROWS {
-        let name = row.name;
-        assert_eq!(rt; first_fault(rt.alloc(), &row)?, None, "{name}");
+fn stops_after_a_call(rt: HostRuntime) -> Result<(), Fail> {
+    let config = domain(2, 2, 16, 0);
+    for (row, before, call, after, tidied) in AFTER {
+        let end: [Turn; 1] = [(1, Tidy, tidied)];
+        let other = played::<Brand>(
+            rt.alloc(),
+            &config,
+            before,
+            call,
+            after,
+            &end,
+            Blank::new(1),
+        )?;
+        assert_eq!(rt; other, None, "{row}");
     }
     Ok(())
 }

@@ -5,11 +5,12 @@ use crate::moves::Answer::{
     Words, Written,
 };
 use crate::moves::Move::{
-    Commit, Enter, Finish, Leave, Lock, LockStart, Name, Now, Read, Tidy, Write,
+    Commit, Enter, Finish, FirstOf, Leave, Lock, LockStart, Name, Now, Read, Tidy, Write,
 };
-use crate::tables::{Domain, Middle, Schedule, first_fault};
-use crate::{Answer, Call, Turn};
+use crate::{Answer, Call, Turn, domain, played};
 use mv_history::Holder::{Above, Mark};
+use std::marker::Brand;
+use std::sync::ledger::Blank;
 use std::test::Fail;
 
 // Seat 0 has committed object 0, and is in a section again.
@@ -71,7 +72,7 @@ const NAMED: [Turn; 14] = [
     (0, Lock(1), Held),
     (0, Write(1, [4; 6]), Written),
     (2, Enter, Entered(1)),
-    (0, Now, Clock(1, 1, 0)),
+    (0, Now, Clock(532_480)),
     (0, Name, Named(2)),
 ];
 
@@ -193,112 +194,148 @@ const TWO_UNDER_A_LOCK: Answer = Tidied(0, 2, Some(Above { object: 0, seat: 0 })
 
 const THREE_UNDER_A_LOCK: Answer = Tidied(0, 3, Some(Above { object: 0, seat: 0 }));
 
-const THREE: Domain = Domain {
-    seats: 3,
-    objects: 3,
-    write_max: 16,
-    base: 0,
-};
+// What was done before, the call whose first steps are made, how many of them at least and at most,
+// what the other seats are answered, and what the tidy of seat 1 is.
+type Stop = (
+    &'static str,
+    &'static [Turn],
+    Call,
+    (u32, u32),
+    &'static [Turn],
+    Answer,
+);
 
 // A lock builds ten words for the first version of a write set, and nine for a later one. The first
 // step of `finish` is the exchange of the stamp, and the next are the stores of SUPER: after three of
 // them only the store of MARK is left.
-const ROWS: [Schedule; 11] = [
-    Schedule {
-        name: "lock over its own",
-        domain: THREE,
-        before: &OVER_ITS_OWN,
-        middle: Middle::Stops(Call::Lock(0), 1, 19),
-        after: &FREE,
-        end: &[(1, Tidy, ONE_MARKED)],
-    },
-    Schedule {
-        name: "lock over another's",
-        domain: THREE,
-        before: &OVER_ANOTHERS,
-        middle: Middle::Stops(Call::Lock(0), 1, 19),
-        after: &FREE,
-        end: &[(1, Tidy, TWO_MARKED)],
-    },
-    Schedule {
-        name: "second lock",
-        domain: THREE,
-        before: &HOLDING_ANOTHER,
-        middle: Middle::Stops(Call::Lock(0), 1, 18),
-        after: &FREE_BESIDES,
-        end: &[(1, Tidy, TWO_MARKED)],
-    },
-    Schedule {
-        name: "finish",
-        domain: THREE,
-        before: &NAMED,
-        middle: Middle::Stops(Call::Finish, 1, 3),
-        after: &STAMPED,
-        end: &[(1, Tidy, FOUR_MARKED)],
-    },
-    Schedule {
-        name: "abort of the first",
-        domain: THREE,
-        before: &HOLDING_TWO,
-        middle: Middle::Stops(Call::Abort, 1, 1),
-        after: &FIRST_GIVEN_BACK,
-        end: &[(1, Tidy, THREE_MARKED)],
-    },
-    Schedule {
-        name: "abort of both",
-        domain: THREE,
-        before: &HOLDING_TWO,
-        middle: Middle::Stops(Call::Abort, 2, 3),
-        after: &BOTH_GIVEN_BACK,
-        end: &[(1, Tidy, THREE_MARKED)],
-    },
-    Schedule {
-        name: "lock before its exchange",
-        domain: THREE,
-        before: &OVER_ANOTHERS,
-        middle: Middle::Turns(&[(0, LockStart(0), LockStarted)]),
-        after: &FREE,
-        end: &[(1, Tidy, TWO_MARKED)],
-    },
-    Schedule {
-        name: "lock",
-        domain: THREE,
-        before: &OVER_ANOTHERS,
-        middle: Middle::Turns(&[(0, Lock(0), Held)]),
-        after: &TAKEN,
-        end: &[(1, Tidy, TWO_UNDER_A_LOCK)],
-    },
-    Schedule {
-        name: "load of the clock",
-        domain: THREE,
-        before: &HOLDING_TWO,
-        middle: Middle::Turns(&[(0, Now, Clock(1, 1, 0))]),
-        after: &BOTH_TAKEN,
-        end: &[(1, Tidy, THREE_UNDER_A_LOCK)],
-    },
-    Schedule {
-        name: "name",
-        domain: THREE,
-        before: &NAMED,
-        middle: Middle::Turns(&[]),
-        after: &UNSTAMPED,
-        end: &[(1, Tidy, THREE_MARKED)],
-    },
-    Schedule {
-        name: "whole finish",
-        domain: THREE,
-        before: &NAMED,
-        middle: Middle::Turns(&[(0, Finish, Finished)]),
-        after: &STAMPED,
-        end: &[(1, Tidy, Tidied(4, 0, None))],
-    },
+const WITHIN: [Stop; 6] = [
+    (
+        "lock over its own",
+        &OVER_ITS_OWN,
+        Call::Lock(0),
+        (1, 19),
+        &FREE,
+        ONE_MARKED,
+    ),
+    (
+        "lock over another's",
+        &OVER_ANOTHERS,
+        Call::Lock(0),
+        (1, 19),
+        &FREE,
+        TWO_MARKED,
+    ),
+    (
+        "second lock",
+        &HOLDING_ANOTHER,
+        Call::Lock(0),
+        (1, 18),
+        &FREE_BESIDES,
+        TWO_MARKED,
+    ),
+    (
+        "finish",
+        &NAMED,
+        Call::Finish,
+        (1, 3),
+        &STAMPED,
+        FOUR_MARKED,
+    ),
+    (
+        "abort of the first",
+        &HOLDING_TWO,
+        Call::Abort,
+        (1, 1),
+        &FIRST_GIVEN_BACK,
+        THREE_MARKED,
+    ),
+    (
+        "abort of both",
+        &HOLDING_TWO,
+        Call::Abort,
+        (2, 3),
+        &BOTH_GIVEN_BACK,
+        THREE_MARKED,
+    ),
 ];
 
 #[test]
-fn stops_within_a_call_and_after_one(rt: HostRuntime) -> Result<(), Fail> {
-    for row in ROWS {
-        let name = row.name;
-        assert_eq!(rt; first_fault(rt.alloc(), &row)?, None, "{name}");
+fn stops_within_a_call(rt: HostRuntime) -> Result<(), Fail> {
+    let config = domain(3, 3, 16, 0);
+    for (row, before, call, (least, most), after, tidied) in WITHIN {
+        for count in least..=most {
+            let stop: [Turn; 1] = [(0, FirstOf(call, count), Stopped)];
+            let end: [Turn; 1] = [(1, Tidy, tidied)];
+            let other = played::<Brand>(
+                rt.alloc(),
+                &config,
+                before,
+                &stop,
+                after,
+                &end,
+                Blank::new(1),
+            )?;
+            assert_eq!(rt; other, None, "{row} after {count}");
+        }
+    }
+    Ok(())
+}
+
+// What was done before, what seat 0 calls, what the other seats are answered, and what the tidy of
+// seat 1 is: a lock by its two parts, and a commit by its calls.
+const AFTER: [(
+    &'static str,
+    &'static [Turn],
+    &'static [Turn],
+    &'static [Turn],
+    Answer,
+); 5] = [
+    (
+        "lock before its exchange",
+        &OVER_ANOTHERS,
+        &[(0, LockStart(0), LockStarted)],
+        &FREE,
+        TWO_MARKED,
+    ),
+    (
+        "lock",
+        &OVER_ANOTHERS,
+        &[(0, Lock(0), Held)],
+        &TAKEN,
+        TWO_UNDER_A_LOCK,
+    ),
+    (
+        "load of the clock",
+        &HOLDING_TWO,
+        &[(0, Now, Clock(532_480))],
+        &BOTH_TAKEN,
+        THREE_UNDER_A_LOCK,
+    ),
+    ("name", &NAMED, &[], &UNSTAMPED, THREE_MARKED),
+    (
+        "finish",
+        &NAMED,
+        &[(0, Finish, Finished)],
+        &STAMPED,
+        Tidied(4, 0, None),
+    ),
+];
+
+#[test]
+fn stops_after_a_call(rt: HostRuntime) -> Result<(), Fail> {
+    let config = domain(3, 3, 16, 0);
+    for (row, before, call, after, tidied) in AFTER {
+        let end: [Turn; 1] = [(1, Tidy, tidied)];
+        let other = played::<Brand>(
+            rt.alloc(),
+            &config,
+            before,
+            call,
+            after,
+            &end,
+            Blank::new(1),
+        )?;
+        assert_eq!(rt; other, None, "{row}");
     }
     Ok(())
 }

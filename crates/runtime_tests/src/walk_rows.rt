@@ -1,13 +1,14 @@
 // Worked rows of walks by their looks.
-use crate::Turn;
 use crate::moves::Answer::{
     Aborted, Counts, Done, Entered, Held, Left, Skipped, Started, Walked, Words, Written,
 };
 use crate::moves::Move::{
     Abort, Commit, Enter, Leave, Lock, Read, ReadFound, Table, WalkStart, WalkStep, Write,
 };
-use crate::tables::{Domain, first_fault, one_part};
+use crate::{Turn, domain, played};
 use mv_history::LogTable;
+use std::marker::Brand;
+use std::sync::ledger::Blank;
 use std::test::Fail;
 use version_chain::Found;
 
@@ -85,24 +86,18 @@ const COUNTED: [Turn; 7] = [
     ),
 ];
 
-const SEATS: Domain = Domain {
-    seats: 3,
-    objects: 1,
-    write_max: 16,
-    base: 0,
-};
-
 #[test]
 fn walks_by_their_looks(rt: HostRuntime) -> Result<(), Fail> {
-    let rows = [
-        one_part("over an abort", SEATS, &OVER_AN_ABORT),
-        one_part("below later commits", SEATS, &BELOW_LATER_COMMITS),
-        one_part("ended by a lock", SEATS, &ENDED_BY_A_LOCK),
-        one_part("counted", SEATS, &COUNTED),
+    let rows: [(&str, &[Turn]); 4] = [
+        ("over an abort", &OVER_AN_ABORT),
+        ("below later commits", &BELOW_LATER_COMMITS),
+        ("ended by a lock", &ENDED_BY_A_LOCK),
+        ("counted", &COUNTED),
     ];
-    for row in rows {
-        let name = row.name;
-        assert_eq!(rt; first_fault(rt.alloc(), &row)?, None, "{name}");
+    for (row, turns) in rows {
+        let config = domain(3, 1, 16, 0);
+        let other = played::<Brand>(rt.alloc(), &config, turns, &[], &[], &[], Blank::new(1))?;
+        assert_eq!(rt; other, None, "{row}");
     }
     Ok(())
 }

@@ -12,9 +12,10 @@ use std::marker::Model;
 /// A store and the hints of its seat, which runs commands one after another.
 ///
 /// Beside the hints it keeps how few nodes were vacant when a look through all of them found too few,
-/// and at which printed time; no clause speaks of that. While no commit of another seat and none of
-/// its own that frees a node comes in between, it answers `Full` with no further look. Nothing else
-/// can reach the store meanwhile, so what is known is of this very store's history.
+/// and at which printed time; no clause speaks of that. While nothing but its own commits that free no
+/// node comes in between, it answers `Full` with no further look; after a rest or an entry of another
+/// seat it looks again. Nothing else can reach the store meanwhile, so what is known is of this very
+/// store's history.
 pub struct HintedStore<S: Store<Rules = SetRules>> {
     pub(crate) store: S,
     hints: Hints,

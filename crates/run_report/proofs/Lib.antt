@@ -3,4 +3,3 @@ pub mod Pairs
 pub mod Ordering
 pub mod Replaying
 pub mod Runs
-pub mod Sizes

@@ -1,5 +1,5 @@
 -- Commands are drawn one after another from what is left of a generator's words.
-use Rattle.std.proofs.Common.{◌≡◌, ℕ, suc, ◌+◌, ◌*◌, ◌-◌, ◌<◌, ◌≤◌, List, [], ◌∷◌, ◌++◌, refl, ap, sym, ◌∙◌, append_assoc, append-nil, arith}
+use Rattle.std.proofs.Common.{◌≡◌, ℕ, suc, ◌*◌, ◌-◌, ◌≤◌, List, [], ◌∷◌, ◌++◌, refl, ap, sym, ◌∙◌, append-nil, arith}
 use Rattle.rand_core.specs.Steps.{first_words}
 use Rattle.set_script.specs.declared.commands.Command.{Command}
 use Rattle.rand_pcg.specs.Lcg.{Lcg}
@@ -27,19 +27,6 @@ draws_one {G} step seat left g g1 g2 g3 g4 w1 w2 w3 w4 command e1 e2 e3 e4 is =
 pub draws_none : {G : Type 0} (step : G → ℕ × G) (seat : ℕ) (g : G) → commands_of seat (first_words step 0 g) ≡ []
 unfolding first_words
 draws_none step seat g = refl
-
--- one command of so many more
-pub one_more : {G : Type 0} (step : G → ℕ × G) (seat count i : ℕ) (g now : G) (commands all : List Command) (command : Command) → i < count
-    → ((left : ℕ) → commands_of seat (first_words step (suc (suc (suc (suc left)))) g) ≡ command ∷ commands_of seat (first_words step left now))
-    → commands ++ commands_of seat (first_words step (4 * (count - i)) g) ≡ all
-    → (commands ++ command ∷ []) ++ commands_of seat (first_words step (4 * (count - (i + 1))) now) ≡ all
-one_more step seat count i g now commands all command within draws told =
-    let left : ℕ = 4 * (count - (i + 1)) in
-    let four : suc (suc (suc (suc left))) ≡ 4 * (count - i) = omega arith in
-    append_assoc commands (command ∷ []) (commands_of seat (first_words step left now))
-    ∙ ap (λ (rest : List Command). commands ++ rest) (sym (draws left))
-    ∙ ap (λ (k : ℕ). commands ++ commands_of seat (first_words step k g)) four
-    ∙ told
 
 -- the last command is drawn
 pub all_drawn : {G : Type 0} (step : G → ℕ × G) (seat count i : ℕ) (g : G) (commands all : List Command) → count ≤ i

@@ -4,3 +4,4 @@ pub mod Locking
 pub mod Sections
 pub mod Outcomes
 pub mod Threads
+pub mod Exchanges

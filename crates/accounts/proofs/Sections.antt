@@ -3,9 +3,9 @@ use Rattle.std.proofs.Common.{◌≡◌, ◌≢◌, ℕ, ◌+◌, ◌-◌, ◌^�
 use Rattle.accounts.specs.declared.rules.TheConstants.{ACCOUNTS}
 use Rattle.mv_history.specs.State.{State, Writes, written}
 use Rattle.mv_history.specs.Meaning.{Seat, InSection, IsSection, snapshot_of, state_of}
-use Rattle.mv_history.specs.Calls.{Continues, IsAsBefore, GoesOn, Prepares, Enters}
+use Rattle.mv_history.specs.Calls.{Continues, IsAsBefore, GoesOn, Prepares, Enters, NamesNoCommit}
 use Rattle.mv_history.proofs.Snapshots.{length-state_of, snapshot_of-goes_on}
-use Rattle.mv_history.proofs.Steps.{Continues-Continues, length-seen}
+use Rattle.mv_history.proofs.Steps.{Continues-Continues, NamesNoCommit-NamesNoCommit, length-seen}
 use Rattle.accounts.specs.Rules.{balance, total, account_of, IsOpening, IsTransfer}
 use Rattle.accounts.specs.Attempts.{CanHoldTwo}
 use Rattle.accounts.proofs.Totals.{total-state_at, balances-le}
@@ -40,18 +40,23 @@ gain-fits s u a b amount had got e none h la lb n had_is got_is enough =
     let whole = total-read-fits s u e none h in
     omega (arith, both, whole, enough, had_is, got_is)
 
--- A section that a call has entered: all that the seat had seen is in its snapshot, and no commit was made since.
+-- A section that a call has entered: all that the seat had seen is in its snapshot, and no commit was made or tried since.
 pub record IsOf (old : Seat) (s : InSection) : Type 0 where
   pub continues : Continues old s.seat
   pub mine : s.seat.mine ≡ old.mine
   pub at : length old.seen ≤ s.at
+  pub quiet : NamesNoCommit old s.seat
 
 pub entered : {old prepared : Seat} {s t : InSection} → Prepares old prepared → Enters prepared s → GoesOn s t → IsOf old t
-entered p e g = record {
-  continues = Continues-Continues p.continues (Continues-Continues e.seat.continues g.continues);
-  mine = g.mine ∙ e.seat.mine ∙ p.mine;
-  at = omega (arith, length-seen p.continues, e.at, g.at);
-}
+entered {old} {prepared} {s} {t} p e g =
+    let inside : Continues prepared t.seat = Continues-Continues e.seat.continues g.continues in
+    record {
+      continues = Continues-Continues p.continues inside;
+      mine = g.mine ∙ e.seat.mine ∙ p.mine;
+      at = omega (arith, length-seen p.continues, e.at, g.at);
+      quiet = NamesNoCommit-NamesNoCommit p.continues inside p.names_no_commit
+          (NamesNoCommit-NamesNoCommit e.seat.continues g.continues e.names_no_commit g.names_no_commit);
+    }
 
 -- the call has room for two locks in it
 pub can_hold : {old prepared : Seat} {s t : InSection} → Prepares old prepared → prepared.write_max ≤ prepared.spare → 2 ≤ old.write_max

@@ -40,12 +40,16 @@ total-after start front (Change c ∷ es) s e h =
     (state_after-append start front (Change c ∷ []) ∙ ap (λ (u : State). written u c.writes) e) (rw append_assoc h)
     ∙ total-transfer c.tag s c.writes here
 
+-- after an allowed history the total is the opening one
+pub total-history : (start : State) (history : List Entry) → IsAllowed IsTransfer start history → total (state_after start history) ≡ total start
+total-history start history h = total-after start [] history start refl h
+
 -- at every time that a seat has seen, the total is the opening one
 pub total-state_at : (s : Seat) → IsSeat IsOpening IsTransfer s → (t : ℕ) → total (state_at s.start s.seen t) ≡ total s.start
 total-state_at s lawful t =
     let front : IsAllowed IsTransfer s.start (take t s.seen) =
     IsAllowed-front IsTransfer s.start (take t s.seen) (drop t s.seen) (rw (take-append-drop t s.seen) lawful.allowed) in
-    total-after s.start [] (take t s.seen) s.start refl front
+    total-history s.start (take t s.seen) front
 
 -- the two balances of different accounts are part of the total
 pub balances-le : (s : State) (a b : ℕ) → a < length s → b < length s → a ≢ b → balance s a + balance s b ≤ total s

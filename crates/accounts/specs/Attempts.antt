@@ -5,7 +5,8 @@ use Rattle.mv_history.specs.declared.history.Entry.TheVariants.{Change}
 use Rattle.mv_history.specs.State.{state_at}
 use Rattle.mv_history.specs.declared.answers.Holder.{Holder}
 use Rattle.mv_history.specs.Meaning.{Seat, InSection, IsWorn}
-use Rattle.mv_history.specs.Calls.{Continues, GoesOn, IsEntryAt, IsStale, Overtakes}
+use Rattle.mv_history.specs.Trail.{commit_exchanges}
+use Rattle.mv_history.specs.Calls.{call_trail, Continues, GoesOn, IsEntryAt, IsStale, Overtakes}
 use Rattle.accounts.specs.declared.attempt.Attempt.{Attempt}
 use Rattle.accounts.specs.declared.attempt.Attempt.TheVariants.{Done, Short, Refused, End}
 use Rattle.accounts.specs.declared.attempt.Refusal.{Refusal}
@@ -80,9 +81,14 @@ Answers k old new tag (Short time had) = IsShort old new tag time had
 Answers k old new tag (Refused refusal) = (new.mine ≡ old.mine) × IsWhy k old new tag refusal
 Answers k old new tag End = (new.mine ≡ old.mine) × IsWorn new
 
--- What an attempt leaves: all that was seen is still seen, and this stands behind its answer.
+-- no more than one exchange on CLOCK for a commit is among the steps of the call
+abbrev pub TriesOne : Seat → Seat → Type 0
+TriesOne old new = length (commit_exchanges (call_trail old new)) ≤ 1
+
+-- What an attempt leaves: all that was seen is still seen, it tried one commit at most, and this stands behind its answer.
 pub record Attempted (k : Causes) (old new : Seat) (tag : List ℕ) (attempt : Attempt) : Type 0 where
   pub continues : Continues old new
+  pub tries : TriesOne old new
   pub answers : Answers k old new tag attempt
 
 -- the section holds nothing, and has room for two locks

@@ -5,7 +5,7 @@ ghost use Rattle.mv_history.specs.Meaning.{Lacks};
 ghost use Rattle.mv_history.specs.Calls.{GoesOn, Locks};
 ghost use Rattle.accounts.specs.Attempts.{causes, Attempted, CanHoldTwo, IsEither, IsLockRefused};
 
-use crate::rules::{Accounts, account};
+use crate::rules::{Accounts, BALANCE, account};
 use mv_history::{CommitAnswer, Holder, LockAnswer, Rival, Room, Section, Store, View, Words};
 
 /// What an attempt of a transfer comes to.
@@ -61,13 +61,13 @@ pub fn transfer<S: Store<Rules = Accounts>>(
         return (store, Attempt::Refused(Refusal::Full(holder)));
     }
     let mut section = store.enter();
-    let has = section.read(from)[0];
+    let has = section.read(from)[BALANCE];
     if has < amount {
         let time = section.at();
         return (section.leave(), Attempt::Short { time, balance: has });
     }
     let left = account(has - amount);
-    let gained = account(section.read(to)[0] + amount);
+    let gained = account(section.read(to)[BALANCE] + amount);
     if let Err(refusal) = write_two(&mut section, from, left, to, gained) {
         return (section.abort(), Attempt::Refused(refusal));
     }

@@ -43,5 +43,5 @@ mod workers;
 
 pub use attempt::{Attempt, Refusal, transfer};
 pub use reading::{keeps_total, sum, total};
-pub use rules::{ACCOUNTS, Accounts, account, opening};
+pub use rules::{ACCOUNTS, Accounts, BALANCE, account, opening};
 pub use workers::{Moved, Sums, Worker, make_transfers, read_sums, run_all};

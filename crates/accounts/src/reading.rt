@@ -5,7 +5,7 @@ ghost use Rattle.mv_history.specs.State.{state_at};
 ghost use Rattle.mv_history.specs.Calls.{Continues};
 ghost use Rattle.accounts.specs.Rules.{total as total_of};
 
-use crate::rules::{ACCOUNTS, Accounts};
+use crate::rules::{ACCOUNTS, Accounts, BALANCE};
 use mv_history::{Section, Store, View};
 
 /// The sum of all accounts of a view: of a section, or of the state at the close.
@@ -19,7 +19,7 @@ pub fn total<V: View>(view: &mut V) -> u64
 {
     let mut sum = 0;
     for account in 0..ACCOUNTS {
-        sum += view.read(account)[0];
+        sum += view.read(account)[BALANCE];
     }
     sum
 }

@@ -7,6 +7,9 @@ use mv_history::{Protocol, Words};
 /// How many accounts there are. Account `a`, 0 to 7, is the object `a`.
 pub const ACCOUNTS: u32 = 8;
 
+/// Which of an account's words is its balance.
+pub const BALANCE: usize = 0;
+
 /// The rules of the accounts, which every commit of a store over them keeps.
 ///
 /// An account's balance is the first of its object's words; a transfer leaves the others zero. A

@@ -2,18 +2,20 @@ use Rattle.std.proofs.Common.{[], ◌∷◌, refl, ap, subst, ◌∙◌, arith}
 use Rattle.mv_history.specs.State.{State}
 use Rattle.mv_history.specs.Meaning.{Seat, words_at}
 use Rattle.mv_history.specs.Calls.{Leaves, Commits}
-use Rattle.mv_history.proofs.Steps.{Continues-Continues, IsAsBefore-IsAsBefore, GoesOn-GoesOn}
+use Rattle.mv_history.proofs.Steps.{Continues-Continues, IsAsBefore-IsAsBefore, GoesOn-GoesOn, NamesNoCommit-NamesNoCommit}
 use Rattle.mv_history.specs.CallLaws.{GoesOn-itself}
 use Rattle.accounts.specs.Rules.{balance_of}
-use Rattle.accounts.specs.Attempts.{causes}
+use Rattle.accounts.specs.Attempts.{causes, TriesOne}
 use Rattle.accounts.proofs.Fits.{transfer-fit}
 use Rattle.accounts.proofs.Sections.{within-read, gain-fits, entered, can_hold, is_transfer}
+use Rattle.accounts.proofs.Exchanges.{none_one, one_before, one_left, left_one}
 use Rattle.accounts.proofs.Outcomes.{done_by, short_by, refused_by, worn_by}
 use Rattle.accounts.proofs.attempt.transfer.Goals as goal
 
 pub returns-in-Short : goal.returns-in-Short
 returns-in-Short g c = record {
   continues = c.prepare.ensures.prepares.continues;
+  tries = none_one (g.S.Store.seat_of c.args.store) (g.S.Store.seat_of c.prepare.new.self) c.prepare.ensures.prepares.names_no_commit;
   answers = (c.prepare.ensures.prepares.mine, c.in-Short.ensures.short c.in-Short.holder refl);
 }
 
@@ -30,6 +32,7 @@ returns-then-has-amount g c =
     let left = subst (λ (s : Seat). Leaves (g.S.Open.Section.section c.read.new.self) s) (g.met.S.Store.same_seat _) c.leave.ensures in
     record {
       continues = Continues-Continues x.continues left.continues;
+      tries = left_one x.continues x.quiet left;
       answers = short_by _ _ _ _ _ _ _ _ (entered c.prepare.ensures.prepares e (GoesOn-itself _))
           (g.met.S.Open.Section.lawful c.enter-section.result) (g.met.S.Open.Section.reads _) e.own
           (g.met.S.Open.Section.others_stay _ _ c.read.ensures.as_before) left c.at-time.ensures (ap balance_of c.read.ensures.words)
@@ -70,6 +73,8 @@ returns-in-Err g c =
     let shows = causes g.S.Open.Section.may_refuse g.S.Store.holds_back g.S.Open.Section.found_held g.S.Open.Section.loaded in
     record {
       continues = Continues-Continues x.continues (Continues-Continues goes.continues left.continues);
+      tries = left_one (Continues-Continues x.continues goes.continues)
+          (NamesNoCommit-NamesNoCommit x.continues goes.continues x.quiet goes.names_no_commit) left;
       answers = (
         left.mine ∙ goes.mine ∙ x.mine,
         refused_by shows _ _ _ _ (c.args.from ∷ c.args.to ∷ c.args.amount ∷ 0 ∷ []) c.in-Err.refusal x c.in-Err.ensures.refused left,
@@ -85,6 +90,8 @@ returns-in-Done g c =
     c.in-Done.ensures.done.0 in
     record {
       continues = Continues-Continues x.continues made.continues;
+      tries = one_before x.continues made.continues x.quiet
+          (subst (λ (s : Seat). TriesOne (g.S.Open.Section.section c.write_two.new.section).seat s) (g.met.S.Store.same_seat _) c.in-Done.ensures.at_most_one);
       answers = done_by _ _ _ tag _ x (g.met.S.Store.lawful c.in-Done.store) made;
     }
 
@@ -96,6 +103,8 @@ returns-in-Again g c =
     let left = subst (λ (s : Seat). Leaves (g.S.Open.Section.section c.in-Again.section) s) (g.met.S.Store.same_seat _) c.abort-in-Again.ensures in
     record {
       continues = Continues-Continues x.continues (Continues-Continues again.1.seat.continues left.continues);
+      tries = one_before x.continues (Continues-Continues again.1.seat.continues left.continues) x.quiet
+          (one_left again.1.seat.continues c.in-Again.ensures.at_most_one left);
       answers = (
         left.mine ∙ again.1.seat.mine ∙ x.mine,
         (_, _, record { comes = x.continues; at = x.at; goes = left.continues }, again.0, again.2),
@@ -110,5 +119,7 @@ returns-in-End g c =
     let left = subst (λ (s : Seat). Leaves (g.S.Open.Section.section c.in-End.section) s) (g.met.S.Store.same_seat _) c.abort-in-End.ensures in
     record {
       continues = Continues-Continues x.continues (Continues-Continues end.0.seat.continues left.continues);
+      tries = one_before x.continues (Continues-Continues end.0.seat.continues left.continues) x.quiet
+          (one_left end.0.seat.continues c.in-End.ensures.at_most_one left);
       answers = (left.mine ∙ end.0.seat.mine ∙ x.mine, worn_by _ _ end.1 left (g.met.S.Store.lawful c.abort-in-End.result).time);
     }

@@ -1,17 +1,15 @@
 -- What entering a section means.
-use Rattle.std.proofs.Common.{◌≡◌, ℕ, ◌+◌, ◌-◌, ◌<◌, ◌≤◌, drop, false, List, [], ◌∷◌, ◌++◌, length, take, refl, sym, ap, ◌∙◌, subst, arith}
+use Rattle.std.proofs.Common.{◌≡◌, ℕ, ◌+◌, ◌-◌, ◌≤◌, drop, false, List, [], length, take, refl, sym, ap, ◌∙◌, subst, arith}
 use Rattle.std.specs.Prelude.{Contains, Some, None}
 use Rattle.std.proofs.lemmas.List.{length-take-le, length-append, take-append-drop}
-use Rattle.mv_history.specs.declared.Entry.{Entry}
-use Rattle.mv_history.specs.declared.Step.{Step}
 use Rattle.mv_history.specs.declared.StepKind.{StepKind}
 use Rattle.mv_history.specs.declared.StepKind.TheVariants.{LoadLow, StoreMark, LoadTime, LoadNamed, LoadCheck, SwapStamp}
 use Rattle.mv_history.specs.Trail.{is_commit_exchange, commit_exchanges}
-use Rattle.mv_history.specs.Calls.{Continues, Waits, Enters, call_trail}
+use Rattle.mv_history.specs.Calls.{Enters}
 use Rattle.mv_layout.specs.declared.Config.{Config}
 use Rattle.mv_core.specs.declared.view.View.{View}
 use Rattle.mv_core.specs.declared.view.Section.{Section}
-use Rattle.mv_core.specs.Rings.{held_count, own_of, spare_count, writes_from, set_first}
+use Rattle.mv_core.specs.Rings.{own_of, spare_count, writes_from, set_first}
 use Rattle.mv_core.specs.Views.{time_in}
 use Rattle.mv_core.specs.HistoryFacts.{BeginsWith}
 use Rattle.mv_core.specs.WalkSteps.{IsWalking}
@@ -23,7 +21,7 @@ use Rattle.seat_log.specs.Stands.{Stands}
 use Rattle.seat_log.proofs.PlainSteps.{stands_entered}
 use Rattle.mv_history.specs.State.{State, Writes}
 use Rattle.mv_core.specs.Known.{Known}
-use Rattle.version_chain.specs.Walks.{inside_of, section_in, time_at, MayWalk}
+use Rattle.version_chain.specs.Walks.{inside_of, time_at, MayWalk}
 use Rattle.mvrlu.specs.Placed.{Placed, seat_from, section_from, IsIdle, IsBusy}
 use Rattle.mvrlu.specs.Causes.{Took}
 use Rattle.mvrlu.proofs.Trails.{made, none_named}

@@ -1,6 +1,6 @@
 -- What trying to commit means.
-use Rattle.std.proofs.Common.{◌≡◌, ℕ, ◌+◌, ◌-◌, ◌<◌, ◌≤◌, List, [], ◌∷◌, ◌++◌, length, refl, sym, ap, ◌∙◌, subst, arith}
-use Rattle.std.specs.Prelude.{Some, None, slice_get}
+use Rattle.std.proofs.Common.{◌≡◌, ℕ, ◌+◌, ◌-◌, ◌<◌, List, [], ◌∷◌, ◌++◌, length, refl, sym, ap, ◌∙◌, subst, arith}
+use Rattle.std.specs.Prelude.{None, slice_get}
 use Rattle.mv_history.specs.declared.Entry.TheVariants.{Change}
 use Rattle.mv_history.specs.declared.Step.{Step}
 use Rattle.mv_history.specs.declared.answers.Rival.{Rival}
@@ -14,8 +14,6 @@ use Rattle.mv_layout.specs.declared.Config.{Config}
 use Rattle.mv_layout.specs.Words.{clock_time_of}
 use Rattle.mv_core.specs.declared.view.View.{View}
 use Rattle.mv_core.specs.declared.view.Past.{Past}
-use Rattle.mv_core.specs.declared.view.Phase.{Phase}
-use Rattle.mv_core.specs.declared.view.Section.{Section}
 use Rattle.mv_core.specs.Known.{Known}
 use Rattle.mv_core.specs.NameSteps.{commit_of}
 use Rattle.mv_core.specs.Rings.{own_of, spare_count}
@@ -24,7 +22,7 @@ use Rattle.mv_core.specs.Views.{time_in}
 use Rattle.mv_core.specs.WalkSteps.{IsWalking}
 use Rattle.mv_core.proofs.history.Fronts.{begins_by}
 use Rattle.seat_log.specs.Stands.{Stands}
-use Rattle.version_chain.specs.Walks.{inside_of, section_in, time_at, MayWalk}
+use Rattle.version_chain.specs.Walks.{inside_of, section_in, MayWalk}
 use Rattle.object_lock.proofs.OwnNotes.{own_long}
 use Rattle.commit_abort.specs.Commits.{MayCommit, LoadsClock, Commits, IsKept, IsOvertakenBy, IsAtEnd}
 use Rattle.mvrlu.specs.Placed.{Placed, seat_from, section_from, IsIdle, IsBusy}

@@ -1,13 +1,14 @@
 -- What a pass and its log mean is a lawful seat, and in a section a lawful section.
-use Rattle.std.proofs.Common.{◌≡◌, ◌≢◌, ℕ, zero, suc, ◌+◌, ◌-◌, ◌%◌, ◌<◌, ◌≤◌, Bool, true, false, not, ◌&&◌, nat_le, List, [], ◌∷◌, length, map, drop, refl, sym, ap, ◌∙◌, subst, ⊎_elim, arith, eq-eqb, length-drop, Some, All}
+use Rattle.std.proofs.Common.{◌≡◌, ◌≢◌, ℕ, zero, suc, ◌+◌, ◌-◌, ◌%◌, ◌<◌, ◌≤◌, Bool, true, not, ◌&&◌, nat_le}
+use Rattle.std.proofs.Common.{List, [], ◌∷◌, length, map, drop, refl, sym, ap, ◌∙◌, subst, ⊎_elim, arith, eq-eqb, length-drop, Some}
 use Rattle.std.specs.Prelude.{slice_get, slice_index_or}
 use Rattle.std.proofs.Math.Logic.{∥∥₁_elim}
 use Rattle.std.proofs.lemmas.Bool.{le-leb}
-use native.Mathlib.Decide.{ℕ_discrete, dec_lt}
-use Rattle.std.proofs.lemmas.List.{get_or-drop, length-map}
+use native.Mathlib.Decide.{dec_lt}
+use Rattle.std.proofs.lemmas.List.{get_or-drop}
 use mathlib.Core.Logic.{dite}
 use Rattle.std.proofs.lemmas.List.Elements.{All-nil, All-cons, All-from_get_or}
-use Rattle.std.proofs.lemmas.Option.{slice_get_within, get_or_from_slice_get, slice_get-get_or}
+use Rattle.std.proofs.lemmas.Option.{slice_get_within, slice_get-get_or}
 use Rattle.mv_history.specs.declared.Entry.{Entry}
 use Rattle.mv_history.specs.declared.Entry.TheVariants.{Rest}
 use Rattle.mv_history.specs.State.{State, Writes, touches, maker_of, writes_of}
@@ -16,7 +17,6 @@ use Rattle.mv_history.specs.Laws.{IsSeat-prop, IsSection-prop}
 use Rattle.mv_history.specs.Meaning.{IsSeat, IsSection}
 use Rattle.mv_layout.specs.declared.Config.{Config}
 use Rattle.mv_core.specs.declared.ring.Slot.TheVariants.{Live}
-use Rattle.mv_core.specs.declared.ring.Version.{Version}
 use Rattle.mv_core.specs.declared.ring.Status.{Status}
 use Rattle.mv_core.specs.declared.ring.Status.TheVariants.{Held, Aborted, Committed}
 use Rattle.mv_core.specs.declared.view.View.{View}
@@ -30,17 +30,16 @@ use Rattle.mv_core.proofs.history.Latest.{last_that-reaches, latest-reaches}
 use Rattle.mv_core.proofs.logs.Written.{write_there}
 use Rattle.mv_core.proofs.kinds.naming.entry.NewEntry.{bool_is}
 use Rattle.seat_log.specs.declared.version.Note.{Note}
-use Rattle.seat_log.specs.Notes.{Noted, held_from, IsNoteAt}
+use Rattle.seat_log.specs.Notes.{Noted, held_from}
 use Rattle.seat_log.proofs.Places.{get_dropped}
 use Rattle.seat_log.specs.Stands.{version_of, IsAsNoted, Stands}
 use Rattle.version_chain.specs.Walks.{section_in, time_at, MayWalk}
-use Rattle.object_lock.specs.Locks.{HoldsObject}
 use Rattle.object_lock.proofs.OwnNotes.{note_write, held_notes, own_is, own_long}
-use Rattle.object_lock.proofs.Locked.{touched_is}
-use Rattle.mvrlu.specs.Placed.{Placed, seat_from, section_from, IsPlaced, IsIdle, IsBusy}
+use Rattle.mvrlu.specs.Placed.{Placed, seat_from, section_from, IsPlaced, IsBusy}
 
 -- a seat
-seat_known : (starts : State → Type 0) (allows : List ℕ → State → Writes → Type 0) (p : Placed) → Known starts allows p.view → IsSeat starts allows (seat_from p)
+seat_known : (starts : State → Type 0) (allows : List ℕ → State → Writes → Type 0) (p : Placed) → Known starts allows p.view
+    → IsSeat starts allows (seat_from p)
 seat_known starts allows p k = record {
   start = k.opening;
   words = k.words;
@@ -52,7 +51,8 @@ seat_known starts allows p k = record {
   last = omega arith;
 }
 
-pub seat_lawful : (starts : State → Type 0) (allows : List ℕ → State → Writes → Type 0) → ((s : State) → IsProp (starts s)) → ((t : List ℕ) (s : State) (w : Writes) → IsProp (allows t s w)) → (p : Placed) → IsPlaced starts allows p → IsSeat starts allows (seat_from p)
+pub seat_lawful : (starts : State → Type 0) (allows : List ℕ → State → Writes → Type 0) → ((s : State) → IsProp (starts s))
+    → ((t : List ℕ) (s : State) (w : Writes) → IsProp (allows t s w)) → (p : Placed) → IsPlaced starts allows p → IsSeat starts allows (seat_from p)
 seat_lawful starts allows one_start one_allowed p is =
     ∥∥₁_elim is.known (IsSeat-prop starts allows one_start one_allowed (seat_from p)) (seat_known starts allows p)
 
@@ -75,7 +75,8 @@ note_there ns o e =
     (w.0, n.0, n.1, ap (λ (p : ℕ × List ℕ). p.0) n.2)
 
 -- notes of which no two are of one object have distinct writes
-once_distinct : (ns : List Note) → ((i j : ℕ) (m n : Note) → slice_get ns i ≡ Some m → slice_get ns j ≡ Some n → m.object ≡ n.object → i ≡ j) → are_distinct (map note_write ns) ≡ true
+once_distinct : (ns : List Note) → ((i j : ℕ) (m n : Note) → slice_get ns i ≡ Some m → slice_get ns j ≡ Some n → m.object ≡ n.object → i ≡ j)
+    → are_distinct (map note_write ns) ≡ true
 once_distinct [] once = refl
 once_distinct (n ∷ ns) once =
     let rest = once_distinct ns (λ i j a b p q e. let same : suc i ≡ suc j = once (suc i) (suc j) a b p q e in omega arith) in
@@ -89,7 +90,8 @@ once_distinct (n ∷ ns) once =
 -- each note has the words of an object
 notes_wide : (ns : List Note) → ((i : ℕ) (n : Note) → slice_get ns i ≡ Some n → IsWords n.words) → AreWrites (map note_write ns)
 notes_wide [] all = All-nil (λ (w : ℕ × List ℕ). IsWords w.1)
-notes_wide (n ∷ ns) all = All-cons (λ (w : ℕ × List ℕ). IsWords w.1) (note_write n) (map note_write ns) (all 0 n refl) (notes_wide ns (λ i m e. all (suc i) m e))
+notes_wide (n ∷ ns) all = All-cons (λ (w : ℕ × List ℕ). IsWords w.1) (note_write n) (map note_write ns) (all 0 n refl) (notes_wide ns (λ i m e. all
+    (suc i) m e))
 
 -- the slots of two positions of a log are one only where the positions are
 slots_once : (n a i j : ℕ) → i < n → j < n → (a + i) % n ≡ (a + j) % n → i ≡ j
@@ -100,7 +102,8 @@ slots_once n a i j p q e =
     (λ lt. absurd (slots_apart n (a + j) (a + i) (omega arith) (omega arith) (sym e)))
     (λ le. omega arith))
 
-module _ (starts : State → Type 0) (allows : List ℕ → State → Writes → Type 0) (p : Placed) (k : Known starts allows p.view) (placed : IsPlaced starts allows p) (may : MayWalk p.view) (few : p.log.held ≤ p.config.write_max) where
+module _ (starts : State → Type 0) (allows : List ℕ → State → Writes → Type 0) (p : Placed) (k : Known starts allows p.view)
+    (placed : IsPlaced starts allows p) (may : MayWalk p.view) (few : p.log.held ≤ p.config.write_max) where
   abbrev c : Config
   c = p.config
 
@@ -126,7 +129,8 @@ module _ (starts : State → Type 0) (allows : List ℕ → State → Writes →
   note_held : (i : ℕ) (n : Note) → slice_get (held_notes l) i ≡ Some n → slot_at v.ring (index_of c (l.freed + (held_from l + i))) ≡ Live (version_of n) Held
   note_held i n at =
       let has = s.live (held_from l + i) n (sym (get_dropped (held_from l) i l.live) ∙ at) in
-      has.lives ∙ ap (Live (version_of n)) (as_held (nat_le (held_from l) (held_from l + i)) n has.status (le-leb (held_from l) (held_from l + i) (omega arith)) has.as_noted)
+      has.lives ∙ ap (Live (version_of n)) (as_held (nat_le (held_from l) (held_from l + i)) n has.status (le-leb (held_from l) (held_from l + i)
+      (omega arith)) has.as_noted)
 
   known_held : (i : ℕ) (n : Note) → slice_get (held_notes l) i ≡ Some n → KnownHeld v inside (version_of n)
   known_held i n at = section.held (index_of c (l.freed + (held_from l + i))) (version_of n) (note_held i n at)
@@ -142,7 +146,8 @@ module _ (starts : State → Type 0) (allows : List ℕ → State → Writes →
   distinct =
       ap are_distinct (own_is c v l s)
       ∙ once_distinct (held_notes l) (λ i j m n a b same.
-      let one = section.apart (index_of c (l.freed + (held_from l + i))) (index_of c (l.freed + (held_from l + j))) (version_of m) (version_of n) (note_held i m a) (note_held j n b) same in
+      let one = section.apart (index_of c (l.freed + (held_from l + i))) (index_of c (l.freed + (held_from l + j))) (version_of m) (version_of n)
+      (note_held i m a) (note_held j n b) same in
       let at = slots_once c.slots l.freed (held_from l + i) (held_from l + j) (place_small i m a) (place_small j n b) one in
       omega arith)
 
@@ -165,7 +170,8 @@ module _ (starts : State → Type 0) (allows : List ℕ → State → Writes →
   past = let seen = section.seen in let base = placed.base in omega arith
 
   -- an entry after the snapshot
-  after_entry : (i : ℕ) → i < length (drop at v.past.seen) → IsEntry v.base v.past.seen (v.base + (at + i) + 1) (slice_index_or (drop at v.past.seen) i (Rest 0))
+  after_entry : (i : ℕ) → i < length (drop at v.past.seen) → IsEntry v.base v.past.seen (v.base + (at + i) + 1) (slice_index_or
+      (drop at v.past.seen) i (Rest 0))
   after_entry i lt =
       let wide = length-drop at v.past.seen in
       let there = slice_get-get_or v.past.seen (at + i) (Rest 0) (omega arith) ∙ ap Some (sym (get_or-drop at v.past.seen i (Rest 0))) in
@@ -207,6 +213,8 @@ module _ (starts : State → Type 0) (allows : List ℕ → State → Writes →
     in_order = in_order;
   }
 
-pub section_lawful : (starts : State → Type 0) (allows : List ℕ → State → Writes → Type 0) → ((s : State) → IsProp (starts s)) → ((t : List ℕ) (s : State) (w : Writes) → IsProp (allows t s w)) → (p : Placed) → IsBusy starts allows p → IsSection starts allows (section_from p)
+pub section_lawful : (starts : State → Type 0) (allows : List ℕ → State → Writes → Type 0) → ((s : State) → IsProp (starts s))
+    → ((t : List ℕ) (s : State) (w : Writes) → IsProp (allows t s w)) → (p : Placed) → IsBusy starts allows p → IsSection starts allows (section_from p)
 section_lawful starts allows one_start one_allowed p is =
-    ∥∥₁_elim is.placed.known (IsSection-prop starts allows one_start one_allowed (section_from p)) (λ k. section_known starts allows p k is.placed is.may is.few)
+    ∥∥₁_elim is.placed.known (IsSection-prop starts allows one_start one_allowed (section_from p))
+    (λ k. section_known starts allows p k is.placed is.may is.few)

@@ -1,5 +1,5 @@
 -- What leaving a section means, with all that it held given up.
-use Rattle.std.proofs.Common.{◌≡◌, ℕ, false, List, [], refl, ap, ◌∙◌}
+use Rattle.std.proofs.Common.{◌≡◌, ℕ, false, List, refl, ap, ◌∙◌}
 use Rattle.std.specs.Prelude.{None}
 use Rattle.mv_history.specs.declared.StepKind.{StepKind}
 use Rattle.mv_history.specs.declared.StepKind.TheVariants.{UnlockHead, LoadDeath, ClearMark}

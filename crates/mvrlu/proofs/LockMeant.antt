@@ -1,28 +1,23 @@
 -- What a lock means.
-use Rattle.std.proofs.Common.{◌≡◌, ℕ, ◌+◌, ◌-◌, ◌<◌, ◌≤◌, true, false, List, [], ◌∷◌, ◌++◌, length, take, drop, refl, sym, ap, ◌∙◌, subst, arith}
-use Rattle.std.specs.Prelude.{None}
+use Rattle.std.proofs.Common.{◌≡◌, ℕ, ◌+◌, ◌-◌, ◌≤◌, false, List, [], ◌∷◌, ◌++◌, length, refl, sym, ap, ◌∙◌}
 use Rattle.mv_history.specs.declared.Step.{Step}
 use Rattle.mv_history.specs.declared.StepKind.{StepKind}
 use Rattle.mv_history.specs.declared.StepKind.TheVariants.{LoadHead, LoadFirst, LoadStamp, LoadData, LoadMaster, StoreBuilt, LockHead}
 use Rattle.mv_history.specs.Trail.{is_commit_exchange, commit_exchanges}
-use Rattle.mv_history.specs.State.{State, Writes, touches}
-use Rattle.mv_history.specs.Meaning.{Seat, InSection, IsSection, Lacks, snapshot_of, state_of, words_at}
+use Rattle.mv_history.specs.State.{touches}
+use Rattle.mv_history.specs.Meaning.{InSection, Lacks, snapshot_of, state_of, words_at}
 use Rattle.mv_history.specs.Calls.{Continues, GoesOn, Locks}
 use Rattle.mv_history.proofs.Writing.{words-written_other}
 use Rattle.mv_history.proofs.Snapshots.{snapshot_of-later}
 use Rattle.mv_layout.specs.declared.Config.{Config}
 use Rattle.mv_core.specs.declared.view.View.{View}
 use Rattle.mv_core.specs.declared.view.Phase.{Phase}
-use Rattle.mv_core.specs.Known.{Known}
 use Rattle.mv_core.specs.Views.{time_in}
 use Rattle.mv_core.specs.Rings.{own_of, spare_count}
-use Rattle.seat_log.specs.Notes.{Noted}
-use Rattle.seat_log.specs.Stands.{Stands}
-use Rattle.version_chain.specs.Walks.{inside_of, time_at, MayWalk}
+use Rattle.version_chain.specs.Walks.{inside_of, time_at}
 use Rattle.version_chain.specs.Reads.{words_in}
 use Rattle.object_lock.specs.Tops.{Tries, IsLockStep}
-use Rattle.mvrlu.specs.Placed.{Placed, seat_from, section_from, IsPlaced, IsBusy}
-use Rattle.mv_core.specs.Passes.{home_of}
+use Rattle.mvrlu.specs.Placed.{Placed, seat_from, section_from}
 use Rattle.mvrlu.proofs.Trails.{made, none_named}
 use Rattle.mvrlu.proofs.Continuing.{continues}
 
@@ -49,7 +44,8 @@ snapshot_words p q o config phase on past =
 pub below_words : (s : InSection) (o : ℕ) → Lacks s o → words_at (snapshot_of s) o ≡ words_at (state_of s) o
 below_words s o lacks = sym (words-written_other (snapshot_of s) s.own o lacks)
 
-module _ (p q : Placed) (before after : ℕ) (tried : List Step) (config : q.config ≡ p.config) (table : q.table ≡ p.table) (t : Tries p.view q.view before after tried) where
+module _ (p q : Placed) (before after : ℕ) (tried : List Step) (config : q.config ≡ p.config) (table : q.table ≡ p.table)
+    (t : Tries p.view q.view before after tried) where
   pub tried_continues : Continues (seat_from p) (seat_from q)
   tried_continues =
       continues p q config table t.trail.0 (ap (λ (u : View). u.number) t.rest) (ap (λ (u : View). u.start) t.rest) (ap (λ (u : View). u.base) t.rest)
@@ -69,7 +65,9 @@ module _ (p q : Placed) (before after : ℕ) (tried : List Step) (config : q.con
     names_no_commit = ap commit_exchanges (made p.view.trail q.view.trail t.trail.0 t.trail.1) ∙ none_named IsLockStep no_name t.trail.0 t.trail.3;
   }
 
-  pub tried_locks : (o : ℕ) → p.view.base ≡ p.config.base → time_at p.view - p.config.base ≤ length p.view.past.seen → touches (own_of p.config p.view.ring) o ≡ false → own_of p.config q.view.ring ≡ own_of p.config p.view.ring ++ (o, words_in p.config q.view o) ∷ [] → spare_count q.view.ring + 1 ≡ spare_count p.view.ring → Locks (section_from p) (section_from q) o
+  pub tried_locks : (o : ℕ) → p.view.base ≡ p.config.base → time_at p.view - p.config.base ≤ length p.view.past.seen
+      → touches (own_of p.config p.view.ring) o ≡ false → own_of p.config q.view.ring ≡ own_of p.config p.view.ring ++
+      (o, words_in p.config q.view o) ∷ [] → spare_count q.view.ring + 1 ≡ spare_count p.view.ring → Locks (section_from p) (section_from q) o
   tried_locks o base past lacks own spare = record {
     continues = tried_continues;
     mine = ap (λ (u : View). u.past.mine) t.rest;
@@ -77,5 +75,6 @@ module _ (p q : Placed) (before after : ℕ) (tried : List Step) (config : q.con
     spare = spare;
     at = tried_at;
     own = ap (λ (d : Config). own_of d q.view.ring) config ∙ own
-        ∙ ap (λ ws. own_of p.config p.view.ring ++ (o, ws) ∷ []) (snapshot_words p q o config (ap (λ (u : View). u.phase) t.rest) tried_continues past ∙ below_words (section_from p) o lacks);
+        ∙ ap (λ ws. own_of p.config p.view.ring ++ (o, ws) ∷ []) (snapshot_words p q o config (ap (λ (u : View). u.phase) t.rest) tried_continues past
+        ∙ below_words (section_from p) o lacks);
   }

@@ -1,5 +1,5 @@
 -- How many objects there are, and when a section began.
-use Rattle.std.proofs.Common.{◌≡◌, ℕ, ◌+◌, ◌-◌, ◌<◌, ◌≤◌, List, length, sym, ap, ◌∙◌, subst, arith}
+use Rattle.std.proofs.Common.{◌≡◌, ℕ, ◌≤◌, List, length, sym, ap, ◌∙◌, subst, arith}
 use Rattle.std.proofs.Math.Logic.{∥∥₁_elim}
 use Rattle.std.proofs.Props.{props}
 use Rattle.mv_history.specs.State.{State, Writes}
@@ -7,7 +7,6 @@ use Rattle.mv_history.specs.Meaning.{state_of}
 use Rattle.mv_history.proofs.Snapshots.{length-state_of}
 use Rattle.mv_core.specs.declared.shared.Shared.{Shared}
 use Rattle.mv_core.specs.Passes.{start_of}
-use Rattle.mv_core.specs.Known.{Known}
 use Rattle.mv_core.specs.Times.{last_own}
 use Rattle.mv_core.specs.Views.{IsUnnamed}
 use Rattle.version_chain.specs.Walks.{time_at, section_in}
@@ -23,6 +22,7 @@ le_prop {a} {b} = hlevel props
 pub begun_late : (starts : State → Type 0) (allows : List ℕ → State → Writes → Type 0) (p : Placed) → IsBusy starts allows p → p.config.base ≤ time_at p.view
 begun_late starts allows p is =
     ∥∥₁_elim is.placed.known le_prop (λ k.
-    let own : last_own p.view.base p.view.past.seen p.view.number ≤ time_at p.view = (k.section (section_in p.view) is.may.phase).own (subst IsUnnamed (sym is.may.open_is) tt) in
+    let own : last_own p.view.base p.view.past.seen p.view.number ≤ time_at p.view = (k.section (section_in p.view) is.may.phase).own (subst IsUnnamed
+    (sym is.may.open_is) tt) in
     let base = is.placed.base in
     omega arith)

@@ -1,9 +1,9 @@
 -- What reading means.
-use Rattle.std.proofs.Common.{◌≡◌, ℕ, ◌+◌, ◌-◌, ◌≤◌, false, List, [], ◌∷◌, ◌++◌, length, All, refl, sym, ap, ◌∙◌, subst, append_assoc}
+use Rattle.std.proofs.Common.{◌≡◌, ℕ, ◌-◌, ◌≤◌, false, List, [], ◌++◌, All, refl, sym, ap, ◌∙◌, subst, append_assoc}
 use Rattle.std.proofs.lemmas.List.Elements.{filter-append, All-append, All-weaker}
 use Rattle.mv_history.specs.declared.Step.{Step}
 use Rattle.mv_history.specs.declared.StepKind.{StepKind}
-use Rattle.mv_history.specs.declared.StepKind.TheVariants.{LoadHead, LoadFirst, LoadStamp, LoadPrev, LoadData, LoadMaster}
+use Rattle.mv_history.specs.declared.StepKind.TheVariants.{LoadHead, LoadFirst, LoadStamp, LoadPrev}
 use Rattle.mv_history.specs.Trail.{is_commit_exchange, commit_exchanges}
 use Rattle.mv_history.specs.Calls.{Continues}
 use Rattle.mv_layout.specs.declared.Config.{Config}
@@ -20,7 +20,6 @@ use Rattle.mvrlu.proofs.Continuing.{continues, busy_on}
 use Rattle.version_chain.specs.Walks.{Walks, IsWalkStep, inside_of, time_at, MayWalk}
 use Rattle.version_chain.specs.Reads.{Reads}
 use Rattle.mvrlu.specs.Placed.{Placed, seat_from, section_from, IsBusy}
-use Rattle.mv_core.specs.Passes.{home_of}
 use Rattle.mvrlu.specs.Standing.{Stays}
 use Rattle.mvrlu.proofs.Trails.{made, none_named}
 
@@ -49,7 +48,15 @@ pub record Looks (v w : View) : Type 0 where
 
 pub walked : (v w : View) (before after : ℕ) → Walks v w before after → Looks v w
 walked v w before after k =
-    record { seen = k.seen; steps = k.trail.0; trail = k.trail.1; none = none_named IsWalkStep no_name k.trail.0 k.trail.3; leaves = All-weaker (λ (s : Step). IsWalkStep s.kind) (λ s. LeavesLog s.kind) (λ s. leaves_log s.kind) k.trail.0 k.trail.3; rest = k.rest }
+    record {
+      seen = k.seen;
+      steps = k.trail.0;
+      trail = k.trail.1;
+      none = none_named IsWalkStep no_name k.trail.0 k.trail.3;
+      leaves = All-weaker (λ
+          (s : Step). IsWalkStep s.kind) (λ s. LeavesLog s.kind) (λ s. leaves_log s.kind) k.trail.0 k.trail.3;
+      rest = k.rest;
+    }
 
 -- and the load of six words
 pub looked : (kind : StepKind) → is_commit_exchange kind ≡ false → LeavesLog kind → (v x w : View) → Looks v x → Reads kind x w → Looks v w
@@ -57,9 +64,13 @@ looked kind other alone v x w k r = record {
   seen = subst (λ h. BeginsWith h v.past.seen) (sym (ap (λ (u : View). u.past.seen) r.rest)) k.seen;
   steps = k.steps ++ r.trail.0;
   trail = r.trail.1 ∙ ap (λ t. t ++ r.trail.0) k.trail ∙ append_assoc v.trail k.steps r.trail.0;
-  none = filter-append (λ (s : Step). is_commit_exchange s.kind) k.steps r.trail.0 ∙ ap (λ t. t ++ commit_exchanges r.trail.0) k.none ∙ none_named (λ q. q ≡ kind) (λ q e. ap is_commit_exchange e ∙ other) r.trail.0 r.trail.3;
-  leaves = All-append (λ (s : Step). LeavesLog s.kind) k.steps r.trail.0 k.leaves (All-weaker (λ (s : Step). s.kind ≡ kind) (λ s. LeavesLog s.kind) (λ s e. subst LeavesLog (sym e) alone) r.trail.0 r.trail.3);
-  rest = r.rest ∙ (λ i. record (k.rest i) { trail = w.trail }) ∙ (let past : x.past.seen ≡ w.past.seen = sym (ap (λ (u : View). u.past.seen) r.rest) in let walk : x.walk ≡ w.walk = sym (ap (λ (u : View). u.walk) r.rest) in let empty : x.empty ≡ w.empty = sym (ap (λ (u : View). u.empty) r.rest) in
+  none = filter-append (λ (s : Step). is_commit_exchange s.kind) k.steps r.trail.0 ∙ ap (λ t. t ++ commit_exchanges r.trail.0) k.none
+      ∙ none_named (λ q. q ≡ kind) (λ q e. ap is_commit_exchange e ∙ other) r.trail.0 r.trail.3;
+  leaves = All-append (λ (s : Step). LeavesLog s.kind) k.steps r.trail.0 k.leaves (All-weaker (λ (s : Step). s.kind ≡ kind) (λ s. LeavesLog s.kind)
+      (λ s e. subst LeavesLog (sym e) alone) r.trail.0 r.trail.3);
+  rest = r.rest ∙ (λ i. record (k.rest i) { trail = w.trail }) ∙ (let past : x.past.seen ≡ w.past.seen = sym (ap (λ
+      (u : View). u.past.seen) r.rest) in let walk : x.walk ≡ w.walk = sym (ap (λ (u : View). u.walk) r.rest) in let empty : x.empty ≡ w.empty = sym
+      (ap (λ (u : View). u.empty) r.rest) in
       (λ i. record v { past = record v.past { seen = past i }; walk = walk i; empty = empty i; trail = w.trail }));
 }
 
@@ -77,7 +88,13 @@ module _ (p q : Placed) (config : q.config ≡ p.config) (table : q.table ≡ p.
   pub look_stays : Stays (section_from p) (section_from q)
   look_stays = (
     record {
-      seat = record { continues = look_continues; mine = ap (λ (u : View). u.past.mine) t.rest; rests = ap (λ (u : View). u.past.rests) t.rest; spare = ap (λ (u : View). spare_count u.ring) t.rest };
+      seat = record {
+        continues = look_continues;
+        mine = ap (λ (u : View). u.past.mine) t.rest;
+        rests = ap (λ
+            (u : View). u.past.rests) t.rest;
+        spare = ap (λ (u : View). spare_count u.ring) t.rest;
+      };
       at = look_at;
       own = ap (λ (d : Config). own_of d q.view.ring) config ∙ ap (λ (u : View). own_of p.config u.ring) t.rest;
     },
@@ -90,10 +107,12 @@ module _ (p q : Placed) (config : q.config ≡ p.config) (table : q.table ≡ p.
     },
   )
 
-pub look_busy : (starts : State → Type 0) (allows : List ℕ → State → Writes → Type 0) (p q : Placed) → q.config ≡ p.config → IsBusy starts allows p → Looks p.view q.view → ∥ Known starts allows q.view ∥₁ → MayWalk q.view → q.log ≡ p.log → IsBusy starts allows q
+pub look_busy : (starts : State → Type 0) (allows : List ℕ → State → Writes → Type 0) (p q : Placed) → q.config ≡ p.config → IsBusy starts allows p
+    → Looks p.view q.view → ∥ Known starts allows q.view ∥₁ → MayWalk q.view → q.log ≡ p.log → IsBusy starts allows q
 look_busy starts allows p q config is t known may log =
     let number : q.view.number ≡ p.view.number = ap (λ (u : View). u.number) t.rest in
-    let stands : Stands p.config q.view p.log = stands_left p.config p.view q.view p.log is.placed.stands number (ap (λ (u : View). u.ring) t.rest) (ap (λ (u : View). u.past.mine) t.rest) (ap (λ (u : View). u.past.rests) t.rest) t.steps t.trail t.leaves in
+    let stands : Stands p.config q.view p.log = stands_left p.config p.view q.view p.log is.placed.stands number (ap (λ (u : View). u.ring) t.rest)
+    (ap (λ (u : View). u.past.mine) t.rest) (ap (λ (u : View). u.past.rests) t.rest) t.steps t.trail t.leaves in
     busy_on starts allows p q config is number (ap (λ (u : View). u.base) t.rest) (ap (λ (u : View). u.scan) t.rest) known may
     (subst (λ (d : Config). Stands d q.view q.log) (sym config) (subst (λ (m : Noted). Stands p.config q.view m) (sym log) stands))
     (ap (λ (m : Noted). m.built) log ∙ is.placed.unbuilt)

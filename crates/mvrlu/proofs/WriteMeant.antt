@@ -1,5 +1,5 @@
 -- What a write means.
-use Rattle.std.proofs.Common.{◌≡◌, ℕ, ◌-◌, [], refl, sym, ap, ◌∙◌, append-nil}
+use Rattle.std.proofs.Common.{◌≡◌, ℕ, ◌-◌, [], sym, ap, ◌∙◌, append-nil}
 use Rattle.mv_history.specs.declared.StepKind.TheVariants.{StoreData}
 use Rattle.mv_history.specs.Trail.{is_commit_exchange, commit_exchanges}
 use Rattle.mv_history.specs.Calls.{GoesOn}

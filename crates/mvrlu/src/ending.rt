@@ -32,8 +32,10 @@ pub(crate) fn committed<P: Protocol, L: Ledger>(
     ensures fits_again { OnAgain result (λ left rival. Fits shared.now left × IsSection P.start P.allowed (section_from left)) }
     ensures fits_end { OnEnd result (λ left. Fits shared.now left × IsSection P.start P.allowed (section_from left)) }
     ensures done { OnDone result (λ back time. Commits (section_from busy) tag (seat_from back) time × Loaded (section_from busy) (seat_from back) (time - 1)) }
-    ensures again { OnAgain result (λ left rival. IsAsBefore (section_from busy) (section_from left) × Overtakes (section_from busy) (section_from left) rival.seat rival.time (Loaded (section_from busy) (section_from left).seat)) }
-    ensures end { OnEnd result (λ left. IsAsBefore (section_from busy) (section_from left) × IsWorn (section_from left).seat × Loaded (section_from busy) (section_from left).seat (section_from left).seat.last) }
+    ensures again { OnAgain result (λ left rival. IsAsBefore (section_from busy) (section_from left)
+        × Overtakes (section_from busy) (section_from left) rival.seat rival.time (Loaded (section_from busy) (section_from left).seat)) }
+    ensures end { OnEnd result (λ left. IsAsBefore (section_from busy) (section_from left) × IsWorn (section_from left).seat
+        × Loaded (section_from busy) (section_from left).seat (section_from left).seat.last) }
     ensures at_most_one { length (commit_exchanges (call_trail (section_from busy).seat (seat_after seat_from section_from result))) ≤ 1 }
     ensures one_won { OnDone result (λ back time. IsOneWon (commit_exchanges (call_trail (section_from busy).seat (seat_from back)))) }
     ensures one_lost { OnAgain result (λ left rival. IsOneLost (commit_exchanges (call_trail (section_from busy).seat (section_from left).seat))) }

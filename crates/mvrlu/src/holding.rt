@@ -63,7 +63,8 @@ pub(crate) fn locked<P: Protocol, L: Ledger>(
     ensures again { Holds (section_from busy.old) object → (result ≡ Held) × (section_from busy.new ≡ section_from busy.old) }
     ensures set_full { (result ≡ SetFull) ↔ (Lacks (section_from busy.old) object × IsSetFull (section_from busy.old)) }
     ensures log_full { (result ≡ LogFull) ↔ (Lacks (section_from busy.old) object × ¬ IsSetFull (section_from busy.old) × IsLogFull (section_from busy.old)) }
-    ensures taken { (seat : ℕ) → result ≡ IsTaken seat → (seat ≢ (section_from busy.old).seat.number) × FoundLocked (section_from busy.old) (section_from busy.new) object seat }
+    ensures taken { (seat : ℕ) → result ≡ IsTaken seat →
+        (seat ≢ (section_from busy.old).seat.number) × FoundLocked (section_from busy.old) (section_from busy.new) object seat }
     ensures stale { (time : ℕ) → result ≡ Stale time → IsStale (section_from busy.new) object time }
     ensures held { result ≡ Held → Lacks (section_from busy.old) object → Locks (section_from busy.old) (section_from busy.new) object }
     ensures bound { MakesAtMost (section_from busy.old).seat (section_from busy.new).seat 32 }

@@ -123,9 +123,11 @@ impl<'d, P: Protocol> Section for Session<'d, P> {
         ensures refused { result ≢ Held → IsAsBefore (section_of self.old) (section_of self.new) }
         ensures again { Holds (section_of self.old) object → (result ≡ Held) × (section_of self.new ≡ section_of self.old) }
         ensures set_full { (result ≡ SetFull) ↔ (Lacks (section_of self.old) object × IsSetFull (section_of self.old)) }
-        ensures log_full { (result ≡ LogFull) ↔ (Lacks (section_of self.old) object × ¬ IsSetFull (section_of self.old) × IsLogFull (section_of self.old)) }
+        ensures log_full { (result ≡ LogFull) ↔
+            (Lacks (section_of self.old) object × ¬ IsSetFull (section_of self.old) × IsLogFull (section_of self.old)) }
         ensures busy { (seat : ℕ) → result ≡ IsTaken seat →
-            ⟦<Session<'d, P> as Section>⟧.may_refuse × (seat ≢ (section_of self.old).seat.number) × FoundLocked (section_of self.old) (section_of self.new) object seat }
+            ⟦<Session<'d, P> as Section>⟧.may_refuse × (seat ≢ (section_of self.old).seat.number)
+            × FoundLocked (section_of self.old) (section_of self.new) object seat }
         ensures stale { (time : ℕ) → result ≡ Stale time → ⟦<Session<'d, P> as Section>⟧.may_refuse × IsStale (section_of self.new) object time }
         ensures held { result ≡ Held → Lacks (section_of self.old) object → Locks (section_of self.old) (section_of self.new) object }
         ensures log_full_only { result ≡ LogFull → ⟦<Session<'d, P> as Section>⟧.may_refuse }
@@ -150,14 +152,17 @@ impl<'d, P: Protocol> Section for Session<'d, P> {
     fn try_commit(self, tag: Tag) -> CommitAnswer<Handle<'d, P>, Session<'d, P>>
         requires some { 0 < length (section_of self).own }
         requires fit { IsFit P.allowed (snapshot_of (section_of self)) tag (section_of self).own }
-        ensures done { OnDone result (λ back time. Commits (section_of self.entry) tag (handled back) time × Loaded (section_of self.entry) (handled back) (time - 1)) }
+        ensures done { OnDone result (λ back time. Commits (section_of self.entry) tag (handled back) time
+            × Loaded (section_of self.entry) (handled back) (time - 1)) }
         ensures again { OnAgain result (λ left rival. ⟦<Session<'d, P> as Section>⟧.may_refuse × IsAsBefore (section_of self.entry) (section_of left)
             × Overtakes (section_of self.entry) (section_of left) rival.seat rival.time (Loaded (section_of self.entry) (section_of left).seat)) }
         ensures end { OnEnd result (λ left. IsAsBefore (section_of self.entry) (section_of left) × IsWorn (section_of left).seat
             × Loaded (section_of self.entry) (section_of left).seat (section_of left).seat.last) }
         ensures at_most_one { length (commit_exchanges (call_trail (section_of self.entry).seat (seat_after handled section_of result))) ≤ 1 }
-        ensures one_won { OnDone result (λ back time. ⟦<Session<'d, P> as Section>⟧.has_trail → IsOneWon (commit_exchanges (call_trail (section_of self.entry).seat (handled back)))) }
-        ensures one_lost { OnAgain result (λ left rival. ⟦<Session<'d, P> as Section>⟧.has_trail → IsOneLost (commit_exchanges (call_trail (section_of self.entry).seat (section_of left).seat))) }
+        ensures one_won { OnDone result (λ back time. ⟦<Session<'d, P> as Section>⟧.has_trail
+            → IsOneWon (commit_exchanges (call_trail (section_of self.entry).seat (handled back)))) }
+        ensures one_lost { OnAgain result (λ left rival. ⟦<Session<'d, P> as Section>⟧.has_trail
+            → IsOneLost (commit_exchanges (call_trail (section_of self.entry).seat (section_of left).seat))) }
         ensures bound { MakesAtMost (section_of self.entry).seat (seat_after handled section_of result) (8 + length (section_of self.entry).own) }
     {
         let Session { domain, part } = self;

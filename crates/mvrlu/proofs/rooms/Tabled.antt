@@ -1,10 +1,9 @@
 -- The table of a log, by what its seat means.
-use Rattle.std.proofs.Common.{◌≡◌, ℕ, ◌+◌, List, sym, ap, arith}
+use Rattle.std.proofs.Common.{◌≡◌, ℕ, List, ap, arith}
 use Rattle.std.proofs.Math.Logic.{∥∥₁_elim}
 use Rattle.std.proofs.Props.{props}
 use Rattle.mv_history.specs.State.{State, Writes}
 use Rattle.mv_history.specs.declared.answers.LogTable.{LogTable}
-use Rattle.mv_core.specs.Known.{Known}
 use Rattle.mv_core.specs.Rings.{held_count}
 use Rattle.mv_core.proofs.kinds.entering.LoadTime.{holds_none}
 use Rattle.seat_log.specs.Tables.{table_of, Counts}

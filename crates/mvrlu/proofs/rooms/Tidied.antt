@@ -1,5 +1,5 @@
 -- What a tidy leaves of a seat, and that nothing but the end of time holds a log in a domain of one seat.
-use Rattle.std.proofs.Common.{◌≡◌, ◌⊎◌, ℕ, ◌+◌, ◌*◌, ◌<◌, ◌≤◌, false, List, [], length, drop, refl, sym, ap, ◌∙◌, subst, ⊎_elim, arith, Option, Some, None}
+use Rattle.std.proofs.Common.{◌≡◌, ℕ, ◌+◌, ◌*◌, ◌<◌, ◌≤◌, false, List, [], length, drop, refl, sym, ap, ◌∙◌, subst, ⊎_elim, arith, Option, Some, None}
 use Rattle.std.proofs.lemmas.Bool.{cases_lt}
 use Rattle.std.proofs.lemmas.Option.{slice_get_within}
 use Rattle.mv_history.specs.State.{State, Writes}
@@ -19,7 +19,7 @@ use Rattle.log_reclaim.specs.Rounds.{FreesFirst, SweptSo}
 use Rattle.log_reclaim.specs.Tidies.{RestsOnce, RestsWhereDue, WritesBackSo}
 use Rattle.log_reclaim.proofs.EndCause.{time_in_range}
 use Rattle.mvrlu.specs.Placed.{Placed, seat_from, IsIdle}
-use Rattle.mvrlu.specs.Holding.{HoldsBack, IsHolderOf, Tidies, TidiesAlone, IsEarly, seats_of}
+use Rattle.mvrlu.specs.Holding.{HoldsBack, IsHolderOf, Tidies, TidiesAlone}
 use Rattle.mvrlu.proofs.rooms.Left.{trail_is, idle_after, prepared, freed_is, spare_is, live_is, some_step, few_steps}
 
 -- what a tidy has told of the views and logs before and after it

@@ -9,7 +9,7 @@ use Rattle.commit_abort.specs.Aborts.{abort_cost}
 use Rattle.mvrlu.specs.Placed.{Placed, placed, seat_from, section_from, Fits}
 use Rattle.mvrlu.specs.Bounds.{MakesAtMost}
 use Rattle.mvrlu.proofs.Trails.{few_made}
-use Rattle.mvrlu.proofs.Names.{fits_config, fits_pass}
+use Rattle.mvrlu.proofs.Names.{config_inside, fits_config, fits_pass}
 use Rattle.mvrlu.proofs.Lawful.{seat_lawful}
 use Rattle.mvrlu.proofs.Leaving.{left_leaves, left_idle}
 use Rattle.mvrlu.proofs.ending.aborted.Goals as goal
@@ -41,7 +41,7 @@ invariant_of-result g c =
     let e = c.abort.ensures in
     let p = placed i.config i.pass i.log in
     let q = placed i.config c.abort.new.pass c.abort.new.log in
-    let config : config_of c.args.shared.now ≡ i.config = fits_config c.args.shared.now p (subst (Fits c.args.shared.now) (sym c.busy.view_is) c.requires.fits) in (
+    let config : config_of c.args.shared.now ≡ i.config = config_inside c.args.shared.now p _ c.busy.view_is c.requires.fits in (
       e.same.2 ∙ is.0,
       left_idle p q _ refl e.same.0 e.aborts g.P.Protocol.start g.P.Protocol.allowed is.1 c.abort.new.pass.known
           (subst (λ (d : Config). Stands d (view c.abort.new.pass) c.abort.new.log) config e.stands)

@@ -1,4 +1,4 @@
-use Rattle.std.proofs.Common.{rules, ◌≡◌, ℕ, ◌<◌, ◌≤◌, ◌+◌, ◌-◌, List, length, arith, refl, sym, ap, ◌∙◌, subst}
+use Rattle.std.proofs.Common.{rules, ◌≡◌, ◌<◌, ◌≤◌, ◌+◌, ◌-◌, length, arith, refl, sym, ap, ◌∙◌, subst}
 use Rattle.mv_history.specs.declared.answers.Rival.{Rival}
 use Rattle.mv_history.specs.Drift.{IsFit}
 use Rattle.mv_history.specs.Meaning.{snapshot_of, IsWorn}
@@ -15,7 +15,7 @@ use Rattle.mvrlu.specs.Placed.{Placed, placed, seat_from, section_from, Fits}
 use Rattle.mvrlu.specs.Causes.{Loaded}
 use Rattle.mvrlu.specs.Bounds.{MakesAtMost}
 use Rattle.mvrlu.proofs.Trails.{few_made}
-use Rattle.mvrlu.proofs.Names.{fits_config, fits_pass}
+use Rattle.mvrlu.proofs.Names.{config_inside, fits_config, fits_pass}
 use Rattle.mvrlu.proofs.Continuing.{busy_on}
 use Rattle.mvrlu.proofs.Lawful.{seat_lawful, section_lawful}
 use Rattle.mvrlu.proofs.Committed.{may_commit, commits, loads_before, done_idle, kept_as_before, kept_may, overtakes, worn, loads_last}
@@ -29,7 +29,8 @@ commit-requires g c κs within =
     let fits = subst (Fits c.args.shared.now) (sym c.busy.view_is) c.requires.fits in
     let config : config_of c.args.shared.now ≡ i.config = fits_config c.args.shared.now p fits in
     let some = subst (λ (x : Placed). 0 < length (section_from x).own) (sym c.busy.view_is) c.requires.some in
-    let fit = subst (λ (x : Placed). IsFit g.P.Protocol.allowed (snapshot_of (section_from x)) c.args.tag (section_from x).own) (sym c.busy.view_is) c.requires.fit in (
+    let fit = subst (λ (x : Placed). IsFit g.P.Protocol.allowed (snapshot_of (section_from x)) c.args.tag (section_from x).own)
+    (sym c.busy.view_is) c.requires.fit in (
       search rules,
       (
         search rules,
@@ -52,7 +53,7 @@ invariant_of-result g c =
     let e = c.in-Done.ensures in
     let p = placed i.config i.pass i.log in
     let q = placed i.config c.commit.new.pass c.commit.new.log in
-    let config : config_of c.args.shared.now ≡ i.config = fits_config c.args.shared.now p (subst (Fits c.args.shared.now) (sym c.busy.view_is) c.requires.fits) in
+    let config : config_of c.args.shared.now ≡ i.config = config_inside c.args.shared.now p _ c.busy.view_is c.requires.fits in
     let ends = subst (λ (d : Config). core.Commits d p.view q.view (section_in p.view) c.args.tag c.in-Done.time) config e.ends in (
       e.same.2 ∙ is.0,
       done_idle p q refl e.same.0 is.1.placed.base c.args.tag c.in-Done.time ends g.P.Protocol.start g.P.Protocol.allowed is.1 c.commit.new.pass.known
@@ -82,9 +83,10 @@ returns-in-Done-clause-done g c =
     let e = c.in-Done.ensures in
     let p = placed i.config i.pass i.log in
     let q = placed i.config c.commit.new.pass c.commit.new.log in
-    let config : config_of c.args.shared.now ≡ i.config = fits_config c.args.shared.now p (subst (Fits c.args.shared.now) (sym c.busy.view_is) c.requires.fits) in
+    let config : config_of c.args.shared.now ≡ i.config = config_inside c.args.shared.now p _ c.busy.view_is c.requires.fits in
     let ends = subst (λ (d : Config). core.Commits d p.view q.view (section_in p.view) c.args.tag c.in-Done.time) config e.ends in
-    subst (λ (x : Placed). Commits (section_from x) c.args.tag (seat_from q) c.in-Done.time × Loaded (section_from x) (seat_from q) (c.in-Done.time - 1)) c.busy.view_is (
+    subst (λ (x : Placed). Commits (section_from x) c.args.tag (seat_from q) c.in-Done.time
+    × Loaded (section_from x) (seat_from q) (c.in-Done.time - 1)) c.busy.view_is (
       commits p q refl e.same.0 is.1.placed.base c.args.tag c.in-Done.time ends,
       loads_before p q refl e.same.0 is.1.placed.base c.args.tag c.in-Done.time ends,
     )
@@ -109,7 +111,7 @@ invariant_of-result-in-Again g c =
     let e = c.in-Again.ensures in
     let p = placed i.config i.pass i.log in
     let q = placed i.config c.commit.new.pass c.commit.new.log in
-    let config : config_of c.args.shared.now ≡ i.config = fits_config c.args.shared.now p (subst (Fits c.args.shared.now) (sym c.busy.view_is) c.requires.fits) in
+    let config : config_of c.args.shared.now ≡ i.config = config_inside c.args.shared.now p _ c.busy.view_is c.requires.fits in
     let k = e.ends.kept in (
       e.same.2 ∙ is.0,
       busy_on g.P.Protocol.start g.P.Protocol.allowed p q refl is.1 (ap (λ (u : View). u.number) k.rest) e.same.3 (ap (λ (u : View). u.scan) k.rest)
@@ -144,7 +146,7 @@ returns-in-Again-clause-again g c =
     let p = placed i.config i.pass i.log in
     let q = placed i.config c.commit.new.pass c.commit.new.log in
     let rival : Rival = c.in-Again.rival in
-    let config : config_of c.args.shared.now ≡ i.config = fits_config c.args.shared.now p (subst (Fits c.args.shared.now) (sym c.busy.view_is) c.requires.fits) in
+    let config : config_of c.args.shared.now ≡ i.config = config_inside c.args.shared.now p _ c.busy.view_is c.requires.fits in
     let ends = subst (λ (d : Config). core.IsOvertakenBy d p.view q.view (section_in p.view) rival) config e.ends in
     subst (λ (x : Placed). IsAsBefore (section_from x) (section_from q)
     × Overtakes (section_from x) (section_from q) rival.seat rival.time (Loaded (section_from x) (seat_from q))) c.busy.view_is (
@@ -160,7 +162,7 @@ invariant_of-result-in-End g c =
     let e = c.in-End.ensures in
     let p = placed i.config i.pass i.log in
     let q = placed i.config c.commit.new.pass c.commit.new.log in
-    let config : config_of c.args.shared.now ≡ i.config = fits_config c.args.shared.now p (subst (Fits c.args.shared.now) (sym c.busy.view_is) c.requires.fits) in
+    let config : config_of c.args.shared.now ≡ i.config = config_inside c.args.shared.now p _ c.busy.view_is c.requires.fits in
     let k = e.ends.kept in (
       e.same.2 ∙ is.0,
       busy_on g.P.Protocol.start g.P.Protocol.allowed p q refl is.1 (ap (λ (u : View). u.number) k.rest) e.same.3 (ap (λ (u : View). u.scan) k.rest)
@@ -194,9 +196,10 @@ returns-clause-end g c =
     let e = c.in-End.ensures in
     let p = placed i.config i.pass i.log in
     let q = placed i.config c.commit.new.pass c.commit.new.log in
-    let config : config_of c.args.shared.now ≡ i.config = fits_config c.args.shared.now p (subst (Fits c.args.shared.now) (sym c.busy.view_is) c.requires.fits) in
+    let config : config_of c.args.shared.now ≡ i.config = config_inside c.args.shared.now p _ c.busy.view_is c.requires.fits in
     let ends = subst (λ (d : Config). core.IsAtEnd d p.view q.view (section_in p.view)) config e.ends in
-    subst (λ (x : Placed). IsAsBefore (section_from x) (section_from q) × IsWorn (seat_from q) × Loaded (section_from x) (seat_from q) 35184372088831) c.busy.view_is (
+    subst (λ (x : Placed). IsAsBefore (section_from x) (section_from q) × IsWorn (seat_from q)
+    × Loaded (section_from x) (seat_from q) 35184372088831) c.busy.view_is (
       kept_as_before p q refl e.same.0 is.1.placed.base ends.steps ends.loads.trail ends.kept,
       worn p q refl e.same.0 is.1.placed.base ends,
       loads_last p q refl e.same.0 is.1.placed.base ends,

@@ -1,6 +1,6 @@
 -- Making the seats of a new domain.
-use Rattle.std.proofs.Common.{◌≡◌, ◌⊎◌, ℕ, zero, suc, ◌+◌, ◌*◌, ◌<◌, Bool, cond, count_by, List, []}
-use Rattle.std.proofs.Common.{◌∷◌, ◌++◌, length, replicate, refl, sym, ap, ◌∙◌, subst, inl, inr, ⊎_elim, arith, None}
+use Rattle.std.proofs.Common.{◌≡◌, ◌⊎◌, ℕ, zero, suc, ◌+◌, ◌*◌, ◌<◌, cond, count_by, List, []}
+use Rattle.std.proofs.Common.{◌∷◌, ◌++◌, length, replicate, refl, sym, ap, ◌∙◌, subst, inl, inr, ⊎_elim, arith}
 use mathlib.Core.Option.{some}
 use lib.ListN.{get_elem?}
 use Rattle.std.proofs.lemmas.List.Folds.{sum_by-replicate}
@@ -10,7 +10,6 @@ use Rattle.mv_history.specs.Meaning as history
 use Rattle.mv_layout.specs.declared.Config.{Config}
 use Rattle.mv_layout.specs.Limits.{Checked}
 use Rattle.mv_core.specs.declared.ring.Slot.TheVariants.{Free}
-use Rattle.mv_core.specs.declared.view.Phase.TheVariants.{Outside}
 use Rattle.mv_core.specs.declared.view.View.{View}
 use Rattle.mv_core.specs.declared.shared.Shared.{Shared}
 use Rattle.mv_core.specs.declared.shared.Pass.{Pass}
@@ -26,7 +25,7 @@ use Rattle.seat_log.proofs.Beginning.{stands_new}
 use Rattle.mvrlu.specs.declared.domain.Seat.{Seat}
 use Rattle.mvrlu.specs.declared.opening.Ready.{Ready}
 use Rattle.mvrlu.specs.Opened.{new_seat, IsNewSeatOf}
-use Rattle.mvrlu.specs.Placed.{Placed, placed, seat_from, IsIdle}
+use Rattle.mvrlu.specs.Placed.{placed, seat_from, IsIdle}
 use Rattle.mvrlu.specs.Readiness.{IsNewPass, IsReady, AreReady, AreSeats}
 
 -- an element of a list with one more is of the list, or that one

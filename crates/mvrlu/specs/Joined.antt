@@ -1,5 +1,5 @@
 -- What is kept of seats while they are joined, one after another.
-use Rattle.std.specs.Prelude.{◌≡◌, ◌⊎◌, ℕ, ◌+◌, List, ◌++◌, length, All, Contains}
+use Rattle.std.specs.Prelude.{◌≡◌, ◌⊎◌, ◌+◌, List, ◌++◌, length, All, Contains}
 use Rattle.mv_history.specs.declared.Step.{Step}
 use Rattle.mv_history.specs.Meaning as history
 use Rattle.mv_core.specs.declared.view.View.{View}

@@ -1,5 +1,5 @@
 -- Passes with their logs, and the seats made of them, while a domain is opened.
-use Rattle.std.specs.Prelude.{◌≡◌, ℕ, ◌+◌, List, length}
+use Rattle.std.specs.Prelude.{◌≡◌, ℕ, ◌+◌, List}
 use mathlib.Core.Option.{some}
 use lib.ListN.{get_elem?}
 use Rattle.mv_history.specs.declared.Protocol.{Ghosts}

@@ -1,5 +1,5 @@
 -- What holds of a whole history: that it is sound is a proposition, and what stays of it.
-use Rattle.std.proofs.Common.{◌≡◌, ℕ, ◌≤◌, List, [], ◌++◌, length, refl, sym, ap, ◌∙◌, append_assoc, arith}
+use Rattle.std.proofs.Common.{◌≡◌, ℕ, List, [], ◌++◌, length, refl, sym, ap, ◌∙◌, append_assoc, arith}
 use Rattle.std.proofs.lemmas.List.{append-nil}
 use Rattle.mv_history.specs.declared.history.TheConstants.{LAST}
 use Rattle.mv_history.specs.State.{State, Writes, state_after, commits_of, rests_of}

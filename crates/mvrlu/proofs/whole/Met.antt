@@ -1,5 +1,5 @@
 -- Two loads of CLOCK with an entering between them, once all seats are joined, show the whole history.
-use Rattle.std.proofs.Common.{◌≡◌, ◌≢◌, ℕ, ◌+◌, ◌-◌, ◌<◌, ◌≤◌, List, [], ◌∷◌, ◌++◌}
+use Rattle.std.proofs.Common.{◌≡◌, ◌≢◌, ℕ, ◌+◌, ◌-◌, ◌<◌, List, [], ◌∷◌, ◌++◌}
 use Rattle.std.proofs.Common.{length, take, drop, All, refl, sym, ap, ◌∙◌, subst, append_assoc, length-append, arith}
 use Rattle.std.specs.Prelude.{AllPairs, Contains, Some, None}
 use Rattle.std.proofs.Math.Logic.{∥∥₁_elim}
@@ -7,7 +7,6 @@ use Rattle.std.proofs.lemmas.List.{append-nil, take-append-drop, length-take-le,
 use Rattle.std.proofs.lemmas.List.Elements.{All-contains, All-weaker, Contains-append_left}
 use Rattle.mv_history.specs.declared.Step.{Step}
 use Rattle.mv_history.specs.declared.StepKind.TheVariants.{LoadJoined}
-use Rattle.mv_history.specs.declared.Commit.{Commit}
 use Rattle.mv_history.specs.declared.Entry.{Entry}
 use Rattle.mv_history.specs.declared.Entry.TheVariants.{Change}
 use Rattle.mv_history.specs.State.{State, Writes, maker_of, commits_of, rests_of}
@@ -24,7 +23,7 @@ use Rattle.mv_core.specs.EnterSteps.{IsWhole, if_none}
 use Rattle.mv_core.specs.WalkSteps.{IsWalking}
 use Rattle.mv_core.specs.SeatSteps.{AreJoined, joined_loaded}
 use Rattle.reader_marks.specs.Sections.{Begins}
-use Rattle.version_chain.specs.Walks.{inside_of, section_in, time_at, MayWalk}
+use Rattle.version_chain.specs.Walks.{inside_of, time_at, MayWalk}
 use Rattle.mvrlu.specs.declared.domain.Seat.{Seat}
 use Rattle.mvrlu.specs.Joined.{IsKept, AreJoining}
 use Rattle.mvrlu.specs.Meant.{seat_of}

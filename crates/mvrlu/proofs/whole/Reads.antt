@@ -1,19 +1,14 @@
 -- A read of a domain whose seats have met: what it answers, and what it leaves.
-use Rattle.std.proofs.Common.{◌≡◌, ℕ, ◌+◌, ◌-◌, ◌≤◌, List, ◌++◌, length, take, refl, sym, ap, ◌∙◌, subst, append_assoc, length-append, arith}
+use Rattle.std.proofs.Common.{◌≡◌, ℕ, ◌+◌, ◌-◌, ◌≤◌, List, ◌++◌, length, take, sym, ap, ◌∙◌, subst, append_assoc, arith}
 use Rattle.std.proofs.lemmas.List.{take-append-le}
 use Rattle.mv_history.specs.declared.Step.{Step}
 use Rattle.mv_history.specs.declared.StepKind.{StepKind}
-use Rattle.mv_history.specs.declared.Entry.{Entry}
-use Rattle.mv_history.specs.State.{state_after}
-use Rattle.mv_history.specs.Meaning.{words_at}
-use Rattle.mv_layout.specs.declared.Config.{Config}
 use Rattle.mv_core.specs.declared.view.View.{View}
 use Rattle.mv_core.specs.Views.{time_in}
 use Rattle.mv_core.specs.HistoryFacts.{BeginsWith}
 use Rattle.version_chain.specs.Walks.{Walks, inside_of, time_at}
-use Rattle.version_chain.specs.Reads.{Reads, words_in}
-use Rattle.mvrlu.specs.Whole.{IsStill, whole_from, last_state}
-use Rattle.mvrlu.proofs.whole.Kept.{begins_long}
+use Rattle.version_chain.specs.Reads.{Reads}
+use Rattle.mvrlu.specs.Whole.{IsStill, whole_from}
 
 -- what a walk and a read after it leave of a view: only the trail is longer, and more may have been seen
 pub record Looks (v w : View) : Type 0 where
@@ -52,22 +47,3 @@ module _ (v w : View) (k : Looks v w) (seen : time_at v ≤ v.base + length v.pa
 
   pub looks_still : IsStill (whole_from v) (whole_from w)
   looks_still = record { start = k.start; base = k.base; history = history_stays; trail = k.trail }
-
-  pub words_last : (c : Config) (object : ℕ) → v.base ≡ c.base → words_in c w object ≡ words_at (last_state (whole_from v)) object
-  words_last c object base =
-      let same : take (time_at w - c.base) w.past.seen ≡ take (time_at v - v.base) v.past.seen =
-      ap (λ n. take (time_at w - n) w.past.seen) (sym (k.base ∙ base)) ∙ history_stays in
-      λ i. words_at (state_after (k.start i) (same i)) object
-
-  pub time_seen : (time_at w ≤ w.base + length w.past.seen)
-  time_seen =
-      let time : time_at w ≡ time_at v = ap (λ p. time_in (inside_of p)) k.phase in
-      let base = k.base in
-      let long = ap length k.seen.1 ∙ length-append v.past.seen k.seen.0 in
-      omega arith
-
-  pub time_after : v.base ≤ time_at v → w.base ≤ time_at w
-  time_after after =
-      let time : time_at w ≡ time_at v = ap (λ p. time_in (inside_of p)) k.phase in
-      let base = k.base in
-      omega arith

@@ -1,10 +1,8 @@
-use Rattle.std.proofs.Common.{◌≡◌, sym, ap, ◌∙◌, subst}
-use Rattle.mv_history.specs.Meaning.{words_at}
+use Rattle.std.proofs.Common.{subst}
 use Rattle.mv_history.specs.declared.StepKind.TheVariants.{LoadData, LoadMaster}
-use Rattle.mv_core.specs.Passes.{view, config_of}
-use Rattle.version_chain.specs.Reads.{words_in}
-use Rattle.mvrlu.specs.Whole.{Whole, last_state, whole_from, IsStill}
-use Rattle.mvrlu.proofs.whole.Reads.{Looks, walked, looked, looks_still, words_last, time_seen, time_after}
+use Rattle.mv_core.specs.Passes.{view}
+use Rattle.mvrlu.specs.Whole.{Whole, whole_from, IsStill}
+use Rattle.mvrlu.proofs.whole.Reads.{Looks, walked, looked, looks_still}
 use Rattle.mvrlu.proofs.closing.read_last.Goals as goal
 
 pub returns-in-Master-clause-still : goal.returns-in-Master-clause-still

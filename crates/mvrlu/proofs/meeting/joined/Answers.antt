@@ -1,5 +1,4 @@
-use Rattle.std.proofs.Common.{◌≡◌, ◌+◌, sym, ap, ◌∙◌, subst, arith, length, length-append, [], ◌∷◌}
-use Rattle.mv_core.specs.declared.view.View.{View}
+use Rattle.std.proofs.Common.{sym, ap, ◌∙◌, subst, arith, length, length-append, [], ◌∷◌}
 use Rattle.mv_core.specs.EnterSteps.{MayLoadLow}
 use Rattle.mv_core.specs.Passes.{view, config_of}
 use Rattle.mvrlu.specs.declared.domain.Seat.{Seat}

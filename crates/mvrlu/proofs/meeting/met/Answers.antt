@@ -1,4 +1,4 @@
-use Rattle.std.proofs.Common.{◌≡◌, ℕ, ◌+◌, ◌<◌, ◌≤◌, length, sym, ap, ◌∙◌, subst, arith}
+use Rattle.std.proofs.Common.{ℕ, ◌<◌, sym, ◌∙◌, subst, arith}
 use Rattle.mv_core.specs.Passes.{view, config_of}
 use Rattle.mvrlu.proofs.whole.Met.{HasMet, has_met}
 use Rattle.mvrlu.proofs.meeting.met.Goals as goal

@@ -1,4 +1,4 @@
-use Rattle.std.proofs.Common.{◌≡◌, ℕ, ◌+◌, ◌≤◌, length, sym, ap, ◌∙◌, subst, arith}
+use Rattle.std.proofs.Common.{ℕ, length, sym, subst, arith}
 use Rattle.mvrlu.specs.Opened.{IsNewSeatOf}
 use Rattle.mvrlu.specs.Readiness.{IsReady, AreSeats}
 use Rattle.mvrlu.proofs.Started.{ready_front, ready_last, seats_next}

@@ -1,0 +1,79 @@
+// Opening a domain, and the meeting of seats that did nothing.
+ghost use Rattle.std.specs.Prelude.{◌≡◌, ◌<◌, length};
+
+use mv_history::{AnyRules, View, Words};
+use mv_layout::{Config, ConfigFault};
+use mvrlu::{OpenFault, open};
+use std::alloc::Global;
+use std::test::Fail;
+
+const GOOD: Config = Config {
+    seats: 3,
+    objects: 2,
+    slots: 64,
+    write_max: 16,
+    low: 32,
+    high: 48,
+    base: 7,
+};
+
+// The fault of opening a domain of these numbers. Where there is none its seats meet at once.
+fn fault_of(alloc: Global, config: Config, start: &[Words]) -> Option<OpenFault>
+    requires sized { length start.now ≡ config.objects }
+{
+    match open::<AnyRules>(alloc, config, start) {
+        Ok((domain, seats)) => {
+            let closing = domain.meet(seats);
+            let _ = closing.time();
+            None
+        }
+        Err(fault) => Some(fault),
+    }
+}
+
+// The time, the number of objects and the first object of a domain whose seats meet at once.
+fn meet_at_once(
+    alloc: Global,
+    config: Config,
+    start: &[Words],
+) -> Result<(u64, u32, Words), OpenFault>
+    requires sized { length start.now ≡ config.objects }
+    requires some { 0 < config.objects }
+{
+    match open::<AnyRules>(alloc, config, start) {
+        Ok((domain, seats)) => {
+            let mut closing = domain.meet(seats);
+            Ok((closing.time(), closing.objects(), closing.read(0)))
+        }
+        Err(fault) => Err(fault),
+    }
+}
+
+#[test]
+fn new_seats_meet(rt: HostRuntime) -> Result<(), Fail> {
+    let start = [[1, 2, 3, 4, 5, 6], [0; 6]];
+    let met = meet_at_once(rt.alloc(), GOOD, &start)?;
+    assert_eq!(rt; met, (7, 2, [1, 2, 3, 4, 5, 6]));
+    Ok(())
+}
+
+#[test]
+fn first_fault_of_the_numbers(rt: HostRuntime) -> Result<(), Fail> {
+    let start = [[0; 6]; 2];
+    let rows = [
+        (GOOD, None),
+        (Config { seats: 1, ..GOOD }, None),
+        (Config { seats: 0, ..GOOD }, Some(ConfigFault::Seats)),
+        (Config { seats: 65, slots: 63, ..GOOD }, Some(ConfigFault::Seats)),
+        (Config { slots: 63, ..GOOD }, Some(ConfigFault::Slots)),
+        (Config { write_max: 0, low: 0, ..GOOD }, Some(ConfigFault::WriteMax)),
+        (Config { low: 0, ..GOOD }, Some(ConfigFault::Marks)),
+        (Config { high: 49, ..GOOD }, Some(ConfigFault::Marks)),
+        (Config { base: mv_layout::LAST + 1, ..GOOD }, Some(ConfigFault::Base)),
+    ];
+    for (config, fault) in rows {
+        assert_eq!(rt; fault_of(rt.alloc(), config, &start), fault.map(OpenFault::Config));
+    }
+    assert_eq!(rt; fault_of(rt.alloc(), Config { objects: 0, ..GOOD }, &[]), Some(OpenFault::Config(ConfigFault::Objects)));
+    Ok(())
+}

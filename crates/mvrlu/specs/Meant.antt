@@ -6,6 +6,8 @@ use Rattle.mv_history.specs.Meaning as history
 use Rattle.mv_layout.specs.declared.Config.{Config}
 use Rattle.mv_core.specs.Passes.{home_of, config_of, start_of, table_of}
 use Rattle.mvrlu.specs.Placed.{seat_from, section_from}
+use Rattle.mvrlu.specs.Whole.{Whole}
+use Rattle.mvrlu.specs.declared.closing.Closing.{Closing}
 use Rattle.mvrlu.specs.declared.domain.Domain.{Domain}
 use Rattle.mvrlu.specs.declared.domain.Seat.{Seat}
 use Rattle.mvrlu.specs.declared.handle.Handle.{Handle}
@@ -40,6 +42,10 @@ module _ {P : _} {rules : _} where
   -- what a section means
   abbrev pub section_of : Session P rules → InSection
   section_of s = section_from s.part.busy
+
+  -- what a closing means
+  abbrev pub whole_of : Closing P rules → Whole
+  whole_of c = c.last
 
   -- the seat is of this domain: it has its name, and its opening state
   abbrev pub IsSeatOf : Domain P → Seat P rules → Type 0

@@ -101,9 +101,11 @@ impl<P: Protocol> View for Closing<P> {
 }
 
 impl<P: Protocol> Closing<P> {
+    ghost use Rattle.mvrlu.specs.Meant.{whole_of};
+
     /// The printed time of the last entry of the domain: its opening time, and one for each entry.
     pub fn time(&self) -> u64
-        ensures { result ≡ self.now.last.base + length self.now.last.history }
+        ensures { result ≡ (whole_of self.now).base + length (whole_of self.now).history }
     {
         self.last.time()
     }

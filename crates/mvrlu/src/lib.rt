@@ -11,7 +11,7 @@
 //! state. A `Seat` means what every store's seat means: what it has seen of the one history of commits
 //! and rests, its own commits in it, the free slots of its log, and the trail of its atomic steps. A
 //! `Handle` means its seat, and a `Session` the section of its seat: the snapshot's length, and what it
-//! holds. `Meant` in specs/ has these; no clause names a word, a log or a mark.
+//! holds. A `Closing` means the whole history, and reads the state after it. `Meant` in specs/ has these.
 //!
 //! **The contract.** `Handle` is a `Store` and `Session` a `Section`, so all clauses of these traits hold
 //! over every interleaving of the steps. What a refusal claims was found in the steps of that very call:
@@ -25,10 +25,11 @@
 //! - `holds_back`: the causes of the holders that `prepare` and `Handle::tidy` name, with the watermark
 //!   that the oldest write set of the log still needs.
 //!
-//! No call takes memory, waits or tries again. Each call's clause `bound` says how many steps it makes at
-//! most: `enter` 6, `try_lock` 32, `write` 6, `try_commit` 8 and one for each object held, `abort` 2 and
-//! one for each object held, `leave` 1, and a `read` 12 and three for each entry after the snapshot that
-//! was seen. `prepare` and `tidy` make at most `2 * (4 + seats + 20 * slots) + 8`.
+//! No call but `open` takes memory, and none waits or tries again. Each call's clause `bound` says how
+//! many steps it makes at most: `enter` 6, `try_lock` 32, `write` 6, `try_commit` 8 and one for each
+//! object held, `abort` 2 and one for each object held, `leave` 1, and a `read` 12 and three for each entry
+//! after the snapshot that was seen. `prepare` and `tidy` make at most `2 * (4 + seats + 20 * slots) + 8`,
+//! and `meet` `seats + 7`.
 //!
 //! **The law of the whole.** `open` gives a domain with all its seats, and `Domain::meet` ends it with all
 //! of them. Whatever the seats have done meanwhile, there is then one list of commits and rests: legal,

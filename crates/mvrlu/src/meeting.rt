@@ -3,7 +3,7 @@ ghost use Rattle.std.specs.Prelude.{◌≡◌, ◌+◌, ◌<◌, ◌≤◌, [], 
 ghost use Rattle.mv_core.specs.EnterSteps.{MayLoadLow};
 ghost use Rattle.mv_core.specs.Passes.{view, IsOf};
 ghost use Rattle.mvrlu.specs.Joined.{AreJoining};
-ghost use Rattle.mvrlu.specs.Meant.{numbers_of, opening_of};
+ghost use Rattle.mvrlu.specs.Meant.{numbers_of, opening_of, whole_of};
 ghost use Rattle.mvrlu.specs.Meeting.{AreAll, LawOfTheWhole, IsShort};
 ghost use Rattle.mvrlu.specs.Placed.{Fits};
 ghost use Rattle.mvrlu.specs.Whole.{IsSound};
@@ -106,9 +106,9 @@ impl<P: Protocol> Domain<P> {
     /// that could make an entry between the two loads.
     pub fn meet(self, seats: Vec<Seat<P>>) -> Closing<P>
         requires all { AreAll self seats.items }
-        ensures law { LawOfTheWhole P.start P.allowed seats.items result.last }
-        ensures opening { (result.last.start ≡ opening_of self) × (result.last.base ≡ (numbers_of self).base) }
-        ensures short { IsShort seats.items result.last ((numbers_of self).seats + 7) }
+        ensures law { LawOfTheWhole P.start P.allowed seats.items (whole_of result) }
+        ensures opening { ((whole_of result).start ≡ opening_of self) × ((whole_of result).base ≡ (numbers_of self).base) }
+        ensures short { IsShort seats.items (whole_of result) ((numbers_of self).seats + 7) }
     {
         let last = begun::<P, Brand>(self, seats, Blank::new(1));
         Closing { last }

@@ -34,7 +34,7 @@ module _ {P : Type 0} {rules : _} (d : Domain P) (seats : List (Seat P rules)) w
   all_in_order many each = record {
     many = many;
     own = all_from_places (λ s. IsSeatOf d s) seats (λ k s e. (each k s e).0);
-    apart = apart_from (λ s. (seat_of s).number) 0 seats (λ k s e. (each k s e).1);
+    apart = apart_from (λ s. (seat_of s).number) 0 seats (λ k s e. (each k s e).1 ∙ (omega arith));
   }
 
   pub opened_all : (c : Config) (start : State) → IsOpened c start d seats → AreAll d seats

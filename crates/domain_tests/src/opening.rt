@@ -64,16 +64,42 @@ fn first_fault_of_the_numbers(rt: HostRuntime) -> Result<(), Fail> {
         (GOOD, None),
         (Config { seats: 1, ..GOOD }, None),
         (Config { seats: 0, ..GOOD }, Some(ConfigFault::Seats)),
-        (Config { seats: 65, slots: 63, ..GOOD }, Some(ConfigFault::Seats)),
+        (
+            Config {
+                seats: 65,
+                slots: 63,
+                ..GOOD
+            },
+            Some(ConfigFault::Seats),
+        ),
         (Config { slots: 63, ..GOOD }, Some(ConfigFault::Slots)),
-        (Config { write_max: 0, low: 0, ..GOOD }, Some(ConfigFault::WriteMax)),
+        (
+            Config {
+                write_max: 0,
+                low: 0,
+                ..GOOD
+            },
+            Some(ConfigFault::WriteMax),
+        ),
         (Config { low: 0, ..GOOD }, Some(ConfigFault::Marks)),
         (Config { high: 49, ..GOOD }, Some(ConfigFault::Marks)),
-        (Config { base: mv_layout::LAST + 1, ..GOOD }, Some(ConfigFault::Base)),
+        (
+            Config {
+                base: mv_layout::LAST + 1,
+                ..GOOD
+            },
+            Some(ConfigFault::Base),
+        ),
     ];
     for (config, fault) in rows {
-        assert_eq!(rt; fault_of(rt.alloc(), config, &start), fault.map(OpenFault::Config));
+        assert_eq!(rt;
+            fault_of(rt.alloc(), config, &start),
+            fault.map(OpenFault::Config)
+        );
     }
-    assert_eq!(rt; fault_of(rt.alloc(), Config { objects: 0, ..GOOD }, &[]), Some(OpenFault::Config(ConfigFault::Objects)));
+    assert_eq!(rt;
+        fault_of(rt.alloc(), Config { objects: 0, ..GOOD }, &[]),
+        Some(OpenFault::Config(ConfigFault::Objects))
+    );
     Ok(())
 }

@@ -43,10 +43,10 @@ module _ {P : _} {rules : _} where
   abbrev pub section_of : Session P rules → InSection
   section_of s = section_from s.part.busy
 
-  -- what a closing means
-  abbrev pub whole_of : Closing P rules → Whole
-  whole_of c = c.last
-
   -- the seat is of this domain: it has its name, and its opening state
   abbrev pub IsSeatOf : Domain P → Seat P rules → Type 0
   IsSeatOf d s = ((seat_of s).home ≡ name_of d) × ((seat_of s).start ≡ opening_of d)
+
+-- what a closing means
+abbrev pub whole_of : {P : _} → Closing P → Whole
+whole_of c = c.last

@@ -40,6 +40,8 @@ mod back_rows;
 #[cfg(test)]
 mod back_stop_rows;
 mod clients;
+#[cfg(test)]
+mod close_rows;
 mod closing;
 mod commits;
 #[cfg(test)]

@@ -91,9 +91,17 @@ fn first_fault_of_the_numbers(rt: HostRuntime) -> Result<(), Fail> {
             Some(ConfigFault::Base),
         ),
     ];
+    // Each row has as many objects as the opening state.
     for (config, fault) in rows {
         assert_eq!(rt;
-            fault_of(rt.alloc(), config, &start),
+            fault_of(
+                rt.alloc(),
+                Config {
+                    objects: 2,
+                    ..config
+                },
+                &start
+            ),
             fault.map(OpenFault::Config)
         );
     }

@@ -39,6 +39,8 @@
 
 mod loading;
 mod running;
+#[cfg(test)]
+mod tests;
 mod worker;
 
 pub use running::run_scripts;

@@ -1,5 +1,4 @@
-use Rattle.std.proofs.Common.{arith, take, sym}
-use Rattle.std.proofs.Common.{length-take}
+use Rattle.std.proofs.Common.{arith, take, sym, length-take}
 use Rattle.std.proofs.lemmas.List.{take_more}
 use Rattle.script_workers.proofs.Lines.{ran_more}
 use Rattle.script_workers.proofs.worker.run_script.Goals as goal

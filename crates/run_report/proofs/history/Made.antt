@@ -1,5 +1,6 @@
 -- The commit lines of one seat's script: each of the seat's commits has one.
-use Rattle.std.proofs.Common.{◌≡◌, ◌≢◌, ℕ, zero, suc, ◌+◌, ◌-◌, ◌<◌, ◌≤◌, Bool, true, false, cond, List, [], ◌∷◌, ◌++◌, Some, inl, inr, refl, sym, ap, ◌∙◌, arith, zero-add}
+use Rattle.std.proofs.Common.{◌≡◌, ◌≢◌, ℕ, zero, suc, ◌+◌, ◌-◌, ◌<◌, ◌≤◌, Bool, true, false, cond}
+use Rattle.std.proofs.Common.{List, [], ◌∷◌, ◌++◌, Some, inl, inr, refl, sym, ap, ◌∙◌, arith, zero-add}
 use Rattle.std.specs.List.{slice_get}
 use Rattle.std.proofs.lemmas.Bool.{cases_lt}
 use Rattle.std.proofs.lemmas.Bool.Decides.{nat_tests}
@@ -111,8 +112,9 @@ module _ (p : Past) where
       }
 
   -- the commits of a line and those of others have lines where the others have theirs
-  here_or_later : (seat : ℕ) (command : Command) (line : Line) (place : Place) (answer : Reply) (lines : List Line) (first others : List Commit) (j : ℕ) (c : Commit)
-      → line.place ≡ place → PlaceOf p seat command place answer first → ((k : ℕ) → slice_get others k ≡ Some c → HasLine lines c)
+  here_or_later : (seat : ℕ) (command : Command) (line : Line) (place : Place) (answer : Reply) (lines : List Line)
+      (first others : List Commit) (j : ℕ) (c : Commit) → line.place ≡ place
+      → PlaceOf p seat command place answer first → ((k : ℕ) → slice_get others k ≡ Some c → HasLine lines c)
       → slice_get (first ++ others) j ≡ Some c → HasLine (line ∷ lines) c
   here_or_later seat command line (AtCommit time) answer lines first others j c at place rest is = by j (rw place.1 at is)
     where

@@ -1,5 +1,6 @@
 -- The lines of all scripts, seat by seat: their numbers, their times, and their commits in the history.
-use Rattle.std.proofs.Common.{◌≡◌, ℕ, suc, ◌+◌, ◌-◌, ◌<◌, ◌≤◌, IsTrue, List, [], ◌∷◌, ◌++◌, length, map, take, drop, Option, None, Some, inl, inr, refl, sym, ap, ◌∙◌, subst, arith, add-one, append_assoc, length-append}
+use Rattle.std.proofs.Common.{◌≡◌, ℕ, suc, ◌+◌, ◌-◌, ◌<◌, ◌≤◌, IsTrue, List, [], ◌∷◌, ◌++◌, length, map, take}
+use Rattle.std.proofs.Common.{drop, Option, None, Some, inl, inr, refl, sym, ap, ◌∙◌, subst, arith, add-one, append_assoc, length-append}
 use Rattle.std.specs.List.{All, slice_get, slice_index_or}
 use Rattle.std.specs.Option.{IsSomeAnd}
 use Rattle.std.proofs.lemmas.Bool.{cases_lt}
@@ -39,7 +40,8 @@ module _ (p : Past) where
       let n : ℕ = length script in
       ap (map id_of) (sym (take-append-drop n lines))
       ∙ map-append id_of (take n lines) (drop n lines)
-      ∙ rw (seat_ids p seat 1 p.base script (take n lines) (commits_of seat p.entries) h.0) (ap (λ (ids : List (ℕ × ℕ)). ids_from seat 1 script ++ ids) (all_ids (suc seat) scripts (drop n lines) h.1))
+      ∙ rw (seat_ids p seat 1 p.base script (take n lines) (commits_of seat p.entries) h.0)
+      (ap (λ (ids : List (ℕ × ℕ)). ids_from seat 1 script ++ ids) (all_ids (suc seat) scripts (drop n lines) h.1))
 
   -- what holds of each seat's lines holds of all
   by_seats : (P : Line → Type 0) (scripts : List (List Command))

@@ -129,7 +129,7 @@ module _ (c : Config) (v x : View) (word : ℕ) (h0 : List Entry) (whole : IsWho
         (kinds_next LeavesLog (refl, refl) (refl, refl) (refl, refl))
 
     pub may_name : (starts : State → Type 0) (allows : List ℕ → State → Writes → Type 0) (tag : List ℕ) → MayCommit allows c v tag inside
-        → HasLoaded c x word → clock_time_of word < 35184372088831 → ∥ Known starts allows v ∥₁ → v.base ≡ c.base
+        → HasLoaded x word → clock_time_of word < 35184372088831 → ∥ Known starts allows v ∥₁ → v.base ≡ c.base
         → MayNameCommit allows c y word tag inside
     may_name starts allows tag may has room known base =
         let seen : time_in inside ≤ v.base + length v.past.seen = ∥∥₁_elim known le_prop (λ a. (a.section inside phase).seen) in

@@ -14,7 +14,6 @@ use Rattle.mv_layout.specs.Words.{clock_slot_of}
 use Rattle.mv_core.specs.declared.view.View.{View}
 use Rattle.mv_core.specs.declared.view.LoadedClocks.{LoadedClocks}
 use Rattle.mv_core.specs.HistoryFacts.{BeginsWith}
-use Rattle.mv_core.specs.SectionFacts.{IsWord}
 use Rattle.mv_core.specs.EnterSteps.{if_none, helped_too, named_clocks, named_loaded, checked_found, checked_helped, check_loaded, stamp_swapped}
 use Rattle.mv_core.specs.declared.view.FoundStamp.{FoundStamp}
 use Rattle.mv_core.proofs.kinds.helping.stamp.SwapStamp.{IsOwn, phase_after, own_says}
@@ -23,10 +22,9 @@ use Rattle.commit_clock.specs.declared.helping.CheckedHelp.{CheckedHelp}
 use Rattle.commit_clock.specs.Helps.{HasLoaded, IsHelpStep, Helps, HelpStarts, IsStarted, StartsHelp, FindsStamped, IsChecked, EndsHelp}
 
 -- a word that a load of CLOCK has just found
-pub loaded_now : (c : Config) (v w : View) (word : ℕ) (h : List Entry) → w ≡ check_loaded c v word h → IsWord c word → HasLoaded c w word
-loaded_now c v w word h is is_word = record {
+pub loaded_now : (c : Config) (v w : View) (word : ℕ) (h : List Entry) → w ≡ check_loaded c v word h → HasLoaded w word
+loaded_now c v w word h is = record {
   loaded = subst (λ (u : View). Contains u.clocks.loaded word) (sym is) (Contains-push v.clocks.loaded word);
-  is_word = is_word;
   none = λ e. subst (λ (u : View). Contains u.clocks.helped word) (sym is)
       (Contains-append_right v.clocks.helped (if_none word ++ checked_helped v.clocks.found word) word
       (Contains-append_left (if_none word) (checked_helped v.clocks.found word) word
@@ -49,7 +47,7 @@ grows_one n before after s is t =
 
 module _ (c : Config) (v : View) (word : ℕ) where
   -- nothing to help
-  pub helps_none : HasLoaded c v word → clock_slot_of word ≡ 8191 → Helps c v v word
+  pub helps_none : HasLoaded v word → clock_slot_of word ≡ 8191 → Helps c v v word
   helps_none has none = record {
     helped = has.none none;
     still_helped = λ x a. a;
@@ -141,29 +139,28 @@ module _ (c : Config) (v : View) (word : ℕ) where
         })
 
 -- a help that has loaded CLOCK knows whether its stamp is checked, or its word helped
-pub checks : (c : Config) (v w : View) (help : StartedHelp) (clock : ℕ) (h : List Entry) → IsStarted c v help → w ≡ check_loaded c v clock h
-    → IsChecked c w (record { word = help.word; unset = help.unset; clock = clock })
+pub checks : (c : Config) (v w : View) (help : StartedHelp) (clock : ℕ) (h : List Entry) → IsStarted v help → w ≡ check_loaded c v clock h
+    → IsChecked w (record { word = help.word; unset = help.unset; clock = clock })
 checks c v w help clock h started is =
     let kept : FoundStamp = record { word = help.word; unset = help.unset; checked = false } in
     let good : FoundStamp = record { word = help.word; unset = help.unset; checked = true } in
     let front : List ℕ = if_none clock in record {
-      is_word = started.is_word;
       due = λ e.
           ap (λ (u : View). u.clocks.found) is
-          ∙ ap (λ (f : Option FoundStamp). checked_found f clock) started.found
+          ∙ ap (λ (f : Option FoundStamp). checked_found f clock) started
           ∙ ap (λ (b : Bool). cond b (Some good) None) (eq-eqb help.word clock (sym e));
       gone = λ ne.
           let one : Contains (cond (help.word == clock) [] (help.word ∷ [])) help.word =
           subst (λ (b : Bool). Contains (cond b [] (help.word ∷ [])) help.word) (sym (ne_eqb help.word clock (λ e. ne (sym e)))) (Contains-push [] help.word) in
           let there : Contains (checked_helped v.clocks.found clock) help.word =
-          subst (λ (f : Option FoundStamp). Contains (checked_helped f clock) help.word) (sym started.found) one in
+          subst (λ (f : Option FoundStamp). Contains (checked_helped f clock) help.word) (sym started) one in
           subst (λ (u : View). Contains u.clocks.helped help.word) (sym is)
           (Contains-append_right v.clocks.helped (front ++ checked_helped v.clocks.found clock) help.word
           (Contains-append_right front (checked_helped v.clocks.found clock) help.word there));
     }
 
 -- a help that was done at its start
-pub helps_at_once : (c : Config) (v w : View) (word before after : ℕ) → HasLoaded c v word → HelpStarts c v w word before after None → Helps c v w word
+pub helps_at_once : (c : Config) (v w : View) (word before after : ℕ) → HasLoaded v word → HelpStarts c v w word before after None → Helps c v w word
 helps_at_once c v w word before after has starts =
     ⊎_elim
     (λ (none : (clock_slot_of word ≡ 8191) × (w ≡ v) × (after ≡ before)).

@@ -13,15 +13,13 @@ use Rattle.mv_core.specs.declared.view.Mode.TheVariants.{Named}
 use Rattle.mv_core.specs.declared.view.Naming.{Naming}
 use Rattle.mv_core.specs.Rings.{index_of}
 use Rattle.mv_core.specs.HistoryFacts.{BeginsWith}
-use Rattle.mv_core.specs.SectionFacts.{IsWord}
 use Rattle.mv_core.specs.EnterSteps.{IsWhole, named_loaded, stamp_swapped}
 use Rattle.commit_clock.specs.declared.helping.StartedHelp.{StartedHelp}
 use Rattle.commit_clock.specs.declared.helping.CheckedHelp.{CheckedHelp}
 
--- the pass has loaded the word; it is a packed clock word, and counts as helped where it names no commit
-pub record HasLoaded (c : Config) (v : View) (word : ℕ) : Type 0 where
+-- the pass has loaded the word, which counts as helped where it names no commit
+pub record HasLoaded (v : View) (word : ℕ) : Type 0 where
   pub loaded : Contains v.clocks.loaded word
-  pub is_word : IsWord c word
   pub none : clock_slot_of word ≡ 8191 → Contains v.clocks.helped word
 
 -- a step of a help
@@ -57,9 +55,8 @@ FindsClock c v w None = w.past ≡ v.past
 FindsClock c v w (Some word) = (h : List Entry) × IsWhole c v word h × (w.past ≡ record v.past { seen = h })
 
 -- the stamp was found unset for the word, which names a commit, and CLOCK wasn't loaded since
-pub record IsStarted (c : Config) (v : View) (help : StartedHelp) : Type 0 where
-  pub found : v.clocks.found ≡ Some (record { word = help.word; unset = help.unset; checked = false })
-  pub is_word : IsWord c help.word
+abbrev pub IsStarted : View → StartedHelp → Type 0
+IsStarted v help = v.clocks.found ≡ Some (record { word = help.word; unset = help.unset; checked = false })
 
 -- the stamp was loaded, and was unset
 pub record StartsHelp (c : Config) (v w : View) (word : ℕ) (help : StartedHelp) : Type 0 where
@@ -67,7 +64,7 @@ pub record StartsHelp (c : Config) (v w : View) (word : ℕ) (help : StartedHelp
   pub word_is : help.word ≡ word
   pub unset : 2 ^ 63 ≤ help.unset
   pub view : w ≡ named_loaded c v word help.unset
-  pub started : IsStarted c w help
+  pub started : IsStarted w help
 
 -- the stamp was loaded, and wasn't unset
 pub record FindsStamped (c : Config) (v w : View) (word : ℕ) : Type 0 where
@@ -83,8 +80,7 @@ HelpStarts c v w word before after None =
 HelpStarts c v w word before after (Some help) = StartsHelp c v w word help × (after ≡ before + 1)
 
 -- CLOCK was loaded since the stamp was found: the stamp is checked where CLOCK had the word, and else the word is helped
-pub record IsChecked (c : Config) (v : View) (help : CheckedHelp) : Type 0 where
-  pub is_word : IsWord c help.word
+pub record IsChecked (v : View) (help : CheckedHelp) : Type 0 where
   pub due : help.clock ≡ help.word → v.clocks.found ≡ Some (record { word = help.word; unset = help.unset; checked = true })
   pub gone : help.clock ≢ help.word → Contains v.clocks.helped help.word
 

@@ -3,6 +3,7 @@ ghost use Rattle.std.specs.Prelude.{◌≡◌, ◌+◌, ◌≤◌, List};
 ghost use Rattle.mv_history.specs.declared.Entry.{Entry};
 ghost use Rattle.mv_layout.specs.Words.{clock_slot_of};
 ghost use Rattle.mv_core.specs.Passes.{view, IsOf, IsSame, config_of};
+ghost use Rattle.mv_core.specs.SectionFacts.{IsWord};
 ghost use Rattle.mv_core.specs.EnterSteps.{IsWhole, MayLoadCheck, check_loaded};
 ghost use Rattle.commit_clock.specs.Helps.{HasLoaded, Helps, FindsClock, HelpStarts, IsStarted, IsChecked, EndsHelp};
 
@@ -23,7 +24,8 @@ pub fn now<P: Protocol, L: Ledger>(
     ensures same { IsSame pass.old pass.new }
     ensures view { (h : List Entry) × IsWhole (config_of shared.now) (view pass.old) result h
         × (view pass.new ≡ check_loaded (config_of shared.now) (view pass.old) result h) }
-    ensures loaded { HasLoaded (config_of shared.now) (view pass.new) result }
+    ensures loaded { HasLoaded (view pass.new) result }
+    ensures word { IsWord (config_of shared.now) result }
     ensures step { steps.new ≡ steps.old + 1 }
 {
     shared.load_check(pass, steps)
@@ -40,7 +42,7 @@ pub fn help<P: Protocol, L: Ledger>(
 )
     requires of { IsOf shared.now pass.old }
     requires may { MayLoadCheck (view pass.old).phase }
-    requires loaded { HasLoaded (config_of shared.now) (view pass.old) word }
+    requires loaded { HasLoaded (view pass.old) word }
     ensures same { IsSame pass.old pass.new }
     ensures helps { Helps (config_of shared.now) (view pass.old) (view pass.new) word }
     ensures none { clock_slot_of word ≡ 8191 → (view pass.new ≡ view pass.old) × (steps.new ≡ steps.old) }
@@ -59,7 +61,7 @@ pub fn help_clock<P: Protocol, L: Ledger>(
 ) -> Option<u64>
     requires of { IsOf shared.now pass.old }
     requires may { MayLoadCheck (view pass.old).phase }
-    requires loaded { HasLoaded (config_of shared.now) (view pass.old) word }
+    requires loaded { HasLoaded (view pass.old) word }
     ensures same { IsSame pass.old pass.new }
     ensures helps { Helps (config_of shared.now) (view pass.old) (view pass.new) word }
     ensures clock { FindsClock (config_of shared.now) (view pass.old) (view pass.new) result }
@@ -104,7 +106,7 @@ pub fn help_start<P: Protocol, L: Ledger>(
 ) -> Option<StartedHelp>
     requires of { IsOf shared.now pass.old }
     requires may { MayLoadCheck (view pass.old).phase }
-    requires loaded { HasLoaded (config_of shared.now) (view pass.old) word }
+    requires loaded { HasLoaded (view pass.old) word }
     ensures same { IsSame pass.old pass.new }
     ensures starts { HelpStarts (config_of shared.now) (view pass.old) (view pass.new) word steps.old steps.new result }
 {
@@ -129,12 +131,12 @@ pub fn help_check<P: Protocol, L: Ledger>(
 ) -> CheckedHelp
     requires of { IsOf shared.now pass.old }
     requires may { MayLoadCheck (view pass.old).phase }
-    requires started { IsStarted (config_of shared.now) (view pass.old) started }
+    requires started { IsStarted (view pass.old) started }
     ensures same { IsSame pass.old pass.new }
     ensures help { result ≡ record { word = started.word; unset = started.unset; clock = result.clock } }
     ensures view { (h : List Entry) × IsWhole (config_of shared.now) (view pass.old) result.clock h
         × (view pass.new ≡ check_loaded (config_of shared.now) (view pass.old) result.clock h) }
-    ensures checked { IsChecked (config_of shared.now) (view pass.new) result }
+    ensures checked { IsChecked (view pass.new) result }
     ensures step { steps.new ≡ steps.old + 1 }
 {
     let StartedHelp { word, unset } = started;
@@ -152,7 +154,7 @@ pub fn help_end<P: Protocol, L: Ledger>(
     steps: &mut Steps<L>,
 )
     requires of { IsOf shared.now pass.old }
-    requires checked { IsChecked (config_of shared.now) (view pass.old) checked }
+    requires checked { IsChecked (view pass.old) checked }
     ensures same { IsSame pass.old pass.new }
     ensures ends { EndsHelp (config_of shared.now) (view pass.old) (view pass.new) checked steps.old steps.new }
 {

@@ -1,7 +1,8 @@
 -- What every pass knows of its own view, and what it has of it at run time.
-use Rattle.std.specs.Prelude.{◌≡◌, ◌≢◌, ◌^◌, ℕ, ◌+◌, ◌<◌, ◌≤◌, List, length, false, Some, None}
+use Rattle.std.specs.Prelude.{◌≡◌, ◌≢◌, ◌^◌, ℕ, ◌+◌, ◌<◌, ◌≤◌, List, length, Contains, false, Some, None}
 use Rattle.mv_history.specs.State.{State, Writes, commits_of, rests_of}
 use Rattle.mv_history.specs.Legal.{AreWords, IsLegal, IsAllowed}
+use Rattle.mv_layout.specs.declared.Config.{Config}
 use Rattle.mv_layout.specs.Words.{clock_slot_of}
 use Rattle.mv_core.specs.declared.ring.Slot.TheVariants.{Built, Live}
 use Rattle.mv_core.specs.declared.ring.Build.{Build}
@@ -19,6 +20,7 @@ use Rattle.mv_core.specs.declared.view.Mode.TheVariants.{Open}
 use Rattle.mv_core.specs.Rings.{slot_at, HoldsNothing, held_count, set_first}
 use Rattle.mv_core.specs.Times.{latest, latest_at, last_own, IsNextIn}
 use Rattle.mv_core.specs.Views.{time_in, IsUnnamed}
+use Rattle.mv_core.specs.SectionFacts.{IsWord}
 use Rattle.mv_core.specs.ReclaimFacts.{death_in}
 
 -- what a pass knows of a version that it holds: its object is one of the domain and wasn't written after the section's time, and it has six words
@@ -67,6 +69,12 @@ pub record Known (starts : State → Type 0) (allows : List ℕ → State → Wr
   pub commits : (k : ℕ) (x : Version) (note : CommitNote) → slot_at v.ring k ≡ Live x (Committed note) → KnownCommit v x note
   pub deaths : (k : ℕ) (x : Version) (st : Status) (dead : ℕ) → slot_at v.ring k ≡ Live x st → death_in st ≡ Some dead
       → dead ≤ v.base + length v.past.seen + 1
+
+-- what a pass of a domain knows of its clock words: each one that it loaded, and that of the stamp that it found, names a seat and a
+-- slot of the domain, or no commit
+abbrev pub KnownWords : Config → View → Type 0
+KnownWords c v =
+    ((word : ℕ) → Contains v.clocks.loaded word → IsWord c word) × ((f : FoundStamp) → v.clocks.found ≡ Some f → IsWord c f.word)
 
 -- in a section this is its time
 abbrev pub IsTimed : ℕ → View → Type 0

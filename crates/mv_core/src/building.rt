@@ -12,15 +12,16 @@ use crate::shared::{Pass, Shared};
 use crate::steps::Steps;
 use crate::turns::{load_as, store_as};
 use mv_history::Protocol;
-use mv_layout::{CLOCK_CELL, slot_cell, slot_of_position};
+use mv_layout::{CLOCK_CELL, DATA_OFFSET, slot_cell, slot_of_position};
 use std::marker::Brand;
 use std::sync::ledger::Ledger;
 
 impl<P: Protocol> Shared<P> {
     /// Stores a word into a slot of the own log, which is free or being built, for the pass's next
-    /// position, in an open section. `field` is the word's offset in its slot: 0 is FIRST, 1 STAMP,
-    /// 2 PREV, 3 SUPER and `4 + w` the data word `w`. FIRST takes the first position of the write
-    /// set, STAMP the unset stamp of that position where this slot is its first, and SUPER takes 0.
+    /// position, in an open section. `field` is the word's offset in its slot: one of `FIRST_OFFSET`,
+    /// `STAMP_OFFSET`, `PREV_OFFSET` and `SUPER_OFFSET`, or `DATA_OFFSET + w` for the data word `w`.
+    /// FIRST takes the first position of the write set, STAMP the unset stamp of that position where
+    /// this slot is its first, and SUPER takes 0.
     /// The slot is then being built, and the view has what was stored. A position that may be built
     /// fits a link.
     pub fn store_built<L: Ledger>(
@@ -62,7 +63,7 @@ impl<P: Protocol> Shared<P> {
         ensures step { steps.new ≡ steps.old + 1 }
     {
         let slot = slot_of_position(&self.config, position);
-        let cell = slot_cell(&self.config, pass.number, slot) + 4 + word;
+        let cell = slot_cell(&self.config, pass.number, slot) + DATA_OFFSET + word;
         store_as::<P, Brand, L, _>(self, pass, cell, value, &(position, word), steps)
     }
 

@@ -24,10 +24,10 @@ impl<P: Protocol> Shared<P> {
         let Shared { config: _, table } = self;
         let Pass {
             number: _,
-            write_max: _,
             time: _,
             first: _,
             seat,
+            domain: _,
             rules: _,
         } = pass;
         table.close_with(seat)

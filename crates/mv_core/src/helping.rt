@@ -15,7 +15,7 @@ use crate::steps::Steps;
 use crate::swap::{Swap, swap_of};
 use crate::turns::{load_as, swap_as};
 use mv_history::Protocol;
-use mv_layout::{CLOCK_CELL, clock_seat, clock_slot, clock_time, slot_cell};
+use mv_layout::{CLOCK_CELL, STAMP_OFFSET, clock_seat, clock_slot, clock_time, slot_cell};
 use std::marker::Brand;
 use std::sync::ledger::Ledger;
 
@@ -26,7 +26,6 @@ impl<P: Protocol> Shared<P> {
     pub fn load_named<L: Ledger>(&self, pass: &mut Pass<P>, word: u64, steps: &mut Steps<L>) -> u64
         requires of { IsOf self.now pass.old }
         requires may { MayLoadNamed (view pass.old) word }
-        requires word { IsWord (config_of self.now) word }
         ensures same { IsSame pass.old pass.new }
         ensures view { view pass.new ≡ named_loaded (config_of self.now) (view pass.old) word result }
         ensures step { steps.new ≡ steps.old + 1 }
@@ -63,7 +62,6 @@ impl<P: Protocol> Shared<P> {
     ) -> Swap
         requires of { IsOf self.now pass.old }
         requires may { MayStamp (config_of self.now) (view pass.old) word unset }
-        requires word { IsWord (config_of self.now) word }
         ensures same { IsSame pass.old pass.new }
         ensures view { view pass.new ≡ stamp_swapped (config_of self.now) (view pass.old) word unset (found_by unset result) }
         ensures swap { IsSwap unset result }
@@ -82,7 +80,7 @@ impl<P: Protocol> Shared<P> {
         ensures range { IsPlace (config_of self.now) (stamp_place word) }
         ensures cell { result ≡ cell_of (config_of self.now) (stamp_place word) }
     {
-        slot_cell(&self.config, clock_seat(word), clock_slot(word)) + 1
+        slot_cell(&self.config, clock_seat(word), clock_slot(word)) + STAMP_OFFSET
     }
 }
 

@@ -15,7 +15,7 @@ use crate::steps::Steps;
 use crate::swap::{Swap, swap_of};
 use crate::turns::{store_as, swap_as};
 use mv_history::{Protocol, Tag};
-use mv_layout::{CLOCK_CELL, NO_SLOT, clock_time, clock_word, slot_of_position};
+use mv_layout::{CLOCK_CELL, NO_SLOT, SUPER_OFFSET, clock_time, clock_word, slot_of_position};
 use std::marker::Brand;
 use std::sync::ledger::Ledger;
 
@@ -93,7 +93,7 @@ impl<P: Protocol> Shared<P> {
         ensures view { view pass.new ≡ super_stored (config_of self.now) (view pass.old) link time above.0 above.1 above.2 }
         ensures step { steps.new ≡ steps.old + 1 }
     {
-        let cell = self.slot_linked(link) + 3;
+        let cell = self.slot_linked(link) + SUPER_OFFSET;
         store_as::<P, Brand, L, _>(self, pass, cell, time, &link, steps)
     }
 }

@@ -112,10 +112,10 @@ impl<P: Protocol> Shared<P> {
         let seat = split_as::<P, Brand>(self, &mut first.seat);
         Pass {
             number,
-            write_max: self.config.write_max,
             time: 0,
             first: 0,
             seat,
+            domain: Snapshot::of(&self.config),
             rules: PhantomData,
         }
     }
@@ -146,10 +146,10 @@ impl<P: Protocol> Shared<P> {
         };
         let first = Pass {
             number: 0,
-            write_max: config.write_max,
             time: 0,
             first: 0,
             seat,
+            domain: Snapshot::of(config),
             rules: PhantomData,
         };
         Ok((shared, first))

@@ -16,7 +16,9 @@ use crate::steps::Steps;
 use crate::swap::{Swap, swap_of};
 use crate::turns::{load_as, store_as, swap_as};
 use mv_history::Protocol;
-use mv_layout::{head_cell, link_word, master_cell, slot_cell, slot_of_position};
+use mv_layout::{
+    STAMP_OFFSET, SUPER_OFFSET, head_cell, link_word, master_cell, slot_cell, slot_of_position,
+};
 use std::marker::Brand;
 use std::sync::ledger::Ledger;
 
@@ -42,7 +44,7 @@ impl<P: Protocol> Shared<P> {
         ensures step { steps.new ≡ steps.old + 1 }
     {
         let slot = slot_of_position(&self.config, position);
-        let cell = slot_cell(&self.config, pass.number, slot) + 3;
+        let cell = slot_cell(&self.config, pass.number, slot) + SUPER_OFFSET;
         load_as::<P, Brand, L, _>(self, pass, cell, &position, steps)
     }
 
@@ -127,7 +129,7 @@ impl<P: Protocol> Shared<P> {
         ensures step { steps.new ≡ steps.old + 1 }
     {
         let slot = slot_of_position(&self.config, position);
-        let cell = slot_cell(&self.config, pass.number, slot) + 1;
+        let cell = slot_cell(&self.config, pass.number, slot) + STAMP_OFFSET;
         store_as::<P, Brand, L, _>(self, pass, cell, 0, &position, steps)
     }
 }

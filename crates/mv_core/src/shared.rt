@@ -2,7 +2,7 @@
 ghost use Rattle.std.specs.Prelude.{◌≡◌, ◌<◌, [], length};
 ghost use Rattle.mv_layout.specs.Limits.{Checked};
 ghost use Rattle.mv_layout.specs.Cells.{cells};
-ghost use Rattle.mv_core.specs.Known.{Known, IsTimed, IsBegun};
+ghost use Rattle.mv_core.specs.Known.{Known, KnownWords, IsTimed, IsBegun};
 
 use crate::view::View;
 use atomic_table::{Seat, Table, TableRule};
@@ -43,20 +43,22 @@ pub struct Shared<P: Protocol> {
     pub ghost opening: { length table.shared.key.start.value.items ≡ config.objects },
 }
 
-/// A seat of a domain with its view. At run time it has its number, the limit of its write sets, its
-/// section's time, and the position of its write set's first version.
+/// A seat of a domain with its view. At run time it has its number, its section's time, and the
+/// position of its write set's first version. The numbers of its domain are there for clauses alone,
+/// and take no memory.
 #[derive(Drop)]
 pub struct Pass<P: Protocol> {
     pub(crate) number: u32,
-    pub(crate) write_max: u32,
     pub(crate) time: u64,
     pub(crate) first: u64,
     pub(crate) seat: Seat<Tag, View>,
+    pub(crate) domain: Snapshot<Config>,
     pub(crate) rules: PhantomData<P>,
     pub ghost numbered: { number ≡ seat.me.0.number },
     pub ghost timed: { IsTimed time seat.me.0 },
     pub ghost begun: { IsBegun first seat.me.0 },
     pub ghost known: { ∥ Known P.start P.allowed seat.me.0 ∥₁ },
+    pub ghost words: { KnownWords domain.value seat.me.0 },
     // The table has no slots of its own, so no seat has one.
     pub ghost taken: { seat.me.1 ≡ [] },
 }

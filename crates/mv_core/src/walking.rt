@@ -15,7 +15,10 @@ use crate::shared::{Pass, Shared};
 use crate::steps::Steps;
 use crate::turns::load_as;
 use mv_history::Protocol;
-use mv_layout::{head_cell, link_position, link_seat, master_cell, slot_cell, slot_of_position};
+use mv_layout::{
+    DATA_OFFSET, FIRST_OFFSET, PREV_OFFSET, STAMP_OFFSET, head_cell, link_position, link_seat,
+    master_cell, slot_cell, slot_of_position,
+};
 use std::marker::Brand;
 use std::sync::ledger::Ledger;
 
@@ -66,7 +69,7 @@ impl<P: Protocol> Shared<P> {
         ensures view { view pass.new ≡ first_loaded (config_of self.now) (view pass.old) stand result }
         ensures step { steps.new ≡ steps.old + 1 }
     {
-        let cell = self.slot_linked(link);
+        let cell = self.slot_linked(link) + FIRST_OFFSET;
         load_as::<P, Brand, L, _>(self, pass, cell, &link, steps)
     }
 
@@ -93,7 +96,7 @@ impl<P: Protocol> Shared<P> {
         ensures step { steps.new ≡ steps.old + 1 }
     {
         let slot = slot_of_position(&self.config, first);
-        let cell = slot_cell(&self.config, link_seat(link), slot) + 1;
+        let cell = slot_cell(&self.config, link_seat(link), slot) + STAMP_OFFSET;
         load_as::<P, Brand, L, _>(self, pass, cell, &(link, first), steps)
     }
 
@@ -110,7 +113,7 @@ impl<P: Protocol> Shared<P> {
         ensures link { IsLinkOf (config_of self.now) result }
         ensures step { steps.new ≡ steps.old + 1 }
     {
-        let cell = self.slot_linked(link) + 2;
+        let cell = self.slot_linked(link) + PREV_OFFSET;
         load_as::<P, Brand, L, _>(self, pass, cell, &link, steps)
     }
 
@@ -133,7 +136,7 @@ impl<P: Protocol> Shared<P> {
         ensures wide { length (words_read (config_of self.now) (view pass.old) at.1 at.0.object) ≡ 6 }
         ensures step { steps.new ≡ steps.old + 1 }
     {
-        let cell = self.slot_linked(link) + 4 + word;
+        let cell = self.slot_linked(link) + DATA_OFFSET + word;
         load_as::<P, Brand, L, _>(self, pass, cell, &(link, word), steps)
     }
 

@@ -15,6 +15,21 @@ pub const CLOCK_CELL: u32 = 6;
 /// The cell of GRACE, two lines behind that of CLOCK.
 pub const GRACE_CELL: u32 = 22;
 
+/// The offset of FIRST in a slot: the slot's own cell.
+pub const FIRST_OFFSET: u32 = 0;
+
+/// The offset of STAMP in a slot.
+pub const STAMP_OFFSET: u32 = 1;
+
+/// The offset of PREV in a slot.
+pub const PREV_OFFSET: u32 = 2;
+
+/// The offset of SUPER in a slot.
+pub const SUPER_OFFSET: u32 = 3;
+
+/// The offset of data word 0 in a slot; the others follow.
+pub const DATA_OFFSET: u32 = 4;
+
 /// How many cells the running table of a domain has, at most 4,719,646.
 pub fn total_cells(config: &Config) -> u64
     requires { Checked config.now }
@@ -55,8 +70,8 @@ pub fn master_cell(config: &Config, object: u32, word: u32) -> u32
     38 + 16 * config.seats + 8 * object + 1 + word
 }
 
-/// The cell at which a slot of a seat's log begins, with its FIRST. STAMP, PREV and SUPER follow, and
-/// then the six data words, of which the last two are in the next line.
+/// The cell at which a slot of a seat's log begins. Each word of the slot stands at its offset from
+/// there, from `FIRST_OFFSET` to `DATA_OFFSET + 5`; the last two data words are in the next line.
 pub fn slot_cell(config: &Config, seat: u32, slot: u32) -> u32
     requires checked { Checked config.now }
     requires range { IsPlace config.now (First seat slot) }

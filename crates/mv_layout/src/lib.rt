@@ -40,7 +40,8 @@ mod slots;
 mod tests;
 
 pub use cells::{
-    CLOCK_CELL, GRACE_CELL, cells_differ, head_cell, mark_cell, master_cell, slot_cell, total_cells,
+    CLOCK_CELL, DATA_OFFSET, FIRST_OFFSET, GRACE_CELL, PREV_OFFSET, STAMP_OFFSET, SUPER_OFFSET,
+    cells_differ, head_cell, mark_cell, master_cell, slot_cell, total_cells,
 };
 pub use config::{Config, ConfigFault, LAST, WIDTH};
 pub use packing::{

@@ -2,6 +2,7 @@
 ghost use Rattle.std.specs.Prelude.{◌≡◌, ℕ, ◌+◌, ◌≤◌, List, length};
 ghost use Rattle.mv_history.specs.declared.Entry.{Entry};
 ghost use Rattle.mv_layout.specs.Words.{clock_time_of};
+ghost use Rattle.mv_core.specs.SectionFacts.{IsWord};
 ghost use Rattle.mv_core.specs.EnterSteps.{IsWhole, MayLoadLow, low_loaded, MayStoreMark, mark_stored, MayLoadTime, time_loaded, mark_cleared};
 ghost use Rattle.mv_core.specs.Passes.{view, IsOf, IsSame, config_of};
 ghost use Rattle.mv_core.specs.Rings.{HoldsNothing};
@@ -104,7 +105,8 @@ pub fn enter_time<P: Protocol, L: Ledger>(
     ensures view { (h : List Entry) × IsWhole (config_of shared.now) (view pass.old) result h
         × (view pass.new ≡ time_loaded (config_of shared.now) (view pass.old) result h) }
     ensures nothing { HoldsNothing (view pass.new).ring }
-    ensures loaded { HasLoaded (config_of shared.now) (view pass.new) result }
+    ensures loaded { HasLoaded (view pass.new) result }
+    ensures word { IsWord (config_of shared.now) result }
     ensures step { steps.new ≡ steps.old + 1 }
 {
     shared.load_time(pass, steps)

@@ -57,7 +57,7 @@ marked c v w l low h is =
     }
 
 pub taken : (c : Config) (v w : View) (l : Noted) (word : ℕ) (h : List Entry) → HasMarked c v l → w ≡ time_loaded c v word h
-    → HasLoaded c w word → HasTaken c w l word
+    → HasLoaded w word → HasTaken c w l word
 taken c v w l word h m is loaded =
     let s : Step = record { kind = LoadTime; word = place_of c Clock; found = Some word; stored = None } in
     record {

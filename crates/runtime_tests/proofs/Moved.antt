@@ -112,7 +112,7 @@ written c v w l m word n i s may stands unbuilt =
 
 -- CLOCK was loaded, and its word helped
 pub loaded : (c : Config) (v x y : View) (l : Noted) (old : Option ℕ) (word : ℕ) (h : List Entry) → IsInside c v l old → IsWhole c v word h
-    → x ≡ check_loaded c v word h → HasLoaded c x word → Helps c x y word → IsInside c y l (Some word)
+    → x ≡ check_loaded c v word h → HasLoaded x word → Helps c x y word → IsInside c y l (Some word)
 loaded c v x y l old word h i whole is has helps =
     let inside : Section = section_in v in
     let back = ap (λ (u : View). u.back) helps.rest ∙ ap (λ (u : View). u.back) is ∙ i.may.no_back in

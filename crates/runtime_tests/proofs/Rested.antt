@@ -24,7 +24,7 @@ use Rattle.runtime_tests.specs.Clients.{IsOutside, HasClock, HasHelpedClock}
 
 -- CLOCK was loaded
 pub clock_taken : (c : Config) (v w : View) (l : Noted) (word : ℕ) (h : List Entry) → IsOutside c v l → w ≡ check_loaded c v word h
-    → HasLoaded c w word → HasClock c w l word
+    → HasLoaded w word → HasClock c w l word
 clock_taken c v w l word h o is loaded =
     let s : Step = record { kind = LoadCheck; word = place_of c Clock; found = Some word; stored = None } in
     record {

@@ -57,7 +57,7 @@ pub record HasTaken (c : Config) (v : View) (l : Noted) (word : ℕ) : Type 0 wh
   pub phase_is : v.phase ≡ phase.Inside inside
   pub open_is : inside.mode ≡ Open
   pub word_is : inside.word ≡ word
-  pub loaded : HasLoaded c v word
+  pub loaded : HasLoaded v word
   pub no_back : v.back ≡ None
   pub between : IsBetween c v l
 
@@ -89,7 +89,7 @@ pub record HasStarted (c : Config) (v : View) (l : Noted) (lock : StartedLock) :
 -- outside a section, where this word of CLOCK was loaded
 pub record HasClock (c : Config) (v : View) (l : Noted) (word : ℕ) : Type 0 where
   pub outside : IsOutside c v l
-  pub loaded : HasLoaded c v word
+  pub loaded : HasLoaded v word
 
 -- and was helped too
 pub record HasHelpedClock (c : Config) (v : View) (l : Noted) (word : ℕ) : Type 0 where

@@ -11,7 +11,10 @@ ghost use Rattle.runtime_tests.specs.Clients.{IsInside};
 
 use mv_core::{Pass, Shared, Steps, Swap};
 use mv_history::{AnyRules, Words};
-use mv_layout::{is_unset, link_position, link_seat, link_word, unset_stamp};
+use mv_layout::{
+    DATA_OFFSET, FIRST_OFFSET, PREV_OFFSET, STAMP_OFFSET, SUPER_OFFSET, is_unset, link_position,
+    link_seat, link_word, unset_stamp,
+};
 use object_lock::{StartedLock, holds};
 use seat_log::{Log, clear_previous, held, live, room, table};
 use std::sync::ledger::Ledger;
@@ -43,11 +46,11 @@ fn field_of(first: u64, position: u64, previous: u64, words: &Words, field: u32)
     ensures { FitsField first position field result }
 {
     match field {
-        0 => first,
-        1 => unset_stamp(position),
-        2 => previous,
-        3 => 0,
-        _ => words[field as usize - 4],
+        FIRST_OFFSET => first,
+        STAMP_OFFSET => unset_stamp(position),
+        PREV_OFFSET => previous,
+        SUPER_OFFSET => 0,
+        _ => words[(field - DATA_OFFSET) as usize],
     }
 }
 

@@ -23,7 +23,7 @@ fn first_of_help<L: Ledger>(
 )
     requires of { IsOf shared.now pass.old }
     requires may { MayLoadCheck (view pass.old).phase }
-    requires loaded { HasLoaded (config_of shared.now) (view pass.old) word }
+    requires loaded { HasLoaded (view pass.old) word }
     ensures same { IsSame pass.old pass.new }
 {
     if count == 0 {

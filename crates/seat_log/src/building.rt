@@ -12,19 +12,10 @@ use crate::log::Log;
 use crate::version::Note;
 use mv_core::{Pass, Shared, Steps};
 use mv_history::{Protocol, Words};
-use mv_layout::{WIDTH, unset_stamp};
+use mv_layout::{
+    DATA_OFFSET, FIRST_OFFSET, PREV_OFFSET, STAMP_OFFSET, SUPER_OFFSET, WIDTH, unset_stamp,
+};
 use std::sync::ledger::Ledger;
-
-// The offsets of the words in a slot.
-const FIRST: u32 = 0;
-
-const STAMP: u32 = 1;
-
-const PREV: u32 = 2;
-
-const SUPER: u32 = 3;
-
-const DATA: u32 = 4;
 
 // Stores one word of the slot.
 fn store_next<P: Protocol, L: Ledger>(
@@ -65,9 +56,16 @@ fn begin_slot<P: Protocol, L: Ledger>(
     ensures range { position < 2 ^ 57 }
     ensures cost { steps.new ≡ steps.old + (if first == position then 2 else 1) }
 {
-    store_next(shared, pass, position, FIRST, first, steps);
+    store_next(shared, pass, position, FIRST_OFFSET, first, steps);
     if first == position {
-        store_next(shared, pass, position, STAMP, unset_stamp(position), steps);
+        store_next(
+            shared,
+            pass,
+            position,
+            STAMP_OFFSET,
+            unset_stamp(position),
+            steps,
+        );
     }
 }
 
@@ -90,8 +88,8 @@ fn link_slot<P: Protocol, L: Ledger>(
     ensures cost { steps.new ≡ steps.old + (if first == position then 4 else 3) }
 {
     begin_slot(shared, pass, position, first, steps);
-    store_next(shared, pass, position, PREV, previous, steps);
-    store_next(shared, pass, position, SUPER, 0, steps);
+    store_next(shared, pass, position, PREV_OFFSET, previous, steps);
+    store_next(shared, pass, position, SUPER_OFFSET, 0, steps);
 }
 
 // Stores the six data words.
@@ -114,7 +112,7 @@ fn store_words<P: Protocol, L: Ledger>(
             shared,
             pass,
             position,
-            DATA + word,
+            DATA_OFFSET + word,
             words[word as usize],
             steps,
         );
@@ -192,7 +190,7 @@ pub fn clear_previous<P: Protocol, L: Ledger>(
     ensures rest { ChangesLog (view pass.old) (view pass.new) }
     ensures step { steps.new ≡ steps.old + 1 }
 {
-    store_next(shared, pass, position, PREV, 0, steps);
+    store_next(shared, pass, position, PREV_OFFSET, 0, steps);
     log.built = clear_note_previous(log.built);
 }
 
@@ -222,7 +220,7 @@ pub fn put_word<P: Protocol, L: Ledger>(
     ensures step { steps.new ≡ steps.old + 1 }
 {
     if position == log.freed + log.live.len() as u64 {
-        store_next(shared, pass, position, DATA + word, value, steps);
+        store_next(shared, pass, position, DATA_OFFSET + word, value, steps);
         if let Some(note) = &mut log.built {
             note.words[word as usize] = value;
         }

@@ -17,10 +17,10 @@ use Rattle.mv_core.specs.declared.shared.Opening.{Opening}
 use Rattle.mv_core.specs.Moves as moves
 use Rattle.mv_core.specs.Moves.{Moment, Kind, act, memory_after, history_after, IsStorable, IsSeat, Move, steps, Moves, moved}
 use Rattle.mv_core.specs.Rule.{LoadsAs, StoresAs, SwapsAs, RaisesAs}
-use Rattle.mv_core.proofs.FactTerms.{KnowsPast, Known, Facts, IsSeated, Ruled, Loads, Stores, Swaps, Raises, IsKept}
+use Rattle.mv_core.proofs.FactTerms.{KnowsPast, Known, KnownWords, Facts, IsSeated, Ruled, Loads, Stores, Swaps, Raises, IsKept}
 use Rattle.mv_core.proofs.moves.Grown.{stays}
 use Rattle.mv_core.proofs.frames.FrameLaw.{set_at_here, set_at_all}
-use Rattle.mv_core.proofs.points.KnownBounds.{known_low, known_found, known_back, known_next}
+use Rattle.mv_core.proofs.points.KnownBounds.{known_low, known_found, known_words, known_back, known_next}
 use Rattle.mv_core.proofs.points.KnownLogs.{known_idle, known_still, known_commit, known_death}
 use Rattle.mv_core.proofs.points.KnownSections.{known_section}
 use Rattle.mv_core.proofs.frames.Seating.{old_of, seated_after}
@@ -59,7 +59,8 @@ module _ (starts : State → Type 0) (allows : List ℕ → State → Writes →
       }
 
   module _ (key : Opening) (slots id : ℕ) (me : Me (List ℕ) View) (p : Place) (i : ℕ) (hp : IsPlace key.config p) (is : i ≡ cell_of key.config p)
-      (unspent : me.0.spent ≡ false) (begins : me.0.start ≡ key.start.value.items) (from : me.0.base ≡ key.config.base) where
+      (unspent : me.0.spent ≡ false) (begins : me.0.start ≡ key.start.value.items) (from : me.0.base ≡ key.config.base)
+      (c : Config) (domain : c ≡ key.config) where
     found_is : (s : table.State (List ℕ) View) (r : Ruled starts allows key s) → slice_index s.words i ≡ r.memory p
     found_is s r = ap (slice_index s.words) is ∙ r.shows.each p hp
 
@@ -68,11 +69,13 @@ module _ (starts : State → Type 0) (allows : List ℕ → State → Writes →
         subst (λ (j : ℕ). Shows key.config (set s.words j n) (put r.memory p n)) (sym is) (shows_put key.config s.words r.memory p n r.facts.checked r.shows hp)
 
     known_after : (m : Memory) (h : List Entry) (seats : ℕ → View) (w : View)
-        → Facts starts allows key.config key.start.value.items m h (parts_of (set_at seats me.0.number w)) → IsKept me.0 w → Known starts allows w
+        → Facts starts allows key.config key.start.value.items m h (parts_of (set_at seats me.0.number w)) → IsKept me.0 w
+        → Known starts allows w × KnownWords c w
     known_after m h seats w k kept =
-        known_of key.config key.start.value.items m h (set_at seats me.0.number w) w k
-        (ap (set_at seats me.0.number w) kept.0 ∙ set_at_here seats me.0.number w)
-        (kept.1 ∙ begins) (kept.2 ∙ from) (kept.5 ∙ unspent)
+        let here : set_at seats me.0.number w w.number ≡ w = ap (set_at seats me.0.number w) kept.0 ∙ set_at_here seats me.0.number w in (
+          known_of key.config key.start.value.items m h (set_at seats me.0.number w) w k here (kept.1 ∙ begins) (kept.2 ∙ from) (kept.5 ∙ unspent),
+          subst (λ (d : Config). KnownWords d w) (sym domain) (known_words (set_at seats me.0.number w) w k here),
+        )
 
     -- the state that the rule speaks of
     abbrev moment : (s : table.State (List ℕ) View) → Ruled starts allows key s → Moment
@@ -210,7 +213,8 @@ module _ (starts : State → Type 0) (allows : List ℕ → State → Writes →
     pub load_allows : (kind : Kind) (told : ℕ → View → Type 0) (tells : ℕ → View → Type 0) → ((x : ℕ) (w : View) → tells x w → told x w)
         → LoadsAs starts allows key.config key.start.value.items me.0 p kind told
         → Loads starts allows key.config key.start.value.items me.0 p (λ n w. tells n w × IsKept me.0 w)
-        → Allows (Ruled starts allows key) slots id me i (λ n. n) (λ n m. tells n m.0 × IsKept me.0 m.0 × Known starts allows m.0 × (m.1 ≡ me.1))
+        → Allows (Ruled starts allows key) slots id me i (λ n. n)
+        (λ n m. tells n m.0 × IsKept me.0 m.0 × (Known starts allows m.0 × KnownWords c m.0) × (m.1 ≡ me.1))
     load_allows kind told tells weaker by law s r wide at small =
         let found = found_is s r in
         let there = r.seated.there id me.0 at unspent in
@@ -226,7 +230,8 @@ module _ (starts : State → Type 0) (allows : List ℕ → State → Writes →
     pub store_allows : (kind : Kind) (n : ℕ) (told : View → Type 0) (tells : View → Type 0) → ((w : View) → tells w → told w) → n < 2 ^ 64
         → StoresAs starts allows key.config key.start.value.items me.0 p kind n told
         → Stores starts allows key.config key.start.value.items me.0 p n (λ w. tells w × IsKept me.0 w)
-        → Allows (Ruled starts allows key) slots id me i (λ _. n) (λ _ m. tells m.0 × IsKept me.0 m.0 × Known starts allows m.0 × (m.1 ≡ me.1))
+        → Allows (Ruled starts allows key) slots id me i (λ _. n)
+        (λ _ m. tells m.0 × IsKept me.0 m.0 × (Known starts allows m.0 × KnownWords c m.0) × (m.1 ≡ me.1))
     store_allows kind n told tells weaker fits by law s r wide at small =
         let there = r.seated.there id me.0 at unspent in
         let t = law r.memory r.history r.seats r.facts there.0 there.1 begins in (
@@ -241,7 +246,8 @@ module _ (starts : State → Type 0) (allows : List ℕ → State → Writes →
     pub raise_allows : (kind : Kind) (n : ℕ) (told : ℕ → View → Type 0) (tells : ℕ → View → Type 0) → ((x : ℕ) (w : View) → tells x w → told x w) → n < 2 ^ 64
         → RaisesAs starts allows key.config key.start.value.items me.0 p kind n told
         → Raises starts allows key.config key.start.value.items me.0 p n (λ x w. tells x w × IsKept me.0 w)
-        → Allows (Ruled starts allows key) slots id me i (λ x. max x n) (λ x m. tells x m.0 × IsKept me.0 m.0 × Known starts allows m.0 × (m.1 ≡ me.1))
+        → Allows (Ruled starts allows key) slots id me i (λ x. max x n)
+        (λ x m. tells x m.0 × IsKept me.0 m.0 × (Known starts allows m.0 × KnownWords c m.0) × (m.1 ≡ me.1))
     raise_allows kind n told tells weaker fits by law s r wide at small =
         let found = found_is s r in
         let there = r.seated.there id me.0 at unspent in
@@ -261,13 +267,13 @@ module _ (starts : State → Type 0) (allows : List ℕ → State → Writes →
     Goes : (s : table.State (List ℕ) View) → (ℕ → View → Type 0) → ℕ → Type 0
     Goes s tells x =
         (w : View) × (a : Act (List ℕ)) × Valid s.homes me.1 a × Ruled starts allows key (stepped s i x id me.1 w a)
-        × (tells (slice_index s.words i) w × IsKept me.0 w × Known starts allows w × (carried_after me.1 a ≡ me.1))
+        × (tells (slice_index s.words i) w × IsKept me.0 w × (Known starts allows w × KnownWords c w) × (carried_after me.1 a ≡ me.1))
 
     pub swap_allows : (kind : Kind) (old new : ℕ) (told : ℕ → View → Type 0) (tells : ℕ → View → Type 0) → ((x : ℕ) (w : View) → tells x w → told x w)
         → new < 2 ^ 64 → SwapsAs starts allows key.config key.start.value.items me.0 p kind old new told
         → Swaps starts allows key.config key.start.value.items me.0 p old new (λ n w. tells n w × IsKept me.0 w)
         → Allows (Ruled starts allows key) slots id me i (λ n. either (eqb n old) new n)
-        (λ n m. tells n m.0 × IsKept me.0 m.0 × Known starts allows m.0 × (m.1 ≡ me.1))
+        (λ n m. tells n m.0 × IsKept me.0 m.0 × (Known starts allows m.0 × KnownWords c m.0) × (m.1 ≡ me.1))
     unfolding Goes
     swap_allows kind old new told tells weaker fits by law s r wide at small =
         let found = found_is s r in

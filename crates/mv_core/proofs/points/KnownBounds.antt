@@ -1,9 +1,10 @@
 -- What the rule tells a seat of the low time that it loaded, of an unset stamp that it found, and of its positions.
-use Rattle.std.proofs.Common.{◌≡◌, ◌≢◌, ℕ, ◌+◌, ◌*◌, ◌<◌, ◌≤◌, ◌^◌, List, length, ap, ◌∙◌, subst, arith, mul-le-mul, Some}
+use Rattle.std.proofs.Common.{◌≡◌, ◌≢◌, ℕ, ◌+◌, ◌*◌, ◌<◌, ◌≤◌, ◌^◌, List, length, sym, ap, ◌∙◌, subst, arith, mul-le-mul, Some}
+use Rattle.std.specs.Prelude.{Contains}
 use Rattle.mv_core.proofs.Terms.{Entry, State, Writes, Config, Clock, Mark, Memory, clock_slot_of, Built, Build, Committed, View, FoundStamp}
 use Rattle.mv_core.proofs.Terms.{WriteBack, index_of, slot_at, parts_of}
 use Rattle.mv_core.specs.declared.view.Phase.TheVariants.{Lowered}
-use Rattle.mv_core.proofs.FactTerms.{MarkedAs, Facts}
+use Rattle.mv_core.proofs.FactTerms.{MarkedAs, KnownWords, Facts}
 use Rattle.mv_core.proofs.logs.Links.{position_small}
 use Rattle.mv_core.proofs.kinds.locking.lock_head.NextPosition.{below_rounds}
 
@@ -24,6 +25,13 @@ module _ {starts : State → Type 0} {allows : List ℕ → State → Writes →
   -- an unset stamp was found for a word that names a commit
   pub known_found : (f : FoundStamp) → w.clocks.found ≡ Some f → clock_slot_of f.word ≢ 8191
   known_found f e = (k.loaded_words.found n f (ap (λ (u : View). u.clocks.found) is ∙ e)).1
+
+  -- each word that was loaded, or found a stamp for, names a seat and a slot of the domain, or no commit
+  pub known_words : KnownWords c w
+  known_words = (
+    λ word has. (k.loaded_words.loaded n word (subst (λ (u : View). Contains u.clocks.loaded word) (sym is) has)).is_word,
+    λ f e. (k.loaded_words.found n f (ap (λ (u : View). u.clocks.found) is ∙ e)).0.is_word,
+  )
 
   -- the position that is written back fits a link
   pub known_back : (b : WriteBack) → w.back ≡ Some b → b.position < 2 ^ 57

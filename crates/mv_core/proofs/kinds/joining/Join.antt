@@ -9,7 +9,7 @@ use Rattle.mv_core.proofs.Terms.{new_view, spent_view, set_at}
 use Rattle.atomic_table.specs.Table.{Joins}
 use Rattle.atomic_table.proofs.Lists.{at_set, set_here, set_else}
 use Rattle.mv_core.specs.declared.shared.Opening.{Opening}
-use Rattle.mv_core.proofs.FactTerms.{Known, RunsOn, IsNoted, IsThere, Seated, Ruled}
+use Rattle.mv_core.proofs.FactTerms.{Known, KnownWords, RunsOn, IsNoted, IsThere, Seated, Ruled}
 use Rattle.mv_core.specs.SeatSteps.{MayJoin, note_of, joined}
 use Rattle.mv_core.specs.Moves.{Moment, IsSeat, joins, moved, seat_joined}
 use Rattle.mv_core.proofs.frames.FrameLaw.{set_at_here, set_at_else, set_at_all, unread}
@@ -345,12 +345,15 @@ seats_join starts allows key id o v w unspent other_unspent may s r at other oth
 
 -- the pass that is left is as it was
 pub joined_stays : (starts : State → Type 0) (allows : List ℕ → State → Writes → Type 0) (c : Config) (v w j : View) → MayJoin v w → j ≡ joined c v w
-    → (j.number ≡ v.number) × RunsOn v j × (∥ Known starts allows v ∥₁ → ∥ Known starts allows j ∥₁)
+    → (j.number ≡ v.number) × RunsOn v j × (∥ Known starts allows v ∥₁ → ∥ Known starts allows j ∥₁) × ((d : Config) → KnownWords d v → KnownWords d j)
 joined_stays starts allows c v w j may e =
-    subst (λ (x : View). (x.number ≡ v.number) × RunsOn v x × (∥ Known starts allows v ∥₁ → ∥ Known starts allows x ∥₁)) (sym e) (
+    subst
+    (λ (x : View). (x.number ≡ v.number) × RunsOn v x × (∥ Known starts allows v ∥₁ → ∥ Known starts allows x ∥₁)
+    × ((d : Config) → KnownWords d v → KnownWords d x))
+    (sym e) (
       refl,
       (λ time first a b. (a, b)),
-      λ k. ∥∥₁_map k (λ a. record {
+      (λ k. ∥∥₁_map k (λ a. record {
         unspent = a.unspent;
         opening = a.opening;
         words = a.words;
@@ -368,5 +371,6 @@ joined_stays starts allows c v w j may e =
         next = a.next;
         commits = λ i x note there. commit_still v x note (joined c v w).trail v.made (joined c v w).notes (a.commits i x note there);
         deaths = a.deaths;
-      }),
+      })),
+      λ d k. k,
     )

@@ -13,7 +13,7 @@ use Rattle.mv_history.specs.declared.StepKind.TheVariants.{MakeSeat}
 use Rattle.mv_history.specs.Legal.{AreWords}
 use Rattle.mv_history.proofs.Histories.{no_split}
 use Rattle.mv_core.specs.declared.shared.Opening.{Opening}
-use Rattle.mv_core.proofs.FactTerms.{Known, IsTimed, IsBegun, RunsOn, IsNoted, IsThere, Seated, Ruled, first_view}
+use Rattle.mv_core.proofs.FactTerms.{Known, KnownWords, IsTimed, IsBegun, RunsOn, IsNoted, IsThere, Seated, Ruled, first_view}
 use Rattle.mv_core.specs.Start.{opening_memory, maker_view}
 use Rattle.mv_core.specs.SeatSteps.{made_one, newly_made}
 use Rattle.mv_core.specs.Moves as moves
@@ -373,23 +373,36 @@ module _ (starts : State → Type 0) (allows : List ℕ → State → Writes →
       }
 
   -- the pass of the maker is as it was
-  pub maker_stays : (v w : View) → w ≡ made_one c v → (w.number ≡ v.number) × RunsOn v w × (∥ Known starts allows v ∥₁ → ∥ Known starts allows w ∥₁)
+  pub maker_stays : (v w : View) → w ≡ made_one c v
+      → (w.number ≡ v.number) × RunsOn v w × (∥ Known starts allows v ∥₁ → ∥ Known starts allows w ∥₁)
+      × ((d : Config) → KnownWords d v → KnownWords d w)
   maker_stays v w e =
-      subst (λ (u : View). (u.number ≡ v.number) × RunsOn v u × (∥ Known starts allows v ∥₁ → ∥ Known starts allows u ∥₁)) (sym e)
-      (refl, (λ time first a b. (a, b)), λ k. ∥∥₁_map k (maker_known v))
+      subst
+      (λ (u : View). (u.number ≡ v.number) × RunsOn v u × (∥ Known starts allows v ∥₁ → ∥ Known starts allows u ∥₁)
+      × ((d : Config) → KnownWords d v → KnownWords d u))
+      (sym e) (refl, (λ time first a b. (a, b)), (λ k. ∥∥₁_map k (maker_known v)), λ d k. k)
+
+  -- a seat that made no step has no clock words
+  new_words : (start : State) (number made : ℕ) (d : Config) → KnownWords d (new_view c start number made)
+  new_words start number made d = ((λ word has. absurd (grind arith)), λ f e. absurd (cc))
 
   -- and that of the seat made is of a seat outside a section
   pub made_begins : (v w : View) → Checked c → w ≡ newly_made c v → ∥ Known starts allows v ∥₁
-      → (w.number ≡ v.made) × IsTimed 0 w × IsBegun 0 w × ∥ Known starts allows w ∥₁
+      → (w.number ≡ v.made) × IsTimed 0 w × IsBegun 0 w × ∥ Known starts allows w ∥₁ × ((d : Config) → KnownWords d w)
   made_begins v w k e known =
-      subst (λ (u : View). (u.number ≡ v.made) × IsTimed 0 u × IsBegun 0 u × ∥ Known starts allows u ∥₁) (sym e)
-      (refl, (λ s in_section. absurd (cc)), (λ s in_section. absurd (cc)), ∥∥₁_map known (λ a. new_known v.start v.made 0 k a.words a.opening))
+      subst (λ (u : View). (u.number ≡ v.made) × IsTimed 0 u × IsBegun 0 u × ∥ Known starts allows u ∥₁ × ((d : Config) → KnownWords d u)) (sym e) (
+        refl,
+        (λ s in_section. absurd (cc)),
+        (λ s in_section. absurd (cc)),
+        ∥∥₁_map known (λ a. new_known v.start v.made 0 k a.words a.opening),
+        new_words v.start v.made 0,
+      )
 
   pub first_begins : (start : State) (w : View) → Checked c → AreWords start → starts start → w ≡ first_view c start
-      → (w.number ≡ 0) × IsTimed 0 w × IsBegun 0 w × ∥ Known starts allows w ∥₁
+      → (w.number ≡ 0) × IsTimed 0 w × IsBegun 0 w × ∥ Known starts allows w ∥₁ × ((d : Config) → KnownWords d w)
   first_begins start w k wide lawful e =
-      subst (λ (u : View). (u.number ≡ 0) × IsTimed 0 u × IsBegun 0 u × ∥ Known starts allows u ∥₁) (sym e)
-      (refl, (λ s in_section. absurd (cc)), (λ s in_section. absurd (cc)), ∣ new_known start 0 1 k wide lawful ∣₁)
+      subst (λ (u : View). (u.number ≡ 0) × IsTimed 0 u × IsBegun 0 u × ∥ Known starts allows u ∥₁ × ((d : Config) → KnownWords d u)) (sym e)
+      (refl, (λ s in_section. absurd (cc)), (λ s in_section. absurd (cc)), ∣ new_known start 0 1 k wide lawful ∣₁, new_words start 0 1)
 
 push_same : {A : Type 0} (n : ℕ) (x : A) → replicate n x ++ x ∷ [] ≡ replicate (suc n) x
 push_same zero x = refl

@@ -1,5 +1,6 @@
-use Rattle.std.proofs.Common.{rules, sym, ◌∙◌}
-use Rattle.mv_core.specs.Known.{RunsOn}
+use Rattle.std.proofs.Common.{rules, sym, ◌∙◌, subst}
+use Rattle.mv_core.proofs.Terms.{Config}
+use Rattle.mv_core.specs.Known.{KnownWords, RunsOn}
 use Rattle.mv_core.specs.Passes.{view}
 use Rattle.mv_core.proofs.frames.Turning.{unspent_of, load_allows}
 use Rattle.mv_core.proofs.turns.load_as.Goals as goal
@@ -9,12 +10,15 @@ load-requires g c =
     let o = c.requires.of in (
       search rules,
       search rules,
-      load_allows _ _ _ _ _ _ g.J.Turn.place _ c.requires.place.0 c.requires.place.1 (unspent_of _ _ _ c.args.pass.now.known) o.3
-          o.2 g.J.Turn.kind g.J.Turn.tells (λ n w. g.J.Turn.tells n w × RunsOn (view c.args.pass.now) w) (λ x w t. t.0) c.requires.moves c.requires.rule,
+      load_allows _ _ _ _ _ _ g.J.Turn.place _ c.requires.place.0 c.requires.place.1 (unspent_of _ _ _ c.args.pass.now.known)
+          o.3 o.2 g.J.Turn.config c.requires.domain
+          g.J.Turn.kind g.J.Turn.tells (λ n w. g.J.Turn.tells n w × RunsOn (view c.args.pass.now) w) (λ x w t. t.0)
+          c.requires.moves c.requires.rule,
     )
 
 pub invariant_of-pass : goal.invariant_of-pass
 invariant_of-pass g c =
     let t = c.load.ensures.2 in
     let r = t.0.1 _ _ c.args.pass.now.timed c.args.pass.now.begun in
-    record { numbered = c.args.pass.now.numbered ∙ sym t.1.0; timed = r.0; begun = r.1; known = ∣ t.2 ∣₁; taken = t.3 ∙ c.args.pass.now.taken }
+    let words = subst (λ (d : Config). KnownWords d c.load.new.seat.me.0) (c.requires.domain ∙ sym c.requires.of.4) t.2.1 in
+    record { numbered = c.args.pass.now.numbered ∙ sym t.1.0; timed = r.0; begun = r.1; known = ∣ t.2.0 ∣₁; words = words; taken = t.3 ∙ c.args.pass.now.taken }

@@ -1,5 +1,4 @@
-use Rattle.std.proofs.Common.{sym, ap, ◌∙◌, subst}
-use Rattle.mv_layout.specs.declared.Config.{Config}
+use Rattle.std.proofs.Common.{sym, ◌∙◌, subst}
 use Rattle.mv_layout.specs.Limits.{Checked}
 use Rattle.mvrlu.specs.Placed.{placed}
 use Rattle.mvrlu.proofs.Lawful.{seat_lawful}
@@ -12,7 +11,7 @@ invariant_of-idle g c =
     let p = c.args.ready.pass in
     let is = c.requires.ready in
     let config = c.config-config.ensures in (
-      is.0.0.4 ∙ ap (λ (d : Config). d.write_max) (sym config),
+      is.0.0.4 ∙ sym config,
       placed_idle s p c.args.ready.log c.config-config.result.now p.number is.0 is.1 config g.P.Protocol.start g.P.Protocol.allowed p.known
           (subst Checked (sym s.about) s.checked),
     )

@@ -5,8 +5,8 @@ use Rattle.std.proofs.Math.Bool.{or-true}
 use Rattle.mv_core.proofs.Terms.{dite, ℕ_discrete, Entry, State, Writes, Config, Clock, Stamp, Memory, put, clock_of, clock_time_of, clock_seat_of}
 use Rattle.mv_core.proofs.Terms.{clock_slot_of, unset_of, Committed, View, Phase, Outside, Lowered, Marked, Inside, Section, Mode, Open, Aborting}
 use Rattle.mv_core.proofs.Terms.{Checked, FoundStamp, Named, Naming, LoadedClocks, index_of, time_in, section_of, time_of, ViewParts, parts_of, set_at}
-use Rattle.mv_core.proofs.FactTerms.{stamp_of, WasClock, IsDone, IsNamedCommit, RunsOn, Facts, Swaps, IsKept}
-use Rattle.mv_layout.proofs.Unpacking.{slot_back}
+use Rattle.mv_core.proofs.FactTerms.{IsWord, stamp_of, WasClock, IsDone, IsNamedCommit, RunsOn, Facts, Swaps, IsKept}
+use Rattle.mv_layout.proofs.Unpacking.{seat_back, slot_back}
 use Rattle.mv_core.specs.EnterSteps.{stamp_place, helped_too, IsOwnNaming, MayStamp, is_own, stamped_mode, stamped_phase, stamp_swapped}
 use Rattle.mv_core.proofs.frames.FrameLaw.{unchanged, changed, settle}
 use Rattle.mv_core.proofs.history.SectionWords.{section_is}
@@ -29,6 +29,22 @@ names_commit c v word unset checked range found =
     let seats = checked.seats.1 in
     let slot_is : clock_slot_of word ≡ i = ap clock_slot_of own.4 ∙ slot_back n.time v.number i (omega arith) (omega arith) in
     omega arith)
+
+-- and it is a packed clock word of the domain
+pub is_packed : (c : Config) (v : View) (word unset : ℕ) → Checked c → v.number < c.seats
+    → ((f : FoundStamp) → v.clocks.found ≡ Some f → IsWord c f.word) → MayStamp c v word unset → IsWord c word
+is_packed c v word unset checked range found =
+    ⊎_elim
+    (λ is. found (record { word = word; unset = unset; checked = true }) is)
+    (λ own ne.
+    let n : Naming = own.1 in
+    let i : ℕ = index_of c n.first in
+    let low = slot_in c checked n.first in
+    let few = checked.slots.1 in
+    let seats = checked.seats.1 in
+    let slot_is : clock_slot_of word ≡ i = ap clock_slot_of own.4 ∙ slot_back n.time v.number i (omega arith) (omega arith) in
+    let seat_is : clock_seat_of word ≡ v.number = ap clock_seat_of own.4 ∙ seat_back n.time v.number i (omega arith) (omega arith) in
+    (omega arith, omega arith))
 
 -- the section after the own exchange
 abbrev pub own_made : Section → Naming → Section

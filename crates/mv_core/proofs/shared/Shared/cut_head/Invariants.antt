@@ -8,6 +8,7 @@ use Rattle.mv_core.proofs.shared.Shared.cut_head.Given as goal
 
 abbrev pub ghosts-swap_as : goal.ghosts-swap_as
 ghosts-swap_as g a = record {
+  config = config_of a.shared.now;
   place = Head a.about.now.0;
   tells = λ n w. CutTold (config_of a.shared.now) (view a.pass.now) a.about.now.0 a.about.now.1 g.back.0 g.back.1 n w
       × (n ≢ link_of (view a.pass.now).number a.about.now.1 → IsLinkOf (config_of a.shared.now) n)

@@ -9,4 +9,11 @@ invariant_of-pass g c =
     let r = joined_stays g.P.Protocol.start g.P.Protocol.allowed (config_of c.args.self.now) (view old) (view c.args.other) c.join_as.new.seat.me.0
     c.requires.may c.join_as.ensures.joined in
     let runs = r.1 old.time old.first old.timed old.begun in
-    record { numbered = old.numbered ∙ sym r.0; timed = runs.0; begun = runs.1; known = r.2 old.known; taken = c.join_as.ensures.taken ∙ old.taken }
+    record {
+      numbered = old.numbered ∙ sym r.0;
+      timed = runs.0;
+      begun = runs.1;
+      known = r.2 old.known;
+      words = r.3 old.domain.value old.words;
+      taken = c.join_as.ensures.taken ∙ old.taken;
+    }

@@ -7,6 +7,7 @@ use Rattle.mv_core.proofs.shared.Shared.load_check.Given as goal
 
 abbrev pub ghosts-load_as : goal.ghosts-load_as
 ghosts-load_as g a = record {
+  config = config_of a.shared.now;
   place = Clock;
   tells = λ n w.
       ((h : List Entry) × IsWhole (config_of a.shared.now) (view a.pass.now) n h × (w ≡ check_loaded (config_of a.shared.now) (view a.pass.now) n h))

@@ -6,6 +6,7 @@ use Rattle.mv_core.proofs.shared.Shared.load_data.Given as goal
 
 abbrev pub ghosts-load_as : goal.ghosts-load_as
 ghosts-load_as g a = record {
+  config = config_of a.shared.now;
   place = Data (link_seat_of a.about.now.0) (slot_named (config_of a.shared.now) a.about.now.0) a.about.now.1;
   tells = λ n w. (w ≡ data_loaded (config_of a.shared.now) (view a.pass.now) g.at.0 a.about.now.1 n)
       × (n ≡ word_read (config_of a.shared.now) (view a.pass.now) g.at.1 g.at.0.object a.about.now.1)

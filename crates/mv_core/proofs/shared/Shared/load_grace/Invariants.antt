@@ -6,6 +6,7 @@ use Rattle.mv_core.proofs.shared.Shared.load_grace.Given as goal
 
 abbrev pub ghosts-load_as : goal.ghosts-load_as
 ghosts-load_as g a = record {
+  config = config_of a.shared.now;
   place = Grace;
   tells = λ n w. w ≡ grace_loaded (config_of a.shared.now) (view a.pass.now) n;
   kind = load_grace;

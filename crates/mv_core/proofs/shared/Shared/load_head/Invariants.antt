@@ -7,6 +7,7 @@ use Rattle.mv_core.proofs.shared.Shared.load_head.Given as goal
 
 abbrev pub ghosts-load_as : goal.ghosts-load_as
 ghosts-load_as g a = record {
+  config = config_of a.shared.now;
   place = Head a.about.now;
   tells = λ n w. (w ≡ head_loaded (config_of a.shared.now) (view a.pass.now) g.inside a.about.now n) × IsLinkOf (config_of a.shared.now) n
       × IsOwnTop (config_of a.shared.now) (view a.pass.now) a.about.now n × IsOwnLink (config_of a.shared.now) (view a.pass.now) n

@@ -6,6 +6,7 @@ use Rattle.mv_core.proofs.shared.Shared.load_master.Given as goal
 
 abbrev pub ghosts-load_as : goal.ghosts-load_as
 ghosts-load_as g a = record {
+  config = config_of a.shared.now;
   place = Master a.about.now.0 a.about.now.1;
   tells = λ n w. (w ≡ master_loaded (config_of a.shared.now) (view a.pass.now) a.about.now.0 a.about.now.1 n)
       × (n ≡ word_read (config_of a.shared.now) (view a.pass.now) g.inside a.about.now.0 a.about.now.1)

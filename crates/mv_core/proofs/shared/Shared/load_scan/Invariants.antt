@@ -8,6 +8,7 @@ use Rattle.mv_core.proofs.shared.Shared.load_scan.Given as goal
 
 abbrev pub ghosts-load_as : goal.ghosts-load_as
 ghosts-load_as g a = record {
+  config = config_of a.shared.now;
   place = Clock;
   tells = λ n w.
       ((h : List Entry) × IsWhole (config_of a.shared.now) (view a.pass.now) n h × (w ≡ scan_loaded (config_of a.shared.now) (view a.pass.now) n h))

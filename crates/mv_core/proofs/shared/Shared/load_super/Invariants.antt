@@ -6,6 +6,7 @@ use Rattle.mv_core.proofs.shared.Shared.load_super.Given as goal
 
 abbrev pub ghosts-load_as : goal.ghosts-load_as
 ghosts-load_as g a = record {
+  config = config_of a.shared.now;
   place = Super (view a.pass.now).number (index_of (config_of a.shared.now) a.about.now);
   tells = λ n w. (w ≡ super_loaded (config_of a.shared.now) (view a.pass.now) a.about.now g.own.0 g.own.1 n w.past.seen)
       × SeesSuper (config_of a.shared.now) (view a.pass.now) g.own.0 g.own.1 n w.past.seen × (FoundEmpty (view a.pass.now) g.own.0.object g.own.1.time → n ≢ 0);

@@ -7,6 +7,7 @@ use Rattle.mv_core.proofs.shared.Shared.lock_head.Given as goal
 
 abbrev pub ghosts-swap_alone : goal.ghosts-swap_alone
 ghosts-swap_alone g a = record {
+  config = config_of a.shared.now;
   place = Head a.about.now.0;
   tells = λ n w. LockTold (config_of a.shared.now) a.seat.now.me.0 g.what.1 a.about.now.0 a.about.now.1 a.about.now.2 n w
       × (n ≡ a.about.now.1 → OneMoreWrite (config_of a.shared.now) a.seat.now.me.0 g.what.1 a.about.now.0 w)

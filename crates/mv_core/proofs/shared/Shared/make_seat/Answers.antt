@@ -9,7 +9,14 @@ invariant_of-first g c =
     let r = maker_stays g.P.Protocol.start g.P.Protocol.allowed (config_of c.args.self.now) (view old) c.split_as-seat.new.seat.me.0
     c.split_as-seat.ensures.maker.1 in
     let runs = r.1 old.time old.first old.timed old.begun in
-    record { numbered = old.numbered ∙ sym r.0; timed = runs.0; begun = runs.1; known = r.2 old.known; taken = c.split_as-seat.ensures.maker.2 ∙ old.taken }
+    record {
+      numbered = old.numbered ∙ sym r.0;
+      timed = runs.0;
+      begun = runs.1;
+      known = r.2 old.known;
+      words = r.3 old.domain.value old.words;
+      taken = c.split_as-seat.ensures.maker.2 ∙ old.taken;
+    }
 
 pub invariant_of-result : goal.invariant_of-result
 invariant_of-result g c =
@@ -17,4 +24,11 @@ invariant_of-result g c =
     let checked : Checked (config_of c.args.self.now) = subst Checked (sym c.args.self.now.about) c.args.self.now.checked in
     let r = made_begins g.P.Protocol.start g.P.Protocol.allowed (config_of c.args.self.now) (view old) c.split_as-seat.result.me.0 checked
     c.split_as-seat.ensures.made.1 old.known in
-    record { numbered = sym (r.0 ∙ ap (λ (v : View). v.made) c.requires.maker); timed = r.1; begun = r.2; known = r.3; taken = c.split_as-seat.ensures.made.2 }
+    record {
+      numbered = sym (r.0 ∙ ap (λ (v : View). v.made) c.requires.maker);
+      timed = r.1;
+      begun = r.2;
+      known = r.3;
+      words = r.4 c.of.result.value;
+      taken = c.split_as-seat.ensures.made.2;
+    }

@@ -6,6 +6,7 @@ use Rattle.mv_core.proofs.shared.Shared.name_commit.Given as goal
 
 abbrev pub ghosts-swap_as : goal.ghosts-swap_as
 ghosts-swap_as g a = record {
+  config = config_of a.shared.now;
   place = Clock;
   tells = λ n w. CommitTold (config_of a.shared.now) (view a.pass.now) g.inside a.about.now.1 a.about.now.0 n w × IsWord (config_of a.shared.now) n
       × LogTold (config_of a.shared.now) (view a.pass.now) n;

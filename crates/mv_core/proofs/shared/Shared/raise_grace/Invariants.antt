@@ -6,6 +6,7 @@ use Rattle.mv_core.proofs.shared.Shared.raise_grace.Given as goal
 
 abbrev pub ghosts-raise_as : goal.ghosts-raise_as
 ghosts-raise_as g a = record {
+  config = config_of a.shared.now;
   place = Grace;
   tells = λ n w. w ≡ grace_raised (config_of a.shared.now) (view a.pass.now) a.about.now n;
   kind = raise_grace a.about.now;

@@ -6,6 +6,7 @@ use Rattle.mv_core.proofs.shared.Shared.store_mark.Given as goal
 
 abbrev pub ghosts-store_as : goal.ghosts-store_as
 ghosts-store_as g a = record {
+  config = config_of a.shared.now;
   place = Mark (view a.pass.now).number;
   tells = λ n w. w ≡ mark_stored (config_of a.shared.now) (view a.pass.now) a.about.now;
   kind = store_mark a.about.now;

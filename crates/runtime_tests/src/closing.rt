@@ -4,14 +4,12 @@ ghost use Rattle.std.specs.Mem.Slots.{slots_len, IsFull};
 ghost use Rattle.mv_layout.specs.Limits.{Checked};
 ghost use Rattle.mv_layout.specs.Cells.{cells};
 
-use crate::clients::{Client, open};
-use crate::playing::{Turn, play};
+use crate::clients::Client;
+use crate::playing::{Schedule, play_once};
 use atomic_table::Closed;
-use mv_core::Steps;
 use mv_history::Tag;
 use mv_layout::{CLOCK_CELL, Config, head_cell, mark_cell, master_cell};
 use std::alloc::{AllocError, Global};
-use std::sync::ledger::{Blank, Ledger};
 
 /// Words that a domain ends with, by name.
 #[derive(Drop)]
@@ -53,26 +51,13 @@ fn last_words(
     })
 }
 
-/// Plays a schedule in a new domain, and closes the domain then with the pass of its last seat. It answers
-/// the words that are left; `None` is that a turn was answered otherwise than was wanted, or that the
-/// numbers are no domain. Where memory is refused before the domain is there, no turn was made.
-pub fn closed_after<L: Ledger>(
-    alloc: Global,
-    config: &Config,
-    turns: &[Turn],
-    blank: Blank,
-) -> Result<Option<LastWords>, AllocError>
-    requires name { blank.name ≡ L.name }
-    requires parts { (blank.parts ≡ L.parts) × (0 < L.parts) }
-{
-    let Ok(()) = config.check() else {
+/// Plays a schedule once in a new domain, and closes the domain then with the pass of its last seat. It
+/// answers the words that are left; `None` is that a turn was answered otherwise than was wanted, or that
+/// the numbers are no domain. Where memory is refused before the domain is there, no turn was made.
+pub fn closed_after(alloc: Global, schedule: &Schedule) -> Result<Option<LastWords>, AllocError> {
+    let Ok((shared, mut clients)) = play_once(alloc, schedule, 0)? else {
         return Ok(None);
     };
-    let mut steps = Steps::<L>::open(blank);
-    let (shared, mut clients) = open(alloc, config)?;
-    if play(&shared, &mut clients, turns, &mut steps).is_some() {
-        return Ok(None);
-    }
     let Some(Client { pass, .. }) = clients.pop() else {
         return Ok(None);
     };

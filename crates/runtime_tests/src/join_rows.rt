@@ -1,11 +1,11 @@
 // The passes of a domain are joined after a schedule: CLOCK then has the word of the last entry.
-use crate::moves::Answer::{Clock, Done, Entered, Held, Helped, Left, Rested};
-use crate::moves::Move::{Commit, Enter, Help, Leave, Lock, Now, Rest};
-use crate::{Turn, domain, joined_after};
-use mv_layout::{Config, NO_SLOT, clock_word};
-use std::marker::Brand;
-use std::sync::ledger::Blank;
+use crate::moves::Answer::{Clock, Done, Entered, Held, Helped, Left, Rested, Skipped};
+use crate::moves::Move::{Commit, Enter, Help, Join, Leave, Lock, Now, Rest};
+use crate::{SMALL, Schedule, Turn, played};
+use mv_layout::Config;
 use std::test::Fail;
+
+const THREE_SEATS: Config = Config { seats: 3, ..SMALL };
 
 // Nobody made an entry.
 const NOTHING: [Turn; 2] = [(0, Enter, Entered(7)), (0, Leave, Left)];
@@ -21,54 +21,57 @@ const COMMITS: [Turn; 7] = [
     (1, Enter, Entered(2)),
 ];
 
-const LEFT: [Turn; 1] = [(1, Leave, Left)];
-
-// The last entry is the rest of seat 1.
-const RESTED: [Turn; 6] = [
-    (0, Enter, Entered(0)),
-    (0, Lock(0), Held),
-    (0, Commit, Done(1)),
-    (1, Now, Clock(524_288)),
-    (1, Help, Helped),
-    (1, Rest, Rested(2)),
+const SCHEDULES: [Schedule; 5] = [
+    Schedule {
+        name: "one seat, and no entry",
+        domain: Config { base: 7, ..SMALL },
+        turns: &[&NOTHING, &[(0, Join, Clock(7, 0, None))]],
+    },
+    Schedule {
+        name: "three seats, and no entry",
+        domain: Config {
+            base: 7,
+            ..THREE_SEATS
+        },
+        turns: &[&NOTHING, &[(2, Join, Clock(7, 0, None))]],
+    },
+    Schedule {
+        name: "commits",
+        domain: THREE_SEATS,
+        turns: &[
+            &COMMITS,
+            &[(1, Leave, Left)],
+            &[(2, Join, Clock(2, 2, Some(0)))],
+        ],
+    },
+    Schedule {
+        name: "a rest",
+        domain: Config { seats: 2, ..SMALL },
+        turns: &[
+            // The last entry is the rest of seat 1.
+            &[
+                (0, Enter, Entered(0)),
+                (0, Lock(0), Held),
+                (0, Commit, Done(1)),
+                (1, Now, Clock(1, 0, Some(0))),
+                (1, Help, Helped),
+                (1, Rest, Rested(2)),
+            ],
+            &[(1, Join, Clock(2, 1, None))],
+        ],
+    },
+    Schedule {
+        name: "a seat in a section",
+        domain: THREE_SEATS,
+        turns: &[&COMMITS, &[(2, Join, Skipped)]],
+    },
 ];
 
 #[test]
 fn joined_passes_find_the_last_entry(rt: HostRuntime) -> Result<(), Fail> {
-    let rows: [(&str, Config, &[Turn], &[Turn], Option<u64>); 5] = [
-        (
-            "one seat",
-            domain(1, 1, 16, 7),
-            &NOTHING,
-            &[],
-            Some(clock_word(7, 0, NO_SLOT)),
-        ),
-        (
-            "no entry",
-            domain(3, 1, 16, 7),
-            &NOTHING,
-            &[],
-            Some(clock_word(7, 0, NO_SLOT)),
-        ),
-        (
-            "commits",
-            domain(3, 1, 16, 0),
-            &COMMITS,
-            &LEFT,
-            Some(clock_word(2, 2, 0)),
-        ),
-        (
-            "a rest",
-            domain(2, 1, 16, 0),
-            &RESTED,
-            &[],
-            Some(clock_word(2, 1, NO_SLOT)),
-        ),
-        ("in a section", domain(3, 1, 16, 0), &COMMITS, &[], None),
-    ];
-    for (row, config, before, call, word) in rows {
-        let found = joined_after::<Brand>(rt.alloc(), &config, before, call, Blank::new(1))?;
-        assert_eq!(rt; found, word, "{row}");
+    for schedule in SCHEDULES {
+        let name = schedule.name;
+        assert_eq!(rt; played(rt.alloc(), &schedule)?, None, "{name}");
     }
     Ok(())
 }

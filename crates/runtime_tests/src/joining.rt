@@ -3,18 +3,21 @@ ghost use Rattle.std.specs.Prelude.{◌≡◌};
 ghost use Rattle.runtime_tests.specs.Clients.{AreReady};
 
 use crate::clients::{Client, Stage};
+use crate::moves::{Answer, clock};
 use mv_core::{Shared, Steps};
 use mv_history::AnyRules;
 use std::sync::ledger::Ledger;
 
 // Joins the passes of all clients into that of the last one, and answers the word that CLOCK then has.
-// `None` where one of them isn't outside a section, or where there is none.
-pub(crate) fn joined<L: Ledger>(
+// It is skipped where one of them isn't outside a section, or where there is none. The clients whose
+// passes were taken are gone, also where it is skipped.
+pub(crate) fn joining<L: Ledger>(
     shared: &Shared<AnyRules>,
-    mut clients: Vec<Client>,
+    clients: &mut Vec<Client>,
     steps: &mut Steps<L>,
-) -> Option<u64>
-    requires ready { AreReady shared.now clients.items }
+) -> Answer
+    requires ready { AreReady shared.now clients.old.items }
+    ensures ready { AreReady shared.now clients.new.items }
 {
     let Some(
         Client {
@@ -24,7 +27,7 @@ pub(crate) fn joined<L: Ledger>(
         },
     ) = clients.pop()
     else {
-        return None;
+        return Answer::Skipped;
     };
     while let Some(other) = clients.pop() {
         let Client {
@@ -33,9 +36,9 @@ pub(crate) fn joined<L: Ledger>(
             ..
         } = other
         else {
-            return None;
+            return Answer::Skipped;
         };
         shared.join(&mut pass, joins, steps);
     }
-    Some(shared.load_joined(&mut pass, steps))
+    clock(shared.load_joined(&mut pass, steps))
 }

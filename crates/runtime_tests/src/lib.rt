@@ -1,13 +1,14 @@
 //! Tests of the runtime that cross its crates, on passes.
 //!
-//! **The model.** A schedule is data: turns, each with the number of a seat, its move, and the answer
-//! that is wanted. An interpreter plays it in a new domain, with one client for each seat, which has
-//! the pass, the log and the stage of that seat. Moves call the crates below as a section would.
-//! `FirstOf` makes the first parts of a call alone, after which its client stops for good; within a
-//! lock it makes the first of its steps. A lock, an `enter`, a walk, a write-back and a rest may also
-//! be made by their parts, each of which is a move, so that other seats have their turns in between. A
-//! walk or a write-back that is under way is kept by its client, and is let go with any other move of
-//! that client; the section of a write-back stays open until it is left.
+//! **The model.** A schedule is a value: its name, the numbers of a domain, and its turns, part by part,
+//! each turn with the number of a seat, its move, and the answer that is wanted. An interpreter plays it
+//! in a new domain, with one client for each seat, which has the pass, the log and the stage of that seat.
+//! Moves call the crates below as a section would. `FirstOf` makes the first parts of a call alone, after
+//! which its client stops for good; within a lock it makes the first of its steps. A schedule with such a
+//! move is played once for each number of steps. A lock, an `enter`, a walk, a write-back and a rest may
+//! also be made by their parts, each of which is a move, so that other seats have their turns in between,
+//! or the seat makes no further move. A walk or a write-back that is under way is kept by its client, and
+//! is let go with any other move of that client; the section of a write-back stays open until it is left.
 //!
 //! **The contract.** `AreReady`, that each client stands where its stage says, and the walk or
 //! write-back that it keeps where its view says, holds in a new domain and after every move: so any
@@ -16,20 +17,20 @@
 //! `Skipped`. What the calls answer is compared at run time: `played` answers the first turn that was
 //! answered otherwise.
 //!
-//! **The tests.** `rows` has worked rows of locks and commits,
-//! `mark_rows` of marks and watermarks, and `walk_rows` of walks that others overtake. `reclaim_rows`
-//! has rounds and tidies, and what holds a log, `back_rows` write-backs by their parts, and `rest_rows`
-//! rests, with a help of a word whose commit is gone by then and whose slot is built anew. `stop_rows`
-//! stops a seat after single steps of a call and has another one enter, read, lock, commit and tidy,
-//! `version_stop_rows` does so where the objects have versions, and `back_stop_rows` within a
-//! write-back. `schedules` has two and three seats whose locks, lost exchanges of CLOCK and stopped
-//! commits meet, and `lost_locks` those whose exchange of HEAD is lost or won after others moved, and
-//! stops after a lost one. `join_rows` joins the passes of a domain, and has what CLOCK is then.
-//! `reads` counts steps, which are known in
-//! proofs alone, in the contracts of its functions: sections of a domain in which nobody has committed
-//! have the opening time, and read the opening words in the masters, one after another and where they
-//! overlap. Such a section enters by three steps, finds the master by one, reads its six words by six
-//! and leaves by one.
+//! **The tests.** Each file of them is a table of schedules and one loop over it. `lock_rows` has locks
+//! and `commit_rows` commits of two and three seats, with lost exchanges of CLOCK and commits that
+//! stopped, and `read_rows` what sections read under them, by whole reads and by the looks of a walk.
+//! `mark_rows` has marks and watermarks, `reclaim_rows` rounds and tidies, and what holds a log,
+//! `back_rows` write-backs by their parts, and `rest_rows` rests, with a help of a word whose commit is
+//! gone by then and whose slot is built anew. `enter_stop_rows` and `stop_rows` stop a seat after single
+//! steps of a call and have another one enter, read, lock, commit and tidy, `version_stop_rows` does so
+//! where the objects have versions, and `back_stop_rows` within a write-back. `lost_lock_rows` has locks
+//! whose exchange of HEAD is lost or won after others moved, and stops after a lost one. `join_rows` joins
+//! the passes of a domain, and has what CLOCK is then; `close_rows` closes it, and has its last words.
+//! `reads` counts steps, which are known in proofs alone, in the contracts of its functions: sections of a
+//! domain in which nobody has committed have the opening time, and read the opening words in the masters,
+//! one after another and where they overlap. Such a section enters by three steps, finds the master by
+//! one, reads its six words by six and leaves by one.
 //!
 //! Each schedule is one order of whole calls and stops, on one thread. The crate stands above all
 //! crates that it crosses.
@@ -43,19 +44,29 @@ mod clients;
 #[cfg(test)]
 mod close_rows;
 mod closing;
+#[cfg(test)]
+mod commit_rows;
 mod commits;
+#[cfg(test)]
+mod enter_stop_rows;
+#[cfg(test)]
+mod filled_logs;
 #[cfg(test)]
 mod join_rows;
 mod joining;
 mod lock_moves;
+#[cfg(test)]
+mod lock_rows;
 mod lock_stops;
 #[cfg(test)]
-mod lost_locks;
+mod lost_lock_rows;
 #[cfg(test)]
 mod mark_rows;
 mod marking;
 mod moves;
 mod playing;
+#[cfg(test)]
+mod read_rows;
 #[cfg(test)]
 mod reads;
 #[cfg(test)]
@@ -64,21 +75,15 @@ mod reclaiming;
 #[cfg(test)]
 mod rest_rows;
 mod resting;
-#[cfg(test)]
-mod rows;
-#[cfg(test)]
-mod schedules;
 mod sections;
 #[cfg(test)]
 mod stop_rows;
 mod stops;
 #[cfg(test)]
 mod version_stop_rows;
-#[cfg(test)]
-mod walk_rows;
 mod walks;
 
 pub use clients::{Client, Stage};
 pub use closing::{LastWords, closed_after};
 pub use moves::{Answer, Call, Move};
-pub use playing::{Turn, domain, joined_after, played};
+pub use playing::{Otherwise, SMALL, Schedule, Turn, played};

@@ -11,10 +11,11 @@ use crate::marking::{entering_by_parts, knowing, scanning};
 use crate::reclaiming::{giving_up, rounding, tidying};
 use crate::resting::{helping, resting, taking_clock};
 use crate::sections::{entering, leaving, loading, locking, reading, writing};
-use crate::stops::{first_of_abort, first_of_enter, first_of_finish, first_of_now};
+use crate::stops::{first_of_abort, first_of_finish, first_of_help, first_of_now};
 use log_reclaim::{BackEnd, NoBack};
 use mv_core::{Shared, Steps};
 use mv_history::{AnyRules, Holder, LockAnswer, LogTable, Words};
+use mv_layout::{NO_SLOT, clock_seat, clock_slot, clock_time};
 use reader_marks::Watermark;
 use seat_log::{held, table};
 use std::sync::ledger::Ledger;
@@ -36,8 +37,9 @@ pub enum Move {
     Finish,
     Commit,
     Abort,
-    /// The first steps of a call, so many of them; then the client stops.
-    FirstOf(Call, u32),
+    /// The first steps of a call, at least and at most so many of them; then the client stops. The
+    /// schedule is played once for each number of steps.
+    FirstOf(Call, u32, u32),
     /// All of a lock before its exchange of HEAD.
     LockStart(u32),
     /// The rest of the lock that was begun last.
@@ -72,19 +74,28 @@ pub enum Move {
     /// `back_word` of the write-back that is under way.
     BackWord,
     BackFinish,
+    /// Joins the passes of all seats into that of the last one, and loads CLOCK then. It ends a
+    /// schedule: no client is left.
+    Join,
 }
 
 /// A call of which the first steps alone are made.
 #[derive(Clone, Copy, Debug, PartialEq, Eq)]
 pub enum Call {
-    Enter,
+    /// The help by which an `enter` ends.
+    Help,
+    /// All of a lock before its exchange of HEAD.
     Lock(u32),
     /// The rest of the lock that was begun last.
     LockEnd,
     /// What a commit does before its exchange of CLOCK.
     Now,
+    /// The exchange of the stamp, and then the stores of SUPER, one for each version.
     Finish,
+    /// The exchange of HEAD of each object that is held, in the order of locking, and then the load
+    /// of the time of death.
     Abort,
+    /// The exchange of HEAD, and then, where it was won, the load of CLOCK.
     BackFinish,
 }
 
@@ -100,7 +111,9 @@ pub enum Answer {
     Stale(u64),
     SetFull,
     LogFull,
-    Clock(u64),
+    /// The word of CLOCK by its parts: the time and the seat of the last entry, and, where that is a
+    /// commit, the first slot of its write set.
+    Clock(u64, u32, Option<u32>),
     Named(u64),
     /// The seat and the time of the entry that came first.
     Lost(u32, u64),
@@ -143,6 +156,15 @@ pub(crate) fn tried(answer: LockAnswer) -> Answer {
     }
 }
 
+// A word of CLOCK by its parts.
+pub(crate) fn clock(word: u64) -> Answer {
+    let slot = match clock_slot(word) {
+        NO_SLOT => None,
+        slot => Some(slot),
+    };
+    Answer::Clock(clock_time(word), clock_seat(word), slot)
+}
+
 // Makes the first steps of a call, and stops.
 fn stopping<L: Ledger>(
     shared: &Shared<AnyRules>,
@@ -156,7 +178,7 @@ fn stopping<L: Ledger>(
 {
     let pass = &mut client.pass;
     match (call, client.stage) {
-        (Call::Enter, Stage::Outside) => first_of_enter(shared, pass, count, steps),
+        (Call::Help, Stage::Taken(word)) => first_of_help(shared, pass, word, count, steps),
         (Call::Lock(object), Stage::Inside(None)) if object < shared.config().objects => {
             first_of_lock(shared, pass, &client.log, object, count, steps)
         }
@@ -208,7 +230,7 @@ pub(crate) fn make<L: Ledger>(
         Move::Name => naming(shared, client, steps),
         Move::Finish => finishing(shared, client, steps),
         Move::Commit => committing(shared, client, steps),
-        Move::FirstOf(call, count) => stopping(shared, client, call, count, steps),
+        Move::FirstOf(call, count, _) => stopping(shared, client, call, count, steps),
         Move::LockStart(object) if object < shared.config().objects => {
             starting(shared, client, object, steps)
         }
@@ -224,6 +246,6 @@ pub(crate) fn make<L: Ledger>(
         Move::Tidy => tidying(shared, client, steps),
         Move::WalkStart(_) | Move::WalkStep | Move::ReadFound => Answer::Skipped,
         Move::BackStart(_) | Move::BackWord | Move::BackFinish => Answer::Skipped,
-        Move::Read(_) | Move::Lock(_) | Move::LockStart(_) => Answer::Skipped,
+        Move::Read(_) | Move::Lock(_) | Move::LockStart(_) | Move::Join => Answer::Skipped,
     }
 }

@@ -1,9 +1,9 @@
-// Schedules of several clients, as tables of moves with the answers that are wanted.
-ghost use Rattle.std.specs.Prelude.{◌≡◌, ◌<◌, All};
+// Schedules: what their turns are answered in a new domain.
+ghost use Rattle.std.specs.Prelude.{◌≡◌, ◌<◌, All, IfOk};
 ghost use Rattle.runtime_tests.specs.Clients.{IsPlayable, AreReady};
 
 use crate::clients::{Client, UnderWay, open};
-use crate::joining::joined;
+use crate::joining::joining;
 use crate::moves::{Answer, Call, Move, make};
 use crate::reclaiming::{back_finishing, back_starting, back_stopping, back_storing};
 use crate::walks::{reading_found, walk_starting, walk_stepping};
@@ -11,10 +11,46 @@ use mv_core::{Shared, Steps};
 use mv_history::AnyRules;
 use mv_layout::Config;
 use std::alloc::{AllocError, Global};
+use std::marker::Brand;
 use std::sync::ledger::{Blank, Ledger};
 
 /// A turn of a schedule: the number of a seat, its move, and the answer that is wanted.
 pub type Turn = (usize, Move, Answer);
+
+/// A schedule: the turns of its parts, one after another, in a new domain.
+#[derive(Clone, Copy, Debug, PartialEq, Eq)]
+pub struct Schedule<'a> {
+    /// What it shows.
+    pub name: &'a str,
+    /// The numbers of the domain. They are not checked: `played` does that.
+    pub domain: Config,
+    /// Its parts.
+    pub turns: &'a [&'a [Turn]],
+}
+
+/// The first turn of a schedule that was answered otherwise than was wanted.
+#[derive(Clone, Copy, Debug, PartialEq, Eq)]
+pub struct Otherwise {
+    /// The number of the part.
+    pub part: usize,
+    /// The number of the turn in that part.
+    pub turn: usize,
+    /// How many steps more than the fewest a call made that was stopped.
+    pub more: u32,
+    /// What it was answered.
+    pub answer: Answer,
+}
+
+/// One seat and one object, sets of up to 16 objects, logs of 64 slots, and 0 as the opening time.
+pub const SMALL: Config = Config {
+    seats: 1,
+    objects: 1,
+    slots: 64,
+    write_max: 16,
+    low: 32,
+    high: 48,
+    base: 0,
+};
 
 // Makes a move of a client, and answers what it was answered. What the client has under way ends with
 // every move that doesn't go on with it.
@@ -36,7 +72,7 @@ fn make_next<L: Ledger>(
         Move::BackStart(index) => back_starting(shared, client, index, steps),
         Move::BackWord => back_storing(shared, client, steps),
         Move::BackFinish => back_finishing(shared, client, steps),
-        Move::FirstOf(Call::BackFinish, count) => back_stopping(shared, client, count, steps),
+        Move::FirstOf(Call::BackFinish, count, _) => back_stopping(shared, client, count, steps),
         _ => {
             let answer = make(shared, client, next, steps);
             client.under_way = UnderWay::Nothing;
@@ -45,11 +81,55 @@ fn make_next<L: Ledger>(
     }
 }
 
-// Plays a schedule. It answers the first turn that was answered otherwise, with that answer.
-pub(crate) fn play<L: Ledger>(
+// The move as it is made where a call that is stopped makes so many steps more than the fewest.
+fn with_more(next: Move, more: u32) -> Move {
+    match next {
+        Move::FirstOf(call, least, most) => {
+            Move::FirstOf(call, least.saturating_add(more).min(most), most)
+        }
+        _ => next,
+    }
+}
+
+// How many steps more than the fewest the calls make that are stopped, at most.
+fn most_more(turns: &[&[Turn]]) -> u32 {
+    let mut more = 0;
+    for part in turns {
+        for (_, next, _) in *part {
+            if let Move::FirstOf(_, least, most) = *next {
+                more = more.max(most.saturating_sub(least));
+            }
+        }
+    }
+    more
+}
+
+// Makes the move of a seat, where there is a client for it.
+fn make_turn<L: Ledger>(
+    shared: &Shared<AnyRules>,
+    clients: &mut Vec<Client>,
+    seat: usize,
+    next: Move,
+    steps: &mut Steps<L>,
+) -> Answer
+    requires ready { AreReady shared.now clients.old.items }
+    ensures ready { AreReady shared.now clients.new.items }
+{
+    if seat >= clients.len() {
+        return Answer::Skipped;
+    }
+    match next {
+        Move::Join => joining(shared, clients, steps),
+        _ => make_next(shared, &mut clients[seat], next, steps),
+    }
+}
+
+// Plays a part of a schedule. It answers the first turn that was answered otherwise, with that answer.
+fn play<L: Ledger>(
     shared: &Shared<AnyRules>,
     clients: &mut Vec<Client>,
     turns: &[Turn],
+    more: u32,
     steps: &mut Steps<L>,
 ) -> Option<(usize, Answer)>
     requires ready { AreReady shared.now clients.old.items }
@@ -57,10 +137,7 @@ pub(crate) fn play<L: Ledger>(
 {
     for at in 0..turns.len() {
         let (seat, next, wanted) = turns[at];
-        if seat >= clients.len() {
-            return Some((at, Answer::Skipped));
-        }
-        let answer = make_next(shared, &mut clients[seat], next, steps);
+        let answer = make_turn(shared, clients, seat, with_more(next, more), steps);
         if answer != wanted {
             return Some((at, answer));
         }
@@ -68,80 +145,80 @@ pub(crate) fn play<L: Ledger>(
     None
 }
 
-/// The numbers of a domain of so many seats and objects, with write sets of up to so many objects, logs
-/// of 64 slots, and `base` as its opening time. They are not checked: `played` does that.
-pub fn domain(seats: u32, objects: u32, write_max: u32, base: u64) -> Config {
-    Config {
-        seats,
-        objects,
-        slots: 64,
-        write_max,
-        low: 32,
-        high: 48,
-        base,
+// Plays the parts of a schedule.
+fn play_parts<L: Ledger>(
+    shared: &Shared<AnyRules>,
+    clients: &mut Vec<Client>,
+    parts: &[&[Turn]],
+    more: u32,
+    steps: &mut Steps<L>,
+) -> Option<Otherwise>
+    requires ready { AreReady shared.now clients.old.items }
+    ensures ready { AreReady shared.now clients.new.items }
+{
+    for part in 0..parts.len() {
+        if let Some((turn, answer)) = play(shared, clients, parts[part], more, steps) {
+            return Some(Otherwise {
+                part,
+                turn,
+                more,
+                answer,
+            });
+        }
     }
+    None
 }
 
-/// Plays the four parts of a schedule, one after another, in a new domain. It answers the part and the
-/// turn of the first that was answered otherwise, with that answer, and makes no turn after it; `None`
-/// is that every turn was answered as wanted. Numbers that are no domain are answered as the first turn,
-/// `Skipped`. Where memory is refused, no turn was made.
-pub fn played<L: Ledger>(
+// Plays a schedule in a new domain, with a counter of steps. It answers the domain with its clients as
+// the last turn left them.
+fn play_new<L: Ledger>(
     alloc: Global,
     config: &Config,
-    before: &[Turn],
-    call: &[Turn],
-    after: &[Turn],
-    end: &[Turn],
+    parts: &[&[Turn]],
+    more: u32,
     blank: Blank,
-) -> Result<Option<(usize, usize, Answer)>, AllocError>
+) -> Result<Result<(Shared<AnyRules>, Vec<Client>), Otherwise>, AllocError>
     requires name { blank.name ≡ L.name }
     requires parts { (blank.parts ≡ L.parts) × (0 < L.parts) }
+    ensures ready { IfOk result (λ r. IfOk r (λ left. AreReady left.0 left.1.items)) }
 {
     let Ok(()) = config.check() else {
-        return Ok(Some((0, 0, Answer::Skipped)));
+        return Ok(Err(Otherwise {
+            part: 0,
+            turn: 0,
+            more,
+            answer: Answer::Skipped,
+        }));
     };
     let mut steps = Steps::<L>::open(blank);
     let (shared, mut clients) = open(alloc, config)?;
-    if let Some((at, answer)) = play(&shared, &mut clients, before, &mut steps) {
-        return Ok(Some((0, at, answer)));
+    match play_parts(&shared, &mut clients, parts, more, &mut steps) {
+        Some(otherwise) => Ok(Err(otherwise)),
+        None => Ok(Ok((shared, clients))),
     }
-    if let Some((at, answer)) = play(&shared, &mut clients, call, &mut steps) {
-        return Ok(Some((1, at, answer)));
-    }
-    if let Some((at, answer)) = play(&shared, &mut clients, after, &mut steps) {
-        return Ok(Some((2, at, answer)));
-    }
-    if let Some((at, answer)) = play(&shared, &mut clients, end, &mut steps) {
-        return Ok(Some((3, at, answer)));
+}
+
+// The same, with a counter of its own.
+pub(crate) fn play_once(
+    alloc: Global,
+    schedule: &Schedule,
+    more: u32,
+) -> Result<Result<(Shared<AnyRules>, Vec<Client>), Otherwise>, AllocError>
+    ensures ready { IfOk result (λ r. IfOk r (λ left. AreReady left.0 left.1.items)) }
+{
+    let Schedule { domain, turns, .. } = *schedule;
+    play_new::<Brand>(alloc, &domain, turns, more, Blank::new(1))
+}
+
+/// Plays a schedule in a new domain; where it stops calls after single steps, once for each number of
+/// steps. It answers the first turn that was answered otherwise, and makes no turn after it; `None` is
+/// that every turn was answered as wanted. Numbers that are no domain are answered as the first turn,
+/// `Skipped`. Where memory is refused for a domain, no turn was made in it.
+pub fn played(alloc: Global, schedule: &Schedule) -> Result<Option<Otherwise>, AllocError> {
+    for more in 0..=most_more(schedule.turns) {
+        if let Err(otherwise) = play_once(alloc, schedule, more)? {
+            return Ok(Some(otherwise));
+        }
     }
     Ok(None)
-}
-
-/// Plays both parts of a schedule in a new domain, and joins the passes of all its seats then. It
-/// answers the word that CLOCK has after that; `None` is that a turn was answered otherwise than was
-/// wanted, that a seat isn't outside a section at the end, or that the numbers are no domain. Where
-/// memory is refused, no turn was made.
-pub fn joined_after<L: Ledger>(
-    alloc: Global,
-    config: &Config,
-    before: &[Turn],
-    call: &[Turn],
-    blank: Blank,
-) -> Result<Option<u64>, AllocError>
-    requires name { blank.name ≡ L.name }
-    requires parts { (blank.parts ≡ L.parts) × (0 < L.parts) }
-{
-    let Ok(()) = config.check() else {
-        return Ok(None);
-    };
-    let mut steps = Steps::<L>::open(blank);
-    let (shared, mut clients) = open(alloc, config)?;
-    if play(&shared, &mut clients, before, &mut steps).is_some() {
-        return Ok(None);
-    }
-    if play(&shared, &mut clients, call, &mut steps).is_some() {
-        return Ok(None);
-    }
-    Ok(joined(&shared, clients, &mut steps))
 }

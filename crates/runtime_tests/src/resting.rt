@@ -3,7 +3,7 @@ ghost use Rattle.std.specs.Prelude.{◌≡◌};
 ghost use Rattle.runtime_tests.specs.Clients.{IsReady};
 
 use crate::clients::{Client, Stage};
-use crate::moves::Answer;
+use crate::moves::{Answer, clock};
 use commit_clock::{Named, help, now, rest};
 use mv_core::{Shared, Steps};
 use mv_history::AnyRules;
@@ -25,7 +25,7 @@ pub(crate) fn taking_clock<L: Ledger>(
     };
     let word = now(shared, &mut client.pass, steps);
     client.stage = Stage::Loaded(word);
-    Answer::Clock(word)
+    clock(word)
 }
 
 // Helps the word by which a section has begun.

@@ -4,7 +4,7 @@ ghost use Rattle.mv_core.specs.Passes.{config_of};
 ghost use Rattle.runtime_tests.specs.Clients.{IsReady};
 
 use crate::clients::{Client, Stage};
-use crate::moves::{Answer, tried};
+use crate::moves::{Answer, clock, tried};
 use commit_clock::{help, now};
 use mv_core::{Shared, Steps};
 use mv_history::{AnyRules, Words};
@@ -129,5 +129,5 @@ pub(crate) fn loading<L: Ledger>(
     let word = now(shared, &mut client.pass, steps);
     help(shared, &mut client.pass, word, steps);
     client.stage = Stage::Inside(Some(word));
-    Answer::Clock(word)
+    clock(word)
 }

@@ -1,5 +1,5 @@
-// A seat stops after each single step of a call. Then another one enters, reads, locks and commits, and
-// tidies its log, which names the seat that holds it.
+// A seat stops after each single step of a lock, of a commit and of an abort. Then another one enters,
+// reads, locks and commits, and tidies its log, which names the seat that holds it.
 use crate::moves::Answer::{
     Aborted, Busy, Clock, Done, Entered, Finished, Held, Lost, Named, Stopped, Tidied, Words,
     Written,
@@ -7,12 +7,29 @@ use crate::moves::Answer::{
 use crate::moves::Move::{
     Abort, Commit, Enter, Finish, FirstOf, Lock, Name, Now, Read, Tidy, Write,
 };
-use crate::{Answer, Call, Turn, domain, played};
-use mv_history::Holder::{End, Mark};
-use mv_layout::LAST;
-use std::marker::Brand;
-use std::sync::ledger::Blank;
+use crate::{Call, SMALL, Schedule, Turn, played};
+use mv_history::Holder::Mark;
+use mv_layout::{Config, LAST};
 use std::test::Fail;
+
+// Seat 2 is for a commit that was named before.
+const THREE_SEATS: Config = Config {
+    seats: 3,
+    objects: 2,
+    ..SMALL
+};
+
+const TWO_SEATS: Config = Config {
+    seats: 2,
+    objects: 2,
+    ..SMALL
+};
+
+const LATE: Config = Config {
+    seats: 2,
+    base: LAST - 1,
+    ..SMALL
+};
 
 // Seat 0 holds object 0, and has written it.
 const HOLDING: [Turn; 3] = [
@@ -36,28 +53,22 @@ const INSIDE: [Turn; 4] = [
     (0, Enter, Entered(1)),
 ];
 
-// Seat 2 has named a commit of object 0, and stopped.
-const NAMED: [Turn; 5] = [
-    (2, Enter, Entered(0)),
-    (2, Lock(0), Held),
-    (2, Write(0, [1, 2, 3, 4, 5, 6]), Written),
-    (2, Now, Clock(8191)),
-    (2, Name, Named(1)),
-];
-
-// The same, and seat 0 holds object 1.
+// Seat 0 holds object 1, and seat 2 has named a commit of object 0 and stopped.
 const NAMED_BESIDES: [Turn; 7] = [
     (0, Enter, Entered(0)),
     (0, Lock(1), Held),
     (2, Enter, Entered(0)),
     (2, Lock(0), Held),
     (2, Write(0, [1, 2, 3, 4, 5, 6]), Written),
-    (2, Now, Clock(8191)),
+    (2, Now, Clock(0, 0, None)),
     (2, Name, Named(1)),
 ];
 
+// Seat 0 holds object 0 at the time before the last.
+const HOLDING_LATE: [Turn; 2] = [(0, Enter, Entered(LAST - 1)), (0, Lock(0), Held)];
+
 // Object 0 is free, and nothing was committed.
-const FREE: [Turn; 4] = [
+pub(crate) const FREE: [Turn; 4] = [
     (1, Enter, Entered(0)),
     (1, Read(0), Words([0; 6])),
     (1, Lock(0), Held),
@@ -70,6 +81,14 @@ const FREE_LATER: [Turn; 4] = [
     (1, Read(0), Words([0; 6])),
     (1, Lock(0), Held),
     (1, Commit, Done(2)),
+];
+
+// Object 0 is free, and its last commit has the last time.
+pub(crate) const FREE_LATE: [Turn; 4] = [
+    (1, Enter, Entered(LAST - 1)),
+    (1, Read(0), Words([0; 6])),
+    (1, Lock(0), Held),
+    (1, Commit, Done(LAST)),
 ];
 
 // Seat 0 holds object 0.
@@ -110,7 +129,7 @@ const BOTH_GIVEN_BACK: [Turn; 6] = [
 ];
 
 // The commit of object 0 counts.
-const COMMITTED: [Turn; 4] = [
+pub(crate) const COMMITTED: [Turn; 4] = [
     (1, Enter, Entered(1)),
     (1, Read(0), Words([1, 2, 3, 4, 5, 6])),
     (1, Lock(0), Held),
@@ -126,243 +145,178 @@ const COMMITTED_BESIDES: [Turn; 5] = [
     (1, Commit, Done(2)),
 ];
 
-// Seat 1 has committed object 1 before seat 0 names its commit, which is lost.
-const LOST: [Turn; 5] = [
-    (0, Now, Clock(8191)),
-    (1, Enter, Entered(0)),
-    (1, Lock(1), Held),
-    (1, Commit, Done(1)),
-    (0, Name, Lost(1, 1)),
-];
-
 // Nothing that the other seat committed is needed by anybody.
-const FREED: Answer = Tidied(1, 0, None);
+pub(crate) const FREED: Turn = (1, Tidy, Tidied(1, 0, None));
 
-// The section of seat 0, at time 0 or at time 1, has the mark that the version needs to be gone.
-const MARKED: Answer = Tidied(0, 1, Some(Mark { seat: 0, low: 0 }));
+// The section of seat 0 has the mark that the version needs to be gone: at time 0, at time 1, or at the
+// time before the last.
+pub(crate) const MARKED: Turn = (1, Tidy, Tidied(0, 1, Some(Mark { seat: 0, low: 0 })));
 
-const MARKED_LATER: Answer = Tidied(0, 1, Some(Mark { seat: 0, low: 1 }));
+const MARKED_LATER: Turn = (1, Tidy, Tidied(0, 1, Some(Mark { seat: 0, low: 1 })));
 
-const TWO_MARKED: Answer = Tidied(0, 2, Some(Mark { seat: 0, low: 0 }));
-
-// The section of seat 2 has a lower mark, or the same one as that of a lower seat.
-const MARKED_BY_ANOTHER: Answer = Tidied(0, 1, Some(Mark { seat: 2, low: 0 }));
-
-// What was done before, the call whose first steps are made, how many of them at least and at most,
-// what the other seat is answered, and what its tidy is.
-type Stop = (
-    &'static str,
-    &'static [Turn],
-    Call,
-    (u32, u32),
-    &'static [Turn],
-    Answer,
-);
-
-// An `enter` whose mark isn't stored yet holds nothing.
-const WITHIN: [Stop; 8] = [
-    ("low time", &[], Call::Enter, (1, 1), &FREE, FREED),
-    ("enter", &[], Call::Enter, (2, 3), &FREE, MARKED),
-    (
-        "enter that helps",
-        &NAMED,
-        Call::Enter,
-        (1, 6),
-        &COMMITTED,
-        MARKED_BY_ANOTHER,
-    ),
-    (
-        "lock",
-        &INSIDE,
-        Call::Lock(0),
-        (1, 17),
-        &FREE_LATER,
-        MARKED_LATER,
-    ),
-    (
-        "help of a commit",
-        &NAMED_BESIDES,
-        Call::Now,
-        (1, 4),
-        &COMMITTED_BESIDES,
-        MARKED,
-    ),
-    ("abort", &HOLDING, Call::Abort, (1, 2), &FREE, MARKED),
-    (
-        "abort of the first of two",
-        &HOLDING_TWO,
-        Call::Abort,
-        (1, 1),
-        &FIRST_GIVEN_BACK,
-        MARKED,
-    ),
-    (
-        "abort of both",
-        &HOLDING_TWO,
-        Call::Abort,
-        (2, 3),
-        &BOTH_GIVEN_BACK,
-        TWO_MARKED,
-    ),
-];
-
-#[test]
-fn stops_within_a_call(rt: HostRuntime) -> Result<(), Fail> {
-    let config = domain(3, 2, 16, 0);
-    for (row, before, call, (least, most), after, tidied) in WITHIN {
-        for count in least..=most {
-            let stop: [Turn; 1] = [(0, FirstOf(call, count), Stopped)];
-            let end: [Turn; 1] = [(1, Tidy, tidied)];
-            let other = played::<Brand>(
-                rt.alloc(),
-                &config,
-                before,
-                &stop,
-                after,
-                &end,
-                Blank::new(1),
-            )?;
-            assert_eq!(rt; other, None, "{row} after {count}");
-        }
-    }
-    Ok(())
-}
-
-// Seat 0 holds object 0 at the time before the last.
-const HOLDING_LATE: [Turn; 2] = [(0, Enter, Entered(LAST - 1)), (0, Lock(0), Held)];
-
-// Object 0 is free, and its last commit has the last time.
-const FREE_LATE: [Turn; 4] = [
-    (1, Enter, Entered(LAST - 1)),
-    (1, Read(0), Words([0; 6])),
-    (1, Lock(0), Held),
-    (1, Commit, Done(LAST)),
-];
-
-// After the last time nothing becomes dead any more; until then the section of seat 0 has its mark.
-const KEPT: Answer = Tidied(0, 1, Some(End));
-
-const MARKED_LATE: Answer = Tidied(
-    0,
+pub(crate) const MARKED_LATE: Turn = (
     1,
-    Some(Mark {
-        seat: 0,
-        low: LAST - 1,
-    }),
+    Tidy,
+    Tidied(
+        0,
+        1,
+        Some(Mark {
+            seat: 0,
+            low: LAST - 1,
+        }),
+    ),
 );
 
-#[test]
-fn stops_before_the_last_time(rt: HostRuntime) -> Result<(), Fail> {
-    let stops: [Stop; 3] = [
-        ("low time", &[], Call::Enter, (1, 1), &FREE_LATE, KEPT),
-        ("enter", &[], Call::Enter, (2, 3), &FREE_LATE, MARKED_LATE),
-        (
-            "abort",
-            &HOLDING_LATE,
-            Call::Abort,
-            (1, 2),
-            &FREE_LATE,
-            MARKED_LATE,
-        ),
-    ];
-    let config = domain(2, 1, 16, LAST - 1);
-    for (row, before, call, (least, most), after, tidied) in stops {
-        let end: [Turn; 1] = [(1, Tidy, tidied)];
-        for count in least..=most {
-            let stop: [Turn; 1] = [(0, FirstOf(call, count), Stopped)];
-            let other = played::<Brand>(
-                rt.alloc(),
-                &config,
-                before,
-                &stop,
-                after,
-                &end,
-                Blank::new(1),
-            )?;
-            assert_eq!(rt; other, None, "{row} after {count}");
-        }
-    }
-    Ok(())
-}
+const TWO_MARKED: Turn = (1, Tidy, Tidied(0, 2, Some(Mark { seat: 0, low: 0 })));
 
-// A commit by its steps, and the ends of calls: what was done before, what seat 0 calls, what the other
-// seat is answered, and what its tidy is.
-const AFTER: [(
-    &'static str,
-    &'static [Turn],
-    &'static [Turn],
-    &'static [Turn],
-    Answer,
-); 8] = [
-    (
-        "lock",
-        &INSIDE,
-        &[(0, Lock(0), Held)],
-        &TAKEN_LATER,
-        MARKED_LATER,
-    ),
-    (
-        "load of the clock",
-        &HOLDING,
-        &[(0, Now, Clock(8191))],
-        &TAKEN,
-        MARKED,
-    ),
-    ("lost name", &HOLDING, &LOST, &TAKEN_LATER, TWO_MARKED),
-    (
-        "name",
-        &HOLDING,
-        &[(0, Now, Clock(8191)), (0, Name, Named(1))],
-        &COMMITTED,
-        MARKED,
-    ),
-    (
-        "exchange of the stamp",
-        &HOLDING,
-        &[
-            (0, Now, Clock(8191)),
-            (0, Name, Named(1)),
-            (0, FirstOf(Call::Finish, 1), Stopped),
+const SCHEDULES: [Schedule; 14] = [
+    Schedule {
+        name: "within a lock",
+        domain: THREE_SEATS,
+        turns: &[
+            &INSIDE,
+            &[(0, FirstOf(Call::Lock(0), 1, 17), Stopped)],
+            &FREE_LATER,
+            &[MARKED_LATER],
         ],
-        &COMMITTED,
-        MARKED,
-    ),
-    (
-        "finish",
-        &HOLDING,
-        &[
-            (0, Now, Clock(8191)),
-            (0, Name, Named(1)),
-            (0, Finish, Finished),
+    },
+    Schedule {
+        name: "within the help by which a commit begins",
+        domain: THREE_SEATS,
+        turns: &[
+            &NAMED_BESIDES,
+            &[(0, FirstOf(Call::Now, 1, 4), Stopped)],
+            &COMMITTED_BESIDES,
+            &[MARKED],
         ],
-        &COMMITTED,
-        FREED,
-    ),
-    (
-        "commit",
-        &HOLDING,
-        &[(0, Commit, Done(1))],
-        &COMMITTED,
-        FREED,
-    ),
-    ("abort", &HOLDING, &[(0, Abort, Aborted)], &FREE, FREED),
+    },
+    Schedule {
+        name: "within an abort of one object",
+        domain: THREE_SEATS,
+        turns: &[
+            &HOLDING,
+            &[(0, FirstOf(Call::Abort, 1, 2), Stopped)],
+            &FREE,
+            &[MARKED],
+        ],
+    },
+    Schedule {
+        name: "within an abort of two objects, after the first",
+        domain: THREE_SEATS,
+        turns: &[
+            &HOLDING_TWO,
+            &[(0, FirstOf(Call::Abort, 1, 1), Stopped)],
+            &FIRST_GIVEN_BACK,
+            &[MARKED],
+        ],
+    },
+    Schedule {
+        name: "within an abort of two objects, after both",
+        domain: THREE_SEATS,
+        turns: &[
+            &HOLDING_TWO,
+            &[(0, FirstOf(Call::Abort, 2, 3), Stopped)],
+            &BOTH_GIVEN_BACK,
+            &[TWO_MARKED],
+        ],
+    },
+    Schedule {
+        name: "within an abort before the last time",
+        domain: LATE,
+        turns: &[
+            &HOLDING_LATE,
+            &[(0, FirstOf(Call::Abort, 1, 2), Stopped)],
+            &FREE_LATE,
+            &[MARKED_LATE],
+        ],
+    },
+    Schedule {
+        name: "after a lock",
+        domain: TWO_SEATS,
+        turns: &[
+            &INSIDE,
+            &[(0, Lock(0), Held)],
+            &TAKEN_LATER,
+            &[MARKED_LATER],
+        ],
+    },
+    Schedule {
+        name: "after the load of the clock",
+        domain: TWO_SEATS,
+        turns: &[&HOLDING, &[(0, Now, Clock(0, 0, None))], &TAKEN, &[MARKED]],
+    },
+    Schedule {
+        name: "after a lost name",
+        domain: TWO_SEATS,
+        turns: &[
+            &HOLDING,
+            // Seat 1 has committed object 1 before seat 0 names its commit.
+            &[
+                (0, Now, Clock(0, 0, None)),
+                (1, Enter, Entered(0)),
+                (1, Lock(1), Held),
+                (1, Commit, Done(1)),
+                (0, Name, Lost(1, 1)),
+            ],
+            &TAKEN_LATER,
+            &[TWO_MARKED],
+        ],
+    },
+    Schedule {
+        name: "after a name",
+        domain: TWO_SEATS,
+        turns: &[
+            &HOLDING,
+            &[(0, Now, Clock(0, 0, None)), (0, Name, Named(1))],
+            &COMMITTED,
+            &[MARKED],
+        ],
+    },
+    Schedule {
+        name: "after the exchange of the stamp",
+        domain: TWO_SEATS,
+        turns: &[
+            &HOLDING,
+            &[
+                (0, Now, Clock(0, 0, None)),
+                (0, Name, Named(1)),
+                (0, FirstOf(Call::Finish, 1, 1), Stopped),
+            ],
+            &COMMITTED,
+            &[MARKED],
+        ],
+    },
+    Schedule {
+        name: "after a finish",
+        domain: TWO_SEATS,
+        turns: &[
+            &HOLDING,
+            &[
+                (0, Now, Clock(0, 0, None)),
+                (0, Name, Named(1)),
+                (0, Finish, Finished),
+            ],
+            &COMMITTED,
+            &[FREED],
+        ],
+    },
+    Schedule {
+        name: "after a commit",
+        domain: TWO_SEATS,
+        turns: &[&HOLDING, &[(0, Commit, Done(1))], &COMMITTED, &[FREED]],
+    },
+    Schedule {
+        name: "after an abort",
+        domain: TWO_SEATS,
+        turns: &[&HOLDING, &[(0, Abort, Aborted)], &FREE, &[FREED]],
+    },
 ];
 
 #[test]
-fn stops_after_a_call(rt: HostRuntime) -> Result<(), Fail> {
-    let config = domain(2, 2, 16, 0);
-    for (row, before, call, after, tidied) in AFTER {
-        let end: [Turn; 1] = [(1, Tidy, tidied)];
-        let other = played::<Brand>(
-            rt.alloc(),
-            &config,
-            before,
-            call,
-            after,
-            &end,
-            Blank::new(1),
-        )?;
-        assert_eq!(rt; other, None, "{row}");
+fn stops_within_and_after_calls(rt: HostRuntime) -> Result<(), Fail> {
+    for schedule in SCHEDULES {
+        let name = schedule.name;
+        assert_eq!(rt; played(rt.alloc(), &schedule)?, None, "{name}");
     }
     Ok(())
 }

@@ -1,6 +1,6 @@
 // The first steps of a call, by its parts, after which the client stops.
 ghost use Rattle.std.specs.Prelude.{◌≡◌, ◌≤◌, None};
-ghost use Rattle.mv_core.specs.EnterSteps.{MayLoadLow, MayLoadCheck};
+ghost use Rattle.mv_core.specs.EnterSteps.{MayLoadCheck};
 ghost use Rattle.mv_core.specs.Passes.{view, IsOf, IsSame, config_of};
 ghost use Rattle.commit_clock.specs.Helps.{HasLoaded};
 ghost use Rattle.runtime_tests.specs.Clients.{IsInside, HasJustNamed};
@@ -9,12 +9,11 @@ use commit_abort::{abort_death, abort_step, finish_start, finish_step};
 use commit_clock::{help_check, help_end, help_start, now};
 use mv_core::{Pass, Shared, Steps};
 use mv_history::AnyRules;
-use reader_marks::{enter_low, enter_mark, enter_time};
 use seat_log::{Log, held};
 use std::sync::ledger::Ledger;
 
 // The first parts of a help of a word of CLOCK.
-fn first_of_help<L: Ledger>(
+pub(crate) fn first_of_help<L: Ledger>(
     shared: &Shared<AnyRules>,
     pass: &mut Pass<AnyRules>,
     word: u64,
@@ -39,32 +38,6 @@ fn first_of_help<L: Ledger>(
     if count > 2 {
         help_end(shared, pass, checked, steps);
     }
-}
-
-// The first steps of `enter`.
-pub(crate) fn first_of_enter<L: Ledger>(
-    shared: &Shared<AnyRules>,
-    pass: &mut Pass<AnyRules>,
-    count: u32,
-    steps: &mut Steps<L>,
-)
-    requires of { IsOf shared.now pass.old }
-    requires may { MayLoadLow (view pass.old) }
-    ensures same { IsSame pass.old pass.new }
-{
-    if count == 0 {
-        return;
-    }
-    let low = enter_low(shared, pass, steps);
-    if count == 1 {
-        return;
-    }
-    enter_mark(shared, pass, low, steps);
-    if count == 2 {
-        return;
-    }
-    let word = enter_time(shared, pass, steps);
-    first_of_help(shared, pass, word, count - 3, steps);
 }
 
 // The first steps of a commit before its exchange of CLOCK: the load of CLOCK, and the help of its word.

@@ -1,4 +1,0 @@
-use Rattle.runtime_tests.proofs.mark_rows.marks_and_grace.Given as goal
-
-abbrev pub ghosts-played : goal.ghosts-played
-ghosts-played g a = record { name = a.blank.name; parts = a.blank.parts }

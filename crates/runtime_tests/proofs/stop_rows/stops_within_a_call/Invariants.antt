@@ -1,4 +1,0 @@
-use Rattle.runtime_tests.proofs.stop_rows.stops_within_a_call.Given as goal
-
-abbrev pub ghosts-played : goal.ghosts-played
-ghosts-played g a = record { name = a.blank.name; parts = a.blank.parts }

@@ -72,17 +72,17 @@ module _ {P : Type 0} {g : Ghosts P} where
 
   -- the seat that a pass means, of a domain of these numbers
   abbrev pub seat_of : Config → Pass P g → Seat
-  seat_of c p = seat_meant (home_of c (table_under p)) p.domain.value.write_max (view p)
+  seat_of c p = seat_meant (home_of c (table_under p)) p.domain.write_max (view p)
 
   -- the pass is of this domain
   abbrev pub IsOf : Shared P → Pass P g → Type 0
   IsOf s p = (table_under p ≡ table_of s) × (p.number < (config_of s).seats) × ((view p).base ≡ (config_of s).base)
-      × ((view p).start ≡ start_of s) × (p.domain.value ≡ config_of s)
+      × ((view p).start ≡ start_of s) × (p.domain ≡ config_of s)
 
   -- a step leaves these as they are
   abbrev pub IsSame : Pass P g → Pass P g → Type 0
   IsSame p q =
-      (table_under q ≡ table_under p) × (q.number ≡ p.number) × (q.domain.value ≡ p.domain.value) × ((view q).base ≡ (view p).base)
+      (table_under q ≡ table_under p) × (q.number ≡ p.number) × (q.domain ≡ p.domain) × ((view q).base ≡ (view p).base)
       × ((view q).start ≡ (view p).start) × ((view q).notes ≡ (view p).notes)
 
   -- the passes of a new domain: in order of number, each with the view with which that seat begins

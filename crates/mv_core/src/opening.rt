@@ -115,7 +115,7 @@ impl<P: Protocol> Shared<P> {
             time: 0,
             first: 0,
             seat,
-            domain: Snapshot::of(&self.config),
+            domain: self.config,
             rules: PhantomData,
         }
     }
@@ -149,7 +149,7 @@ impl<P: Protocol> Shared<P> {
             time: 0,
             first: 0,
             seat,
-            domain: Snapshot::of(config),
+            domain: *config,
             rules: PhantomData,
         };
         Ok((shared, first))

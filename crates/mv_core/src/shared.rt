@@ -43,22 +43,22 @@ pub struct Shared<P: Protocol> {
     pub ghost opening: { length table.shared.key.start.value.items ≡ config.objects },
 }
 
-/// A seat of a domain with its view. At run time it has its number, its section's time, and the
-/// position of its write set's first version. The numbers of its domain are there for clauses alone,
-/// and take no memory.
+/// A seat of a domain with its view. At run time it has its number, its section's time, the position
+/// of its write set's first version, and the numbers of its domain: clauses say by them which words
+/// are its own. (They are no snapshot, since a pass may go to another thread.)
 #[derive(Drop)]
 pub struct Pass<P: Protocol> {
     pub(crate) number: u32,
     pub(crate) time: u64,
     pub(crate) first: u64,
     pub(crate) seat: Seat<Tag, View>,
-    pub(crate) domain: Snapshot<Config>,
+    pub(crate) domain: Config,
     pub(crate) rules: PhantomData<P>,
     pub ghost numbered: { number ≡ seat.me.0.number },
     pub ghost timed: { IsTimed time seat.me.0 },
     pub ghost begun: { IsBegun first seat.me.0 },
     pub ghost known: { ∥ Known P.start P.allowed seat.me.0 ∥₁ },
-    pub ghost words: { KnownWords domain.value seat.me.0 },
+    pub ghost words: { KnownWords domain seat.me.0 },
     // The table has no slots of its own, so no seat has one.
     pub ghost taken: { seat.me.1 ≡ [] },
 }

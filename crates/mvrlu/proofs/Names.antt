@@ -23,7 +23,7 @@ config_inside s p x same f = fits_config s p (subst (Fits s) (sym same) f)
 
 -- its pass is of the domain
 pub fits_pass : {P : Type 0} {g : Ghosts P} (starts : State → Type 0) (allows : List ℕ → State → Writes → Type 0) (s : Shared P) (c : Config)
-    (pass : Pass P g) (log : Noted) → Fits s (placed c pass log) → IsPlaced starts allows (placed c pass log) → pass.domain.value ≡ c → IsOf s pass
+    (pass : Pass P g) (log : Noted) → Fits s (placed c pass log) → IsPlaced starts allows (placed c pass log) → pass.domain ≡ c → IsOf s pass
 fits_pass starts allows s c pass log fits is domain =
     let config = sym (fits_config s (placed c pass log) fits) in (
       fits_table s (placed c pass log) fits,

@@ -14,7 +14,7 @@ invariant_of-first g c =
       timed = runs.0;
       begun = runs.1;
       known = r.2 old.known;
-      words = r.3 old.domain.value old.words;
+      words = r.3 old.domain old.words;
       taken = c.split_as-seat.ensures.maker.2 ∙ old.taken;
     }
 
@@ -29,6 +29,6 @@ invariant_of-result g c =
       timed = r.1;
       begun = r.2;
       known = r.3;
-      words = r.4 c.of.result.value;
+      words = r.4 c.args.self.now.config;
       taken = c.split_as-seat.ensures.made.2;
     }

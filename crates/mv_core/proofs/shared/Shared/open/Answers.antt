@@ -22,4 +22,4 @@ invariant_of-first g c =
     let r = first_begins g.P.Protocol.start g.P.Protocol.allowed c.args.config.now c.of.result.value.items c.in_ok-table.seat.me.0 c.requires.checked
     (subst AreWords back c.have_width.ensures) (subst (λ (s : State). g.P.Protocol.start s) back c.requires.lawful)
     (ap (λ m. m.0) c.in_ok-table.ensures.4) in
-    record { numbered = sym r.0; timed = r.1; begun = r.2; known = r.3; words = r.4 c.of-2.result.value; taken = ap (λ m. m.1) c.in_ok-table.ensures.4 }
+    record { numbered = sym r.0; timed = r.1; begun = r.2; known = r.3; words = r.4 c.args.config.now; taken = ap (λ m. m.1) c.in_ok-table.ensures.4 }

@@ -15,7 +15,7 @@ use Rattle.mvrlu.specs.Meeting.{AreAll}
 use Rattle.mvrlu.specs.Opened.{IsOpened}
 
 module _ {X : Type 0} where
-  all_from_places : (P : X → Type 0) (xs : List X) → ((k : ℕ) (x : X) → get_elem? xs k ≡ some x → P x) → All P xs
+  pub all_from_places : (P : X → Type 0) (xs : List X) → ((k : ℕ) (x : X) → get_elem? xs k ≡ some x → P x) → All P xs
   all_from_places P [] each = All-nil P
   all_from_places P (x ∷ xs) each = All-cons P x xs (each 0 x refl) (all_from_places P xs (λ k y e. each (suc k) y e))
 

@@ -10,3 +10,4 @@ pub mod Meeting
 pub mod Joined
 pub mod Opened
 pub mod Readiness
+pub mod Orders

@@ -10,6 +10,7 @@ ghost use Rattle.object_lock.specs.Locks.{HoldsObject};
 ghost use Rattle.mvrlu.specs.Placed.{section_from, Fits};
 ghost use Rattle.mvrlu.specs.Causes.{FoundLocked};
 ghost use Rattle.mvrlu.specs.Bounds.{MakesAtMost};
+ghost use Rattle.mvrlu.specs.Holding.{seats_of};
 
 use crate::places::Busy;
 use mv_core::{Shared, Steps};
@@ -66,6 +67,7 @@ pub(crate) fn locked<P: Protocol, L: Ledger>(
     ensures taken { (seat : ℕ) → result ≡ IsTaken seat →
         (seat ≢ (section_from busy.old).seat.number) × FoundLocked (section_from busy.old) (section_from busy.new) object seat }
     ensures stale { (time : ℕ) → result ≡ Stale time → IsStale (section_from busy.new) object time }
+    ensures range { (section_from busy.old).seat.number < seats_of (section_from busy.old).seat }
     ensures held { result ≡ Held → Lacks (section_from busy.old) object → Locks (section_from busy.old) (section_from busy.new) object }
     ensures bound { MakesAtMost (section_from busy.old).seat (section_from busy.new).seat 32 }
 {

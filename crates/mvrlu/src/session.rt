@@ -73,6 +73,7 @@ impl<'d, P: Protocol> Section for Session<'d, P> {
     ghost use Rattle.mv_history.specs.declared.answers.LockAnswer.TheVariants.{Held, Busy as IsTaken, Stale, SetFull, LogFull};
     ghost use Rattle.mvrlu.specs.Meant.{handled, section_of};
     ghost use Rattle.mvrlu.specs.Causes.{Loaded, FoundLocked};
+    ghost use Rattle.mvrlu.specs.Holding.{seats_of};
     ghost use Rattle.mvrlu.specs.Bounds.{MakesAtMost};
 
     type Rules = P;
@@ -117,6 +118,7 @@ impl<'d, P: Protocol> Section for Session<'d, P> {
         held_words(&self.part.busy, object).is_some()
     }
 
+    // In a domain of one seat it never answers `Busy`.
     fn try_lock(&mut self, object: u32) -> LockAnswer
         requires { object < length (state_of (section_of self.old)) }
         ensures goes_on { GoesOn (section_of self.old) (section_of self.new) }
@@ -131,6 +133,7 @@ impl<'d, P: Protocol> Section for Session<'d, P> {
         ensures stale { (time : ℕ) → result ≡ Stale time → ⟦<Session<'d, P> as Section>⟧.may_refuse × IsStale (section_of self.new) object time }
         ensures held { result ≡ Held → Lacks (section_of self.old) object → Locks (section_of self.old) (section_of self.new) object }
         ensures log_full_only { result ≡ LogFull → ⟦<Session<'d, P> as Section>⟧.may_refuse }
+        ensures alone { seats_of (section_of self.old).seat ≡ 1 → (seat : ℕ) → result ≢ IsTaken seat }
         ensures bound { MakesAtMost (section_of self.old).seat (section_of self.new).seat 32 }
     {
         let domain = self.domain;

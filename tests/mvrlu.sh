@@ -12,7 +12,7 @@ fail() {
     failed=1
 }
 
-mkdir -p "$scratch/bin" "$scratch/repository/crates/mvrlu_main/src" "$scratch/elsewhere"
+mkdir -p "$scratch/bin" "$scratch/temporary" "$scratch/repository/crates/mvrlu_main/src" "$scratch/elsewhere"
 cp "$top/mvrlu" "$scratch/repository/"
 touch "$scratch/repository/HANDLES" "$scratch/repository/crates/mvrlu_main/src/main.rt"
 printf '# Libraries\nlow:\nhigh: low std\nother:\nmvrlu_main: high low\n' >"$scratch/repository/crates.txt"
@@ -43,6 +43,7 @@ exit 2
 STANDIN
 chmod +x "$scratch/bin/rt"
 export RT_CALLS=$scratch/calls RT_BROKEN=$scratch/broken RT_SLOW=$scratch/slow RT_SEEN=$scratch/err SAYS='to err' ENDS=5
+export TMPDIR=$scratch/temporary
 : >"$RT_CALLS"
 
 # Runs ./mvrlu from elsewhere with the words, and a line to read.
@@ -131,6 +132,7 @@ touch "$RT_BROKEN" && touch -d '+2 seconds' "$scratch/repository/crates.txt"
 call
 [ "$status" = 1 ] || fail "a build that leaves no binary ends with $status"
 [ ! -s "$scratch/out" ] || fail "it runs an old binary"
+[ -z "$(ls "$TMPDIR")" ] || fail "it leaves temporary files"
 
 [ "$failed" = 0 ] && echo "mvrlu: ok"
 exit "$failed"

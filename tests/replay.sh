@@ -155,6 +155,6 @@ PYTHON
 printf 'add l0 5\n' >a
 printf '0.1 c8 yes\nl0 5\nlog 0 live 2 freed 0 back 0 commits 1 aborts 0 rests 0\n' >text
 counted=$("$bench/replay" --reads run --base 7 --objects 181 a <text)
-[ "$counted" = 'lines 1 commits 1 rests 0 aborts 0 reads 1' ] || { echo "replay: counted $counted" >&2; exit 1; }
+[ "$counted" = 'lines 1 commits 1 rests 0 aborts 0 turns 0 reads 1' ] || { echo "replay: counted $counted" >&2; exit 1; }
 "$bench/replay" run --base 8 a <text 2>/dev/null && { echo 'replay: a text of another base is taken' >&2; exit 1; }
 echo 'replay: ok'

@@ -11,7 +11,8 @@ MOST_LOCKS = 5
 Options = namedtuple("Options", "objects slots base", defaults=(4096, 1024, 0))
 Line = namedtuple("Line", "seat number commit time reply")
 Log = namedtuple("Log", "live freed back commits aborts rests")
-Counts = namedtuple("Counts", "lines commits rests aborts reads")
+# (turns: how often a line follows one of another seat)
+Counts = namedtuple("Counts", "lines commits rests aborts turns reads")
 
 NUMBER = "(0|[1-9][0-9]*)"
 LINE = re.compile(rf"{NUMBER}\.{NUMBER} ([cr]){NUMBER} (.+)")
@@ -133,7 +134,8 @@ def check_run(options, scripts, text, count_reads=False):
     check_sets(sets, catalogue)
     check_logs(logs, lines, writes, options)
     commits, rests, aborts = (sum(column) for column in zip(*((log.commits, log.rests, log.aborts) for log in logs)))
-    return Counts(len(lines), commits, rests, aborts, catalogue.reads)
+    turns = sum(a.seat != b.seat for a, b in zip(lines, lines[1:]))
+    return Counts(len(lines), commits, rests, aborts, turns, catalogue.reads)
 
 
 def summary(number):

@@ -19,16 +19,21 @@ printf '# Libraries\nlow:\nhigh: low std\nother:\nmvrlu_main: high low\n' >"$scr
 cat >"$scratch/bin/rt" <<'STANDIN'
 #!/bin/bash
 # Counts its calls; builds unless told not to, and ends with a status that says nothing. Where RT_SLOW is there, it is in the
-# midst of a library until it is seen.
+# midst of a library until that is said, and then of the program.
 echo "$*" >>"$RT_CALLS"
 [ -e "$RT_BROKEN" ] && exit 0
-if [ -e "$RT_SLOW" ]; then
-    mkdir -p ../high/out/rlib
+until_said() {
     for _ in {1..300}; do
-        grep -q high "$RT_SEEN" && break
+        grep -q "$1" "$RT_SEEN" && break
         sleep 0.1
     done
+}
+if [ -e "$RT_SLOW" ]; then
+    mkdir -p ../high/out/rlib
+    until_said high
     touch ../high/out/rlib/stamp
+    echo "fn mvrlu_main::main: proved"
+    until_said mvrlu_main
 fi
 mkdir -p out
 cat >out/mvrlu_main <<'BINARY'
@@ -82,7 +87,9 @@ done
 # While it builds it names the crate that is being proved.
 touch "$RT_SLOW" && rm "$scratch/repository/crates/mvrlu_main/out/mvrlu_main"
 call
-grep -qx 'mvrlu: proving high, crate 2 of 3, 0 minutes so far' "$scratch/err" || fail "it doesn't say which crate is proved"
+for crate in 'high, crate 2' 'mvrlu_main, crate 3'; do
+    grep -qx "mvrlu: proving $crate of 3, 0 minutes so far" "$scratch/err" || fail "it doesn't say that $crate is proved"
+done
 [ "$(wc -l <"$scratch/out")" = 2 ] || fail "it writes to standard output while it builds"
 rm "$RT_SLOW"
 

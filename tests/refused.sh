@@ -9,7 +9,7 @@ program=$(readlink -f "${1:-$top/crates/mvrlu_main/out/mvrlu_main}")
 scratch=$(mktemp -d) || exit 1
 trap 'rm -rf "$scratch"' EXIT
 clang=$(dirname "$(rt doc)")/toolchain/bin/clang
-"$clang" -shared -fPIC -O1 -nostdlib -o "$scratch/refuse.so" "$top/tests/refused/refuse.c" || exit 1
+"$clang" -shared -fPIC -O1 -nostdlib -fuse-ld=lld -o "$scratch/refuse.so" "$top/tests/refused/refuse.c" || exit 1
 cd "$scratch" || exit 1
 printf 'add l0 5\nhas l0 5\n' >script
 : >empty

@@ -1,6 +1,6 @@
 #!/bin/bash
-# Shows when ./mvrlu builds, and that it hands on folder, words, streams and status.
-# A stand-in for `rt` writes a small binary, so that nothing is proved here.
+# Shows when ./mvrlu builds and what it says meanwhile, that it hands on folder, words, streams and status, and what it adds
+# behind the program's own line. A stand-in for `rt` writes a small binary, so that nothing is proved here.
 set -u
 top=$(cd "$(dirname "$0")/.." && pwd)
 scratch=$(mktemp -d) || exit 1
@@ -12,33 +12,54 @@ fail() {
     failed=1
 }
 
-mkdir -p "$scratch/bin" "$scratch/repository/crates/mvrlu_main/src" "$scratch/elsewhere"
+mkdir -p "$scratch/bin" "$scratch/temporary" "$scratch/repository/crates/mvrlu_main/src" "$scratch/elsewhere"
 cp "$top/mvrlu" "$scratch/repository/"
-touch "$scratch/repository/crates.txt" "$scratch/repository/HANDLES" "$scratch/repository/crates/mvrlu_main/src/main.rt"
+touch "$scratch/repository/HANDLES" "$scratch/repository/crates/mvrlu_main/src/main.rt"
+printf '# Libraries\nlow:\nhigh: low std\nother:\nmvrlu_main: high low\n' >"$scratch/repository/crates.txt"
 cat >"$scratch/bin/rt" <<'STANDIN'
 #!/bin/bash
-# Counts its calls; builds unless told not to, and ends with a status that says nothing.
+# Counts its calls; builds unless told not to, and ends with a status that says nothing. Where RT_SLOW is there, it is in the
+# midst of a library until that is said, and then of the program.
 echo "$*" >>"$RT_CALLS"
 [ -e "$RT_BROKEN" ] && exit 0
+until_said() {
+    for _ in {1..300}; do
+        grep -q "$1" "$RT_SEEN" && break
+        sleep 0.1
+    done
+}
+if [ -e "$RT_SLOW" ]; then
+    mkdir -p ../high/out/rlib
+    until_said high
+    touch ../high/out/rlib/stamp
+    echo "fn mvrlu_main::main: proved"
+    until_said mvrlu_main
+fi
 mkdir -p out
 cat >out/mvrlu_main <<'BINARY'
 #!/bin/bash
 echo "in $(pwd) with $#: $*"
 cat
-echo "to err" >&2
-exit 5
+echo "$SAYS" >&2
+exit "$ENDS"
 BINARY
 chmod +x out/mvrlu_main
 exit 2
 STANDIN
 chmod +x "$scratch/bin/rt"
-export RT_CALLS=$scratch/calls RT_BROKEN=$scratch/broken
+export RT_CALLS=$scratch/calls RT_BROKEN=$scratch/broken RT_SLOW=$scratch/slow RT_SEEN=$scratch/err SAYS='to err' ENDS=5
+export TMPDIR=$scratch/temporary
 : >"$RT_CALLS"
 
-# Runs ./mvrlu from elsewhere with two words, one of them with a space, and a line to read.
-call() {
-    (cd "$scratch/elsewhere" && echo "a line" | PATH=$scratch/bin:$PATH "$scratch/repository/mvrlu" run "a b" >"$scratch/out" 2>"$scratch/err")
+# Runs ./mvrlu from elsewhere with the words, and a line to read.
+run() {
+    (cd "$scratch/elsewhere" && echo "a line" | PATH=$scratch/bin:$PATH "$scratch/repository/mvrlu" "$@" >"$scratch/out" 2>"$scratch/err")
     status=$?
+}
+
+# The same with two words, one of them with a space.
+call() {
+    run run "a b"
 }
 
 calls() {
@@ -63,10 +84,62 @@ for source in crates/mvrlu_main/src/main.rt crates.txt; do
     touch -d '-2 seconds' "$scratch/repository/$source"
 done
 
+# While it builds it names the crate that is being proved.
+touch "$RT_SLOW" && rm "$scratch/repository/crates/mvrlu_main/out/mvrlu_main"
+call
+for crate in 'high, crate 2' 'mvrlu_main, crate 3'; do
+    grep -qx "mvrlu: proving $crate of 3, 0 minutes so far" "$scratch/err" || fail "it doesn't say that $crate is proved"
+done
+[ "$(wc -l <"$scratch/out")" = 2 ] || fail "it writes to standard output while it builds"
+rm "$RT_SLOW"
+
+# What it says behind the program's line where a run with the words ends with that status and line: exactly the text.
+says() {
+    ENDS=$1 SAYS=$2
+    local added=$3
+    shift 3
+    run "$@"
+    [ "$status" = "$ENDS" ] || fail "the status is $status and not $ENDS: $*"
+    [ "$(cat "$scratch/err")" = "$(printf '%s\n%s' "$SAYS" "$added")" ] || fail "not behind '$SAYS': $(cat "$scratch/err")"
+    head -n 1 "$scratch/out" | grep -q " with $#: $*$" || fail "standard output was changed"
+}
+
+cd "$scratch/elsewhere" || exit 1
+printf 'add l0 5\nadd l0 x\r\n' >a
+printf '\357\273\277add l0 5' >marked
+mkdir folder
+says 3 'script 1 line 2: bad key' 'a:2: add l0 x^M' run --objects 200 --base 7 marked a
+says 3 'script 0 line 1: unknown command' 'marked:1: M-oM-;M-?add l0 5' run marked a
+says 5 'read fault: script 1' 'absent: No such file or directory' run --slots 64 a absent
+says 5 'read fault: script 0' 'folder: Is a directory' run folder
+says 4 'limit: objects' 'mvrlu: --objects takes 181 to 65535' run --objects 1 a
+says 4 'limit: slots' 'mvrlu: --slots takes 64 to 4096' run --slots 1 a
+says 4 'limit: base' 'mvrlu: --base takes 0 to 35184372088831' run --base 99999999999999 a
+says 4 'limit: number' 'mvrlu: NUMBER is 0 to 18446744073709551615' work 99999999999999999999
+says 4 'limit: seat' 'mvrlu: SEAT is 0 to 3' gen 1 4
+says 4 'limit: files' 'mvrlu: run takes 1 to 64 files' run a a
+says 4 'limit: script 1 bytes' 'a: a script has at most 1048576 bytes' run marked a
+says 4 'limit: script 0 line 70000 commands' 'a: a script has at most 65536 commands' run a
+says 7 'out of memory' '' run a
+
+# The page stands behind the usage line, and other words out of form get one line.
+usage='usage: run FILE...'
+says 2 "$usage" 'mvrlu: ./mvrlu help says more; an option and its value are two words, and options stand before the files' run --objects=200 a
+for words in '' help --help; do
+    ENDS=2 SAYS=$usage
+    # shellcheck disable=SC2086
+    run $words
+    [ "$status" = 2 ] || fail "the page ends with $status"
+    [ "$(head -n 1 "$scratch/err")" = "$usage" ] || fail "the program's usage line doesn't come first"
+    grep -q 'put SET KEY VALUE' "$scratch/err" || fail "there is no page for '$words'"
+    grep -q 'SET' "$scratch/out" && fail "the page is on standard output"
+done
+
 touch "$RT_BROKEN" && touch -d '+2 seconds' "$scratch/repository/crates.txt"
 call
 [ "$status" = 1 ] || fail "a build that leaves no binary ends with $status"
 [ ! -s "$scratch/out" ] || fail "it runs an old binary"
+[ -z "$(ls "$TMPDIR")" ] || fail "it leaves temporary files"
 
 [ "$failed" = 0 ] && echo "mvrlu: ok"
 exit "$failed"

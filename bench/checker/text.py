@@ -1,0 +1,177 @@
+"""Checks printed texts against the scripts that they are of."""
+import re
+from collections import namedtuple
+
+from . import script
+from .catalogue import Catalogue
+
+LAST = 35184372088831
+MOST_LOCKS = 5
+
+Options = namedtuple("Options", "objects slots base", defaults=(4096, 1024, 0))
+Line = namedtuple("Line", "seat number commit time reply")
+Log = namedtuple("Log", "live freed back commits aborts rests")
+# (turns: how often a line follows one of another seat)
+Counts = namedtuple("Counts", "lines commits rests aborts turns reads")
+
+NUMBER = "(0|[1-9][0-9]*)"
+LINE = re.compile(rf"{NUMBER}\.{NUMBER} ([cr]){NUMBER} (.+)")
+LOG = re.compile(rf"log {NUMBER} live {NUMBER} freed {NUMBER} back {NUMBER} commits {NUMBER} aborts {NUMBER} rests {NUMBER}")
+
+
+class Fault(Exception):
+    """What a text says that it must not say."""
+
+
+def must(truth, what):
+    if not truth:
+        raise Fault(what)
+
+
+def lines_of(text):
+    must(text.isascii(), "a byte is no ASCII")
+    must(text.endswith(b"\n"), "the text doesn't end with LF")
+    return text[:-1].decode("ascii").split("\n")
+
+
+def split(text):
+    """The lines of commands, those of sets as they stand, and the logs."""
+    rows = lines_of(text)
+    lines, sets, logs = [], [], []
+    for row in rows:
+        found = LINE.fullmatch(row)
+        if found is None:
+            break
+        seat, number, kind, time, reply = found.groups()
+        lines.append(Line(int(seat), int(number), kind == "c", int(time), reply))
+    rows = rows[len(lines):]
+    while rows and not rows[0].startswith("log "):
+        sets.append(rows.pop(0))
+    for seat, row in enumerate(rows):
+        found = LOG.fullmatch(row)
+        must(found and int(found[1]) == seat, f"not the log line of seat {seat}: {row}")
+        logs.append(Log(*(int(word) for word in found.groups()[1:])))
+    return lines, sets, logs
+
+
+def name(line):
+    return f"line {line.seat}.{line.number}"
+
+
+def check_order(lines):
+    """By time, commits before reads, then by seat, then by number; and no two commits at one time."""
+    before = None
+    for line in lines:
+        place = (line.time, not line.commit, line.seat, line.number)
+        must(before is None or before < place, f"{name(line)} is out of order")
+        must(not (before and line.commit and before[:2] == place[:2]), f"{name(line)} has the time of another commit")
+        before = place
+
+
+def check_scripts(lines, scripts, base):
+    """Each command has one line; along a script no time falls, and a commit is later than the line before it."""
+    found = {}
+    for line in lines:
+        place = line.seat, line.number
+        must(line.seat < len(scripts) and 1 <= line.number <= len(scripts[line.seat]), f"{name(line)} is of no command")
+        must(place not in found, f"{name(line)} stands twice")
+        found[place] = line
+    for seat, commands in enumerate(scripts):
+        time = base
+        for number in range(1, len(commands) + 1):
+            line = found.get((seat, number))
+            must(line, f"line {seat}.{number} is missing")
+            must(line.time > time if line.commit else line.time >= time, f"{name(line)} is too early behind the line before it")
+            time = line.time
+
+
+def check_replies(lines, scripts, catalogue):
+    """Replays the lines in their order; answers how many objects the commits of each seat write."""
+    writes = [0] * len(scripts)
+    for line in lines:
+        command = scripts[line.seat][line.number - 1]
+        reply, written = catalogue.run(command, not line.commit and line.time == LAST)
+        must(reply == line.reply, f"{name(line)} replies {line.reply} and not {reply}: {command}")
+        must(line.commit == (written > 0), f"{name(line)} is {'a commit' if line.commit else 'a read'}: {command}")
+        writes[line.seat] += written
+    return writes
+
+
+def check_sets(rows, catalogue):
+    for row, wanted in zip(rows, catalogue.lines()):
+        must(row == wanted, f"the set's line is '{row}' and not '{wanted}'")
+    must(len(rows) == len(list(catalogue.lines())), "the lines of sets are too many or too few")
+
+
+def check_log(seat, log, lines, writes, slots):
+    """The table of a seat. Each abort that it counts gave up one to five objects."""
+    commits = sum(1 for line in lines if line.seat == seat and line.commit)
+    built = log.live + log.freed
+    must(log.commits == commits, f"log {seat}: {log.commits} commits, and {commits} lines of commits")
+    must(writes + log.aborts <= built <= writes + MOST_LOCKS * log.aborts,
+         f"log {seat}: {built} versions, for {writes} writes of commits and {log.aborts} aborts")
+    must(log.live <= slots, f"log {seat}: {log.live} live in {slots} slots")
+    must(log.back <= writes, f"log {seat}: {log.back} written back, of {writes} writes of commits")
+
+
+def check_logs(logs, lines, writes, options):
+    must(len(logs) == len(writes), f"{len(logs)} log lines for {len(writes)} scripts")
+    for seat, log in enumerate(logs):
+        check_log(seat, log, lines, writes[seat], options.slots)
+    must(len(logs) > 1 or logs[0].aborts == 0, "one seat alone has aborted")
+    end = options.base + sum(log.commits + log.rests for log in logs)
+    latest = lines[-1].time if lines else options.base
+    must(latest <= end <= LAST, f"the time {latest} is printed, and the commits and rests end at {end}")
+
+
+def check_run(options, scripts, text, count_reads=False):
+    """Checks the text of a run of the scripts' commands; answers what it counts."""
+    lines, sets, logs = split(text)
+    catalogue = Catalogue(options.objects - 180, count_reads)
+    check_order(lines)
+    check_scripts(lines, scripts, options.base)
+    writes = check_replies(lines, scripts, catalogue)
+    check_sets(sets, catalogue)
+    check_logs(logs, lines, writes, options)
+    commits, rests, aborts = (sum(column) for column in zip(*((log.commits, log.rests, log.aborts) for log in logs)))
+    turns = sum(a.seat != b.seat for a, b in zip(lines, lines[1:]))
+    return Counts(len(lines), commits, rests, aborts, turns, catalogue.reads)
+
+
+def summary(number):
+    """The text of `work` where no reply is worn: the four scripts of the number, replayed one after another."""
+    catalogue = Catalogue(16384 - 180)
+    replies, commits = [], 0
+    for seat in range(4):
+        for command in script.generated(number, seat):
+            reply, writes = catalogue.run(command, False)
+            replies.append(reply)
+            commits += writes > 0
+    counts = [f"{reply} {replies.count(reply)}" for reply in ("yes", "no", "worn")]
+    return "\n".join([f"work {number}", *counts, f"commits {commits}", *catalogue.sizes()]) + "\n"
+
+
+def same(text, wanted):
+    """That a text is the wanted one; else the first line that differs."""
+    if text == wanted.encode():
+        return
+    rows = lines_of(text)
+    for row, right in zip(rows, wanted.split("\n")):
+        must(row == right, f"'{row}' and not '{right}'")
+    raise Fault("the text is too long or too short")
+
+
+def check_work(number, text):
+    """A text with worn replies depends on how the seats ran, and only its counts are checked."""
+    rows = lines_of(text)
+    worn = re.fullmatch(rf"worn {NUMBER}", rows[3]) if len(rows) > 3 else None
+    must(worn, "no count of worn replies")
+    if int(worn[1]) == 0:
+        return same(text, summary(number))
+    found = re.match(rf"work {number}\nyes {NUMBER}\nno {NUMBER}\nworn {NUMBER}\ncommits {NUMBER}\n", text.decode("ascii"))
+    must(found and sum(int(found[i]) for i in (1, 2, 3)) == 8000, "the replies are not 8000")
+    must(int(found[4]) <= int(found[1]), "more commits than replies that say yes")
+
+
+def check_gen(number, seat, text):
+    same(text, script.generated_text(number, seat))

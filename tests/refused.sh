@@ -1,0 +1,79 @@
+#!/bin/bash
+# Each allocation, opening, read and write of the built program is refused in turn, until a run passes: the status, the line on
+# standard error and what was written must be those of that refusal. Streams that fail by themselves are tried too.
+# tests/refused.sh PROGRAM tries another program than the one that rt ci left.
+set -u
+top=$(cd "$(dirname "$0")/.." && pwd)
+program=$(readlink -f "${1:-$top/crates/mvrlu_main/out/mvrlu_main}")
+[ -x "$program" ] || { echo "refused: there is no $program: ./mvrlu builds it" >&2; exit 1; }
+scratch=$(mktemp -d) || exit 1
+trap 'rm -rf "$scratch"' EXIT
+clang=$(dirname "$(rt doc)")/toolchain/bin/clang
+"$clang" -shared -fPIC -O1 -nostdlib -fuse-ld=lld -o "$scratch/refuse.so" "$top/tests/refused/refuse.c" || exit 1
+cd "$scratch" || exit 1
+printf 'add l0 5\nhas l0 5\n' >script
+: >empty
+failed=0
+
+fail() {
+    echo "refused: $1" >&2
+    failed=1
+}
+
+# Runs the program with the words, and what comes before them in the environment.
+run() {
+    env "$@" >out 2>err
+    status=$?
+}
+
+# That the last run ended so: its status, its line on standard error, and on standard output so many bytes of the text.
+must() {
+    [ "$status" = "$1" ] || fail "$2: status $status and not $1"
+    [[ "$(cat err)" =~ ^$3$ ]] || fail "$2: '$(cat err)' on standard error"
+    head -c "$4" text | cmp -s - out || fail "$2: '$(cat out)' on standard output"
+}
+
+# Refuses call after call of a kind in runs of the files, until one passes or a fault is found; each must end with the status
+# and the line. Where a write is refused, the bytes are there that the writes before it moved.
+sweep() {
+    local kind=$1 most=$2 wanted=$3 line=$4 at before=0
+    shift 4
+    "$program" run "$@" >text 2>/dev/null || { fail "no text: run $*"; return; }
+    for ((at = 1; at <= 1000 && failed == 0; at++)); do
+        run REFUSE_KIND="$kind" REFUSE_AT=$at REFUSE_MOST="$most" LD_PRELOAD="$scratch/refuse.so" "$program" run "$@"
+        [ "$status" = 0 ] && break
+        [ "$kind" = write ] && before=$((most * (at - 1)))
+        must "$wanted" "$kind $at of run $*" "$line" "$before"
+    done
+    [ "$failed" = 0 ] || return
+    [ "$at" -gt 1 ] || fail "no $kind of run $* was refused"
+    must 0 "run $*" '' "$(wc -c <text)"
+    counts+=", $((at - 1)) of $kind"
+}
+
+counts=
+for files in script 'script empty'; do
+    # shellcheck disable=SC2086
+    {
+        sweep alloc 1000000 7 'out of memory' $files
+        sweep open 1000000 5 'read fault: script [01]' $files
+        sweep read 3 5 'read fault: script [01]' $files
+        sweep write 3 6 'write fault' $files
+        sweep write 1000000 6 'write fault' $files
+    }
+done
+
+# Standard output that takes nothing, a folder, and a standard error that can't be written, which changes no status.
+: >out
+"$program" run script >/dev/full 2>err
+status=$?
+must 6 'a full device' 'write fault' 0
+run "$program" run .
+must 5 'a folder' 'read fault: script 0' 0
+run "$program" run script absent
+must 5 'no file' 'read fault: script 1' 0
+run REFUSE_KIND=write REFUSE_AT=1 LD_PRELOAD="$scratch/refuse.so" "$program"
+must 2 'no standard error' '' 0
+
+[ "$failed" = 0 ] && echo "refused: ok${counts}"
+exit "$failed"

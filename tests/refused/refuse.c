@@ -1,0 +1,52 @@
+// Stands before the C library in a run of the program: the call number REFUSE_AT of the kind REFUSE_KIND, which is alloc,
+// open, read or write, fails; with REFUSE_MOST reads and writes move at most so many bytes.
+extern void *dlsym(void *handle, const char *name);
+extern char *getenv(const char *name);
+extern int strcmp(const char *a, const char *b);
+extern long strtol(const char *text, char **end, int base);
+extern int *__errno_location(void);
+
+#define REAL(name) dlsym((void *)-1L, name)
+enum { NO_MEMORY = 12, IO_ERROR = 5 };
+
+static long calls;
+
+static int refuses(const char *kind) {
+    const char *refused = getenv("REFUSE_KIND"), *at = getenv("REFUSE_AT");
+    return refused && at && !strcmp(kind, refused) && __atomic_add_fetch(&calls, 1, __ATOMIC_SEQ_CST) == strtol(at, 0, 10);
+}
+
+static long fail(int error) {
+    *__errno_location() = error;
+    return -1;
+}
+
+static unsigned long at_most(unsigned long size) {
+    const char *most = getenv("REFUSE_MOST");
+    return most && strtol(most, 0, 10) < (long)size ? (unsigned long)strtol(most, 0, 10) : size;
+}
+
+void *malloc(unsigned long size) {
+    void *(*real)(unsigned long) = REAL("malloc");
+    return refuses("alloc") ? (fail(NO_MEMORY), (void *)0) : real(size);
+}
+
+void *realloc(void *block, unsigned long size) {
+    void *(*real)(void *, unsigned long) = REAL("realloc");
+    return refuses("alloc") ? (fail(NO_MEMORY), (void *)0) : real(block, size);
+}
+
+int open(const char *name, int flags, unsigned mode) {
+    int (*real)(const char *, int, unsigned) = REAL("open");
+    return refuses("open") ? (int)fail(IO_ERROR) : real(name, flags, mode);
+}
+
+long read(int file, void *into, unsigned long size) {
+    long (*real)(int, void *, unsigned long) = REAL("read");
+    return refuses("read") ? fail(IO_ERROR) : real(file, into, at_most(size));
+}
+
+long write(int file, const void *from, unsigned long size) {
+    long (*real)(int, const void *, unsigned long) = REAL("write");
+    return refuses("write") ? fail(IO_ERROR) : real(file, from, at_most(size));
+}

@@ -1,5 +1,5 @@
 -- What a list of words asks for. Words are lists of bytes.
-use Rattle.std.specs.Prelude.{ℕ, ◌==◌, nat_le, ◌&&◌, not, Bool, false, List, [], ◌∷◌, length, map, string_bytes}
+use Rattle.std.specs.Prelude.{ℕ, ◌≤◌, ◌<◌, ⊤, ◌==◌, nat_le, ◌&&◌, not, Bool, false, List, [], ◌∷◌, length, map, string_bytes}
 use Rattle.std.specs.Prelude.{Option, None, Some, Result, Ok, Err, if◌then◌else◌, codes}
 use Rattle.std.specs.List.{list_all}
 use Rattle.std.specs.Str.{bytes_eq}
@@ -139,3 +139,15 @@ abbrev pub asks_of : Request → Asks
 asks_of (Run options files) = run options (map string_bytes files.now)
 asks_of (Gen number seat) = gen number seat
 asks_of (Work number) = work number
+
+-- The numbers of a run are in their ranges.
+pub record FitOptions (o : Options) : Type 0 where
+  pub objects : (181 ≤ o.objects) × (o.objects ≤ 65535)
+  pub slots : (64 ≤ o.slots) × (o.slots ≤ 4096)
+  pub base : o.base ≤ 35184372088831
+
+-- the numbers of a request are in their ranges, the number of its files too
+abbrev pub IsFit : Request → Type 0
+IsFit (Run options files) = FitOptions options × (1 ≤ length files.now) × (length files.now ≤ 64)
+IsFit (Gen number seat) = seat < 4
+IsFit (Work number) = ⊤

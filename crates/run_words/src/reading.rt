@@ -1,7 +1,7 @@
 // Reading the words.
-ghost use Rattle.std.specs.Prelude.{◌≡◌, map, string_bytes, Ok, Err, MatchResult};
+ghost use Rattle.std.specs.Prelude.{◌≡◌, map, string_bytes, Ok, Err, IfOk, MatchResult};
 ghost use Rattle.std.specs.List.{list_all};
-ghost use Rattle.run_words.specs.Words.{asked, asks_of, are_files, is_file, gen_asked, run_asked, work_asked};
+ghost use Rattle.run_words.specs.Words.{asked, asks_of, are_files, IsFit, is_file, gen_asked, run_asked, work_asked};
 
 use crate::numbers::{read_number, within};
 use crate::options::read_options;
@@ -10,10 +10,12 @@ use crate::request::{Limit, Options, Refusal, Request};
 // The most files of a run.
 const MOST_FILES: usize = 64;
 
-/// What the words ask for, exactly by `asked`. An error is the first reason why they ask for nothing.
+/// What the words ask for, exactly by `asked`; its numbers are in their ranges. An error is the first reason why they
+/// ask for nothing.
 pub fn read_words(words: &[String]) -> Result<Request<'_>, Refusal>
-    ensures { MatchResult result (λ request. asked (map string_bytes words.now) ≡ Ok (asks_of request))
+    ensures asked { MatchResult result (λ request. asked (map string_bytes words.now) ≡ Ok (asks_of request))
         (λ refusal. asked (map string_bytes words.now) ≡ Err refusal) }
+    ensures fit { IfOk result IsFit }
 {
     let [first, rest @ ..] = words else {
         return Err(Refusal::Form);
@@ -28,8 +30,9 @@ pub fn read_words(words: &[String]) -> Result<Request<'_>, Refusal>
 
 // What the words behind `run` ask for.
 fn read_run(words: &[String]) -> Result<Request<'_>, Refusal>
-    ensures { MatchResult result (λ request. run_asked (map string_bytes words.now) ≡ Ok (asks_of request))
+    ensures asked { MatchResult result (λ request. run_asked (map string_bytes words.now) ≡ Ok (asks_of request))
         (λ refusal. run_asked (map string_bytes words.now) ≡ Err refusal) }
+    ensures fit { IfOk result IsFit }
 {
     let Some((given, files)) = read_options(words) else {
         return Err(Refusal::Form);
@@ -87,8 +90,9 @@ fn is_file(word: &str) -> bool
 
 // What the words behind `gen` ask for.
 fn read_gen<'w>(words: &[String]) -> Result<Request<'w>, Refusal>
-    ensures { MatchResult result (λ request. gen_asked (map string_bytes words.now) ≡ Ok (asks_of request))
+    ensures asked { MatchResult result (λ request. gen_asked (map string_bytes words.now) ≡ Ok (asks_of request))
         (λ refusal. gen_asked (map string_bytes words.now) ≡ Err refusal) }
+    ensures fit { IfOk result IsFit }
 {
     let [number, seat] = words else {
         return Err(Refusal::Form);
@@ -107,8 +111,9 @@ fn read_gen<'w>(words: &[String]) -> Result<Request<'w>, Refusal>
 
 // What the words behind `work` ask for.
 fn read_work<'w>(words: &[String]) -> Result<Request<'w>, Refusal>
-    ensures { MatchResult result (λ request. work_asked (map string_bytes words.now) ≡ Ok (asks_of request))
+    ensures asked { MatchResult result (λ request. work_asked (map string_bytes words.now) ≡ Ok (asks_of request))
         (λ refusal. work_asked (map string_bytes words.now) ≡ Err refusal) }
+    ensures fit { IfOk result IsFit }
 {
     let [number] = words else {
         return Err(Refusal::Form);

@@ -3,3 +3,4 @@ pub mod Pairs
 pub mod Ordering
 pub mod Replaying
 pub mod Runs
+pub mod history

@@ -18,7 +18,7 @@ later_key t r s n t' r' s' n' later = grind (arith, nat_tests)
 no_lower_key : (t r s n t' r' s' n' : ℕ) → t' ≤ t → r' ≤ r → s' ≤ s → n' ≤ n → is_lt (key_cmp (t, r, s, n) (t', r', s', n')) ≡ false
 no_lower_key t r s n t' r' s' n' times ranks seats numbers = grind (arith, nat_tests)
 
-rank_low : (place : Place) → rank_of place ≤ 1
+pub rank_low : (place : Place) → rank_of place ≤ 1
 rank_low (Commit time) = omega arith
 rank_low (Read time) = omega arith
 

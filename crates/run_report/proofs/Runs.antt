@@ -87,7 +87,7 @@ told_none script base capacity =
     }
 
 -- what follows a time follows an earlier one
-follows_earlier : (early late : ℕ) (place : Place) → early ≤ late → Follows late place → Follows early place
+pub follows_earlier : (early late : ℕ) (place : Place) → early ≤ late → Follows late place → Follows early place
 follows_earlier early late (Commit time) le f = omega arith
 follows_earlier early late (Read time) le f = omega arith
 

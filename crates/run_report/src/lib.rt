@@ -16,6 +16,13 @@
 //! Point 4 is what a reader of the text can check with the scripts alone: one catalogue, changed by one commit after
 //! another, gives every reply.
 //!
+//! **One history.** `RunOf past scripts lines end tables` (specs/Whole.antt) says where such lines come from. The history
+//! `past` is legal, and each of its commits is one that the sets allow, from an all-zero state on. A `Commit` line is the
+//! commit of its time, by its seat and with its command's tag, and each commit of the history has exactly one line. A
+//! `Read` line has the reply of its command in the state of its time, where the command has nothing to change. `end` is
+//! the catalogue of the state after the whole history, and each seat's table counts what that seat did in it. The lines
+//! of seats that each worked off its script are such a run (proofs/history), whose replay is then a consequence.
+//!
 //! **The text.** [`render`] writes exactly `text_of_run lines end tables` (specs/Text.antt): the lines as they stand, the
 //! sets that aren't empty, and the table of each seat's log.
 //!

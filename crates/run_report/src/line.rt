@@ -1,10 +1,13 @@
 // The lines of a run, and their order.
 ghost use Rattle.std.specs.Prelude.{◌≡◌, ℕ, List};
 ghost use Rattle.std.specs.List.Sorted.{IsPermutation};
+ghost use Rattle.mv_history.specs.declared.answers.LogTable.{LogTable};
 ghost use Rattle.set_script.specs.Catalogue.{Maps};
 ghost use Rattle.set_script.specs.declared.commands.Command.{Command};
 ghost use Rattle.run_report.specs.Legal.{LegalRun};
 ghost use Rattle.run_report.specs.Order.{order_key, IsOrdered};
+ghost use Rattle.run_report.specs.Whole.{RunOf};
+ghost use Rattle.run_report.specs.Worked.{Past};
 
 use set_script::{Place, Reply};
 
@@ -22,12 +25,14 @@ pub struct Line {
 }
 
 /// Puts lines in their order: by time, commits before reads, then by seat, then by number. It takes no memory.
-/// The lines of a legal run stay those of a legal run.
+/// The lines of a legal run stay those of a legal run, and those of a run in one history stay so.
 pub fn order(lines: &mut Vec<Line>)
     ensures permutation { IsPermutation lines.old.items lines.new.items }
     ensures ordered { IsOrdered lines.new.items }
     ensures legal { (scripts : List (List Command)) (base capacity : ℕ) (end : Maps) →
         LegalRun scripts lines.old.items base capacity end → LegalRun scripts lines.new.items base capacity end }
+    ensures whole { (p : Past) (scripts : List (List Command)) (end : Maps) (tables : List LogTable) →
+        RunOf p scripts lines.old.items end tables → RunOf p scripts lines.new.items end tables }
 {
     lines.sort_unstable_by_key(Line::order_key);
 }

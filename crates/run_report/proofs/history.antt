@@ -1,0 +1,10 @@
+pub mod Weights
+pub mod Inserted
+pub mod Commits
+pub mod Seats
+pub mod Made
+pub mod Scripts
+pub mod Changes
+pub mod Replay
+pub mod OneRun
+pub mod Grown

@@ -1,0 +1,4 @@
+pub mod Rows
+pub mod Seats
+pub mod OneRun
+pub mod Opened

@@ -1,0 +1,76 @@
+// The loan of a domain to its seats, and back; and the tables of their logs.
+ghost use Rattle.std.specs.Prelude.{◌≡◌, ◌≤◌, ◌<◌, ◌∷◌, [], length, map, All, IfOk, vec_capacity};
+ghost use Rattle.mvrlu.specs.Meant.{seat_of, handled, IsSeatOf};
+ghost use Rattle.script_domain.specs.Joined.{AreTablesOf};
+
+use mv_history::LogTable;
+use mvrlu::{Domain, Handle, Seat};
+use set_script::SetRules;
+use std::alloc::{AllocError, Global};
+
+// A row for the handles of a domain's seats, and one for the tables of their logs.
+pub(crate) struct Rows<'d> {
+    pub(crate) tables: Vec<LogTable>,
+    pub(crate) handles: Vec<Handle<'d, SetRules>>,
+}
+
+// Takes the memory for the handles and tables of so many seats.
+pub(crate) fn make_rows<'d>(alloc: Global, seats: usize) -> Result<Rows<'d>, AllocError>
+    ensures tables { IfOk result (λ rows. (rows.tables.items ≡ []) × (seats ≤ vec_capacity rows.tables)) }
+    ensures handles { IfOk result (λ rows. (rows.handles.items ≡ []) × (seats ≤ vec_capacity rows.handles)) }
+{
+    let tables = Vec::with_capacity(alloc, seats)?;
+    // A row of handles can't be let go, so nothing is refused from here on.
+    let handles = Vec::with_capacity(alloc, seats)?;
+    Ok(Rows { tables, handles })
+}
+
+// Lends the domain to its seats, in their order.
+pub(crate) fn lend<'d>(
+    domain: &'d Domain<SetRules>,
+    seats: &mut Vec<Seat<SetRules>>,
+    handles: &mut Vec<Handle<'d, SetRules>>,
+)
+    requires own { All (λ seat. IsSeatOf domain.now seat) seats.old.items }
+    requires none { handles.old.items ≡ [] }
+    requires room { length seats.old.items ≤ vec_capacity handles.old }
+    ensures handles { map handled handles.new.items ≡ map seat_of seats.old.items }
+    ensures taken { seats.new.items ≡ [] }
+    ensures capacity { vec_capacity seats.new ≡ vec_capacity seats.old }
+{
+    while !seats.is_empty() {
+        handles.push_reserved(domain.handle(take_first(seats)));
+    }
+}
+
+// Gives the domain back, in the order of the handles.
+pub(crate) fn give_back(mut handles: Vec<Handle<'_, SetRules>>, seats: &mut Vec<Seat<SetRules>>)
+    requires none { seats.old.items ≡ [] }
+    requires room { length handles.items ≤ vec_capacity seats.old }
+    ensures seats { map seat_of seats.new.items ≡ map handled handles.entry.items }
+{
+    while !handles.is_empty() {
+        seats.push_reserved(take_first(&mut handles).into_seat());
+    }
+    handles.destroy_empty();
+}
+
+// Takes the table of each seat's log, in the order of the handles.
+pub(crate) fn take_tables(handles: &[Handle<'_, SetRules>], tables: &mut Vec<LogTable>)
+    requires none { tables.old.items ≡ [] }
+    requires room { length handles.now ≤ vec_capacity tables.old }
+    ensures tables { AreTablesOf (map handled handles.now) tables.new.items }
+{
+    for handle in handles {
+        tables.push_reserved(handle.table());
+    }
+}
+
+// Takes the first element out.
+fn take_first<T>(from: &mut Vec<T>) -> T
+    requires { 0 < length from.old.items }
+    ensures items { from.old.items ≡ result ∷ from.new.items }
+    ensures capacity { vec_capacity from.new ≡ vec_capacity from.old }
+{
+    from.remove(0)
+}

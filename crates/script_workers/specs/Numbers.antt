@@ -1,0 +1,8 @@
+-- The numbers of seats.
+use Rattle.std.specs.Prelude.{◌≡◌, ℕ, suc, List, [], ◌∷◌, ⊤}
+use Rattle.mv_history.specs.Meaning.{Seat}
+
+-- the seats have the numbers from this one on, in order
+abbrev pub AreNumbered : ℕ → List Seat → Type 0
+AreNumbered number [] = ⊤
+AreNumbered number (s ∷ seats) = (s.number ≡ number) × AreNumbered (suc number) seats

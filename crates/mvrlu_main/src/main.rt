@@ -1,26 +1,30 @@
-//! The program: it makes the real outside, runs the words of the command line, and ends with the status.
+//! The program: it makes the real outside, does what the words of the command line ask for, and ends with the status.
 //!
-//! `run FILE` is `run_program` of `mvrlu_run` over the system's files, standard output and standard error. A word
-//! that isn't UTF-8 is out of form, as every word but `run FILE` is; want of memory for the words ends with 7.
+//! It is `run_program` of `mvrlu_run` over the system's files, standard output and standard error. A word that isn't
+//! UTF-8 is out of form; want of memory for the words ends as any want of memory does.
 #![tactic(auto)]
 
-use mvrlu_run::run_program;
-use run_outside::{OpenGate, RealErr, RealFiles, RealOut};
+use mvrlu_run::{Ran, run_program};
+use run_outside::{OpenGate, RealErr, RealFiles, RealOut, Sink};
 use std::io::ErrorKind;
 use std::process::ExitCode;
 use std::{env, io};
 
 fn main(rt: HostRuntime) -> ExitCode {
+    let mut err = RealErr::new(&rt);
     let words = match read_words(&rt) {
         Ok(words) => words,
-        Err(error) if error.kind() == ErrorKind::OutOfMemory => return ExitCode::from(7),
+        Err(error) if error.kind() == ErrorKind::OutOfMemory => {
+            // A fault of standard error changes no status.
+            let _ = err.write(b"out of memory\n");
+            return ExitCode::from(7);
+        }
         // A word that isn't text is out of form, as no words are.
         Err(_) => Vec::new(rt.alloc()),
     };
     let mut files = RealFiles::new(&rt);
     let mut out = RealOut::new(&rt);
-    let mut err = RealErr::new(&rt);
-    ExitCode::from(run_program(
+    let Ran { status, closed: _ } = run_program(
         &rt,
         rt.alloc(),
         &words,
@@ -28,7 +32,8 @@ fn main(rt: HostRuntime) -> ExitCode {
         &mut out,
         &mut err,
         &OpenGate,
-    ))
+    );
+    ExitCode::from(status)
 }
 
 // The words after the program's name.

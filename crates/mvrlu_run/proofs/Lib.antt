@@ -1,4 +1,7 @@
 pub mod Parts
-pub mod Commands
-pub mod Told
+pub mod Many
 pub mod Opened
+pub mod Still
+pub mod Refused
+pub mod Complete
+pub mod Four

@@ -1,8 +1,6 @@
-pub mod Words
 pub mod Reading
 pub mod Sent
-pub mod Script
 pub mod Status
+pub mod Scripts
+pub mod Told
 pub mod Outcome
-pub mod Run
-pub mod Ready

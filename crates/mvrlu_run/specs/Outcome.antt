@@ -1,18 +1,28 @@
 -- What a call of the program does: the cause of each way to end, and what a reader may count on.
-use Rattle.std.specs.Prelude.{◌≡◌, ◌⊎◌, ◌≤◌, ◌<◌, ℕ, List, length, Option, None, Some, Ok, Bool, IsTrue, ⊤}
+use Rattle.std.specs.Prelude.{◌≡◌, ◌⊎◌, ◌≤◌, ◌<◌, ℕ, List, Option, None, Some, Ok, Err, Bool, ⊤}
 use Rattle.std.specs.Io.KnownBytes.{Appends}
-use Rattle.run_outside.specs.Outside.{Texts, Rose, HasText}
-use Rattle.set_script.specs.Grammar.{parsed}
+use Rattle.run_outside.specs.Outside.{Texts, Rose}
+use Rattle.run_words.specs.declared.request.Options.{Options}
+use Rattle.run_words.specs.declared.request.Limit.{Limit as LimitOf}
+use Rattle.run_words.specs.declared.request.Refusal.TheVariants.{Form, Beyond}
+use Rattle.run_words.specs.Words.{Asks, run, gen, work, asked}
 use Rattle.set_script.specs.declared.commands.Command.{Command}
 use Rattle.set_script.specs.declared.commands.FaultKind.{FaultKind}
+use Rattle.set_script.specs.Lawful.{IsLawful}
+use Rattle.set_script.specs.declared.rules.SetRules.{SetRules}
+use Rattle.mvrlu.specs.Meant.{whole_of}
+use Rattle.mvrlu.specs.Whole.{last_state}
+use Rattle.mvrlu.specs.declared.closing.Closing.{Closing}
+use Rattle.mvrlu_run.specs.declared.finish.Closed.{Closed}
+use Rattle.mvrlu_run.specs.declared.finish.Closed.TheVariants.{No, Sets}
 use Rattle.mvrlu_run.specs.declared.finish.Finish.{Finish}
-use Rattle.mvrlu_run.specs.declared.finish.Finish.TheVariants.{Done, Usage, Script, Bytes, Read, Write, Memory}
-use Rattle.mvrlu_run.specs.declared.finish.TheConstants.{MOST_BYTES}
-use Rattle.mvrlu_run.specs.Words.{file_of}
-use Rattle.mvrlu_run.specs.Reading.{Says}
+use Rattle.mvrlu_run.specs.declared.finish.Finish.TheVariants.{Done, Usage, Limit, Script, Bytes, Read, Write, Memory}
+use Rattle.mvrlu_run.specs.declared.finish.Ran.{Ran}
+use Rattle.mvrlu_run.specs.Reading.{AreTold}
+use Rattle.mvrlu_run.specs.Scripts.{AllScripts, StopsAt, IsRefused, IsLong, AnyStop, NoneFails}
 use Rattle.mvrlu_run.specs.Sent.{Sent}
-use Rattle.mvrlu_run.specs.Script.{IsTextOf, IsRefused}
-use Rattle.mvrlu_run.specs.Status.{status_of, fault_status, line_of}
+use Rattle.mvrlu_run.specs.Status.{status_of, closed_of, fault_status, line_of}
+use Rattle.mvrlu_run.specs.Told.{IsRunText, IsTextFor, files_of}
 
 -- what the program sees of files and output at one moment
 pub record Outside : Type 0 where
@@ -28,61 +38,61 @@ abbrev pub outside : {F O : Type 0} → (F → Option Texts) → (F → Bool) �
 outside texts steady file_faults files written out_faults out =
     record { texts = texts files; steady = steady files; file_faults = file_faults files; out = written out; out_faults = out_faults out }
 
--- the text of a run of the script was written, whole
-abbrev pub Writes : Outside → Outside → List ℕ → Type 0
-Writes old new script = (text : List ℕ) × IsTextOf script text × Appends old.out new.out text
-
--- the text of a run of the script was written in part
-abbrev pub WritesPart : Outside → Outside → List ℕ → Type 0
-WritesPart old new script =
-    (text : List ℕ) × IsTextOf script text × Sent old.out new.out old.out_faults new.out_faults text
-
--- the cause of each way to end, where this is the FILE
-abbrev pub FileCause : Finish → List ℕ → Outside → Outside → Type 0
-FileCause Done file old new = Says old.texts file (Writes old new)
-FileCause Usage file old new = ⊥
-FileCause (Script line kind) file old new = (new.out ≡ old.out) × Says old.texts file (λ script. IsRefused script line kind)
-FileCause Bytes file old new = (new.out ≡ old.out) × Says old.texts file (λ script. MOST_BYTES < length script)
-FileCause Read file old new = (new.out ≡ old.out) × Rose old.file_faults new.file_faults
-FileCause Write file old new = Rose old.out_faults new.out_faults × Says old.texts file (WritesPart old new)
-FileCause Memory file old new = new.out ≡ old.out
+-- the cause of each way to end, where this is asked for
+abbrev pub AskedCause : Finish → Asks → Outside → Outside → Type 0
+AskedCause (Done closed) asks old new = (text : List ℕ) × IsTextFor asks old.texts closed text × Appends old.out new.out text
+AskedCause Write asks old new =
+    Rose old.out_faults new.out_faults × (closed : Closed) × (text : List ℕ) × IsTextFor asks old.texts closed text
+    × Sent old.out new.out old.out_faults new.out_faults text
+AskedCause finish asks old new = (new.out ≡ old.out) × AnyStop finish old.texts (files_of asks) old.file_faults new.file_faults
 
 -- the cause of each way to end
 abbrev pub Cause : Finish → List (List ℕ) → Outside → Outside → Type 0
-Cause Usage words old new = (file_of words ≡ None) × (new.out ≡ old.out)
-Cause finish words old new = (file : List ℕ) × (file_of words ≡ Some file) × FileCause finish file old new
+Cause Usage words old new = (asked words ≡ Err Form) × (new.out ≡ old.out)
+Cause (Limit limit) words old new = (asked words ≡ Err (Beyond limit)) × (new.out ≡ old.out)
+Cause finish words old new = (asks : Asks) × (asked words ≡ Ok asks) × AskedCause finish asks old new
 
--- where the files are steady and have the text, no read fault comes
+-- where the files are steady and have a text of each name, no read fault comes
 abbrev pub NeverRead : Finish → List (List ℕ) → Outside → Type 0
-NeverRead Read words old = (file : List ℕ) → file_of words ≡ Some file → IsTrue old.steady → HasText old.texts file → ⊥
-NeverRead _ words old = ⊤
+NeverRead finish words old = (asks : Asks) → asked words ≡ Ok asks → NoneFails finish old.steady old.texts (files_of asks)
 
--- what became of a call: one way to end, with its status, its cause and its line
+-- What became of a call: one way to end, with its status, what is left of the domain, its cause and its line.
 pub record Outcome (words : List (List ℕ)) (old new : Outside) (err err_new : Option (List ℕ)) (err_faults err_faults_new : ℕ)
-    (status : ℕ) : Type 0 where
+    (ran : Ran) : Type 0 where
   pub finish : Finish
-  pub status_is : status ≡ status_of finish
+  pub status : ran.status ≡ status_of finish
+  pub closed : ran.closed ≡ closed_of finish
   pub cause : Cause finish words old new
   pub never_read : NeverRead finish words old
   pub line : Sent err err_new err_faults err_faults_new (line_of finish)
 
--- The words are in form, and the files tell that this is the text of the FILE.
-pub record IsGiven (words : List (List ℕ)) (old : Outside) (script : List ℕ) : Type 0 where
-  pub file : List ℕ
-  pub form : file_of words ≡ Some file
-  pub texts : Texts
-  pub told : old.texts ≡ Some texts
-  pub there : texts file ≡ Some script
+-- What a run with status 0 prints: the text of a run of the scripts of its files. Each line stands in the one history of the domain
+-- that is left, and the printed sets are those after it.
+abbrev pub IsPrinted : Options → List (List ℕ) → Outside → Outside → Closed → Type 0
+IsPrinted options names old new closed =
+    (closing : Closing SetRules) × (closed ≡ Sets closing) × (scripts : List (List Command)) × AllScripts old.texts names scripts
+    × (text : List ℕ) × IsRunText options scripts closing text × Appends old.out new.out text
 
--- What a call is sure to answer where the text of the FILE is told and no call of the files failed, but for want of memory.
+-- what is left of a domain reads a lawful state, so the sets can be read from it
+abbrev pub ReadsSets : Closed → Type 0
+ReadsSets No = ⊤
+ReadsSets (Sets closing) = IsLawful (last_state (whole_of closing))
+
+-- What a call is sure to answer where the texts of the files are told and no call of the files failed, but for want of memory.
 pub record IsComplete (words : List (List ℕ)) (old new : Outside) (status : ℕ) : Type 0 where
-  -- a script is run, and its text is written where no write failed
-  pub script : (bytes : List ℕ) (commands : List Command) → IsGiven words old bytes → length bytes ≤ MOST_BYTES → parsed bytes ≡ Ok commands
-      → ¬ Rose old.file_faults new.file_faults → ¬ Rose old.out_faults new.out_faults → (status ≡ 0) ⊎ (status ≡ 7)
-  -- the first faulty line is answered
-  pub fault : (bytes : List ℕ) (line : ℕ) (kind : FaultKind) → IsGiven words old bytes → IsRefused bytes line kind
-      → ¬ Rose old.file_faults new.file_faults
+  -- scripts are run, and their text is written where no write failed
+  pub scripts : (options : Options) (names : List (List ℕ)) (scripts : List (List Command)) → asked words ≡ Ok (run options names)
+      → AreTold old.texts → AllScripts old.texts names scripts → ¬ Rose old.file_faults new.file_faults → ¬ Rose old.out_faults new.out_faults
+      → (status ≡ 0) ⊎ (status ≡ 7)
+  -- the first faulty line of the first file that is no script is answered
+  pub fault : (options : Options) (names : List (List ℕ)) (place line : ℕ) (kind : FaultKind) → asked words ≡ Ok (run options names)
+      → AreTold old.texts → StopsAt old.texts names place (IsRefused line kind) → ¬ Rose old.file_faults new.file_faults
       → (status ≡ fault_status kind) ⊎ (status ≡ 7)
   -- one byte too many is answered
-  pub bytes : (bytes : List ℕ) → IsGiven words old bytes → MOST_BYTES < length bytes → ¬ Rose old.file_faults new.file_faults
-      → (status ≡ 4) ⊎ (status ≡ 7)
+  pub bytes : (options : Options) (names : List (List ℕ)) (place : ℕ) → asked words ≡ Ok (run options names)
+      → AreTold old.texts → StopsAt old.texts names place IsLong → ¬ Rose old.file_faults new.file_faults → (status ≡ 4) ⊎ (status ≡ 7)
+  -- a number that is out of its range is answered
+  pub limit : (limit : LimitOf) → asked words ≡ Err (Beyond limit) → status ≡ 4
+  -- a generated script is written, and the four of a number are run, where no write failed
+  pub gen : (number seat : ℕ) → asked words ≡ Ok (gen number seat) → ¬ Rose old.out_faults new.out_faults → (status ≡ 0) ⊎ (status ≡ 7)
+  pub work : (number : ℕ) → asked words ≡ Ok (work number) → ¬ Rose old.out_faults new.out_faults → (status ≡ 0) ⊎ (status ≡ 7)

@@ -2,6 +2,11 @@
 use Rattle.std.specs.Prelude.{◌≡◌, ◌<◌, ℕ, List, length, take, Option, None, Some, ⊤}
 use Rattle.run_outside.specs.Outside.{Texts}
 
+-- the texts are told
+abbrev pub AreTold : Option Texts → Type 0
+AreTold None = ⊥
+AreTold (Some texts) = ⊤
+
 -- where the texts are told, the one of this name is there and is so
 abbrev pub Says : Option Texts → List ℕ → (List ℕ → Type 0) → Type 0
 Says None name P = ⊤

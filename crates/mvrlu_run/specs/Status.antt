@@ -2,8 +2,12 @@
 use Rattle.std.specs.Prelude.{ℕ, List, [], ◌++◌, codes, decimal}
 use Rattle.set_script.specs.declared.commands.FaultKind.{FaultKind}
 use Rattle.set_script.specs.declared.commands.FaultKind.TheVariants.{Word, Count, Format, Name, Key, Value, Same, Many}
+use Rattle.run_words.specs.declared.request.Limit.{Limit as LimitOf}
+use Rattle.run_words.specs.declared.request.Limit.TheVariants.{Objects, Slots, Base, Files, Number, Seat}
+use Rattle.mvrlu_run.specs.declared.finish.Closed.{Closed}
+use Rattle.mvrlu_run.specs.declared.finish.Closed.TheVariants.{No}
 use Rattle.mvrlu_run.specs.declared.finish.Finish.{Finish}
-use Rattle.mvrlu_run.specs.declared.finish.Finish.TheVariants.{Done, Usage, Script, Bytes, Read, Write, Memory}
+use Rattle.mvrlu_run.specs.declared.finish.Finish.TheVariants.{Done, Usage, Limit, Script, Bytes, Read, Write, Memory}
 
 -- the status of a faulty script
 abbrev pub fault_status : FaultKind → ℕ
@@ -12,20 +16,35 @@ fault_status _ = 3
 
 -- the status
 abbrev pub status_of : Finish → ℕ
-status_of Done = 0
+status_of (Done closed) = 0
 status_of Usage = 2
-status_of (Script line kind) = fault_status kind
-status_of Bytes = 4
-status_of Read = 5
+status_of (Limit limit) = 4
+status_of (Script script line kind) = fault_status kind
+status_of (Bytes script) = 4
+status_of (Read script) = 5
 status_of Write = 6
 status_of Memory = 7
 
--- what stands before the number of the line
-abbrev pub fault_start : FaultKind → List ℕ
-fault_start Many = codes "limit: script 0 line "
-fault_start _ = codes "script 0 line "
+-- what is left of the domain: nothing, where not all was written
+abbrev pub closed_of : Finish → Closed
+closed_of (Done closed) = closed
+closed_of _ = No
 
--- what stands behind the number of the line
+-- the word for a number that is out of its range
+abbrev pub limit_word : LimitOf → List ℕ
+limit_word Objects = codes "objects"
+limit_word Slots = codes "slots"
+limit_word Base = codes "base"
+limit_word Files = codes "files"
+limit_word Number = codes "number"
+limit_word Seat = codes "seat"
+
+-- what stands before the number of a faulty script
+abbrev pub fault_start : FaultKind → List ℕ
+fault_start Many = codes "limit: script "
+fault_start _ = codes "script "
+
+-- what stands behind the number of its line
 abbrev pub fault_end : FaultKind → List ℕ
 fault_end Word = codes ": unknown command\n"
 fault_end Count = codes ": wrong number of words\n"
@@ -38,10 +57,11 @@ fault_end Many = codes " commands\n"
 
 -- the line on `err`
 abbrev pub line_of : Finish → List ℕ
-line_of Done = []
-line_of Usage = codes "usage: run FILE\n"
-line_of (Script line kind) = fault_start kind ++ decimal line ++ fault_end kind
-line_of Bytes = codes "limit: script 0 bytes\n"
-line_of Read = codes "read fault: script 0\n"
+line_of (Done closed) = []
+line_of Usage = codes "usage: run [--objects N] [--slots N] [--base N] FILE... or gen NUMBER SEAT or work NUMBER\n"
+line_of (Limit limit) = codes "limit: " ++ limit_word limit ++ codes "\n"
+line_of (Script script line kind) = fault_start kind ++ decimal script ++ codes " line " ++ decimal line ++ fault_end kind
+line_of (Bytes script) = codes "limit: script " ++ decimal script ++ codes " bytes\n"
+line_of (Read script) = codes "read fault: script " ++ decimal script ++ codes "\n"
 line_of Write = codes "write fault\n"
 line_of Memory = codes "out of memory\n"

@@ -1,22 +1,52 @@
 // How a call of the program ends.
-use set_script::FaultKind;
+use mvrlu::Closing;
+use run_words::Limit;
+use set_script::{FaultKind, SetRules};
 
 /// The most bytes of a script.
 pub const MOST_BYTES: usize = 1_048_576;
 
-/// How a call of the program ends. Lines count from 1.
-#[derive(Clone, Copy, Debug, PartialEq, Eq)]
+/// What a run of the program leaves of its domain.
+#[derive(Drop)]
+pub enum Closed {
+    /// No domain was run, or not to its end.
+    No,
+    /// The domain of the sets on which the scripts were run. Its seats have met, so its one history is known whole.
+    Sets(Closing<SetRules>),
+}
+
+/// What became of a call of the program.
+#[derive(Drop)]
+pub struct Ran {
+    /// The status, 0 to 7.
+    pub status: u8,
+    /// The domain of the run, where the status is 0 and scripts were run.
+    pub closed: Closed,
+}
+
+/// How a call of the program ends. Scripts count from 0, lines from 1.
+#[derive(Drop)]
 pub enum Finish {
     /// The whole text was written.
-    Done,
-    /// The words are not `run` and one further word.
+    Done(Closed),
+    /// The words are out of form.
     Usage,
+    /// This number of the words is out of its range.
+    Limit(Limit),
     /// The script has a first faulty line, or one command too many.
-    Script { line: u32, kind: FaultKind },
+    Script {
+        script: u32,
+        line: u32,
+        kind: FaultKind,
+    },
     /// The script has more than `MOST_BYTES` bytes.
-    Bytes,
+    Bytes {
+        script: u32,
+    },
     /// Opening or reading the file failed.
-    Read,
+    Read {
+        script: u32,
+    },
     /// Writing the text failed.
     Write,
     /// Want of memory.

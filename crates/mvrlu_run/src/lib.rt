@@ -1,38 +1,48 @@
-//! The program: it reads one script, runs it over the plain store, and writes the text of the run.
+//! The program: it reads its words and the scripts of files, runs them over a domain of many versions, one worker for
+//! each script, and writes the text of the run. It also writes a generated script, and runs the four of a number.
 //!
 //! # Model
 //!
 //! A call meets the words of the command line and an outside: texts by name and a count of faults, the bytes written
-//! and a count of faults, and the same of standard error. It ends in one of seven ways (`Finish`), each with its
+//! and a count of faults, and the same of standard error. It ends in one of eight ways (`Finish`), each with its
 //! status, its cause and its line on standard error; the definitions are in `specs/Outcome.antt` and
 //! `specs/Status.antt`.
 //!
-//! The run is a list of lines: for each command its place, a commit or a read at a printed time, and its reply there.
-//! The store has 4,096 objects, so 3,916 nodes, its printed times begin at 0, and it has room for 65,536 commits. A
-//! script has at most as many commands, so no command meets the last time.
+//! A run has one history: that of its domain, which is known whole once all seats have met. The [`Closing`] that is left
+//! has it, and `run_program` answers that closing, so its contract speaks of the run's own history and of no other.
+//! Its lines are one for each command, with its place, a commit or a read at a printed time, and its reply there.
 //!
 //! # Contract
 //!
-//! Status 0: the text of the file, where it is told, is a script; there are lines and final maps that are a legal run
-//! of its commands with 3,916 nodes; and the output grew by exactly their text. Each other status has its cause, and
-//! where the text is told and no call failed the script alone decides, but for want of memory. A gate is called around
-//! each command; no clause speaks of it, since it tells nothing.
+//! Status 0 of `run`: the texts of the files, where they are told, are scripts. There are lines, final maps and tables
+//! of which the output grew by exactly their text. Each line stands in the history of the closing: a commit is the
+//! entry of its time by its seat with its command's tag, and a read has its reply in the state of its time. Each
+//! command has one line, each commit of the history has one, and the lines in their order, replayed one after another,
+//! give every reply and end in the printed sets (`IsRunText` in `specs/Told.antt`). Each other status has its cause, and
+//! where the texts are told and no call failed the scripts alone decide, but for want of memory. A gate is called
+//! around each command; no clause speaks of it, since it tells nothing.
 //!
 //! # Place
 //!
-//! It stands on `run_outside` for reading and writing, `set_script` for the commands of a script, `set_catalog` for one
-//! command as one section, `mv_history` for the plain store, and `run_report` for the order and the text of the lines.
-//! Nobody else commits to the plain store, so one attempt of each command is enough. The thin program `mvrlu_main` calls
-//! it with the system's files and streams.
+//! It stands on `run_words` for the words, `run_outside` for reading and writing, `set_script` for the commands of a
+//! script, `script_gen` for generated scripts, `mvrlu` for the domain, `script_domain` for the run of scripts over it,
+//! `set_catalog` for the sets that are left, and `run_report` for the order and the text of the lines. The thin program
+//! `mvrlu_main` calls it with the system's files and streams.
+//!
+//! [`Closing`]: mvrlu::Closing
 #![tactic(auto)]
 
 mod finish;
+mod generated;
+mod line;
 mod program;
 mod reading;
-mod report;
 mod running;
-mod script;
+mod scripts;
 mod sending;
-mod words;
+mod texts;
 
+pub use finish::{Closed, Ran};
 pub use program::run_program;
+pub use script_domain::run_domain;
+pub use script_workers::run_scripts;

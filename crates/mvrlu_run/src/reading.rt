@@ -10,6 +10,7 @@ pub fn read_text<F: Files>(files: &mut F, name: &str, buffer: &mut [u8]) -> Resu
     ensures within { IfOk result (λ n. n ≤ length buffer.new) }
     ensures says { IfOk result (λ n. Says (F.texts files.old) name.now (IsReadInto buffer.new n)) }
     ensures texts { F.texts files.new ≡ F.texts files.old }
+    ensures still { F.steady files.new ≡ F.steady files.old }
     ensures cause { HasCause (F.faults files.old) (F.faults files.new) result }
     ensures succeeds { IsTrue (F.steady files.old) → HasText (F.texts files.old) name.now → IsOk result }
 {

@@ -1,64 +1,111 @@
-// The run of a script's commands over the plain store.
-ghost use Rattle.std.specs.Prelude.{◌≡◌, ℕ, ◌<◌, ◌≤◌, length, IfOk, replicate};
-ghost use Rattle.mv_history.specs.PlainMeaning.{seat_of};
+// The run of scripts over a domain of the sets.
+ghost use Rattle.std.specs.Prelude.{◌≡◌, ◌≤◌, All, IfErr, IfOk, length, map, replicate};
+ghost use Rattle.mv_history.specs.Meaning.{words_at};
 ghost use Rattle.set_script.specs.Objects.{no_words};
-ghost use Rattle.mvrlu_run.specs.Ready.{state_now, IsReady, IsOpen, IsRun, Runs};
+ghost use Rattle.set_script.specs.Lawful.{IsOpening};
+ghost use Rattle.mvrlu.specs.Opened.{IsOpened};
+ghost use Rattle.mvrlu.specs.Meant.{numbers_of, opening_of};
+ghost use Rattle.run_report.specs.Order.{IsOrdered};
+ghost use Rattle.run_words.specs.Words.{FitOptions};
+ghost use Rattle.script_workers.specs.Workers.{items_of};
+ghost use Rattle.mvrlu_run.specs.Told.{IsRunOf, config_of};
 
-use mv_history::{PlainStore, WORDS, Words};
+use mv_history::{LogTable, WORDS, Words};
+use mv_layout::Config;
+use mvrlu::{Closing, Domain, OpenFault, Seat, open};
 use run_outside::Gate;
-use run_report::Line;
-use set_catalog::{Attempt, HintedStore, Hints};
-use set_script::{Command, Place, Reply, SetRules};
+use run_report::{Line, order};
+use run_words::Options;
+use script_domain::run_domain;
+use set_catalog::read_all;
+use set_script::{Catalogue, Command, SetRules};
 use std::alloc::{AllocError, Global};
+use std::sync::Wait;
+use std::thread::Threads;
 
-/// The number of objects, heads and nodes.
-pub const OBJECTS: usize = 4096;
+// How many objects a command may hold.
+const WRITE_MAX: u32 = 16;
 
-// The commits for which the store has room, and the most commands that are run.
-const ROOM: u32 = 65_536;
-
-// How many vacant objects are remembered.
-const HINTS: u32 = 64;
-
-/// The store of the sets.
-pub type Sets = PlainStore<SetRules>;
-
-/// Runs the commands, one after another, and gives the store and the lines in the order of the script. The gate is
-/// called around each command. The error is want of memory.
-pub fn run_commands<G: Gate>(
-    alloc: Global,
-    commands: &[Command],
-    gate: &G,
-) -> Result<(Sets, Vec<Line>), AllocError>
-    requires { length commands.now ≤ ROOM }
-    ensures { IfOk result (λ ran. IsRun commands.now ran.1.items (state_now (seat_of ran.0))) }
-{
-    let mut lines = Vec::with_capacity(alloc, commands.len())?;
-    let hints = Hints::new(alloc, HINTS)?;
-    let mut store = HintedStore::new(open(alloc)?, hints);
-    let mut number = 0;
-    for command in commands {
-        number += 1;
-        gate.before(0, number);
-        let (next, place, reply) = run_command(store, command);
-        gate.after(0, number);
-        store = next;
-        lines.push_reserved(Line {
-            seat: 0,
-            number,
-            place,
-            reply,
-        });
-    }
-    Ok((store.into_store(), lines))
+/// What a run of scripts gives: what is left of its domain, its lines in their order, the sets as they are at the end,
+/// and the table of each seat's log.
+#[derive(Drop)]
+pub struct Told {
+    pub closing: Closing<SetRules>,
+    pub lines: Vec<Line>,
+    pub end: Catalogue,
+    pub tables: Vec<LogTable>,
 }
 
-// A store of objects that are all zero.
-fn open(alloc: Global) -> Result<Sets, AllocError>
-    ensures { IfOk result (λ store. IsOpen (seat_of store)) }
+/// Runs the scripts over a domain of these numbers, script i as seat i. The gate is called around each command. The
+/// error is want of memory.
+pub fn run_sets<R: Threads + Wait + Sync, G: Gate>(
+    rt: &R,
+    alloc: Global,
+    options: Options,
+    scripts: &[Vec<Command>],
+    gate: &G,
+) -> Result<Told, AllocError>
+    requires fit { FitOptions options }
+    requires some { 1 ≤ length scripts.now }
+    requires few { length scripts.now ≤ 64 }
+    requires short { All (λ script. length script.items ≤ 65536) scripts.now }
+    ensures ran { IfOk result (λ told. IsRunOf options (map items_of scripts.now) told.closing told.lines.items told.end told.tables.items) }
+    ensures ordered { IfOk result (λ told. IsOrdered told.lines.items) }
 {
-    let start = zeros(alloc, OBJECTS)?;
-    PlainStore::new(alloc, &start, 0, ROOM)
+    let (domain, seats) = open_sets(alloc, options, scripts.len() as u32)?;
+    let (mut closing, mut lines, tables) = match run_domain(
+        rt, alloc, domain, seats, scripts, gate,
+    ) {
+        Ok(ran) => ran,
+        Err((domain, seats, error)) => {
+            // Seats can't be let go, so they meet.
+            let _ = domain.meet(seats);
+            return Err(error);
+        }
+    };
+    order(&mut lines);
+    let end = read_all(alloc, &mut closing)?;
+    Ok(Told {
+        closing,
+        lines,
+        end,
+        tables,
+    })
+}
+
+// The numbers of a domain of the sets.
+fn config(options: Options, seats: u32) -> Config
+    requires fit { FitOptions options }
+    ensures { result ≡ config_of options seats }
+{
+    Config {
+        seats,
+        objects: options.objects,
+        slots: options.slots,
+        write_max: WRITE_MAX,
+        low: options.slots / 2,
+        high: options.slots - WRITE_MAX,
+        base: options.base,
+    }
+}
+
+// Opens a domain of the sets, with objects that are all zero.
+fn open_sets(
+    alloc: Global,
+    options: Options,
+    seats: u32,
+) -> Result<(Domain<SetRules>, Vec<Seat<SetRules>>), AllocError>
+    requires fit { FitOptions options }
+    requires some { 1 ≤ seats }
+    requires few { seats ≤ 64 }
+    ensures { IfOk result (λ r. IsOpened (config_of options seats) (replicate options.objects no_words) r.0 r.1.items) }
+{
+    let start = zeros(alloc, options.objects as usize)?;
+    match open(alloc, config(options, seats), &start) {
+        Ok(opened) => Ok(opened),
+        Err(OpenFault::Memory) => Err(AllocError),
+        Err(OpenFault::Config(_)) => unreachable!(),
+    }
 }
 
 // So many objects of zeros. The number is a variable here, since a proof would compute a list of a literal length.
@@ -66,17 +113,4 @@ fn zeros(alloc: Global, count: usize) -> Result<Vec<Words>, AllocError>
     ensures { IfOk result (λ objects. objects.items ≡ replicate count no_words) }
 {
     vec![in alloc; [0; WORDS]; count]
-}
-
-// Runs one command, and gives its place and its reply. One attempt is enough: nobody else commits, so nothing refuses it.
-fn run_command(store: HintedStore<Sets>, command: &Command) -> (HintedStore<Sets>, Place, Reply)
-    requires ready { IsReady (seat_of store.store) }
-    requires time { length (seat_of store.store).seen < ROOM }
-    ensures { Runs (seat_of store.store) (seat_of result.0.store) command.now result.1 result.2 }
-{
-    let (store, attempt) = store.attempt(command);
-    match attempt {
-        Attempt::Done { reply, place } => (store, place, reply),
-        Attempt::Again(_) => unreachable!(),
-    }
 }

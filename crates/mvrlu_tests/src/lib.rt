@@ -3,7 +3,8 @@
 //! They stand in a crate of their own, at the top, since they cross the crates below it. What they
 //! show beside the contract of `run_program`: the printed text, byte by byte, and that the program
 //! does its work where memory is ample, so that a body that always answers want of memory, or that
-//! never returns, fails them; and that the gate is called around each command.
+//! never returns, fails them; that the gate is called around each command; and that seats run at
+//! once, since either of two can be held until the other is done.
 #![tactic(auto)]
 
 #[cfg(test)]
@@ -16,3 +17,7 @@ mod limits;
 mod row;
 #[cfg(test)]
 mod scripts;
+#[cfg(test)]
+mod seats;
+#[cfg(test)]
+mod texts;

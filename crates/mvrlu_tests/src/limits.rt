@@ -1,41 +1,101 @@
 // The limits of words, bytes and commands.
-use crate::row::{PLAIN, Row, run_row, run_text};
+use crate::row::{PLAIN, REFUSED, Row, ZERO, owned, print, run_row, run_text};
 use run_outside::OpenGate;
 use std::alloc::{AllocError, Global};
 use std::test::Fail;
 
-const USAGE: Row = Row {
-    name: "no file",
-    words: &["run"],
-    status: 2,
-    out: b"",
-    err: b"usage: run FILE\n",
-    ..PLAIN
-};
+const USAGE: &[u8] =
+    b"usage: run [--objects N] [--slots N] [--base N] FILE... or gen NUMBER SEAT or work NUMBER\n";
+
+const OUT_OF_FORM: [&[&str]; 20] = [
+    &[],
+    &["run"],
+    &["walk", "a"],
+    &["--help"],
+    &["run", "--"],
+    &["run", "--help", "a"],
+    &["run", "a", "--objects", "200"],
+    &["run", "--objects=200", "a"],
+    &["run", "--objects", "200"],
+    &["run", "--slots", "x", "a"],
+    &["run", "--base", "", "a"],
+    &["run", "--base", "-1", "a"],
+    &["run", "--base", "123456789012345678901", "a"],
+    &["run", "--base", "1", "--base", "1", "a"],
+    &["run", "a", ""],
+    &["gen", "1"],
+    &["gen", "1", "0", "0"],
+    &["gen", "x", "4"],
+    &["work"],
+    &["work", "+1"],
+];
 
 #[test]
 fn words_out_of_form_show_the_usage(rt: HostRuntime) -> Result<(), Fail> {
-    let rows = [
-        USAGE,
-        Row {
-            name: "no words",
-            words: &[],
-            ..USAGE
-        },
-        Row {
-            name: "too many words",
-            words: &["run", "a", "a"],
-            ..USAGE
-        },
-        Row {
-            name: "another first word",
-            words: &["walk", "a"],
-            ..USAGE
-        },
-    ];
-    for row in &rows {
-        run_row(&rt, rt.alloc(), row)?;
+    for words in OUT_OF_FORM {
+        let row = Row {
+            name: "out of form",
+            words,
+            status: 2,
+            err: USAGE,
+            ..REFUSED
+        };
+        run_row(&rt, rt.alloc(), &row)?;
     }
+    Ok(())
+}
+
+// Words in form with a number out of its range, and the line on standard error.
+type Beyond = (&'static [&'static str], &'static [u8]);
+
+const BEYOND: [Beyond; 10] = [
+    (&["run", "--objects", "180", "a"], b"limit: objects\n"),
+    (
+        &[
+            "run",
+            "--base",
+            "99999999999999999999",
+            "--objects",
+            "65536",
+            "a",
+        ],
+        b"limit: objects\n",
+    ),
+    (&["run", "--slots", "63", "b"], b"limit: slots\n"),
+    (&["run", "--slots", "4097", "a"], b"limit: slots\n"),
+    (&["run", "--base", "35184372088832", "a"], b"limit: base\n"),
+    (&["gen", "1", "4"], b"limit: seat\n"),
+    (&["gen", "0", "99999999999999999999"], b"limit: seat\n"),
+    (&["gen", "18446744073709551616", "4"], b"limit: number\n"),
+    (&["work", "18446744073709551616"], b"limit: number\n"),
+    (&["work", "99999999999999999999"], b"limit: number\n"),
+];
+
+#[test]
+fn numbers_of_the_words_are_limited(rt: HostRuntime) -> Result<(), Fail> {
+    for (words, err) in &BEYOND {
+        let row = Row {
+            name: "beyond a limit",
+            words,
+            status: 4,
+            err,
+            ..REFUSED
+        };
+        run_row(&rt, rt.alloc(), &row)?;
+    }
+    Ok(())
+}
+
+#[test]
+fn files_are_limited(rt: HostRuntime) -> Result<(), Fail> {
+    let alloc = rt.alloc();
+    let mut words = owned(alloc, &["run"])?;
+    for _ in 0..65 {
+        words.push(String::from_str(alloc, "b")?)?;
+    }
+    let printed = print(&rt, alloc, &words, Vec::new(alloc), &OpenGate)?;
+    assert_eq!(rt; printed.status, 4);
+    assert_eq!(rt; printed.err.bytes(), b"limit: files\n".as_slice());
     Ok(())
 }
 
@@ -50,13 +110,14 @@ fn the_bytes_of_a_script_are_limited(rt: HostRuntime) -> Result<(), Fail> {
     let most = Row {
         name: "1,048,576 bytes",
         most: 1 << 16,
-        out: b"",
+        out: ZERO,
         ..PLAIN
     };
     run_text(&rt, alloc, &most, &line_ends(alloc, 1_048_576)?, &OpenGate)?;
     let more = Row {
         name: "1,048,577 bytes",
         status: 4,
+        out: b"",
         err: b"limit: script 0 bytes\n",
         ..most
     };

@@ -1,7 +1,10 @@
 // One run of the program in memory, and what it must leave.
-use mvrlu_run::run_program;
+ghost use Rattle.std.specs.Prelude.{IfOk};
+ghost use Rattle.mvrlu_run.specs.Outcome.{ReadsSets};
+
+use mvrlu_run::{Closed, Ran, run_program};
 use run_outside::{Gate, MemFiles, MemSink, MemText, OpenGate};
-use std::alloc::Global;
+use std::alloc::{AllocError, Global};
 use std::process::Abort;
 use std::sync::Wait;
 use std::test::Fail;
@@ -9,25 +12,25 @@ use std::thread::Threads;
 
 /// A run of these words over one text, named `a`, and what becomes of it.
 #[derive(Clone, Copy)]
-pub struct Row {
+pub struct Row<'a> {
     pub name: &'static str,
     pub words: &'static [&'static str],
     pub script: &'static [u8],
     /// The calls of the files that fail.
-    pub file_fails: &'static [u64],
+    pub file_fails: &'a [u64],
     /// The calls of the output that fail.
-    pub out_fails: &'static [u64],
+    pub out_fails: &'a [u64],
     /// The calls of standard error that fail.
-    pub err_fails: &'static [u64],
+    pub err_fails: &'a [u64],
     /// How many bytes a call moves at most.
     pub most: usize,
     pub status: u8,
-    pub out: &'static [u8],
+    pub out: &'a [u8],
     pub err: &'static [u8],
 }
 
 /// An add, and a question for its key.
-pub const PLAIN: Row = Row {
+pub const PLAIN: Row<'static> = Row {
     name: "add then has",
     words: &["run", "a"],
     script: b"add l0 5\nhas l0 5\n",
@@ -36,15 +39,26 @@ pub const PLAIN: Row = Row {
     err_fails: &[],
     most: 4096,
     status: 0,
-    out: b"0.1 c1 yes\n0.2 r1 yes\nl0 5\n",
+    out: b"0.1 c1 yes\n0.2 r1 yes\nl0 5\nlog 0 live 2 freed 0 back 0 commits 1 aborts 0 rests 0\n",
     err: b"",
+};
+
+/// The text of an empty script.
+pub const ZERO: &[u8] = b"log 0 live 0 freed 0 back 0 commits 0 aborts 0 rests 0\n";
+
+/// A run that refuses its words or its script.
+pub const REFUSED: Row<'static> = Row {
+    name: "refused",
+    status: 3,
+    out: b"",
+    ..PLAIN
 };
 
 /// Runs the row and compares.
 pub fn run_row<R: Abort + Threads + Wait + Sync>(
     rt: &R,
     alloc: Global,
-    row: &Row,
+    row: &Row<'_>,
 ) -> Result<(), Fail> {
     run_text(rt, alloc, row, row.script, &OpenGate)
 }
@@ -53,26 +67,70 @@ pub fn run_row<R: Abort + Threads + Wait + Sync>(
 pub fn run_text<R: Abort + Threads + Wait + Sync, G: Gate>(
     rt: &R,
     alloc: Global,
-    row: &Row,
+    row: &Row<'_>,
     script: &[u8],
     gate: &G,
 ) -> Result<(), Fail> {
-    let mut words = Vec::new(alloc);
-    for word in row.words {
-        words.push(String::from_str(alloc, word)?)?;
-    }
+    let words = owned(alloc, row.words)?;
     let mut texts = Vec::new(alloc);
-    texts.push(MemText {
-        name: String::from_str(alloc, "a")?,
-        bytes: script.to_vec(alloc)?,
-    })?;
+    texts.push(named(alloc, "a", script)?)?;
     assert!(rt; row.most > 0);
     let mut files = MemFiles::new(texts, row.most, row.file_fails.to_vec(alloc)?);
     let mut out = MemSink::new(alloc, 4096, row.most, row.out_fails.to_vec(alloc)?)?;
     let mut err = MemSink::new(alloc, 4096, row.most, row.err_fails.to_vec(alloc)?)?;
-    let status = run_program(rt, alloc, &words, &mut files, &mut out, &mut err, gate);
-    assert_eq!(rt; status, row.status, "status of {}", row.name);
+    let ran = run_program(rt, alloc, &words, &mut files, &mut out, &mut err, gate);
+    assert_eq!(rt; ran.status, row.status, "status of {}", row.name);
     assert_eq!(rt; out.bytes(), row.out, "output of {}", row.name);
     assert_eq!(rt; err.bytes(), row.err, "error of {}", row.name);
     Ok(())
+}
+
+/// The words as the program takes them.
+pub fn owned(alloc: Global, words: &[&str]) -> Result<Vec<String>, AllocError> {
+    let mut owned = Vec::new(alloc);
+    for word in words {
+        owned.push(String::from_str(alloc, word)?)?;
+    }
+    Ok(owned)
+}
+
+/// A text of this name.
+pub fn named(alloc: Global, name: &str, bytes: &[u8]) -> Result<MemText, AllocError> {
+    Ok(MemText {
+        name: String::from_str(alloc, name)?,
+        bytes: bytes.to_vec(alloc)?,
+    })
+}
+
+/// What the program printed where nothing failed, and what is left of its domain.
+#[derive(Drop)]
+pub struct Printed {
+    pub status: u8,
+    pub closed: Closed,
+    pub out: MemSink,
+    pub err: MemSink,
+}
+
+/// Runs the words over these texts, where nothing fails and there is room for half a million bytes.
+pub fn print<R: Threads + Wait + Sync, G: Gate>(
+    rt: &R,
+    alloc: Global,
+    words: &[String],
+    texts: Vec<MemText>,
+    gate: &G,
+) -> Result<Printed, AllocError>
+    ensures { IfOk result (λ printed. ReadsSets printed.closed) }
+{
+    let mut files = MemFiles::new(texts, 65_536, Vec::new(alloc));
+    let mut out = MemSink::new(alloc, 500_000, 65_536, Vec::new(alloc))?;
+    let mut err = MemSink::new(alloc, 4096, 4096, Vec::new(alloc))?;
+    let Ran { status, closed } = run_program(
+        rt, alloc, words, &mut files, &mut out, &mut err, gate,
+    );
+    Ok(Printed {
+        status,
+        closed,
+        out,
+        err,
+    })
 }

@@ -1,0 +1,176 @@
+-- Where the texts are told and nothing failed, the words and the scripts alone decide how a call ends.
+use Rattle.std.proofs.Common.{inl, inr, ◌≡◌, ◌⊎◌, ℕ, List, [], ◌∷◌, length, slice_get, Option, None, Some, Result, Ok, Err, refl, sym, ap, ◌∙◌, arith, subst}
+use Rattle.std.proofs.lemmas.Option.{slice_get_within}
+use Rattle.run_outside.specs.Outside.{Texts, Rose}
+use Rattle.run_words.specs.declared.request.Limit.{Limit as LimitOf}
+use Rattle.run_words.specs.declared.request.Options.{Options}
+use Rattle.run_words.specs.declared.request.Refusal.{Refusal}
+use Rattle.run_words.specs.declared.request.Refusal.TheVariants.{Form, Beyond}
+use Rattle.run_words.specs.Words.{Asks, run, gen, work, asked}
+use Rattle.set_script.specs.declared.commands.Command.{Command}
+use Rattle.set_script.specs.declared.commands.FaultKind.{FaultKind}
+use Rattle.set_script.specs.declared.commands.FaultKind.TheVariants.{Many}
+use Rattle.set_script.proofs.Times.{lawful_after}
+use Rattle.mvrlu_run.specs.declared.finish.Closed.{Closed}
+use Rattle.mvrlu_run.specs.declared.finish.Finish.{Finish}
+use Rattle.mvrlu_run.specs.declared.finish.Finish.TheVariants.{Done, Usage, Limit, Script, Bytes, Read, Write, Memory}
+use Rattle.mvrlu_run.specs.declared.finish.Ran.{Ran}
+use Rattle.mvrlu_run.specs.Outcome.{AskedCause, Cause, IsComplete, IsPrinted, Outside, ReadsSets}
+use Rattle.mvrlu_run.specs.Reading.{AreTold}
+use Rattle.mvrlu_run.specs.Scripts.{AllScripts, IsLong, IsRefused, Reaches, StopsAt}
+use Rattle.mvrlu_run.specs.Status.{closed_of, fault_status, status_of}
+use Rattle.mvrlu_run.specs.Told.{IsTextFor, files_of}
+use Rattle.mvrlu_run.proofs.Refused.{Spoils, ok_is_no_err, fault_spoils, length_spoils, no_stop, one_stop}
+
+-- an answer, or some default
+value : {A E : Type 0} → A → Result A E → A
+value d (Ok a) = a
+value d (Err e) = d
+
+fault_of : {A E : Type 0} → E → Result A E → E
+fault_of d (Ok a) = d
+fault_of d (Err e) = e
+
+err_inj : {A E : Type 0} (a b : E) → ◌≡◌ {A = Result A E} (Err a) (Err b) → a ≡ b
+unfolding fault_of
+err_inj a b p = ap (fault_of a) p
+
+IsForm : Refusal → Type 0
+IsForm Form = Unit {0}
+IsForm (Beyond limit) = ⊥
+
+form_is_no_limit : (limit : LimitOf) → Form ≡ Beyond limit → ⊥
+unfolding IsForm
+form_is_no_limit limit p = subst IsForm p tt
+
+no_zero : (kind : FaultKind) → fault_status kind ≡ 0 → ⊥
+no_zero Many e = omega (arith, e)
+no_zero kind e = omega (arith, e)
+
+ok_inj : {A E : Type 0} (a b : A) → ◌≡◌ {A = Result A E} (Ok a) (Ok b) → a ≡ b
+unfolding value
+ok_inj a b p = ap (value a) p
+
+-- the words ask for one thing alone
+same_asks : (words : List (List ℕ)) (a b : Asks) → asked words ≡ Ok a → asked words ≡ Ok b → a ≡ b
+same_asks words a b p q = ok_inj {E = Refusal} a b (sym p ∙ q)
+
+-- words that are refused ask for nothing
+not_both : (words : List (List ℕ)) (a : Asks) (r : Refusal) → asked words ≡ Ok a → asked words ≡ Err r → ⊥
+not_both words a r p q = ok_is_no_err a r (sym p ∙ q)
+
+-- no file is reached among none
+none_reached : (t : Option Texts) (place : ℕ) → Reaches t [] place → ⊥
+none_reached t place r = omega (arith, slice_get_within {A = List ℕ} [] place r.name r.named)
+
+-- the domain that is left of a run reads a lawful state
+text_reads : (asks : Asks) (texts : Option Texts) (closed : Closed) (text : List ℕ) → IsTextFor asks texts closed text → ReadsSets closed
+text_reads (run options names) texts closed text h =
+    subst ReadsSets (sym h.3) (lawful_after h.2.last.start h.2.last.history h.4.ran.run.opening h.4.ran.run.allowed)
+text_reads (gen number seat) texts closed text h = subst ReadsSets (sym h.0) tt
+text_reads (work number) texts closed text h =
+    subst ReadsSets (sym h.1) (lawful_after h.0.last.start h.0.last.history h.2.ran.run.opening h.2.ran.run.allowed)
+
+module _ (words : List (List ℕ)) (old new : Outside) where
+  -- a way to end has its cause in what is asked for, where something is
+  ends : (f : Finish) (asks : Asks) → Cause f words old new → asked words ≡ Ok asks → AskedCause f asks old new
+  ends Usage asks c a = absurd (not_both words asks Form a c.0)
+  ends (Limit limit) asks c a = absurd (not_both words asks (Beyond limit) a c.0)
+  ends (Done closed) asks c a = subst (λ x. AskedCause (Done closed) x old new) (same_asks words c.0 asks c.1 a) c.2
+  ends (Script script line kind) asks c a = subst (λ x. AskedCause (Script script line kind) x old new) (same_asks words c.0 asks c.1 a) c.2
+  ends (Bytes script) asks c a = subst (λ x. AskedCause (Bytes script) x old new) (same_asks words c.0 asks c.1 a) c.2
+  ends (Read script) asks c a = subst (λ x. AskedCause (Read script) x old new) (same_asks words c.0 asks c.1 a) c.2
+  ends Write asks c a = subst (λ x. AskedCause Write x old new) (same_asks words c.0 asks c.1 a) c.2
+  ends Memory asks c a = subst (λ x. AskedCause Memory x old new) (same_asks words c.0 asks c.1 a) c.2
+
+  module _ (options : Options) (names : List (List ℕ)) (is : AreTold old.texts) where
+    -- scripts are run
+    runs : (f : Finish) (scripts : List (List Command)) → AskedCause f (run options names) old new → AllScripts old.texts names scripts
+        → ¬ Rose old.file_faults new.file_faults → ¬ Rose old.out_faults new.out_faults → (status_of f ≡ 0) ⊎ (status_of f ≡ 7)
+    runs (Done closed) scripts c all files out = inl refl
+    runs Usage scripts c all files out = absurd c.1
+    runs (Limit limit) scripts c all files out = absurd c.1
+    runs (Script script line kind) scripts c all files out =
+        absurd (no_stop old.texts names scripts script c.1.reaches.name (IsRefused line kind) is all c.1.reaches.named c.1.says (fault_spoils line kind))
+    runs (Bytes script) scripts c all files out =
+        absurd (no_stop old.texts names scripts script c.1.reaches.name IsLong is all c.1.reaches.named c.1.says length_spoils)
+    runs (Read script) scripts c all files out = absurd (files c.1.1)
+    runs Write scripts c all files out = absurd (out c.0)
+    runs Memory scripts c all files out = inr refl
+
+    -- the first file that is no script is answered
+    stops : (f : Finish) (place : ℕ) (P : List ℕ → Type 0) (status : ℕ) → AskedCause f (run options names) old new → StopsAt old.texts names place P
+        → Spoils P → ((text : List ℕ) (line : ℕ) (kind : FaultKind) → IsRefused line kind text → P text → fault_status kind ≡ status)
+        → ((text : List ℕ) → IsLong text → P text → 4 ≡ status) → ¬ Rose old.file_faults new.file_faults
+        → (status_of f ≡ status) ⊎ (status_of f ≡ 7)
+    stops (Done closed) place P status c stop spoils fault long files =
+        absurd (no_stop old.texts names c.1.0 place stop.reaches.name P is c.1.1 stop.reaches.named stop.says spoils)
+    stops Usage place P status c stop spoils fault long files = absurd c.1
+    stops (Limit limit) place P status c stop spoils fault long files = absurd c.1
+    stops (Script script line kind) place P status c stop spoils fault long files =
+        let both = one_stop old.texts names script place (IsRefused line kind) P is c.1 stop (fault_spoils line kind) spoils in
+        inl (fault both.0 line kind both.1 both.2)
+    stops (Bytes script) place P status c stop spoils fault long files =
+        let both = one_stop old.texts names script place IsLong P is c.1 stop length_spoils spoils in
+        inl (long both.0 both.1 both.2)
+    stops (Read script) place P status c stop spoils fault long files = absurd (files c.1.1)
+    stops Write place P status c stop spoils fault long files =
+        absurd (no_stop old.texts names c.3.0 place stop.reaches.name P is c.3.1 stop.reaches.named stop.says spoils)
+    stops Memory place P status c stop spoils fault long files = inr refl
+
+  -- what reads no files ends with its text
+  writes : (f : Finish) (asks : Asks) → files_of asks ≡ [] → AskedCause f asks old new → ¬ Rose old.out_faults new.out_faults
+      → (status_of f ≡ 0) ⊎ (status_of f ≡ 7)
+  writes (Done closed) asks none c out = inl refl
+  writes Usage asks none c out = absurd c.1
+  writes (Limit limit) asks none c out = absurd c.1
+  writes (Script script line kind) asks none c out = absurd (none_reached old.texts script (subst (λ ns. Reaches old.texts ns script) none c.1.reaches))
+  writes (Bytes script) asks none c out = absurd (none_reached old.texts script (subst (λ ns. Reaches old.texts ns script) none c.1.reaches))
+  writes (Read script) asks none c out = absurd (none_reached old.texts script (subst (λ ns. Reaches old.texts ns script) none c.1.0))
+  writes Write asks none c out = absurd (out c.0)
+  writes Memory asks none c out = inr refl
+
+  -- a number that is out of its range is answered
+  limits : (f : Finish) (limit : LimitOf) → Cause f words old new → asked words ≡ Err (Beyond limit) → status_of f ≡ 4
+  limits Usage limit c a = absurd (form_is_no_limit limit (err_inj {A = Asks} Form (Beyond limit) (sym c.0 ∙ a)))
+  limits (Limit other) limit c a = refl
+  limits (Done closed) limit c a = absurd (not_both words c.0 (Beyond limit) c.1 a)
+  limits (Script script line kind) limit c a = absurd (not_both words c.0 (Beyond limit) c.1 a)
+  limits (Bytes script) limit c a = absurd (not_both words c.0 (Beyond limit) c.1 a)
+  limits (Read script) limit c a = absurd (not_both words c.0 (Beyond limit) c.1 a)
+  limits Write limit c a = absurd (not_both words c.0 (Beyond limit) c.1 a)
+  limits Memory limit c a = absurd (not_both words c.0 (Beyond limit) c.1 a)
+
+  pub is_complete : (f : Finish) (status : ℕ) → status ≡ status_of f → Cause f words old new → IsComplete words old new status
+  is_complete f status e c = rw e (record {
+    scripts = λ options names scripts a is all. runs options names is f scripts (ends f (run options names) c a) all;
+    fault = λ options names place line kind a is stop. stops options names is f place (IsRefused line kind) (fault_status kind)
+        (ends f (run options names) c a) stop (fault_spoils line kind)
+        (λ text l k r s. ap fault_status (ap (λ (x : ℕ × FaultKind). x.1) (err_inj {A = List Command} (l, k) (line, kind) (sym r.fault ∙ s.fault))))
+        (λ text long s. absurd (omega (arith, s.short, long)));
+    bytes = λ options names place a is stop. stops options names is f place IsLong 4 (ends f (run options names) c a) stop length_spoils
+        (λ text l k r long. absurd (omega (arith, r.short, long))) (λ text long s. refl);
+    limit = λ limit a. limits f limit c a;
+    gen = λ number seat a. writes f (gen number seat) refl (ends f (gen number seat) c a);
+    work = λ number a. writes f (work number) refl (ends f (work number) c a);
+  })
+
+  printed : (f : Finish) (options : Options) (names : List (List ℕ)) → AskedCause f (run options names) old new → status_of f ≡ 0
+      → IsPrinted options names old new (closed_of f)
+  printed (Done closed) options names d nought = (d.1.2, d.1.3, d.1.0, d.1.1, d.0, d.1.4, d.2)
+  printed Usage options names d nought = absurd d.1
+  printed (Limit limit) options names d nought = absurd d.1
+  printed (Script script line kind) options names d nought = absurd (no_zero kind nought)
+  printed (Bytes script) options names d nought = absurd (omega (arith, nought))
+  printed (Read script) options names d nought = absurd (omega (arith, nought))
+  printed Write options names d nought = absurd (omega (arith, nought))
+  printed Memory options names d nought = absurd (omega (arith, nought))
+
+  -- what a run prints, where the status is 0
+  pub is_printed : (f : Finish) (ran : Ran) (options : Options) (names : List (List ℕ)) → ran.status ≡ status_of f → ran.closed ≡ closed_of f
+      → Cause f words old new → asked words ≡ Ok (run options names) → ran.status ≡ 0 → IsPrinted options names old new ran.closed
+  is_printed f ran options names s e c a nought = rw e (printed f options names (ends f (run options names) c a) (sym s ∙ nought))
+
+  pub reads_sets : (f : Finish) → Cause f words old new → ReadsSets (closed_of f)
+  reads_sets (Done closed) c = text_reads c.0 old.texts closed c.2.0 c.2.1
+  reads_sets f c = tt

@@ -1,0 +1,82 @@
+-- The texts that words ask for, and what is left of the domain that was run for them.
+use Rattle.std.specs.Prelude.{◌≡◌, ℕ, ◌/◌, ◌-◌, List, [], ◌∷◌, Option, replicate}
+use Rattle.mv_history.specs.declared.answers.LogTable.{LogTable}
+use Rattle.mv_layout.specs.declared.config.Config.{Config}
+use Rattle.mvrlu.specs.declared.closing.Closing.{Closing}
+use Rattle.mvrlu.specs.Meant.{whole_of}
+use Rattle.run_outside.specs.Outside.{Texts}
+use Rattle.run_report.specs.declared.line.Line.{Line}
+use Rattle.run_report.specs.Order.{IsOrdered}
+use Rattle.run_report.specs.Summary.{summary}
+use Rattle.run_report.specs.Text.{text_of_run}
+use Rattle.run_report.specs.Whole.{RunOf}
+use Rattle.run_words.specs.declared.request.Options.{Options}
+use Rattle.run_words.specs.Words.{Asks, run, gen, work}
+use Rattle.script_domain.specs.Joined.{past_of_whole}
+use Rattle.script_gen.specs.Script.{script, text_of_script}
+use Rattle.set_script.specs.declared.commands.Command.{Command}
+use Rattle.set_script.specs.declared.rules.SetRules.{SetRules}
+use Rattle.set_script.specs.Catalogue.{Maps}
+use Rattle.set_script.specs.Objects.{no_words}
+use Rattle.mvrlu_run.specs.declared.finish.Closed.{Closed}
+use Rattle.mvrlu_run.specs.declared.finish.Closed.TheVariants.{No, Sets}
+use Rattle.mvrlu_run.specs.Scripts.{AllScripts}
+
+-- The scripts were run over the domain that is left, which was opened with so many objects, all zero, and this time of the
+-- opening state: its one history is that of these lines, maps and tables.
+pub record IsRunOf (options : Options) (scripts : List (List Command)) (closing : Closing SetRules) (lines : List Line) (end : Maps)
+    (tables : List LogTable) : Type 0 where
+  pub start : (whole_of closing).start ≡ replicate options.objects no_words
+  pub base : (whole_of closing).base ≡ options.base
+  pub run : RunOf (past_of_whole (whole_of closing)) scripts lines end tables
+
+-- The text of a run of the scripts: its lines in their order, the sets as they are at the end, and the tables.
+pub record IsRunText (options : Options) (scripts : List (List Command)) (closing : Closing SetRules) (text : List ℕ) : Type 0 where
+  pub lines : List Line
+  pub end : Maps
+  pub tables : List LogTable
+  pub ran : IsRunOf options scripts closing lines end tables
+  pub ordered : IsOrdered lines
+  pub is : text ≡ text_of_run lines end tables
+
+-- the numbers of the run of generated scripts
+abbrev pub work_options : Options
+work_options = record { objects = 16384; slots = 1024; base = 0 }
+
+-- the four generated scripts of a number
+abbrev pub work_scripts : ℕ → List (List Command)
+work_scripts number = script number 0 ∷ script number 1 ∷ script number 2 ∷ script number 3 ∷ []
+
+-- The summary of a run of the four generated scripts of a number.
+pub record IsWorkText (number : ℕ) (closing : Closing SetRules) (text : List ℕ) : Type 0 where
+  pub lines : List Line
+  pub end : Maps
+  pub tables : List LogTable
+  pub ran : IsRunOf work_options (work_scripts number) closing lines end tables
+  pub is : text ≡ summary number lines end
+
+-- the text is one that the words ask for, and this is left of the domain that was run for it
+abbrev pub IsTextFor : Asks → Option Texts → Closed → List ℕ → Type 0
+IsTextFor (run options names) texts closed text =
+    (scripts : List (List Command)) × AllScripts texts names scripts × (closing : Closing SetRules) × (closed ≡ Sets closing)
+    × IsRunText options scripts closing text
+IsTextFor (gen number seat) texts closed text = (closed ≡ No) × (text ≡ text_of_script number seat)
+IsTextFor (work number) texts closed text = (closing : Closing SetRules) × (closed ≡ Sets closing) × IsWorkText number closing text
+
+-- the files that are to be read
+abbrev pub files_of : Asks → List (List ℕ)
+files_of (run options names) = names
+files_of (gen number seat) = []
+files_of (work number) = []
+
+-- the numbers of the domain of a run with so many seats
+abbrev pub config_of : Options → ℕ → Config
+config_of options seats = record {
+  seats = seats;
+  objects = options.objects;
+  slots = options.slots;
+  write_max = 16;
+  low = options.slots / 2;
+  high = options.slots - 16;
+  base = options.base;
+}

@@ -1,0 +1,100 @@
+// Reading the scripts of files.
+ghost use Rattle.std.specs.Prelude.{◌≡◌, ◌≤◌, ◌<◌, ◌+◌, length, map, string_bytes, All, IfOk, IsTrue, IfErr, MatchResult};
+ghost use Rattle.run_outside.specs.Outside.{HasText};
+ghost use Rattle.mvrlu_run.specs.Reading.{Says};
+ghost use Rattle.script_workers.specs.Workers.{items_of};
+ghost use Rattle.mvrlu_run.specs.Scripts.{AllScripts, AnyStop, IsScript, NoneFails, NotRead, OneStop};
+
+use crate::finish::{Finish, MOST_BYTES};
+use crate::reading::read_text;
+use run_outside::Files;
+use set_script::{Command, ScriptFault, parse};
+use std::alloc::{AllocError, Global};
+
+/// The scripts of the files of these names, in order. An error is the first reason why one has none: it can't be opened
+/// or read, has too many bytes, has a faulty line or one command too many, or there is no memory.
+pub fn read_scripts<F: Files>(
+    alloc: Global,
+    files: &mut F,
+    names: &[String],
+) -> Result<Vec<Vec<Command>>, Finish>
+    requires few { length names.now ≤ 64 }
+    ensures stop { MatchResult result (λ scripts. AllScripts (F.texts files.old) (map string_bytes names.now) (map items_of scripts.items))
+        (λ finish. AnyStop finish (F.texts files.old) (map string_bytes names.now) (F.faults files.old) (F.faults files.new)) }
+    ensures steady { IfErr result (λ finish. NoneFails finish (F.steady files.old) (F.texts files.old) (map string_bytes names.now)) }
+    ensures len { IfOk result (λ scripts. length scripts.items ≡ length names.now) }
+    ensures short { IfOk result (λ scripts. All (λ script. length script.items ≤ 65536) scripts.items) }
+    ensures later { F.faults files.old ≤ F.faults files.new }
+{
+    let Ok(mut buffer) = zeros(alloc, MOST_BYTES + 1) else {
+        return Err(Finish::Memory);
+    };
+    read_each(alloc, files, names, &mut buffer)
+}
+
+// The same, with a buffer in which each text is read.
+fn read_each<F: Files>(
+    alloc: Global,
+    files: &mut F,
+    names: &[String],
+    buffer: &mut [u8],
+) -> Result<Vec<Vec<Command>>, Finish>
+    requires room { length buffer.old ≡ MOST_BYTES + 1 }
+    requires few { length names.now ≤ 64 }
+    ensures stop { MatchResult result (λ scripts. AllScripts (F.texts files.old) (map string_bytes names.now) (map items_of scripts.items))
+        (λ finish. AnyStop finish (F.texts files.old) (map string_bytes names.now) (F.faults files.old) (F.faults files.new)) }
+    ensures steady { IfErr result (λ finish. NoneFails finish (F.steady files.old) (F.texts files.old) (map string_bytes names.now)) }
+    ensures len { IfOk result (λ scripts. length scripts.items ≡ length names.now) }
+    ensures short { IfOk result (λ scripts. All (λ script. length script.items ≤ 65536) scripts.items) }
+    ensures later { F.faults files.old ≤ F.faults files.new }
+{
+    let Ok(mut scripts) = Vec::with_capacity(alloc, names.len()) else {
+        return Err(Finish::Memory);
+    };
+    let mut place = 0;
+    for name in names {
+        match read_script(alloc, files, name.as_str(), place, buffer) {
+            Ok(script) => scripts.push_reserved(script),
+            Err(finish) => return Err(finish),
+        }
+        place += 1;
+    }
+    Ok(scripts)
+}
+
+// The script of one file, whose number is given.
+fn read_script<F: Files>(
+    alloc: Global,
+    files: &mut F,
+    name: &str,
+    script: u32,
+    buffer: &mut [u8],
+) -> Result<Vec<Command>, Finish>
+    requires { length buffer.old ≡ MOST_BYTES + 1 }
+    ensures stop { MatchResult result (λ commands. Says (F.texts files.old) name.now (λ text. IsScript text commands.items))
+        (λ finish. OneStop finish script (F.texts files.old) name.now (F.faults files.old) (F.faults files.new)) }
+    ensures steady { IfErr result (λ finish. NotRead finish (F.steady files.old) (F.texts files.old) name.now) }
+    ensures short { IfOk result (λ commands. length commands.items ≤ 65536) }
+    ensures texts { F.texts files.new ≡ F.texts files.old }
+    ensures still { F.steady files.new ≡ F.steady files.old }
+    ensures later { F.faults files.old ≤ F.faults files.new }
+{
+    let Ok(count) = read_text(files, name, buffer) else {
+        return Err(Finish::Read { script });
+    };
+    if count > MOST_BYTES {
+        return Err(Finish::Bytes { script });
+    }
+    match parse(alloc, &buffer[..count]) {
+        Ok(commands) => Ok(commands),
+        Err(ScriptFault::At { line, kind }) => Err(Finish::Script { script, line, kind }),
+        Err(ScriptFault::Memory) => Err(Finish::Memory),
+    }
+}
+
+// A buffer of zeros. The length is a variable here, since a proof would compute a list of a literal length.
+fn zeros(alloc: Global, count: usize) -> Result<Vec<u8>, AllocError>
+    ensures { IfOk result (λ buffer. length buffer.items ≡ count) }
+{
+    vec![in alloc; 0u8; count]
+}

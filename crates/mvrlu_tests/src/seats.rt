@@ -1,0 +1,155 @@
+// Scripts of several seats, long scripts, generated ones, and what is left of the domain.
+use crate::row::{PLAIN, named, owned, print};
+use crate::texts::{count_ends, sum_after, time_of};
+use mv_history::View;
+use mvrlu_run::Closed;
+use run_outside::{MemText, OpenGate};
+use set_catalog::read_all;
+use std::alloc::{AllocError, Global};
+use std::test::Fail;
+
+#[test]
+fn an_empty_second_file_has_its_table(rt: HostRuntime) -> Result<(), Fail> {
+    let alloc = rt.alloc();
+    let words = owned(alloc, &["run", "a", "b"])?;
+    let mut texts = Vec::new(alloc);
+    texts.push(named(alloc, "a", PLAIN.script)?)?;
+    texts.push(named(alloc, "b", b"")?)?;
+    let printed = print(&rt, alloc, &words, texts, &OpenGate)?;
+    assert_eq!(rt; printed.status, 0);
+    let text = printed.out.bytes();
+    assert!(rt; text.starts_with(PLAIN.out));
+    assert!(rt; text.ends_with(b"\nlog 1 live 0 freed 0 back 0 commits 0 aborts 0 rests 0\n"));
+    assert_eq!(rt; text.len(), PLAIN.out.len().saturating_add(55));
+    Ok(())
+}
+
+// A text of this name, with so many times a piece behind a beginning.
+fn repeated(
+    alloc: Global,
+    name: &str,
+    first: &[u8],
+    piece: &[u8],
+    times: u32,
+) -> Result<MemText, AllocError> {
+    let mut bytes = first.to_vec(alloc)?;
+    for _ in 0..times {
+        bytes.extend_from_slice(piece)?;
+    }
+    named(alloc, name, &bytes)
+}
+
+#[test]
+fn a_small_log_serves_a_thousand_commits(rt: HostRuntime) -> Result<(), Fail> {
+    let alloc = rt.alloc();
+    let words = owned(alloc, &["run", "--slots", "64", "a"])?;
+    let mut texts = Vec::new(alloc);
+    texts.push(repeated(alloc, "a", b"", b"add l0 7\ndel l0 7\n", 500)?)?;
+    let printed = print(&rt, alloc, &words, texts, &OpenGate)?;
+    assert_eq!(rt; printed.status, 0);
+    let text = printed.out.bytes();
+    let live = sum_after(text, "live");
+    assert_eq!(rt; count_ends(text, " yes"), 1000);
+    assert_eq!(rt; count_ends(text, ""), 1001);
+    assert_eq!(rt; sum_after(text, "commits"), 1000);
+    assert_eq!(rt; sum_after(text, "aborts"), 0);
+    assert_eq!(rt; live.saturating_add(sum_after(text, "freed")), 2000);
+    assert!(rt; live <= 49);
+    Ok(())
+}
+
+// Three scripts: moves of a key there, moves back, and questions for both sets.
+fn moves(alloc: Global) -> Result<Vec<MemText>, AllocError> {
+    let mut texts = Vec::new(alloc);
+    texts.push(repeated(alloc, "a", b"add l0 7\n", b"move l0 t0 7\n", 200)?)?;
+    texts.push(repeated(alloc, "b", b"", b"move t0 l0 7\n", 200)?)?;
+    texts.push(repeated(alloc, "c", b"", b"pair l0 t0 7\n", 500)?)?;
+    Ok(texts)
+}
+
+#[test]
+fn moves_are_seen_whole(rt: HostRuntime) -> Result<(), Fail> {
+    let alloc = rt.alloc();
+    let words = owned(alloc, &["run", "a", "b", "c"])?;
+    let printed = print(&rt, alloc, &words, moves(alloc)?, &OpenGate)?;
+    assert_eq!(rt; printed.status, 0);
+    let text = printed.out.bytes();
+    let before = count_ends(text, " no no");
+    let one = count_ends(text, " yes no").saturating_add(count_ends(text, " no yes"));
+    assert_eq!(rt; before.saturating_add(one), 500);
+    let Ok(text) = str::from_utf8(text) else {
+        return Err(Fail::new("the text is UTF-8"));
+    };
+    let added = text
+        .lines()
+        .find(|line| line.starts_with("0.1 "))
+        .and_then(time_of);
+    for line in text.lines() {
+        if line.ends_with(" no no") {
+            assert!(rt; time_of(line) < added);
+        }
+    }
+    Ok(())
+}
+
+#[test]
+fn sixty_four_files_run_at_once(rt: HostRuntime) -> Result<(), Fail> {
+    let alloc = rt.alloc();
+    let mut words = owned(alloc, &["run"])?;
+    let mut texts = Vec::new(alloc);
+    let mut set = String::from_str(alloc, "l0")?;
+    for file in 0..64u32 {
+        let name = format!(in alloc; "file{file}")?;
+        let script = format!(in alloc; "add l0 {file}\n")?;
+        texts.push(named(alloc, &name, script.as_bytes())?)?;
+        words.push(name)?;
+        set.push_str(" ")?;
+        set.push_str(&format!(in alloc; "{file}")?)?;
+    }
+    let printed = print(&rt, alloc, &words, texts, &OpenGate)?;
+    assert_eq!(rt; printed.status, 0);
+    let text = printed.out.bytes();
+    assert_eq!(rt; count_ends(text, " yes"), 64);
+    assert_eq!(rt; count_ends(text, &set), 1);
+    assert_eq!(rt; count_ends(text, ""), 129);
+    assert_eq!(rt; sum_after(text, "commits"), 64);
+    Ok(())
+}
+
+#[test]
+fn a_generated_script_has_its_lines(rt: HostRuntime) -> Result<(), Fail> {
+    let alloc = rt.alloc();
+    let words = owned(alloc, &["gen", "1", "0"])?;
+    let printed = print(&rt, alloc, &words, Vec::new(alloc), &OpenGate)?;
+    assert_eq!(rt; printed.status, 0);
+    assert!(rt; matches!(printed.closed, Closed::No));
+    let text = printed.out.bytes();
+    assert_eq!(rt; count_ends(text, ""), 2000);
+    assert_eq!(rt; text.len(), 22_211);
+    assert!(rt; text.starts_with(b"add h3 40\nhas t4 64\nadd t6 0\n"));
+    Ok(())
+}
+
+#[test]
+fn the_closing_is_that_of_the_run(rt: HostRuntime) -> Result<(), Fail> {
+    let alloc = rt.alloc();
+    let words = owned(alloc, &["run", "a"])?;
+    let mut texts = Vec::new(alloc);
+    texts.push(named(alloc, "a", PLAIN.script)?)?;
+    let printed = print(&rt, alloc, &words, texts, &OpenGate)?;
+    assert_eq!(rt; printed.status, 0);
+    let Closed::Sets(mut closing) = printed.closed else {
+        return Err(Fail::new("the domain was run"));
+    };
+    assert_eq!(rt; closing.time(), 1);
+    let end = read_all(alloc, &mut closing)?;
+    assert_eq!(rt; end.keys(0), [5].as_slice());
+    assert_eq!(rt; end.values(0), [0].as_slice());
+    for name in 1..30 {
+        assert!(rt; end.keys(name).is_empty());
+    }
+    let none = print(&rt, alloc, &[], Vec::new(alloc), &OpenGate)?;
+    assert_eq!(rt; none.status, 2);
+    assert!(rt; matches!(none.closed, Closed::No));
+    Ok(())
+}

@@ -1,0 +1,126 @@
+// Reading the words.
+ghost use Rattle.std.specs.Prelude.{◌≡◌, map, string_bytes, Ok, Err, IfOk, MatchResult};
+ghost use Rattle.std.specs.List.{list_all};
+ghost use Rattle.run_words.specs.Words.{asked, asks_of, are_files, IsFit, is_file, gen_asked, run_asked, work_asked};
+
+use crate::numbers::{read_number, within};
+use crate::options::read_options;
+use crate::request::{Limit, Options, Refusal, Request};
+
+// The most files of a run.
+const MOST_FILES: usize = 64;
+
+/// What the words ask for, exactly by `asked`; its numbers are in their ranges. An error is the first reason why they
+/// ask for nothing.
+pub fn read_words(words: &[String]) -> Result<Request<'_>, Refusal>
+    ensures asked { MatchResult result (λ request. asked (map string_bytes words.now) ≡ Ok (asks_of request))
+        (λ refusal. asked (map string_bytes words.now) ≡ Err refusal) }
+    ensures fit { IfOk result IsFit }
+{
+    let [first, rest @ ..] = words else {
+        return Err(Refusal::Form);
+    };
+    match first.as_str() {
+        "run" => read_run(rest),
+        "gen" => read_gen(rest),
+        "work" => read_work(rest),
+        _ => Err(Refusal::Form),
+    }
+}
+
+// What the words behind `run` ask for.
+fn read_run(words: &[String]) -> Result<Request<'_>, Refusal>
+    ensures asked { MatchResult result (λ request. run_asked (map string_bytes words.now) ≡ Ok (asks_of request))
+        (λ refusal. run_asked (map string_bytes words.now) ≡ Err refusal) }
+    ensures fit { IfOk result IsFit }
+{
+    let Some((given, files)) = read_options(words) else {
+        return Err(Refusal::Form);
+    };
+    if !are_files(files) {
+        return Err(Refusal::Form);
+    }
+    let objects = match within(Limit::Objects, 181, 65_535, given.objects.unwrap_or(4096)) {
+        Ok(objects) => objects,
+        Err(refusal) => return Err(refusal),
+    };
+    let slots = match within(Limit::Slots, 64, 4096, given.slots.unwrap_or(1024)) {
+        Ok(slots) => slots,
+        Err(refusal) => return Err(refusal),
+    };
+    let base = match within(Limit::Base, 0, 35_184_372_088_831, given.base.unwrap_or(0)) {
+        Ok(base) => base,
+        Err(refusal) => return Err(refusal),
+    };
+    if files.len() > MOST_FILES {
+        return Err(Refusal::Beyond(Limit::Files));
+    }
+    let options = Options {
+        objects: objects as u32,
+        slots: slots as u32,
+        base,
+    };
+    Ok(Request::Run { options, files })
+}
+
+// Whether there is a word, and each may be a FILE.
+fn are_files(words: &[String]) -> bool
+    ensures { result ≡ are_files (map string_bytes words.now) }
+{
+    if words.is_empty() {
+        return false;
+    }
+    for word in words {
+        if !is_file(word.as_str()) {
+            return false;
+        }
+    }
+    true
+}
+
+// Whether a word may be a FILE: it isn't empty and doesn't begin with `-`.
+fn is_file(word: &str) -> bool
+    ensures { result ≡ is_file word.now }
+{
+    match word.as_bytes() {
+        [] => false,
+        [first, ..] => *first != b'-',
+    }
+}
+
+// What the words behind `gen` ask for.
+fn read_gen<'w>(words: &[String]) -> Result<Request<'w>, Refusal>
+    ensures asked { MatchResult result (λ request. gen_asked (map string_bytes words.now) ≡ Ok (asks_of request))
+        (λ refusal. gen_asked (map string_bytes words.now) ≡ Err refusal) }
+    ensures fit { IfOk result IsFit }
+{
+    let [number, seat] = words else {
+        return Err(Refusal::Form);
+    };
+    let (Some(number), Some(seat)) = (read_number(number.as_str()), read_number(seat.as_str()))
+    else {
+        return Err(Refusal::Form);
+    };
+    let number = within(Limit::Number, 0, u64::MAX, number)?;
+    let seat = within(Limit::Seat, 0, 3, seat)?;
+    Ok(Request::Gen {
+        number,
+        seat: seat as u32,
+    })
+}
+
+// What the words behind `work` ask for.
+fn read_work<'w>(words: &[String]) -> Result<Request<'w>, Refusal>
+    ensures asked { MatchResult result (λ request. work_asked (map string_bytes words.now) ≡ Ok (asks_of request))
+        (λ refusal. work_asked (map string_bytes words.now) ≡ Err refusal) }
+    ensures fit { IfOk result IsFit }
+{
+    let [number] = words else {
+        return Err(Refusal::Form);
+    };
+    let Some(number) = read_number(number.as_str()) else {
+        return Err(Refusal::Form);
+    };
+    let number = within(Limit::Number, 0, u64::MAX, number)?;
+    Ok(Request::Work { number })
+}

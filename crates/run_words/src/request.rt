@@ -1,0 +1,51 @@
+// What the words ask for.
+
+/// The numbers of a run.
+#[derive(Clone, Copy, Debug, Drop, PartialEq, Eq)]
+pub struct Options {
+    /// How many objects the domain has, 181 to 65535; 180 of them are heads.
+    pub objects: u32,
+    /// How many slots each seat's log has, 64 to 4096.
+    pub slots: u32,
+    /// The printed time of the opening state, 0 to 35184372088831.
+    pub base: u64,
+}
+
+/// What words in form ask for.
+#[derive(Clone, Copy, Debug)]
+pub enum Request<'w> {
+    /// To run the scripts of these files, file number i as seat i, with these numbers.
+    Run {
+        options: Options,
+        files: &'w [String],
+    },
+    /// For the generated script of a number and a seat, which is 0 to 3.
+    Gen {
+        number: u64,
+        seat: u32,
+    },
+    /// To run the four generated scripts of a number.
+    Work {
+        number: u64,
+    },
+}
+
+/// A number that has a range.
+#[derive(Clone, Copy, Debug, Drop, PartialEq, Eq)]
+pub enum Limit {
+    Objects,
+    Slots,
+    Base,
+    Files,
+    Number,
+    Seat,
+}
+
+/// Why words ask for nothing.
+#[derive(Clone, Copy, Debug, Drop, PartialEq, Eq)]
+pub enum Refusal {
+    /// They are out of form.
+    Form,
+    /// They are in form, and this is the first number that is out of its range.
+    Beyond(Limit),
+}

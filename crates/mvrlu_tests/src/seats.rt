@@ -1,5 +1,5 @@
 // Scripts of several seats, long scripts, generated ones, and what is left of the domain.
-use crate::row::{PLAIN, named, owned, print};
+use crate::row::{PLAIN, Printed, named, owned, print};
 use crate::texts::{count_ends, sum_after, time_of};
 use mv_history::View;
 use mvrlu_run::Closed;
@@ -136,9 +136,14 @@ fn the_closing_is_that_of_the_run(rt: HostRuntime) -> Result<(), Fail> {
     let words = owned(alloc, &["run", "a"])?;
     let mut texts = Vec::new(alloc);
     texts.push(named(alloc, "a", PLAIN.script)?)?;
-    let printed = print(&rt, alloc, &words, texts, &OpenGate)?;
-    assert_eq!(rt; printed.status, 0);
-    let Closed::Sets(mut closing) = printed.closed else {
+    let Printed {
+        status,
+        closed,
+        out: _,
+        err: _,
+    } = print(&rt, alloc, &words, texts, &OpenGate)?;
+    assert_eq!(rt; status, 0);
+    let Closed::Sets(mut closing) = closed else {
         return Err(Fail::new("the domain was run"));
     };
     assert_eq!(rt; closing.time(), 1);

@@ -68,11 +68,10 @@ fn a_failing_read_is_status_5(rt: HostRuntime) -> Result<(), Fail> {
 
 #[test]
 fn a_failing_write_is_status_6(rt: HostRuntime) -> Result<(), Fail> {
-    let mut call = 1;
     for written in 0..PLAIN.out.len() {
         let row = Row {
             name: "a failing write",
-            out_fails: &[call],
+            out_fails: &[written as u64 + 1],
             most: 1,
             status: 6,
             out: &PLAIN.out[..written],
@@ -80,7 +79,6 @@ fn a_failing_write_is_status_6(rt: HostRuntime) -> Result<(), Fail> {
             ..PLAIN
         };
         run_row(&rt, rt.alloc(), &row)?;
-        call += 1;
     }
     let row = Row {
         name: "a write that isn't made",

@@ -38,7 +38,7 @@ module _ {starts : State → Type 0} {allows : List ℕ → State → Writes →
     λ word has. (k.loaded_words.loaded n word (subst (λ (u : View). Contains u.clocks.loaded word) (sym is) has)).is_word,
     λ f e. (k.loaded_words.found n f (ap (λ (u : View). u.clocks.found) is ∙ e)).0.is_word,
     (let begins = subst (λ (u : View). BeginsWith h u.past.seen) is (k.history.seats n).seen in
-    All-front (λ e. maker_of e < c.seats) w.past.seen begins.0 (subst (All (λ e. maker_of e < c.seats)) begins.1 k.history.makers)),
+        All-front (λ e. maker_of e < c.seats) w.past.seen begins.0 (subst (All (λ e. maker_of e < c.seats)) begins.1 k.history.makers)),
   )
 
   -- the position that is written back fits a link

@@ -48,7 +48,7 @@ module _ (starts : State → Type 0) (allows : List ℕ → State → Writes →
         in_time = k.in_time;
         lowered = k.lowered;
         none = k.none;
-      found = k.found;
+        found = k.found;
         section =
             λ inside e. let s =
             k.section inside e in

@@ -4,25 +4,22 @@ use Rattle.std.proofs.Common.{◌++◌, length, replicate, set, sym, refl, ap, �
 use Rattle.std.proofs.Common.{None}
 use Rattle.std.specs.Prelude.{Contains}
 use Rattle.std.proofs.lemmas.List.Elements.{All-nil, All-weaker, All-contains}
-use Rattle.std.proofs.Math.Logic.{∥∥₁_map}
-use Rattle.mv_core.proofs.Terms.{dite, some, some-injective, some-ne-none, ℕ_discrete, get_elem?, Change, Step, State, Writes, Config, Checked, Shows}
-use Rattle.mv_core.proofs.Terms.{Held, Committed, View, Note, new_view, set_at}
+use Rattle.mv_core.proofs.Terms.{dite, some, some-injective, some-ne-none, ℕ_discrete, get_elem?, Step, State, Writes, Config, Checked, Shows}
+use Rattle.mv_core.proofs.Terms.{View, Note, new_view, set_at}
 use Rattle.atomic_table.specs.Table.{Splits, opening}
 use Rattle.atomic_table.proofs.Lists.{at_set, set_here, at_last, at_longer}
 use Rattle.mv_history.specs.declared.StepKind.TheVariants.{MakeSeat}
 use Rattle.mv_history.specs.Legal.{AreWords}
-use Rattle.mv_history.proofs.Histories.{no_split}
 use Rattle.mv_core.specs.declared.shared.Opening.{Opening}
-use Rattle.mv_core.proofs.FactTerms.{Known, KnownInDomain, IsTimed, IsBegun, RunsOn, IsNoted, IsThere, Seated, Ruled, first_view}
+use Rattle.mv_core.proofs.FactTerms.{IsNoted, IsThere, Seated, Ruled, first_view}
 use Rattle.mv_core.specs.Start.{opening_memory, maker_view}
 use Rattle.mv_core.specs.SeatSteps.{made_one, newly_made}
 use Rattle.mv_core.specs.Moves as moves
 use Rattle.mv_core.specs.Moves.{Moment, IsSeat, makes, moved, seat_made}
 use Rattle.mv_core.proofs.frames.FrameLaw.{set_at_here, set_at_else, set_at_all, set_at_same, unread}
 use Rattle.mv_core.proofs.frames.SectionBounds.{none_in}
-use Rattle.mv_core.proofs.points.KnownLogs.{commit_still}
 use Rattle.mv_core.proofs.frames.SeatsThere.{at_within, there_still, there_longer}
-use Rattle.mv_core.proofs.kinds.opening.Starting.{none_lives, none_built, first_seats, starting_facts}
+use Rattle.mv_core.proofs.kinds.opening.Starting.{first_seats, starting_facts}
 
 one : {A : Type 0} (i : ℕ) (x y : A) → get_elem? (x ∷ []) i ≡ some y → (i ≡ 0) × (x ≡ y)
 one zero x y e = (refl, some-injective x y e)

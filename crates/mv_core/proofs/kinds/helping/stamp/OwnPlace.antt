@@ -1,6 +1,6 @@
 -- Where the stamp of the own commit stands, and what is stored there, by the commit's clock word.
 use Rattle.std.proofs.Common.{◌≡◌, ℕ, ◌<◌, ◌≤◌, arith}
-use Rattle.mv_core.proofs.Terms.{Checked, Config, Place, Stamp, View, clock_time_of, index_of}
+use Rattle.mv_core.proofs.Terms.{Checked, Config, Stamp, View, clock_time_of, index_of}
 use Rattle.mv_layout.proofs.Unpacking.{time_back, seat_back, slot_back}
 use Rattle.mv_core.specs.EnterSteps.{stamp_place, own_word}
 use Rattle.mv_core.proofs.frames.ClocksLoaded.{slot_in}

@@ -1,5 +1,5 @@
 use Rattle.std.proofs.Common.{◌≡◌, ℕ, ◌<◌, sym, refl, ap, ◌∙◌, subst, inr}
-use Rattle.mv_core.proofs.Terms.{Checked, Config, Place, Stamp, View, index_of, config_of, start_of}
+use Rattle.mv_core.proofs.Terms.{Checked, Place, Stamp, View, index_of, config_of, start_of}
 use Rattle.mv_core.specs.EnterSteps.{IsOwnNaming, own_word, stamp_swapped, stored_if}
 use Rattle.mv_core.specs.Moves.{history_after}
 use Rattle.mv_core.specs.Passes.{view}

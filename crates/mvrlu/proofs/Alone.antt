@@ -22,16 +22,16 @@ within_seats base h seats time e all is =
     subst (λ (x : Entry). maker_of x < seats) same (all i e within)
 
 -- no commit after its time was seen
-pub none_later : {starts : State → Type 0} {allows : List ℕ → State → Writes → Type 0} (s : InSection) → IsSection starts allows s → s.seat.number < 1
-    → All (λ e. maker_of e < 1) s.seat.seen → (object time : ℕ) → ¬ (IsStale s object time)
-none_later s lawful own makers object time stale =
+pub none_later : {starts : State → Type 0} {allows : List ℕ → State → Writes → Type 0} (s : InSection) → IsSection starts allows s → (seats number : ℕ)
+    → seats ≡ 1 → number < seats → s.seat.number ≡ number → All (λ e. maker_of e < seats) s.seat.seen → (object time : ℕ) → ¬ (IsStale s object time)
+none_later s lawful seats number one own same_number makers object time stale =
     let i : ℕ = time - (s.seat.base + 1) in
     let later = stale.later in
     let after : s.seat.base < time = stale.entry.later in
     let within = slice_get_within s.seat.seen i _ stale.entry.there in
     let long = length-drop s.at s.seat.seen in
     let place : s.at + (i - s.at) ≡ i = omega arith in
-    let maker : maker_of (slice_index_or s.seat.seen i (Rest 0)) < 1 = makers i (Rest 0) within in
+    let maker : maker_of (slice_index_or s.seat.seen i (Rest 0)) < seats = makers i (Rest 0) within in
     let other : maker_of (slice_index_or (drop s.at s.seat.seen) (i - s.at) (Rest 0)) ≢ s.seat.number = lawful.in_order (i - s.at) (Rest 0) (omega arith) in
     let same : slice_index_or (drop s.at s.seat.seen) (i - s.at) (Rest 0) ≡ slice_index_or s.seat.seen i (Rest 0) =
     get_or-drop s.at s.seat.seen (i - s.at) (Rest 0) ∙ ap (λ (k : ℕ). slice_index_or s.seat.seen k (Rest 0)) place in

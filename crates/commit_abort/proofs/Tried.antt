@@ -143,7 +143,7 @@ module _ (c : Config) (v x : View) (word : ℕ) (h0 : List Entry) (whole : IsWho
           open_is = open_is;
           past_help = helped_next;
           some_held = subst (λ (r : Ring). 0 < held_count r) (sym ring_next) may.some_held;
-          loaded = helps.still_loaded word has.loaded;
+          loaded = helps.still_loaded word has;
           helped = helps.helped;
           room = room;
           fit = subst (λ (r : Ring). IsFit allows (state_at y.start y.past.seen n) tag (own_of c r)) (sym ring_next)

@@ -13,7 +13,7 @@ ghost use Rattle.commit_abort.specs.Finishes.{TellsOne, IsFinishing, above_held,
 
 use mv_core::{Pass, Shared, Steps};
 use mv_history::Protocol;
-use mv_layout::{LAST, clock_word, unset_stamp};
+use mv_layout::LAST;
 use seat_log::{Log, held, live, note, note_commit};
 use std::sync::ledger::Ledger;
 
@@ -28,15 +28,12 @@ fn stamp_own<P: Protocol, L: Ledger>(
     ghost inside: { Section }
     requires of { IsOf shared.now pass.old }
     requires named { HasNamed (view pass.old) first time inside }
-    requires time { time ≤ LAST }
     requires first { first < 2 ^ 57 }
     ensures same { IsSame pass.old pass.new }
     ensures stamps { StampsIt (view pass.old) (view pass.new) first time inside }
     ensures step { steps.new ≡ steps.old + 1 }
 {
-    let slot = (first % shared.config().slots as u64) as u32;
-    let word = clock_word(time, pass.seat(), slot);
-    let _ = shared.stamp(pass, word, unset_stamp(first), steps);
+    let _ = shared.stamp_own(pass, first, time, steps);
 }
 
 // Stores the commit's time into SUPER of the version below the one that is noted at this index, if

@@ -1,3 +1,4 @@
+pub mod NoneHelped
 pub mod Views
 pub mod HelpedPhase
 pub mod HelpKinds

@@ -23,13 +23,7 @@ use Rattle.commit_clock.specs.Helps.{HasLoaded, IsHelpStep, Helps, HelpStarts, I
 
 -- a word that a load of CLOCK has just found
 pub loaded_now : (c : Config) (v w : View) (word : ℕ) (h : List Entry) → w ≡ check_loaded c v word h → HasLoaded w word
-loaded_now c v w word h is = record {
-  loaded = subst (λ (u : View). Contains u.clocks.loaded word) (sym is) (Contains-push v.clocks.loaded word);
-  none = λ e. subst (λ (u : View). Contains u.clocks.helped word) (sym is)
-      (Contains-append_right v.clocks.helped (if_none word ++ checked_helped v.clocks.found word) word
-      (Contains-append_left (if_none word) (checked_helped v.clocks.found word) word
-      (subst (λ (b : Bool). Contains (cond b (word ∷ []) []) word) (sym (eq-eqb (clock_slot_of word) 8191 e)) (Contains-push [] word))));
-}
+loaded_now c v w word h is = subst (λ (u : View). Contains u.clocks.loaded word) (sym is) (Contains-push v.clocks.loaded word)
 
 -- a trail with at most so many steps more, all of a help
 abbrev Grows : ℕ → List Step → List Step → Type 0
@@ -47,9 +41,9 @@ grows_one n before after s is t =
 
 module _ (c : Config) (v : View) (word : ℕ) where
   -- nothing to help
-  pub helps_none : HasLoaded v word → clock_slot_of word ≡ 8191 → Helps c v v word
-  helps_none has none = record {
-    helped = has.none none;
+  helps_none : Contains v.clocks.helped word → Helps c v v word
+  helps_none helped = record {
+    helped = helped;
     still_helped = λ x a. a;
     still_loaded = λ x a. a;
     phase = inl refl;
@@ -159,12 +153,13 @@ checks c v w help clock h started is =
           (Contains-append_right front (checked_helped v.clocks.found clock) help.word there));
     }
 
--- a help that was done at its start
-pub helps_at_once : (c : Config) (v w : View) (word before after : ℕ) → HasLoaded v word → HelpStarts c v w word before after None → Helps c v w word
-helps_at_once c v w word before after has starts =
+-- a help that was done at its start, where a word that names no commit counts as helped
+pub helps_at_once : (c : Config) (v w : View) (word before after : ℕ) → (clock_slot_of word ≡ 8191 → Contains v.clocks.helped word)
+    → HelpStarts c v w word before after None → Helps c v w word
+helps_at_once c v w word before after helped starts =
     ⊎_elim
     (λ (none : (clock_slot_of word ≡ 8191) × (w ≡ v) × (after ≡ before)).
-    subst (λ (u : View). Helps c v u word) (sym none.1) (helps_none c v word has none.0))
+    subst (λ (u : View). Helps c v u word) (sym none.1) (helps_none c v word (helped none.0)))
     (λ (one : FindsStamped c v w word × (after ≡ before + 1)). helps_set c v word w one.0.found one.0.view one.0.set)
     starts
 

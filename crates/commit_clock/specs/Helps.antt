@@ -1,5 +1,6 @@
 -- What a help of a clock word needs of a view, and what it leaves.
-use Rattle.std.specs.Prelude.{◌≡◌, ◌≢◌, ◌⊎◌, ℕ, ◌+◌, ◌<◌, ◌≤◌, ◌^◌, true, false, List, ◌++◌, length, Contains, All, Option, Some, None}
+use Rattle.std.specs.Prelude.{◌≡◌, ◌≢◌, ◌⊎◌, ℕ, ◌+◌, ◌<◌, ◌≤◌, ◌^◌, true, false, List, ◌++◌, length}
+use Rattle.std.specs.Prelude.{Contains, All, Option, Some, None}
 use Rattle.mv_history.specs.declared.Entry.{Entry}
 use Rattle.mv_history.specs.declared.Step.{Step}
 use Rattle.mv_history.specs.declared.StepKind.{StepKind}
@@ -17,10 +18,9 @@ use Rattle.mv_core.specs.EnterSteps.{IsWhole, named_loaded, stamp_swapped}
 use Rattle.commit_clock.specs.declared.helping.StartedHelp.{StartedHelp}
 use Rattle.commit_clock.specs.declared.helping.CheckedHelp.{CheckedHelp}
 
--- the pass has loaded the word, which counts as helped where it names no commit
-pub record HasLoaded (v : View) (word : ℕ) : Type 0 where
-  pub loaded : Contains v.clocks.loaded word
-  pub none : clock_slot_of word ≡ 8191 → Contains v.clocks.helped word
+-- the pass has loaded the word
+abbrev pub HasLoaded : View → ℕ → Type 0
+HasLoaded v word = Contains v.clocks.loaded word
 
 -- a step of a help
 abbrev pub IsHelpStep : StepKind → Type 0

@@ -159,7 +159,7 @@ module _ (c : Config) (v x : View) (word : ℕ) (h0 : List Entry) (whole : IsWho
   rests_next = ap (λ (p : Past). p.rests) helps.past.2 ∙ ap (λ (u : View). u.past.rests) is
 
   pub may_rest : HasLoaded x word → clock_time_of word < 35184372088831 → MayNameRest y word
-  may_rest has room = record { outside = phase_next; loaded = helps.still_loaded word has.loaded; helped = helps.helped; room = room }
+  may_rest has room = record { outside = phase_next; loaded = helps.still_loaded word has; helped = helps.helped; room = room }
 
   pub stands_helped : (l : Noted) → Stands c v l → Stands c y l
   stands_helped l k =

@@ -1,5 +1,6 @@
 -- What a round leaves: looking at each version, and the whole of a round.
-use Rattle.std.specs.Prelude.{◌≡◌, ℕ, zero, suc, ◌+◌, ◌-◌, ◌<◌, ◌≤◌, Bool, List, length, All, Option, Some, None, slice_index_or, slice_set}
+use Rattle.std.specs.Prelude.{◌≡◌, ℕ, zero, suc, ◌+◌, ◌-◌, ◌<◌, ◌≤◌, Bool, List, length, All}
+use Rattle.std.specs.Prelude.{Option, Some, None, slice_index_or, slice_set}
 use Rattle.mv_history.specs.declared.Step.{Step}
 use Rattle.mv_layout.specs.declared.Config.{Config}
 use Rattle.mv_core.specs.declared.view.View.{View}

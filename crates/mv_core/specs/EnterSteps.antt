@@ -129,6 +129,10 @@ IsOwnNaming c v word unset =
     (inside : Section) × (n : Naming) × (v.phase ≡ Inside inside) × (inside.mode ≡ Named n)
     × (word ≡ clock_of n.time v.number (index_of c n.first)) × (unset ≡ unset_of n.first)
 
+-- the clock word of the own commit of this time, whose write set begins at this position
+abbrev pub own_word : Config → View → ℕ → ℕ → ℕ
+own_word c v first time = clock_of time v.number (index_of c first)
+
 -- compare_exchange STAMP: the unset stamp was found for the word, which was in the clock afterwards, or both are of the own commit
 abbrev pub MayStamp : Config → View → ℕ → ℕ → Type 0
 MayStamp c v word unset =

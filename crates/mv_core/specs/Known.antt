@@ -1,6 +1,6 @@
 -- What every pass knows of its own view, and what it has of it at run time.
-use Rattle.std.specs.Prelude.{◌≡◌, ◌≢◌, ◌^◌, ℕ, ◌+◌, ◌<◌, ◌≤◌, List, length, Contains, false, Some, None}
-use Rattle.mv_history.specs.State.{State, Writes, commits_of, rests_of}
+use Rattle.std.specs.Prelude.{◌≡◌, ◌≢◌, ◌^◌, ℕ, ◌+◌, ◌<◌, ◌≤◌, List, length, Contains, All, false, Some, None}
+use Rattle.mv_history.specs.State.{State, Writes, maker_of, commits_of, rests_of}
 use Rattle.mv_history.specs.Legal.{AreWords, IsLegal, IsAllowed}
 use Rattle.mv_layout.specs.declared.Config.{Config}
 use Rattle.mv_layout.specs.Words.{clock_slot_of}
@@ -47,9 +47,9 @@ pub record KnownCommit (v : View) (x : Version) (note : CommitNote) : Type 0 whe
   pub superseded : (dead : ℕ) → note.cut ≡ false → note.dead ≡ Some dead → IsNextIn v.base v.past.seen x.object note.time dead
 
 -- the opening state is lawful, what was seen is legal and allowed and has all its own commits and rests, its time is in range, and so is a
--- low time that was loaded, outside a section it holds nothing, walks nowhere and writes nothing back, an unset stamp was found for a word
--- that names a commit, the position that it writes back fits a link, and so does the next one while something is built for it, and of its
--- section and of the versions of its own log it knows this
+-- low time that was loaded, outside a section it holds nothing, walks nowhere and writes nothing back, a clock word that it loaded and that
+-- names no commit counts as helped, an unset stamp was found for a word that names a commit, the position that it writes back fits a link,
+-- and so does the next one while something is built for it, and of its section and of the versions of its own log it knows this
 pub record Known (starts : State → Type 0) (allows : List ℕ → State → Writes → Type 0) (v : View) : Type 0 where
   pub unspent : v.spent ≡ false
   pub opening : starts v.start
@@ -60,6 +60,7 @@ pub record Known (starts : State → Type 0) (allows : List ℕ → State → Wr
   pub rests : v.past.rests ≡ rests_of v.number v.past.seen
   pub in_time : v.base + length v.past.seen ≤ 35184372088831
   pub lowered : (low : ℕ) → v.phase ≡ Lowered low → low ≤ 35184372088831
+  pub none : (word : ℕ) → Contains v.clocks.loaded word → clock_slot_of word ≡ 8191 → Contains v.clocks.helped word
   pub found : (f : FoundStamp) → v.clocks.found ≡ Some f → clock_slot_of f.word ≢ 8191
   pub section : (inside : Section) → v.phase ≡ Inside inside → KnownSection v inside
   pub idle : v.phase ≡ Outside → HoldsNothing v.ring
@@ -70,11 +71,12 @@ pub record Known (starts : State → Type 0) (allows : List ℕ → State → Wr
   pub deaths : (k : ℕ) (x : Version) (st : Status) (dead : ℕ) → slot_at v.ring k ≡ Live x st → death_in st ≡ Some dead
       → dead ≤ v.base + length v.past.seen + 1
 
--- what a pass of a domain knows of its clock words: each one that it loaded, and that of the stamp that it found, names a seat and a
--- slot of the domain, or no commit
-abbrev pub KnownWords : Config → View → Type 0
-KnownWords c v =
+-- what a pass knows by the numbers of its domain: each clock word that it loaded, and that of the stamp that it found, names a seat and a
+-- slot of the domain, or no commit, and each entry that it has seen is by a seat of the domain
+abbrev pub KnownInDomain : Config → View → Type 0
+KnownInDomain c v =
     ((word : ℕ) → Contains v.clocks.loaded word → IsWord c word) × ((f : FoundStamp) → v.clocks.found ≡ Some f → IsWord c f.word)
+    × All (λ e. maker_of e < c.seats) v.past.seen
 
 -- in a section this is its time
 abbrev pub IsTimed : ℕ → View → Type 0

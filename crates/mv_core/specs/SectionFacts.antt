@@ -57,10 +57,11 @@ pub record WasClock (c : Config) (clock word : ℕ) : Type 0 where
   pub same : clock_time_of word ≡ clock_time_of clock → word ≡ clock
   pub is_word : IsWord c word
 
--- loaded-words: each clock word that a view has was in the clock
+-- loaded-words: each clock word that a view has was in the clock, and a loaded one that names no commit counts as helped
 pub record LoadedWords (c : Config) (clock : ℕ) (section : ℕ → Option Section) (clocks : ℕ → LoadedClocks) : Type 0 where
   pub clock_is : IsWord c clock
   pub loaded : (s word : ℕ) → Contains (clocks s).loaded word → WasClock c clock word
+  pub none : (s word : ℕ) → Contains (clocks s).loaded word → clock_slot_of word ≡ 8191 → Contains (clocks s).helped word
   pub helped : (s word : ℕ) → Contains (clocks s).helped word → WasClock c clock word
   pub found : (s : ℕ) (f : FoundStamp) → (clocks s).found ≡ Some f → WasClock c clock f.word × (clock_slot_of f.word ≢ 8191)
   pub inside : (s : ℕ) (inside : Section) → section s ≡ Some inside → WasClock c clock inside.word

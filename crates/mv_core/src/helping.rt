@@ -1,12 +1,13 @@
 //! The steps that help a named commit: whoever loaded the clock word of a commit stamps it.
-ghost use Rattle.std.specs.Prelude.{◌≡◌, ◌≢◌, ◌+◌, List};
+ghost use Rattle.std.specs.Prelude.{◌≡◌, ◌≢◌, ◌+◌, ◌<◌, ◌^◌, List};
 ghost use Rattle.mv_history.specs.declared.Entry.{Entry};
 ghost use Rattle.mv_layout.specs.Places.{IsPlace};
 ghost use Rattle.mv_layout.specs.Cells.{cell_of};
-ghost use Rattle.mv_layout.specs.Words.{clock_slot_of};
+ghost use Rattle.mv_layout.specs.Words.{clock_slot_of, unset_of};
 ghost use Rattle.mv_core.specs.Passes.{view, IsOf, IsSame, config_of};
 ghost use Rattle.mv_core.specs.SectionFacts.{IsWord};
-ghost use Rattle.mv_core.specs.EnterSteps.{IsWhole, stamp_place, MayLoadNamed, named_loaded, MayLoadCheck, check_loaded, MayStamp, stamp_swapped};
+ghost use Rattle.mv_core.specs.EnterSteps.{IsWhole, stamp_place, MayLoadNamed, named_loaded, MayLoadCheck, check_loaded};
+ghost use Rattle.mv_core.specs.EnterSteps.{IsOwnNaming, own_word, MayStamp, stamp_swapped};
 ghost use Rattle.mv_core.specs.Laws.{HelpedAreStamped};
 ghost use Rattle.mv_core.specs.Swaps.{found_by, IsSwap};
 
@@ -15,7 +16,10 @@ use crate::steps::Steps;
 use crate::swap::{Swap, swap_of};
 use crate::turns::{load_as, swap_as};
 use mv_history::Protocol;
-use mv_layout::{CLOCK_CELL, STAMP_OFFSET, clock_seat, clock_slot, clock_time, slot_cell};
+use mv_layout::{
+    CLOCK_CELL, STAMP_OFFSET, clock_seat, clock_slot, clock_time, slot_cell, slot_of_position,
+    unset_stamp,
+};
 use std::marker::Brand;
 use std::sync::ledger::Ledger;
 
@@ -70,6 +74,41 @@ impl<P: Protocol> Shared<P> {
         let cell = self.named_cell(word);
         let time = clock_time(word);
         let found = swap_as::<P, Brand, L, _>(self, pass, cell, unset, time, &(word, unset), steps);
+        swap_of(found, unset)
+    }
+
+    /// Exchanges the stamp of the commit that the own section has named from its unset stamp to the
+    /// commit's printed time. `first` is the position of the first version of its write set. It is the
+    /// step `stamp` of the commit's clock word, which isn't packed for it. Won or lost, that word counts
+    /// as helped, and the exchange of the stamp as made.
+    pub fn stamp_own<L: Ledger>(
+        &self,
+        pass: &mut Pass<P>,
+        first: u64,
+        time: u64,
+        steps: &mut Steps<L>,
+    ) -> Swap
+        requires of { IsOf self.now pass.old }
+        requires may { IsOwnNaming (config_of self.now) (view pass.old) (own_word (config_of self.now) (view pass.old) first time) (unset_of first) }
+        requires range { first < 2 ^ 57 }
+        ensures same { IsSame pass.old pass.new }
+        ensures view { view pass.new ≡ stamp_swapped (config_of self.now) (view pass.old) (own_word (config_of self.now) (view pass.old) first time)
+            (unset_of first) (found_by (unset_of first) result) }
+        ensures swap { IsSwap (unset_of first) result }
+        ensures step { steps.new ≡ steps.old + 1 }
+    {
+        let slot = slot_of_position(&self.config, first);
+        let cell = slot_cell(&self.config, pass.number, slot) + STAMP_OFFSET;
+        let unset = unset_stamp(first);
+        let found = swap_as::<P, Brand, L, _>(
+            self,
+            pass,
+            cell,
+            unset,
+            time,
+            &(first, time, unset),
+            steps,
+        );
         swap_of(found, unset)
     }
 

@@ -2,7 +2,7 @@
 ghost use Rattle.std.specs.Prelude.{◌≡◌, ◌<◌, [], length};
 ghost use Rattle.mv_layout.specs.Limits.{Checked};
 ghost use Rattle.mv_layout.specs.Cells.{cells};
-ghost use Rattle.mv_core.specs.Known.{Known, KnownWords, IsTimed, IsBegun};
+ghost use Rattle.mv_core.specs.Known.{Known, KnownInDomain, IsTimed, IsBegun};
 
 use crate::view::View;
 use atomic_table::{Seat, Table, TableRule};
@@ -58,7 +58,7 @@ pub struct Pass<P: Protocol> {
     pub ghost timed: { IsTimed time seat.me.0 },
     pub ghost begun: { IsBegun first seat.me.0 },
     pub ghost known: { ∥ Known P.start P.allowed seat.me.0 ∥₁ },
-    pub ghost words: { KnownWords domain seat.me.0 },
+    pub ghost in_domain: { KnownInDomain domain seat.me.0 },
     // The table has no slots of its own, so no seat has one.
     pub ghost taken: { seat.me.1 ≡ [] },
 }

@@ -1,7 +1,7 @@
 //! Each step over the table, once for all kinds. What a step is of and what it tells is picked where
 //! it is called, by a `Turn` for `Brand`; it may speak of `about`, which is for the proof alone.
 ghost use Rattle.std.specs.Prelude.{◌≡◌, ℕ, ◌+◌, ◌<◌};
-ghost use Rattle.mv_core.specs.Known.{Known, KnownWords, RunsOn};
+ghost use Rattle.mv_core.specs.Known.{Known, KnownInDomain, RunsOn};
 ghost use Rattle.mv_core.specs.Passes.{view, IsOf, IsSame, IsSeatOf, config_of, start_of};
 ghost use Rattle.mv_core.specs.Rule.{Loads, Stores, Swaps, Raises, LoadsAs, StoresAs, SwapsAs, RaisesAs, IsKept};
 ghost use Rattle.mv_layout.specs.Places.{IsPlace};
@@ -52,10 +52,11 @@ pub(crate) struct Told<P, J> {
 
 impl<P: Protocol, J: Turn> Play<Tag, View> for Told<P, J> {
     ghost use Rattle.std.specs.Prelude.{◌≡◌};
-    ghost use Rattle.mv_core.specs.Known.{Known, KnownWords, RunsOn};
+    ghost use Rattle.mv_core.specs.Known.{Known, KnownInDomain, RunsOn};
     ghost use Rattle.mv_core.specs.Rule.{IsKept};
 
-    ghost then = { λ _ m n w. (J.tells n w.0 × RunsOn m.0 w.0) × IsKept m.0 w.0 × (Known P.start P.allowed w.0 × KnownWords J.config w.0) × (w.1 ≡ m.1) };
+    ghost then = { λ _ m n w. (J.tells n w.0 × RunsOn m.0 w.0) × IsKept m.0 w.0
+        × (Known P.start P.allowed w.0 × KnownInDomain J.config w.0) × (w.1 ≡ m.1) };
 }
 
 /// A step after which its caller sets what the pass has at run time.
@@ -64,10 +65,10 @@ pub(crate) struct ToldAlone<P, J> {
 }
 
 impl<P: Protocol, J: Turn> Play<Tag, View> for ToldAlone<P, J> {
-    ghost use Rattle.mv_core.specs.Known.{Known, KnownWords};
+    ghost use Rattle.mv_core.specs.Known.{Known, KnownInDomain};
     ghost use Rattle.mv_core.specs.Rule.{IsKept};
 
-    ghost then = { λ _ m n w. J.tells n w.0 × IsKept m.0 w.0 × (Known P.start P.allowed w.0 × KnownWords J.config w.0) × (w.1 ≡ m.1) };
+    ghost then = { λ _ m n w. J.tells n w.0 × IsKept m.0 w.0 × (Known P.start P.allowed w.0 × KnownInDomain J.config w.0) × (w.1 ≡ m.1) };
 }
 
 /// A load, in a pass.
@@ -192,7 +193,7 @@ pub(crate) fn load_alone<P: Protocol, J: Turn, L: Ledger, T>(
     requires rule { Loads P.start P.allowed (config_of shared.now) (start_of shared.now) seat.old.me.0 J.place (λ n w. J.tells n w × IsKept seat.old.me.0 w) }
     requires moves { LoadsAs P.start P.allowed (config_of shared.now) (start_of shared.now) seat.old.me.0 J.place J.kind J.tells }
     ensures same { (seat.new.table_id ≡ seat.old.table_id) × IsKept seat.old.me.0 seat.new.me.0 }
-    ensures known { ∥ Known P.start P.allowed seat.new.me.0 ∥₁ × KnownWords (config_of shared.now) seat.new.me.0 }
+    ensures known { ∥ Known P.start P.allowed seat.new.me.0 ∥₁ × KnownInDomain (config_of shared.now) seat.new.me.0 }
     ensures taken { seat.new.me.1 ≡ seat.old.me.1 }
     ensures tells { J.tells result seat.new.me.0 }
     ensures step { steps.new ≡ steps.old + 1 }
@@ -222,7 +223,7 @@ pub(crate) fn swap_alone<P: Protocol, J: Turn, L: Ledger, T>(
         (λ n w. J.tells n w × IsKept seat.old.me.0 w) }
     requires moves { SwapsAs P.start P.allowed (config_of shared.now) (start_of shared.now) seat.old.me.0 J.place J.kind old new J.tells }
     ensures same { (seat.new.table_id ≡ seat.old.table_id) × IsKept seat.old.me.0 seat.new.me.0 }
-    ensures known { ∥ Known P.start P.allowed seat.new.me.0 ∥₁ × KnownWords (config_of shared.now) seat.new.me.0 }
+    ensures known { ∥ Known P.start P.allowed seat.new.me.0 ∥₁ × KnownInDomain (config_of shared.now) seat.new.me.0 }
     ensures taken { seat.new.me.1 ≡ seat.old.me.1 }
     ensures tells { J.tells result seat.new.me.0 }
     ensures step { steps.new ≡ steps.old + 1 }

@@ -6,7 +6,6 @@ use lib.ListN.{get_elem?}
 use Rattle.std.proofs.lemmas.List.Folds.{sum_by-replicate}
 use Rattle.mv_history.specs.State.{State, Writes}
 use Rattle.mv_history.specs.declared.Protocol.{Ghosts}
-use Rattle.mv_history.specs.Meaning as history
 use Rattle.mv_layout.specs.declared.Config.{Config}
 use Rattle.mv_layout.specs.Limits.{Checked}
 use Rattle.mv_core.specs.declared.ring.Slot.TheVariants.{Free}

@@ -43,6 +43,10 @@ module _ {P : _} {rules : _} where
   abbrev pub section_of : Session P rules → InSection
   section_of s = section_from s.part.busy
 
+  -- how many sections of its seat were aborted before with something held
+  abbrev pub aborts_before : Session P rules → ℕ
+  aborts_before s = s.part.busy.log.aborts
+
   -- the seat is of this domain: it has its name, and its opening state
   abbrev pub IsSeatOf : Domain P → Seat P rules → Type 0
   IsSeatOf d s = ((seat_of s).home ≡ name_of d) × ((seat_of s).start ≡ opening_of d)

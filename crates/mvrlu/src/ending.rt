@@ -9,6 +9,7 @@ ghost use Rattle.commit_abort.specs.Aborts.{abort_cost};
 ghost use Rattle.mvrlu.specs.Placed.{seat_from, section_from, Fits};
 ghost use Rattle.mvrlu.specs.Causes.{Loaded};
 ghost use Rattle.mvrlu.specs.Bounds.{MakesAtMost};
+ghost use Rattle.mvrlu.specs.Holding.{seats_of};
 
 use crate::places::{Busy, Idle};
 use commit_abort::{Ended, abort, commit};
@@ -36,6 +37,7 @@ pub(crate) fn committed<P: Protocol, L: Ledger>(
         × Overtakes (section_from busy) (section_from left) rival.seat rival.time (Loaded (section_from busy) (section_from left).seat)) }
     ensures end { OnEnd result (λ left. IsAsBefore (section_from busy) (section_from left) × IsWorn (section_from left).seat
         × Loaded (section_from busy) (section_from left).seat (section_from left).seat.last) }
+    ensures alone { OnAgain result (λ left rival. seats_of (section_from busy).seat ≢ 1) }
     ensures at_most_one { length (commit_exchanges (call_trail (section_from busy).seat (seat_after seat_from section_from result))) ≤ 1 }
     ensures one_won { OnDone result (λ back time. IsOneWon (commit_exchanges (call_trail (section_from busy).seat (seat_from back)))) }
     ensures one_lost { OnAgain result (λ left rival. IsOneLost (commit_exchanges (call_trail (section_from busy).seat (section_from left).seat))) }

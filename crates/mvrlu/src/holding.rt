@@ -1,6 +1,6 @@
 // Locking objects in a section, and writing what it holds.
-ghost use Rattle.std.specs.Prelude.{◌≡◌, ◌≢◌, ◌↔◌, ℕ, ◌<◌, ◌≤◌, length, false, IfSome, IfNone};
-ghost use Rattle.mv_history.specs.State.{touches};
+ghost use Rattle.std.specs.Prelude.{◌≡◌, ◌≢◌, ◌↔◌, ℕ, ◌<◌, ◌≤◌, length, All, false, IfSome, IfNone};
+ghost use Rattle.mv_history.specs.State.{touches, maker_of};
 ghost use Rattle.mv_history.specs.Meaning.{IsSection, state_of, words_at, Holds, Lacks};
 ghost use Rattle.mv_history.specs.Calls.{GoesOn, IsAsBefore, IsSetFull, IsLogFull, Locks, Rewrites, IsStale};
 ghost use Rattle.mv_history.specs.declared.answers.LockAnswer.TheVariants.{Held, Busy as IsTaken, Stale, SetFull, LogFull};
@@ -68,7 +68,9 @@ pub(crate) fn locked<P: Protocol, L: Ledger>(
         (seat ≢ (section_from busy.old).seat.number) × FoundLocked (section_from busy.old) (section_from busy.new) object seat }
     ensures stale { (time : ℕ) → result ≡ Stale time → IsStale (section_from busy.new) object time }
     ensures range { (section_from busy.old).seat.number < seats_of (section_from busy.old).seat }
+    ensures makers { All (λ e. maker_of e < seats_of (section_from busy.old).seat) (section_from busy.new).seat.seen }
     ensures held { result ≡ Held → Lacks (section_from busy.old) object → Locks (section_from busy.old) (section_from busy.new) object }
+    ensures aborts { busy.new.log.aborts ≡ busy.old.log.aborts }
     ensures bound { MakesAtMost (section_from busy.old).seat (section_from busy.new).seat 32 }
 {
     let mut steps = Steps::<L>::open(blank);
@@ -91,6 +93,7 @@ pub(crate) fn written<P: Protocol, L: Ledger>(
     ensures lawful { IsSection P.start P.allowed (section_from busy.new) }
     ensures goes_on { GoesOn (section_from busy.old) (section_from busy.new) }
     ensures rewrites { Rewrites (section_from busy.old) (section_from busy.new) object words }
+    ensures aborts { busy.new.log.aborts ≡ busy.old.log.aborts }
     ensures bound { MakesAtMost (section_from busy.old).seat (section_from busy.new).seat 6 }
 {
     let mut steps = Steps::<L>::open(blank);

@@ -71,7 +71,7 @@ impl<'d, P: Protocol> Section for Session<'d, P> {
     ghost use Rattle.mv_history.specs.Drift.{IsFit};
     ghost use Rattle.mv_history.specs.Trail.{commit_exchanges, IsOneWon, IsOneLost};
     ghost use Rattle.mv_history.specs.declared.answers.LockAnswer.TheVariants.{Held, Busy as IsTaken, Stale, SetFull, LogFull};
-    ghost use Rattle.mvrlu.specs.Meant.{handled, section_of};
+    ghost use Rattle.mvrlu.specs.Meant.{handled, aborts_before, section_of};
     ghost use Rattle.mvrlu.specs.Causes.{Loaded, FoundLocked};
     ghost use Rattle.mvrlu.specs.Holding.{seats_of};
     ghost use Rattle.mvrlu.specs.Bounds.{MakesAtMost};
@@ -118,7 +118,7 @@ impl<'d, P: Protocol> Section for Session<'d, P> {
         held_words(&self.part.busy, object).is_some()
     }
 
-    // In a domain of one seat it never answers `Busy`.
+    // In a domain of one seat it never answers `Busy` or `Stale`.
     fn try_lock(&mut self, object: u32) -> LockAnswer
         requires { object < length (state_of (section_of self.old)) }
         ensures goes_on { GoesOn (section_of self.old) (section_of self.new) }
@@ -133,7 +133,8 @@ impl<'d, P: Protocol> Section for Session<'d, P> {
         ensures stale { (time : ℕ) → result ≡ Stale time → ⟦<Session<'d, P> as Section>⟧.may_refuse × IsStale (section_of self.new) object time }
         ensures held { result ≡ Held → Lacks (section_of self.old) object → Locks (section_of self.old) (section_of self.new) object }
         ensures log_full_only { result ≡ LogFull → ⟦<Session<'d, P> as Section>⟧.may_refuse }
-        ensures alone { seats_of (section_of self.old).seat ≡ 1 → (seat : ℕ) → result ≢ IsTaken seat }
+        ensures alone { seats_of (section_of self.old).seat ≡ 1 → ((seat : ℕ) → result ≢ IsTaken seat) × ((time : ℕ) → result ≢ Stale time) }
+        ensures aborts { aborts_before self.new ≡ aborts_before self.old }
         ensures bound { MakesAtMost (section_of self.old).seat (section_of self.new).seat 32 }
     {
         let domain = self.domain;
@@ -145,6 +146,7 @@ impl<'d, P: Protocol> Section for Session<'d, P> {
         requires { Holds (section_of self.old) object }
         ensures goes_on { GoesOn (section_of self.old) (section_of self.new) }
         ensures rewrites { Rewrites (section_of self.old) (section_of self.new) object words }
+        ensures aborts { aborts_before self.new ≡ aborts_before self.old }
         ensures bound { MakesAtMost (section_of self.old).seat (section_of self.new).seat 6 }
     {
         let domain = self.domain;
@@ -152,6 +154,7 @@ impl<'d, P: Protocol> Section for Session<'d, P> {
         written::<P, Brand>(&domain.shared, &mut part.busy, object, words, Blank::new(1))
     }
 
+    // In a domain of one seat it never answers `Again`.
     fn try_commit(self, tag: Tag) -> CommitAnswer<Handle<'d, P>, Session<'d, P>>
         requires some { 0 < length (section_of self).own }
         requires fit { IsFit P.allowed (snapshot_of (section_of self)) tag (section_of self).own }
@@ -161,6 +164,7 @@ impl<'d, P: Protocol> Section for Session<'d, P> {
             × Overtakes (section_of self.entry) (section_of left) rival.seat rival.time (Loaded (section_of self.entry) (section_of left).seat)) }
         ensures end { OnEnd result (λ left. IsAsBefore (section_of self.entry) (section_of left) × IsWorn (section_of left).seat
             × Loaded (section_of self.entry) (section_of left).seat (section_of left).seat.last) }
+        ensures alone { OnAgain result (λ left rival. seats_of (section_of self.entry).seat ≢ 1) }
         ensures at_most_one { length (commit_exchanges (call_trail (section_of self.entry).seat (seat_after handled section_of result))) ≤ 1 }
         ensures one_won { OnDone result (λ back time. ⟦<Session<'d, P> as Section>⟧.has_trail
             → IsOneWon (commit_exchanges (call_trail (section_of self.entry).seat (handled back)))) }

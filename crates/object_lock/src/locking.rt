@@ -89,6 +89,7 @@ fn lost<P: Protocol, L: Ledger>(
     ensures same { IsSame pass.old pass.new }
     ensures outcome { LostOutcome (config_of shared.now) (view pass.old) (view pass.new) log.new object link result steps.old steps.new }
     ensures refused { result ≢ Held }
+    ensures aborts { log.new.aborts ≡ log.old.aborts }
     ensures step { steps.new ≡ steps.old + 2 }
 {
     drop_built(log, position);
@@ -120,6 +121,7 @@ fn hold_again<P: Protocol, L: Ledger>(
     requires few { log.old.held < (config_of shared.now).write_max }
     ensures same { IsSame pass.old pass.new }
     ensures outcome { OneOutcome (config_of shared.now) (view pass.old) (view pass.new) log.new object result steps.old steps.new }
+    ensures aborts { log.new.aborts ≡ log.old.aborts }
     ensures bound { steps.new ≤ steps.old + 4 }
 {
     clear_previous(shared, pass, log, position, steps);
@@ -173,6 +175,7 @@ pub fn lock_start<P: Protocol, L: Ledger>(
     ensures unbuilt { OnErr result (log.new.built ≡ None) }
     ensures answers { IfErr result (λ answer. touches (own_of (config_of shared.now) (view pass.old).ring) object ≡ false
         → LockAnswers (config_of shared.now) (view pass.old) (view pass.new) object answer) }
+    ensures aborts { log.new.aborts ≡ log.old.aborts }
     ensures bound { steps.new ≤ steps.old + 19 }
 {
     if holds(log, object) {
@@ -212,6 +215,7 @@ pub fn lock_end<P: Protocol, L: Ledger>(
     ensures same { IsSame pass.old pass.new }
     ensures outcome { FewOutcome (config_of shared.now) (view pass.old) (view pass.new) log.new started.object result steps.old steps.new }
     ensures few { log.new.held ≤ (config_of shared.now).write_max }
+    ensures aborts { log.new.aborts ≡ log.old.aborts }
     ensures bound { steps.new ≤ steps.old + 5 }
 {
     let StartedLock {
@@ -243,9 +247,9 @@ pub fn lock_end<P: Protocol, L: Ledger>(
 /// - Else `Held`: the object joins those that are held, with the words that the section reads, and
 ///   the log has one free slot less.
 ///
-/// After a refusal the section holds what it held, and the log has as many free slots. It makes at
-/// most 32 steps, and tries at most two exchanges on HEAD; the second comes only where the first
-/// found a chain that was cut meanwhile.
+/// After a refusal the section holds what it held, and the log has as many free slots. The log's count
+/// of aborts stays in any case. It makes at most 32 steps, and tries at most two exchanges on HEAD; the
+/// second comes only where the first found a chain that was cut meanwhile.
 pub fn lock<P: Protocol, L: Ledger>(
     shared: &Shared<P>,
     pass: &mut Pass<P>,
@@ -270,6 +274,7 @@ pub fn lock<P: Protocol, L: Ledger>(
     ensures answers { touches (own_of (config_of shared.now) (view pass.old).ring) object ≡ false
         → LockAnswers (config_of shared.now) (view pass.old) (view pass.new) object result }
     ensures refused { result ≢ Held → KeepsOwn (config_of shared.now) (view pass.old) (view pass.new) }
+    ensures aborts { log.new.aborts ≡ log.old.aborts }
     ensures bound { steps.new ≤ steps.old + 32 }
 {
     match lock_start(shared, pass, log, object, steps) {

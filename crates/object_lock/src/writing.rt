@@ -30,7 +30,7 @@ fn position_of(log: &Log, object: u32) -> u64
 }
 
 /// Gives an object that the section holds these words, in this section alone, in six steps. It never
-/// refuses, and leaves what else is held, and how many slots are free.
+/// refuses, and leaves what else is held, how many slots are free, and the log's count of aborts.
 pub fn write<P: Protocol, L: Ledger>(
     shared: &Shared<P>,
     pass: &mut Pass<P>,
@@ -52,6 +52,7 @@ pub fn write<P: Protocol, L: Ledger>(
     ensures own { own_of (config_of shared.now) (view pass.new).ring ≡ rewritten (own_of (config_of shared.now) (view pass.old).ring) object words }
     ensures spare { spare_count (view pass.new).ring ≡ spare_count (view pass.old).ring }
     ensures stores { Stores (view pass.old) (view pass.new) 6 }
+    ensures aborts { log.new.aborts ≡ log.old.aborts }
     ensures cost { steps.new ≡ steps.old + 6 }
 {
     let position = position_of(log, object);

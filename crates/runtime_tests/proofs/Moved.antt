@@ -128,5 +128,5 @@ loaded c v x y l old word h i whole is has helps =
       unbuilt = i.unbuilt;
       helped = λ w e.
           let same : word ≡ w = cc in
-          subst (λ n. Contains y.clocks.loaded n × Contains y.clocks.helped n) same (helps.still_loaded word has.loaded, helps.helped);
+          subst (λ n. Contains y.clocks.loaded n × Contains y.clocks.helped n) same (helps.still_loaded word has, helps.helped);
     }

@@ -49,7 +49,7 @@ clock_helped c v w l word k helps =
             (kinds_leave IsHelpStep help_leaves helps.trail.0 helps.trail.3);
         unbuilt = o.unbuilt;
       };
-      loaded = helps.still_loaded word k.loaded.loaded;
+      loaded = helps.still_loaded word k.loaded;
       helped = helps.helped;
     }
 

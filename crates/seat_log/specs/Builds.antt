@@ -2,6 +2,7 @@
 use Rattle.std.specs.Prelude.{◌≡◌, ℕ, zero, suc, ◌+◌, ◌<◌, ◌==◌, if◌then◌else◌, false, List, [], length, Some, None}
 use Rattle.std.specs.Prelude.{unwrap_or, slice_index}
 use Rattle.mv_layout.specs.declared.Config.{Config}
+use Rattle.mv_layout.specs.declared.cells.TheConstants.{FIRST_OFFSET, STAMP_OFFSET, PREV_OFFSET, SUPER_OFFSET, DATA_OFFSET}
 use Rattle.mv_layout.specs.Words.{unset_of}
 use Rattle.mv_core.specs.declared.ring.Build.{Build}
 use Rattle.mv_core.specs.declared.ring.Slot.{Slot}
@@ -31,16 +32,17 @@ stored_next c v position field x = built_stored c v position field x (build_at c
 -- the view after so many of its data words were stored, in order
 unfoldable pub words_stored : Config → View → ℕ → List ℕ → ℕ → View
 words_stored c v position words zero = v
-words_stored c v position words (suc i) = stored_next c (words_stored c v position words i) position (4 + i) (slice_index words i)
+words_stored c v position words (suc i) = stored_next c (words_stored c v position words i) position (DATA_OFFSET + i) (slice_index words i)
 
 -- FIRST, and STAMP where the position is the first of its set
 unfoldable pub begun : Config → View → ℕ → ℕ → View
 begun c v position first =
-    if first == position then stored_next c (stored_next c v position 0 first) position 1 (unset_of position) else stored_next c v position 0 first
+    let one = stored_next c v position FIRST_OFFSET first in
+    if first == position then stored_next c one position STAMP_OFFSET (unset_of position) else one
 
 -- then PREV, and SUPER
 unfoldable pub linked : Config → View → ℕ → ℕ → ℕ → View
-linked c v position first previous = stored_next c (stored_next c (begun c v position first) position 2 previous) position 3 0
+linked c v position first previous = stored_next c (stored_next c (begun c v position first) position PREV_OFFSET previous) position SUPER_OFFSET 0
 
 -- and then the six data words: the version is whole
 unfoldable pub slot_built : Config → View → ℕ → ℕ → ℕ → List ℕ → View

@@ -186,7 +186,7 @@ pub fn clear_previous<P: Protocol, L: Ledger>(
     ensures same { IsSame pass.old pass.new }
     ensures stands { Stands (config_of shared.now) (view pass.new) log.new }
     ensures log { log.new ≡ cleared log.old }
-    ensures view { view pass.new ≡ stored_next (config_of shared.now) (view pass.old) position 2 0 }
+    ensures view { view pass.new ≡ stored_next (config_of shared.now) (view pass.old) position PREV_OFFSET 0 }
     ensures rest { ChangesLog (view pass.old) (view pass.new) }
     ensures step { steps.new ≡ steps.old + 1 }
 {
@@ -213,7 +213,7 @@ pub fn put_word<P: Protocol, L: Ledger>(
     ensures same { IsSame pass.old pass.new }
     ensures stands { Stands (config_of shared.now) (view pass.new) log.new }
     ensures built { IsBuilt log.old position → (log.new ≡ built_word_noted log.old word value)
-        × (view pass.new ≡ stored_next (config_of shared.now) (view pass.old) position (4 + word) value) }
+        × (view pass.new ≡ stored_next (config_of shared.now) (view pass.old) position (DATA_OFFSET + word) value) }
     ensures held { IsHeld log.old position → (log.new ≡ word_noted log.old position word value)
         × (view pass.new ≡ word_stored (config_of shared.now) (view pass.old) position word value) }
     ensures rest { ChangesLog (view pass.old) (view pass.new) }

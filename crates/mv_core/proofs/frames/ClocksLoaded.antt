@@ -70,6 +70,7 @@ module _ (c : Config) (clock : ℕ) (stamp : ℕ → ℕ → ℕ) (h : List Entr
 pub record ClocksAre (c : Config) (clock : ℕ) (stamp : ℕ → ℕ → ℕ) (rings : ℕ → Ring) (old x : LoadedClocks) : Type 0 where
   pub grows : (word : ℕ) → Contains old.helped word → Contains x.helped word
   pub loaded : (word : ℕ) → Contains x.loaded word → WasClock c clock word
+  pub none : (word : ℕ) → Contains x.loaded word → clock_slot_of word ≡ 8191 → Contains x.helped word
   pub helped : (word : ℕ) → Contains x.helped word → WasClock c clock word
   pub done : (word : ℕ) → Contains x.helped word → IsDone clock stamp word
   pub found : (f : FoundStamp) → x.found ≡ Some f → WasClock c clock f.word × (clock_slot_of f.word ≢ 8191)
@@ -90,6 +91,7 @@ pub helped_one : (c : Config) (clock : ℕ) (stamp : ℕ → ℕ → ℕ) (rings
 helped_one c clock stamp rings old word is was done = record {
   grows = λ w a. Contains-append_left old.helped (word ∷ []) w a;
   loaded = is.loaded;
+  none = λ w a e. Contains-append_left old.helped (word ∷ []) w (is.none w a e);
   helped = one_more_word (WasClock c clock) old.helped word is.helped was;
   done = one_more_word (IsDone clock stamp) old.helped word is.done done;
   found = λ f e. let no_stamp : None ≡ Some f = e in absurd (cc);
@@ -123,6 +125,7 @@ module _ {starts : State → Type 0} {allows : List ℕ → State → Writes →
   clocks_was n = record {
     grows = λ word a. a;
     loaded = k.loaded_words.loaded n;
+    none = k.loaded_words.none n;
     helped = k.loaded_words.helped n;
     done = k.helped_words n;
     found = k.loaded_words.found n;
@@ -135,8 +138,8 @@ module _ {starts : State → Type 0} {allows : List ℕ → State → Writes →
     t = changed f n (record unchanged { clocks = Some x })
 
     words_after : LoadedWords c (m Clock) f.section t.clocks
-    words_after = loaded_anew c (m Clock) (λ s k. m (Stamp s k)) f.clocks n f.section f.section x is.found is.loaded is.helped k.loaded_words.inside
-        k.loaded_words
+    words_after = loaded_anew c (m Clock) (λ s k. m (Stamp s k)) f.clocks n f.section f.section x is.found is.loaded is.helped is.none
+        k.loaded_words.inside k.loaded_words
 
     helped_words_after : HelpedWords (m Clock) (λ s k. m (Stamp s k)) t.clocks
     helped_words_after = helped_after c (m Clock) (λ s k. m (Stamp s k)) f.clocks n x is.done k.helped_words

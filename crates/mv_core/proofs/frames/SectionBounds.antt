@@ -49,12 +49,15 @@ module _ (c : Config) (clock : ℕ) (stamp : ℕ → ℕ → ℕ) (clocks : ℕ 
   pub loaded_anew : (before after : ℕ → Option Section) (x : LoadedClocks)
       → ((f : FoundStamp) → x.found ≡ Some f → WasClock c clock f.word × (clock_slot_of f.word ≢ 8191))
       → ((word : ℕ) → Contains x.loaded word → WasClock c clock word) → ((word : ℕ) → Contains x.helped word → WasClock c clock word)
+      → ((word : ℕ) → Contains x.loaded word → clock_slot_of word ≡ 8191 → Contains x.helped word)
       → ((s : ℕ) (i : Section) → after s ≡ Some i → WasClock c clock i.word)
       → LoadedWords c clock before clocks → LoadedWords c clock after (set_at clocks n x)
-  loaded_anew before after x found loaded helped inside k = record {
+  loaded_anew before after x found loaded helped none inside k = record {
     clock_is = k.clock_is;
     loaded = set_at_all (λ s u. (word : ℕ) → Contains u.loaded word → WasClock c clock word) clocks n x loaded (λ s ne. k.loaded s);
     helped = set_at_all (λ s u. (word : ℕ) → Contains u.helped word → WasClock c clock word) clocks n x helped (λ s ne. k.helped s);
+    none = set_at_all (λ s u. (word : ℕ) → Contains u.loaded word → clock_slot_of word ≡ 8191 → Contains u.helped word) clocks n x none
+        (λ s ne. k.none s);
     found = set_at_all (λ s u. (f : FoundStamp) → u.found ≡ Some f → WasClock c clock f.word × (clock_slot_of f.word ≢ 8191)) clocks n x found
         (λ s ne. k.found s);
     inside = inside;
@@ -63,6 +66,7 @@ module _ (c : Config) (clock : ℕ) (stamp : ℕ → ℕ → ℕ) (clocks : ℕ 
   -- and where it has no stamp found
   pub loaded_after : (before after : ℕ → Option Section) (x : LoadedClocks) → x.found ≡ None
       → ((word : ℕ) → Contains x.loaded word → WasClock c clock word) → ((word : ℕ) → Contains x.helped word → WasClock c clock word)
+      → ((word : ℕ) → Contains x.loaded word → clock_slot_of word ≡ 8191 → Contains x.helped word)
       → ((s : ℕ) (i : Section) → after s ≡ Some i → WasClock c clock i.word)
       → LoadedWords c clock before clocks → LoadedWords c clock after (set_at clocks n x)
   loaded_after before after x none = loaded_anew before after x (λ f e. let g : None ≡ Some f = sym none ∙ e in absurd (cc))

@@ -17,10 +17,10 @@ use Rattle.mv_core.specs.declared.shared.Opening.{Opening}
 use Rattle.mv_core.specs.Moves as moves
 use Rattle.mv_core.specs.Moves.{Moment, Kind, act, memory_after, history_after, IsStorable, IsSeat, Move, steps, Moves, moved}
 use Rattle.mv_core.specs.Rule.{LoadsAs, StoresAs, SwapsAs, RaisesAs}
-use Rattle.mv_core.proofs.FactTerms.{KnowsPast, Known, KnownWords, Facts, IsSeated, Ruled, Loads, Stores, Swaps, Raises, IsKept}
+use Rattle.mv_core.proofs.FactTerms.{KnowsPast, Known, KnownInDomain, Facts, IsSeated, Ruled, Loads, Stores, Swaps, Raises, IsKept}
 use Rattle.mv_core.proofs.moves.Grown.{stays}
 use Rattle.mv_core.proofs.frames.FrameLaw.{set_at_here, set_at_all}
-use Rattle.mv_core.proofs.points.KnownBounds.{known_low, known_found, known_words, known_back, known_next}
+use Rattle.mv_core.proofs.points.KnownBounds.{known_low, known_none, known_found, known_in_domain, known_back, known_next}
 use Rattle.mv_core.proofs.points.KnownLogs.{known_idle, known_still, known_commit, known_death}
 use Rattle.mv_core.proofs.points.KnownSections.{known_section}
 use Rattle.mv_core.proofs.frames.Seating.{old_of, seated_after}
@@ -48,6 +48,7 @@ module _ (starts : State → Type 0) (allows : List ℕ → State → Writes →
         rests = p.seen_rests;
         in_time = (let t = k.history.in_time in omega arith);
         lowered = known_low seats w k is;
+        none = known_none seats w k is;
         found = known_found seats w k is;
         section = known_section seats w k is begins from;
         idle = known_idle seats w k is begins from;
@@ -70,11 +71,11 @@ module _ (starts : State → Type 0) (allows : List ℕ → State → Writes →
 
     known_after : (m : Memory) (h : List Entry) (seats : ℕ → View) (w : View)
         → Facts starts allows key.config key.start.value.items m h (parts_of (set_at seats me.0.number w)) → IsKept me.0 w
-        → Known starts allows w × KnownWords c w
+        → Known starts allows w × KnownInDomain c w
     known_after m h seats w k kept =
         let here : set_at seats me.0.number w w.number ≡ w = ap (set_at seats me.0.number w) kept.0 ∙ set_at_here seats me.0.number w in (
           known_of key.config key.start.value.items m h (set_at seats me.0.number w) w k here (kept.1 ∙ begins) (kept.2 ∙ from) (kept.5 ∙ unspent),
-          subst (λ (d : Config). KnownWords d w) (sym domain) (known_words (set_at seats me.0.number w) w k here),
+          subst (λ (d : Config). KnownInDomain d w) (sym domain) (known_in_domain (set_at seats me.0.number w) w k here),
         )
 
     -- the state that the rule speaks of
@@ -214,7 +215,7 @@ module _ (starts : State → Type 0) (allows : List ℕ → State → Writes →
         → LoadsAs starts allows key.config key.start.value.items me.0 p kind told
         → Loads starts allows key.config key.start.value.items me.0 p (λ n w. tells n w × IsKept me.0 w)
         → Allows (Ruled starts allows key) slots id me i (λ n. n)
-        (λ n m. tells n m.0 × IsKept me.0 m.0 × (Known starts allows m.0 × KnownWords c m.0) × (m.1 ≡ me.1))
+        (λ n m. tells n m.0 × IsKept me.0 m.0 × (Known starts allows m.0 × KnownInDomain c m.0) × (m.1 ≡ me.1))
     load_allows kind told tells weaker by law s r wide at small =
         let found = found_is s r in
         let there = r.seated.there id me.0 at unspent in
@@ -231,7 +232,7 @@ module _ (starts : State → Type 0) (allows : List ℕ → State → Writes →
         → StoresAs starts allows key.config key.start.value.items me.0 p kind n told
         → Stores starts allows key.config key.start.value.items me.0 p n (λ w. tells w × IsKept me.0 w)
         → Allows (Ruled starts allows key) slots id me i (λ _. n)
-        (λ _ m. tells m.0 × IsKept me.0 m.0 × (Known starts allows m.0 × KnownWords c m.0) × (m.1 ≡ me.1))
+        (λ _ m. tells m.0 × IsKept me.0 m.0 × (Known starts allows m.0 × KnownInDomain c m.0) × (m.1 ≡ me.1))
     store_allows kind n told tells weaker fits by law s r wide at small =
         let there = r.seated.there id me.0 at unspent in
         let t = law r.memory r.history r.seats r.facts there.0 there.1 begins in (
@@ -247,7 +248,7 @@ module _ (starts : State → Type 0) (allows : List ℕ → State → Writes →
         → RaisesAs starts allows key.config key.start.value.items me.0 p kind n told
         → Raises starts allows key.config key.start.value.items me.0 p n (λ x w. tells x w × IsKept me.0 w)
         → Allows (Ruled starts allows key) slots id me i (λ x. max x n)
-        (λ x m. tells x m.0 × IsKept me.0 m.0 × (Known starts allows m.0 × KnownWords c m.0) × (m.1 ≡ me.1))
+        (λ x m. tells x m.0 × IsKept me.0 m.0 × (Known starts allows m.0 × KnownInDomain c m.0) × (m.1 ≡ me.1))
     raise_allows kind n told tells weaker fits by law s r wide at small =
         let found = found_is s r in
         let there = r.seated.there id me.0 at unspent in
@@ -267,13 +268,13 @@ module _ (starts : State → Type 0) (allows : List ℕ → State → Writes →
     Goes : (s : table.State (List ℕ) View) → (ℕ → View → Type 0) → ℕ → Type 0
     Goes s tells x =
         (w : View) × (a : Act (List ℕ)) × Valid s.homes me.1 a × Ruled starts allows key (stepped s i x id me.1 w a)
-        × (tells (slice_index s.words i) w × IsKept me.0 w × (Known starts allows w × KnownWords c w) × (carried_after me.1 a ≡ me.1))
+        × (tells (slice_index s.words i) w × IsKept me.0 w × (Known starts allows w × KnownInDomain c w) × (carried_after me.1 a ≡ me.1))
 
     pub swap_allows : (kind : Kind) (old new : ℕ) (told : ℕ → View → Type 0) (tells : ℕ → View → Type 0) → ((x : ℕ) (w : View) → tells x w → told x w)
         → new < 2 ^ 64 → SwapsAs starts allows key.config key.start.value.items me.0 p kind old new told
         → Swaps starts allows key.config key.start.value.items me.0 p old new (λ n w. tells n w × IsKept me.0 w)
         → Allows (Ruled starts allows key) slots id me i (λ n. either (eqb n old) new n)
-        (λ n m. tells n m.0 × IsKept me.0 m.0 × (Known starts allows m.0 × KnownWords c m.0) × (m.1 ≡ me.1))
+        (λ n m. tells n m.0 × IsKept me.0 m.0 × (Known starts allows m.0 × KnownInDomain c m.0) × (m.1 ≡ me.1))
     unfolding Goes
     swap_allows kind old new told tells weaker fits by law s r wide at small =
         let found = found_is s r in

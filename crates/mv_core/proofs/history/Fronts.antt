@@ -1,6 +1,7 @@
 -- Histories that begin with another: what was seen begins what is seen later.
 use Rattle.std.proofs.Common.{◌≡◌, ℕ, zero, suc, ◌+◌, ◌-◌, ◌≤◌, List, [], ◌∷◌, ◌++◌, length, take, ap, ◌∙◌, arith, append_assoc, length-append}
-use Rattle.std.specs.Prelude.{slice_get}
+use Rattle.std.specs.Prelude.{All, slice_get}
+use Rattle.std.proofs.lemmas.List.Elements.{All-nil, All-cons, All-head, All-tail}
 use Rattle.std.proofs.Math.Seq.{take-append-le}
 use Rattle.mv_core.proofs.Terms.{Entry, latest, latest_at}
 use Rattle.mv_core.specs.HistoryFacts.{BeginsWith}
@@ -9,6 +10,11 @@ use Rattle.mv_core.proofs.history.Latest.{latest_at-end, latest_at-latest}
 -- a history that begins with one that begins with another begins with that
 pub begins_by : (a b d : List Entry) → BeginsWith a b → BeginsWith b d → BeginsWith a d
 begins_by a b d p q = (q.0 ++ p.0, p.1 ∙ ap (λ l. l ++ p.0) q.1 ∙ append_assoc d q.0 p.0)
+
+-- what holds of each of a list holds of each of its front
+pub All-front : {X : Type 0} (P : X → Type 0) (xs ys : List X) → All P (xs ++ ys) → All P xs
+All-front P [] ys all = All-nil P
+All-front P (x ∷ xs) ys all = All-cons P x xs (All-head P x (xs ++ ys) all) (All-front P xs ys (All-tail P x (xs ++ ys) all))
 
 -- and is no shorter
 pub begins_long : (a b : List Entry) → BeginsWith a b → length b ≤ length a

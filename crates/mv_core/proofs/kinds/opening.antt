@@ -3,3 +3,4 @@ pub mod NewPasses
 pub mod Laying
 pub mod Starting
 pub mod MakeSeat
+pub mod KnownPasses

@@ -1,10 +1,11 @@
--- What the rule tells a seat of the low time that it loaded, of an unset stamp that it found, and of its positions.
+-- What the rule tells a seat of the low time that it loaded, of the clock words that it loaded, of an unset stamp that it found, and of its positions.
 use Rattle.std.proofs.Common.{◌≡◌, ◌≢◌, ℕ, ◌+◌, ◌*◌, ◌<◌, ◌≤◌, ◌^◌, List, length, sym, ap, ◌∙◌, subst, arith, mul-le-mul, Some}
-use Rattle.std.specs.Prelude.{Contains}
-use Rattle.mv_core.proofs.Terms.{Entry, State, Writes, Config, Clock, Mark, Memory, clock_slot_of, Built, Build, Committed, View, FoundStamp}
+use Rattle.std.specs.Prelude.{All, Contains}
+use Rattle.mv_core.proofs.Terms.{Entry, State, Writes, maker_of, Config, Clock, Mark, Memory, clock_slot_of, Built, Build, Committed, View, FoundStamp}
 use Rattle.mv_core.proofs.Terms.{WriteBack, index_of, slot_at, parts_of}
 use Rattle.mv_core.specs.declared.view.Phase.TheVariants.{Lowered}
-use Rattle.mv_core.proofs.FactTerms.{MarkedAs, KnownWords, Facts}
+use Rattle.mv_core.proofs.FactTerms.{BeginsWith, MarkedAs, KnownInDomain, Facts}
+use Rattle.mv_core.proofs.history.Fronts.{All-front}
 use Rattle.mv_core.proofs.logs.Links.{position_small}
 use Rattle.mv_core.proofs.kinds.locking.lock_head.NextPosition.{below_rounds}
 
@@ -26,11 +27,18 @@ module _ {starts : State → Type 0} {allows : List ℕ → State → Writes →
   pub known_found : (f : FoundStamp) → w.clocks.found ≡ Some f → clock_slot_of f.word ≢ 8191
   known_found f e = (k.loaded_words.found n f (ap (λ (u : View). u.clocks.found) is ∙ e)).1
 
-  -- each word that was loaded, or found a stamp for, names a seat and a slot of the domain, or no commit
-  pub known_words : KnownWords c w
-  known_words = (
+  -- a word that was loaded and names no commit counts as helped
+  pub known_none : (word : ℕ) → Contains w.clocks.loaded word → clock_slot_of word ≡ 8191 → Contains w.clocks.helped word
+  known_none =
+      subst (λ (u : View). (word : ℕ) → Contains u.clocks.loaded word → clock_slot_of word ≡ 8191 → Contains u.clocks.helped word) is (k.loaded_words.none n)
+
+  -- each word that was loaded, or found a stamp for, names a seat and a slot of the domain, or no commit, and what was seen is by its seats
+  pub known_in_domain : KnownInDomain c w
+  known_in_domain = (
     λ word has. (k.loaded_words.loaded n word (subst (λ (u : View). Contains u.clocks.loaded word) (sym is) has)).is_word,
     λ f e. (k.loaded_words.found n f (ap (λ (u : View). u.clocks.found) is ∙ e)).0.is_word,
+    (let begins = subst (λ (u : View). BeginsWith h u.past.seen) is (k.history.seats n).seen in
+        All-front (λ e. maker_of e < c.seats) w.past.seen begins.0 (subst (All (λ e. maker_of e < c.seats)) begins.1 k.history.makers)),
   )
 
   -- the position that is written back fits a link

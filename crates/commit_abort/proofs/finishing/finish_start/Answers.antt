@@ -18,7 +18,7 @@ stamp_own-requires g c κs within =
           search rules,
           (
             may_stamp (config_of c.args.shared.now) (view c.args.pass.now) c.args.log.now named.0 named.1 c.args.time c.note-first.result.first named.2 first.0,
-            (c.requires.range, first.1),
+            first.1,
           ),
         ),
       ),

@@ -1,12 +1,14 @@
 use Rattle.std.proofs.Common.{subst}
 use Rattle.mv_core.specs.Passes.{view, config_of}
 use Rattle.commit_clock.specs.Helps.{HelpStarts}
+use Rattle.commit_clock.proofs.NoneHelped.{none_is_helped}
 use Rattle.commit_clock.proofs.Views.{helps_at_once, helps_by_parts}
 use Rattle.commit_clock.proofs.helping.help_clock.Goals as goal
 
 pub returns-in_default-clause-helps : goal.returns-in_default-clause-helps
 returns-in_default-clause-helps g c =
-    helps_at_once (config_of c.args.shared.now) (view c.args.pass.now) (view c.help_start.new.pass) c.args.word _ _ c.requires.loaded
+    helps_at_once (config_of c.args.shared.now) (view c.args.pass.now) (view c.help_start.new.pass) c.args.word _ _
+    (none_is_helped _ _ (view c.args.pass.now) c.args.word c.args.pass.now.known c.requires.loaded)
     (subst (HelpStarts (config_of c.args.shared.now) (view c.args.pass.now) (view c.help_start.new.pass) c.args.word _ _) c.in_default.is
     c.help_start.ensures.starts)
 

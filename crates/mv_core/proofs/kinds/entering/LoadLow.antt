@@ -34,7 +34,7 @@ module _ (starts : State → Type 0) (allows : List ℕ → State → Writes →
       (λ s ne. k.walker_knowledge.helped s) in
       let found = found_after c (m Clock) stamp clocks n rings no_clocks refl k.found_stamp in
       let words = loaded_after c (m Clock) stamp clocks n section section no_clocks refl (λ word has. none_in word has) (λ word has. none_in word has)
-      k.loaded_words.inside k.loaded_words in
+      (λ word has. none_in word has) k.loaded_words.inside k.loaded_words in
       let backs = set_at_all
       (λ s u. (b : WriteBack) → (seats s).back ≡ Some b → (inside : Section) × (section s ≡ Some inside)
       × IsWrittenBack c h (λ o j. m (Master o j)) (λ t. time_of (seats t).phase) rings s u (seats s).grace b inside)

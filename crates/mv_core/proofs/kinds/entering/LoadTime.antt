@@ -3,7 +3,7 @@
 use Rattle.std.proofs.Common.{◌≡◌, ◌<◌, ◌≢◌, ℕ, suc, ◌+◌, ◌≤◌, cond, count_by, List, [], ◌∷◌}
 use Rattle.std.proofs.Common.{length, refl, sym, ap, ◌∙◌, subst, inl, inr, le_refl, arith, Some, None, false}
 use Rattle.std.specs.Prelude.{Contains, slice_index_or}
-use Rattle.mv_core.proofs.Terms.{Entry, State, Writes, Config, Clock, Grace, Mark, Master, Stamp, Super, clock_time_of, Ring, Slot, Free, Built, Live}
+use Rattle.mv_core.proofs.Terms.{Entry, State, Writes, Config, Clock, Grace, Mark, Master, Stamp, Super, clock_time_of, clock_slot_of, Ring, Slot, Free, Built, Live}
 use Rattle.mv_core.proofs.Terms.{Freeing, Version, Held, Aborted, Committed, View, Past, Outside, Marked, Inside, Section, Open, LoadedClocks, Scan}
 use Rattle.mv_core.proofs.Terms.{CommitNote, is_held, held_count, HoldsNothing, Lives, is_by, last_own, IsNextWrite, section_of, time_in, low_of}
 use Rattle.mv_core.proofs.Terms.{IsUnnamed, ViewParts, parts_of, set_at}
@@ -11,7 +11,7 @@ use Rattle.mv_core.specs.declared.view.Walk.TheVariants.{Nowhere}
 use Rattle.mv_core.proofs.FactTerms.{BeginsWith, IsNaming, MarkedAs, IsWord, WasClock, IsDone, IsTimed, IsBegun, Loads, IsKept}
 use Rattle.mv_core.specs.EnterSteps.{IsWhole, if_none, MayLoadTime, time_loaded}
 use Rattle.mv_core.proofs.frames.FrameLaw.{set_at_else, set_at_all, unchanged, settle}
-use Rattle.mv_core.proofs.kinds.helping.LoadCheck.{this_word, if_none_all}
+use Rattle.mv_core.proofs.kinds.helping.LoadCheck.{this_word, if_none_all, in_if_none}
 use Rattle.mv_core.proofs.frames.ClocksLoaded.{one_more_word, past_help, clock_small}
 use Rattle.mv_core.proofs.frames.SectionBounds.{by_seat, none_in, helped_after, found_after, inside_after, loaded_after}
 use Rattle.mv_core.proofs.frames.Sections as more
@@ -63,6 +63,7 @@ module _ (starts : State → Type 0) (allows : List ℕ → State → Writes →
       let words_of_all = loaded_after c clock stamp f.clocks n f.section (set_at f.section n (Some inside)) x refl
       (one_more_word (WasClock c clock) [] clock (λ u has. none_in u has) this)
       (if_none_all (WasClock c clock) clock (λ _. this))
+      (one_more_word (λ word. clock_slot_of word ≡ 8191 → Contains (if_none clock) word) [] clock (λ u has. none_in u has) (in_if_none clock))
       (inside_after c clock stamp f.clocks n f.section (Some inside)
       (λ i e. subst (λ (s : Section). WasClock c clock s.word) (same_inside i e) this) k.loaded_words)
       k.loaded_words in

@@ -1,9 +1,9 @@
 -- load CLOCK (check).
 use Rattle.std.proofs.Common.{◌≡◌, ◌≢◌, ℕ, ◌==◌, Bool, true, false, cond, List, [], ◌∷◌, ◌++◌, sym, refl, ap, ◌∙◌}
-use Rattle.std.proofs.Common.{subst, ⊎_elim, inl, inr, le_refl, eqb-true, arith, Option, Some, None}
+use Rattle.std.proofs.Common.{subst, ⊎_elim, inl, inr, le_refl, eqb-true, eq-eqb, arith, Option, Some, None}
 use Rattle.std.proofs.lemmas.Bool.{eqb-false}
 use Rattle.std.specs.Prelude.{Contains}
-use Rattle.std.proofs.lemmas.List.Elements.{Contains-append_left, Contains-append_cases}
+use Rattle.std.proofs.lemmas.List.Elements.{Contains-append_left, Contains-append_right, Contains-append_cases, Contains-push}
 use Rattle.mv_core.proofs.Terms.{Entry, State, Writes, Config, Clock, Stamp, clock_time_of, clock_seat_of, clock_slot_of, Ring, Live, Version, Status}
 use Rattle.mv_core.proofs.Terms.{Committed, View, Past, LoadedClocks, FoundStamp, index_of, Lives, names_none, ViewParts, parts_of}
 use Rattle.mv_core.proofs.FactTerms.{Positions, IsWord, WasClock, IsDone, IsNamedCommit, IsFound, RunsOn, Loads, IsKept}
@@ -50,6 +50,10 @@ if_none_all P word one w has = go (names_none word) refl has
     go true is has = one_more_word P [] word (λ x (a : Contains [] x). absurd (grind arith)) (one (eqb-true (clock_slot_of word) 8191 is)) w has
     go false is has = absurd (grind arith)
 
+-- the word, if it names no commit, is there
+pub in_if_none : (word : ℕ) → clock_slot_of word ≡ 8191 → Contains (if_none word) word
+in_if_none word e = subst (λ (b : Bool). Contains (cond b (word ∷ []) []) word) (sym (eq-eqb (clock_slot_of word) 8191 e)) (Contains-push [] word)
+
 gone_all : (P : ℕ → Type 0) (o : Option FoundStamp) (word : ℕ) → ((f : FoundStamp) → o ≡ Some f → word ≢ f.word → P f.word) → (w : ℕ)
     → Contains (checked_helped o word) w → P w
 gone_all P None word one w has = absurd (grind arith)
@@ -79,6 +83,10 @@ module _ (c : Config) (clock : ℕ) (stamp : ℕ → ℕ → ℕ) (h : List Entr
     grows = λ w a. Contains-append_left old.helped (if_none clock ++ checked_helped old.found clock) w a;
     loaded = one_more_word (WasClock c clock) old.loaded clock is.loaded (this_word c clock clock_is);
     helped = helped_all (WasClock c clock) is.helped (λ e. this_word c clock clock_is) (λ f e ne. (is.found f e).0);
+    none = one_more_word (λ w. clock_slot_of w ≡ 8191 → Contains (checked_clocks old clock).helped w) old.loaded clock
+        (λ w a e. Contains-append_left old.helped (if_none clock ++ checked_helped old.found clock) w (is.none w a e))
+        (λ e. Contains-append_right old.helped (if_none clock ++ checked_helped old.found clock) clock
+        (Contains-append_left (if_none clock) (checked_helped old.found clock) clock (in_if_none clock e)));
     done = helped_all (IsDone clock stamp) is.done (λ e. inr (inl e)) (λ f e ne. inl ne);
     found = λ g e. let b =
         checked_was old.found clock g e in subst (λ (d : FoundStamp). WasClock c clock d.word × (clock_slot_of d.word ≢ 8191)) b.3 (is.found b.0 b.1);

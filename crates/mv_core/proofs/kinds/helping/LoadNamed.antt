@@ -38,6 +38,7 @@ module _ {starts : State → Type 0} {allows : List ℕ → State → Writes →
       let big : 9223372036854775808 ≤ found = leb-true 9223372036854775808 found is_unset in record {
         grows = λ w a. a;
         loaded = was_clocks.loaded;
+        none = was_clocks.none;
         helped = was_clocks.helped;
         done = was_clocks.done;
         found = λ f e. subst (λ (g : FoundStamp). WasClock c (m Clock) g.word × (clock_slot_of g.word ≢ 8191)) (injective e) (was, may.names);

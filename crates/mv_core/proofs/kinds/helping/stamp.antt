@@ -3,3 +3,4 @@ pub mod Stampable
 pub mod StampStored
 pub mod OwnStamp
 pub mod SwapStamp
+pub mod OwnPlace

@@ -9,7 +9,7 @@ use Rattle.mv_core.proofs.Terms.{new_view, spent_view, set_at}
 use Rattle.atomic_table.specs.Table.{Joins}
 use Rattle.atomic_table.proofs.Lists.{at_set, set_here, set_else}
 use Rattle.mv_core.specs.declared.shared.Opening.{Opening}
-use Rattle.mv_core.proofs.FactTerms.{Known, KnownWords, RunsOn, IsNoted, IsThere, Seated, Ruled}
+use Rattle.mv_core.proofs.FactTerms.{Known, KnownInDomain, RunsOn, IsNoted, IsThere, Seated, Ruled}
 use Rattle.mv_core.specs.SeatSteps.{MayJoin, note_of, joined}
 use Rattle.mv_core.specs.Moves.{Moment, IsSeat, joins, moved, seat_joined}
 use Rattle.mv_core.proofs.frames.FrameLaw.{set_at_here, set_at_else, set_at_all, unread}
@@ -345,11 +345,11 @@ seats_join starts allows key id o v w unspent other_unspent may s r at other oth
 
 -- the pass that is left is as it was
 pub joined_stays : (starts : State → Type 0) (allows : List ℕ → State → Writes → Type 0) (c : Config) (v w j : View) → MayJoin v w → j ≡ joined c v w
-    → (j.number ≡ v.number) × RunsOn v j × (∥ Known starts allows v ∥₁ → ∥ Known starts allows j ∥₁) × ((d : Config) → KnownWords d v → KnownWords d j)
+    → (j.number ≡ v.number) × RunsOn v j × (∥ Known starts allows v ∥₁ → ∥ Known starts allows j ∥₁) × ((d : Config) → KnownInDomain d v → KnownInDomain d j)
 joined_stays starts allows c v w j may e =
     subst
     (λ (x : View). (x.number ≡ v.number) × RunsOn v x × (∥ Known starts allows v ∥₁ → ∥ Known starts allows x ∥₁)
-    × ((d : Config) → KnownWords d v → KnownWords d x))
+    × ((d : Config) → KnownInDomain d v → KnownInDomain d x))
     (sym e) (
       refl,
       (λ time first a b. (a, b)),
@@ -363,6 +363,7 @@ joined_stays starts allows c v w j may e =
         rests = a.rests;
         in_time = a.in_time;
         lowered = a.lowered;
+        none = a.none;
         found = a.found;
         section = λ inside at. let out : Outside ≡ Inside inside = sym may.outside ∙ at in absurd (cc);
         idle = a.idle;

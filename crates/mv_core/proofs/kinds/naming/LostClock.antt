@@ -4,13 +4,13 @@ use Rattle.std.specs.Prelude.{Contains, slice_get, slice_index_or}
 use Rattle.std.proofs.lemmas.Option.{slice_get-get_or}
 use Rattle.mv_core.proofs.Terms.{dite, ℕ_discrete, Entry, Rest, Change, State, Writes, maker_of, Config, Clock, Stamp, Memory, clock_time_of}
 use Rattle.mv_core.proofs.Terms.{clock_seat_of, clock_slot_of, Ring, View, Past, LoadedClocks, ViewParts, parts_of}
-use Rattle.std.proofs.lemmas.List.Elements.{Contains-append_left, Contains-append_cases}
+use Rattle.std.proofs.lemmas.List.Elements.{Contains-append_left, Contains-append_right, Contains-append_cases}
 use Rattle.mv_core.proofs.FactTerms.{BeginsWith, NamedBy, IsWord, WasClock, IsDone, Facts}
 use Rattle.mv_core.specs.EnterSteps.{IsWhole, if_none}
 use Rattle.mv_core.specs.NameSteps.{IsOvertaken}
 use Rattle.mv_core.proofs.history.CommitWords.{last_is}
 use Rattle.mv_core.proofs.frames.FrameLaw.{unchanged, changed}
-use Rattle.mv_core.proofs.kinds.helping.LoadCheck.{if_none_all, this_word}
+use Rattle.mv_core.proofs.kinds.helping.LoadCheck.{if_none_all, in_if_none, this_word}
 use Rattle.mv_core.proofs.frames.ClocksLoaded.{ClocksAre, one_more_word, clocks_was, clocks_facts}
 use Rattle.mv_core.proofs.frames.ClockLoads.{whole_seen}
 
@@ -33,6 +33,9 @@ module _ (c : Config) (clock : ℕ) (stamp : ℕ → ℕ → ℕ) (rings : ℕ �
   clocks_lost = record {
     grows = λ w a. Contains-append_left old.helped (if_none clock) w a;
     loaded = one_more_word (WasClock c clock) old.loaded clock is.loaded (this_word c clock clock_is);
+    none = one_more_word (λ w. clock_slot_of w ≡ 8191 → Contains (lost_clocks old clock).helped w) old.loaded clock
+        (λ w a e. Contains-append_left old.helped (if_none clock) w (is.none w a e))
+        (λ e. Contains-append_right old.helped (if_none clock) clock (in_if_none clock e));
     helped = helped_all (WasClock c clock) is.helped (λ e. this_word c clock clock_is);
     done = helped_all (IsDone clock stamp) is.done (λ e. inr (inl e));
     found = is.found;

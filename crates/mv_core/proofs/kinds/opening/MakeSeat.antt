@@ -4,25 +4,22 @@ use Rattle.std.proofs.Common.{◌++◌, length, replicate, set, sym, refl, ap, �
 use Rattle.std.proofs.Common.{None}
 use Rattle.std.specs.Prelude.{Contains}
 use Rattle.std.proofs.lemmas.List.Elements.{All-nil, All-weaker, All-contains}
-use Rattle.std.proofs.Math.Logic.{∥∥₁_map}
-use Rattle.mv_core.proofs.Terms.{dite, some, some-injective, some-ne-none, ℕ_discrete, get_elem?, Change, Step, State, Writes, Config, Checked, Shows}
-use Rattle.mv_core.proofs.Terms.{Held, Committed, View, Note, new_view, set_at}
+use Rattle.mv_core.proofs.Terms.{dite, some, some-injective, some-ne-none, ℕ_discrete, get_elem?, Step, State, Writes, Config, Checked, Shows}
+use Rattle.mv_core.proofs.Terms.{View, Note, new_view, set_at}
 use Rattle.atomic_table.specs.Table.{Splits, opening}
 use Rattle.atomic_table.proofs.Lists.{at_set, set_here, at_last, at_longer}
 use Rattle.mv_history.specs.declared.StepKind.TheVariants.{MakeSeat}
 use Rattle.mv_history.specs.Legal.{AreWords}
-use Rattle.mv_history.proofs.Histories.{no_split}
 use Rattle.mv_core.specs.declared.shared.Opening.{Opening}
-use Rattle.mv_core.proofs.FactTerms.{Known, KnownWords, IsTimed, IsBegun, RunsOn, IsNoted, IsThere, Seated, Ruled, first_view}
+use Rattle.mv_core.proofs.FactTerms.{IsNoted, IsThere, Seated, Ruled, first_view}
 use Rattle.mv_core.specs.Start.{opening_memory, maker_view}
 use Rattle.mv_core.specs.SeatSteps.{made_one, newly_made}
 use Rattle.mv_core.specs.Moves as moves
 use Rattle.mv_core.specs.Moves.{Moment, IsSeat, makes, moved, seat_made}
 use Rattle.mv_core.proofs.frames.FrameLaw.{set_at_here, set_at_else, set_at_all, set_at_same, unread}
 use Rattle.mv_core.proofs.frames.SectionBounds.{none_in}
-use Rattle.mv_core.proofs.points.KnownLogs.{commit_still}
 use Rattle.mv_core.proofs.frames.SeatsThere.{at_within, there_still, there_longer}
-use Rattle.mv_core.proofs.kinds.opening.Starting.{none_lives, none_built, first_seats, starting_facts}
+use Rattle.mv_core.proofs.kinds.opening.Starting.{first_seats, starting_facts}
 
 one : {A : Type 0} (i : ℕ) (x y : A) → get_elem? (x ∷ []) i ≡ some y → (i ≡ 0) × (x ≡ y)
 one zero x y e = (refl, some-injective x y e)
@@ -317,92 +314,6 @@ opened starts allows key words k sized wide lawful shows = record {
   reached = moves.opened;
   active = λ id v at un. subst (λ (u : View). u.number < 1) (one id (first_view key.config key.start.value.items) v at).1 (omega arith);
 }
-
-module _ (starts : State → Type 0) (allows : List ℕ → State → Writes → Type 0) (c : Config) where
-  -- a seat that made no step knows the opening state
-  pub new_known : (start : State) (number made : ℕ) → Checked c → AreWords start → starts start → Known starts allows (new_view c start number made)
-  new_known start number made k wide lawful = record {
-    unspent = refl;
-    opening = lawful;
-    words = wide;
-    legal = λ front back e is. absurd (no_split front back (Change e) is);
-    allowed = λ front back e is. absurd (no_split front back (Change e) is);
-    mine = refl;
-    rests = refl;
-    in_time = (let b = k.base in omega arith);
-    lowered = λ low e. absurd (cc);
-    found = λ f e. absurd (cc);
-    section = λ inside e. absurd (cc);
-    idle = λ out j x. none_lives c j x Held;
-    still = λ out. (refl, refl);
-    back = λ b e. absurd (cc);
-    next = λ j b. none_built c j b;
-    commits = λ j x note. none_lives c j x (Committed note);
-    deaths = λ j x st dead lives. none_lives c j x st lives;
-  }
-
-  maker_known : (v : View) → Known starts allows v → Known starts allows (made_one c v)
-  maker_known v k =
-      record {
-        unspent = k.unspent;
-        opening = k.opening;
-        words = k.words;
-        legal = k.legal;
-        allowed = k.allowed;
-        mine = k.mine;
-        rests = k.rests;
-        in_time = k.in_time;
-        lowered = k.lowered;
-        found = k.found;
-        section =
-            λ inside e. let s =
-            k.section inside e in
-            record {
-              seen = s.seen;
-              own = s.own;
-              held = λ j x there. let a = s.held j x there in
-                  record { in_range = a.in_range; wide = a.wide; unwritten = a.unwritten };
-              apart = s.apart;
-            };
-        idle = k.idle;
-        still = k.still;
-        back = k.back;
-        next = k.next;
-        commits = λ j x note there. commit_still v x note (made_one c v).trail (v.made + 1) v.notes (k.commits j x note there);
-        deaths = k.deaths;
-      }
-
-  -- the pass of the maker is as it was
-  pub maker_stays : (v w : View) → w ≡ made_one c v
-      → (w.number ≡ v.number) × RunsOn v w × (∥ Known starts allows v ∥₁ → ∥ Known starts allows w ∥₁)
-      × ((d : Config) → KnownWords d v → KnownWords d w)
-  maker_stays v w e =
-      subst
-      (λ (u : View). (u.number ≡ v.number) × RunsOn v u × (∥ Known starts allows v ∥₁ → ∥ Known starts allows u ∥₁)
-      × ((d : Config) → KnownWords d v → KnownWords d u))
-      (sym e) (refl, (λ time first a b. (a, b)), (λ k. ∥∥₁_map k (maker_known v)), λ d k. k)
-
-  -- a seat that made no step has no clock words
-  new_words : (start : State) (number made : ℕ) (d : Config) → KnownWords d (new_view c start number made)
-  new_words start number made d = ((λ word has. absurd (grind arith)), λ f e. absurd (cc))
-
-  -- and that of the seat made is of a seat outside a section
-  pub made_begins : (v w : View) → Checked c → w ≡ newly_made c v → ∥ Known starts allows v ∥₁
-      → (w.number ≡ v.made) × IsTimed 0 w × IsBegun 0 w × ∥ Known starts allows w ∥₁ × ((d : Config) → KnownWords d w)
-  made_begins v w k e known =
-      subst (λ (u : View). (u.number ≡ v.made) × IsTimed 0 u × IsBegun 0 u × ∥ Known starts allows u ∥₁ × ((d : Config) → KnownWords d u)) (sym e) (
-        refl,
-        (λ s in_section. absurd (cc)),
-        (λ s in_section. absurd (cc)),
-        ∥∥₁_map known (λ a. new_known v.start v.made 0 k a.words a.opening),
-        new_words v.start v.made 0,
-      )
-
-  pub first_begins : (start : State) (w : View) → Checked c → AreWords start → starts start → w ≡ first_view c start
-      → (w.number ≡ 0) × IsTimed 0 w × IsBegun 0 w × ∥ Known starts allows w ∥₁ × ((d : Config) → KnownWords d w)
-  first_begins start w k wide lawful e =
-      subst (λ (u : View). (u.number ≡ 0) × IsTimed 0 u × IsBegun 0 u × ∥ Known starts allows u ∥₁ × ((d : Config) → KnownWords d u)) (sym e)
-      (refl, (λ s in_section. absurd (cc)), (λ s in_section. absurd (cc)), ∣ new_known start 0 1 k wide lawful ∣₁, new_words start 0 1)
 
 push_same : {A : Type 0} (n : ℕ) (x : A) → replicate n x ++ x ∷ [] ≡ replicate (suc n) x
 push_same zero x = refl

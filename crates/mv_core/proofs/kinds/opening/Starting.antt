@@ -170,6 +170,7 @@ module _ (starts : State → Type 0) (allows : List ℕ → State → Writes →
     loaded_words = record {
       clock_is = λ ne. names_none ne;
       loaded = λ s word has. none_in word has;
+      none = λ s word has. none_in word has;
       helped = λ s word has. none_in word has;
       found = λ s f e. absurd (cc);
       inside = λ s inside e. absurd (cc);

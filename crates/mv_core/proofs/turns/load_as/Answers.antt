@@ -1,6 +1,6 @@
 use Rattle.std.proofs.Common.{rules, sym, ◌∙◌, subst}
 use Rattle.mv_core.proofs.Terms.{Config}
-use Rattle.mv_core.specs.Known.{KnownWords, RunsOn}
+use Rattle.mv_core.specs.Known.{KnownInDomain, RunsOn}
 use Rattle.mv_core.specs.Passes.{view}
 use Rattle.mv_core.proofs.frames.Turning.{unspent_of, load_allows}
 use Rattle.mv_core.proofs.turns.load_as.Goals as goal
@@ -20,5 +20,5 @@ pub invariant_of-pass : goal.invariant_of-pass
 invariant_of-pass g c =
     let t = c.load.ensures.2 in
     let r = t.0.1 _ _ c.args.pass.now.timed c.args.pass.now.begun in
-    let words = subst (λ (d : Config). KnownWords d c.load.new.seat.me.0) (c.requires.domain ∙ sym c.requires.of.4) t.2.1 in
-    record { numbered = c.args.pass.now.numbered ∙ sym t.1.0; timed = r.0; begun = r.1; known = ∣ t.2.0 ∣₁; words = words; taken = t.3 ∙ c.args.pass.now.taken }
+    let in_domain = subst (λ (d : Config). KnownInDomain d c.load.new.seat.me.0) (c.requires.domain ∙ sym c.requires.of.4) t.2.1 in
+    record { numbered = c.args.pass.now.numbered ∙ sym t.1.0; timed = r.0; begun = r.1; known = ∣ t.2.0 ∣₁; in_domain = in_domain; taken = t.3 ∙ c.args.pass.now.taken }

@@ -1,5 +1,6 @@
-use Rattle.std.proofs.Common.{rules, ◌≡◌, ◌<◌, ◌≤◌, ◌+◌, ◌-◌, length, arith, refl, sym, ap, ◌∙◌, subst}
+use Rattle.std.proofs.Common.{rules, ◌≡◌, ◌<◌, ◌≤◌, ◌+◌, ◌-◌, length, All, arith, refl, sym, ap, ◌∙◌, subst}
 use Rattle.mv_history.specs.declared.answers.Rival.{Rival}
+use Rattle.mv_history.specs.State.{maker_of}
 use Rattle.mv_history.specs.Drift.{IsFit}
 use Rattle.mv_history.specs.Meaning.{snapshot_of, IsWorn}
 use Rattle.mv_history.specs.Calls.{Commits, IsAsBefore, Overtakes}
@@ -14,6 +15,7 @@ use Rattle.commit_abort.specs.Commits as core
 use Rattle.mvrlu.specs.Placed.{Placed, placed, seat_from, section_from, Fits}
 use Rattle.mvrlu.specs.Causes.{Loaded}
 use Rattle.mvrlu.specs.Bounds.{MakesAtMost}
+use Rattle.mvrlu.proofs.Alone.{within_seats}
 use Rattle.mvrlu.proofs.Trails.{few_made}
 use Rattle.mvrlu.proofs.Names.{config_inside, fits_config, fits_pass}
 use Rattle.mvrlu.proofs.Continuing.{busy_on}
@@ -153,6 +155,21 @@ returns-in-Again-clause-again g c =
       kept_as_before p q refl e.same.0 is.1.placed.base ends.steps ends.loads.trail ends.kept,
       overtakes p q refl e.same.0 is.1.placed.base rival ends,
     )
+
+pub returns-in-Again-clause-alone : goal.returns-in-Again-clause-alone
+returns-in-Again-clause-alone g c one =
+    let i = c.busy.inside in
+    let is = c.busy.invariant in
+    let e = c.in-Again.ensures in
+    let p = placed i.config i.pass i.log in
+    let pass = c.commit.new.pass in
+    let alone : i.config.seats ≡ 1 = ap (λ (x : Placed). x.config.seats) c.busy.view_is ∙ one in
+    let makers = subst (λ (d : Config). All (λ x. maker_of x < d.seats) (view pass).past.seen) (e.same.2 ∙ is.0) pass.in_domain.2 in
+    let own = is.1.placed.range in
+    let made = e.ends.entry in
+    let by : maker_of made.0 ≡ c.in-Again.rival.seat = made.2 in
+    let maker = within_seats _ (view pass).past.seen i.config.seats c.in-Again.rival.time made.0 makers made.1 in
+    e.ends.other (omega arith)
 
 -- at the end
 pub invariant_of-result-in-End : goal.invariant_of-result-in-End

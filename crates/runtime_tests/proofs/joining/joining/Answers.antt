@@ -1,9 +1,10 @@
-use Rattle.std.proofs.Common.{◌≡◌, sym, ap, ◌∙◌, subst, Some}
+use Rattle.std.proofs.Common.{rules, ◌≡◌, sym, ap, ◌∙◌, subst, Some}
 use Rattle.std.proofs.lemmas.List.Elements.{All-pop}
 use Rattle.mv_core.specs.EnterSteps.{MayLoadLow}
 use Rattle.mv_core.specs.Passes.{view, config_of}
 use Rattle.runtime_tests.specs.Clients.{AreReady, IsPlayable, IsAt}
 use Rattle.runtime_tests.specs.declared.clients.Stage.{Stage}
+use Rattle.runtime_tests.specs.declared.clients.Stage.TheVariants.{Outside}
 use Rattle.runtime_tests.proofs.joining.joining.Goals as goal
 
 pub returns-in_default-other : goal.returns-in_default-other
@@ -21,7 +22,9 @@ pub join-requires-clause-may : goal.join-requires-clause-may
 join-requires-clause-may g c =
     let other = (All-pop (IsPlayable c.args.shared.now) c.loop-other.clients.items c.pop-in-loop-other.new.self.items (Some c.in-Some.other)
     c.in-Some.ensures.items c.loop-other.invariant.ready).1 in
-    let outside = subst (λ (s : Stage). IsAt (config_of c.args.shared.now) (view c.in-Some.other.pass) c.in-Some.other.log s) c.in-Outside.enum_told_at-in-Some-1-is other.0.1 in
+    let stage : c.in-Some.other.stage ≡ Outside = search rules in
+    let outside =
+    subst (λ (s : Stage). IsAt (config_of c.args.shared.now) (view c.in-Some.other.pass) c.in-Some.other.log s) stage other.0.1 in
     record {
       outside = c.loop-other.invariant.may.outside;
       no_scan = c.loop-other.invariant.may.no_scan;

@@ -95,6 +95,7 @@ module _ {starts : State → Type 0} {allows : List ℕ → State → Writes →
     words_after = record {
       clock_is = turns.is_word;
       loaded = λ s word has. was_later word (k.loaded_words.loaded s word has);
+      none = k.loaded_words.none;
       helped = λ s word has. was_later word (k.loaded_words.helped s word has);
       found = λ s g is. let r = k.loaded_words.found s g is in (was_later g.word r.0, r.1);
       inside = λ s i is.

@@ -14,6 +14,6 @@ invariant_of-pass g c =
       timed = runs.0;
       begun = runs.1;
       known = r.2 old.known;
-      words = r.3 old.domain old.words;
+      in_domain = r.3 old.domain old.in_domain;
       taken = c.join_as.ensures.taken ∙ old.taken;
     }

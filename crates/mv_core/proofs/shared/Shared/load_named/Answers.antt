@@ -7,7 +7,7 @@ use Rattle.mv_core.proofs.shared.Shared.load_named.Goals as goal
 
 pub named_cell-cell-requires-clause-word : goal.named_cell-cell-requires-clause-word
 named_cell-cell-requires-clause-word g c =
-    subst (λ (d : Config). IsWord d c.args.word) c.requires.of.4 (c.args.pass.now.words.0 c.args.word c.requires.may.loaded)
+    subst (λ (d : Config). IsWord d c.args.word) c.requires.of.4 (c.args.pass.now.in_domain.0 c.args.word c.requires.may.loaded)
 
 pub load_as-requires-clause-rule : goal.load_as-requires-clause-rule
 load_as-requires-clause-rule g c = named_loads _ _ _ _ (view c.args.pass.now) c.args.word c.requires.may

@@ -1,6 +1,6 @@
 use Rattle.std.proofs.Common.{refl, ap}
 use Rattle.mv_core.proofs.Terms.{Config, Clock, View}
-use Rattle.mv_core.specs.Known.{KnownWords}
+use Rattle.mv_core.specs.Known.{KnownInDomain}
 use Rattle.mv_core.specs.EnterSteps.{time_loaded}
 use Rattle.mv_core.proofs.moves.Grown.{whole_is}
 use Rattle.std.proofs.Common.{sym, ◌∙◌, subst}
@@ -16,13 +16,13 @@ invariant_of-pass g c =
     let l = c.load_alone-word.ensures in
     let t = l.tells in
     let r = time_runs (config_of c.args.self.now) (view c.args.pass.now) _ _ _ c.args.pass.now.first t.0.0 t.0.2 t.2 c.clock_time-pass.ensures in
-    let words = subst (λ (d : Config). KnownWords d c.load_alone-word.new.seat.me.0) (sym c.requires.of.4) l.known.1 in
+    let in_domain = subst (λ (d : Config). KnownInDomain d c.load_alone-word.new.seat.me.0) (sym c.requires.of.4) l.known.1 in
     record {
       numbered = c.args.pass.now.numbered ∙ sym l.same.1.0;
       timed = r.0;
       begun = r.1;
       known = l.known.0;
-      words = words;
+      in_domain = in_domain;
       taken = l.taken ∙ c.args.pass.now.taken;
     }
 

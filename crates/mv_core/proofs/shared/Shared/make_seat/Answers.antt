@@ -1,6 +1,6 @@
 use Rattle.std.proofs.Common.{sym, ap, ◌∙◌, subst}
 use Rattle.mv_core.proofs.Terms.{Checked, View, view, config_of}
-use Rattle.mv_core.proofs.kinds.opening.MakeSeat.{maker_stays, made_begins}
+use Rattle.mv_core.proofs.kinds.opening.KnownPasses.{maker_stays, made_begins}
 use Rattle.mv_core.proofs.shared.Shared.make_seat.Goals as goal
 
 pub invariant_of-first : goal.invariant_of-first
@@ -14,7 +14,7 @@ invariant_of-first g c =
       timed = runs.0;
       begun = runs.1;
       known = r.2 old.known;
-      words = r.3 old.domain old.words;
+      in_domain = r.3 old.domain old.in_domain;
       taken = c.split_as-seat.ensures.maker.2 ∙ old.taken;
     }
 
@@ -29,6 +29,6 @@ invariant_of-result g c =
       timed = r.1;
       begun = r.2;
       known = r.3;
-      words = r.4 c.args.self.now.config;
+      in_domain = r.4 c.args.self.now.config;
       taken = c.split_as-seat.ensures.made.2;
     }

@@ -2,7 +2,8 @@ use Rattle.std.proofs.Common.{◌≡◌, List, length, sym, ap, ◌∙◌, subst
 use Rattle.mv_core.proofs.Terms.{State, Shows}
 use Rattle.mv_history.specs.Legal.{AreWords}
 use Rattle.mv_core.specs.Start.{opening_memory}
-use Rattle.mv_core.proofs.kinds.opening.MakeSeat.{opened, first_begins}
+use Rattle.mv_core.proofs.kinds.opening.KnownPasses.{first_begins}
+use Rattle.mv_core.proofs.kinds.opening.MakeSeat.{opened}
 use Rattle.mv_core.proofs.shared.Shared.open.Goals as goal
 
 pub of_words-requires : goal.of_words-requires
@@ -22,4 +23,4 @@ invariant_of-first g c =
     let r = first_begins g.P.Protocol.start g.P.Protocol.allowed c.args.config.now c.of.result.value.items c.in_ok-table.seat.me.0 c.requires.checked
     (subst AreWords back c.have_width.ensures) (subst (λ (s : State). g.P.Protocol.start s) back c.requires.lawful)
     (ap (λ m. m.0) c.in_ok-table.ensures.4) in
-    record { numbered = sym r.0; timed = r.1; begun = r.2; known = r.3; words = r.4 c.args.config.now; taken = ap (λ m. m.1) c.in_ok-table.ensures.4 }
+    record { numbered = sym r.0; timed = r.1; begun = r.2; known = r.3; in_domain = r.4 c.args.config.now; taken = ap (λ m. m.1) c.in_ok-table.ensures.4 }

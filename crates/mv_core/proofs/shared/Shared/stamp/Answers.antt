@@ -24,7 +24,7 @@ named_cell-cell-requires-clause-word g c =
     let pass = c.args.pass.now in
     is_packed config (view pass) c.args.word c.args.unset (subst Checked (sym c.args.self.now.about) c.args.self.now.checked)
     (subst (λ (n : ℕ). n < config.seats) pass.numbered c.requires.of.1)
-    (λ f e. subst (λ (d : Config). IsWord d f.word) c.requires.of.4 (pass.words.1 f e)) c.requires.may
+    (λ f e. subst (λ (d : Config). IsWord d f.word) c.requires.of.4 (pass.in_domain.1 f e)) c.requires.may
 
 pub swap_as-found-requires-clause-rule : goal.swap_as-found-requires-clause-rule
 swap_as-found-requires-clause-rule g c = stamp_swaps _ _ _ _ (view c.args.pass.now) c.args.word c.args.unset c.requires.may _ c.clock_time-time.ensures

@@ -14,6 +14,7 @@ use std::sync::ledger::Ledger;
 /// Reads the six words of the version at this position of this seat's log, where the pass stands and
 /// found a stamp that is a time not above the section's. They are the object's words in the state of
 /// the section's time. It makes six steps; the pass stands there still.
+#[inline(always)]
 pub fn read_version<P: Protocol, L: Ledger>(
     shared: &Shared<P>,
     pass: &mut Pass<P>,
@@ -40,6 +41,7 @@ pub fn read_version<P: Protocol, L: Ledger>(
 
 /// Reads the six master words of an object, at whose master the pass stands. They are its words in
 /// the state of the section's time. It makes six steps; the pass stands there still.
+#[inline(always)]
 pub fn read_master<P: Protocol, L: Ledger>(
     shared: &Shared<P>,
     pass: &mut Pass<P>,

@@ -1,0 +1,5 @@
+pub mod Blocks
+pub mod BlockGrammar
+pub mod BlockReplies
+pub mod BlockRules
+pub mod BlockRuleLaws

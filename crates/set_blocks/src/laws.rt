@@ -1,0 +1,36 @@
+// Laws of the replies of blocks and of their rules, over all commands and states.
+ghost use Rattle.std.specs.Prelude.{◌≡◌, ℕ, Bool, List, [], ◌∷◌, length};
+ghost use Rattle.mv_history.specs.declared.history.Entry.{Entry};
+ghost use Rattle.mv_history.specs.State.{State, Writes, state_after};
+ghost use Rattle.mv_history.specs.Legal.{IsAllowed};
+ghost use Rattle.mv_history.specs.Drift.{Drifts, IsFit};
+ghost use Rattle.set_script.specs.Catalogue.{Maps};
+ghost use Rattle.set_script.specs.Lawful.{IsLawful, IsOpening};
+ghost use Rattle.set_script.specs.Replies.{reply, changes, next};
+ghost use Rattle.set_script.specs.declared.commands.Command.{Command};
+ghost use Rattle.set_blocks.specs.BlockReplies.{block_replies, block_changes, block_next};
+ghost use Rattle.set_blocks.specs.BlockRules.{IsBlockCommit, Remains};
+
+/// A block of one command replies, changes and leaves what its command does, at the last time too; and each command of a
+/// block has one reply.
+pub fn blocks_of_one()
+    ensures replies { (command : Command) (c : Maps) (capacity : ℕ) (last : Bool)
+        → block_replies (command ∷ []) c capacity last ≡ reply command c capacity last ∷ [] }
+    ensures changes { (command : Command) (c : Maps) (capacity : ℕ) (last : Bool)
+        → block_changes (command ∷ []) c capacity last ≡ changes command c capacity last }
+    ensures next { (command : Command) (c : Maps) (capacity : ℕ) (last : Bool)
+        → block_next (command ∷ []) c capacity last ≡ next command c capacity last }
+    ensures count { (commands : List Command) (c : Maps) (capacity : ℕ) (last : Bool)
+        → length (block_replies commands c capacity last) ≡ length commands }
+{}
+
+/// Under the rules of blocks each state is lawful. While others commit, what a section holds remains: the objects keep their
+/// words, the nodes behind held heads and nodes of lists their keys, and a search in a tree that ended at a held leaf ends
+/// there. So it does where nobody commits, and a commit that is fit is allowed at once.
+pub fn lawful_states_remain()
+    ensures lawful { (start : State) (history : List Entry) → IsOpening start → IsAllowed IsBlockCommit start history
+        → IsLawful (state_after start history) }
+    ensures itself { (held : Writes) (s : State) → IsLawful s → Drifts IsBlockCommit held s s × Remains held s s }
+    ensures remains { (held : Writes) (from : State) (s : State) → IsLawful from → Drifts IsBlockCommit held from s → Remains held from s }
+    ensures at_once { (s : State) (tag : List ℕ) (writes : Writes) → IsFit IsBlockCommit s tag writes → IsBlockCommit tag s writes }
+{}

@@ -4,3 +4,4 @@ pub mod Remaining
 pub mod Tracking
 pub mod TreeSides
 pub mod ListTracks
+pub mod TreeTracks

@@ -5,3 +5,5 @@ pub mod Tracking
 pub mod TreeSides
 pub mod ListTracks
 pub mod TreeTracks
+pub mod RootTracks
+pub mod CutTracks

@@ -101,7 +101,7 @@ link-revalue (a ∷ b ∷ c ∷ []) to = refl
 link-revalue (a ∷ b ∷ c ∷ d ∷ w) to = refl
 
 -- a vacant node is of no list
-vacant_of_none : (s : State) (o : ℕ) → 180 ≤ o → words_at s o ≡ no_words → IsOfLists s o → ⊥
+pub vacant_of_none : (s : State) (o : ℕ) → 180 ≤ o → words_at s o ≡ no_words → IsOfLists s o → ⊥
 vacant_of_none s o lo e (inl lt) = omega arith
 vacant_of_none s o lo e (inr (_, some, _)) = some (ap (word 0) e)
 

@@ -35,11 +35,11 @@ tree_of_none s o lo f (inl lt) = omega arith
 tree_of_none s o lo f (inr (ge, some, list)) = elim (f ge) [ inl z ↦ some z | inr n ↦ n list ]
 
 -- where a search ends in the one tree of a root
-ends_once : (s : State) (root i l : ℕ) (t : Tree) → IsGrown s root t → EndsAt s root i l → seek i t ≡ l
+pub ends_once : (s : State) (root i l : ℕ) (t : Tree) → IsGrown s root t → EndsAt s root i l → seek i t ≡ l
 ends_once s root i l t g e = ap (seek i) (grown_once s root t e.0 g e.1) ∙ e.2
 
 -- The change of a parent's link keeps it no object of a list.
-parent_of_none : (s s' : State) (root p n a w : ℕ) → 170 ≤ root → root < 180 → IsParent s root p n → (word 1 (words_at s' p) ≡ word 1 (words_at s p))
+pub parent_of_none : (s s' : State) (root p n a w : ℕ) → 170 ≤ root → root < 180 → IsParent s root p n → (word 1 (words_at s' p) ≡ word 1 (words_at s p))
     → IsOfLists s' p → ⊥
 parent_of_none s s' root p n a w lo lt (inl (e, _)) same = tree_of_none s' p (omega arith) (λ ge. absurd (omega arith))
 parent_of_none s s' root p n a w lo lt (inr (i, _)) same =

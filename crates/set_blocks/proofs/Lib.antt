@@ -7,3 +7,6 @@ pub mod ListTracks
 pub mod TreeTracks
 pub mod RootTracks
 pub mod CutTracks
+pub mod Stepping
+pub mod TrackedPlans
+pub mod Changing

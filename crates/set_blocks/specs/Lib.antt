@@ -3,3 +3,4 @@ pub mod BlockGrammar
 pub mod BlockReplies
 pub mod BlockRules
 pub mod BlockRuleLaws
+pub mod BlockPlans

@@ -10,3 +10,5 @@ pub mod CutTracks
 pub mod Stepping
 pub mod TrackedPlans
 pub mod Changing
+pub mod HeldReplies
+pub mod Planning

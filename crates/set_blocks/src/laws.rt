@@ -1,15 +1,19 @@
 // Laws of the replies of blocks and of their rules, over all commands and states.
-ghost use Rattle.std.specs.Prelude.{◌≡◌, ℕ, Bool, List, [], ◌∷◌, length};
+ghost use Rattle.std.specs.Prelude.{◌≡◌, ◌≤◌, ℕ, Bool, List, [], ◌∷◌, length};
 ghost use Rattle.mv_history.specs.declared.history.Entry.{Entry};
-ghost use Rattle.mv_history.specs.State.{State, Writes, state_after};
+ghost use Rattle.mv_history.specs.State.{State, Writes, written, state_after};
 ghost use Rattle.mv_history.specs.Legal.{IsAllowed};
 ghost use Rattle.mv_history.specs.Drift.{Drifts, IsFit};
 ghost use Rattle.set_script.specs.Catalogue.{Maps};
+ghost use Rattle.set_script.specs.CatalogueOf.{catalogue_of};
 ghost use Rattle.set_script.specs.Lawful.{IsLawful, IsOpening};
+ghost use Rattle.set_script.specs.Rules.{capacity};
 ghost use Rattle.set_script.specs.Replies.{reply, changes, next};
 ghost use Rattle.set_script.specs.declared.commands.Command.{Command};
-ghost use Rattle.set_blocks.specs.BlockReplies.{block_replies, block_changes, block_next};
-ghost use Rattle.set_blocks.specs.BlockRules.{IsBlockCommit, Remains};
+ghost use Rattle.set_script.specs.declared.commands.Reply.{Reply};
+ghost use Rattle.set_blocks.specs.BlockPlans.{BlockPlan};
+ghost use Rattle.set_blocks.specs.BlockReplies.{block_replies, block_changes, block_next, turn_replies, after_turns, some_changes};
+ghost use Rattle.set_blocks.specs.BlockRules.{IsBlockCommit, Remains, block_tag};
 
 /// A block of one command replies, changes and leaves what its command does, at the last time too; and each command of a
 /// block has one reply.
@@ -33,4 +37,23 @@ pub fn lawful_states_remain()
     ensures itself { (held : Writes) (s : State) → IsLawful s → Drifts IsBlockCommit held s s × Remains held s s }
     ensures remains { (held : Writes) (from : State) (s : State) → IsLawful from → Drifts IsBlockCommit held from s → Remains held from s }
     ensures at_once { (s : State) (tag : List ℕ) (writes : Writes) → IsFit IsBlockCommit s tag writes → IsBlockCommit tag s writes }
+{}
+
+/// What a block plans in a state by its commands one after another is a commit that is fit: it stays allowed whatever other
+/// blocks commit meanwhile that write nothing of it. On each state to which they may lead the commands reply what was
+/// planned, change something or not as was planned, and leave the catalogue of the state with these writes. So the reply
+/// of a commit is that of the state just before it, whatever that is.
+pub fn block_plans_are_fit()
+    ensures fit { (from : State) (commands : List Command) (writes : Writes) (replies : List Reply) (changing : Bool)
+        → BlockPlan from commands writes replies changing → IsLawful from → 1 ≤ length commands → length commands ≤ 8
+        → IsFit IsBlockCommit from (block_tag (length commands)) writes }
+    ensures replies { (from : State) (commands : List Command) (writes : Writes) (replies : List Reply) (changing : Bool)
+        → BlockPlan from commands writes replies changing → IsLawful from → (s : State) → Drifts IsBlockCommit writes from s
+        → turn_replies commands (catalogue_of s) (capacity s) ≡ replies }
+    ensures changes { (from : State) (commands : List Command) (writes : Writes) (replies : List Reply) (changing : Bool)
+        → BlockPlan from commands writes replies changing → IsLawful from → (s : State) → Drifts IsBlockCommit writes from s
+        → some_changes commands (catalogue_of s) (capacity s) ≡ changing }
+    ensures leaves { (from : State) (commands : List Command) (writes : Writes) (replies : List Reply) (changing : Bool)
+        → BlockPlan from commands writes replies changing → IsLawful from → (s : State) → Drifts IsBlockCommit writes from s
+        → catalogue_of (written s writes) ≡ after_turns commands (catalogue_of s) (capacity s) }
 {}

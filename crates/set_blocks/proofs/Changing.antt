@@ -1,20 +1,17 @@
 -- What is planned for a command that changes something does the same in every state that others may lead to meanwhile.
-use Rattle.std.proofs.Common.{◌≡◌, ◌≢◌, ℕ, ◌^◌, ◌<◌, ◌⊎◌, inl, inr, Bool, true, false, cond, not, ◌&&◌, ◌||◌, List, [], ◌∷◌, length}
-use Rattle.std.proofs.Common.{refl, sym, ap, ◌∙◌, subst, true≢false}
+use Rattle.std.proofs.Common.{◌≡◌, ◌≢◌, ℕ, ◌^◌, ◌<◌, inl, inr, Bool, true, false, cond, not, ◌&&◌, ◌||◌}
+use Rattle.std.proofs.Common.{refl, sym, ap, ◌∙◌, subst}
 use Rattle.mv_history.specs.State.{State, Writes, written, touches}
 use Rattle.mv_history.specs.Legal.{are_distinct}
-use Rattle.mv_history.specs.Drift.{IsFit}
 use Rattle.mv_history.proofs.Drifting.{allowed_at_once}
 use Rattle.set_script.specs.declared.commands.Command.{Command}
 use Rattle.set_script.specs.declared.commands.Command.TheVariants.{Add, Put, Del, Has, Get, Move, Pair, Size, Next}
-use Rattle.set_script.specs.declared.commands.Reply.{Reply}
 use Rattle.set_script.specs.declared.commands.Reply.TheVariants.{Yes, No, Full, Worn}
 use Rattle.set_script.specs.Catalogue.{Maps, map_of, has_key, has_entry, take_out}
 use Rattle.set_script.specs.CatalogueOf.{catalogue_of}
 use Rattle.set_script.specs.Objects.{value}
-use Rattle.set_script.specs.OwnWrites.{objects_of}
 use Rattle.set_script.specs.Lawful.{IsLawful}
-use Rattle.set_script.specs.Replies.{applies, overflows, reply, changes, next}
+use Rattle.set_script.specs.Replies.{applies, overflows, reply, changes}
 use Rattle.set_script.specs.Rules.{capacity, IsInRange, Makes, IsSetCommit}
 use Rattle.set_script.specs.Tags.{tag_of}
 use Rattle.set_script.proofs.Ways as ways
@@ -61,42 +58,50 @@ move_apart source target k c e same = go (has_key k (map_of source c)) (has_key 
 
 module _ (z : State) (ws : Writes) (lz : IsLawful z) where
   pub add_step : (name k : ℕ) → name < 30 → k < 2 ^ 32 → (first second : ℕ) → AddPlan z name k 0 first second ws → StepAt (Add name k) z ws Yes true
-  add_step name k lt fits first second plan = record { step = λ held u cover r.
-      (let t = added_tracked z name k lt fits 0 first second ws plan in
-      let lh = head_below name k lt in
-      let d : AddedBy u name k 0 ws = by_way_there z u (head_of name k) lh ws t held lz r cover in
-      let c : IsSetCommit (tag_of (Add name k)) u ws = allowed_at_once IsSetCommit u (tag_of (Add name k)) ws (fit_add u name k ws lt fits r.lawful d) in
-      made (Add name k) held z u ws (yes_changes (applies (Add name k) (catalogue_of u)) (overflows (Add name k) (catalogue_of u) (capacity u))) c.makes
-      (tracked_remains z u (head_of name k) lh ws t held lz r cover) (tracked_spares z u (head_of name k) lh ws t held lz r cover)) }
+  add_step name k lt fits first second plan = record {
+    step = λ held u cover r.
+        (let t = added_tracked z name k lt fits 0 first second ws plan in
+        let lh = head_below name k lt in
+        let d : AddedBy u name k 0 ws = by_way_there z u (head_of name k) lh ws t held lz r cover in
+        let c : IsSetCommit (tag_of (Add name k)) u ws = allowed_at_once IsSetCommit u (tag_of (Add name k)) ws (fit_add u name k ws lt fits r.lawful d) in
+        made (Add name k) held z u ws (yes_changes (applies (Add name k) (catalogue_of u)) (overflows (Add name k) (catalogue_of u) (capacity u))) c.makes
+        (tracked_remains z u (head_of name k) lh ws t held lz r cover) (tracked_spares z u (head_of name k) lh ws t held lz r cover));
+  }
 
   pub put_new_step : (name k v : ℕ) → name < 30 → k < 2 ^ 32 → v < 2 ^ 64 → (first second : ℕ) → AddPlan z name k v first second ws
       → StepAt (Put name k v) z ws Yes true
-  put_new_step name k v lt fits lv first second plan = record { step = λ held u cover r.
-      (let t = added_tracked z name k lt fits v first second ws plan in
-      let lh = head_below name k lt in
-      let c : IsSetCommit (tag_of (Put name k v)) u ws = allowed_at_once IsSetCommit u (tag_of (Put name k v)) ws
-      (fit_put_new u name k ws lt fits r.lawful v lv (by_way_there z u (head_of name k) lh ws t held lz r cover)) in
-      made (Put name k v) held z u ws (yes_changes (applies (Put name k v) (catalogue_of u)) (overflows (Put name k v) (catalogue_of u) (capacity u))) c.makes
-      (tracked_remains z u (head_of name k) lh ws t held lz r cover) (tracked_spares z u (head_of name k) lh ws t held lz r cover)) }
+  put_new_step name k v lt fits lv first second plan = record {
+    step = λ held u cover r.
+        (let t = added_tracked z name k lt fits v first second ws plan in
+        let lh = head_below name k lt in
+        let c : IsSetCommit (tag_of (Put name k v)) u ws = allowed_at_once IsSetCommit u (tag_of (Put name k v)) ws
+        (fit_put_new u name k ws lt fits r.lawful v lv (by_way_there z u (head_of name k) lh ws t held lz r cover)) in
+        made (Put name k v) held z u ws (yes_changes (applies (Put name k v) (catalogue_of u)) (overflows (Put name k v) (catalogue_of u) (capacity u))) c.makes
+        (tracked_remains z u (head_of name k) lh ws t held lz r cover) (tracked_spares z u (head_of name k) lh ws t held lz r cover));
+  }
 
   pub put_step : (name k v : ℕ) → name < 30 → k < 2 ^ 32 → v < 2 ^ 64 → has_entry k v (map_of name (catalogue_of z)) ≡ false → PutPlan z name k v ws
       → StepAt (Put name k v) z ws Yes true
-  put_step name k v lt fits lv lacks plan = record { step = λ held u cover r.
-      (let t = updated_tracked z name k lt fits v ws lz lacks plan in
-      let lh = head_below name k lt in
-      let c : IsSetCommit (tag_of (Put name k v)) u ws = allowed_at_once IsSetCommit u (tag_of (Put name k v)) ws
-      (fit_put u name k ws lt fits r.lawful v lv (by_way_there z u (head_of name k) lh ws t held lz r cover)) in
-      made (Put name k v) held z u ws (yes_changes (applies (Put name k v) (catalogue_of u)) (overflows (Put name k v) (catalogue_of u) (capacity u))) c.makes
-      (tracked_remains z u (head_of name k) lh ws t held lz r cover) (tracked_spares z u (head_of name k) lh ws t held lz r cover)) }
+  put_step name k v lt fits lv lacks plan = record {
+    step = λ held u cover r.
+        (let t = updated_tracked z name k lt fits v ws lz lacks plan in
+        let lh = head_below name k lt in
+        let c : IsSetCommit (tag_of (Put name k v)) u ws = allowed_at_once IsSetCommit u (tag_of (Put name k v)) ws
+        (fit_put u name k ws lt fits r.lawful v lv (by_way_there z u (head_of name k) lh ws t held lz r cover)) in
+        made (Put name k v) held z u ws (yes_changes (applies (Put name k v) (catalogue_of u)) (overflows (Put name k v) (catalogue_of u) (capacity u))) c.makes
+        (tracked_remains z u (head_of name k) lh ws t held lz r cover) (tracked_spares z u (head_of name k) lh ws t held lz r cover));
+  }
 
   pub del_step : (name k : ℕ) → name < 30 → k < 2 ^ 32 → (node inner : ℕ) → DelPlan z name k node inner ws → StepAt (Del name k) z ws Yes true
-  del_step name k lt fits node inner plan = record { step = λ held u cover r.
-      (let t = removed_tracked z name k lt fits node inner ws plan in
-      let lh = head_below name k lt in
-      let c : IsSetCommit (tag_of (Del name k)) u ws = allowed_at_once IsSetCommit u (tag_of (Del name k)) ws
-      (fit_del u name k ws lt fits r.lawful (value z node) (by_way_there z u (head_of name k) lh ws t held lz r cover)) in
-      made (Del name k) held z u ws (yes_changes (applies (Del name k) (catalogue_of u)) (overflows (Del name k) (catalogue_of u) (capacity u))) c.makes
-      (tracked_remains z u (head_of name k) lh ws t held lz r cover) (tracked_spares z u (head_of name k) lh ws t held lz r cover)) }
+  del_step name k lt fits node inner plan = record {
+    step = λ held u cover r.
+        (let t = removed_tracked z name k lt fits node inner ws plan in
+        let lh = head_below name k lt in
+        let c : IsSetCommit (tag_of (Del name k)) u ws = allowed_at_once IsSetCommit u (tag_of (Del name k)) ws
+        (fit_del u name k ws lt fits r.lawful (value z node) (by_way_there z u (head_of name k) lh ws t held lz r cover)) in
+        made (Del name k) held z u ws (yes_changes (applies (Del name k) (catalogue_of u)) (overflows (Del name k) (catalogue_of u) (capacity u))) c.makes
+        (tracked_remains z u (head_of name k) lh ws t held lz r cover) (tracked_spares z u (head_of name k) lh ws t held lz r cover));
+  }
 
 -- A move: its del, and then its add, in the state that the del leaves.
 module _ (z : State) (source target k : ℕ) (lz : IsLawful z) (ls : source < 30) (lt : target < 30) (apart : source ≢ target) (fits : k < 2 ^ 32)

@@ -1,15 +1,15 @@
 -- The way to cut a leaf and its parent out of a tree is one that others don't disturb.
-use Rattle.std.proofs.Common.{◌≡◌, ◌≢◌, ℕ, suc, ◌<◌, ◌≤◌, ◌⊎◌, inl, inr, true, [], ◌∷◌, ◌++◌, length, refl, sym, ap, ◌∙◌, subst, arith}
+use Rattle.std.proofs.Common.{◌≡◌, ◌≢◌, ℕ, suc, ◌<◌, ◌≤◌, inl, inr, true, [], ◌∷◌, refl, sym, ap, ◌∙◌, subst, arith}
 use Rattle.mv_history.specs.State.{State, Writes, written, touches}
 use Rattle.mv_history.specs.Meaning.{words_at}
 use Rattle.set_script.specs.Objects.{owner}
-use Rattle.set_script.specs.Trees.{objects_in, IsGrown, seek, EndsAt}
+use Rattle.set_script.specs.Trees.{IsGrown, seek, EndsAt}
 use Rattle.set_script.specs.Trees.Tree.{leaf}
 use Rattle.set_script.specs.Lawful.{IsLawful}
 use Rattle.set_script.proofs.ObjectWords.{word}
 use Rattle.set_script.proofs.TreeShape.{IsIn, seek_in, Stands-owner}
 use Rattle.set_script.proofs.Written.{in-touches}
-use Rattle.tree_set.specs.Paths.{Turn, Path, plug, Follows}
+use Rattle.tree_set.specs.Paths.{Turn, Path, plug}
 use Rattle.tree_set.specs.Places.{IsCutPlace, cut_writes, sibling}
 use Rattle.tree_set.proofs.Plugging.{distinct_part, stands_part, seek_plug, seek_beside}
 use Rattle.tree_set.proofs.Replacing.{redirect_keeps}

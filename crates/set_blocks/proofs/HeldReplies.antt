@@ -1,17 +1,17 @@
 -- A command that changes nothing replies the same in every state that others may lead to while what its reply depends on is held.
-use Rattle.std.proofs.Common.{◌≡◌, ◌≢◌, ℕ, suc, ◌^◌, ◌<◌, ◌≤◌, ◌⊎◌, inl, inr, Bool, true, false, cond, not, ◌&&◌, List, [], ◌∷◌, ◌++◌, length}
+use Rattle.std.proofs.Common.{◌≡◌, ◌≢◌, ℕ, ◌^◌, ◌<◌, ◌≤◌, inl, inr, Bool, true, false, cond, not, ◌&&◌, List, [], ◌∷◌, ◌++◌}
 use Rattle.std.proofs.Common.{refl, sym, ap, ◌∙◌, subst, arith, true≢false, Option, Some, None, set}
 use Rattle.std.proofs.lemmas.List.{set-get_or}
 use Rattle.std.proofs.lemmas.Bool.{false_from_ne_true}
-use Rattle.mv_history.specs.State.{State, Writes, written, touches}
+use Rattle.mv_history.specs.State.{State, Writes, written}
 use Rattle.mv_history.specs.Meaning.{words_at}
 use Rattle.set_script.specs.declared.commands.Command.{Command}
-use Rattle.set_script.specs.declared.commands.Command.TheVariants.{Add, Put, Del, Has, Get, Move, Pair, Size, Next}
+use Rattle.set_script.specs.declared.commands.Command.TheVariants.{Add, Put, Del, Has, Get, Move, Pair}
 use Rattle.set_script.specs.declared.commands.Reply.{Reply}
 use Rattle.set_script.specs.declared.commands.Reply.TheVariants.{Yes, No, Full, Worn, Both, NoKey, Value}
-use Rattle.set_script.specs.Catalogue.{Map, Maps, map_of, has_key, has_entry, value_of}
-use Rattle.set_script.specs.CatalogueOf.{name_of, map_at, catalogue_of}
-use Rattle.set_script.specs.Objects.{owner, kind, key, link, value}
+use Rattle.set_script.specs.Catalogue.{Map, Maps, map_of, has_key, value_of}
+use Rattle.set_script.specs.CatalogueOf.{name_of, catalogue_of}
+use Rattle.set_script.specs.Objects.{key, value}
 use Rattle.set_script.specs.Lawful.{IsLawful}
 use Rattle.set_script.specs.OwnWrites.{objects_of}
 use Rattle.set_script.specs.Replies.{changed, applies, overflows, value_reply, reply, changes, next}
@@ -26,11 +26,9 @@ use Rattle.set_script.proofs.Mapped.{map_of-catalogue_of}
 use Rattle.set_script.proofs.TreeMaps.{map_of-root, seek_leaf}
 use Rattle.set_script.proofs.TreeShape.{IsIn, in_left, in_right, only_in}
 use Rattle.set_script.proofs.Written.{touches-in}
-use Rattle.list_set.specs.Places.{IsAddPlace, IsDelPlace}
 use Rattle.list_set.proofs.Adding.{add_absent}
 use Rattle.list_set.proofs.ListHalves.{node_has}
 use Rattle.list_set.proofs.Removing.{removal}
-use Rattle.tree_set.specs.Places.{IsLeaf}
 use Rattle.tree_set.proofs.Found.{found_none}
 use Rattle.tree_set.proofs.TreeWays.{leaf_same, leaf_has}
 use Rattle.set_catalog.specs.Plans.{head_of}
@@ -124,27 +122,27 @@ objects-holding z (p ∷ os) o (inr i) = inr (objects-holding z os o i)
 
 -- a reply that comes of no change
 module _ (command : Command) (answer : Reply) (z : State) (os : List ℕ) (held : Writes) (u : State) (cover : Covers held (holding z os)) (r : Remains held z u)
-    where
-  held_os : AreHeld held os
-  held_os o i = cover o (touches-in (holding z os) o (objects-holding z os o i))
+  where
+    held_os : AreHeld held os
+    held_os o i = cover o (touches-in (holding z os) o (objects-holding z os o i))
 
-  settled : reply command (catalogue_of u) (capacity u) false ≡ answer → changes command (catalogue_of u) (capacity u) false ≡ false
-      → next command (catalogue_of u) (capacity u) false ≡ catalogue_of u → Stepped command answer false held z u (holding z os)
-  settled said nothing stays =
-      let eu : written u (holding z os) ≡ u = written-holding u z os (λ o i. sym (r.words o (held_os o i))) in
-      let ez : written z (holding z os) ≡ z = written-holding z z os (λ o i. refl) in
-      record {
-        answer_is = said;
-        changing_is = nothing;
-        leaves = ap catalogue_of eu ∙ sym stays;
-        remains = subst (λ x. Remains held x (written u (holding z os))) (sym ez) (subst (λ x. Remains held z x) (sym eu) r);
-        spares = spares_none u (holding z os) eu;
-      }
+    settled : reply command (catalogue_of u) (capacity u) false ≡ answer → changes command (catalogue_of u) (capacity u) false ≡ false
+        → next command (catalogue_of u) (capacity u) false ≡ catalogue_of u → Stepped command answer false held z u (holding z os)
+    settled said nothing stays =
+        let eu : written u (holding z os) ≡ u = written-holding u z os (λ o i. sym (r.words o (held_os o i))) in
+        let ez : written z (holding z os) ≡ z = written-holding z z os (λ o i. refl) in
+        record {
+          answer_is = said;
+          changing_is = nothing;
+          leaves = ap catalogue_of eu ∙ sym stays;
+          remains = subst (λ x. Remains held x (written u (holding z os))) (sym ez) (subst (λ x. Remains held z x) (sym eu) r);
+          spares = spares_none u (holding z os) eu;
+        }
 
-  -- of a command that might change something, and doesn't apply
-  unapplied : (does over : Bool) → does ≡ false → (cond does (cond over Full (cond false Worn Yes)) No ≡ No) × (does && not over && not false ≡ false)
-  unapplied true over e = absurd (cc)
-  unapplied false over e = (refl, refl)
+    -- of a command that might change something, and doesn't apply
+    unapplied : (does over : Bool) → does ≡ false → (cond does (cond over Full (cond false Worn Yes)) No ≡ No) × (does && not over && not false ≡ false)
+    unapplied true over e = absurd (cc)
+    unapplied false over e = (refl, refl)
 
 keeps_all : (b : Bool) (x c : Maps) → b ≡ false → cond b x c ≡ c
 keeps_all true x c e = absurd (cc)
@@ -171,49 +169,69 @@ none_of k m e = go (value_of k m) refl
 module _ (z : State) (lz : IsLawful z) where
   pub hold_step : (command : Command) (os : List ℕ) (answer : Reply) → IsInRange command → HoldPlan z command os answer
       → StepAt command z (holding z os) answer false
-  hold_step command os answer range (has_yes name k qs at) = record { step = λ held u c r.
-      settled (Has name k) Yes z qs held u c r
-      (ap (λ b. cond b Yes No) (has_there z u name k range.0 range.1 held lz r qs (held_os (Has name k) Yes z qs held u c r) at)) refl refl }
-  hold_step command os answer range (has_no name k qs at) = record { step = λ held u c r.
-      settled (Has name k) No z qs held u c r
-      (ap (λ b. cond b Yes No) (lacks_there z u name k range.0 range.1 held lz r qs (held_os (Has name k) No z qs held u c r) at)) refl refl }
-  hold_step command os answer range (del_no name k qs at) = record { step = λ held u c r.
-      (let e = lacks_there z u name k range.0 range.1 held lz r qs (held_os (Del name k) No z qs held u c r) at in
-      let x = unapplied (Del name k) No z qs held u c r (has_key k (map_of name (catalogue_of u))) false e in
-      settled (Del name k) No z qs held u c r x.0 x.1 (keeps_all (changes (Del name k) (catalogue_of u) (capacity u) false) (changed (Del name k) (catalogue_of u)) (catalogue_of u) x.1)) }
-  hold_step command os answer range (add_no name k qs at) = record { step = λ held u c r.
-      (let e = ap not (has_there z u name k range.0 range.1 held lz r qs (held_os (Add name k) No z qs held u c r) at) in
-      let x = unapplied (Add name k) No z qs held u c r (applies (Add name k) (catalogue_of u)) (overflows (Add name k) (catalogue_of u) (capacity u)) e in
-      settled (Add name k) No z qs held u c r x.0 x.1 (keeps_all (changes (Add name k) (catalogue_of u) (capacity u) false) (changed (Add name k) (catalogue_of u)) (catalogue_of u) x.1)) }
-  hold_step command os answer range (get_none name k qs at) = record { step = λ held u c r.
-      settled (Get name k) NoKey z qs held u c r
-      (ap value_reply (none_of k (map_of name (catalogue_of u)) (lacks_there z u name k range.0 range.1 held lz r qs (held_os (Get name k) NoKey z qs held u c r) at)))
-      refl refl }
-  hold_step command os answer range (get_value name k v qs at) = record { step = λ held u c r.
-      settled (Get name k) (Value v) z qs held u c r
-      (ap value_reply (value_there z u name k range.0 range.1 held lz r v qs (held_os (Get name k) (Value v) z qs held u c r) at)) refl refl }
-  hold_step command os answer range (put_no name k v qs at) = record { step = λ held u c r.
-      (let e = ap not (has_entry-there k v (map_of name (catalogue_of u))
-      (value_there z u name k range.0 range.1 held lz r v qs (held_os (Put name k v) No z qs held u c r) at)) in
-      let x = unapplied (Put name k v) No z qs held u c r (applies (Put name k v) (catalogue_of u)) (overflows (Put name k v) (catalogue_of u) (capacity u)) e in
-      settled (Put name k v) No z qs held u c r x.0 x.1 (keeps_all (changes (Put name k v) (catalogue_of u) (capacity u) false) (changed (Put name k v) (catalogue_of u)) (catalogue_of u) x.1)) }
-  hold_step command os answer range (move_from_none source target k qs at) = record { step = λ held u c r.
-      (let e = and_none (has_key k (map_of source (catalogue_of u))) (not (has_key k (map_of target (catalogue_of u))))
-      (lacks_there z u source k range.0 range.2 held lz r qs (held_os (Move source target k) No z qs held u c r) at) in
-      let x = unapplied (Move source target k) No z qs held u c r (applies (Move source target k) (catalogue_of u))
-      (overflows (Move source target k) (catalogue_of u) (capacity u)) e in
-      settled (Move source target k) No z qs held u c r x.0 x.1
-      (keeps_all (changes (Move source target k) (catalogue_of u) (capacity u) false) (changed (Move source target k) (catalogue_of u)) (catalogue_of u) x.1)) }
-  hold_step command os answer range (move_to_one source target k qs at) = record { step = λ held u c r.
-      (let e = and_not (has_key k (map_of source (catalogue_of u))) (has_key k (map_of target (catalogue_of u)))
-      (has_there z u target k range.1 range.2 held lz r qs (held_os (Move source target k) No z qs held u c r) at) in
-      let x = unapplied (Move source target k) No z qs held u c r (applies (Move source target k) (catalogue_of u))
-      (overflows (Move source target k) (catalogue_of u) (capacity u)) e in
-      settled (Move source target k) No z qs held u c r x.0 x.1
-      (keeps_all (changes (Move source target k) (catalogue_of u) (capacity u) false) (changed (Move source target k) (catalogue_of u)) (catalogue_of u) x.1)) }
-  hold_step command os answer range (pair_tells first second k b c qs rs at more) = record { step = λ held u cover r.
-      (let h = held_os (Pair first second k) (Both b c) z (qs ++ rs) held u cover r in
-      let x = tells_there z u first k range.0 range.2 held lz r b qs (λ o i. h o (in_left qs rs o i)) at in
-      let y = tells_there z u second k range.1 range.2 held lz r c rs (λ o i. h o (in_right qs rs o i)) more in
-      settled (Pair first second k) (Both b c) z (qs ++ rs) held u cover r
-      (ap (λ p. Both p (has_key k (map_of second (catalogue_of u)))) x ∙ ap (Both b) y) refl refl) }
+  hold_step command os answer range (has_yes name k qs at) = record {
+    step = λ held u c r.
+        settled (Has name k) Yes z qs held u c r
+        (ap (λ b. cond b Yes No) (has_there z u name k range.0 range.1 held lz r qs (held_os (Has name k) Yes z qs held u c r) at)) refl refl;
+  }
+  hold_step command os answer range (has_no name k qs at) = record {
+    step = λ held u c r.
+        settled (Has name k) No z qs held u c r
+        (ap (λ b. cond b Yes No) (lacks_there z u name k range.0 range.1 held lz r qs (held_os (Has name k) No z qs held u c r) at)) refl refl;
+  }
+  hold_step command os answer range (del_no name k qs at) = record {
+    step = λ held u c r.
+        (let e = lacks_there z u name k range.0 range.1 held lz r qs (held_os (Del name k) No z qs held u c r) at in
+        let x = unapplied (Del name k) No z qs held u c r (has_key k (map_of name (catalogue_of u))) false e in
+        settled (Del name k) No z qs held u c r x.0 x.1 (keeps_all (changes (Del name k) (catalogue_of u) (capacity u) false) (changed (Del name k) (catalogue_of u)) (catalogue_of u) x.1));
+  }
+  hold_step command os answer range (add_no name k qs at) = record {
+    step = λ held u c r.
+        (let e = ap not (has_there z u name k range.0 range.1 held lz r qs (held_os (Add name k) No z qs held u c r) at) in
+        let x = unapplied (Add name k) No z qs held u c r (applies (Add name k) (catalogue_of u)) (overflows (Add name k) (catalogue_of u) (capacity u)) e in
+        settled (Add name k) No z qs held u c r x.0 x.1 (keeps_all (changes (Add name k) (catalogue_of u) (capacity u) false) (changed (Add name k) (catalogue_of u)) (catalogue_of u) x.1));
+  }
+  hold_step command os answer range (get_none name k qs at) = record {
+    step = λ held u c r.
+        settled (Get name k) NoKey z qs held u c r
+        (ap value_reply (none_of k (map_of name (catalogue_of u)) (lacks_there z u name k range.0 range.1 held lz r qs (held_os (Get name k) NoKey z qs held u c r) at)))
+        refl refl;
+  }
+  hold_step command os answer range (get_value name k v qs at) = record {
+    step = λ held u c r.
+        settled (Get name k) (Value v) z qs held u c r
+        (ap value_reply (value_there z u name k range.0 range.1 held lz r v qs (held_os (Get name k) (Value v) z qs held u c r) at)) refl refl;
+  }
+  hold_step command os answer range (put_no name k v qs at) = record {
+    step = λ held u c r.
+        (let e = ap not (has_entry-there k v (map_of name (catalogue_of u))
+        (value_there z u name k range.0 range.1 held lz r v qs (held_os (Put name k v) No z qs held u c r) at)) in
+        let x = unapplied (Put name k v) No z qs held u c r (applies (Put name k v) (catalogue_of u)) (overflows (Put name k v) (catalogue_of u) (capacity u)) e in
+        settled (Put name k v) No z qs held u c r x.0 x.1 (keeps_all (changes (Put name k v) (catalogue_of u) (capacity u) false) (changed (Put name k v) (catalogue_of u)) (catalogue_of u) x.1));
+  }
+  hold_step command os answer range (move_from_none source target k qs at) = record {
+    step = λ held u c r.
+        (let e = and_none (has_key k (map_of source (catalogue_of u))) (not (has_key k (map_of target (catalogue_of u))))
+        (lacks_there z u source k range.0 range.2 held lz r qs (held_os (Move source target k) No z qs held u c r) at) in
+        let x = unapplied (Move source target k) No z qs held u c r (applies (Move source target k) (catalogue_of u))
+        (overflows (Move source target k) (catalogue_of u) (capacity u)) e in
+        settled (Move source target k) No z qs held u c r x.0 x.1
+        (keeps_all (changes (Move source target k) (catalogue_of u) (capacity u) false) (changed (Move source target k) (catalogue_of u)) (catalogue_of u) x.1));
+  }
+  hold_step command os answer range (move_to_one source target k qs at) = record {
+    step = λ held u c r.
+        (let e = and_not (has_key k (map_of source (catalogue_of u))) (has_key k (map_of target (catalogue_of u)))
+        (has_there z u target k range.1 range.2 held lz r qs (held_os (Move source target k) No z qs held u c r) at) in
+        let x = unapplied (Move source target k) No z qs held u c r (applies (Move source target k) (catalogue_of u))
+        (overflows (Move source target k) (catalogue_of u) (capacity u)) e in
+        settled (Move source target k) No z qs held u c r x.0 x.1
+        (keeps_all (changes (Move source target k) (catalogue_of u) (capacity u) false) (changed (Move source target k) (catalogue_of u)) (catalogue_of u) x.1));
+  }
+  hold_step command os answer range (pair_tells first second k b c qs rs at more) = record {
+    step = λ held u cover r.
+        (let h = held_os (Pair first second k) (Both b c) z (qs ++ rs) held u cover r in
+        let x = tells_there z u first k range.0 range.2 held lz r b qs (λ o i. h o (in_left qs rs o i)) at in
+        let y = tells_there z u second k range.1 range.2 held lz r c rs (λ o i. h o (in_right qs rs o i)) more in
+        settled (Pair first second k) (Both b c) z (qs ++ rs) held u cover r
+        (ap (λ p. Both p (has_key k (map_of second (catalogue_of u)))) x ∙ ap (Both b) y) refl refl);
+  }

@@ -1,8 +1,8 @@
 -- The ways to change a list are ones that others don't disturb: they commit nothing that these hold, and keep the keys of the nodes behind.
-use Rattle.std.proofs.Common.{◌≡◌, ◌≢◌, ℕ, suc, ◌<◌, ◌≤◌, ◌⊎◌, inl, inr, true, List, [], ◌∷◌, ◌++◌, length, refl, sym, ap, ◌∙◌, subst, arith}
+use Rattle.std.proofs.Common.{◌≡◌, ℕ, suc, ◌<◌, ◌≤◌, ◌⊎◌, inl, inr, true, List, [], ◌∷◌, ◌++◌, length, refl, sym, ap, ◌∙◌, subst, arith}
 use Rattle.mv_history.specs.State.{State, Writes, written, touches}
 use Rattle.mv_history.specs.Meaning.{words_at}
-use Rattle.set_script.specs.Objects.{owner, kind, key, link, value, no_words, list_words, relink, revalue}
+use Rattle.set_script.specs.Objects.{owner, key, link, no_words, relink, revalue}
 use Rattle.set_script.specs.Lists.{Nodes, first_of, FitsHead, Links, IsList}
 use Rattle.set_script.specs.Lawful.{IsLawful}
 use Rattle.set_script.proofs.ObjectWords.{word}
@@ -166,8 +166,12 @@ put_links : (head k v n : ℕ) → head < 170 → (s : State) → IsLawful s →
     → IsReached (n ∷ []) s (put_writes s n v) (link (written s (put_writes s n v)) o)
 put_links head k v n lh s l a o (inl e) =
     let c : Revalued s (written s (put_writes s n v)) n v = put_writes_do s n v (put_in_range s head k n a) in
-    inr (n, inl refl, list_of s head n l lh (inr (a.is_node, a.own)),
-      sym (ap (link (written s (put_writes s n v))) e ∙ ap (word 3) c.here ∙ link-revalue (words_at s n) v))
+    inr (
+      n,
+      inl refl,
+      list_of s head n l lh (inr (a.is_node, a.own)),
+      sym (ap (link (written s (put_writes s n v))) e ∙ ap (word 3) c.here ∙ link-revalue (words_at s n) v),
+    )
 put_links head k v n lh s l a o (inr i) = absurd i
 
 pub list_put_tracks : (head k v n : ℕ) (lh : head < 170) → Tracks head (list_put_way head k v n lh)

@@ -1,5 +1,5 @@
 -- What a block plans in a state, command by command, is what it does in every state that others may lead to.
-use Rattle.std.proofs.Common.{◌≡◌, Bool, List}
+use Rattle.std.proofs.Common.{Bool, List}
 use Rattle.mv_history.specs.State.{State, Writes, written}
 use Rattle.mv_history.specs.Drift.{Drifts}
 use Rattle.set_script.specs.declared.commands.Command.{Command}

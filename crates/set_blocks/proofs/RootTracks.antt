@@ -1,12 +1,12 @@
 -- The ways to plant and to bare a tree, and to put another value at a leaf, are ones that others don't disturb.
-use Rattle.std.proofs.Common.{◌≡◌, ◌≢◌, ℕ, suc, ◌^◌, ◌<◌, ◌≤◌, ◌⊎◌, inl, inr, true, List, [], ◌∷◌, ◌++◌, length, refl, sym, ap, ◌∙◌, subst, arith}
+use Rattle.std.proofs.Common.{◌≡◌, ℕ, ◌^◌, ◌<◌, ◌≤◌, inl, inr, true, List, [], ◌∷◌, refl, sym, ap, ◌∙◌, subst, arith}
 use Rattle.mv_history.specs.State.{State, Writes, written, touches}
 use Rattle.mv_history.specs.Meaning.{words_at}
 use Rattle.mv_history.proofs.Writing.{words-written_same}
-use Rattle.set_script.specs.Objects.{owner, kind, key, link, value, head_words, leaf_words, no_words, relink, revalue}
-use Rattle.set_script.specs.Trees.{Tree, top, IsGrown, seek, EndsAt}
+use Rattle.set_script.specs.Objects.{kind, link, value, leaf_words, no_words, relink, revalue}
+use Rattle.set_script.specs.Trees.{top, IsGrown, seek, EndsAt}
 use Rattle.set_script.specs.Trees.Tree.{leaf}
-use Rattle.set_script.specs.TreeLaws.{top_is_node, grown_once}
+use Rattle.set_script.specs.TreeLaws.{top_is_node}
 use Rattle.set_script.specs.Lawful.{IsLawful}
 use Rattle.set_script.proofs.ObjectWords.{word, kind-revalue, owned_in_range}
 use Rattle.set_script.proofs.TreeShape.{IsIn}

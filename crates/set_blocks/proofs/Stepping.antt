@@ -2,7 +2,6 @@
 use Rattle.std.proofs.Common.{◌≡◌, ◌≢◌, ℕ, suc, ◌<◌, ◌≤◌, ◌-◌, ◌⊎◌, inl, inr, Bool, true, false, ◌||◌, List, [], ◌∷◌, ◌++◌, length}
 use Rattle.std.proofs.Common.{refl, sym, ap, ◌∙◌, subst, arith, Option, Some, None}
 use Rattle.std.proofs.lemmas.Bool.{cases_lt}
-use Rattle.std.proofs.lemmas.Bool.Decides.{nat_tests}
 use Rattle.mv_history.specs.State.{State, Writes, written, touches}
 use Rattle.mv_history.specs.Legal.{are_distinct}
 use Rattle.mv_history.specs.Meaning.{words_at}
@@ -15,7 +14,7 @@ use Rattle.set_script.specs.CatalogueOf.{catalogue_of}
 use Rattle.set_script.specs.Replies.{reply, changes, next}
 use Rattle.set_script.specs.Rules.{capacity, Keeps}
 use Rattle.set_script.specs.Objects.{first_node, first_root, owner, kind, key, link}
-use Rattle.set_script.specs.OwnWrites.{with_locks, with_writes, objects_of}
+use Rattle.set_script.specs.OwnWrites.{with_locks, objects_of}
 use Rattle.set_script.specs.Trees.{Tree, objects_in, Stands, IsTree, EndsAt}
 use Rattle.set_script.specs.Trees.Tree.{leaf, inner}
 use Rattle.set_script.specs.Lawful.{IsLawful}
@@ -213,10 +212,10 @@ runs_more commands from own answers b command ws answer c run at = record {
         ∙ st.changing_is in
         let whole : written u (merged own ws) ≡ written (written u own) ws = written-merged u own ws run.distinct in
         record {
-          answers_are = turn_replies-push commands command (catalogue_of u) (capacity u) ∙ 
+          answers_are = turn_replies-push commands command (catalogue_of u) (capacity u) ∙
               ap (λ rs. rs ++ reply command (after_turns commands (catalogue_of u) (capacity u)) (capacity u) false ∷ []) ran.answers_are
               ∙ ap (λ x. answers ++ x ∷ []) said;
-          changing_is = some_changes-push commands command (catalogue_of u) (capacity u) ∙ 
+          changing_is = some_changes-push commands command (catalogue_of u) (capacity u) ∙
               ap (λ x. x || changes command (after_turns commands (catalogue_of u) (capacity u)) (capacity u) false) ran.changing_is ∙ ap (λ x. b || x) does;
           leaves = ap catalogue_of whole ∙ st.leaves ∙ ap (λ n. next command (catalogue_of (written u own)) n false) cap
               ∙ ap (λ m. next command m (capacity u) false) ran.leaves ∙ sym (after_turns-push commands command (catalogue_of u) (capacity u));

@@ -1,11 +1,10 @@
 -- What is planned for a change is written by a way that others don't disturb.
-use Rattle.std.proofs.Common.{◌≡◌, ◌≢◌, ℕ, ◌^◌, ◌<◌, inl, inr, true, false, List, [], ◌∷◌, ◌++◌, length, Some, refl, sym, ap, ◌∙◌, subst}
+use Rattle.std.proofs.Common.{◌≡◌, ℕ, ◌^◌, ◌<◌, true, false, ◌++◌, Some, refl, sym, ap, ◌∙◌, subst}
 use Rattle.mv_history.specs.State.{State, Writes, written, touches}
 use Rattle.set_script.specs.Catalogue.{Map, map_of, has_entry, value_of, put, take_out}
 use Rattle.set_script.specs.CatalogueOf.{name_of, catalogue_of}
 use Rattle.set_script.specs.Objects.{value}
 use Rattle.set_script.specs.Lawful.{IsLawful}
-use Rattle.set_script.specs.OwnWrites.{objects_of}
 use Rattle.set_script.specs.Rules.{Keeps}
 use Rattle.set_script.proofs.TreeShape.{IsIn, in_left, in_right}
 use Rattle.set_script.proofs.Written.{touches-in}
@@ -17,11 +16,11 @@ use Rattle.set_catalog.specs.Plans.{head_of, DelPlan, AddPlan, PutPlan}
 use Rattle.set_catalog.specs.Plans.DelPlan.{unlinks, bares, cuts}
 use Rattle.set_catalog.specs.Plans.AddPlan.{links, plants, grows}
 use Rattle.set_catalog.specs.Plans.PutPlan.{in_list, in_tree}
-use Rattle.set_catalog.proofs.HeadNames.{low_head, low_fits, root_from, root_below, head_below, head_named}
+use Rattle.set_catalog.proofs.HeadNames.{low_head, low_fits, root_from, root_below, head_named}
 use Rattle.set_catalog.proofs.PlanWays.{ByWay, vacant_one, vacant_two, other_than}
 use Rattle.set_blocks.specs.BlockRules.{Remains}
 use Rattle.set_blocks.proofs.Stepping.{Covers, Spares, spares_keeps}
-use Rattle.set_blocks.proofs.Tracking.{AreHeld, Both, Tracks, tracked_place, tracked_vacant, tracked_writes, tracked_half, remains_after}
+use Rattle.set_blocks.proofs.Tracking.{Both, Tracks, tracked_place, tracked_vacant, tracked_writes, tracked_half, remains_after}
 use Rattle.set_blocks.proofs.ListTracks.{list_add_tracks, list_del_tracks, list_put_tracks}
 use Rattle.set_blocks.proofs.TreeTracks.{grow_tracks}
 use Rattle.set_blocks.proofs.RootTracks.{plant_tracks, bare_tracks, put_tracks}

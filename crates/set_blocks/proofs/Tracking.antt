@@ -1,14 +1,13 @@
 -- What remains of a state while others commit still remains once the same change is made in both states.
-use Rattle.std.proofs.Common.{◌≡◌, ◌≢◌, ℕ, suc, ◌<◌, ◌≤◌, ◌⊎◌, inl, inr, Bool, true, false, List, ◌++◌, length, refl, sym, ap, ◌∙◌, subst, arith}
+use Rattle.std.proofs.Common.{◌≡◌, ◌≢◌, ℕ, ◌<◌, ◌≤◌, ◌⊎◌, inl, inr, Bool, true, false, List, refl, sym, ap, ◌∙◌, subst, arith}
 use Rattle.std.proofs.lemmas.Bool.{cases_eq}
 use Rattle.mv_history.specs.State.{State, Writes, written, touches}
 use Rattle.mv_history.specs.Meaning.{words_at}
 use Rattle.mv_history.proofs.Writing.{length-written, words-written_other}
 use Rattle.set_script.specs.Catalogue.{Map}
-use Rattle.set_script.specs.Objects.{owner, kind, key, link}
+use Rattle.set_script.specs.Objects.{key, link}
 use Rattle.set_script.specs.Trees.{EndsAt}
 use Rattle.set_script.specs.Lawful.{IsLawful}
-use Rattle.set_script.specs.OwnWrites.{objects_of}
 use Rattle.set_script.proofs.ObjectWords.{word}
 use Rattle.set_script.proofs.TreeShape.{IsIn, in_either}
 use Rattle.set_script.proofs.Written.{in-touches}

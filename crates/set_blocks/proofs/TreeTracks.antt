@@ -1,33 +1,29 @@
 -- The ways to change a tree are ones that others don't disturb: they commit nothing that these hold, and leave the searches that end at held leaves.
 use Rattle.std.proofs.Common.{◌≡◌, ◌≢◌, ℕ, suc, ◌^◌, ◌<◌, ◌≤◌, ◌⊎◌, inl, inr, Bool, true, false, cond, nat_lt}
-use Rattle.std.proofs.Common.{List, [], ◌∷◌, ◌++◌, length, refl, sym, ap, ◌∙◌, subst, arith}
+use Rattle.std.proofs.Common.{[], ◌∷◌, refl, sym, ap, ◌∙◌, subst, arith}
 use Rattle.std.proofs.lemmas.Bool.{cases_eq}
 use Rattle.mv_history.specs.State.{State, Writes, written, touches}
 use Rattle.mv_history.specs.Meaning.{words_at}
-use Rattle.set_script.specs.Objects.{owner, kind, key, link, value, leaf_words, inner_words, no_words, relink, revalue}
-use Rattle.set_script.specs.Trees.{Tree, top, objects_in, Stands, IsGrown, seek, EndsAt}
-use Rattle.set_script.specs.Trees.Tree.{leaf, inner}
-use Rattle.set_script.specs.TreeLaws.{top_is_node, grown_once}
+use Rattle.set_script.specs.Objects.{owner, kind, key, leaf_words, inner_words}
+use Rattle.set_script.specs.Trees.{Tree, Stands, IsGrown, seek, EndsAt}
+use Rattle.set_script.specs.Trees.Tree.{leaf}
+use Rattle.set_script.specs.TreeLaws.{grown_once}
 use Rattle.set_script.specs.Lawful.{IsLawful}
-use Rattle.set_script.proofs.ObjectWords.{word, owner-relink, kind-revalue, owned_in_range}
-use Rattle.set_script.proofs.TreeShape.{IsIn, seek_in, Stands-owner}
+use Rattle.set_script.proofs.ObjectWords.{word}
+use Rattle.set_script.proofs.TreeShape.{IsIn}
 use Rattle.set_script.proofs.Written.{in-touches}
-use Rattle.set_script.proofs.Ways.{AreVacant, IsVacant}
-use Rattle.list_set.specs.Places.{put_writes}
-use Rattle.tree_set.specs.Paths.{Turn, Path, plug, node_of, Follows}
-use Rattle.tree_set.specs.Places.{IsInner, IsLeaf, IsParent, plant_writes, IsGrowPlace, grow_writes, IsBarePlace, bare_writes, IsCutPlace, cut_writes}
-use Rattle.tree_set.proofs.Plugging.{distinct_part, stands_part, seek_plug, seek_beside}
+use Rattle.set_script.proofs.Ways.{IsVacant}
+use Rattle.tree_set.specs.Paths.{Path, plug, Follows}
+use Rattle.tree_set.specs.Places.{IsParent, IsGrowPlace, grow_writes}
+use Rattle.tree_set.proofs.Plugging.{stands_part, seek_plug, seek_beside}
 use Rattle.tree_set.proofs.Around.{part_not_parent, owned_not_vacant}
 use Rattle.tree_set.proofs.Replacing.{redirect_keeps}
 use Rattle.tree_set.proofs.Growing.{IsSite, Sprouts, sprout, grown_more, grow_ends}
 use Rattle.tree_set.proofs.GrowFit.{grow_site, grow_sprouts}
-use Rattle.tree_set.proofs.Turns.{beside, seek_turn}
-use Rattle.tree_set.proofs.Cutting.{IsTwig, Prunes, grown_less, cut_ends}
-use Rattle.tree_set.proofs.CutFit.{cut_twig, cut_prunes}
-use Rattle.tree_set.proofs.TreeWays.{inner_same, leaf_same, child_same, parent_same, grow_way}
+use Rattle.tree_set.proofs.TreeWays.{parent_same, grow_way}
 use Rattle.set_blocks.specs.BlockRules.{IsOfLists, Remains}
-use Rattle.set_blocks.proofs.Tracking.{IsReached, Tracks}
-use Rattle.set_blocks.proofs.TreeSides.{follows_end, partner, partner_ends, partner_same}
+use Rattle.set_blocks.proofs.Tracking.{Tracks}
+use Rattle.set_blocks.proofs.TreeSides.{follows_end}
 
 -- a root and a node of a tree are of no list, and neither is a vacant node
 pub tree_of_none : (s : State) (o : ℕ) → 170 ≤ o → (180 ≤ o → (owner s o ≡ 0) ⊎ (kind s o ≢ 0)) → IsOfLists s o → ⊥

@@ -122,11 +122,13 @@ module _ (z : State) (source target k : ℕ) (lz : IsLawful z) (ls : source < 30
       let l1 : IsLawful (written z dels) = (tracked_remains z z (head_of source k) lh dels dt held lz
       (remains_itself held z lz) cd).lawful in
       let at = added_tracked (written z dels) target k lt fits (value z node) first second adds add in
-      let a : AddedBy (written u dels) target k (value z node) adds = by_way_there (written z dels) (written u dels) (head_of target k) lg adds at held l1 r1 ca in
+      let a : AddedBy (written u dels) target k (value z node) adds =
+      by_way_there (written z dels) (written u dels) (head_of target k) lg adds at held l1 r1 ca in
       let r2 : Remains held (written (written z dels) adds) (written (written u dels) adds) =
       tracked_remains (written z dels) (written u dels) (head_of target k) lg adds at held l1 r1 ca in
       let dis : are_distinct dels ≡ true = by_distinct u (head_of source k) lh r.lawful dels d in
-      let c : IsSetCommit (tag_of (Move source target k)) u (merged dels adds) = allowed_at_once IsSetCommit u (tag_of (Move source target k)) (merged dels adds)
+      let c : IsSetCommit (tag_of (Move source target k)) u (merged dels adds) =
+      allowed_at_once IsSetCommit u (tag_of (Move source target k)) (merged dels adds)
       (move_fits u source target k r.lawful ls lt apart fits (value z node) dels d adds a) in
       made (Move source target k) held z u (merged dels adds)
       (yes_changes (applies (Move source target k) (catalogue_of u)) (overflows (Move source target k) (catalogue_of u) (capacity u))) c.makes

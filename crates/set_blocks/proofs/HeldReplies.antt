@@ -148,6 +148,12 @@ keeps_all : (b : Bool) (x c : Maps) → b ≡ false → cond b x c ≡ c
 keeps_all true x c e = absurd (cc)
 keeps_all false x c e = refl
 
+-- a command that changes nothing leaves the catalogue
+stays_by : (command : Command) (u : State)
+    → changes command (catalogue_of u) (capacity u) false ≡ false → next command (catalogue_of u) (capacity u) false ≡ catalogue_of u
+stays_by command u e =
+    keeps_all (changes command (catalogue_of u) (capacity u) false) (changed command (catalogue_of u)) (catalogue_of u) e
+
 and_not : (a b : Bool) → b ≡ true → a && not b ≡ false
 and_not true true e = refl
 and_not false b e = refl
@@ -183,18 +189,19 @@ module _ (z : State) (lz : IsLawful z) where
     step = λ held u c r.
         (let e = lacks_there z u name k range.0 range.1 held lz r qs (held_os (Del name k) No z qs held u c r) at in
         let x = unapplied (Del name k) No z qs held u c r (has_key k (map_of name (catalogue_of u))) false e in
-        settled (Del name k) No z qs held u c r x.0 x.1 (keeps_all (changes (Del name k) (catalogue_of u) (capacity u) false) (changed (Del name k) (catalogue_of u)) (catalogue_of u) x.1));
+        settled (Del name k) No z qs held u c r x.0 x.1 (stays_by (Del name k) u x.1));
   }
   hold_step command os answer range (add_no name k qs at) = record {
     step = λ held u c r.
         (let e = ap not (has_there z u name k range.0 range.1 held lz r qs (held_os (Add name k) No z qs held u c r) at) in
         let x = unapplied (Add name k) No z qs held u c r (applies (Add name k) (catalogue_of u)) (overflows (Add name k) (catalogue_of u) (capacity u)) e in
-        settled (Add name k) No z qs held u c r x.0 x.1 (keeps_all (changes (Add name k) (catalogue_of u) (capacity u) false) (changed (Add name k) (catalogue_of u)) (catalogue_of u) x.1));
+        settled (Add name k) No z qs held u c r x.0 x.1 (stays_by (Add name k) u x.1));
   }
   hold_step command os answer range (get_none name k qs at) = record {
     step = λ held u c r.
         settled (Get name k) NoKey z qs held u c r
-        (ap value_reply (none_of k (map_of name (catalogue_of u)) (lacks_there z u name k range.0 range.1 held lz r qs (held_os (Get name k) NoKey z qs held u c r) at)))
+        (ap value_reply (none_of k (map_of name (catalogue_of u))
+        (lacks_there z u name k range.0 range.1 held lz r qs (held_os (Get name k) NoKey z qs held u c r) at)))
         refl refl;
   }
   hold_step command os answer range (get_value name k v qs at) = record {
@@ -206,8 +213,9 @@ module _ (z : State) (lz : IsLawful z) where
     step = λ held u c r.
         (let e = ap not (has_entry-there k v (map_of name (catalogue_of u))
         (value_there z u name k range.0 range.1 held lz r v qs (held_os (Put name k v) No z qs held u c r) at)) in
-        let x = unapplied (Put name k v) No z qs held u c r (applies (Put name k v) (catalogue_of u)) (overflows (Put name k v) (catalogue_of u) (capacity u)) e in
-        settled (Put name k v) No z qs held u c r x.0 x.1 (keeps_all (changes (Put name k v) (catalogue_of u) (capacity u) false) (changed (Put name k v) (catalogue_of u)) (catalogue_of u) x.1));
+        let x = unapplied (Put name k v) No z qs held u c r (applies (Put name k v) (catalogue_of u))
+        (overflows (Put name k v) (catalogue_of u) (capacity u)) e in
+        settled (Put name k v) No z qs held u c r x.0 x.1 (stays_by (Put name k v) u x.1));
   }
   hold_step command os answer range (move_from_none source target k qs at) = record {
     step = λ held u c r.
@@ -216,7 +224,7 @@ module _ (z : State) (lz : IsLawful z) where
         let x = unapplied (Move source target k) No z qs held u c r (applies (Move source target k) (catalogue_of u))
         (overflows (Move source target k) (catalogue_of u) (capacity u)) e in
         settled (Move source target k) No z qs held u c r x.0 x.1
-        (keeps_all (changes (Move source target k) (catalogue_of u) (capacity u) false) (changed (Move source target k) (catalogue_of u)) (catalogue_of u) x.1));
+        (stays_by (Move source target k) u x.1));
   }
   hold_step command os answer range (move_to_one source target k qs at) = record {
     step = λ held u c r.
@@ -225,7 +233,7 @@ module _ (z : State) (lz : IsLawful z) where
         let x = unapplied (Move source target k) No z qs held u c r (applies (Move source target k) (catalogue_of u))
         (overflows (Move source target k) (catalogue_of u) (capacity u)) e in
         settled (Move source target k) No z qs held u c r x.0 x.1
-        (keeps_all (changes (Move source target k) (catalogue_of u) (capacity u) false) (changed (Move source target k) (catalogue_of u)) (catalogue_of u) x.1));
+        (stays_by (Move source target k) u x.1));
   }
   hold_step command os answer range (pair_tells first second k b c qs rs at more) = record {
     step = λ held u cover r.

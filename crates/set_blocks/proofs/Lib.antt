@@ -12,3 +12,5 @@ pub mod TrackedPlans
 pub mod Changing
 pub mod HeldReplies
 pub mod Planning
+pub mod PlainScripts
+pub mod BlockExamples

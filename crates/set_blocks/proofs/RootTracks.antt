@@ -28,7 +28,8 @@ use Rattle.set_blocks.proofs.TreeTracks.{tree_of_none, ends_once}
 pub root_of_none : (s : State) (root : ℕ) → 170 ≤ root → root < 180 → IsOfLists s root → ⊥
 root_of_none s root lo lt = tree_of_none s root lo (λ ge. absurd (omega arith))
 
-module _ (root k v m : ℕ) (lo : 170 ≤ root) (lt : root < 180) (fits : k < 2 ^ 32) (s : State) (law : IsLawful s) (e : link s root ≡ 0) (vac : IsVacant s m) where
+module _ (root k v m : ℕ) (lo : 170 ≤ root) (lt : root < 180) (fits : k < 2 ^ 32) (s : State) (law : IsLawful s) (e : link s root ≡ 0)
+    (vac : IsVacant s m) where
   planted_words : words_at (written s (plant_writes s root k v m)) m ≡ leaf_words root k v
   planted_words =
       words-written_same s (plant_writes s root k v m) 1 m (0, []) (plant_distinct s root k v m law lo lt fits (no_tree s root law lo lt e) vac)

@@ -206,7 +206,8 @@ runs_more commands from own answers b command ws answer c run at = record {
         let len : length (written u own) ≡ length u = length-written u own in
         let cap : capacity (written u own) ≡ capacity u = ap (λ n. n - 180) len in
         let said : reply command (after_turns commands (catalogue_of u) (capacity u)) (capacity u) false ≡ answer =
-        ap (λ m. reply command m (capacity u) false) (sym ran.leaves) ∙ ap (λ n. reply command (catalogue_of (written u own)) n false) (sym cap) ∙ st.answer_is in
+        ap (λ m. reply command m (capacity u) false) (sym ran.leaves) ∙ ap (λ n. reply command (catalogue_of (written u own)) n false) (sym cap)
+        ∙ st.answer_is in
         let does : changes command (after_turns commands (catalogue_of u) (capacity u)) (capacity u) false ≡ c =
         ap (λ m. changes command m (capacity u) false) (sym ran.leaves) ∙ ap (λ n. changes command (catalogue_of (written u own)) n false) (sym cap)
         ∙ st.changing_is in

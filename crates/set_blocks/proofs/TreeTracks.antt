@@ -66,7 +66,8 @@ module _ (z u : State) (root k v p l m w : ℕ) (lo : 170 ≤ root) (lt : root <
           let sj : j' ≡ j = ap (word 2) same in
           let sx : x' ≡ x = ap (word 5) same in
           let part : sprout k v m w l j' x' ≡ sprout k v m w l j x = ap (λ y. sprout k v m w l y x') sj ∙ ap (sprout k v m w l j) sx in
-          let found : seek i (plug ps (sprout k v m w l j x)) ≡ n = ends_once (written z (grow_writes z root k v p l m w)) root i n (plug ps (sprout k v m w l j x)) gz e in
+          let found : seek i (plug ps (sprout k v m w l j x)) ≡ n =
+          ends_once (written z (grow_writes z root k v p l m w)) root i n (plug ps (sprout k v m w l j x)) gz e in
           (plug qs (sprout k v m w l j' x'), gu, ends part found cu (seek_beside i ps (leaf l j x) (sprout k v m w l j x)) (cases_eq n l))
         where
           -- a search that ended at the leaf ends in the part
@@ -139,13 +140,15 @@ unfolding grow_way
 grow_tracks root k v p l m w lo lt fits ne = record {
   place = λ held z u b. place held z u b.remains (b.objects p (inl refl)) (b.objects l (inr (inl refl))) b.place;
   links = λ s law a vac o t list there.
-      absurd (grow_links s root k v p l m w lo lt fits ne law a (vac m (inl refl)) (vac w (inr (inl refl))) o (in-touches (grow_writes s root k v p l m w) o t) list);
+      absurd (grow_links s root k v p l m w lo lt fits ne law a (vac m (inl refl)) (vac w (inr (inl refl))) o
+      (in-touches (grow_writes s root k v p l m w) o t) list);
   ends = λ held z u b place vac hi i n hn e.
       grow_ends_track z u root k v p l m w lo lt fits ne held b.lawful b.remains (b.objects l (inr (inl refl))) b.place place
       (b.vacant m (inl refl)) (b.vacant w (inr (inl refl))) (vac m (inl refl)) (vac w (inr (inl refl))) i n hn e;
 }
   where
-    place : (held : Writes) (z u : State) → Remains held z u → touches held p ≡ true → touches held l ≡ true → IsGrowPlace z root k p l → IsGrowPlace u root k p l
+    place : (held : Writes) (z u : State) → Remains held z u → touches held p ≡ true → touches held l ≡ true → IsGrowPlace z root k p l
+        → IsGrowPlace u root k p l
     place held z u r hp hl pz = record {
       above = parent_same z u root p l (r.words p hp) pz.above;
       ends = r.ends root k l lo lt hl pz.ends;

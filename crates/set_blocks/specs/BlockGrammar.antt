@@ -140,6 +140,20 @@ parsed_blocks text = do
   r ← with_readings (record { blocks = []; begun = None }) 1 (lines_said None (lines_of text))
   closed r (last_line text)
 
+-- a line that says nothing of blocks
+abbrev pub IsPlainLine : List ℕ → Type 0
+IsPlainLine line = bracket_in (words_of line) ≡ Ok None
+
+-- a block for each command
+abbrev pub singles : List Command → List (List Command)
+singles [] = []
+singles (command ∷ commands) = (command ∷ []) ∷ singles commands
+
+-- what a script says, as blocks of one
+abbrev pub as_blocks : Result (List Command) (ℕ × FaultKind) → OrFault (List (List Command))
+as_blocks (Ok commands) = Ok (singles commands)
+as_blocks (Err fault) = Err (fault.0, Line fault.1)
+
 -- what a call may answer in place of what reading gives: the fault, or want of memory
 abbrev pub Refuses : {A : Type 0} → OrFault A → BlockFault → Type 0
 Refuses reading (At line kind) = reading ≡ Err (line, kind)

@@ -22,7 +22,9 @@ mod tests;
 
 pub use block::{Block, MOST_IN_BLOCK};
 pub use faults::{BlockFault, BlockKind};
-pub use laws::{block_plans_are_fit, blocks_of_one, lawful_states_remain};
+pub use laws::{
+    block_plans_are_fit, blocks_of_one, lawful_states_remain, plain_scripts_are_blocks_of_one,
+};
 pub use parsing::parse_blocks;
 pub use replies::Replies;
 pub use rules::BlockRules;

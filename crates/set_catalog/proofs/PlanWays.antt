@@ -29,7 +29,7 @@ use Rattle.set_catalog.specs.Plans.PutPlan.{in_list, in_tree}
 use Rattle.set_catalog.proofs.HeadNames.{low_head, low_fits, root_from, root_below, head_below, head_named}
 
 -- a key that lacks an entry has another value
-other_than : (k u v : ℕ) (m : Map) → value_of k m ≡ Some u → has_entry k v m ≡ false → u ≢ v
+pub other_than : (k u v : ℕ) (m : Map) → value_of k m ≡ Some u → has_entry k v m ≡ false → u ≢ v
 other_than k u v m e n q = true≢false (sym (has_entry-there k v m (e ∙ ap (λ (x : ℕ). Some x) q)) ∙ n)
 
 -- One of the ways of changing the map of a name has its place in the state, and writes exactly this there.

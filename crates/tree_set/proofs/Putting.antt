@@ -81,8 +81,9 @@ module _ (s : State) (root k v l x : ℕ) (ps : Path) (lt : root < 180) (grown :
       owned o e (inl z) = ap (owner s) z ∙ ap (word 0) stood.2
       owned o e (inr n) = sym (ap (word 0) (stays o n)) ∙ e
 
-  new : IsGrown (written s (put_writes s l v)) root (plug ps (leaf l k v))
-  new = replaced s (written s (put_writes s l v)) root ps (leaf l k x) (leaf l k v) lt grown put_as
+  -- the tree with the value
+  pub put_grown : IsGrown (written s (put_writes s l v)) root (plug ps (leaf l k v))
+  put_grown = replaced s (written s (put_writes s l v)) root ps (leaf l k x) (leaf l k v) lt grown put_as
 
   put_within : IsWithin s (written s (put_writes s l v)) root
   put_within o = go (cases_eq o l)
@@ -105,7 +106,7 @@ module _ (s : State) (root k v l x : ℕ) (ps : Path) (lt : root < 180) (grown :
       )
 
   -- every search ends where it did
-  put_ends : (i : ℕ) → seek i (plug ps (leaf l k x)) ≡ seek i (plug ps (leaf l k v))
+  pub put_ends : (i : ℕ) → seek i (plug ps (leaf l k x)) ≡ seek i (plug ps (leaf l k v))
   put_ends i = elim (seek_beside i ps (leaf l k x) (leaf l k v)) [
     | inr e ↦ e
     | inl g ↦ seek_plug i ps (leaf l k x) g ∙ sym (seek_plug i ps (leaf l k v) g)
@@ -130,11 +131,11 @@ module _ (s : State) (root k v l x : ℕ) (ps : Path) (lt : root < 180) (grown :
 
   put_found : IsLawful s → 170 ≤ root → value s l ≢ v → Half s (written s (put_writes s l v)) (put_writes s l v) root (HasOther k v) (put k v)
   put_found law lo n =
-      tree_half s (put_writes s l v) root (HasOther k v) (put k v) (Some (plug ps (leaf l k x))) (Some (plug ps (leaf l k v))) law lo lt grown new
+      tree_half s (put_writes s l v) root (HasOther k v) (put k v) (Some (plug ps (leaf l k x))) (Some (plug ps (leaf l k v))) law lo lt grown put_grown
       (record {
         within = put_within;
         keys = λ o some same. put_keys o;
-        ends = λ i m e out. (plug ps (leaf l k v), new, sym (put_ends i) ∙ ap (seek i) (grown_once s root (plug ps (leaf l k x)) e.0 grown e.1) ∙ e.2);
+        ends = λ i m e out. (plug ps (leaf l k v), put_grown, sym (put_ends i) ∙ ap (seek i) (grown_once s root (plug ps (leaf l k x)) e.0 grown e.1) ∙ e.2);
       })
       (has_other n) entries_put
 

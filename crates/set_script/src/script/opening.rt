@@ -34,8 +34,10 @@ fn read_first(line: &[u8]) -> Result<(Option<Command>, Option<Format>), FaultKin
     Ok((command, Some(Format::plain())))
 }
 
-/// Reads a line of a script, given without its LF, and notes the script's format.
-/// It is none as long as no line has words.
+/// Reads a line of a script, given without its LF, and notes the script's format, which is none as long as no line has
+/// words: its command, and `None` for a line without words and for the one on the format. Takes no memory.
+///
+/// `Err` tells what is wrong first, as of [`crate::parse`], but that it is never `Many`; the format is then not to be used.
 pub fn read_line(line: &[u8], format: &mut Option<Format>) -> Result<Option<Command>, FaultKind>
     ensures is { result ≡ reading_in format.old line.now }
     ensures format { IfOk result (λ _. format.new ≡ format_after format.old line.now) }

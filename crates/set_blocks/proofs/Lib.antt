@@ -1,0 +1,16 @@
+pub mod Lines
+pub mod SingleBlocks
+pub mod Remaining
+pub mod Tracking
+pub mod TreeSides
+pub mod ListTracks
+pub mod TreeTracks
+pub mod RootTracks
+pub mod CutTracks
+pub mod Stepping
+pub mod TrackedPlans
+pub mod Changing
+pub mod HeldReplies
+pub mod Planning
+pub mod PlainScripts
+pub mod BlockExamples

@@ -1,0 +1,6 @@
+pub mod Blocks
+pub mod BlockGrammar
+pub mod BlockReplies
+pub mod BlockRules
+pub mod BlockRuleLaws
+pub mod BlockPlans

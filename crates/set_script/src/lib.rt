@@ -32,4 +32,7 @@ mod tests;
 pub use catalogue::Catalogue;
 pub use commands::{Command, FaultKind, Format, Name, Place, Reply, ScriptFault};
 pub use rules::SetRules;
-pub use script::{MOST_COMMANDS, commands_read_back, parse, parse_is_exact, parse_line};
+pub use script::{
+    MOST_COMMANDS, commands_read_back, first_word, parse, parse_is_exact, parse_line, read_value,
+    strip_carriage_return,
+};

@@ -25,8 +25,10 @@ ghost use Rattle.set_script.specs.Grammar.{reading_in, format_after, with_readin
 use crate::commands::{Command, FaultKind, Format, ScriptFault};
 pub use laws::{commands_read_back, parse_is_exact};
 pub use line::parse_line;
+pub use numbers::read_value;
 use opening::read_line;
 use std::alloc::Global;
+pub use words::{first_word, strip_carriage_return};
 
 /// How many commands a script may have.
 pub const MOST_COMMANDS: usize = 65_536;

@@ -34,5 +34,5 @@ pub use commands::{Command, FaultKind, Format, Name, Place, Reply, ScriptFault};
 pub use rules::SetRules;
 pub use script::{
     MOST_COMMANDS, commands_read_back, first_word, parse, parse_is_exact, parse_line, read_line,
-    strip_carriage_return,
+    read_value, strip_carriage_return,
 };

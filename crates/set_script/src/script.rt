@@ -25,6 +25,7 @@ ghost use Rattle.set_script.specs.Grammar.{reading_in, format_after, with_readin
 use crate::commands::{Command, FaultKind, Format, ScriptFault};
 pub use laws::{commands_read_back, parse_is_exact};
 pub use line::parse_line;
+pub use numbers::read_value;
 pub use opening::read_line;
 use std::alloc::Global;
 pub use words::{first_word, strip_carriage_return};

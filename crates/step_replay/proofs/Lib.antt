@@ -1,0 +1,4 @@
+pub mod PlanLines
+pub mod Replays
+pub mod Machines
+pub mod Ruled

@@ -1,0 +1,5 @@
+use Rattle.step_replay.proofs.Ruled.{replays_ruled}
+use Rattle.step_replay.proofs.laws.replays_are_ruled.Goals as goal
+
+pub returns : goal.returns
+returns c = replays_ruled

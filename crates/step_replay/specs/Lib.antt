@@ -1,0 +1,5 @@
+pub mod Plans
+pub mod FitPlans
+pub mod States
+pub mod Machines
+pub mod ReplayLaws

@@ -1,0 +1,174 @@
+// The lines behind the first four: calls, and steps.
+ghost use Rattle.std.specs.Prelude.{◌≡◌, ◌≤◌, ◌<◌, All, IfOk, MatchResult, Ok, codes, length};
+ghost use Rattle.std.specs.Str.{bytes_eq};
+ghost use Rattle.set_script.specs.Grammar.{words_in};
+ghost use Rattle.step_replay.specs.Plans.{verb_of, other_verb_of, words_behind, call_with, call_of, seats_after, steps_taken, at_line, Refuses};
+ghost use Rattle.step_replay.specs.FitPlans.{IsFitConfig, IsFitCall, IsFitCallOf, AreFitSteps};
+
+use crate::drafts::MOST_STEPS;
+use crate::numbers::{need_words, next_number, read_number, read_six};
+use crate::plan::{Call, CallOf, PlanFault, PlanKind};
+use mv_layout::Config;
+use set_script::first_word;
+
+/// What a call does.
+#[derive(Clone, Copy, Debug, Drop, PartialEq, Eq)]
+pub enum Verb {
+    Enter,
+    Read,
+    Lock,
+    Write,
+    Commit,
+    Abort,
+    Leave,
+    Tidy,
+}
+
+// Whether the name is `commit`.
+fn is_commit(name: &[u8]) -> bool
+    ensures { result ≡ bytes_eq name.now (codes "commit") }
+{
+    match name {
+        [b'c', b'o', rest @ ..] => matches!(rest, b"mmit"),
+        _ => false,
+    }
+}
+
+// The call of this name, which isn't `commit`. `Err` is `Word`, for any other word.
+fn read_other_verb(name: &[u8]) -> Result<Verb, PlanKind>
+    ensures { result ≡ other_verb_of name.now }
+{
+    match name {
+        b"enter" => Ok(Verb::Enter),
+        b"read" => Ok(Verb::Read),
+        b"lock" => Ok(Verb::Lock),
+        b"write" => Ok(Verb::Write),
+        b"abort" => Ok(Verb::Abort),
+        b"leave" => Ok(Verb::Leave),
+        b"tidy" => Ok(Verb::Tidy),
+        _ => Err(PlanKind::Word),
+    }
+}
+
+// The call of this name. `Err` is `Word`, for any other word.
+fn read_verb(name: &[u8]) -> Result<Verb, PlanKind>
+    ensures { result ≡ verb_of name.now }
+{
+    if is_commit(name) {
+        return Ok(Verb::Commit);
+    }
+    read_other_verb(name)
+}
+
+// How many words stand behind the name of a call: an object, and what is written.
+fn words_behind(verb: Verb) -> u32
+    ensures { result ≡ words_behind verb }
+{
+    match verb {
+        Verb::Read | Verb::Lock => 1,
+        Verb::Write => 7,
+        Verb::Enter | Verb::Commit | Verb::Abort | Verb::Leave | Verb::Tidy => 0,
+    }
+}
+
+// The call that does this, with what the bytes say.
+fn read_rest(verb: Verb, config: &Config, bytes: &[u8]) -> Result<Call, PlanKind>
+    requires fit { IsFitConfig config.now }
+    ensures is { result ≡ call_with verb config.now (words_in bytes.now) }
+    ensures fit { IfOk result (IsFitCall config.now) }
+{
+    match verb {
+        Verb::Enter => Ok(Call::Enter),
+        Verb::Read => {
+            let (object, _) = next_number(bytes, 0, config.objects as u64 - 1)?;
+            Ok(Call::Read {
+                object: object as u32,
+            })
+        }
+        Verb::Lock => {
+            let (object, _) = next_number(bytes, 0, config.objects as u64 - 1)?;
+            Ok(Call::Lock {
+                object: object as u32,
+            })
+        }
+        Verb::Write => {
+            let (object, rest) = next_number(bytes, 0, config.objects as u64 - 1)?;
+            let words = read_six(rest)?;
+            Ok(Call::Write {
+                object: object as u32,
+                words,
+            })
+        }
+        Verb::Commit => Ok(Call::Commit),
+        Verb::Abort => Ok(Call::Abort),
+        Verb::Leave => Ok(Call::Leave),
+        Verb::Tidy => Ok(Call::Tidy),
+    }
+}
+
+/// The call of a seat, by the bytes behind `seat`. `Err` is `Word`, then `Count`, then `Number`.
+pub fn read_call(config: &Config, bytes: &[u8]) -> Result<CallOf, PlanKind>
+    requires fit { IsFitConfig config.now }
+    ensures is { result ≡ call_of config.now (words_in bytes.now) }
+    ensures fit { IfOk result (IsFitCallOf config.now) }
+{
+    let (seat, rest) = first_word(bytes).ok_or(PlanKind::Count)?;
+    let (name, rest) = first_word(rest).ok_or(PlanKind::Count)?;
+    let verb = read_verb(name)?;
+    need_words(rest, words_behind(verb))?;
+    let seat = read_number(seat, 0, config.seats as u64 - 1)?;
+    let call = read_rest(verb, config, rest)?;
+    Ok(CallOf {
+        seat: seat as u32,
+        call,
+    })
+}
+
+// Puts the seats that the bytes are behind the steps. The line has this number.
+fn push_seats(steps: &mut Vec<u32>, seats: u32, line: u32, bytes: &[u8]) -> Result<(), PlanFault>
+    requires some { 1 ≤ seats }
+    requires fit { All (λ seat. seat < seats) steps.old.items }
+    ensures is { MatchResult result (λ _. seats_after seats steps.old.items (words_in bytes.now) ≡ Ok steps.new.items)
+        (Refuses (at_line line (seats_after seats steps.old.items (words_in bytes.now)))) }
+    ensures fit { All (λ seat. seat < seats) steps.new.items }
+{
+    let mut rest = bytes;
+    while let Some((word, more)) = first_word(rest) {
+        let seat = match read_number(word, 0, seats as u64 - 1) {
+            Ok(seat) => seat,
+            Err(kind) => return Err(PlanFault::At { line, kind }),
+        };
+        steps.push(seat as u32).map_err(|_| PlanFault::Memory)?;
+        rest = more;
+    }
+    Ok(())
+}
+
+/// Puts the seats behind `step` behind the steps so far. The line has this number.
+pub fn take_steps(
+    steps: &mut Vec<u32>,
+    seats: u32,
+    line: u32,
+    bytes: &[u8],
+) -> Result<(), PlanFault>
+    requires some { 1 ≤ seats }
+    requires fit { All (λ seat. seat < seats) steps.old.items }
+    ensures is { MatchResult result (λ _. steps_taken seats steps.old.items (words_in bytes.now) ≡ Ok steps.new.items)
+        (Refuses (at_line line (steps_taken seats steps.old.items (words_in bytes.now)))) }
+    ensures fit { IfOk result (λ _. AreFitSteps seats steps.new.items) }
+{
+    if first_word(bytes).is_none() {
+        return Err(PlanFault::At {
+            line,
+            kind: PlanKind::Count,
+        });
+    }
+    push_seats(steps, seats, line, bytes)?;
+    if steps.len() > MOST_STEPS {
+        return Err(PlanFault::At {
+            line,
+            kind: PlanKind::Many,
+        });
+    }
+    Ok(())
+}

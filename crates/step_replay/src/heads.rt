@@ -1,0 +1,84 @@
+// The first four lines of a plan: the numbers of its domain.
+ghost use Rattle.std.specs.Prelude.{◌≡◌, ◌≤◌, IfOk};
+ghost use Rattle.set_script.specs.Grammar.{words_in};
+ghost use Rattle.step_replay.specs.Plans.{config_of, head_taken};
+ghost use Rattle.step_replay.specs.FitPlans.{AreFitHeads, IsFitConfig};
+
+use crate::numbers::read_single;
+use crate::plan::PlanKind;
+use mv_layout::{Config, LAST};
+
+// How many objects a section may hold.
+const WRITE_MAX: u32 = 16;
+
+/// Which of the four lines comes next, and what those before it say.
+#[derive(Clone, Copy, Debug, PartialEq, Eq)]
+pub enum Heads {
+    Seats,
+    Objects {
+        seats: u32,
+    },
+    Slots {
+        seats: u32,
+        objects: u32,
+    },
+    Base {
+        seats: u32,
+        objects: u32,
+        slots: u32,
+    },
+    /// None: all four are there.
+    Whole(Config),
+}
+
+// The numbers of a domain with these seats, objects and slots and this opening time.
+fn config_of(seats: u32, objects: u32, slots: u32, base: u64) -> Config
+    requires { 64 ≤ slots }
+    ensures { result ≡ config_of seats objects slots base }
+{
+    Config {
+        seats,
+        objects,
+        slots,
+        write_max: WRITE_MAX,
+        low: slots / 2,
+        high: slots - WRITE_MAX,
+        base,
+    }
+}
+
+/// What the four lines say with one more, of this first word and the bytes behind it. `Err` is `Word`, then `Count`, then
+/// `Number`. It is `Word` where all four are there.
+pub fn next_heads(heads: Heads, word: &[u8], rest: &[u8]) -> Result<Heads, PlanKind>
+    requires fit { AreFitHeads heads }
+    ensures is { result ≡ head_taken heads word.now (words_in rest.now) }
+    ensures fit { IfOk result AreFitHeads }
+{
+    match heads {
+        Heads::Seats if matches!(word, b"seats") => {
+            let seats = read_single(rest, 1, 64)? as u32;
+            Ok(Heads::Objects { seats })
+        }
+        Heads::Objects { seats } if matches!(word, b"objects") => {
+            let objects = read_single(rest, 1, 1024)? as u32;
+            Ok(Heads::Slots { seats, objects })
+        }
+        Heads::Slots { seats, objects } if matches!(word, b"slots") => {
+            let slots = read_single(rest, 64, 256)? as u32;
+            Ok(Heads::Base {
+                seats,
+                objects,
+                slots,
+            })
+        }
+        Heads::Base {
+            seats,
+            objects,
+            slots,
+        } if matches!(word, b"base") => {
+            let base = read_single(rest, 0, LAST)?;
+            Ok(Heads::Whole(config_of(seats, objects, slots, base)))
+        }
+        _ => Err(PlanKind::Word),
+    }
+}

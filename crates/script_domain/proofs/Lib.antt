@@ -1,4 +1,4 @@
-pub mod Rows
+pub mod Moves
 pub mod Seats
 pub mod OneRun
 pub mod Opened

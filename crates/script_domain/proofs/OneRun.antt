@@ -46,7 +46,7 @@ module _ {P : Type 0} {rules : _} (d : Domain P) where
       }
 
   -- what the meeting knows of each seat
-  known : (w : Whole) → w.start ≡ opening_of d → w.base ≡ (numbers_of d).base → (number : ℕ) (olds : List history.Seat) (seats : List (Seat P rules))
+  pub known : (w : Whole) → w.start ≡ opening_of d → w.base ≡ (numbers_of d).base → (number : ℕ) (olds : List history.Seat) (seats : List (Seat P rules))
       → AreNewFrom d number olds → AreOf d number (map (λ s. seat_of s) seats)
       → All (λ s. (before : List Entry) → BeginsWith (seat_of s).seen before → BeginsWith w.history before) seats
       → All (λ s. (seat_of s).mine ≡ commits_of (seat_of s).number w.history) seats

@@ -1,4 +1,4 @@
-// The loan of a domain to its seats, and back; and the tables of their logs.
+//! The loan of a domain to its seats, and back; and the tables of their logs.
 ghost use Rattle.std.specs.Prelude.{◌≡◌, ◌≤◌, ◌<◌, ◌∷◌, [], length, map, All, IfOk, vec_capacity};
 ghost use Rattle.mvrlu.specs.Meant.{seat_of, handled, IsSeatOf};
 ghost use Rattle.script_domain.specs.Joined.{AreTablesOf};
@@ -8,14 +8,16 @@ use mvrlu::{Domain, Handle, Seat};
 use set_script::SetRules;
 use std::alloc::{AllocError, Global};
 
-// A row for the handles of a domain's seats, and one for the tables of their logs.
-pub(crate) struct Rows<'d> {
-    pub(crate) tables: Vec<LogTable>,
-    pub(crate) handles: Vec<Handle<'d, SetRules>>,
+/// A row for the handles of a domain's seats, and one for the tables of their logs.
+pub struct Rows<'d> {
+    /// Room for the tables.
+    pub tables: Vec<LogTable>,
+    /// Room for the handles.
+    pub handles: Vec<Handle<'d, SetRules>>,
 }
 
-// Takes the memory for the handles and tables of so many seats.
-pub(crate) fn make_rows<'d>(alloc: Global, seats: usize) -> Result<Rows<'d>, AllocError>
+/// Takes the memory for the handles and tables of so many seats. The error is want of memory.
+pub fn make_rows<'d>(alloc: Global, seats: usize) -> Result<Rows<'d>, AllocError>
     ensures tables { IfOk result (λ rows. (rows.tables.items ≡ []) × (seats ≤ vec_capacity rows.tables)) }
     ensures handles { IfOk result (λ rows. (rows.handles.items ≡ []) × (seats ≤ vec_capacity rows.handles)) }
 {
@@ -25,8 +27,8 @@ pub(crate) fn make_rows<'d>(alloc: Global, seats: usize) -> Result<Rows<'d>, All
     Ok(Rows { tables, handles })
 }
 
-// Lends the domain to its seats, in their order.
-pub(crate) fn lend<'d>(
+/// Lends the domain to its seats, in their order. There is room for their handles. It takes no memory.
+pub fn lend<'d>(
     domain: &'d Domain<SetRules>,
     seats: &mut Vec<Seat<SetRules>>,
     handles: &mut Vec<Handle<'d, SetRules>>,
@@ -43,8 +45,8 @@ pub(crate) fn lend<'d>(
     }
 }
 
-// Gives the domain back, in the order of the handles.
-pub(crate) fn give_back(mut handles: Vec<Handle<'_, SetRules>>, seats: &mut Vec<Seat<SetRules>>)
+/// Gives the domain back, in the order of the handles. There is room for their seats. It takes no memory.
+pub fn give_back(mut handles: Vec<Handle<'_, SetRules>>, seats: &mut Vec<Seat<SetRules>>)
     requires none { seats.old.items ≡ [] }
     requires room { length handles.items ≤ vec_capacity seats.old }
     ensures seats { map seat_of seats.new.items ≡ map handled handles.entry.items }
@@ -55,8 +57,8 @@ pub(crate) fn give_back(mut handles: Vec<Handle<'_, SetRules>>, seats: &mut Vec<
     handles.destroy_empty();
 }
 
-// Takes the table of each seat's log, in the order of the handles.
-pub(crate) fn take_tables(handles: &[Handle<'_, SetRules>], tables: &mut Vec<LogTable>)
+/// Takes the table of each seat's log, in the order of the handles. There is room for the tables. It takes no memory.
+pub fn take_tables(handles: &[Handle<'_, SetRules>], tables: &mut Vec<LogTable>)
     requires none { tables.old.items ≡ [] }
     requires room { length handles.now ≤ vec_capacity tables.old }
     ensures tables { AreTablesOf (map handled handles.now) tables.new.items }

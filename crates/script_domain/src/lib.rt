@@ -22,9 +22,10 @@
 //! **Its place.** The crate stands on `script_workers`, which runs scripts over any stores in threads, and on `mvrlu`,
 //! whose handles are such stores and whose meeting knows the whole history. `run_report` says what a run is. The crate
 //! adds the loan of the domain to its seats, the tables, and the step from what each seat had seen to the whole history.
+//! The loan is there for other runs too, in [`lending`].
 #![tactic(auto)]
 
-mod lending;
+pub mod lending;
 mod running;
 
 pub use running::run_domain;

@@ -23,6 +23,8 @@
 //!
 //! All memory is taken before the workers start. Want of it is the one error, and leaves the stores untouched.
 //!
+//! [`run_command`] promises the same of one command on one store, for those who share commands out in another way.
+//!
 //! # How it is proved
 //!
 //! One attempt's contract (`set_catalog`) speaks of the history that was seen then. From it comes the place of a command
@@ -44,3 +46,4 @@ mod tests;
 mod worker;
 
 pub use running::run_scripts;
+pub use worker::run_command;

@@ -71,8 +71,14 @@ fn run_script<R: Wait, S: Store<Rules = SetRules>, G: Gate>(
     }
 }
 
-// Tries a command until it is done, and gives its place and its reply.
-fn run_command<R: Wait, S: Store<Rules = SetRules>>(
+/// Tries a command on a store until it is done, and gives its place in the history that the store's seat has seen, and its
+/// reply there.
+///
+/// The place follows all that the seat had seen before, and the seat's commits grew by exactly those of the command: one,
+/// where the place is a commit, or none. The store may hold the five objects that a move locks.
+///
+/// It goes on for ever where others always come first. It takes no memory and never refuses.
+pub fn run_command<R: Wait, S: Store<Rules = SetRules>>(
     rt: &R,
     hinted: &mut HintedStore<S>,
     command: &Command,

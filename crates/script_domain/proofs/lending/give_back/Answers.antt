@@ -1,6 +1,6 @@
 use Rattle.std.proofs.Common.{◌∷◌, [], ◌∙◌, ap, length, arith, length-append}
 use Rattle.mvrlu.specs.Meant.{seat_of, handled}
-use Rattle.script_domain.proofs.Rows.{moved}
+use Rattle.script_domain.proofs.Moves.{moved}
 use Rattle.script_domain.proofs.lending.give_back.Goals as goal
 
 -- the first handle's seat is the last of the row

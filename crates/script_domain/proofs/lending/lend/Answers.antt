@@ -1,7 +1,7 @@
 use Rattle.std.proofs.Common.{◌∷◌, [], ◌∙◌, ap, length, arith, length-append}
 use Rattle.std.proofs.lemmas.List.Elements.{All-rest}
 use Rattle.mvrlu.specs.Meant.{seat_of, handled, IsSeatOf}
-use Rattle.script_domain.proofs.Rows.{moved, first_of}
+use Rattle.script_domain.proofs.Moves.{moved, first_of}
 use Rattle.script_domain.proofs.lending.lend.Goals as goal
 
 -- the first seat is of the domain

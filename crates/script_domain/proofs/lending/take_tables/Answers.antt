@@ -1,6 +1,6 @@
 use Rattle.std.proofs.Common.{◌∷◌, [], ap, length, arith, length-append}
 use Rattle.mvrlu.specs.Meant.{handled}
-use Rattle.script_domain.proofs.Rows.{tables_more}
+use Rattle.script_domain.proofs.Moves.{tables_more}
 use Rattle.script_domain.proofs.lending.take_tables.Goals as goal
 
 -- one more table is taken

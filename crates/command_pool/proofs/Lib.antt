@@ -1,0 +1,5 @@
+pub mod Totals
+pub mod Sharing
+pub mod Taking
+pub mod Gathering
+pub mod Pools

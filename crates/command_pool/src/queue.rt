@@ -1,0 +1,115 @@
+// The queue that the workers share: its rule, how it is filled, and how a pass takes a number out of it.
+ghost use Rattle.std.specs.Prelude.{◌≡◌, ◌≤◌, ◌+◌, ◌∷◌, ◌++◌, ℕ, suc, [], length, IfSome, IfNone};
+ghost use Rattle.crossbeam_queue.specs.Passes.{view, IsPassOf, ruled_capacity};
+ghost use Rattle.command_pool.specs.Queue.{hand, all_parts, total, total_to, IsRising};
+
+use crossbeam_queue::protocol::{Join, Lesson, Outcome, Protocol, Split};
+use crossbeam_queue::{Pass, RuledArrayQueue};
+use std::collections::LinkedList;
+use std::sync::Wait;
+
+// What a pass has of the queue: its parts of the right to know the whole, how many numbers it has put in, and which
+// numbers it has taken. No value of it is made.
+pub(crate) struct Hand {
+    pub(crate) parts: u64,
+    pub(crate) put: u64,
+    pub(crate) taken: LinkedList<u32>,
+}
+
+// The rule of the queue.
+pub(crate) struct InOrder;
+
+impl Protocol<u32, Hand> for InOrder {
+    ghost use Rattle.std.specs.Prelude.{[]};
+    ghost use Rattle.command_pool.specs.Queue.{hand, all_parts, IsShared};
+
+    ghost holds = { IsShared };
+
+    ghost first = { hand all_parts 0 [] };
+}
+
+// A part for a worker, and what it took back with the rest.
+pub(crate) struct Part;
+
+impl Split<Hand> for Part {
+    ghost use Rattle.std.specs.Prelude.{◌-◌, []};
+    ghost use Rattle.command_pool.specs.Queue.{hand};
+
+    ghost left = { λ v. hand (v.parts - 1) v.put v.taken };
+
+    ghost right = { λ v. hand 1 0 [] };
+}
+
+impl Join<Hand> for Part {
+    ghost use Rattle.std.specs.Prelude.{◌+◌, ◌++◌, []};
+    ghost use Rattle.command_pool.specs.Queue.{hand};
+
+    ghost both = { λ v w. hand (v.parts + w.parts) (v.put + w.put) (v.taken ++ w.taken) };
+
+    ghost spent = { hand 0 0 [] };
+}
+
+// One more number was put in, or the queue was full.
+pub(crate) struct Puts;
+
+impl Outcome<u32, Hand> for Puts {
+    ghost then = { λ v x w. w ≡ hand v.parts (suc v.put) v.taken };
+}
+
+impl Lesson<u32, Hand> for Puts {
+    ghost fact = { λ v items. length items ≤ v.put };
+}
+
+// A number was taken, above all that this pass had taken.
+pub(crate) struct Takes;
+
+impl Outcome<u32, Hand> for Takes {
+    ghost then = { λ v x w. (w ≡ hand v.parts v.put (v.taken ++ x ∷ [])) × IsRising 0 (v.taken ++ x ∷ []) x };
+}
+
+// What the whole pass has taken are the numbers up to one, each once.
+pub(crate) struct All;
+
+impl Lesson<u32, Hand> for All {
+    ghost fact = { λ v items. (done : ℕ) × ((h : ℕ → ℕ) → total h v.taken ≡ total_to h done) };
+}
+
+pub(crate) type Queue = RuledArrayQueue<u32, Hand, InOrder>;
+
+// Puts the numbers from 1 to the last one into an empty queue.
+pub(crate) fn fill<R: Wait>(rt: &R, queue: &Queue, pass: &mut Pass<u32, Hand>, last: u32)
+    requires pass { IsPassOf queue.now pass.old }
+    requires empty { view pass.old ≡ hand all_parts 0 [] }
+    requires room { last ≤ ruled_capacity queue.now }
+    ensures pass { IsPassOf queue.now pass.new }
+    ensures filled { view pass.new ≡ hand all_parts last [] }
+{
+    for count in 0..last {
+        put(rt, queue, pass, count + 1);
+    }
+}
+
+// Puts the next number in.
+fn put<R: Wait>(rt: &R, queue: &Queue, pass: &mut Pass<u32, Hand>, number: u32)
+    requires pass { IsPassOf queue.now pass.old }
+    requires whole { (view pass.old).parts ≡ all_parts }
+    requires next { number ≡ suc (view pass.old).put }
+    requires room { number ≤ ruled_capacity queue.now }
+    ensures pass { IsPassOf queue.now pass.new }
+    ensures one_more { view pass.new ≡ hand all_parts number (view pass.old).taken }
+{
+    // It is never full.
+    let _ = queue.push_as::<Puts, R>(rt, pass, number);
+}
+
+// Takes the next number out. None where the queue is empty, or another takes one at the same moment.
+pub(crate) fn take(queue: &Queue, pass: &mut Pass<u32, Hand>) -> Option<u32>
+    requires pass { IsPassOf queue.now pass.old }
+    requires part { ((view pass.old).parts ≡ 1) × ((view pass.old).put ≡ 0) }
+    ensures pass { IsPassOf queue.now pass.new }
+    ensures taken { IfSome result (λ number. (view pass.new ≡ hand 1 0 ((view pass.old).taken ++ number ∷ []))
+        × IsRising 0 ((view pass.old).taken ++ number ∷ []) number) }
+    ensures none { IfNone result (view pass.new ≡ view pass.old) }
+{
+    queue.try_pop_as::<Takes>(pass)
+}

@@ -1,0 +1,4 @@
+pub mod Scripts
+pub mod Shares
+pub mod Orders
+pub mod OnePool

@@ -1,0 +1,195 @@
+-- The seats of a domain that did the commands of a pool have met: their lines and tables are those of one pool in the whole history.
+use Rattle.std.proofs.Common.{
+  ◌≡◌,
+  ◌≢◌,
+  ℕ,
+  zero,
+  suc,
+  ◌+◌,
+  ◌<◌,
+  ◌≤◌,
+  ◌==◌,
+  cond,
+  List,
+  [],
+  ◌∷◌,
+  length,
+  map,
+  Some,
+  refl,
+  sym,
+  ap,
+  ◌∙◌,
+  subst,
+  arith,
+}
+use Rattle.std.specs.List.{All, slice_get}
+use Rattle.std.specs.List.Sorted.{IsPermutation}
+use Rattle.std.proofs.lemmas.List.{length-map}
+use Rattle.std.proofs.lemmas.List.Elements.{All-weaker}
+use Rattle.std.proofs.lemmas.List.Sorted.{All-permutation, IsPermutation-sym, IsPermutation-trans, length_permutation, sum_by-IsPermutation}
+use Rattle.std.proofs.lemmas.List.Sums.{sum_by-cons}
+use Rattle.mv_history.specs.declared.answers.LogTable.{LogTable}
+use Rattle.mv_history.specs.declared.history.Commit.{Commit}
+use Rattle.mv_history.specs.declared.history.TheConstants.{LAST}
+use Rattle.mv_history.specs.Meaning as history
+use Rattle.mv_history.specs.State.{state_after}
+use Rattle.mv_history.specs.Legal.{IsAllowed}
+use Rattle.set_script.specs.Catalogue.{Maps, empty}
+use Rattle.set_script.specs.CatalogueOf.{catalogue_of}
+use Rattle.set_script.specs.Lawful.{IsOpening}
+use Rattle.set_script.specs.Rules.{capacity, IsSetCommit}
+use Rattle.set_script.specs.declared.commands.Command.{Command}
+use Rattle.set_script.proofs.Opening.{opening_empty}
+use Rattle.mvrlu.specs.Meant.{numbers_of, opening_of, seat_of}
+use Rattle.mvrlu.specs.Meeting.{AreAll, LawOfTheWhole}
+use Rattle.mvrlu.specs.Whole.{Whole, last_state}
+use Rattle.mvrlu.specs.declared.domain.Domain.{Domain}
+use Rattle.mvrlu.specs.declared.domain.Seat.{Seat}
+use Rattle.run_report.specs.declared.line.Line.{Line}
+use Rattle.run_report.specs.Order.{IsOrdered}
+use Rattle.run_report.specs.Legal.{EachPair, Follows, IsAlone, IsInTime, Replays}
+use Rattle.run_report.specs.Worked.{Past}
+use Rattle.run_report.specs.Whole.{EachHasOneLine, RunOf, StandsIn, commit_lines, is_commit_of}
+use Rattle.run_report.proofs.Pairs.{pairs_permuted}
+use Rattle.run_report.proofs.history.Grown.{all_worked}
+use Rattle.run_report.proofs.history.Inserted.{some_order}
+use Rattle.run_report.proofs.history.Replay.{IsLeft, replay}
+use Rattle.command_pool.specs.declared.collected.Collected.{Collected}
+use Rattle.command_pool.specs.Pool.{PoolRan, times_of}
+use Rattle.script_domain.specs.Joined.{past_of_whole, AreTablesOf}
+use Rattle.script_domain.specs.New.{AreNewFrom}
+use Rattle.script_domain.proofs.OneRun as one_run
+use Rattle.script_domain.proofs.Seats.{ran_of}
+use Rattle.pool_domain.specs.Legal.{LegalPool, ReplaysPool, lines_of}
+use Rattle.pool_domain.specs.Lines.{line_of}
+use Rattle.pool_domain.specs.Whole.{PoolOf, StandsInPool}
+use Rattle.pool_domain.proofs.Orders.{as_scripts, stands_as, replays_pool, all_alone}
+use Rattle.pool_domain.proofs.Scripts.{scripts_of, script_lines, all_ran, scripts_length, same_commits}
+use Rattle.pool_domain.proofs.Shares.{IsOneOf, are_shares, all_follow, all_stand, all_seats, all_in_time}
+
+-- as many lines have a number as were collected with it
+lines_count : (number : ℕ) (collected : List Collected) → lines_of number (map line_of collected) ≡ times_of number collected
+lines_count number [] = refl
+lines_count number (c ∷ collected) =
+    sum_by-cons (λ (l : Line). cond (l.number == number) 1 0) (line_of c) (map line_of collected)
+    ∙ ap (λ k. cond (c.number == number) 1 0 + k) (lines_count number collected)
+    ∙ sym (sum_by-cons (λ (d : Collected). cond (d.number == number) 1 0) c collected)
+
+lines_permuted : (time : ℕ) (lines others : List Line) → IsPermutation lines others → commit_lines time others ≡ commit_lines time lines
+lines_permuted time lines others same = sum_by-IsPermutation (λ (l : Line). cond (is_commit_of time l.place) 1 0) lines others same
+
+-- What holds of the lines of a pool in a history.
+pub record IsPooled (p : Past) (seats : ℕ) (commands : List Command) (lines : List Line) : Type 0 where
+  pub opening : IsOpening p.start
+  pub allowed : IsAllowed IsSetCommit p.start p.entries
+  pub last : p.last ≡ LAST
+  pub seats_are : All (λ (line : Line). line.seat < seats) lines
+  pub stand : All (StandsInPool p commands) lines
+  pub follow : All (λ (line : Line). Follows p.base line.place) lines
+  pub one_line : EachHasOneLine p lines
+
+-- the ordered lines replay from empty maps
+replays : (p : Past) (seats : ℕ) (commands : List Command) (lines ordered : List Line) → IsPooled p seats commands lines → IsPermutation lines ordered
+    → IsOrdered ordered → ReplaysPool commands (capacity p.start) empty ordered (catalogue_of (state_after p.start p.entries))
+replays p seats commands lines ordered h same rising =
+    let from : p.base ≡ p.base + 0 = omega arith in
+    let below = All-permutation (λ (line : Line). line.seat < seats) lines ordered same h.seats_are in
+    let stands : All (StandsIn p (as_scripts seats commands)) lines =
+    λ k d lt. stands_as p seats commands _ (h.seats_are k d lt) (h.stand k d lt) in
+    let left : IsLeft p (as_scripts seats commands) 0 ordered = record {
+      ordered = rising;
+      stand = All-permutation (StandsIn p (as_scripts seats commands)) lines ordered same stands;
+      follow = All-permutation (λ line. Follows (p.base + 0) line.place) lines ordered same
+          (subst (λ t. All (λ line. Follows t line.place) lines) from h.follow);
+      left = λ i c low there. lines_permuted (p.base + suc i) lines ordered same ∙ h.one_line i c there;
+    } in
+    replays_pool seats commands (capacity p.start) empty ordered (catalogue_of (state_after p.start p.entries)) below
+    (subst (λ m. Replays (as_scripts seats commands) (capacity p.start) m ordered (catalogue_of (state_after p.start p.entries)))
+    (opening_empty p.start h.opening)
+    (replay p (as_scripts seats commands) h.allowed h.last 0 ordered left))
+
+module _ {P : Type 0} {rules : _} (d : Domain P) where
+  -- The seats that did the commands are all the seats of the domain.
+  pub all_met : (olds : List history.Seat) (seats : List (Seat P rules)) (commands : List Command) (collected : List Collected)
+      → AreNewFrom d 0 olds → length olds ≡ (numbers_of d).seats → PoolRan olds (map (λ s. seat_of s) seats) commands collected → AreAll d seats
+  all_met olds seats commands collected new many ran =
+      let news = map (λ s. seat_of s) seats in
+      one_run.all_met d olds seats (scripts_of olds news commands collected ran.each) (script_lines olds news commands collected ran.each) new many
+      (all_ran olds news commands collected ran.each)
+
+  -- The lines and tables are those of one pool in the whole history.
+  pub pool_met : (olds : List history.Seat) (seats : List (Seat P rules)) (commands : List Command) (collected : List Collected)
+      (tables : List LogTable) (w : Whole) → AreNewFrom d 0 olds → PoolRan olds (map (λ s. seat_of s) seats) commands collected
+      → AreTablesOf (map (λ s. seat_of s) seats) tables → LawOfTheWhole IsOpening IsSetCommit seats w
+      → w.start ≡ opening_of d → w.base ≡ (numbers_of d).base
+      → PoolOf (past_of_whole w) (length olds) commands (map line_of collected) (catalogue_of (last_state w)) tables
+  pool_met olds seats commands collected tables w new ran tabled law start base =
+      let p = past_of_whole w in
+      let news = map (λ s. seat_of s) seats in
+      let scripts = scripts_of olds news commands collected ran.each in
+      let told = script_lines olds news commands collected ran.each in
+      let each = all_ran olds news commands collected ran.each in
+      let are = ran_of d 0 olds news scripts told new each in
+      let many = scripts_length olds news commands collected ran.each in
+      let run = one_run.run_met d olds seats scripts told tables w new many each tabled law start base in
+      let worked = all_worked p 0 olds news scripts told (one_run.known d w start base 0 olds seats new are law.seen law.mine) each in
+      let shares = are_shares p 0 olds news commands collected ran.each worked in
+      let lines = map line_of collected in
+      let in_time = all_in_time p commands 0 (length olds) collected shares in
+      let stand = all_stand p commands 0 (length olds) collected shares in
+      let pooled : IsPooled p (length olds) commands lines = record {
+        opening = run.opening;
+        allowed = run.allowed;
+        last = refl;
+        seats_are = All-weaker (IsOneOf 0 (length olds)) (λ line. line.seat < length olds) (λ line one. omega (arith, one.1)) lines (all_seats p commands 0 (length olds) collected shares);
+        stand = stand;
+        follow = all_follow p commands 0 (length olds) collected shares;
+        one_line = λ i c there. same_commits (p.base + suc i) olds news commands collected ran.each ∙ run.one_line i c there;
+      } in
+      let ordered = some_order lines in
+      record {
+        opening = run.opening;
+        legal = run.legal;
+        allowed = run.allowed;
+        stand = stand;
+        one_line = pooled.one_line;
+        end_is = refl;
+        table_each = run.table_each ∙ many;
+        table_of = run.table_of;
+        run = record {
+          once = λ number positive le. lines_count number collected ∙ ran.once number positive le;
+          count = length-map collected line_of ∙ ran.count;
+          seats_are = pooled.seats_are;
+          from_base = pooled.follow;
+          in_time = in_time;
+          alone = all_alone p commands lines stand in_time;
+          replayed = (ordered.0, ordered.1, ordered.2, replays p (length olds) commands lines ordered.0 pooled ordered.1 ordered.2);
+        };
+      }
+
+-- a pool stays one whatever the order of its lines
+pub pool_permuted : (p : Past) (seats : ℕ) (commands : List Command) (lines others : List Line) (end : Maps) (tables : List LogTable)
+    → IsPermutation lines others → PoolOf p seats commands lines end tables → PoolOf p seats commands others end tables
+pool_permuted p seats commands lines others end tables same pool =
+    let r = pool.run.replayed in
+    record {
+      opening = pool.opening;
+      legal = pool.legal;
+      allowed = pool.allowed;
+      stand = All-permutation (StandsInPool p commands) lines others same pool.stand;
+      one_line = λ i c there. lines_permuted (p.base + suc i) lines others same ∙ pool.one_line i c there;
+      end_is = pool.end_is;
+      table_each = pool.table_each;
+      table_of = pool.table_of;
+      run = record {
+        once = λ number positive le.
+            sum_by-IsPermutation (λ (l : Line). cond (l.number == number) 1 0) lines others same ∙ pool.run.once number positive le;
+        count = length_permutation lines others same ∙ pool.run.count;
+        seats_are = All-permutation (λ line. line.seat < seats) lines others same pool.run.seats_are;
+        from_base = All-permutation (λ line. Follows p.base line.place) lines others same pool.run.from_base;
+        in_time = pairs_permuted IsInTime lines others same pool.run.in_time;
+        alone = pairs_permuted IsAlone lines others same pool.run.alone;
+        replayed = (r.0, IsPermutation-trans _ _ _ (IsPermutation-sym lines others same) r.1, r.2, r.3);
+      };
+    }

@@ -1,0 +1,113 @@
+// The run of a pool over a domain, up to the meeting of its seats.
+ghost use Rattle.std.specs.Prelude.{◌≡◌, ◌≤◌, length, map, All, IfOk, IfErr};
+ghost use Rattle.set_script.specs.CatalogueOf.{catalogue_of};
+ghost use Rattle.set_script.specs.Lawful.{IsOpening};
+ghost use Rattle.set_script.specs.declared.script.TheConstants.{MOST_COMMANDS};
+ghost use Rattle.mvrlu.specs.Meant.{numbers_of, opening_of, seat_of, whole_of};
+ghost use Rattle.mvrlu.specs.Whole.{last_state};
+ghost use Rattle.command_pool.specs.Pool.{PoolRan};
+ghost use Rattle.script_domain.specs.Joined.{past_of_whole, AreTablesOf};
+ghost use Rattle.script_domain.specs.New.{AreNewFrom};
+ghost use Rattle.pool_domain.specs.Lines.{line_of};
+ghost use Rattle.pool_domain.specs.Whole.{PoolOf};
+
+use crate::lines::put_lines;
+use command_pool::{Collected, run_pool};
+use mv_history::LogTable;
+use mvrlu::{Closing, Domain, Seat};
+use run_outside::Gate;
+use run_report::Line;
+use script_domain::lending::{Rows, give_back, lend, make_rows, take_tables};
+use set_script::{Command, SetRules};
+use std::alloc::{AllocError, Global};
+use std::sync::Wait;
+use std::thread::Threads;
+
+/// Does each command once on the seats of a domain, whichever takes it, in a thread for each seat, and then lets all seats
+/// meet.
+///
+/// It needs all seats of the domain, as `open` gave them, in order of number, 1 to 8 of them, at most 65,536 commands, and
+/// an opening state of at least 181 objects whose words are all 0. `write_max` must be at least 5, which is as many objects
+/// as a command locks at most. `gate` is called around each command, with the seat that took it and its number from 1.
+///
+/// It answers the closing of the domain, the lines, and the tables of the logs by seat. The lines stand by seat and then by
+/// number. They are those of one pool in the closing's history: every reply is the one that the sequential catalogue gives
+/// at the line's printed place, and each commit of the history has exactly one line.
+///
+/// The error is want of memory. It comes only before the first command, and hands back the domain and the seats, which
+/// mean what they meant, so the call can be tried again. After the workers have ended nothing is refused.
+pub fn run_pool_domain<R: Threads + Wait + Sync, G: Gate>(
+    rt: &R,
+    alloc: Global,
+    domain: Domain<SetRules>,
+    seats: Vec<Seat<SetRules>>,
+    commands: &[Command],
+    gate: &G,
+) -> Result<
+    (Closing<SetRules>, Vec<Line>, Vec<LogTable>),
+    (Domain<SetRules>, Vec<Seat<SetRules>>, AllocError),
+>
+    requires new { AreNewFrom domain 0 (map seat_of seats.items) }
+    requires all { length seats.items ≡ (numbers_of domain).seats }
+    requires some { 1 ≤ length seats.items }
+    requires few { length seats.items ≤ 8 }
+    requires opening { IsOpening (opening_of domain) }
+    requires short { length commands.now ≤ MOST_COMMANDS }
+    requires most { 5 ≤ (numbers_of domain).write_max }
+    ensures ran { IfOk result (λ done.
+        PoolOf (past_of_whole (whole_of done.0)) (length seats.items) commands.now done.1.items (catalogue_of (last_state (whole_of done.0))) done.2.items) }
+    ensures opening { IfOk result (λ done.
+        ((whole_of done.0).start ≡ opening_of domain) × ((whole_of done.0).base ≡ (numbers_of domain).base)) }
+    ensures err { IfErr result (λ refused. (refused.0 ≡ domain) × (map seat_of refused.1.items ≡ map seat_of seats.items)) }
+{
+    let mut lines = match Vec::with_capacity(alloc, commands.len()) {
+        Ok(lines) => lines,
+        Err(error) => return Err((domain, seats, error)),
+    };
+    match run_seats(rt, alloc, &domain, seats, commands, gate) {
+        Ok((seats, collected, tables)) => {
+            put_lines(&mut lines, &collected);
+            Ok((domain.meet(seats), lines, tables))
+        }
+        Err((seats, error)) => Err((domain, seats, error)),
+    }
+}
+
+// Does the commands on the seats, and takes the tables of their logs.
+fn run_seats<R: Threads + Wait + Sync, G: Gate>(
+    rt: &R,
+    alloc: Global,
+    domain: &Domain<SetRules>,
+    mut seats: Vec<Seat<SetRules>>,
+    commands: &[Command],
+    gate: &G,
+) -> Result<(Vec<Seat<SetRules>>, Vec<Collected>, Vec<LogTable>), (Vec<Seat<SetRules>>, AllocError)>
+    requires new { AreNewFrom domain.now 0 (map seat_of seats.items) }
+    requires some { 1 ≤ length seats.items }
+    requires few { length seats.items ≤ 8 }
+    requires short { length commands.now ≤ MOST_COMMANDS }
+    requires most { 5 ≤ (numbers_of domain.now).write_max }
+    ensures ran { IfOk result (λ done. PoolRan (map seat_of seats.items) (map seat_of done.0.items) commands.now done.1.items) }
+    ensures tables { IfOk result (λ done. AreTablesOf (map seat_of done.0.items) done.2.items) }
+    ensures err { IfErr result (λ refused. map seat_of refused.0.items ≡ map seat_of seats.items) }
+{
+    let Rows {
+        mut tables,
+        mut handles,
+    } = match make_rows(alloc, seats.len()) {
+        Ok(rows) => rows,
+        Err(error) => return Err((seats, error)),
+    };
+    lend(domain, &mut seats, &mut handles);
+    match run_pool(rt, alloc, handles, commands, gate) {
+        Ok((handles, collected)) => {
+            take_tables(&handles, &mut tables);
+            give_back(handles, &mut seats);
+            Ok((seats, collected, tables))
+        }
+        Err((handles, error)) => {
+            give_back(handles, &mut seats);
+            Err((seats, error))
+        }
+    }
+}

@@ -1,8 +1,26 @@
-//! Worked cases of a domain, over the public calls of `mvrlu` alone: opening one, with each fault of
-//! its numbers, and the meeting of its seats; and that its seats, handles and sections may go to
-//! threads.
+//! Worked cases of a domain, over the public calls of `mvrlu` alone: opening one, with each fault of its
+//! numbers; sections of its seats, what holds their logs, and their meeting, by schedules; and that its
+//! seats, handles and sections may go to threads.
+//!
+//! **The model.** A schedule is a value: its name, the numbers of a domain, its turns, each with the number
+//! of a seat, its move, and the answer that is wanted, and the closing that is wanted. An interpreter plays
+//! it in a new domain, on one thread, with a client for each seat, which is its handle or its session.
+//!
+//! **The contract.** Every move leaves a client's seat the seat that it was (`IsSameSeat`), so any schedule
+//! may be played, and its seats can meet. A move that isn't one of the client as it stands is `Skipped`.
+//! What the calls answer is compared at run time: `played` answers what was first otherwise.
 #![tactic(auto)]
 
+mod clients;
+#[cfg(test)]
+mod log_rows;
+mod moves;
 #[cfg(test)]
 mod opening;
+mod playing;
+#[cfg(test)]
+mod section_rows;
 mod sends;
+
+pub use moves::{Answer, Move};
+pub use playing::{Otherwise, SMALL, Schedule, Turn, played};

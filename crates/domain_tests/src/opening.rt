@@ -67,7 +67,7 @@ fn first_fault_of_the_numbers(rt: HostRuntime) -> Result<(), Fail> {
         (
             Config {
                 seats: 65,
-                slots: 63,
+                slots: 1,
                 ..GOOD
             },
             Some(ConfigFault::Seats),

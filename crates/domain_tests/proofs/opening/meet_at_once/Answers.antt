@@ -10,5 +10,6 @@ pub read-requires : goal.read-requires
 read-requires c =
     let w = c.meet-closing.result.last in
     subst (λ (n : ℕ). 0 < n)
-    (sym (length-state_after w.start w.history ∙ ap length c.meet-closing.ensures.opening.0 ∙ ap length c.in-Ok.ensures.opened.1.opening ∙ c.requires.sized))
+    (sym (length-state_after w.start w.history ∙ ap length c.meet-closing.ensures.opening.0
+    ∙ ap length c.in-Ok.ensures.opened.1.opening ∙ c.requires.sized))
     c.requires.some

@@ -1,0 +1,182 @@
+// Schedules: what their turns are answered in a new domain, and how it closes.
+ghost use Rattle.std.specs.Prelude.{◌≡◌, ◌≤◌, [], vec_len, vec_capacity};
+ghost use Rattle.mvrlu.specs.Meant.{numbers_of, seat_of};
+ghost use Rattle.mvrlu.specs.Orders.{AreRising, AreFalling};
+ghost use Rattle.domain_tests.specs.Clients.{seat_in};
+
+use crate::clients::{Client, give_back, lend};
+use crate::moves::{Answer, Move, make};
+use mv_history::{AnyRules, View, Words};
+use mv_layout::Config;
+use mvrlu::{Closing, Domain, OpenFault, Seat, open};
+use std::alloc::{AllocError, Global};
+
+/// A turn of a schedule: the number of a seat, its move, and the answer that is wanted.
+pub type Turn = (usize, Move, Answer);
+
+/// A schedule of one thread in a new domain whose objects are all zeros: its turns, and the closing that is
+/// wanted then.
+#[derive(Clone, Copy, Debug, PartialEq, Eq)]
+pub struct Schedule<'a> {
+    /// What it shows.
+    pub name: &'a str,
+    /// The numbers of the domain.
+    pub domain: Config,
+    /// Its turns, part by part.
+    pub turns: &'a [&'a [Turn]],
+    /// Its turns after all seats were given back and lent again; a section that was left open is given up.
+    pub again: &'a [Turn],
+    /// The time of the closing, and the words of its first objects.
+    pub closing: (u64, &'a [Words]),
+}
+
+/// What was first otherwise than was wanted.
+#[derive(Clone, Copy, Debug, PartialEq, Eq)]
+pub enum Otherwise {
+    /// What a turn of a part was answered.
+    Turn {
+        part: usize,
+        turn: usize,
+        answer: Answer,
+    },
+    /// The time of the closing.
+    Time(u64),
+    /// The words of an object of the closing; None where there is no such object.
+    Object(u32, Option<Words>),
+}
+
+/// One seat and one object, sets of up to 16 objects, logs of 64 slots, and 0 as the opening time.
+pub const SMALL: Config = Config {
+    seats: 1,
+    objects: 1,
+    slots: 64,
+    write_max: 16,
+    low: 32,
+    high: 48,
+    base: 0,
+};
+
+// Makes the move of a seat, where there is a client for it. The clients stand the last first.
+fn make_turn(
+    domain: &Domain<AnyRules>,
+    clients: &mut Vec<Client<'_>>,
+    seat: usize,
+    next: Move,
+) -> Answer
+    requires falling { AreFalling seat_in domain.now (numbers_of domain.now).seats clients.old.items }
+    ensures falling { AreFalling seat_in domain.now (numbers_of domain.now).seats clients.new.items }
+    ensures many { vec_len clients.new ≡ vec_len clients.old }
+    ensures room { vec_capacity clients.new ≡ vec_capacity clients.old }
+{
+    if seat >= clients.len() {
+        return Answer::Skipped;
+    }
+    let place = clients.len() - 1 - seat;
+    make(&mut clients[place], next)
+}
+
+// Plays a part of a schedule. It answers the first turn that was answered otherwise, with that answer.
+fn play(
+    domain: &Domain<AnyRules>,
+    clients: &mut Vec<Client<'_>>,
+    turns: &[Turn],
+) -> Option<(usize, Answer)>
+    requires falling { AreFalling seat_in domain.now (numbers_of domain.now).seats clients.old.items }
+    ensures falling { AreFalling seat_in domain.now (numbers_of domain.now).seats clients.new.items }
+    ensures many { vec_len clients.new ≡ vec_len clients.old }
+    ensures room { vec_capacity clients.new ≡ vec_capacity clients.old }
+{
+    for at in 0..turns.len() {
+        let (seat, next, wanted) = turns[at];
+        let answer = make_turn(domain, clients, seat, next);
+        if answer != wanted {
+            return Some((at, answer));
+        }
+    }
+    None
+}
+
+// Plays the parts of a schedule.
+fn play_parts(
+    domain: &Domain<AnyRules>,
+    clients: &mut Vec<Client<'_>>,
+    parts: &[&[Turn]],
+) -> Option<Otherwise>
+    requires falling { AreFalling seat_in domain.now (numbers_of domain.now).seats clients.old.items }
+    ensures falling { AreFalling seat_in domain.now (numbers_of domain.now).seats clients.new.items }
+    ensures many { vec_len clients.new ≡ vec_len clients.old }
+    ensures room { vec_capacity clients.new ≡ vec_capacity clients.old }
+{
+    for part in 0..parts.len() {
+        if let Some((turn, answer)) = play(domain, clients, parts[part]) {
+            return Some(Otherwise::Turn { part, turn, answer });
+        }
+    }
+    None
+}
+
+// What of a closing is otherwise than was wanted.
+fn closed_otherwise(mut closing: Closing<AnyRules>, wanted: (u64, &[Words])) -> Option<Otherwise> {
+    let (time, objects) = wanted;
+    if closing.time() != time {
+        return Some(Otherwise::Time(closing.time()));
+    }
+    let mut object = 0;
+    for words in objects {
+        if object >= closing.objects() {
+            return Some(Otherwise::Object(object, None));
+        }
+        let found = closing.read(object);
+        if found != *words {
+            return Some(Otherwise::Object(object, Some(found)));
+        }
+        object += 1;
+    }
+    None
+}
+
+// Plays a schedule, and gives the domain back. It answers the first turn that was answered otherwise.
+fn play_all<'d>(
+    domain: &'d Domain<AnyRules>,
+    mut seats: Vec<Seat<AnyRules>>,
+    mut clients: Vec<Client<'d>>,
+    schedule: &Schedule,
+) -> (Vec<Seat<AnyRules>>, Option<Otherwise>)
+    requires many { vec_len seats ≡ (numbers_of domain.now).seats }
+    requires rising { AreRising seat_of domain.now seats.items }
+    requires empty { clients.items ≡ [] }
+    requires room { vec_len seats ≤ vec_capacity clients }
+    ensures many { vec_len result.0 ≡ (numbers_of domain.now).seats }
+    ensures rising { AreRising seat_of domain.now result.0.items }
+{
+    lend(domain, &mut seats, &mut clients);
+    let first = play_parts(domain, &mut clients, schedule.turns);
+    give_back(domain, &mut clients, &mut seats);
+    lend(domain, &mut seats, &mut clients);
+    let then = play_parts(domain, &mut clients, &[schedule.again]);
+    give_back(domain, &mut clients, &mut seats);
+    clients.destroy_empty();
+    (seats, first.or(then))
+}
+
+/// Plays a schedule in a new domain, and lets its seats meet; a section that is left open is given up. It
+/// answers what was first otherwise; `None` is that all was as wanted.
+///
+/// The error is that of `open`, or want of memory for the clients; no turn was made then.
+pub fn played(alloc: Global, schedule: &Schedule) -> Result<Option<Otherwise>, OpenFault> {
+    let numbers = schedule.domain;
+    let Ok(start) = vec![in alloc; [0; 6]; numbers.objects as usize] else {
+        return Err(OpenFault::Memory);
+    };
+    let (domain, seats) = open::<AnyRules>(alloc, numbers, start.as_slice())?;
+    let clients = match Vec::with_capacity(alloc, seats.len()) {
+        Ok(clients) => clients,
+        Err(AllocError) => {
+            let _ = domain.meet(seats);
+            return Err(OpenFault::Memory);
+        }
+    };
+    let (seats, otherwise) = play_all(&domain, seats, clients, schedule);
+    let closed = closed_otherwise(domain.meet(seats), schedule.closing);
+    Ok(otherwise.or(closed))
+}

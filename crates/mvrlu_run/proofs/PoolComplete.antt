@@ -1,5 +1,5 @@
 -- Where the text of a pool's file is told and nothing failed, the words and the file alone decide how a call ends.
-use Rattle.std.proofs.Common.{inl, inr, ◌≡◌, ◌⊎◌, ℕ, List, [], ◌∷◌, length, Ok, refl, sym, ap, ◌∙◌, arith}
+use Rattle.std.proofs.Common.{inl, inr, ◌≡◌, ◌⊎◌, ℕ, List, [], ◌∷◌, Ok, refl, sym, ap, ◌∙◌, arith}
 use Rattle.run_outside.specs.Outside.{Rose}
 use Rattle.run_words.specs.Words.{pool, asked}
 use Rattle.set_script.specs.declared.commands.Command.{Command}

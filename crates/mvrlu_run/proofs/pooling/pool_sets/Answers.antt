@@ -1,7 +1,5 @@
-use Rattle.std.proofs.Common.{◌∙◌, ap, length, subst, sym}
+use Rattle.std.proofs.Common.{◌∙◌, ap, length}
 use Rattle.mv_layout.specs.declared.config.Config.{Config}
-use Rattle.mvrlu.specs.Whole.{last_state}
-use Rattle.set_script.specs.CatalogueOf.{catalogue_of}
 use Rattle.set_script.proofs.Times.{lawful_after}
 use Rattle.pool_domain.proofs.OnePool.{pool_permuted}
 use Rattle.mvrlu_run.proofs.Still.{still_pool}

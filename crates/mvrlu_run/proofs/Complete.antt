@@ -6,7 +6,7 @@ use Rattle.run_words.specs.declared.request.Limit.{Limit as LimitOf}
 use Rattle.run_words.specs.declared.request.Options.{Options}
 use Rattle.run_words.specs.declared.request.Refusal.{Refusal}
 use Rattle.run_words.specs.declared.request.Refusal.TheVariants.{Form, Beyond}
-use Rattle.run_words.specs.Words.{Asks, run, gen, work, asked}
+use Rattle.run_words.specs.Words.{Asks, run, gen, work, pool, asked}
 use Rattle.set_script.specs.declared.commands.Command.{Command}
 use Rattle.set_script.specs.declared.commands.FaultKind.{FaultKind}
 use Rattle.set_script.specs.declared.commands.FaultKind.TheVariants.{Many}
@@ -31,7 +31,7 @@ fault_of : {A E : Type 0} → E → Result A E → E
 fault_of d (Ok a) = d
 fault_of d (Err e) = e
 
-err_inj : {A E : Type 0} (a b : E) → ◌≡◌ {A = Result A E} (Err a) (Err b) → a ≡ b
+pub err_inj : {A E : Type 0} (a b : E) → ◌≡◌ {A = Result A E} (Err a) (Err b) → a ≡ b
 unfolding fault_of
 err_inj a b p = ap (fault_of a) p
 
@@ -43,7 +43,7 @@ form_is_no_limit : (limit : LimitOf) → Form ≡ Beyond limit → ⊥
 unfolding IsForm
 form_is_no_limit limit p = subst IsForm p tt
 
-no_zero : (kind : FaultKind) → fault_status kind ≡ 0 → ⊥
+pub no_zero : (kind : FaultKind) → fault_status kind ≡ 0 → ⊥
 no_zero Many e = omega (arith, e)
 no_zero kind e = omega (arith, e)
 
@@ -67,13 +67,15 @@ none_reached t place r = omega (arith, slice_get_within {A = List ℕ} [] place 
 text_reads : (asks : Asks) (texts : Option Texts) (closed : Closed) (text : List ℕ) → IsTextFor asks texts closed text → ReadsSets closed
 text_reads (run options names) texts closed text h =
     subst ReadsSets (sym h.3) (lawful_after h.2.last.start h.2.last.history h.4.ran.run.opening h.4.ran.run.allowed)
+text_reads (pool seats names) texts closed text h =
+    subst ReadsSets (sym h.3) (lawful_after h.2.last.start h.2.last.history h.4.ran.pool.opening h.4.ran.pool.allowed)
 text_reads (gen number seat) texts closed text h = subst ReadsSets (sym h.0) tt
 text_reads (work number) texts closed text h =
     subst ReadsSets (sym h.1) (lawful_after h.0.last.start h.0.last.history h.2.ran.run.opening h.2.ran.run.allowed)
 
 module _ (words : List (List ℕ)) (old new : Outside) where
   -- a way to end has its cause in what is asked for, where something is
-  ends : (f : Finish) (asks : Asks) → Cause f words old new → asked words ≡ Ok asks → AskedCause f asks old new
+  pub ends : (f : Finish) (asks : Asks) → Cause f words old new → asked words ≡ Ok asks → AskedCause f asks old new
   ends Usage asks c a = absurd (not_both words asks Form a c.0)
   ends (Limit limit) asks c a = absurd (not_both words asks (Beyond limit) a c.0)
   ends (Done closed) asks c a = subst (λ x. AskedCause (Done closed) x old new) (same_asks words c.0 asks c.1 a) c.2

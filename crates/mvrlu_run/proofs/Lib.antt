@@ -5,3 +5,4 @@ pub mod Still
 pub mod Refused
 pub mod Complete
 pub mod Four
+pub mod PoolComplete

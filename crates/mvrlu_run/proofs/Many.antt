@@ -75,3 +75,10 @@ none_fails (Done c) steady t names place name at n = tt
 none_fails Usage steady t names place name at n = tt
 none_fails (Limit limit) steady t names place name at n = tt
 none_fails Write steady t names place name at n = tt
+
+-- of one file there is one script
+pub only_script : (scripts : List (Vec Command Global)) (s : Vec Command Global) → length scripts ≡ 1 → s ≡ get_or scripts 0 s
+    → map items_of scripts ≡ s.items ∷ []
+only_script [] s len is = absurd (omega (arith, len))
+only_script (x ∷ []) s len is = ap (λ (v : Vec Command Global). v.items ∷ []) (sym is)
+only_script (x ∷ y ∷ scripts) s len is = absurd (omega (arith, len))

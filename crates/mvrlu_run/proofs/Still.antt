@@ -1,7 +1,8 @@
 -- What is read of a domain that is left doesn't change its history.
-use Rattle.std.proofs.Common.{◌≡◌, List, sym, subst}
+use Rattle.std.proofs.Common.{◌≡◌, ℕ, List, sym, subst}
 use Rattle.mv_history.specs.declared.answers.LogTable.{LogTable}
 use Rattle.mvrlu.specs.Whole.{Whole, IsStill, last_state}
+use Rattle.pool_domain.specs.Whole.{PoolOf}
 use Rattle.run_report.specs.declared.line.Line.{Line}
 use Rattle.run_report.specs.Whole.{RunOf}
 use Rattle.script_domain.specs.Joined.{past_of_whole}
@@ -14,3 +15,9 @@ pub still_run : (v w : Whole) (scripts : List (List Command)) (lines : List Line
     → end ≡ catalogue_of (last_state v) → RunOf (past_of_whole v) scripts lines (catalogue_of (last_state v)) tables
     → RunOf (past_of_whole w) scripts lines end tables
 still_run v w scripts lines end tables still is run = rw (is, still.start, still.base, still.history) run
+
+-- and so is a pool
+pub still_pool : (v w : Whole) (seats : ℕ) (commands : List Command) (lines : List Line) (end : Maps) (tables : List LogTable) → IsStill v w
+    → end ≡ catalogue_of (last_state v) → PoolOf (past_of_whole v) seats commands lines (catalogue_of (last_state v)) tables
+    → PoolOf (past_of_whole w) seats commands lines end tables
+still_pool v w seats commands lines end tables still is pool = rw (is, still.start, still.base, still.history) pool

@@ -4,3 +4,5 @@ pub mod Status
 pub mod Scripts
 pub mod Told
 pub mod Outcome
+pub mod Pooled
+pub mod PoolOutcome

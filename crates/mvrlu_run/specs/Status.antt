@@ -3,7 +3,7 @@ use Rattle.std.specs.Prelude.{ℕ, List, [], ◌++◌, codes, decimal}
 use Rattle.set_script.specs.declared.commands.FaultKind.{FaultKind}
 use Rattle.set_script.specs.declared.commands.FaultKind.TheVariants.{Word, Count, Format, Name, Key, Value, Same, Many}
 use Rattle.run_words.specs.declared.request.Limit.{Limit as LimitOf}
-use Rattle.run_words.specs.declared.request.Limit.TheVariants.{Objects, Slots, Base, Files, Number, Seat}
+use Rattle.run_words.specs.declared.request.Limit.TheVariants.{Objects, Slots, Base, Files, Number, Seat, Seats}
 use Rattle.mvrlu_run.specs.declared.finish.Closed.{Closed}
 use Rattle.mvrlu_run.specs.declared.finish.Closed.TheVariants.{No}
 use Rattle.mvrlu_run.specs.declared.finish.Finish.{Finish}
@@ -38,6 +38,7 @@ limit_word Base = codes "base"
 limit_word Files = codes "files"
 limit_word Number = codes "number"
 limit_word Seat = codes "seat"
+limit_word Seats = codes "seats"
 
 -- what stands before the number of a faulty script
 abbrev pub fault_start : FaultKind → List ℕ
@@ -58,7 +59,7 @@ fault_end Many = codes " commands\n"
 -- the line on `err`
 abbrev pub line_of : Finish → List ℕ
 line_of (Done closed) = []
-line_of Usage = codes "usage: run [--objects N] [--slots N] [--base N] FILE... or gen NUMBER SEAT or work NUMBER\n"
+line_of Usage = codes "usage: run [--objects N] [--slots N] [--base N] FILE... or gen NUMBER SEAT or work NUMBER or pool SEATS FILE\n"
 line_of (Limit limit) = codes "limit: " ++ limit_word limit ++ codes "\n"
 line_of (Script script line kind) = fault_start kind ++ decimal script ++ codes " line " ++ decimal line ++ fault_end kind
 line_of (Bytes script) = codes "limit: script " ++ decimal script ++ codes " bytes\n"

@@ -11,7 +11,7 @@ use Rattle.run_report.specs.Summary.{summary}
 use Rattle.run_report.specs.Text.{text_of_run}
 use Rattle.run_report.specs.Whole.{RunOf}
 use Rattle.run_words.specs.declared.request.Options.{Options}
-use Rattle.run_words.specs.Words.{Asks, run, gen, work}
+use Rattle.run_words.specs.Words.{Asks, run, gen, work, pool}
 use Rattle.script_domain.specs.Joined.{past_of_whole}
 use Rattle.script_gen.specs.Script.{script, text_of_script}
 use Rattle.set_script.specs.declared.commands.Command.{Command}
@@ -20,6 +20,7 @@ use Rattle.set_script.specs.Catalogue.{Maps}
 use Rattle.set_script.specs.Objects.{no_words}
 use Rattle.mvrlu_run.specs.declared.finish.Closed.{Closed}
 use Rattle.mvrlu_run.specs.declared.finish.Closed.TheVariants.{No, Sets}
+use Rattle.mvrlu_run.specs.Pooled.{IsPoolText}
 use Rattle.mvrlu_run.specs.Scripts.{AllScripts}
 
 -- The scripts were run over the domain that is left, which was opened with so many objects, all zero, and this time of the
@@ -62,12 +63,16 @@ IsTextFor (run options names) texts closed text =
     × IsRunText options scripts closing text
 IsTextFor (gen number seat) texts closed text = (closed ≡ No) × (text ≡ text_of_script number seat)
 IsTextFor (work number) texts closed text = (closing : Closing SetRules) × (closed ≡ Sets closing) × IsWorkText number closing text
+IsTextFor (pool seats names) texts closed text =
+    (commands : List Command) × AllScripts texts names (commands ∷ []) × (closing : Closing SetRules) × (closed ≡ Sets closing)
+    × IsPoolText seats commands closing text
 
 -- the files that are to be read
 abbrev pub files_of : Asks → List (List ℕ)
 files_of (run options names) = names
 files_of (gen number seat) = []
 files_of (work number) = []
+files_of (pool seats names) = names
 
 -- the numbers of the domain of a run with so many seats
 abbrev pub config_of : Options → ℕ → Config

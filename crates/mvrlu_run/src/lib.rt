@@ -1,5 +1,6 @@
 //! The program: it reads its words and the scripts of files, runs them over a domain of many versions, one worker for
-//! each script, and writes the text of the run. It also writes a generated script, and runs the four of a number.
+//! each script, and writes the text of the run. It also writes a generated script, runs the four of a number, and does the
+//! commands of one file on a pool of seats, whichever takes the next.
 //!
 //! # Model
 //!
@@ -35,6 +36,7 @@
 mod finish;
 mod generated;
 mod line;
+mod pooling;
 mod program;
 mod reading;
 mod running;
@@ -42,7 +44,9 @@ mod scripts;
 mod sending;
 mod texts;
 
+pub use command_pool::run_pool;
 pub use finish::{Closed, Ran};
+pub use pool_domain::run_pool_domain;
 pub use program::run_program;
 pub use script_domain::run_domain;
 pub use script_workers::run_scripts;

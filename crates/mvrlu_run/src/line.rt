@@ -14,7 +14,7 @@ use set_script::FaultKind;
 const ROOM: usize = 128;
 
 const USAGE: &[u8] =
-    b"usage: run [--objects N] [--slots N] [--base N] FILE... or gen NUMBER SEAT or work NUMBER\n";
+    b"usage: run [--objects N] [--slots N] [--base N] FILE... or gen NUMBER SEAT or work NUMBER or pool SEATS FILE\n";
 
 /// Writes the line of an end, as far as the sink takes it.
 pub fn report<E: Sink>(err: &mut E, finish: &Finish)
@@ -74,6 +74,7 @@ fn limit_word(limit: Limit) -> &'static [u8]
         Limit::Files => b"files",
         Limit::Number => b"number",
         Limit::Seat => b"seat",
+        Limit::Seats => b"seats",
     }
 }
 

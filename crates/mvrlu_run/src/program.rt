@@ -3,8 +3,9 @@ ghost use Rattle.std.specs.Prelude.{◌≡◌, ◌≢◌, ◌↔◌, List, ℕ, 
 ghost use Rattle.run_outside.specs.Outside.{Rose};
 ghost use Rattle.run_words.specs.declared.request.Options.{Options as OptionsOf};
 ghost use Rattle.run_words.specs.declared.request.Refusal.TheVariants.{Form};
-ghost use Rattle.run_words.specs.Words.{asked, run};
+ghost use Rattle.run_words.specs.Words.{asked, pool, run};
 ghost use Rattle.mvrlu_run.specs.Status.{closed_of, status_of};
+ghost use Rattle.mvrlu_run.specs.PoolOutcome.{IsPoolComplete, IsPoolPrinted};
 ghost use Rattle.mvrlu_run.specs.Outcome.{outside, Cause, IsComplete, IsPrinted, NeverRead, Outcome, ReadsSets};
 
 use crate::finish::{Closed, Finish, Ran};
@@ -36,7 +37,8 @@ use std::thread::Threads;
 /// status. `closed` is `No` on every status but 0, and where a script is generated.
 ///
 /// Scripts are run by one worker for each, script i as seat i of a domain of its own; the gate is called around each
-/// command.
+/// command. A pool does the commands of its one file, each on the seat that takes it next, and its lines have that seat
+/// and the command's number in the file.
 pub fn run_program<R: Threads + Wait + Sync, F: Files, O: Sink, E: Sink, G: Gate>(
     rt: &R,
     alloc: Global,
@@ -57,6 +59,12 @@ pub fn run_program<R: Threads + Wait + Sync, F: Files, O: Sink, E: Sink, G: Gate
         (options : OptionsOf) → (names : List (List ℕ)) → asked (map string_bytes words.now) ≡ Ok (run options names)
         → result.status ≡ 0 → IsPrinted options names old new result.closed }
 
+    // What a pool prints is the text of its domain's one history, which `closed` has.
+    ensures pooled { let old = outside F.texts F.steady F.faults files.old O.written O.faults out.old in
+        let new = outside F.texts F.steady F.faults files.new O.written O.faults out.new in
+        (seats : ℕ) → (names : List (List ℕ)) → asked (map string_bytes words.now) ≡ Ok (pool seats names)
+        → result.status ≡ 0 → IsPoolPrinted seats names old new result.closed }
+
     // Refusals come for these causes alone, and leave the output as it was.
     ensures usage { (result.status ≡ 2) ↔ (asked (map string_bytes words.now) ≡ Err Form) }
     ensures read { result.status ≡ 5 → Rose (F.faults files.old) (F.faults files.new) }
@@ -69,6 +77,9 @@ pub fn run_program<R: Threads + Wait + Sync, F: Files, O: Sink, E: Sink, G: Gate
     ensures complete { let old = outside F.texts F.steady F.faults files.old O.written O.faults out.old in
         let new = outside F.texts F.steady F.faults files.new O.written O.faults out.new in
         IsComplete (map string_bytes words.now) old new result.status }
+    ensures pool_complete { let old = outside F.texts F.steady F.faults files.old O.written O.faults out.old in
+        let new = outside F.texts F.steady F.faults files.new O.written O.faults out.new in
+        IsPoolComplete (map string_bytes words.now) old new result.status }
 {
     let finish = carry_out(rt, alloc, words, files, out, gate);
     report(err, &finish);

@@ -89,8 +89,8 @@ fn config(options: Options, seats: u32) -> Config
     }
 }
 
-// Opens a domain of the sets, with objects that are all zero.
-fn open_sets(
+/// Opens a domain of the sets of these numbers, with so many seats and objects that are all zero. The error is want of memory.
+pub fn open_sets(
     alloc: Global,
     options: Options,
     seats: u32,

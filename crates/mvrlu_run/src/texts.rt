@@ -8,6 +8,7 @@ ghost use Rattle.mvrlu_run.specs.Told.{IsRunText, IsTextFor, IsWorkText, files_o
 
 use crate::finish::{Closed, Finish};
 use crate::generated::{WORK, four_scripts};
+use crate::pooling::make_pool;
 use crate::running::{Told, run_sets};
 use crate::scripts::read_scripts;
 use mvrlu::Closing;
@@ -55,6 +56,10 @@ pub fn make_text<R: Threads + Wait + Sync, F: Files, G: Gate>(
             }),
             Err(AllocError) => Err(Finish::Memory),
         },
+        Request::Pool {
+            seats,
+            files: names,
+        } => make_pool(rt, alloc, seats, names, files, gate),
         Request::Work { number } => match work_text(rt, alloc, number, gate) {
             Ok((text, closing)) => Ok(Made {
                 text,

@@ -1,36 +1,12 @@
 -- The seats of a domain that did the commands of a pool have met: their lines and tables are those of one pool in the whole history.
-use Rattle.std.proofs.Common.{
-  ◌≡◌,
-  ◌≢◌,
-  ℕ,
-  zero,
-  suc,
-  ◌+◌,
-  ◌<◌,
-  ◌≤◌,
-  ◌==◌,
-  cond,
-  List,
-  [],
-  ◌∷◌,
-  length,
-  map,
-  Some,
-  refl,
-  sym,
-  ap,
-  ◌∙◌,
-  subst,
-  arith,
-}
-use Rattle.std.specs.List.{All, slice_get}
+use Rattle.std.proofs.Common.{◌≡◌, ℕ, suc, ◌+◌, ◌<◌, ◌==◌, cond, List, [], ◌∷◌, length, map, refl, sym, ap, ◌∙◌, subst, arith}
+use Rattle.std.specs.List.{All}
 use Rattle.std.specs.List.Sorted.{IsPermutation}
 use Rattle.std.proofs.lemmas.List.{length-map}
 use Rattle.std.proofs.lemmas.List.Elements.{All-weaker}
 use Rattle.std.proofs.lemmas.List.Sorted.{All-permutation, IsPermutation-sym, IsPermutation-trans, length_permutation, sum_by-IsPermutation}
 use Rattle.std.proofs.lemmas.List.Sums.{sum_by-cons}
 use Rattle.mv_history.specs.declared.answers.LogTable.{LogTable}
-use Rattle.mv_history.specs.declared.history.Commit.{Commit}
 use Rattle.mv_history.specs.declared.history.TheConstants.{LAST}
 use Rattle.mv_history.specs.Meaning as history
 use Rattle.mv_history.specs.State.{state_after}
@@ -48,9 +24,9 @@ use Rattle.mvrlu.specs.declared.domain.Domain.{Domain}
 use Rattle.mvrlu.specs.declared.domain.Seat.{Seat}
 use Rattle.run_report.specs.declared.line.Line.{Line}
 use Rattle.run_report.specs.Order.{IsOrdered}
-use Rattle.run_report.specs.Legal.{EachPair, Follows, IsAlone, IsInTime, Replays}
+use Rattle.run_report.specs.Legal.{Follows, IsAlone, IsInTime, Replays}
 use Rattle.run_report.specs.Worked.{Past}
-use Rattle.run_report.specs.Whole.{EachHasOneLine, RunOf, StandsIn, commit_lines, is_commit_of}
+use Rattle.run_report.specs.Whole.{EachHasOneLine, StandsIn, commit_lines, is_commit_of}
 use Rattle.run_report.proofs.Pairs.{pairs_permuted}
 use Rattle.run_report.proofs.history.Grown.{all_worked}
 use Rattle.run_report.proofs.history.Inserted.{some_order}
@@ -61,7 +37,7 @@ use Rattle.script_domain.specs.Joined.{past_of_whole, AreTablesOf}
 use Rattle.script_domain.specs.New.{AreNewFrom}
 use Rattle.script_domain.proofs.OneRun as one_run
 use Rattle.script_domain.proofs.Seats.{ran_of}
-use Rattle.pool_domain.specs.Legal.{LegalPool, ReplaysPool, lines_of}
+use Rattle.pool_domain.specs.Legal.{ReplaysPool, lines_of}
 use Rattle.pool_domain.specs.Lines.{line_of}
 use Rattle.pool_domain.specs.Whole.{PoolOf, StandsInPool}
 use Rattle.pool_domain.proofs.Orders.{as_scripts, stands_as, replays_pool, all_alone}

@@ -1,35 +1,16 @@
 -- What each seat of a pool took, as its script, with the lines of that script.
-use Rattle.std.proofs.Common.{
-  ◌≡◌,
-  ℕ,
-  suc,
-  ◌+◌,
-  ◌≤◌,
-  List,
-  [],
-  ◌∷◌,
-  ◌++◌,
-  length,
-  map,
-  take,
-  drop,
-  refl,
-  sym,
-  ap,
-  ◌∙◌,
-  arith,
-}
+use Rattle.std.proofs.Common.{◌≡◌, ℕ, suc, ◌+◌, List, [], ◌∷◌, ◌++◌, length, map, refl, sym, ap, ◌∙◌}
 use Rattle.std.proofs.Common.{cond, take_at, drop_at}
 use Rattle.std.proofs.lemmas.List.{map-append}
 use Rattle.std.proofs.lemmas.List.Sums.{sum_by-cons}
 use Rattle.mv_history.specs.Meaning.{Seat}
 use Rattle.set_script.specs.declared.commands.Command.{Command}
 use Rattle.run_report.specs.declared.line.Line.{Line}
-use Rattle.run_report.specs.Worked.{Ran, AllRan}
+use Rattle.run_report.specs.Worked.{AllRan}
 use Rattle.run_report.specs.Whole.{commit_lines, is_commit_of}
 use Rattle.run_report.proofs.history.Made.{lines_append}
 use Rattle.command_pool.specs.declared.collected.Collected.{Collected}
-use Rattle.command_pool.specs.Pool.{AreTaken, lines_from, Took, EachTook}
+use Rattle.command_pool.specs.Pool.{AreTaken, lines_from, EachTook}
 use Rattle.pool_domain.specs.Lines.{line_of}
 
 taken_length : (commands : List Command) (before : ℕ) (taken : List Collected) (script : List Command) → AreTaken commands before taken script

@@ -1,28 +1,5 @@
 -- What the seats of a pool took, each with its lines in the whole history.
-use Rattle.std.proofs.Common.{
-  ◌≡◌,
-  ℕ,
-  zero,
-  suc,
-  ◌+◌,
-  ◌<◌,
-  ◌≤◌,
-  List,
-  [],
-  ◌∷◌,
-  ◌++◌,
-  length,
-  map,
-  take,
-  drop,
-  Some,
-  refl,
-  sym,
-  ap,
-  ◌∙◌,
-  subst,
-  arith,
-}
+use Rattle.std.proofs.Common.{◌≡◌, ℕ, zero, suc, ◌+◌, ◌<◌, ◌≤◌, List, [], ◌∷◌, ◌++◌, length, map, sym, subst, arith}
 use Rattle.std.proofs.Common.{take_at, drop_at}
 use Rattle.std.specs.List.{All}
 use Rattle.std.specs.Option.{IsSomeAnd}
@@ -34,7 +11,7 @@ use Rattle.mv_history.specs.Meaning.{Seat}
 use Rattle.set_script.specs.declared.commands.Command.{Command}
 use Rattle.run_report.specs.declared.line.Line.{Line}
 use Rattle.run_report.specs.Order.{time_of}
-use Rattle.run_report.specs.Legal.{EachPair, Follows, IsInTime, command_at}
+use Rattle.run_report.specs.Legal.{EachPair, Follows, IsInTime}
 use Rattle.run_report.specs.Worked.{Past, PlaceOf, LinesOf}
 use Rattle.run_report.proofs.Pairs.{pairs_cons, pairs_append}
 use Rattle.run_report.proofs.Runs.{follows_earlier}

@@ -1,5 +1,5 @@
 -- What a list of words asks for. Words are lists of bytes.
-use Rattle.std.specs.Prelude.{ℕ, ◌≤◌, ◌<◌, ⊤, ◌==◌, nat_le, ◌&&◌, not, Bool, false, List, [], ◌∷◌, length, map, string_bytes}
+use Rattle.std.specs.Prelude.{◌≡◌, ℕ, ◌≤◌, ◌<◌, ⊤, ◌==◌, nat_le, ◌&&◌, not, Bool, false, List, [], ◌∷◌, length, map, string_bytes}
 use Rattle.std.specs.Prelude.{Option, None, Some, Result, Ok, Err, if◌then◌else◌, codes}
 use Rattle.std.specs.List.{list_all}
 use Rattle.std.specs.Str.{bytes_eq}
@@ -7,7 +7,7 @@ use Rattle.std.specs.Str.Parse.{digits_value}
 use Rattle.set_script.specs.Grammar.{◌>>=◌, is_numeral}
 use Rattle.run_words.specs.declared.request.Options.{Options}
 use Rattle.run_words.specs.declared.request.Request.{Request}
-use Rattle.run_words.specs.declared.request.Request.TheVariants.{Run, Gen, Work}
+use Rattle.run_words.specs.declared.request.Request.TheVariants.{Run, Gen, Work, Pool}
 use Rattle.run_words.specs.declared.request.Limit.{Limit}
 use Rattle.run_words.specs.declared.request.Limit.TheVariants as limits
 use Rattle.run_words.specs.declared.request.Refusal.{Refusal}
@@ -24,6 +24,8 @@ pub data Asks : Type 0 where
   gen : ℕ → ℕ → Asks
   -- to run the four generated scripts of a number
   work : ℕ → Asks
+  -- to do the commands of the one file of these names on so many seats
+  pool : ℕ → List (List ℕ) → Asks
 
 -- the number of a word, where it is 1 to 20 decimal digits
 abbrev pub number_of : List ℕ → Option ℕ
@@ -125,6 +127,19 @@ work_asked (first ∷ []) = do
   Ok (work number)
 work_asked words = Err Form
 
+-- a word that may be a FILE is in form
+abbrev pub one_file : List ℕ → Result (List (List ℕ)) Refusal
+one_file word = if is_file word then Ok (word ∷ []) else Err Form
+
+-- what the words behind `pool` ask for
+abbrev pub pool_asked : List (List ℕ) → Result Asks Refusal
+pool_asked (first ∷ second ∷ []) = do
+  seats ← read (number_of first)
+  names ← one_file second
+  seats ← within limits.Seats 1 8 seats
+  Ok (pool seats names)
+pool_asked words = Err Form
+
 -- What the words ask for, or the first reason why they ask for nothing.
 abbrev pub asked : List (List ℕ) → Result Asks Refusal
 asked [] = Err Form
@@ -132,13 +147,15 @@ asked (first ∷ words) =
     if bytes_eq first (codes "run") then run_asked words
     else (if bytes_eq first (codes "gen") then gen_asked words
     else (if bytes_eq first (codes "work") then work_asked words
-    else Err Form))
+    else (if bytes_eq first (codes "pool") then pool_asked words
+    else Err Form)))
 
 -- what a request asks for
 abbrev pub asks_of : Request → Asks
 asks_of (Run options files) = run options (map string_bytes files.now)
 asks_of (Gen number seat) = gen number seat
 asks_of (Work number) = work number
+asks_of (Pool seats files) = pool seats (map string_bytes files.now)
 
 -- The numbers of a run are in their ranges.
 pub record FitOptions (o : Options) : Type 0 where
@@ -151,3 +168,4 @@ abbrev pub IsFit : Request → Type 0
 IsFit (Run options files) = FitOptions options × (1 ≤ length files.now) × (length files.now ≤ 64)
 IsFit (Gen number seat) = seat < 4
 IsFit (Work number) = ⊤
+IsFit (Pool seats files) = (1 ≤ seats) × (seats ≤ 8) × (length files.now ≡ 1)

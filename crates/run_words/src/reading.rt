@@ -1,7 +1,7 @@
 // Reading the words.
 ghost use Rattle.std.specs.Prelude.{◌≡◌, map, string_bytes, Ok, Err, IfOk, MatchResult};
 ghost use Rattle.std.specs.List.{list_all};
-ghost use Rattle.run_words.specs.Words.{asked, asks_of, are_files, IsFit, is_file, gen_asked, run_asked, work_asked};
+ghost use Rattle.run_words.specs.Words.{asked, asks_of, are_files, IsFit, is_file, gen_asked, pool_asked, run_asked, work_asked};
 
 use crate::numbers::{read_number, within};
 use crate::options::read_options;
@@ -9,6 +9,9 @@ use crate::request::{Limit, Options, Refusal, Request};
 
 // The most files of a run.
 const MOST_FILES: usize = 64;
+
+// The most seats of a pool.
+const MOST_SEATS: u64 = 8;
 
 /// What the words ask for, exactly by `asked`; its numbers are in their ranges. An error is the first reason why they
 /// ask for nothing.
@@ -24,6 +27,7 @@ pub fn read_words(words: &[String]) -> Result<Request<'_>, Refusal>
         "run" => read_run(rest),
         "gen" => read_gen(rest),
         "work" => read_work(rest),
+        "pool" => read_pool(rest),
         _ => Err(Refusal::Form),
     }
 }
@@ -61,6 +65,33 @@ fn read_run(words: &[String]) -> Result<Request<'_>, Refusal>
         base,
     };
     Ok(Request::Run { options, files })
+}
+
+// What the words behind `pool` ask for.
+fn read_pool(words: &[String]) -> Result<Request<'_>, Refusal>
+    ensures asked { MatchResult result (λ request. pool_asked (map string_bytes words.now) ≡ Ok (asks_of request))
+        (λ refusal. pool_asked (map string_bytes words.now) ≡ Err refusal) }
+    ensures fit { IfOk result IsFit }
+{
+    let [seats, files @ ..] = words else {
+        return Err(Refusal::Form);
+    };
+    let [file] = files else {
+        return Err(Refusal::Form);
+    };
+    let Some(seats) = read_number(seats.as_str()) else {
+        return Err(Refusal::Form);
+    };
+    if !is_file(file.as_str()) {
+        return Err(Refusal::Form);
+    }
+    match within(Limit::Seats, 1, MOST_SEATS, seats) {
+        Ok(seats) => Ok(Request::Pool {
+            seats: seats as u32,
+            files,
+        }),
+        Err(refusal) => Err(refusal),
+    }
 }
 
 // Whether there is a word, and each may be a FILE.

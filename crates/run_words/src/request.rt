@@ -28,6 +28,11 @@ pub enum Request<'w> {
     Work {
         number: u64,
     },
+    /// To do the commands of this one file on so many seats, 1 to 8.
+    Pool {
+        seats: u32,
+        files: &'w [String],
+    },
 }
 
 /// A number that has a range.
@@ -39,6 +44,7 @@ pub enum Limit {
     Files,
     Number,
     Seat,
+    Seats,
 }
 
 /// Why words ask for nothing.

@@ -4,5 +4,8 @@ use Rattle.mvrlu_run.proofs.texts.make_text.Goals as goal
 pub returns-in-Run-clause-made : goal.returns-in-Run-clause-made
 returns-in-Run-clause-made g c = rw c.in-Run.is c.make_run.ensures.made
 
+pub returns-in-Pool-clause-made : goal.returns-in-Pool-clause-made
+returns-in-Pool-clause-made g c = rw c.in-Pool.is c.make_pool.ensures.made
+
 pub returns-in-Ok-work_text-clause-made : goal.returns-in-Ok-work_text-clause-made
 returns-in-Ok-work_text-clause-made g c = rw c.in-Work.is (c.in-Ok-work_text.closing, refl, c.in-Ok-work_text.ensures)

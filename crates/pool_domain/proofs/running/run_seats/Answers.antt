@@ -1,4 +1,4 @@
-use Rattle.std.proofs.Common.{map, sym, ap, length, subst, arith}
+use Rattle.std.proofs.Common.{sym, ap, length, subst, arith}
 use Rattle.std.proofs.lemmas.List.{length-map}
 use Rattle.mvrlu.specs.Meant.{seat_of, handled}
 use Rattle.script_domain.specs.New.{AreNewFrom}

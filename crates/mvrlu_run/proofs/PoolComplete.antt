@@ -1,0 +1,80 @@
+-- Where the text of a pool's file is told and nothing failed, the words and the file alone decide how a call ends.
+use Rattle.std.proofs.Common.{inl, inr, ◌≡◌, ◌⊎◌, ℕ, List, [], ◌∷◌, Ok, refl, sym, ap, ◌∙◌, arith}
+use Rattle.run_outside.specs.Outside.{Rose}
+use Rattle.run_words.specs.Words.{pool, asked}
+use Rattle.set_script.specs.declared.commands.Command.{Command}
+use Rattle.set_script.specs.declared.commands.FaultKind.{FaultKind}
+use Rattle.mvrlu_run.specs.declared.finish.Finish.{Finish}
+use Rattle.mvrlu_run.specs.declared.finish.Finish.TheVariants.{Done, Usage, Limit, Script, Bytes, Read, Write, Memory}
+use Rattle.mvrlu_run.specs.declared.finish.Ran.{Ran}
+use Rattle.mvrlu_run.specs.Outcome.{AskedCause, Cause, Outside}
+use Rattle.mvrlu_run.specs.PoolOutcome.{IsPoolComplete, IsPoolPrinted}
+use Rattle.mvrlu_run.specs.Reading.{AreTold}
+use Rattle.mvrlu_run.specs.Scripts.{AllScripts, IsLong, IsRefused, StopsAt}
+use Rattle.mvrlu_run.specs.Status.{closed_of, fault_status, status_of}
+use Rattle.mvrlu_run.proofs.Complete.{ends, err_inj, no_zero}
+use Rattle.mvrlu_run.proofs.Refused.{Spoils, fault_spoils, length_spoils, no_stop, one_stop}
+
+module _ (words : List (List ℕ)) (old new : Outside) where
+  module _ (seats : ℕ) (names : List (List ℕ)) (is : AreTold old.texts) where
+    -- the commands are done
+    does : (f : Finish) (scripts : List (List Command)) → AskedCause f (pool seats names) old new → AllScripts old.texts names scripts
+        → ¬ Rose old.file_faults new.file_faults → ¬ Rose old.out_faults new.out_faults → (status_of f ≡ 0) ⊎ (status_of f ≡ 7)
+    does (Done closed) scripts c all files out = inl refl
+    does Usage scripts c all files out = absurd c.1
+    does (Limit limit) scripts c all files out = absurd c.1
+    does (Script script line kind) scripts c all files out =
+        absurd (no_stop old.texts names scripts script c.1.reaches.name (IsRefused line kind) is all c.1.reaches.named c.1.says (fault_spoils line kind))
+    does (Bytes script) scripts c all files out =
+        absurd (no_stop old.texts names scripts script c.1.reaches.name IsLong is all c.1.reaches.named c.1.says length_spoils)
+    does (Read script) scripts c all files out = absurd (files c.1.1)
+    does Write scripts c all files out = absurd (out c.0)
+    does Memory scripts c all files out = inr refl
+
+    -- a file that is no script is answered
+    stops : (f : Finish) (place : ℕ) (P : List ℕ → Type 0) (status : ℕ) → AskedCause f (pool seats names) old new → StopsAt old.texts names place P
+        → Spoils P → ((text : List ℕ) (line : ℕ) (kind : FaultKind) → IsRefused line kind text → P text → fault_status kind ≡ status)
+        → ((text : List ℕ) → IsLong text → P text → 4 ≡ status) → ¬ Rose old.file_faults new.file_faults
+        → (status_of f ≡ status) ⊎ (status_of f ≡ 7)
+    stops (Done closed) place P status c stop spoils fault long files =
+        absurd (no_stop old.texts names (c.1.0 ∷ []) place stop.reaches.name P is c.1.1 stop.reaches.named stop.says spoils)
+    stops Usage place P status c stop spoils fault long files = absurd c.1
+    stops (Limit limit) place P status c stop spoils fault long files = absurd c.1
+    stops (Script script line kind) place P status c stop spoils fault long files =
+        let both = one_stop old.texts names script place (IsRefused line kind) P is c.1 stop (fault_spoils line kind) spoils in
+        inl (fault both.0 line kind both.1 both.2)
+    stops (Bytes script) place P status c stop spoils fault long files =
+        let both = one_stop old.texts names script place IsLong P is c.1 stop length_spoils spoils in
+        inl (long both.0 both.1 both.2)
+    stops (Read script) place P status c stop spoils fault long files = absurd (files c.1.1)
+    stops Write place P status c stop spoils fault long files =
+        absurd (no_stop old.texts names (c.3.0 ∷ []) place stop.reaches.name P is c.3.1 stop.reaches.named stop.says spoils)
+    stops Memory place P status c stop spoils fault long files = inr refl
+
+  pub is_pool_complete : (f : Finish) (status : ℕ) → status ≡ status_of f → Cause f words old new → IsPoolComplete words old new status
+  is_pool_complete f status e c = rw e (record {
+    commands = λ seats names scripts a is all. does seats names is f scripts (ends words old new f (pool seats names) c a) all;
+    fault = λ seats names place line kind a is stop. stops seats names is f place (IsRefused line kind) (fault_status kind)
+        (ends words old new f (pool seats names) c a) stop (fault_spoils line kind)
+        (λ text l k r s. ap fault_status (ap (λ (x : ℕ × FaultKind). x.1) (err_inj {A = List Command} (l, k) (line, kind) (sym r.fault ∙ s.fault))))
+        (λ text long s. absurd (omega (arith, s.short, long)));
+    bytes = λ seats names place a is stop. stops seats names is f place IsLong 4 (ends words old new f (pool seats names) c a) stop length_spoils
+        (λ text l k r long. absurd (omega (arith, r.short, long))) (λ text long s. refl);
+  })
+
+  printed : (f : Finish) (seats : ℕ) (names : List (List ℕ)) → AskedCause f (pool seats names) old new → status_of f ≡ 0
+      → IsPoolPrinted seats names old new (closed_of f)
+  printed (Done closed) seats names d nought = (d.1.2, d.1.3, d.1.0, d.1.1, d.0, d.1.4, d.2)
+  printed Usage seats names d nought = absurd d.1
+  printed (Limit limit) seats names d nought = absurd d.1
+  printed (Script script line kind) seats names d nought = absurd (no_zero kind nought)
+  printed (Bytes script) seats names d nought = absurd (omega (arith, nought))
+  printed (Read script) seats names d nought = absurd (omega (arith, nought))
+  printed Write seats names d nought = absurd (omega (arith, nought))
+  printed Memory seats names d nought = absurd (omega (arith, nought))
+
+  -- what a pool prints, where the status is 0
+  pub is_pool_printed : (f : Finish) (ran : Ran) (seats : ℕ) (names : List (List ℕ)) → ran.status ≡ status_of f → ran.closed ≡ closed_of f
+      → Cause f words old new → asked words ≡ Ok (pool seats names) → ran.status ≡ 0 → IsPoolPrinted seats names old new ran.closed
+  is_pool_printed f ran seats names s e c a nought =
+      rw e (printed f seats names (ends words old new f (pool seats names) c a) (sym s ∙ nought))

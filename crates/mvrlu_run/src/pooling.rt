@@ -1,0 +1,120 @@
+// The run of a pool over a domain of the sets.
+ghost use Rattle.std.specs.Prelude.{◌≡◌, ◌≤◌, IfErr, IfOk, MatchResult, length, map, string_bytes};
+ghost use Rattle.run_report.specs.Order.{IsOrdered};
+ghost use Rattle.run_words.specs.Words.{FitOptions, pool};
+ghost use Rattle.mvrlu_run.specs.Pooled.{IsPoolOf, IsPoolText};
+ghost use Rattle.mvrlu_run.specs.Scripts.{AnyStop, NoneFails};
+ghost use Rattle.mvrlu_run.specs.Told.{IsTextFor};
+
+use crate::finish::{Closed, Finish};
+use crate::running::{Told, open_sets};
+use crate::scripts::read_scripts;
+use crate::texts::Made;
+use mvrlu::Closing;
+use pool_domain::run_pool_domain;
+use run_outside::{Files, Gate};
+use run_report::{order, render};
+use run_words::Options;
+use set_catalog::read_all;
+use set_script::{Command, SetRules};
+use std::alloc::{AllocError, Global};
+use std::sync::Wait;
+use std::thread::Threads;
+
+/// The numbers of a pool's domain.
+const POOL: Options = Options {
+    objects: 4096,
+    slots: 1024,
+    base: 0,
+};
+
+/// Reads the commands of this one file, does each on one of so many seats, and makes the text. An error is why there is
+/// none: the file has no script, or there is no memory.
+pub fn make_pool<R: Threads + Wait + Sync, F: Files, G: Gate>(
+    rt: &R,
+    alloc: Global,
+    seats: u32,
+    names: &[String],
+    files: &mut F,
+    gate: &G,
+) -> Result<Made, Finish>
+    requires some { 1 ≤ seats }
+    requires few { seats ≤ 8 }
+    requires one { length names.now ≡ 1 }
+    ensures made { MatchResult result (λ made. IsTextFor (pool seats (map string_bytes names.now)) (F.texts files.old) made.closed made.text.items)
+        (λ finish. AnyStop finish (F.texts files.old) (map string_bytes names.now) (F.faults files.old) (F.faults files.new)) }
+    ensures steady { IfErr result (λ finish. NoneFails finish (F.steady files.old) (F.texts files.old) (map string_bytes names.now)) }
+{
+    let scripts = match read_scripts(alloc, files, names) {
+        Ok(scripts) => scripts,
+        Err(finish) => return Err(finish),
+    };
+    match pool_text(rt, alloc, seats, &scripts[0], gate) {
+        Ok((text, closing)) => Ok(Made {
+            text,
+            closed: Closed::Sets(closing),
+        }),
+        Err(AllocError) => Err(Finish::Memory),
+    }
+}
+
+// The text of a pool over these commands.
+fn pool_text<R: Threads + Wait + Sync, G: Gate>(
+    rt: &R,
+    alloc: Global,
+    seats: u32,
+    commands: &[Command],
+    gate: &G,
+) -> Result<(Vec<u8>, Closing<SetRules>), AllocError>
+    requires some { 1 ≤ seats }
+    requires few { seats ≤ 8 }
+    requires short { length commands.now ≤ 65536 }
+    ensures { IfOk result (λ r. IsPoolText seats commands.now r.1 r.0.items) }
+{
+    let Told {
+        closing,
+        lines,
+        end,
+        tables,
+    } = pool_sets(rt, alloc, POOL, seats, commands, gate)?;
+    let text = render(alloc, &lines, &end, &tables)?;
+    Ok((text, closing))
+}
+
+// Does the commands on so many seats of a domain of these numbers. The gate is called around each command. The error is
+// want of memory.
+fn pool_sets<R: Threads + Wait + Sync, G: Gate>(
+    rt: &R,
+    alloc: Global,
+    options: Options,
+    seats: u32,
+    commands: &[Command],
+    gate: &G,
+) -> Result<Told, AllocError>
+    requires fit { FitOptions options }
+    requires some { 1 ≤ seats }
+    requires few { seats ≤ 8 }
+    requires short { length commands.now ≤ 65536 }
+    ensures ran { IfOk result (λ told. IsPoolOf options seats commands.now told.closing told.lines.items told.end told.tables.items) }
+    ensures ordered { IfOk result (λ told. IsOrdered told.lines.items) }
+{
+    let (domain, seats) = open_sets(alloc, options, seats)?;
+    let (mut closing, mut lines, tables) = match run_pool_domain(
+        rt, alloc, domain, seats, commands, gate,
+    ) {
+        Ok(ran) => ran,
+        Err((domain, seats, error)) => {
+            // Seats can't be let go, so they meet.
+            let _ = domain.meet(seats);
+            return Err(error);
+        }
+    };
+    order(&mut lines);
+    let end = read_all(alloc, &mut closing)?;
+    Ok(Told {
+        closing,
+        lines,
+        end,
+        tables,
+    })
+}

@@ -8,8 +8,7 @@ use Rattle.set_script.specs.declared.commands.Command.{Command}
 use Rattle.set_script.specs.declared.commands.FaultKind.{FaultKind}
 use Rattle.set_script.specs.declared.commands.FaultKind.TheVariants.{Many}
 use Rattle.set_script.specs.declared.script.TheConstants.{MOST_COMMANDS}
-use Rattle.set_script.specs.Grammar.{◌>>=◌, lines_of, words_of, reading_in, format_after, readings_in, with_reading, parsed, parsed_after}
-use Rattle.set_blocks.specs.declared.faults.BlockKind.{BlockKind}
+use Rattle.set_script.specs.Grammar.{◌>>=◌, lines_of, reading_in, format_after, readings_in, with_reading, parsed, parsed_after}
 use Rattle.set_blocks.specs.declared.faults.BlockKind.TheVariants.{Line}
 use Rattle.set_blocks.specs.declared.parsing.line.Said.{Said}
 use Rattle.set_blocks.specs.BlockGrammar as blocks

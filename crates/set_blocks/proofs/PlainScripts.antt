@@ -50,7 +50,8 @@ line_plain commands number (Ok (Some c)) =
     same : count_all (so_far commands) ≡ length commands
     same = let n = count-singles commands in omega arith
 
-    go : (b : Bool) → cond b (more (singles commands ++ (c ∷ []) ∷ [])) (Err (number, Line Many)) ≡ as_read (cond b (Ok (commands ++ c ∷ [])) (Err (number, Many)))
+    go : (b : Bool) → cond b (more (singles commands ++ (c ∷ []) ∷ [])) (Err (number, Line Many))
+        ≡ as_read (cond b (Ok (commands ++ c ∷ [])) (Err (number, Many)))
     go true = ap more (sym (singles-push commands c))
     go false = refl
 
@@ -65,7 +66,8 @@ lines_plain commands number format (line ∷ lines) h =
     (line_plain commands number (reading_in format line))
     ∙ go (with_reading commands number (reading_in format line)) (λ cs. lines_plain cs (number + 1) (format_after format line) lines h.1)
   where
-    go : (r : Result (List Command) (ℕ × FaultKind)) → ((cs : List Command) → with_readings (so_far cs) (number + 1) (lines_said (format_after format line) lines)
+    go : (r : Result (List Command) (ℕ × FaultKind)) → ((cs : List Command)
+        → with_readings (so_far cs) (number + 1) (lines_said (format_after format line) lines)
         ≡ as_read (parsed_after cs (number + 1) (readings_in (format_after format line) lines)))
         → (as_read r >>= λ more. with_readings more (number + 1) (lines_said (format_after format line) lines))
         ≡ as_read (r >>= λ more. parsed_after more (number + 1) (readings_in (format_after format line) lines))

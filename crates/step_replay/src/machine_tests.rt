@@ -1,8 +1,10 @@
 // The numbers and the cells of the words of a domain, and the first steps on a machine.
-ghost use Rattle.std.specs.Prelude.{◌≡◌};
+ghost use Rattle.std.specs.Prelude.{◌≡◌, ◌<◌, ℕ, []};
+ghost use Rattle.step_replay.specs.FirstSteps.{entered_and_left};
+ghost use Rattle.step_replay.specs.Machines.{IsBehind, config_of};
 
 use crate::{Machine, place_cell, place_number};
-use mv_layout::{Config, Place};
+use mv_layout::{Config, Place, clock_time};
 use std::test::*;
 
 // A domain of two seats and one object.
@@ -54,5 +56,29 @@ fn a_machine_has_the_numbers_of_its_domain(rt: HostRuntime) -> Result<(), Fail> 
     let config = small();
     let machine = Machine::new(rt.alloc(), &config)?;
     assert_eq!(rt; *machine.config(), config);
+    Ok(())
+}
+
+// Enters a section of a seat and leaves it, as the first steps of a new domain. It answers the words that the four steps
+// found.
+fn enter_and_leave(machine: &mut Machine, seat: u32) -> [u64; 4]
+    requires behind { IsBehind machine.old [] }
+    requires seat { seat < (config_of machine.old).seats }
+    ensures { (low : ℕ) × IsBehind machine.new (entered_and_left seat low) }
+{
+    let first = machine.load(Place::Clock);
+    let low = clock_time(first);
+    let outside = machine.store(Place::Mark(seat), 1 + low);
+    let second = machine.load(Place::Clock);
+    let inside = machine.store(Place::Mark(seat), 0);
+    [first, outside, second, inside]
+}
+
+#[test]
+fn a_seat_enters_and_leaves(rt: HostRuntime) -> Result<(), Fail> {
+    let config = small();
+    let mut machine = Machine::new(rt.alloc(), &config)?;
+    let found = enter_and_leave(&mut machine, 1);
+    assert_eq!(rt; found, [1_581_055, 0, 1_581_055, 4]);
     Ok(())
 }

@@ -1,7 +1,5 @@
-use Rattle.std.proofs.Common.{◌≡◌, ◌∷◌, Some, None, set, max, refl, sym, ap, ◌∙◌, subst, eq-eqb, ne_eqb, if◌then◌else◌, arith}
+use Rattle.std.proofs.Common.{None, refl, arith}
 use Rattle.mv_layout.proofs.InCells.{in_cells}
-use Rattle.mv_layout.specs.Cells.{Shows}
-use Rattle.mv_core.specs.EnterSteps.{stored_if}
 use Rattle.step_replay.specs.States.{state_of}
 use Rattle.step_replay.proofs.Machines.{shows_next, made_next, found_is}
 use Rattle.step_replay.proofs.machine.Machine.load.Goals as goal

@@ -1,4 +1,4 @@
-use Rattle.std.proofs.Common.{◌≡◌, ◌∷◌, Some, None, set, max, refl, sym, ap, ◌∙◌, subst, eq-eqb, ne_eqb, if◌then◌else◌, arith}
+use Rattle.std.proofs.Common.{◌≡◌, ◌∷◌, Some, None, set, sym, ap, ◌∙◌, subst, eq-eqb, ne_eqb, if◌then◌else◌, arith}
 use Rattle.mv_layout.proofs.InCells.{in_cells}
 use Rattle.mv_layout.specs.Cells.{Shows}
 use Rattle.mv_core.specs.EnterSteps.{stored_if}

@@ -106,11 +106,11 @@ module _ (machine : Machine) (seat : ℕ) (lt : seat < machine.config.seats) whe
     leave_next = record {
       seat = lt;
       may = record {
-          inside = inside;
-          phase = is_timed.1;
-          nothing = λ k x held. none_lives c k x Held (subst (λ r. slot_at r k ≡ Live x Held) is_timed.2 held);
-          finished = tt;
-        };
+        inside = inside;
+        phase = is_timed.1;
+        nothing = λ k x held. none_lives c k x Held (subst (λ r. slot_at r k ≡ Live x Held) is_timed.2 held);
+        finished = tt;
+      };
       place_is = ap Mark is_timed.0;
       range = lt;
       writes_are = λ found. refl;

@@ -52,7 +52,13 @@ module _ (machine : Machine) (seat : ℕ) (lt : seat < machine.config.seats) whe
   c = machine.config
 
   pub low_next : IsNext machine (low_turn seat) Clock (λ found. None)
-  low_next = record { seat = lt; may = record { outside = (quiet c seat).1; no_scan = (quiet c seat).2 }; place_is = refl; range = tt; writes_are = λ found. refl }
+  low_next = record {
+    seat = lt;
+    may = record { outside = (quiet c seat).1; no_scan = (quiet c seat).2 };
+    place_is = refl;
+    range = tt;
+    writes_are = λ found. refl;
+  }
 
   module _ (low : ℕ) (is : low ≡ clock_time_of ((opened c).memory Clock)) where
     -- the states behind the first step, the second and the third

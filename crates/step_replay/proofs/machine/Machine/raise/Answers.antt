@@ -32,7 +32,8 @@ returns-clause-makes c = λ turn behind next.
     let greatest : c.greater.result ≡ max (memory c.args.place) c.args.by = c.greater.ensures ∙ ap (λ n. max n c.args.by) found in (
       record {
         each = made_next here.config here.checked here.words.items turn.before turn.step c.args.place
-            (λ found. Some (max found c.args.by)) behind.shows next.place_is next.range next.writes_are (Some c.greater.result) (ap Some (sym greatest)) behind.each next.seat next.may (omega arith);
+            (λ found. Some (max found c.args.by)) behind.shows next.place_is next.range next.writes_are (Some c.greater.result) (ap Some (sym greatest))
+            behind.each next.seat next.may (omega arith);
         shows = subst (λ i. Shows here.config (set here.words.items i c.greater.result) (state_of here.config (turn.step ∷ turn.before)).memory)
             (sym c.place_cell-index.ensures)
             (shows_next here.config here.checked here.words.items turn.before turn.step c.args.place

@@ -31,7 +31,8 @@ returns-clause-makes c = λ turn behind next.
     behind.shows next.range c.place_cell-index.ensures c.index-found.ensures in (
       record {
         each = made_next here.config here.checked here.words.items turn.before turn.step c.args.place
-            (λ found. Some c.args.new) behind.shows next.place_is next.range next.writes_are (Some c.args.new) refl behind.each next.seat next.may (omega (arith, c.ranges.new.fits));
+            (λ found. Some c.args.new) behind.shows next.place_is next.range next.writes_are (Some c.args.new) refl
+            behind.each next.seat next.may (omega (arith, c.ranges.new.fits));
         shows = subst (λ i. Shows here.config (set here.words.items i c.args.new) (state_of here.config (turn.step ∷ turn.before)).memory)
             (sym c.place_cell-index.ensures)
             (shows_next here.config here.checked here.words.items turn.before turn.step c.args.place

@@ -34,7 +34,8 @@ returns-then-found-old-clause-makes c = λ turn behind next.
     ap (λ b. if b then Some c.args.new else None) (eq-eqb (memory c.args.place) c.args.old (sym found ∙ c.if-found-old.true)) in (
       record {
         each = made_next here.config here.checked here.words.items turn.before turn.step c.args.place
-            (λ found. stored_if found c.args.old c.args.new) behind.shows next.place_is next.range next.writes_are (Some c.args.new) won behind.each next.seat next.may (omega (arith, c.ranges.new.fits));
+            (λ found. stored_if found c.args.old c.args.new) behind.shows next.place_is next.range next.writes_are (Some c.args.new) won
+            behind.each next.seat next.may (omega (arith, c.ranges.new.fits));
         shows = subst (λ i. Shows here.config (set here.words.items i c.args.new) (state_of here.config (turn.step ∷ turn.before)).memory)
             (sym c.place_cell-index.ensures)
             (shows_next here.config here.checked here.words.items turn.before turn.step c.args.place
@@ -53,7 +54,8 @@ returns-else-found-old-clause-makes c = λ turn behind next.
     ap (λ b. if b then Some c.args.new else None) (ne_eqb (memory c.args.place) c.args.old (λ e. c.if-found-old.false (found ∙ e))) in (
       record {
         each = made_next here.config here.checked here.words.items turn.before turn.step c.args.place
-            (λ found. stored_if found c.args.old c.args.new) behind.shows next.place_is next.range next.writes_are None lost behind.each next.seat next.may tt;
+            (λ found. stored_if found c.args.old c.args.new) behind.shows next.place_is next.range next.writes_are None lost
+            behind.each next.seat next.may tt;
         shows = shows_next here.config here.checked here.words.items turn.before turn.step c.args.place
             (λ found. stored_if found c.args.old c.args.new) behind.shows next.place_is next.range next.writes_are None lost;
       },

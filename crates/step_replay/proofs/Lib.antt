@@ -2,3 +2,4 @@ pub mod PlanLines
 pub mod Replays
 pub mod Machines
 pub mod Ruled
+pub mod FirstSteps

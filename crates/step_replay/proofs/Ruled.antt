@@ -20,7 +20,10 @@ use Rattle.step_replay.proofs.Replays.{AreUnjoined, made_behind, holds_behind}
 -- what stands in a list of views, and where
 element : (seats : ℕ → View) (first count id : ℕ) (v : View) → get_elem? (views_from seats first count) id ≡ some v → (id < count) × (v ≡ seats (first + id))
 element seats first zero id v e = absurd (cc)
-element seats first (suc count) zero v e = (omega arith, let s : some (seats first) ≡ some v = e in let same : seats first ≡ v = cc in sym same ∙ ap seats (omega arith))
+element seats first (suc count) zero v e =
+    let s : some (seats first) ≡ some v = e in
+    let same : seats first ≡ v = cc in
+    (omega arith, sym same ∙ ap seats (omega arith))
 element seats first (suc count) (suc id) v e =
     let r = element seats (first + 1) count id v e in
     (omega (arith, r.0), r.1 ∙ ap seats (omega arith))
@@ -77,8 +80,10 @@ module _ (key : Opening) (k : Checked key.config) (from : key.start.value.items 
         );
     made = λ i j v w a b p q pos.
         let first = maker_is i v a pos in
-        let m : v.made ≡ c.seats = ap (λ (u : View). u.made) (view_at i v a).1 ∙ ap (λ n. (seats n).made) first ∙ first_made in
-        ((let n = number_at j w b in let lt = (view_at j w b).0 in omega (arith, m, n, lt)), subst (All (λ n. n.number < v.made)) (sym (no_note j w b)) (All-nil (λ n. n.number < v.made)));
+        let m : v.made ≡ c.seats = ap (λ (u : View). u.made) (view_at i v a).1 ∙ ap (λ n. (seats n).made) first ∙ first_made in (
+          (let n = number_at j w b in let lt = (view_at j w b).0 in omega (arith, m, n, lt)),
+          subst (All (λ n. n.number < v.made)) (sym (no_note j w b)) (All-nil (λ n. n.number < v.made)),
+        );
     all = λ s. place_of_seat s (cases_lt s c.seats);
   }
     where

@@ -3,3 +3,4 @@ pub mod FitPlans
 pub mod States
 pub mod Machines
 pub mod ReplayLaws
+pub mod FirstSteps

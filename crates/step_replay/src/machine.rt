@@ -1,5 +1,5 @@
 // The words of a domain as plain data, and the steps on them.
-ghost use Rattle.std.specs.Prelude.{◌≡◌, IfOk, List, [], ◌∷◌, length, replicate, slice_set, Some, None, max};
+ghost use Rattle.std.specs.Prelude.{◌≡◌, IfOk, [], length, replicate, slice_set, Some, None, max};
 ghost use Rattle.mv_layout.specs.Limits.{Checked};
 ghost use Rattle.mv_layout.specs.Cells.{cells, cell_of};
 ghost use Rattle.mv_layout.specs.Words.{clock_of};
@@ -12,8 +12,8 @@ use std::alloc::{AllocError, Global};
 /// them, its seat and its kind, and so the state after them, with the history and the view of each seat, is data for
 /// the proof alone.
 ///
-/// Each call but `new` and `config` is one step of a seat, whose condition holds of the seat's view. It reads and writes
-/// just what the step's kind does, and then the machine is behind that step too.
+/// Each call but `new` and `config` reads and writes one word, and is any step that does just that and whose condition
+/// holds of its seat's view (`Makes`): then the machine is behind that step too.
 #[derive(Drop)]
 pub struct Machine {
     config: Config,
@@ -43,13 +43,13 @@ fn greater(word: u64, other: u64) -> u64
 
 impl Machine {
     ghost use Rattle.mv_core.specs.EnterSteps.{stored_if};
-    ghost use Rattle.step_replay.specs.States.{Turn, state_of};
-    ghost use Rattle.step_replay.specs.Machines.{IsBehind, IsNext};
+    ghost use Rattle.mv_layout.specs.Places.{IsPlace};
+    ghost use Rattle.step_replay.specs.Machines.{IsBehind, Makes, config_of};
 
     /// A new domain of these numbers whose objects are all zeros, with all its seats. The error is want of memory.
     pub fn new(alloc: Global, config: &Config) -> Result<Machine, AllocError>
         requires checked { Checked config.now }
-        ensures numbers { IfOk result (λ machine. machine.config ≡ config.now) }
+        ensures numbers { IfOk result (λ machine. config_of machine ≡ config.now) }
         ensures behind { IfOk result (λ machine. IsBehind machine []) }
     {
         let words = opening_words(alloc, config)?;
@@ -61,31 +61,24 @@ impl Machine {
 
     /// The numbers of the domain.
     pub fn config(&self) -> &Config
-        ensures { result.now ≡ self.now.config }
+        ensures { result.now ≡ config_of self.now }
     {
         &self.config
     }
 
     /// A load of a word. It answers the word, and changes no word, but the view of the seat.
-    pub fn load(&mut self, place: &Place) -> u64
-        ghost turn: { Turn }
-        requires behind { IsBehind self.old turn.before }
-        requires next { IsNext self.old turn place.now (λ found. None) }
-        ensures numbers { self.new.config ≡ self.old.config }
-        ensures behind { IsBehind self.new (turn.step ∷ turn.before) }
-        ensures found { result ≡ (state_of self.old.config turn.before).memory place.now }
+    pub fn load(&self, place: Place) -> u64
+        requires { IsPlace (config_of self.now) place }
+        ensures { Makes self.now self.now place result (λ found. None) }
     {
         self.words[place_cell(&self.config, place) as usize]
     }
 
     /// A store of `new` into a word. It answers the word that was there.
-    pub fn store(&mut self, place: &Place, new: u64) -> u64
-        ghost turn: { Turn }
-        requires behind { IsBehind self.old turn.before }
-        requires next { IsNext self.old turn place.now (λ found. Some new) }
-        ensures numbers { self.new.config ≡ self.old.config }
-        ensures behind { IsBehind self.new (turn.step ∷ turn.before) }
-        ensures found { result ≡ (state_of self.old.config turn.before).memory place.now }
+    pub fn store(&mut self, place: Place, new: u64) -> u64
+        requires { IsPlace (config_of self.old) place }
+        ensures numbers { config_of self.new ≡ config_of self.old }
+        ensures makes { Makes self.old self.new place result (λ found. Some new) }
     {
         let index = place_cell(&self.config, place) as usize;
         let found = self.words[index];
@@ -95,13 +88,10 @@ impl Machine {
 
     /// An exchange of a word from `old` to `new`, which is won where the word is `old`. It answers the word that was
     /// there.
-    pub fn swap(&mut self, place: &Place, old: u64, new: u64) -> u64
-        ghost turn: { Turn }
-        requires behind { IsBehind self.old turn.before }
-        requires next { IsNext self.old turn place.now (λ found. stored_if found old new) }
-        ensures numbers { self.new.config ≡ self.old.config }
-        ensures behind { IsBehind self.new (turn.step ∷ turn.before) }
-        ensures found { result ≡ (state_of self.old.config turn.before).memory place.now }
+    pub fn swap(&mut self, place: Place, old: u64, new: u64) -> u64
+        requires { IsPlace (config_of self.old) place }
+        ensures numbers { config_of self.new ≡ config_of self.old }
+        ensures makes { Makes self.old self.new place result (λ found. stored_if found old new) }
     {
         let index = place_cell(&self.config, place) as usize;
         let found = self.words[index];
@@ -112,13 +102,10 @@ impl Machine {
     }
 
     /// A fetch_max of a word by `by`: the greater of the two is stored. It answers the word that was there.
-    pub fn raise(&mut self, place: &Place, by: u64) -> u64
-        ghost turn: { Turn }
-        requires behind { IsBehind self.old turn.before }
-        requires next { IsNext self.old turn place.now (λ found. Some (max found by)) }
-        ensures numbers { self.new.config ≡ self.old.config }
-        ensures behind { IsBehind self.new (turn.step ∷ turn.before) }
-        ensures found { result ≡ (state_of self.old.config turn.before).memory place.now }
+    pub fn raise(&mut self, place: Place, by: u64) -> u64
+        requires { IsPlace (config_of self.old) place }
+        ensures numbers { config_of self.new ≡ config_of self.old }
+        ensures makes { Makes self.old self.new place result (λ found. Some (max found by)) }
     {
         let index = place_cell(&self.config, place) as usize;
         let found = self.words[index];

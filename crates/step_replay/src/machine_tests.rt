@@ -1,10 +1,10 @@
-// The numbers and the cells of the words of a domain, and the numbers of a machine's domain.
-ghost use Rattle.std.specs.Prelude.{◌≡◌};
-ghost use Rattle.mv_layout.specs.Limits.{Checked};
-ghost use Rattle.mv_layout.specs.Places.{IsPlace};
+// The numbers and the cells of the words of a domain, and the first steps on a machine.
+ghost use Rattle.std.specs.Prelude.{◌≡◌, ◌<◌, ℕ, []};
+ghost use Rattle.step_replay.specs.FirstSteps.{entered_and_left};
+ghost use Rattle.step_replay.specs.Machines.{IsBehind, config_of};
 
 use crate::{Machine, place_cell, place_number};
-use mv_layout::{Config, Place};
+use mv_layout::{Config, Place, clock_time};
 use std::test::*;
 
 // A domain of two seats and one object.
@@ -22,29 +22,33 @@ fn small() -> Config
     }
 }
 
-// The number of a word, and its cell.
-fn both(config: &Config, place: &Place) -> (u32, u32)
-    requires checked { Checked config.now }
-    requires range { IsPlace config.now place.now }
-{
-    (place_number(config, place), place_cell(config, place))
-}
-
 #[test]
 fn the_numbers_and_the_cells_of_words(rt: HostRuntime) {
     let config = small();
-    assert_eq!(rt; both(&config, &Place::Clock), (0, 6));
-    assert_eq!(rt; both(&config, &Place::Grace), (1, 22));
-    assert_eq!(rt; both(&config, &Place::Mark(0)), (2, 38));
-    assert_eq!(rt; both(&config, &Place::Mark(1)), (3, 54));
-    assert_eq!(rt; both(&config, &Place::Head(0)), (4, 70));
-    assert_eq!(rt; both(&config, &Place::Master(0, 0)), (5, 71));
-    assert_eq!(rt; both(&config, &Place::Master(0, 5)), (10, 76));
-    assert_eq!(rt; both(&config, &Place::First(0, 0)), (11, 78));
-    assert_eq!(rt; both(&config, &Place::Stamp(0, 1)), (22, 95));
-    assert_eq!(rt; both(&config, &Place::Prev(0, 63)), (643, 1_088));
-    assert_eq!(rt; both(&config, &Place::Super(1, 0)), (654, 1_105));
-    assert_eq!(rt; both(&config, &Place::Data(1, 63, 5)), (1_290, 2_119));
+    assert_eq!(rt; place_number(&config, Place::Clock), 0);
+    assert_eq!(rt; place_number(&config, Place::Grace), 1);
+    assert_eq!(rt; place_number(&config, Place::Mark(0)), 2);
+    assert_eq!(rt; place_number(&config, Place::Mark(1)), 3);
+    assert_eq!(rt; place_number(&config, Place::Head(0)), 4);
+    assert_eq!(rt; place_number(&config, Place::Master(0, 0)), 5);
+    assert_eq!(rt; place_number(&config, Place::Master(0, 5)), 10);
+    assert_eq!(rt; place_number(&config, Place::First(0, 0)), 11);
+    assert_eq!(rt; place_number(&config, Place::Stamp(0, 1)), 22);
+    assert_eq!(rt; place_number(&config, Place::Prev(0, 63)), 643);
+    assert_eq!(rt; place_number(&config, Place::Super(1, 0)), 654);
+    assert_eq!(rt; place_number(&config, Place::Data(1, 63, 5)), 1_290);
+    assert_eq!(rt; place_cell(&config, Place::Clock), 6);
+    assert_eq!(rt; place_cell(&config, Place::Grace), 22);
+    assert_eq!(rt; place_cell(&config, Place::Mark(0)), 38);
+    assert_eq!(rt; place_cell(&config, Place::Mark(1)), 54);
+    assert_eq!(rt; place_cell(&config, Place::Head(0)), 70);
+    assert_eq!(rt; place_cell(&config, Place::Master(0, 0)), 71);
+    assert_eq!(rt; place_cell(&config, Place::Master(0, 5)), 76);
+    assert_eq!(rt; place_cell(&config, Place::First(0, 0)), 78);
+    assert_eq!(rt; place_cell(&config, Place::Stamp(0, 1)), 95);
+    assert_eq!(rt; place_cell(&config, Place::Prev(0, 63)), 1_088);
+    assert_eq!(rt; place_cell(&config, Place::Super(1, 0)), 1_105);
+    assert_eq!(rt; place_cell(&config, Place::Data(1, 63, 5)), 2_119);
 }
 
 #[test]
@@ -52,5 +56,29 @@ fn a_machine_has_the_numbers_of_its_domain(rt: HostRuntime) -> Result<(), Fail> 
     let config = small();
     let machine = Machine::new(rt.alloc(), &config)?;
     assert_eq!(rt; *machine.config(), config);
+    Ok(())
+}
+
+// Enters a section of a seat and leaves it, as the first steps of a new domain. It answers the words that the four steps
+// found.
+fn enter_and_leave(machine: &mut Machine, seat: u32) -> [u64; 4]
+    requires behind { IsBehind machine.old [] }
+    requires seat { seat < (config_of machine.old).seats }
+    ensures { (low : ℕ) × IsBehind machine.new (entered_and_left seat low) }
+{
+    let first = machine.load(Place::Clock);
+    let low = clock_time(first);
+    let outside = machine.store(Place::Mark(seat), 1 + low);
+    let second = machine.load(Place::Clock);
+    let inside = machine.store(Place::Mark(seat), 0);
+    [first, outside, second, inside]
+}
+
+#[test]
+fn a_seat_enters_and_leaves(rt: HostRuntime) -> Result<(), Fail> {
+    let config = small();
+    let mut machine = Machine::new(rt.alloc(), &config)?;
+    let found = enter_and_leave(&mut machine, 1);
+    assert_eq!(rt; found, [1_581_055, 0, 1_581_055, 4]);
     Ok(())
 }

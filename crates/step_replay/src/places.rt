@@ -11,41 +11,41 @@ use mv_layout::{
 };
 
 /// The cell of a word of the domain, below the table's size.
-pub fn place_cell(config: &Config, place: &Place) -> u32
+pub fn place_cell(config: &Config, place: Place) -> u32
     requires checked { Checked config.now }
-    requires range { IsPlace config.now place.now }
-    ensures { result ≡ cell_of config.now place.now }
+    requires range { IsPlace config.now place }
+    ensures { result ≡ cell_of config.now place }
 {
     match place {
         Place::Clock => CLOCK_CELL,
         Place::Grace => GRACE_CELL,
-        Place::Mark(seat) => mark_cell(config, *seat),
-        Place::Head(object) => head_cell(config, *object),
-        Place::Master(object, word) => master_cell(config, *object, *word),
-        Place::First(seat, slot) => slot_cell(config, *seat, *slot) + FIRST_OFFSET,
-        Place::Stamp(seat, slot) => slot_cell(config, *seat, *slot) + STAMP_OFFSET,
-        Place::Prev(seat, slot) => slot_cell(config, *seat, *slot) + PREV_OFFSET,
-        Place::Super(seat, slot) => slot_cell(config, *seat, *slot) + SUPER_OFFSET,
-        Place::Data(seat, slot, word) => slot_cell(config, *seat, *slot) + DATA_OFFSET + *word,
+        Place::Mark(seat) => mark_cell(config, seat),
+        Place::Head(object) => head_cell(config, object),
+        Place::Master(object, word) => master_cell(config, object, word),
+        Place::First(seat, slot) => slot_cell(config, seat, slot) + FIRST_OFFSET,
+        Place::Stamp(seat, slot) => slot_cell(config, seat, slot) + STAMP_OFFSET,
+        Place::Prev(seat, slot) => slot_cell(config, seat, slot) + PREV_OFFSET,
+        Place::Super(seat, slot) => slot_cell(config, seat, slot) + SUPER_OFFSET,
+        Place::Data(seat, slot, word) => slot_cell(config, seat, slot) + DATA_OFFSET + word,
     }
 }
 
 /// The number of a word of the domain, by which a text speaks of it.
-pub fn place_number(config: &Config, place: &Place) -> u32
+pub fn place_number(config: &Config, place: Place) -> u32
     requires checked { Checked config.now }
-    requires range { IsPlace config.now place.now }
-    ensures { result ≡ place_of config.now place.now }
+    requires range { IsPlace config.now place }
+    ensures { result ≡ place_of config.now place }
 {
     match place {
         Place::Clock => 0,
         Place::Grace => 1,
-        Place::Mark(seat) => mark_place(config, *seat),
-        Place::Head(object) => head_place(config, *object),
-        Place::Master(object, word) => master_place(config, *object, *word),
-        Place::First(seat, slot) => slot_place(config, *seat, *slot) + FIRST_OFFSET,
-        Place::Stamp(seat, slot) => slot_place(config, *seat, *slot) + STAMP_OFFSET,
-        Place::Prev(seat, slot) => slot_place(config, *seat, *slot) + PREV_OFFSET,
-        Place::Super(seat, slot) => slot_place(config, *seat, *slot) + SUPER_OFFSET,
-        Place::Data(seat, slot, word) => slot_place(config, *seat, *slot) + DATA_OFFSET + *word,
+        Place::Mark(seat) => mark_place(config, seat),
+        Place::Head(object) => head_place(config, object),
+        Place::Master(object, word) => master_place(config, object, word),
+        Place::First(seat, slot) => slot_place(config, seat, slot) + FIRST_OFFSET,
+        Place::Stamp(seat, slot) => slot_place(config, seat, slot) + STAMP_OFFSET,
+        Place::Prev(seat, slot) => slot_place(config, seat, slot) + PREV_OFFSET,
+        Place::Super(seat, slot) => slot_place(config, seat, slot) + SUPER_OFFSET,
+        Place::Data(seat, slot, word) => slot_place(config, seat, slot) + DATA_OFFSET + word,
     }
 }

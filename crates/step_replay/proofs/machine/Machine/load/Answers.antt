@@ -1,9 +1,29 @@
+use Rattle.std.proofs.Common.{None, refl, arith}
+use Rattle.mv_layout.proofs.InCells.{in_cells}
 use Rattle.step_replay.specs.States.{state_of}
-use Rattle.step_replay.proofs.Machines.{found_is}
+use Rattle.step_replay.proofs.Machines.{shows_next, made_next, found_is}
 use Rattle.step_replay.proofs.machine.Machine.load.Goals as goal
 
-pub returns-clause-found : goal.returns-clause-found
-returns-clause-found g c =
+pub index-requires : goal.index-requires
+index-requires c =
     let here = c.args.self.now in
-    found_is here.config here.checked here.words.items (state_of here.config g.turn.before).memory c.args.place.now c.place_cell.result c.index.result.now
-    c.requires.0.shows c.requires.1.range c.place_cell.ensures c.index.ensures
+    let within = in_cells here.config c.args.place here.checked c.requires in
+    let is = c.place_cell.ensures in
+    let wide = here.sized in
+    let long = here.words.ok.0 in
+    omega (arith, within, is, wide, long)
+
+pub returns : goal.returns
+returns c = λ turn behind next.
+    let here = c.args.self.now in
+    let memory = (state_of here.config turn.before).memory in
+    let found = found_is here.config here.checked here.words.items memory c.args.place c.place_cell.result c.index.result.now
+    behind.shows next.range c.place_cell.ensures c.index.ensures in (
+      record {
+        each = made_next here.config here.checked here.words.items turn.before turn.step c.args.place
+            (λ found. None) behind.shows next.place_is next.range next.writes_are None refl behind.each next.seat next.may tt;
+        shows = shows_next here.config here.checked here.words.items turn.before turn.step c.args.place
+            (λ found. None) behind.shows next.place_is next.range next.writes_are None refl;
+      },
+      found,
+    )

@@ -85,6 +85,22 @@ def check_scripts(lines, scripts, base):
             time = line.time
 
 
+def check_shares(lines, commands, seats, base):
+    """Each command has one line, of any seat; along a seat's numbers no time falls, and a commit is later than the line before."""
+    found = {}
+    for line in lines:
+        must(line.seat < seats and 1 <= line.number <= len(commands), f"{name(line)} is of no seat or no command")
+        must(line.number not in found, f"number {line.number} stands twice")
+        found[line.number] = line
+    times = [base] * seats
+    for number in range(1, len(commands) + 1):
+        line = found.get(number)
+        must(line, f"number {number} is missing")
+        time = times[line.seat]
+        must(line.time > time if line.commit else line.time >= time, f"{name(line)} is too early behind the line before it")
+        times[line.seat] = line.time
+
+
 def check_replies(lines, scripts, catalogue):
     """Replays the lines in their order; answers how many objects the commits of each seat write."""
     writes = [0] * len(scripts)
@@ -126,10 +142,20 @@ def check_logs(logs, lines, writes, options):
 
 def check_run(options, scripts, text, count_reads=False):
     """Checks the text of a run of the scripts' commands; answers what it counts."""
+    return check_lines(options, scripts, text, count_reads, lambda lines: check_scripts(lines, scripts, options.base))
+
+
+def check_pool(seats, commands, text, count_reads=False):
+    """Checks the text of a pool of so many seats over the commands; answers what it counts."""
+    options = Options()
+    return check_lines(options, [commands] * seats, text, count_reads, lambda lines: check_shares(lines, commands, seats, options.base))
+
+
+def check_lines(options, scripts, text, count_reads, check_numbers):
     lines, sets, logs = split(text)
     catalogue = Catalogue(options.objects - 180, count_reads)
     check_order(lines)
-    check_scripts(lines, scripts, options.base)
+    check_numbers(lines)
     writes = check_replies(lines, scripts, catalogue)
     check_sets(sets, catalogue)
     check_logs(logs, lines, writes, options)

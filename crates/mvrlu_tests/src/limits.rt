@@ -4,8 +4,9 @@ use run_outside::OpenGate;
 use std::alloc::{AllocError, Global};
 use std::test::Fail;
 
-const USAGE: &[u8] =
-    b"usage: run [--objects N] [--slots N] [--base N] FILE... or gen NUMBER SEAT or work NUMBER\n";
+/// The line for words that are out of form.
+pub const USAGE: &[u8] =
+    b"usage: run [--objects N] [--slots N] [--base N] FILE... or gen NUMBER SEAT or work NUMBER or pool SEATS FILE\n";
 
 const OUT_OF_FORM: [&[&str]; 20] = [
     &[],

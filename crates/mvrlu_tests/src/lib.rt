@@ -4,7 +4,8 @@
 //! show beside the contract of `run_program`: the printed text, byte by byte, and that the program
 //! does its work where memory is ample, so that a body that always answers want of memory, or that
 //! never returns, fails them; that the gate is called around each command; and that seats run at
-//! once, since either of two can be held until the other is done.
+//! once, since either of two can be held until the other is done; and that seats of a pool share its commands while they run,
+//! since any one command can be held until all others are done.
 #![tactic(auto)]
 
 #[cfg(test)]
@@ -13,6 +14,8 @@ mod faults;
 mod gates;
 #[cfg(test)]
 mod limits;
+#[cfg(test)]
+mod pools;
 #[cfg(test)]
 mod row;
 #[cfg(test)]

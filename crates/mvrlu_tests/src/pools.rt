@@ -1,0 +1,172 @@
+// Pools: one file, whose commands any of several seats takes.
+use crate::limits::USAGE;
+use crate::row::{PLAIN, Printed, REFUSED, Row, named, owned, print, run_row};
+use crate::texts::{count_ends, sum_after};
+use mvrlu_run::Closed;
+use run_outside::{Gate, MemText, OpenGate};
+use std::alloc::{AllocError, Global};
+use std::fmt::Write;
+use std::process::Abort;
+use std::sync::{Mutex, Wait};
+use std::test::Fail;
+use std::thread::Threads;
+
+#[test]
+fn a_pool_of_one_seat_does_all_in_order(rt: HostRuntime) -> Result<(), Fail> {
+    let row = Row {
+        name: "a pool of one seat",
+        words: &["pool", "1", "a"],
+        script: b"add l1 1\nadd l1 3\nadd l1 2\ndel l1 3\n",
+        out: b"0.1 c1 yes\n0.2 c2 yes\n0.3 c3 yes\n0.4 c4 yes\nl1 1 2\nlog 0 live 8 freed 0 back 0 commits 4 aborts 0 rests 0\n",
+        ..PLAIN
+    };
+    run_row(&rt, rt.alloc(), &row)
+}
+
+// Words of a pool that are refused, with the status and the line.
+type Refused = (&'static [&'static str], u8, &'static [u8]);
+
+const POOLS: [Refused; 9] = [
+    (&["pool", "0", "a"], 4, b"limit: seats\n"),
+    (&["pool", "9", "b"], 4, b"limit: seats\n"),
+    (&["pool", "99999999999999999999", "b"], 4, b"limit: seats\n"),
+    (&["pool", "000000000000000000001", "a"], 2, USAGE),
+    (&["pool", "1"], 2, USAGE),
+    (&["pool", "1", "a", "a"], 2, USAGE),
+    (&["pool", "one", "a"], 2, USAGE),
+    (&["pool", "9", "-a"], 2, USAGE),
+    (&["pool", "1", "b"], 5, b"read fault: script 0\n"),
+];
+
+#[test]
+fn bad_words_of_a_pool_are_refused(rt: HostRuntime) -> Result<(), Fail> {
+    for (words, status, err) in &POOLS {
+        let row = Row {
+            name: "a refused pool",
+            words,
+            status: *status,
+            err,
+            ..REFUSED
+        };
+        run_row(&rt, rt.alloc(), &row)?;
+    }
+    let row = Row {
+        name: "a pool over a broken script",
+        words: &["pool", "2", "a"],
+        script: b"has l0 1\nhas l0\n",
+        err: b"script 0 line 2: wrong number of words\n",
+        ..REFUSED
+    };
+    run_row(&rt, rt.alloc(), &row)
+}
+
+// Lines that add the keys from 0 on to `l0`, and the line of the set that has them all.
+fn adds(alloc: Global, count: u32) -> Result<(Vec<MemText>, String), Fail> {
+    let mut script = String::new(alloc);
+    let mut set = String::from_str(alloc, "\nl0")?;
+    for key in 0..count {
+        writeln!(script, "add l0 {key}")?;
+        write!(set, " {key}")?;
+    }
+    writeln!(set)?;
+    let mut texts = Vec::new(alloc);
+    texts.push(named(alloc, "a", script.as_str().as_bytes())?)?;
+    Ok((texts, set))
+}
+
+#[test]
+fn three_seats_do_300_commands_once(rt: HostRuntime) -> Result<(), Fail> {
+    let alloc = rt.alloc();
+    let (texts, set) = adds(alloc, 300)?;
+    let words = owned(alloc, &["pool", "3", "a"])?;
+    let Printed {
+        status,
+        closed,
+        out,
+        err: _,
+    } = print(&rt, alloc, &words, texts, &OpenGate)?;
+    assert_eq!(rt; status, 0);
+    assert!(rt; matches!(&closed, Closed::Sets(_)));
+    let text = out.bytes();
+    assert_eq!(rt; count_ends(text, " yes"), 300);
+    assert_eq!(rt; count_ends(text, ""), 304);
+    assert_eq!(rt; sum_after(text, "commits"), 300);
+    let text = str::from_utf8(text).ok().unwrap_or("");
+    assert!(rt; text.contains(set.as_str()));
+    Ok(())
+}
+
+// How often a held worker looks whether the others are done.
+const TURNS: u32 = 1_000_000;
+
+#[derive(Drop)]
+struct Seen {
+    others_done: u32,
+    ran_out: bool,
+}
+
+// It holds one command until the four others are done.
+#[derive(Drop)]
+struct HoldGate<'r, R: Wait> {
+    rt: &'r R,
+    held: u32,
+    seen: Mutex<Seen>,
+}
+
+impl<'r, R: Wait + Sync> Gate for HoldGate<'r, R> {
+    fn before(&self, _seat: u32, number: u32) {
+        if number != self.held {
+            return;
+        }
+        for _ in 0..TURNS {
+            if self.seen.lock(self.rt).others_done == 4 {
+                return;
+            }
+        }
+        self.seen.lock(self.rt).ran_out = true;
+    }
+
+    fn after(&self, _seat: u32, number: u32) {
+        if number != self.held {
+            let mut seen = self.seen.lock(self.rt);
+            seen.others_done = seen.others_done.wrapping_add(1);
+        }
+    }
+}
+
+// Two seats do five commands, of which this one waits for all others.
+fn hold<R: Threads + Wait + Abort + Sync>(rt: &R, alloc: Global, held: u32) -> Result<(), Fail> {
+    let gate = HoldGate {
+        rt,
+        held,
+        seen: Mutex::new(Seen {
+            others_done: 0,
+            ran_out: false,
+        }),
+    };
+    let words = owned(alloc, &["pool", "2", "a"])?;
+    let mut texts = Vec::new(alloc);
+    texts.push(named(
+        alloc,
+        "a",
+        b"add l0 1\nadd l0 2\nadd l0 3\nadd l0 4\nadd l0 5\n",
+    )?)?;
+    let printed = print(rt, alloc, &words, texts, &gate)?;
+    assert_eq!(rt; printed.status, 0);
+    let HoldGate {
+        rt: _,
+        held: _,
+        seen,
+    } = gate;
+    assert!(rt;
+        !seen.into_inner().ran_out,
+        "one seat did all, or the commands were shared out beforehand"
+    );
+    Ok(())
+}
+
+#[test]
+fn a_held_command_waits_for_all_others(rt: HostRuntime) -> Result<(), Fail> {
+    hold(&rt, rt.alloc(), 1)?;
+    hold(&rt, rt.alloc(), 2)
+}

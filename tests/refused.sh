@@ -33,33 +33,33 @@ must() {
     head -c "$4" text | cmp -s - out || fail "$2: '$(cat out)' on standard output"
 }
 
-# Refuses call after call of a kind in runs of the files, until one passes or a fault is found; each must end with the status
+# Refuses call after call of a kind in runs of the words, until one passes or a fault is found; each must end with the status
 # and the line. Where a write is refused, the bytes are there that the writes before it moved.
 sweep() {
     local kind=$1 most=$2 wanted=$3 line=$4 at before=0
     shift 4
-    "$program" run "$@" >text 2>/dev/null || { fail "no text: run $*"; return; }
+    "$program" "$@" >text 2>/dev/null || { fail "no text: $*"; return; }
     for ((at = 1; at <= 1000 && failed == 0; at++)); do
-        run REFUSE_KIND="$kind" REFUSE_AT=$at REFUSE_MOST="$most" LD_PRELOAD="$scratch/refuse.so" "$program" run "$@"
+        run REFUSE_KIND="$kind" REFUSE_AT=$at REFUSE_MOST="$most" LD_PRELOAD="$scratch/refuse.so" "$program" "$@"
         [ "$status" = 0 ] && break
         [ "$kind" = write ] && before=$((most * (at - 1)))
-        must "$wanted" "$kind $at of run $*" "$line" "$before"
+        must "$wanted" "$kind $at of $*" "$line" "$before"
     done
     [ "$failed" = 0 ] || return
-    [ "$at" -gt 1 ] || fail "no $kind of run $* was refused"
-    must 0 "run $*" '' "$(wc -c <text)"
+    [ "$at" -gt 1 ] || fail "no $kind of $* was refused"
+    must 0 "$*" '' "$(wc -c <text)"
     counts+=", $((at - 1)) of $kind"
 }
 
 counts=
-for files in script 'script empty'; do
+for words in 'run script' 'run script empty' 'pool 1 script'; do
     # shellcheck disable=SC2086
     {
-        sweep alloc 1000000 7 'out of memory' $files
-        sweep open 1000000 5 'read fault: script [01]' $files
-        sweep read 3 5 'read fault: script [01]' $files
-        sweep write 3 6 'write fault' $files
-        sweep write 1000000 6 'write fault' $files
+        sweep alloc 1000000 7 'out of memory' $words
+        sweep open 1000000 5 'read fault: script [01]' $words
+        sweep read 3 5 'read fault: script [01]' $words
+        sweep write 3 6 'write fault' $words
+        sweep write 1000000 6 'write fault' $words
     }
 done
 

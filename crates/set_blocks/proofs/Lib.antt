@@ -14,3 +14,4 @@ pub mod HeldReplies
 pub mod Planning
 pub mod PlainScripts
 pub mod BlockExamples
+pub mod Overlaying

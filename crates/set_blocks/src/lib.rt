@@ -14,6 +14,7 @@
 mod block;
 mod faults;
 mod laws;
+mod overlay;
 mod parsing;
 mod replies;
 mod rules;

@@ -15,3 +15,4 @@ pub mod Planning
 pub mod PlainScripts
 pub mod BlockExamples
 pub mod Overlaying
+pub mod Telling

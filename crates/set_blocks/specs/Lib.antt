@@ -4,3 +4,4 @@ pub mod BlockReplies
 pub mod BlockRules
 pub mod BlockRuleLaws
 pub mod BlockPlans
+pub mod Holds

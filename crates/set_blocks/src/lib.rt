@@ -13,6 +13,7 @@
 
 mod block;
 mod faults;
+mod holds;
 mod laws;
 mod overlay;
 mod parsing;

@@ -1,8 +1,8 @@
 -- The replies of short blocks, from empty sets or from some, as the definitions compute them. Name 0 is `l0`, 10 `h0` and 20 `t0`.
 use Rattle.std.proofs.Common.{◌≡◌, true, false, [], ◌∷◌, refl}
 use Rattle.set_script.specs.Catalogue.{empty, with_key, cost}
-use Rattle.set_script.specs.declared.commands.Command.TheVariants.{Add, Put, Del, Has, Get, Move, Pair, Size, Next}
-use Rattle.set_script.specs.declared.commands.Reply.TheVariants.{Yes, No, Full, Worn, Both, Count, Key, NoKey, Value}
+use Rattle.set_script.specs.declared.commands.Command.TheVariants.{Add, Del, Has, Move, Pair}
+use Rattle.set_script.specs.declared.commands.Reply.TheVariants.{Yes, No, Full, Worn, Both}
 use Rattle.set_blocks.specs.BlockReplies.{block_replies, block_changes, block_next}
 
 -- each command sees what those before it changed

@@ -8,8 +8,7 @@ use Rattle.set_script.specs.declared.commands.Command.{Command}
 use Rattle.set_script.specs.declared.commands.FaultKind.{FaultKind}
 use Rattle.set_script.specs.declared.commands.FaultKind.TheVariants.{Many}
 use Rattle.set_script.specs.declared.script.TheConstants.{MOST_COMMANDS}
-use Rattle.set_script.specs.Grammar.{◌>>=◌, lines_of, words_of, reading_in, format_after, readings_in, with_reading, parsed, parsed_after}
-use Rattle.set_blocks.specs.declared.faults.BlockKind.{BlockKind}
+use Rattle.set_script.specs.Grammar.{◌>>=◌, lines_of, reading_in, format_after, readings_in, with_reading, parsed, parsed_after}
 use Rattle.set_blocks.specs.declared.faults.BlockKind.TheVariants.{Line}
 use Rattle.set_blocks.specs.declared.parsing.line.Said.{Said}
 use Rattle.set_blocks.specs.BlockGrammar as blocks
@@ -51,7 +50,8 @@ line_plain commands number (Ok (Some c)) =
     same : count_all (so_far commands) ≡ length commands
     same = let n = count-singles commands in omega arith
 
-    go : (b : Bool) → cond b (more (singles commands ++ (c ∷ []) ∷ [])) (Err (number, Line Many)) ≡ as_read (cond b (Ok (commands ++ c ∷ [])) (Err (number, Many)))
+    go : (b : Bool) → cond b (more (singles commands ++ (c ∷ []) ∷ [])) (Err (number, Line Many))
+        ≡ as_read (cond b (Ok (commands ++ c ∷ [])) (Err (number, Many)))
     go true = ap more (sym (singles-push commands c))
     go false = refl
 
@@ -66,7 +66,8 @@ lines_plain commands number format (line ∷ lines) h =
     (line_plain commands number (reading_in format line))
     ∙ go (with_reading commands number (reading_in format line)) (λ cs. lines_plain cs (number + 1) (format_after format line) lines h.1)
   where
-    go : (r : Result (List Command) (ℕ × FaultKind)) → ((cs : List Command) → with_readings (so_far cs) (number + 1) (lines_said (format_after format line) lines)
+    go : (r : Result (List Command) (ℕ × FaultKind)) → ((cs : List Command)
+        → with_readings (so_far cs) (number + 1) (lines_said (format_after format line) lines)
         ≡ as_read (parsed_after cs (number + 1) (readings_in (format_after format line) lines)))
         → (as_read r >>= λ more. with_readings more (number + 1) (lines_said (format_after format line) lines))
         ≡ as_read (r >>= λ more. parsed_after more (number + 1) (readings_in (format_after format line) lines))

@@ -5,10 +5,23 @@
 //! commands of a block, and a command outside is a block of one. Its grammar is a function on bytes
 //! (`specs/BlockGrammar.antt`), which stands on that of `set_script` for everything else.
 //!
-//! **Contract.** `parse_blocks` answers exactly the blocks of a script, or its first faulty line and what is wrong with it
-//! first; want of memory is the one free answer. Each `Block` is one, whoever made it.
+//! A block meets a catalogue by its commands one after another; where one of them is `full` all are, and nothing changes;
+//! and where the block would change something at the last time all are `worn` (`specs/BlockReplies.antt`). In a state it
+//! locks and writes what each command does in the state that those before it leave; a command that changes nothing holds
+//! what its reply depends on, with the words that it has (`specs/BlockPlans.antt`).
 //!
-//! **Place.** It stands on `set_script`, whose reading of a line it uses.
+//! **Rules.** `BlockRules` are the rules under which such a block is one commit (`specs/BlockRules.antt`). That it is fit, so
+//! that it stays allowed whatever other blocks commit meanwhile, with the same replies, is proved once over the ways to
+//! change a map, each of which finds its place and its searches again wherever what it holds remains
+//! (`proofs/Tracking.antt`, and `ListTracks`, `TreeTracks`, `RootTracks` and `CutTracks` of each way), and then by induction over the
+//! commands (`proofs/Stepping.antt`, `proofs/Planning.antt`).
+//!
+//! **Contract.** `parse_blocks` answers exactly the blocks of a script, or its first faulty line and what is wrong with it
+//! first; want of memory is the one free answer. Each `Block` is one, whoever made it. The laws say what the definitions
+//! come to over all texts, commands and states.
+//!
+//! **Place.** It stands on `set_script`, whose reading of a line it uses, on the three crates of sets and on `set_catalog`, whose
+//! places and plans its own speak of.
 #![tactic(auto)]
 
 mod block;

@@ -25,7 +25,7 @@ impl Model for Replies {
 
 impl Replies {
     /// No reply yet.
-    pub fn new() -> Replies
+    pub(crate) fn new() -> Replies
         ensures { result ≡ [] }
     {
         Replies {
@@ -35,7 +35,7 @@ impl Replies {
     }
 
     /// Puts a reply behind those that are there, which are fewer than `MOST_IN_BLOCK`.
-    pub fn push(&mut self, reply: Reply)
+    pub(crate) fn push(&mut self, reply: Reply)
         requires { length self.old < 8 }
         ensures { self.new ≡ self.old ++ reply ∷ [] }
     {

@@ -3,7 +3,7 @@ ghost use Rattle.std.specs.Prelude.{◌≡◌, ◌+◌, ◌<◌, ◌≤◌, take
 ghost use Rattle.mv_history.specs.State.{written};
 ghost use Rattle.set_script.specs.Lawful.{IsLawful};
 ghost use Rattle.set_catalog.specs.Plans.{head_of};
-ghost use Rattle.set_blocks.specs.Holds.{HoldsKey};
+ghost use Rattle.set_blocks.specs.Holds.{HoldsKey, HoldsValue};
 
 use crate::overlay::Overlay;
 use mv_history::View;
@@ -50,4 +50,35 @@ pub fn hold_key<V: View>(overlay: &mut Overlay<V>, name: Name, key: u32) -> bool
             fork.has(key)
         }
     }
+}
+
+/// The value of the key in the set of the name, or none where it is not there, with what shows it held.
+pub fn hold_value<V: View>(overlay: &mut Overlay<V>, name: Name, key: u32) -> Option<u64>
+    requires lawful { IsLawful (written (V.state overlay.old.view) (take overlay.old.count overlay.old.writes)) }
+    requires room { overlay.old.count + 2 ≤ 40 }
+    ensures told { HoldsValue (written (V.state overlay.old.view) (take overlay.old.count overlay.old.writes)) name key result
+        (take overlay.old.count overlay.old.writes) (take overlay.new.count overlay.new.writes) }
+    ensures view { V.as_before overlay.old.view overlay.new.view }
+    ensures count { overlay.new.count ≤ overlay.old.count + 2 }
+{
+    let head = head_of(name, key);
+    if head < FIRST_ROOT {
+        let spot = list_set::find(overlay, head, key);
+        if !spot.has(key) {
+            overlay.write(&[(spot.previous, spot.words)]);
+            return None;
+        }
+        overlay.write(&[(spot.previous, spot.words), (spot.node, spot.node_words)]);
+        return Some(spot.node_words[5]);
+    }
+    let Some(fork) = tree_set::find(overlay, head, key) else {
+        let words = overlay.read(head);
+        overlay.write(&[(head, words)]);
+        return None;
+    };
+    overlay.write(&[(fork.leaf, fork.words)]);
+    if fork.has(key) {
+        return Some(fork.words[5]);
+    }
+    None
 }

@@ -5,3 +5,4 @@ pub mod BlockRules
 pub mod BlockRuleLaws
 pub mod BlockPlans
 pub mod Holds
+pub mod BlockAttempts

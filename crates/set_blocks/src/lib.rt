@@ -24,6 +24,7 @@
 //! places and plans its own speak of.
 #![tactic(auto)]
 
+mod attempt;
 mod block;
 mod faults;
 mod holds;
@@ -35,6 +36,7 @@ mod rules;
 #[cfg(test)]
 mod tests;
 
+pub use attempt::BlockAttempt;
 pub use block::{Block, MOST_IN_BLOCK};
 pub use faults::{BlockFault, BlockKind};
 pub use laws::{

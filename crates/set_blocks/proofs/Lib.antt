@@ -16,3 +16,4 @@ pub mod PlainScripts
 pub mod BlockExamples
 pub mod Overlaying
 pub mod Telling
+pub mod Turning

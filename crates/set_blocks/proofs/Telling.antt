@@ -1,10 +1,9 @@
 -- What a search found tells whether the key is there.
-use Rattle.std.proofs.Common.{◌≡◌, ◌≢◌, ℕ, ◌<◌, ◌≤◌, Bool, true, false, not, ◌&&◌, eqb, List, [], ◌∷◌, refl, sym, ap, ◌∙◌, subst, arith, inl, inr}
+use Rattle.std.proofs.Common.{◌≡◌, ◌≢◌, ℕ, ◌<◌, ◌≤◌, Bool, true, false, not, ◌&&◌, eqb, List, [], ◌∷◌, refl, sym, ap, arith, inl, inr}
 use Rattle.std.proofs.lemmas.Bool.{cases_lt}
 use Rattle.std.proofs.lemmas.Bool.Decides.{nat_tests}
 use Rattle.mv_history.specs.State.{State}
 use Rattle.mv_history.specs.Meaning.{words_at}
-use Rattle.set_script.specs.Objects.{link}
 use Rattle.set_script.proofs.ObjectWords.{word}
 use Rattle.list_set.specs.Walks.{IsSpot}
 use Rattle.list_set.specs.Places.{add_writes, del_writes}
@@ -16,7 +15,7 @@ use Rattle.set_catalog.specs.Plans.{head_of}
 use Rattle.set_catalog.proofs.HeadNames.{low_head, root_from}
 use Rattle.set_blocks.specs.BlockPlans.{TellsAt, ValueAt}
 use Rattle.set_blocks.specs.BlockPlans.ValueAt.{in_node, in_leaf}
-use Rattle.set_blocks.specs.BlockPlans.LacksAt.{before_gap, no_tree, other_leaf}
+use Rattle.set_blocks.specs.BlockPlans.LacksAt.{before_gap, other_leaf}
 use Rattle.set_blocks.specs.BlockPlans.HasAt.{before_node, own_leaf}
 
 -- a search in a list

@@ -5,4 +5,5 @@ pub mod BlockRules
 pub mod BlockRuleLaws
 pub mod BlockPlans
 pub mod Holds
+pub mod Turns
 pub mod BlockAttempts

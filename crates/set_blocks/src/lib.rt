@@ -33,6 +33,7 @@ mod overlay;
 mod parsing;
 mod replies;
 mod rules;
+mod turns;
 #[cfg(test)]
 mod tests;
 

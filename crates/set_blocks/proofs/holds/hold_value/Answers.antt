@@ -1,4 +1,4 @@
-use Rattle.std.proofs.Common.{◌≡◌, ◌<◌, ◌≤◌, ℕ, Bool, true, false, List, [], ◌∷◌, take, ap, ap₂, refl, sym, ◌∙◌, subst, rules, arith}
+use Rattle.std.proofs.Common.{◌≡◌, ◌<◌, ◌≤◌, ℕ, true, false, List, [], ◌∷◌, take, ap, ap₂, refl, sym, ◌∙◌, subst, rules, arith}
 use Rattle.mv_history.specs.State.{State, Writes, written}
 use Rattle.mv_history.specs.Meaning.{words_at}
 use Rattle.set_script.specs.Objects.{link}

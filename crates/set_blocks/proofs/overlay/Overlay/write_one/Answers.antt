@@ -1,4 +1,4 @@
-use Rattle.std.proofs.Common.{◌≡◌, ℕ, true, List, [], take, set, arith, sym, ap, ◌∙◌, subst}
+use Rattle.std.proofs.Common.{take, arith, sym, ap, ◌∙◌, subst}
 use Rattle.mv_history.specs.State.{Writes}
 use Rattle.mv_history.specs.Legal.{AreWrites, are_distinct}
 use Rattle.set_catalog.proofs.Merging.{written_there, written_last}

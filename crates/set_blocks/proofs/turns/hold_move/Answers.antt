@@ -7,7 +7,8 @@ pub returns-then-has-clause-held : goal.returns-then-has-clause-held
 returns-then-has-clause-held g c =
     let o = c.args.overlay.now in
     let mid = c.search-end.new.view in
-    moved_held (written (g.V.View.state o.view) (take o.count o.writes)) c.requires.lawful c.args.target c.args.key (subst (λ (n : ℕ). n < 30) c.index.ensures.is c.index.ensures.few)
+    moved_held (written (g.V.View.state o.view) (take o.count o.writes)) c.requires.lawful c.args.target c.args.key
+    (subst (λ (n : ℕ). n < 30) c.index.ensures.is c.index.ensures.few)
     (omega (arith, c.ranges.key.fits)) c.args.source _ (take o.count o.writes) _
     (key_after _ _ _ _ _ _ _ _ (ap₂ (λ (s : State) (w : Writes). written s w) (g.met.V.View.same_state o.view mid.view c.search-end.ensures.as_before.0)
     c.search-end.ensures.as_before.1) c.search-end.ensures.as_before.1 c.hold_key.ensures.told)

@@ -82,7 +82,8 @@ impl<V> Overlay<V> {
 
 // The place of an object among the planned ones.
 fn find(writes: &[(u32, Words)], object: u32) -> Option<usize>
-    ensures found { IfSome result (λ i. (i < length writes.now) × ((slice_index_or writes.now i (0, [])).0 ≡ object) × (touches (take i writes.now) object ≡ false)) }
+    ensures found { IfSome result (λ i. (i < length writes.now) × ((slice_index_or writes.now i (0, [])).0 ≡ object)
+        × (touches (take i writes.now) object ≡ false)) }
     ensures none { IfNone result (touches writes.now object ≡ false) }
 {
     for (i, write) in writes.iter().enumerate() {

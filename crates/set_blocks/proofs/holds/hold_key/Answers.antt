@@ -17,7 +17,8 @@ returns-then-head-lt-FIRST_ROOT-clause-told g c =
     let z : State = written (g.V.View.state o.view) (take o.count o.writes) in
     let spot = c.find-spot.result in
     let is = c.head_of-head.ensures.head in
-    let here = subst (λ (h : ℕ). IsSpot (written (g.V.View.state o.view) (take o.count o.writes)) h c.args.key spot.previous spot.words spot.node spot.node_words)
+    let here =
+    subst (λ (h : ℕ). IsSpot (written (g.V.View.state o.view) (take o.count o.writes)) h c.args.key spot.previous spot.words spot.node spot.node_words)
     is c.find-spot.ensures.spot in
     let low : head_of c.args.name c.args.key < 170 = omega (arith, is, c.if-head-lt-FIRST_ROOT.true) in
     (

@@ -16,7 +16,8 @@ returns-then-not-has-clause-told g c =
     let o = c.args.overlay.now in
     let spot = c.find-spot.result in
     let is = c.head_of-head.ensures.head in
-    let here = subst (λ (h : ℕ). IsSpot (written (g.V.View.state o.view) (take o.count o.writes)) h c.args.key spot.previous spot.words spot.node spot.node_words)
+    let here =
+    subst (λ (h : ℕ). IsSpot (written (g.V.View.state o.view) (take o.count o.writes)) h c.args.key spot.previous spot.words spot.node spot.node_words)
     is c.find-spot.ensures.spot in
     let low : head_of c.args.name c.args.key < 170 = omega (arith, is, c.if-head-lt-FIRST_ROOT.true) in
     let missed : c.has.result ≡ false = search (rules, c.if-not-has.true) in
@@ -33,7 +34,8 @@ returns-then-head-lt-FIRST_ROOT-clause-told g c =
     let o = c.args.overlay.now in
     let spot = c.find-spot.result in
     let is = c.head_of-head.ensures.head in
-    let here = subst (λ (h : ℕ). IsSpot (written (g.V.View.state o.view) (take o.count o.writes)) h c.args.key spot.previous spot.words spot.node spot.node_words)
+    let here =
+    subst (λ (h : ℕ). IsSpot (written (g.V.View.state o.view) (take o.count o.writes)) h c.args.key spot.previous spot.words spot.node spot.node_words)
     is c.find-spot.ensures.spot in
     let low : head_of c.args.name c.args.key < 170 = omega (arith, is, c.if-head-lt-FIRST_ROOT.true) in
     let found : c.has.result ≡ true = search (rules, c.if-not-has.false) in

@@ -33,9 +33,9 @@ mod overlay;
 mod parsing;
 mod replies;
 mod rules;
-mod turns;
 #[cfg(test)]
 mod tests;
+mod turns;
 
 pub use attempt::BlockAttempt;
 pub use block::{Block, MOST_IN_BLOCK};

@@ -2,7 +2,6 @@
 ghost use Rattle.std.specs.Prelude.{◌≡◌, ◌+◌, ◌<◌, ◌≤◌, true, false, [], length, take, IfSome, IfNone, slice_index_or};
 ghost use Rattle.mv_history.specs.State.{touches};
 ghost use Rattle.mv_history.specs.Legal.{are_distinct, AreWrites};
-
 ghost use Rattle.mv_history.specs.Legal.{IsWords};
 ghost use Rattle.set_catalog.specs.Merges.{merged, merged_one};
 

@@ -20,8 +20,7 @@ returns-then-head-lt-FIRST_ROOT-clause-told g c =
     let here =
     subst (λ (h : ℕ). IsSpot (written (g.V.View.state o.view) (take o.count o.writes)) h c.args.key spot.previous spot.words spot.node spot.node_words)
     is c.find-spot.ensures.spot in
-    let low : head_of c.args.name c.args.key < 170 = omega (arith, is, c.if-head-lt-FIRST_ROOT.true) in
-    (
+    let low : head_of c.args.name c.args.key < 170 = omega (arith, is, c.if-head-lt-FIRST_ROOT.true) in (
       spot.previous ∷ [],
       list_tells (written (g.V.View.state o.view) (take o.count o.writes)) c.args.name c.args.key spot.previous spot.words spot.node spot.node_words c.has.result
           (is_low c.args.name c.args.key low) here c.has.ensures,
@@ -37,8 +36,7 @@ returns-in-None-clause-told g c =
     let mid = c.find.new.view in
     let same : written (g.V.View.state mid.view) (take mid.count mid.writes) ≡ written (g.V.View.state o.view) (take o.count o.writes) =
     ap₂ (λ (s : State) (w : Writes). written s w) (g.met.V.View.same_state o.view mid.view c.find.ensures.as_before.0) c.find.ensures.as_before.1 in
-    let words = c.read-words.ensures.words ∙ ap (λ (s : State). words_at s c.head_of-head.result) same in
-    (
+    let words = c.read-words.ensures.words ∙ ap (λ (s : State). words_at s c.head_of-head.result) same in (
       head_of c.args.name c.args.key ∷ [],
       no_tree (is_high c.args.name c.args.key high)
           (ap (link (written (g.V.View.state o.view) (take o.count o.writes))) (sym is) ∙ c.in-None.ensures.empty),
@@ -60,8 +58,7 @@ returns-in-Some-clause-told g c =
     c.in-Some.ensures.fork in
     let words : f.words ≡ words_at (written (g.V.View.state o.view) (take o.count o.writes)) f.leaf =
     found_words (written (g.V.View.state o.view) (take o.count o.writes)) (written (g.V.View.state o.view) (take o.count o.writes))
-    (head_of c.args.name c.args.key) c.args.key f.grand f.parent f.leaf f.right f.words refl here in
-    (
+    (head_of c.args.name c.args.key) c.args.key f.grand f.parent f.leaf f.right f.words refl here in (
       f.leaf ∷ [],
       tree_tells (written (g.V.View.state o.view) (take o.count o.writes)) c.args.name c.args.key f.grand f.parent f.leaf f.right f.words
           c.has-in-Some.result (is_high c.args.name c.args.key high) here c.has-in-Some.ensures,

@@ -20,8 +20,7 @@ returns-then-not-has-clause-told g c =
     subst (λ (h : ℕ). IsSpot (written (g.V.View.state o.view) (take o.count o.writes)) h c.args.key spot.previous spot.words spot.node spot.node_words)
     is c.find-spot.ensures.spot in
     let low : head_of c.args.name c.args.key < 170 = omega (arith, is, c.if-head-lt-FIRST_ROOT.true) in
-    let missed : c.has.result ≡ false = search (rules, c.if-not-has.true) in
-    (
+    let missed : c.has.result ≡ false = search (rules, c.if-not-has.true) in (
       spot.previous ∷ [],
       list_tells (written (g.V.View.state o.view) (take o.count o.writes)) c.args.name c.args.key spot.previous spot.words spot.node spot.node_words false
           (is_low c.args.name c.args.key low) here (sym missed ∙ c.has.ensures),
@@ -41,8 +40,7 @@ returns-then-head-lt-FIRST_ROOT-clause-told g c =
     let found : c.has.result ≡ true = search (rules, c.if-not-has.false) in
     let told =
     list_value (written (g.V.View.state o.view) (take o.count o.writes)) c.args.name c.args.key spot.previous spot.words spot.node spot.node_words
-    (is_low c.args.name c.args.key low) here (sym found ∙ c.has.ensures) in
-    (
+    (is_low c.args.name c.args.key low) here (sym found ∙ c.has.ensures) in (
       spot.previous ∷ spot.node ∷ [],
       told.0,
       c.write-then-head-lt-FIRST_ROOT.ensures.writes
@@ -59,8 +57,7 @@ returns-in_default-clause-told g c =
     let same : written (g.V.View.state mid.view) (take mid.count mid.writes) ≡ written (g.V.View.state o.view) (take o.count o.writes) =
     ap₂ (λ (s : State) (w : Writes). written s w) (g.met.V.View.same_state o.view mid.view c.find.ensures.as_before.0) c.find.ensures.as_before.1 in
     let words = c.read-words.ensures.words ∙ ap (λ (s : State). words_at s c.head_of-head.result) same in
-    let none : link (written (g.V.View.state o.view) (take o.count o.writes)) c.head_of-head.result ≡ 0 = search (rules, c.in_default.ensures.empty) in
-    (
+    let none : link (written (g.V.View.state o.view) (take o.count o.writes)) c.head_of-head.result ≡ 0 = search (rules, c.in_default.ensures.empty) in (
       head_of c.args.name c.args.key ∷ [],
       no_tree (is_high c.args.name c.args.key high) (ap (link (written (g.V.View.state o.view) (take o.count o.writes))) (sym is) ∙ none),
       c.write-in_default.ensures.writes
@@ -81,8 +78,7 @@ returns-then-has-clause-told g c =
     c.in-Some.ensures.fork in
     let words : f.words ≡ words_at (written (g.V.View.state o.view) (take o.count o.writes)) f.leaf =
     found_words (written (g.V.View.state o.view) (take o.count o.writes)) (written (g.V.View.state o.view) (take o.count o.writes))
-    (head_of c.args.name c.args.key) c.args.key f.grand f.parent f.leaf f.right f.words refl here in
-    (
+    (head_of c.args.name c.args.key) c.args.key f.grand f.parent f.leaf f.right f.words refl here in (
       f.leaf ∷ [],
       tree_value (written (g.V.View.state o.view) (take o.count o.writes)) c.args.name c.args.key f.grand f.parent f.leaf f.right f.words
           (is_high c.args.name c.args.key high) here (sym c.if-has.true ∙ c.has-2.ensures),
@@ -101,8 +97,7 @@ returns-clause-told g c =
     c.in-Some.ensures.fork in
     let words : f.words ≡ words_at (written (g.V.View.state o.view) (take o.count o.writes)) f.leaf =
     found_words (written (g.V.View.state o.view) (take o.count o.writes)) (written (g.V.View.state o.view) (take o.count o.writes))
-    (head_of c.args.name c.args.key) c.args.key f.grand f.parent f.leaf f.right f.words refl here in
-    (
+    (head_of c.args.name c.args.key) c.args.key f.grand f.parent f.leaf f.right f.words refl here in (
       f.leaf ∷ [],
       tree_tells (written (g.V.View.state o.view) (take o.count o.writes)) c.args.name c.args.key f.grand f.parent f.leaf f.right f.words false
           (is_high c.args.name c.args.key high) here (sym c.if-has.false ∙ c.has-2.ensures),

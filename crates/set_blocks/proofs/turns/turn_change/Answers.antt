@@ -22,23 +22,23 @@ write-requires g c =
     let o = c.args.overlay.now in
     let mid = c.find_plan-found.new.view in
     let same : mid.count ≡ o.count =
-        count_same mid.count o.count mid.writes o.writes mid.whole o.whole mid.few o.few c.find_plan-found.ensures.as_before.1 in
+    count_same mid.count o.count mid.writes o.writes mid.whole o.whole mid.few o.few c.find_plan-found.ensures.as_before.1 in
     let few = count_plan _ _ _ c.writes.ensures.writes in
     omega (arith, c.requires.room, c.in-Open.ensures.found.1)
 
 pub returns-in-Open-clause-turn : goal.returns-in-Open-clause-turn
 returns-in-Open-clause-turn g c = (
-      writes_in c.in-Open.plan,
-      changing (writes_in c.in-Open.plan) c.in-Open.ensures.found.0 c.in-Open.ensures.found.2.plan,
-      c.write.ensures.writes ∙ ap₂ (λ (a : Writes) (b : Writes). merged a b) c.find_plan-found.ensures.as_before.1 c.writes.ensures.writes,
-    )
+  writes_in c.in-Open.plan,
+  changing (writes_in c.in-Open.plan) c.in-Open.ensures.found.0 c.in-Open.ensures.found.2.plan,
+  c.write.ensures.writes ∙ ap₂ (λ (a : Writes) (b : Writes). merged a b) c.find_plan-found.ensures.as_before.1 c.writes.ensures.writes,
+)
 
 pub returns-in-Open-clause-count : goal.returns-in-Open-clause-count
 returns-in-Open-clause-count g c =
     let o = c.args.overlay.now in
     let mid = c.find_plan-found.new.view in
     let same : mid.count ≡ o.count =
-        count_same mid.count o.count mid.writes o.writes mid.whole o.whole mid.few o.few c.find_plan-found.ensures.as_before.1 in
+    count_same mid.count o.count mid.writes o.writes mid.whole o.whole mid.few o.few c.find_plan-found.ensures.as_before.1 in
     let few = count_plan _ _ _ c.writes.ensures.writes in
     omega (arith, c.write.ensures.count, c.in-Open.ensures.found.1)
 
@@ -51,7 +51,7 @@ returns-then-is_full-clause-count g c =
     let o = c.args.overlay.now in
     let mid = c.find_plan-found.new.view in
     let same : mid.count ≡ o.count =
-        count_same mid.count o.count mid.writes o.writes mid.whole o.whole mid.few o.few c.find_plan-found.ensures.as_before.1 in
+    count_same mid.count o.count mid.writes o.writes mid.whole o.whole mid.few o.few c.find_plan-found.ensures.as_before.1 in
     omega arith
 
 pub hold_unchanged-requires : goal.hold_unchanged-requires
@@ -59,7 +59,7 @@ hold_unchanged-requires g c =
     let o = c.args.overlay.now in
     let mid = c.find_plan-found.new.view in
     let same : mid.count ≡ o.count =
-        count_same mid.count o.count mid.writes o.writes mid.whole o.whole mid.few o.few c.find_plan-found.ensures.as_before.1 in
+    count_same mid.count o.count mid.writes o.writes mid.whole o.whole mid.few o.few c.find_plan-found.ensures.as_before.1 in
     let here : written (g.V.View.state mid.view) (take mid.count mid.writes) ≡ written (g.V.View.state o.view) (take o.count o.writes) =
     ap₂ (λ (s : State) (w : Writes). written s w) (g.met.V.View.same_state o.view mid.view c.find_plan-found.ensures.as_before.0)
     c.find_plan-found.ensures.as_before.1 in
@@ -77,7 +77,7 @@ returns-else-is_full g c =
     let o = c.args.overlay.now in
     let mid = c.find_plan-found.new.view in
     let same : mid.count ≡ o.count =
-        count_same mid.count o.count mid.writes o.writes mid.whole o.whole mid.few o.few c.find_plan-found.ensures.as_before.1 in
+    count_same mid.count o.count mid.writes o.writes mid.whole o.whole mid.few o.few c.find_plan-found.ensures.as_before.1 in
     let here : written (g.V.View.state mid.view) (take mid.count mid.writes) ≡ written (g.V.View.state o.view) (take o.count o.writes) =
     ap₂ (λ (s : State) (w : Writes). written s w) (g.met.V.View.same_state o.view mid.view c.find_plan-found.ensures.as_before.0)
     c.find_plan-found.ensures.as_before.1 in

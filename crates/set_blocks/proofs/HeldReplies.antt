@@ -109,13 +109,13 @@ module _ (z u : State) (name k : ℕ) (lt : name < 30) (fits : k < 2 ^ 32) (held
   tells_there false os h t = lacks_there os h t
 
 -- objects that are held as they are change no state
-written-holding : (s z : State) (os : List ℕ) → ((o : ℕ) → IsIn o os → words_at z o ≡ words_at s o) → written s (holding z os) ≡ s
+pub written-holding : (s z : State) (os : List ℕ) → ((o : ℕ) → IsIn o os → words_at z o ≡ words_at s o) → written s (holding z os) ≡ s
 written-holding s z [] f = refl
 written-holding s z (o ∷ os) f =
     let same : set s o (words_at z o) ≡ s = ap (set s o) (f o (inl refl)) ∙ set-get_or s o [] in
     ap (λ w. written w (holding z os)) same ∙ written-holding s z os (λ p i. f p (inr i))
 
-objects-holding : (z : State) (os : List ℕ) (o : ℕ) → IsIn o os → IsIn o (objects_of (holding z os))
+pub objects-holding : (z : State) (os : List ℕ) (o : ℕ) → IsIn o os → IsIn o (objects_of (holding z os))
 objects-holding z [] o i = i
 objects-holding z (p ∷ os) o (inl e) = inl e
 objects-holding z (p ∷ os) o (inr i) = inr (objects-holding z os o i)

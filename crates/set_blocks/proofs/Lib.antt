@@ -14,3 +14,6 @@ pub mod HeldReplies
 pub mod Planning
 pub mod PlainScripts
 pub mod BlockExamples
+pub mod Overlaying
+pub mod Telling
+pub mod Turning

@@ -4,3 +4,6 @@ pub mod BlockReplies
 pub mod BlockRules
 pub mod BlockRuleLaws
 pub mod BlockPlans
+pub mod Holds
+pub mod Turns
+pub mod BlockAttempts

@@ -24,15 +24,20 @@
 //! places and plans its own speak of.
 #![tactic(auto)]
 
+mod attempt;
 mod block;
 mod faults;
+mod holds;
 mod laws;
+mod overlay;
 mod parsing;
 mod replies;
 mod rules;
 #[cfg(test)]
 mod tests;
+mod turns;
 
+pub use attempt::BlockAttempt;
 pub use block::{Block, MOST_IN_BLOCK};
 pub use faults::{BlockFault, BlockKind};
 pub use laws::{

@@ -16,18 +16,18 @@ use mv_history::View;
 use set_script::Name;
 use tree_set::{Fork, plant_writes};
 
-// Where the search for a key ended: all that a command needs to know of its set.
+/// Where the search for a key ended: all that a command needs to know of its set.
 #[derive(Clone, Copy, Drop)]
 pub enum End {
-    // In the list of this head, of a list or a bucket.
+    /// In the list of this head, of a list or a bucket.
     Listed { head: u32, spot: Spot },
-    // At this root, whose tree is empty.
+    /// At this root, whose tree is empty.
     Empty { root: u32 },
-    // At a leaf of the tree of this root.
+    /// At a leaf of the tree of this root.
     Grown { root: u32, fork: Fork },
 }
 
-// Searches the set of the name for the key. It makes one walk.
+/// Searches the set of the name for the key. It makes one walk.
 pub fn search<V: View>(view: &mut V, name: Name, key: u32) -> End
     requires lawful { IsLawful (V.state view.old) }
     ensures name_in { name < 30 }
@@ -55,7 +55,7 @@ pub fn search<V: View>(view: &mut V, name: Name, key: u32) -> End
 }
 
 impl End {
-    // Whether the set has the key.
+    /// Whether the set has the key.
     pub fn has(&self, key: u32) -> bool
         ensures { Wherever self.now key (λ s name. result ≡ has_key key (map_of name (catalogue_of s))) }
     {
@@ -66,7 +66,7 @@ impl End {
         }
     }
 
-    // The value of the key in the set, or none where it is not there.
+    /// The value of the key in the set, or none where it is not there.
     pub fn value(&self, key: u32) -> Option<u64>
         ensures { Wherever self.now key (λ s name. result ≡ value_of key (map_of name (catalogue_of s))) }
     {
@@ -81,7 +81,7 @@ impl End {
     }
 
     // How many nodes a new key takes.
-    pub fn takes(&self) -> u32
+    pub(crate) fn takes(&self) -> u32
         ensures takes { (key : ℕ) → Wherever self.now key (λ s name. result ≡ taken name (map_of name (catalogue_of s))) }
         ensures few { result ≤ 2 }
     {
@@ -93,7 +93,7 @@ impl End {
     }
 
     // Plans an add of the key, which is not there, with this value, in these vacant nodes.
-    pub fn add(&self, plan: &mut Plan, key: u32, value: u64, picked: Picked)
+    pub(crate) fn add(&self, plan: &mut Plan, key: u32, value: u64, picked: Picked)
         requires head { HasHead self.now }
         requires count { plan.old.count ≤ 5 }
         requires room { length (writes_in plan.old) + count_unheld (writes_in plan.old) (objects_added picked.first picked.second self.now) ≤ 5 }
@@ -111,7 +111,7 @@ impl End {
     }
 
     // Plans a del of the key, which is there, and answers what it leaves vacant.
-    pub fn del(&self, plan: &mut Plan) -> Gone
+    pub(crate) fn del(&self, plan: &mut Plan) -> Gone
         requires none { plan.old.count ≡ 0 }
         ensures writes { (key : ℕ) → Present self.now key (λ s. PlansMore plan.old plan.new (dels_at s self.now)) }
         ensures count { plan.new.count ≤ 5 }
@@ -144,7 +144,7 @@ impl End {
     }
 
     // Plans a put of another value for the key, which is there.
-    pub fn put(&self, plan: &mut Plan, value: u64)
+    pub(crate) fn put(&self, plan: &mut Plan, value: u64)
         requires none { plan.old.count ≡ 0 }
         ensures writes { (key : ℕ) → Present self.now key (λ s. PlansMore plan.old plan.new (puts_at s value self.now)) }
         ensures count { plan.new.count ≤ 5 }

@@ -20,17 +20,17 @@ use crate::sets::{next, size};
 use mv_history::View;
 use set_script::{Command, Name, Reply};
 
-// What a command comes to.
+/// What a command comes to.
 #[derive(Drop)]
 pub enum Finding {
-    // It changes nothing, and this is its reply.
+    /// It changes nothing, and this is its reply.
     Settled(Reply),
-    // It changes something by these writes, and a del leaves these objects vacant.
+    /// It changes something by these writes, and a del leaves these objects vacant.
     Open { plan: Plan, gone: Gone },
 }
 
 impl Finding {
-    // The reply at the last time, where a change comes too late.
+    /// The reply at the last time, where a change comes too late.
     pub fn at_last(self) -> Reply
         ensures { result ≡ reply_at_last self }
     {
@@ -41,10 +41,10 @@ impl Finding {
     }
 }
 
-// Finds what the command comes to in the view's state, where a time is left. It searches each set of
-// the command once. Where a new key wants vacant objects it looks for them, unless it is known that
-// there are too few: fewer than `few` nodes are vacant in that state, and what a look finds of that
-// stands in `few` afterwards.
+/// Finds what the command comes to in the view's state, where a time is left. It searches each set of
+/// the command once. Where a new key wants vacant objects it looks for them, unless it is known that
+/// there are too few: fewer than `few` nodes are vacant in that state, and what a look finds of that
+/// stands in `few` afterwards.
 pub fn find_plan<V: View>(
     view: &mut V,
     hints: &mut Hints,

@@ -42,7 +42,7 @@ impl Hints {
     }
 
     /// No hints, with room for none. It takes no memory.
-    pub(crate) fn none() -> Hints
+    pub fn none() -> Hints
         ensures { result ≡ record { room = 0; objects = [] } }
     {
         Hints {

@@ -74,7 +74,10 @@ mod tests;
 
 pub use answer::Attempt;
 pub use attempting::{attempt, attempt_with};
+pub use ends::{End, search};
+pub use finding::{Finding, find_plan};
 pub use hinted_store::HintedStore;
 pub use hints::Hints;
 pub use picks::{Picked, pick};
+pub use plan::{Gone, Plan};
 pub use reading::read_all;

@@ -10,8 +10,8 @@ use crate::hints::Hints;
 use crate::picks::Picked;
 use mv_history::Words;
 
-// The objects to lock, in this order, each with the words to write. No change writes more of them
-// than a move, which writes five.
+/// The objects to lock, in this order, each with the words to write. No change writes more of them
+/// than a move, which writes five.
 #[derive(Drop)]
 pub struct Plan {
     writes: [(u32, Words); 5],
@@ -19,7 +19,7 @@ pub struct Plan {
 }
 
 impl Plan {
-    pub fn nothing() -> Plan
+    pub(crate) fn nothing() -> Plan
         ensures count { result.count ≡ 0 }
     {
         Plan {
@@ -28,7 +28,7 @@ impl Plan {
         }
     }
 
-    // The writes, in their order.
+    /// The writes, in their order.
     pub fn writes(&self) -> &[(u32, Words)]
         requires count { self.now.count ≤ 5 }
         ensures writes { result.now ≡ writes_in self.now }
@@ -38,7 +38,7 @@ impl Plan {
 
     // Plans these writes too. An object that is among the planned ones keeps its place in the order,
     // and gets the new words.
-    pub fn write(&mut self, changes: &[(u32, Words)])
+    pub(crate) fn write(&mut self, changes: &[(u32, Words)])
         requires count { self.old.count ≤ 5 }
         requires room { length (writes_in self.old) + count_unheld (writes_in self.old) (objects_of changes.now) ≤ 5 }
         ensures writes { writes_in self.new ≡ merged (writes_in self.old) changes.now }
@@ -80,7 +80,7 @@ impl Plan {
     }
 }
 
-// The objects that a del leaves vacant; each is 0 where there is none.
+/// The objects that a del leaves vacant; each is 0 where there is none.
 #[derive(Clone, Copy)]
 pub struct Gone {
     pub node: u32,
@@ -88,7 +88,7 @@ pub struct Gone {
 }
 
 impl Gone {
-    pub fn nothing() -> Gone
+    pub(crate) fn nothing() -> Gone
         ensures node { result.node ≡ 0 }
         ensures inner { result.inner ≡ 0 }
     {
@@ -96,14 +96,14 @@ impl Gone {
     }
 
     // How many vacant objects a move wants beside these, whose add takes so many.
-    pub fn still_wanted(self, takes: u32) -> u32
+    pub(crate) fn still_wanted(self, takes: u32) -> u32
         ensures { result ≡ takes - (if self.inner == 0 then 1 else 2) }
     {
         takes.saturating_sub(if self.inner == 0 { 1 } else { 2 })
     }
 
     // The vacant objects that a move's add takes: these first, and then what was picked.
-    pub fn before(self, picked: Picked) -> Picked
+    pub(crate) fn before(self, picked: Picked) -> Picked
         ensures first { result.first ≡ self.node }
         ensures second { result.second ≡ (if self.inner == 0 then picked.first else self.inner) }
     {
@@ -117,7 +117,7 @@ impl Gone {
         }
     }
 
-    // Notes what became vacant.
+    /// Notes what became vacant.
     pub fn note(self, hints: &mut Hints)
         ensures { hints.new ≡ gone_noted hints.old self.node self.inner }
     {

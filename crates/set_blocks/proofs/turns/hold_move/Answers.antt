@@ -1,0 +1,26 @@
+use Rattle.std.proofs.Common.{ℕ, ◌<◌, ap₂, take, arith, subst, sym, ◌∙◌}
+use Rattle.mv_history.specs.State.{State, Writes, written}
+use Rattle.set_blocks.proofs.Turning.{moved_held, move_held, key_after}
+use Rattle.set_blocks.proofs.turns.hold_move.Goals as goal
+
+pub returns-then-has-clause-held : goal.returns-then-has-clause-held
+returns-then-has-clause-held g c =
+    let o = c.args.overlay.now in
+    let mid = c.search-end.new.view in
+    moved_held (written (g.V.View.state o.view) (take o.count o.writes)) c.requires.lawful c.args.target c.args.key
+    (subst (λ (n : ℕ). n < 30) c.index.ensures.is c.index.ensures.few)
+    (omega (arith, c.ranges.key.fits)) c.args.source _ (take o.count o.writes) _
+    (key_after _ _ _ _ _ _ _ _ (ap₂ (λ (s : State) (w : Writes). written s w) (g.met.V.View.same_state o.view mid.view c.search-end.ensures.as_before.0)
+    c.search-end.ensures.as_before.1) c.search-end.ensures.as_before.1 c.hold_key.ensures.told)
+    (sym (c.has.ensures _ _ c.requires.lawful c.search-end.ensures.name_in (omega (arith, c.ranges.key.fits)) c.search-end.ensures.ends) ∙ c.if-has.true)
+    c.requires.nothing
+
+pub returns-else-has-clause-held : goal.returns-else-has-clause-held
+returns-else-has-clause-held g c =
+    let o = c.args.overlay.now in
+    let mid = c.search-end.new.view in
+    move_held (written (g.V.View.state o.view) (take o.count o.writes)) c.requires.lawful c.args.source c.args.key c.search-end.ensures.name_in
+    (omega (arith, c.ranges.key.fits)) c.args.target _ (take o.count o.writes) _
+    (key_after _ _ _ _ _ _ _ _ (ap₂ (λ (s : State) (w : Writes). written s w) (g.met.V.View.same_state o.view mid.view c.search-end.ensures.as_before.0)
+    c.search-end.ensures.as_before.1) c.search-end.ensures.as_before.1 c.hold_key-else-has.ensures.told)
+    (sym (c.has.ensures _ _ c.requires.lawful c.search-end.ensures.name_in (omega (arith, c.ranges.key.fits)) c.search-end.ensures.ends) ∙ c.if-has.false)

@@ -13,7 +13,6 @@ ghost use Rattle.commit_abort.specs.Finishes.{TellsOne, IsFinishing, above_held,
 
 use mv_core::{Pass, Shared, Steps};
 use mv_history::Protocol;
-use mv_layout::LAST;
 use seat_log::{Log, held, live, note, note_commit};
 use std::sync::ledger::Ledger;
 
@@ -72,7 +71,6 @@ pub fn finish_start<P: Protocol, L: Ledger>(
 )
     requires of { IsOf shared.now pass.old }
     requires named { (won : WonNaming) × IsJustNamed (config_of shared.now) (view pass.old) log.now won × (time ≡ clock_time_of won.word + 1) }
-    requires range { time ≤ LAST }
     ensures same { IsSame pass.old pass.new }
     ensures finishing { IsFinishing (config_of shared.now) (view pass.old) (view pass.new) log.now time 0 }
     ensures step { steps.new ≡ steps.old + 1 }
@@ -146,7 +144,6 @@ pub fn finish<P: Protocol, L: Ledger>(
 )
     requires of { IsOf shared.now pass.old }
     requires named { (won : WonNaming) × IsJustNamed (config_of shared.now) (view pass.old) log.old won × (time ≡ clock_time_of won.word + 1) }
-    requires range { time ≤ LAST }
     ensures same { IsSame pass.old pass.new }
     ensures finishes { Finishes (view pass.old) (view pass.new) (log.old.held + 2) }
     ensures log { log.new ≡ committed_noted log.old time }

@@ -1,14 +1,14 @@
 // Naming the next entry of the history.
-ghost use Rattle.std.specs.Prelude.{◌≡◌, ◌+◌};
+ghost use Rattle.std.specs.Prelude.{◌≡◌, ◌+◌, ◌<◌};
 ghost use Rattle.mv_core.specs.declared.view.Section.{Section};
-ghost use Rattle.mv_layout.specs.Words.{clock_time_of, clock_seat_of};
+ghost use Rattle.mv_layout.specs.Words.{clock_time_of};
 ghost use Rattle.mv_core.specs.Passes.{view, IsOf, IsSame, config_of};
 ghost use Rattle.mv_core.specs.NameSteps.{MayNameCommit, MayNameRest};
-ghost use Rattle.commit_clock.specs.Names.{NamesCommit, LogNamed, NamesRest};
+ghost use Rattle.commit_clock.specs.Names.{NamesCommit, LogNamed, NamesRest, named_by};
 
 use mv_core::{Pass, Shared, Steps, Swap};
 use mv_history::{Protocol, Rival, Tag};
-use mv_layout::{clock_seat, clock_time};
+use mv_layout::{LAST, clock_seat, clock_time};
 use std::sync::ledger::Ledger;
 
 /// What naming an entry answers.
@@ -45,10 +45,7 @@ pub fn name<P: Protocol, L: Ledger>(
     ensures log { LogNamed (config_of shared.now) (view pass.old) word result }
     ensures step { steps.new ≡ steps.old + 1 }
 {
-    match shared.name_commit(pass, word, tag, steps) {
-        Swap::Won => Named::Done(clock_time(word) + 1),
-        Swap::Found(found) => Named::Lost(rival(found)),
-    }
+    answer(word, shared.name_commit(pass, word, tag, steps))
 }
 
 /// Names a rest of the seat, which is outside a section, at the time after that of a clock word,
@@ -69,18 +66,19 @@ pub fn rest<P: Protocol, L: Ledger>(
     ensures names { NamesRest (config_of shared.now) (view pass.old) word result (view pass.new) }
     ensures step { steps.new ≡ steps.old + 1 }
 {
-    match shared.name_rest(pass, word, steps) {
-        Swap::Won => Named::Done(clock_time(word) + 1),
-        Swap::Found(found) => Named::Lost(rival(found)),
-    }
+    answer(word, shared.name_rest(pass, word, steps))
 }
 
-// The seat and the time of a clock word.
-fn rival(word: u64) -> Rival
-    ensures { result ≡ record { seat = clock_seat_of word; time = clock_time_of word } }
+// What an exchange of CLOCK from a word answers of the entry that it was to name.
+fn answer(word: u64, swap: Swap) -> Named
+    requires { clock_time_of word < LAST }
+    ensures { result ≡ named_by word swap }
 {
-    Rival {
-        seat: clock_seat(word),
-        time: clock_time(word),
+    match swap {
+        Swap::Won => Named::Done(clock_time(word) + 1),
+        Swap::Found(found) => Named::Lost(Rival {
+            seat: clock_seat(found),
+            time: clock_time(found),
+        }),
     }
 }

@@ -1,6 +1,6 @@
--- What leaving a section means, with all that it held given up.
-use Rattle.std.proofs.Common.{◌≡◌, ℕ, false, List, refl, ap, ◌∙◌}
-use Rattle.std.specs.Prelude.{None}
+-- What leaving a section means, with all that it held given up, and how it is counted.
+use Rattle.std.proofs.Common.{◌≡◌, ℕ, ◌+◌, ◌==◌, Bool, false, List, [], ◌∷◌, length, refl, sym, ap, ◌∙◌, eq-eqb, ne_eqb, arith}
+use Rattle.std.specs.Prelude.{None, if◌then◌else◌}
 use Rattle.mv_history.specs.declared.StepKind.{StepKind}
 use Rattle.mv_history.specs.declared.StepKind.TheVariants.{UnlockHead, LoadDeath, ClearMark}
 use Rattle.mv_history.specs.State.{State, Writes}
@@ -11,6 +11,7 @@ use Rattle.mv_core.specs.Known.{Known}
 use Rattle.seat_log.specs.Stands.{Stands}
 use Rattle.commit_abort.specs.Aborts.{Aborts, IsAbortStep}
 use Rattle.mvrlu.specs.Placed.{Placed, seat_from, section_from, IsIdle, IsBusy}
+use Rattle.mvrlu.specs.Meant.{aborts_with}
 use Rattle.mvrlu.proofs.Trails.{made, none_exchanged}
 use Rattle.mvrlu.proofs.Continuing.{continues, placed_on}
 
@@ -36,3 +37,10 @@ module _ (p q : Placed) (most : ℕ) (config : q.config ≡ p.config) (table : q
     placed = placed_on starts allows p q config is.placed (ap (λ (u : View). u.number) a.rest) (ap (λ (u : View). u.base) a.rest) known stands unbuilt;
     outside = record { outside = a.outside; no_scan = ap (λ (u : View). u.scan) a.rest ∙ is.no_scan };
   }
+
+-- an abort is counted exactly where something was held
+pub counted : (own : Writes) (held aborts : ℕ) → length own ≡ held → (if held == 0 then aborts else aborts + 1) ≡ aborts_with own aborts
+counted [] held aborts long = ap (λ (none : Bool). if none then aborts else aborts + 1) (eq-eqb held 0 (sym long))
+counted (w ∷ more) held aborts long =
+    ap (λ (none : Bool). if none then aborts else aborts + 1)
+    (ne_eqb held 0 (λ e. let none : length (w ∷ more) ≡ 0 = long ∙ e in absurd (omega arith)))

@@ -1,6 +1,8 @@
 -- What the public values of this crate mean.
-use Rattle.std.specs.Prelude.{◌≡◌, ℕ, List}
-use Rattle.mv_history.specs.State.{State}
+use Rattle.std.specs.Prelude.{◌≡◌, ℕ, ◌+◌, List, [], ◌∷◌}
+use Rattle.mv_history.specs.declared.answers.CommitAnswer.{CommitAnswer}
+use Rattle.mv_history.specs.declared.answers.CommitAnswer.TheVariants.{Done, Again, End}
+use Rattle.mv_history.specs.State.{State, Writes}
 use Rattle.mv_history.specs.Meaning.{InSection}
 use Rattle.mv_history.specs.Meaning as history
 use Rattle.mv_layout.specs.declared.Config.{Config}
@@ -12,6 +14,17 @@ use Rattle.mvrlu.specs.declared.domain.Domain.{Domain}
 use Rattle.mvrlu.specs.declared.domain.Seat.{Seat}
 use Rattle.mvrlu.specs.declared.handle.Handle.{Handle}
 use Rattle.mvrlu.specs.declared.session.Session.{Session}
+
+-- how many sections of a seat were aborted with something held, after so many and the abort of one more that held these objects
+abbrev pub aborts_with : Writes → ℕ → ℕ
+aborts_with [] aborts = aborts
+aborts_with (held ∷ more) aborts = aborts + 1
+
+-- a count of the seat that tried to commit, outside its section or in it
+abbrev pub count_after : {B S : Type 0} → (B → ℕ) → (S → ℕ) → CommitAnswer B S → ℕ
+count_after outside inside (Done back time) = outside back
+count_after outside inside (Again left rival) = inside left
+count_after outside inside (End left) = inside left
 
 module _ {P : Type 0} where
   -- the numbers of a domain
@@ -31,13 +44,17 @@ module _ {P : _} {rules : _} where
   abbrev pub seat_of : Seat P rules → history.Seat
   seat_of s = seat_from s.idle
 
+  -- how many sections of it were aborted with something held
+  abbrev pub aborts_in : Seat P rules → ℕ
+  aborts_in s = s.idle.log.aborts
+
   -- what a seat in a handle means
   abbrev pub handled : Handle P rules → history.Seat
   handled h = seat_from h.seat.idle
 
   -- how many of its sections were aborted with something held
   abbrev pub aborts_of : Handle P rules → ℕ
-  aborts_of h = h.seat.idle.log.aborts
+  aborts_of h = aborts_in h.seat
 
   -- what a section means
   abbrev pub section_of : Session P rules → InSection

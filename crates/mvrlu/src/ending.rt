@@ -8,6 +8,7 @@ ghost use Rattle.mv_history.specs.Calls.{call_trail, IsAsBefore, Leaves, Commits
 ghost use Rattle.commit_abort.specs.Aborts.{abort_cost};
 ghost use Rattle.mvrlu.specs.Placed.{seat_from, section_from, Fits};
 ghost use Rattle.mvrlu.specs.Causes.{Loaded};
+ghost use Rattle.mvrlu.specs.Meant.{aborts_with, count_after};
 ghost use Rattle.mvrlu.specs.Bounds.{MakesAtMost};
 ghost use Rattle.mvrlu.specs.Holding.{seats_of};
 
@@ -41,6 +42,7 @@ pub(crate) fn committed<P: Protocol, L: Ledger>(
     ensures at_most_one { length (commit_exchanges (call_trail (section_from busy).seat (seat_after seat_from section_from result))) ≤ 1 }
     ensures one_won { OnDone result (λ back time. IsOneWon (commit_exchanges (call_trail (section_from busy).seat (seat_from back)))) }
     ensures one_lost { OnAgain result (λ left rival. IsOneLost (commit_exchanges (call_trail (section_from busy).seat (section_from left).seat))) }
+    ensures aborts { count_after (λ p. p.log.aborts) (λ p. p.log.aborts) result ≡ busy.log.aborts }
     ensures bound { MakesAtMost (section_from busy).seat (seat_after seat_from section_from result) (8 + length (section_from busy).own) }
 {
     let mut steps = Steps::<L>::open(blank);
@@ -68,6 +70,7 @@ pub(crate) fn aborted<P: Protocol, L: Ledger>(
     ensures fits { Fits shared.now result }
     ensures lawful { IsSeat P.start P.allowed (seat_from result) }
     ensures leaves { Leaves (section_from busy) (seat_from result) }
+    ensures aborts { result.log.aborts ≡ aborts_with (section_from busy).own busy.log.aborts }
     ensures bound { MakesAtMost (section_from busy).seat (seat_from result) (abort_cost (length (section_from busy).own)) }
 {
     let mut steps = Steps::<L>::open(blank);
@@ -93,6 +96,7 @@ pub(crate) fn left<P: Protocol, L: Ledger>(
     ensures fits { Fits shared.now result }
     ensures lawful { IsSeat P.start P.allowed (seat_from result) }
     ensures leaves { Leaves (section_from busy) (seat_from result) }
+    ensures aborts { result.log.aborts ≡ busy.log.aborts }
     ensures bound { MakesAtMost (section_from busy).seat (seat_from result) 1 }
 {
     aborted::<P, L>(shared, busy, blank)

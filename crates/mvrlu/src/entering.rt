@@ -25,6 +25,7 @@ pub(crate) fn entered<P: Protocol, L: Ledger>(
     ensures lawful { IsSection P.start P.allowed (section_from result) }
     ensures enters { Enters (seat_from idle) (section_from result) }
     ensures took { Took (seat_from idle) (section_from result) }
+    ensures aborts { result.log.aborts ≡ idle.log.aborts }
     ensures bound { MakesAtMost (seat_from idle) (section_from result).seat 6 }
 {
     let mut steps = Steps::<L>::open(blank);

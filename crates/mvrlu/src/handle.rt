@@ -24,7 +24,7 @@ impl<'d, P: Protocol> Store for Handle<'d, P> {
     ghost use Rattle.mv_history.specs.declared.answers.Holder.TheVariants.{End};
     ghost use Rattle.mv_history.specs.declared.answers.Room.TheVariants.{Enough, Short};
     ghost use Rattle.mv_history.specs.Calls.{Prepares, Enters};
-    ghost use Rattle.mvrlu.specs.Meant.{handled, aborts_of, section_of};
+    ghost use Rattle.mvrlu.specs.Meant.{handled, aborts_of, aborts_before, section_of};
     ghost use Rattle.mvrlu.specs.Causes.{Took};
     ghost use Rattle.mvrlu.specs.Bounds.{MakesAtMost};
     ghost use Rattle.mvrlu.specs.Holding.{seats_of, IsEarly, HoldsBack, MakesRoom};
@@ -72,6 +72,7 @@ impl<'d, P: Protocol> Store for Handle<'d, P> {
     fn enter(self) -> Session<'d, P>
         ensures enters { Enters (handled self.entry) (section_of result) }
         ensures took { Took (handled self.entry) (section_of result) }
+        ensures aborts { aborts_before result ≡ aborts_of self.entry }
         ensures bound { MakesAtMost (handled self.entry) (section_of result).seat 6 }
     {
         let Handle { domain, seat } = self;
@@ -85,11 +86,12 @@ impl<'d, P: Protocol> Store for Handle<'d, P> {
 impl<'d, P: Protocol> Handle<'d, P> {
     ghost use Rattle.std.specs.Prelude.{◌≡◌};
     ghost use Rattle.mvrlu.specs.Holding.{seats_of, Tidies, TidiesAlone, IsSeatTable};
-    ghost use Rattle.mvrlu.specs.Meant.{seat_of, handled, aborts_of};
+    ghost use Rattle.mvrlu.specs.Meant.{seat_of, handled, aborts_in, aborts_of};
 
     /// Gives the loan of the domain back, and keeps all that the seat means. No step is made.
     pub fn into_seat(self) -> Seat<P>
-        ensures { seat_of result ≡ handled self.entry }
+        ensures meant { seat_of result ≡ handled self.entry }
+        ensures aborts { aborts_in result ≡ aborts_of self.entry }
     {
         let Handle { domain: _, seat } = self;
         seat
@@ -142,13 +144,14 @@ impl<'d, P: Protocol> Handle<'d, P> {
 
 impl<P: Protocol> Domain<P> {
     ghost use Rattle.std.specs.Prelude.{◌≡◌};
-    ghost use Rattle.mvrlu.specs.Meant.{seat_of, handled, IsSeatOf};
+    ghost use Rattle.mvrlu.specs.Meant.{seat_of, handled, aborts_in, aborts_of, IsSeatOf};
 
     /// Lends the domain to a seat of it. The handle means what the seat meant. A seat of another domain,
     /// which has another name, is refused by the condition. No step is made.
     pub fn handle<'d>(&'d self, seat: Seat<P>) -> Handle<'d, P>
         requires { IsSeatOf self.now seat }
-        ensures { handled result ≡ seat_of seat }
+        ensures meant { handled result ≡ seat_of seat }
+        ensures aborts { aborts_of result ≡ aborts_in seat }
     {
         Handle { domain: self, seat }
     }

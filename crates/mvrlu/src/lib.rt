@@ -31,6 +31,9 @@
 //! after the snapshot that was seen. `prepare` and `tidy` make at most `2 * (4 + seats + 20 * slots) + 8`,
 //! and `meet` `seats + 7`.
 //!
+//! Each call's clause `aborts` says what becomes of the seat's count of aborts, which `Handle::table`
+//! gives: `abort` raises it by one exactly where something is held, and every other call leaves it.
+//!
 //! **The law of the whole.** `open` gives a domain with all its seats, and `Domain::meet` ends it with all
 //! of them. Whatever the seats have done meanwhile, there is then one list of commits and rests: legal,
 //! allowed by the client's rules from the opening state, and begun by whatever any seat had seen at any

@@ -28,6 +28,7 @@ fn read_below<P: Protocol, L: Ledger>(
     ensures lawful { IsSection P.start P.allowed (section_from busy.new) }
     ensures words { result ≡ words_at (snapshot_of (section_from busy.old)) object }
     ensures stays { Stays (section_from busy.old) (section_from busy.new) }
+    ensures aborts { busy.new.log.aborts ≡ busy.old.log.aborts }
     ensures bound { MakesAtMost (section_from busy.old).seat (section_from busy.new).seat (read_most (section_from busy.old) (section_from busy.new)) }
 {
     let mut steps = Steps::<L>::open(blank);
@@ -54,6 +55,7 @@ pub(crate) fn read_in<P: Protocol, L: Ledger>(
     ensures lawful { IsSection P.start P.allowed (section_from busy.new) }
     ensures words { result ≡ words_at (state_of (section_from busy.old)) object }
     ensures stays { Stays (section_from busy.old) (section_from busy.new) }
+    ensures aborts { busy.new.log.aborts ≡ busy.old.log.aborts }
     ensures bound { MakesAtMost (section_from busy.old).seat (section_from busy.new).seat (read_most (section_from busy.old) (section_from busy.new)) }
 {
     match held_words(busy, object) {

@@ -30,7 +30,7 @@ pub struct Session<'d, P: Protocol> {
 
 impl<'d, P: Protocol> View for Session<'d, P> {
     ghost use Rattle.std.specs.Prelude.{◌≡◌, ◌<◌, length};
-    ghost use Rattle.mvrlu.specs.Meant.{section_of};
+    ghost use Rattle.mvrlu.specs.Meant.{aborts_before, section_of};
     ghost use Rattle.mvrlu.specs.Bounds.{MakesAtMost, read_most};
     ghost use Rattle.mvrlu.specs.Standing.{Stays, stays_itself, stays_long, stays_state, words_in_section};
     ghost use Rattle.mv_history.specs.Meaning.{state_of, words_at};
@@ -55,6 +55,7 @@ impl<'d, P: Protocol> View for Session<'d, P> {
         requires { object < length (state_of (section_of self.old)) }
         ensures words { result ≡ words_at (state_of (section_of self.old)) object }
         ensures as_before { Stays (section_of self.old) (section_of self.new) }
+        ensures aborts { aborts_before self.new ≡ aborts_before self.old }
         ensures bound { MakesAtMost (section_of self.old).seat (section_of self.new).seat (read_most (section_of self.old) (section_of self.new)) }
     {
         let domain = self.domain;
@@ -71,7 +72,7 @@ impl<'d, P: Protocol> Section for Session<'d, P> {
     ghost use Rattle.mv_history.specs.Drift.{IsFit};
     ghost use Rattle.mv_history.specs.Trail.{commit_exchanges, IsOneWon, IsOneLost};
     ghost use Rattle.mv_history.specs.declared.answers.LockAnswer.TheVariants.{Held, Busy as IsTaken, Stale, SetFull, LogFull};
-    ghost use Rattle.mvrlu.specs.Meant.{handled, aborts_before, section_of};
+    ghost use Rattle.mvrlu.specs.Meant.{handled, aborts_of, aborts_before, aborts_with, count_after, section_of};
     ghost use Rattle.mvrlu.specs.Causes.{Loaded, FoundLocked};
     ghost use Rattle.mvrlu.specs.Holding.{seats_of};
     ghost use Rattle.mvrlu.specs.Bounds.{MakesAtMost};
@@ -170,6 +171,7 @@ impl<'d, P: Protocol> Section for Session<'d, P> {
             → IsOneWon (commit_exchanges (call_trail (section_of self.entry).seat (handled back)))) }
         ensures one_lost { OnAgain result (λ left rival. ⟦<Session<'d, P> as Section>⟧.has_trail
             → IsOneLost (commit_exchanges (call_trail (section_of self.entry).seat (section_of left).seat))) }
+        ensures aborts { count_after aborts_of aborts_before result ≡ aborts_before self.entry }
         ensures bound { MakesAtMost (section_of self.entry).seat (seat_after handled section_of result) (8 + length (section_of self.entry).own) }
     {
         let Session { domain, part } = self;
@@ -192,6 +194,7 @@ impl<'d, P: Protocol> Section for Session<'d, P> {
 
     fn abort(self) -> Handle<'d, P>
         ensures leaves { Leaves (section_of self.entry) (handled result) }
+        ensures aborts { aborts_of result ≡ aborts_with (section_of self.entry).own (aborts_before self.entry) }
         ensures bound { MakesAtMost (section_of self.entry).seat (handled result) (length (section_of self.entry).own + 2) }
     {
         let Session { domain, part } = self;
@@ -204,6 +207,7 @@ impl<'d, P: Protocol> Section for Session<'d, P> {
     fn leave(self) -> Handle<'d, P>
         requires { (section_of self).own ≡ [] }
         ensures leaves { Leaves (section_of self.entry) (handled result) }
+        ensures aborts { aborts_of result ≡ aborts_before self.entry }
         ensures bound { MakesAtMost (section_of self.entry).seat (handled result) 1 }
     {
         let Session { domain, part } = self;

@@ -53,7 +53,7 @@ loop-worker-preserved c =
       many = omega arith;
       falling = falling_front (stored handled) d n rest l.workers.items w split i.falling;
       rising = subst (AreRising seat_of d) (sym c.push_reserved.ensures.items)
-          (rising_next seat_of d l.seats.items seat i.rising (subst (IsNumbered d (length l.seats.items)) (sym c.into_seat.ensures) numbered));
+          (rising_next seat_of d l.seats.items seat i.rising (subst (IsNumbered d (length l.seats.items)) (sym c.into_seat.ensures.meant) numbered));
       room = omega arith;
       done = done_front handled (total (opening_of d)) rest l.workers.items w split i.done;
       read = c.with_work-work.ensures.read (total (opening_of d)) i.read
@@ -63,6 +63,6 @@ loop-worker-preserved c =
       all = λ less. subst HasWorn (sym c.push_reserved.ensures.items)
           (⊎_elim
           (λ all. worn_before l.seats.items seat (i.all (omega (arith, all, less, asked, made))))
-          (λ fewer. worn_last l.seats.items seat (subst IsWorn (sym c.into_seat.ensures) (last.all fewer)))
+          (λ fewer. worn_last l.seats.items seat (subst IsWorn (sym c.into_seat.ensures.meant) (last.all fewer)))
           (eq-or-lt_of_le last.most));
     }

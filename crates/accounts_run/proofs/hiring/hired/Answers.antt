@@ -32,7 +32,7 @@ loop-seat-preserved c =
     let all = c.requires.many in
     let found = c.len.ensures in
     let is = rising_last seat_of d rest c.loop-seat.seats.items c.in-Some.seat c.in-Some.ensures.items i.rising in
-    let meant = ap handled c.worker.ensures.store ∙ c.handle.ensures in
+    let meant = ap handled c.worker.ensures.store ∙ c.handle.ensures.meant in
     let within : c.len.result < length c.args.tasks.now = omega arith in
     let next : vec_len c.loop-seat.seats ≡ suc c.len.result = omega arith in
     record {

@@ -32,7 +32,7 @@ loop-seat-preserved c =
       rising = rising_front seat_of d rest c.loop-seat.seats.items c.in-Some.seat c.in-Some.ensures.items i.rising;
       falling = subst (AreFalling seat_in d (numbers_of d).seats) (sym c.push_reserved.ensures.items)
           (falling_next seat_in d (numbers_of d).seats (length rest) clients _ i.falling (omega arith)
-          (subst (IsNumbered d (length rest)) (sym c.handle.ensures) is));
+          (subst (IsNumbered d (length rest)) (sym c.handle.ensures.meant) is));
       room = omega arith;
       kept = omega arith;
       kept_left = omega arith;

@@ -2,16 +2,18 @@ use Rattle.std.proofs.Common.{rules, ◌≡◌, ℕ, ◌≤◌, length, refl, sy
 use Rattle.mv_history.specs.Calls.{Leaves}
 use Rattle.mv_layout.specs.declared.Config.{Config}
 use Rattle.mv_core.specs.Passes.{view, config_of}
+use Rattle.mv_core.specs.Rings.{own_of}
 use Rattle.seat_log.specs.Notes.{Noted}
 use Rattle.seat_log.specs.Stands.{Stands}
 use Rattle.object_lock.proofs.OwnNotes.{own_long}
 use Rattle.commit_abort.specs.Aborts.{abort_cost}
 use Rattle.mvrlu.specs.Placed.{Placed, placed, seat_from, section_from, Fits}
 use Rattle.mvrlu.specs.Bounds.{MakesAtMost}
+use Rattle.mvrlu.specs.Meant.{aborts_with}
 use Rattle.mvrlu.proofs.Trails.{few_made}
 use Rattle.mvrlu.proofs.Names.{config_inside, fits_config, fits_pass}
 use Rattle.mvrlu.proofs.Lawful.{seat_lawful}
-use Rattle.mvrlu.proofs.Leaving.{left_leaves, left_idle}
+use Rattle.mvrlu.proofs.Leaving.{left_leaves, left_idle, counted}
 use Rattle.mvrlu.proofs.ending.aborted.Goals as goal
 
 pub abort-requires : goal.abort-requires
@@ -68,3 +70,11 @@ returns-clause-bound g c =
     let few = subst (λ (n : ℕ). length c.abort.ensures.aborts.trail.0 ≤ abort_cost n) (sym long) c.abort.ensures.aborts.trail.2 in
     subst (λ (p : Placed). MakesAtMost (seat_from p) (seat_from q) (abort_cost (length (section_from p).own))) c.busy.view_is
     (few_made (view i.pass).trail (view c.abort.new.pass).trail c.abort.ensures.aborts.trail.0 _ c.abort.ensures.aborts.trail.1 few)
+
+pub returns-clause-aborts : goal.returns-clause-aborts
+returns-clause-aborts g c =
+    let i = c.busy.inside in
+    let long = own_long i.config (view i.pass) i.log c.busy.invariant.1.placed.stands in
+    let made : c.abort.new.log.aborts ≡ aborts_with (own_of i.config (view i.pass).ring) i.log.aborts =
+    ap (λ (l : Noted). l.aborts) c.abort.ensures.log.1 ∙ counted (own_of i.config (view i.pass).ring) i.log.held i.log.aborts long in
+    subst (λ (p : Placed). c.abort.new.log.aborts ≡ aborts_with (section_from p).own p.log.aborts) c.busy.view_is made

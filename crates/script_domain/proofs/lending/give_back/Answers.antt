@@ -9,9 +9,10 @@ loop-seats-preserved c =
     let l = c.loop-seats in
     let first = c.take_first.ensures.items in
     let last = c.push_reserved.ensures.items in
+    let meant = c.into_seat.ensures.meant in
     record {
       seats = rw last
-          (moved seat_of handled l.seats.items l.handles.items c.take_first.new.from.items c.take_first.result c.into_seat.result first c.into_seat.ensures
+          (moved seat_of handled l.seats.items l.handles.items c.take_first.new.from.items c.take_first.result c.into_seat.result first meant
           ∙ l.invariant.seats);
       room = omega (
         arith,

@@ -19,7 +19,7 @@ loop-handles-preserved c =
     record {
       own = All-rest (λ s. IsSeatOf c.args.domain.now s) c.take_first.result c.take_first.new.from.items l.seats.items first l.invariant.own;
       handles = rw last
-          (moved handled seat_of l.handles.items l.seats.items c.take_first.new.from.items c.take_first.result c.handle.result first c.handle.ensures
+          (moved handled seat_of l.handles.items l.seats.items c.take_first.new.from.items c.take_first.result c.handle.result first c.handle.ensures.meant
           ∙ l.invariant.handles);
       room = omega (
         arith,

@@ -1,0 +1,4 @@
+pub mod Tables
+pub mod Grown
+pub mod GrowRules
+pub mod GrowRuleLaws

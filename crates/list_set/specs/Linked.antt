@@ -1,7 +1,7 @@
 -- A list by its links alone.
 use Rattle.std.specs.Prelude.{ℕ, suc, ◌≡◌, ◌≢◌, ◌^◌, ◌<◌, ◌≤◌, length}
 use Rattle.mv_history.specs.State.{State}
-use Rattle.set_script.specs.Objects.{first_node, owner, key, link}
+use Rattle.set_script.specs.Objects.{first_node, owner, kind, key, link}
 use Rattle.list_set.specs.Places.{IsInList}
 
 -- the object is a node of the head's list
@@ -17,6 +17,7 @@ IsAfter s head o n = IsNodeOf s head o → key s o < key s n
 pub record IsLinked (s : State) (head : ℕ) : Type 0 where
   pub here : head < length s
   pub unowned : owner s head ≡ 0
+  pub kinds : (n : ℕ) → IsNodeOf s head n → kind s n ≡ 0
   pub fits : (n : ℕ) → IsNodeOf s head n → key s n < 2 ^ 32
   pub leads : (o : ℕ) → IsInList s head o → link s o ≢ 0 → IsNodeOf s head (link s o) × IsAfter s head o (link s o)
   pub least : (o n : ℕ) → IsInList s head o → IsNodeOf s head n → IsAfter s head o n → (link s o ≢ 0) × (key s (link s o) ≤ key s n)

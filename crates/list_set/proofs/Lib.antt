@@ -3,6 +3,7 @@ pub mod Parts
 pub mod Adding
 pub mod Removing
 pub mod Putting
+pub mod Linking
 pub mod Walking
 pub mod Counting
 pub mod OwnWrites

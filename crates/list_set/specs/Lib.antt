@@ -4,3 +4,4 @@ pub mod Calls
 pub mod Walks
 pub mod Spots
 pub mod Filling
+pub mod Linked

@@ -1,4 +1,4 @@
--- A walk along a list that looks for a key.
+-- What a walk along a list finds that looks for a key.
 use Rattle.std.specs.Prelude.{ℕ, suc, ◌≡◌, ◌+◌, ◌-◌, ◌^◌, ◌<◌, ◌≤◌, ◌⊎◌, ◌==◌, ◌&&◌, not, ⊤, List, []}
 use Rattle.std.specs.Prelude.{◌∷◌, ◌++◌, length, slice_index_or, Some, None, if◌then◌else◌}
 use Rattle.mv_history.specs.State.{State}
@@ -6,21 +6,7 @@ use Rattle.mv_history.specs.Meaning.{words_at}
 use Rattle.set_script.specs.Catalogue.{has_key, value_of, next_key}
 use Rattle.set_script.specs.CatalogueOf.{map_at}
 use Rattle.set_script.specs.Objects.{first_node, owner, key, link}
-use Rattle.set_script.specs.Lists.{Nodes, first_of, IsList}
 use Rattle.list_set.specs.Places.{IsInList}
-
--- every key is below k
-abbrev pub IsUnder : ℕ → Nodes → Type 0
-IsUnder k [] = ⊤
-IsUnder k (n ∷ ns) = (n.key < k) × IsUnder k ns
-
--- the walk has passed the nodes with keys below k, and stands at this node, or at the end, 0
-pub record IsWalk (s : State) (head k node : ℕ) : Type 0 where
-  pub front : Nodes
-  pub rest : Nodes
-  pub list : IsList s head (front ++ rest)
-  pub under : IsUnder k front
-  pub here : node ≡ first_of rest
 
 -- how far a walk can go on: keys rise, and are below 2^32
 unfoldable pub walk_left : State → ℕ → ℕ
@@ -44,12 +30,3 @@ pub record IsSpot (s : State) (head k previous : ℕ) (words : List ℕ) (node :
   pub has : (not (node == 0) && (slice_index_or node_words 2 0 == k)) ≡ has_key k (map_at s head)
   pub value : (if not (node == 0) && (slice_index_or node_words 2 0 == k) then Some (slice_index_or node_words 5 0) else None) ≡ value_of k (map_at s head)
   pub least : (if node == 0 then None else Some (slice_index_or node_words 2 0)) ≡ next_key k (map_at s head)
-
--- A count along the list has passed so many nodes, and stands at this node, or at the end, 0.
-pub record IsCount (s : State) (head node n : ℕ) : Type 0 where
-  pub front : Nodes
-  pub rest : Nodes
-  pub list : IsList s head (front ++ rest)
-  pub here : node ≡ first_of rest
-  pub count : n ≡ length front
-  pub room : n + walk_left s node ≤ 2 ^ 32

@@ -27,6 +27,9 @@
 //! objects in order and then writes them. The sets over trees end with it too. Who decides before
 //! anything is locked takes the spot and its writes, and then calls `rewrite`.
 //!
+//! `find_linked` and `size_linked` ask only that the head leads with rising keys through all nodes that
+//! name it (`specs/Linked.antt`), so they serve other states than the sets' too.
+//!
 //! The calls never commit and never retry, and take no memory.
 //!
 //! # Why these locks are enough
@@ -54,5 +57,5 @@ mod tests;
 
 pub use answers::{Cause, Removed, SetStep};
 pub use change::rewrite;
-pub use lists::{add_in, del_in, get_in, has_in, next_in, put_in, size_in};
-pub use search::{Spot, find};
+pub use lists::{add_in, del_in, get_in, has_in, next_in, put_in, size_in, size_linked};
+pub use search::{Spot, find, find_linked};

@@ -8,6 +8,7 @@ ghost use Rattle.set_script.specs.Lists.{FitsHead};
 ghost use Rattle.set_script.specs.Objects.{owner};
 ghost use Rattle.list_set.specs.Places.{IsAddPlace, IsDelPlace, IsPutPlace};
 ghost use Rattle.list_set.specs.Held.{HasRoom};
+ghost use Rattle.list_set.specs.Linked.{IsLinked};
 ghost use Rattle.list_set.specs.Calls.{Adds, Takes, Puts, Refuses};
 ghost use Rattle.list_set.specs.declared.answers.Cause.{Cause};
 ghost use Rattle.list_set.specs.declared.answers.SetStep.TheVariants.{Yes, No, Again};
@@ -72,6 +73,19 @@ pub fn next_in<V: View>(view: &mut V, head: u32, key: u32) -> Option<u32>
 pub fn size_in<V: View>(view: &mut V, head: u32) -> u64
     requires head_in { head < 170 }
     requires lawful { IsLawful (V.state view.old) }
+    ensures size { result ≡ length (map_at (V.state view.old) head) }
+    ensures as_before { V.as_before view.old view.new }
+{
+    size_linked(view, head)
+}
+
+/// How many keys the list has of any head that leads with rising keys through all nodes that name it,
+/// whatever else the state has.
+///
+/// It needs such a head, and at most 65,535 objects. It reads as `size_in` does.
+pub fn size_linked<V: View>(view: &mut V, head: u32) -> u64
+    requires linked { IsLinked (V.state view.old) head }
+    requires few { length (V.state view.old) ≤ 65535 }
     ensures size { result ≡ length (map_at (V.state view.old) head) }
     ensures as_before { V.as_before view.old view.new }
 {

@@ -1,7 +1,8 @@
 // The search for a key, and what a change writes where it ended.
-ghost use Rattle.std.specs.Prelude.{◌≡◌, ◌<◌, ◌==◌, ◌&&◌, not, [], ◌∷◌, slice_index_or};
+ghost use Rattle.std.specs.Prelude.{◌≡◌, ◌<◌, ◌≤◌, ◌==◌, ◌&&◌, not, [], ◌∷◌, length, slice_index_or};
 ghost use Rattle.set_script.specs.Lawful.{IsLawful};
 ghost use Rattle.set_script.specs.OwnWrites.{objects_of};
+ghost use Rattle.list_set.specs.Linked.{IsLinked};
 ghost use Rattle.list_set.specs.Spots.{EndsHere, AreAddWrites, AreDelWrites, ArePutWrites};
 
 use mv_history::{View, Words};
@@ -67,6 +68,19 @@ impl Spot {
 pub fn find<V: View>(view: &mut V, head: u32, key: u32) -> Spot
     requires head_in { head < 170 }
     requires lawful { IsLawful (V.state view.old) }
+    ensures spot { EndsHere (V.state view.old) head key result }
+    ensures as_before { V.as_before view.old view.new }
+{
+    find_linked(view, head, key)
+}
+
+/// Where the key is, or belongs, in the list of any head that leads with rising keys through all nodes
+/// that name it, whatever else the state has.
+///
+/// It needs such a head, and at most 65,535 objects. It reads as `find` does.
+pub fn find_linked<V: View>(view: &mut V, head: u32, key: u32) -> Spot
+    requires linked { IsLinked (V.state view.old) head }
+    requires few { length (V.state view.old) ≤ 65535 }
     ensures spot { EndsHere (V.state view.old) head key result }
     ensures as_before { V.as_before view.old view.new }
 {

@@ -1,5 +1,6 @@
-use Rattle.list_set.specs.Walks.{IsCount, walk_left}
-use Rattle.list_set.proofs.lists.size_in.Given as goal
+use Rattle.list_set.specs.Walks.{walk_left}
+use Rattle.list_set.proofs.Counting.{IsCount}
+use Rattle.list_set.proofs.lists.size_linked.Given as goal
 
 abbrev pub invariant-loop-node : goal.invariant-loop-node
 invariant-loop-node g l = record {

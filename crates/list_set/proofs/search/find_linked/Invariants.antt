@@ -1,7 +1,7 @@
 use Rattle.std.proofs.Common.{get_or}
 use Rattle.list_set.specs.Walks.{walk_left}
 use Rattle.list_set.proofs.Walking.{IsSpotLoop}
-use Rattle.list_set.proofs.search.find.Given as goal
+use Rattle.list_set.proofs.search.find_linked.Given as goal
 
 abbrev pub invariant-loop-words : goal.invariant-loop-words
 invariant-loop-words g l = record {

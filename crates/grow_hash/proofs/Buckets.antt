@@ -1,0 +1,70 @@
+-- The bucket of a key, and what a split does to it.
+use Rattle.std.proofs.Common.{◌≡◌, ◌≢◌, ℕ, zero, suc, ◌+◌, ◌*◌, ◌%◌, ◌^◌, ◌<◌, ◌≤◌, ◌⊎◌, inl, inr, cond, true, false, Bool, nat_lt, ◌==◌, refl, sym, ap, ◌∙◌, arith, lt-ltb, le-ltb, ne_eqb, eq-eqb}
+use Rattle.std.proofs.lemmas.Bool.{cases_lt, cases_eq}
+use Rattle.std.proofs.lemmas.Bool.Decides.{nat_tests}
+use Rattle.std.proofs.Math.Nat.{mod-lt}
+use Rattle.grow_hash.specs.Tables.{buckets_at, bucket_of}
+
+-- there are some buckets
+pub some_buckets : (level : ℕ) → 16 ≤ buckets_at level
+some_buckets zero = omega arith
+some_buckets (suc level) = let r : 16 ≤ buckets_at level = some_buckets level in omega arith
+
+-- the next level has twice as many
+pub twice_buckets : (level : ℕ) → buckets_at (suc level) ≡ buckets_at level + buckets_at level
+twice_buckets level = omega arith
+
+-- up to level 6 there are 1024 at most
+pub few_buckets : (level : ℕ) → level ≤ 6 → buckets_at level ≤ 1024
+few_buckets zero le = omega arith
+few_buckets (suc zero) le = omega arith
+few_buckets (suc (suc zero)) le = omega arith
+few_buckets (suc (suc (suc zero))) le = omega arith
+few_buckets (suc (suc (suc (suc zero)))) le = omega arith
+few_buckets (suc (suc (suc (suc (suc zero))))) le = omega arith
+few_buckets (suc (suc (suc (suc (suc (suc zero)))))) le = omega arith
+few_buckets (suc (suc (suc (suc (suc (suc (suc level))))))) le = absurd (omega arith)
+
+pub more_buckets : (level : ℕ) → level < 6 → buckets_at (suc level) ≤ 1024
+more_buckets level lt = few_buckets (suc level) (omega arith)
+
+-- a key's bucket, where its remainder is before the split place, and else
+pub bucket_split : (level place key : ℕ) → key % buckets_at level < place → bucket_of level place key ≡ key % buckets_at (suc level)
+bucket_split level place key lt = ap (λ (b : Bool). cond b (key % buckets_at (suc level)) (key % buckets_at level)) (lt-ltb (key % buckets_at level) place lt)
+
+pub bucket_whole : (level place key : ℕ) → place ≤ key % buckets_at level → bucket_of level place key ≡ key % buckets_at level
+bucket_whole level place key le = ap (λ (b : Bool). cond b (key % buckets_at (suc level)) (key % buckets_at level)) (le-ltb (key % buckets_at level) place le)
+
+-- each bucket has a head
+pub bucket_in : (level place key : ℕ) → level ≤ 6 → (level ≡ 6 → place ≡ 0) → bucket_of level place key < 1024
+bucket_in level place key le whole = go (cases_lt (key % buckets_at level) place)
+  where
+    go : (key % buckets_at level < place) ⊎ (place ≤ key % buckets_at level) → bucket_of level place key < 1024
+    go (inr ge) =
+        let e = bucket_whole level place key ge in
+        let some : 16 ≤ buckets_at level = some_buckets level in
+        let few : buckets_at level ≤ 1024 = few_buckets level le in
+        let lt : key % buckets_at level < buckets_at level = mod-lt key (omega arith) in omega arith
+    go (inl lt) =
+        let e = bucket_split level place key lt in
+        let n : level ≢ 6 = λ z. let q : place ≡ 0 = whole z in omega arith in
+        let some : 16 ≤ buckets_at (suc level) = some_buckets (suc level) in
+        let few : buckets_at (suc level) ≤ 1024 = few_buckets (suc level) (omega arith) in
+        let small : key % buckets_at (suc level) < buckets_at (suc level) = mod-lt key (omega arith) in omega arith
+
+-- A split of one bucket leaves the keys of the others where they are.
+pub bucket_next : (level place key : ℕ) → bucket_of level place key ≢ place → bucket_of level (suc place) key ≡ bucket_of level place key
+bucket_next level place key n = go (cases_lt (key % buckets_at level) place)
+  where
+    go : (key % buckets_at level < place) ⊎ (place ≤ key % buckets_at level) → bucket_of level (suc place) key ≡ bucket_of level place key
+    go (inl lt) = bucket_split level (suc place) key (omega arith) ∙ sym (bucket_split level place key lt)
+    go (inr ge) =
+        let e : bucket_of level place key ≡ key % buckets_at level = bucket_whole level place key ge in
+        let gt : suc place ≤ key % buckets_at level = omega arith in
+        bucket_whole level (suc place) key gt ∙ sym e
+
+-- Where all buckets of a level are split the next level begins.
+pub bucket_level : (level key : ℕ) → bucket_of (suc level) 0 key ≡ bucket_of level (buckets_at level) key
+bucket_level level key =
+    let some : 16 ≤ buckets_at level = some_buckets level in
+    bucket_whole (suc level) 0 key (omega arith) ∙ sym (bucket_split level (buckets_at level) key (mod-lt key (omega arith)))

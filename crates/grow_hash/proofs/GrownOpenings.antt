@@ -1,0 +1,53 @@
+-- The states with which a growing hash set begins are lawful.
+use Rattle.std.proofs.Common.{◌≡◌, ◌≢◌, ℕ, suc, ◌*◌, ◌^◌, ◌<◌, ◌≤◌, ◌⊎◌, inl, inr, List, [], ◌∷◌, length, refl, sym, ap, ◌∙◌, subst, arith}
+use Rattle.std.proofs.lemmas.Bool.{cases_lt}
+use Rattle.std.proofs.lemmas.List.{get_or_past}
+use Rattle.mv_history.specs.State.{State}
+use Rattle.mv_history.specs.Meaning.{words_at}
+use Rattle.set_script.specs.Objects.{owner, link, no_words}
+use Rattle.set_script.proofs.ObjectWords.{word}
+use Rattle.list_set.specs.Places.{IsInList}
+use Rattle.list_set.specs.Linked.{IsNodeOf, IsLinked}
+use Rattle.grow_hash.specs.Tables.{level, split_place, table_words, IsTable}
+use Rattle.grow_hash.specs.Grown.{IsGrown, IsGrownOpening, head_at}
+use Rattle.grow_hash.proofs.GrownStates.{head_is}
+
+opening_owner : (s : State) → IsGrownOpening s → (o : ℕ) → owner s o ≡ 0
+opening_owner s z o = elim (cases_lt o (length s)) [
+  | inl lt ↦ ap (word 0) (z.zeros o lt)
+  | inr ge ↦ ap (word 0) (get_or_past s o [] ge)
+]
+
+no_node : (s : State) → IsGrownOpening s → (head o : ℕ) → IsNodeOf s head o → ⊥
+no_node s z head o i = let x = opening_owner s z o in let y : owner s o ≡ suc head = i.1 in omega arith
+
+empty_list : (s : State) → IsGrownOpening s → (head : ℕ) → head < length s → IsLinked s head
+empty_list s z head lt = record {
+  here = lt;
+  unowned = opening_owner s z head;
+  fits = λ n i. absurd (no_node s z head n i);
+  leads = λ o i nz. elim i [
+    | inl e ↦ absurd (nz (ap (link s) e ∙ ap (word 3) (z.zeros head lt)))
+    | inr j ↦ absurd (no_node s z head o j)
+  ];
+  least = λ o n i j a. absurd (no_node s z head n j);
+  once = λ n m i j e. absurd (no_node s z head n i);
+}
+
+pub grown_opening : (s : State) → IsGrownOpening s → IsGrown s
+grown_opening s z =
+    let some = z.some in
+    let zero : words_at s 0 ≡ no_words = z.zeros 0 (omega arith) in
+    record {
+      some = z.some;
+      few = z.few;
+      table = record {
+        words = zero ∙ sym (ap (λ w. table_words (word 2 w) (word 3 w)) zero);
+        level_in = (let x : level s ≡ 0 = ap (word 2) zero in omega arith);
+        place_in = subst (λ w. word 3 w < 16 * 2 ^ word 2 w) (sym zero) (omega arith);
+        whole = λ _. ap (word 3) zero;
+      };
+      heads = λ b lt. head_is (words_at s (head_at b)) 0 (z.zeros (head_at b) (omega arith));
+      lists = λ b lt. empty_list s z (head_at b) (omega arith);
+      nodes = λ o lo n. absurd (n (opening_owner s z o));
+    }

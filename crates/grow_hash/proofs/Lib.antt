@@ -1,0 +1,12 @@
+pub mod Buckets
+pub mod KeptLists
+pub mod LinkedAdds
+pub mod LinkedDels
+pub mod GrownMaps
+pub mod GrownStates
+pub mod Committing
+pub mod GrownAdds
+pub mod GrownDels
+pub mod GrownOpenings
+pub mod Splitting
+pub mod GrowFits

@@ -1,0 +1,81 @@
+-- What a split does to the table, and what holds after an allowed history.
+use Rattle.std.proofs.Common.{◌≡◌, ◌≢◌, ℕ, suc, ◌+◌, ◌==◌, ◌<◌, ◌≤◌, ◌⊎◌, inl, inr, cond, Bool, true, false, eqb, eq-eqb, ne_eqb, List, [], ◌∷◌, ◌++◌, refl, sym, ap, ◌∙◌, subst, arith, append_assoc, append-nil, Option, Some, None}
+use Rattle.std.proofs.lemmas.Bool.{cases_eq}
+use Rattle.mv_history.specs.State.{State, Writes, written, state_after}
+use Rattle.mv_history.specs.declared.history.Entry.{Entry}
+use Rattle.mv_history.specs.declared.history.Entry.TheVariants.{Rest, Change}
+use Rattle.mv_history.specs.Legal.{IsAllowed}
+use Rattle.mv_history.specs.Meaning.{words_at}
+use Rattle.mv_history.proofs.Writing.{state_after-append}
+use Rattle.set_script.proofs.ObjectWords.{word}
+use Rattle.grow_hash.specs.Tables.{level, split_place, buckets_at, bucket_of, bucket, buckets, table_words, next_table}
+use Rattle.grow_hash.specs.Grown.{IsGrown, IsGrownOpening}
+use Rattle.grow_hash.specs.GrowRules.{Growing, makes, splits, growing_of, Grows, IsGrowCommit}
+use Rattle.grow_hash.specs.Splits.{is_splitting, count_splits}
+use Rattle.grow_hash.proofs.Buckets.{twice_buckets, bucket_next, bucket_level}
+use Rattle.grow_hash.proofs.GrownOpenings.{grown_opening}
+
+-- the next table is that of the next level, or of the next place
+pub next_level : (level place : ℕ) → suc place ≡ buckets_at level → next_table level place ≡ table_words (suc level) 0
+next_level level place e = ap (λ (b : Bool). cond b (table_words (suc level) 0) (table_words level (suc place))) (eq-eqb (suc place) (buckets_at level) e)
+
+pub next_place : (level place : ℕ) → suc place ≢ buckets_at level → next_table level place ≡ table_words level (suc place)
+next_place level place n = ap (λ (b : Bool). cond b (table_words (suc level) 0) (table_words level (suc place))) (ne_eqb (suc place) (buckets_at level) n)
+
+-- A split leaves the keys of other buckets where they are.
+pub bucket_apart : (s s' : State) (k : ℕ) → words_at s' 0 ≡ next_table (level s) (split_place s) → bucket s k ≢ split_place s → bucket s' k ≡ bucket s k
+bucket_apart s s' k e n = elim (cases_eq (suc (split_place s)) (buckets_at (level s))) [
+  | inl q ↦ ap (λ w. bucket_of (word 2 w) (word 3 w) k) (e ∙ next_level (level s) (split_place s) q)
+      ∙ bucket_level (level s) k ∙ ap (λ p. bucket_of (level s) p k) (sym q) ∙ bucket_next (level s) (split_place s) k n
+  | inr q ↦ ap (λ w. bucket_of (word 2 w) (word 3 w) k) (e ∙ next_place (level s) (split_place s) q) ∙ bucket_next (level s) (split_place s) k n
+]
+
+-- It makes one bucket more.
+bucket_more : (s s' : State) → words_at s' 0 ≡ next_table (level s) (split_place s) → buckets s' ≡ suc (buckets s)
+bucket_more s s' e = elim (cases_eq (suc (split_place s)) (buckets_at (level s))) [
+  | inl q ↦ ap (λ w. buckets_at (word 2 w) + word 3 w) (e ∙ next_level (level s) (split_place s) q)
+      ∙ (let t : buckets_at (suc (level s)) ≡ buckets_at (level s) + buckets_at (level s) = twice_buckets (level s) in omega arith)
+  | inr q ↦ ap (λ w. buckets_at (word 2 w) + word 3 w) (e ∙ next_place (level s) (split_place s) q) ∙ omega arith
+]
+
+commit_buckets : (g : Option Growing) (s s' : State) (ws : Writes) → Grows g s s' ws → buckets s' ≡ cond (is_splitting g) 1 0 + buckets s
+commit_buckets None s s' ws w = absurd w
+commit_buckets (Some (makes command)) s s' ws w = ap (λ u. buckets_at (word 2 u) + word 3 u) w.table ∙ omega arith
+commit_buckets (Some (splits place)) s s' ws w = bucket_more s s' w.table ∙ omega arith
+
+lawful_on : (start : State) (front es : List Entry) → IsGrown (state_after start front) → IsAllowed IsGrowCommit start (front ++ es)
+    → IsGrown (state_after start (front ++ es))
+lawful_on start front [] l h = rw append-nil l
+lawful_on start front (Rest by ∷ es) l h =
+    let step : IsGrown (state_after start (front ++ Rest by ∷ [])) = rw state_after-append l in
+    let more = lawful_on start (front ++ Rest by ∷ []) es step (rw append_assoc h) in
+    rw append_assoc at more
+lawful_on start front (Change c ∷ es) l h =
+    let step : IsGrown (state_after start (front ++ Change c ∷ [])) = rw state_after-append ((h front es c refl).keeps.lawful_after) in
+    let more = lawful_on start (front ++ Change c ∷ []) es step (rw append_assoc h) in
+    rw append_assoc at more
+
+-- After an allowed history a state is lawful.
+pub grown_after : (start : State) (history : List Entry) → IsGrownOpening start → IsAllowed IsGrowCommit start history → IsGrown (state_after start history)
+grown_after start history o h = lawful_on start [] history (grown_opening start o) h
+
+count_on : (start : State) (front es : List Entry) → IsAllowed IsGrowCommit start (front ++ es)
+    → buckets (state_after start (front ++ es)) ≡ buckets (state_after start front) + count_splits es
+count_on start front [] h = ap (λ u. buckets (state_after start u)) (append-nil front) ∙ omega arith
+count_on start front (Rest by ∷ es) h =
+    let same : state_after start (front ++ Rest by ∷ []) ≡ state_after start front = state_after-append start front (Rest by ∷ []) in
+    let more = count_on start (front ++ Rest by ∷ []) es (subst (IsAllowed IsGrowCommit start) (sym (append_assoc front (Rest by ∷ []) es)) h) in
+    ap (λ u. buckets (state_after start u)) (sym (append_assoc front (Rest by ∷ []) es)) ∙ more ∙ ap (λ u. buckets u + count_splits es) same
+count_on start front (Change c ∷ es) h =
+    let same : state_after start (front ++ Change c ∷ []) ≡ written (state_after start front) c.writes = state_after-append start front (Change c ∷ []) in
+    let more = count_on start (front ++ Change c ∷ []) es (subst (IsAllowed IsGrowCommit start) (sym (append_assoc front (Change c ∷ []) es)) h) in
+    let one = commit_buckets (growing_of c.tag) (state_after start front) (written (state_after start front) c.writes) c.writes (h front es c refl).grows in
+    ap (λ u. buckets (state_after start u)) (sym (append_assoc front (Change c ∷ []) es)) ∙ more ∙ ap (λ u. buckets u + count_splits es) same
+    ∙ ap (λ n. n + count_splits es) one ∙ omega arith
+
+-- There are 16 buckets, and one more for each split.
+pub buckets_after : (start : State) (history : List Entry) → IsGrownOpening start → IsAllowed IsGrowCommit start history
+    → buckets (state_after start history) ≡ 16 + count_splits history
+buckets_after start history o h =
+    let some = o.some in
+    count_on start [] history h ∙ ap (λ w. buckets_at (word 2 w) + word 3 w + count_splits history) (o.zeros 0 (omega arith))

@@ -1,0 +1,54 @@
+-- What a command on a growing hash set locks and writes in a state.
+use Rattle.std.specs.Prelude.{ℕ, ◌≡◌, ◌^◌, ◌<◌, ◌≤◌, true, length}
+use Rattle.mv_history.specs.State.{State, Writes, touches}
+use Rattle.set_script.specs.declared.commands.Command.{Command}
+use Rattle.set_script.specs.declared.commands.Command.TheVariants.{Add, Put, Del, Has, Get, Move, Pair, Size, Next}
+use Rattle.set_script.specs.Objects.{owner}
+use Rattle.list_set.specs.Places.{IsAddPlace, add_writes, IsDelPlace, del_writes}
+use Rattle.grow_hash.specs.Tables.{bucket}
+use Rattle.grow_hash.specs.Grown.{first_grown, head_at, grown_name}
+
+-- the object is a node, and vacant
+abbrev pub IsFree : State → ℕ → Type 0
+IsFree s o = (first_grown ≤ o) × (o < length s) × (owner s o ≡ 0)
+
+-- the head of the bucket in which a key stands
+abbrev pub head_of : State → ℕ → ℕ
+head_of s key = head_at (bucket s key)
+
+-- an add of the key behind its predecessor, in a vacant node
+pub record AddGrown (s : State) (key : ℕ) (writes : Writes) : Type 0 where
+  pub previous : ℕ
+  pub node : ℕ
+  pub place : IsAddPlace s (head_of s key) key previous
+  pub free : IsFree s node
+  pub writes_are : writes ≡ add_writes s (head_of s key) key 0 previous node
+
+-- a del of the key, whose node becomes vacant
+pub record DelGrown (s : State) (key : ℕ) (writes : Writes) : Type 0 where
+  pub previous : ℕ
+  pub node : ℕ
+  pub place : IsDelPlace s (head_of s key) key previous node
+  pub writes_are : writes ≡ del_writes s previous node
+
+-- What a command that changes something locks, and how it writes that.
+abbrev pub GrowPlan : Command → State → Writes → Type 0
+GrowPlan (Add name key) s ws = AddGrown s key ws
+GrowPlan (Del name key) s ws = DelGrown s key ws
+GrowPlan command s ws = ⊥
+
+-- The object is one of those that the command locks.
+abbrev pub GrowLocks : Command → State → ℕ → Type 0
+GrowLocks command s o = (ws : Writes) × GrowPlan command s ws × (touches ws o ≡ true)
+
+-- the command is one of a growing hash set, and its key fits its type
+abbrev pub IsGrowing : Command → Type 0
+IsGrowing (Add name key) = (name ≡ grown_name) × (key < 2 ^ 32)
+IsGrowing (Del name key) = (name ≡ grown_name) × (key < 2 ^ 32)
+IsGrowing (Has name key) = (name ≡ grown_name) × (key < 2 ^ 32)
+IsGrowing (Size name) = name ≡ grown_name
+IsGrowing (Next name key) = (name ≡ grown_name) × (key < 2 ^ 32)
+IsGrowing (Put name key value) = ⊥
+IsGrowing (Get name key) = ⊥
+IsGrowing (Move source target key) = ⊥
+IsGrowing (Pair first second key) = ⊥

@@ -23,8 +23,9 @@ use std::marker::Brand;
 use std::sync::ledger::Ledger;
 
 impl<P: Protocol> Shared<P> {
-    // Where the slot that a link names begins.
-    pub(crate) fn slot_linked(&self, link: u64) -> u32
+    /// The cell at which the slot that a link names begins, by which `load_data` loads the words of the
+    /// version there. No step is made.
+    pub fn slot_linked(&self, link: u64) -> u32
         requires { IsPackedOf (config_of self.now) link }
         ensures { result ≡ cell_of (config_of self.now) (First (link_seat_of link) (slot_named (config_of self.now) link)) }
     {
@@ -118,17 +119,20 @@ impl<P: Protocol> Shared<P> {
     }
 
     /// Loads a data word of the version that the walk stands at, whose stamp it found to be a time not
-    /// above the section's. The word found is the object's in the state that the section reads.
+    /// above the section's. `slot` is the cell at which the version's slot begins, as `slot_linked` gives
+    /// it. The word found is the object's in the state that the section reads.
     pub fn load_data<L: Ledger>(
         &self,
         pass: &mut Pass<P>,
         link: u64,
+        slot: u32,
         word: u32,
         steps: &mut Steps<L>,
     ) -> u64
         ghost at: { Stand × Section }
         requires of { IsOf self.now pass.old }
         requires range { IsPackedOf (config_of self.now) link }
+        requires slot { slot ≡ cell_of (config_of self.now) (First (link_seat_of link) (slot_named (config_of self.now) link)) }
         requires may { MayLoadData (view pass.old) link word at.0 at.1 }
         ensures same { IsSame pass.old pass.new }
         ensures view { view pass.new ≡ data_loaded (config_of self.now) (view pass.old) at.0 word result }
@@ -136,8 +140,7 @@ impl<P: Protocol> Shared<P> {
         ensures wide { length (words_read (config_of self.now) (view pass.old) at.1 at.0.object) ≡ 6 }
         ensures step { steps.new ≡ steps.old + 1 }
     {
-        let cell = self.slot_linked(link) + DATA_OFFSET + word;
-        load_as::<P, Brand, L, _>(self, pass, cell, &(link, word), steps)
+        load_as::<P, Brand, L, _>(self, pass, slot + DATA_OFFSET + word, &(link, word), steps)
     }
 
     /// Loads a master word of an object, where the walk stands at its master. The word found is the

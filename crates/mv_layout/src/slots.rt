@@ -11,15 +11,10 @@ pub fn slot_of_position(config: &Config, position: u64) -> u32
     ensures value { result ≡ position % config.now.slots }
     ensures range { result < config.now.slots }
 {
-    let slot = match config.slots {
-        64 => position & 63,
-        128 => position & 127,
-        256 => position & 255,
-        512 => position & 511,
-        1_024 => position & 1_023,
-        2_048 => position & 2_047,
-        4_096 => position & 4_095,
-        slots => position % slots as u64,
+    let slots = config.slots as u64;
+    let slot = match slots {
+        64 | 128 | 256 | 512 | 1_024 | 2_048 | 4_096 => position & (slots - 1),
+        _ => position % slots,
     };
     slot as u32
 }

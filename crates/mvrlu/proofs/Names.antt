@@ -22,13 +22,13 @@ pub config_inside : {P : Type 0} (s : Shared P) (p x : Placed) → p ≡ x → F
 config_inside s p x same f = fits_config s p (subst (Fits s) (sym same) f)
 
 -- its pass is of the domain
-pub fits_pass : {P : Type 0} {g : Ghosts P} (starts : State → Type 0) (allows : List ℕ → State → Writes → Type 0) (s : Shared P) (c : Config)
-    (pass : Pass P g) (log : Noted) → Fits s (placed c pass log) → IsPlaced starts allows (placed c pass log) → pass.domain ≡ c → IsOf s pass
-fits_pass starts allows s c pass log fits is domain =
-    let config = sym (fits_config s (placed c pass log) fits) in (
-      fits_table s (placed c pass log) fits,
-      subst (λ (d : Config). pass.number < d.seats) config (subst (λ (n : ℕ). n < c.seats) (sym pass.numbered) is.range),
+pub fits_pass : {P : Type 0} {g : Ghosts P} (starts : State → Type 0) (allows : List ℕ → State → Writes → Type 0) (s : Shared P)
+    (pass : Pass P g) (log : Noted) → Fits s (placed pass log) → IsPlaced starts allows (placed pass log) → IsOf s pass
+fits_pass starts allows s pass log fits is =
+    let config = sym (fits_config s (placed pass log) fits) in (
+      fits_table s (placed pass log) fits,
+      subst (λ (d : Config). pass.number < d.seats) config (subst (λ (n : ℕ). n < pass.domain.seats) (sym pass.numbered) is.range),
       is.base ∙ ap (λ (d : Config). d.base) config,
       fits.1,
-      domain ∙ config,
+      config,
     )

@@ -62,19 +62,22 @@ begins_outside : (c : Config) (start : State) (number : ℕ) → MayLoadLow (sta
 begins_outside c start zero = record { outside = refl; no_scan = refl }
 begins_outside c start (suc number) = record { outside = refl; no_scan = refl }
 
-module _ {P : Type 0} {g : Ghosts P} (s : Shared P) (p : Pass P g) (log : Noted) (d : Config) (number : ℕ) (new : IsNewPass s number p)
-    (noted : log ≡ nothing_noted number (config_of s).slots) (config_is : d ≡ config_of s) where
+module _ {P : Type 0} {g : Ghosts P} (s : Shared P) (p : Pass P g) (log : Noted) (number : ℕ) (new : IsNewPass s number p)
+    (noted : log ≡ nothing_noted number (config_of s).slots) where
   abbrev c : Config
   c = config_of s
 
+  config_is : p.domain ≡ c
+  config_is = new.0.4
+
   -- the seat that it means is the new one
-  pub placed_new : seat_from (placed d p log) ≡ new_seat (home_of c (table_of s)) c (start_of s) number
+  pub placed_new : seat_from (placed p log) ≡ new_seat (home_of c (table_of s)) c (start_of s) number
   placed_new =
       (λ i. seat_meant (home_of (config_is i) (new.0.0 i)) (config_is i).write_max (new.2 i)) ∙ new_meant (home_of c (table_of s)) c (start_of s) number
 
   -- and it is outside a section, with a log that stands for its pass
   pub placed_idle : (starts : State → Type 0) (allows : List ℕ → State → Writes → Type 0) → ∥ Known starts allows (view p) ∥₁ → Checked c
-      → IsIdle starts allows (placed d p log)
+      → IsIdle starts allows (placed p log)
   placed_idle starts allows known checked =
       let low : number < c.seats = subst (λ (n : ℕ). n < c.seats) new.1 new.0.1 in
       let begun : Stands c (starting_view c (start_of s) number) (nothing_noted number c.slots) = stands_new c (start_of s) number checked low in record {

@@ -23,9 +23,9 @@ pub record Placed : Type 0 where
   pub view : View
   pub log : Noted
 
--- of a pass and its log
-abbrev pub placed : {P : Type 0} {g : Ghosts P} → Config → Pass P g → Noted → Placed
-placed c pass log = record { config = c; table = table_under pass; view = view pass; log = log }
+-- of a pass and its log, in the domain whose numbers the pass has
+abbrev pub placed : {P : Type 0} {g : Ghosts P} → Pass P g → Noted → Placed
+placed pass log = record { config = pass.domain; table = table_under pass; view = view pass; log = log }
 
 -- the seat that it means
 abbrev pub seat_from : Placed → Seat

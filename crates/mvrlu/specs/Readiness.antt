@@ -19,7 +19,7 @@ IsNewPass s number p = IsOf s p × (p.number ≡ number) × (view p ≡ starting
 module _ {P : Type 0} {rules : _} where
   -- and nothing is noted of its log
   abbrev pub IsReady : Shared P → ℕ → Ready P rules → Type 0
-  IsReady s number r = IsNewPass s number r.pass × (r.log ≡ nothing_noted number (config_of s).slots)
+  IsReady s number r = IsNewPass s number r.place.value.pass × (r.place.value.log ≡ nothing_noted number (config_of s).slots)
 
   -- these are of the last numbers, from the greatest down
   abbrev pub AreReady : Shared P → List (Ready P rules) → Type 0

@@ -12,7 +12,7 @@ ghost use Rattle.mvrlu.specs.Meant.{aborts_with, count_after};
 ghost use Rattle.mvrlu.specs.Bounds.{MakesAtMost};
 ghost use Rattle.mvrlu.specs.Holding.{seats_of};
 
-use crate::places::{Busy, Idle};
+use crate::places::{Busy, Idle, Place};
 use commit_abort::{Ended, abort, commit};
 use mv_core::{Shared, Steps};
 use mv_history::{CommitAnswer, Protocol, Tag};
@@ -46,15 +46,12 @@ pub(crate) fn committed<P: Protocol, L: Ledger>(
     ensures bound { MakesAtMost (section_from busy).seat (seat_after seat_from section_from result) (8 + length (section_from busy).own) }
 {
     let mut steps = Steps::<L>::open(blank);
-    let Busy {
-        mut pass,
-        mut log,
-        config,
-    } = busy;
-    match commit(shared, &mut pass, &mut log, tag, &mut steps) {
-        Ended::Done(time) => CommitAnswer::Done(Idle { pass, log, config }, time),
-        Ended::Again(rival) => CommitAnswer::Again(Busy { pass, log, config }, rival),
-        Ended::End => CommitAnswer::End(Busy { pass, log, config }),
+    let Busy { mut place } = busy;
+    let Place { pass, log } = &mut *place;
+    match commit(shared, pass, log, tag, &mut steps) {
+        Ended::Done(time) => CommitAnswer::Done(Idle { place }, time),
+        Ended::Again(rival) => CommitAnswer::Again(Busy { place }, rival),
+        Ended::End => CommitAnswer::End(Busy { place }),
     }
 }
 
@@ -74,13 +71,10 @@ pub(crate) fn aborted<P: Protocol, L: Ledger>(
     ensures bound { MakesAtMost (section_from busy).seat (seat_from result) (abort_cost (length (section_from busy).own)) }
 {
     let mut steps = Steps::<L>::open(blank);
-    let Busy {
-        mut pass,
-        mut log,
-        config,
-    } = busy;
-    abort(shared, &mut pass, &mut log, &mut steps);
-    Idle { pass, log, config }
+    let Busy { mut place } = busy;
+    let Place { pass, log } = &mut *place;
+    abort(shared, pass, log, &mut steps);
+    Idle { place }
 }
 
 // Leaves a section that holds nothing.

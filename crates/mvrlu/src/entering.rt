@@ -29,11 +29,7 @@ pub(crate) fn entered<P: Protocol, L: Ledger>(
     ensures bound { MakesAtMost (seat_from idle) (section_from result).seat 6 }
 {
     let mut steps = Steps::<L>::open(blank);
-    let Idle {
-        mut pass,
-        log,
-        config,
-    } = idle;
-    let _ = enter(shared, &mut pass, &mut steps);
-    Busy { pass, log, config }
+    let Idle { mut place } = idle;
+    let _ = enter(shared, &mut place.pass, &mut steps);
+    Busy { place }
 }

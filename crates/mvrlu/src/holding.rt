@@ -12,7 +12,7 @@ ghost use Rattle.mvrlu.specs.Causes.{FoundLocked};
 ghost use Rattle.mvrlu.specs.Bounds.{MakesAtMost};
 ghost use Rattle.mvrlu.specs.Holding.{seats_of};
 
-use crate::places::Busy;
+use crate::places::{Busy, Place};
 use mv_core::{Shared, Steps};
 use mv_history::{LockAnswer, Protocol, Words};
 use object_lock::{lock, write};
@@ -40,7 +40,7 @@ pub(crate) fn held_words<P: Protocol>(busy: &Busy<P>, object: u32) -> Option<Wor
     ensures none { IfNone result (Lacks (section_from busy.now) object) }
     ensures lawful { IsSection P.start P.allowed (section_from busy.now) }
 {
-    match noted(&busy.log, object) {
+    match noted(&busy.place.log, object) {
         Some(version) => Some(version.words),
         None => None,
     }
@@ -74,7 +74,8 @@ pub(crate) fn locked<P: Protocol, L: Ledger>(
     ensures bound { MakesAtMost (section_from busy.old).seat (section_from busy.new).seat 32 }
 {
     let mut steps = Steps::<L>::open(blank);
-    lock(shared, &mut busy.pass, &mut busy.log, object, &mut steps)
+    let Place { pass, log } = &mut *busy.place;
+    lock(shared, pass, log, object, &mut steps)
 }
 
 // Gives a held object these words.
@@ -97,12 +98,6 @@ pub(crate) fn written<P: Protocol, L: Ledger>(
     ensures bound { MakesAtMost (section_from busy.old).seat (section_from busy.new).seat 6 }
 {
     let mut steps = Steps::<L>::open(blank);
-    write(
-        shared,
-        &mut busy.pass,
-        &mut busy.log,
-        object,
-        words,
-        &mut steps,
-    )
+    let Place { pass, log } = &mut *busy.place;
+    write(shared, pass, log, object, words, &mut steps)
 }

@@ -10,10 +10,11 @@ ghost use Rattle.mvrlu.specs.Whole.{IsSound};
 
 use crate::closing::{Closing, Last};
 use crate::domain::{Domain, Seat};
-use crate::places::Idle;
+use crate::places::{Idle, Place};
 use mv_core::{Pass, Shared, Steps};
 use mv_history::Protocol;
 use reader_marks::enter;
+use std::boxed::Box;
 use std::marker::Brand;
 use std::sync::ledger::{Blank, Ledger};
 
@@ -25,11 +26,8 @@ fn pass_of<P: Protocol>(shared: &Shared<P>, seat: Seat<P>) -> Pass<P>
     ensures may { MayLoadLow (view result) }
 {
     let Seat { idle } = seat;
-    let Idle {
-        pass,
-        log: _,
-        config: _,
-    } = idle;
+    let Idle { place } = idle;
+    let Place { pass, log: _ } = Box::into_inner(place);
     pass
 }
 

@@ -6,12 +6,13 @@ ghost use Rattle.mvrlu.specs.Opened.{IsNewSeatOf, IsOpened, Refuses};
 ghost use Rattle.mvrlu.specs.Readiness.{IsReady, AreReady, AreSeats};
 
 use crate::domain::{Domain, Seat};
-use crate::places::Idle;
+use crate::places::{Idle, Place};
 use mv_core::{Pass, Shared};
 use mv_history::{Protocol, Words};
 use mv_layout::{Config, ConfigFault};
-use seat_log::{Log, new_log};
+use seat_log::new_log;
 use std::alloc::{AllocError, Global};
+use std::boxed::Box;
 
 /// Why a domain can't be opened. Nothing is left of it.
 #[derive(Clone, Copy, Debug, PartialEq, Eq)]
@@ -22,11 +23,10 @@ pub enum OpenFault {
     Memory,
 }
 
-// A seat's pass and its log.
+// A seat's pass and its log, in the block that the seat hands on.
 #[derive(Drop)]
 struct Ready<P: Protocol> {
-    pass: Pass<P>,
-    log: Log,
+    place: Box<Place<P>>,
 }
 
 // These passes with a log each, from the last one on.
@@ -43,19 +43,19 @@ fn with_logs<P: Protocol>(
     let mut ready = Vec::new(alloc);
     while let Some(pass) = passes.pop() {
         let log = new_log(alloc, shared.config(), pass.seat())?;
-        ready.push(Ready { pass, log })?;
+        let place = Box::new(alloc, Place { pass, log })?;
+        ready.push(Ready { place })?;
     }
     Ok(ready)
 }
 
 // A seat of these.
 fn seated<P: Protocol>(shared: &Shared<P>, ready: Ready<P>) -> Seat<P>
-    requires ready { IsReady shared.now ready.pass.number ready }
-    ensures new { IsNewSeatOf shared.now ready.pass.number result }
+    requires ready { IsReady shared.now ready.place.value.pass.number ready }
+    ensures new { IsNewSeatOf shared.now ready.place.value.pass.number result }
 {
-    let Ready { pass, log } = ready;
-    let config = *shared.config();
-    let idle = Idle { pass, log, config };
+    let Ready { place } = ready;
+    let idle = Idle { place };
     Seat { idle }
 }
 

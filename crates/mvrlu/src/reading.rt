@@ -32,11 +32,10 @@ fn read_below<P: Protocol, L: Ledger>(
     ensures bound { MakesAtMost (section_from busy.old).seat (section_from busy.new).seat (read_most (section_from busy.old) (section_from busy.new)) }
 {
     let mut steps = Steps::<L>::open(blank);
-    match find(shared, &mut busy.pass, object, &mut steps) {
-        Found::Master => read_master(shared, &mut busy.pass, object, &mut steps),
-        Found::Version { seat, position } => {
-            read_version(shared, &mut busy.pass, seat, position, &mut steps)
-        }
+    let pass = &mut busy.place.pass;
+    match find(shared, pass, object, &mut steps) {
+        Found::Master => read_master(shared, pass, object, &mut steps),
+        Found::Version { seat, position } => read_version(shared, pass, seat, position, &mut steps),
     }
 }
 

@@ -8,7 +8,7 @@ ghost use Rattle.mv_history.specs.Calls.{Prepares};
 ghost use Rattle.mvrlu.specs.Placed.{seat_from, Fits};
 ghost use Rattle.mvrlu.specs.Holding.{seats_of, IsEarly, HoldsBack, Tidies, TidiesAlone, Rounds, MakesRoom};
 
-use crate::places::Idle;
+use crate::places::{Idle, Place};
 use log_reclaim::{Tidy, round, tidy};
 use mv_core::{Shared, Steps};
 use mv_history::{Protocol, Room};
@@ -31,7 +31,8 @@ pub(crate) fn tidied<P: Protocol, L: Ledger>(
     ensures alone { seats_of (seat_from idle.old) ≡ 1 → TidiesAlone (seat_from idle.old) result }
 {
     let mut steps = Steps::<L>::open(blank);
-    tidy(shared, &mut idle.pass, &mut idle.log, &mut steps)
+    let Place { pass, log } = &mut *idle.place;
+    tidy(shared, pass, log, &mut steps)
 }
 
 // Makes one round, with write-backs.
@@ -45,7 +46,8 @@ fn rounded<P: Protocol, L: Ledger>(shared: &Shared<P>, idle: &mut Idle<P>, blank
     ensures rounds { Rounds P.start P.allowed (seat_from idle.old) (seat_from idle.new) }
 {
     let mut steps = Steps::<L>::open(blank);
-    let _ = round(shared, &mut idle.pass, &mut idle.log, true, &mut steps);
+    let Place { pass, log } = &mut *idle.place;
+    let _ = round(shared, pass, log, true, &mut steps);
 }
 
 // Makes room: nothing below `low` live slots, a round below `high`, and else a tidy.
@@ -69,7 +71,7 @@ pub(crate) fn made_room<P: Protocol, L: Ledger>(
     ensures ends { (holder : Holder) → seats_of (seat_from idle.old) ≡ 1 → result ≡ Short holder → holder ≡ End }
 {
     let config = shared.config();
-    let used = live(&idle.log);
+    let used = live(&idle.place.log);
     if used < config.low {
         return Room::Enough;
     }

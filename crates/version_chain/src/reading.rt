@@ -32,9 +32,10 @@ pub fn read_version<P: Protocol, L: Ledger>(
     ensures cost { steps.new ≡ steps.old + 6 }
 {
     let link = link_word(seat, position);
+    let slot = shared.slot_linked(link);
     let mut words = [0; WORDS];
     for word in 0..WIDTH {
-        words[word as usize] = shared.load_data(pass, link, word, steps);
+        words[word as usize] = shared.load_data(pass, link, slot, word, steps);
     }
     words
 }

@@ -2,7 +2,8 @@ use Rattle.std.proofs.Common.{◌≡◌, ℕ, ◌<◌, length, sym, ◌∙◌, s
 use Rattle.mv_layout.specs.declared.Config.{Config}
 use Rattle.mv_core.specs.Passes.{config_of}
 use Rattle.seat_log.specs.Notes.{nothing_noted}
-use Rattle.mvrlu.specs.Readiness.{AreReady}
+use Rattle.mvrlu.specs.declared.places.Place.{Place}
+use Rattle.mvrlu.specs.Readiness.{IsNewPass, AreReady}
 use Rattle.mvrlu.proofs.Started.{new_front, new_last, ready_next}
 use Rattle.mvrlu.proofs.opening.with_logs.Goals as goal
 
@@ -30,6 +31,7 @@ loop-pass-preserved g c =
       count = omega arith;
       new = new_front s left c.loop-pass.passes.items p c.in-Some.ensures.items c.loop-pass.invariant.new;
       ready = subst (AreReady s) (sym c.in_ok-push.ensures.items)
-          (ready_next s c.loop-pass.ready.items (record { pass = p; log = c.in_ok-log.log }) (length left) c.loop-pass.invariant.ready (omega arith)
-          (is, c.in_ok-log.ensures ∙ (λ i. nothing_noted (number i) (c.config.ensures i).slots)));
+          (ready_next s c.loop-pass.ready.items (record { place = c.in_ok-place.place }) (length left) c.loop-pass.invariant.ready (omega arith)
+          (subst (λ (v : Place g.row.P.Denot g.P.Protocol). IsNewPass s (length left) v.pass × (v.log ≡ nothing_noted (length left) (config_of s).slots))
+          (sym c.in_ok-place.ensures.ok) (is, c.in_ok-log.ensures ∙ (λ i. nothing_noted (number i) (c.config.ensures i).slots))));
     }

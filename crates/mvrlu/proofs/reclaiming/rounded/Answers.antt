@@ -5,43 +5,52 @@ use Rattle.mvrlu.specs.Holding.{Rounds}
 use Rattle.mvrlu.proofs.Names.{fits_config}
 use Rattle.mvrlu.proofs.Lawful.{seat_lawful}
 use Rattle.mvrlu.proofs.rooms.Rounded.{has_rounded, rounded_idle, rounds}
+use Rattle.mvrlu.proofs.Behind.{lent_idle, lent_view}
 use Rattle.mvrlu.proofs.reclaiming.rounded.Goals as goal
 
 pub invariant_of-idle : goal.invariant_of-idle
 invariant_of-idle g c =
-    let i = c.idle.inside in
+    let i = c.deref_mut.result.now in
+    let is = lent_idle i c.idle.inside.place.value c.deref_mut.ensures.value g.P.Protocol.start g.P.Protocol.allowed c.idle.invariant in
+    let view_is = lent_view i c.idle.inside.place.value c.deref_mut.ensures.value _ c.idle.view_is in
     let e = c.round.ensures in
-    let p = placed i.config i.pass i.log in
-    let q = placed i.config c.round.new.pass c.round.new.log in
-    let same : config_of c.args.shared.now ≡ i.config =
-    fits_config c.args.shared.now c.args.idle.now c.requires.fits ∙ ap (λ (x : Placed). x.config) (sym c.idle.view_is) in
-    let k = has_rounded (config_of c.args.shared.now) i.config same p.view q.view p.log q.log c.round.result e.stands e.live e.shrinks e.rests e.reclaims
+    let p = placed i.pass i.log in
+    let q = placed c.round.new.pass c.round.new.log in
+    let same : config_of c.args.shared.now ≡ i.pass.domain =
+    fits_config c.args.shared.now c.args.idle.now c.requires.fits ∙ ap (λ (x : Placed). x.config) (sym view_is) in
+    let k = has_rounded (config_of c.args.shared.now) q.config (same ∙ sym e.same.2) p.view q.view p.log q.log c.round.result e.stands e.live
+    e.shrinks e.rests e.reclaims
     e.trail in
-    let idle = rounded_idle g.P.Protocol.start g.P.Protocol.allowed p q c.round.result refl e.same.0 c.idle.invariant.1 c.round.new.pass.known k in
-    (e.same.2 ∙ c.idle.invariant.0, idle)
+    rounded_idle g.P.Protocol.start g.P.Protocol.allowed p q c.round.result e.same.2 e.same.0 is c.round.new.pass.known k
 
 pub returns-clause-lawful : goal.returns-clause-lawful
 returns-clause-lawful g c =
-    let i = c.idle.inside in
+    let i = c.deref_mut.result.now in
+    let is = lent_idle i c.idle.inside.place.value c.deref_mut.ensures.value g.P.Protocol.start g.P.Protocol.allowed c.idle.invariant in
+    let view_is = lent_view i c.idle.inside.place.value c.deref_mut.ensures.value _ c.idle.view_is in
     let e = c.round.ensures in
-    let p = placed i.config i.pass i.log in
-    let q = placed i.config c.round.new.pass c.round.new.log in
-    let same : config_of c.args.shared.now ≡ i.config =
-    fits_config c.args.shared.now c.args.idle.now c.requires.fits ∙ ap (λ (x : Placed). x.config) (sym c.idle.view_is) in
-    let k = has_rounded (config_of c.args.shared.now) i.config same p.view q.view p.log q.log c.round.result e.stands e.live e.shrinks e.rests e.reclaims
+    let p = placed i.pass i.log in
+    let q = placed c.round.new.pass c.round.new.log in
+    let same : config_of c.args.shared.now ≡ i.pass.domain =
+    fits_config c.args.shared.now c.args.idle.now c.requires.fits ∙ ap (λ (x : Placed). x.config) (sym view_is) in
+    let k = has_rounded (config_of c.args.shared.now) q.config (same ∙ sym e.same.2) p.view q.view p.log q.log c.round.result e.stands e.live
+    e.shrinks e.rests e.reclaims
     e.trail in
     seat_lawful g.P.Protocol.start g.P.Protocol.allowed g.P.Protocol.one_start g.P.Protocol.one_allowed q
-    (rounded_idle g.P.Protocol.start g.P.Protocol.allowed p q c.round.result refl e.same.0 c.idle.invariant.1 c.round.new.pass.known k).placed
+    (rounded_idle g.P.Protocol.start g.P.Protocol.allowed p q c.round.result e.same.2 e.same.0 is c.round.new.pass.known k).placed
 
 pub returns-clause-rounds : goal.returns-clause-rounds
 returns-clause-rounds g c =
-    let i = c.idle.inside in
+    let i = c.deref_mut.result.now in
+    let is = lent_idle i c.idle.inside.place.value c.deref_mut.ensures.value g.P.Protocol.start g.P.Protocol.allowed c.idle.invariant in
+    let view_is = lent_view i c.idle.inside.place.value c.deref_mut.ensures.value _ c.idle.view_is in
     let e = c.round.ensures in
-    let p = placed i.config i.pass i.log in
-    let q = placed i.config c.round.new.pass c.round.new.log in
-    let same : config_of c.args.shared.now ≡ i.config =
-    fits_config c.args.shared.now c.args.idle.now c.requires.fits ∙ ap (λ (x : Placed). x.config) (sym c.idle.view_is) in
-    let k = has_rounded (config_of c.args.shared.now) i.config same p.view q.view p.log q.log c.round.result e.stands e.live e.shrinks e.rests e.reclaims
+    let p = placed i.pass i.log in
+    let q = placed c.round.new.pass c.round.new.log in
+    let same : config_of c.args.shared.now ≡ i.pass.domain =
+    fits_config c.args.shared.now c.args.idle.now c.requires.fits ∙ ap (λ (x : Placed). x.config) (sym view_is) in
+    let k = has_rounded (config_of c.args.shared.now) q.config (same ∙ sym e.same.2) p.view q.view p.log q.log c.round.result e.stands e.live
+    e.shrinks e.rests e.reclaims
     e.trail in
-    subst (λ (x : Placed). Rounds g.P.Protocol.start g.P.Protocol.allowed (seat_from x) (seat_from q)) c.idle.view_is
-    (rounds g.P.Protocol.start g.P.Protocol.allowed p q c.round.result refl e.same.0 c.idle.invariant.1 c.round.new.pass.known k)
+    subst (λ (x : Placed). Rounds g.P.Protocol.start g.P.Protocol.allowed (seat_from x) (seat_from q)) view_is
+    (rounds g.P.Protocol.start g.P.Protocol.allowed p q c.round.result e.same.2 e.same.0 is c.round.new.pass.known k)

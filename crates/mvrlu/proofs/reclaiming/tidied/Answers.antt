@@ -1,61 +1,74 @@
 use Rattle.std.proofs.Common.{◌≡◌, refl, sym, ap, ◌∙◌, subst}
+use Rattle.mv_layout.specs.declared.Config.{Config}
 use Rattle.mv_core.specs.Passes.{config_of}
 use Rattle.mvrlu.specs.Placed.{Placed, placed, seat_from}
 use Rattle.mvrlu.specs.Holding.{Tidies, TidiesAlone}
 use Rattle.mvrlu.proofs.Names.{fits_config}
 use Rattle.mvrlu.proofs.Lawful.{seat_lawful}
 use Rattle.mvrlu.proofs.rooms.Tidied.{has_tidied, tidied_idle, tidies, tidies_alone}
+use Rattle.mvrlu.proofs.Behind.{lent_idle, lent_view}
 use Rattle.mvrlu.proofs.reclaiming.tidied.Goals as goal
 
 pub invariant_of-idle : goal.invariant_of-idle
 invariant_of-idle g c =
-    let i = c.idle.inside in
+    let i = c.deref_mut.result.now in
+    let is = lent_idle i c.idle.inside.place.value c.deref_mut.ensures.value g.P.Protocol.start g.P.Protocol.allowed c.idle.invariant in
+    let view_is = lent_view i c.idle.inside.place.value c.deref_mut.ensures.value _ c.idle.view_is in
     let e = c.tidy.ensures in
-    let p = placed i.config i.pass i.log in
-    let q = placed i.config c.tidy.new.pass c.tidy.new.log in
-    let same : config_of c.args.shared.now ≡ i.config =
-    fits_config c.args.shared.now c.args.idle.now c.requires.fits ∙ ap (λ (x : Placed). x.config) (sym c.idle.view_is) in
-    let k = has_tidied (config_of c.args.shared.now) i.config same p.view q.view p.log q.log c.tidy.result e.stands e.live e.shrinks e.rests e.reclaims
+    let p = placed i.pass i.log in
+    let q = placed c.tidy.new.pass c.tidy.new.log in
+    let same : config_of c.args.shared.now ≡ i.pass.domain =
+    fits_config c.args.shared.now c.args.idle.now c.requires.fits ∙ ap (λ (x : Placed). x.config) (sym view_is) in
+    let k = has_tidied (config_of c.args.shared.now) q.config (same ∙ sym e.same.2) p.view q.view p.log q.log c.tidy.result e.stands e.live
+    e.shrinks e.rests e.reclaims
     e.trail e.fresh e.alone in
-    let idle = tidied_idle g.P.Protocol.start g.P.Protocol.allowed p q c.tidy.result refl e.same.0 c.idle.invariant.1 c.tidy.new.pass.known k in
-    (e.same.2 ∙ c.idle.invariant.0, idle)
+    tidied_idle g.P.Protocol.start g.P.Protocol.allowed p q c.tidy.result e.same.2 e.same.0 is c.tidy.new.pass.known k
 
 pub returns-clause-lawful : goal.returns-clause-lawful
 returns-clause-lawful g c =
-    let i = c.idle.inside in
+    let i = c.deref_mut.result.now in
+    let is = lent_idle i c.idle.inside.place.value c.deref_mut.ensures.value g.P.Protocol.start g.P.Protocol.allowed c.idle.invariant in
+    let view_is = lent_view i c.idle.inside.place.value c.deref_mut.ensures.value _ c.idle.view_is in
     let e = c.tidy.ensures in
-    let p = placed i.config i.pass i.log in
-    let q = placed i.config c.tidy.new.pass c.tidy.new.log in
-    let same : config_of c.args.shared.now ≡ i.config =
-    fits_config c.args.shared.now c.args.idle.now c.requires.fits ∙ ap (λ (x : Placed). x.config) (sym c.idle.view_is) in
-    let k = has_tidied (config_of c.args.shared.now) i.config same p.view q.view p.log q.log c.tidy.result e.stands e.live e.shrinks e.rests e.reclaims
+    let p = placed i.pass i.log in
+    let q = placed c.tidy.new.pass c.tidy.new.log in
+    let same : config_of c.args.shared.now ≡ i.pass.domain =
+    fits_config c.args.shared.now c.args.idle.now c.requires.fits ∙ ap (λ (x : Placed). x.config) (sym view_is) in
+    let k = has_tidied (config_of c.args.shared.now) q.config (same ∙ sym e.same.2) p.view q.view p.log q.log c.tidy.result e.stands e.live
+    e.shrinks e.rests e.reclaims
     e.trail e.fresh e.alone in
     seat_lawful g.P.Protocol.start g.P.Protocol.allowed g.P.Protocol.one_start g.P.Protocol.one_allowed q
-    (tidied_idle g.P.Protocol.start g.P.Protocol.allowed p q c.tidy.result refl e.same.0 c.idle.invariant.1 c.tidy.new.pass.known k).placed
+    (tidied_idle g.P.Protocol.start g.P.Protocol.allowed p q c.tidy.result e.same.2 e.same.0 is c.tidy.new.pass.known k).placed
 
 pub returns-clause-tidies : goal.returns-clause-tidies
 returns-clause-tidies g c =
-    let i = c.idle.inside in
+    let i = c.deref_mut.result.now in
+    let is = lent_idle i c.idle.inside.place.value c.deref_mut.ensures.value g.P.Protocol.start g.P.Protocol.allowed c.idle.invariant in
+    let view_is = lent_view i c.idle.inside.place.value c.deref_mut.ensures.value _ c.idle.view_is in
     let e = c.tidy.ensures in
-    let p = placed i.config i.pass i.log in
-    let q = placed i.config c.tidy.new.pass c.tidy.new.log in
-    let same : config_of c.args.shared.now ≡ i.config =
-    fits_config c.args.shared.now c.args.idle.now c.requires.fits ∙ ap (λ (x : Placed). x.config) (sym c.idle.view_is) in
-    let k = has_tidied (config_of c.args.shared.now) i.config same p.view q.view p.log q.log c.tidy.result e.stands e.live e.shrinks e.rests e.reclaims
+    let p = placed i.pass i.log in
+    let q = placed c.tidy.new.pass c.tidy.new.log in
+    let same : config_of c.args.shared.now ≡ i.pass.domain =
+    fits_config c.args.shared.now c.args.idle.now c.requires.fits ∙ ap (λ (x : Placed). x.config) (sym view_is) in
+    let k = has_tidied (config_of c.args.shared.now) q.config (same ∙ sym e.same.2) p.view q.view p.log q.log c.tidy.result e.stands e.live
+    e.shrinks e.rests e.reclaims
     e.trail e.fresh e.alone in
-    subst (λ (x : Placed). Tidies g.P.Protocol.start g.P.Protocol.allowed (seat_from x) (seat_from q) c.tidy.result) c.idle.view_is
-    (tidies g.P.Protocol.start g.P.Protocol.allowed p q c.tidy.result refl e.same.0 c.idle.invariant.1 c.tidy.new.pass.known k)
+    subst (λ (x : Placed). Tidies g.P.Protocol.start g.P.Protocol.allowed (seat_from x) (seat_from q) c.tidy.result) view_is
+    (tidies g.P.Protocol.start g.P.Protocol.allowed p q c.tidy.result e.same.2 e.same.0 is c.tidy.new.pass.known k)
 
 pub returns-clause-alone : goal.returns-clause-alone
 returns-clause-alone g c one =
-    let i = c.idle.inside in
+    let i = c.deref_mut.result.now in
+    let is = lent_idle i c.idle.inside.place.value c.deref_mut.ensures.value g.P.Protocol.start g.P.Protocol.allowed c.idle.invariant in
+    let view_is = lent_view i c.idle.inside.place.value c.deref_mut.ensures.value _ c.idle.view_is in
     let e = c.tidy.ensures in
-    let p = placed i.config i.pass i.log in
-    let q = placed i.config c.tidy.new.pass c.tidy.new.log in
-    let same : config_of c.args.shared.now ≡ i.config =
-    fits_config c.args.shared.now c.args.idle.now c.requires.fits ∙ ap (λ (x : Placed). x.config) (sym c.idle.view_is) in
-    let k = has_tidied (config_of c.args.shared.now) i.config same p.view q.view p.log q.log c.tidy.result e.stands e.live e.shrinks e.rests e.reclaims
+    let p = placed i.pass i.log in
+    let q = placed c.tidy.new.pass c.tidy.new.log in
+    let same : config_of c.args.shared.now ≡ i.pass.domain =
+    fits_config c.args.shared.now c.args.idle.now c.requires.fits ∙ ap (λ (x : Placed). x.config) (sym view_is) in
+    let k = has_tidied (config_of c.args.shared.now) q.config (same ∙ sym e.same.2) p.view q.view p.log q.log c.tidy.result e.stands e.live
+    e.shrinks e.rests e.reclaims
     e.trail e.fresh e.alone in
-    subst (λ (x : Placed). TidiesAlone (seat_from x) c.tidy.result) c.idle.view_is
-    (tidies_alone g.P.Protocol.start g.P.Protocol.allowed p q c.tidy.result refl e.same.0 c.idle.invariant.1 c.tidy.new.pass.known k
-    (ap (λ (x : Placed). x.config.seats) c.idle.view_is ∙ one))
+    subst (λ (x : Placed). TidiesAlone (seat_from x) c.tidy.result) view_is
+    (tidies_alone g.P.Protocol.start g.P.Protocol.allowed p q c.tidy.result e.same.2 e.same.0 is c.tidy.new.pass.known k
+    (ap (λ (d : Config). d.seats) e.same.2 ∙ ap (λ (x : Placed). x.config.seats) view_is ∙ one))

@@ -3,11 +3,11 @@ use Rattle.mv_core.proofs.kinds.walking.LoadData.{data_loads}
 use Rattle.mv_core.proofs.shared.Shared.load_data.Goals as goal
 
 pub load_as-requires-clause-rule : goal.load_as-requires-clause-rule
-load_as-requires-clause-rule g c = data_loads _ _ _ _ _ c.args.link c.args.word g.at.0 g.at.1 c.requires.1.1.1.1
+load_as-requires-clause-rule g c = data_loads _ _ _ _ _ c.args.link c.args.word g.at.0 g.at.1 c.requires.1.1.1.1.1
 
 pub load_as-requires-clause-moves : goal.load_as-requires-clause-moves
 load_as-requires-clause-moves g c = record {
-  may = c.requires.1.1.1.1;
+  may = c.requires.1.1.1.1.1;
   place = refl;
   writes = λ x. refl;
   entry = λ x. refl;

@@ -115,8 +115,9 @@ fn first_of_version<L: Ledger>(
     ensures same { IsSame pass.old pass.new }
 {
     let link = link_word(seat, position);
+    let slot = shared.slot_linked(link);
     for word in 0..count {
-        let _ = shared.load_data(pass, link, word, steps);
+        let _ = shared.load_data(pass, link, slot, word, steps);
     }
 }
 

@@ -3,5 +3,6 @@ pub mod Lockable
 pub mod NextPosition
 pub mod OwnWrites
 pub mod LockedLog
+pub mod LockedPositions
 pub mod LockWon
 pub mod LockHead

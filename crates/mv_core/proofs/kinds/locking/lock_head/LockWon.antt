@@ -16,6 +16,7 @@ use Rattle.mv_core.proofs.frames.CommittedKept.{foot_kept, serves_kept, named_ke
 use Rattle.mv_core.proofs.logs.Links.{names_once}
 use Rattle.mv_core.proofs.kinds.locking.lock_head.Lockable.{none_holds, is_top, is_fresh, below_stamped}
 use Rattle.mv_core.proofs.kinds.locking.lock_head.LockedLog as log
+use Rattle.mv_core.proofs.kinds.locking.lock_head.LockedPositions as log_places
 use Rattle.mv_core.proofs.logs.SeenDeaths.{none_noted}
 use Rattle.mv_core.proofs.history.SectionWords.{section_is, time_is}
 
@@ -75,7 +76,7 @@ module _ {starts : State → Type 0} {allows : List ℕ → State → Writes →
   lives_new = log.lives_new seats k v is own write_max object previous position b inside may
 
   positions : Positions c h later
-  positions = log.positions_after seats k v is own write_max object previous position b inside may
+  positions = log_places.positions_after seats k v is own write_max object previous position b inside may
 
   section_here : section n ≡ Some inside
   section_here = section_is seats v inside k is may.walking.phase
@@ -289,7 +290,7 @@ module _ {starts : State → Type 0} {allows : List ℕ → State → Writes →
       (let words_after = log.words_after seats k v is own write_max object previous position b inside may in
       let stamps_after = log.stamps_after seats k v is own write_max object previous position b inside may in
       let sets_after = log.sets_after seats k v is own write_max object previous position b inside may in
-      let grace_after = log.grace_after seats k v is own write_max object previous position b inside may in
+      let grace_after = log_places.grace_after seats k v is own write_max object previous position b inside may in
       let past_help_still = past_help_kept rings later kept c stamp section (λ s. (seats s).clocks) k.stamped_past_help in
       let link_still = link_kept rings later kept c h k.commit_link in
       let master_still = master_kept rings later kept c h start master time k.present_master in

@@ -1,5 +1,5 @@
 #!/bin/bash
-# Each allocation, opening, read and write of the built program is refused in turn, until a run passes: the status, the line on
+# Each allocation, opening, read and write of the built programs is refused in turn, until a run passes: the status, the line on
 # standard error and what was written must be those of that refusal. Streams that fail by themselves are tried too.
 # tests/refused.sh PROGRAM tries another program than the one that rt ci left.
 set -u
@@ -62,6 +62,31 @@ for words in 'run script' 'run script empty' 'pool 1 script'; do
         sweep write 1000000 6 'write fault' $words
     }
 done
+
+# The program over eight accounts: where its domain, its seats or its workers get no memory, nothing is written. What it takes
+# later on comes after the whole report.
+sweep_accounts() {
+    local accounts=$top/crates/accounts_main/out/accounts_main at refused=0
+    [ -x "$accounts" ] || { fail "there is no $accounts"; return; }
+    for ((at = 1; at <= 1000; at++)); do
+        run REFUSE_KIND=alloc REFUSE_AT=$at REFUSE_MOST=1000000 LD_PRELOAD="$scratch/refuse.so" "$accounts"
+        case $status in
+            0) break ;;
+            1) ;;
+            *) fail "alloc $at of accounts: status $status"; return ;;
+        esac
+        if [ -s out ]; then
+            cmp -s out "$top/crates/accounts_main/stdout" || { fail "alloc $at of accounts: '$(cat out)' on standard output"; return; }
+        else
+            [ "$(cat err)" = 'no memory for the domain' ] || { fail "alloc $at of accounts: '$(cat err)' on standard error"; return; }
+            refused=$((refused + 1))
+        fi
+    done
+    cmp -s out "$top/crates/accounts_main/stdout" || fail 'accounts: another text'
+    [ "$refused" -gt 0 ] || fail 'no alloc of accounts was refused'
+    counts+=", $refused of alloc in accounts"
+}
+sweep_accounts
 
 # Standard output that takes nothing, a folder, and a standard error that can't be written, which changes no status.
 : >out

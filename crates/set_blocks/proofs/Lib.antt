@@ -17,3 +17,8 @@ pub mod BlockExamples
 pub mod Overlaying
 pub mod Telling
 pub mod Turning
+pub mod WholeTurns
+pub mod PlanTurns
+pub mod PlannedWrites
+pub mod BlockTimes
+pub mod BlockOutcomes

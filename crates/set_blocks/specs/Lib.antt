@@ -7,3 +7,5 @@ pub mod BlockPlans
 pub mod Holds
 pub mod Turns
 pub mod BlockAttempts
+pub mod BlockFindings
+pub mod BlockSteps

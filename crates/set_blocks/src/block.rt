@@ -70,8 +70,8 @@ pub fn stands_alone(command: &Command) -> bool
     matches!(command, Command::Size { .. } | Command::Next { .. })
 }
 
-// Whether such a command is among these.
-fn has_alone(commands: &[Command]) -> bool
+/// Whether such a command is among these.
+pub(crate) fn has_alone(commands: &[Command]) -> bool
     ensures { result ≡ list_any stands_alone commands.now }
 {
     commands.iter().any(stands_alone)

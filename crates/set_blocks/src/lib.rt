@@ -25,8 +25,12 @@
 #![tactic(auto)]
 
 mod attempt;
+#[cfg(test)]
+mod attempt_tests;
+mod attempting;
 mod block;
 mod faults;
+mod finding;
 mod holds;
 mod laws;
 mod overlay;
@@ -38,6 +42,7 @@ mod tests;
 mod turns;
 
 pub use attempt::BlockAttempt;
+pub use attempting::attempt_block;
 pub use block::{Block, MOST_IN_BLOCK};
 pub use faults::{BlockFault, BlockKind};
 pub use laws::{

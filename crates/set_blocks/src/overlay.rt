@@ -1,11 +1,15 @@
 // What a view shows with planned writes over it.
-ghost use Rattle.std.specs.Prelude.{◌≡◌, ◌+◌, ◌<◌, ◌≤◌, true, false, [], length, take, IfSome, IfNone, slice_index_or};
+ghost use Rattle.std.specs.Prelude.{◌≡◌, ◌+◌, ◌<◌, ◌≤◌, true, false, [], length, take, IfSome, IfNone, MatchResult, slice_index_or};
 ghost use Rattle.mv_history.specs.State.{touches};
-ghost use Rattle.mv_history.specs.Legal.{are_distinct, AreWrites};
-ghost use Rattle.mv_history.specs.Legal.{IsWords};
+ghost use Rattle.mv_history.specs.Legal.{are_distinct, AreWithin, AreWrites, IsWords};
+ghost use Rattle.mv_history.specs.Meaning.{state_of};
+ghost use Rattle.set_script.specs.OwnWrites.{objects_of};
+ghost use Rattle.list_set.specs.Calls.{Rewritten, Refuses};
+ghost use Rattle.list_set.specs.Held.{HasRoom};
 ghost use Rattle.set_catalog.specs.Merges.{merged, merged_one};
 
-use mv_history::{View, Words};
+use list_set::{Cause, rewrite};
+use mv_history::{Section, View, Words};
 
 /// How many objects a block may lock: five for each of its commands.
 pub const MOST_LOCKS: usize = 40;
@@ -38,6 +42,18 @@ impl<V> Overlay<V> {
             writes: [(0, [0; 6]); MOST_LOCKS],
             count: 0,
         }
+    }
+
+    /// The view, with nothing planned over it any more.
+    pub fn into_view(self) -> V
+        ensures { result ≡ self.view }
+    {
+        let Overlay {
+            view,
+            writes: _,
+            count: _,
+        } = self;
+        view
     }
 
     /// The planned writes, in their order.
@@ -75,6 +91,28 @@ impl<V> Overlay<V> {
                 self.writes[self.count] = (object, words);
                 self.count += 1;
             }
+        }
+    }
+}
+
+impl<S: Section> Overlay<S> {
+    /// Locks what is planned in the section, in its order, and writes it there, where there is room. An `Err` is the section,
+    /// in which nothing is written, and the first lock that was refused.
+    pub fn write_through(self) -> Result<S, (S, Cause)>
+        requires within { AreWithin (take self.count self.writes) (length (state_of (S.section self.view))) }
+        requires room { HasRoom (S.section self.view) (objects_of (take self.count self.writes)) }
+        ensures { MatchResult result
+            (λ section. Rewritten (S.section self.view) (S.section section) (objects_of (take self.count self.writes)) (take self.count self.writes))
+            (λ refused. Refuses S.may_refuse S.found_held (S.section self.view) (S.section refused.0) (objects_of (take self.count self.writes)) refused.1) }
+    {
+        let Overlay {
+            mut view,
+            writes,
+            count,
+        } = self;
+        match rewrite(&mut view, &writes[..count]) {
+            Ok(()) => Ok(view),
+            Err(cause) => Err((view, cause)),
         }
     }
 }

@@ -1,5 +1,5 @@
 // The replies of a block.
-ghost use Rattle.std.specs.Prelude.{◌≡◌, ◌<◌, ◌≤◌, ◌++◌, [], ◌∷◌, length, slice_get, Some};
+ghost use Rattle.std.specs.Prelude.{◌≡◌, ◌<◌, ◌≤◌, ◌++◌, [], ◌∷◌, length, replicate, slice_get, Some};
 
 use crate::block::MOST_IN_BLOCK;
 use set_script::Reply;
@@ -31,6 +31,17 @@ impl Replies {
         Replies {
             replies: [Reply::No; MOST_IN_BLOCK],
             count: 0,
+        }
+    }
+
+    /// As many times the same reply, at most `MOST_IN_BLOCK` times.
+    pub(crate) fn all(reply: Reply, count: u32) -> Replies
+        requires { count ≤ 8 }
+        ensures { result ≡ replicate count reply }
+    {
+        Replies {
+            replies: [reply; MOST_IN_BLOCK],
+            count,
         }
     }
 

@@ -101,7 +101,7 @@ pub fn run_block<R: Wait, S: Store<Rules = BlockRules>>(
     ensures count { length result.1 ≡ length block.now }
 {
     for _ in rt.forever() {
-        match try_block(rt, store, block) {
+        match try_block(store, block) {
             BlockAttempt::Done { replies, place } => return (place, replies),
             BlockAttempt::Again(_) => {}
         }
@@ -110,11 +110,7 @@ pub fn run_block<R: Wait, S: Store<Rules = BlockRules>>(
 }
 
 // One attempt. The store can't be copied or left out, so it is taken out of its place and put back.
-fn try_block<R: Wait, S: Store<Rules = BlockRules>>(
-    rt: &R,
-    store: &mut S,
-    block: &Block,
-) -> BlockAttempt
+fn try_block<S: Store<Rules = BlockRules>>(store: &mut S, block: &Block) -> BlockAttempt
     requires most { most_in_blocks ≤ (S.seat_of store.old).write_max }
     ensures { BlockTried (S.seat_of store.old) (S.seat_of store.new) block.now result }
 {
@@ -126,6 +122,6 @@ fn try_block<R: Wait, S: Store<Rules = BlockRules>>(
         |store, block|
             requires { 5 * length block.now ≤ (S.seat_of store).write_max }
             ensures { BlockTried (S.seat_of store) (S.seat_of result.0) block.now result.1 }
-        { attempt_block(rt, store, block) },
+        { attempt_block(store, block) },
     )
 }

@@ -12,6 +12,7 @@ clang=$(dirname "$(rt doc)")/toolchain/bin/clang
 "$clang" -shared -fPIC -O1 -nostdlib -fuse-ld=lld -o "$scratch/refuse.so" "$top/tests/refused/refuse.c" || exit 1
 cd "$scratch" || exit 1
 printf 'add l0 5\nhas l0 5\n' >script
+printf 'begin\nadd l0 5\nmove l0 t0 5\nend\nhas t0 5\n' >blocks
 : >empty
 failed=0
 
@@ -52,7 +53,7 @@ sweep() {
 }
 
 counts=
-for words in 'run script' 'run script empty' 'pool 1 script'; do
+for words in 'run script' 'run script empty' 'block blocks empty' 'pool 1 script'; do
     # shellcheck disable=SC2086
     {
         sweep alloc 1000000 7 'out of memory' $words

@@ -130,6 +130,53 @@ writes.refuses("freed 51", "freed 50", "for 51 writes")
 Case([""], "log 0 live 0 freed 0 back 0 commits 0 aborts 0 rests 0\n")
 
 
+class Blocks:
+    """Scripts of blocks, and a text that is theirs."""
+
+    def __init__(self, scripts, printed):
+        self.scripts = [script.parse_blocks(it.encode()) for it in scripts]
+        self.printed = printed
+        text.check_blocks(self.scripts, printed.encode())
+
+    def refuses(self, change, into, why):
+        """That the text is refused for that where what matches is changed."""
+        changed, count = re.subn(change, into, self.printed, flags=re.M)
+        assert count, change
+        try:
+            text.check_blocks(self.scripts, changed.encode())
+        except text.Fault as fault:
+            assert why in str(fault), (change, str(fault))
+        else:
+            raise AssertionError(f"taken: {change} as {into}")
+
+
+# A block of three commands is one commit of three objects, and one that undoes its change is a commit too.
+blocks = Blocks(["begin\nadd l0 5\nmove l0 t0 5\npair l0 t0 5\nend\nhas t0 5\n", "begin\nadd h0 1\ndel h0 1\nend\nbegin\nhas h0 1\nhas h0 2\nend\n"], """\
+0.1 c1 yes
+0.2 c1 yes
+0.3 c1 no yes
+1.1 c2 yes
+1.2 c2 yes
+0.4 r2 yes
+1.3 r2 no
+1.4 r2 no
+t0 5
+log 0 live 3 freed 0 back 0 commits 1 aborts 0 rests 0
+log 1 live 2 freed 0 back 0 commits 1 aborts 0 rests 0
+""")
+blocks.refuses("^0.3.*\n", "", "missing")
+blocks.refuses("^1.2 c2 yes", "1.2 c3 yes", "out of order")
+blocks.refuses("^1.1 c2 yes\n1.2 c2 yes\n(0.*\n1.3 r2 no\n)1.4 r2 no", r"1.1 c2 yes\n1.2 c2 yes\n\g<1>1.4 r3 no", "two places")
+blocks.refuses("^1.1 c2 yes\n1.2 c2", "1.1 c1 yes\n1.2 c1", "another commit")
+blocks.refuses("^(0.1.*\n)(0.2.*\n)", r"\2\1", "out of order")
+blocks.refuses("^0.3 c1 no yes", "0.3 c1 yes no", "replies")
+blocks.refuses("^1.1 c2 yes\n1.2 c2 yes", "1.1 r1 yes\n1.2 r1 yes", "is a read")
+blocks.refuses("^0.4 r2", "0.4 r0", "out of order")
+blocks.refuses("^t0 5", "l0 5", "and not 't0 5'")
+blocks.refuses("^log 1 live 2", "log 1 live 11", "11 versions")
+blocks.refuses("^log 0 live 3(.*)commits 1", r"log 0 live 3\1commits 2", "at 1 commits")
+
+
 def taken(check, *words):
     try:
         check(*words)
@@ -156,5 +203,7 @@ printf 'add l0 5\n' >a
 printf '0.1 c8 yes\nl0 5\nlog 0 live 2 freed 0 back 0 commits 1 aborts 0 rests 0\n' >text
 counted=$("$bench/replay" --reads run --base 7 --objects 181 a <text)
 [ "$counted" = 'lines 1 commits 1 rests 0 aborts 0 turns 0 reads 1' ] || { echo "replay: counted $counted" >&2; exit 1; }
+counted=$(printf '0.1 c1 yes\nl0 5\nlog 0 live 2 freed 0 back 0 commits 1 aborts 0 rests 0\n' | "$bench/replay" block a)
+[ "$counted" = 'lines 1 commits 1 rests 0 aborts 0 turns 0' ] || { echo "replay: counted $counted of a block" >&2; exit 1; }
 "$bench/replay" run --base 8 a <text 2>/dev/null && { echo 'replay: a text of another base is taken' >&2; exit 1; }
 echo 'replay: ok'

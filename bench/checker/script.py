@@ -14,6 +14,9 @@ WORDS = {
 }
 
 
+MOST_IN_BLOCK = 8
+
+
 class NotAScript(Exception):
     """A line outside the grammar. The checker reads scripts that the program took, so it says no more of the fault."""
 
@@ -50,9 +53,9 @@ def command(words, form):
     return Command(verb, found[0], found[1] if names == 2 else None, key, value)
 
 
-def parse(text):
-    """The commands of a script's bytes."""
-    commands, form, first = [], 1, True
+def lines_of(text):
+    """The words of each line that has some, behind a line that names the format, with that format."""
+    form, first = 1, True
     for line in text.split(b"\n"):
         words = words_of(line)
         if not words:
@@ -62,9 +65,34 @@ def parse(text):
                 raise NotAScript(f"format {words}")
             form = int(words[1])
         else:
-            commands.append(command(words, form))
+            yield words, form
         first = False
-    return commands
+
+
+def parse(text):
+    """The commands of a script's bytes."""
+    return [command(words, form) for words, form in lines_of(text)]
+
+
+def parse_blocks(text):
+    """The blocks of a script of blocks: a list of commands for each, of which one outside `begin` and `end` is alone."""
+    blocks, begun = [], None
+    for words, form in lines_of(text):
+        if words[0] in (b"begin", b"end"):
+            if len(words) != 1 or (words[0] == b"begin") != (begun is None) or begun == []:
+                raise NotAScript(f"block {words}")
+            if begun:
+                blocks.append(begun)
+            begun = [] if words[0] == b"begin" else None
+        elif begun is None:
+            blocks.append([command(words, form)])
+        else:
+            begun.append(command(words, form))
+            if len(begun) > MOST_IN_BLOCK or begun[-1].verb in ("size", "next"):
+                raise NotAScript(f"in a block {words}")
+    if begun is not None:
+        raise NotAScript("a block without end")
+    return blocks
 
 
 class Pcg32:

@@ -1,4 +1,5 @@
 """Checks printed texts against the scripts that they are of."""
+import copy
 import re
 from collections import namedtuple
 
@@ -58,13 +59,16 @@ def name(line):
     return f"line {line.seat}.{line.number}"
 
 
-def check_order(lines):
-    """By time, commits before reads, then by seat, then by number; and no two commits at one time."""
+def check_order(lines, starts=None):
+    """By time, commits before reads, then by seat, then by number; and no two commits at one time, but for those of one block,
+    where the number of each command's first is given."""
     before = None
     for line in lines:
         place = (line.time, not line.commit, line.seat, line.number)
         must(before is None or before < place, f"{name(line)} is out of order")
-        must(not (before and line.commit and before[:2] == place[:2]), f"{name(line)} has the time of another commit")
+        if before and line.commit and before[:2] == place[:2]:
+            same = starts and before[2] == line.seat and starts[line.seat][before[3]] == starts[line.seat][line.number]
+            must(same, f"{name(line)} has the time of another commit")
         before = place
 
 
@@ -83,6 +87,26 @@ def check_scripts(lines, scripts, base):
             must(line, f"line {seat}.{number} is missing")
             must(line.time > time if line.commit else line.time >= time, f"{name(line)} is too early behind the line before it")
             time = line.time
+
+
+def check_blocks_of(lines, scripts, base):
+    """Each command of each block has one line, all at the block's place; along a script no time falls, and a block at a commit
+    is later than the block before it. Answers the lines of each block, by its seat and the number of its first command."""
+    found, told = {}, {}
+    for line in lines:
+        must(line.seat < len(scripts) and (line.seat, line.number) not in found, f"{name(line)} is of no script or stands twice")
+        found[line.seat, line.number] = line
+    for seat, blocks in enumerate(scripts):
+        time, number = base, 1
+        for block in blocks:
+            own = [found.pop((seat, number + index), None) for index in range(len(block))]
+            must(all(own), f"a line of the block at {seat}.{number} is missing")
+            must(len({(line.commit, line.time) for line in own}) == 1, f"the block at {seat}.{number} has two places")
+            must(own[0].time > time if own[0].commit else own[0].time >= time, f"{name(own[0])} is too early behind the block before it")
+            told[seat, number] = own
+            time, number = own[0].time, number + len(block)
+    must(not found, f"line {found and min(found)} is of no command")
+    return told
 
 
 def check_shares(lines, commands, seats, base):
@@ -111,6 +135,38 @@ def check_replies(lines, scripts, catalogue):
         must(line.commit == (written > 0), f"{name(line)} is {'a commit' if line.commit else 'a read'}: {command}")
         writes[line.seat] += written
     return writes
+
+
+def run_block(catalogue, block, last):
+    """The replies of a block, the catalogue behind it, and whether it changes something there: where one reply is full all are;
+    at the last time all are worn where it would change something."""
+    after = copy.deepcopy(catalogue)
+    turns = [after.run(command, False) for command in block]
+    replies, changes = [reply for reply, _ in turns], any(written for _, written in turns)
+    if "full" in replies:
+        return ["full"] * len(block), catalogue, False
+    if changes and last:
+        return ["worn"] * len(block), catalogue, False
+    return replies, after if changes else catalogue, changes
+
+
+def check_block_replies(lines, scripts, told, catalogue):
+    """Replays the blocks in the order of their lines; answers the catalogue at the end."""
+    blocks = {}
+    for seat, script in enumerate(scripts):
+        number = 1
+        for block in script:
+            blocks[seat, number] = block
+            number += len(block)
+    for line in lines:
+        block = blocks.get((line.seat, line.number))
+        if block is None:
+            continue
+        own = told[line.seat, line.number]
+        replies, catalogue, changes = run_block(catalogue, block, not line.commit and line.time == LAST)
+        must(replies == [row.reply for row in own], f"the block at {name(line)} replies {[row.reply for row in own]} and not {replies}")
+        must(line.commit == changes, f"the block at {name(line)} is {'a commit' if line.commit else 'a read'}")
+    return catalogue
 
 
 def check_sets(rows, catalogue):
@@ -149,6 +205,46 @@ def check_pool(seats, commands, text, count_reads=False):
     """Checks the text of a pool of so many seats over the commands; answers what it counts."""
     options = Options()
     return check_lines(options, [commands] * seats, text, count_reads, lambda lines: check_shares(lines, commands, seats, options.base))
+
+
+def starts_of(blocks):
+    """The number of the first command of each command's block, by the command's number."""
+    starts, number = {}, 1
+    for block in blocks:
+        starts.update((number + index, number) for index in range(len(block)))
+        number += len(block)
+    return starts
+
+
+def check_block_log(seat, log, commits, most, slots):
+    """The table of a seat of blocks. A commit writes 1 to five objects for each command, and an abort gave up as many at most."""
+    built = log.live + log.freed
+    must(log.commits == commits, f"log {seat}: {log.commits} commits, and blocks at {commits} commits")
+    must(commits + log.aborts <= built <= most + MOST_LOCKS * script.MOST_IN_BLOCK * log.aborts,
+         f"log {seat}: {built} versions, for {commits} commits and {log.aborts} aborts")
+    must(log.live <= slots and log.back <= built, f"log {seat}: {log.live} live, {log.back} written back")
+
+
+def check_blocks(scripts, text):
+    """Checks the text of a run of scripts of blocks; answers what it counts."""
+    options = Options()
+    lines, sets, logs = split(text)
+    must(all(line.seat < len(scripts) for line in lines), "a line is of no script")
+    starts = [starts_of(blocks) for blocks in scripts]
+    for line in lines:
+        must(line.number in starts[line.seat], f"{name(line)} is of no command")
+    check_order(lines, starts)
+    told = check_blocks_of(lines, scripts, options.base)
+    check_sets(sets, check_block_replies(lines, scripts, told, Catalogue(options.objects - 180)))
+    must(len(logs) == len(scripts), f"{len(logs)} log lines for {len(scripts)} scripts")
+    for seat, log in enumerate(logs):
+        own = [rows for (of, _), rows in told.items() if of == seat and rows[0].commit]
+        check_block_log(seat, log, len(own), sum(MOST_LOCKS * len(rows) for rows in own), options.slots)
+    end = options.base + sum(log.commits + log.rests for log in logs)
+    must((lines[-1].time if lines else options.base) <= end, f"the last line's time is printed, and the commits and rests end at {end}")
+    commits, rests, aborts = (sum(column) for column in zip(*((log.commits, log.rests, log.aborts) for log in logs)))
+    turns = sum(a.seat != b.seat for a, b in zip(lines, lines[1:]))
+    return Counts(len(lines), commits, rests, aborts, turns, 0)
 
 
 def check_lines(options, scripts, text, count_reads, check_numbers):

@@ -6,20 +6,24 @@ use Rattle.run_words.specs.declared.request.Limit.{Limit as LimitOf}
 use Rattle.run_words.specs.declared.request.Options.{Options}
 use Rattle.run_words.specs.declared.request.Refusal.{Refusal}
 use Rattle.run_words.specs.declared.request.Refusal.TheVariants.{Form, Beyond}
-use Rattle.run_words.specs.Words.{Asks, run, gen, work, pool, asked}
+use Rattle.run_words.specs.Words.{Asks, run, gen, work, block, pool, asked}
+use Rattle.set_script.specs.Grammar.{parsed}
 use Rattle.set_script.specs.declared.commands.Command.{Command}
 use Rattle.set_script.specs.declared.commands.FaultKind.{FaultKind}
 use Rattle.set_script.specs.declared.commands.FaultKind.TheVariants.{Many}
 use Rattle.set_script.proofs.Times.{lawful_after}
+use Rattle.set_blocks.proofs.Remaining.{lawful_after as lawful_blocks}
+use Rattle.set_blocks.specs.declared.faults.BlockKind.{BlockKind}
+use Rattle.set_blocks.specs.declared.faults.BlockKind.TheVariants.{Line, Nested, Stray, Empty, Long, Apart, Unended}
 use Rattle.mvrlu_run.specs.declared.finish.Closed.{Closed}
 use Rattle.mvrlu_run.specs.declared.finish.Finish.{Finish}
-use Rattle.mvrlu_run.specs.declared.finish.Finish.TheVariants.{Done, Usage, Limit, Script, Bytes, Read, Write, Memory}
+use Rattle.mvrlu_run.specs.declared.finish.Finish.TheVariants.{Done, Usage, Limit, Script, BlockScript, Bytes, Read, Write, Memory}
 use Rattle.mvrlu_run.specs.declared.finish.Ran.{Ran}
 use Rattle.mvrlu_run.specs.Outcome.{AskedCause, Cause, IsComplete, IsPrinted, Outside, ReadsSets}
 use Rattle.mvrlu_run.specs.Reading.{AreTold}
-use Rattle.mvrlu_run.specs.Scripts.{AllScripts, IsLong, IsRefused, Reaches, StopsAt}
-use Rattle.mvrlu_run.specs.Status.{closed_of, fault_status, status_of}
-use Rattle.mvrlu_run.specs.Told.{IsTextFor, files_of}
+use Rattle.mvrlu_run.specs.Scripts.{AllScripts, AnyStop, IsLong, IsRefused, Reaches, StopsAt, commands}
+use Rattle.mvrlu_run.specs.Status.{block_fault_status, closed_of, fault_status, status_of}
+use Rattle.mvrlu_run.specs.Told.{IsTextFor, files_of, reading_of}
 use Rattle.mvrlu_run.proofs.Refused.{Spoils, ok_is_no_err, fault_spoils, length_spoils, no_stop, one_stop}
 
 -- an answer, or some default
@@ -47,6 +51,15 @@ pub no_zero : (kind : FaultKind) → fault_status kind ≡ 0 → ⊥
 no_zero Many e = omega (arith, e)
 no_zero kind e = omega (arith, e)
 
+pub no_block_zero : (kind : BlockKind) → block_fault_status kind ≡ 0 → ⊥
+no_block_zero (Line kind) e = no_zero kind e
+no_block_zero Nested e = omega (arith, e)
+no_block_zero Stray e = omega (arith, e)
+no_block_zero Empty e = omega (arith, e)
+no_block_zero Long e = omega (arith, e)
+no_block_zero Apart e = omega (arith, e)
+no_block_zero Unended e = omega (arith, e)
+
 ok_inj : {A E : Type 0} (a b : A) → ◌≡◌ {A = Result A E} (Ok a) (Ok b) → a ≡ b
 unfolding value
 ok_inj a b p = ap (value a) p
@@ -60,13 +73,27 @@ not_both : (words : List (List ℕ)) (a : Asks) (r : Refusal) → asked words �
 not_both words a r p q = ok_is_no_err a r (sym p ∙ q)
 
 -- no file is reached among none
-none_reached : (t : Option Texts) (place : ℕ) → Reaches t [] place → ⊥
+none_reached : (t : Option Texts) (place : ℕ) → Reaches parsed t [] place → ⊥
 none_reached t place r = omega (arith, slice_get_within {A = List ℕ} [] place r.name r.named)
+
+-- so only want of memory stops there
+none_left : (f : Finish) (t : Option Texts) (faults now : ℕ) → AnyStop f commands t [] faults now → status_of f ≡ 7
+none_left (Script script line kind) t faults now s = absurd (none_reached t script s.reaches)
+none_left (BlockScript script line kind) t faults now s = absurd s
+none_left (Bytes script) t faults now s = absurd (none_reached t script s.reaches)
+none_left (Read script) t faults now s = absurd (none_reached t script s.0)
+none_left Memory t faults now s = refl
+none_left (Done closed) t faults now s = absurd s
+none_left Usage t faults now s = absurd s
+none_left (Limit limit) t faults now s = absurd s
+none_left Write t faults now s = absurd s
 
 -- the domain that is left of a run reads a lawful state
 text_reads : (asks : Asks) (texts : Option Texts) (closed : Closed) (text : List ℕ) → IsTextFor asks texts closed text → ReadsSets closed
 text_reads (run options names) texts closed text h =
     subst ReadsSets (sym h.3) (lawful_after h.2.last.start h.2.last.history h.4.ran.run.opening h.4.ran.run.allowed)
+text_reads (block names) texts closed text h =
+    subst ReadsSets (sym h.3) (lawful_blocks h.2.last.start h.2.last.history h.4.ran.run.opening h.4.ran.run.allowed)
 text_reads (pool seats names) texts closed text h =
     subst ReadsSets (sym h.3) (lawful_after h.2.last.start h.2.last.history h.4.ran.pool.opening h.4.ran.pool.allowed)
 text_reads (gen number seat) texts closed text h = subst ReadsSets (sym h.0) tt
@@ -80,6 +107,7 @@ module _ (words : List (List ℕ)) (old new : Outside) where
   ends (Limit limit) asks c a = absurd (not_both words asks (Beyond limit) a c.0)
   ends (Done closed) asks c a = subst (λ x. AskedCause (Done closed) x old new) (same_asks words c.0 asks c.1 a) c.2
   ends (Script script line kind) asks c a = subst (λ x. AskedCause (Script script line kind) x old new) (same_asks words c.0 asks c.1 a) c.2
+  ends (BlockScript script line kind) asks c a = subst (λ x. AskedCause (BlockScript script line kind) x old new) (same_asks words c.0 asks c.1 a) c.2
   ends (Bytes script) asks c a = subst (λ x. AskedCause (Bytes script) x old new) (same_asks words c.0 asks c.1 a) c.2
   ends (Read script) asks c a = subst (λ x. AskedCause (Read script) x old new) (same_asks words c.0 asks c.1 a) c.2
   ends Write asks c a = subst (λ x. AskedCause Write x old new) (same_asks words c.0 asks c.1 a) c.2
@@ -87,50 +115,63 @@ module _ (words : List (List ℕ)) (old new : Outside) where
 
   module _ (options : Options) (names : List (List ℕ)) (is : AreTold old.texts) where
     -- scripts are run
-    runs : (f : Finish) (scripts : List (List Command)) → AskedCause f (run options names) old new → AllScripts old.texts names scripts
+    runs : (f : Finish) (scripts : List (List Command)) → AskedCause f (run options names) old new → AllScripts parsed old.texts names scripts
         → ¬ Rose old.file_faults new.file_faults → ¬ Rose old.out_faults new.out_faults → (status_of f ≡ 0) ⊎ (status_of f ≡ 7)
     runs (Done closed) scripts c all files out = inl refl
     runs Usage scripts c all files out = absurd c.1
     runs (Limit limit) scripts c all files out = absurd c.1
     runs (Script script line kind) scripts c all files out =
-        absurd (no_stop old.texts names scripts script c.1.reaches.name (IsRefused line kind) is all c.1.reaches.named c.1.says (fault_spoils line kind))
+        let refused = IsRefused parsed line kind in
+        absurd (no_stop parsed old.texts names scripts script c.1.reaches.name refused is all c.1.reaches.named c.1.says (fault_spoils parsed line kind))
+    runs (BlockScript script line kind) scripts c all files out = absurd c.1
     runs (Bytes script) scripts c all files out =
-        absurd (no_stop old.texts names scripts script c.1.reaches.name IsLong is all c.1.reaches.named c.1.says length_spoils)
+        absurd (no_stop parsed old.texts names scripts script c.1.reaches.name IsLong is all c.1.reaches.named c.1.says (length_spoils parsed))
     runs (Read script) scripts c all files out = absurd (files c.1.1)
     runs Write scripts c all files out = absurd (out c.0)
     runs Memory scripts c all files out = inr refl
 
     -- the first file that is no script is answered
-    stops : (f : Finish) (place : ℕ) (P : List ℕ → Type 0) (status : ℕ) → AskedCause f (run options names) old new → StopsAt old.texts names place P
-        → Spoils P → ((text : List ℕ) (line : ℕ) (kind : FaultKind) → IsRefused line kind text → P text → fault_status kind ≡ status)
+    stops : (f : Finish) (place : ℕ) (P : List ℕ → Type 0) (status : ℕ) → AskedCause f (run options names) old new
+        → StopsAt parsed old.texts names place P → Spoils parsed P
+        → ((text : List ℕ) (line : ℕ) (kind : FaultKind) → IsRefused parsed line kind text → P text → fault_status kind ≡ status)
         → ((text : List ℕ) → IsLong text → P text → 4 ≡ status) → ¬ Rose old.file_faults new.file_faults
         → (status_of f ≡ status) ⊎ (status_of f ≡ 7)
     stops (Done closed) place P status c stop spoils fault long files =
-        absurd (no_stop old.texts names c.1.0 place stop.reaches.name P is c.1.1 stop.reaches.named stop.says spoils)
+        absurd (no_stop parsed old.texts names c.1.0 place stop.reaches.name P is c.1.1 stop.reaches.named stop.says spoils)
     stops Usage place P status c stop spoils fault long files = absurd c.1
     stops (Limit limit) place P status c stop spoils fault long files = absurd c.1
     stops (Script script line kind) place P status c stop spoils fault long files =
-        let both = one_stop old.texts names script place (IsRefused line kind) P is c.1 stop (fault_spoils line kind) spoils in
+        let both = one_stop parsed old.texts names script place (IsRefused parsed line kind) P is c.1 stop (fault_spoils parsed line kind) spoils in
         inl (fault both.0 line kind both.1 both.2)
+    stops (BlockScript script line kind) place P status c stop spoils fault long files = absurd c.1
     stops (Bytes script) place P status c stop spoils fault long files =
-        let both = one_stop old.texts names script place IsLong P is c.1 stop length_spoils spoils in
+        let both = one_stop parsed old.texts names script place IsLong P is c.1 stop (length_spoils parsed) spoils in
         inl (long both.0 both.1 both.2)
     stops (Read script) place P status c stop spoils fault long files = absurd (files c.1.1)
     stops Write place P status c stop spoils fault long files =
-        absurd (no_stop old.texts names c.3.0 place stop.reaches.name P is c.3.1 stop.reaches.named stop.says spoils)
+        absurd (no_stop parsed old.texts names c.3.0 place stop.reaches.name P is c.3.1 stop.reaches.named stop.says spoils)
     stops Memory place P status c stop spoils fault long files = inr refl
 
-  -- what reads no files ends with its text
-  writes : (f : Finish) (asks : Asks) → files_of asks ≡ [] → AskedCause f asks old new → ¬ Rose old.out_faults new.out_faults
-      → (status_of f ≡ 0) ⊎ (status_of f ≡ 7)
-  writes (Done closed) asks none c out = inl refl
-  writes Usage asks none c out = absurd c.1
-  writes (Limit limit) asks none c out = absurd c.1
-  writes (Script script line kind) asks none c out = absurd (none_reached old.texts script (subst (λ ns. Reaches old.texts ns script) none c.1.reaches))
-  writes (Bytes script) asks none c out = absurd (none_reached old.texts script (subst (λ ns. Reaches old.texts ns script) none c.1.reaches))
-  writes (Read script) asks none c out = absurd (none_reached old.texts script (subst (λ ns. Reaches old.texts ns script) none c.1.0))
-  writes Write asks none c out = absurd (out c.0)
-  writes Memory asks none c out = inr refl
+  -- what reads no files stops at none
+  stops_at_none : (f : Finish) (asks : Asks) → files_of asks ≡ [] → reading_of asks ≡ commands
+      → AnyStop f (reading_of asks) old.texts (files_of asks) old.file_faults new.file_faults → status_of f ≡ 7
+  stops_at_none f asks none sets stop =
+      none_left f old.texts old.file_faults new.file_faults
+      (subst (λ r. AnyStop f r old.texts [] old.file_faults new.file_faults) sets
+      (subst (λ ns. AnyStop f (reading_of asks) old.texts ns old.file_faults new.file_faults) none stop))
+
+  -- it ends with its text
+  writes : (f : Finish) (asks : Asks) → files_of asks ≡ [] → reading_of asks ≡ commands → AskedCause f asks old new
+      → ¬ Rose old.out_faults new.out_faults → (status_of f ≡ 0) ⊎ (status_of f ≡ 7)
+  writes (Done closed) asks none sets c out = inl refl
+  writes Usage asks none sets c out = inr (stops_at_none Usage asks none sets c.1)
+  writes (Limit limit) asks none sets c out = inr (stops_at_none (Limit limit) asks none sets c.1)
+  writes (Script script line kind) asks none sets c out = inr (stops_at_none (Script script line kind) asks none sets c.1)
+  writes (BlockScript script line kind) asks none sets c out = inr (stops_at_none (BlockScript script line kind) asks none sets c.1)
+  writes (Bytes script) asks none sets c out = inr (stops_at_none (Bytes script) asks none sets c.1)
+  writes (Read script) asks none sets c out = inr (stops_at_none (Read script) asks none sets c.1)
+  writes Write asks none sets c out = absurd (out c.0)
+  writes Memory asks none sets c out = inr refl
 
   -- a number that is out of its range is answered
   limits : (f : Finish) (limit : LimitOf) → Cause f words old new → asked words ≡ Err (Beyond limit) → status_of f ≡ 4
@@ -138,6 +179,7 @@ module _ (words : List (List ℕ)) (old new : Outside) where
   limits (Limit other) limit c a = refl
   limits (Done closed) limit c a = absurd (not_both words c.0 (Beyond limit) c.1 a)
   limits (Script script line kind) limit c a = absurd (not_both words c.0 (Beyond limit) c.1 a)
+  limits (BlockScript script line kind) limit c a = absurd (not_both words c.0 (Beyond limit) c.1 a)
   limits (Bytes script) limit c a = absurd (not_both words c.0 (Beyond limit) c.1 a)
   limits (Read script) limit c a = absurd (not_both words c.0 (Beyond limit) c.1 a)
   limits Write limit c a = absurd (not_both words c.0 (Beyond limit) c.1 a)
@@ -146,15 +188,15 @@ module _ (words : List (List ℕ)) (old new : Outside) where
   pub is_complete : (f : Finish) (status : ℕ) → status ≡ status_of f → Cause f words old new → IsComplete words old new status
   is_complete f status e c = rw e (record {
     scripts = λ options names scripts a is all. runs options names is f scripts (ends f (run options names) c a) all;
-    fault = λ options names place line kind a is stop. stops options names is f place (IsRefused line kind) (fault_status kind)
-        (ends f (run options names) c a) stop (fault_spoils line kind)
+    fault = λ options names place line kind a is stop. stops options names is f place (IsRefused parsed line kind) (fault_status kind)
+        (ends f (run options names) c a) stop (fault_spoils parsed line kind)
         (λ text l k r s. ap fault_status (ap (λ (x : ℕ × FaultKind). x.1) (err_inj {A = List Command} (l, k) (line, kind) (sym r.fault ∙ s.fault))))
         (λ text long s. absurd (omega (arith, s.short, long)));
-    bytes = λ options names place a is stop. stops options names is f place IsLong 4 (ends f (run options names) c a) stop length_spoils
+    bytes = λ options names place a is stop. stops options names is f place IsLong 4 (ends f (run options names) c a) stop (length_spoils parsed)
         (λ text l k r long. absurd (omega (arith, r.short, long))) (λ text long s. refl);
     limit = λ limit a. limits f limit c a;
-    gen = λ number seat a. writes f (gen number seat) refl (ends f (gen number seat) c a);
-    work = λ number a. writes f (work number) refl (ends f (work number) c a);
+    gen = λ number seat a. writes f (gen number seat) refl refl (ends f (gen number seat) c a);
+    work = λ number a. writes f (work number) refl refl (ends f (work number) c a);
   })
 
   printed : (f : Finish) (options : Options) (names : List (List ℕ)) → AskedCause f (run options names) old new → status_of f ≡ 0
@@ -163,6 +205,7 @@ module _ (words : List (List ℕ)) (old new : Outside) where
   printed Usage options names d nought = absurd d.1
   printed (Limit limit) options names d nought = absurd d.1
   printed (Script script line kind) options names d nought = absurd (no_zero kind nought)
+  printed (BlockScript script line kind) options names d nought = absurd d.1
   printed (Bytes script) options names d nought = absurd (omega (arith, nought))
   printed (Read script) options names d nought = absurd (omega (arith, nought))
   printed Write options names d nought = absurd (omega (arith, nought))

@@ -6,3 +6,5 @@ pub mod Refused
 pub mod Complete
 pub mod Four
 pub mod PoolComplete
+pub mod BlockComplete
+pub mod FewBlocks

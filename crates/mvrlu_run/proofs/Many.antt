@@ -1,6 +1,6 @@
 -- One more file, or the one at which reading stops.
 use Rattle.std.proofs.Common.{◌≡◌, ◌≤◌, ◌<◌, ◌+◌, ℕ, List, [], ◌∷◌, ◌++◌, length, take, map, get_or, slice_get, string_bytes, String}
-use Rattle.std.proofs.Common.{All, Vec, Bool, Option, Some, refl, sym, ap, ◌∙◌, subst, arith}
+use Rattle.std.proofs.Common.{All, Vec, Bool, Option, Some, Result, refl, sym, ap, ◌∙◌, subst, arith}
 use Rattle.std.specs.declared.alloc.Global.{Global}
 use Rattle.std.proofs.lemmas.List.{take_more, length-map, map-append}
 use Rattle.std.proofs.lemmas.List.Elements.{All-get_or}
@@ -9,17 +9,20 @@ use Rattle.std.specs.Option.{option_map}
 use Rattle.run_outside.specs.Outside.{Texts, HasText, Rose}
 use Rattle.set_script.specs.declared.commands.Command.{Command}
 use Rattle.mvrlu_run.specs.declared.finish.Finish.{Finish}
-use Rattle.mvrlu_run.specs.declared.finish.Finish.TheVariants.{Done, Usage, Limit, Script, Bytes, Read, Write, Memory}
+use Rattle.mvrlu_run.specs.declared.finish.Finish.TheVariants.{Done, Usage, Limit, Script, BlockScript, Bytes, Read, Write, Memory}
 use Rattle.mvrlu_run.specs.Reading.{Says}
 use Rattle.script_workers.specs.Workers.{items_of}
-use Rattle.mvrlu_run.specs.Scripts.{AllScripts, AnyStop, IsScript, NoneFails, NotRead, OneStop, Reaches, StopsAt}
+use Rattle.mvrlu_run.specs.Scripts.{AllScripts, AnyStop, IsScript, NoneFails, NotRead, OneStop, Reaches, Reading, ScriptOf, StopsAt}
+use Rattle.mvrlu_run.specs.Scripts.{commands, blocks, grammar_of}
 
-pub scripts_snoc : (t : Option Texts) (names : List (List ℕ)) (scripts : List (List Command)) (name : List ℕ) (script : List Command)
-    → AllScripts t names scripts → Says t name (λ text. IsScript text script) → AllScripts t (names ++ name ∷ []) (scripts ++ script ∷ [])
-scripts_snoc t [] [] name script h s = (s, tt)
-scripts_snoc t [] (x ∷ scripts) name script h s = absurd h
-scripts_snoc t (n ∷ names) [] name script h s = absurd h
-scripts_snoc t (n ∷ names) (x ∷ scripts) name script h s = (h.0, scripts_snoc t names scripts name script h.1 s)
+-- one more script, of any grammar
+pub scripts_snoc : {A K : Type 0} (grammar : List ℕ → Result A (ℕ × K)) (t : Option Texts) (names : List (List ℕ)) (scripts : List A) (name : List ℕ)
+    (script : A) → AllScripts grammar t names scripts → Says t name (λ text. IsScript grammar text script)
+    → AllScripts grammar t (names ++ name ∷ []) (scripts ++ script ∷ [])
+scripts_snoc grammar t [] [] name script h s = (s, tt)
+scripts_snoc grammar t [] (x ∷ scripts) name script h s = absurd h
+scripts_snoc grammar t (n ∷ names) [] name script h s = absurd h
+scripts_snoc grammar t (n ∷ names) (x ∷ scripts) name script h s = (h.0, scripts_snoc grammar t names scripts name script h.1 s)
 
 abbrev pub bytes_of : List (String Global) → List (List ℕ)
 bytes_of names = map string_bytes names
@@ -34,30 +37,35 @@ take_name names i x lt at =
     take_more (bytes_of names) i [] (rw length-map lt)
     ∙ ap (λ y. take i (bytes_of names) ++ y ∷ []) (get_or_from_slice_get (bytes_of names) i (string_bytes x) [] (named_at names i x lt at))
 
--- one more file has its script
-pub more_scripts : (t : Option Texts) (names : List (String Global)) (i : ℕ) (x : String Global) (scripts : List (Vec Command Global)) (s : Vec Command Global)
-    → i < length names → x ≡ get_or names i x → AllScripts t (take i (bytes_of names)) (map items_of scripts)
-    → Says t (string_bytes x) (λ text. IsScript text s.items)
-    → AllScripts t (take (i + 1) (bytes_of names)) (map items_of (scripts ++ s ∷ []))
-more_scripts t names i x scripts s lt at h says =
-    rw (take_name names i x lt at, map-append items_of scripts (s ∷ []))
-    (scripts_snoc t (take i (bytes_of names)) (map items_of scripts) (string_bytes x) s.items h says)
+-- one more file has its script, where each script in memory is one
+pub more_scripts : {A K S : Type 0} (grammar : List ℕ → Result A (ℕ × K)) (of : S → A) (t : Option Texts) (names : List (String Global)) (i : ℕ)
+    (x : String Global) (scripts : List S) (s : S) → i < length names → x ≡ get_or names i x
+    → AllScripts grammar t (take i (bytes_of names)) (map of scripts) → Says t (string_bytes x) (λ text. IsScript grammar text (of s))
+    → AllScripts grammar t (take (i + 1) (bytes_of names)) (map of (scripts ++ s ∷ []))
+more_scripts grammar of t names i x scripts s lt at h says =
+    rw (take_name names i x lt at, map-append of scripts (s ∷ []))
+    (scripts_snoc grammar t (take i (bytes_of names)) (map of scripts) (string_bytes x) (of s) h says)
 
 -- where one file is refused and those before it are scripts, reading stops there
-pub any_from_one : (f : Finish) (t : Option Texts) (names : List (List ℕ)) (place : ℕ) (name : List ℕ) (before : List (List Command)) (faults mid now : ℕ)
-    → slice_get names place ≡ Some name → AllScripts t (take place names) before → faults ≤ mid → OneStop f place t name mid now
-    → AnyStop f t names faults now
-any_from_one (Script script line kind) t names place name before faults mid now at h le o =
+pub any_from_one : (f : Finish) (reading : Reading) (t : Option Texts) (names : List (List ℕ)) (place : ℕ) (name : List ℕ)
+    (before : List (ScriptOf reading)) (faults mid now : ℕ)
+    → slice_get names place ≡ Some name → AllScripts (grammar_of reading) t (take place names) before → faults ≤ mid
+    → OneStop f reading place t name mid now → AnyStop f reading t names faults now
+any_from_one (Script script line kind) commands t names place name before faults mid now at h le o =
     rw o.0 (record { reaches = record { name = name; named = at; before = before; scripts = h }; says = o.1 })
-any_from_one (Bytes script) t names place name before faults mid now at h le o =
+any_from_one (Script script line kind) blocks t names place name before faults mid now at h le o = absurd o
+any_from_one (BlockScript script line kind) commands t names place name before faults mid now at h le o = absurd o
+any_from_one (BlockScript script line kind) blocks t names place name before faults mid now at h le o =
     rw o.0 (record { reaches = record { name = name; named = at; before = before; scripts = h }; says = o.1 })
-any_from_one (Read script) t names place name before faults mid now at h le o =
+any_from_one (Bytes script) reading t names place name before faults mid now at h le o =
+    rw o.0 (record { reaches = record { name = name; named = at; before = before; scripts = h }; says = o.1 })
+any_from_one (Read script) reading t names place name before faults mid now at h le o =
     (rw o.0 (record { name = name; named = at; before = before; scripts = h }), omega (arith, o.1))
-any_from_one Memory t names place name before faults mid now at h le o = tt
-any_from_one (Done c) t names place name before faults mid now at h le o = absurd o
-any_from_one Usage t names place name before faults mid now at h le o = absurd o
-any_from_one (Limit limit) t names place name before faults mid now at h le o = absurd o
-any_from_one Write t names place name before faults mid now at h le o = absurd o
+any_from_one Memory reading t names place name before faults mid now at h le o = tt
+any_from_one (Done c) reading t names place name before faults mid now at h le o = absurd o
+any_from_one Usage reading t names place name before faults mid now at h le o = absurd o
+any_from_one (Limit limit) reading t names place name before faults mid now at h le o = absurd o
+any_from_one Write reading t names place name before faults mid now at h le o = absurd o
 
 has_at : (t : Option Texts) (names : List (List ℕ)) (place : ℕ) (name : List ℕ) → slice_get names place ≡ Some name → All (HasText t) names → HasText t name
 has_at t names place name at h =
@@ -69,6 +77,7 @@ pub none_fails : (f : Finish) (steady : Bool) (t : Option Texts) (names : List (
     → NotRead f steady t name → NoneFails f steady t names
 none_fails (Read script) steady t names place name at n = λ s h. n s (has_at t names place name at h)
 none_fails (Script script line kind) steady t names place name at n = tt
+none_fails (BlockScript script line kind) steady t names place name at n = tt
 none_fails (Bytes script) steady t names place name at n = tt
 none_fails Memory steady t names place name at n = tt
 none_fails (Done c) steady t names place name at n = tt

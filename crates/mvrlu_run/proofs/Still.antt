@@ -2,6 +2,7 @@
 use Rattle.std.proofs.Common.{◌≡◌, ℕ, List, sym, subst}
 use Rattle.mv_history.specs.declared.answers.LogTable.{LogTable}
 use Rattle.mvrlu.specs.Whole.{Whole, IsStill, last_state}
+use Rattle.block_domain.specs.Whole.{BlocksRunOf}
 use Rattle.pool_domain.specs.Whole.{PoolOf}
 use Rattle.run_report.specs.declared.line.Line.{Line}
 use Rattle.run_report.specs.Whole.{RunOf}
@@ -21,3 +22,9 @@ pub still_pool : (v w : Whole) (seats : ℕ) (commands : List Command) (lines : 
     → end ≡ catalogue_of (last_state v) → PoolOf (past_of_whole v) seats commands lines (catalogue_of (last_state v)) tables
     → PoolOf (past_of_whole w) seats commands lines end tables
 still_pool v w seats commands lines end tables still is pool = rw (is, still.start, still.base, still.history) pool
+
+-- and so is a run of blocks
+pub still_blocks : (v w : Whole) (scripts : List (List (List Command))) (lines : List Line) (end : Maps) (tables : List LogTable) → IsStill v w
+    → end ≡ catalogue_of (last_state v) → BlocksRunOf (past_of_whole v) scripts lines (catalogue_of (last_state v)) tables
+    → BlocksRunOf (past_of_whole w) scripts lines end tables
+still_blocks v w scripts lines end tables still is run = rw (is, still.start, still.base, still.history) run

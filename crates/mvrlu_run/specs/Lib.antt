@@ -6,3 +6,5 @@ pub mod Told
 pub mod Outcome
 pub mod Pooled
 pub mod PoolOutcome
+pub mod Blocked
+pub mod BlockOutcome

@@ -8,21 +8,22 @@ use Rattle.run_words.specs.declared.request.Refusal.TheVariants.{Form, Beyond}
 use Rattle.run_words.specs.Words.{Asks, run, gen, work, asked}
 use Rattle.set_script.specs.declared.commands.Command.{Command}
 use Rattle.set_script.specs.declared.commands.FaultKind.{FaultKind}
+use Rattle.set_script.specs.Grammar.{parsed}
 use Rattle.set_script.specs.Lawful.{IsLawful}
 use Rattle.set_script.specs.declared.rules.SetRules.{SetRules}
 use Rattle.mvrlu.specs.Meant.{whole_of}
 use Rattle.mvrlu.specs.Whole.{last_state}
 use Rattle.mvrlu.specs.declared.closing.Closing.{Closing}
 use Rattle.mvrlu_run.specs.declared.finish.Closed.{Closed}
-use Rattle.mvrlu_run.specs.declared.finish.Closed.TheVariants.{No, Sets}
+use Rattle.mvrlu_run.specs.declared.finish.Closed.TheVariants.{No, Sets, Blocks}
 use Rattle.mvrlu_run.specs.declared.finish.Finish.{Finish}
-use Rattle.mvrlu_run.specs.declared.finish.Finish.TheVariants.{Done, Usage, Limit, Script, Bytes, Read, Write, Memory}
+use Rattle.mvrlu_run.specs.declared.finish.Finish.TheVariants.{Done, Usage, Limit, Script, BlockScript, Bytes, Read, Write, Memory}
 use Rattle.mvrlu_run.specs.declared.finish.Ran.{Ran}
 use Rattle.mvrlu_run.specs.Reading.{AreTold}
 use Rattle.mvrlu_run.specs.Scripts.{AllScripts, StopsAt, IsRefused, IsLong, AnyStop, NoneFails}
 use Rattle.mvrlu_run.specs.Sent.{Sent}
 use Rattle.mvrlu_run.specs.Status.{status_of, closed_of, fault_status, line_of}
-use Rattle.mvrlu_run.specs.Told.{IsRunText, IsTextFor, files_of}
+use Rattle.mvrlu_run.specs.Told.{IsRunText, IsTextFor, files_of, reading_of}
 
 -- what the program sees of files and output at one moment
 pub record Outside : Type 0 where
@@ -44,7 +45,7 @@ AskedCause (Done closed) asks old new = (text : List ℕ) × IsTextFor asks old.
 AskedCause Write asks old new =
     Rose old.out_faults new.out_faults × (closed : Closed) × (text : List ℕ) × IsTextFor asks old.texts closed text
     × Sent old.out new.out old.out_faults new.out_faults text
-AskedCause finish asks old new = (new.out ≡ old.out) × AnyStop finish old.texts (files_of asks) old.file_faults new.file_faults
+AskedCause finish asks old new = (new.out ≡ old.out) × AnyStop finish (reading_of asks) old.texts (files_of asks) old.file_faults new.file_faults
 
 -- the cause of each way to end
 abbrev pub Cause : Finish → List (List ℕ) → Outside → Outside → Type 0
@@ -70,27 +71,28 @@ pub record Outcome (words : List (List ℕ)) (old new : Outside) (err err_new : 
 -- that is left, and the printed sets are those after it.
 abbrev pub IsPrinted : Options → List (List ℕ) → Outside → Outside → Closed → Type 0
 IsPrinted options names old new closed =
-    (closing : Closing SetRules) × (closed ≡ Sets closing) × (scripts : List (List Command)) × AllScripts old.texts names scripts
+    (closing : Closing SetRules) × (closed ≡ Sets closing) × (scripts : List (List Command)) × AllScripts parsed old.texts names scripts
     × (text : List ℕ) × IsRunText options scripts closing text × Appends old.out new.out text
 
 -- what is left of a domain reads a lawful state, so the sets can be read from it
 abbrev pub ReadsSets : Closed → Type 0
 ReadsSets No = ⊤
 ReadsSets (Sets closing) = IsLawful (last_state (whole_of closing))
+ReadsSets (Blocks closing) = IsLawful (last_state (whole_of closing))
 
 -- What a call is sure to answer where the texts of the files are told and no call of the files failed, but for want of memory.
 pub record IsComplete (words : List (List ℕ)) (old new : Outside) (status : ℕ) : Type 0 where
   -- scripts are run, and their text is written where no write failed
   pub scripts : (options : Options) (names : List (List ℕ)) (scripts : List (List Command)) → asked words ≡ Ok (run options names)
-      → AreTold old.texts → AllScripts old.texts names scripts → ¬ Rose old.file_faults new.file_faults → ¬ Rose old.out_faults new.out_faults
+      → AreTold old.texts → AllScripts parsed old.texts names scripts → ¬ Rose old.file_faults new.file_faults → ¬ Rose old.out_faults new.out_faults
       → (status ≡ 0) ⊎ (status ≡ 7)
   -- the first faulty line of the first file that is no script is answered
   pub fault : (options : Options) (names : List (List ℕ)) (place line : ℕ) (kind : FaultKind) → asked words ≡ Ok (run options names)
-      → AreTold old.texts → StopsAt old.texts names place (IsRefused line kind) → ¬ Rose old.file_faults new.file_faults
+      → AreTold old.texts → StopsAt parsed old.texts names place (IsRefused parsed line kind) → ¬ Rose old.file_faults new.file_faults
       → (status ≡ fault_status kind) ⊎ (status ≡ 7)
   -- one byte too many is answered
   pub bytes : (options : Options) (names : List (List ℕ)) (place : ℕ) → asked words ≡ Ok (run options names)
-      → AreTold old.texts → StopsAt old.texts names place IsLong → ¬ Rose old.file_faults new.file_faults → (status ≡ 4) ⊎ (status ≡ 7)
+      → AreTold old.texts → StopsAt parsed old.texts names place IsLong → ¬ Rose old.file_faults new.file_faults → (status ≡ 4) ⊎ (status ≡ 7)
   -- a number that is out of its range is answered
   pub limit : (limit : LimitOf) → asked words ≡ Err (Beyond limit) → status ≡ 4
   -- a generated script is written, and the four of a number are run, where no write failed

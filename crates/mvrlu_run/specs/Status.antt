@@ -1,5 +1,7 @@
 -- The status of each way to end, and its line on `err`.
 use Rattle.std.specs.Prelude.{ℕ, List, [], ◌++◌, codes, decimal}
+use Rattle.set_blocks.specs.declared.faults.BlockKind.{BlockKind}
+use Rattle.set_blocks.specs.declared.faults.BlockKind.TheVariants.{Line, Nested, Stray, Empty, Long, Apart, Unended}
 use Rattle.set_script.specs.declared.commands.FaultKind.{FaultKind}
 use Rattle.set_script.specs.declared.commands.FaultKind.TheVariants.{Word, Count, Format, Name, Key, Value, Same, Many}
 use Rattle.run_words.specs.declared.request.Limit.{Limit as LimitOf}
@@ -7,12 +9,17 @@ use Rattle.run_words.specs.declared.request.Limit.TheVariants.{Objects, Slots, B
 use Rattle.mvrlu_run.specs.declared.finish.Closed.{Closed}
 use Rattle.mvrlu_run.specs.declared.finish.Closed.TheVariants.{No}
 use Rattle.mvrlu_run.specs.declared.finish.Finish.{Finish}
-use Rattle.mvrlu_run.specs.declared.finish.Finish.TheVariants.{Done, Usage, Limit, Script, Bytes, Read, Write, Memory}
+use Rattle.mvrlu_run.specs.declared.finish.Finish.TheVariants.{Done, Usage, Limit, Script, BlockScript, Bytes, Read, Write, Memory}
 
 -- the status of a faulty script
 abbrev pub fault_status : FaultKind → ℕ
 fault_status Many = 4
 fault_status _ = 3
+
+-- and of a faulty script of blocks
+abbrev pub block_fault_status : BlockKind → ℕ
+block_fault_status (Line kind) = fault_status kind
+block_fault_status _ = 3
 
 -- the status
 abbrev pub status_of : Finish → ℕ
@@ -20,6 +27,7 @@ status_of (Done closed) = 0
 status_of Usage = 2
 status_of (Limit limit) = 4
 status_of (Script script line kind) = fault_status kind
+status_of (BlockScript script line kind) = block_fault_status kind
 status_of (Bytes script) = 4
 status_of (Read script) = 5
 status_of Write = 6
@@ -56,12 +64,27 @@ fault_end Value = codes ": bad value\n"
 fault_end Same = codes ": same name twice\n"
 fault_end Many = codes " commands\n"
 
+-- the same of a script of blocks
+abbrev pub block_fault_start : BlockKind → List ℕ
+block_fault_start (Line kind) = fault_start kind
+block_fault_start _ = codes "script "
+
+abbrev pub block_fault_end : BlockKind → List ℕ
+block_fault_end (Line kind) = fault_end kind
+block_fault_end Nested = codes ": nested block\n"
+block_fault_end Stray = codes ": end without begin\n"
+block_fault_end Empty = codes ": empty block\n"
+block_fault_end Long = codes ": block too long\n"
+block_fault_end Apart = codes ": not in a block\n"
+block_fault_end Unended = codes ": block without end\n"
+
 -- the line on `err`
 abbrev pub line_of : Finish → List ℕ
 line_of (Done closed) = []
-line_of Usage = codes "usage: run [--objects N] [--slots N] [--base N] FILE... or gen NUMBER SEAT or work NUMBER or pool SEATS FILE\n"
+line_of Usage = codes "usage: run [--objects N] [--slots N] [--base N] FILE... or gen NUMBER SEAT or work NUMBER or block FILE... or pool SEATS FILE\n"
 line_of (Limit limit) = codes "limit: " ++ limit_word limit ++ codes "\n"
 line_of (Script script line kind) = fault_start kind ++ decimal script ++ codes " line " ++ decimal line ++ fault_end kind
+line_of (BlockScript script line kind) = block_fault_start kind ++ decimal script ++ codes " line " ++ decimal line ++ block_fault_end kind
 line_of (Bytes script) = codes "limit: script " ++ decimal script ++ codes " bytes\n"
 line_of (Read script) = codes "read fault: script " ++ decimal script ++ codes "\n"
 line_of Write = codes "write fault\n"

@@ -11,17 +11,21 @@ use Rattle.run_report.specs.Summary.{summary}
 use Rattle.run_report.specs.Text.{text_of_run}
 use Rattle.run_report.specs.Whole.{RunOf}
 use Rattle.run_words.specs.declared.request.Options.{Options}
-use Rattle.run_words.specs.Words.{Asks, run, gen, work, pool}
+use Rattle.run_words.specs.Words.{Asks, run, gen, work, block, pool}
 use Rattle.script_domain.specs.Joined.{past_of_whole}
 use Rattle.script_gen.specs.Script.{script, text_of_script}
+use Rattle.set_blocks.specs.BlockGrammar.{parsed_blocks}
+use Rattle.set_blocks.specs.declared.rules.BlockRules.{BlockRules}
+use Rattle.set_script.specs.Grammar.{parsed}
 use Rattle.set_script.specs.declared.commands.Command.{Command}
 use Rattle.set_script.specs.declared.rules.SetRules.{SetRules}
 use Rattle.set_script.specs.Catalogue.{Maps}
 use Rattle.set_script.specs.Objects.{no_words}
 use Rattle.mvrlu_run.specs.declared.finish.Closed.{Closed}
-use Rattle.mvrlu_run.specs.declared.finish.Closed.TheVariants.{No, Sets}
+use Rattle.mvrlu_run.specs.declared.finish.Closed.TheVariants.{No, Sets, Blocks}
+use Rattle.mvrlu_run.specs.Blocked.{IsBlocksText}
 use Rattle.mvrlu_run.specs.Pooled.{IsPoolText}
-use Rattle.mvrlu_run.specs.Scripts.{AllScripts}
+use Rattle.mvrlu_run.specs.Scripts.{AllScripts, Reading, commands, blocks}
 
 -- The scripts were run over the domain that is left, which was opened with so many objects, all zero, and this time of the
 -- opening state: its one history is that of these lines, maps and tables.
@@ -59,29 +63,38 @@ pub record IsWorkText (number : ℕ) (closing : Closing SetRules) (text : List �
 -- the text is one that the words ask for, and this is left of the domain that was run for it
 abbrev pub IsTextFor : Asks → Option Texts → Closed → List ℕ → Type 0
 IsTextFor (run options names) texts closed text =
-    (scripts : List (List Command)) × AllScripts texts names scripts × (closing : Closing SetRules) × (closed ≡ Sets closing)
+    (scripts : List (List Command)) × AllScripts parsed texts names scripts × (closing : Closing SetRules) × (closed ≡ Sets closing)
     × IsRunText options scripts closing text
 IsTextFor (gen number seat) texts closed text = (closed ≡ No) × (text ≡ text_of_script number seat)
 IsTextFor (work number) texts closed text = (closing : Closing SetRules) × (closed ≡ Sets closing) × IsWorkText number closing text
+IsTextFor (block names) texts closed text =
+    (scripts : List (List (List Command))) × AllScripts parsed_blocks texts names scripts × (closing : Closing BlockRules) × (closed ≡ Blocks closing)
+    × IsBlocksText scripts closing text
 IsTextFor (pool seats names) texts closed text =
-    (commands : List Command) × AllScripts texts names (commands ∷ []) × (closing : Closing SetRules) × (closed ≡ Sets closing)
-    × IsPoolText seats commands closing text
+    (script : List Command) × AllScripts parsed texts names (script ∷ []) × (closing : Closing SetRules) × (closed ≡ Sets closing)
+    × IsPoolText seats script closing text
 
 -- the files that are to be read
 abbrev pub files_of : Asks → List (List ℕ)
 files_of (run options names) = names
 files_of (gen number seat) = []
 files_of (work number) = []
+files_of (block names) = names
 files_of (pool seats names) = names
 
--- the numbers of the domain of a run with so many seats
-abbrev pub config_of : Options → ℕ → Config
-config_of options seats = record {
+-- and as what
+abbrev pub reading_of : Asks → Reading
+reading_of (block names) = blocks
+reading_of asks = commands
+
+-- the numbers of a domain with so many seats, each of which may hold so many objects
+abbrev pub config_of : Options → ℕ → ℕ → Config
+config_of options write_max seats = record {
   seats = seats;
   objects = options.objects;
   slots = options.slots;
-  write_max = 16;
+  write_max = write_max;
   low = options.slots / 2;
-  high = options.slots - 16;
+  high = options.slots - write_max;
   base = options.base;
 }

@@ -1,6 +1,7 @@
 // How a call of the program ends.
 use mvrlu::Closing;
 use run_words::Limit;
+use set_blocks::{BlockKind, BlockRules};
 use set_script::{FaultKind, SetRules};
 
 /// The most bytes of a script.
@@ -13,6 +14,8 @@ pub enum Closed {
     No,
     /// The domain of the sets on which the scripts were run. Its seats have met, so its one history is known whole.
     Sets(Closing<SetRules>),
+    /// The domain of the blocks, likewise.
+    Blocks(Closing<BlockRules>),
 }
 
 /// What became of a call of the program.
@@ -38,6 +41,12 @@ pub enum Finish {
         script: u32,
         line: u32,
         kind: FaultKind,
+    },
+    /// The script of blocks has a first faulty line, or one command too many.
+    BlockScript {
+        script: u32,
+        line: u32,
+        kind: BlockKind,
     },
     /// The script has more than `MOST_BYTES` bytes.
     Bytes {

@@ -1,11 +1,12 @@
 //! The program: it reads its words and the scripts of files, runs them over a domain of many versions, one worker for
 //! each script, and writes the text of the run. It also writes a generated script, runs the four of a number, and does the
-//! commands of one file on a pool of seats, whichever takes the next.
+//! commands of one file on a pool of seats, whichever takes the next, and it runs scripts in which several commands are one
+//! block.
 //!
 //! # Model
 //!
 //! A call meets the words of the command line and an outside: texts by name and a count of faults, the bytes written
-//! and a count of faults, and the same of standard error. It ends in one of eight ways (`Finish`), each with its
+//! and a count of faults, and the same of standard error. It ends in one of nine ways (`Finish`), each with its
 //! status, its cause and its line on standard error; the definitions are in `specs/Outcome.antt` and
 //! `specs/Status.antt`.
 //!
@@ -15,7 +16,7 @@
 //!
 //! # Contract
 //!
-//! Status 0 of `run`: the texts of the files, where they are told, are scripts. There are lines, final maps and tables
+//! Status 0 of `run`, and of a pool or blocks likewise: the texts of the files, where they are told, are scripts. There are lines, final maps and tables
 //! of which the output grew by exactly their text. Each line stands in the history of the closing: a commit is the
 //! entry of its time by its seat with its command's tag, and a read has its reply in the state of its time. Each
 //! command has one line, each commit of the history has one, and the lines in their order, replayed one after another,
@@ -25,14 +26,17 @@
 //!
 //! # Place
 //!
-//! It stands on `run_words` for the words, `run_outside` for reading and writing, `set_script` for the commands of a
-//! script, `script_gen` for generated scripts, `mvrlu` for the domain, `script_domain` for the run of scripts over it,
-//! `set_catalog` for the sets that are left, and `run_report` for the order and the text of the lines. The thin program
-//! `mvrlu_main` calls it with the system's files and streams.
+//! It stands on `run_words` for the words, `run_outside` for reading and writing, `set_script` and `set_blocks` for the
+//! commands and blocks of a script, `script_gen` for generated scripts, `mvrlu` for the domain, `script_domain`,
+//! `pool_domain` and `block_domain` for the run of scripts, pools and blocks over it, `set_catalog` for the sets that are
+//! left, and `run_report` for the order and the text of the lines. The thin program `mvrlu_main` calls it with the
+//! system's files and streams.
 //!
 //! [`Closing`]: mvrlu::Closing
 #![tactic(auto)]
 
+mod block_scripts;
+mod blocking;
 mod finish;
 mod generated;
 mod line;
@@ -44,6 +48,8 @@ mod scripts;
 mod sending;
 mod texts;
 
+pub use block_domain::run_block_domain;
+pub use block_workers::run_blocks;
 pub use command_pool::run_pool;
 pub use finish::{Closed, Ran};
 pub use pool_domain::run_pool_domain;

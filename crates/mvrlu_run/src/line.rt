@@ -1,20 +1,21 @@
 // The line on standard error. Making it takes no memory.
 ghost use Rattle.std.specs.Prelude.{◌≡◌, ◌≤◌, ◌+◌, ◌++◌, length, take, decimal};
 ghost use Rattle.mvrlu_run.specs.Sent.{Sent};
-ghost use Rattle.mvrlu_run.specs.Status.{fault_end, fault_start, limit_word, line_of};
+ghost use Rattle.mvrlu_run.specs.Status.{block_fault_end, block_fault_start, fault_end, fault_start, limit_word, line_of};
 
 use crate::finish::Finish;
 use crate::sending::send;
 use itoa::Buffer;
 use run_outside::Sink;
 use run_words::Limit;
+use set_blocks::BlockKind;
 use set_script::FaultKind;
 
 // The room of the longest line.
 const ROOM: usize = 128;
 
 const USAGE: &[u8] =
-    b"usage: run [--objects N] [--slots N] [--base N] FILE... or gen NUMBER SEAT or work NUMBER or pool SEATS FILE\n";
+    b"usage: run [--objects N] [--slots N] [--base N] FILE... or gen NUMBER SEAT or work NUMBER or block FILE... or pool SEATS FILE\n";
 
 /// Writes the line of an end, as far as the sink takes it.
 pub fn report<E: Sink>(err: &mut E, finish: &Finish)
@@ -41,6 +42,14 @@ fn make_line(buffer: &mut [u8], finish: &Finish) -> usize
         }
         Finish::Script { script, line, kind } => {
             let (start, end) = fault_words(*kind);
+            let at = put(buffer, 0, start);
+            let at = put_number(buffer, at, *script);
+            let at = put(buffer, at, b" line ");
+            let at = put_number(buffer, at, *line);
+            put(buffer, at, end)
+        }
+        Finish::BlockScript { script, line, kind } => {
+            let (start, end) = block_fault_words(*kind);
             let at = put(buffer, 0, start);
             let at = put_number(buffer, at, *script);
             let at = put(buffer, at, b" line ");
@@ -93,6 +102,24 @@ fn fault_words(kind: FaultKind) -> (&'static [u8], &'static [u8])
         FaultKind::Value => b": bad value\n",
         FaultKind::Same => b": same name twice\n",
         FaultKind::Many => return (b"limit: script ", b" commands\n"),
+    };
+    (b"script ", end)
+}
+
+// The same of a script of blocks.
+fn block_fault_words(kind: BlockKind) -> (&'static [u8], &'static [u8])
+    ensures start { result.0.now ≡ block_fault_start kind }
+    ensures end { result.1.now ≡ block_fault_end kind }
+    ensures room { length result.0.now + 30 + length result.1.now ≤ ROOM }
+{
+    let end = match kind {
+        BlockKind::Line(kind) => return fault_words(kind),
+        BlockKind::Nested => b": nested block\n".as_slice(),
+        BlockKind::Stray => b": end without begin\n",
+        BlockKind::Empty => b": empty block\n",
+        BlockKind::Long => b": block too long\n",
+        BlockKind::Apart => b": not in a block\n",
+        BlockKind::Unended => b": block without end\n",
     };
     (b"script ", end)
 }

@@ -3,7 +3,7 @@ ghost use Rattle.std.specs.Prelude.{◌≡◌, ◌≤◌, IfErr, IfOk, MatchResu
 ghost use Rattle.run_report.specs.Order.{IsOrdered};
 ghost use Rattle.run_words.specs.Words.{FitOptions, pool};
 ghost use Rattle.mvrlu_run.specs.Pooled.{IsPoolOf, IsPoolText};
-ghost use Rattle.mvrlu_run.specs.Scripts.{AnyStop, NoneFails};
+ghost use Rattle.mvrlu_run.specs.Scripts.{AnyStop, NoneFails, commands as by_command};
 ghost use Rattle.mvrlu_run.specs.Told.{IsTextFor};
 
 use crate::finish::{Closed, Finish};
@@ -42,7 +42,7 @@ pub fn make_pool<R: Threads + Wait + Sync, F: Files, G: Gate>(
     requires few { seats ≤ 8 }
     requires one { length names.now ≡ 1 }
     ensures made { MatchResult result (λ made. IsTextFor (pool seats (map string_bytes names.now)) (F.texts files.old) made.closed made.text.items)
-        (λ finish. AnyStop finish (F.texts files.old) (map string_bytes names.now) (F.faults files.old) (F.faults files.new)) }
+        (λ finish. AnyStop finish by_command (F.texts files.old) (map string_bytes names.now) (F.faults files.old) (F.faults files.new)) }
     ensures steady { IfErr result (λ finish. NoneFails finish (F.steady files.old) (F.texts files.old) (map string_bytes names.now)) }
 {
     let scripts = match read_scripts(alloc, files, names) {

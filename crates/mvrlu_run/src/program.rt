@@ -3,8 +3,9 @@ ghost use Rattle.std.specs.Prelude.{◌≡◌, ◌≢◌, ◌↔◌, List, ℕ, 
 ghost use Rattle.run_outside.specs.Outside.{Rose};
 ghost use Rattle.run_words.specs.declared.request.Options.{Options as OptionsOf};
 ghost use Rattle.run_words.specs.declared.request.Refusal.TheVariants.{Form};
-ghost use Rattle.run_words.specs.Words.{asked, pool, run};
+ghost use Rattle.run_words.specs.Words.{asked, block, pool, run};
 ghost use Rattle.mvrlu_run.specs.Status.{closed_of, status_of};
+ghost use Rattle.mvrlu_run.specs.BlockOutcome.{IsBlocksComplete, IsBlocksPrinted};
 ghost use Rattle.mvrlu_run.specs.PoolOutcome.{IsPoolComplete, IsPoolPrinted};
 ghost use Rattle.mvrlu_run.specs.Outcome.{outside, Cause, IsComplete, IsPrinted, NeverRead, Outcome, ReadsSets};
 
@@ -14,6 +15,7 @@ use crate::sending::send;
 use crate::texts::{Made, make_text};
 use run_outside::{Files, Gate, Sink};
 use run_words::{Refusal, read_words};
+use set_blocks::BlockKind;
 use set_script::FaultKind;
 use std::alloc::Global;
 use std::sync::Wait;
@@ -37,7 +39,8 @@ use std::thread::Threads;
 /// status. `closed` is `No` on every status but 0, and where a script is generated.
 ///
 /// Scripts are run by one worker for each, script i as seat i of a domain of its own; the gate is called around each
-/// command. A pool does the commands of its one file, each on the seat that takes it next, and its lines have that seat
+/// command. Scripts of blocks are run likewise, each block as one entry or one read, and the gate is called around each
+/// block. A pool does the commands of its one file, each on the seat that takes it next, and its lines have that seat
 /// and the command's number in the file.
 pub fn run_program<R: Threads + Wait + Sync, F: Files, O: Sink, E: Sink, G: Gate>(
     rt: &R,
@@ -65,6 +68,12 @@ pub fn run_program<R: Threads + Wait + Sync, F: Files, O: Sink, E: Sink, G: Gate
         (seats : ℕ) → (names : List (List ℕ)) → asked (map string_bytes words.now) ≡ Ok (pool seats names)
         → result.status ≡ 0 → IsPoolPrinted seats names old new result.closed }
 
+    // What blocks print is the text of their domain's one history, which `closed` has.
+    ensures blocked { let old = outside F.texts F.steady F.faults files.old O.written O.faults out.old in
+        let new = outside F.texts F.steady F.faults files.new O.written O.faults out.new in
+        (names : List (List ℕ)) → asked (map string_bytes words.now) ≡ Ok (block names)
+        → result.status ≡ 0 → IsBlocksPrinted names old new result.closed }
+
     // Refusals come for these causes alone, and leave the output as it was.
     ensures usage { (result.status ≡ 2) ↔ (asked (map string_bytes words.now) ≡ Err Form) }
     ensures read { result.status ≡ 5 → Rose (F.faults files.old) (F.faults files.new) }
@@ -80,6 +89,9 @@ pub fn run_program<R: Threads + Wait + Sync, F: Files, O: Sink, E: Sink, G: Gate
     ensures pool_complete { let old = outside F.texts F.steady F.faults files.old O.written O.faults out.old in
         let new = outside F.texts F.steady F.faults files.new O.written O.faults out.new in
         IsPoolComplete (map string_bytes words.now) old new result.status }
+    ensures block_complete { let old = outside F.texts F.steady F.faults files.old O.written O.faults out.old in
+        let new = outside F.texts F.steady F.faults files.new O.written O.faults out.new in
+        IsBlocksComplete (map string_bytes words.now) old new result.status }
 {
     let finish = carry_out(rt, alloc, words, files, out, gate);
     report(err, &finish);
@@ -130,8 +142,12 @@ fn status(finish: &Finish) -> u8
         | Finish::Script {
             kind: FaultKind::Many,
             ..
+        }
+        | Finish::BlockScript {
+            kind: BlockKind::Line(FaultKind::Many),
+            ..
         } => 4,
-        Finish::Script { .. } => 3,
+        Finish::Script { .. } | Finish::BlockScript { .. } => 3,
         Finish::Read { .. } => 5,
         Finish::Write => 6,
         Finish::Memory => 7,

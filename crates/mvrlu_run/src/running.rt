@@ -73,18 +73,19 @@ pub fn run_sets<R: Threads + Wait + Sync, G: Gate>(
     })
 }
 
-// The numbers of a domain of the sets.
-fn config(options: Options, seats: u32) -> Config
+/// The numbers of a domain with so many seats, each of which may hold so many objects, at most 64.
+pub fn config(options: Options, write_max: u32, seats: u32) -> Config
     requires fit { FitOptions options }
-    ensures { result ≡ config_of options seats }
+    requires few { write_max ≤ 64 }
+    ensures { result ≡ config_of options write_max seats }
 {
     Config {
         seats,
         objects: options.objects,
         slots: options.slots,
-        write_max: WRITE_MAX,
+        write_max,
         low: options.slots / 2,
-        high: options.slots - WRITE_MAX,
+        high: options.slots - write_max,
         base: options.base,
     }
 }
@@ -98,18 +99,18 @@ pub fn open_sets(
     requires fit { FitOptions options }
     requires some { 1 ≤ seats }
     requires few { seats ≤ 64 }
-    ensures { IfOk result (λ r. IsOpened (config_of options seats) (replicate options.objects no_words) r.0 r.1.items) }
+    ensures { IfOk result (λ r. IsOpened (config_of options 16 seats) (replicate options.objects no_words) r.0 r.1.items) }
 {
     let start = zeros(alloc, options.objects as usize)?;
-    match open(alloc, config(options, seats), &start) {
+    match open(alloc, config(options, WRITE_MAX, seats), &start) {
         Ok(opened) => Ok(opened),
         Err(OpenFault::Memory) => Err(AllocError),
         Err(OpenFault::Config(_)) => unreachable!(),
     }
 }
 
-// So many objects of zeros. The number is a variable here, since a proof would compute a list of a literal length.
-fn zeros(alloc: Global, count: usize) -> Result<Vec<Words>, AllocError>
+/// So many objects of zeros. The number is a variable here, since a proof would compute a list of a literal length.
+pub fn zeros(alloc: Global, count: usize) -> Result<Vec<Words>, AllocError>
     ensures { IfOk result (λ objects. objects.items ≡ replicate count no_words) }
 {
     vec![in alloc; [0; WORDS]; count]

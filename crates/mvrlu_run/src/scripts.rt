@@ -3,7 +3,8 @@ ghost use Rattle.std.specs.Prelude.{◌≡◌, ◌≤◌, ◌<◌, ◌+◌, leng
 ghost use Rattle.run_outside.specs.Outside.{HasText};
 ghost use Rattle.mvrlu_run.specs.Reading.{Says};
 ghost use Rattle.script_workers.specs.Workers.{items_of};
-ghost use Rattle.mvrlu_run.specs.Scripts.{AllScripts, AnyStop, IsScript, NoneFails, NotRead, OneStop};
+ghost use Rattle.set_script.specs.Grammar.{parsed};
+ghost use Rattle.mvrlu_run.specs.Scripts.{AllScripts, AnyStop, IsScript, NoneFails, NotRead, OneStop, commands as by_command};
 
 use crate::finish::{Finish, MOST_BYTES};
 use crate::reading::read_text;
@@ -19,8 +20,8 @@ pub fn read_scripts<F: Files>(
     names: &[String],
 ) -> Result<Vec<Vec<Command>>, Finish>
     requires few { length names.now ≤ 64 }
-    ensures stop { MatchResult result (λ scripts. AllScripts (F.texts files.old) (map string_bytes names.now) (map items_of scripts.items))
-        (λ finish. AnyStop finish (F.texts files.old) (map string_bytes names.now) (F.faults files.old) (F.faults files.new)) }
+    ensures stop { MatchResult result (λ scripts. AllScripts parsed (F.texts files.old) (map string_bytes names.now) (map items_of scripts.items))
+        (λ finish. AnyStop finish by_command (F.texts files.old) (map string_bytes names.now) (F.faults files.old) (F.faults files.new)) }
     ensures steady { IfErr result (λ finish. NoneFails finish (F.steady files.old) (F.texts files.old) (map string_bytes names.now)) }
     ensures len { IfOk result (λ scripts. length scripts.items ≡ length names.now) }
     ensures short { IfOk result (λ scripts. All (λ script. length script.items ≤ 65536) scripts.items) }
@@ -41,8 +42,8 @@ fn read_each<F: Files>(
 ) -> Result<Vec<Vec<Command>>, Finish>
     requires room { length buffer.old ≡ MOST_BYTES + 1 }
     requires few { length names.now ≤ 64 }
-    ensures stop { MatchResult result (λ scripts. AllScripts (F.texts files.old) (map string_bytes names.now) (map items_of scripts.items))
-        (λ finish. AnyStop finish (F.texts files.old) (map string_bytes names.now) (F.faults files.old) (F.faults files.new)) }
+    ensures stop { MatchResult result (λ scripts. AllScripts parsed (F.texts files.old) (map string_bytes names.now) (map items_of scripts.items))
+        (λ finish. AnyStop finish by_command (F.texts files.old) (map string_bytes names.now) (F.faults files.old) (F.faults files.new)) }
     ensures steady { IfErr result (λ finish. NoneFails finish (F.steady files.old) (F.texts files.old) (map string_bytes names.now)) }
     ensures len { IfOk result (λ scripts. length scripts.items ≡ length names.now) }
     ensures short { IfOk result (λ scripts. All (λ script. length script.items ≤ 65536) scripts.items) }
@@ -71,8 +72,8 @@ fn read_script<F: Files>(
     buffer: &mut [u8],
 ) -> Result<Vec<Command>, Finish>
     requires { length buffer.old ≡ MOST_BYTES + 1 }
-    ensures stop { MatchResult result (λ commands. Says (F.texts files.old) name.now (λ text. IsScript text commands.items))
-        (λ finish. OneStop finish script (F.texts files.old) name.now (F.faults files.old) (F.faults files.new)) }
+    ensures stop { MatchResult result (λ commands. Says (F.texts files.old) name.now (λ text. IsScript parsed text commands.items))
+        (λ finish. OneStop finish by_command script (F.texts files.old) name.now (F.faults files.old) (F.faults files.new)) }
     ensures steady { IfErr result (λ finish. NotRead finish (F.steady files.old) (F.texts files.old) name.now) }
     ensures short { IfOk result (λ commands. length commands.items ≤ 65536) }
     ensures texts { F.texts files.new ≡ F.texts files.old }
@@ -93,7 +94,7 @@ fn read_script<F: Files>(
 }
 
 // A buffer of zeros. The length is a variable here, since a proof would compute a list of a literal length.
-fn zeros(alloc: Global, count: usize) -> Result<Vec<u8>, AllocError>
+pub(crate) fn zeros(alloc: Global, count: usize) -> Result<Vec<u8>, AllocError>
     ensures { IfOk result (λ buffer. length buffer.items ≡ count) }
 {
     vec![in alloc; 0u8; count]

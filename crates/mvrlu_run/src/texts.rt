@@ -3,9 +3,10 @@ ghost use Rattle.std.specs.Prelude.{◌≡◌, ◌≤◌, ◌<◌, All, IfOk, le
 ghost use Rattle.run_words.specs.Words.{FitOptions, IsFit, asks_of, run};
 ghost use Rattle.script_gen.specs.Script.{text_of_script};
 ghost use Rattle.script_workers.specs.Workers.{items_of};
-ghost use Rattle.mvrlu_run.specs.Scripts.{AnyStop, NoneFails};
-ghost use Rattle.mvrlu_run.specs.Told.{IsRunText, IsTextFor, IsWorkText, files_of};
+ghost use Rattle.mvrlu_run.specs.Scripts.{AnyStop, NoneFails, commands as by_command};
+ghost use Rattle.mvrlu_run.specs.Told.{IsRunText, IsTextFor, IsWorkText, files_of, reading_of};
 
+use crate::blocking::make_blocks;
 use crate::finish::{Closed, Finish};
 use crate::generated::{WORK, four_scripts};
 use crate::pooling::make_pool;
@@ -41,7 +42,8 @@ pub fn make_text<R: Threads + Wait + Sync, F: Files, G: Gate>(
 ) -> Result<Made, Finish>
     requires { IsFit request }
     ensures made { MatchResult result (λ made. IsTextFor (asks_of request.entry) (F.texts files.old) made.closed made.text.items)
-        (λ finish. AnyStop finish (F.texts files.old) (files_of (asks_of request.entry)) (F.faults files.old) (F.faults files.new)) }
+        (λ finish. AnyStop finish (reading_of (asks_of request.entry)) (F.texts files.old) (files_of (asks_of request.entry))
+        (F.faults files.old) (F.faults files.new)) }
     ensures steady { IfErr result (λ finish. NoneFails finish (F.steady files.old) (F.texts files.old) (files_of (asks_of request.entry))) }
 {
     match request {
@@ -56,6 +58,7 @@ pub fn make_text<R: Threads + Wait + Sync, F: Files, G: Gate>(
             }),
             Err(AllocError) => Err(Finish::Memory),
         },
+        Request::Block { files: names } => make_blocks(rt, alloc, names, files, gate),
         Request::Pool {
             seats,
             files: names,
@@ -83,7 +86,7 @@ fn make_run<R: Threads + Wait + Sync, F: Files, G: Gate>(
     requires some { 1 ≤ length names.now }
     requires few { length names.now ≤ 64 }
     ensures made { MatchResult result (λ made. IsTextFor (run options (map string_bytes names.now)) (F.texts files.old) made.closed made.text.items)
-        (λ finish. AnyStop finish (F.texts files.old) (map string_bytes names.now) (F.faults files.old) (F.faults files.new)) }
+        (λ finish. AnyStop finish by_command (F.texts files.old) (map string_bytes names.now) (F.faults files.old) (F.faults files.new)) }
     ensures steady { IfErr result (λ finish. NoneFails finish (F.steady files.old) (F.texts files.old) (map string_bytes names.now)) }
 {
     let scripts = match read_scripts(alloc, files, names) {

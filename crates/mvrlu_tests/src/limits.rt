@@ -6,9 +6,9 @@ use std::test::Fail;
 
 /// The line for words that are out of form.
 pub const USAGE: &[u8] =
-    b"usage: run [--objects N] [--slots N] [--base N] FILE... or gen NUMBER SEAT or work NUMBER or pool SEATS FILE\n";
+    b"usage: run [--objects N] [--slots N] [--base N] FILE... or gen NUMBER SEAT or work NUMBER or block FILE... or pool SEATS FILE\n";
 
-const OUT_OF_FORM: [&[&str]; 20] = [
+const OUT_OF_FORM: [&[&str]; 24] = [
     &[],
     &["run"],
     &["walk", "a"],
@@ -29,6 +29,10 @@ const OUT_OF_FORM: [&[&str]; 20] = [
     &["gen", "x", "4"],
     &["work"],
     &["work", "+1"],
+    &["block"],
+    &["block", "--objects", "200", "a"],
+    &["block", "a", "-b"],
+    &["block", "a", ""],
 ];
 
 #[test]
@@ -147,5 +151,12 @@ fn the_commands_of_a_script_are_limited(rt: HostRuntime) -> Result<(), Fail> {
         err: b"limit: script 0 line 65537 commands\n",
         ..PLAIN
     };
-    run_text(&rt, alloc, &more, &questions(alloc, 65_537)?, &OpenGate)
+    let questions = questions(alloc, 65_537)?;
+    run_text(&rt, alloc, &more, &questions, &OpenGate)?;
+    let blocks = Row {
+        name: "65,537 blocks of one",
+        words: &["block", "a"],
+        ..more
+    };
+    run_text(&rt, alloc, &blocks, &questions, &OpenGate)
 }

@@ -36,7 +36,7 @@ use Rattle.command_pool.specs.Pool.{PoolRan, times_of}
 use Rattle.script_domain.specs.Joined.{past_of_whole, AreTablesOf}
 use Rattle.script_domain.specs.New.{AreNewFrom}
 use Rattle.script_domain.proofs.OneRun as one_run
-use Rattle.script_domain.proofs.Seats.{ran_of}
+use Rattle.script_domain.proofs.Seats.{all_continue, ran_of}
 use Rattle.pool_domain.specs.Legal.{ReplaysPool, lines_of}
 use Rattle.pool_domain.specs.Lines.{line_of}
 use Rattle.pool_domain.specs.Whole.{PoolOf, StandsInPool}
@@ -73,7 +73,7 @@ replays p seats commands lines ordered h same rising =
     let below = All-permutation (λ (line : Line). line.seat < seats) lines ordered same h.seats_are in
     let stands : All (StandsIn p (as_scripts seats commands)) lines =
     λ k d lt. stands_as p seats commands _ (h.seats_are k d lt) (h.stand k d lt) in
-    let left : IsLeft p (as_scripts seats commands) 0 ordered = record {
+    let left : IsLeft p (StandsIn p (as_scripts seats commands)) 0 ordered = record {
       ordered = rising;
       stand = All-permutation (StandsIn p (as_scripts seats commands)) lines ordered same stands;
       follow = All-permutation (λ line. Follows (p.base + 0) line.place) lines ordered same
@@ -91,8 +91,9 @@ module _ {P : Type 0} {rules : _} (d : Domain P) where
       → AreNewFrom d 0 olds → length olds ≡ (numbers_of d).seats → PoolRan olds (map (λ s. seat_of s) seats) commands collected → AreAll d seats
   all_met olds seats commands collected new many ran =
       let news = map (λ s. seat_of s) seats in
-      one_run.all_met d olds seats (scripts_of olds news commands collected ran.each) (script_lines olds news commands collected ran.each) new many
-      (all_ran olds news commands collected ran.each)
+      one_run.all_met d olds seats new many
+      (all_continue olds news (scripts_of olds news commands collected ran.each) (script_lines olds news commands collected ran.each)
+      (all_ran olds news commands collected ran.each))
 
   -- The lines and tables are those of one pool in the whole history.
   pub pool_met : (olds : List history.Seat) (seats : List (Seat P rules)) (commands : List Command) (collected : List Collected)

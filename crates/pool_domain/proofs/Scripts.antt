@@ -8,7 +8,7 @@ use Rattle.set_script.specs.declared.commands.Command.{Command}
 use Rattle.run_report.specs.declared.line.Line.{Line}
 use Rattle.run_report.specs.Worked.{AllRan}
 use Rattle.run_report.specs.Whole.{commit_lines, is_commit_of}
-use Rattle.run_report.proofs.history.Made.{lines_append}
+use Rattle.run_report.proofs.history.Counts.{lines_append}
 use Rattle.command_pool.specs.declared.collected.Collected.{Collected}
 use Rattle.command_pool.specs.Pool.{AreTaken, lines_from, EachTook}
 use Rattle.pool_domain.specs.Lines.{line_of}

@@ -16,7 +16,7 @@ use Rattle.run_report.specs.Worked.{Past, PlaceOf, LinesOf}
 use Rattle.run_report.proofs.Pairs.{pairs_cons, pairs_append}
 use Rattle.run_report.proofs.Runs.{follows_earlier}
 use Rattle.run_report.proofs.history.Scripts.{AllWorked}
-use Rattle.run_report.proofs.history.Seats.{follows_le}
+use Rattle.run_report.proofs.history.Steps.{follows_le}
 use Rattle.command_pool.specs.declared.collected.Collected.{Collected}
 use Rattle.command_pool.specs.Pool.{AreTaken, lines_from, EachTook}
 use Rattle.pool_domain.specs.Lines.{line_of}

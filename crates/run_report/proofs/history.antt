@@ -1,8 +1,10 @@
 pub mod Weights
 pub mod Inserted
 pub mod Commits
+pub mod Counts
+pub mod Steps
+pub mod Groups
 pub mod Seats
-pub mod Made
 pub mod Scripts
 pub mod Changes
 pub mod Replay

@@ -7,7 +7,7 @@ use Rattle.std.specs.Str.Parse.{digits_value}
 use Rattle.set_script.specs.Grammar.{◌>>=◌, is_numeral}
 use Rattle.run_words.specs.declared.request.Options.{Options}
 use Rattle.run_words.specs.declared.request.Request.{Request}
-use Rattle.run_words.specs.declared.request.Request.TheVariants.{Run, Gen, Work, Pool}
+use Rattle.run_words.specs.declared.request.Request.TheVariants.{Run, Gen, Work, Block, Pool}
 use Rattle.run_words.specs.declared.request.Limit.{Limit}
 use Rattle.run_words.specs.declared.request.Limit.TheVariants as limits
 use Rattle.run_words.specs.declared.request.Refusal.{Refusal}
@@ -24,6 +24,8 @@ pub data Asks : Type 0 where
   gen : ℕ → ℕ → Asks
   -- to run the four generated scripts of a number
   work : ℕ → Asks
+  -- to run the scripts of blocks of the files of these names
+  block : List (List ℕ) → Asks
   -- to do the commands of the one file of these names on so many seats
   pool : ℕ → List (List ℕ) → Asks
 
@@ -127,6 +129,11 @@ work_asked (first ∷ []) = do
   Ok (work number)
 work_asked words = Err Form
 
+-- what the words behind `block` ask for
+abbrev pub block_asked : List (List ℕ) → Result Asks Refusal
+block_asked words =
+    if are_files words then (if nat_le (length words) 64 then Ok (block words) else Err (Beyond limits.Files)) else Err Form
+
 -- a word that may be a FILE is in form
 abbrev pub one_file : List ℕ → Result (List (List ℕ)) Refusal
 one_file word = if is_file word then Ok (word ∷ []) else Err Form
@@ -147,14 +154,16 @@ asked (first ∷ words) =
     if bytes_eq first (codes "run") then run_asked words
     else (if bytes_eq first (codes "gen") then gen_asked words
     else (if bytes_eq first (codes "work") then work_asked words
+    else (if bytes_eq first (codes "block") then block_asked words
     else (if bytes_eq first (codes "pool") then pool_asked words
-    else Err Form)))
+    else Err Form))))
 
 -- what a request asks for
 abbrev pub asks_of : Request → Asks
 asks_of (Run options files) = run options (map string_bytes files.now)
 asks_of (Gen number seat) = gen number seat
 asks_of (Work number) = work number
+asks_of (Block files) = block (map string_bytes files.now)
 asks_of (Pool seats files) = pool seats (map string_bytes files.now)
 
 -- The numbers of a run are in their ranges.
@@ -168,4 +177,5 @@ abbrev pub IsFit : Request → Type 0
 IsFit (Run options files) = FitOptions options × (1 ≤ length files.now) × (length files.now ≤ 64)
 IsFit (Gen number seat) = seat < 4
 IsFit (Work number) = ⊤
+IsFit (Block files) = (1 ≤ length files.now) × (length files.now ≤ 64)
 IsFit (Pool seats files) = (1 ≤ seats) × (seats ≤ 8) × (length files.now ≡ 1)

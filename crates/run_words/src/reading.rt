@@ -1,7 +1,7 @@
 // Reading the words.
 ghost use Rattle.std.specs.Prelude.{◌≡◌, map, string_bytes, Ok, Err, IfOk, MatchResult};
 ghost use Rattle.std.specs.List.{list_all};
-ghost use Rattle.run_words.specs.Words.{asked, asks_of, are_files, IsFit, is_file, gen_asked, pool_asked, run_asked, work_asked};
+ghost use Rattle.run_words.specs.Words.{asked, asks_of, are_files, IsFit, is_file, block_asked, gen_asked, pool_asked, run_asked, work_asked};
 
 use crate::numbers::{read_number, within};
 use crate::options::read_options;
@@ -27,6 +27,7 @@ pub fn read_words(words: &[String]) -> Result<Request<'_>, Refusal>
         "run" => read_run(rest),
         "gen" => read_gen(rest),
         "work" => read_work(rest),
+        "block" => read_block(rest),
         "pool" => read_pool(rest),
         _ => Err(Refusal::Form),
     }
@@ -65,6 +66,21 @@ fn read_run(words: &[String]) -> Result<Request<'_>, Refusal>
         base,
     };
     Ok(Request::Run { options, files })
+}
+
+// What the words behind `block` ask for.
+fn read_block(words: &[String]) -> Result<Request<'_>, Refusal>
+    ensures asked { MatchResult result (λ request. block_asked (map string_bytes words.now) ≡ Ok (asks_of request))
+        (λ refusal. block_asked (map string_bytes words.now) ≡ Err refusal) }
+    ensures fit { IfOk result IsFit }
+{
+    if !are_files(words) {
+        return Err(Refusal::Form);
+    }
+    if words.len() > MOST_FILES {
+        return Err(Refusal::Beyond(Limit::Files));
+    }
+    Ok(Request::Block { files: words })
 }
 
 // What the words behind `pool` ask for.

@@ -28,6 +28,10 @@ pub enum Request<'w> {
     Work {
         number: u64,
     },
+    /// To run the scripts of blocks of these files, file number i as seat i.
+    Block {
+        files: &'w [String],
+    },
     /// To do the commands of this one file on so many seats, 1 to 8.
     Pool {
         seats: u32,

@@ -24,23 +24,23 @@ use Rattle.run_report.proofs.history.Grown.{AreKnown, all_worked}
 use Rattle.run_report.proofs.history.OneRun.{run_of}
 use Rattle.script_domain.specs.Joined.{past_of_whole, AreTablesOf}
 use Rattle.script_domain.specs.New.{AreNewFrom}
-use Rattle.script_domain.proofs.Seats.{AreOf, ran_of, ran_length, are_own, are_below, are_apart}
+use Rattle.script_domain.proofs.Seats.{AreOf, AllContinue, continued_of, continued_length, ran_of, ran_length, are_own, are_below, are_apart}
 
 -- the tables are as many as the seats
-tables_each : (seats : List history.Seat) (tables : List LogTable) → AreTablesOf seats tables → length tables ≡ length seats
+pub tables_each : (seats : List history.Seat) (tables : List LogTable) → AreTablesOf seats tables → length tables ≡ length seats
 tables_each [] [] are = refl
 tables_each [] (t ∷ tables) are = absurd are
 tables_each (s ∷ seats) [] are = absurd are
 tables_each (s ∷ seats) (t ∷ tables) are = omega (arith, tables_each seats tables are.1)
 
 module _ {P : Type 0} {rules : _} (d : Domain P) where
-  -- The seats that ran their scripts are all the seats of the domain.
-  pub all_met : (olds : List history.Seat) (seats : List (Seat P rules)) (scripts : List (List Command)) (lines : List Line)
-      → AreNewFrom d 0 olds → length olds ≡ (numbers_of d).seats → AllRan olds (map (λ s. seat_of s) seats) scripts lines → AreAll d seats
-  all_met olds seats scripts lines new many ran =
-      let are = ran_of d 0 olds (map (λ s. seat_of s) seats) scripts lines new ran in
+  -- The seats that went on are all the seats of the domain.
+  pub all_met : (olds : List history.Seat) (seats : List (Seat P rules)) → AreNewFrom d 0 olds → length olds ≡ (numbers_of d).seats
+      → AllContinue olds (map (λ s. seat_of s) seats) → AreAll d seats
+  all_met olds seats new many on =
+      let are = continued_of d 0 olds (map (λ s. seat_of s) seats) new on in
       record {
-        many = sym (length-map seats (λ s. seat_of s)) ∙ ran_length olds (map (λ s. seat_of s) seats) scripts lines ran ∙ many;
+        many = sym (length-map seats (λ s. seat_of s)) ∙ continued_length olds (map (λ s. seat_of s) seats) on ∙ many;
         own = are_own d 0 seats are;
         apart = are_apart d 0 seats are;
       }
@@ -76,7 +76,7 @@ module _ {P : Type 0} {rules : _} (d : Domain P) where
       )
 
   -- each table counts what its seat did in the whole history
-  counted : (es : List Entry) (number : ℕ) (seats : List (Seat P rules)) (tables : List LogTable) → AreOf d number (map (λ s. seat_of s) seats)
+  pub counted : (es : List Entry) (number : ℕ) (seats : List (Seat P rules)) (tables : List LogTable) → AreOf d number (map (λ s. seat_of s) seats)
       → AreTablesOf (map (λ s. seat_of s) seats) tables
       → All (λ s. (seat_of s).mine ≡ commits_of (seat_of s).number es) seats
       → All (λ s. (seat_of s).rests ≡ rests_of (seat_of s).number es) seats
@@ -102,6 +102,16 @@ module _ {P : Type 0} {rules : _} (d : Domain P) where
       (All-tail (λ s. (seat_of s).rests ≡ rests_of (seat_of s).number es) s seats rests)
       k seat table (omega (arith, at)) is
 
+  -- each entry of the whole history was made by one of so many seats
+  pub made_below : {starts : _} {allows : _} (n : ℕ) (seats : List (Seat P rules)) (w : Whole) → length seats ≡ n
+      → AreOf d 0 (map (λ s. seat_of s) seats) → LawOfTheWhole starts allows seats w → All (λ e. maker_of e < n) w.history
+  made_below n seats w many are law =
+      let below = are_below d 0 n seats (omega (arith, many)) are in
+      All-weaker (Contains w.history) (λ e. maker_of e < n)
+      (λ e there. let maker = law.makers e there in
+      subst (λ k. k < n) maker.2 (All-contains (λ s. (seat_of s).number < n) seats maker.0 below maker.1))
+      w.history (All-contains_itself w.history)
+
   -- The lines and tables are those of one run in the whole history.
   pub run_met : (olds : List history.Seat) (seats : List (Seat P rules)) (scripts : List (List Command)) (lines : List Line)
       (tables : List LogTable) (w : Whole) → AreNewFrom d 0 olds → length scripts ≡ length olds → AllRan olds (map (λ s. seat_of s) seats) scripts lines
@@ -113,17 +123,13 @@ module _ {P : Type 0} {rules : _} (d : Domain P) where
       let are = ran_of d 0 olds means scripts lines new ran in
       let back = ran_length olds means scripts lines ran in
       let many : length seats ≡ length scripts = sym (length-map seats (λ s. seat_of s)) ∙ back ∙ sym as_many in
-      let below = are_below d 0 (length scripts) seats (omega (arith, many)) are in
       run_of (past_of_whole w) scripts lines
       record {
         opening = law.opening;
         legal = law.legal;
         allowed = law.allowed;
         last = refl;
-        makers = All-weaker (Contains w.history) (λ e. maker_of e < length scripts)
-            (λ e there. let maker = law.makers e there in
-            subst (λ n. n < length scripts) maker.2 (All-contains (λ s. (seat_of s).number < length scripts) seats maker.0 below maker.1))
-            w.history (All-contains_itself w.history);
+        makers = made_below (length scripts) seats w many are law;
         worked = all_worked (past_of_whole w) 0 olds means scripts lines (known w start base 0 olds seats new are law.seen law.mine) ran;
       }
       tables

@@ -3,6 +3,7 @@ use Rattle.std.proofs.Common.{◌≡◌, ◌≢◌, ℕ, suc, ◌+◌, ◌<◌, 
 use Rattle.std.specs.List.{All, AllPairs}
 use Rattle.std.proofs.lemmas.List.Elements.{All-nil, All-cons, All-weaker}
 use Rattle.std.proofs.lemmas.List.Kept.{AllPairs-cons}
+use Rattle.mv_history.specs.Calls.{Continues}
 use Rattle.mv_history.specs.Meaning as history
 use Rattle.mvrlu.specs.Meant.{numbers_of, opening_of, name_of, seat_of, handled, IsSeatOf}
 use Rattle.mvrlu.specs.declared.domain.Domain.{Domain}
@@ -29,37 +30,55 @@ abbrev pub AreOf : {P : Type 0} → Domain P → ℕ → List history.Seat → T
 AreOf d number [] = Unit {0}
 AreOf d number (s ∷ seats) = IsNumbered d number s × AreOf d (suc number) seats
 
--- new seats are of the domain, and still are once their scripts have run
-pub ran_of : {P : Type 0} (d : Domain P) (number : ℕ) (olds news : List history.Seat) (scripts : List (List Command)) (lines : List Line)
-    → AreNewFrom d number olds → AllRan olds news scripts lines → AreOf d number news
-ran_of d number [] [] [] lines new ran = tt
-ran_of d number [] [] (script ∷ scripts) lines new ran = absurd ran
-ran_of d number [] (n ∷ news) [] lines new ran = absurd ran
-ran_of d number [] (n ∷ news) (script ∷ scripts) lines new ran = absurd ran
-ran_of d number (o ∷ olds) [] [] lines new ran = absurd ran
-ran_of d number (o ∷ olds) [] (script ∷ scripts) lines new ran = absurd ran
-ran_of d number (o ∷ olds) (n ∷ news) [] lines new ran = absurd ran
-ran_of d number (o ∷ olds) (n ∷ news) (script ∷ scripts) lines new ran =
-    let c = ran.0.continues in (
-      record {
-        home = c.home ∙ ap (λ (r : history.Seat). r.home) new.0;
-        start = c.start ∙ ap (λ (r : history.Seat). r.start) new.0;
-        numbered = c.number ∙ ap (λ (r : history.Seat). r.number) new.0;
-      },
-      ran_of d (suc number) olds news scripts (drop (length script) lines) new.1 ran.1,
-    )
+-- each seat goes on as the one of its place
+abbrev pub AllContinue : List history.Seat → List history.Seat → Type 0
+AllContinue [] [] = Unit {0}
+AllContinue [] (n ∷ news) = ⊥
+AllContinue (o ∷ olds) [] = ⊥
+AllContinue (o ∷ olds) (n ∷ news) = Continues o n × AllContinue olds news
+
+-- seats that ran their scripts do
+pub all_continue : (olds news : List history.Seat) (scripts : List (List Command)) (lines : List Line) → AllRan olds news scripts lines
+    → AllContinue olds news
+all_continue [] [] [] lines ran = tt
+all_continue [] [] (script ∷ scripts) lines ran = absurd ran
+all_continue [] (n ∷ news) [] lines ran = absurd ran
+all_continue [] (n ∷ news) (script ∷ scripts) lines ran = absurd ran
+all_continue (o ∷ olds) [] [] lines ran = absurd ran
+all_continue (o ∷ olds) [] (script ∷ scripts) lines ran = absurd ran
+all_continue (o ∷ olds) (n ∷ news) [] lines ran = absurd ran
+all_continue (o ∷ olds) (n ∷ news) (script ∷ scripts) lines ran =
+    (ran.0.continues, all_continue olds news scripts (drop (length script) lines) ran.1)
+
+-- new seats are of the domain, and still are as they go on
+pub continued_of : {P : Type 0} (d : Domain P) (number : ℕ) (olds news : List history.Seat) → AreNewFrom d number olds → AllContinue olds news
+    → AreOf d number news
+continued_of d number [] [] new on = tt
+continued_of d number [] (n ∷ news) new on = absurd on
+continued_of d number (o ∷ olds) [] new on = absurd on
+continued_of d number (o ∷ olds) (n ∷ news) new on = (
+  record {
+    home = on.0.home ∙ ap (λ (r : history.Seat). r.home) new.0;
+    start = on.0.start ∙ ap (λ (r : history.Seat). r.start) new.0;
+    numbered = on.0.number ∙ ap (λ (r : history.Seat). r.number) new.0;
+  },
+  continued_of d (suc number) olds news new.1 on.1,
+)
 
 -- as many seats come back
+pub continued_length : (olds news : List history.Seat) → AllContinue olds news → length news ≡ length olds
+continued_length [] [] on = omega arith
+continued_length [] (n ∷ news) on = absurd on
+continued_length (o ∷ olds) [] on = absurd on
+continued_length (o ∷ olds) (n ∷ news) on = omega (arith, continued_length olds news on.1)
+
+pub ran_of : {P : Type 0} (d : Domain P) (number : ℕ) (olds news : List history.Seat) (scripts : List (List Command)) (lines : List Line)
+    → AreNewFrom d number olds → AllRan olds news scripts lines → AreOf d number news
+ran_of d number olds news scripts lines new ran = continued_of d number olds news new (all_continue olds news scripts lines ran)
+
 pub ran_length : (olds news : List history.Seat) (scripts : List (List Command)) (lines : List Line) → AllRan olds news scripts lines
     → length news ≡ length olds
-ran_length [] [] [] lines ran = omega arith
-ran_length [] [] (script ∷ scripts) lines ran = absurd ran
-ran_length [] (n ∷ news) [] lines ran = absurd ran
-ran_length [] (n ∷ news) (script ∷ scripts) lines ran = absurd ran
-ran_length (o ∷ olds) [] [] lines ran = absurd ran
-ran_length (o ∷ olds) [] (script ∷ scripts) lines ran = absurd ran
-ran_length (o ∷ olds) (n ∷ news) [] lines ran = absurd ran
-ran_length (o ∷ olds) (n ∷ news) (script ∷ scripts) lines ran = omega (arith, ran_length olds news scripts (drop (length script) lines) ran.1)
+ran_length olds news scripts lines ran = continued_length olds news (all_continue olds news scripts lines ran)
 
 module _ {P : Type 0} {rules : _} (d : Domain P) where
   -- new seats are of the domain

@@ -1,23 +1,23 @@
 //! The loan of a domain to its seats, and back; and the tables of their logs.
-ghost use Rattle.std.specs.Prelude.{◌≡◌, ◌≤◌, ◌<◌, ◌∷◌, [], length, map, All, IfOk, vec_capacity};
+ghost use Rattle.std.specs.Prelude.{◌≡◌, ◌≤◌, [], length, map, All, IfOk, vec_capacity};
 ghost use Rattle.mvrlu.specs.Meant.{seat_of, handled, IsSeatOf};
 ghost use Rattle.script_domain.specs.Joined.{AreTablesOf};
 
-use mv_history::LogTable;
+use mv_history::{LogTable, Protocol};
 use mvrlu::{Domain, Handle, Seat};
-use set_script::SetRules;
+use script_workers::take_first;
 use std::alloc::{AllocError, Global};
 
 /// A row for the handles of a domain's seats, and one for the tables of their logs.
-pub struct Rows<'d> {
+pub struct Rows<'d, P: Protocol> {
     /// Room for the tables.
     pub tables: Vec<LogTable>,
     /// Room for the handles.
-    pub handles: Vec<Handle<'d, SetRules>>,
+    pub handles: Vec<Handle<'d, P>>,
 }
 
 /// Takes the memory for the handles and tables of so many seats. The error is want of memory.
-pub fn make_rows<'d>(alloc: Global, seats: usize) -> Result<Rows<'d>, AllocError>
+pub fn make_rows<'d, P: Protocol>(alloc: Global, seats: usize) -> Result<Rows<'d, P>, AllocError>
     ensures tables { IfOk result (λ rows. (rows.tables.items ≡ []) × (seats ≤ vec_capacity rows.tables)) }
     ensures handles { IfOk result (λ rows. (rows.handles.items ≡ []) × (seats ≤ vec_capacity rows.handles)) }
 {
@@ -28,10 +28,10 @@ pub fn make_rows<'d>(alloc: Global, seats: usize) -> Result<Rows<'d>, AllocError
 }
 
 /// Lends the domain to its seats, in their order. There is room for their handles. It takes no memory.
-pub fn lend<'d>(
-    domain: &'d Domain<SetRules>,
-    seats: &mut Vec<Seat<SetRules>>,
-    handles: &mut Vec<Handle<'d, SetRules>>,
+pub fn lend<'d, P: Protocol>(
+    domain: &'d Domain<P>,
+    seats: &mut Vec<Seat<P>>,
+    handles: &mut Vec<Handle<'d, P>>,
 )
     requires own { All (λ seat. IsSeatOf domain.now seat) seats.old.items }
     requires none { handles.old.items ≡ [] }
@@ -46,7 +46,7 @@ pub fn lend<'d>(
 }
 
 /// Gives the domain back, in the order of the handles. There is room for their seats. It takes no memory.
-pub fn give_back(mut handles: Vec<Handle<'_, SetRules>>, seats: &mut Vec<Seat<SetRules>>)
+pub fn give_back<P: Protocol>(mut handles: Vec<Handle<'_, P>>, seats: &mut Vec<Seat<P>>)
     requires none { seats.old.items ≡ [] }
     requires room { length handles.items ≤ vec_capacity seats.old }
     ensures seats { map seat_of seats.new.items ≡ map handled handles.entry.items }
@@ -58,7 +58,7 @@ pub fn give_back(mut handles: Vec<Handle<'_, SetRules>>, seats: &mut Vec<Seat<Se
 }
 
 /// Takes the table of each seat's log, in the order of the handles. There is room for the tables. It takes no memory.
-pub fn take_tables(handles: &[Handle<'_, SetRules>], tables: &mut Vec<LogTable>)
+pub fn take_tables<P: Protocol>(handles: &[Handle<'_, P>], tables: &mut Vec<LogTable>)
     requires none { tables.old.items ≡ [] }
     requires room { length handles.now ≤ vec_capacity tables.old }
     ensures tables { AreTablesOf (map handled handles.now) tables.new.items }
@@ -66,13 +66,4 @@ pub fn take_tables(handles: &[Handle<'_, SetRules>], tables: &mut Vec<LogTable>)
     for handle in handles {
         tables.push_reserved(handle.table());
     }
-}
-
-// Takes the first element out.
-fn take_first<T>(from: &mut Vec<T>) -> T
-    requires { 0 < length from.old.items }
-    ensures items { from.old.items ≡ result ∷ from.new.items }
-    ensures capacity { vec_capacity from.new ≡ vec_capacity from.old }
-{
-    from.remove(0)
 }

@@ -77,16 +77,16 @@ all_by seat (Rest by ∷ es) = all_by seat es
 all_by seat (Change c ∷ es) = all_by_one seat c (commits_of seat es) (eqb c.seat seat) refl (all_by seat es)
 
 -- the last commit of a seat is by it
-last_by : (s : Seat) (cs : List Commit) (c : Commit) → IsSeat IsOpening IsSetCommit s → s.mine ≡ cs ++ c ∷ [] → c.seat ≡ s.number
-last_by s cs c lawful is =
+pub last_by : (s : Seat) (cs : List Commit) (c : Commit) → s.mine ≡ commits_of s.number s.seen → s.mine ≡ cs ++ c ∷ [] → c.seat ≡ s.number
+last_by s cs c mine is =
     let all : All (λ (d : Commit). d.seat ≡ s.number) (cs ++ c ∷ []) =
-    subst (λ ds. All (λ (d : Commit). d.seat ≡ s.number) ds) (sym lawful.mine ∙ is) (all_by s.number s.seen) in
+    subst (λ ds. All (λ (d : Commit). d.seat ≡ s.number) ds) (sym mine ∙ is) (all_by s.number s.seen) in
     let within : length cs < length (cs ++ c ∷ []) = omega (arith, length-append cs (c ∷ [])) in
     ap (λ (d : Commit). d.seat) (sym (get_or_push cs c c (length cs) refl))
     ∙ All-get_or (λ (d : Commit). d.seat ≡ s.number) (cs ++ c ∷ []) (length cs) c within all
 
 -- each state has as many nodes as the first
-same_room : (s : Seat) (time : ℕ) → capacity (state_of_time (past_of s) time) ≡ capacity s.start
+pub same_room : (s : Seat) (time : ℕ) → capacity (state_of_time (past_of s) time) ≡ capacity s.start
 same_room s time = ap (λ objects. objects - first_node) (length-state_after s.start (take (time - s.base) s.seen))
 
 -- an attempt that is done by a commit
@@ -103,7 +103,7 @@ done_at s t command answer time lawful done = record {
     record {
       later = done.entry.later;
       there = done.entry.there;
-      seat_is = last_by t s.mine done.commit lawful done.mine;
+      seat_is = last_by t s.mine done.commit lawful.mine done.mine;
       tagged = done.tagged;
       answers = done.answers ∙ ap (λ room. reply command (catalogue_of (state_of_time (past_of t) (time - 1))) room false) (same_room t (time - 1));
     },
@@ -176,7 +176,7 @@ ran_after s t u command place answer none ran = record {
 }
 
 -- an entry stays at its place
-there_later : (xs ys : List Entry) (i : ℕ) (e : Entry) → take (length xs) ys ≡ xs → slice_get xs i ≡ Some e → slice_get ys i ≡ Some e
+pub there_later : (xs ys : List Entry) (i : ℕ) (e : Entry) → take (length xs) ys ≡ xs → slice_get xs i ≡ Some e → slice_get ys i ≡ Some e
 there_later xs ys i e front is =
     let within : i < length xs = slice_get_within xs i e is in
     let longer : i < length ys = omega (arith, within, ap length front, length-take (length xs) ys) in
@@ -184,7 +184,7 @@ there_later xs ys i e front is =
     ∙ ap Some (sym (get_or-take (length xs) ys i e within) ∙ ap (λ zs. get_or zs i e) front ∙ get_or_from_slice_get xs i e e is)
 
 -- the state of a time that was seen stays
-state_later : (s t : Seat) (time : ℕ) → Continues s t → time ≤ s.base + length s.seen
+pub state_later : (s t : Seat) (time : ℕ) → Continues s t → time ≤ s.base + length s.seen
     → state_of_time (past_of t) time ≡ state_of_time (past_of s) time
 state_later s t time c le =
     ap (λ base. state_of_time (record { start = t.start; base = base; last = t.last; entries = t.seen }) time) c.base

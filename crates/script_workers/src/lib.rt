@@ -45,5 +45,6 @@ mod running;
 mod tests;
 mod worker;
 
+pub use loading::{put_lines, take_first};
 pub use running::run_scripts;
 pub use worker::run_command;

@@ -128,8 +128,8 @@ pub(crate) fn unload<S: Store<Rules = SetRules>>(
     workers.destroy_empty();
 }
 
-// Takes the first element out.
-fn take_first<T>(from: &mut Vec<T>) -> T
+/// Takes the first element out. There is one.
+pub fn take_first<T>(from: &mut Vec<T>) -> T
     requires { 0 < length from.old.items }
     ensures items { from.old.items ≡ result ∷ from.new.items }
     ensures capacity { vec_capacity from.new ≡ vec_capacity from.old }
@@ -137,8 +137,8 @@ fn take_first<T>(from: &mut Vec<T>) -> T
     from.remove(0)
 }
 
-// Appends lines for which there is room.
-fn put_lines(into: &mut Vec<Line>, lines: &[Line])
+/// Appends lines for which there is room.
+pub fn put_lines(into: &mut Vec<Line>, lines: &[Line])
     requires { length into.old.items + length lines.now ≤ vec_capacity into.old }
     ensures items { into.new.items ≡ into.old.items ++ lines.now }
     ensures capacity { vec_capacity into.new ≡ vec_capacity into.old }

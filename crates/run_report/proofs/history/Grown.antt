@@ -25,12 +25,13 @@ use Rattle.run_report.proofs.history.Scripts.{AllWorked}
 abbrev pub longer : Past → List Entry → Past
 longer p more = record { start = p.start; base = p.base; last = p.last; entries = p.entries ++ more }
 
-there_longer : (es more : List Entry) (i : ℕ) (e : Entry) → slice_get es i ≡ Some e → slice_get (es ++ more) i ≡ Some e
+pub there_longer : (es more : List Entry) (i : ℕ) (e : Entry) → slice_get es i ≡ Some e → slice_get (es ++ more) i ≡ Some e
 there_longer [] more i e is = absurd (cc)
 there_longer (f ∷ es) more zero e is = is
 there_longer (f ∷ es) more (suc i) e is = there_longer es more i e is
 
-state_longer : (p : Past) (more : List Entry) (time : ℕ) → time ≤ p.base + length p.entries → state_of_time (longer p more) time ≡ state_of_time p time
+pub state_longer : (p : Past) (more : List Entry) (time : ℕ) → time ≤ p.base + length p.entries
+    → state_of_time (longer p more) time ≡ state_of_time p time
 state_longer p more time le = ap (state_after p.start) (take-append-le (time - p.base) p.entries more (omega (arith, le)))
 
 place_longer : (p : Past) (more : List Entry) (seat : ℕ) (command : Command) (place : Place) (answer : Reply) (commits : List Commit)

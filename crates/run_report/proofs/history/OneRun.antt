@@ -27,7 +27,7 @@ use Rattle.run_report.proofs.history.Scripts.{AllWorked, all_ids, all_follow, al
 use Rattle.run_report.proofs.history.Replay.{IsLeft, replay}
 
 -- lines in another order are as many commits of a time
-lines_permuted : (time : ℕ) (lines others : List Line) → IsPermutation lines others → commit_lines time others ≡ commit_lines time lines
+pub lines_permuted : (time : ℕ) (lines others : List Line) → IsPermutation lines others → commit_lines time others ≡ commit_lines time lines
 lines_permuted time lines others same = sum_by-IsPermutation (λ (l : Line). cond (is_commit_of time l.place) 1 0) lines others same
 
 -- a run stays one whatever the order of its lines
@@ -47,7 +47,7 @@ run_permuted p scripts lines others end tables same run =
     }
 
 -- the entry at a place was made by one of these seats
-made_by_seat : (n : ℕ) (es : List Entry) (i : ℕ) (e : Entry) → All (λ e. maker_of e < n) es → slice_get es i ≡ Some e → maker_of e < n
+pub made_by_seat : (n : ℕ) (es : List Entry) (i : ℕ) (e : Entry) → All (λ e. maker_of e < n) es → slice_get es i ≡ Some e → maker_of e < n
 made_by_seat n [] i e makers is = absurd (cc)
 made_by_seat n (f ∷ es) zero e makers is =
     let same : f ≡ e = cc in subst (λ g. maker_of g < n) same (All-head (λ g. maker_of g < n) f es makers)
@@ -66,14 +66,14 @@ module _ (p : Past) (scripts : List (List Command)) (lines : List Line) (h : IsW
   one_line : EachHasOneLine p lines
   one_line i c there =
       let few = made_by_seat (length scripts) p.entries i (Change c) h.makers there in
-      all_one p (length p.start) i c 0 scripts lines h.legal there (omega arith) (omega (arith, few)) h.worked
+      all_one p (length p.start) i c scripts lines h.legal there few h.worked
 
   -- ordered lines replay from empty maps
   replays : (ordered : List Line) → IsPermutation lines ordered → IsOrdered ordered
       → Replays scripts (capacity p.start) empty ordered (catalogue_of (state_after p.start p.entries))
   replays ordered same rising =
       let from : p.base ≡ p.base + 0 = omega arith in
-      let left : IsLeft p scripts 0 ordered = record {
+      let left : IsLeft p (StandsIn p scripts) 0 ordered = record {
         ordered = rising;
         stand = All-permutation (StandsIn p scripts) lines ordered same (all_stand p scripts lines h.worked);
         follow = All-permutation (λ line. Follows (p.base + 0) line.place) lines ordered same
@@ -89,7 +89,7 @@ module _ (p : Past) (scripts : List (List Command)) (lines : List Line) (h : IsW
       record {
         once = rw (all_ids p 0 scripts lines h.worked) (IsPermutation-refl (ids_of 0 scripts));
         from_base = all_follow p scripts lines h.worked;
-        in_time = all_in_time p 0 scripts lines h.worked;
+        in_time = all_in_time p scripts lines h.worked;
         alone = all_alone p scripts lines h.worked;
         replayed = (ordered.0, ordered.1, ordered.2, replays ordered.0 ordered.1 ordered.2);
       }

@@ -49,7 +49,7 @@ use Rattle.run_report.specs.Worked.{Past, PlaceOf}
 use Rattle.run_report.specs.Whole.{StandsIn, commit_lines}
 use Rattle.run_report.proofs.Replaying.{some_and}
 use Rattle.run_report.proofs.history.Changes.{IsQuiet, quiet_same, commit_does}
-use Rattle.run_report.proofs.history.Made.{one_if, lines_cons, counts_at, counts_itself, read_is_none}
+use Rattle.run_report.proofs.history.Counts.{one_if, lines_cons, counts_at, counts_itself, read_is_none}
 use Rattle.run_report.proofs.history.Weights.{weight, ordered_tail, first_least}
 
 -- a line that weighs more than a commit of this time is none
@@ -102,24 +102,16 @@ follows_commit time (AtCommit t) line at le none =
     ]
 follows_commit time (Read t) line at le none = let is : weight line ≡ 2 * t + 1 = rw at refl in omega (arith, is, le)
 
-module _ (p : Past) (scripts : List (List Command)) where
-  -- the state of the history after so many entries
-  abbrev at_time : ℕ → State
-  at_time t = state_at p.start p.entries t
-
-  -- the capacity stays
-  same_capacity : (t : ℕ) → capacity (at_time t) ≡ capacity p.start
-  same_capacity t = ap (λ n. n - 180) (length-state_after p.start (take t p.entries))
-
-  -- These lines are left from this time on: they are in order, they follow it, and each later commit has one of them.
+module _ (p : Past) (Stands : Line → Type 0) where
+  -- These lines are left from this time on: they are in order, they stand so, they follow it, and each later commit has one of them.
   pub record IsLeft (t : ℕ) (lines : List Line) : Type 0 where
     pub ordered : IsOrdered lines
-    pub stand : All (StandsIn p scripts) lines
+    pub stand : All Stands lines
     pub follow : All (λ line. Follows (p.base + t) line.place) lines
     pub left : (i : ℕ) (c : Commit) → t ≤ i → slice_get p.entries i ≡ Some (Change c) → commit_lines (p.base + suc i) lines ≡ 1
 
   -- no commit lies between the time and the first line
-  quiet_before : (t u : ℕ) (line : Line) (lines : List Line) → IsLeft t (line ∷ lines) → 2 * (p.base + u) < weight line → IsQuiet p.entries t u
+  pub quiet_before : (t u : ℕ) (line : Line) (lines : List Line) → IsLeft t (line ∷ lines) → 2 * (p.base + u) < weight line → IsQuiet p.entries t u
   quiet_before t u line lines left more i c low high there =
       let heavy : 2 * (p.base + suc i) < weight line = omega (arith, more, high) in
       let rest = all_heavier (p.base + suc i) lines (All-weaker (λ l. weight line ≤ weight l) (λ l. 2 * (p.base + suc i) < weight l)
@@ -127,13 +119,13 @@ module _ (p : Past) (scripts : List (List Command)) where
       omega (arith, left.left i c low there, lines_cons (p.base + suc i) line lines, heavier (p.base + suc i) line heavy, rest)
 
   -- after a read the others are left from its time on
-  left_by_read : (t u time : ℕ) (line : Line) (lines : List Line) → IsLeft t (line ∷ lines) → line.place ≡ Read time → time ≡ p.base + u → t ≤ u
-      → IsLeft u lines
+  pub left_by_read : (t u time : ℕ) (line : Line) (lines : List Line) → IsLeft t (line ∷ lines) → line.place ≡ Read time → time ≡ p.base + u
+      → t ≤ u → IsLeft u lines
   left_by_read t u time line lines left at is le =
       let weighs : weight line ≡ 2 * time + 1 = rw at refl in
       record {
         ordered = ordered_tail line lines left.ordered;
-        stand = All-tail (StandsIn p scripts) line lines left.stand;
+        stand = All-tail Stands line lines left.stand;
         follow = All-weaker (λ l. weight line ≤ weight l) (λ l. Follows (p.base + u) l.place)
             (λ l more. follows_read (p.base + u) l.place l refl (omega (arith, more, weighs, is))) lines (first_least line lines left.ordered);
         left = λ i c low there.
@@ -142,7 +134,7 @@ module _ (p : Past) (scripts : List (List Command)) where
       }
 
   -- and after a commit likewise
-  left_by_commit : (t u time : ℕ) (c : Commit) (line : Line) (lines : List Line) → IsLeft t (line ∷ lines) → line.place ≡ AtCommit time
+  pub left_by_commit : (t u time : ℕ) (c : Commit) (line : Line) (lines : List Line) → IsLeft t (line ∷ lines) → line.place ≡ AtCommit time
       → time ≡ p.base + suc u → t ≤ u → slice_get p.entries u ≡ Some (Change c) → IsLeft (suc u) lines
   left_by_commit t u time c line lines left at is le made =
       let weighs : weight line ≡ 2 * time + 0 = rw at refl in
@@ -151,12 +143,21 @@ module _ (p : Past) (scripts : List (List Command)) where
       let least = first_least line lines left.ordered in
       record {
         ordered = ordered_tail line lines left.ordered;
-        stand = All-tail (StandsIn p scripts) line lines left.stand;
+        stand = All-tail Stands line lines left.stand;
         follow = λ k d lt. follows_commit (p.base + suc u) _ _ refl (let more = least k d lt in omega (arith, more, weighs, is)) (none k d lt);
         left = λ i c' low there.
             let other : one_if (p.base + suc i) line ≡ 0 = lighter (p.base + suc i) line (omega (arith, weighs, is, low)) in
             omega (arith, left.left i c' (omega (arith, le, low)) there, lines_cons (p.base + suc i) line lines, other);
       }
+
+-- the capacity stays
+pub same_capacity : (p : Past) (t : ℕ) → capacity (state_at p.start p.entries t) ≡ capacity p.start
+same_capacity p t = ap (λ n. n - 180) (length-state_after p.start (take t p.entries))
+
+module _ (p : Past) (scripts : List (List Command)) where
+  -- the state of the history after so many entries
+  abbrev at_time : ℕ → State
+  at_time t = state_at p.start p.entries t
 
   -- the catalogue at the end of the history
   abbrev end : Maps
@@ -170,9 +171,9 @@ module _ (p : Past) (scripts : List (List Command)) where
       × Replays scripts (capacity p.start) (after place command (catalogue_of (at_time t)) (capacity p.start)) lines end
 
   step : IsAllowed IsSetCommit p.start p.entries → p.last ≡ LAST → (t : ℕ) (line : Line) (lines : List Line) (command : Command) (place : Place)
-      (commits : List Commit) → line.place ≡ place → IsLeft t (line ∷ lines)
+      (commits : List Commit) → line.place ≡ place → IsLeft p (StandsIn p scripts) t (line ∷ lines)
       → PlaceOf p line.seat command place line.reply commits
-      → ((u : ℕ) → IsLeft u lines → Replays scripts (capacity p.start) (catalogue_of (at_time u)) lines end)
+      → ((u : ℕ) → IsLeft p (StandsIn p scripts) u lines → Replays scripts (capacity p.start) (catalogue_of (at_time u)) lines end)
       → Steps t line place lines command
   step allowed last t line lines command (Read time) commits at left placed rest =
       let read = placed.1 in
@@ -181,10 +182,11 @@ module _ (p : Past) (scripts : List (List Command)) where
       let is : time ≡ p.base + u = omega (arith, read.after) in
       let le : t ≤ u = omega (arith, is, follows) in
       let weighs : weight line ≡ 2 * time + 1 = rw at refl in
-      let same = quiet_same p.start p.entries t u le (quiet_before t u line lines left (omega (arith, weighs, is))) in (
+      let same = quiet_same p.start p.entries t u le (quiet_before p (StandsIn p scripts) t u line lines left (omega (arith, weighs, is))) in (
         read.answers ∙ (λ i. reply command (catalogue_of (same i)) (capacity p.start) (time == last i)),
         sym (λ i. changes command (catalogue_of (same i)) (capacity p.start) (time == last i)) ∙ read.unchanging,
-        subst (λ s. Replays scripts (capacity p.start) (catalogue_of s) lines end) same (rest u (left_by_read t u time line lines left at is le)),
+        subst (λ s. Replays scripts (capacity p.start) (catalogue_of s) lines end) same
+            (rest u (left_by_read p (StandsIn p scripts) t u time line lines left at is le)),
       )
   step allowed last t line lines command (AtCommit time) commits at left placed rest =
       let made = placed.2 in
@@ -193,18 +195,18 @@ module _ (p : Past) (scripts : List (List Command)) where
       let is : time ≡ p.base + suc u = omega (arith, made.later) in
       let le : t ≤ u = omega (arith, is, follows) in
       let weighs : weight line ≡ 2 * time + 0 = rw at refl in
-      let same = quiet_same p.start p.entries t u le (quiet_before t u line lines left (omega (arith, weighs, is))) in
+      let same = quiet_same p.start p.entries t u le (quiet_before p (StandsIn p scripts) t u line lines left (omega (arith, weighs, is))) in
       let does = commit_does p.start p.entries u placed.0 command allowed made.there made.tagged in
       let before : time - 1 - p.base ≡ u = omega (arith, is) in (
         made.answers ∙ (λ i. reply command (catalogue_of ((ap at_time before ∙ same) i)) (capacity p.start) false),
-        sym (λ i. changes command (catalogue_of (same i)) (same_capacity u i) false) ∙ does.changes_it,
+        sym (λ i. changes command (catalogue_of (same i)) (same_capacity p u i) false) ∙ does.changes_it,
         subst (λ m. Replays scripts (capacity p.start) m lines end)
-            (does.makes.leaves ∙ (λ i. next command (catalogue_of (same i)) (same_capacity u i) false))
-            (rest (suc u) (left_by_commit t u time placed.0 line lines left at is le made.there)),
+            (does.makes.leaves ∙ (λ i. next command (catalogue_of (same i)) (same_capacity p u i) false))
+            (rest (suc u) (left_by_commit p (StandsIn p scripts) t u time placed.0 line lines left at is le made.there)),
       )
 
   -- the lines that are left replay to the end of the history
-  pub replay : IsAllowed IsSetCommit p.start p.entries → p.last ≡ LAST → (t : ℕ) (lines : List Line) → IsLeft t lines
+  pub replay : IsAllowed IsSetCommit p.start p.entries → p.last ≡ LAST → (t : ℕ) (lines : List Line) → IsLeft p (StandsIn p scripts) t lines
       → Replays scripts (capacity p.start) (catalogue_of (at_time t)) lines end
   replay allowed last t [] left =
       let u : ℕ = t + length p.entries in

@@ -1,23 +1,15 @@
--- The lines of one seat's script: what they are numbered, and how their times rise.
-use Rattle.std.proofs.Common.{◌≡◌, ℕ, suc, ◌≤◌, List, [], ◌∷◌, ◌++◌, length, map, Some, refl, sym, ap, ◌∙◌, arith, add-one, length-append, append_assoc}
+-- The lines of one seat's script: what they are numbered, and that they stand in the history.
+use Rattle.std.proofs.Common.{◌≡◌, ℕ, suc, List, [], ◌∷◌, ◌++◌, length, map, Some, refl, sym, ap, ◌∙◌, add-one, length-append}
+use Rattle.std.proofs.Common.{append_assoc}
 use Rattle.std.specs.List.{All, slice_get, slice_index_or}
-use Rattle.std.proofs.lemmas.List.Elements.{All-nil, All-cons, All-weaker}
+use Rattle.std.proofs.lemmas.List.Elements.{All-nil, All-cons}
 use Rattle.mv_history.specs.declared.history.Commit.{Commit}
 use Rattle.set_script.specs.declared.commands.Command.{Command}
-use Rattle.set_script.specs.declared.commands.Place.{Place}
-use Rattle.set_script.specs.declared.commands.Place.TheVariants.{Commit as AtCommit, Read}
 use Rattle.run_report.specs.declared.line.Line.{Line}
 use Rattle.run_report.specs.Order.{time_of}
-use Rattle.run_report.specs.Legal.{EachPair, Follows, IsInTime, id_of, ids_from, command_of}
+use Rattle.run_report.specs.Legal.{id_of, ids_from, command_of}
 use Rattle.run_report.specs.Worked.{Past, LinesOf}
 use Rattle.run_report.specs.Whole.{StandsIn}
-use Rattle.run_report.proofs.Pairs.{pairs_cons}
-use Rattle.run_report.proofs.Runs.{follows_earlier}
-
--- a line is no earlier than what it follows
-pub follows_le : (before : ℕ) (place : Place) → Follows before place → before ≤ time_of place
-follows_le before (AtCommit time) f = omega (arith, f)
-follows_le before (Read time) f = f
 
 -- the lines are numbered as the commands are
 pub seat_ids : (p : Past) (seat number before : ℕ) (script : List Command) (lines : List Line) (commits : List Commit)
@@ -28,51 +20,6 @@ seat_ids p seat number before (command ∷ script) [] commits h = absurd h
 seat_ids p seat number before (command ∷ script) (line ∷ lines) commits h =
     let here = h.3 in
     rw (here.by, here.numbered) (ap (λ ids. (seat, number) ∷ ids) (seat_ids p seat (suc number) (time_of line.place) script lines h.1 h.4))
-
--- each line follows the time before them all
-pub seat_follows : (p : Past) (seat number before : ℕ) (script : List Command) (lines : List Line) (commits : List Commit)
-    → LinesOf p seat number before script lines commits → All (λ line. Follows before line.place) lines
-seat_follows p seat number before [] [] commits h = All-nil _
-seat_follows p seat number before [] (line ∷ lines) commits h = absurd h
-seat_follows p seat number before (command ∷ script) [] commits h = absurd h
-seat_follows p seat number before (command ∷ script) (line ∷ lines) commits h =
-    let here = h.3 in
-    let later : before ≤ time_of line.place = follows_le before line.place here.follows in
-    All-cons (λ l. Follows before l.place) line lines here.follows
-    (All-weaker (λ l. Follows (time_of line.place) l.place) (λ l. Follows before l.place)
-    (λ l f. follows_earlier before (time_of line.place) l.place later f) lines
-    (seat_follows p seat (suc number) (time_of line.place) script lines h.1 h.4))
-
--- each is of the seat, and of this number or a later one
-abbrev pub IsFrom : ℕ → ℕ → Line → Type 0
-IsFrom seat number line = (line.seat ≡ seat) × (number ≤ line.number)
-
-pub seat_from : (p : Past) (seat number before : ℕ) (script : List Command) (lines : List Line) (commits : List Commit)
-    → LinesOf p seat number before script lines commits → All (IsFrom seat number) lines
-seat_from p seat number before [] [] commits h = All-nil _
-seat_from p seat number before [] (line ∷ lines) commits h = absurd h
-seat_from p seat number before (command ∷ script) [] commits h = absurd h
-seat_from p seat number before (command ∷ script) (line ∷ lines) commits h =
-    let here = h.3 in
-    All-cons (IsFrom seat number) line lines (here.by, omega (arith, here.numbered))
-    (All-weaker (IsFrom seat (suc number)) (IsFrom seat number) (λ l from. (from.0, omega (arith, from.1))) lines
-    (seat_from p seat (suc number) (time_of line.place) script lines h.1 h.4))
-
--- the times of the lines rise with their numbers
-pub seat_in_time : (p : Past) (seat number before : ℕ) (script : List Command) (lines : List Line) (commits : List Commit)
-    → LinesOf p seat number before script lines commits → EachPair IsInTime lines
-seat_in_time p seat number before [] [] commits h = All-nil _
-seat_in_time p seat number before [] (line ∷ lines) commits h = absurd h
-seat_in_time p seat number before (command ∷ script) [] commits h = absurd h
-seat_in_time p seat number before (command ∷ script) (line ∷ lines) commits h =
-    let here = h.3 in
-    pairs_cons IsInTime line lines
-    (λ same below. absurd (omega arith))
-    (All-weaker (λ l. Follows (time_of line.place) l.place) (IsInTime line) (λ l f same below. f) lines
-    (seat_follows p seat (suc number) (time_of line.place) script lines h.1 h.4))
-    (All-weaker (IsFrom seat (suc number)) (λ l. IsInTime l line) (λ l from same below. absurd (omega (arith, from.1, here.numbered))) lines
-    (seat_from p seat (suc number) (time_of line.place) script lines h.1 h.4))
-    (seat_in_time p seat (suc number) (time_of line.place) script lines h.1 h.4)
 
 command_there : (done script : List Command) (command : Command) → slice_get (done ++ command ∷ script) (length done) ≡ Some command
 command_there [] script command = refl

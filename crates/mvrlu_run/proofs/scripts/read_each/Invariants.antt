@@ -1,12 +1,13 @@
 use Rattle.std.proofs.Common.{◌≡◌, ◌≤◌, ◌+◌, take, map, length, string_bytes, vec_capacity, All}
 use Rattle.mvrlu_run.specs.declared.finish.TheConstants.{MOST_BYTES}
 use Rattle.script_workers.specs.Workers.{items_of}
+use Rattle.set_script.specs.Grammar.{parsed}
 use Rattle.mvrlu_run.specs.Scripts.{AllScripts}
 use Rattle.mvrlu_run.proofs.scripts.read_each.Given as goal
 
 abbrev pub invariant-loop-name : goal.invariant-loop-name
 invariant-loop-name g l = record {
-  scripts : AllScripts (g.F.Files.texts l.fn.files) (take l.name-index (map string_bytes l.names)) (map items_of l.scripts.items);
+  scripts : AllScripts parsed (g.F.Files.texts l.fn.files) (take l.name-index (map string_bytes l.names)) (map items_of l.scripts.items);
   place : l.place ≡ l.name-index;
   spare : length l.names ≤ vec_capacity l.scripts;
   len : length l.scripts.items ≡ l.name-index;

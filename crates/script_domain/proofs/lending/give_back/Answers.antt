@@ -5,7 +5,7 @@ use Rattle.script_domain.proofs.lending.give_back.Goals as goal
 
 -- the first handle's seat is the last of the row
 pub loop-seats-preserved : goal.loop-seats-preserved
-loop-seats-preserved c =
+loop-seats-preserved g c =
     let l = c.loop-seats in
     let first = c.take_first.ensures.items in
     let last = c.push_reserved.ensures.items in

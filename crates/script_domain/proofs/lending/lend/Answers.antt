@@ -6,13 +6,13 @@ use Rattle.script_domain.proofs.lending.lend.Goals as goal
 
 -- the first seat is of the domain
 pub handle-requires : goal.handle-requires
-handle-requires c =
+handle-requires g c =
     let l = c.loop-handles in
     first_of (λ s. IsSeatOf c.args.domain.now s) c.take_first.result c.take_first.new.from.items l.seats.items c.take_first.ensures.items l.invariant.own
 
 -- its handle is the last of the row
 pub loop-handles-preserved : goal.loop-handles-preserved
-loop-handles-preserved c =
+loop-handles-preserved g c =
     let l = c.loop-handles in
     let first = c.take_first.ensures.items in
     let last = c.push_reserved.ensures.items in

@@ -3,7 +3,7 @@ use Rattle.mvrlu.specs.Meant.{seat_of, handled, IsSeatOf}
 use Rattle.script_domain.proofs.lending.lend.Given as goal
 
 abbrev pub invariant-loop-handles : goal.invariant-loop-handles
-invariant-loop-handles l = record {
+invariant-loop-handles g l = record {
   own : All (λ seat. IsSeatOf l.domain seat) l.seats.items;
   handles : map handled l.handles.items ++ map seat_of l.seats.items ≡ map seat_of l.initial.seats.items;
   room : length l.handles.items + length l.seats.items ≤ vec_capacity l.handles;
@@ -11,4 +11,4 @@ invariant-loop-handles l = record {
 }
 
 abbrev pub decreases-loop-handles : goal.decreases-loop-handles
-decreases-loop-handles l = vec_len l.seats
+decreases-loop-handles g l = vec_len l.seats

@@ -5,7 +5,7 @@ use Rattle.script_domain.proofs.lending.take_tables.Goals as goal
 
 -- one more table is taken
 pub loop-handle-preserved : goal.loop-handle-preserved
-loop-handle-preserved c =
+loop-handle-preserved g c =
     let l = c.loop-handle in
     let last = c.push_reserved.ensures.items in
     record {

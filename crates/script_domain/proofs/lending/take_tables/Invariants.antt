@@ -4,7 +4,7 @@ use Rattle.script_domain.specs.Joined.{AreTablesOf}
 use Rattle.script_domain.proofs.lending.take_tables.Given as goal
 
 abbrev pub invariant-loop-handle : goal.invariant-loop-handle
-invariant-loop-handle l = record {
+invariant-loop-handle g l = record {
   tables : AreTablesOf (map handled (take l.handle-index l.handles)) l.tables.items;
   count : length l.tables.items ≡ l.handle-index;
   room : length l.handles ≤ vec_capacity l.tables;

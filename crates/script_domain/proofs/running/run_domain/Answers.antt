@@ -3,13 +3,16 @@ use Rattle.std.proofs.lemmas.List.{length-map}
 use Rattle.mvrlu.specs.Meant.{seat_of, whole_of}
 use Rattle.script_workers.specs.Workers.{items_of}
 use Rattle.script_domain.proofs.OneRun.{all_met, run_met}
+use Rattle.script_domain.proofs.Seats.{all_continue}
 use Rattle.script_domain.proofs.running.run_domain.Goals as goal
 
 -- all seats of the domain came back
 pub meet-requires : goal.meet-requires
 meet-requires g c = record {
-  all = all_met c.args.domain (map (λ s. seat_of s) c.args.seats.items) c.in-Ok.seats.items (map items_of c.args.scripts.now) c.in-Ok.lines.items
-      c.requires.new (length-map c.args.seats.items (λ s. seat_of s) ∙ c.requires.all) c.in-Ok.ensures.ran;
+  all = all_met c.args.domain (map (λ s. seat_of s) c.args.seats.items) c.in-Ok.seats.items c.requires.new
+      (length-map c.args.seats.items (λ s. seat_of s) ∙ c.requires.all)
+      (all_continue (map (λ s. seat_of s) c.args.seats.items) (map (λ s. seat_of s) c.in-Ok.seats.items) (map items_of c.args.scripts.now)
+      c.in-Ok.lines.items c.in-Ok.ensures.ran);
 }
 
 -- and their meeting knows the whole history

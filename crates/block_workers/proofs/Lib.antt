@@ -1,0 +1,3 @@
+pub mod BlockPlaces
+pub mod Done
+pub mod Workers

@@ -1,0 +1,48 @@
+//! The workers of blocks: each runs one script of blocks on one store, all at once in threads.
+//!
+//! # The model
+//!
+//! A store is a seat of one history of commits (`mv_history`). A worker has a store, a script of blocks (`set_blocks`) and
+//! the lines that it makes: for each command of each block, in order, one line with the seat, the command's number in the
+//! script, the place where its block took effect in the history, and its reply there (`run_report`). The stores' numbers
+//! are their places, so that a line's seat names its script.
+//!
+//! # The contract
+//!
+//! [`run_blocks`] leaves, of each seat and its script (`RanBlocks` in specs/BlockRuns.antt):
+//!
+//! - what the seat had seen is still seen, and no range of times changed (`Continues`);
+//! - the lines are those of the blocks, one block after another: the lines of a block have its one place, are numbered on
+//!   from those of the block before, and reply what the block replies;
+//! - the seat's commits grew by exactly those of the blocks, one for each block at a commit, in order, and by no others;
+//! - each block's place stands in the history that the seat has seen at the end. A commit is the entry of that printed
+//!   time, by this seat and with the tag of a block of so many commands; the replies and the change are those of the block
+//!   on the catalogue just before it. A read's replies are those of the block on the catalogue of its time, where the block
+//!   changes nothing;
+//! - the places follow what was seen before the run, and one another: a commit is later, and a read is no earlier.
+//!
+//! Nothing is said of what other seats do meanwhile: this holds at every interleaving. Each block is tried until it is
+//! done, so a run ends only where others let it, and takes a `Wait`. No clause speaks of the gate's calls.
+//!
+//! All memory is taken before the workers start. Want of it is the one error, and leaves the stores untouched.
+//!
+//! # How it is proved
+//!
+//! One attempt's contract (`set_blocks`) speaks of the history that was seen then. From it comes the place of a block
+//! (`proofs/BlockPlaces.antt`), which stays its place in each longer history. So the blocks before stay as they are while
+//! one more is done (`proofs/Done.antt`), and what the workers leave, one after another, is what the run leaves
+//! (`proofs/Workers.antt`).
+//!
+//! # Its place
+//!
+//! It stands on the attempts of `set_blocks`, on the lines of `run_report`, and on `script_workers`, whose workers do the
+//! same for single commands, over any store. That the lines of all stores are a legal run of the blocks follows from this
+//! contract and from the stores being seats of one domain.
+#![tactic(auto)]
+
+mod loading;
+mod running;
+mod worker;
+
+pub use running::run_blocks;
+pub use worker::run_block;

@@ -1,0 +1,44 @@
+use Rattle.std.proofs.Common.{◌∙◌, ◌≤◌, List, Vec, arith}
+use Rattle.std.specs.declared.alloc.Global.{Global}
+use Rattle.std.proofs.lemmas.Grind.{common_steps}
+use Rattle.std.proofs.lemmas.List.Elements.{All-push}
+use Rattle.set_script.specs.declared.commands.Command.{Command}
+use Rattle.set_blocks.specs.BlockGrammar.{parsed_blocks}
+use Rattle.block_workers.specs.Workers.{blocks_of, count_of}
+use Rattle.mvrlu_run.specs.Scripts.{blocks}
+use Rattle.mvrlu_run.proofs.Many.{any_from_one, more_scripts, named_at, none_fails}
+use Rattle.mvrlu_run.proofs.block_scripts.read_each.Goals as goal
+
+pub loop-name-preserved : goal.loop-name-preserved
+loop-name-preserved g c =
+    let i = c.loop-name.invariant in
+    let says = rw (i.texts, c.as_str.ensures.value) at c.in-Ok-read_script.ensures.stop in
+    record {
+      scripts = rw c.push_reserved.ensures.items
+          (more_scripts parsed_blocks blocks_of (g.F.Files.texts c.args.files.now) c.args.names.now c.loop-name.name-index c.name-item.result
+          c.loop-name.scripts.items c.in-Ok-read_script.script c.loop-name-test.true c.name-item.is i.scripts says);
+      place = omega arith;
+      spare = rw c.push_reserved.ensures.capacity i.spare;
+      len = rw c.push_reserved.ensures.items (grind (arith, common_steps));
+      short = rw c.push_reserved.ensures.items
+          (All-push (λ (script : Vec (List Command) Global). count_of script ≤ 65536) c.loop-name.scripts.items c.in-Ok-read_script.script i.short
+          c.in-Ok-read_script.ensures.short);
+      room = c.read_script.auto.buffer ∙ i.room;
+      texts = c.read_script.ensures.texts ∙ i.texts;
+      steady = c.read_script.ensures.still ∙ i.steady;
+      later = omega (arith, i.later, c.read_script.ensures.later);
+    }
+
+pub returns-in-Err-clause-stop : goal.returns-in-Err-clause-stop
+returns-in-Err-clause-stop g c =
+    let i = c.loop-name.invariant in
+    let stop = rw (i.texts, i.place, c.as_str.ensures.value) at c.in-Err.ensures.stop in
+    any_from_one c.in-Err.finish blocks _ _ c.loop-name.name-index _ _ (g.F.Files.faults c.args.files.now) (g.F.Files.faults c.loop-name.files) _
+    (named_at c.args.names.now c.loop-name.name-index c.name-item.result c.loop-name-test.true c.name-item.is) i.scripts i.later stop
+
+pub returns-in-Err-clause-steady : goal.returns-in-Err-clause-steady
+returns-in-Err-clause-steady g c =
+    let i = c.loop-name.invariant in
+    let steady = rw (i.texts, i.steady, c.as_str.ensures.value) at c.in-Err.ensures.steady in
+    none_fails c.in-Err.finish _ _ _ c.loop-name.name-index _
+    (named_at c.args.names.now c.loop-name.name-index c.name-item.result c.loop-name-test.true c.name-item.is) steady

@@ -1,0 +1,19 @@
+use Rattle.std.proofs.Common.{◌≡◌, ◌≤◌, ◌+◌, take, map, length, string_bytes, vec_capacity, All}
+use Rattle.mvrlu_run.specs.declared.finish.TheConstants.{MOST_BYTES}
+use Rattle.block_workers.specs.Workers.{blocks_of, count_of}
+use Rattle.set_blocks.specs.BlockGrammar.{parsed_blocks}
+use Rattle.mvrlu_run.specs.Scripts.{AllScripts}
+use Rattle.mvrlu_run.proofs.block_scripts.read_each.Given as goal
+
+abbrev pub invariant-loop-name : goal.invariant-loop-name
+invariant-loop-name g l = record {
+  scripts : AllScripts parsed_blocks (g.F.Files.texts l.fn.files) (take l.name-index (map string_bytes l.names)) (map blocks_of l.scripts.items);
+  place : l.place ≡ l.name-index;
+  spare : length l.names ≤ vec_capacity l.scripts;
+  len : length l.scripts.items ≡ l.name-index;
+  short : All (λ script. count_of script ≤ 65536) l.scripts.items;
+  room : length l.buffer ≡ MOST_BYTES + 1;
+  texts : g.F.Files.texts l.files ≡ g.F.Files.texts l.fn.files;
+  steady : g.F.Files.steady l.files ≡ g.F.Files.steady l.fn.files;
+  later : g.F.Files.faults l.fn.files ≤ g.F.Files.faults l.files;
+}

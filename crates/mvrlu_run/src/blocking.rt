@@ -1,0 +1,154 @@
+// The run of scripts of blocks over a domain of its own.
+ghost use Rattle.std.specs.Prelude.{◌≡◌, ◌≤◌, All, IfErr, IfOk, MatchResult, length, map, replicate, string_bytes};
+ghost use Rattle.set_script.specs.Objects.{no_words};
+ghost use Rattle.block_workers.specs.Workers.{blocks_of, count_of};
+ghost use Rattle.mvrlu.specs.Opened.{IsOpened};
+ghost use Rattle.run_report.specs.Order.{IsOrdered};
+ghost use Rattle.run_words.specs.Words.{FitOptions, block};
+ghost use Rattle.mvrlu_run.specs.Blocked.{IsBlocksRunOf, IsBlocksText};
+ghost use Rattle.mvrlu_run.specs.Scripts.{AnyStop, NoneFails, blocks as by_block};
+ghost use Rattle.mvrlu_run.specs.Told.{IsTextFor, config_of};
+
+use crate::block_scripts::read_block_scripts;
+use crate::finish::{Closed, Finish};
+use crate::running::{config, zeros};
+use crate::texts::Made;
+use block_domain::run_block_domain;
+use mv_history::LogTable;
+use mvrlu::{Closing, Domain, OpenFault, Seat, open};
+use run_outside::{Files, Gate};
+use run_report::{Line, order, render};
+use run_words::Options;
+use set_blocks::{Block, BlockRules};
+use set_catalog::read_all;
+use set_script::Catalogue;
+use std::alloc::{AllocError, Global};
+use std::sync::Wait;
+use std::thread::Threads;
+
+// The numbers of the domain of a run of blocks.
+const BLOCKS: Options = Options {
+    objects: 4096,
+    slots: 1024,
+    base: 0,
+};
+
+// How many objects a block may hold.
+const WRITE_MAX: u32 = 64;
+
+// What a run of blocks gives, as a run of scripts does.
+#[derive(Drop)]
+struct ToldBlocks {
+    closing: Closing<BlockRules>,
+    lines: Vec<Line>,
+    end: Catalogue,
+    tables: Vec<LogTable>,
+}
+
+/// Reads the scripts of blocks of these files, runs them, and makes the text. An error is why there is none: a file has no
+/// script of blocks, or there is no memory.
+pub fn make_blocks<R: Threads + Wait + Sync, F: Files, G: Gate>(
+    rt: &R,
+    alloc: Global,
+    names: &[String],
+    files: &mut F,
+    gate: &G,
+) -> Result<Made, Finish>
+    requires some { 1 ≤ length names.now }
+    requires few { length names.now ≤ 64 }
+    ensures made { MatchResult result (λ made. IsTextFor (block (map string_bytes names.now)) (F.texts files.old) made.closed made.text.items)
+        (λ finish. AnyStop finish by_block (F.texts files.old) (map string_bytes names.now) (F.faults files.old) (F.faults files.new)) }
+    ensures steady { IfErr result (λ finish. NoneFails finish (F.steady files.old) (F.texts files.old) (map string_bytes names.now)) }
+{
+    let scripts = match read_block_scripts(alloc, files, names) {
+        Ok(scripts) => scripts,
+        Err(finish) => return Err(finish),
+    };
+    match blocks_text(rt, alloc, &scripts, gate) {
+        Ok((text, closing)) => Ok(Made {
+            text,
+            closed: Closed::Blocks(closing),
+        }),
+        Err(AllocError) => Err(Finish::Memory),
+    }
+}
+
+// The text of a run of these scripts of blocks.
+fn blocks_text<R: Threads + Wait + Sync, G: Gate>(
+    rt: &R,
+    alloc: Global,
+    scripts: &[Vec<Block>],
+    gate: &G,
+) -> Result<(Vec<u8>, Closing<BlockRules>), AllocError>
+    requires some { 1 ≤ length scripts.now }
+    requires few { length scripts.now ≤ 64 }
+    requires short { All (λ script. count_of script ≤ 65536) scripts.now }
+    ensures { IfOk result (λ r. IsBlocksText (map blocks_of scripts.now) r.1 r.0.items) }
+{
+    let ToldBlocks {
+        closing,
+        lines,
+        end,
+        tables,
+    } = run_block_sets(rt, alloc, BLOCKS, scripts, gate)?;
+    let text = render(alloc, &lines, &end, &tables)?;
+    Ok((text, closing))
+}
+
+// Runs the scripts of blocks over a domain of these numbers, script i as seat i. The gate is called around each block. The
+// error is want of memory.
+fn run_block_sets<R: Threads + Wait + Sync, G: Gate>(
+    rt: &R,
+    alloc: Global,
+    options: Options,
+    scripts: &[Vec<Block>],
+    gate: &G,
+) -> Result<ToldBlocks, AllocError>
+    requires fit { FitOptions options }
+    requires slots { options.slots ≡ 1024 }
+    requires some { 1 ≤ length scripts.now }
+    requires few { length scripts.now ≤ 64 }
+    requires short { All (λ script. count_of script ≤ 65536) scripts.now }
+    ensures ran { IfOk result (λ told. IsBlocksRunOf options (map blocks_of scripts.now) told.closing told.lines.items told.end told.tables.items) }
+    ensures ordered { IfOk result (λ told. IsOrdered told.lines.items) }
+{
+    let (domain, seats) = open_blocks(alloc, options, scripts.len() as u32)?;
+    let (mut closing, mut lines, tables) = match run_block_domain(
+        rt, alloc, domain, seats, scripts, gate,
+    ) {
+        Ok(ran) => ran,
+        Err((domain, seats, error)) => {
+            // Seats can't be let go, so they meet.
+            let _ = domain.meet(seats);
+            return Err(error);
+        }
+    };
+    order(&mut lines);
+    let end = read_all(alloc, &mut closing)?;
+    Ok(ToldBlocks {
+        closing,
+        lines,
+        end,
+        tables,
+    })
+}
+
+// Opens a domain of blocks of these numbers, with so many seats and objects that are all zero. The error is want of memory.
+fn open_blocks(
+    alloc: Global,
+    options: Options,
+    seats: u32,
+) -> Result<(Domain<BlockRules>, Vec<Seat<BlockRules>>), AllocError>
+    requires fit { FitOptions options }
+    requires slots { options.slots ≡ 1024 }
+    requires some { 1 ≤ seats }
+    requires few { seats ≤ 64 }
+    ensures { IfOk result (λ r. IsOpened (config_of options 64 seats) (replicate options.objects no_words) r.0 r.1.items) }
+{
+    let start = zeros(alloc, options.objects as usize)?;
+    match open(alloc, config(options, WRITE_MAX, seats), &start) {
+        Ok(opened) => Ok(opened),
+        Err(OpenFault::Memory) => Err(AllocError),
+        Err(OpenFault::Config(_)) => unreachable!(),
+    }
+}

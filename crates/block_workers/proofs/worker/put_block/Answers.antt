@@ -13,8 +13,8 @@ loop-index-preserved c =
     let l = c.loop-index in
     let a = c.args in
     let line : Line = record { seat = a.seat; number = a.first + l.index; place = a.place; reply = c.get.result } in
-    let within = omega (arith, c.loop-index-test.true, c.len-index-end.ensures.is) in
-    let next = lines_next a.seat a.first l.index a.place a.replies.now c.get.result within c.get.ensures in
+    let next = lines_next a.seat a.first l.index a.place a.replies.now c.get.result
+    (omega (arith, c.loop-index-test.true, c.len-index-end.ensures.is)) c.get.ensures in
     record {
       items = c.push_reserved.ensures.items
           ∙ ap (λ ls. ls ++ line ∷ []) l.invariant.items

@@ -1,8 +1,9 @@
 -- The bucket of a key, and what a split does to it.
-use Rattle.std.proofs.Common.{◌≡◌, ◌≢◌, ℕ, zero, suc, ◌+◌, ◌*◌, ◌%◌, ◌^◌, ◌<◌, ◌≤◌, ◌⊎◌, inl, inr, cond, true, false, Bool, nat_lt, ◌==◌, refl, sym, ap, ◌∙◌, arith, lt-ltb, le-ltb, ne_eqb, eq-eqb}
+use Rattle.std.proofs.Common.{◌≡◌, ◌≢◌, ℕ, zero, suc, ◌+◌, ◌*◌, ◌/◌, ◌-◌, ◌%◌, ◌^◌, ◌<◌, ◌≤◌, ◌⊎◌, inl, inr, cond, true, false, Bool, nat_lt, ◌==◌, refl, sym, ap, ◌∙◌, arith, lt-ltb, le-ltb, ne_eqb, eq-eqb}
 use Rattle.std.proofs.lemmas.Bool.{cases_lt, cases_eq}
 use Rattle.std.proofs.lemmas.Bool.Decides.{nat_tests}
-use Rattle.std.proofs.Math.Nat.{mod-lt}
+use Rattle.std.proofs.Math.Nat.{mod-lt, div-add-mod}
+use Rattle.std.proofs.lemmas.Nat.{mod-mul-add}
 use Rattle.grow_hash.specs.Tables.{buckets_at, bucket_of}
 
 -- there are some buckets
@@ -68,3 +69,39 @@ pub bucket_level : (level key : ℕ) → bucket_of (suc level) 0 key ≡ bucket_
 bucket_level level key =
     let some : 16 ≤ buckets_at level = some_buckets level in
     bucket_whole (suc level) 0 key (omega arith) ∙ sym (bucket_split level (buckets_at level) key (mod-lt key (omega arith)))
+
+-- a remainder by twice a number
+pub mod_twice : (k n : ℕ) → 0 < n → (k % (n + n) ≡ k % n) ⊎ (k % (n + n) ≡ k % n + n)
+mod_twice k n some = go (cases_lt (k % (n + n)) n)
+  where
+    parts : (n + n) * (k / (n + n)) + k % (n + n) ≡ k
+    parts = div-add-mod k (n + n)
+
+    go : (k % (n + n) < n) ⊎ (n ≤ k % (n + n)) → (k % (n + n) ≡ k % n) ⊎ (k % (n + n) ≡ k % n + n)
+    go (inl lt) =
+        let q : ℕ = k / (n + n) in
+        let whole : (k / (n + n) + k / (n + n)) * n + k % (n + n) ≡ k = omega (arith, parts) in
+        inl (sym (mod-mul-add (k / (n + n) + k / (n + n)) n (k % (n + n)) lt) ∙ ap (λ u. u % n) whole)
+    go (inr ge) =
+        let small : k % (n + n) < n + n = mod-lt k (omega arith) in
+        let whole : (k / (n + n) + k / (n + n) + 1) * n + (k % (n + n) - n) ≡ k = omega (arith, parts) in
+        let rest : k % n ≡ k % (n + n) - n =
+        sym (ap (λ u. u % n) whole) ∙ mod-mul-add (k / (n + n) + k / (n + n) + 1) n (k % (n + n) - n) (omega arith) in
+        inr (omega arith)
+
+-- a key's remainder at the next level
+pub mod_next : (level key : ℕ) → (key % buckets_at (suc level) ≡ key % buckets_at level) ⊎ (key % buckets_at (suc level) ≡ key % buckets_at level + buckets_at level)
+mod_next level key =
+    let some = some_buckets level in
+    let e : key % buckets_at (suc level) ≡ key % (buckets_at level + buckets_at level) = ap (λ n. key % n) (twice_buckets level) in
+    elim (mod_twice key (buckets_at level) (omega arith)) [ inl q ↦ inl (e ∙ q) | inr q ↦ inr (e ∙ q) ]
+
+-- each bucket is one of the table's
+pub bucket_present : (level place key : ℕ) → bucket_of level place key < buckets_at level + place
+bucket_present level place key =
+    let some = some_buckets level in
+    let small : key % buckets_at level < buckets_at level = mod-lt key (omega arith) in
+    elim (cases_lt (key % buckets_at level) place) [
+      | inl lt ↦ (let e = bucket_split level place key lt in elim (mod_next level key) [ inl q ↦ omega arith | inr q ↦ omega arith ])
+      | inr ge ↦ (let e = bucket_whole level place key ge in omega arith)
+    ]

@@ -5,24 +5,29 @@ use Rattle.mv_history.specs.Meaning.{words_at}
 use Rattle.mv_history.proofs.Writing.{length-written}
 use Rattle.set_script.specs.declared.commands.Command.{Command}
 use Rattle.set_script.specs.Catalogue.{Maps, cost}
-use Rattle.set_script.specs.Replies.{changed, applies}
+use Rattle.set_script.specs.Replies.{changed, applies, overflows}
 use Rattle.set_script.specs.Tags.{tag_of}
 use Rattle.set_script.proofs.Replying.{overflows-fits, Works, works}
 use Rattle.grow_hash.specs.Grown.{grown_catalogue, grown_capacity}
 use Rattle.grow_hash.specs.GrowRules.{makes, growing_of, KeepsGrown, Grows, IsGrowCommit}
 use Rattle.grow_hash.proofs.GrownStates.{lawful_fits}
 
+-- What a commit leaves that keeps what it must has room in the nodes.
+pub commit_room : (command : Command) (s : State) (ws : Writes) → KeepsGrown s (written s ws)
+    → grown_catalogue (written s ws) ≡ changed command (grown_catalogue s) → overflows command (grown_catalogue s) (grown_capacity s) ≡ false
+commit_room command s ws keeps leaves =
+    let fits : cost (grown_catalogue (written s ws)) ≤ grown_capacity (written s ws) = lawful_fits (written s ws) keeps.lawful_after in
+    let same : length (written s ws) ≡ length s = length-written s ws in
+    let q : cost (grown_catalogue (written s ws)) ≡ cost (changed command (grown_catalogue s)) = ap cost leaves in
+    overflows-fits command (grown_catalogue s) (grown_capacity s) (omega arith)
+
 -- A commit that keeps what it must, keeps the table and leaves the command's catalogue is one.
 pub grow_commit : (command : Command) (s : State) (ws : Writes) → growing_of (tag_of command) ≡ Some (makes command) → KeepsGrown s (written s ws)
     → words_at (written s ws) 0 ≡ words_at s 0 → applies command (grown_catalogue s) ≡ true
     → grown_catalogue (written s ws) ≡ changed command (grown_catalogue s) → IsGrowCommit (tag_of command) s ws
 grow_commit command s ws tagged keeps table does leaves =
-    let fits : cost (grown_catalogue (written s ws)) ≤ grown_capacity (written s ws) = lawful_fits (written s ws) keeps.lawful_after in
-    let same : length (written s ws) ≡ length s = length-written s ws in
-    let q : cost (grown_catalogue (written s ws)) ≡ cost (changed command (grown_catalogue s)) = ap cost leaves in
-    let room : cost (changed command (grown_catalogue s)) ≤ grown_capacity s = omega arith in
     let w : Works command (grown_catalogue s) (grown_capacity s) =
-    works command (grown_catalogue s) (grown_capacity s) does (overflows-fits command (grown_catalogue s) (grown_capacity s) room) in
+    works command (grown_catalogue s) (grown_capacity s) does (commit_room command s ws keeps leaves) in
     record {
       keeps = keeps;
       grows = subst (λ u. Grows u s (written s ws) ws) (sym tagged) (record { answer = w.answer; leaves = leaves ∙ sym w.leaves; table = table });

@@ -10,7 +10,7 @@ use Rattle.set_script.specs.Catalogue.{empty, has_key, put}
 use Rattle.set_script.specs.Objects.{owner, key, link, value, head_words, list_words, relink}
 use Rattle.set_script.specs.Lists.{Node}
 use Rattle.set_script.specs.Tags.{tag_of}
-use Rattle.set_script.proofs.ObjectWords.{word, owned_in_range, owner-relink, key-relink}
+use Rattle.set_script.proofs.ObjectWords.{word, owned_in_range, owner-relink, kind-relink, key-relink}
 use Rattle.list_set.specs.Places.{IsInList, IsAddPlace, add_writes}
 use Rattle.list_set.specs.Linked.{IsNodeOf, IsLinked}
 use Rattle.list_set.proofs.Changes.{Added}
@@ -52,25 +52,27 @@ module _ (s : State) (b k v p n : ℕ) (l : IsGrown s) (home : bucket s k ≡ b)
   linked : IsLinked s (head_at b)
   linked = l.lists b in_buckets
 
-  apart : p ≢ n
-  apart e = elim place.within [
+  pub add_apart : p ≢ n
+  add_apart e = elim place.within [
     | inl f ↦ (let x = in_buckets in omega arith)
     | inr i ↦ (let x : owner s p ≡ suc (head_at b) = i.1 in let y : owner s p ≡ owner s n = ap (owner s) e in omega arith)
   ]
 
   done : Added s after (head_at b) p (record { object = n; key = k; value = v }) (link s p)
-  done = add_writes_do s (head_at b) p (record { object = n; key = k; value = v }) (list_in_range s b p l in_buckets place.within) lt apart
+  done = add_writes_do s (head_at b) p (record { object = n; key = k; value = v }) (list_in_range s b p l in_buckets place.within) lt add_apart
 
   inserted : Inserted s after (head_at b) k p n
   inserted = record {
     is_node = omega arith;
     vacant = vac;
     no_head = λ e. (let x = in_buckets in omega arith);
-    apart = λ e. apart (sym e);
+    apart = λ e. add_apart (sym e);
     same_owner = ap (word 0) done.before ∙ owner-relink (words_at s p) n;
+    same_kind = ap (word 1) done.before ∙ kind-relink (words_at s p) n;
     same_key = ap (word 2) done.before ∙ key-relink (words_at s p) n;
     to_new = ap (word 3) done.before ∙ relinked s b p n l in_buckets place.within;
     new_owner = ap (word 0) done.new;
+    new_kind = ap (word 1) done.new;
     new_key = ap (word 2) done.new;
     new_link = ap (word 3) done.new;
     others = done.others;
@@ -158,7 +160,7 @@ module _ (s : State) (b k v p n : ℕ) (l : IsGrown s) (home : bucket s k ≡ b)
   add_map =
       let middle : State = set s p (relink (words_at s p) n) in
       let same : grown_map middle ≡ grown_map s = grown_map-relink s p n in
-      let there : words_at middle n ≡ words_at s n = get_or-set_other s p n (relink (words_at s p) n) [] (λ e. apart (sym e)) in
+      let there : words_at middle n ≡ words_at s n = get_or-set_other s p n (relink (words_at s p) n) [] (λ e. add_apart (sym e)) in
       grown_map-more middle n (list_words (head_at b) k v (link s p)) lo (omega (arith, length-set s p (relink (words_at s p) n)))
       (ap (word 0) there ∙ vac) (λ z. omega arith) (ap (has_key k) same ∙ add_absent)
       ∙ ap (put k v) same

@@ -9,7 +9,7 @@ use Rattle.set_script.specs.declared.commands.Command.TheVariants.{Del}
 use Rattle.set_script.specs.Catalogue.{empty, has_key, take_out}
 use Rattle.set_script.specs.Objects.{owner, key, link, value, head_words, list_words, no_words, relink}
 use Rattle.set_script.specs.Tags.{tag_of}
-use Rattle.set_script.proofs.ObjectWords.{word, owned_in_range, owner-relink, key-relink}
+use Rattle.set_script.proofs.ObjectWords.{word, owned_in_range, owner-relink, kind-relink, key-relink}
 use Rattle.list_set.specs.Places.{IsInList, IsDelPlace, del_writes}
 use Rattle.list_set.specs.Linked.{IsNodeOf, IsLinked}
 use Rattle.list_set.proofs.Changes.{Taken}
@@ -49,6 +49,7 @@ module _ (s : State) (b k p n : ℕ) (l : IsGrown s) (in_buckets : b < 1024) (pl
   unlinked : Unlinked s after p n
   unlinked = record {
     same_owner = ap (word 0) done.before ∙ owner-relink (words_at s p) (link s n);
+    same_kind = ap (word 1) done.before ∙ kind-relink (words_at s p) (link s n);
     same_key = ap (word 2) done.before ∙ key-relink (words_at s p) (link s n);
     past = ap (word 3) done.before ∙ relinked s b p (link s n) l in_buckets place.within;
     gone = ap (word 0) done.gone;

@@ -25,6 +25,7 @@ empty_list : (s : State) → IsGrownOpening s → (head : ℕ) → head < length
 empty_list s z head lt = record {
   here = lt;
   unowned = opening_owner s z head;
+  kinds = λ n i. absurd (no_node s z head n i);
   fits = λ n i. absurd (no_node s z head n i);
   leads = λ o i nz. elim i [
     | inl e ↦ absurd (nz (ap (link s) e ∙ ap (word 3) (z.zeros head lt)))

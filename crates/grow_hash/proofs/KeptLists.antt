@@ -50,6 +50,7 @@ module _ (s s' : State) (head : ℕ) (here : words_at s' head ≡ words_at s hea
   list_kept len l = record {
     here = let x = l.here in omega arith;
     unowned = ap (word 0) here ∙ l.unowned;
+    kinds = λ n i. ap (word 1) (kept n (back n i)) ∙ l.kinds n (back n i);
     fits = λ n i. (let x : key s n < 2 ^ 32 = l.fits n (back n i) in let e = key_same n (back n i) in omega arith);
     leads = λ o i n. leads l o (list_back o i) n;
     least = λ o n i j a. least l o n (list_back o i) (back n j) a;

@@ -10,3 +10,7 @@ pub mod GrownDels
 pub mod GrownOpenings
 pub mod Splitting
 pub mod GrowFits
+pub mod Holding
+pub mod Sizes
+pub mod NextKeys
+pub mod Finding

@@ -3,14 +3,11 @@ use Rattle.std.proofs.Common.{◌≡◌, ◌≢◌, ℕ, suc, ◌^◌, ◌<◌, 
 use Rattle.std.proofs.lemmas.Bool.{cases_eq, cases_lt, cases_order}
 use Rattle.mv_history.specs.State.{State}
 use Rattle.mv_history.specs.Meaning.{words_at}
-use Rattle.set_script.specs.Objects.{owner, key, link}
+use Rattle.set_script.specs.Objects.{owner, kind, key, link}
 use Rattle.set_script.proofs.ObjectWords.{word}
 use Rattle.list_set.specs.Places.{IsInList, IsAddPlace}
 use Rattle.list_set.specs.Linked.{IsNodeOf, IsAfter, IsLinked}
-
--- the head of a list is none of its nodes
-pub head_no_node : (s : State) (head : ℕ) → owner s head ≡ 0 → (o : ℕ) → o ≡ head → IsNodeOf s head o → ⊥
-head_no_node s head z o e i = let x : owner s o ≡ owner s head = ap (owner s) e in let y : owner s o ≡ suc head = i.1 in omega arith
+use Rattle.list_set.proofs.Linking.{head_no_node}
 
 -- the place of an add parts the nodes of the list into those with keys up to that of its node, and those with greater ones
 module _ (s : State) (head k p : ℕ) (l : IsLinked s head) (place : IsAddPlace s head k p) where
@@ -71,9 +68,11 @@ pub record Inserted (s s' : State) (head k p n : ℕ) : Type 0 where
   pub no_head : n ≢ head
   pub apart : n ≢ p
   pub same_owner : owner s' p ≡ owner s p
+  pub same_kind : kind s' p ≡ kind s p
   pub same_key : key s' p ≡ key s p
   pub to_new : link s' p ≡ n
   pub new_owner : owner s' n ≡ suc head
+  pub new_kind : kind s' n ≡ 0
   pub new_key : key s' n ≡ k
   pub new_link : link s' n ≡ link s p
   pub others : (o : ℕ) → o ≢ p → o ≢ n → words_at s' o ≡ words_at s o
@@ -212,6 +211,13 @@ module _ (s s' : State) (head k p n : ℕ) (l : IsLinked s head) (place : IsAddP
   list_more len fit = record {
     here = let x = l.here in omega arith;
     unowned = more_owner head (λ e. w.no_head (sym e)) ∙ l.unowned;
+    kinds = λ m i. elim (cases_eq m n) [
+      | inl e ↦ ap (kind s') e ∙ w.new_kind
+      | inr a ↦ elim (cases_eq m p) [
+        | inl e ↦ ap (kind s') e ∙ w.same_kind ∙ sym (ap (kind s) e) ∙ l.kinds m (back m a i)
+        | inr b ↦ ap (word 1) (w.others m b a) ∙ l.kinds m (back m a i)
+      ]
+    ];
     fits = λ m i. elim (cases_eq m n) [
       | inl e ↦ (let x : key s' m ≡ key s' n = ap (key s') e in let y = w.new_key in omega arith)
       | inr a ↦ (let x : key s m < 2 ^ 32 = l.fits m (back m a i) in let y = more_key m a in omega arith)

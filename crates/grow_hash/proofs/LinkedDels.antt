@@ -3,11 +3,11 @@ use Rattle.std.proofs.Common.{◌≡◌, ◌≢◌, ℕ, suc, ◌^◌, ◌<◌, 
 use Rattle.std.proofs.lemmas.Bool.{cases_eq, cases_lt, cases_order}
 use Rattle.mv_history.specs.State.{State}
 use Rattle.mv_history.specs.Meaning.{words_at}
-use Rattle.set_script.specs.Objects.{owner, key, link}
+use Rattle.set_script.specs.Objects.{owner, kind, key, link}
 use Rattle.set_script.proofs.ObjectWords.{word}
 use Rattle.list_set.specs.Places.{IsInList, IsDelPlace}
 use Rattle.list_set.specs.Linked.{IsNodeOf, IsAfter, IsLinked}
-use Rattle.grow_hash.proofs.LinkedAdds.{head_no_node}
+use Rattle.list_set.proofs.Linking.{head_no_node}
 
 -- what is known at the place of a del
 module _ (s : State) (head k p n : ℕ) (l : IsLinked s head) (place : IsDelPlace s head k p n) where
@@ -53,6 +53,7 @@ module _ (s : State) (head k p n : ℕ) (l : IsLinked s head) (place : IsDelPlac
 -- what is written of the words by a del: the link of its place, and the node, which becomes vacant
 pub record Unlinked (s s' : State) (p n : ℕ) : Type 0 where
   pub same_owner : owner s' p ≡ owner s p
+  pub same_kind : kind s' p ≡ kind s p
   pub same_key : key s' p ≡ key s p
   pub past : link s' p ≡ link s n
   pub gone : owner s' n ≡ 0
@@ -153,6 +154,10 @@ module _ (s s' : State) (head k p n : ℕ) (l : IsLinked s head) (place : IsDelP
   list_less len = record {
     here = let x = l.here in omega arith;
     unowned = less_owner head head_apart ∙ l.unowned;
+    kinds = λ m i. elim (cases_eq m p) [
+      | inl e ↦ ap (kind s') e ∙ w.same_kind ∙ sym (ap (kind s) e) ∙ l.kinds m (back m i)
+      | inr b ↦ ap (word 1) (w.others m b (not_gone m i)) ∙ l.kinds m (back m i)
+    ];
     fits = λ m i. (let x : key s m < 2 ^ 32 = l.fits m (back m i) in let y = less_key m (not_gone m i) in omega arith);
     leads = λ o i nz. elim (cases_eq o p) [
       | inl e ↦ subst Leads (sym e) (leads_place (subst (IsInList s' head) e i)) nz

@@ -8,7 +8,7 @@ use Rattle.mv_history.specs.Meaning.{words_at}
 use Rattle.set_script.specs.declared.commands.Command.{Command}
 use Rattle.set_script.specs.declared.commands.Reply.{Reply}
 use Rattle.set_script.specs.declared.commands.Reply.TheVariants.{Yes}
-use Rattle.set_script.specs.Objects.{owner, key, link, value, head_words, list_words, no_words}
+use Rattle.set_script.specs.Objects.{owner, kind, key, link, value, head_words, list_words, no_words}
 use Rattle.set_script.specs.Replies.{reply, next}
 use Rattle.list_set.specs.Places.{IsInList}
 use Rattle.list_set.specs.Linked.{IsNodeOf, IsAfter, IsLinked}
@@ -27,6 +27,7 @@ IsLinked-prop : (s : State) (head : ℕ) → IsProp (IsLinked s head)
 IsLinked-prop s head x y =
     let here_prop : IsProp (head < length s) = hlevel props in
     let unowned_prop : IsProp (owner s head ≡ 0) = hlevel props in
+    let kinds_prop : IsProp ((n : ℕ) → IsNodeOf s head n → kind s n ≡ 0) = hlevel props in
     let fits_prop : IsProp ((n : ℕ) → IsNodeOf s head n → key s n < 2 ^ 32) = hlevel props in
     let leads_prop : IsProp ((o : ℕ) → IsInList s head o → link s o ≢ 0 → IsNodeOf s head (link s o) × IsAfter s head o (link s o)) = hlevel props in
     let least_prop : IsProp ((o n : ℕ) → IsInList s head o → IsNodeOf s head n → IsAfter s head o n → (link s o ≢ 0) × (key s (link s o) ≤ key s n)) =
@@ -35,6 +36,7 @@ IsLinked-prop s head x y =
     λ i. record {
       here = here_prop x.here y.here i;
       unowned = unowned_prop x.unowned y.unowned i;
+      kinds = kinds_prop x.kinds y.kinds i;
       fits = fits_prop x.fits y.fits i;
       leads = leads_prop x.leads y.leads i;
       least = least_prop x.least y.least i;

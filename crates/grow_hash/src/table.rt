@@ -1,6 +1,6 @@
 // The table of a growing hash set.
-ghost use Rattle.std.specs.Prelude.{◌≡◌};
-ghost use Rattle.grow_hash.specs.Tables.{level, split_place};
+ghost use Rattle.std.specs.Prelude.{◌≡◌, ◌+◌, ◌<◌, ◌≤◌};
+ghost use Rattle.grow_hash.specs.Tables.{level, split_place, most_level, buckets_at, bucket_of};
 ghost use Rattle.grow_hash.specs.Grown.{IsGrown};
 
 use mv_history::View;
@@ -17,4 +17,38 @@ pub fn table_of<V: View>(view: &mut V) -> (u32, u32)
 {
     let words = view.read(0);
     (words[2] as u32, words[3] as u32)
+}
+
+// The number of buckets with which each level begins, and at which the last one ends.
+const BUCKETS: [u32; 7] = [16, 32, 64, 128, 256, 512, 1024];
+
+// The number of buckets with which the level begins.
+fn buckets_at(level: u32) -> u32
+    requires level { level ≤ most_level }
+    ensures { result ≡ buckets_at level }
+{
+    BUCKETS[level as usize]
+}
+
+// The number of buckets of a table.
+pub(crate) fn buckets(level: u32, place: u32) -> u32
+    requires level { level ≤ most_level }
+    requires place { place < buckets_at level }
+    ensures { result ≡ buckets_at level + place }
+{
+    buckets_at(level) + place
+}
+
+// The bucket of a key, where the buckets before this place are split.
+pub(crate) fn bucket_of(level: u32, place: u32, key: u32) -> u32
+    requires level { level ≤ most_level }
+    ensures { result ≡ bucket_of level place key }
+{
+    let buckets = buckets_at(level);
+    let bucket = key % buckets;
+    if bucket < place {
+        key % (2 * buckets)
+    } else {
+        bucket
+    }
 }

@@ -133,7 +133,7 @@ module _ (s : State) (head : ℕ) (l : IsLinked s head) where
       }
 
   -- each node that holds a key of the head has a key of its own
-  keys_counted : length (map_at s head) ≡ tally (is_key_at head) (drop 180 s)
+  pub keys_counted : length (map_at s head) ≡ tally (is_key_at head) (drop 180 s)
   keys_counted = length-map_among (is_key_at head) (drop 180 s) (λ i j a b e.
       (let q : 180 + i ≡ 180 + j = l.once (180 + i) (180 + j)
       (omega arith, ap (word 0) (sym (node_at s i)) ∙ (is_key_at-from head (words_at (drop 180 s) i) a).0)

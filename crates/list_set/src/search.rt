@@ -29,7 +29,6 @@ impl Spot {
     /// The writes of an add of the key that was looked for, with this value, in this new node: the
     /// link of the predecessor, and the words of the node.
     pub fn add_writes(&self, head: u32, key: u32, value: u64, node: u32) -> [(u32, Words); 2]
-        requires head_in { head < 170 }
         ensures writes { AreAddWrites head key value node self.now result }
         ensures objects { objects_of result ≡ self.now.previous ∷ node ∷ [] }
     {

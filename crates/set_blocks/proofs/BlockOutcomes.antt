@@ -1,5 +1,6 @@
 -- What an attempt of a block leaves, from what its calls do.
-use Rattle.std.proofs.Common.{◌≡◌, ◌≢◌, ℕ, ◌+◌, ◌-◌, ◌*◌, ◌<◌, ◌≤◌, ◌==◌, inl, Bool, true, false, not, ◌&&◌, List, [], ◌∷◌, ◌++◌, length, suc}
+use Rattle.std.proofs.Common.{◌≡◌, ◌≢◌, ℕ, ◌+◌, ◌-◌, ◌*◌, ◌<◌, ◌≤◌, ◌==◌, inl, Bool, true, false, not, ◌&&◌}
+use Rattle.std.proofs.Common.{List, [], ◌∷◌, ◌++◌, length, suc}
 use Rattle.std.proofs.Common.{refl, sym, ap, ◌∙◌, subst, arith, ne_eqb, eq-eqb}
 use Rattle.std.proofs.lemmas.Bool.Decides.{nat_tests}
 use Rattle.mv_history.specs.State.{State, Writes, written, touches, state_at}
@@ -145,8 +146,9 @@ done_by found locked new commands answers time none lo law ready made =
 
 -- A section that was left after a look.
 pub read_at : (k : Causes) (old before : Seat) (entered found : InSection) (new : Seat) (commands : List Command) (answers : List Reply) (last : Bool)
-    (time : ℕ) → Continues old before → before.mine ≡ old.mine → Enters before entered → k.took before entered → entered.at ≤ length entered.seat.seen
-    → IsAsBefore entered found → Leaves found new → last ≡ (time == entered.seat.last) → answers ≡ replies_in commands (state_of entered) last
+    (time : ℕ) → Continues old before → before.mine ≡ old.mine → Enters before entered → k.took before entered
+    → entered.at ≤ length entered.seat.seen → IsAsBefore entered found → Leaves found new → last ≡ (time == entered.seat.last)
+    → answers ≡ replies_in commands (state_of entered) last
     → block_changes_in commands (state_of entered) last ≡ false → time ≡ entered.seat.base + entered.at → IsBlockRead k old new commands answers time
 read_at k old before entered found new commands answers last time came mine e took le same left is said unchanging at =
     let goes : Continues entered.seat new = Continues-Continues same.seat.continues left.continues in
@@ -345,7 +347,8 @@ space_found n most prepared entered found e same le held enough = record {
 pub settled_by : (k : Causes) (old prepared : Seat) (entered found : InSection) (new : Seat) (commands : List Command) (answers : List Reply) (s : State)
     (time last : ℕ) → Prepares old prepared → Enters prepared entered → k.took prepared entered → entered.at ≤ length entered.seat.seen
     → IsAsBefore entered found → Leaves found new → s ≡ state_of entered → time ≡ entered.seat.base + entered.at → last ≡ entered.seat.last
-    → answers ≡ replies_in commands s (time == last) → block_changes_in commands s (time == last) ≡ false → IsBlockRead k old new commands answers time
+    → answers ≡ replies_in commands s (time == last) → block_changes_in commands s (time == last) ≡ false
+    → IsBlockRead k old new commands answers time
 settled_by k old prepared entered found new commands answers s time last p e took le same left here et el said unchanging =
     read_at k old prepared entered found new commands answers (time == last) time p.continues p.mine e took le same left
     (ap (λ (n : ℕ). time == n) el) (said ∙ ap (λ (u : State). replies_in commands u (time == last)) here)

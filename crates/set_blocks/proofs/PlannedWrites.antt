@@ -1,5 +1,6 @@
 -- What a block locks and writes: objects of the state alone, and something where it changes something.
-use Rattle.std.proofs.Common.{◌≡◌, ℕ, ◌^◌, ◌<◌, ◌⊎◌, inl, inr, Bool, true, false, not, ◌&&◌, ◌||◌, List, [], ◌∷◌, ◌++◌, length}
+use Rattle.std.proofs.Common.{◌≡◌, ℕ, ◌^◌, ◌<◌, ◌⊎◌, inl, inr, Bool, true, false, not, ◌&&◌, ◌||◌}
+use Rattle.std.proofs.Common.{List, [], ◌∷◌, ◌++◌, length}
 use Rattle.std.proofs.Common.{refl, sym, ap, ◌∙◌, subst, arith}
 use Rattle.mv_history.specs.State.{State, Writes, written, touches}
 use Rattle.mv_history.specs.Legal.{AreWithin}
@@ -101,8 +102,8 @@ hold_within s l command os answer range (pair_tells first second k b c qs rs at 
 ]
 
 -- a move: those of its del, and of its add in the state that the del leaves
-move_within : (s : State) (l : IsLawful s) (source target k : ℕ) (ws : Writes) → source < 30 → target < 30 → k < 2 ^ 32 → MovePlan s source target k ws
-    → AreWithin ws (length s)
+move_within : (s : State) (l : IsLawful s) (source target k : ℕ) (ws : Writes) → source < 30 → target < 30 → k < 2 ^ 32
+    → MovePlan s source target k ws → AreWithin ws (length s)
 move_within s l source target k ws ls lt fits m =
     let d = removed_by s source k ls fits m.node m.inner m.dels m.del in
     let lawful : IsLawful (written s m.dels) = subst (λ (w : Writes). IsLawful (written s w)) d.same (d.way.half s l d.place d.vacant).keeps.lawful_after in
@@ -129,8 +130,8 @@ objects-held : (s : State) (os : List ℕ) → objects_of (holding s os) ≡ os
 objects-held s [] = refl
 objects-held s (o ∷ os) = ap (λ (qs : List ℕ). o ∷ qs) (objects-held s os)
 
-step_within : (s : State) (l : IsLawful s) (command : Command) (ws : Writes) (answer : Reply) (c : Bool) → IsInRange command → StepPlan command s ws answer c
-    → AreWithin ws (length s)
+step_within : (s : State) (l : IsLawful s) (command : Command) (ws : Writes) (answer : Reply) (c : Bool) → IsInRange command
+    → StepPlan command s ws answer c → AreWithin ws (length s)
 step_within s l command ws answer c range (changing vs does plan) = change_within s l command vs range plan
 step_within s l command ws answer c range (keeping os said hold) = λ o t.
     hold_within s l command os said range hold o (subst (λ (qs : List ℕ). IsIn o qs) (objects-held s os) (in-touches (holding s os) o t))
@@ -177,7 +178,8 @@ touched_some (w ∷ ws) o t = omega arith
 merged_some : (own ws : Writes) → 0 < length ws → 0 < length (merged own ws)
 merged_some own [] lt = absurd (omega arith)
 merged_some own (w ∷ ws) lt =
-    touched_some (merged own (w ∷ ws)) w.0 (touches-merged own (w ∷ ws) w.0 ∙ right (touches own w.0) (touches (w ∷ ws) w.0) (touches-in (w ∷ ws) w.0 (inl refl)))
+    touched_some (merged own (w ∷ ws)) w.0
+    (touches-merged own (w ∷ ws) w.0 ∙ right (touches own w.0) (touches (w ∷ ws) w.0) (touches-in (w ∷ ws) w.0 (inl refl)))
   where
     right : (x y : Bool) → y ≡ true → x || y ≡ true
     right true y e = refl

@@ -16,6 +16,12 @@
 //! (`proofs/Tracking.antt`, and `ListTracks`, `TreeTracks`, `RootTracks` and `CutTracks` of each way), and then by induction over the
 //! commands (`proofs/Stepping.antt`, `proofs/Planning.antt`).
 //!
+//! **Attempt.** `attempt_block` enters one section of a store, plans the commands one after another over it (`Overlay`, a view
+//! with planned writes), and then locks and writes what is planned and commits it. What it leaves is said by its answer
+//! (`specs/BlockAttempts.antt`): one entry, with the replies and the change of the block on the state just before it; or a read;
+//! or why the change was given up. That the replies are those of the state just before the entry, and not of the snapshot,
+//! follows of what is held: from the snapshot to that state nothing of it was written (`proofs/BlockTimes.antt`).
+//!
 //! **Contract.** `parse_blocks` answers exactly the blocks of a script, or its first faulty line and what is wrong with it
 //! first; want of memory is the one free answer. Each `Block` is one, whoever made it. The laws say what the definitions
 //! come to over all texts, commands and states.

@@ -1,5 +1,6 @@
 -- The words of a machine: as it is opened, and after a step.
-use Rattle.std.proofs.Common.{◌≡◌, ℕ, zero, suc, ◌-◌, ◌<◌, List, [], ◌∷◌, length, get_or, arith, replicate, set, refl, sym, ap, ◌∙◌, subst, Option, Some, None}
+use Rattle.std.proofs.Common.{◌≡◌, ℕ, zero, suc, ◌-◌, ◌<◌, List, [], ◌∷◌, length, get_or, arith, replicate, set, refl, sym, ap}
+use Rattle.std.proofs.Common.{◌∙◌, subst, Option, Some, None}
 use Rattle.std.proofs.lemmas.List.{get_or-replicate, length-replicate}
 use Rattle.mv_layout.proofs.InCells.{in_cells, shows_put}
 use Rattle.mv_core.proofs.Terms.{Config, Checked, Place, Clock, Grace, Mark, Head, Master, First, Stamp, Prev, Super, Data, IsPlace, Memory, put}
@@ -88,3 +89,9 @@ pub found_is : (c : Config) (k : Checked c) (words : List ℕ) (m : Memory) (pla
 found_is c k words m place index found s range is e =
     e ∙ same_element words index found 0 (let lt = in_cells c place k range in let wide = s.wide in omega (arith, is, lt, wide))
     ∙ ap (λ i. get_or words i 0) is ∙ s.each place range
+
+-- what is found at a word's cell is the word there
+pub word_is : (c : Config) (k : Checked c) (words : List ℕ) (place : Place) (index found : ℕ) → length words ≡ cells c → IsPlace c place
+    → index ≡ cell_of c place → found ≡ get_or words index found → found ≡ get_or words (cell_of c place) 0
+word_is c k words place index found wide range is e =
+    e ∙ same_element words index found 0 (let lt = in_cells c place k range in omega (arith, is, lt, wide)) ∙ ap (λ i. get_or words i 0) is

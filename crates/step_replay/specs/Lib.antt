@@ -4,3 +4,13 @@ pub mod States
 pub mod Machines
 pub mod ReplayLaws
 pub mod FirstSteps
+pub mod Words
+pub mod Tasks
+pub mod SeatNotes
+pub mod Begins
+pub mod Learns
+pub mod GoesOn
+pub mod Sweeps
+pub mod Lines
+pub mod Runs
+pub mod Shown

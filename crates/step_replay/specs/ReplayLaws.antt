@@ -1,11 +1,14 @@
 -- What holds behind any steps of a replay.
-use Rattle.std.specs.Prelude.{◌≡◌, ℕ, List, []}
+use Rattle.std.specs.Prelude.{◌≡◌, ℕ, List, [], true}
 use Rattle.mv_layout.specs.declared.Config.{Config}
 use Rattle.mv_core.specs.declared.shared.Opening.{Opening}
 use Rattle.mv_core.specs.Rule.{Ruled}
 use Rattle.step_replay.specs.declared.machine.Machine.{Machine}
 use Rattle.step_replay.specs.States.{any_start, any_commit, zeros, Made, state_of, views_from}
 use Rattle.step_replay.specs.Machines.{IsBehind}
+use Rattle.step_replay.specs.declared.seats.Task.{Task}
+use Rattle.step_replay.specs.Tasks.{place_in_task}
+use Rattle.step_replay.specs.Runs.{TapeOf, Scene, is_place, with_line, tape_stepped, turned}
 
 -- The words, and the views of all seats behind these steps, are a table of the core's rule, with the words by name, the history and the
 -- views of the state behind them.
@@ -20,3 +23,14 @@ abbrev pub ReplaysAreRuled : Type 0
 ReplaysAreRuled =
     (key : Opening) (machine : Machine) (made : List Made) → key.config ≡ machine.config → key.start.value.items ≡ zeros machine.config
     → IsBehind machine made → IsRuled key machine.config machine.words.items made
+
+-- A turn prints lines and makes no step; or it makes one, of a word of the domain, with lines before its own and behind it. The line of the
+-- step has the word that is at its place just before, and the words after it are those with what the step writes there.
+pub data IsTurn (c : Config) (old new : TapeOf) : Type 0 where
+  no_step : (lines : List ℕ) → new ≡ with_line old lines → IsTurn c old new
+  one_step : (seat : ℕ) (task : Task) (before behind : List ℕ) → is_place c (place_in_task c seat task) ≡ true
+      → new ≡ with_line (tape_stepped c seat task (place_in_task c seat task) (with_line old before)) behind → IsTurn c old new
+
+-- so is each turn of each seat
+abbrev pub TurnsMakeOneStep : Type 0
+TurnsMakeOneStep = (c : Config) (x : Scene) → IsTurn c x.tape (turned c x).tape

@@ -1,8 +1,14 @@
 // What holds behind any steps of a replay.
-ghost use Rattle.step_replay.specs.ReplayLaws.{ReplaysAreRuled};
+ghost use Rattle.step_replay.specs.ReplayLaws.{ReplaysAreRuled, TurnsMakeOneStep};
 
 /// Behind any steps, in whatever order the seats made them, the machine's words, the history and the views of the
 /// seats are a state of the core's rule: each law of `mv_core` over the states that the rule allows speaks of it.
 pub fn replays_are_ruled()
     ensures { ReplaysAreRuled }
+{}
+
+/// A turn makes at most one step, of a word of the domain. The line of the step has the word that is at its place just
+/// before, and the words after it are those with what the step writes there; no other line comes with a write.
+pub fn turns_make_one_step()
+    ensures { TurnsMakeOneStep }
 {}

@@ -7,36 +7,58 @@
 //! A state of a domain is its words, its history and the view of each seat, and a step of a seat makes of one
 //! state the next, by `mv_core`'s own definition of the step's kind (`specs/States.antt`): its condition, the
 //! word that it is of, what it writes of what it finds there, and the view after it. The states of a replay
-//! are those that steps make of a new domain whose objects are all zeros. No definition of a step stands here.
+//! are those that steps make of a new domain whose objects are all zeros.
+//!
+//! The run of a plan is a function (`specs/Runs.antt`). A seat has the versions of its log, what it is at, and the next
+//! step of the call that it is in; `specs/Tasks.antt` says of each step the word that it is of and what it does with it, and
+//! `specs/Learns.antt`, `specs/GoesOn.antt` and `specs/Sweeps.antt` what its seat knows and does next, in the order of the
+//! runtime's crates. A turn looks at the seat's calls, skips those whose condition is false, answers those that need no step,
+//! and makes one step. The turns of the schedule, one after another, give the text.
 //!
 //! **Contract.** `parse_plan` answers exactly the plan of a text, or its first fault; want of memory is the
 //! one free answer. All numbers of a plan are in their ranges.
 //!
-//! A `Machine` keeps the words of such a state at run time, and the steps behind which it is are known to the proof
+//! `replay` answers exactly `text_of_plan`, the text of the run: a function of the plan alone. By `turns_make_one_step` each
+//! turn makes at most one step, whose line has the word that was at its place just before, and no word changes but by the
+//! write that such a line says. No clause says that the condition of each step of a run holds of its seat's view.
+//!
+//! A `Machine` keeps the words of a domain at run time, and the steps behind which it is are known to the proof
 //! alone. Each of its calls is one step, whose condition holds of its seat's view there: it answers the word that is
 //! there just before, and the machine is then at the state that the step makes. By `replays_are_ruled` each such state is
-//! one of the core's rule, with all points of it.
+//! one of the core's rule, with all points of it. `replay` has its words on one.
 //!
 //! **Place.** It stands on `set_script` for the words of a line and their numbers, on `mv_layout` for the
-//! numbers and the places of a domain, on `mv_core` for the kinds of step and the rule, and on `mv_history` for the
-//! words of an object.
+//! numbers and the places of a domain, on `mv_core` for the kinds of step and the rule, on `commit_abort` for how a commit
+//! ends, and on `mv_history` for the words of an object and what calls answer. The program's `replay` stands on it.
 #![tactic(auto)]
 
+mod access;
 mod body;
+mod calls;
 mod drafts;
+mod going;
 mod heads;
 mod laws;
+mod learning;
 mod machine;
 #[cfg(test)]
 mod machine_tests;
+mod notes;
 mod numbers;
 mod places;
 mod plan;
 #[cfg(test)]
+mod replay_tests;
+mod schedule;
+mod seats;
+#[cfg(test)]
 mod tests;
+mod text;
+mod turns;
 
 pub use drafts::{MOST_STEPS, parse_plan};
-pub use laws::replays_are_ruled;
+pub use laws::{replays_are_ruled, turns_make_one_step};
 pub use machine::Machine;
 pub use places::{place_cell, place_number};
 pub use plan::{Call, CallOf, Plan, PlanFault, PlanKind};
+pub use schedule::replay;

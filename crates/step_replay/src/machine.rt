@@ -45,12 +45,14 @@ impl Machine {
     ghost use Rattle.mv_core.specs.EnterSteps.{stored_if};
     ghost use Rattle.mv_layout.specs.Places.{IsPlace};
     ghost use Rattle.step_replay.specs.Machines.{IsBehind, Makes, config_of};
+    ghost use Rattle.step_replay.specs.Words.{word_at, words_with, new_words};
 
     /// A new domain of these numbers whose objects are all zeros, with all its seats. The error is want of memory.
     pub fn new(alloc: Global, config: &Config) -> Result<Machine, AllocError>
         requires checked { Checked config.now }
         ensures numbers { IfOk result (λ machine. config_of machine ≡ config.now) }
         ensures behind { IfOk result (λ machine. IsBehind machine []) }
+        ensures words { IfOk result (λ machine. machine.words.items ≡ new_words config.now) }
     {
         let words = opening_words(alloc, config)?;
         Ok(Machine {
@@ -69,7 +71,8 @@ impl Machine {
     /// A load of a word. It answers the word, and changes no word, but the view of the seat.
     pub fn load(&self, place: Place) -> u64
         requires { IsPlace (config_of self.now) place }
-        ensures { Makes self.now self.now place result (λ found. None) }
+        ensures makes { Makes self.now self.now place result (λ found. None) }
+        ensures word { result ≡ word_at (config_of self.now) self.now.words.items place }
     {
         self.words[place_cell(&self.config, place) as usize]
     }
@@ -79,6 +82,8 @@ impl Machine {
         requires { IsPlace (config_of self.old) place }
         ensures numbers { config_of self.new ≡ config_of self.old }
         ensures makes { Makes self.old self.new place result (λ found. Some new) }
+        ensures word { result ≡ word_at (config_of self.old) self.old.words.items place }
+        ensures words { self.new.words.items ≡ words_with (config_of self.old) self.old.words.items place (Some new) }
     {
         let index = place_cell(&self.config, place) as usize;
         let found = self.words[index];
@@ -92,6 +97,8 @@ impl Machine {
         requires { IsPlace (config_of self.old) place }
         ensures numbers { config_of self.new ≡ config_of self.old }
         ensures makes { Makes self.old self.new place result (λ found. stored_if found old new) }
+        ensures word { result ≡ word_at (config_of self.old) self.old.words.items place }
+        ensures words { self.new.words.items ≡ words_with (config_of self.old) self.old.words.items place (stored_if result old new) }
     {
         let index = place_cell(&self.config, place) as usize;
         let found = self.words[index];
@@ -106,6 +113,8 @@ impl Machine {
         requires { IsPlace (config_of self.old) place }
         ensures numbers { config_of self.new ≡ config_of self.old }
         ensures makes { Makes self.old self.new place result (λ found. Some (max found by)) }
+        ensures word { result ≡ word_at (config_of self.old) self.old.words.items place }
+        ensures words { self.new.words.items ≡ words_with (config_of self.old) self.old.words.items place (Some (max result by)) }
     {
         let index = place_cell(&self.config, place) as usize;
         let found = self.words[index];

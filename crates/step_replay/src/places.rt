@@ -1,8 +1,9 @@
 // The words of a domain by name: where each lies, and the number that a text prints.
-ghost use Rattle.std.specs.Prelude.{◌≡◌, ◌<◌};
+ghost use Rattle.std.specs.Prelude.{◌≡◌, ◌<◌, true};
 ghost use Rattle.mv_layout.specs.Limits.{Checked};
 ghost use Rattle.mv_layout.specs.Places.{IsPlace, place_of};
 ghost use Rattle.mv_layout.specs.Cells.{cell_of, cells};
+ghost use Rattle.step_replay.specs.Runs.{is_place};
 
 use mv_layout::{
     CLOCK_CELL, Config, DATA_OFFSET, FIRST_OFFSET, GRACE_CELL, PREV_OFFSET, Place, STAMP_OFFSET,
@@ -47,5 +48,23 @@ pub fn place_number(config: &Config, place: Place) -> u32
         Place::Prev(seat, slot) => slot_place(config, seat, slot) + PREV_OFFSET,
         Place::Super(seat, slot) => slot_place(config, seat, slot) + SUPER_OFFSET,
         Place::Data(seat, slot, word) => slot_place(config, seat, slot) + DATA_OFFSET + word,
+    }
+}
+
+/// Whether a word is one of the domain.
+pub fn is_place(config: &Config, place: Place) -> bool
+    ensures is { result ≡ is_place config.now place }
+    ensures range { result ≡ true → IsPlace config.now place }
+{
+    match place {
+        Place::Clock | Place::Grace => true,
+        Place::Mark(seat) => seat < config.seats,
+        Place::Head(object) => object < config.objects,
+        Place::Master(object, word) => object < config.objects && word < 6,
+        Place::First(seat, slot) => seat < config.seats && slot < config.slots,
+        Place::Stamp(seat, slot) => seat < config.seats && slot < config.slots,
+        Place::Prev(seat, slot) => seat < config.seats && slot < config.slots,
+        Place::Super(seat, slot) => seat < config.seats && slot < config.slots,
+        Place::Data(seat, slot, word) => seat < config.seats && slot < config.slots && word < 6,
     }
 }

@@ -27,10 +27,12 @@ returns g c =
     (subst (λ v. Leaves (g.S.Open.Section.section v) (g.S.Open.Section.stands c.leave.result)) c.into_view.ensures c.leave.ensures) in
     record {
       read = read_at _ _ _ _ _ _ _ _ _ _ (Continues-itself _) refl e c.enter-section.ensures.took law.at same left
-          (worn_enters _ _ c.requires.worn e law.at law.seat.time ∙ ap (λ n. n == (g.S.Open.Section.section c.enter-section.result).seat.last) (sym c.at.ensures))
+          (worn_enters _ _ c.requires.worn e law.at law.seat.time
+          ∙ ap (λ n. n == (g.S.Open.Section.section c.enter-section.result).seat.last) (sym c.at.ensures))
           (c.at_last-replies.ensures
           ∙ found_late (g.S.Open.View.state c.enter-section.result) c.args.commands.now
-          (take c.find_in-overlay.result.0.count c.find_in-overlay.result.0.writes) c.find_in-overlay.result.1 (subst IsLawful (sym here) (lawful_read _ law e.own)) c.find_in-overlay.ensures.found
+          (take c.find_in-overlay.result.0.count c.find_in-overlay.result.0.writes) c.find_in-overlay.result.1
+          (subst IsLawful (sym here) (lawful_read _ law e.own)) c.find_in-overlay.ensures.found
           ∙ ap (λ (s : State). replies_in c.args.commands.now s true) here)
           (unchanging_late c.args.commands.now _)
           c.at.ensures;

@@ -92,8 +92,10 @@ returns-in-Enough g c =
     let found = subst (λ (f : BlockFinding). IsBlockFound c.args.commands.now s (take o.count o.writes) f) c.in-Open.is c.find_in-overlay.ensures.found in
     record {
       attempted = attempted_by _ _ _ _ _ _ _ _ p e c.enter-section.ensures.took law.at goes
-          (early_by (g.S.Open.Section.section c.enter-section.result) c.at-time.result c.last-last.result law.at law.seat.time c.at-time.ensures c.last-last.ensures c.if-time-last.false)
-          (ap (λ (u : State). block_changes_in c.args.commands.now u false) (sym (here ∙ reads_snapshot (g.S.Open.Section.section c.enter-section.result) e.own)) ∙ found.1)
+          (early_by (g.S.Open.Section.section c.enter-section.result) c.at-time.result c.last-last.result law.at law.seat.time
+          c.at-time.ensures c.last-last.ensures c.if-time-last.false)
+          (ap (λ (u : State). block_changes_in c.args.commands.now u false)
+          (sym (here ∙ reads_snapshot (g.S.Open.Section.section c.enter-section.result) e.own)) ∙ found.1)
           c.commit_block.ensures.attempted;
       continues = Continues-Continues looks.continues c.commit_block.ensures.continues;
       at_most_one = one_before looks.continues c.commit_block.ensures.continues looks.quiet c.commit_block.ensures.at_most_one;
@@ -116,8 +118,10 @@ returns-in-Short g c =
     let short = c.in-Short.ensures.short c.in-Short.holder refl in
     record {
       attempted = short_by _ _ _ _ _ _ _ _ p e c.enter-section.ensures.took law.at goes
-          (early_by (g.S.Open.Section.section c.enter-section.result) c.at-time.result c.last-last.result law.at law.seat.time c.at-time.ensures c.last-last.ensures c.if-time-last.false)
-          (ap (λ (u : State). block_changes_in c.args.commands.now u false) (sym (here ∙ reads_snapshot (g.S.Open.Section.section c.enter-section.result) e.own)) ∙ found.1)
+          (early_by (g.S.Open.Section.section c.enter-section.result) c.at-time.result c.last-last.result law.at law.seat.time
+          c.at-time.ensures c.last-last.ensures c.if-time-last.false)
+          (ap (λ (u : State). block_changes_in c.args.commands.now u false)
+          (sym (here ∙ reads_snapshot (g.S.Open.Section.section c.enter-section.result) e.own)) ∙ found.1)
           short.0 short.2 left;
       continues = Continues-Continues looks.continues left.continues;
       at_most_one = left_one looks.continues looks.quiet left;

@@ -1,7 +1,7 @@
 use Rattle.std.proofs.Common.{None, refl, arith}
 use Rattle.mv_layout.proofs.InCells.{in_cells}
 use Rattle.step_replay.specs.States.{state_of}
-use Rattle.step_replay.proofs.Machines.{shows_next, made_next, found_is}
+use Rattle.step_replay.proofs.Machines.{shows_next, made_next, found_is, word_is}
 use Rattle.step_replay.proofs.machine.Machine.load.Goals as goal
 
 pub index-requires : goal.index-requires
@@ -13,8 +13,8 @@ index-requires c =
     let long = here.words.ok.0 in
     omega (arith, within, is, wide, long)
 
-pub returns : goal.returns
-returns c = λ turn behind next.
+pub returns-clause-makes : goal.returns-clause-makes
+returns-clause-makes c = λ turn behind next.
     let here = c.args.self.now in
     let memory = (state_of here.config turn.before).memory in
     let found = found_is here.config here.checked here.words.items memory c.args.place c.place_cell.result c.index.result.now
@@ -27,3 +27,9 @@ returns c = λ turn behind next.
       },
       found,
     )
+
+pub returns-clause-word : goal.returns-clause-word
+returns-clause-word c =
+    let here = c.args.self.now in
+    word_is here.config here.checked here.words.items c.args.place c.place_cell.result c.index.result.now here.sized c.requires c.place_cell.ensures
+    c.index.ensures

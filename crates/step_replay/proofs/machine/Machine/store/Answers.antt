@@ -1,8 +1,8 @@
-use Rattle.std.proofs.Common.{◌∷◌, Some, set, refl, sym, subst, arith}
+use Rattle.std.proofs.Common.{◌∷◌, Some, set, refl, sym, ap, subst, arith}
 use Rattle.mv_layout.proofs.InCells.{in_cells}
 use Rattle.mv_layout.specs.Cells.{Shows}
 use Rattle.step_replay.specs.States.{state_of}
-use Rattle.step_replay.proofs.Machines.{shows_next, made_next, found_is}
+use Rattle.step_replay.proofs.Machines.{shows_next, made_next, found_is, word_is}
 use Rattle.step_replay.proofs.machine.Machine.store.Goals as goal
 
 pub index-found-requires : goal.index-found-requires
@@ -40,3 +40,12 @@ returns-clause-makes c = λ turn behind next.
       },
       found,
     )
+
+pub returns-clause-word : goal.returns-clause-word
+returns-clause-word c =
+    let here = c.args.self.now in
+    word_is here.config here.checked here.words.items c.args.place c.place_cell-index.result c.index-found.result.now here.sized c.requires
+    c.place_cell-index.ensures c.index-found.ensures
+
+pub returns-clause-words : goal.returns-clause-words
+returns-clause-words c = ap (λ i. set c.args.self.now.words.items i c.args.new) c.place_cell-index.ensures

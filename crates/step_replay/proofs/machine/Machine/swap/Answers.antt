@@ -3,7 +3,8 @@ use Rattle.mv_layout.proofs.InCells.{in_cells}
 use Rattle.mv_layout.specs.Cells.{Shows}
 use Rattle.mv_core.specs.EnterSteps.{stored_if}
 use Rattle.step_replay.specs.States.{state_of}
-use Rattle.step_replay.proofs.Machines.{shows_next, made_next, found_is}
+use Rattle.step_replay.specs.Words.{words_with}
+use Rattle.step_replay.proofs.Machines.{shows_next, made_next, found_is, word_is}
 use Rattle.step_replay.proofs.machine.Machine.swap.Goals as goal
 
 pub index-found-requires : goal.index-found-requires
@@ -61,3 +62,29 @@ returns-else-found-old-clause-makes c = λ turn behind next.
       },
       found,
     )
+
+pub returns-then-found-old-clause-word : goal.returns-then-found-old-clause-word
+returns-then-found-old-clause-word c =
+    let here = c.args.self.now in
+    word_is here.config here.checked here.words.items c.args.place c.place_cell-index.result c.index-found.result.now here.sized c.requires
+    c.place_cell-index.ensures c.index-found.ensures
+
+pub returns-else-found-old-clause-word : goal.returns-else-found-old-clause-word
+returns-else-found-old-clause-word c =
+    let here = c.args.self.now in
+    word_is here.config here.checked here.words.items c.args.place c.place_cell-index.result c.index-found.result.now here.sized c.requires
+    c.place_cell-index.ensures c.index-found.ensures
+
+pub returns-then-found-old-clause-words : goal.returns-then-found-old-clause-words
+returns-then-found-old-clause-words c =
+    let here = c.args.self.now in
+    let won : stored_if c.index-found.result.now c.args.old c.args.new ≡ Some c.args.new =
+    ap (λ b. if b then Some c.args.new else None) (eq-eqb c.index-found.result.now c.args.old c.if-found-old.true) in
+    ap (λ i. set here.words.items i c.args.new) c.place_cell-index.ensures ∙ ap (words_with here.config here.words.items c.args.place) (sym won)
+
+pub returns-else-found-old-clause-words : goal.returns-else-found-old-clause-words
+returns-else-found-old-clause-words c =
+    let here = c.args.self.now in
+    let lost : stored_if c.index-found.result.now c.args.old c.args.new ≡ None =
+    ap (λ b. if b then Some c.args.new else None) (ne_eqb c.index-found.result.now c.args.old (λ e. c.if-found-old.false e)) in
+    ap (words_with here.config here.words.items c.args.place) (sym lost)

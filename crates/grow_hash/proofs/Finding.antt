@@ -1,0 +1,60 @@
+-- From what the searches of a growing hash set read to what they find.
+use Rattle.std.proofs.Common.{◌≡◌, ◌≢◌, ℕ, suc, ◌+◌, ◌<◌, ◌≤◌, inl, inr, List, length, Option, sym, ap, ◌∙◌, subst, arith}
+use Rattle.std.proofs.lemmas.Bool.{cases_eq}
+use Rattle.mv_history.specs.State.{State}
+use Rattle.set_script.specs.Catalogue.{next_key}
+use Rattle.set_script.specs.CatalogueOf.{map_at}
+use Rattle.list_set.specs.Linked.{IsLinked}
+use Rattle.list_set.specs.Walks.{IsSpot}
+use Rattle.grow_hash.specs.Tables.{level, split_place, buckets_at, bucket_of, bucket, buckets}
+use Rattle.grow_hash.specs.Grown.{IsGrown, head_at}
+use Rattle.grow_hash.specs.GrowPlans.{head_of}
+use Rattle.grow_hash.proofs.Buckets.{few_buckets, more_buckets, twice_buckets}
+use Rattle.grow_hash.proofs.GrownStates.{bucket_low}
+
+-- the table that was read
+module _ (s : State) (lev pl : ℕ) (l : IsGrown s) (el : lev ≡ level s) (ep : pl ≡ split_place s) where
+  pub head_read : (k b : ℕ) → b ≡ bucket_of lev pl k → b + 1 ≡ head_of s k
+  head_read k b e = omega (arith, e ∙ ap (λ u. bucket_of u pl k) el ∙ ap (λ u. bucket_of (level s) u k) ep)
+
+  pub level_read : lev ≤ 6
+  level_read = let x = l.table.level_in in omega arith
+
+  pub place_read : pl < buckets_at lev
+  place_read = subst (λ u. u < buckets_at lev) (sym ep) (subst (λ u. split_place s < buckets_at u) (sym el) l.table.place_in)
+
+  pub buckets_read : (n : ℕ) → n ≡ buckets_at lev + pl → n ≡ buckets s
+  buckets_read n e = e ∙ ap (λ u. buckets_at u + pl) el ∙ ap (λ u. buckets_at (level s) + u) ep
+
+-- there are 1024 buckets at most
+pub buckets_low : (s : State) → IsGrown s → buckets s ≤ 1024
+buckets_low s l = elim (cases_eq (level s) 6) [
+  | inl e ↦ (let z : split_place s ≡ 0 = l.table.whole e in let n : buckets_at (level s) ≤ 1024 = few_buckets (level s) l.table.level_in in omega arith)
+  | inr n ↦ (let x = l.table.level_in in let p : split_place s < buckets_at (level s) = l.table.place_in in
+      let m : buckets_at (suc (level s)) ≤ 1024 = more_buckets (level s) (omega arith) in
+      let t : buckets_at (suc (level s)) ≡ buckets_at (level s) + buckets_at (level s) = twice_buckets (level s) in omega arith)
+]
+
+-- the head that was found has its list
+pub linked_found : (s t : State) (h k : ℕ) → IsGrown s → t ≡ s → h ≡ head_of s k → IsLinked t h
+linked_found s t h k l same e =
+    subst (λ u. IsLinked u h) (sym same) (subst (IsLinked s) (sym e) (l.lists (bucket s k) (bucket_low s l k)))
+
+-- so has each of the table's
+pub linked_bucket : (s t : State) (b : ℕ) → IsGrown s → t ≡ s → b < buckets s → IsLinked t (b + 1)
+linked_bucket s t b l same lt =
+    let h : suc b ≡ b + 1 = omega arith in
+    subst (λ u. IsLinked u (b + 1)) (sym same) (subst (IsLinked s) h (l.lists b (let x = buckets_low s l in omega arith)))
+
+pub few_found : (s t : State) → IsGrown s → t ≡ s → length t ≤ 65535
+few_found s t l same = subst (λ u. length u ≤ 65535) (sym same) l.few
+
+pub spot_found : (s t : State) (h k p : ℕ) (words : List ℕ) (node : ℕ) (node_words : List ℕ) → t ≡ s → h ≡ head_of s k → IsSpot t h k p words node node_words
+    → IsSpot s (head_of s k) k p words node node_words
+spot_found s t h k p words node node_words same e i =
+    subst (λ u. IsSpot s u k p words node node_words) e (subst (λ u. IsSpot u h k p words node node_words) same i)
+
+pub next_found : (s t : State) (k b : ℕ) (r : Option ℕ) → t ≡ s → r ≡ next_key k (map_at t (b + 1)) → r ≡ next_key k (map_at s (head_at b))
+next_found s t k b r same e =
+    let h : b + 1 ≡ suc b = omega arith in
+    e ∙ ap (λ u. next_key k (map_at u (b + 1))) same ∙ ap (λ u. next_key k (map_at s u)) h

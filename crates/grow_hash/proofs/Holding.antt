@@ -1,0 +1,40 @@
+-- The keys of a bucket and those of the set.
+use Rattle.std.proofs.Common.{◌≡◌, ◌≢◌, ℕ, ◌<◌, ◌≤◌, Bool, true, false, refl, sym, ap, ◌∙◌, subst, arith}
+use Rattle.mv_history.specs.State.{State}
+use Rattle.mv_history.specs.Meaning.{words_at}
+use Rattle.set_script.specs.Catalogue.{has_key}
+use Rattle.set_script.specs.CatalogueOf.{map_at}
+use Rattle.set_script.specs.Objects.{key}
+use Rattle.set_script.proofs.Heads.{is_key_at-from}
+use Rattle.set_script.proofs.ListMaps.{holds-map_at, map_at-holds}
+use Rattle.list_set.specs.Linked.{IsNodeOf}
+use Rattle.list_set.proofs.Walking.{node_picked}
+use Rattle.grow_hash.specs.Tables.{bucket}
+use Rattle.grow_hash.specs.Grown.{IsGrown, head_at, grown_map}
+use Rattle.grow_hash.specs.GrowPlans.{head_of}
+use Rattle.grow_hash.proofs.GrownMaps.{Keeps, grown_map-keeps, keeps-grown_map}
+use Rattle.grow_hash.proofs.GrownStates.{bucket_low, node_bucket, keeps_node, node_keeps}
+
+-- a key of a bucket is one of the set, and the bucket is its own
+pub bucket_has : (s : State) (b k : ℕ) → IsGrown s → has_key k (map_at s (head_at b)) ≡ true → (has_key k (grown_map s) ≡ true) × (bucket s k ≡ b)
+bucket_has s b k l h =
+    let u = map_at-holds s (head_at b) k h in
+    let i : IsNodeOf s (head_at b) u.0 = (u.1, (is_key_at-from (head_at b) (words_at s u.0) u.2).0) in
+    (keeps-grown_map s k u.0 (node_keeps s b k u.0 l i u.3), ap (bucket s) (sym u.3) ∙ node_bucket s b l u.0 i)
+
+-- a key of the set is one of its bucket
+pub has_bucket : (s : State) (k : ℕ) → IsGrown s → has_key k (grown_map s) ≡ true → has_key k (map_at s (head_of s k)) ≡ true
+has_bucket s k l h =
+    let u = grown_map-keeps s k h in
+    let i : IsNodeOf s (head_of s k) u.0 = keeps_node s k u.0 l u.1 in
+    holds-map_at s (head_of s k) k (u.0, i.0, node_picked s (head_of s k) u.0 (l.lists (bucket s k) (bucket_low s l k)) i, u.1.key_is)
+
+-- So a key is in the set where it is in its bucket.
+pub same_has : (s : State) (k : ℕ) → IsGrown s → has_key k (map_at s (head_of s k)) ≡ has_key k (grown_map s)
+same_has s k l = go (has_key k (map_at s (head_of s k))) refl (has_key k (grown_map s)) refl
+  where
+    go : (a : Bool) → has_key k (map_at s (head_of s k)) ≡ a → (b : Bool) → has_key k (grown_map s) ≡ b → a ≡ b
+    go true e true f = refl
+    go false e false f = refl
+    go true e false f = sym (bucket_has s (bucket s k) k l e).0 ∙ f
+    go false e true f = sym e ∙ has_bucket s k l f

@@ -1,0 +1,88 @@
+// What a growing hash set has.
+ghost use Rattle.std.specs.Prelude.{◌≡◌, ◌<◌, ◌≤◌, ℕ, length, min, MatchOption};
+ghost use Rattle.set_script.specs.Catalogue.{next_key};
+ghost use Rattle.list_set.specs.Spots.{EndsHere};
+ghost use Rattle.grow_hash.specs.Grown.{IsGrown, grown_map};
+ghost use Rattle.grow_hash.specs.GrowPlans.{head_of, IsFree};
+
+use crate::table::{bucket_of, buckets, table_of};
+use list_set::{Spot, find_linked, size_linked};
+use mv_history::View;
+
+// The object that is the first node. Object 0 is the table, and the others are heads of buckets.
+const FIRST_NODE: u32 = 1025;
+
+// Where the search for a key ended, in the bucket of this head.
+pub(crate) struct Search {
+    pub head: u32,
+    pub spot: Spot,
+}
+
+// Searches the bucket of the key.
+pub(crate) fn find<V: View>(view: &mut V, key: u32) -> Search
+    requires lawful { IsGrown (V.state view.old) }
+    ensures head { result.head ≡ head_of (V.state view.old) key }
+    ensures spot { EndsHere (V.state view.old) (head_of (V.state view.old) key) key result.spot }
+    ensures as_before { V.as_before view.old view.new }
+{
+    let (level, place) = table_of(view);
+    let head = bucket_of(level, place, key) + 1;
+    let spot = find_linked(view, head, key);
+    Search { head, spot }
+}
+
+// The number of keys. It reads each object of each list.
+pub(crate) fn size<V: View>(view: &mut V) -> u64
+    requires lawful { IsGrown (V.state view.old) }
+    ensures size { result ≡ length (grown_map (V.state view.old)) }
+    ensures as_before { V.as_before view.old view.new }
+{
+    let (level, place) = table_of(view);
+    let mut count = 0;
+    for bucket in 0..buckets(level, place) {
+        count += size_linked(view, bucket + 1);
+    }
+    count
+}
+
+// The least key that is not below this one. It searches each bucket.
+pub(crate) fn next<V: View>(view: &mut V, key: u32) -> Option<u32>
+    requires lawful { IsGrown (V.state view.old) }
+    ensures next { result ≡ next_key key (grown_map (V.state view.old)) }
+    ensures as_before { V.as_before view.old view.new }
+{
+    let (level, place) = table_of(view);
+    let mut least = None;
+    for bucket in 0..buckets(level, place) {
+        let spot = find_linked(view, bucket + 1, key);
+        if spot.node != 0 {
+            least = Some(lesser(least, spot.node_words[2] as u32));
+        }
+    }
+    least
+}
+
+// The lesser of two keys, the first of which may be missing.
+fn lesser(least: Option<u32>, key: u32) -> u32
+    ensures { MatchOption least (result ≡ key) (λ other. result ≡ min other key) }
+{
+    match least {
+        Some(other) => other.min(key),
+        None => key,
+    }
+}
+
+// The first vacant node. It looks through the nodes from the first on.
+pub(crate) fn vacant<V: View>(view: &mut V) -> Option<u32>
+    requires some { 1025 < length (V.state view.old) }
+    requires few { length (V.state view.old) ≤ 65535 }
+    ensures found { MatchOption result ((o : ℕ) → IsFree (V.state view.old) o → ⊥) (IsFree (V.state view.old)) }
+    ensures as_before { V.as_before view.old view.new }
+{
+    for object in FIRST_NODE..view.objects() {
+        if view.read(object)[0] == 0 {
+            return Some(object);
+        }
+    }
+    None
+}

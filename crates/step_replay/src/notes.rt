@@ -1,0 +1,186 @@
+// The notes of a seat's log.
+ghost use Rattle.std.specs.Prelude.{◌≡◌, ◌+◌, ◌<◌, length, slice_index, slice_set, OnOk, IfOk};
+ghost use Rattle.step_replay.specs.SeatNotes.{passes, first_from, first_behind, version_at, held, place_held, holds, live, dead_count, edited};
+ghost use Rattle.step_replay.specs.SeatNotes.{edited_from, applied};
+
+use crate::seats::{Edit, State, Version};
+use mv_history::{WORDS, Words};
+use std::alloc::AllocError;
+
+/// What a version is looked for by.
+#[derive(Clone, Copy)]
+pub enum Test {
+    /// It is of this object.
+    IsOf { object: u32 },
+    /// It has no time of death.
+    IsUntimed,
+    /// A version is below it.
+    IsLinked,
+    /// It is dead only from a time above this.
+    IsDeadAbove { time: u64 },
+    /// It isn't of the write set that begins at this position, or isn't dead at this time.
+    EndsSet { first: usize, time: u64 },
+}
+
+// Whether a version is what is looked for.
+fn passes(test: Test, version: &Version) -> bool
+    ensures { result ≡ passes test version.now }
+{
+    match test {
+        Test::IsOf { object } => version.object == object,
+        Test::IsUntimed => version.dead == 0,
+        Test::IsLinked => version.previous != 0,
+        Test::IsDeadAbove { time } => version.dead > time,
+        Test::EndsSet { first, time } => {
+            version.first != first || version.dead == 0 || version.dead > time
+        }
+    }
+}
+
+/// The position of the first version from one on that is what is looked for, or the next position where none is.
+pub fn first_from(log: &[Version], from: usize, test: Test) -> usize
+    ensures { result ≡ first_from log.now from test }
+{
+    for at in from..log.len() {
+        if passes(test, &log[at]) {
+            return at;
+        }
+    }
+    log.len()
+}
+
+/// The same behind a position.
+pub fn first_behind(log: &[Version], at: usize, test: Test) -> usize
+    ensures { result ≡ first_behind log.now at test }
+{
+    if at < log.len() {
+        first_from(log, at + 1, test)
+    } else {
+        log.len()
+    }
+}
+
+/// The version at a position.
+pub fn version_at(log: &[Version], at: usize) -> Version
+    ensures { result ≡ version_at log.now at }
+{
+    match log.get(at) {
+        Some(version) => *version,
+        None => Version {
+            first: 0,
+            object: 0,
+            previous: 0,
+            words: [0; WORDS],
+            time: 0,
+            dead: 0,
+            above: None,
+        },
+    }
+}
+
+/// A word of six.
+pub fn word_of(words: &Words, word: u32) -> u64
+    ensures { result ≡ slice_index words.now word }
+{
+    match word {
+        0..6 => words[word as usize],
+        _ => 0,
+    }
+}
+
+/// Six words with another one.
+pub fn with_word(words: Words, word: u32, value: u64) -> Words
+    ensures { result ≡ slice_set words word value }
+{
+    let mut changed = words;
+    if word < 6 {
+        changed[word as usize] = value;
+    }
+    changed
+}
+
+/// How many versions the section holds.
+pub fn held(log: &[Version], state: &State) -> usize
+    ensures { result ≡ held log.now state.now }
+{
+    log.len().saturating_sub(state.from)
+}
+
+/// The position of the section's version of an object, or the next position where it doesn't hold the object.
+pub fn place_held(log: &[Version], state: &State, object: u32) -> usize
+    ensures { result ≡ place_held log.now state.now object }
+{
+    first_from(log, state.from, Test::IsOf { object })
+}
+
+/// Whether the section holds the object.
+pub fn holds(log: &[Version], state: &State, object: u32) -> bool
+    ensures { result ≡ holds log.now state.now object }
+{
+    place_held(log, state, object) < log.len()
+}
+
+/// How many versions are live.
+pub fn live(log: &[Version], state: &State) -> usize
+    ensures { result ≡ live log.now state.now }
+{
+    log.len().saturating_sub(state.freed)
+}
+
+/// How many versions the oldest write set has, where all of them are dead at this time, and else 0.
+pub fn dead_count(log: &[Version], state: &State, time: u64) -> usize
+    ensures { result ≡ dead_count log.now state.now time }
+{
+    let freed = state.freed;
+    let end = first_from(log, freed, Test::EndsSet { first: freed, time });
+    if end < log.len() && version_at(log, end).first == freed {
+        return 0;
+    }
+    end.saturating_sub(freed)
+}
+
+// The version with what a step changes in it, at this position.
+fn edited(edit: Edit, place: usize, version: Version) -> Version
+    ensures { result ≡ edited edit place version }
+{
+    match edit {
+        Edit::WordPut { at, word, value } if at == place => Version {
+            words: with_word(version.words, word, value),
+            ..version
+        },
+        Edit::CommittedFrom { from, time } if from <= place => Version { time, ..version },
+        Edit::AbortedFrom { from, dead } if from <= place => Version { dead, ..version },
+        Edit::Retired { at, dead } if at == place => Version { dead, ..version },
+        Edit::AboveNoted { at, seat } if at == place => Version {
+            above: seat,
+            ..version
+        },
+        _ => version,
+    }
+}
+
+// Each version with what a step changes in it.
+fn edit_all(log: &mut Vec<Version>, edit: Edit)
+    ensures { log.new.items ≡ edited_from edit 0 log.old.items }
+{
+    for at in 0..log.len() {
+        log[at] = edited(edit, at, log[at]);
+    }
+}
+
+/// Changes the notes so.
+pub fn apply(log: &mut Vec<Version>, edit: Edit) -> Result<(), AllocError>
+    ensures { OnOk result (log.new.items ≡ applied edit log.old.items) }
+{
+    match edit {
+        Edit::Kept => Ok(()),
+        Edit::Pushed(version) => {
+            log.push(version)?;
+            Ok(())
+        }
+        _ => {
+            edit_all(log, edit);
+            Ok(())
+        }
+    }
+}

@@ -1,0 +1,45 @@
+// The replay of a plan.
+ghost use Rattle.std.specs.Prelude.{◌≡◌, ◌+◌, ◌≤◌, ◌<◌, ◌^◌, OnOk, IfOk, length, map};
+ghost use Rattle.mv_layout.specs.Limits.{Checked};
+ghost use Rattle.step_replay.specs.Plans.{plan_of};
+ghost use Rattle.step_replay.specs.FitPlans.{IsFitPlan};
+ghost use Rattle.step_replay.specs.Runs.{new_seats, text_of_plan};
+ghost use Rattle.step_replay.specs.Shown.{seats_of};
+
+use crate::machine::Machine;
+use crate::plan::{CallOf, Plan};
+use crate::text::write_end;
+use crate::turns::{Seat, Tape, new_seat};
+use mv_layout::{Place, clock_time};
+use std::alloc::{AllocError, Global};
+
+// So many seats that have made no call.
+fn new_seats(alloc: Global, calls: &[CallOf], count: u32) -> Result<Vec<Seat>, AllocError>
+    ensures { IfOk result (λ seats. seats_of calls.now seats.items ≡ new_seats calls.now 0 count) }
+{
+    let mut seats = Vec::new(alloc);
+    for seat in 0..count {
+        seats.push(new_seat(alloc, calls, seat))?;
+    }
+    Ok(seats)
+}
+
+/// The text of the replay of a plan, which is one that `parse_plan` gives.
+pub fn replay(alloc: Global, plan: &Plan) -> Result<Vec<u8>, AllocError>
+    requires fit { IsFitPlan (plan_of plan.now) }
+    ensures exact { IfOk result (λ text. text.items ≡ text_of_plan (plan_of plan.now)) }
+{
+    let config = &plan.config;
+    let mut tape = Tape {
+        machine: Machine::new(alloc, config)?,
+        made: 0,
+        text: String::new(alloc),
+    };
+    let mut seats = new_seats(alloc, &plan.calls, config.seats)?;
+    for seat in &plan.steps {
+        seats[*seat as usize].turn(config, &mut tape, &plan.calls)?;
+    }
+    let time = clock_time(tape.machine.load(Place::Clock));
+    write_end(&mut tape.text, time)?;
+    Ok(tape.text.into_bytes())
+}

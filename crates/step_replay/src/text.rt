@@ -1,0 +1,152 @@
+// The lines of a replay.
+ghost use Rattle.std.specs.Prelude.{◌≡◌, ◌++◌, codes, OnOk, string_bytes};
+ghost use Rattle.step_replay.specs.Lines.{name_of, spaced, idle_line, skip_line, end_line, text_of_access, step_line, text_of_words, text_of_lock};
+ghost use Rattle.step_replay.specs.Lines.{text_of_commit, text_of_holder};
+ghost use Rattle.step_replay.specs.Lines.{text_of_held, text_of_answer, answer_line};
+
+use crate::plan::Call;
+use crate::seats::{Access, Answer, Reclaimed};
+use commit_abort::Ended;
+use mv_history::{Holder, LockAnswer, Words};
+use std::alloc::AllocError;
+use std::fmt::Write;
+
+// The name of a call.
+fn name_of(call: Call) -> &'static str
+    ensures { result.now ≡ name_of call }
+{
+    match call {
+        Call::Enter => "enter",
+        Call::Read { object: _ } => "read",
+        Call::Lock { object: _ } => "lock",
+        Call::Write {
+            object: _,
+            words: _,
+        } => "write",
+        Call::Commit => "commit",
+        Call::Abort => "abort",
+        Call::Leave => "leave",
+        Call::Tidy => "tidy",
+    }
+}
+
+/// A turn of a seat that has no call left.
+pub fn write_idle(text: &mut String, seat: u32) -> Result<(), AllocError>
+    ensures { OnOk result (string_bytes text.new ≡ string_bytes text.old ++ idle_line seat) }
+{
+    writeln!(text, "{seat} idle")
+}
+
+/// A call whose condition is false.
+pub fn write_skip(text: &mut String, seat: u32, call: Call) -> Result<(), AllocError>
+    ensures { OnOk result (string_bytes text.new ≡ string_bytes text.old ++ skip_line seat call) }
+{
+    writeln!(text, "{seat} skip {}", name_of(call))
+}
+
+/// The last line.
+pub fn write_end(text: &mut String, time: u64) -> Result<(), AllocError>
+    ensures { OnOk result (string_bytes text.new ≡ string_bytes text.old ++ end_line time) }
+{
+    writeln!(text, "end {time}")
+}
+
+/// A step: its number, its seat, what it does, the number of the word, the word found, and the word that it offers.
+pub fn write_step(
+    text: &mut String,
+    made: u64,
+    seat: u32,
+    access: Access,
+    place: u32,
+    found: u64,
+) -> Result<(), AllocError>
+    ensures { OnOk result (string_bytes text.new ≡ string_bytes text.old ++ step_line made seat access place found) }
+{
+    write!(text, "{made} {seat} ")?;
+    match access {
+        Access::Load => writeln!(text, "load {place} {found}"),
+        Access::Store { new } => writeln!(text, "store {place} {new}"),
+        Access::Swap { old, new } => {
+            let end = if found == old { "won" } else { "lost" };
+            writeln!(text, "swap {place} {found} {new} {end}")
+        }
+        Access::Raise { by } => writeln!(text, "max {place} {found} {by}"),
+    }
+}
+
+fn write_words(text: &mut String, words: Words) -> Result<(), AllocError>
+    ensures { OnOk result (string_bytes text.new ≡ string_bytes text.old ++ text_of_words words) }
+{
+    write!(text, " {} {} {}", words[0], words[1], words[2])?;
+    write!(text, " {} {} {}", words[3], words[4], words[5])
+}
+
+fn write_lock(text: &mut String, answer: LockAnswer) -> Result<(), AllocError>
+    ensures { OnOk result (string_bytes text.new ≡ string_bytes text.old ++ text_of_lock answer) }
+{
+    match answer {
+        LockAnswer::Held => text.push_str(" held"),
+        LockAnswer::Busy { seat } => write!(text, " busy {seat}"),
+        LockAnswer::Stale { time } => write!(text, " stale {time}"),
+        LockAnswer::SetFull => text.push_str(" setfull"),
+        LockAnswer::LogFull => text.push_str(" logfull"),
+    }
+}
+
+fn write_commit(text: &mut String, ended: Ended) -> Result<(), AllocError>
+    ensures { OnOk result (string_bytes text.new ≡ string_bytes text.old ++ text_of_commit ended) }
+{
+    match ended {
+        Ended::Done(time) => write!(text, " done {time}"),
+        Ended::Again(rival) => write!(text, " again {} {}", rival.seat, rival.time),
+        Ended::End => text.push_str(" end"),
+    }
+}
+
+fn write_holder(text: &mut String, holder: Holder) -> Result<(), AllocError>
+    ensures { OnOk result (string_bytes text.new ≡ string_bytes text.old ++ text_of_holder holder) }
+{
+    match holder {
+        Holder::Mark { seat, low } => write!(text, " mark {seat} {low}"),
+        Holder::Above { object, seat } => write!(text, " above {object} {seat}"),
+        Holder::Fresh { time } => write!(text, " fresh {time}"),
+        Holder::End => text.push_str(" end"),
+    }
+}
+
+fn write_tidy(text: &mut String, tidy: &Reclaimed) -> Result<(), AllocError>
+    ensures { OnOk result (string_bytes text.new ≡ string_bytes text.old ++ spaced tidy.now.freed ++ spaced tidy.now.live ++ text_of_held tidy.now.held) }
+{
+    write!(text, " {} {}", tidy.freed, tidy.live)?;
+    match tidy.held {
+        Some(holder) => write_holder(text, holder),
+        None => Ok(()),
+    }
+}
+
+fn write_what(text: &mut String, answer: &Answer) -> Result<(), AllocError>
+    ensures { OnOk result (string_bytes text.new ≡ string_bytes text.old ++ text_of_answer answer.now) }
+{
+    match answer {
+        Answer::Silent => Ok(()),
+        Answer::AtTime(time) => write!(text, " {time}"),
+        Answer::SixWords(words) => write_words(text, *words),
+        Answer::Locked(answer) => write_lock(text, *answer),
+        Answer::Committed(ended) => write_commit(text, *ended),
+        Answer::Tidied(tidy) => write_tidy(text, tidy),
+    }
+}
+
+/// A call that ends, and its answer.
+pub fn write_answer(
+    text: &mut String,
+    seat: u32,
+    call: Call,
+    answer: &Answer,
+) -> Result<(), AllocError>
+    ensures { OnOk result (string_bytes text.new ≡ string_bytes text.old ++ answer_line seat call answer.now) }
+{
+    write!(text, "{seat} {}", name_of(call))?;
+    write_what(text, answer)?;
+    text.push_str("\n")
+}

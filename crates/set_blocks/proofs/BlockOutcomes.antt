@@ -1,17 +1,15 @@
 -- What an attempt of a block leaves, from what its calls do.
-use Rattle.std.proofs.Common.{◌≡◌, ◌≢◌, ℕ, ◌+◌, ◌-◌, ◌*◌, ◌<◌, ◌≤◌, ◌==◌, inl, Bool, true, false, not, ◌&&◌}
+use Rattle.std.proofs.Common.{◌≡◌, ◌≢◌, ℕ, ◌+◌, ◌-◌, ◌<◌, ◌≤◌, ◌==◌, inl, Bool, true, false}
 use Rattle.std.proofs.Common.{List, [], ◌∷◌, ◌++◌, length, suc}
-use Rattle.std.proofs.Common.{refl, sym, ap, ◌∙◌, subst, arith, ne_eqb, eq-eqb}
-use Rattle.std.proofs.lemmas.Bool.Decides.{nat_tests}
-use Rattle.mv_history.specs.State.{State, Writes, written, touches, state_at}
+use Rattle.std.proofs.Common.{refl, sym, ap, ◌∙◌, subst, arith}
+use Rattle.mv_history.specs.State.{State, Writes, written, state_at}
 use Rattle.mv_history.specs.declared.answers.Holder.{Holder}
 use Rattle.mv_history.specs.declared.answers.Rival.{Rival as RivalEntry}
 use Rattle.mv_history.specs.Drift.{IsFit}
 use Rattle.mv_history.specs.Legal.{AreWithin}
-use Rattle.mv_history.specs.Meaning.{Seat, InSection, IsSeat, IsSection, snapshot_of, state_of}
+use Rattle.mv_history.specs.Meaning.{Seat, InSection, IsSeat, snapshot_of, state_of}
 use Rattle.mv_history.specs.Trail.{commit_exchanges, IsOneLost}
 use Rattle.mv_history.specs.Calls.{call_trail, Continues, IsAsBefore, GoesOn, Prepares, Enters, Leaves, Commits, Overtakes, commit_by}
-use Rattle.mv_history.proofs.Holding.{state_of-as_before}
 use Rattle.mv_history.proofs.Snapshots.{snapshot_of-goes_on}
 use Rattle.mv_history.proofs.Steps.{Continues-Continues, GoesOn-GoesOn, length-seen, state_at-later}
 use Rattle.set_script.specs.Lawful.{IsLawful, IsOpening}
@@ -49,11 +47,10 @@ use Rattle.set_blocks.specs.BlockRules.{IsBlockCommit, block_tag}
 use Rattle.set_blocks.specs.BlockSteps.{HasSpaceFor, BlockGivesUpIn, BlockAttemptedIn, IsBlockReadBy}
 use Rattle.set_blocks.specs.declared.attempt.BlockAttempt.{BlockAttempt}
 use Rattle.set_blocks.specs.declared.attempt.BlockAttempt.TheVariants.{Done, Again}
-use Rattle.set_blocks.proofs.BlockTimes.{lawful_read, changed_then, replied_then, left_then}
+use Rattle.set_blocks.proofs.BlockTimes.{changed_then, replied_then, left_then}
 use Rattle.set_blocks.proofs.Planning.{plan_runs}
 use Rattle.set_blocks.proofs.PlannedWrites.{plan_within, plan_writes}
 use Rattle.set_blocks.proofs.Stepping.{runs_fit}
-use Rattle.set_blocks.proofs.WholeTurns.{unchanging_late}
 
 -- a section that holds nothing has room for so many objects
 count_new : (os : List ℕ) → count_unheld [] os ≡ length os

@@ -1,5 +1,5 @@
 -- What a store of blocks was at each time, and what the block of a commit did there.
-use Rattle.std.proofs.Common.{◌≡◌, ℕ, suc, ◌+◌, ◌-◌, ◌<◌, ◌≤◌, zero, Bool, true, false, cond, not, ◌&&◌}
+use Rattle.std.proofs.Common.{◌≡◌, ℕ, suc, ◌+◌, ◌-◌, ◌<◌, ◌≤◌, zero, true, false, cond}
 use Rattle.std.proofs.Common.{List, [], ◌∷◌, ◌++◌, take, drop, length, Some}
 use Rattle.std.proofs.Common.{refl, sym, ap, ◌∙◌, subst, arith, length-take}
 use Rattle.std.specs.Prelude.{slice_get}
@@ -7,7 +7,7 @@ use Rattle.std.proofs.lemmas.List.{take-append-drop, take-take}
 use Rattle.mv_history.specs.declared.history.Commit.{Commit}
 use Rattle.mv_history.specs.declared.history.Entry.{Entry}
 use Rattle.mv_history.specs.declared.history.Entry.TheVariants.{Change}
-use Rattle.mv_history.specs.State.{State, written, state_after, state_at}
+use Rattle.mv_history.specs.State.{written, state_after, state_at}
 use Rattle.mv_history.specs.Legal.{IsNext, IsAllowed}
 use Rattle.mv_history.specs.Meaning.{Seat, InSection, IsSeat, IsSection, state_of}
 use Rattle.mv_history.specs.Calls.{IsEntryAt}

@@ -1,5 +1,5 @@
 -- What a block replies and changes in a state, from the turns of its commands.
-use Rattle.std.proofs.Common.{◌≡◌, ℕ, ◌+◌, ◌-◌, Bool, true, false, not, ◌&&◌, ◌||◌, cond}
+use Rattle.std.proofs.Common.{◌≡◌, ℕ, ◌-◌, Bool, true, false, not, ◌&&◌, ◌||◌, cond}
 use Rattle.std.proofs.Common.{List, [], ◌∷◌, ◌++◌, length, replicate, get_or}
 use Rattle.std.proofs.Common.{refl, sym, ap, ap₂, ◌∙◌, subst, true≢false, arith}
 use Rattle.std.specs.List.{list_any}

@@ -1,4 +1,4 @@
-use Rattle.std.proofs.Common.{ℕ, ◌==◌, true, false, refl, sym, subst, ap, ◌∙◌, arith, take, length, ◌*◌, eq-eqb}
+use Rattle.std.proofs.Common.{◌==◌, true, false, refl, sym, subst, ap, ◌∙◌, arith, take, length, ◌*◌, eq-eqb}
 use Rattle.mv_history.specs.State.{State}
 use Rattle.mv_history.specs.Meaning.{Seat}
 use Rattle.mv_history.specs.Calls.{Leaves}

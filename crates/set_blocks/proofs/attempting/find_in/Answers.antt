@@ -1,7 +1,5 @@
-use Rattle.std.proofs.Common.{ap, sym, subst, take}
-use Rattle.mv_history.specs.State.{State}
+use Rattle.std.proofs.Common.{sym, subst}
 use Rattle.set_script.specs.Lawful.{IsLawful}
-use Rattle.set_blocks.specs.BlockFindings.{IsBlockFound}
 use Rattle.set_blocks.proofs.BlockTimes.{lawful_read}
 use Rattle.set_blocks.proofs.attempting.find_in.Goals as goal
 

@@ -124,9 +124,12 @@ module _ (s s' : State) (head k p n : ℕ) (l : IsLinked s head) (place : IsAddP
 
   leads_place : Leads p
   leads_place nz =
-      subst (λ u. IsNodeOf s' head u × IsAfter s' head p u) (sym w.to_new) (new_node, λ i.
-          (let x : key s p < k = below s head k p l place (back p (λ e. w.apart (sym e)) i) in
-          let y = w.same_key in let z = w.new_key in omega arith))
+      subst (λ u. IsNodeOf s' head u × IsAfter s' head p u) (sym w.to_new) (
+        new_node,
+        λ i.
+            (let x : key s p < k = below s head k p l place (back p (λ e. w.apart (sym e)) i) in
+            let y = w.same_key in let z = w.new_key in omega arith),
+      )
 
   leads_other : (o : ℕ) → IsInList s' head o → o ≢ p → o ≢ n → Leads o
   leads_other o i a b nz =
@@ -135,8 +138,11 @@ module _ (s s' : State) (head k p n : ℕ) (l : IsLinked s head) (place : IsAddP
       let some : link s o ≢ 0 = λ z. nz (e ∙ z) in
       let r = l.leads o j some in
       let f : key s' (link s o) ≡ key s (link s o) = led_key o j some in
-      subst (λ u. IsNodeOf s' head u × IsAfter s' head o u) (sym e) (now (link s o) r.0, λ m.
-          (let x : key s o < key s (link s o) = r.1 (back o b m) in let g = more_key o b in omega arith))
+      subst (λ u. IsNodeOf s' head u × IsAfter s' head o u) (sym e) (
+        now (link s o) r.0,
+        λ m.
+            (let x : key s o < key s (link s o) = r.1 (back o b m) in let g = more_key o b in omega arith),
+      )
 
   abbrev Least : ℕ → ℕ → Type 0
   Least o m = IsAfter s' head o m → (link s' o ≢ 0) × (key s' (link s' o) ≤ key s' m)

@@ -105,8 +105,11 @@ module _ (s s' : State) (head k p n : ℕ) (l : IsLinked s head) (place : IsDelP
       let up : key s n < key s (link s n) = r.1 node in
       let ne : link s n ≢ n = λ e. (let x : key s (link s n) ≡ key s n = ap (key s) e in omega arith) in
       let f : key s' (link s n) ≡ key s (link s n) = less_key (link s n) ne in
-      subst (λ u. IsNodeOf s' head u × IsAfter s' head p u) (sym w.past) (now (link s n) ne r.0, λ m.
-          (let x : key s p < key s n = (led s head k p n l place).2 (back p m) in let y = w.same_key in omega arith))
+      subst (λ u. IsNodeOf s' head u × IsAfter s' head p u) (sym w.past) (
+        now (link s n) ne r.0,
+        λ m.
+            (let x : key s p < key s n = (led s head k p n l place).2 (back p m) in let y = w.same_key in omega arith),
+      )
 
   leads_other : (o : ℕ) → IsInList s' head o → o ≢ p → Leads o
   leads_other o i a nz =
@@ -115,8 +118,11 @@ module _ (s s' : State) (head k p n : ℕ) (l : IsLinked s head) (place : IsDelP
       let r = l.leads o j (λ z. nz (e ∙ z)) in
       let ne : link s o ≢ n = one_leads s head k p n l place o j a in
       let f : key s' (link s o) ≡ key s (link s o) = less_key (link s o) ne in
-      subst (λ u. IsNodeOf s' head u × IsAfter s' head o u) (sym e) (now (link s o) ne r.0, λ m.
-          (let x : key s o < key s (link s o) = r.1 (back o m) in let g = less_key o (in_apart o i) in omega arith))
+      subst (λ u. IsNodeOf s' head u × IsAfter s' head o u) (sym e) (
+        now (link s o) ne r.0,
+        λ m.
+            (let x : key s o < key s (link s o) = r.1 (back o m) in let g = less_key o (in_apart o i) in omega arith),
+      )
 
   abbrev Least : ℕ → ℕ → Type 0
   Least o m = IsAfter s' head o m → (link s' o ≢ 0) × (key s' (link s' o) ≤ key s' m)
@@ -126,7 +132,7 @@ module _ (s s' : State) (head k p n : ℕ) (l : IsLinked s head) (place : IsDelP
       let i : IsNodeOf s head m = back m j in
       let f : key s' m ≡ key s m = less_key m (not_gone m j) in
       let a = l.least p m place.within i (λ c. (let x : key s' p < key s' m = after (now p (del_apart s head k p n l place) c) in let g = w.same_key in
-          omega arith)) in
+      omega arith)) in
       let x : key s (link s p) ≤ key s m = a.1 in
       let y : key s (link s p) ≡ key s n = ap (key s) place.behind in
       let ne : key s n ≢ key s m = λ q. not_gone m j (sym (l.once n m node i q)) in
@@ -144,7 +150,7 @@ module _ (s s' : State) (head k p n : ℕ) (l : IsLinked s head) (place : IsDelP
       let h = list_back o i in
       let f : key s' m ≡ key s m = less_key m (not_gone m j) in
       let r = l.least o m h (back m j) (λ c.
-          (let x : key s' o < key s' m = after (now o (in_apart o i) c) in let g = less_key o (in_apart o i) in omega arith)) in
+      (let x : key s' o < key s' m = after (now o (in_apart o i) c) in let g = less_key o (in_apart o i) in omega arith)) in
       let y : key s (link s o) ≤ key s m = r.1 in
       let g : key s' (link s o) ≡ key s (link s o) = less_key (link s o) (one_leads s head k p n l place o h a) in
       (λ z. r.0 (sym e ∙ z), subst (λ u. key s' u ≤ key s' m) (sym e) (omega arith))

@@ -12,28 +12,26 @@ fail() {
     failed=1
 }
 
-mkdir -p "$scratch/bin" "$scratch/temporary" "$scratch/repository/crates/mvrlu_main/src" "$scratch/elsewhere"
-cp "$top/mvrlu" "$scratch/repository/"
-touch "$scratch/repository/HANDLES" "$scratch/repository/crates/mvrlu_main/src/main.rt"
-printf '# Libraries\nlow:\nhigh: low std\nother:\nmvrlu_main: high low\n' >"$scratch/repository/crates.txt"
+mkdir -p "$scratch/bin" "$scratch/temporary" "$scratch/elsewhere"
+for crate in low high wide mvrlu_main; do
+    mkdir -p "$scratch/repository/crates/$crate/src"
+    touch "$scratch/repository/crates/$crate/src/lib.rt"
+done
+cp "$top/mvrlu" "$top/build" "$scratch/repository/"
+touch "$scratch/repository/HANDLES"
+printf '# Libraries\nlow:\nhigh: low std\nwide: low\nmvrlu_main: high wide low\n' >"$scratch/repository/crates.txt"
 cat >"$scratch/bin/rt" <<'STANDIN'
 #!/bin/bash
-# Counts its calls; builds unless told not to, and ends with a status that says nothing. Where RT_SLOW is there, it is in the
-# midst of a library until that is said, and then of the program.
-echo "$*" >>"$RT_CALLS"
-[ -e "$RT_BROKEN" ] && exit 0
-until_said() {
-    for _ in {1..300}; do
-        grep -q "$1" "$RT_SEEN" && break
-        sleep 0.1
+# Notes each call with its crate; proves a library, which needs those below, or builds the program. Where RT_BROKEN is there, it does neither.
+echo "$1 $(basename "$PWD")" >>"$RT_CALLS"
+[ -e "$RT_BROKEN" ] && echo "broken here" && exit 1
+if [ "$1" = lib ]; then
+    for used in $(sed -n "s/^$(basename "$PWD"): //p" ../../crates.txt); do
+        [ "$used" = std ] || [ -e "../$used/out/rlib/stamp" ] || { echo "$used is not there" && exit 1; }
     done
-}
-if [ -e "$RT_SLOW" ]; then
-    mkdir -p ../high/out/rlib
-    until_said high
-    touch ../high/out/rlib/stamp
-    echo "fn mvrlu_main::main: proved"
-    until_said mvrlu_main
+    mkdir -p out/rlib out/incremental
+    touch out/rlib/stamp
+    exit 0
 fi
 mkdir -p out
 cat >out/mvrlu_main <<'BINARY'
@@ -47,7 +45,7 @@ chmod +x out/mvrlu_main
 exit 2
 STANDIN
 chmod +x "$scratch/bin/rt"
-export RT_CALLS=$scratch/calls RT_BROKEN=$scratch/broken RT_SLOW=$scratch/slow RT_SEEN=$scratch/err SAYS='to err' ENDS=5
+export RT_CALLS=$scratch/calls RT_BROKEN=$scratch/broken SAYS='to err' ENDS=5
 export TMPDIR=$scratch/temporary
 : >"$RT_CALLS"
 
@@ -62,15 +60,23 @@ call() {
     run run "a b"
 }
 
+# How often the program was built.
 calls() {
-    wc -l <"$RT_CALLS"
+    grep -c '^run ' "$RT_CALLS"
 }
 
 call
 [ "$status" = 5 ] || fail "the status is $status, not the program's"
 [ "$(cat "$scratch/out")" = "$(printf 'in %s with 2: run a b\na line' "$(cd "$scratch/elsewhere" && pwd)")" ] || fail "folder, words or input were changed"
-[ "$(cat "$scratch/err")" = "$(printf 'mvrlu: building the program, which proves it first\nto err')" ] || fail "it doesn't say that it builds"
-[ "$(calls)" = 1 ] || fail "it doesn't build where the binary is absent"
+begun='mvrlu: building the program, which proves it first
+build: proving low; 0 of 3 libraries are proved, 0 minutes so far
+to err'
+[ "$(cat "$scratch/err")" = "$begun" ] || fail "it doesn't say that it builds: $(cat "$scratch/err")"
+[ "$(sort "$RT_CALLS")" = "$(printf 'lib high\nlib low\nlib wide\nrun mvrlu_main')" ] || fail "it proves $(cat "$RT_CALLS")"
+[ "$(head -n 1 "$RT_CALLS")" = "lib low" ] || fail "it proves a library before those below it"
+for crate in low high wide; do
+    [ -e "$scratch/repository/crates/$crate/out/rlib/stamp" ] || fail "$crate is not where rt looks for it"
+done
 
 call
 [ "$(calls)" = 1 ] || fail "it builds where the binary is current"
@@ -83,15 +89,6 @@ for source in crates/mvrlu_main/src/main.rt crates.txt; do
     [ "$(calls)" = $((before + 1)) ] || fail "it doesn't build where $source is newer"
     touch -d '-2 seconds' "$scratch/repository/$source"
 done
-
-# While it builds it names the crate that is being proved.
-touch "$RT_SLOW" && rm "$scratch/repository/crates/mvrlu_main/out/mvrlu_main"
-call
-for crate in 'high, crate 2' 'mvrlu_main, crate 3'; do
-    grep -qx "mvrlu: proving $crate of 3, 0 minutes so far" "$scratch/err" || fail "it doesn't say that $crate is proved"
-done
-[ "$(wc -l <"$scratch/out")" = 2 ] || fail "it writes to standard output while it builds"
-rm "$RT_SLOW"
 
 # What it says behind the program's line where a run with the words ends with that status and line: exactly the text.
 says() {
@@ -140,6 +137,8 @@ done
 touch "$RT_BROKEN" && touch -d '+2 seconds' "$scratch/repository/crates.txt"
 call
 [ "$status" = 1 ] || fail "a build that leaves no binary ends with $status"
+grep -A 1 'build: low was not proved' "$scratch/err" | grep -q 'broken here' || fail "it doesn't show why a library was not proved"
+[ "$(ls "$scratch/repository/crates/mvrlu_main/out")" = "" ] || fail "it leaves folders in which libraries were proved"
 [ ! -s "$scratch/out" ] || fail "it runs an old binary"
 [ -z "$(ls "$TMPDIR")" ] || fail "it leaves temporary files"
 

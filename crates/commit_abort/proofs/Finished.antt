@@ -49,15 +49,13 @@ module _ (c : Config) (w : View) (l : Noted) (won : WonNaming) (k : IsJustNamed 
   some_held = subst (λ (n : ℕ). 0 < n) k.stands.held k.some
 
   -- the first note of the write set
-  pub first_is : (i : ℕ) (n : Note) → IsNoteAt l i n → held_from l ≤ i → (n.first ≡ set_first v.ring) × (n.first < 2 ^ 57)
+  pub first_is : (i : ℕ) (n : Note) → IsNoteAt l i n → held_from l ≤ i → n.first ≡ set_first v.ring
   first_is i n at from =
       let h = (k.stands.log.notes.held i n at).0 from in
       let next = k.stands.next in
       let held = k.stands.held in
       let few = k.stands.log.held in
-      let positions = k.stands.log.positions in
-      let some = some_held in
-      (omega arith, omega arith)
+      omega arith
 
   pub has_named : HasNamed w (set_first v.ring) t won.inside
   has_named = subst (λ (u : View). HasNamed u (set_first v.ring) t won.inside) (sym k.named) refl

@@ -1,5 +1,5 @@
 // Finishing a commit that was named.
-ghost use Rattle.std.specs.Prelude.{◌≡◌, ◌+◌, ◌≤◌, ◌<◌, ◌^◌, length};
+ghost use Rattle.std.specs.Prelude.{◌≡◌, ◌+◌, ◌≤◌, ◌<◌, length};
 ghost use Rattle.mv_layout.specs.Words.{clock_time_of};
 ghost use Rattle.mv_core.specs.declared.view.View.{View};
 ghost use Rattle.mv_core.specs.declared.view.Section.{Section};
@@ -27,7 +27,6 @@ fn stamp_own<P: Protocol, L: Ledger>(
     ghost inside: { Section }
     requires of { IsOf shared.now pass.old }
     requires named { HasNamed (view pass.old) first time inside }
-    requires first { first < 2 ^ 57 }
     ensures same { IsSame pass.old pass.new }
     ensures stamps { StampsIt (view pass.old) (view pass.new) first time inside }
     ensures step { steps.new ≡ steps.old + 1 }

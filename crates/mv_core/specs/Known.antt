@@ -16,7 +16,8 @@ use Rattle.mv_core.specs.declared.view.FoundStamp.{FoundStamp}
 use Rattle.mv_core.specs.declared.view.WriteBack.{WriteBack}
 use Rattle.mv_core.specs.declared.view.Section.{Section}
 use Rattle.mv_core.specs.declared.view.Walk.TheVariants.{Nowhere}
-use Rattle.mv_core.specs.declared.view.Mode.TheVariants.{Open}
+use Rattle.mv_core.specs.declared.view.Mode.TheVariants.{Open, Named}
+use Rattle.mv_core.specs.declared.view.Naming.{Naming}
 use Rattle.mv_core.specs.Rings.{slot_at, HoldsNothing, held_count, set_first}
 use Rattle.mv_core.specs.Times.{latest, latest_at, last_own, IsNextIn}
 use Rattle.mv_core.specs.Views.{time_in, IsUnnamed}
@@ -49,7 +50,8 @@ pub record KnownCommit (v : View) (x : Version) (note : CommitNote) : Type 0 whe
 -- the opening state is lawful, what was seen is legal and allowed and has all its own commits and rests, its time is in range, and so is a
 -- low time that was loaded, outside a section it holds nothing, walks nowhere and writes nothing back, a clock word that it loaded and that
 -- names no commit counts as helped, an unset stamp was found for a word that names a commit, the position that it writes back fits a link,
--- and so does the next one while something is built for it, and of its section and of the versions of its own log it knows this
+-- and so do the next one while something is built for it and the first one of a commit that its section has named, and of its section and of the
+-- versions of its own log it knows this
 pub record Known (starts : State → Type 0) (allows : List ℕ → State → Writes → Type 0) (v : View) : Type 0 where
   pub unspent : v.spent ≡ false
   pub opening : starts v.start
@@ -67,6 +69,7 @@ pub record Known (starts : State → Type 0) (allows : List ℕ → State → Wr
   pub still : v.phase ≡ Outside → (v.walk ≡ Nowhere) × (v.back ≡ None)
   pub back : (b : WriteBack) → v.back ≡ Some b → b.position < 2 ^ 57
   pub next : (k : ℕ) (b : Build) → slot_at v.ring k ≡ Built b → v.ring.next < 2 ^ 57
+  pub named : (inside : Section) (naming : Naming) → v.phase ≡ Inside inside → inside.mode ≡ Named naming → naming.first < 2 ^ 57
   pub commits : (k : ℕ) (x : Version) (note : CommitNote) → slot_at v.ring k ≡ Live x (Committed note) → KnownCommit v x note
   pub deaths : (k : ℕ) (x : Version) (st : Status) (dead : ℕ) → slot_at v.ring k ≡ Live x st → death_in st ≡ Some dead
       → dead ≤ v.base + length v.past.seen + 1

@@ -25,25 +25,47 @@ use Rattle.mv_core.specs.Times.{words_of}
 use Rattle.mv_core.specs.Views.{time_in, IsUnnamed, with_step}
 use Rattle.mv_core.specs.WalkSteps.{IsWalking, stand_at}
 
--- the word of a slot by its offset: FIRST 0, STAMP 1, PREV 2, SUPER 3, DATA word w 4 + w
+-- which word of a slot
+pub data Field : Type 0 where
+  of_first : Field
+  of_stamp : Field
+  of_previous : Field
+  of_successor : Field
+  of_word : ℕ → Field
+
+-- the word at an offset from where its slot begins: FIRST, STAMP, PREV, SUPER, and then the data words
+abbrev pub field_at : ℕ → Field
+field_at zero = of_first
+field_at (suc zero) = of_stamp
+field_at (suc (suc zero)) = of_previous
+field_at (suc (suc (suc zero))) = of_successor
+field_at (suc (suc (suc (suc w)))) = of_word w
+
+-- where that word is of a slot
+abbrev pub place_in : ℕ → ℕ → Field → Place
+place_in seat k of_first = First seat k
+place_in seat k of_stamp = Stamp seat k
+place_in seat k of_previous = Prev seat k
+place_in seat k of_successor = Super seat k
+place_in seat k (of_word w) = Data seat k w
+
 abbrev pub field_place : ℕ → ℕ → ℕ → Place
-field_place seat k zero = First seat k
-field_place seat k (suc zero) = Stamp seat k
-field_place seat k (suc (suc zero)) = Prev seat k
-field_place seat k (suc (suc (suc zero))) = Super seat k
-field_place seat k (suc (suc (suc (suc w)))) = Data seat k w
+field_place seat k field = place_in seat k (field_at field)
 
 -- a slot of which nothing was stored yet
 abbrev pub nothing_built : Build
 nothing_built = record { first = None; stamp = None; previous = None; successor = None; words = replicate 6 None }
 
 -- the build with this word stored too
+abbrev pub with_field : Build → Field → ℕ → Build
+with_field b of_first x = record b { first = Some x }
+with_field b of_stamp x = record b { stamp = Some x }
+with_field b of_previous x = record b { previous = Some x }
+with_field b of_successor x = record b { successor = Some x }
+with_field b (of_word w) x = record b { words = slice_set b.words w (Some x) }
+
 abbrev pub built_too : Build → ℕ → ℕ → Build
-built_too b zero x = record b { first = Some x }
-built_too b (suc zero) x = record b { stamp = Some x }
-built_too b (suc (suc zero)) x = record b { previous = Some x }
-built_too b (suc (suc (suc zero))) x = record b { successor = Some x }
-built_too b (suc (suc (suc (suc w)))) x = record b { words = slice_set b.words w (Some x) }
+built_too b field x = with_field b (field_at field) x
 
 -- what of a slot was stored so far, where it may be built
 abbrev pub build_in : Slot → Option Build
@@ -53,12 +75,15 @@ build_in (Live x st) = None
 build_in (Freeing p first) = None
 
 -- the number that may be stored into this field of the version at a position whose set begins at `first`
+abbrev pub Fits : ℕ → ℕ → Field → ℕ → Type 0
+Fits first position of_first x = x ≡ first
+Fits first position of_stamp x = (first ≡ position) × (x ≡ unset_of position)
+Fits first position of_previous x = Unit {0}
+Fits first position of_successor x = x ≡ 0
+Fits first position (of_word w) x = w < 6
+
 abbrev pub FitsField : ℕ → ℕ → ℕ → ℕ → Type 0
-FitsField first position zero x = x ≡ first
-FitsField first position (suc zero) x = (first ≡ position) × (x ≡ unset_of position)
-FitsField first position (suc (suc zero)) x = Unit {0}
-FitsField first position (suc (suc (suc zero))) x = x ≡ 0
-FitsField first position (suc (suc (suc (suc w)))) x = w < 6
+FitsField first position field x = Fits first position (field_at field) x
 
 -- store into a built slot: in an open section, at the next position, whose slot is free or being built
 pub record MayStoreBuilt (c : Config) (v : View) (position field x : ℕ) (b : Build) : Type 0 where

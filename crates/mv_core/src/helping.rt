@@ -90,7 +90,6 @@ impl<P: Protocol> Shared<P> {
     ) -> Swap
         requires of { IsOf self.now pass.old }
         requires may { IsOwnNaming (config_of self.now) (view pass.old) (own_word (config_of self.now) (view pass.old) first time) (unset_of first) }
-        requires range { first < 2 ^ 57 }
         ensures same { IsSame pass.old pass.new }
         ensures view { view pass.new ≡ stamp_swapped (config_of self.now) (view pass.old) (own_word (config_of self.now) (view pass.old) first time)
             (unset_of first) (found_by (unset_of first) result) }

@@ -3,6 +3,7 @@ use Rattle.std.specs.Prelude.{◌≡◌, ℕ, ◌+◌, ◌*◌, List, length, sl
 use Rattle.mv_layout.specs.declared.config.Config.{Config}
 use Rattle.mv_layout.specs.declared.places.Place.{Place}
 use Rattle.mv_layout.specs.declared.places.Place.TheVariants.{Clock, Grace, Mark, Head, Master, First, Stamp, Prev, Super, Data}
+use Rattle.mv_layout.specs.declared.cells.TheConstants.{STAMP_OFFSET, PREV_OFFSET, SUPER_OFFSET, DATA_OFFSET}
 use Rattle.mv_layout.specs.Places.{IsPlace, Memory}
 
 -- where the objects begin: CLOCK, GRACE and the marks before them are two lines apart
@@ -25,10 +26,10 @@ cell_of c (Mark s) = 38 + 16 * s
 cell_of c (Head o) = objects_cell c + 8 * o
 cell_of c (Master o w) = objects_cell c + 8 * o + 1 + w
 cell_of c (First s k) = slot_cell_of c s k
-cell_of c (Stamp s k) = slot_cell_of c s k + 1
-cell_of c (Prev s k) = slot_cell_of c s k + 2
-cell_of c (Super s k) = slot_cell_of c s k + 3
-cell_of c (Data s k w) = slot_cell_of c s k + 4 + w
+cell_of c (Stamp s k) = slot_cell_of c s k + STAMP_OFFSET
+cell_of c (Prev s k) = slot_cell_of c s k + PREV_OFFSET
+cell_of c (Super s k) = slot_cell_of c s k + SUPER_OFFSET
+cell_of c (Data s k w) = slot_cell_of c s k + DATA_OFFSET + w
 
 -- the words of the table are this memory
 pub record Shows (c : Config) (words : List ℕ) (m : Memory) : Type 0 where

@@ -20,7 +20,7 @@ use Rattle.mv_core.specs.Rule.{LoadsAs, StoresAs, SwapsAs, RaisesAs}
 use Rattle.mv_core.proofs.FactTerms.{KnowsPast, Known, KnownInDomain, Facts, IsSeated, Ruled, Loads, Stores, Swaps, Raises, IsKept}
 use Rattle.mv_core.proofs.moves.Grown.{stays}
 use Rattle.mv_core.proofs.frames.FrameLaw.{set_at_here, set_at_all}
-use Rattle.mv_core.proofs.points.KnownBounds.{known_low, known_none, known_found, known_in_domain, known_back, known_next}
+use Rattle.mv_core.proofs.points.KnownBounds.{known_low, known_none, known_found, known_in_domain, known_back, known_next, known_named}
 use Rattle.mv_core.proofs.points.KnownLogs.{known_idle, known_still, known_commit, known_death}
 use Rattle.mv_core.proofs.points.KnownSections.{known_section}
 use Rattle.mv_core.proofs.frames.Seating.{old_of, seated_after}
@@ -55,6 +55,7 @@ module _ (starts : State → Type 0) (allows : List ℕ → State → Writes →
         still = known_still seats w k is begins from;
         back = known_back seats w k is;
         next = known_next seats w k is;
+        named = known_named seats w k is;
         commits = known_commit seats w k is begins from;
         deaths = known_death seats w k is begins from;
       }

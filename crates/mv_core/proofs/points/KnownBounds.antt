@@ -3,7 +3,11 @@ use Rattle.std.proofs.Common.{◌≡◌, ◌≢◌, ℕ, ◌+◌, ◌*◌, ◌<�
 use Rattle.std.specs.Prelude.{All, Contains}
 use Rattle.mv_core.proofs.Terms.{Entry, State, Writes, maker_of, Config, Clock, Mark, Memory, clock_slot_of, Built, Build, Committed, View, FoundStamp}
 use Rattle.mv_core.proofs.Terms.{WriteBack, index_of, slot_at, parts_of}
-use Rattle.mv_core.specs.declared.view.Phase.TheVariants.{Lowered}
+use Rattle.mv_core.specs.declared.view.Phase.TheVariants.{Lowered, Inside}
+use Rattle.mv_core.specs.declared.view.Section.{Section}
+use Rattle.mv_core.specs.declared.view.Mode.TheVariants.{Named}
+use Rattle.mv_core.specs.declared.view.Naming.{Naming}
+use Rattle.mv_core.specs.Views.{section_of}
 use Rattle.mv_core.proofs.FactTerms.{BeginsWith, MarkedAs, KnownInDomain, Facts}
 use Rattle.mv_core.proofs.history.Fronts.{All-front}
 use Rattle.mv_core.proofs.logs.Links.{position_small}
@@ -48,6 +52,14 @@ module _ {starts : State → Type 0} {allows : List ℕ → State → Writes →
       subst (λ (p : ℕ). p < 2 ^ 57) written.position_is
       (position_small c h (λ s. (seats s).ring) k.checked k.history.in_time k.positions n (index_of c b.position) written.version
       (Committed written.note) written.lives)
+
+  -- so does the first one of a commit that the section has named
+  pub known_named : (inside : Section) (naming : Naming) → w.phase ≡ Inside inside → inside.mode ≡ Named naming → naming.first < 2 ^ 57
+  known_named inside naming e named =
+      let is_named = k.named_commit n inside naming (ap (λ (u : View). section_of u.phase) is ∙ ap section_of e) named in
+      subst (λ (p : ℕ). p < 2 ^ 57) is_named.position_is
+      (position_small c h (λ s. (seats s).ring) k.checked k.history.in_time k.positions n (index_of c naming.first) is_named.version
+      (Committed is_named.note) is_named.lives)
 
   -- and so does the next one, while something is being built for it
   pub known_next : (j : ℕ) (b : Build) → slot_at w.ring j ≡ Built b → w.ring.next < 2 ^ 57

@@ -16,10 +16,7 @@ stamp_own-requires g c κs within =
         search rules,
         (
           search rules,
-          (
-            may_stamp (config_of c.args.shared.now) (view c.args.pass.now) c.args.log.now named.0 named.1 c.args.time c.note-first.result.first named.2 first.0,
-            first.1,
-          ),
+          may_stamp (config_of c.args.shared.now) (view c.args.pass.now) c.args.log.now named.0 named.1 c.args.time c.note-first.result.first named.2 first,
         ),
       ),
     )
@@ -32,4 +29,4 @@ returns-clause-finishing g c =
     let first = first_is (config_of c.args.shared.now) (view c.args.pass.now) c.args.log.now named.0 named.1 (c.live.result - c.held.result)
     c.note-first.result c.note-first.ensures (omega arith) in
     finish_begins (config_of c.args.shared.now) (view c.args.pass.now) (view c.stamp_own.new.pass) c.args.log.now named.0 named.1 c.args.time
-    c.note-first.result.first named.2 first.0 c.stamp_own.ensures.stamps
+    c.note-first.result.first named.2 first c.stamp_own.ensures.stamps

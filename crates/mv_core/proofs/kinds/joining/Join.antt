@@ -370,6 +370,7 @@ joined_stays starts allows c v w j may e =
         still = a.still;
         back = a.back;
         next = a.next;
+        named = a.named;
         commits = λ i x note there. commit_still v x note (joined c v w).trail v.made (joined c v w).notes (a.commits i x note there);
         deaths = a.deaths;
       })),

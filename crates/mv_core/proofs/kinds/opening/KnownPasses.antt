@@ -31,6 +31,7 @@ module _ (starts : State → Type 0) (allows : List ℕ → State → Writes →
     still = λ out. (refl, refl);
     back = λ b e. absurd (cc);
     next = λ j b. none_built c j b;
+    named = λ inside naming e. absurd (cc);
     commits = λ j x note. none_lives c j x (Committed note);
     deaths = λ j x st dead lives. none_lives c j x st lives;
   }
@@ -63,6 +64,7 @@ module _ (starts : State → Type 0) (allows : List ℕ → State → Writes →
         still = k.still;
         back = k.back;
         next = k.next;
+        named = k.named;
         commits = λ j x note there. commit_still v x note (made_one c v).trail (v.made + 1) v.notes (k.commits j x note there);
         deaths = k.deaths;
       }

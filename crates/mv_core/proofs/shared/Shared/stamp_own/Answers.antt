@@ -1,4 +1,6 @@
-use Rattle.std.proofs.Common.{◌≡◌, ℕ, ◌<◌, sym, refl, ap, ◌∙◌, subst, inr}
+use Rattle.std.proofs.Common.{◌≡◌, ℕ, ◌<◌, sym, refl, ap, ◌∙◌, subst, inr, arith}
+use Rattle.std.proofs.Math.Logic.{∥∥₁_elim}
+use Rattle.std.proofs.Math.Bridge.{le_prop}
 use Rattle.mv_core.proofs.Terms.{Checked, Place, Stamp, View, index_of, config_of, start_of}
 use Rattle.mv_core.specs.EnterSteps.{IsOwnNaming, own_word, stamp_swapped, stored_if}
 use Rattle.mv_core.specs.Moves.{history_after}
@@ -10,6 +12,11 @@ use Rattle.mv_core.proofs.moves.Calls.{won_is, lost_is, no_made}
 use Rattle.mv_core.proofs.kinds.helping.stamp.OwnPlace.{own_place, own_time}
 use Rattle.mv_core.proofs.kinds.helping.stamp.SwapStamp.{stamp_swaps}
 use Rattle.mv_core.proofs.shared.Shared.stamp_own.Goals as goal
+
+pub unset_stamp-unset-requires : goal.unset_stamp-unset-requires
+unset_stamp-unset-requires g c =
+    let own = c.requires.may in
+    ∥∥₁_elim c.args.pass.now.known le_prop (λ known. let small = known.named own.0 own.1 own.2 own.3 in let same = own.5 in omega arith)
 
 pub swap_as-found-requires-clause-rule : goal.swap_as-found-requires-clause-rule
 swap_as-found-requires-clause-rule g c =

@@ -4,3 +4,7 @@ pub mod GrowRules
 pub mod GrowRuleLaws
 pub mod GrowPlans
 pub mod Splits
+pub mod GrowReplies
+pub mod GrowAttempts
+pub mod GrowSteps
+pub mod GrowFindings

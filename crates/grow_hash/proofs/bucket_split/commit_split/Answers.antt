@@ -7,9 +7,9 @@ use Rattle.set_catalog.specs.Attempts.{TriesOne}
 use Rattle.set_catalog.proofs.Exchanges.{leaves_none, left_one, one_before, one_after}
 use Rattle.set_catalog.proofs.Outcomes.{worn_left}
 use Rattle.grow_hash.specs.GrowRules.{split_tag, IsGrowCommit}
-use Rattle.grow_hash.proofs.SplitOutcomes.{room_for, ready_by, stops_by, done_by, stopped_in, overtaken_in, found_after, found_tried_in}
-use Rattle.grow_hash.proofs.SplitPlanned.{plan_distinct, plan_within}
-use Rattle.grow_hash.proofs.SplitTimes.{grown_read}
+use Rattle.grow_hash.proofs.split.Outcomes.{room_for, ready_by, stops_by, done_by, stopped_in, overtaken_in, found_after, found_tried_in}
+use Rattle.grow_hash.proofs.split.Planned.{plan_distinct, plan_within}
+use Rattle.grow_hash.proofs.attempts.Times.{grown_read}
 use Rattle.grow_hash.proofs.bucket_split.commit_split.Goals as goal
 
 pub rewrite-requires-clause-distinct : goal.rewrite-requires-clause-distinct

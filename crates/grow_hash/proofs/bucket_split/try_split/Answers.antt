@@ -9,8 +9,8 @@ use Rattle.set_catalog.proofs.LawfulTimes.{reads_snapshot}
 use Rattle.grow_hash.specs.Grown.{IsGrown}
 use Rattle.grow_hash.specs.SplitCalls.{IsSplittable}
 use Rattle.grow_hash.specs.SplitSteps.{IsPlannedSplit}
-use Rattle.grow_hash.proofs.SplitOutcomes.{looked, closed_found, found_tried, worn_found, opened_by, space_found, short_by, tried_by, last_by}
-use Rattle.grow_hash.proofs.SplitTimes.{grown_read}
+use Rattle.grow_hash.proofs.split.Outcomes.{looked, closed_found, found_tried, worn_found, opened_by, space_found, short_by, tried_by, last_by}
+use Rattle.grow_hash.proofs.attempts.Times.{grown_read}
 use Rattle.grow_hash.proofs.bucket_split.try_split.Goals as goal
 
 pub plan_split-requires : goal.plan_split-requires

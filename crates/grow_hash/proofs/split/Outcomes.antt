@@ -41,9 +41,9 @@ use Rattle.grow_hash.specs.SplitCalls.{
 use Rattle.grow_hash.specs.SplitSteps.{IsPlannedSplit, IsClosed, HasSplitSpace, SplitFound, SplitGivesUpIn, SplitTriedIn}
 use Rattle.grow_hash.specs.declared.answer.Split.{Split}
 use Rattle.grow_hash.specs.declared.answer.Split.TheVariants.{Done, Whole, Long, Worn, Again}
-use Rattle.grow_hash.proofs.SplitFits.{split_fit}
-use Rattle.grow_hash.proofs.SplitPlanned.{plan_distinct, plan_named, plan_some}
-use Rattle.grow_hash.proofs.SplitTimes.{tagged_then, left_then, more_then, counted_then}
+use Rattle.grow_hash.proofs.split.Fits.{split_fit}
+use Rattle.grow_hash.proofs.split.Planned.{plan_distinct, plan_named, plan_some}
+use Rattle.grow_hash.proofs.split.Times.{tagged_then, left_then, more_then, counted_then}
 
 -- a section that holds nothing has room for so many objects
 count_new : (os : List ℕ) → count_unheld [] os ≡ length os

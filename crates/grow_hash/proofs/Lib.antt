@@ -9,8 +9,11 @@ pub mod GrownAdds
 pub mod GrownDels
 pub mod GrownOpenings
 pub mod Splitting
+pub mod split
 pub mod GrowFits
 pub mod Holding
 pub mod Sizes
 pub mod NextKeys
 pub mod Finding
+pub mod CatalogueReads
+pub mod attempts

@@ -1,7 +1,7 @@
 -- The bucket of a key, and what a split does to it.
-use Rattle.std.proofs.Common.{◌≡◌, ◌≢◌, ℕ, zero, suc, ◌+◌, ◌*◌, ◌/◌, ◌-◌, ◌%◌, ◌^◌, ◌<◌, ◌≤◌, ◌⊎◌, inl, inr, cond, true, false, Bool, nat_lt, ◌==◌, refl, sym, ap, ◌∙◌, arith, lt-ltb, le-ltb, ne_eqb, eq-eqb}
-use Rattle.std.proofs.lemmas.Bool.{cases_lt, cases_eq}
-use Rattle.std.proofs.lemmas.Bool.Decides.{nat_tests}
+use Rattle.std.proofs.Common.{◌≡◌, ◌≢◌, ℕ, zero, suc, ◌+◌, ◌*◌, ◌/◌, ◌-◌, ◌%◌, ◌<◌, ◌≤◌, ◌⊎◌, inl, inr, cond}
+use Rattle.std.proofs.Common.{Bool, sym, ap, ◌∙◌, arith, lt-ltb, le-ltb}
+use Rattle.std.proofs.lemmas.Bool.{cases_lt}
 use Rattle.std.proofs.Math.Nat.{mod-lt, div-add-mod}
 use Rattle.std.proofs.lemmas.Nat.{mod-mul-add}
 use Rattle.grow_hash.specs.Tables.{buckets_at, bucket_of}
@@ -105,3 +105,17 @@ bucket_present level place key =
       | inl lt ↦ (let e = bucket_split level place key lt in elim (mod_next level key) [ inl q ↦ omega arith | inr q ↦ omega arith ])
       | inr ge ↦ (let e = bucket_whole level place key ge in omega arith)
     ]
+
+-- A key of the bucket at the split place has it as its remainder,
+pub split_mod : (level place key : ℕ) → place < buckets_at level → bucket_of level place key ≡ place → key % buckets_at level ≡ place
+split_mod level place key lt home = elim (cases_lt (key % buckets_at level) place) [
+  | inl low ↦ (let e = bucket_split level place key low in elim (mod_next level key) [ inl q ↦ absurd (omega arith) | inr q ↦ absurd (omega arith) ])
+  | inr ge ↦ sym (bucket_whole level place key ge) ∙ home
+]
+
+-- and goes on to this bucket or to the one that the split makes
+pub split_to : (level place key : ℕ) → place < buckets_at level → bucket_of level place key ≡ place
+    → (key % buckets_at (suc level) ≡ place) ⊎ (key % buckets_at (suc level) ≡ place + buckets_at level)
+split_to level place key lt home =
+    let e = split_mod level place key lt home in
+    elim (mod_next level key) [ inl q ↦ inl (q ∙ e) | inr q ↦ inr (omega arith) ]

@@ -1,6 +1,6 @@
 -- The set for which a grown lawful state stands.
-use Rattle.std.proofs.Common.{◌≡◌, ◌≢◌, ℕ, suc, ◌+◌, ◌-◌, ◌<◌, ◌≤◌, ◌⊎◌, inl, inr, Bool, true, false, not, eqb, eqb-true, ne_eqb, List, [], ◌∷◌}
-use Rattle.std.proofs.Common.{length, set, drop, refl, sym, ap, ◌∙◌, arith, get_or-drop, length-drop, length-set}
+use Rattle.std.proofs.Common.{◌≡◌, ◌≢◌, ℕ, suc, ◌+◌, ◌-◌, ◌<◌, ◌≤◌, inl, inr, true, false, not, eqb, ne_eqb, List, []}
+use Rattle.std.proofs.Common.{length, set, drop, refl, sym, ap, ◌∙◌, arith, get_or-drop, length-drop}
 use Rattle.std.proofs.lemmas.List.{drop-set-lt, drop-set-add}
 use Rattle.std.proofs.lemmas.Bool.{cases_lt}
 use Rattle.std.proofs.lemmas.Bool.Decides.{nat_tests}
@@ -10,9 +10,9 @@ use Rattle.set_script.specs.Catalogue.{Map, has_key, put, take_out, cost, empty}
 use Rattle.set_script.specs.CatalogueOf.{map_among}
 use Rattle.set_script.specs.Objects.{owner, key, value, relink}
 use Rattle.set_script.proofs.ObjectWords.{word, owned_in_range, owner-relink, key-relink, value-relink}
-use Rattle.set_script.proofs.Mapped.{map_among-same, map_among-none, map_among-more, map_among-less, map_among-has, has-map_among}
+use Rattle.set_script.proofs.Mapped.{map_among-same, map_among-more, map_among-less, map_among-has, has-map_among}
 use Rattle.set_script.proofs.Tally.{tally, tally-bound, length-map_among}
-use Rattle.grow_hash.specs.Grown.{first_grown, is_used, grown_map, grown_name, grown_catalogue, grown_capacity}
+use Rattle.grow_hash.specs.Grown.{is_used, grown_map, grown_name, grown_catalogue, grown_capacity}
 
 pub used_owned : (w : List ℕ) → word 0 w ≢ 0 → is_used w ≡ true
 used_owned w n = ap not (ne_eqb (word 0 w) 0 n)
@@ -38,15 +38,19 @@ node_in_range s o lo lt = omega (arith, length-drop 1025 s)
 pub grown_map-low : (s : State) (o : ℕ) (w : List ℕ) → o < 1025 → grown_map (set s o w) ≡ grown_map s
 grown_map-low s o w lt = ap (map_among is_used) (drop-set-lt 1025 s o w lt)
 
+-- a node that changes neither whether it is used nor its key and value
+pub grown_map-same : (s : State) (o : ℕ) (w : List ℕ) → 1025 ≤ o → is_used w ≡ is_used (words_at s o) → word 2 w ≡ key s o → word 5 w ≡ value s o
+    → grown_map (set s o w) ≡ grown_map s
+grown_map-same s o w lo a b c =
+    let e = at-drop_grown s o lo in
+    ap (map_among is_used) (drop-set_grown s o w lo)
+    ∙ map_among-same is_used (drop 1025 s) (o - 1025) w (a ∙ ap is_used (sym e)) (b ∙ ap (word 2) (sym e)) (c ∙ ap (word 5) (sym e))
+
 pub grown_map-relink : (s : State) (o to : ℕ) → grown_map (set s o (relink (words_at s o) to)) ≡ grown_map s
 grown_map-relink s o to = elim (cases_lt o 1025) [
   | inl lt ↦ grown_map-low s o (relink (words_at s o) to) lt
-  | inr lo ↦ (let e = at-drop_grown s o lo in
-      let w : List ℕ = relink (words_at s o) to in
-      ap (map_among is_used) (drop-set_grown s o w lo)
-      ∙ map_among-same is_used (drop 1025 s) (o - 1025) w
-      (ap (λ u. not (eqb u 0)) (owner-relink (words_at s o) to ∙ ap (word 0) (sym e)))
-      (key-relink (words_at s o) to ∙ ap (word 2) (sym e)) (value-relink (words_at s o) to ∙ ap (word 5) (sym e)))
+  | inr lo ↦ grown_map-same s o (relink (words_at s o) to) lo (ap (λ u. not (eqb u 0)) (owner-relink (words_at s o) to))
+      (key-relink (words_at s o) to) (value-relink (words_at s o) to)
 ]
 
 -- a key of the set is that of a node

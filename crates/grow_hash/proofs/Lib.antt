@@ -9,6 +9,11 @@ pub mod GrownAdds
 pub mod GrownDels
 pub mod GrownOpenings
 pub mod Splitting
+pub mod Paths
+pub mod PartedLists
+pub mod PartedStates
+pub mod SplitStates
+pub mod SplitFits
 pub mod GrowFits
 pub mod Holding
 pub mod Sizes

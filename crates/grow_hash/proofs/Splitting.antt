@@ -1,5 +1,6 @@
 -- What a split does to the table, and what holds after an allowed history.
-use Rattle.std.proofs.Common.{◌≡◌, ◌≢◌, ℕ, suc, ◌+◌, ◌==◌, ◌<◌, ◌≤◌, ◌⊎◌, inl, inr, cond, Bool, true, false, eqb, eq-eqb, ne_eqb, List, [], ◌∷◌, ◌++◌, refl, sym, ap, ◌∙◌, subst, arith, append_assoc, append-nil, Option, Some, None}
+use Rattle.std.proofs.Common.{◌≡◌, ◌≢◌, ℕ, suc, ◌+◌, ◌%◌, ◌<◌, ◌≤◌, inl, inr, cond, Bool, eq-eqb, ne_eqb, List, [], ◌∷◌}
+use Rattle.std.proofs.Common.{◌++◌, refl, sym, ap, ◌∙◌, subst, arith, append_assoc, append-nil, Option, Some, None}
 use Rattle.std.proofs.lemmas.Bool.{cases_eq}
 use Rattle.mv_history.specs.State.{State, Writes, written, state_after}
 use Rattle.mv_history.specs.declared.history.Entry.{Entry}
@@ -8,11 +9,11 @@ use Rattle.mv_history.specs.Legal.{IsAllowed}
 use Rattle.mv_history.specs.Meaning.{words_at}
 use Rattle.mv_history.proofs.Writing.{state_after-append}
 use Rattle.set_script.proofs.ObjectWords.{word}
-use Rattle.grow_hash.specs.Tables.{level, split_place, buckets_at, bucket_of, bucket, buckets, table_words, next_table}
+use Rattle.grow_hash.specs.Tables.{level, split_place, buckets_at, bucket_of, bucket, buckets, table_words, next_table, IsTable}
 use Rattle.grow_hash.specs.Grown.{IsGrown, IsGrownOpening}
 use Rattle.grow_hash.specs.GrowRules.{Growing, makes, splits, growing_of, Grows, IsGrowCommit}
 use Rattle.grow_hash.specs.Splits.{is_splitting, count_splits}
-use Rattle.grow_hash.proofs.Buckets.{twice_buckets, bucket_next, bucket_level}
+use Rattle.grow_hash.proofs.Buckets.{some_buckets, twice_buckets, bucket_split, bucket_whole, bucket_next, bucket_level}
 use Rattle.grow_hash.proofs.GrownOpenings.{grown_opening}
 
 -- the next table is that of the next level, or of the next place
@@ -28,6 +29,39 @@ bucket_apart s s' k e n = elim (cases_eq (suc (split_place s)) (buckets_at (leve
   | inl q ↦ ap (λ w. bucket_of (word 2 w) (word 3 w) k) (e ∙ next_level (level s) (split_place s) q)
       ∙ bucket_level (level s) k ∙ ap (λ p. bucket_of (level s) p k) (sym q) ∙ bucket_next (level s) (split_place s) k n
   | inr q ↦ ap (λ w. bucket_of (word 2 w) (word 3 w) k) (e ∙ next_place (level s) (split_place s) q) ∙ bucket_next (level s) (split_place s) k n
+]
+
+-- It parts the keys of its own by twice as many buckets.
+pub bucket_parted : (s s' : State) (k : ℕ) → words_at s' 0 ≡ next_table (level s) (split_place s) → k % buckets_at (level s) ≡ split_place s
+    → bucket s' k ≡ k % buckets_at (suc (level s))
+bucket_parted s s' k e home = elim (cases_eq (suc (split_place s)) (buckets_at (level s))) [
+  | inl q ↦ ap (λ w. bucket_of (word 2 w) (word 3 w) k) (e ∙ next_level (level s) (split_place s) q) ∙ bucket_whole (suc (level s)) 0 k (omega arith)
+  | inr q ↦ ap (λ w. bucket_of (word 2 w) (word 3 w) k) (e ∙ next_place (level s) (split_place s) q)
+      ∙ bucket_split (level s) (suc (split_place s)) k (omega arith)
+]
+
+-- The table stays in range.
+pub table_splits : (s s' : State) → words_at s' 0 ≡ next_table (level s) (split_place s) → level s < 6 → IsTable s → IsTable s'
+table_splits s s' e below t = elim (cases_eq (suc (split_place s)) (buckets_at (level s))) [
+  | inl q ↦ by_words (suc (level s)) 0 (e ∙ next_level (level s) (split_place s) q) (omega arith)
+      (let some = some_buckets (suc (level s)) in omega arith) (λ _. refl)
+  | inr q ↦ by_words (level s) (suc (split_place s)) (e ∙ next_place (level s) (split_place s) q) (omega arith)
+      (let x = t.place_in in omega arith) (λ z. absurd (omega arith))
+]
+  where
+    by_words : (level place : ℕ) → words_at s' 0 ≡ table_words level place → level ≤ 6 → place < buckets_at level → (level ≡ 6 → place ≡ 0) → IsTable s'
+    by_words level place w a b c = record {
+      words = w ∙ sym (ap (λ u. table_words (word 2 u) (word 3 u)) w);
+      level_in = subst (λ u. word 2 u ≤ 6) (sym w) a;
+      place_in = subst (λ u. word 3 u < buckets_at (word 2 u)) (sym w) b;
+      whole = subst (λ u. word 2 u ≡ 6 → word 3 u ≡ 0) (sym w) c;
+    }
+
+-- and has no owner
+pub table_owner : (level place : ℕ) → word 0 (next_table level place) ≡ 0
+table_owner level place = elim (cases_eq (suc place) (buckets_at level)) [
+  | inl q ↦ ap (word 0) (next_level level place q)
+  | inr q ↦ ap (word 0) (next_place level place q)
 ]
 
 -- It makes one bucket more.

@@ -4,3 +4,4 @@ pub mod GrowRules
 pub mod GrowRuleLaws
 pub mod GrowPlans
 pub mod Splits
+pub mod SplitPlans

@@ -1,15 +1,16 @@
 // Laws of the rules of a growing hash set, over all states and histories.
 ghost use Rattle.std.specs.Prelude.{◌≡◌, ◌+◌, ℕ, List};
 ghost use Rattle.mv_history.specs.declared.history.Entry.{Entry};
-ghost use Rattle.mv_history.specs.State.{State, Writes, state_after};
+ghost use Rattle.mv_history.specs.State.{State, Writes, written, state_after};
 ghost use Rattle.mv_history.specs.Legal.{IsAllowed};
 ghost use Rattle.mv_history.specs.Drift.{IsFit};
 ghost use Rattle.set_script.specs.Tags.{tag_of};
 ghost use Rattle.set_script.specs.declared.commands.Command.{Command};
-ghost use Rattle.grow_hash.specs.Tables.{buckets};
-ghost use Rattle.grow_hash.specs.Grown.{IsGrown, IsGrownOpening};
-ghost use Rattle.grow_hash.specs.GrowRules.{IsGrowCommit};
+ghost use Rattle.grow_hash.specs.Tables.{buckets, split_place};
+ghost use Rattle.grow_hash.specs.Grown.{IsGrown, IsGrownOpening, grown_catalogue};
+ghost use Rattle.grow_hash.specs.GrowRules.{split_tag, IsGrowCommit};
 ghost use Rattle.grow_hash.specs.GrowPlans.{GrowPlan, IsGrowing};
+ghost use Rattle.grow_hash.specs.SplitPlans.{SplitPlan};
 ghost use Rattle.grow_hash.specs.Splits.{count_splits};
 
 /// Under the rules of a growing hash set each state is lawful, and has 16 buckets and one more for each split.
@@ -25,4 +26,15 @@ pub fn grown_states_remain()
 pub fn grow_plans_are_fit()
     ensures { (from : State) (command : Command) (writes : Writes) → GrowPlan command from writes → IsGrowing command → IsGrown from
         → IsFit IsGrowCommit from (tag_of command) writes }
+{}
+
+/// What the split of the bucket at the split place locks and writes in a lawful state is a commit that is fit: it stays allowed whatever
+/// others commit meanwhile that write nothing of it, since it holds the table, both heads and each node of the bucket. It leaves a lawful
+/// state and the same catalogue.
+pub fn split_plans_are_fit()
+    ensures fit { (from : State) (writes : Writes) → SplitPlan from writes → IsGrown from
+        → IsFit IsGrowCommit from (split_tag (split_place from)) writes }
+    ensures lawful { (from : State) (writes : Writes) → SplitPlan from writes → IsGrown from → IsGrown (written from writes) }
+    ensures leaves { (from : State) (writes : Writes) → SplitPlan from writes → IsGrown from
+        → grown_catalogue (written from writes) ≡ grown_catalogue from }
 {}

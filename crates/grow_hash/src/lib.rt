@@ -35,6 +35,6 @@ mod rules;
 mod search;
 mod table;
 
-pub use laws::{grow_plans_are_fit, grown_states_remain};
+pub use laws::{grow_plans_are_fit, grown_states_remain, split_plans_are_fit};
 pub use rules::GrowRules;
 pub use table::table_of;

@@ -19,3 +19,5 @@ pub mod Holding
 pub mod Sizes
 pub mod NextKeys
 pub mod Finding
+pub mod CatalogueReads
+pub mod attempts

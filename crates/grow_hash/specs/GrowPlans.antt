@@ -37,6 +37,10 @@ GrowPlan (Add name key) s ws = AddGrown s key ws
 GrowPlan (Del name key) s ws = DelGrown s key ws
 GrowPlan command s ws = ⊥
 
+-- how many objects an add or a del locks
+abbrev pub grow_locks : ℕ
+grow_locks = 2
+
 -- The object is one of those that the command locks.
 abbrev pub GrowLocks : Command → State → ℕ → Type 0
 GrowLocks command s o = (ws : Writes) × GrowPlan command s ws × (touches ws o ≡ true)
@@ -52,3 +56,15 @@ IsGrowing (Put name key value) = ⊥
 IsGrowing (Get name key) = ⊥
 IsGrowing (Move source target key) = ⊥
 IsGrowing (Pair first second key) = ⊥
+
+-- the command is an add, a del, a has, a size or a next, of the set `h0`
+abbrev pub IsOfGrown : Command → Type 0
+IsOfGrown (Add name key) = name ≡ grown_name
+IsOfGrown (Del name key) = name ≡ grown_name
+IsOfGrown (Has name key) = name ≡ grown_name
+IsOfGrown (Size name) = name ≡ grown_name
+IsOfGrown (Next name key) = name ≡ grown_name
+IsOfGrown (Put name key value) = ⊥
+IsOfGrown (Get name key) = ⊥
+IsOfGrown (Move source target key) = ⊥
+IsOfGrown (Pair first second key) = ⊥

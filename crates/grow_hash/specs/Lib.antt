@@ -5,3 +5,7 @@ pub mod GrowRuleLaws
 pub mod GrowPlans
 pub mod Splits
 pub mod SplitPlans
+pub mod GrowReplies
+pub mod GrowAttempts
+pub mod GrowSteps
+pub mod GrowFindings

@@ -21,20 +21,47 @@
 //!
 //! # The contract
 //!
-//! `table_of` answers the level and the split place. The searches of the set stand on those of
-//! `list_set` over any head, one bucket at a time.
+//! `attempt_grow` is one command as one section of any store (`specs/GrowAttempts.antt`), by its answer:
+//!
+//! - `Done` at `Commit(t)`: the entry of time t is the seat's last commit, with the command's tag. It
+//!   writes exactly what the command locks in its snapshot, and the reply and the change are those of the
+//!   set just before t.
+//! - `Done` at `Read(t)`: no commit was made. Time t is that of a section that this call entered, the
+//!   reply is that of the set there, and the command changes nothing there.
+//! - `Again`: the command would change something in the snapshot of a section that this call entered,
+//!   which is not at the last time. The cause is the one lock or commit that was refused there, of an
+//!   object that the command locks, or that this call's `prepare` found no room. No commit was made.
+//!
+//! It decides over the section's view, by one walk along the bucket of the key, before anything is locked
+//! (`specs/GrowFindings.antt`); then it locks and writes what it planned, and commits it. The replies are
+//! those of the state just before the commit, and not of the snapshot, since the store's law is that its
+//! whole history is allowed.
+//!
+//! `table_of` answers the level and the split place, and `read_grown` the whole catalogue. The searches of
+//! the set stand on those of `list_set` over any head, one bucket at a time. No call but `read_grown`
+//! takes memory.
 //!
 //! # Its place
 //!
 //! It stands on `mv_history`, whose traits it is generic over, on `set_script` for commands and
-//! catalogues, and on `list_set` for one list. It knows no store.
+//! catalogues, on `list_set` for one list, and on `set_catalog` for what a cause shows of a store and for
+//! how many exchanges an attempt makes. It knows no store.
 #![tactic(auto)]
 
+mod attempt;
+mod attempting;
+mod deciding;
 mod laws;
+mod reading;
 mod rules;
 mod search;
 mod table;
+#[cfg(test)]
+mod tests;
 
+pub use attempt::GrowStep;
+pub use attempting::attempt_grow;
 pub use laws::{grow_plans_are_fit, grown_states_remain, split_plans_are_fit};
+pub use reading::read_grown;
 pub use rules::GrowRules;
 pub use table::table_of;

@@ -10,9 +10,13 @@ use list_set::{Spot, find_linked, size_linked};
 use mv_history::View;
 
 // The object that is the first node. Object 0 is the table, and the others are heads of buckets.
-const FIRST_NODE: u32 = 1025;
+pub(crate) const FIRST_NODE: u32 = 1025;
+
+// The number of the name `h0`, which is that of the set.
+pub(crate) const NAME: u32 = 10;
 
 // Where the search for a key ended, in the bucket of this head.
+#[derive(Clone, Copy)]
 pub(crate) struct Search {
     pub head: u32,
     pub spot: Spot,
@@ -72,14 +76,31 @@ fn lesser(least: Option<u32>, key: u32) -> u32
     }
 }
 
-// The first vacant node. It looks through the nodes from the first on.
-pub(crate) fn vacant<V: View>(view: &mut V) -> Option<u32>
+// A vacant node, if there is one. It looks from a node on that depends on the key, and once round, so that
+// seats that add different keys seldom want the same node.
+pub(crate) fn vacant<V: View>(view: &mut V, key: u32) -> Option<u32>
     requires some { 1025 < length (V.state view.old) }
     requires few { length (V.state view.old) ≤ 65535 }
     ensures found { MatchOption result ((o : ℕ) → IsFree (V.state view.old) o → ⊥) (IsFree (V.state view.old)) }
     ensures as_before { V.as_before view.old view.new }
 {
-    for object in FIRST_NODE..view.objects() {
+    let objects = view.objects();
+    let from = FIRST_NODE + key % (objects - FIRST_NODE);
+    match vacant_between(view, from, objects) {
+        Some(object) => Some(object),
+        None => vacant_between(view, FIRST_NODE, from),
+    }
+}
+
+// The first vacant object of a range of nodes.
+fn vacant_between<V: View>(view: &mut V, from: u32, end: u32) -> Option<u32>
+    requires nodes { 1025 ≤ from }
+    requires within { end ≤ length (V.state view.old) }
+    requires few { length (V.state view.old) ≤ 65535 }
+    ensures found { MatchOption result ((o : ℕ) → from ≤ o → o < end → IsFree (V.state view.old) o → ⊥) (IsFree (V.state view.old)) }
+    ensures as_before { V.as_before view.old view.new }
+{
+    for object in from..end {
         if view.read(object)[0] == 0 {
             return Some(object);
         }

@@ -1,0 +1,4 @@
+pub mod Times
+pub mod Fullness
+pub mod Found
+pub mod Outcomes

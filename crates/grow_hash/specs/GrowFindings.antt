@@ -1,0 +1,32 @@
+-- What a command on a growing hash set comes to in a state, before anything is locked.
+use Rattle.std.specs.Prelude.{◌≡◌, Bool, true, false, length}
+use Rattle.mv_history.specs.State.{State, Writes}
+use Rattle.mv_history.specs.Drift.{IsFit}
+use Rattle.mv_history.specs.Legal.{are_distinct, AreWithin}
+use Rattle.set_script.specs.Tags.{tag_of}
+use Rattle.set_script.specs.declared.commands.Command.{Command}
+use Rattle.set_script.specs.declared.commands.Reply.{Reply}
+use Rattle.set_script.specs.declared.commands.Reply.TheVariants.{Worn}
+use Rattle.grow_hash.specs.GrowRules.{IsGrowCommit}
+use Rattle.grow_hash.specs.GrowPlans.{GrowPlan, grow_locks}
+use Rattle.grow_hash.specs.GrowReplies.{reply_grown, changes_grown}
+use Rattle.grow_hash.specs.declared.deciding.Finding.{Finding}
+use Rattle.grow_hash.specs.declared.deciding.Finding.TheVariants.{Settled, Open}
+
+-- These are exactly the objects that the command locks in this state, with what it writes: different ones, fit to be committed.
+pub record IsGrowPlanned (command : Command) (s : State) (ws : Writes) : Type 0 where
+  pub plan : GrowPlan command s ws
+  pub distinct : are_distinct ws ≡ true
+  pub within : AreWithin ws (length s)
+  pub locks : length ws ≡ grow_locks
+  pub fit : IsFit IsGrowCommit s (tag_of command) ws
+
+-- It changes nothing and this is its reply, at the last time too; or, where a time is left, it changes something and this is planned.
+abbrev pub IsGrowFound : Command → State → Finding → Type 0
+IsGrowFound command s (Settled answer) = ((last : Bool) → answer ≡ reply_grown command s last) × (changes_grown command s false ≡ false)
+IsGrowFound command s (Open writes) = (changes_grown command s false ≡ true) × IsGrowPlanned command s writes
+
+-- the reply at the last time of what was found: a change comes too late
+abbrev pub reply_at_last : Finding → Reply
+reply_at_last (Settled answer) = answer
+reply_at_last (Open writes) = Worn

@@ -1,0 +1,87 @@
+// What a command on a growing hash set comes to in a state, before anything is locked.
+ghost use Rattle.std.specs.Prelude.{◌≡◌, if◌then◌else◌};
+ghost use Rattle.set_script.specs.declared.commands.Command.TheVariants.{Add, Del};
+ghost use Rattle.set_script.specs.declared.commands.Reply.TheVariants.{Yes, No};
+ghost use Rattle.grow_hash.specs.Grown.{IsGrown, grown_name};
+ghost use Rattle.grow_hash.specs.GrowPlans.{IsOfGrown};
+ghost use Rattle.grow_hash.specs.GrowFindings.{IsGrowFound, reply_at_last};
+
+use crate::search::{find, next, size, vacant};
+use mv_history::{View, Words};
+use set_script::{Command, Reply};
+
+/// What a command comes to.
+#[derive(Drop)]
+pub enum Finding {
+    /// It changes nothing, and this is its reply.
+    Settled(Reply),
+    /// It changes something by these writes.
+    Open([(u32, Words); 2]),
+}
+
+impl Finding {
+    /// The reply at the last time, where a change comes too late.
+    pub fn at_last(self) -> Reply
+        ensures { result ≡ reply_at_last self }
+    {
+        match self {
+            Finding::Settled(reply) => reply,
+            Finding::Open(_) => Reply::Worn,
+        }
+    }
+}
+
+/// Finds what the command comes to in the view's state, where a time is left. It walks along the bucket of
+/// its key once; a `size` reads each object of each bucket once.
+pub fn find_change<V: View>(view: &mut V, command: &Command) -> Finding
+    requires lawful { IsGrown (V.state view.old) }
+    requires command { IsOfGrown command.now }
+    ensures found { IsGrowFound command.now (V.state view.old) result }
+    ensures as_before { V.as_before view.old view.new }
+{
+    match *command {
+        Command::Add { key, .. } => find_add(view, key),
+        Command::Del { key, .. } => find_del(view, key),
+        Command::Has { key, .. } => Finding::Settled(yes_or_no(find(view, key).spot.has(key))),
+        Command::Size { .. } => Finding::Settled(Reply::Count { count: size(view) }),
+        Command::Next { key, .. } => Finding::Settled(match next(view, key) {
+            Some(key) => Reply::Key { key },
+            None => Reply::NoKey,
+        }),
+        _ => unreachable!(),
+    }
+}
+
+fn yes_or_no(holds: bool) -> Reply
+    ensures { result ≡ (if holds then Yes else No) }
+{
+    if holds { Reply::Yes } else { Reply::No }
+}
+
+fn find_add<V: View>(view: &mut V, key: u32) -> Finding
+    requires lawful { IsGrown (V.state view.old) }
+    ensures found { IsGrowFound (Add grown_name key) (V.state view.old) result }
+    ensures as_before { V.as_before view.old view.new }
+{
+    let search = find(view, key);
+    if search.spot.has(key) {
+        return Finding::Settled(Reply::No);
+    }
+    match vacant(view, key) {
+        None => Finding::Settled(Reply::Full),
+        Some(node) => Finding::Open(search.spot.add_writes(search.head, key, 0, node)),
+    }
+}
+
+fn find_del<V: View>(view: &mut V, key: u32) -> Finding
+    requires lawful { IsGrown (V.state view.old) }
+    ensures found { IsGrowFound (Del grown_name key) (V.state view.old) result }
+    ensures as_before { V.as_before view.old view.new }
+{
+    let search = find(view, key);
+    if search.spot.has(key) {
+        Finding::Open(search.spot.del_writes())
+    } else {
+        Finding::Settled(Reply::No)
+    }
+}

@@ -5,3 +5,6 @@ pub mod GrowRuleLaws
 pub mod GrowPlans
 pub mod Splits
 pub mod SplitPlans
+pub mod BucketReads
+pub mod SplitCalls
+pub mod SplitSteps

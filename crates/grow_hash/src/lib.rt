@@ -30,11 +30,16 @@
 //! catalogues, and on `list_set` for one list. It knows no store.
 #![tactic(auto)]
 
+mod answer;
+mod bucket;
 mod laws;
 mod rules;
 mod search;
+mod bucket_split;
 mod table;
 
+pub use answer::Split;
 pub use laws::{grow_plans_are_fit, grown_states_remain, split_plans_are_fit};
 pub use rules::GrowRules;
+pub use bucket_split::try_split;
 pub use table::table_of;

@@ -14,6 +14,12 @@ pub mod PartedLists
 pub mod PartedStates
 pub mod SplitStates
 pub mod SplitFits
+pub mod ReadBuckets
+pub mod PartedReads
+pub mod SplitPlanned
+pub mod SplitTimes
+pub mod SplitOutcomes
+pub mod SplitReads
 pub mod GrowFits
 pub mod Holding
 pub mod Sizes

@@ -65,7 +65,7 @@ table_owner level place = elim (cases_eq (suc place) (buckets_at level)) [
 ]
 
 -- It makes one bucket more.
-bucket_more : (s s' : State) → words_at s' 0 ≡ next_table (level s) (split_place s) → buckets s' ≡ suc (buckets s)
+pub bucket_more : (s s' : State) → words_at s' 0 ≡ next_table (level s) (split_place s) → buckets s' ≡ suc (buckets s)
 bucket_more s s' e = elim (cases_eq (suc (split_place s)) (buckets_at (level s))) [
   | inl q ↦ ap (λ w. buckets_at (word 2 w) + word 3 w) (e ∙ next_level (level s) (split_place s) q)
       ∙ (let t : buckets_at (suc (level s)) ≡ buckets_at (level s) + buckets_at (level s) = twice_buckets (level s) in omega arith)

@@ -9,3 +9,6 @@ pub mod GrowReplies
 pub mod GrowAttempts
 pub mod GrowSteps
 pub mod GrowFindings
+pub mod BucketReads
+pub mod SplitCalls
+pub mod SplitSteps

@@ -48,8 +48,11 @@
 //! how many exchanges an attempt makes. It knows no store.
 #![tactic(auto)]
 
+mod answer;
 mod attempt;
 mod attempting;
+mod bucket;
+mod bucket_split;
 mod deciding;
 mod laws;
 mod reading;
@@ -59,8 +62,10 @@ mod table;
 #[cfg(test)]
 mod tests;
 
+pub use answer::Split;
 pub use attempt::GrowStep;
 pub use attempting::attempt_grow;
+pub use bucket_split::try_split;
 pub use laws::{grow_plans_are_fit, grown_states_remain, split_plans_are_fit};
 pub use reading::read_grown;
 pub use rules::GrowRules;

@@ -1,0 +1,60 @@
+-- What a look at the bucket at the split place finds.
+use Rattle.std.proofs.Common.{◌≡◌, ◌≢◌, ℕ, suc, ◌+◌, ◌<◌, ◌≤◌, length, refl, sym, ap, ◌∙◌, subst, arith}
+use Rattle.mv_history.specs.State.{State, Writes}
+use Rattle.set_script.specs.CatalogueOf.{map_at}
+use Rattle.set_script.specs.OwnWrites.{objects_of}
+use Rattle.list_set.specs.Linked.{IsLinked}
+use Rattle.grow_hash.specs.Tables.{level, split_place, buckets_at}
+use Rattle.grow_hash.specs.Grown.{IsGrown, head_at}
+use Rattle.grow_hash.specs.BucketReads.{IsRead, ArePartedWrites}
+use Rattle.grow_hash.specs.SplitPlans.{IsPath}
+use Rattle.grow_hash.specs.SplitCalls.{keys_at_place}
+use Rattle.grow_hash.specs.SplitSteps.{IsPlannedSplit}
+use Rattle.grow_hash.proofs.Buckets.{few_buckets}
+use Rattle.grow_hash.proofs.ReadBuckets.{read_path}
+
+module _ (s t : State) (at place head : ℕ) (l : IsGrown s) (level_is : at ≡ level s) (place_is : place ≡ split_place s) (same : t ≡ s) where
+  place_low : place < 1024
+  place_low =
+      let x = l.table.place_in in let few : buckets_at (level s) ≤ 1024 = few_buckets (level s) l.table.level_in in omega arith
+
+  head_is : head ≡ place + 1 → head ≡ head_at (split_place s)
+  head_is e = omega arith
+
+  -- the bucket has its list,
+  pub bucket_linked : head ≡ place + 1 → IsLinked t head
+  bucket_linked e =
+      subst (λ (u : State). IsLinked u head) (sym same)
+      (subst (IsLinked s) (sym (head_is e)) (l.lists (split_place s) (let x = place_low in omega arith)))
+
+  pub bucket_few : length t ≤ 65535
+  bucket_few = subst (λ (u : State). length u ≤ 65535) (sym same) l.few
+
+  pub table_low : place < buckets_at at
+  table_low = subst (λ u. place < buckets_at u) (sym level_is) (subst (λ u. u < buckets_at (level s)) (sym place_is) l.table.place_in)
+
+  pub below_most : at ≢ 6 → at < 6
+  below_most ne = let x = l.table.level_in in omega arith
+
+  keys_are : (keys : ℕ) → head ≡ place + 1 → keys ≡ length (map_at t head) → keys ≡ keys_at_place s
+  keys_are keys e k = k ∙ ap (λ (u : State). length (map_at u head)) same ∙ ap (λ h. length (map_at s h)) (head_is e)
+
+  -- and where it is short enough, its split is planned;
+  pub planned_by : (keys : ℕ) (reads writes : Writes) → at ≢ 6 → head ≡ place + 1 → keys ≡ length (map_at t head) → keys ≤ 61 → IsRead t head reads 0
+      → ArePartedWrites at place reads writes → IsPlannedSplit s place writes
+  planned_by keys reads writes ne e k few read parted =
+      let many = keys_are keys e k in
+      let here : IsRead s (head_at place) reads 0 =
+      subst (λ h. IsRead s h reads 0) (omega arith) (subst (λ (u : State). IsRead u head reads 0) same read) in
+      let path : IsPath s (head_at (split_place s)) (objects_of reads) =
+      subst (λ p. IsPath s (head_at p) (objects_of reads)) place_is (read_path s (head_at place) reads here) in
+      let low = below_most ne in
+      record {
+        splittable = record { below = omega arith; short = omega arith };
+        place_is = place_is;
+        plan = record { below = omega arith; nodes = objects_of reads; path = path; writes_are = parted s l (sym level_is) (sym place_is) here };
+      }
+
+  -- else it has this many keys.
+  pub long_by : (keys : ℕ) → at ≢ 6 → head ≡ place + 1 → keys ≡ length (map_at t head) → 61 < keys → (level s < 6) × (keys ≡ keys_at_place s) × (61 < keys)
+  long_by keys ne e k more = (let low = below_most ne in omega arith, keys_are keys e k, more)

@@ -1,0 +1,22 @@
+use Rattle.std.proofs.Common.{◌+◌, refl, sym, subst, take, ℕ}
+use Rattle.grow_hash.specs.SplitSteps.{IsPlannedSplit}
+use Rattle.grow_hash.proofs.SplitReads.{bucket_linked, planned_by, long_by}
+use Rattle.grow_hash.proofs.bucket_split.plan_split.Goals as goal
+
+pub read_bucket-bucket-requires-clause-linked : goal.read_bucket-bucket-requires-clause-linked
+read_bucket-bucket-requires-clause-linked g c =
+    let t = c.table_of-level in
+    bucket_linked _ _ t.result.0 t.result.1 _ c.requires.lawful t.ensures.level t.ensures.place (g.met.V.View.same_state _ _ t.ensures.as_before) refl
+
+pub returns-clause-planned : goal.returns-clause-planned
+returns-clause-planned g c =
+    let t = c.table_of-level in
+    let b = c.read_bucket-bucket in
+    subst (λ (p : ℕ). IsPlannedSplit (g.V.View.state c.args.view.now) p (take c.part.result.count c.part.result.writes)) (sym c.part.ensures.place)
+    (planned_by _ _ t.result.0 t.result.1 (t.result.1 + 1) c.requires.lawful t.ensures.level t.ensures.place
+    (g.met.V.View.same_state _ _ t.ensures.as_before) b.result.keys _ _ c.if-level-eq-MOST_LEVEL.false refl b.ensures.keys
+    c.if-bucket-gt-MOST_SPLIT.false (b.ensures.nodes c.if-bucket-gt-MOST_SPLIT.false) c.part.ensures.writes)
+
+pub returns-clause-as_before : goal.returns-clause-as_before
+returns-clause-as_before g c =
+    g.met.V.View.as_long_before _ _ _ c.table_of-level.ensures.as_before c.read_bucket-bucket.ensures.as_before

@@ -1,0 +1,17 @@
+// What a call that tries to split a bucket answers.
+use list_set::Cause;
+
+/// What `try_split` answers.
+#[derive(Clone, Copy, Debug, PartialEq, Eq)]
+pub enum Split {
+    /// The bucket at the split place was split, by one commit of this printed time.
+    Done { time: u64 },
+    /// All buckets are split: the level is 6, and there are 1,024.
+    Whole,
+    /// The bucket at the split place has this many keys, more than the 61 that a split can write.
+    Long { keys: u32 },
+    /// No time is left for a commit.
+    Worn,
+    /// The split was given up. In a new call it may go through.
+    Again(Cause),
+}

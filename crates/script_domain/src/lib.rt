@@ -27,5 +27,7 @@
 
 pub mod lending;
 mod running;
+#[cfg(test)]
+mod tests;
 
 pub use running::run_domain;

@@ -209,6 +209,15 @@ class Catalogue:
                 self.shapes[name].add(key)
         self.values[name][key] = value
 
+    def parts(self, names):
+        """The sets of these names as they are, where no reads are counted."""
+        return self.used, {name: (dict(self.values[name]), list(self.keys[name])) for name in names}
+
+    def restore(self, parts):
+        self.used, sets = parts
+        for name, (values, keys) in sets.items():
+            self.values[name], self.keys[name] = values, keys
+
     def count_reads(self, command):
         """For each set of the command the objects from the head or root to where the search ends; for `size` all of the set."""
         shape = self.shapes[command.first]

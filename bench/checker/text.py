@@ -1,5 +1,4 @@
 """Checks printed texts against the scripts that they are of."""
-import copy
 import re
 from collections import namedtuple
 
@@ -138,20 +137,22 @@ def check_replies(lines, scripts, catalogue):
 
 
 def run_block(catalogue, block, last):
-    """The replies of a block, the catalogue behind it, and whether it changes something there: where one reply is full all are;
-    at the last time all are worn where it would change something."""
-    after = copy.deepcopy(catalogue)
-    turns = [after.run(command, False) for command in block]
+    """The replies of a block, and whether it changes something; what it changes is in the catalogue then. Where one reply is full
+    all are, and at the last time all are worn where it would change something; then the catalogue is as before."""
+    before = catalogue.parts({name for command in block for name in (command.first, command.second) if name})
+    turns = [catalogue.run(command, False) for command in block]
     replies, changes = [reply for reply, _ in turns], any(written for _, written in turns)
     if "full" in replies:
-        return ["full"] * len(block), catalogue, False
+        catalogue.restore(before)
+        return ["full"] * len(block), False
     if changes and last:
-        return ["worn"] * len(block), catalogue, False
-    return replies, after if changes else catalogue, changes
+        catalogue.restore(before)
+        return ["worn"] * len(block), False
+    return replies, changes
 
 
 def check_block_replies(lines, scripts, told, catalogue):
-    """Replays the blocks in the order of their lines; answers the catalogue at the end."""
+    """Replays the blocks in the order of their lines."""
     blocks = {}
     for seat, script in enumerate(scripts):
         number = 1
@@ -163,10 +164,9 @@ def check_block_replies(lines, scripts, told, catalogue):
         if block is None:
             continue
         own = told[line.seat, line.number]
-        replies, catalogue, changes = run_block(catalogue, block, not line.commit and line.time == LAST)
+        replies, changes = run_block(catalogue, block, not line.commit and line.time == LAST)
         must(replies == [row.reply for row in own], f"the block at {name(line)} replies {[row.reply for row in own]} and not {replies}")
         must(line.commit == changes, f"the block at {name(line)} is {'a commit' if line.commit else 'a read'}")
-    return catalogue
 
 
 def check_sets(rows, catalogue):
@@ -235,7 +235,9 @@ def check_blocks(scripts, text):
         must(line.number in starts[line.seat], f"{name(line)} is of no command")
     check_order(lines, starts)
     told = check_blocks_of(lines, scripts, options.base)
-    check_sets(sets, check_block_replies(lines, scripts, told, Catalogue(options.objects - 180)))
+    catalogue = Catalogue(options.objects - 180)
+    check_block_replies(lines, scripts, told, catalogue)
+    check_sets(sets, catalogue)
     must(len(logs) == len(scripts), f"{len(logs)} log lines for {len(scripts)} scripts")
     for seat, log in enumerate(logs):
         own = [rows for (of, _), rows in told.items() if of == seat and rows[0].commit]

@@ -1,25 +1,24 @@
 -- What an attempt of a block leaves, from what its calls do.
-use Rattle.std.proofs.Common.{◌≡◌, ◌≢◌, ℕ, ◌+◌, ◌-◌, ◌<◌, ◌≤◌, ◌==◌, inl, Bool, true, false}
-use Rattle.std.proofs.Common.{List, [], ◌∷◌, ◌++◌, length, suc}
+use Rattle.std.proofs.Common.{◌≡◌, ◌≢◌, ℕ, ◌+◌, ◌-◌, ◌<◌, ◌≤◌, ◌==◌, ◌⊎◌, inl, inr, Bool, true, false, ◌||◌}
+use Rattle.std.proofs.Common.{List, [], ◌∷◌, ◌++◌, length, suc, eqb, eqb-true, true≢false}
 use Rattle.std.proofs.Common.{refl, sym, ap, ◌∙◌, subst, arith}
-use Rattle.mv_history.specs.State.{State, Writes, written, state_at}
+use Rattle.mv_history.specs.State.{State, Writes, written, touches, state_at}
 use Rattle.mv_history.specs.declared.answers.Holder.{Holder}
 use Rattle.mv_history.specs.declared.answers.Rival.{Rival as RivalEntry}
 use Rattle.mv_history.specs.Drift.{IsFit}
 use Rattle.mv_history.specs.Legal.{AreWithin}
-use Rattle.mv_history.specs.Meaning.{Seat, InSection, IsSeat, snapshot_of, state_of}
+use Rattle.mv_history.specs.Meaning.{Seat, InSection, Holds, IsSeat, snapshot_of, state_of}
 use Rattle.mv_history.specs.Trail.{commit_exchanges, IsOneLost}
 use Rattle.mv_history.specs.Calls.{call_trail, Continues, IsAsBefore, GoesOn, Prepares, Enters, Leaves, Commits, Overtakes, commit_by}
 use Rattle.mv_history.proofs.Snapshots.{snapshot_of-goes_on}
 use Rattle.mv_history.proofs.Steps.{Continues-Continues, GoesOn-GoesOn, length-seen, state_at-later}
 use Rattle.set_script.specs.Lawful.{IsLawful, IsOpening}
-use Rattle.set_script.specs.OwnWrites.{with_locks, with_writes, objects_of}
+use Rattle.set_script.specs.OwnWrites.{with_lock, with_locks, with_writes, objects_of}
 use Rattle.set_script.specs.declared.commands.Command.{Command}
 use Rattle.set_script.specs.declared.commands.Place.TheVariants.{Commit as AtCommit, Read}
 use Rattle.set_script.specs.declared.commands.Reply.{Reply}
-use Rattle.set_script.proofs.OwnWrites.{own_from_none}
-use Rattle.set_script.proofs.TreeShape.{in_right}
-use Rattle.set_script.proofs.TreeShape.{IsIn}
+use Rattle.set_script.proofs.OwnWrites.{own_from_none, touches-with_lock}
+use Rattle.set_script.proofs.TreeShape.{IsIn, in_left, in_right}
 use Rattle.set_script.proofs.Written.{touches-in}
 use Rattle.list_set.specs.Calls.{Rewritten, Refuses, IsCause}
 use Rattle.list_set.specs.Held.{count_unheld, HasRoom}
@@ -29,14 +28,13 @@ use Rattle.set_catalog.specs.Attempts.{state_of_time}
 use Rattle.set_catalog.specs.Causes.{Causes}
 use Rattle.set_catalog.specs.Steps.{Stops}
 use Rattle.set_catalog.proofs.LawfulTimes.{reads_snapshot}
-use Rattle.set_catalog.proofs.Rooms.{stops_named, stops_after}
+use Rattle.set_catalog.proofs.Rooms.{stops_after}
 use Rattle.set_blocks.specs.Blocks.{IsBlock}
 use Rattle.set_blocks.specs.BlockAttempts.{
   replies_in,
   block_changes_in,
   IsBlockDone,
   IsBlockRead,
-  IsOfBlock,
   IsBlockStopped,
   IsBlockWhy,
   BlockGivesUp,
@@ -67,6 +65,19 @@ room_for n s ws h le =
     ap (λ (own : Writes). count_unheld own (objects_of ws)) h.own ∙ count_new (objects_of ws) ∙ length_objects ws in
     let none : length s.own ≡ 0 = ap length h.own in
     record { spare = omega (arith, h.spare); held = omega (arith, h.held) }
+
+-- what is held after locks was held before, or is one of the locked
+locked_in : (s : State) (own : Writes) (os : List ℕ) (p : ℕ) → touches (with_locks s own os) p ≡ true → (touches own p ≡ true) ⊎ IsIn p os
+locked_in s own [] p e = inl e
+locked_in s own (o ∷ os) p e = go (touches own p) (eqb o p) refl refl (locked_in s (with_lock s own o) os p e)
+  where
+    go : (b c : Bool) → touches own p ≡ b → eqb o p ≡ c → (touches (with_lock s own o) p ≡ true) ⊎ IsIn p os
+        → (touches own p ≡ true) ⊎ IsIn p (o ∷ os)
+    go true c x y h = inl x
+    go false true x y h = inr (inl (sym (eqb-true o p y)))
+    go false false x y (inl t) =
+        absurd (true≢false (sym t ∙ touches-with_lock s own o p ∙ ap (λ u. u || eqb o p) x ∙ y))
+    go false false x y (inr i) = inr (inr i)
 
 -- the section, which held nothing, holds exactly what is planned for the block, and may commit it
 pub record IsBlockReady (commands : List Command) (answers : List Reply) (old new : InSection) : Type 0 where
@@ -101,19 +112,28 @@ module _ (found locked : InSection) (commands : List Command) (answers : List Re
 
   pub stops_by : (may_refuse : Type 0) (found_held : InSection → InSection → ℕ → ℕ → Type 0) (cause : Cause)
       → Refuses may_refuse found_held found locked (objects_of ws) cause
-      → Stops may_refuse found_held (IsOfBlock commands (state_of found)) found locked cause
+      → Stops may_refuse found_held (λ o. touches ws o ≡ true) found locked cause
   stops_by may_refuse found_held cause r = record {
     object = r.object;
-    named = (
-      ws,
-      answers,
-      plan,
-      touches-in ws r.object (subst (λ os. IsIn r.object os) (sym r.parts) (in_right r.held (r.object ∷ r.rest) r.object (inl refl))),
-    );
+    named =
+        touches-in ws r.object (subst (λ os. IsIn r.object os) (sym r.parts) (in_right r.held (r.object ∷ r.rest) r.object (inl refl)));
     before = r.before;
     goes_on = r.holds.goes_on;
     refused = r.refused;
   }
+
+  -- what is held then is planned
+  pub held_by : (may_refuse : Type 0) (found_held : InSection → InSection → ℕ → ℕ → Type 0) (cause : Cause)
+      → Refuses may_refuse found_held found locked (objects_of ws) cause → (o : ℕ) → Holds locked o → touches ws o ≡ true
+  held_by may_refuse found_held cause r o h =
+      let own : locked.own ≡ with_locks (state_of found) [] r.held =
+      r.refused.as_before.own ∙ r.holds.own ∙ ap (λ (u : Writes). with_locks (state_of found) u r.held) none in
+      let had = locked_in (state_of found) [] r.held o (subst (λ (u : Writes). touches u o ≡ true) own h) in
+      touches-in ws o (subst (λ os. IsIn o os) (sym r.parts) (in_left r.held (r.object ∷ r.rest) o (from_none had)))
+    where
+      from_none : (touches [] o ≡ true) ⊎ IsIn o r.held → IsIn o r.held
+      from_none (inl e) = absurd (true≢false (sym e))
+      from_none (inr i) = i
 
 -- A commit of what a section was to write.
 pub done_by : (found locked : InSection) (new : Seat) (commands : List Command) (answers : List Reply) (time : ℕ) → found.own ≡ []
@@ -167,23 +187,32 @@ read_at k old before entered found new commands answers last time came mine e to
     }
 
 -- A change that was given up in its section.
-pub stopped_in : (k : Causes) (found left : InSection) (new : Seat) (commands : List Command) (cause : Cause) → found.own ≡ []
-    → Stops k.may_refuse k.found_held (IsOfBlock commands (state_of found)) found left cause → Leaves left new
-    → BlockGivesUpIn k found new commands cause
-stopped_in k found left new commands cause none x gone =
-    let y = stops_named k.may_refuse k.found_held _ (IsOfBlock commands (snapshot_of found)) found left cause
-    (λ o n. subst (λ (s : State). IsOfBlock commands s o) (reads_snapshot found none) n) x in
+pub stopped_in : (k : Causes) (found left : InSection) (new : Seat) (commands : List Command) (answers : List Reply) (ws : Writes) (cause : Cause)
+    → found.own ≡ [] → BlockPlan (state_of found) commands ws answers true
+    → Stops k.may_refuse k.found_held (λ o. touches ws o ≡ true) found left cause → ((o : ℕ) → Holds left o → touches ws o ≡ true)
+    → Leaves left new → BlockGivesUpIn k found new commands cause
+stopped_in k found left new commands answers ws cause none plan x held gone =
     let goes : GoesOn found left = GoesOn-GoesOn x.goes_on x.refused.goes_on in
     record {
       continues = Continues-Continues goes.continues gone.continues;
       mine = gone.mine ∙ goes.mine;
-      why = why cause y x.refused.why;
+      why = why cause x x.refused.why;
     }
   where
-    why : (c : Cause) → Stops k.may_refuse k.found_held (IsOfBlock commands (snapshot_of found)) found left c
-        → IsCause k.may_refuse k.found_held x.before left x.object c → IsBlockWhy k (λ holder. ⊥) commands found new c
-    why (Busy object seat) y q = (left, y, gone.continues)
-    why (Stale object time) y q = (left, y, gone.continues)
+    stop : (c : Cause) → Stops k.may_refuse k.found_held (λ o. touches ws o ≡ true) found left c → IsBlockStopped k commands found new c
+    stop c y = record {
+      writes = ws;
+      planned = (answers, subst (λ (s : State). BlockPlan s commands ws answers true) (reads_snapshot found none) plan);
+      left = left;
+      stops = y;
+      held = held;
+      leaves = gone;
+    }
+
+    why : (c : Cause) (y : Stops k.may_refuse k.found_held (λ o. touches ws o ≡ true) found left c)
+        → IsCause k.may_refuse k.found_held y.before left y.object c → IsBlockWhy k (λ holder. ⊥) commands found new c
+    why (Busy object seat) y q = stop (Busy object seat) y
+    why (Stale object time) y q = stop (Stale object time) y
     why (SetFull object) y q = absurd q
     why (NoSlot object) y q = absurd q
     why (Rival rival) y q = absurd q
@@ -207,7 +236,7 @@ overtaken_in k found locked left new commands answers rival none may ready same 
       as_before = same;
       overtakes = over;
       lost = lost;
-      continues = gone.continues;
+      leaves = gone;
     },
   );
 }
@@ -262,10 +291,14 @@ why_earlier k held_back entered found new commands cause goes le w = go cause w
     same = snapshot_of-goes_on entered found goes le
 
     stop : (c : Cause) → IsBlockStopped k commands found new c → IsBlockStopped k commands entered new c
-    stop c w =
-        let named = stops_named k.may_refuse k.found_held _ (IsOfBlock commands (snapshot_of entered)) found w.0 c
-        (λ o n. subst (λ (s : State). IsOfBlock commands s o) same n) w.1 in
-        (w.0, stops_after k.may_refuse k.found_held _ entered found w.0 c goes named, w.2)
+    stop c w = record {
+      writes = w.writes;
+      planned = (w.planned.0, subst (λ (s : State). BlockPlan s commands w.writes w.planned.0 true) same w.planned.1);
+      left = w.left;
+      stops = stops_after k.may_refuse k.found_held _ entered found w.left c goes w.stops;
+      held = w.held;
+      leaves = w.leaves;
+    }
 
     go : (c : Cause) → IsBlockWhy k (λ holder. ⊥) commands found new c → IsBlockWhy k held_back commands entered new c
     go (Busy object seat) w = stop (Busy object seat) w
@@ -282,7 +315,7 @@ why_earlier k held_back entered found new commands cause goes le w = go cause w
         as_before = w.1.as_before;
         overtakes = w.1.overtakes;
         lost = w.1.lost;
-        continues = w.1.continues;
+        leaves = w.1.leaves;
       },
     )
     go (LogFull holder) w = absurd w.1

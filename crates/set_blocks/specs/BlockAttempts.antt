@@ -4,9 +4,9 @@ use Rattle.mv_history.specs.State.{State, Writes, touches, state_at}
 use Rattle.mv_history.specs.declared.history.Commit.{Commit}
 use Rattle.mv_history.specs.declared.history.Entry.TheVariants.{Change}
 use Rattle.mv_history.specs.declared.answers.Holder.{Holder}
-use Rattle.mv_history.specs.Meaning.{Seat, InSection, snapshot_of}
+use Rattle.mv_history.specs.Meaning.{Seat, InSection, Holds, snapshot_of}
 use Rattle.mv_history.specs.Trail.{commit_exchanges, IsOneLost}
-use Rattle.mv_history.specs.Calls.{call_trail, Continues, IsAsBefore, GoesOn, Prepares, IsEntryAt, Overtakes}
+use Rattle.mv_history.specs.Calls.{call_trail, Continues, IsAsBefore, GoesOn, Prepares, Leaves, IsEntryAt, Overtakes}
 use Rattle.set_script.specs.declared.commands.Command.{Command}
 use Rattle.set_script.specs.declared.commands.Reply.{Reply}
 use Rattle.set_script.specs.declared.commands.Place.TheVariants.{Commit as AtCommit, Read}
@@ -57,11 +57,8 @@ pub record IsBlockRead (k : Causes) (old new : Seat) (commands : List Command) (
   pub answers_are : answers ≡ replies_in commands (state_of_time new time) (time == new.last)
   pub unchanging : block_changes_in commands (state_of_time new time) (time == new.last) ≡ false
 
--- the object is one that the block locks or holds in this state
-abbrev pub IsOfBlock : List Command → State → ℕ → Type 0
-IsOfBlock commands s o = (ws : Writes) × (said : List Reply) × BlockPlan s commands ws said true × (touches ws o ≡ true)
-
--- The commit of what the block is to write was tried, and another seat's entry came first, after the call had loaded the clock.
+-- The commit of what the block is to write was tried, and another seat's entry came first, after the call had loaded the clock; the section
+-- was then given up.
 pub record IsBlockOvertaken (k : Causes) (commands : List Command) (entered : InSection) (new : Seat) (seat time : ℕ) : Type 0 where
   pub before : InSection
   pub goes_on : GoesOn entered before
@@ -70,12 +67,17 @@ pub record IsBlockOvertaken (k : Causes) (commands : List Command) (entered : In
   pub as_before : IsAsBefore before after
   pub overtakes : Overtakes before after seat time (k.loaded before after.seat)
   pub lost : k.has_trail → IsOneLost (commit_exchanges (call_trail before.seat after.seat))
-  pub continues : Continues after.seat new
+  pub leaves : Leaves after new
 
--- One lock was refused, of an object that the block locks or holds.
-abbrev pub IsBlockStopped : Causes → List Command → InSection → Seat → Cause → Type 0
-IsBlockStopped k commands entered new cause =
-    (left : InSection) × Stops k.may_refuse k.found_held (IsOfBlock commands (snapshot_of entered)) entered left cause × Continues left.seat new
+-- One lock was refused. Its object, and all that were locked before it, are of what the block locks or holds in the section's snapshot; the
+-- section was then given up.
+pub record IsBlockStopped (k : Causes) (commands : List Command) (entered : InSection) (new : Seat) (cause : Cause) : Type 0 where
+  pub writes : Writes
+  pub planned : (said : List Reply) × BlockPlan (snapshot_of entered) commands writes said true
+  pub left : InSection
+  pub stops : Stops k.may_refuse k.found_held (λ o. touches writes o ≡ true) entered left cause
+  pub held : (o : ℕ) → Holds left o → touches writes o ≡ true
+  pub leaves : Leaves left new
 
 -- why the change that a section was to make was given up
 abbrev pub IsBlockWhy : Causes → (Holder → Type 0) → List Command → InSection → Seat → Cause → Type 0

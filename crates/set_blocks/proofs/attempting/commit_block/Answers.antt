@@ -7,7 +7,7 @@ use Rattle.set_catalog.specs.Attempts.{TriesOne}
 use Rattle.set_catalog.proofs.Exchanges.{leaves_none, left_one, one_before, one_after}
 use Rattle.set_catalog.proofs.Outcomes.{worn_left}
 use Rattle.set_blocks.specs.BlockRules.{IsBlockCommit, block_tag}
-use Rattle.set_blocks.proofs.BlockOutcomes.{room_for, planned_within, ready_by, stops_by, done_by, stopped_in, overtaken_in, answered_after}
+use Rattle.set_blocks.proofs.BlockOutcomes.{room_for, planned_within, ready_by, stops_by, held_by, done_by, stopped_in, overtaken_in, answered_after}
 use Rattle.set_blocks.proofs.BlockTimes.{lawful_read}
 use Rattle.set_blocks.proofs.attempting.commit_block.Goals as goal
 
@@ -39,10 +39,11 @@ returns-in-Err g c =
     let o = c.args.overlay in
     let read = lawful_read _ (g.met.S.Open.Section.lawful o.view) c.requires.space.own in
     let x = stops_by _ _ _ _ _ c.requires.space.own c.requires.block read c.requires.planned _ _ _ c.in-Err.ensures in
+    let held = held_by _ _ _ _ _ c.requires.space.own c.requires.block read c.requires.planned _ _ _ c.in-Err.ensures in
     let goes = GoesOn-GoesOn x.goes_on x.refused.goes_on in
     let left = subst (λ (s : Seat). Leaves (g.S.Open.Section.section c.in-Err.section) s) (g.met.S.Store.same_seat _) c.abort.ensures in
     record {
-      attempted = stopped_in _ _ _ _ _ _ c.requires.space.own x left;
+      attempted = stopped_in _ _ _ _ _ _ _ _ c.requires.space.own c.requires.planned x held left;
       continues = Continues-Continues goes.continues left.continues;
       at_most_one = left_one goes.continues goes.names_no_commit left;
     }

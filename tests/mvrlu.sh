@@ -108,6 +108,7 @@ mkdir folder
 says 3 'script 1 line 2: bad key' 'a:2: add l0 x^M' run --objects 200 --base 7 marked a
 says 3 'script 0 line 1: unknown command' 'marked:1: M-oM-;M-?add l0 5' run marked a
 says 3 'script 1 line 1: not in a block' 'a:1: add l0 5' block marked a
+says 3 'script 0 line 2: bad number' 'a:2: add l0 x^M' replay a
 says 5 'read fault: script 1' 'absent: No such file or directory' run --slots 64 a absent
 says 5 'read fault: script 0' 'folder: Is a directory' run folder
 says 4 'limit: objects' 'mvrlu: --objects takes 181 to 65535' run --objects 1 a
@@ -119,6 +120,7 @@ says 4 'limit: files' 'mvrlu: run takes 1 to 64 files' run a a
 says 4 'limit: files' 'mvrlu: block takes 1 to 64 files' block a a
 says 4 'limit: script 1 bytes' 'a: a script has at most 1048576 bytes' run marked a
 says 4 'limit: script 0 line 70000 commands' 'a: a script has at most 65536 commands' run a
+says 4 'limit: script 0 line 5 commands' 'a: a plan has at most 65536 steps' replay a
 says 7 'out of memory' '' run a
 
 # The page stands behind the usage line, and other words out of form get one line.

@@ -6,7 +6,7 @@ use Rattle.set_blocks.specs.BlockGrammar.{parsed_blocks}
 use Rattle.set_blocks.specs.declared.faults.BlockKind.{BlockKind}
 use Rattle.set_script.specs.declared.commands.Command.{Command}
 use Rattle.mvrlu_run.specs.declared.finish.Finish.{Finish}
-use Rattle.mvrlu_run.specs.declared.finish.Finish.TheVariants.{Done, Usage, Limit, Script, BlockScript, Bytes, Read, Write, Memory}
+use Rattle.mvrlu_run.specs.declared.finish.Finish.TheVariants.{Done, Usage, Limit, Script, BlockScript, Plan, Bytes, Read, Write, Memory}
 use Rattle.mvrlu_run.specs.declared.finish.Ran.{Ran}
 use Rattle.mvrlu_run.specs.Outcome.{AskedCause, Cause, Outside}
 use Rattle.mvrlu_run.specs.BlockOutcome.{IsBlocksComplete, IsBlocksPrinted}
@@ -29,6 +29,7 @@ module _ (words : List (List ℕ)) (old new : Outside) where
         let refused = IsRefused parsed_blocks line kind in
         absurd (no_stop parsed_blocks old.texts names scripts script c.1.reaches.name refused is all c.1.reaches.named c.1.says
         (fault_spoils parsed_blocks line kind))
+    does (Plan script line kind) scripts c all files out = absurd c.1
     does (Bytes script) scripts c all files out =
         absurd (no_stop parsed_blocks old.texts names scripts script c.1.reaches.name IsLong is all c.1.reaches.named c.1.says
         (length_spoils parsed_blocks))
@@ -51,6 +52,7 @@ module _ (words : List (List ℕ)) (old new : Outside) where
         let refused = IsRefused parsed_blocks line kind in
         let both = one_stop parsed_blocks old.texts names script place refused P is c.1 stop (fault_spoils parsed_blocks line kind) spoils in
         inl (fault both.0 line kind both.1 both.2)
+    stops (Plan script line kind) place P status c stop spoils fault long files = absurd c.1
     stops (Bytes script) place P status c stop spoils fault long files =
         let both = one_stop parsed_blocks old.texts names script place IsLong P is c.1 stop (length_spoils parsed_blocks) spoils in
         inl (long both.0 both.1 both.2)
@@ -77,6 +79,7 @@ module _ (words : List (List ℕ)) (old new : Outside) where
   printed (Limit limit) names d nought = absurd d.1
   printed (Script script line kind) names d nought = absurd d.1
   printed (BlockScript script line kind) names d nought = absurd (no_block_zero kind nought)
+  printed (Plan script line kind) names d nought = absurd d.1
   printed (Bytes script) names d nought = absurd (omega (arith, nought))
   printed (Read script) names d nought = absurd (omega (arith, nought))
   printed Write names d nought = absurd (omega (arith, nought))

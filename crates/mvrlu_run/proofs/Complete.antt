@@ -1,12 +1,12 @@
 -- Where the texts are told and nothing failed, the words and the scripts alone decide how a call ends.
-use Rattle.std.proofs.Common.{inl, inr, ◌≡◌, ◌⊎◌, ℕ, List, [], ◌∷◌, length, slice_get, Option, None, Some, Result, Ok, Err, refl, sym, ap, ◌∙◌, arith, subst}
+use Rattle.std.proofs.Common.{inl, inr, ◌≡◌, ◌⊎◌, ℕ, List, [], Option, Result, Ok, Err, refl, sym, ap, ◌∙◌, arith, subst}
 use Rattle.std.proofs.lemmas.Option.{slice_get_within}
 use Rattle.run_outside.specs.Outside.{Texts, Rose}
 use Rattle.run_words.specs.declared.request.Limit.{Limit as LimitOf}
 use Rattle.run_words.specs.declared.request.Options.{Options}
 use Rattle.run_words.specs.declared.request.Refusal.{Refusal}
 use Rattle.run_words.specs.declared.request.Refusal.TheVariants.{Form, Beyond}
-use Rattle.run_words.specs.Words.{Asks, run, gen, work, block, pool, asked}
+use Rattle.run_words.specs.Words.{Asks, run, gen, work, block, pool, replay, asked}
 use Rattle.set_script.specs.Grammar.{parsed}
 use Rattle.set_script.specs.declared.commands.Command.{Command}
 use Rattle.set_script.specs.declared.commands.FaultKind.{FaultKind}
@@ -15,14 +15,16 @@ use Rattle.set_script.proofs.Times.{lawful_after}
 use Rattle.set_blocks.proofs.Remaining.{lawful_after as lawful_blocks}
 use Rattle.set_blocks.specs.declared.faults.BlockKind.{BlockKind}
 use Rattle.set_blocks.specs.declared.faults.BlockKind.TheVariants.{Line, Nested, Stray, Empty, Long, Apart, Unended}
+use Rattle.step_replay.specs.declared.plan.PlanKind.{PlanKind}
+use Rattle.step_replay.specs.declared.plan.PlanKind.TheVariants.{Many as PlanMany}
 use Rattle.mvrlu_run.specs.declared.finish.Closed.{Closed}
 use Rattle.mvrlu_run.specs.declared.finish.Finish.{Finish}
-use Rattle.mvrlu_run.specs.declared.finish.Finish.TheVariants.{Done, Usage, Limit, Script, BlockScript, Bytes, Read, Write, Memory}
+use Rattle.mvrlu_run.specs.declared.finish.Finish.TheVariants.{Done, Usage, Limit, Script, BlockScript, Plan, Bytes, Read, Write, Memory}
 use Rattle.mvrlu_run.specs.declared.finish.Ran.{Ran}
 use Rattle.mvrlu_run.specs.Outcome.{AskedCause, Cause, IsComplete, IsPrinted, Outside, ReadsSets}
 use Rattle.mvrlu_run.specs.Reading.{AreTold}
 use Rattle.mvrlu_run.specs.Scripts.{AllScripts, AnyStop, IsLong, IsRefused, Reaches, StopsAt, commands}
-use Rattle.mvrlu_run.specs.Status.{block_fault_status, closed_of, fault_status, status_of}
+use Rattle.mvrlu_run.specs.Status.{block_fault_status, closed_of, fault_status, plan_fault_status, status_of}
 use Rattle.mvrlu_run.specs.Told.{IsTextFor, files_of, reading_of}
 use Rattle.mvrlu_run.proofs.Refused.{Spoils, ok_is_no_err, fault_spoils, length_spoils, no_stop, one_stop}
 
@@ -60,6 +62,10 @@ no_block_zero Long e = omega (arith, e)
 no_block_zero Apart e = omega (arith, e)
 no_block_zero Unended e = omega (arith, e)
 
+pub no_plan_zero : (kind : PlanKind) → plan_fault_status kind ≡ 0 → ⊥
+no_plan_zero PlanMany e = omega (arith, e)
+no_plan_zero kind e = omega (arith, e)
+
 ok_inj : {A E : Type 0} (a b : A) → ◌≡◌ {A = Result A E} (Ok a) (Ok b) → a ≡ b
 unfolding value
 ok_inj a b p = ap (value a) p
@@ -80,6 +86,7 @@ none_reached t place r = omega (arith, slice_get_within {A = List ℕ} [] place 
 none_left : (f : Finish) (t : Option Texts) (faults now : ℕ) → AnyStop f commands t [] faults now → status_of f ≡ 7
 none_left (Script script line kind) t faults now s = absurd (none_reached t script s.reaches)
 none_left (BlockScript script line kind) t faults now s = absurd s
+none_left (Plan script line kind) t faults now s = absurd s
 none_left (Bytes script) t faults now s = absurd (none_reached t script s.reaches)
 none_left (Read script) t faults now s = absurd (none_reached t script s.0)
 none_left Memory t faults now s = refl
@@ -96,6 +103,7 @@ text_reads (block names) texts closed text h =
     subst ReadsSets (sym h.3) (lawful_blocks h.2.last.start h.2.last.history h.4.ran.run.opening h.4.ran.run.allowed)
 text_reads (pool seats names) texts closed text h =
     subst ReadsSets (sym h.3) (lawful_after h.2.last.start h.2.last.history h.4.ran.pool.opening h.4.ran.pool.allowed)
+text_reads (replay names) texts closed text h = subst ReadsSets (sym h.0) tt
 text_reads (gen number seat) texts closed text h = subst ReadsSets (sym h.0) tt
 text_reads (work number) texts closed text h =
     subst ReadsSets (sym h.1) (lawful_after h.0.last.start h.0.last.history h.2.ran.run.opening h.2.ran.run.allowed)
@@ -108,6 +116,7 @@ module _ (words : List (List ℕ)) (old new : Outside) where
   ends (Done closed) asks c a = subst (λ x. AskedCause (Done closed) x old new) (same_asks words c.0 asks c.1 a) c.2
   ends (Script script line kind) asks c a = subst (λ x. AskedCause (Script script line kind) x old new) (same_asks words c.0 asks c.1 a) c.2
   ends (BlockScript script line kind) asks c a = subst (λ x. AskedCause (BlockScript script line kind) x old new) (same_asks words c.0 asks c.1 a) c.2
+  ends (Plan script line kind) asks c a = subst (λ x. AskedCause (Plan script line kind) x old new) (same_asks words c.0 asks c.1 a) c.2
   ends (Bytes script) asks c a = subst (λ x. AskedCause (Bytes script) x old new) (same_asks words c.0 asks c.1 a) c.2
   ends (Read script) asks c a = subst (λ x. AskedCause (Read script) x old new) (same_asks words c.0 asks c.1 a) c.2
   ends Write asks c a = subst (λ x. AskedCause Write x old new) (same_asks words c.0 asks c.1 a) c.2
@@ -124,6 +133,7 @@ module _ (words : List (List ℕ)) (old new : Outside) where
         let refused = IsRefused parsed line kind in
         absurd (no_stop parsed old.texts names scripts script c.1.reaches.name refused is all c.1.reaches.named c.1.says (fault_spoils parsed line kind))
     runs (BlockScript script line kind) scripts c all files out = absurd c.1
+    runs (Plan script line kind) scripts c all files out = absurd c.1
     runs (Bytes script) scripts c all files out =
         absurd (no_stop parsed old.texts names scripts script c.1.reaches.name IsLong is all c.1.reaches.named c.1.says (length_spoils parsed))
     runs (Read script) scripts c all files out = absurd (files c.1.1)
@@ -144,6 +154,7 @@ module _ (words : List (List ℕ)) (old new : Outside) where
         let both = one_stop parsed old.texts names script place (IsRefused parsed line kind) P is c.1 stop (fault_spoils parsed line kind) spoils in
         inl (fault both.0 line kind both.1 both.2)
     stops (BlockScript script line kind) place P status c stop spoils fault long files = absurd c.1
+    stops (Plan script line kind) place P status c stop spoils fault long files = absurd c.1
     stops (Bytes script) place P status c stop spoils fault long files =
         let both = one_stop parsed old.texts names script place IsLong P is c.1 stop (length_spoils parsed) spoils in
         inl (long both.0 both.1 both.2)
@@ -168,6 +179,7 @@ module _ (words : List (List ℕ)) (old new : Outside) where
   writes (Limit limit) asks none sets c out = inr (stops_at_none (Limit limit) asks none sets c.1)
   writes (Script script line kind) asks none sets c out = inr (stops_at_none (Script script line kind) asks none sets c.1)
   writes (BlockScript script line kind) asks none sets c out = inr (stops_at_none (BlockScript script line kind) asks none sets c.1)
+  writes (Plan script line kind) asks none sets c out = inr (stops_at_none (Plan script line kind) asks none sets c.1)
   writes (Bytes script) asks none sets c out = inr (stops_at_none (Bytes script) asks none sets c.1)
   writes (Read script) asks none sets c out = inr (stops_at_none (Read script) asks none sets c.1)
   writes Write asks none sets c out = absurd (out c.0)
@@ -180,6 +192,7 @@ module _ (words : List (List ℕ)) (old new : Outside) where
   limits (Done closed) limit c a = absurd (not_both words c.0 (Beyond limit) c.1 a)
   limits (Script script line kind) limit c a = absurd (not_both words c.0 (Beyond limit) c.1 a)
   limits (BlockScript script line kind) limit c a = absurd (not_both words c.0 (Beyond limit) c.1 a)
+  limits (Plan script line kind) limit c a = absurd (not_both words c.0 (Beyond limit) c.1 a)
   limits (Bytes script) limit c a = absurd (not_both words c.0 (Beyond limit) c.1 a)
   limits (Read script) limit c a = absurd (not_both words c.0 (Beyond limit) c.1 a)
   limits Write limit c a = absurd (not_both words c.0 (Beyond limit) c.1 a)
@@ -206,6 +219,7 @@ module _ (words : List (List ℕ)) (old new : Outside) where
   printed (Limit limit) options names d nought = absurd d.1
   printed (Script script line kind) options names d nought = absurd (no_zero kind nought)
   printed (BlockScript script line kind) options names d nought = absurd d.1
+  printed (Plan script line kind) options names d nought = absurd d.1
   printed (Bytes script) options names d nought = absurd (omega (arith, nought))
   printed (Read script) options names d nought = absurd (omega (arith, nought))
   printed Write options names d nought = absurd (omega (arith, nought))

@@ -7,4 +7,5 @@ pub mod Complete
 pub mod Four
 pub mod PoolComplete
 pub mod BlockComplete
+pub mod ReplayComplete
 pub mod FewBlocks

@@ -1,19 +1,17 @@
 -- One more file, or the one at which reading stops.
 use Rattle.std.proofs.Common.{◌≡◌, ◌≤◌, ◌<◌, ◌+◌, ℕ, List, [], ◌∷◌, ◌++◌, length, take, map, get_or, slice_get, string_bytes, String}
-use Rattle.std.proofs.Common.{All, Vec, Bool, Option, Some, Result, refl, sym, ap, ◌∙◌, subst, arith}
+use Rattle.std.proofs.Common.{All, Bool, Option, Some, Result, refl, sym, ap, ◌∙◌, subst, arith}
 use Rattle.std.specs.declared.alloc.Global.{Global}
 use Rattle.std.proofs.lemmas.List.{take_more, length-map, map-append}
 use Rattle.std.proofs.lemmas.List.Elements.{All-get_or}
 use Rattle.std.proofs.lemmas.Option.{slice_get-map, slice_get_read, slice_get_within, get_or_from_slice_get}
 use Rattle.std.specs.Option.{option_map}
-use Rattle.run_outside.specs.Outside.{Texts, HasText, Rose}
-use Rattle.set_script.specs.declared.commands.Command.{Command}
+use Rattle.run_outside.specs.Outside.{Texts, HasText}
 use Rattle.mvrlu_run.specs.declared.finish.Finish.{Finish}
-use Rattle.mvrlu_run.specs.declared.finish.Finish.TheVariants.{Done, Usage, Limit, Script, BlockScript, Bytes, Read, Write, Memory}
+use Rattle.mvrlu_run.specs.declared.finish.Finish.TheVariants.{Done, Usage, Limit, Script, BlockScript, Plan, Bytes, Read, Write, Memory}
 use Rattle.mvrlu_run.specs.Reading.{Says}
-use Rattle.script_workers.specs.Workers.{items_of}
-use Rattle.mvrlu_run.specs.Scripts.{AllScripts, AnyStop, IsScript, NoneFails, NotRead, OneStop, Reaches, Reading, ScriptOf, StopsAt}
-use Rattle.mvrlu_run.specs.Scripts.{commands, blocks, grammar_of}
+use Rattle.mvrlu_run.specs.Scripts.{AllScripts, AnyStop, IsScript, NoneFails, NotRead, OneStop, Reading, ScriptOf}
+use Rattle.mvrlu_run.specs.Scripts.{commands, blocks, plans, grammar_of}
 
 -- one more script, of any grammar
 pub scripts_snoc : {A K : Type 0} (grammar : List ℕ → Result A (ℕ × K)) (t : Option Texts) (names : List (List ℕ)) (scripts : List A) (name : List ℕ)
@@ -54,8 +52,14 @@ pub any_from_one : (f : Finish) (reading : Reading) (t : Option Texts) (names : 
 any_from_one (Script script line kind) commands t names place name before faults mid now at h le o =
     rw o.0 (record { reaches = record { name = name; named = at; before = before; scripts = h }; says = o.1 })
 any_from_one (Script script line kind) blocks t names place name before faults mid now at h le o = absurd o
+any_from_one (Script script line kind) plans t names place name before faults mid now at h le o = absurd o
 any_from_one (BlockScript script line kind) commands t names place name before faults mid now at h le o = absurd o
 any_from_one (BlockScript script line kind) blocks t names place name before faults mid now at h le o =
+    rw o.0 (record { reaches = record { name = name; named = at; before = before; scripts = h }; says = o.1 })
+any_from_one (BlockScript script line kind) plans t names place name before faults mid now at h le o = absurd o
+any_from_one (Plan script line kind) commands t names place name before faults mid now at h le o = absurd o
+any_from_one (Plan script line kind) blocks t names place name before faults mid now at h le o = absurd o
+any_from_one (Plan script line kind) plans t names place name before faults mid now at h le o =
     rw o.0 (record { reaches = record { name = name; named = at; before = before; scripts = h }; says = o.1 })
 any_from_one (Bytes script) reading t names place name before faults mid now at h le o =
     rw o.0 (record { reaches = record { name = name; named = at; before = before; scripts = h }; says = o.1 })
@@ -78,6 +82,7 @@ pub none_fails : (f : Finish) (steady : Bool) (t : Option Texts) (names : List (
 none_fails (Read script) steady t names place name at n = λ s h. n s (has_at t names place name at h)
 none_fails (Script script line kind) steady t names place name at n = tt
 none_fails (BlockScript script line kind) steady t names place name at n = tt
+none_fails (Plan script line kind) steady t names place name at n = tt
 none_fails (Bytes script) steady t names place name at n = tt
 none_fails Memory steady t names place name at n = tt
 none_fails (Done c) steady t names place name at n = tt
@@ -85,9 +90,8 @@ none_fails Usage steady t names place name at n = tt
 none_fails (Limit limit) steady t names place name at n = tt
 none_fails Write steady t names place name at n = tt
 
--- of one file there is one script
-pub only_script : (scripts : List (Vec Command Global)) (s : Vec Command Global) → length scripts ≡ 1 → s ≡ get_or scripts 0 s
-    → map items_of scripts ≡ s.items ∷ []
-only_script [] s len is = absurd (omega (arith, len))
-only_script (x ∷ []) s len is = ap (λ (v : Vec Command Global). v.items ∷ []) (sym is)
-only_script (x ∷ y ∷ scripts) s len is = absurd (omega (arith, len))
+-- a list of one has its first alone
+pub only_one : {S A : Type 0} (of : S → A) (xs : List S) (x : S) → length xs ≡ 1 → x ≡ get_or xs 0 x → map of xs ≡ of x ∷ []
+only_one of [] x len is = absurd (omega (arith, len))
+only_one of (y ∷ []) x len is = ap (λ z. of z ∷ []) (sym is)
+only_one of (y ∷ z ∷ xs) x len is = absurd (omega (arith, len))

@@ -6,7 +6,7 @@ use Rattle.set_script.specs.Grammar.{parsed}
 use Rattle.set_script.specs.declared.commands.Command.{Command}
 use Rattle.set_script.specs.declared.commands.FaultKind.{FaultKind}
 use Rattle.mvrlu_run.specs.declared.finish.Finish.{Finish}
-use Rattle.mvrlu_run.specs.declared.finish.Finish.TheVariants.{Done, Usage, Limit, Script, BlockScript, Bytes, Read, Write, Memory}
+use Rattle.mvrlu_run.specs.declared.finish.Finish.TheVariants.{Done, Usage, Limit, Script, BlockScript, Plan, Bytes, Read, Write, Memory}
 use Rattle.mvrlu_run.specs.declared.finish.Ran.{Ran}
 use Rattle.mvrlu_run.specs.Outcome.{AskedCause, Cause, Outside}
 use Rattle.mvrlu_run.specs.PoolOutcome.{IsPoolComplete, IsPoolPrinted}
@@ -28,6 +28,7 @@ module _ (words : List (List ℕ)) (old new : Outside) where
         let refused = IsRefused parsed line kind in
         absurd (no_stop parsed old.texts names scripts script c.1.reaches.name refused is all c.1.reaches.named c.1.says (fault_spoils parsed line kind))
     does (BlockScript script line kind) scripts c all files out = absurd c.1
+    does (Plan script line kind) scripts c all files out = absurd c.1
     does (Bytes script) scripts c all files out =
         absurd (no_stop parsed old.texts names scripts script c.1.reaches.name IsLong is all c.1.reaches.named c.1.says (length_spoils parsed))
     does (Read script) scripts c all files out = absurd (files c.1.1)
@@ -48,6 +49,7 @@ module _ (words : List (List ℕ)) (old new : Outside) where
         let both = one_stop parsed old.texts names script place (IsRefused parsed line kind) P is c.1 stop (fault_spoils parsed line kind) spoils in
         inl (fault both.0 line kind both.1 both.2)
     stops (BlockScript script line kind) place P status c stop spoils fault long files = absurd c.1
+    stops (Plan script line kind) place P status c stop spoils fault long files = absurd c.1
     stops (Bytes script) place P status c stop spoils fault long files =
         let both = one_stop parsed old.texts names script place IsLong P is c.1 stop (length_spoils parsed) spoils in
         inl (long both.0 both.1 both.2)
@@ -74,6 +76,7 @@ module _ (words : List (List ℕ)) (old new : Outside) where
   printed (Limit limit) seats names d nought = absurd d.1
   printed (Script script line kind) seats names d nought = absurd (no_zero kind nought)
   printed (BlockScript script line kind) seats names d nought = absurd d.1
+  printed (Plan script line kind) seats names d nought = absurd d.1
   printed (Bytes script) seats names d nought = absurd (omega (arith, nought))
   printed (Read script) seats names d nought = absurd (omega (arith, nought))
   printed Write seats names d nought = absurd (omega (arith, nought))

@@ -1,6 +1,6 @@
 -- Where all files are scripts, reading stops at none of them; and it stops at one place alone.
 use Rattle.std.proofs.Common.{inl, inr, ◌≡◌, ◌≤◌, ◌<◌, ℕ, zero, suc, List, [], ◌∷◌, length, take, get_or}
-use Rattle.std.proofs.Common.{slice_get, Option, None, Some, Result, Ok, Err, refl, sym, ap, ◌∙◌, arith, subst, get_or-take, length-take}
+use Rattle.std.proofs.Common.{slice_get, Option, None, Some, Result, Ok, Err, sym, ap, ◌∙◌, arith, subst, get_or-take, length-take}
 use Rattle.std.proofs.lemmas.Bool.{cases_lt}
 use Rattle.std.proofs.lemmas.Option.{slice_get-get_or, slice_get_within, get_or_from_slice_get}
 use Rattle.run_outside.specs.Outside.{Texts}

@@ -1,5 +1,5 @@
 -- What is read of a domain that is left doesn't change its history.
-use Rattle.std.proofs.Common.{◌≡◌, ℕ, List, sym, subst}
+use Rattle.std.proofs.Common.{◌≡◌, ℕ, List}
 use Rattle.mv_history.specs.declared.answers.LogTable.{LogTable}
 use Rattle.mvrlu.specs.Whole.{Whole, IsStill, last_state}
 use Rattle.block_domain.specs.Whole.{BlocksRunOf}

@@ -8,3 +8,4 @@ pub mod Pooled
 pub mod PoolOutcome
 pub mod Blocked
 pub mod BlockOutcome
+pub mod ReplayOutcome

@@ -1,5 +1,5 @@
 -- What a call of the program does: the cause of each way to end, and what a reader may count on.
-use Rattle.std.specs.Prelude.{◌≡◌, ◌⊎◌, ◌≤◌, ◌<◌, ℕ, List, Option, None, Some, Ok, Err, Bool, ⊤}
+use Rattle.std.specs.Prelude.{◌≡◌, ◌⊎◌, ℕ, List, Option, Ok, Err, Bool, ⊤}
 use Rattle.std.specs.Io.KnownBytes.{Appends}
 use Rattle.run_outside.specs.Outside.{Texts, Rose}
 use Rattle.run_words.specs.declared.request.Options.{Options}
@@ -17,7 +17,7 @@ use Rattle.mvrlu.specs.declared.closing.Closing.{Closing}
 use Rattle.mvrlu_run.specs.declared.finish.Closed.{Closed}
 use Rattle.mvrlu_run.specs.declared.finish.Closed.TheVariants.{No, Sets, Blocks}
 use Rattle.mvrlu_run.specs.declared.finish.Finish.{Finish}
-use Rattle.mvrlu_run.specs.declared.finish.Finish.TheVariants.{Done, Usage, Limit, Script, BlockScript, Bytes, Read, Write, Memory}
+use Rattle.mvrlu_run.specs.declared.finish.Finish.TheVariants.{Done, Usage, Limit, Write}
 use Rattle.mvrlu_run.specs.declared.finish.Ran.{Ran}
 use Rattle.mvrlu_run.specs.Reading.{AreTold}
 use Rattle.mvrlu_run.specs.Scripts.{AllScripts, StopsAt, IsRefused, IsLong, AnyStop, NoneFails}

@@ -8,9 +8,11 @@ use Rattle.set_script.specs.Grammar.{parsed}
 use Rattle.set_script.specs.declared.commands.Command.{Command}
 use Rattle.set_script.specs.declared.commands.FaultKind.{FaultKind}
 use Rattle.mvrlu_run.specs.declared.finish.Finish.{Finish}
-use Rattle.mvrlu_run.specs.declared.finish.Finish.TheVariants.{Script, BlockScript, Bytes, Read, Memory}
+use Rattle.mvrlu_run.specs.declared.finish.Finish.TheVariants.{Script, BlockScript, Plan, Bytes, Read, Memory}
 use Rattle.mvrlu_run.specs.declared.finish.TheConstants.{MOST_BYTES}
 use Rattle.mvrlu_run.specs.Reading.{Says}
+use Rattle.step_replay.specs.Plans.{PlanOf, planned}
+use Rattle.step_replay.specs.declared.plan.PlanKind.{PlanKind}
 
 -- the text has too many bytes
 abbrev pub IsLong : List ℕ → Type 0
@@ -52,25 +54,31 @@ pub data Reading : Type 0 where
   commands : Reading
   -- as scripts of blocks
   blocks : Reading
+  -- as plans
+  plans : Reading
 
 -- what a script is then, and what may be wrong with a line of one
 abbrev pub ScriptOf : Reading → Type 0
 ScriptOf commands = List Command
 ScriptOf blocks = List (List Command)
+ScriptOf plans = PlanOf
 
 abbrev pub KindOf : Reading → Type 0
 KindOf commands = FaultKind
 KindOf blocks = BlockKind
+KindOf plans = PlanKind
 
 -- the grammar of such files
 abbrev pub grammar_of : (reading : Reading) → List ℕ → Result (ScriptOf reading) (ℕ × KindOf reading)
 grammar_of commands = parsed
 grammar_of blocks = parsed_blocks
+grammar_of plans = planned
 
 -- why the file of this place is refused, where its name is given and its text is read from some count of faults on
 abbrev pub OneStop : Finish → Reading → ℕ → Option Texts → List ℕ → ℕ → ℕ → Type 0
 OneStop (Script script line kind) commands place texts name faults now = (script ≡ place) × Says texts name (IsRefused parsed line kind)
 OneStop (BlockScript script line kind) blocks place texts name faults now = (script ≡ place) × Says texts name (IsRefused parsed_blocks line kind)
+OneStop (Plan script line kind) plans place texts name faults now = (script ≡ place) × Says texts name (IsRefused planned line kind)
 OneStop (Bytes script) reading place texts name faults now = (script ≡ place) × Says texts name IsLong
 OneStop (Read script) reading place texts name faults now = (script ≡ place) × Rose faults now
 OneStop Memory reading place texts name faults now = ⊤
@@ -80,6 +88,7 @@ OneStop _ _ place texts name faults now = ⊥
 abbrev pub AnyStop : Finish → Reading → Option Texts → List (List ℕ) → ℕ → ℕ → Type 0
 AnyStop (Script script line kind) commands texts names faults now = StopsAt parsed texts names script (IsRefused parsed line kind)
 AnyStop (BlockScript script line kind) blocks texts names faults now = StopsAt parsed_blocks texts names script (IsRefused parsed_blocks line kind)
+AnyStop (Plan script line kind) plans texts names faults now = StopsAt planned texts names script (IsRefused planned line kind)
 AnyStop (Bytes script) reading texts names faults now = StopsAt (grammar_of reading) texts names script IsLong
 AnyStop (Read script) reading texts names faults now = Reaches (grammar_of reading) texts names script × Rose faults now
 AnyStop Memory reading texts names faults now = ⊤

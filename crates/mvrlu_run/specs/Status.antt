@@ -9,7 +9,9 @@ use Rattle.run_words.specs.declared.request.Limit.TheVariants.{Objects, Slots, B
 use Rattle.mvrlu_run.specs.declared.finish.Closed.{Closed}
 use Rattle.mvrlu_run.specs.declared.finish.Closed.TheVariants.{No}
 use Rattle.mvrlu_run.specs.declared.finish.Finish.{Finish}
-use Rattle.mvrlu_run.specs.declared.finish.Finish.TheVariants.{Done, Usage, Limit, Script, BlockScript, Bytes, Read, Write, Memory}
+use Rattle.mvrlu_run.specs.declared.finish.Finish.TheVariants.{Done, Usage, Limit, Script, BlockScript, Plan, Bytes, Read, Write, Memory}
+use Rattle.step_replay.specs.declared.plan.PlanKind.{PlanKind}
+use Rattle.step_replay.specs.declared.plan.PlanKind.TheVariants.{Word as PlanWord, Count as PlanCount, Number as PlanNumber, Many as PlanMany}
 
 -- the status of a faulty script
 abbrev pub fault_status : FaultKind → ℕ
@@ -21,6 +23,11 @@ abbrev pub block_fault_status : BlockKind → ℕ
 block_fault_status (Line kind) = fault_status kind
 block_fault_status _ = 3
 
+-- and of a faulty plan
+abbrev pub plan_fault_status : PlanKind → ℕ
+plan_fault_status PlanMany = 4
+plan_fault_status _ = 3
+
 -- the status
 abbrev pub status_of : Finish → ℕ
 status_of (Done closed) = 0
@@ -28,6 +35,7 @@ status_of Usage = 2
 status_of (Limit limit) = 4
 status_of (Script script line kind) = fault_status kind
 status_of (BlockScript script line kind) = block_fault_status kind
+status_of (Plan script line kind) = plan_fault_status kind
 status_of (Bytes script) = 4
 status_of (Read script) = 5
 status_of Write = 6
@@ -78,13 +86,25 @@ block_fault_end Long = codes ": block too long\n"
 block_fault_end Apart = codes ": not in a block\n"
 block_fault_end Unended = codes ": block without end\n"
 
+-- and of a plan
+abbrev pub plan_fault_start : PlanKind → List ℕ
+plan_fault_start PlanMany = codes "limit: script "
+plan_fault_start _ = codes "script "
+
+abbrev pub plan_fault_end : PlanKind → List ℕ
+plan_fault_end PlanWord = codes ": unknown command\n"
+plan_fault_end PlanCount = codes ": wrong number of words\n"
+plan_fault_end PlanNumber = codes ": bad number\n"
+plan_fault_end PlanMany = codes " commands\n"
+
 -- the line on `err`
 abbrev pub line_of : Finish → List ℕ
 line_of (Done closed) = []
-line_of Usage = codes "usage: run [--objects N] [--slots N] [--base N] FILE... or gen NUMBER SEAT or work NUMBER or block FILE... or pool SEATS FILE\n"
+line_of Usage = codes "usage: run [--objects N] [--slots N] [--base N] FILE... or gen NUMBER SEAT or work NUMBER or block FILE... or pool SEATS FILE or replay FILE\n"
 line_of (Limit limit) = codes "limit: " ++ limit_word limit ++ codes "\n"
 line_of (Script script line kind) = fault_start kind ++ decimal script ++ codes " line " ++ decimal line ++ fault_end kind
 line_of (BlockScript script line kind) = block_fault_start kind ++ decimal script ++ codes " line " ++ decimal line ++ block_fault_end kind
+line_of (Plan script line kind) = plan_fault_start kind ++ decimal script ++ codes " line " ++ decimal line ++ plan_fault_end kind
 line_of (Bytes script) = codes "limit: script " ++ decimal script ++ codes " bytes\n"
 line_of (Read script) = codes "read fault: script " ++ decimal script ++ codes "\n"
 line_of Write = codes "write fault\n"

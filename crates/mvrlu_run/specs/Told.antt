@@ -11,7 +11,7 @@ use Rattle.run_report.specs.Summary.{summary}
 use Rattle.run_report.specs.Text.{text_of_run}
 use Rattle.run_report.specs.Whole.{RunOf}
 use Rattle.run_words.specs.declared.request.Options.{Options}
-use Rattle.run_words.specs.Words.{Asks, run, gen, work, block, pool}
+use Rattle.run_words.specs.Words.{Asks, run, gen, work, block, pool, replay}
 use Rattle.script_domain.specs.Joined.{past_of_whole}
 use Rattle.script_gen.specs.Script.{script, text_of_script}
 use Rattle.set_blocks.specs.BlockGrammar.{parsed_blocks}
@@ -25,7 +25,9 @@ use Rattle.mvrlu_run.specs.declared.finish.Closed.{Closed}
 use Rattle.mvrlu_run.specs.declared.finish.Closed.TheVariants.{No, Sets, Blocks}
 use Rattle.mvrlu_run.specs.Blocked.{IsBlocksText}
 use Rattle.mvrlu_run.specs.Pooled.{IsPoolText}
-use Rattle.mvrlu_run.specs.Scripts.{AllScripts, Reading, commands, blocks}
+use Rattle.mvrlu_run.specs.Scripts.{AllScripts, Reading, commands, blocks, plans}
+use Rattle.step_replay.specs.Plans.{PlanOf, planned}
+use Rattle.step_replay.specs.Runs.{text_of_plan}
 
 -- The scripts were run over the domain that is left, which was opened with so many objects, all zero, and this time of the
 -- opening state: its one history is that of these lines, maps and tables.
@@ -73,6 +75,7 @@ IsTextFor (block names) texts closed text =
 IsTextFor (pool seats names) texts closed text =
     (script : List Command) × AllScripts parsed texts names (script ∷ []) × (closing : Closing SetRules) × (closed ≡ Sets closing)
     × IsPoolText seats script closing text
+IsTextFor (replay names) texts closed text = (closed ≡ No) × (plan : PlanOf) × AllScripts planned texts names (plan ∷ []) × (text ≡ text_of_plan plan)
 
 -- the files that are to be read
 abbrev pub files_of : Asks → List (List ℕ)
@@ -81,10 +84,12 @@ files_of (gen number seat) = []
 files_of (work number) = []
 files_of (block names) = names
 files_of (pool seats names) = names
+files_of (replay names) = names
 
 -- and as what
 abbrev pub reading_of : Asks → Reading
 reading_of (block names) = blocks
+reading_of (replay names) = plans
 reading_of asks = commands
 
 -- the numbers of a domain with so many seats, each of which may hold so many objects

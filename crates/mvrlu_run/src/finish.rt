@@ -3,6 +3,7 @@ use mvrlu::Closing;
 use run_words::Limit;
 use set_blocks::{BlockKind, BlockRules};
 use set_script::{FaultKind, SetRules};
+use step_replay::PlanKind;
 
 /// The most bytes of a script.
 pub const MOST_BYTES: usize = 1_048_576;
@@ -47,6 +48,12 @@ pub enum Finish {
         script: u32,
         line: u32,
         kind: BlockKind,
+    },
+    /// The plan has a first faulty line, or one step too many.
+    Plan {
+        script: u32,
+        line: u32,
+        kind: PlanKind,
     },
     /// The script has more than `MOST_BYTES` bytes.
     Bytes {

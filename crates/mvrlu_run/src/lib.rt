@@ -1,7 +1,7 @@
 //! The program: it reads its words and the scripts of files, runs them over a domain of many versions, one worker for
 //! each script, and writes the text of the run. It also writes a generated script, runs the four of a number, and does the
-//! commands of one file on a pool of seats, whichever takes the next, and it runs scripts in which several commands are one
-//! block.
+//! commands of one file on a pool of seats, whichever takes the next, it runs scripts in which several commands are one
+//! block, and it replays a given schedule of steps.
 //!
 //! # Model
 //!
@@ -24,12 +24,15 @@
 //! where the texts are told and no call failed the scripts alone decide, but for want of memory. A gate is called
 //! around each command; no clause speaks of it, since it tells nothing.
 //!
+//! A replay runs no domain: with status 0 the output grew by exactly `text_of_plan`, a function of the plan that the file's
+//! bytes are.
+//!
 //! # Place
 //!
 //! It stands on `run_words` for the words, `run_outside` for reading and writing, `set_script` and `set_blocks` for the
 //! commands and blocks of a script, `script_gen` for generated scripts, `mvrlu` for the domain, `script_domain`,
 //! `pool_domain` and `block_domain` for the run of scripts, pools and blocks over it, `set_catalog` for the sets that are
-//! left, and `run_report` for the order and the text of the lines. The thin program `mvrlu_main` calls it with the
+//! left, `run_report` for the order and the text of the lines, and `step_replay` for plans and their replay. The thin program `mvrlu_main` calls it with the
 //! system's files and streams.
 //!
 //! [`Closing`]: mvrlu::Closing
@@ -43,6 +46,7 @@ mod line;
 mod pooling;
 mod program;
 mod reading;
+mod replaying;
 mod running;
 mod scripts;
 mod sending;

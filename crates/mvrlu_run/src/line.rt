@@ -1,7 +1,7 @@
 // The line on standard error. Making it takes no memory.
-ghost use Rattle.std.specs.Prelude.{◌≡◌, ◌≤◌, ◌+◌, ◌++◌, length, take, decimal};
+ghost use Rattle.std.specs.Prelude.{◌≡◌, ◌≤◌, ◌+◌, ◌++◌, codes, length, take, decimal};
 ghost use Rattle.mvrlu_run.specs.Sent.{Sent};
-ghost use Rattle.mvrlu_run.specs.Status.{block_fault_end, block_fault_start, fault_end, fault_start, limit_word, line_of};
+ghost use Rattle.mvrlu_run.specs.Status.{block_fault_end, block_fault_start, fault_end, fault_start, limit_word, line_of, plan_fault_end, plan_fault_start};
 
 use crate::finish::Finish;
 use crate::sending::send;
@@ -10,12 +10,13 @@ use run_outside::Sink;
 use run_words::Limit;
 use set_blocks::BlockKind;
 use set_script::FaultKind;
+use step_replay::PlanKind;
 
 // The room of the longest line.
-const ROOM: usize = 128;
+const ROOM: usize = 192;
 
 const USAGE: &[u8] =
-    b"usage: run [--objects N] [--slots N] [--base N] FILE... or gen NUMBER SEAT or work NUMBER or block FILE... or pool SEATS FILE\n";
+    b"usage: run [--objects N] [--slots N] [--base N] FILE... or gen NUMBER SEAT or work NUMBER or block FILE... or pool SEATS FILE or replay FILE\n";
 
 /// Writes the line of an end, as far as the sink takes it.
 pub fn report<E: Sink>(err: &mut E, finish: &Finish)
@@ -41,20 +42,13 @@ fn make_line(buffer: &mut [u8], finish: &Finish) -> usize
             put(buffer, at, b"\n")
         }
         Finish::Script { script, line, kind } => {
-            let (start, end) = fault_words(*kind);
-            let at = put(buffer, 0, start);
-            let at = put_number(buffer, at, *script);
-            let at = put(buffer, at, b" line ");
-            let at = put_number(buffer, at, *line);
-            put(buffer, at, end)
+            put_fault(buffer, *script, *line, fault_words(*kind))
         }
         Finish::BlockScript { script, line, kind } => {
-            let (start, end) = block_fault_words(*kind);
-            let at = put(buffer, 0, start);
-            let at = put_number(buffer, at, *script);
-            let at = put(buffer, at, b" line ");
-            let at = put_number(buffer, at, *line);
-            put(buffer, at, end)
+            put_fault(buffer, *script, *line, block_fault_words(*kind))
+        }
+        Finish::Plan { script, line, kind } => {
+            put_fault(buffer, *script, *line, plan_fault_words(*kind))
         }
         Finish::Bytes { script } => {
             let at = put(buffer, 0, b"limit: script ");
@@ -122,6 +116,40 @@ fn block_fault_words(kind: BlockKind) -> (&'static [u8], &'static [u8])
         BlockKind::Unended => b": block without end\n",
     };
     (b"script ", end)
+}
+
+// The same of a plan.
+fn plan_fault_words(kind: PlanKind) -> (&'static [u8], &'static [u8])
+    ensures start { result.0.now ≡ plan_fault_start kind }
+    ensures end { result.1.now ≡ plan_fault_end kind }
+    ensures room { length result.0.now + 30 + length result.1.now ≤ ROOM }
+{
+    let end = match kind {
+        PlanKind::Word => b": unknown command\n".as_slice(),
+        PlanKind::Count => b": wrong number of words\n",
+        PlanKind::Number => b": bad number\n",
+        PlanKind::Many => return (b"limit: script ", b" commands\n"),
+    };
+    (b"script ", end)
+}
+
+// Puts the line of a faulty script at the front of a buffer: its number and that of the line, between these words.
+fn put_fault(
+    buffer: &mut [u8],
+    script: u32,
+    line: u32,
+    words: (&'static [u8], &'static [u8]),
+) -> usize
+    requires { length words.0.now + 30 + length words.1.now ≤ length buffer.old }
+    ensures within { result ≤ length buffer.new }
+    ensures line { take result buffer.new ≡ words.entry.0.now ++ decimal script ++ codes " line " ++ decimal line ++ words.entry.1.now }
+{
+    let (start, end) = words;
+    let at = put(buffer, 0, start);
+    let at = put_number(buffer, at, script);
+    let at = put(buffer, at, b" line ");
+    let at = put_number(buffer, at, line);
+    put(buffer, at, end)
 }
 
 // Puts a number in decimal digits at a place, and gives the place behind it.

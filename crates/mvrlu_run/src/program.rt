@@ -3,10 +3,11 @@ ghost use Rattle.std.specs.Prelude.{◌≡◌, ◌≢◌, ◌↔◌, List, ℕ, 
 ghost use Rattle.run_outside.specs.Outside.{Rose};
 ghost use Rattle.run_words.specs.declared.request.Options.{Options as OptionsOf};
 ghost use Rattle.run_words.specs.declared.request.Refusal.TheVariants.{Form};
-ghost use Rattle.run_words.specs.Words.{asked, block, pool, run};
+ghost use Rattle.run_words.specs.Words.{asked, block, pool, replay, run};
 ghost use Rattle.mvrlu_run.specs.Status.{closed_of, status_of};
 ghost use Rattle.mvrlu_run.specs.BlockOutcome.{IsBlocksComplete, IsBlocksPrinted};
 ghost use Rattle.mvrlu_run.specs.PoolOutcome.{IsPoolComplete, IsPoolPrinted};
+ghost use Rattle.mvrlu_run.specs.ReplayOutcome.{IsReplayComplete, IsReplayPrinted};
 ghost use Rattle.mvrlu_run.specs.Outcome.{outside, Cause, IsComplete, IsPrinted, NeverRead, Outcome, ReadsSets};
 
 use crate::finish::{Closed, Finish, Ran};
@@ -20,6 +21,7 @@ use set_script::FaultKind;
 use std::alloc::Global;
 use std::sync::Wait;
 use std::thread::Threads;
+use step_replay::PlanKind;
 
 /// Does what the words after the program's name ask for, and answers its status.
 ///
@@ -27,7 +29,8 @@ use std::thread::Threads;
 /// - 2 exactly where the words are out of form.
 /// - 3 exactly where a script is outside the grammar; its first faulty line is answered.
 /// - 4 exactly where a number is beyond its limit: one of the words, the files, of which there are at most 64, the bytes
-///   of a script, of which there are at most 1,048,576, or its commands, of which there are at most 65,536.
+///   of a script, of which there are at most 1,048,576, or its commands, of which there are at most 65,536, as are the
+///   steps of a plan.
 /// - 5 only where a call of `files` failed in this call, and the scripts before the named one are within the limits.
 /// - 6 only where a call of `out` failed in this call; the bytes written are a prefix of the text.
 /// - 7: want of memory, which may come at each point before the first write.
@@ -36,12 +39,13 @@ use std::thread::Threads;
 /// and then for each file in order its opening and reading, its bytes, and its lines one by one. Where the status is
 /// neither 0 nor 6, nothing is written to `out`: the whole text is made first, and each write offers all that is left
 /// of it. Where the status is not 0, its line is written to `err`, as far as `err` takes it; a fault of `err` changes no
-/// status. `closed` is `No` on every status but 0, and where a script is generated.
+/// status. `closed` is `No` on every status but 0, and where a script is generated or a plan is replayed.
 ///
 /// Scripts are run by one worker for each, script i as seat i of a domain of its own; the gate is called around each
 /// command. Scripts of blocks are run likewise, each block as one entry or one read, and the gate is called around each
 /// block. A pool does the commands of its one file, each on the seat that takes it next, and its lines have that seat
-/// and the command's number in the file.
+/// and the command's number in the file. A plan is replayed on no thread and by no domain: its steps are made one after
+/// another, and the gate isn't called.
 pub fn run_program<R: Threads + Wait + Sync, F: Files, O: Sink, E: Sink, G: Gate>(
     rt: &R,
     alloc: Global,
@@ -74,6 +78,12 @@ pub fn run_program<R: Threads + Wait + Sync, F: Files, O: Sink, E: Sink, G: Gate
         (names : List (List ℕ)) → asked (map string_bytes words.now) ≡ Ok (block names)
         → result.status ≡ 0 → IsBlocksPrinted names old new result.closed }
 
+    // What a replay prints is the text of its file's plan, and nothing is left of a domain.
+    ensures replayed { let old = outside F.texts F.steady F.faults files.old O.written O.faults out.old in
+        let new = outside F.texts F.steady F.faults files.new O.written O.faults out.new in
+        (names : List (List ℕ)) → asked (map string_bytes words.now) ≡ Ok (replay names)
+        → result.status ≡ 0 → IsReplayPrinted names old new result.closed }
+
     // Refusals come for these causes alone, and leave the output as it was.
     ensures usage { (result.status ≡ 2) ↔ (asked (map string_bytes words.now) ≡ Err Form) }
     ensures read { result.status ≡ 5 → Rose (F.faults files.old) (F.faults files.new) }
@@ -92,6 +102,9 @@ pub fn run_program<R: Threads + Wait + Sync, F: Files, O: Sink, E: Sink, G: Gate
     ensures block_complete { let old = outside F.texts F.steady F.faults files.old O.written O.faults out.old in
         let new = outside F.texts F.steady F.faults files.new O.written O.faults out.new in
         IsBlocksComplete (map string_bytes words.now) old new result.status }
+    ensures replay_complete { let old = outside F.texts F.steady F.faults files.old O.written O.faults out.old in
+        let new = outside F.texts F.steady F.faults files.new O.written O.faults out.new in
+        IsReplayComplete (map string_bytes words.now) old new result.status }
 {
     let finish = carry_out(rt, alloc, words, files, out, gate);
     report(err, &finish);
@@ -146,8 +159,12 @@ fn status(finish: &Finish) -> u8
         | Finish::BlockScript {
             kind: BlockKind::Line(FaultKind::Many),
             ..
+        }
+        | Finish::Plan {
+            kind: PlanKind::Many,
+            ..
         } => 4,
-        Finish::Script { .. } | Finish::BlockScript { .. } => 3,
+        Finish::Script { .. } | Finish::BlockScript { .. } | Finish::Plan { .. } => 3,
         Finish::Read { .. } => 5,
         Finish::Write => 6,
         Finish::Memory => 7,

@@ -10,6 +10,7 @@ use crate::blocking::make_blocks;
 use crate::finish::{Closed, Finish};
 use crate::generated::{WORK, four_scripts};
 use crate::pooling::make_pool;
+use crate::replaying::make_replay;
 use crate::running::{Told, run_sets};
 use crate::scripts::read_scripts;
 use mvrlu::Closing;
@@ -63,6 +64,7 @@ pub fn make_text<R: Threads + Wait + Sync, F: Files, G: Gate>(
             seats,
             files: names,
         } => make_pool(rt, alloc, seats, names, files, gate),
+        Request::Replay { files: names } => make_replay(alloc, names, files),
         Request::Work { number } => match work_text(rt, alloc, number, gate) {
             Ok((text, closing)) => Ok(Made {
                 text,

@@ -7,7 +7,7 @@ use Rattle.std.specs.Str.Parse.{digits_value}
 use Rattle.set_script.specs.Grammar.{◌>>=◌, is_numeral}
 use Rattle.run_words.specs.declared.request.Options.{Options}
 use Rattle.run_words.specs.declared.request.Request.{Request}
-use Rattle.run_words.specs.declared.request.Request.TheVariants.{Run, Gen, Work, Block, Pool}
+use Rattle.run_words.specs.declared.request.Request.TheVariants.{Run, Gen, Work, Block, Pool, Replay}
 use Rattle.run_words.specs.declared.request.Limit.{Limit}
 use Rattle.run_words.specs.declared.request.Limit.TheVariants as limits
 use Rattle.run_words.specs.declared.request.Refusal.{Refusal}
@@ -28,6 +28,8 @@ pub data Asks : Type 0 where
   block : List (List ℕ) → Asks
   -- to do the commands of the one file of these names on so many seats
   pool : ℕ → List (List ℕ) → Asks
+  -- to replay the schedule of steps of the one file of these names
+  replay : List (List ℕ) → Asks
 
 -- the number of a word, where it is 1 to 20 decimal digits
 abbrev pub number_of : List ℕ → Option ℕ
@@ -147,6 +149,13 @@ pool_asked (first ∷ second ∷ []) = do
   Ok (pool seats names)
 pool_asked words = Err Form
 
+-- what the words behind `replay` ask for
+abbrev pub replay_asked : List (List ℕ) → Result Asks Refusal
+replay_asked (first ∷ []) = do
+  names ← one_file first
+  Ok (replay names)
+replay_asked words = Err Form
+
 -- What the words ask for, or the first reason why they ask for nothing.
 abbrev pub asked : List (List ℕ) → Result Asks Refusal
 asked [] = Err Form
@@ -156,7 +165,8 @@ asked (first ∷ words) =
     else (if bytes_eq first (codes "work") then work_asked words
     else (if bytes_eq first (codes "block") then block_asked words
     else (if bytes_eq first (codes "pool") then pool_asked words
-    else Err Form))))
+    else (if bytes_eq first (codes "replay") then replay_asked words
+    else Err Form)))))
 
 -- what a request asks for
 abbrev pub asks_of : Request → Asks
@@ -165,6 +175,7 @@ asks_of (Gen number seat) = gen number seat
 asks_of (Work number) = work number
 asks_of (Block files) = block (map string_bytes files.now)
 asks_of (Pool seats files) = pool seats (map string_bytes files.now)
+asks_of (Replay files) = replay (map string_bytes files.now)
 
 -- The numbers of a run are in their ranges.
 pub record FitOptions (o : Options) : Type 0 where
@@ -179,3 +190,4 @@ IsFit (Gen number seat) = seat < 4
 IsFit (Work number) = ⊤
 IsFit (Block files) = (1 ≤ length files.now) × (length files.now ≤ 64)
 IsFit (Pool seats files) = (1 ≤ seats) × (seats ≤ 8) × (length files.now ≡ 1)
+IsFit (Replay files) = length files.now ≡ 1

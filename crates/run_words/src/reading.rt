@@ -1,7 +1,7 @@
 // Reading the words.
 ghost use Rattle.std.specs.Prelude.{◌≡◌, map, string_bytes, Ok, Err, IfOk, MatchResult};
 ghost use Rattle.std.specs.List.{list_all};
-ghost use Rattle.run_words.specs.Words.{asked, asks_of, are_files, IsFit, is_file, block_asked, gen_asked, pool_asked, run_asked, work_asked};
+ghost use Rattle.run_words.specs.Words.{asked, asks_of, are_files, IsFit, is_file, block_asked, gen_asked, pool_asked, replay_asked, run_asked, work_asked};
 
 use crate::numbers::{read_number, within};
 use crate::options::read_options;
@@ -29,6 +29,7 @@ pub fn read_words(words: &[String]) -> Result<Request<'_>, Refusal>
         "work" => read_work(rest),
         "block" => read_block(rest),
         "pool" => read_pool(rest),
+        "replay" => read_replay(rest),
         _ => Err(Refusal::Form),
     }
 }
@@ -108,6 +109,21 @@ fn read_pool(words: &[String]) -> Result<Request<'_>, Refusal>
         }),
         Err(refusal) => Err(refusal),
     }
+}
+
+// What the words behind `replay` ask for.
+fn read_replay(words: &[String]) -> Result<Request<'_>, Refusal>
+    ensures asked { MatchResult result (λ request. replay_asked (map string_bytes words.now) ≡ Ok (asks_of request))
+        (λ refusal. replay_asked (map string_bytes words.now) ≡ Err refusal) }
+    ensures fit { IfOk result IsFit }
+{
+    let [file] = words else {
+        return Err(Refusal::Form);
+    };
+    if !is_file(file.as_str()) {
+        return Err(Refusal::Form);
+    }
+    Ok(Request::Replay { files: words })
 }
 
 // Whether there is a word, and each may be a FILE.

@@ -1,6 +1,5 @@
-use Rattle.std.proofs.Common.{◌∙◌, ap, map, subst, sym, refl}
+use Rattle.std.proofs.Common.{◌∙◌, ap, map}
 use Rattle.mv_layout.specs.declared.config.Config.{Config}
-use Rattle.set_script.specs.CatalogueOf.{catalogue_of}
 use Rattle.set_blocks.proofs.Remaining.{lawful_after}
 use Rattle.block_workers.specs.Workers.{blocks_of}
 use Rattle.block_domain.proofs.OneRun.{run_permuted}

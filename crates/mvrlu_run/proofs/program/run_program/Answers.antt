@@ -2,6 +2,7 @@ use Rattle.mvrlu_run.specs.declared.finish.Ran.{Ran}
 use Rattle.mvrlu_run.proofs.BlockComplete.{is_blocks_complete, is_blocks_printed}
 use Rattle.mvrlu_run.proofs.Complete.{is_complete, is_printed, reads_sets}
 use Rattle.mvrlu_run.proofs.PoolComplete.{is_pool_complete, is_pool_printed}
+use Rattle.mvrlu_run.proofs.ReplayComplete.{is_replay_complete, is_replay_printed}
 use Rattle.mvrlu_run.proofs.program.run_program.Goals as goal
 
 pub returns-clause-blocked : goal.returns-clause-blocked
@@ -25,6 +26,17 @@ returns-clause-pooled g c =
 pub returns-clause-pool_complete : goal.returns-clause-pool_complete
 returns-clause-pool_complete g c =
     is_pool_complete _ _ _ c.carry_out-finish.result c.status-status.result c.status-status.ensures c.carry_out-finish.ensures.cause
+
+pub returns-clause-replayed : goal.returns-clause-replayed
+returns-clause-replayed g c =
+    let cause = c.carry_out-finish.ensures.cause in
+    let closed = c.into_closed.ensures in
+    let ran : Ran = record { status = c.status-status.result; closed = c.into_closed.result } in
+    λ names a nought. is_replay_printed _ _ _ c.carry_out-finish.result ran names c.status-status.ensures closed cause a nought
+
+pub returns-clause-replay_complete : goal.returns-clause-replay_complete
+returns-clause-replay_complete g c =
+    is_replay_complete _ _ _ c.carry_out-finish.result c.status-status.result c.status-status.ensures c.carry_out-finish.ensures.cause
 
 pub returns-clause-printed : goal.returns-clause-printed
 returns-clause-printed g c =

@@ -1,6 +1,5 @@
-use Rattle.std.proofs.Common.{◌∙◌, ap, map, subst, sym, refl}
+use Rattle.std.proofs.Common.{◌∙◌, ap, map}
 use Rattle.mv_layout.specs.declared.config.Config.{Config}
-use Rattle.set_script.specs.CatalogueOf.{catalogue_of}
 use Rattle.set_script.proofs.Times.{lawful_after}
 use Rattle.script_workers.specs.Workers.{items_of}
 use Rattle.mvrlu_run.proofs.Still.{still_run}

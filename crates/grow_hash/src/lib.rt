@@ -50,6 +50,8 @@
 
 mod attempt;
 mod attempting;
+#[cfg(test)]
+mod counted;
 mod deciding;
 mod laws;
 mod reading;

@@ -2,6 +2,8 @@
 ghost use Rattle.std.specs.Prelude.{◌≡◌, ◌<◌, ◌≤◌};
 ghost use Rattle.grow_hash.specs.GrowPlans.{IsOfGrown};
 
+use crate::counted::Counted;
+use crate::deciding::find_change;
 use crate::{GrowRules, GrowStep, attempt_grow, read_grown};
 use mv_history::{PlainStore, Section, Store, WORDS};
 use set_script::{Catalogue, Command, Name, Place, Reply};
@@ -80,6 +82,17 @@ fn read_end<S: Store<Rules = GrowRules>>(
     let mut section = store.enter();
     let all = read_grown(alloc, &mut section);
     (section.leave(), all)
+}
+
+// How many reads it takes to find what a command comes to.
+fn count_reads<S: Store<Rules = GrowRules>>(store: S, ask: Ask) -> (S, u32) {
+    let mut view = Counted {
+        view: store.enter(),
+        reads: 0,
+    };
+    let _found = find_change(&mut view, &command(ask));
+    let Counted { view, reads } = view;
+    (view.leave(), reads)
 }
 
 #[test]
@@ -179,5 +192,38 @@ fn full_at_the_last_time(rt: HostRuntime) -> Result<(), Fail> {
             (Ask::Add(2), Reply::Full, Place::Read(1)),
         ],
     );
+    Ok(())
+}
+
+#[test]
+fn one_walk_of_one_bucket(rt: HostRuntime) -> Result<(), Fail> {
+    let store = open(rt.alloc(), 4096, 8)?;
+    let mut store = attempt_all(
+        &rt,
+        store,
+        &[
+            (Ask::Add(1), Reply::Yes, Place::Commit(1)),
+            (Ask::Add(17), Reply::Yes, Place::Commit(2)),
+            (Ask::Add(33), Reply::Yes, Place::Commit(3)),
+            (Ask::Add(49), Reply::Yes, Place::Commit(4)),
+            (Ask::Add(2), Reply::Yes, Place::Commit(5)),
+        ],
+    );
+    for (ask, most) in [
+        // The table, the head and the nodes up to the key.
+        (Ask::Has(33), 5),
+        (Ask::Has(34), 3),
+        (Ask::Del(17), 4),
+        // A vacant node too.
+        (Ask::Add(65), 7),
+        (Ask::Add(18), 4),
+        // The table, 16 heads and 5 nodes.
+        (Ask::Size, 22),
+        (Ask::Next(34), 22),
+    ] {
+        let (next, reads) = count_reads(store, ask);
+        assert_eq!(rt; reads, most);
+        store = next;
+    }
     Ok(())
 }

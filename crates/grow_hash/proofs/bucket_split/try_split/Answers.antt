@@ -64,7 +64,7 @@ commit_split-requires g c =
     record {
       planned = subst (λ (s : State). IsPlannedSplit s c.in-Ok.parted.place (take c.in-Ok.parted.count c.in-Ok.parted.writes))
           (here ∙ sym (state_of-as_before _ _ law.at same)) c.in-Ok.ensures.planned;
-      space = space_found _ _ _ e same (omega (arith, c.requires.most, p.continues.write_max)) (c.in-Enough.ensures.enough refl);
+      space = space_found c.in-Ok.parted.count _ _ _ e same (omega (arith, c.requires.most, p.continues.write_max, c.in-Ok.parted.few)) (c.in-Enough.ensures.enough refl);
     }
 
 pub returns-in-Enough : goal.returns-in-Enough

@@ -90,7 +90,8 @@ mod_twice k n some = go (cases_lt (k % (n + n)) n)
         inr (omega arith)
 
 -- a key's remainder at the next level
-pub mod_next : (level key : ℕ) → (key % buckets_at (suc level) ≡ key % buckets_at level) ⊎ (key % buckets_at (suc level) ≡ key % buckets_at level + buckets_at level)
+pub mod_next : (level key : ℕ) → (key % buckets_at (suc level) ≡ key % buckets_at level) ⊎ (key % buckets_at
+    (suc level) ≡ key % buckets_at level + buckets_at level)
 mod_next level key =
     let some = some_buckets level in
     let e : key % buckets_at (suc level) ≡ key % (buckets_at level + buckets_at level) = ap (λ n. key % n) (twice_buckets level) in

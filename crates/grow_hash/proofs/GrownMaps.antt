@@ -39,7 +39,8 @@ pub grown_map-low : (s : State) (o : ℕ) (w : List ℕ) → o < 1025 → grown_
 grown_map-low s o w lt = ap (map_among is_used) (drop-set-lt 1025 s o w lt)
 
 -- a node that changes neither whether it is used nor its key and value
-pub grown_map-same : (s : State) (o : ℕ) (w : List ℕ) → 1025 ≤ o → is_used w ≡ is_used (words_at s o) → word 2 w ≡ key s o → word 5 w ≡ value s o
+pub grown_map-same : (s : State) (o : ℕ) (w : List ℕ) → 1025 ≤ o → is_used w ≡ is_used (words_at s o) → word 2 w ≡ key s o
+    → word 5 w ≡ value s o
     → grown_map (set s o w) ≡ grown_map s
 grown_map-same s o w lo a b c =
     let e = at-drop_grown s o lo in
@@ -74,7 +75,8 @@ keeps-grown_map s k o h =
     (ap is_used f ∙ used_owned (words_at s o) h.owned) (ap (word 2) f ∙ h.key_is)
 
 -- one node more, with a key that was not there
-pub grown_map-more : (s : State) (o : ℕ) (w : List ℕ) → 1025 ≤ o → o < length s → owner s o ≡ 0 → word 0 w ≢ 0 → has_key (word 2 w) (grown_map s) ≡ false
+pub grown_map-more : (s : State) (o : ℕ) (w : List ℕ) → 1025 ≤ o → o < length s → owner s o ≡ 0 → word 0 w ≢ 0
+    → has_key (word 2 w) (grown_map s) ≡ false
     → grown_map (set s o w) ≡ put (word 2 w) (word 5 w) (grown_map s)
 grown_map-more s o w lo lt a b h =
     ap (map_among is_used) (drop-set_grown s o w lo)

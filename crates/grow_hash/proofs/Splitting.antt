@@ -24,7 +24,8 @@ pub next_place : (level place : ℕ) → suc place ≢ buckets_at level → next
 next_place level place n = ap (λ (b : Bool). cond b (table_words (suc level) 0) (table_words level (suc place))) (ne_eqb (suc place) (buckets_at level) n)
 
 -- A split leaves the keys of other buckets where they are.
-pub bucket_apart : (s s' : State) (k : ℕ) → words_at s' 0 ≡ next_table (level s) (split_place s) → bucket s k ≢ split_place s → bucket s' k ≡ bucket s k
+pub bucket_apart : (s s' : State) (k : ℕ) → words_at s' 0 ≡ next_table (level s) (split_place s) → bucket s k ≢ split_place s
+    → bucket s' k ≡ bucket s k
 bucket_apart s s' k e n = elim (cases_eq (suc (split_place s)) (buckets_at (level s))) [
   | inl q ↦ ap (λ w. bucket_of (word 2 w) (word 3 w) k) (e ∙ next_level (level s) (split_place s) q)
       ∙ bucket_level (level s) k ∙ ap (λ p. bucket_of (level s) p k) (sym q) ∙ bucket_next (level s) (split_place s) k n
@@ -49,7 +50,8 @@ table_splits s s' e below t = elim (cases_eq (suc (split_place s)) (buckets_at (
       (let x = t.place_in in omega arith) (λ z. absurd (omega arith))
 ]
   where
-    by_words : (level place : ℕ) → words_at s' 0 ≡ table_words level place → level ≤ 6 → place < buckets_at level → (level ≡ 6 → place ≡ 0) → IsTable s'
+    by_words : (level place : ℕ) → words_at s' 0 ≡ table_words level place → level ≤ 6 → place < buckets_at level → (level ≡ 6
+        → place ≡ 0) → IsTable s'
     by_words level place w a b c = record {
       words = w ∙ sym (ap (λ u. table_words (word 2 u) (word 3 u)) w);
       level_in = subst (λ u. word 2 u ≤ 6) (sym w) a;
@@ -90,7 +92,8 @@ lawful_on start front (Change c ∷ es) l h =
     rw append_assoc at more
 
 -- After an allowed history a state is lawful.
-pub grown_after : (start : State) (history : List Entry) → IsGrownOpening start → IsAllowed IsGrowCommit start history → IsGrown (state_after start history)
+pub grown_after : (start : State) (history : List Entry) → IsGrownOpening start → IsAllowed IsGrowCommit start history
+    → IsGrown (state_after start history)
 grown_after start history o h = lawful_on start [] history (grown_opening start o) h
 
 count_on : (start : State) (front es : List Entry) → IsAllowed IsGrowCommit start (front ++ es)

@@ -21,4 +21,5 @@ IsMoved words bucket next moved =
 -- wherever this is the table, and these nodes were read of the bucket at the split place, these are the writes of its split
 abbrev pub ArePartedWrites : ℕ → ℕ → Writes → Writes → Type 0
 ArePartedWrites at place nodes writes =
-    (s : State) → IsGrown s → level s ≡ at → split_place s ≡ place → IsRead s (head_at place) nodes 0 → writes ≡ split_writes s (objects_of nodes)
+    (s : State) → IsGrown s → level s ≡ at → split_place s ≡ place → IsRead s (head_at place) nodes 0
+        → writes ≡ split_writes s (objects_of nodes)

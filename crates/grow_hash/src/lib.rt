@@ -73,6 +73,8 @@ mod laws;
 mod reading;
 mod rules;
 mod search;
+#[cfg(test)]
+mod split_tests;
 mod table;
 #[cfg(test)]
 mod tests;

@@ -35,9 +35,10 @@ module _ (s t : State) (table : words_at t 0 ≡ words_at s 0) where
       let rest : (m : ℕ) → IsIn m ns → words_at t m ≡ words_at s m = λ m i. f m (inr i) in
       ap (λ c. (n, list_words (head_at c) (key t n) (value t n) (first_to t c ns)) ∷ parted_nodes t ns) (same_bucket n here)
       ∙ ap (λ w. (n, list_words (head_at (split_bucket s n)) (word 2 w) (word 5 w) (first_to t (split_bucket s n) ns))
-          ∷ parted_nodes t ns) here
+      ∷ parted_nodes t ns) here
       ∙ ap (λ u. (n, list_words (head_at (split_bucket s n)) (key s n) (value s n) u) ∷ parted_nodes t ns) (same_first (split_bucket s n) ns rest)
-      ∙ ap (λ (ws : Writes). (n, list_words (head_at (split_bucket s n)) (key s n) (value s n) (first_to s (split_bucket s n) ns)) ∷ ws) (same_parted ns rest)
+      ∙ ap (λ (ws : Writes). (n, list_words (head_at (split_bucket s n)) (key s n) (value s n) (first_to s (split_bucket s n) ns))
+          ∷ ws) (same_parted ns rest)
 
   same_place : split_place t ≡ split_place s
   same_place = ap (word 3) table

@@ -1,5 +1,6 @@
 -- What a call that tries to split leaves, from what its calls do.
-use Rattle.std.proofs.Common.{◌≡◌, ◌≢◌, ℕ, ◌+◌, ◌-◌, ◌<◌, ◌≤◌, ◌==◌, inl, true, List, [], ◌∷◌, ◌++◌, length, suc, refl, sym, ap, ◌∙◌, subst, arith}
+use Rattle.std.proofs.Common.{◌≡◌, ◌≢◌, ℕ, ◌+◌, ◌-◌, ◌<◌, ◌≤◌, ◌==◌, inl, true, List, [], ◌∷◌, ◌++◌, length, suc}
+use Rattle.std.proofs.Common.{refl, sym, ap, ◌∙◌, subst, arith}
 use Rattle.mv_history.specs.State.{State, Writes, written, state_at}
 use Rattle.mv_history.specs.declared.answers.Holder.{Holder}
 use Rattle.mv_history.specs.declared.answers.Rival.{Rival as RivalEntry}
@@ -54,8 +55,8 @@ length_objects : (ws : Writes) → length (objects_of ws) ≡ length ws
 length_objects [] = refl
 length_objects (w ∷ ws) = ap suc (length_objects ws)
 
-pub room_for : (s : InSection) (ws : Writes) → HasSplitSpace s → length ws ≤ 64 → HasRoom s (objects_of ws)
-room_for s ws h le =
+pub room_for : (n : ℕ) (s : InSection) (ws : Writes) → HasSplitSpace n s → length ws ≤ n → HasRoom s (objects_of ws)
+room_for n s ws h le =
     let new : count_unheld s.own (objects_of ws) ≡ length ws =
     ap (λ (own : Writes). count_unheld own (objects_of ws)) h.own ∙ count_new (objects_of ws) ∙ length_objects ws in
     let none : length s.own ≡ 0 = ap length h.own in
@@ -125,7 +126,8 @@ done_by found locked new tag time none at lo law can ready tagged made =
     }
 
 -- A section that was left after a look.
-pub looked : (k : Causes) (old before : Seat) (entered found : InSection) (new : Seat) → Continues old before → before.mine ≡ old.mine → Enters before entered
+pub looked : (k : Causes) (old before : Seat) (entered found : InSection) (new : Seat) → Continues old before → before.mine ≡ old.mine
+    → Enters before entered
     → k.took before entered → entered.at ≤ length entered.seat.seen → GoesOn entered found → Leaves found new → LooksInto k old entered new
 looked k old before entered found new came mine e took le goes left = record {
   mine = left.mine ∙ goes.mine ∙ e.seat.mine ∙ mine;
@@ -136,7 +138,8 @@ looked k old before entered found new came mine e took le goes left = record {
 }
 
 -- What a look answers by which no split can be made,
-pub closed_found : (k : Causes) (old : Seat) (entered : InSection) (new : Seat) (s : State) (split : Split) → LooksInto k old entered new → s ≡ snapshot_of entered
+pub closed_found : (k : Causes) (old : Seat) (entered : InSection) (new : Seat) (s : State) (split : Split) → LooksInto k old entered new
+    → s ≡ snapshot_of entered
     → IsClosed s split → SplitFound k old new split
 closed_found k old entered new s (Done time) looks e h = absurd h
 closed_found k old entered new s Whole looks e h = subst (λ (u : State). IsClosed u Whole → FoundWhole k old new) (sym e) (λ c. (entered, looks, c)) h
@@ -146,7 +149,8 @@ closed_found k old entered new s Worn looks e h = absurd h
 closed_found k old entered new s (Again cause) looks e h = absurd h
 
 -- and by which it is the last time.
-pub worn_found : (k : Causes) (old : Seat) (entered : InSection) (new : Seat) (s : State) → LooksInto k old entered new → s ≡ snapshot_of entered → IsSplittable s
+pub worn_found : (k : Causes) (old : Seat) (entered : InSection) (new : Seat) (s : State) → LooksInto k old entered new → s ≡ snapshot_of entered
+    → IsSplittable s
     → entered.seat.base + entered.at ≡ entered.seat.last → FoundWorn k old new
 worn_found k old entered new s looks e can last = (entered, looks, subst IsSplittable e can, last)
 
@@ -169,7 +173,8 @@ looks_after k a b entered new came mine r = record {
 }
 
 -- also of a seat that had made no commit before it.
-pub found_after : (k : Causes) (a b new : Seat) (split : Split) → Continues a b → b.mine ≡ a.mine → SplitFound k b new split → SplitFound k a new split
+pub found_after : (k : Causes) (a b new : Seat) (split : Split) → Continues a b → b.mine ≡ a.mine → SplitFound k b new split
+    → SplitFound k a new split
 found_after k a b new (Done time) came mine h = h
 found_after k a b new Whole came mine h = (h.0, looks_after k a b h.0 new came mine h.1, h.2)
 found_after k a b new (Long keys) came mine h = (h.0, looks_after k a b h.0 new came mine h.1, h.2, h.3, h.4)
@@ -270,9 +275,11 @@ pub record IsOpened (k : Causes) (old prepared : Seat) (entered found : InSectio
   pub early : entered.seat.base + entered.at < entered.seat.last
   pub splittable : IsSplittable (snapshot_of entered)
 
-pub opened_by : (k : Causes) (old prepared : Seat) (entered found : InSection) (s : State) (time last : ℕ) → Prepares old prepared → Enters prepared entered
+pub opened_by : (k : Causes) (old prepared : Seat) (entered found : InSection) (s : State) (time last : ℕ) → Prepares old prepared
+    → Enters prepared entered
     → k.took prepared entered → entered.at ≤ length entered.seat.seen → GoesOn entered found
-    → entered.seat.base + length entered.seat.seen ≤ entered.seat.last → time ≡ entered.seat.base + entered.at → last ≡ entered.seat.last → time ≢ last
+    → entered.seat.base + length entered.seat.seen ≤ entered.seat.last → time ≡ entered.seat.base + entered.at → last ≡ entered.seat.last
+    → time ≢ last
     → s ≡ snapshot_of entered → IsSplittable s → IsOpened k old prepared entered found
 opened_by k old prepared entered found s time last p e took le goes most et el apart here can = record {
   prepares = p;
@@ -354,9 +361,9 @@ short_by k old prepared entered found new holder o may held gone = record {
 }
 
 -- nothing is held, and there is room, where enough was made
-pub space_found : (prepared : Seat) (entered found : InSection) → Enters prepared entered → IsAsBefore entered found → 64 ≤ prepared.write_max
-    → prepared.write_max ≤ prepared.spare → HasSplitSpace found
-space_found prepared entered found e same held enough = record {
+pub space_found : (n : ℕ) (prepared : Seat) (entered found : InSection) → Enters prepared entered → IsAsBefore entered found → n ≤ prepared.write_max
+    → prepared.write_max ≤ prepared.spare → HasSplitSpace n found
+space_found n prepared entered found e same held enough = record {
   own = same.own ∙ e.own;
   spare = omega (arith, same.seat.spare, e.seat.spare);
   held = omega (arith, same.seat.continues.write_max, e.seat.continues.write_max);

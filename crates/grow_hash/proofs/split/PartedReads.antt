@@ -1,5 +1,6 @@
 -- The steps of parting what was read of a bucket.
-use Rattle.std.proofs.Common.{◌≡◌, ◌≢◌, ℕ, zero, suc, ◌+◌, ◌*◌, ◌%◌, ◌<◌, ◌≤◌, ◌==◌, ◌⊎◌, inl, inr, Bool, cond, true, false, List, [], ◌∷◌}
+use Rattle.std.proofs.Common.{◌≡◌, ◌≢◌, ℕ, zero, suc, ◌+◌, ◌*◌, ◌%◌, ◌<◌, ◌≤◌, ◌==◌, ◌⊎◌, inl, inr, Bool, cond}
+use Rattle.std.proofs.Common.{true, false, List, [], ◌∷◌}
 use Rattle.std.proofs.Common.{length, get_or, take, drop, set, refl, sym, ap, ◌∙◌, subst, arith, eq-eqb, ne_eqb, length-take, length-set}
 use Rattle.std.proofs.Math.Seq.{take-set-lt, drop-cons}
 use Rattle.std.proofs.Math.ListN.{drop_of_length-le}
@@ -113,10 +114,12 @@ module _ (s : State) (at place : ℕ) (nodes : Writes) (keys i : ℕ) (d : ℕ �
     firsts = elim goes [
       | inl e ↦ (let b : (to == place) ≡ true = eq-eqb to place (to_bucket ∙ e) in
           let m : (split_bucket s here.0 == place) ≡ true = eq-eqb (split_bucket s here.0) place e in
-          let n : (split_bucket s here.0 == place + buckets_at at) ≡ false = ne_eqb (split_bucket s here.0) (place + buckets_at at) (λ q. apart (sym e ∙ q)) in (
+          let n : (split_bucket s here.0 == place + buckets_at at) ≡ false = ne_eqb (split_bucket s here.0) (place + buckets_at at) (λ q. apart (sym e
+              ∙ q)) in (
             next_is ∙ ap (λ (t : Bool). cond t stay go) b ∙ h.stay_is ∙ ap (λ u. first_to s u rest) (sym e),
             stay_is ∙ ap (λ (t : Bool). cond t here.0 stay) b ∙ sym (ap (λ (t : Bool). cond t here.0 (first_to s place rest)) m),
-            go_is ∙ ap (λ (t : Bool). cond t go here.0) b ∙ h.go_is ∙ sym (ap (λ (t : Bool). cond t here.0 (first_to s (place + buckets_at at) rest)) n),
+            go_is ∙ ap (λ (t : Bool). cond t go here.0) b ∙ h.go_is ∙ sym (ap (λ (t : Bool). cond t here.0 (first_to s
+                (place + buckets_at at) rest)) n),
           ))
       | inr e ↦ (let b : (to == place) ≡ false = ne_eqb to place (λ q. apart (sym q ∙ to_bucket ∙ e)) in
           let m : (split_bucket s here.0 == place) ≡ false = ne_eqb (split_bucket s here.0) place (λ q. apart (sym q ∙ e)) in
@@ -164,18 +167,22 @@ split_at s ns at place =
     ∷ (head_at (place + buckets_at at), head_words (first_to s (place + buckets_at at) ns)) ∷ parted_nodes s ns
 
 -- The table and both heads come first.
-pub parted_whole : (s : State) (at place : ℕ) (reads writes : Writes) (keys stay go old new : ℕ) (table : List ℕ) → Reads s at place reads → length writes ≡ 64
-    → PartedFrom s at place reads writes keys 0 stay go → table ≡ next_table at place → old ≡ head_at place → new ≡ head_at (place + buckets_at at)
+pub parted_whole : (s : State) (at place : ℕ) (reads writes : Writes) (keys stay go old new : ℕ) (table : List ℕ) → Reads s at place reads
+    → length writes ≡ 64
+    → PartedFrom s at place reads writes keys 0 stay go → table ≡ next_table at place → old ≡ head_at place
+    → new ≡ head_at (place + buckets_at at)
     → take (3 + keys) (set (set (set writes 0 (0, table)) 1 (old, head_words stay)) 2 (new, head_words go)) ≡ split_writes s (objects_of reads)
 parted_whole s at place reads writes keys stay go old new table r whole h e f g =
     let ns : List ℕ = objects_of reads in
     let three : 3 + keys ≡ suc (suc (suc keys)) = omega arith in
     ap (λ n. take n (set (set (set writes 0 (0, table)) 1 (old, head_words stay)) 2 (new, head_words go))) three
     ∙ take_three writes keys (0, table) (old, head_words stay) (new, head_words go) (omega arith)
-    ∙ ap (λ (u : Writes). (0, table) ∷ (old, head_words stay) ∷ (new, head_words go) ∷ u) (ap (λ n. drop 3 (take n writes)) (sym three) ∙ h.writes_are)
+    ∙ ap (λ (u : Writes). (0, table) ∷ (old, head_words stay) ∷ (new, head_words go) ∷ u) (ap (λ n. drop 3 (take n writes)) (sym three)
+    ∙ h.writes_are)
     ∙ ap (λ (w : List ℕ). (0, w) ∷ (old, head_words stay) ∷ (new, head_words go) ∷ parted_nodes s ns) e
     ∙ ap (λ u. (0, next_table at place) ∷ (u, head_words stay) ∷ (new, head_words go) ∷ parted_nodes s ns) f
     ∙ ap (λ u. (0, next_table at place) ∷ (head_at place, head_words u) ∷ (new, head_words go) ∷ parted_nodes s ns) h.stay_is
     ∙ ap (λ u. (0, next_table at place) ∷ (head_at place, head_words (first_to s place ns)) ∷ (u, head_words go) ∷ parted_nodes s ns) g
-    ∙ ap (λ u. (0, next_table at place) ∷ (head_at place, head_words (first_to s place ns)) ∷ (head_at (place + buckets_at at), head_words u) ∷ parted_nodes s ns) h.go_is
+    ∙ ap (λ u. (0, next_table at place) ∷ (head_at place, head_words (first_to s place ns)) ∷ (head_at (place + buckets_at at), head_words u)
+        ∷ parted_nodes s ns) h.go_is
     ∙ ap (λ l. split_at s ns l place) (sym r.level_is) ∙ ap (λ p. split_at s ns (level s) p) (sym r.place_is)

@@ -40,7 +40,8 @@ parted_in s t head (n ∷ ns) r f =
     )
 
 -- The set keeps its keys.
-pub parted_map : (s t : State) (head : ℕ) (ns : List ℕ) → AreRising s head ns → ((n : ℕ) → IsIn n ns → (1025 ≤ n) × (words_at t n ≡ words_at s n))
+pub parted_map : (s t : State) (head : ℕ) (ns : List ℕ) → AreRising s head ns → ((n : ℕ) → IsIn n ns
+    → (1025 ≤ n) × (words_at t n ≡ words_at s n))
     → grown_map (written t (parted_nodes s ns)) ≡ grown_map t
 parted_map s t head [] r f = refl
 parted_map s t head (n ∷ ns) r f =

@@ -58,6 +58,7 @@ module _ (s : State) (head : ℕ) (l : IsLinked s head) where
   head_path_has ns p m j = path_has head ns (inl refl) p m j (λ i. absurd (head_no_node s head l.unowned head refl i))
 
 -- a path stays where the words of its objects do
-pub path_kept : (s s' : State) (o : ℕ) (ns : List ℕ) → link s' o ≡ link s o → ((m : ℕ) → IsIn m ns → link s' m ≡ link s m) → IsPath s o ns → IsPath s' o ns
+pub path_kept : (s s' : State) (o : ℕ) (ns : List ℕ) → link s' o ≡ link s o → ((m : ℕ) → IsIn m ns → link s' m ≡ link s m) → IsPath s o ns
+    → IsPath s' o ns
 path_kept s s' o [] e f p = e ∙ p
 path_kept s s' o (n ∷ ns) e f p = (e ∙ p.0, p.1, path_kept s s' n ns (f n (inl refl)) (λ m i. f m (inr i)) p.2)

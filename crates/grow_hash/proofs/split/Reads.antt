@@ -40,7 +40,8 @@ module _ (s t : State) (at place head : ℕ) (l : IsGrown s) (level_is : at ≡ 
   keys_are keys e k = k ∙ ap (λ (u : State). length (map_at u head)) same ∙ ap (λ h. length (map_at s h)) (head_is e)
 
   -- and where it is short enough, its split is planned;
-  pub planned_by : (keys : ℕ) (reads writes : Writes) → at ≢ 6 → head ≡ place + 1 → keys ≡ length (map_at t head) → keys ≤ 61 → IsRead t head reads 0
+  pub planned_by : (keys : ℕ) (reads writes : Writes) → at ≢ 6 → head ≡ place + 1 → keys ≡ length (map_at t head) → keys ≤ 61
+      → IsRead t head reads 0
       → ArePartedWrites at place reads writes → IsPlannedSplit s place writes
   planned_by keys reads writes ne e k few read parted =
       let many = keys_are keys e k in
@@ -56,5 +57,6 @@ module _ (s t : State) (at place head : ℕ) (l : IsGrown s) (level_is : at ≡ 
       }
 
   -- else it has this many keys.
-  pub long_by : (keys : ℕ) → at ≢ 6 → head ≡ place + 1 → keys ≡ length (map_at t head) → 61 < keys → (level s < 6) × (keys ≡ keys_at_place s) × (61 < keys)
+  pub long_by : (keys : ℕ) → at ≢ 6 → head ≡ place + 1 → keys ≡ length (map_at t head) → 61 < keys
+      → (level s < 6) × (keys ≡ keys_at_place s) × (61 < keys)
   long_by keys ne e k more = (let low = below_most ne in omega arith, keys_are keys e k, more)

@@ -1,5 +1,6 @@
 -- What a store of a growing hash set was at each time, and what the commit of a split did there.
-use Rattle.std.proofs.Common.{◌≡◌, ℕ, suc, ◌+◌, ◌-◌, ◌<◌, zero, List, [], ◌∷◌, ◌++◌, take, drop, length, Some, refl, sym, ap, ◌∙◌, subst, arith}
+use Rattle.std.proofs.Common.{◌≡◌, ℕ, suc, ◌+◌, ◌-◌, ◌<◌, zero, List, [], ◌∷◌, ◌++◌, take, drop, length, Some, refl, sym, ap}
+use Rattle.std.proofs.Common.{◌∙◌, subst, arith}
 use Rattle.std.specs.Prelude.{slice_get}
 use Rattle.std.proofs.lemmas.List.{take-append-drop}
 use Rattle.mv_history.specs.declared.history.Commit.{Commit}
@@ -25,7 +26,8 @@ seen_allowed s h t =
     (subst (λ e. IsAllowed IsGrowCommit s.start e) (sym (take-append-drop t s.seen)) h.allowed)
 
 -- The state of each time that a seat has seen has 16 buckets and one for each split.
-buckets_at_time : (s : Seat) → IsSeat IsGrownOpening IsGrowCommit s → (t : ℕ) → buckets (state_at s.start s.seen t) ≡ 16 + count_splits (take t s.seen)
+buckets_at_time : (s : Seat) → IsSeat IsGrownOpening IsGrowCommit s → (t : ℕ)
+    → buckets (state_at s.start s.seen t) ≡ 16 + count_splits (take t s.seen)
 buckets_at_time s h t = buckets_after s.start (take t s.seen) h.start (seen_allowed s h t)
 
 take_next : {X : Type 0} (xs : List X) (i : ℕ) (x : X) → slice_get xs i ≡ Some x → take (suc i) xs ≡ take i xs ++ x ∷ []

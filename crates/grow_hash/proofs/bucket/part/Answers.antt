@@ -1,4 +1,5 @@
-use Rattle.std.proofs.Common.{◌+◌, ◌*◌, ◌%◌, ◌≡◌, ◌≤◌, ◌<◌, ◌-◌, ℕ, suc, [], length, take, slice_index_or, refl, sym, ap, ◌∙◌, subst, arith, length-set}
+use Rattle.std.proofs.Common.{◌+◌, ◌*◌, ◌%◌, ◌≡◌, ◌≤◌, ◌<◌, ◌-◌, ℕ, suc, [], length, take, slice_index_or, refl, sym, ap}
+use Rattle.std.proofs.Common.{◌∙◌, subst, arith, length-set}
 use Rattle.std.proofs.Math.Nat.{mod-lt}
 use Rattle.mv_history.specs.State.{State, Writes}
 use Rattle.grow_hash.specs.Tables.{buckets_at}

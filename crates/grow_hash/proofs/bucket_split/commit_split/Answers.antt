@@ -22,7 +22,7 @@ rewrite-requires-clause-within g c =
 
 pub rewrite-requires-clause-room : goal.rewrite-requires-clause-room
 rewrite-requires-clause-room g c =
-    let p = c.args.parted.now in room_for _ (take p.count p.writes) c.requires.space (omega (arith, length-take p.count p.writes, p.few))
+    let p = c.args.parted.now in room_for p.count _ (take p.count p.writes) c.requires.space (omega (arith, length-take p.count p.writes))
 
 pub returns-in-Err : goal.returns-in-Err
 returns-in-Err g c =

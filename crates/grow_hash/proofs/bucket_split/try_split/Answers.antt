@@ -49,7 +49,8 @@ returns-then-time-last g c =
     let left = subst (λ (s : Seat). Leaves (g.S.Open.Section.section c.plan_split.new.view) s) (g.met.S.Store.same_seat _) c.leave-then-time-last.ensures in
     record {
       tried = worn_found _ _ _ _ _ (looked _ _ _ _ _ _ p.continues p.mine e c.enter-section.ensures.took law.at goes left) here
-          c.in-Ok.ensures.planned.splittable (last_by (g.S.Open.Section.section c.enter-section.result) _ _ c.at-time.ensures c.last-last.ensures c.if-time-last.true);
+          c.in-Ok.ensures.planned.splittable
+          (last_by (g.S.Open.Section.section c.enter-section.result) _ _ c.at-time.ensures c.last-last.ensures c.if-time-last.true);
       continues = Continues-Continues looks.continues left.continues;
       at_most_one = left_one looks.continues looks.quiet left;
     }
@@ -64,7 +65,8 @@ commit_split-requires g c =
     record {
       planned = subst (λ (s : State). IsPlannedSplit s c.in-Ok.parted.place (take c.in-Ok.parted.count c.in-Ok.parted.writes))
           (here ∙ sym (state_of-as_before _ _ law.at same)) c.in-Ok.ensures.planned;
-      space = space_found _ _ _ e same (omega (arith, c.requires.most, p.continues.write_max)) (c.in-Enough.ensures.enough refl);
+      space = space_found c.in-Ok.parted.count _ _ _ e same (omega (arith, c.requires.most, p.continues.write_max, c.in-Ok.parted.few))
+          (c.in-Enough.ensures.enough refl);
     }
 
 pub returns-in-Enough : goal.returns-in-Enough

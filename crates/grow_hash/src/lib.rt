@@ -50,8 +50,6 @@
 
 mod attempt;
 mod attempting;
-#[cfg(test)]
-mod counted;
 mod deciding;
 mod laws;
 mod reading;

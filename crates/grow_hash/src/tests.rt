@@ -2,10 +2,9 @@
 ghost use Rattle.std.specs.Prelude.{◌≡◌, ◌<◌, ◌≤◌};
 ghost use Rattle.grow_hash.specs.GrowPlans.{IsOfGrown};
 
-use crate::counted::Counted;
 use crate::deciding::find_change;
 use crate::{GrowRules, GrowStep, attempt_grow, read_grown};
-use mv_history::{PlainStore, Section, Store, WORDS};
+use mv_history::{PlainStore, Section, Store, View, WORDS, Words};
 use set_script::{Catalogue, Command, Name, Place, Reply};
 use std::alloc::{AllocError, Global};
 use std::process::Abort;
@@ -82,6 +81,35 @@ fn read_end<S: Store<Rules = GrowRules>>(
     let mut section = store.enter();
     let all = read_grown(alloc, &mut section);
     (section.leave(), all)
+}
+
+// A view that counts its reads.
+struct Counted<V> {
+    view: V,
+    reads: u32,
+}
+
+impl<V: View> View for Counted<V> {
+    ghost state = { λ v. V.state v.view };
+
+    ghost as_before = { λ v w. V.as_before v.view w.view };
+
+    fn objects(&self) -> u32 {
+        self.view.objects()
+    }
+
+    fn read(&mut self, object: u32) -> Words {
+        self.reads = self.reads.saturating_add(1);
+        self.view.read(object)
+    }
+
+    ghost as_itself = { λ v. V.as_itself v.view };
+
+    ghost as_long_before = { λ u v w. V.as_long_before u.view v.view w.view };
+
+    ghost same_state = { λ v w. V.same_state v.view w.view };
+
+    ghost are_words = { λ v. V.are_words v.view };
 }
 
 // How many reads it takes to find what a command comes to.

@@ -1,4 +1,4 @@
-use Rattle.std.proofs.Common.{[], refl, ◌+◌, ◌≤◌, ◌≡◌, length, take, slice_index_or, sym, ap, ◌∙◌, subst, arith, length-set}
+use Rattle.std.proofs.Common.{refl, ◌+◌, ◌≤◌, ◌≡◌, length, take, slice_index_or, List, ℕ, sym, ap, ◌∙◌, subst, arith, length-set}
 use Rattle.mv_history.specs.State.{State, Writes}
 use Rattle.mv_history.specs.Meaning.{words_at}
 use Rattle.list_set.proofs.Counting.{count_first, count_fits, count_room, count_in_range, count_falls, count_step, count_done}
@@ -7,17 +7,21 @@ use Rattle.grow_hash.proofs.split.ReadBuckets.{read_first, read_next, count_smal
 use Rattle.grow_hash.proofs.bucket.read_bucket.Goals as goal
 use Rattle.grow_hash.proofs.bucket.read_bucket.Goals.{then-keys-lt-MOST_SPLIT, else-keys-lt-MOST_SPLIT}
 
+-- the link among the words of an object
+abbrev linked : List ℕ → ℕ
+linked words = slice_index_or words 3 0
+
 pub loop-node-init : goal.loop-node-init
 loop-node-init g c = record {
   before = c.read.ensures.as_before;
-  count = count_first _ _ c.requires.linked _ c.read.ensures.words;
+  count = count_first _ _ c.requires.linked _ (ap linked c.read.ensures.words);
   whole = refl;
   read = λ _. read_first (g.V.View.state c.args.view.now) c.args.head c.read.result c.read.ensures.words;
 }
 
 pub read-words-requires : goal.read-words-requires
 read-words-requires g c =
-    count_in_range _ _ _ _ _ [] c.requires.linked (g.met.V.View.same_state _ _ c.loop-node.invariant.before) c.loop-node.invariant.count c.loop-node-test.true
+    count_in_range _ _ _ _ _ 0 c.requires.linked (g.met.V.View.same_state _ _ c.loop-node.invariant.before) c.loop-node.invariant.count c.loop-node-test.true
 
 pub overflow_add-keys : goal.overflow_add-keys
 overflow_add-keys g c =
@@ -26,13 +30,13 @@ overflow_add-keys g c =
 pub loop-node-smaller : goal.loop-node-smaller
 loop-node-smaller g c =
     count_falls _ _ _ _ _ _ c.requires.linked (g.met.V.View.same_state _ _ c.loop-node.invariant.before) c.loop-node.invariant.count c.loop-node-test.true
-    c.read-words.ensures.words
+    (ap linked c.read-words.ensures.words)
 
 pub loop-node-preserved : goal.loop-node-preserved
 loop-node-preserved g c = record {
   before = g.met.V.View.as_long_before _ _ _ c.loop-node.invariant.before c.read-words.ensures.as_before;
   count = count_step _ _ _ _ _ _ c.requires.linked (g.met.V.View.same_state _ _ c.loop-node.invariant.before) c.loop-node.invariant.count
-      c.loop-node-test.true c.read-words.ensures.words;
+      c.loop-node-test.true (ap linked c.read-words.ensures.words);
   whole = elim c.if-keys-lt-MOST_SPLIT.branch [
     | then-keys-lt-MOST_SPLIT w ↦ ap length w.nodes-is ∙ length-set c.loop-node.nodes _ _ ∙ c.loop-node.invariant.whole
     | else-keys-lt-MOST_SPLIT w ↦ ap length w.nodes-is ∙ c.loop-node.invariant.whole

@@ -1,7 +1,7 @@
-use Rattle.std.proofs.Common.{[], refl, ◌+◌, ◌≤◌, ◌≡◌, length, take, slice_index_or, sym, ap, ◌∙◌, subst, arith, length-set}
+use Rattle.std.proofs.Common.{[], refl, ◌+◌, length, take, slice_index_or, sym, ap, ◌∙◌, subst, arith, length-set}
 use Rattle.mv_history.specs.State.{State, Writes}
 use Rattle.mv_history.specs.Meaning.{words_at}
-use Rattle.list_set.proofs.Counting.{count_first, count_fits, count_room, count_in_range, count_falls, count_step, count_done}
+use Rattle.list_set.proofs.Counting.{count_first, count_in_range, count_falls, count_step, count_done}
 use Rattle.grow_hash.specs.BucketReads.{IsRead}
 use Rattle.grow_hash.proofs.split.ReadBuckets.{read_first, read_next, count_small}
 use Rattle.grow_hash.proofs.bucket.read_bucket.Goals as goal
@@ -40,9 +40,9 @@ loop-node-preserved g c = record {
   read = λ le. elim c.if-keys-lt-MOST_SPLIT.branch [
     | then-keys-lt-MOST_SPLIT w ↦
         subst (λ (ns : Writes). IsRead (g.V.View.state c.args.view.now) c.args.head (take (c.loop-node.keys + 1) ns)
-            (slice_index_or c.read-words.result 3 0)) (sym w.nodes-is)
+        (slice_index_or c.read-words.result 3 0)) (sym w.nodes-is)
         (read_next (g.V.View.state c.args.view.now) c.args.head c.loop-node.nodes c.loop-node.keys c.loop-node.node c.read-words.result (omega
-            (arith, c.loop-node.invariant.whole)) (c.loop-node.invariant.read (omega arith)) c.loop-node-test.true
+        (arith, c.loop-node.invariant.whole)) (c.loop-node.invariant.read (omega arith)) c.loop-node-test.true
         (c.read-words.ensures.words
         ∙ ap (λ (s : State). words_at s c.loop-node.node) (g.met.V.View.same_state _ _ c.loop-node.invariant.before)))
     | else-keys-lt-MOST_SPLIT w ↦ absurd (omega (arith, w.if-keys-lt-MOST_SPLIT.false, le))

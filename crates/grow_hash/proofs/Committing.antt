@@ -1,10 +1,10 @@
 -- When a command's commit is one of a growing hash set.
-use Rattle.std.proofs.Common.{◌≡◌, ℕ, ◌-◌, ◌≤◌, true, false, length, sym, ap, ◌∙◌, subst, arith, Some}
+use Rattle.std.proofs.Common.{◌≡◌, ◌≤◌, true, false, length, sym, ap, ◌∙◌, subst, arith, Some}
 use Rattle.mv_history.specs.State.{State, Writes, written}
 use Rattle.mv_history.specs.Meaning.{words_at}
 use Rattle.mv_history.proofs.Writing.{length-written}
 use Rattle.set_script.specs.declared.commands.Command.{Command}
-use Rattle.set_script.specs.Catalogue.{Maps, cost}
+use Rattle.set_script.specs.Catalogue.{cost}
 use Rattle.set_script.specs.Replies.{changed, applies, overflows}
 use Rattle.set_script.specs.Tags.{tag_of}
 use Rattle.set_script.proofs.Replying.{overflows-fits, Works, works}

@@ -1,5 +1,5 @@
 -- An add at its place keeps a grown state lawful, and puts its key into the set.
-use Rattle.std.proofs.Common.{◌≡◌, ◌≢◌, ℕ, suc, ◌+◌, ◌-◌, ◌^◌, ◌<◌, ◌≤◌, ◌⊎◌, inl, inr, true, false, not, List, [], ◌∷◌, length, set, refl, sym, ap, ◌∙◌, subst, arith}
+use Rattle.std.proofs.Common.{◌≡◌, ◌≢◌, ℕ, suc, ◌^◌, ◌<◌, ◌≤◌, ◌⊎◌, inl, inr, false, not, [], length, set, refl, sym, ap, ◌∙◌, subst, arith}
 use Rattle.std.proofs.Common.{get_or-set_other, length-set}
 use Rattle.std.proofs.lemmas.Bool.{cases_eq, false_from_ne_true}
 use Rattle.mv_history.specs.State.{State, written}
@@ -8,7 +8,6 @@ use Rattle.mv_history.proofs.Writing.{length-written}
 use Rattle.set_script.specs.declared.commands.Command.TheVariants.{Add}
 use Rattle.set_script.specs.Catalogue.{empty, has_key, put}
 use Rattle.set_script.specs.Objects.{owner, key, link, value, head_words, list_words, relink}
-use Rattle.set_script.specs.Lists.{Node}
 use Rattle.set_script.specs.Tags.{tag_of}
 use Rattle.set_script.proofs.ObjectWords.{word, owned_in_range, owner-relink, kind-relink, key-relink}
 use Rattle.list_set.specs.Places.{IsInList, IsAddPlace, add_writes}
@@ -21,7 +20,7 @@ use Rattle.grow_hash.specs.GrowRules.{KeepsGrown, IsGrowCommit}
 use Rattle.grow_hash.proofs.KeptLists.{list_kept}
 use Rattle.grow_hash.proofs.LinkedAdds.{add_new, Inserted, more_owner, more_key, list_more}
 use Rattle.grow_hash.proofs.GrownMaps.{grown_map-keeps, grown_map-relink, grown_map-more}
-use Rattle.grow_hash.proofs.GrownStates.{low_unowned, node_high, bucket_low, node_of_bucket, keeps_node, table_kept, bucket_kept, head_is, node_is}
+use Rattle.grow_hash.proofs.GrownStates.{node_high, bucket_low, keeps_node, table_kept, bucket_kept, head_is, node_is}
 use Rattle.grow_hash.proofs.Committing.{grow_commit}
 
 -- an object of a bucket's list is its head, or a node

@@ -1,5 +1,5 @@
 -- A del at its place keeps a grown state lawful, and takes its key out of the set.
-use Rattle.std.proofs.Common.{◌≡◌, ◌≢◌, ℕ, suc, ◌+◌, ◌-◌, ◌^◌, ◌<◌, ◌≤◌, ◌⊎◌, inl, inr, true, false, List, [], ◌∷◌, length, set, refl, sym, ap, ◌∙◌, subst, arith}
+use Rattle.std.proofs.Common.{◌≡◌, ◌≢◌, ℕ, suc, ◌<◌, ◌≤◌, ◌⊎◌, inl, inr, true, false, [], length, set, refl, sym, ap, ◌∙◌, subst, arith}
 use Rattle.std.proofs.Common.{get_or-set_other, length-set}
 use Rattle.std.proofs.lemmas.Bool.{cases_eq, false_from_ne_true}
 use Rattle.mv_history.specs.State.{State, written}
@@ -10,7 +10,7 @@ use Rattle.set_script.specs.Catalogue.{empty, has_key, take_out}
 use Rattle.set_script.specs.Objects.{owner, key, link, value, head_words, list_words, no_words, relink}
 use Rattle.set_script.specs.Tags.{tag_of}
 use Rattle.set_script.proofs.ObjectWords.{word, owned_in_range, owner-relink, kind-relink, key-relink}
-use Rattle.list_set.specs.Places.{IsInList, IsDelPlace, del_writes}
+use Rattle.list_set.specs.Places.{IsDelPlace, del_writes}
 use Rattle.list_set.specs.Linked.{IsNodeOf, IsLinked}
 use Rattle.list_set.proofs.Changes.{Taken}
 use Rattle.list_set.proofs.Removing.{del_writes_do}

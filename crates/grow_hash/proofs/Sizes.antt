@@ -1,6 +1,6 @@
 -- The buckets together have as many keys as the set.
-use Rattle.std.proofs.Common.{◌≡◌, ◌≢◌, ℕ, zero, suc, ◌+◌, ◌-◌, ◌<◌, ◌≤◌, ◌⊎◌, inl, inr, Bool, true, false, cond, nat_lt, ◌&&◌, not, List, [], ◌∷◌}
-use Rattle.std.proofs.Common.{length, drop, refl, sym, ap, ◌∙◌, subst, arith, length-drop, lt-ltb, le-ltb, eqb-true, eq-eqb, ne_eqb, get_or-drop}
+use Rattle.std.proofs.Common.{◌≡◌, ◌≢◌, ℕ, zero, suc, ◌+◌, ◌<◌, ◌≤◌, inl, inr, Bool, true, false, cond, nat_lt, ◌&&◌, List, [], ◌∷◌}
+use Rattle.std.proofs.Common.{length, drop, refl, sym, ap, ◌∙◌, subst, arith, length-drop, lt-ltb, get_or-drop}
 use Rattle.std.proofs.lemmas.Bool.{cases_eq, cases_lt}
 use Rattle.std.proofs.lemmas.Bool.Decides.{nat_tests}
 use Rattle.mv_history.specs.State.{State}
@@ -13,8 +13,8 @@ use Rattle.list_set.proofs.Counting.{keys_counted}
 use Rattle.grow_hash.specs.Tables.{level, split_place, bucket, buckets}
 use Rattle.grow_hash.specs.Grown.{IsGrown, head_at, is_used, grown_map}
 use Rattle.grow_hash.proofs.Buckets.{bucket_present}
-use Rattle.grow_hash.proofs.GrownMaps.{Keeps, used-from, used_vacant}
-use Rattle.grow_hash.proofs.GrownStates.{low_unowned, node_of_bucket, key_once}
+use Rattle.grow_hash.proofs.GrownMaps.{used-from, used_vacant}
+use Rattle.grow_hash.proofs.GrownStates.{low_unowned, key_once}
 
 -- where a test picks what one of two others does, and no object is picked by both
 tally-add : (t u v : List ℕ → Bool) (s : State)

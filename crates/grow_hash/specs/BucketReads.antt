@@ -22,4 +22,4 @@ IsMoved words bucket next moved =
 abbrev pub ArePartedWrites : ℕ → ℕ → Writes → Writes → Type 0
 ArePartedWrites at place nodes writes =
     (s : State) → IsGrown s → level s ≡ at → split_place s ≡ place → IsRead s (head_at place) nodes 0
-        → writes ≡ split_writes s (objects_of nodes)
+    → writes ≡ split_writes s (objects_of nodes)

@@ -1,6 +1,6 @@
 -- What a call that tries to split a bucket leaves, by its answer.
 use Rattle.std.specs.Prelude.{ℕ, suc, ◌≡◌, ◌+◌, ◌-◌, ◌<◌, ◌≤◌, ◌⊎◌, [], ◌∷◌, ◌++◌, length, take}
-use Rattle.mv_history.specs.State.{State, Writes, state_at}
+use Rattle.mv_history.specs.State.{State, state_at}
 use Rattle.mv_history.specs.declared.answers.Holder.{Holder}
 use Rattle.mv_history.specs.declared.history.Commit.{Commit}
 use Rattle.mv_history.specs.declared.history.Entry.TheVariants.{Change}

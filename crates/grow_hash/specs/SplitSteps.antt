@@ -7,7 +7,7 @@ use Rattle.list_set.specs.declared.answers.Cause.{Cause}
 use Rattle.set_catalog.specs.Causes.{Causes}
 use Rattle.grow_hash.specs.Tables.{level, split_place, most_level}
 use Rattle.grow_hash.specs.SplitPlans.{SplitPlan}
-use Rattle.grow_hash.specs.SplitCalls.{keys_at_place, most_split, most_writes, IsSplittable, FoundWhole, FoundLong, FoundWorn, IsSplitDone, IsSplitWhy}
+use Rattle.grow_hash.specs.SplitCalls.{keys_at_place, most_split, IsSplittable, FoundWhole, FoundLong, FoundWorn, IsSplitDone, IsSplitWhy}
 use Rattle.grow_hash.specs.declared.answer.Split.{Split}
 use Rattle.grow_hash.specs.declared.answer.Split.TheVariants.{Done, Whole, Long, Worn, Again}
 

@@ -38,7 +38,7 @@ module _ (s t : State) (table : words_at t 0 ≡ words_at s 0) where
       ∷ parted_nodes t ns) here
       ∙ ap (λ u. (n, list_words (head_at (split_bucket s n)) (key s n) (value s n) u) ∷ parted_nodes t ns) (same_first (split_bucket s n) ns rest)
       ∙ ap (λ (ws : Writes). (n, list_words (head_at (split_bucket s n)) (key s n) (value s n) (first_to s (split_bucket s n) ns))
-          ∷ ws) (same_parted ns rest)
+      ∷ ws) (same_parted ns rest)
 
   same_place : split_place t ≡ split_place s
   same_place = ap (word 3) table

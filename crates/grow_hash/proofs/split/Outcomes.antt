@@ -1,5 +1,5 @@
 -- What a call that tries to split leaves, from what its calls do.
-use Rattle.std.proofs.Common.{◌≡◌, ◌≢◌, ℕ, ◌+◌, ◌-◌, ◌<◌, ◌≤◌, ◌==◌, inl, true, List, [], ◌∷◌, ◌++◌, length, suc}
+use Rattle.std.proofs.Common.{◌≡◌, ◌≢◌, ℕ, ◌+◌, ◌<◌, ◌≤◌, inl, List, [], ◌∷◌, ◌++◌, length, suc}
 use Rattle.std.proofs.Common.{refl, sym, ap, ◌∙◌, subst, arith}
 use Rattle.mv_history.specs.State.{State, Writes, written, state_at}
 use Rattle.mv_history.specs.declared.answers.Holder.{Holder}
@@ -39,7 +39,7 @@ use Rattle.grow_hash.specs.SplitCalls.{
   SplitGivesUp,
   SplitTried,
 }
-use Rattle.grow_hash.specs.SplitSteps.{IsPlannedSplit, IsClosed, HasSplitSpace, SplitFound, SplitGivesUpIn, SplitTriedIn}
+use Rattle.grow_hash.specs.SplitSteps.{IsClosed, HasSplitSpace, SplitFound, SplitGivesUpIn, SplitTriedIn}
 use Rattle.grow_hash.specs.declared.answer.Split.{Split}
 use Rattle.grow_hash.specs.declared.answer.Split.TheVariants.{Done, Whole, Long, Worn, Again}
 use Rattle.grow_hash.proofs.split.Fits.{split_fit}

@@ -61,8 +61,11 @@ pub parted_words : (s s' : State) (ns : List ℕ) → AreParted s s' ns → (n :
     → (to : ℕ) × (words_at s' n ≡ list_words (head_at (split_bucket s n)) (key s n) (value s n) to)
 parted_words s s' [] p n i = absurd i
 parted_words s s' (m ∷ ns) p n (inl e) =
-    subst (λ u. (to : ℕ) × (words_at s' u ≡ list_words (head_at (split_bucket s u)) (key s u) (value s u) to)) (sym e) (first_to s
-        (split_bucket s m) ns, p.0)
+    subst (λ u. (to : ℕ) × (words_at s' u ≡ list_words (head_at (split_bucket s u)) (key s u) (value s u) to)) (sym e) (
+      first_to s
+          (split_bucket s m) ns,
+      p.0,
+    )
 parted_words s s' (m ∷ ns) p n (inr i) = parted_words s s' ns p.1 n i
 
 -- each leads to a node of its bucket with a greater key

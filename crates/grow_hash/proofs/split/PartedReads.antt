@@ -1,23 +1,22 @@
 -- The steps of parting what was read of a bucket.
-use Rattle.std.proofs.Common.{◌≡◌, ◌≢◌, ℕ, zero, suc, ◌+◌, ◌*◌, ◌%◌, ◌<◌, ◌≤◌, ◌==◌, ◌⊎◌, inl, inr, Bool, cond}
+use Rattle.std.proofs.Common.{◌≡◌, ◌≢◌, ℕ, suc, ◌+◌, ◌%◌, ◌<◌, ◌≤◌, ◌==◌, ◌⊎◌, inl, inr, Bool, cond}
 use Rattle.std.proofs.Common.{true, false, List, [], ◌∷◌}
-use Rattle.std.proofs.Common.{length, get_or, take, drop, set, refl, sym, ap, ◌∙◌, subst, arith, eq-eqb, ne_eqb, length-take, length-set}
+use Rattle.std.proofs.Common.{length, get_or, take, drop, set, refl, sym, ap, ◌∙◌, subst, arith, eq-eqb, ne_eqb, length-take}
 use Rattle.std.proofs.Math.Seq.{take-set-lt, drop-cons}
 use Rattle.std.proofs.Math.ListN.{drop_of_length-le}
-use Rattle.std.proofs.Math.Nat.{mod-lt}
 use Rattle.std.proofs.lemmas.List.{drop-set, get_or-take}
 use Rattle.mv_history.specs.State.{State, Writes}
 use Rattle.mv_history.specs.Meaning.{words_at}
-use Rattle.set_script.specs.Objects.{owner, key, link, value, head_words, list_words}
+use Rattle.set_script.specs.Objects.{key, link, value, head_words, list_words}
 use Rattle.set_script.specs.OwnWrites.{objects_of}
 use Rattle.set_script.proofs.ObjectWords.{word}
 use Rattle.set_script.proofs.TreeShape.{IsIn}
 use Rattle.list_set.specs.Linked.{IsNodeOf, IsLinked}
 use Rattle.grow_hash.specs.Tables.{level, split_place, buckets_at, bucket, next_table}
 use Rattle.grow_hash.specs.Grown.{IsGrown, head_at}
-use Rattle.grow_hash.specs.BucketReads.{IsRead, IsMoved, ArePartedWrites}
-use Rattle.grow_hash.specs.SplitPlans.{split_bucket, new_bucket, first_to, parted_nodes, split_writes}
-use Rattle.grow_hash.proofs.Buckets.{some_buckets, few_buckets, more_buckets, twice_buckets, split_to}
+use Rattle.grow_hash.specs.BucketReads.{IsRead, IsMoved}
+use Rattle.grow_hash.specs.SplitPlans.{split_bucket, first_to, parted_nodes, split_writes}
+use Rattle.grow_hash.proofs.Buckets.{some_buckets, few_buckets, split_to}
 use Rattle.grow_hash.proofs.GrownStates.{node_high, node_bucket}
 use Rattle.grow_hash.proofs.split.Paths.{rising_node, head_path_rises}
 use Rattle.grow_hash.proofs.split.ReadBuckets.{read_path, read_words}
@@ -115,7 +114,7 @@ module _ (s : State) (at place : ℕ) (nodes : Writes) (keys i : ℕ) (d : ℕ �
       | inl e ↦ (let b : (to == place) ≡ true = eq-eqb to place (to_bucket ∙ e) in
           let m : (split_bucket s here.0 == place) ≡ true = eq-eqb (split_bucket s here.0) place e in
           let n : (split_bucket s here.0 == place + buckets_at at) ≡ false = ne_eqb (split_bucket s here.0) (place + buckets_at at) (λ q. apart (sym e
-              ∙ q)) in (
+          ∙ q)) in (
             next_is ∙ ap (λ (t : Bool). cond t stay go) b ∙ h.stay_is ∙ ap (λ u. first_to s u rest) (sym e),
             stay_is ∙ ap (λ (t : Bool). cond t here.0 stay) b ∙ sym (ap (λ (t : Bool). cond t here.0 (first_to s place rest)) m),
             go_is ∙ ap (λ (t : Bool). cond t go here.0) b ∙ h.go_is ∙ sym (ap (λ (t : Bool). cond t here.0 (first_to s
@@ -184,5 +183,5 @@ parted_whole s at place reads writes keys stay go old new table r whole h e f g 
     ∙ ap (λ u. (0, next_table at place) ∷ (head_at place, head_words u) ∷ (new, head_words go) ∷ parted_nodes s ns) h.stay_is
     ∙ ap (λ u. (0, next_table at place) ∷ (head_at place, head_words (first_to s place ns)) ∷ (u, head_words go) ∷ parted_nodes s ns) g
     ∙ ap (λ u. (0, next_table at place) ∷ (head_at place, head_words (first_to s place ns)) ∷ (head_at (place + buckets_at at), head_words u)
-        ∷ parted_nodes s ns) h.go_is
+    ∷ parted_nodes s ns) h.go_is
     ∙ ap (λ l. split_at s ns l place) (sym r.level_is) ∙ ap (λ p. split_at s ns (level s) p) (sym r.place_is)

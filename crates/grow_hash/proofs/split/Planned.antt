@@ -1,5 +1,5 @@
 -- What is known of the writes of a split.
-use Rattle.std.proofs.Common.{◌≡◌, ◌≢◌, ℕ, suc, ◌+◌, ◌<◌, ◌≤◌, ◌⊎◌, inl, inr, true, false, not, ◌&&◌, List, [], ◌∷◌}
+use Rattle.std.proofs.Common.{◌≡◌, ℕ, suc, ◌+◌, ◌<◌, ◌≤◌, ◌⊎◌, inl, inr, true, List, [], ◌∷◌}
 use Rattle.std.proofs.Common.{length, refl, sym, ap, ◌∙◌, subst, arith}
 use Rattle.mv_history.specs.State.{State, Writes, touches}
 use Rattle.mv_history.specs.Legal.{are_distinct, AreWithin}
@@ -8,10 +8,9 @@ use Rattle.set_script.specs.Trees.{IsDistinct}
 use Rattle.set_script.proofs.ObjectWords.{owned_in_range}
 use Rattle.set_script.proofs.TreeShape.{IsIn, is_in-none}
 use Rattle.set_script.proofs.Written.{distinct-objects_of, in-touches}
-use Rattle.list_set.specs.Linked.{IsLinked}
 use Rattle.grow_hash.specs.Tables.{level, split_place, buckets_at}
 use Rattle.grow_hash.specs.Grown.{IsGrown, head_at}
-use Rattle.grow_hash.specs.SplitPlans.{SplitPlan, IsPath, new_bucket, split_writes, parted_nodes}
+use Rattle.grow_hash.specs.SplitPlans.{SplitPlan, new_bucket, split_writes}
 use Rattle.grow_hash.specs.SplitCalls.{IsOfSplit}
 use Rattle.grow_hash.proofs.Buckets.{some_buckets, more_buckets, twice_buckets}
 use Rattle.grow_hash.proofs.GrownStates.{node_high}

@@ -1,10 +1,9 @@
 -- What is read along the list of a bucket.
 use Rattle.std.proofs.Common.{◌≡◌, ◌≢◌, ℕ, zero, suc, ◌+◌, ◌<◌, ◌≤◌, inl, inr, List, [], ◌∷◌, ◌++◌, length, get_or, take}
-use Rattle.std.proofs.Common.{drop, set, length-drop, refl, sym, ap, ◌∙◌, subst, arith}
+use Rattle.std.proofs.Common.{drop, set, length-drop, refl, sym, ap, subst, arith}
 use Rattle.std.proofs.lemmas.List.{take_more_set}
 use Rattle.mv_history.specs.State.{State, Writes}
 use Rattle.mv_history.specs.Meaning.{words_at}
-use Rattle.set_script.specs.Objects.{key, link, value, list_words}
 use Rattle.set_script.specs.OwnWrites.{objects_of}
 use Rattle.set_script.proofs.ObjectWords.{word}
 use Rattle.set_script.proofs.TreeShape.{IsIn}

@@ -1,5 +1,5 @@
 -- What a look at the bucket at the split place finds.
-use Rattle.std.proofs.Common.{◌≡◌, ◌≢◌, ℕ, suc, ◌+◌, ◌<◌, ◌≤◌, length, refl, sym, ap, ◌∙◌, subst, arith}
+use Rattle.std.proofs.Common.{◌≡◌, ◌≢◌, ℕ, ◌+◌, ◌<◌, ◌≤◌, length, sym, ap, ◌∙◌, subst, arith}
 use Rattle.mv_history.specs.State.{State, Writes}
 use Rattle.set_script.specs.CatalogueOf.{map_at}
 use Rattle.set_script.specs.OwnWrites.{objects_of}

@@ -1,24 +1,22 @@
 -- What a store of a growing hash set was at each time, and what the commit of a split did there.
-use Rattle.std.proofs.Common.{◌≡◌, ℕ, suc, ◌+◌, ◌-◌, ◌<◌, zero, List, [], ◌∷◌, ◌++◌, take, drop, length, Some, refl, sym, ap}
+use Rattle.std.proofs.Common.{◌≡◌, ℕ, suc, ◌+◌, ◌-◌, ◌<◌, zero, List, [], ◌∷◌, ◌++◌, take, drop, Some, sym, ap}
 use Rattle.std.proofs.Common.{◌∙◌, subst, arith}
 use Rattle.std.specs.Prelude.{slice_get}
 use Rattle.std.proofs.lemmas.List.{take-append-drop}
 use Rattle.mv_history.specs.declared.history.Commit.{Commit}
-use Rattle.mv_history.specs.declared.history.Entry.{Entry}
 use Rattle.mv_history.specs.declared.history.Entry.TheVariants.{Change}
 use Rattle.mv_history.specs.State.{written, state_after, state_at}
 use Rattle.mv_history.specs.Legal.{IsAllowed}
-use Rattle.mv_history.specs.Meaning.{Seat, InSection, IsSeat, IsSection, state_of}
+use Rattle.mv_history.specs.Meaning.{Seat, IsSeat}
 use Rattle.mv_history.specs.Calls.{IsEntryAt}
 use Rattle.mv_history.proofs.Writing.{state_after-append}
 use Rattle.mv_history.proofs.Histories.{IsAllowed-front, split_at}
 use Rattle.set_catalog.specs.Attempts.{state_of_time}
-use Rattle.set_catalog.proofs.LawfulTimes.{reads_snapshot}
 use Rattle.grow_hash.specs.Tables.{split_place, buckets}
-use Rattle.grow_hash.specs.Grown.{IsGrown, IsGrownOpening, grown_catalogue}
+use Rattle.grow_hash.specs.Grown.{IsGrownOpening, grown_catalogue}
 use Rattle.grow_hash.specs.GrowRules.{SplitsGrown, split_tag, IsGrowCommit}
 use Rattle.grow_hash.specs.Splits.{count_splits}
-use Rattle.grow_hash.proofs.Splitting.{grown_after, buckets_after, bucket_more}
+use Rattle.grow_hash.proofs.Splitting.{buckets_after, bucket_more}
 
 seen_allowed : (s : Seat) → IsSeat IsGrownOpening IsGrowCommit s → (t : ℕ) → IsAllowed IsGrowCommit s.start (take t s.seen)
 seen_allowed s h t =

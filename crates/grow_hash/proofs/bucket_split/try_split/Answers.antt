@@ -1,4 +1,4 @@
-use Rattle.std.proofs.Common.{refl, sym, subst, ap, ◌∙◌, ◌+◌, arith, take}
+use Rattle.std.proofs.Common.{refl, sym, subst, ◌∙◌, arith, take}
 use Rattle.mv_history.specs.State.{State}
 use Rattle.mv_history.specs.Meaning.{Seat}
 use Rattle.mv_history.specs.Calls.{Leaves}
@@ -7,7 +7,6 @@ use Rattle.mv_history.proofs.Steps.{Continues-Continues}
 use Rattle.set_catalog.proofs.Exchanges.{one_before, left_one, looks_in}
 use Rattle.set_catalog.proofs.LawfulTimes.{reads_snapshot}
 use Rattle.grow_hash.specs.Grown.{IsGrown}
-use Rattle.grow_hash.specs.SplitCalls.{IsSplittable}
 use Rattle.grow_hash.specs.SplitSteps.{IsPlannedSplit}
 use Rattle.grow_hash.proofs.split.Outcomes.{looked, closed_found, found_tried, worn_found, opened_by, space_found, short_by, tried_by, last_by}
 use Rattle.grow_hash.proofs.attempts.Times.{grown_read}

@@ -1,4 +1,4 @@
-use Rattle.grow_hash.proofs.Finding.{head_read, linked_found, few_found, spot_found}
+use Rattle.grow_hash.proofs.Finding.{head_read, linked_found, spot_found}
 use Rattle.grow_hash.proofs.search.find.Goals as goal
 
 pub find_linked-spot-requires-clause-linked : goal.find_linked-spot-requires-clause-linked

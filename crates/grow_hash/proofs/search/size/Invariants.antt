@@ -1,4 +1,4 @@
-use Rattle.std.proofs.Common.{◌≡◌, ◌≤◌}
+use Rattle.std.proofs.Common.{◌≤◌}
 use Rattle.grow_hash.specs.Tables.{buckets}
 use Rattle.grow_hash.proofs.Sizes.{CountsFirst}
 use Rattle.grow_hash.proofs.search.size.Given as goal

@@ -1,11 +1,11 @@
 -- The steps of a count along a list.
 use Rattle.std.proofs.Common.{◌≡◌, ◌≢◌, ℕ, zero, suc, ◌+◌, ◌-◌, ◌^◌, ◌<◌, ◌≤◌, ◌⊎◌, inl, inr, Bool, true, false, cond, nat_lt, ◌&&◌, ◌==◌, List, [], ◌∷◌}
-use Rattle.std.proofs.Common.{length, drop, refl, sym, ap, ◌∙◌, subst, arith, length-drop, lt-ltb, le-ltb, ltb-true, ne_eqb, true≢false}
+use Rattle.std.proofs.Common.{length, drop, refl, sym, ap, ◌∙◌, subst, arith, length-drop, lt-ltb, ltb-true, ne_eqb, true≢false}
 use Rattle.std.proofs.lemmas.Bool.{cases_eq, cases_lt, and_parts, false_from_ne_true}
 use Rattle.mv_history.specs.State.{State}
 use Rattle.mv_history.specs.Meaning.{words_at}
 use Rattle.set_script.specs.CatalogueOf.{is_key_at, map_at}
-use Rattle.set_script.specs.Objects.{owner, key, link}
+use Rattle.set_script.specs.Objects.{key, link}
 use Rattle.set_script.proofs.ObjectWords.{word}
 use Rattle.set_script.proofs.Heads.{is_key_at-from}
 use Rattle.set_script.proofs.Tally.{tally, tally-none, tally-bound, tally-same, length-map_among, node_at}

@@ -1,22 +1,21 @@
 -- The steps of a search along a list.
-use Rattle.std.proofs.Common.{◌≡◌, ◌≢◌, ℕ, suc, ◌-◌, ◌^◌, ◌<◌, ◌≤◌, ◌⊎◌, inl, inr, Bool, true, false, cond, not}
+use Rattle.std.proofs.Common.{◌≡◌, ◌≢◌, ℕ, ◌-◌, ◌^◌, ◌<◌, ◌≤◌, ◌⊎◌, inl, inr, Bool, true, false, cond, not}
 use Rattle.std.proofs.Common.{◌&&◌, eqb, eqb-true, eq-eqb, List, [], ◌∷◌, length, refl, sym, ap, ◌∙◌, subst, arith, ne_eqb, Option, Some, None}
 use Rattle.std.proofs.lemmas.Bool.{cases_eq, cases_lt, false_from_ne_true}
-use Rattle.std.proofs.lemmas.Bool.Decides.{nat_tests}
 use Rattle.mv_history.specs.State.{State}
 use Rattle.mv_history.specs.Meaning.{words_at}
 use Rattle.set_script.specs.Catalogue.{has_key, value_of, next_key}
 use Rattle.set_script.specs.CatalogueOf.{is_key_at, map_at}
-use Rattle.set_script.specs.Objects.{owner, kind, key, link, value}
+use Rattle.set_script.specs.Objects.{kind, key, link, value}
 use Rattle.set_script.proofs.ObjectWords.{word, owned_in_range}
 use Rattle.set_script.proofs.Heads.{is_key_at-from, is_key_at-to}
 use Rattle.set_script.proofs.MapLemmas.{has_key-none, has_key-some}
 use Rattle.set_script.proofs.Mapped.{IsMap-map_among}
-use Rattle.set_script.proofs.NextKeys.{IsLeast, next_is, next_none}
-use Rattle.set_script.proofs.ListMaps.{HoldsAt, holds-map_at, map_at-holds, HasValueAt, map_at-value}
+use Rattle.set_script.proofs.NextKeys.{next_is, next_none}
+use Rattle.set_script.proofs.ListMaps.{holds-map_at, map_at-holds, map_at-value}
 use Rattle.list_set.specs.Places.{IsInList}
-use Rattle.list_set.specs.Linked.{IsNodeOf, IsAfter, IsLinked}
-use Rattle.list_set.specs.Walks.{walk_left, IsFound, IsSpot}
+use Rattle.list_set.specs.Linked.{IsNodeOf, IsLinked}
+use Rattle.list_set.specs.Walks.{walk_left, IsSpot}
 use Rattle.list_set.proofs.Linking.{head_no_node}
 
 pub left_at : (s : State) (node : ℕ) → node ≢ 0 → walk_left s node ≡ 2 ^ 32 - key s node

@@ -1,9 +1,8 @@
 use Rattle.std.proofs.Common.{ap, ◌∙◌}
 use Rattle.mv_history.specs.State.{State}
 use Rattle.mv_history.specs.Meaning.{words_at}
-use Rattle.list_set.proofs.Walking.{next_falls, spot_start, spot_step, spot_found, spot_end}
+use Rattle.list_set.proofs.Walking.{next_falls, spot_step, spot_found, spot_end}
 use Rattle.list_set.proofs.search.find_linked.Goals as goal
-
 
 pub returns-then-node_key-key-clause-spot : goal.returns-then-node_key-key-clause-spot
 returns-then-node_key-key-clause-spot g c =

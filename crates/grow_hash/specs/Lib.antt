@@ -4,11 +4,11 @@ pub mod GrowRules
 pub mod GrowRuleLaws
 pub mod GrowPlans
 pub mod Splits
-pub mod SplitPlans
 pub mod GrowReplies
 pub mod GrowAttempts
 pub mod GrowSteps
 pub mod GrowFindings
+pub mod SplitPlans
 pub mod BucketReads
 pub mod SplitCalls
 pub mod SplitSteps

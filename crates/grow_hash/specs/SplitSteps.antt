@@ -25,11 +25,11 @@ IsClosed s (Long keys) = (level s < most_level) × (keys ≡ keys_at_place s) ×
 IsClosed s Worn = ⊥
 IsClosed s (Again cause) = ⊥
 
--- the section holds nothing, and may hold what any split writes
-pub record HasSplitSpace (s : InSection) : Type 0 where
+-- the section holds nothing, and may hold so many objects
+pub record HasSplitSpace (n : ℕ) (s : InSection) : Type 0 where
   pub own : s.own ≡ []
-  pub spare : most_writes ≤ s.seat.spare
-  pub held : most_writes ≤ s.seat.write_max
+  pub spare : n ≤ s.seat.spare
+  pub held : n ≤ s.seat.write_max
 
 -- what a look finds that makes no commit
 abbrev pub SplitFound : Causes → Seat → Seat → Split → Type 0

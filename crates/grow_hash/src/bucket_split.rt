@@ -62,7 +62,7 @@ pub fn try_split<S: Store<Rules = GrowRules>>(store: S) -> (S, Split)
 }
 
 // What the split of the bucket at the split place writes, or by which of the first two tests none can be made.
-fn plan_split<V: View>(view: &mut V) -> Result<Parted, Split>
+pub(crate) fn plan_split<V: View>(view: &mut V) -> Result<Parted, Split>
     requires lawful { IsGrown (V.state view.old) }
     ensures planned { MatchResult result
         (λ parted. IsPlannedSplit (V.state view.old) parted.place (take parted.count parted.writes))
@@ -81,9 +81,12 @@ fn plan_split<V: View>(view: &mut V) -> Result<Parted, Split>
 }
 
 // Locks and writes what a split is to write over a section that holds nothing, and commits it.
-fn commit_split<S: Store<Rules = GrowRules>>(section: S::Open, parted: &Parted) -> (S, Split)
+pub(crate) fn commit_split<S: Store<Rules = GrowRules>>(
+    section: S::Open,
+    parted: &Parted,
+) -> (S, Split)
     requires planned { IsPlannedSplit (state_of (S.Open.section section)) parted.now.place (take parted.now.count parted.now.writes) }
-    requires space { HasSplitSpace (S.Open.section section) }
+    requires space { HasSplitSpace parted.now.count (S.Open.section section) }
     ensures tried { let shows = causes S.Open.may_refuse S.Open.has_trail S.took S.holds_back S.Open.found_held S.Open.loaded in
         SplitTriedIn shows (S.Open.section section) (S.seat_of result.0) result.1 }
     ensures continues { Continues (S.Open.section section).seat (S.seat_of result.0) }

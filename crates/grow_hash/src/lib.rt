@@ -16,7 +16,7 @@
 //! table on by one place and writes each object of the bucket. An add holds its predecessor, and a del
 //! its predecessor and its node; so a split of their bucket meets them, and every other commit leaves
 //! their bucket and their place. That each is fit, so that it stays allowed whatever others commit
-//! meanwhile, is a law (`grow_plans_are_fit`), and so is that each state is lawful and has 16 buckets
+//! meanwhile, is a law (`grow_plans_are_fit`, `split_plans_are_fit`), and so is that each state is lawful and has 16 buckets
 //! and one more for each split (`grown_states_remain`).
 //!
 //! # The contract
@@ -36,6 +36,19 @@
 //! (`specs/GrowFindings.antt`); then it locks and writes what it planned, and commits it. The replies are
 //! those of the state just before the commit, and not of the snapshot, since the store's law is that its
 //! whole history is allowed.
+//!
+//! `try_split` is the split of the bucket at the split place as one section of any store
+//! (`specs/SplitCalls.antt`). It reads the bucket once, along its list, into an array on the stack, and
+//! plans from that what each object gets: the table its next words, and both heads and each node the
+//! first or next node of its own half (`specs/SplitPlans.antt`). Each node of the bucket is written, also
+//! where its link stays, so the split meets each add and del there. By its answer:
+//!
+//! - `Done`: the entry of that time is the seat's last commit, the split of the bucket that was next just
+//!   before it. The catalogue is as before, and there is one bucket more, 16 and one for each split so far.
+//! - `Whole`, `Long`, `Worn`: in the snapshot of a section that this call entered all buckets are split,
+//!   or else this one has too many keys, or else it is the last time.
+//! - `Again`: none of these three holds there. The cause is as that of `attempt_grow`, of the table, one of
+//!   the heads or a node of the bucket.
 //!
 //! `table_of` answers the level and the split place, and `read_grown` the whole catalogue. The searches of
 //! the set stand on those of `list_set` over any head, one bucket at a time. No call but `read_grown`
@@ -58,6 +71,8 @@ mod laws;
 mod reading;
 mod rules;
 mod search;
+#[cfg(test)]
+mod split_tests;
 mod table;
 #[cfg(test)]
 mod tests;

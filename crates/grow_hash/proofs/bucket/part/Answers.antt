@@ -3,7 +3,7 @@ use Rattle.std.proofs.Math.Nat.{mod-lt}
 use Rattle.mv_history.specs.State.{State, Writes}
 use Rattle.grow_hash.specs.Tables.{buckets_at}
 use Rattle.grow_hash.proofs.Buckets.{some_buckets, more_buckets, twice_buckets}
-use Rattle.grow_hash.proofs.PartedReads.{Reads, PartedFrom, parted_none, parted_more, parted_whole}
+use Rattle.grow_hash.proofs.split.PartedReads.{Reads, PartedFrom, parted_none, parted_more, parted_whole}
 use Rattle.grow_hash.proofs.bucket.part.Goals as goal
 
 pub moved-requires : goal.moved-requires

@@ -1,6 +1,6 @@
 use Rattle.std.proofs.Common.{◌≡◌, ◌≤◌, length, take}
 use Rattle.mv_history.specs.State.{State}
-use Rattle.grow_hash.proofs.PartedReads.{Reads, PartedFrom}
+use Rattle.grow_hash.proofs.split.PartedReads.{Reads, PartedFrom}
 use Rattle.grow_hash.proofs.bucket.part.Given as goal
 
 abbrev pub invariant-loop-index : goal.invariant-loop-index

@@ -7,9 +7,9 @@ use Rattle.set_catalog.specs.Attempts.{TriesOne}
 use Rattle.set_catalog.proofs.Exchanges.{leaves_none, left_one, one_before, one_after}
 use Rattle.set_catalog.proofs.Outcomes.{worn_left}
 use Rattle.grow_hash.specs.GrowRules.{split_tag, IsGrowCommit}
-use Rattle.grow_hash.proofs.SplitOutcomes.{room_for, ready_by, stops_by, done_by, stopped_in, overtaken_in, found_after, found_tried_in}
-use Rattle.grow_hash.proofs.SplitPlanned.{plan_distinct, plan_within}
-use Rattle.grow_hash.proofs.SplitTimes.{grown_read}
+use Rattle.grow_hash.proofs.split.Outcomes.{room_for, ready_by, stops_by, done_by, stopped_in, overtaken_in, found_after, found_tried_in}
+use Rattle.grow_hash.proofs.split.Planned.{plan_distinct, plan_within}
+use Rattle.grow_hash.proofs.attempts.Times.{grown_read}
 use Rattle.grow_hash.proofs.bucket_split.commit_split.Goals as goal
 
 pub rewrite-requires-clause-distinct : goal.rewrite-requires-clause-distinct
@@ -22,7 +22,7 @@ rewrite-requires-clause-within g c =
 
 pub rewrite-requires-clause-room : goal.rewrite-requires-clause-room
 rewrite-requires-clause-room g c =
-    let p = c.args.parted.now in room_for _ (take p.count p.writes) c.requires.space (omega (arith, length-take p.count p.writes, p.few))
+    let p = c.args.parted.now in room_for p.count _ (take p.count p.writes) c.requires.space (omega (arith, length-take p.count p.writes))
 
 pub returns-in-Err : goal.returns-in-Err
 returns-in-Err g c =

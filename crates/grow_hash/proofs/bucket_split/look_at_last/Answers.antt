@@ -6,8 +6,8 @@ use Rattle.mv_history.proofs.Steps.{Continues-Continues, NamesNoCommit-NamesNoCo
 use Rattle.set_catalog.proofs.Exchanges.{leave_none}
 use Rattle.set_catalog.proofs.LawfulTimes.{reads_snapshot}
 use Rattle.grow_hash.specs.Grown.{IsGrown}
-use Rattle.grow_hash.proofs.SplitOutcomes.{looked, closed_found, worn_found, worn_at}
-use Rattle.grow_hash.proofs.SplitTimes.{grown_read}
+use Rattle.grow_hash.proofs.split.Outcomes.{looked, closed_found, worn_found, worn_at}
+use Rattle.grow_hash.proofs.attempts.Times.{grown_read}
 use Rattle.grow_hash.proofs.bucket_split.look_at_last.Goals as goal
 
 pub plan_split-requires : goal.plan_split-requires

@@ -1,6 +1,6 @@
 use Rattle.std.proofs.Common.{◌+◌, refl, sym, subst, take, ℕ}
 use Rattle.grow_hash.specs.SplitSteps.{IsPlannedSplit}
-use Rattle.grow_hash.proofs.SplitReads.{bucket_linked, planned_by, long_by}
+use Rattle.grow_hash.proofs.split.Reads.{bucket_linked, planned_by, long_by}
 use Rattle.grow_hash.proofs.bucket_split.plan_split.Goals as goal
 
 pub read_bucket-bucket-requires-clause-linked : goal.read_bucket-bucket-requires-clause-linked

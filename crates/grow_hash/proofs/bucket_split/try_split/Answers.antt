@@ -9,8 +9,8 @@ use Rattle.set_catalog.proofs.LawfulTimes.{reads_snapshot}
 use Rattle.grow_hash.specs.Grown.{IsGrown}
 use Rattle.grow_hash.specs.SplitCalls.{IsSplittable}
 use Rattle.grow_hash.specs.SplitSteps.{IsPlannedSplit}
-use Rattle.grow_hash.proofs.SplitOutcomes.{looked, closed_found, found_tried, worn_found, opened_by, space_found, short_by, tried_by, last_by}
-use Rattle.grow_hash.proofs.SplitTimes.{grown_read}
+use Rattle.grow_hash.proofs.split.Outcomes.{looked, closed_found, found_tried, worn_found, opened_by, space_found, short_by, tried_by, last_by}
+use Rattle.grow_hash.proofs.attempts.Times.{grown_read}
 use Rattle.grow_hash.proofs.bucket_split.try_split.Goals as goal
 
 pub plan_split-requires : goal.plan_split-requires
@@ -49,7 +49,7 @@ returns-then-time-last g c =
     let left = subst (λ (s : Seat). Leaves (g.S.Open.Section.section c.plan_split.new.view) s) (g.met.S.Store.same_seat _) c.leave-then-time-last.ensures in
     record {
       tried = worn_found _ _ _ _ _ (looked _ _ _ _ _ _ p.continues p.mine e c.enter-section.ensures.took law.at goes left) here
-          c.in-Ok.ensures.planned.splittable (last_by _ _ _ c.at-time.ensures c.last-last.ensures c.if-time-last.true);
+          c.in-Ok.ensures.planned.splittable (last_by (g.S.Open.Section.section c.enter-section.result) _ _ c.at-time.ensures c.last-last.ensures c.if-time-last.true);
       continues = Continues-Continues looks.continues left.continues;
       at_most_one = left_one looks.continues looks.quiet left;
     }
@@ -64,7 +64,7 @@ commit_split-requires g c =
     record {
       planned = subst (λ (s : State). IsPlannedSplit s c.in-Ok.parted.place (take c.in-Ok.parted.count c.in-Ok.parted.writes))
           (here ∙ sym (state_of-as_before _ _ law.at same)) c.in-Ok.ensures.planned;
-      space = space_found _ _ _ e same (omega (arith, c.requires.most, p.continues.write_max)) (c.in-Enough.ensures.enough refl);
+      space = space_found c.in-Ok.parted.count _ _ _ e same (omega (arith, c.requires.most, p.continues.write_max, c.in-Ok.parted.few)) (c.in-Enough.ensures.enough refl);
     }
 
 pub returns-in-Enough : goal.returns-in-Enough

@@ -13,9 +13,9 @@ use Rattle.grow_hash.specs.Tables.{level, split_place, buckets_at, next_table}
 use Rattle.grow_hash.specs.Grown.{IsGrown, head_at, grown_catalogue}
 use Rattle.grow_hash.specs.GrowRules.{split_tag, IsGrowCommit}
 use Rattle.grow_hash.specs.SplitPlans.{SplitPlan, IsPath, new_bucket, split_bucket, first_to, parted_nodes, split_writes}
-use Rattle.grow_hash.proofs.Paths.{path_kept}
-use Rattle.grow_hash.proofs.PartedStates.{parted_objects}
-use Rattle.grow_hash.proofs.SplitStates.{split_allowed}
+use Rattle.grow_hash.proofs.split.Paths.{path_kept}
+use Rattle.grow_hash.proofs.split.PartedStates.{parted_objects}
+use Rattle.grow_hash.proofs.split.States.{split_allowed}
 
 -- Two states with the same table, and the same words of these nodes.
 module _ (s t : State) (table : words_at t 0 ≡ words_at s 0) where

@@ -24,16 +24,9 @@ seen_allowed s h t =
     IsAllowed-front IsGrowCommit s.start (take t s.seen) (drop t s.seen)
     (subst (λ e. IsAllowed IsGrowCommit s.start e) (sym (take-append-drop t s.seen)) h.allowed)
 
--- The state of each time that a seat has seen is lawful, and has 16 buckets and one for each split.
-pub grown_at : (s : Seat) → IsSeat IsGrownOpening IsGrowCommit s → (t : ℕ) → IsGrown (state_at s.start s.seen t)
-grown_at s h t = grown_after s.start (take t s.seen) h.start (seen_allowed s h t)
-
+-- The state of each time that a seat has seen has 16 buckets and one for each split.
 buckets_at_time : (s : Seat) → IsSeat IsGrownOpening IsGrowCommit s → (t : ℕ) → buckets (state_at s.start s.seen t) ≡ 16 + count_splits (take t s.seen)
 buckets_at_time s h t = buckets_after s.start (take t s.seen) h.start (seen_allowed s h t)
-
--- so is what a section reads that holds nothing
-pub grown_read : (s : InSection) → IsSection IsGrownOpening IsGrowCommit s → s.own ≡ [] → IsGrown (state_of s)
-grown_read s h none = subst IsGrown (sym (reads_snapshot s none)) (grown_at s.seat h.seat s.at)
 
 take_next : {X : Type 0} (xs : List X) (i : ℕ) (x : X) → slice_get xs i ≡ Some x → take (suc i) xs ≡ take i xs ++ x ∷ []
 take_next [] i x e = absurd (cc)

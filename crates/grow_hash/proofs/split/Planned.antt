@@ -14,8 +14,8 @@ use Rattle.grow_hash.specs.SplitPlans.{SplitPlan, IsPath, new_bucket, split_writ
 use Rattle.grow_hash.specs.SplitCalls.{IsOfSplit}
 use Rattle.grow_hash.proofs.Buckets.{some_buckets, more_buckets, twice_buckets}
 use Rattle.grow_hash.proofs.GrownStates.{node_high}
-use Rattle.grow_hash.proofs.Paths.{AreRising, rising_node, head_path_rises}
-use Rattle.grow_hash.proofs.PartedStates.{parted_objects, first_apart}
+use Rattle.grow_hash.proofs.split.Paths.{AreRising, rising_node, head_path_rises}
+use Rattle.grow_hash.proofs.split.PartedStates.{parted_objects, first_apart}
 
 rising_distinct : (s : State) (head : ℕ) (ns : List ℕ) → AreRising s head ns → IsDistinct ns
 rising_distinct s head [] r = tt

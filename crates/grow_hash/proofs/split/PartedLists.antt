@@ -13,7 +13,7 @@ use Rattle.list_set.specs.Linked.{IsNodeOf, IsAfter, IsLinked}
 use Rattle.list_set.proofs.Linking.{head_no_node}
 use Rattle.grow_hash.specs.Grown.{head_at}
 use Rattle.grow_hash.specs.SplitPlans.{split_bucket, first_to}
-use Rattle.grow_hash.proofs.Paths.{AreRising, rising_node}
+use Rattle.grow_hash.proofs.split.Paths.{AreRising, rising_node}
 
 -- the first node is the first of the bucket, or not
 pub first_here : (s : State) (b n : ℕ) (ns : List ℕ) → split_bucket s n ≡ b → first_to s b (n ∷ ns) ≡ n

@@ -41,9 +41,9 @@ use Rattle.grow_hash.specs.SplitCalls.{
 use Rattle.grow_hash.specs.SplitSteps.{IsPlannedSplit, IsClosed, HasSplitSpace, SplitFound, SplitGivesUpIn, SplitTriedIn}
 use Rattle.grow_hash.specs.declared.answer.Split.{Split}
 use Rattle.grow_hash.specs.declared.answer.Split.TheVariants.{Done, Whole, Long, Worn, Again}
-use Rattle.grow_hash.proofs.SplitFits.{split_fit}
-use Rattle.grow_hash.proofs.SplitPlanned.{plan_distinct, plan_named, plan_some}
-use Rattle.grow_hash.proofs.SplitTimes.{tagged_then, left_then, more_then, counted_then}
+use Rattle.grow_hash.proofs.split.Fits.{split_fit}
+use Rattle.grow_hash.proofs.split.Planned.{plan_distinct, plan_named, plan_some}
+use Rattle.grow_hash.proofs.split.Times.{tagged_then, left_then, more_then, counted_then}
 
 -- a section that holds nothing has room for so many objects
 count_new : (os : List ℕ) → count_unheld [] os ≡ length os
@@ -54,8 +54,8 @@ length_objects : (ws : Writes) → length (objects_of ws) ≡ length ws
 length_objects [] = refl
 length_objects (w ∷ ws) = ap suc (length_objects ws)
 
-pub room_for : (s : InSection) (ws : Writes) → HasSplitSpace s → length ws ≤ 64 → HasRoom s (objects_of ws)
-room_for s ws h le =
+pub room_for : (n : ℕ) (s : InSection) (ws : Writes) → HasSplitSpace n s → length ws ≤ n → HasRoom s (objects_of ws)
+room_for n s ws h le =
     let new : count_unheld s.own (objects_of ws) ≡ length ws =
     ap (λ (own : Writes). count_unheld own (objects_of ws)) h.own ∙ count_new (objects_of ws) ∙ length_objects ws in
     let none : length s.own ≡ 0 = ap length h.own in
@@ -354,9 +354,9 @@ short_by k old prepared entered found new holder o may held gone = record {
 }
 
 -- nothing is held, and there is room, where enough was made
-pub space_found : (prepared : Seat) (entered found : InSection) → Enters prepared entered → IsAsBefore entered found → 64 ≤ prepared.write_max
-    → prepared.write_max ≤ prepared.spare → HasSplitSpace found
-space_found prepared entered found e same held enough = record {
+pub space_found : (n : ℕ) (prepared : Seat) (entered found : InSection) → Enters prepared entered → IsAsBefore entered found → n ≤ prepared.write_max
+    → prepared.write_max ≤ prepared.spare → HasSplitSpace n found
+space_found n prepared entered found e same held enough = record {
   own = same.own ∙ e.own;
   spare = omega (arith, same.seat.spare, e.seat.spare);
   held = omega (arith, same.seat.continues.write_max, e.seat.continues.write_max);

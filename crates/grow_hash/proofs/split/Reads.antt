@@ -11,7 +11,7 @@ use Rattle.grow_hash.specs.SplitPlans.{IsPath}
 use Rattle.grow_hash.specs.SplitCalls.{keys_at_place}
 use Rattle.grow_hash.specs.SplitSteps.{IsPlannedSplit}
 use Rattle.grow_hash.proofs.Buckets.{few_buckets}
-use Rattle.grow_hash.proofs.ReadBuckets.{read_path}
+use Rattle.grow_hash.proofs.split.ReadBuckets.{read_path}
 
 module _ (s t : State) (at place head : ℕ) (l : IsGrown s) (level_is : at ≡ level s) (place_is : place ≡ split_place s) (same : t ≡ s) where
   place_low : place < 1024

@@ -12,8 +12,8 @@ use Rattle.set_script.proofs.Written.{touches-out}
 use Rattle.grow_hash.specs.Grown.{head_at, grown_map}
 use Rattle.grow_hash.specs.SplitPlans.{split_bucket, first_to, parted_nodes}
 use Rattle.grow_hash.proofs.GrownMaps.{grown_map-same, used_owned}
-use Rattle.grow_hash.proofs.Paths.{AreRising}
-use Rattle.grow_hash.proofs.PartedLists.{AreParted}
+use Rattle.grow_hash.proofs.split.Paths.{AreRising}
+use Rattle.grow_hash.proofs.split.PartedLists.{AreParted}
 
 -- the nodes of the bucket are those that are written
 pub parted_objects : (s : State) (ns : List ℕ) → objects_of (parted_nodes s ns) ≡ ns

@@ -20,9 +20,9 @@ use Rattle.grow_hash.proofs.KeptLists.{list_kept}
 use Rattle.grow_hash.proofs.GrownMaps.{grown_map-low}
 use Rattle.grow_hash.proofs.GrownStates.{low_unowned, node_high, node_of_bucket, node_bucket, head_is, node_is}
 use Rattle.grow_hash.proofs.Splitting.{bucket_apart, bucket_parted, table_splits, table_owner}
-use Rattle.grow_hash.proofs.Paths.{AreRising, rising_node, head_path_rises, head_path_has}
-use Rattle.grow_hash.proofs.PartedLists.{AreParted, parted_words, list_parted}
-use Rattle.grow_hash.proofs.PartedStates.{parted_objects, parted_out, parted_in, parted_map}
+use Rattle.grow_hash.proofs.split.Paths.{AreRising, rising_node, head_path_rises, head_path_has}
+use Rattle.grow_hash.proofs.split.PartedLists.{AreParted, parted_words, list_parted}
+use Rattle.grow_hash.proofs.split.PartedStates.{parted_objects, parted_out, parted_in, parted_map}
 
 module _ (s : State) (ns : List ℕ) (l : IsGrown s) (below : level s < 6) (path : IsPath s (head_at (split_place s)) ns) where
   abbrev after : State

@@ -18,8 +18,8 @@ use Rattle.grow_hash.specs.BucketReads.{IsRead, IsMoved, ArePartedWrites}
 use Rattle.grow_hash.specs.SplitPlans.{split_bucket, new_bucket, first_to, parted_nodes, split_writes}
 use Rattle.grow_hash.proofs.Buckets.{some_buckets, few_buckets, more_buckets, twice_buckets, split_to}
 use Rattle.grow_hash.proofs.GrownStates.{node_high, node_bucket}
-use Rattle.grow_hash.proofs.Paths.{rising_node, head_path_rises}
-use Rattle.grow_hash.proofs.ReadBuckets.{read_path, read_words}
+use Rattle.grow_hash.proofs.split.Paths.{rising_node, head_path_rises}
+use Rattle.grow_hash.proofs.split.ReadBuckets.{read_path, read_words}
 
 -- the table is this one, and these nodes were read of the bucket at the split place
 pub record Reads (s : State) (at place : ℕ) (reads : Writes) : Type 0 where

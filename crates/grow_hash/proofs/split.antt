@@ -1,0 +1,11 @@
+pub mod Paths
+pub mod PartedLists
+pub mod PartedStates
+pub mod States
+pub mod Fits
+pub mod ReadBuckets
+pub mod PartedReads
+pub mod Planned
+pub mod Times
+pub mod Outcomes
+pub mod Reads

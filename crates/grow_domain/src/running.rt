@@ -1,0 +1,114 @@
+// The run of scripts on a growing hash set over a domain, up to the meeting of its seats.
+ghost use Rattle.std.specs.Prelude.{◌≡◌, ◌≤◌, length, map, All, IfOk, IfErr};
+ghost use Rattle.grow_hash.specs.Grown.{IsGrownOpening, grown_catalogue};
+ghost use Rattle.grow_hash.specs.GrowPlans.{IsOfGrown};
+ghost use Rattle.grow_hash.specs.Splits.{count_splits};
+ghost use Rattle.set_script.specs.declared.script.TheConstants.{MOST_COMMANDS};
+ghost use Rattle.mvrlu.specs.Meant.{numbers_of, opening_of, seat_of, whole_of};
+ghost use Rattle.mvrlu.specs.Whole.{last_state};
+ghost use Rattle.grow_report.specs.Turns.{AllRanGrow};
+ghost use Rattle.grow_report.specs.Whole.{GrowRunOf};
+ghost use Rattle.script_workers.specs.Workers.{items_of};
+ghost use Rattle.script_domain.specs.Joined.{past_of_whole, AreTablesOf};
+ghost use Rattle.script_domain.specs.New.{AreNewFrom};
+
+use grow_hash::GrowRules;
+use grow_workers::run_grow;
+use mv_history::LogTable;
+use mvrlu::{Closing, Domain, Seat};
+use run_outside::Gate;
+use run_report::Line;
+use script_domain::lending::{Rows, give_back, lend, make_rows, take_tables};
+use set_script::Command;
+use std::alloc::{AllocError, Global};
+use std::sync::Wait;
+use std::thread::Threads;
+
+/// Runs a script on each seat of a domain, in a thread for each, and then lets all seats meet. Behind each second add of a
+/// script that replied yes its seat splits a bucket, or finds that none can be split.
+///
+/// It needs all seats of the domain, as `open` gave them, in order of number, a script for each, of at most 65,536 adds, dels,
+/// has, sizes and nexts of `h0`, and an opening state of at least 1,026 objects whose words are all 0. `write_max` must be at
+/// least 64, which is as many objects as a split locks at most. `gate` is called around each command.
+///
+/// It answers the closing of the domain, the lines by seat and then by number, and the tables of the logs by seat. They
+/// are those of one run in the closing's history: every reply is the one that the sequential catalogue gives at the
+/// line's printed place, and each commit of the history has exactly one line or is a split that was due.
+///
+/// The error is want of memory. It comes only before the first command, and hands back the domain and the seats, which
+/// mean what they meant, so the call can be tried again. After the workers have ended nothing is refused.
+pub fn run_grow_domain<R: Threads + Wait + Sync, G: Gate>(
+    rt: &R,
+    alloc: Global,
+    domain: Domain<GrowRules>,
+    seats: Vec<Seat<GrowRules>>,
+    scripts: &[Vec<Command>],
+    gate: &G,
+) -> Result<
+    (Closing<GrowRules>, Vec<Line>, Vec<LogTable>),
+    (Domain<GrowRules>, Vec<Seat<GrowRules>>, AllocError),
+>
+    requires new { AreNewFrom domain 0 (map seat_of seats.items) }
+    requires all { length seats.items ≡ (numbers_of domain).seats }
+    requires opening { IsGrownOpening (opening_of domain) }
+    requires as_many { length scripts.now ≡ length seats.items }
+    requires short { All (λ script. length script.items ≤ MOST_COMMANDS) scripts.now }
+    requires growing { All (λ script. All IsOfGrown script.items) scripts.now }
+    requires most { 64 ≤ (numbers_of domain).write_max }
+    ensures ran { IfOk result (λ done.
+        GrowRunOf (past_of_whole (whole_of done.0)) (map items_of scripts.now) done.1.items (grown_catalogue (last_state (whole_of done.0)))
+        (count_splits (whole_of done.0).history) done.2.items) }
+    ensures opening { IfOk result (λ done.
+        ((whole_of done.0).start ≡ opening_of domain) × ((whole_of done.0).base ≡ (numbers_of domain).base)) }
+    ensures err { IfErr result (λ refused. (refused.0 ≡ domain) × (map seat_of refused.1.items ≡ map seat_of seats.items)) }
+{
+    match run_seats(rt, alloc, &domain, seats, scripts, gate) {
+        Ok((seats, lines, tables)) => Ok((domain.meet(seats), lines, tables)),
+        Err((seats, error)) => Err((domain, seats, error)),
+    }
+}
+
+// What a run of the seats leaves: the seats, the lines and the tables; or the seats as they were.
+type FromSeats = Result<
+    (Vec<Seat<GrowRules>>, Vec<Line>, Vec<LogTable>),
+    (Vec<Seat<GrowRules>>, AllocError),
+>;
+
+// Runs a script on each seat, and takes the tables of their logs.
+fn run_seats<R: Threads + Wait + Sync, G: Gate>(
+    rt: &R,
+    alloc: Global,
+    domain: &Domain<GrowRules>,
+    mut seats: Vec<Seat<GrowRules>>,
+    scripts: &[Vec<Command>],
+    gate: &G,
+) -> FromSeats
+    requires new { AreNewFrom domain.now 0 (map seat_of seats.items) }
+    requires as_many { length scripts.now ≡ length seats.items }
+    requires short { All (λ script. length script.items ≤ MOST_COMMANDS) scripts.now }
+    requires growing { All (λ script. All IsOfGrown script.items) scripts.now }
+    requires most { 64 ≤ (numbers_of domain.now).write_max }
+    ensures ran { IfOk result (λ done. AllRanGrow (map seat_of seats.items) (map seat_of done.0.items) (map items_of scripts.now) done.1.items) }
+    ensures tables { IfOk result (λ done. AreTablesOf (map seat_of done.0.items) done.2.items) }
+    ensures err { IfErr result (λ refused. map seat_of refused.0.items ≡ map seat_of seats.items) }
+{
+    let Rows {
+        mut tables,
+        mut handles,
+    } = match make_rows(alloc, seats.len()) {
+        Ok(rows) => rows,
+        Err(error) => return Err((seats, error)),
+    };
+    lend(domain, &mut seats, &mut handles);
+    match run_grow(rt, alloc, handles, scripts, gate) {
+        Ok((handles, lines)) => {
+            take_tables(&handles, &mut tables);
+            give_back(handles, &mut seats);
+            Ok((seats, lines, tables))
+        }
+        Err((handles, error)) => {
+            give_back(handles, &mut seats);
+            Err((seats, error))
+        }
+    }
+}

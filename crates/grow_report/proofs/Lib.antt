@@ -1,0 +1,11 @@
+pub mod Tags
+pub mod Steps
+pub mod Found
+pub mod Seats
+pub mod Counts
+pub mod Still
+pub mod GrownReplay
+pub mod Openings
+pub mod Known
+pub mod OneRun
+pub mod Texts

@@ -1,0 +1,31 @@
+use Rattle.std.proofs.Common.{◌∙◌}
+use Rattle.grow_workers.specs.Workers.{EachRan}
+use Rattle.script_workers.proofs.Workers.{command_counts, written_back}
+use Rattle.grow_workers.proofs.Workers.{may_run, all_ran, line_counts}
+use Rattle.grow_workers.proofs.running.run_grow.Goals as goal
+
+pub load-requires-clause-may_run : goal.load-requires-clause-may_run
+load-requires-clause-may_run g c =
+    may_run g.S.Store.seat_of c.args.stores.items c.args.scripts.now c.requires.as_many c.requires.short c.requires.growing c.requires.most
+
+pub run_all-requires-after_bounds : goal.run_all-requires-after_bounds
+run_all-requires-after_bounds g c κs within = rw c.deref_mut.ensures.value c.load.ensures.ready
+
+pub unload-requires-clause-room : goal.unload-requires-clause-room
+unload-requires-clause-room g c =
+    let ws = c.load.new.workers.items in
+    let ns = c.run_all.new.workers in
+    let ran : EachRan g.S.Store.seat_of ws ns = rw (← c.deref_mut.ensures.value) c.run_all.ensures in
+    let whole = c.load.new.workers.ok.0 in
+    let back = written_back ns ws c.load.new.workers.len whole (c.run_all.auto.workers ∙ c.deref_mut.ensures.len ∙ whole) in
+    rw (back, line_counts g.S.Store.seat_of ws ns ran, c.load.ensures.scripts, command_counts) c.in-Ok.ensures.room
+
+pub returns-clause-ran : goal.returns-clause-ran
+returns-clause-ran g c =
+    let ws = c.load.new.workers.items in
+    let ns = c.run_all.new.workers in
+    let ran : EachRan g.S.Store.seat_of ws ns = rw (← c.deref_mut.ensures.value) c.run_all.ensures in
+    let whole = c.load.new.workers.ok.0 in
+    let back = written_back ns ws c.load.new.workers.len whole (c.run_all.auto.workers ∙ c.deref_mut.ensures.len ∙ whole) in
+    rw (c.unload.ensures.stores, c.unload.ensures.lines, back, ← c.load.ensures.stores, ← c.load.ensures.scripts)
+    (all_ran g.S.Store.seat_of ws ns ran)

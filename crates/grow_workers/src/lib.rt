@@ -1,0 +1,45 @@
+//! The workers of a growing hash set: each runs one script on one store and splits buckets, all at once in threads.
+//!
+//! # The model
+//!
+//! A store is a seat of one history of commits (`mv_history`). A worker has a store, a script of commands on the set and the
+//! lines that it makes: for each command, in order, one line with the seat, the command's number, the place where it took
+//! effect in the history, and its reply there (`run_report`). Behind each second add that replied yes it tries a split until
+//! it is answered. The stores' numbers are their places, so that a line's seat names its script.
+//!
+//! # The contract
+//!
+//! [`run_grow`] leaves, of each seat and its script (`RanGrow` in `grow_report`):
+//!
+//! - what the seat had seen is still seen, and no range of times changed (`Continues`);
+//! - its commits grew by exactly those of its lines, one for each line at a commit, and of one split at most behind each
+//!   second add that replied yes, in order, and by no others;
+//! - each line's place stands in the history that the seat has seen at the end, with the reply of the catalogue there;
+//! - a split that is missing has a state that can't be split, of a time from that add on and ahead of the next line;
+//! - the places follow what was seen before the run, and one another: a commit is later, and a read is no earlier.
+//!
+//! Nothing is said of what other seats do meanwhile: this holds at every interleaving. Each command and each split is tried
+//! until it is answered, so a run ends only where others let it, and takes a `Wait`. No clause speaks of the gate's calls.
+//!
+//! All memory is taken before the workers start. Want of it is the one error, and leaves the stores untouched.
+//!
+//! # How it is proved
+//!
+//! One attempt's contract and one split's (`grow_hash`) speak of the history that was seen then. From it come the place of a
+//! command and of a split (`proofs/Places.antt`), which stay theirs in each longer history. So the turns before stay as they
+//! are while one more is made (`proofs/Turns.antt`), and what the workers leave, one after another, is what the run leaves
+//! (`proofs/Workers.antt`).
+//!
+//! # Its place
+//!
+//! It stands on the calls of `grow_hash`, on the turns of `grow_report`, and on `script_workers`, whose workers do the like
+//! for the fixed sets, over any store. That the lines of all stores are those of one run follows from this contract and from
+//! the stores being seats of one domain.
+#![tactic(auto)]
+
+mod loading;
+mod running;
+mod worker;
+
+pub use running::run_grow;
+pub use worker::{run_command, run_split};

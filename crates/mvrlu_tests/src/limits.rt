@@ -6,7 +6,7 @@ use std::test::Fail;
 
 /// The line for words that are out of form.
 pub const USAGE: &[u8] =
-    b"usage: run [--objects N] [--slots N] [--base N] FILE... or gen NUMBER SEAT or work NUMBER or block FILE... or pool SEATS FILE\n";
+    b"usage: run [--objects N] [--slots N] [--base N] FILE... or gen NUMBER SEAT or work NUMBER or block FILE... or pool SEATS FILE or replay FILE\n";
 
 const OUT_OF_FORM: [&[&str]; 24] = [
     &[],
@@ -104,8 +104,8 @@ fn files_are_limited(rt: HostRuntime) -> Result<(), Fail> {
     Ok(())
 }
 
-// So many line ends. The number is a variable, since a proof would compute a list of a literal length.
-fn line_ends(alloc: Global, count: usize) -> Result<Vec<u8>, AllocError> {
+/// So many line ends. The number is a variable, since a proof would compute a list of a literal length.
+pub fn line_ends(alloc: Global, count: usize) -> Result<Vec<u8>, AllocError> {
     vec![in alloc; b'\n'; count]
 }
 

@@ -116,10 +116,10 @@ fn print_held<R: Threads + Wait + Abort + Sync>(
     Ok(printed.out.bytes().to_vec(alloc)?)
 }
 
-fn two_texts(alloc: Global) -> Result<Vec<MemText>, AllocError> {
+fn two_texts(alloc: Global, first: &[u8], second: &[u8]) -> Result<Vec<MemText>, AllocError> {
     let mut texts = Vec::new(alloc);
-    texts.push(named(alloc, "a", b"add l0 1\n")?)?;
-    texts.push(named(alloc, "b", b"add l1 1\n")?)?;
+    texts.push(named(alloc, "a", first)?)?;
+    texts.push(named(alloc, "b", second)?)?;
     Ok(texts)
 }
 
@@ -127,10 +127,37 @@ fn two_texts(alloc: Global) -> Result<Vec<MemText>, AllocError> {
 fn either_of_two_files_waits_for_the_other(rt: HostRuntime) -> Result<(), Fail> {
     let alloc = rt.alloc();
     let words = owned(alloc, &["run", "a", "b"])?;
-    let first = print_held(&rt, alloc, 1, &words, two_texts(alloc)?)?;
+    let texts = two_texts(alloc, b"add l0 1\n", b"add l1 1\n")?;
+    let first = print_held(&rt, alloc, 1, &words, texts)?;
     assert!(rt; first.starts_with(b"0.1 c1 yes\n1.1 c2 yes\nl0 1\nl1 1\nlog 0 live "));
-    let second = print_held(&rt, alloc, 0, &words, two_texts(alloc)?)?;
+    let texts = two_texts(alloc, b"add l0 1\n", b"add l1 1\n")?;
+    let second = print_held(&rt, alloc, 0, &words, texts)?;
     assert!(rt; second.starts_with(b"1.1 c1 yes\n0.1 c2 yes\nl0 1\nl1 1\nlog 0 live "));
+    Ok(())
+}
+
+const FIRST_BLOCK: &[u8] = b"begin\nadd l0 1\nadd t0 1\nend\n";
+
+const SECOND_BLOCK: &[u8] = b"begin\nadd l1 1\nhas t0 1\nend\n";
+
+#[test]
+fn either_of_two_files_of_blocks_waits_for_the_other(rt: HostRuntime) -> Result<(), Fail> {
+    let alloc = rt.alloc();
+    let words = owned(alloc, &["block", "a", "b"])?;
+    let texts = two_texts(alloc, FIRST_BLOCK, SECOND_BLOCK)?;
+    let first = print_held(&rt, alloc, 1, &words, texts)?;
+    assert!(rt;
+        first.starts_with(
+            b"0.1 c1 yes\n0.2 c1 yes\n1.1 c2 yes\n1.2 c2 yes\nl0 1\nl1 1\nt0 1\nlog 0 live "
+        )
+    );
+    let texts = two_texts(alloc, FIRST_BLOCK, SECOND_BLOCK)?;
+    let second = print_held(&rt, alloc, 0, &words, texts)?;
+    assert!(rt;
+        second.starts_with(
+            b"1.1 c1 yes\n1.2 c1 no\n0.1 c2 yes\n0.2 c2 yes\nl0 1\nl1 1\nt0 1\nlog 0 live "
+        )
+    );
     Ok(())
 }
 

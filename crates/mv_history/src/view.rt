@@ -1,5 +1,5 @@
 // A value that is read as one state.
-ghost use Rattle.std.specs.Prelude.{◌≡◌, ◌<◌, length};
+ghost use Rattle.std.specs.Prelude.{◌≡◌, ◌+◌, ◌<◌, length, slice_index_or};
 ghost use Rattle.mv_history.specs.State.{State};
 ghost use Rattle.mv_history.specs.Legal.{AreWords};
 ghost use Rattle.mv_history.specs.Meaning.{words_at};
@@ -24,6 +24,20 @@ pub trait View {
         requires { object < length (state self.old) }
         ensures words { result ≡ words_at (state self.old) object }
         ensures as_before { as_before self.old self.new };
+
+    /// Two words of an object that stand next to each other: the one at this place, and the one after it.
+    /// They are those of `read`; a value that loads its words one by one loads these two alone. A value
+    /// that counts its reads counts it as one. It never refuses, and takes no memory.
+    fn read_pair(&mut self, object: u32, place: u32) -> (u64, u64)
+        requires object { object < length (state self.old) }
+        requires place { place < 5 }
+        ensures first { result.0 ≡ slice_index_or (words_at (state self.old) object) place 0 }
+        ensures second { result.1 ≡ slice_index_or (words_at (state self.old) object) (place + 1) 0 }
+        ensures as_before { as_before self.old self.new }
+    {
+        let words = self.read(object);
+        (words[place as usize], words[place as usize + 1])
+    }
 
     ghost as_itself: { (v : Self) → as_before v v };
 

@@ -11,7 +11,7 @@ use Rattle.mv_core.specs.declared.view.Section.{Section}
 use Rattle.mv_core.specs.declared.view.LoadedClocks.{LoadedClocks}
 use Rattle.mv_core.specs.WalkSteps.{head_loaded, first_loaded, stamp_loaded, prev_loaded}
 use Rattle.mv_core.specs.SectionFacts.{IsPastHelp}
-use Rattle.version_chain.specs.Reads.{Reads}
+use Rattle.version_chain.specs.Reads.{ReadsSome}
 use Rattle.version_chain.specs.Walks.{inside_of, section_in, stand_in, MayWalk, IsWalkStep, Walks, snapshot_length}
 
 pub walks_on : (u v w : View) (first second third : ℕ) → Walks u v first second → Walks v w second third → Walks u w first third
@@ -47,9 +47,18 @@ may_walk_on v w before after walks may =
     may_still v w (ap (λ (u : View). u.phase) walks.rest) (ap (λ (u : View). u.clocks) walks.rest) (ap (λ (u : View). u.back) walks.rest) may
 
 -- and after a reader
-pub may_read_on : (kind : StepKind) (v w : View) → Reads kind v w → MayWalk v → MayWalk w
-may_read_on kind v w reads may =
+pub may_read_on : (kind : StepKind) (n : ℕ) (v w : View) → ReadsSome kind n v w → MayWalk v → MayWalk w
+may_read_on kind n v w reads may =
     may_still v w (ap (λ (u : View). u.phase) reads.rest) (ap (λ (u : View). u.clocks) reads.rest) (ap (λ (u : View). u.back) reads.rest) may
+
+-- and after two loads that only join the trail
+pub may_loaded : (v w x : View) (one two : List Step) → w ≡ record v { trail = one } → x ≡ record w { trail = two } → MayWalk v → MayWalk x
+may_loaded v w x one two first second may =
+    may_still v x
+    (ap (λ (u : View). u.phase) second ∙ ap (λ (u : View). u.phase) first)
+    (ap (λ (u : View). u.clocks) second ∙ ap (λ (u : View). u.clocks) first)
+    (ap (λ (u : View). u.back) second ∙ ap (λ (u : View). u.back) first)
+    may
 
 -- after FIRST and STAMP of a version were loaded
 pub may_looked : (c : Config) (v w x : View) (first found : ℕ) (seen : List Entry) → w ≡ first_loaded c v (stand_in v) first

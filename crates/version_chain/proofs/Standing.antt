@@ -8,9 +8,11 @@ use Rattle.mv_core.specs.declared.view.View.{View}
 use Rattle.mv_core.specs.declared.view.Walk.TheVariants as place
 use Rattle.mv_core.specs.declared.view.Stand.{Stand}
 use Rattle.mv_core.specs.declared.view.Passed.{Passed}
-use Rattle.mv_core.specs.WalkSteps.{IsPackedOf, IsLinkOf, stand_at, first_loaded, stamp_loaded}
+use Rattle.mv_core.specs.declared.view.Phase.TheVariants.{Inside}
+use Rattle.mv_core.specs.WalkSteps.{IsPackedOf, IsLinkOf, stand_at, first_loaded, stamp_loaded, MayLoadData}
+use Rattle.mv_history.specs.declared.Step.{Step}
 use Rattle.version_chain.specs.declared.walking.Found.TheVariants.{Version}
-use Rattle.version_chain.specs.Walks.{time_at, stand_of, stand_in, with_first, with_stamp, HasFound}
+use Rattle.version_chain.specs.Walks.{time_at, stand_of, stand_in, section_in, with_first, with_stamp, HasFound, MayWalk, StandsAtVersion}
 
 -- a walk at a link that isn't 0 stands at the version of that link
 pub stands_here : (v : View) (object link : ℕ) (passed : Passed) → link ≢ 0 → v.walk ≡ stand_at object link passed false
@@ -57,3 +59,16 @@ module _ (c : Config) (v w x : View) (object link first found seat position : �
         },
         ap (λ (s : Stand). s.object) stand,
       )
+
+-- after a load that only joins the trail a further word of the version may be loaded
+pub may_data : (c : Config) (v x : View) (seat position link word : ℕ) (steps : List Step) → MayWalk v → StandsAtVersion c v seat position
+    → link ≡ link_of seat position → x ≡ record v { trail = steps } → word < 6 → MayLoadData x link word (stand_in x) (section_in x)
+may_data c v x seat position link word steps may at is so lt = record {
+  phase = ap (λ (u : View). u.phase) so ∙ may.phase ∙ ap Inside (sym (ap section_in so));
+  stands = ap (λ (u : View). u.walk) so ∙ at.stands ∙ ap place.At (sym (ap stand_in so));
+  link_is = ap (λ (u : View). (stand_in u).link) so ∙ at.link_is ∙ sym is;
+  found = at.time;
+  stamp_is = ap (λ (u : View). (stand_in u).stamp) so ∙ at.stamp_is;
+  time_is = subst (λ (u : View). at.time ≤ time_at u) (sym so) at.not_above;
+  in_range = lt;
+}

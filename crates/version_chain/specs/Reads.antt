@@ -11,7 +11,11 @@ use Rattle.version_chain.specs.Walks.{section_in}
 abbrev pub words_in : Config → View → ℕ → List ℕ
 words_in c v object = words_read c v (section_in v) object
 
--- What a reader leaves of a view: the trail has one load of this kind for each of the six words, and nothing else changes.
-pub record Reads (kind : StepKind) (v w : View) : Type 0 where
-  pub trail : (steps : List Step) × (w.trail ≡ v.trail ++ steps) × (length steps ≡ 6) × All (λ s. s.kind ≡ kind) steps
+-- What a reader of so many words leaves of a view: the trail has one load of this kind for each of them, and nothing else changes.
+pub record ReadsSome (kind : StepKind) (n : ℕ) (v w : View) : Type 0 where
+  pub trail : (steps : List Step) × (w.trail ≡ v.trail ++ steps) × (length steps ≡ n) × All (λ s. s.kind ≡ kind) steps
   pub rest : w ≡ record v { trail = w.trail }
+
+-- what a reader of all six leaves
+abbrev pub Reads : StepKind → View → View → Type 0
+Reads kind v w = ReadsSome kind 6 v w

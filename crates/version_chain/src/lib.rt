@@ -19,7 +19,8 @@
 //! that is unset or above the section's time. No call waits, refuses or takes memory, and none
 //! loops without bound: each version below one that was passed has a smaller commit time, so that
 //! `find` makes at most `6 + 3 * (length of seen after the call - at)` steps, where `at` is the
-//! length of the section's snapshot. A reader makes six. The trail grows by as many records.
+//! length of the section's snapshot. A reader makes six, and one of two words makes two. The trail
+//! grows by as many records.
 //!
 //! All calls need a pass inside a section, in its open phase, past its help, with no write-back
 //! under way. They change where the walk stands, and what the seat has seen is only longer; all
@@ -33,5 +34,5 @@ mod reading;
 mod tests;
 mod walking;
 
-pub use reading::{read_master, read_version};
+pub use reading::{read_master, read_master_pair, read_version, read_version_pair};
 pub use walking::{Found, Walk, find, walk_start, walk_step};

@@ -1,10 +1,10 @@
 // Reading the words of what a walk has found.
-ghost use Rattle.std.specs.Prelude.{◌≡◌, ◌+◌, ◌<◌};
+ghost use Rattle.std.specs.Prelude.{◌≡◌, ◌+◌, ◌<◌, slice_index};
 ghost use Rattle.mv_history.specs.declared.StepKind.TheVariants.{LoadData, LoadMaster};
-ghost use Rattle.mv_core.specs.declared.view.Walk.TheVariants as place;
+ghost use Rattle.mv_core.specs.declared.view.Walk.TheVariants as walk;
 ghost use Rattle.mv_core.specs.Passes.{view, IsOf, IsSame, config_of};
 ghost use Rattle.version_chain.specs.Walks.{MayWalk, StandsAtVersion, stand_in};
-ghost use Rattle.version_chain.specs.Reads.{Reads, words_in};
+ghost use Rattle.version_chain.specs.Reads.{Reads, ReadsSome, words_in};
 
 use mv_core::{Pass, Shared, Steps};
 use mv_history::{Protocol, WORDS, Words};
@@ -52,7 +52,7 @@ pub fn read_master<P: Protocol, L: Ledger>(
     requires of { IsOf shared.now pass.old }
     requires may { MayWalk (view pass.old) }
     requires range { object < (config_of shared.now).objects }
-    requires stands { (view pass.old).walk ≡ place.Master object }
+    requires stands { (view pass.old).walk ≡ walk.Master object }
     ensures same { IsSame pass.old pass.new }
     ensures may { MayWalk (view pass.new) }
     ensures words { result ≡ words_in (config_of shared.now) (view pass.old) object }
@@ -64,4 +64,58 @@ pub fn read_master<P: Protocol, L: Ledger>(
         words[word as usize] = shared.load_master(pass, object, word, steps);
     }
     words
+}
+
+/// Reads two words of the version, the one at this place and the one after it, of the six that
+/// `read_version` reads, on the same condition. It makes two steps; the pass stands there still.
+#[inline(always)]
+pub fn read_version_pair<P: Protocol, L: Ledger>(
+    shared: &Shared<P>,
+    pass: &mut Pass<P>,
+    seat: u32,
+    position: u64,
+    place: u32,
+    steps: &mut Steps<L>,
+) -> (u64, u64)
+    requires of { IsOf shared.now pass.old }
+    requires may { MayWalk (view pass.old) }
+    requires stands { StandsAtVersion (config_of shared.now) (view pass.old) seat position }
+    requires place { place < 5 }
+    ensures same { IsSame pass.old pass.new }
+    ensures may { MayWalk (view pass.new) }
+    ensures first { result.0 ≡ slice_index (words_in (config_of shared.now) (view pass.old) (stand_in (view pass.old)).object) place }
+    ensures second { result.1 ≡ slice_index (words_in (config_of shared.now) (view pass.old) (stand_in (view pass.old)).object) (place + 1) }
+    ensures reads { ReadsSome LoadData 2 (view pass.old) (view pass.new) }
+    ensures cost { steps.new ≡ steps.old + 2 }
+{
+    let link = link_word(seat, position);
+    let slot = shared.slot_linked(link);
+    let first = shared.load_data(pass, link, slot, place, steps);
+    (first, shared.load_data(pass, link, slot, place + 1, steps))
+}
+
+/// Reads two master words of an object, the one at this place and the one after it, of the six that
+/// `read_master` reads, on the same condition. It makes two steps; the pass stands there still.
+#[inline(always)]
+pub fn read_master_pair<P: Protocol, L: Ledger>(
+    shared: &Shared<P>,
+    pass: &mut Pass<P>,
+    object: u32,
+    place: u32,
+    steps: &mut Steps<L>,
+) -> (u64, u64)
+    requires of { IsOf shared.now pass.old }
+    requires may { MayWalk (view pass.old) }
+    requires range { object < (config_of shared.now).objects }
+    requires stands { (view pass.old).walk ≡ walk.Master object }
+    requires place { place < 5 }
+    ensures same { IsSame pass.old pass.new }
+    ensures may { MayWalk (view pass.new) }
+    ensures first { result.0 ≡ slice_index (words_in (config_of shared.now) (view pass.old) object) place }
+    ensures second { result.1 ≡ slice_index (words_in (config_of shared.now) (view pass.old) object) (place + 1) }
+    ensures reads { ReadsSome LoadMaster 2 (view pass.old) (view pass.new) }
+    ensures cost { steps.new ≡ steps.old + 2 }
+{
+    let first = shared.load_master(pass, object, place, steps);
+    (first, shared.load_master(pass, object, place + 1, steps))
 }

@@ -5,7 +5,10 @@ ghost use Rattle.mv_core.specs.Passes.{view, IsOf, IsSame, config_of};
 ghost use Rattle.version_chain.specs.Walks.{MayWalk};
 ghost use Rattle.version_chain.specs.Reads.{words_in};
 
-use crate::{Found, find, read_master, read_version, walk_start, walk_step};
+use crate::{
+    Found, find, read_master, read_master_pair, read_version, read_version_pair, walk_start,
+    walk_step,
+};
 use mv_core::{Pass, Shared, Steps};
 use mv_history::{AnyRules, Words};
 use mv_layout::{Config, LAST, NO_SLOT, clock_slot, clock_time};
@@ -65,7 +68,9 @@ fn read<L: Ledger>(
     requires of { IsOf shared.now pass.old }
     requires may { MayWalk (view pass.old) }
     requires range { object < (config_of shared.now).objects }
-    ensures { result ≡ words_in (config_of shared.now) (view pass.new) object }
+    ensures same { IsSame pass.old pass.new }
+    ensures may { MayWalk (view pass.new) }
+    ensures words { result ≡ words_in (config_of shared.now) (view pass.new) object }
 {
     match find(shared, pass, object, steps) {
         Found::Master => read_master(shared, pass, object, steps),
@@ -73,12 +78,33 @@ fn read<L: Ledger>(
     }
 }
 
-// Enters a section, and reads object 0 by one look and again by `find`.
-fn read_twice<L: Ledger>(
+// Two words of it, the one at this place and the one after it.
+fn read_pair<L: Ledger>(
+    shared: &Shared<AnyRules>,
+    pass: &mut Pass<AnyRules>,
+    object: u32,
+    place: u32,
+    steps: &mut Steps<L>,
+) -> (u64, u64)
+    requires of { IsOf shared.now pass.old }
+    requires may { MayWalk (view pass.old) }
+    requires range { object < (config_of shared.now).objects }
+    requires place { place < 5 }
+{
+    match find(shared, pass, object, steps) {
+        Found::Master => read_master_pair(shared, pass, object, place, steps),
+        Found::Version { seat, position } => {
+            read_version_pair(shared, pass, seat, position, place, steps)
+        }
+    }
+}
+
+// Enters a section, and reads object 0 by one look, again by `find`, and two words of it.
+fn read_thrice<L: Ledger>(
     shared: &Shared<AnyRules>,
     pass: &mut Pass<AnyRules>,
     steps: &mut Steps<L>,
-) -> Option<(Words, Words)>
+) -> Option<(Words, Words, (u64, u64))>
     requires of { IsOf shared.now pass.old }
     requires may { MayLoadLow (view pass.old) }
     requires range { 0 < (config_of shared.now).objects }
@@ -87,7 +113,8 @@ fn read_twice<L: Ledger>(
         return None;
     }
     let first = read_empty(shared, pass, 0, steps)?;
-    Some((first, read(shared, pass, 0, steps)))
+    let second = read(shared, pass, 0, steps);
+    Some((first, second, read_pair(shared, pass, 0, 2, steps)))
 }
 
 // The same of seat 0 of a new domain.
@@ -95,7 +122,7 @@ fn first_reads<L: Ledger>(
     alloc: Global,
     base: u64,
     blank: Blank,
-) -> Result<Option<(Words, Words)>, AllocError>
+) -> Result<Option<(Words, Words, (u64, u64))>, AllocError>
     requires base { base ≤ LAST }
     requires name { blank.name ≡ L.name }
     requires parts { (blank.parts ≡ L.parts) × (0 < L.parts) }
@@ -112,7 +139,7 @@ fn first_reads<L: Ledger>(
     let start = [[9, 8, 7, 6, 5, 0]];
     let (shared, mut passes) = Shared::<AnyRules>::new(alloc, &config, &start)?;
     let mut steps = Steps::<L>::open(blank);
-    Ok(read_twice(&shared, &mut passes[0], &mut steps))
+    Ok(read_thrice(&shared, &mut passes[0], &mut steps))
 }
 
 #[test]
@@ -120,7 +147,7 @@ fn first_read_steps(rt: HostRuntime) -> Result<(), Fail> {
     let opening = [9, 8, 7, 6, 5, 0];
     for base in [0, LAST] {
         let words = first_reads::<Brand>(rt.alloc(), base, Blank::new(1))?;
-        assert_eq!(rt; words, Some((opening, opening)));
+        assert_eq!(rt; words, Some((opening, opening, (7, 6))));
     }
     Ok(())
 }

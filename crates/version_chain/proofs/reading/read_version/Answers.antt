@@ -23,7 +23,7 @@ returns-clause-may g c =
     let le = c.loop-word.auto.word-end in
     let ge = c.loop-word-test.false in
     let end : c.loop-word.word ≡ 6 = omega arith in
-    may_read_on LoadData (view c.args.pass.now) (view c.loop-word.pass) (read_all LoadData _ _ _ _ _ _ _ c.loop-word.invariant.1 end).1 c.requires.may
+    may_read_on LoadData 6 (view c.args.pass.now) (view c.loop-word.pass) (read_all LoadData _ _ _ _ _ _ _ c.loop-word.invariant.1 end).1 c.requires.may
 
 pub returns-clause-words : goal.returns-clause-words
 returns-clause-words g c =

@@ -18,7 +18,7 @@ use Rattle.seat_log.specs.Notes.{Noted}
 use Rattle.seat_log.proofs.PlainSteps.{LeavesLog, stands_left}
 use Rattle.mvrlu.proofs.Continuing.{continues, busy_on}
 use Rattle.version_chain.specs.Walks.{Walks, IsWalkStep, inside_of, time_at, MayWalk}
-use Rattle.version_chain.specs.Reads.{Reads}
+use Rattle.version_chain.specs.Reads.{ReadsSome}
 use Rattle.mvrlu.specs.Placed.{Placed, seat_from, section_from, IsBusy}
 use Rattle.mvrlu.specs.Standing.{Stays}
 use Rattle.mvrlu.proofs.Trails.{made, none_named}
@@ -58,9 +58,9 @@ walked v w before after k =
       rest = k.rest;
     }
 
--- and the load of six words
-pub looked : (kind : StepKind) → is_commit_exchange kind ≡ false → LeavesLog kind → (v x w : View) → Looks v x → Reads kind x w → Looks v w
-looked kind other alone v x w k r = record {
+-- and the load of so many words
+pub looked : (kind : StepKind) (n : ℕ) → is_commit_exchange kind ≡ false → LeavesLog kind → (v x w : View) → Looks v x → ReadsSome kind n x w → Looks v w
+looked kind n other alone v x w k r = record {
   seen = subst (λ h. BeginsWith h v.past.seen) (sym (ap (λ (u : View). u.past.seen) r.rest)) k.seen;
   steps = k.steps ++ r.trail.0;
   trail = r.trail.1 ∙ ap (λ t. t ++ r.trail.0) k.trail ∙ append_assoc v.trail k.steps r.trail.0;

@@ -10,3 +10,7 @@ MakesAtMost old new most = length (call_trail old new) ≤ most
 -- a read's steps: at most three for each entry after the snapshot that was seen, and 12
 abbrev pub read_most : InSection → InSection → ℕ
 read_most old new = 12 + 3 * (length new.seat.seen - old.at)
+
+-- the steps of a read of two words: at most three for each entry after the snapshot that was seen, and 8
+abbrev pub pair_most : InSection → InSection → ℕ
+pair_most old new = 8 + 3 * (length new.seat.seen - old.at)

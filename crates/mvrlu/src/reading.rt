@@ -1,17 +1,17 @@
 // Reading an object in a section.
-ghost use Rattle.std.specs.Prelude.{◌≡◌, ◌<◌, length};
+ghost use Rattle.std.specs.Prelude.{◌≡◌, ◌+◌, ◌<◌, length, slice_index_or};
 ghost use Rattle.mv_history.specs.Meaning.{IsSection, snapshot_of, state_of, words_at};
 ghost use Rattle.mv_core.specs.Passes.{start_of};
 ghost use Rattle.mvrlu.specs.Placed.{section_from, Fits};
 ghost use Rattle.mvrlu.specs.Standing.{Stays};
-ghost use Rattle.mvrlu.specs.Bounds.{MakesAtMost, read_most};
+ghost use Rattle.mvrlu.specs.Bounds.{MakesAtMost, read_most, pair_most};
 
 use crate::holding::held_words;
 use crate::places::Busy;
 use mv_core::{Shared, Steps};
 use mv_history::{Protocol, Words};
 use std::sync::ledger::{Blank, Ledger};
-use version_chain::{Found, find, read_master, read_version};
+use version_chain::{Found, find, read_master, read_master_pair, read_version, read_version_pair};
 
 // The words of an object in the section's snapshot.
 fn read_below<P: Protocol, L: Ledger>(
@@ -60,5 +60,64 @@ pub(crate) fn read_in<P: Protocol, L: Ledger>(
     match held_words(busy, object) {
         Some(words) => words,
         None => read_below::<P, L>(shared, busy, object, blank),
+    }
+}
+
+// Two words of an object in the section's snapshot, the one at this place and the one after it.
+fn read_pair_below<P: Protocol, L: Ledger>(
+    shared: &Shared<P>,
+    busy: &mut Busy<P>,
+    object: u32,
+    place: u32,
+    blank: Blank,
+) -> (u64, u64)
+    requires name { blank.name ≡ L.name }
+    requires parts { (blank.parts ≡ L.parts) × (0 < L.parts) }
+    requires fits { Fits shared.now busy.old }
+    requires range { object < length (start_of shared.now) }
+    requires place { place < 5 }
+    ensures fits { Fits shared.now busy.new }
+    ensures lawful { IsSection P.start P.allowed (section_from busy.new) }
+    ensures first { result.0 ≡ slice_index_or (words_at (snapshot_of (section_from busy.old)) object) place 0 }
+    ensures second { result.1 ≡ slice_index_or (words_at (snapshot_of (section_from busy.old)) object) (place + 1) 0 }
+    ensures stays { Stays (section_from busy.old) (section_from busy.new) }
+    ensures aborts { busy.new.log.aborts ≡ busy.old.log.aborts }
+    ensures bound { MakesAtMost (section_from busy.old).seat (section_from busy.new).seat (pair_most (section_from busy.old) (section_from busy.new)) }
+{
+    let mut steps = Steps::<L>::open(blank);
+    let pass = &mut busy.place.pass;
+    match find(shared, pass, object, &mut steps) {
+        Found::Master => read_master_pair(shared, pass, object, place, &mut steps),
+        Found::Version { seat, position } => {
+            read_version_pair(shared, pass, seat, position, place, &mut steps)
+        }
+    }
+}
+
+// Two words of an object in a section, the one at this place and the one after it: of its own version,
+// where it holds the object.
+pub(crate) fn read_pair_in<P: Protocol, L: Ledger>(
+    shared: &Shared<P>,
+    busy: &mut Busy<P>,
+    object: u32,
+    place: u32,
+    blank: Blank,
+) -> (u64, u64)
+    requires name { blank.name ≡ L.name }
+    requires parts { (blank.parts ≡ L.parts) × (0 < L.parts) }
+    requires fits { Fits shared.now busy.old }
+    requires range { object < length (start_of shared.now) }
+    requires place { place < 5 }
+    ensures fits { Fits shared.now busy.new }
+    ensures lawful { IsSection P.start P.allowed (section_from busy.new) }
+    ensures first { result.0 ≡ slice_index_or (words_at (state_of (section_from busy.old)) object) place 0 }
+    ensures second { result.1 ≡ slice_index_or (words_at (state_of (section_from busy.old)) object) (place + 1) 0 }
+    ensures stays { Stays (section_from busy.old) (section_from busy.new) }
+    ensures aborts { busy.new.log.aborts ≡ busy.old.log.aborts }
+    ensures bound { MakesAtMost (section_from busy.old).seat (section_from busy.new).seat (pair_most (section_from busy.old) (section_from busy.new)) }
+{
+    match held_words(busy, object) {
+        Some(words) => (words[place as usize], words[place as usize + 1]),
+        None => read_pair_below::<P, L>(shared, busy, object, place, blank),
     }
 }

@@ -1,11 +1,11 @@
 -- The steps of a count along a list.
 use Rattle.std.proofs.Common.{◌≡◌, ◌≢◌, ℕ, zero, suc, ◌+◌, ◌-◌, ◌^◌, ◌<◌, ◌≤◌, ◌⊎◌, inl, inr, Bool, true, false, cond, nat_lt, ◌&&◌, ◌==◌, List, [], ◌∷◌}
-use Rattle.std.proofs.Common.{length, drop, refl, sym, ap, ◌∙◌, subst, arith, length-drop, lt-ltb, le-ltb, ltb-true, ne_eqb, true≢false}
+use Rattle.std.proofs.Common.{length, drop, refl, sym, ap, ◌∙◌, subst, arith, length-drop, lt-ltb, ltb-true, ne_eqb, true≢false}
 use Rattle.std.proofs.lemmas.Bool.{cases_eq, cases_lt, and_parts, false_from_ne_true}
 use Rattle.mv_history.specs.State.{State}
 use Rattle.mv_history.specs.Meaning.{words_at}
 use Rattle.set_script.specs.CatalogueOf.{is_key_at, map_at}
-use Rattle.set_script.specs.Objects.{owner, key, link}
+use Rattle.set_script.specs.Objects.{key, link}
 use Rattle.set_script.proofs.ObjectWords.{word}
 use Rattle.set_script.proofs.Heads.{is_key_at-from}
 use Rattle.set_script.proofs.Tally.{tally, tally-none, tally-bound, tally-same, length-map_among, node_at}
@@ -62,9 +62,8 @@ module _ (s : State) (head : ℕ) (l : IsLinked s head) where
       let r = l.least o (180 + i) within j a in
       let e = bound_at (link s o) r.0 in let x : key s (link s o) ≤ key s (180 + i) = r.1 in omega arith
 
-  pub count_first : (w : List ℕ) → w ≡ words_at s head → IsCount s head (word 3 w) 0
-  count_first w e =
-      let to : word 3 w ≡ link s head = ap (word 3) e in
+  pub count_first : (next : ℕ) → next ≡ link s head → IsCount s head next 0
+  count_first next to =
       subst (λ u. IsCount s head u 0) (sym to) (record {
         here = elim (cases_eq (link s head) 0) [ inl z ↦ inl z | inr n ↦ inr (l.leads head (inl refl) n).0 ];
         count = sym (tally-none (is_passed head (bound s (link s head))) (drop 180 s) (λ i lt t.
@@ -155,7 +154,7 @@ module _ (s : State) (head : ℕ) (l : IsLinked s head) where
           passed-to s head (2 ^ 32) i l own (l.fits (180 + i) own) ∙ sym e
 
 -- A count in section or view `t`, which reads as `s`, that isn't at its end.
-module _ (s t : State) (head node n : ℕ) (w : List ℕ) (l : IsLinked s head) (same : t ≡ s) (c : IsCount s head node n) (more : node ≢ 0) where
+module _ (s t : State) (head node n next : ℕ) (l : IsLinked s head) (same : t ≡ s) (c : IsCount s head node n) (more : node ≢ 0) where
   pub count_in_range : node < length t
   count_in_range = subst (λ (u : State). node < length u) (sym same) (node_in_range s head node (count_node s head l node n c more))
 
@@ -167,11 +166,11 @@ module _ (s t : State) (head node n : ℕ) (w : List ℕ) (l : IsLinked s head) 
       let most = tally-bound (is_passed head (bound s node)) (drop 180 s) in
       let size = length-drop 180 s in let e = c.count in omega arith
 
-  next_read : w ≡ words_at t node → word 3 w ≡ link s node
-  next_read e = ap (word 3) (e ∙ ap (λ (u : State). words_at u node) same)
+  next_read : next ≡ link t node → next ≡ link s node
+  next_read e = e ∙ ap (λ (u : State). link u node) same
 
-  pub count_falls : w ≡ words_at t node → walk_left s (word 3 w) < walk_left s node
+  pub count_falls : next ≡ link t node → walk_left s next < walk_left s node
   count_falls e = subst (λ (u : ℕ). walk_left s u < walk_left s node) (sym (next_read e)) (list_falls s head node l (count_node s head l node n c more))
 
-  pub count_step : w ≡ words_at t node → IsCount s head (word 3 w) (n + 1)
+  pub count_step : next ≡ link t node → IsCount s head next (n + 1)
   count_step e = subst (λ u. IsCount s head u (n + 1)) (sym (next_read e)) (count_next s head l node n c more)

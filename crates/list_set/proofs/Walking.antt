@@ -1,22 +1,21 @@
 -- The steps of a search along a list.
-use Rattle.std.proofs.Common.{◌≡◌, ◌≢◌, ℕ, suc, ◌-◌, ◌^◌, ◌<◌, ◌≤◌, ◌⊎◌, inl, inr, Bool, true, false, cond, not}
+use Rattle.std.proofs.Common.{◌≡◌, ◌≢◌, ℕ, ◌-◌, ◌^◌, ◌<◌, ◌≤◌, ◌⊎◌, inl, inr, Bool, true, false, cond, not}
 use Rattle.std.proofs.Common.{◌&&◌, eqb, eqb-true, eq-eqb, List, [], ◌∷◌, length, refl, sym, ap, ◌∙◌, subst, arith, ne_eqb, Option, Some, None}
 use Rattle.std.proofs.lemmas.Bool.{cases_eq, cases_lt, false_from_ne_true}
-use Rattle.std.proofs.lemmas.Bool.Decides.{nat_tests}
 use Rattle.mv_history.specs.State.{State}
 use Rattle.mv_history.specs.Meaning.{words_at}
 use Rattle.set_script.specs.Catalogue.{has_key, value_of, next_key}
 use Rattle.set_script.specs.CatalogueOf.{is_key_at, map_at}
-use Rattle.set_script.specs.Objects.{owner, kind, key, link, value}
+use Rattle.set_script.specs.Objects.{kind, key, link, value}
 use Rattle.set_script.proofs.ObjectWords.{word, owned_in_range}
 use Rattle.set_script.proofs.Heads.{is_key_at-from, is_key_at-to}
 use Rattle.set_script.proofs.MapLemmas.{has_key-none, has_key-some}
 use Rattle.set_script.proofs.Mapped.{IsMap-map_among}
-use Rattle.set_script.proofs.NextKeys.{IsLeast, next_is, next_none}
-use Rattle.set_script.proofs.ListMaps.{HoldsAt, holds-map_at, map_at-holds, HasValueAt, map_at-value}
+use Rattle.set_script.proofs.NextKeys.{next_is, next_none}
+use Rattle.set_script.proofs.ListMaps.{holds-map_at, map_at-holds, map_at-value}
 use Rattle.list_set.specs.Places.{IsInList}
-use Rattle.list_set.specs.Linked.{IsNodeOf, IsAfter, IsLinked}
-use Rattle.list_set.specs.Walks.{walk_left, IsFound, IsSpot}
+use Rattle.list_set.specs.Linked.{IsNodeOf, IsLinked}
+use Rattle.list_set.specs.Walks.{walk_left, IsSpot}
 use Rattle.list_set.proofs.Linking.{head_no_node}
 
 pub left_at : (s : State) (node : ℕ) → node ≢ 0 → walk_left s node ≡ 2 ^ 32 - key s node
@@ -108,96 +107,79 @@ module _ (s : State) (head k p : ℕ) (l : IsLinked s head) (within : IsInList s
           let x : key s (link s p) ≤ key s u.0 = (ahead u.0 u.1 (omega arith)).1 in omega arith);
     })
 
--- What the search's loop keeps: `words` are those of `previous`, an object of the list with a key below k.
-pub record IsSpotLoop (s t : State) (head k previous : ℕ) (words : List ℕ) : Type 0 where
+-- What the search's loop keeps: `next` is the link of `previous`, an object of the list with a key below k.
+pub record IsSpotLoop (s t : State) (head k previous next : ℕ) : Type 0 where
   pub same : t ≡ s
   pub within : IsInList s head previous
-  pub words_are : words ≡ words_at s previous
+  pub leads : next ≡ link s previous
   pub below : (previous ≡ head) ⊎ (key s previous < k)
 
-pub spot_start : (s t : State) (head k : ℕ) (w : List ℕ) → w ≡ words_at s head → t ≡ s → IsSpotLoop s t head k head w
-spot_start s t head k w e f = record { same = f; within = inl refl; words_are = e; below = inl refl }
+pub spot_start : (s t : State) (head k next : ℕ) → next ≡ link s head → t ≡ s → IsSpotLoop s t head k head next
+spot_start s t head k next e f = record { same = f; within = inl refl; leads = e; below = inl refl }
 
--- the node to which the words lead
-ahead_node : (s t : State) (head k previous : ℕ) (words : List ℕ) → IsLinked s head → IsSpotLoop s t head k previous words → word 3 words ≢ 0
-    → IsNodeOf s head (word 3 words)
-ahead_node s t head k previous words l i n =
-    let e : word 3 words ≡ link s previous = ap (word 3) i.words_are in
-    subst (IsNodeOf s head) (sym e) (l.leads previous i.within (λ z. n (e ∙ z))).0
+-- the node to which the link leads
+ahead_node : (s t : State) (head k previous next : ℕ) → IsLinked s head → IsSpotLoop s t head k previous next → next ≢ 0 → IsNodeOf s head next
+ahead_node s t head k previous next l i n = subst (IsNodeOf s head) (sym i.leads) (l.leads previous i.within (λ z. n (i.leads ∙ z))).0
 
-pub ahead_in_range : (s t : State) (head k previous : ℕ) (words : List ℕ) → IsLinked s head → IsSpotLoop s t head k previous words → word 3 words ≢ 0
-    → word 3 words < length t
-ahead_in_range s t head k previous words l i n =
-    subst (λ (v : State). word 3 words < length v) (sym i.same) (node_in_range s head (word 3 words) (ahead_node s t head k previous words l i n))
+-- The key and the link of the node that comes next were read.
+module _ (s t : State) (head k previous node : ℕ) (l : IsLinked s head) (i : IsSpotLoop s t head k previous node) (n : node ≢ 0) where
+  ahead_is : IsNodeOf s head node
+  ahead_is = ahead_node s t head k previous node l i n
 
-pub ahead_fits : (s t : State) (head k previous : ℕ) (words : List ℕ) → IsLinked s head → length s ≤ 65535 → IsSpotLoop s t head k previous words
-    → word 3 words ≢ 0 → word 3 words < 2 ^ 32
-ahead_fits s t head k previous words l few i n =
-    let lt : word 3 words < length s = node_in_range s head (word 3 words) (ahead_node s t head k previous words l i n) in omega arith
+  module _ (u : State) (next : ℕ) (f : u ≡ t) (e : next ≡ link t node) where
+    next_link : next ≡ link s node
+    next_link = e ∙ ap (λ (v : State). link v node) i.same
 
--- The words `next` are those of the node that `words` lead to.
-module _ (s t : State) (head k previous : ℕ) (words next : List ℕ) (l : IsLinked s head) (i : IsSpotLoop s t head k previous words) (n : word 3 words ≢ 0)
-    (e : next ≡ words_at t (word 3 words)) where
-  read : next ≡ words_at s (word 3 words)
-  read = e ∙ ap (λ (v : State). words_at v (word 3 words)) i.same
+    pub next_falls : walk_left u next < walk_left t node
+    next_falls =
+        let a : walk_left t node ≡ walk_left s node = ap (λ (v : State). walk_left v node) i.same in
+        let b : walk_left u next ≡ walk_left s (link s node) = ap (λ (v : State). walk_left v next) (f ∙ i.same) ∙ ap (walk_left s) next_link in
+        let lt : walk_left s (link s node) < walk_left s node = list_falls s head node l ahead_is in omega arith
 
-  read_key : word 2 next ≡ key s (word 3 words)
-  read_key = ap (word 2) read
+    pub spot_step : (found : ℕ) → found ≡ key t node → found < k → IsSpotLoop s u head k node next
+    spot_step found is lt =
+        let ky : found ≡ key s node = is ∙ ap (λ (v : State). key v node) i.same in
+        record { same = f ∙ i.same; within = inr ahead_is; leads = next_link; below = inr (omega arith) }
 
-  node : IsNodeOf s head (word 3 words)
-  node = ahead_node s t head k previous words l i n
+  module _ (words node_words : List ℕ) (found : ℕ) (is : found ≡ key t node) (le : k ≤ found) (words_are : words ≡ words_at s previous)
+      (read : node_words ≡ words_at s node) where
+    pub spot_found : IsSpot s head k previous words node node_words
+    spot_found =
+        let ky : word 2 node_words ≡ key s node = ap (word 2) read in
+        let own : found ≡ key s node = is ∙ ap (λ (v : State). key v node) i.same in
+        let fit : key s node < 2 ^ 32 = l.fits node ahead_is in
+        let above : k ≤ key s node = omega arith in
+        let some : link s previous ≢ 0 = λ z. n (i.leads ∙ z) in
+        let up : k ≤ key s (link s previous) = subst (λ u. k ≤ key s u) i.leads above in
+        let back : key s (link s previous) ≡ key s node = ap (key s) (sym i.leads) in
+        let test : (not (eqb node 0) && eqb (word 2 node_words) k) ≡ eqb (key s (link s previous)) k =
+        ap (λ (u : Bool). not u && eqb (word 2 node_words) k) (ne_eqb node 0 n) ∙ ap (λ (u : ℕ). eqb u k) (ky ∙ sym back) in
+        let own_value : word 5 node_words ≡ value s (link s previous) = ap (word 5) read ∙ ap (value s) i.leads in
+        record {
+          within = i.within;
+          words_are = words_are;
+          below = i.below;
+          next = i.leads;
+          found = inr (record { is_node = ahead_is.0; own = ahead_is.1; words_are = read; above = above });
+          fits = omega arith;
+          has = test ∙ sym (node_has s head k previous l i.within i.below some up);
+          value =
+              ap (λ (u : Bool). cond u (Some (word 5 node_words)) None) test
+              ∙ ap (λ (v : ℕ). cond (eqb (key s (link s previous)) k) (Some v) None) own_value
+              ∙ sym (node_value s head k previous l i.within i.below some up);
+          least =
+              ap (λ (u : Bool). cond u None (Some (word 2 node_words))) (ne_eqb node 0 n) ∙ ap Some (ky ∙ sym back)
+              ∙ sym (node_least s head k previous l i.within i.below some up);
+        }
 
-  leads : word 3 words ≡ link s previous
-  leads = ap (word 3) i.words_are
-
-  pub next_falls : (u : State) → u ≡ t → walk_left u (word 3 next) < walk_left t (word 3 words)
-  next_falls u g =
-      let a : walk_left t (word 3 words) ≡ walk_left s (word 3 words) = ap (λ (v : State). walk_left v (word 3 words)) i.same in
-      let b : walk_left u (word 3 next) ≡ walk_left s (link s (word 3 words)) =
-      ap (λ (v : State). walk_left v (word 3 next)) (g ∙ i.same) ∙ ap (λ (v : List ℕ). walk_left s (word 3 v)) read in
-      let lt : walk_left s (link s (word 3 words)) < walk_left s (word 3 words) = list_falls s head (word 3 words) l node in omega arith
-
-  pub spot_step : (u : State) → u ≡ t → word 2 next < k → IsSpotLoop s u head k (word 3 words) next
-  spot_step u f lt =
-      let ky : word 2 next ≡ key s (word 3 words) = read_key in
-      record { same = f ∙ i.same; within = inr node; words_are = read; below = inr (omega arith) }
-
-  pub spot_found : k ≤ word 2 next → IsSpot s head k previous words (word 3 words) next
-  spot_found le =
-      let ky : word 2 next ≡ key s (word 3 words) = read_key in
-      let fit : key s (word 3 words) < 2 ^ 32 = l.fits (word 3 words) node in
-      let above : k ≤ key s (word 3 words) = omega arith in
-      let some : link s previous ≢ 0 = λ z. n (leads ∙ z) in
-      let up : k ≤ key s (link s previous) = subst (λ u. k ≤ key s u) leads above in
-      let back : key s (link s previous) ≡ key s (word 3 words) = ap (key s) (sym leads) in
-      let test : (not (eqb (word 3 words) 0) && eqb (word 2 next) k) ≡ eqb (key s (link s previous)) k =
-      ap (λ (u : Bool). not u && eqb (word 2 next) k) (ne_eqb (word 3 words) 0 n) ∙ ap (λ (u : ℕ). eqb u k) (ky ∙ sym back) in
-      let own_value : word 5 next ≡ value s (link s previous) = ap (word 5) read ∙ ap (value s) leads in
-      record {
-        within = i.within;
-        words_are = i.words_are;
-        below = i.below;
-        next = leads;
-        found = inr (record { is_node = node.0; own = node.1; words_are = read; above = above });
-        fits = omega arith;
-        has = test ∙ sym (node_has s head k previous l i.within i.below some up);
-        value =
-            ap (λ (u : Bool). cond u (Some (word 5 next)) None) test
-            ∙ ap (λ (v : ℕ). cond (eqb (key s (link s previous)) k) (Some v) None) own_value
-            ∙ sym (node_value s head k previous l i.within i.below some up);
-        least =
-            ap (λ (u : Bool). cond u None (Some (word 2 next))) (ne_eqb (word 3 words) 0 n) ∙ ap Some (ky ∙ sym back)
-            ∙ sym (node_least s head k previous l i.within i.below some up);
-      }
-
-pub spot_end : (s t : State) (head k previous : ℕ) (words : List ℕ) → IsLinked s head → IsSpotLoop s t head k previous words → word 3 words ≡ 0
-    → IsSpot s head k previous words 0 (0 ∷ 0 ∷ 0 ∷ 0 ∷ 0 ∷ 0 ∷ [])
-spot_end s t head k previous words l i e =
-    let z : link s previous ≡ 0 = sym (ap (word 3) i.words_are) ∙ e in
+pub spot_end : (s t : State) (head k previous next : ℕ) (words : List ℕ) → IsLinked s head → IsSpotLoop s t head k previous next → next ≡ 0
+    → words ≡ words_at s previous → IsSpot s head k previous words 0 (0 ∷ 0 ∷ 0 ∷ 0 ∷ 0 ∷ 0 ∷ [])
+spot_end s t head k previous next words l i e words_are =
+    let z : link s previous ≡ 0 = sym i.leads ∙ e in
     let none : has_key k (map_at s head) ≡ false = end_has s head k previous l i.within i.below z in
     record {
       within = i.within;
-      words_are = i.words_are;
+      words_are = words_are;
       below = i.below;
       next = sym z;
       found = inl refl;

@@ -16,7 +16,7 @@ ghost use Rattle.list_set.specs.declared.answers.Removed.TheVariants.{Took, Abse
 
 use crate::answers::{Removed, SetStep};
 use crate::change::rewrite;
-use crate::search::find;
+use crate::search::{KEY, find};
 use mv_history::{Section, View};
 
 /// Whether the list of this head has the key.
@@ -89,10 +89,11 @@ pub fn size_linked<V: View>(view: &mut V, head: u32) -> u64
     ensures size { result ≡ length (map_at (V.state view.old) head) }
     ensures as_before { V.as_before view.old view.new }
 {
-    let mut node = view.read(head)[3];
+    let (_, mut node) = view.read_pair(head, KEY);
     let mut count = 0;
     while node != 0 {
-        node = view.read(node as u32)[3];
+        let (_, next) = view.read_pair(node as u32, KEY);
+        node = next;
         count += 1;
     }
     count

@@ -59,11 +59,14 @@ impl Spot {
     }
 }
 
+/// The place of a node's key among its words; its link comes next.
+pub(crate) const KEY: u32 = 2;
+
 /// Where the key is, or belongs, in the list of the head.
 ///
-/// It needs a lawful state and the head of a list or a bucket, 0 to 169. It reads the objects of the
-/// list up to the first node whose key is not below `key`, each once, never refuses, and takes no
-/// memory.
+/// It needs a lawful state and the head of a list or a bucket, 0 to 169. It reads the key and the link
+/// of each object of the list up to the first node whose key is not below `key`, and then all words of
+/// that node and of its predecessor. It never refuses, and takes no memory.
 pub fn find<V: View>(view: &mut V, head: u32, key: u32) -> Spot
     requires head_in { head < 170 }
     requires lawful { IsLawful (V.state view.old) }
@@ -84,11 +87,13 @@ pub fn find_linked<V: View>(view: &mut V, head: u32, key: u32) -> Spot
     ensures as_before { V.as_before view.old view.new }
 {
     let mut previous = head;
-    let mut words = view.read(head);
-    while words[3] != 0 {
-        let node = words[3] as u32;
-        let node_words = view.read(node);
-        if node_words[2] >= key as u64 {
+    let (_, mut link) = view.read_pair(head, KEY);
+    while link != 0 {
+        let node = link as u32;
+        let (node_key, next) = view.read_pair(node, KEY);
+        if node_key >= key as u64 {
+            let words = view.read(previous);
+            let node_words = view.read(node);
             return Spot {
                 previous,
                 words,
@@ -97,8 +102,9 @@ pub fn find_linked<V: View>(view: &mut V, head: u32, key: u32) -> Spot
             };
         }
         previous = node;
-        words = node_words;
+        link = next;
     }
+    let words = view.read(previous);
     Spot {
         previous,
         words,

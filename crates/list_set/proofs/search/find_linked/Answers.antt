@@ -1,37 +1,40 @@
-use Rattle.std.proofs.Common.{arith}
-use Rattle.list_set.proofs.Walking.{ahead_in_range, ahead_fits, next_falls, spot_start, spot_step, spot_found, spot_end}
+use Rattle.std.proofs.Common.{ap, ◌∙◌}
+use Rattle.mv_history.specs.State.{State}
+use Rattle.mv_history.specs.Meaning.{words_at}
+use Rattle.list_set.proofs.Walking.{next_falls, spot_step, spot_found, spot_end}
 use Rattle.list_set.proofs.search.find_linked.Goals as goal
 
-pub read-words-requires : goal.read-words-requires
-read-words-requires g c = c.requires.linked.here
+pub returns-then-node_key-key-clause-spot : goal.returns-then-node_key-key-clause-spot
+returns-then-node_key-key-clause-spot g c =
+    let i = c.loop-link.invariant.spot in
+    let pair = g.met.V.View.same_state _ _ c.read_pair-node_key.ensures.as_before ∙ i.same in
+    let words = g.met.V.View.same_state _ _ c.read-words.ensures.as_before ∙ pair in
+    spot_found _ _ _ _ _ _ c.requires.linked i c.loop-link-test.true _ _ _ c.read_pair-node_key.ensures.first c.if-node_key-key.true
+    (c.read-words.ensures.words ∙ ap (λ (s : State). words_at s c.loop-link.previous) pair)
+    (c.read-node_words.ensures.words ∙ ap (λ (s : State). words_at s c.loop-link.link) words)
 
-pub loop-words-init : goal.loop-words-init
-loop-words-init g c = record {
-  before = c.read-words.ensures.as_before;
-  spot = spot_start _ _ _ _ _ c.read-words.ensures.words (g.met.V.View.same_state _ _ c.read-words.ensures.as_before);
-}
+pub returns-then-node_key-key-clause-as_before : goal.returns-then-node_key-key-clause-as_before
+returns-then-node_key-key-clause-as_before g c =
+    g.met.V.View.as_long_before _ _ _
+    (g.met.V.View.as_long_before _ _ _
+    (g.met.V.View.as_long_before _ _ _ c.loop-link.invariant.before c.read_pair-node_key.ensures.as_before) c.read-words.ensures.as_before)
+    c.read-node_words.ensures.as_before
 
-pub overflow_cast-node : goal.overflow_cast-node
-overflow_cast-node g c = omega (arith, ahead_fits _ _ _ _ _ _ c.requires.linked c.requires.few c.loop-words.invariant.spot c.loop-words-test.true)
+pub loop-link-smaller : goal.loop-link-smaller
+loop-link-smaller g c =
+    next_falls _ _ _ _ _ _ c.requires.linked c.loop-link.invariant.spot c.loop-link-test.true _ _
+    (g.met.V.View.same_state _ _ c.read_pair-node_key.ensures.as_before) c.read_pair-node_key.ensures.second
 
-pub read-node_words-requires : goal.read-node_words-requires
-read-node_words-requires g c = ahead_in_range _ _ _ _ _ _ c.requires.linked c.loop-words.invariant.spot c.loop-words-test.true
-
-pub returns-then-node_words-key-clause-spot : goal.returns-then-node_words-key-clause-spot
-returns-then-node_words-key-clause-spot g c =
-    spot_found _ _ _ _ _ _ _ c.requires.linked c.loop-words.invariant.spot c.loop-words-test.true c.read-node_words.ensures.words c.if-node_words-key.true
-
-pub loop-words-smaller : goal.loop-words-smaller
-loop-words-smaller g c =
-    next_falls _ _ _ _ _ _ _ c.requires.linked c.loop-words.invariant.spot c.loop-words-test.true c.read-node_words.ensures.words _
-    (g.met.V.View.same_state _ _ c.read-node_words.ensures.as_before)
-
-pub loop-words-preserved : goal.loop-words-preserved
-loop-words-preserved g c = record {
-  before = g.met.V.View.as_long_before _ _ _ c.loop-words.invariant.before c.read-node_words.ensures.as_before;
-  spot = spot_step _ _ _ _ _ _ _ c.requires.linked c.loop-words.invariant.spot c.loop-words-test.true c.read-node_words.ensures.words _
-      (g.met.V.View.same_state _ _ c.read-node_words.ensures.as_before) c.if-node_words-key.false;
+pub loop-link-preserved : goal.loop-link-preserved
+loop-link-preserved g c = record {
+  before = g.met.V.View.as_long_before _ _ _ c.loop-link.invariant.before c.read_pair-node_key.ensures.as_before;
+  spot = spot_step _ _ _ _ _ _ c.requires.linked c.loop-link.invariant.spot c.loop-link-test.true _ _
+      (g.met.V.View.same_state _ _ c.read_pair-node_key.ensures.as_before) c.read_pair-node_key.ensures.second _ c.read_pair-node_key.ensures.first
+      c.if-node_key-key.false;
 }
 
 pub returns-clause-spot : goal.returns-clause-spot
-returns-clause-spot g c = spot_end _ _ _ _ _ _ c.requires.linked c.loop-words.invariant.spot c.loop-words-test.false
+returns-clause-spot g c =
+    let i = c.loop-link.invariant.spot in
+    spot_end _ _ _ _ _ _ _ c.requires.linked i c.loop-link-test.false
+    (c.read-words-2.ensures.words ∙ ap (λ (s : State). words_at s c.loop-link.previous) i.same)

@@ -1,13 +1,12 @@
-use Rattle.std.proofs.Common.{get_or}
 use Rattle.list_set.specs.Walks.{walk_left}
 use Rattle.list_set.proofs.Walking.{IsSpotLoop}
 use Rattle.list_set.proofs.search.find_linked.Given as goal
 
-abbrev pub invariant-loop-words : goal.invariant-loop-words
-invariant-loop-words g l = record {
+abbrev pub invariant-loop-link : goal.invariant-loop-link
+invariant-loop-link g l = record {
   before : g.V.View.as_before l.fn.view l.view;
-  spot : IsSpotLoop (g.V.View.state l.fn.view) (g.V.View.state l.view) l.head l.key l.previous l.words;
+  spot : IsSpotLoop (g.V.View.state l.fn.view) (g.V.View.state l.view) l.head l.key l.previous l.link;
 }
 
-abbrev pub decreases-loop-words : goal.decreases-loop-words
-decreases-loop-words g l = walk_left (g.V.View.state l.view) (get_or l.words 3 0)
+abbrev pub decreases-loop-link : goal.decreases-loop-link
+decreases-loop-link g l = walk_left (g.V.View.state l.view) l.link

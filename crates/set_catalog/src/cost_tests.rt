@@ -150,9 +150,11 @@ fn a_full_store_is_looked_through_once(rt: HostRuntime) -> Result<(), Fail> {
         store = store.attempt(&add_of(list, key)).0;
     }
     for (command, reply, place, reads) in [
-        // The head, the first node, and a look through ten nodes; then no look.
-        (add_of(list, 0), Reply::Full, Place::Read(10), 12),
-        (add_of(list, 0), Reply::Full, Place::Read(10), 2),
+        // A list's search reads the key and the link of each object up to where it ends, and then all words of
+        // the two between which the key is: the head, the first node, both again, and a look through ten nodes;
+        // then no look.
+        (add_of(list, 0), Reply::Full, Place::Read(10), 14),
+        (add_of(list, 0), Reply::Full, Place::Read(10), 4),
         // A put of another value and a move of a list's key free nothing.
         (
             Command::Put {
@@ -162,9 +164,9 @@ fn a_full_store_is_looked_through_once(rt: HostRuntime) -> Result<(), Fail> {
             },
             Reply::Yes,
             Place::Commit(11),
-            11,
+            13,
         ),
-        (add_of(list, 0), Reply::Full, Place::Read(11), 2),
+        (add_of(list, 0), Reply::Full, Place::Read(11), 4),
         (
             Command::Move {
                 source: list,
@@ -173,21 +175,21 @@ fn a_full_store_is_looked_through_once(rt: HostRuntime) -> Result<(), Fail> {
             },
             Reply::Yes,
             Place::Commit(12),
-            3,
+            6,
         ),
-        (add_of(list, 0), Reply::Full, Place::Read(12), 2),
+        (add_of(list, 0), Reply::Full, Place::Read(12), 4),
         // A del does: a look finds the second node.
-        (del_of(list, 2), Reply::Yes, Place::Commit(13), 2),
-        (add_of(list, 0), Reply::Yes, Place::Commit(14), 4),
-        (add_of(list, 1), Reply::Full, Place::Read(14), 13),
-        (add_of(list, 1), Reply::Full, Place::Read(14), 3),
+        (del_of(list, 2), Reply::Yes, Place::Commit(13), 4),
+        (add_of(list, 0), Reply::Yes, Place::Commit(14), 6),
+        (add_of(list, 1), Reply::Full, Place::Read(14), 15),
+        (add_of(list, 1), Reply::Full, Place::Read(14), 5),
         // A tree's second key takes two nodes: that there is but one is known, and another look finds it.
-        (del_of(list, 3), Reply::Yes, Place::Commit(15), 3),
+        (del_of(list, 3), Reply::Yes, Place::Commit(15), 5),
         (add_of(tree, 5), Reply::Yes, Place::Commit(16), 2),
-        (del_of(list, 4), Reply::Yes, Place::Commit(17), 3),
+        (del_of(list, 4), Reply::Yes, Place::Commit(17), 5),
         (add_of(tree, 6), Reply::Full, Place::Read(17), 12),
         (add_of(tree, 6), Reply::Full, Place::Read(17), 2),
-        (add_of(list, 4), Reply::Yes, Place::Commit(18), 13),
+        (add_of(list, 4), Reply::Yes, Place::Commit(18), 15),
     ] {
         let before = store.store.reads;
         let (next, answer) = store.attempt(&command);

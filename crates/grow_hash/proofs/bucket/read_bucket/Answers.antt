@@ -44,9 +44,9 @@ loop-node-preserved g c = record {
   read = λ le. elim c.if-keys-lt-MOST_SPLIT.branch [
     | then-keys-lt-MOST_SPLIT w ↦
         subst (λ (ns : Writes). IsRead (g.V.View.state c.args.view.now) c.args.head (take (c.loop-node.keys + 1) ns)
-            (slice_index_or c.read-words.result 3 0)) (sym w.nodes-is)
+        (slice_index_or c.read-words.result 3 0)) (sym w.nodes-is)
         (read_next (g.V.View.state c.args.view.now) c.args.head c.loop-node.nodes c.loop-node.keys c.loop-node.node c.read-words.result (omega
-            (arith, c.loop-node.invariant.whole)) (c.loop-node.invariant.read (omega arith)) c.loop-node-test.true
+        (arith, c.loop-node.invariant.whole)) (c.loop-node.invariant.read (omega arith)) c.loop-node-test.true
         (c.read-words.ensures.words
         ∙ ap (λ (s : State). words_at s c.loop-node.node) (g.met.V.View.same_state _ _ c.loop-node.invariant.before)))
     | else-keys-lt-MOST_SPLIT w ↦ absurd (omega (arith, w.if-keys-lt-MOST_SPLIT.false, le))

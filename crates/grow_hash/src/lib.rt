@@ -66,8 +66,6 @@ mod attempt;
 mod attempting;
 mod bucket;
 mod bucket_split;
-#[cfg(test)]
-mod counted;
 mod deciding;
 mod laws;
 mod reading;

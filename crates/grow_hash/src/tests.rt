@@ -238,16 +238,18 @@ fn one_walk_of_one_bucket(rt: HostRuntime) -> Result<(), Fail> {
         ],
     );
     for (ask, most) in [
-        // The table, the head and the nodes up to the key.
-        (Ask::Has(33), 5),
-        (Ask::Has(34), 3),
-        (Ask::Del(17), 4),
+        // The table, the head and the nodes up to the key; then once more the node found and the object before it,
+        (Ask::Has(33), 7),
+        (Ask::Del(17), 6),
+        // or at the end of the list its last object.
+        (Ask::Has(34), 4),
         // A vacant node too.
-        (Ask::Add(65), 7),
-        (Ask::Add(18), 4),
+        (Ask::Add(65), 8),
+        (Ask::Add(18), 5),
         // The table, 16 heads and 5 nodes.
         (Ask::Size, 22),
-        (Ask::Next(34), 22),
+        // The same, and once more the two objects of one bucket's end and one of each of the 15 others.
+        (Ask::Next(34), 39),
     ] {
         let (next, reads) = count_reads(store, ask);
         assert_eq!(rt; reads, most);

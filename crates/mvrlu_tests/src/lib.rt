@@ -19,6 +19,8 @@ mod limits;
 #[cfg(test)]
 mod pools;
 #[cfg(test)]
+mod replays;
+#[cfg(test)]
 mod row;
 #[cfg(test)]
 mod scripts;

@@ -14,13 +14,18 @@
 mod clients;
 #[cfg(test)]
 mod log_rows;
+#[cfg(test)]
 mod moves;
 #[cfg(test)]
 mod opening;
+#[cfg(test)]
 mod playing;
 #[cfg(test)]
 mod section_rows;
+#[cfg(test)]
 mod sends;
 
+#[cfg(test)]
 pub use moves::{Answer, Move};
+#[cfg(test)]
 pub use playing::{Otherwise, SMALL, Schedule, Turn, played};

@@ -29,7 +29,6 @@
 
 mod buckets;
 mod tables;
-mod tests;
 
 pub use buckets::bucket_of;
 pub use tables::{add_in, del_in, get_in, has_in, next_in, put_in, size_in};

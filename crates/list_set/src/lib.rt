@@ -53,7 +53,6 @@ mod answers;
 mod change;
 mod lists;
 mod search;
-mod tests;
 
 pub use answers::{Cause, Removed, SetStep};
 pub use change::rewrite;

@@ -43,9 +43,11 @@ mod back_stop_rows;
 mod clients;
 #[cfg(test)]
 mod close_rows;
+#[cfg(test)]
 mod closing;
 #[cfg(test)]
 mod commit_rows;
+#[cfg(test)]
 mod commits;
 #[cfg(test)]
 mod enter_stop_rows;
@@ -53,17 +55,23 @@ mod enter_stop_rows;
 mod filled_logs;
 #[cfg(test)]
 mod join_rows;
+#[cfg(test)]
 mod joining;
+#[cfg(test)]
 mod lock_moves;
 #[cfg(test)]
 mod lock_rows;
+#[cfg(test)]
 mod lock_stops;
 #[cfg(test)]
 mod lost_lock_rows;
 #[cfg(test)]
 mod mark_rows;
+#[cfg(test)]
 mod marking;
+#[cfg(test)]
 mod moves;
+#[cfg(test)]
 mod playing;
 #[cfg(test)]
 mod read_rows;
@@ -71,19 +79,27 @@ mod read_rows;
 mod reads;
 #[cfg(test)]
 mod reclaim_rows;
+#[cfg(test)]
 mod reclaiming;
 #[cfg(test)]
 mod rest_rows;
+#[cfg(test)]
 mod resting;
+#[cfg(test)]
 mod sections;
 #[cfg(test)]
 mod stop_rows;
+#[cfg(test)]
 mod stops;
 #[cfg(test)]
 mod version_stop_rows;
+#[cfg(test)]
 mod walks;
 
 pub use clients::{Client, Stage};
+#[cfg(test)]
 pub use closing::{LastWords, closed_after};
+#[cfg(test)]
 pub use moves::{Answer, Call, Move};
+#[cfg(test)]
 pub use playing::{Otherwise, SMALL, Schedule, Turn, played};

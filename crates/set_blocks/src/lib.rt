@@ -31,8 +31,6 @@
 #![tactic(auto)]
 
 mod attempt;
-#[cfg(test)]
-mod attempt_tests;
 mod attempting;
 mod block;
 mod faults;
@@ -43,8 +41,6 @@ mod overlay;
 mod parsing;
 mod replies;
 mod rules;
-#[cfg(test)]
-mod tests;
 mod turns;
 
 pub use attempt::BlockAttempt;

@@ -17,7 +17,7 @@ use std::marker::Model;
 /// seat it looks again. Nothing else can reach the store meanwhile, so what is known is of this very
 /// store's history.
 pub struct HintedStore<S: Store<Rules = SetRules>> {
-    pub(crate) store: S,
+    store: S,
     hints: Hints,
     known: Shortage,
 }
@@ -73,6 +73,13 @@ impl<S: Store<Rules = SetRules>> HintedStore<S> {
             known,
         };
         (kept, answer)
+    }
+
+    /// The store, to look at.
+    pub fn store(&self) -> &S
+        ensures store { result.now ≡ self.now.store }
+    {
+        &self.store
     }
 
     /// The store again, without the hints.

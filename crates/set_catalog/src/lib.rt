@@ -53,24 +53,16 @@
 
 mod answer;
 mod attempting;
-#[cfg(test)]
-mod cost_tests;
-#[cfg(test)]
-mod counted;
 mod ends;
 mod finding;
 mod hinted_store;
 mod hints;
 mod names;
-#[cfg(test)]
-mod pick_tests;
 mod picks;
 mod plan;
 mod reading;
 mod sets;
 mod shortage;
-#[cfg(test)]
-mod tests;
 
 pub use answer::Attempt;
 pub use attempting::{attempt, attempt_with};

@@ -26,8 +26,6 @@ mod catalogue;
 mod commands;
 mod rules;
 mod script;
-#[cfg(test)]
-mod tests;
 
 pub use catalogue::Catalogue;
 pub use commands::{Command, FaultKind, Format, Name, Place, Reply, ScriptFault};

@@ -53,7 +53,6 @@ mod leaves;
 mod reads;
 mod search;
 mod sizes;
-mod tests;
 mod writes;
 
 pub use changes::{add_in, del_in, put_in};

@@ -1,9 +1,0 @@
-use Rattle.std.proofs.Common.{sym, subst}
-use Rattle.set_script.specs.Lawful.{IsLawful}
-use Rattle.set_catalog.proofs.LawfulTimes.{lawful_read}
-use Rattle.set_catalog.proofs.cost_tests.counted_size.Goals as goal
-
-pub size-size-requires : goal.size-size-requires
-size-size-requires g c = record {
-  lawful = subst IsLawful (sym (g.met.S.Open.Section.reads _)) (lawful_read _ (g.met.S.Open.Section.lawful _) c.enter.ensures.enters.own);
-}

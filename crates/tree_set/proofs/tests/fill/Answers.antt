@@ -1,8 +1,0 @@
-use Rattle.tree_set.proofs.Filling.{filled_view}
-use Rattle.tree_set.proofs.tests.fill.Goals as goal
-
-pub returns-clause-lawful : goal.returns-clause-lawful
-returns-clause-lawful g c e = (filled_view _ _ _ _ (c.put_value.ensures e) (g.met.S.Section.reads _)).0
-
-pub returns-clause-objects : goal.returns-clause-objects
-returns-clause-objects g c e = (filled_view _ _ _ _ (c.put_value.ensures e) (g.met.S.Section.reads _)).1

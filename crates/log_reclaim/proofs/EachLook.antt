@@ -14,7 +14,7 @@ use Rattle.seat_log.specs.declared.version.Note.{Note}
 use Rattle.seat_log.specs.Notes.{Noted, IsNoteAt}
 use Rattle.seat_log.specs.Stands.{Stands}
 use Rattle.log_reclaim.specs.declared.settling.Found.{Found}
-use Rattle.log_reclaim.specs.Parts.{IsOtherKind, DiesFrom, super_load, TimesDeath}
+use Rattle.log_reclaim.specs.Parts.{IsOtherKind, IsPlainKind, DiesFrom, super_load, TimesDeath}
 use Rattle.log_reclaim.specs.Untimed.{StaysUntimed, DatedSo}
 use Rattle.log_reclaim.specs.Tries.{MaySettle}
 use Rattle.log_reclaim.specs.Sweeps.{found_at, IsTableOf, Settles, SettlesOne}
@@ -41,6 +41,7 @@ settles_first starts allows c v l mark clock back found known may table = record
   reclaims = reclaims_none v may.outside (still_of starts allows v known may.outside.outside);
   rests = refl;
   kinds = All-nil (λ s. IsOtherKind s.kind);
+  plain = λ off. All-nil (λ s. IsPlainKind s.kind);
   log = refl;
   long = refl;
   notes = λ i n at. (n, at, record { same = refl; once = λ e. refl }, inl refl);
@@ -117,6 +118,7 @@ module _ (c : Config) (v u w : View) (l m p : Noted) (made more : List Step) (ma
     reclaims = reclaims_on v u w made more s.reclaims o.reclaims;
     rests = o.rests ∙ s.rests;
     kinds = All-append (λ t. IsOtherKind t.kind) made more s.kinds o.kinds;
+    plain = λ off. All-append (λ t. IsPlainKind t.kind) made more (s.plain off) (o.plain off);
     log = o.log ∙ ap (λ (x : Noted). record x { live = p.live; back = p.back }) s.log;
     long = o.long ∙ s.long;
     notes = notes_now;

@@ -10,7 +10,7 @@ use Rattle.seat_log.specs.Notes.{Noted, IsNoteAt}
 use Rattle.seat_log.specs.Frees.{OldestIsDead, freed_noted}
 use Rattle.log_reclaim.specs.declared.settling.Found.{Found}
 use Rattle.log_reclaim.specs.declared.rounds.Scanned.{Scanned}
-use Rattle.log_reclaim.specs.Parts.{BeginsNoScan, LeavesClock, DiesFrom, Shrinks, HasScanned, grace_load}
+use Rattle.log_reclaim.specs.Parts.{BeginsNoScan, LeavesClock, IsPlainKind, DiesFrom, Shrinks, HasScanned, grace_load}
 use Rattle.log_reclaim.specs.Untimed.{DatedSo}
 use Rattle.log_reclaim.specs.Tries.{Makes}
 use Rattle.log_reclaim.specs.Sweeps.{found_at, Sweeps, SweepsAll}
@@ -104,14 +104,19 @@ pub freed_first : (c : Config) (l : Noted) (made : List Step) (scanned : Option 
 freed_first c l made None f = f
 freed_first c l made (Some scanned) f = f.0
 
+-- the load of GRACE writes nothing back
+pub grace_plain : (c : Config) (time : ℕ) → All (λ s. IsPlainKind s.kind) (grace_load c time ∷ [])
+grace_plain c time = All-cons (λ (s : Step). IsPlainKind s.kind) (grace_load c time) [] tt (All-nil (λ (s : Step). IsPlainKind s.kind))
+
 -- the frees left nothing
-pub sweeps_all : (c : Config) (v g w : View) (l m : Noted) (one made : List Step) (t freed : ℕ) → Makes v g one → FreesAll g w l m made t freed
-    → length m.live ≡ 0 → SweepsAll c v w l m (one ++ made) freed
-sweeps_all c v g w l m one made t freed load k empty =
+pub sweeps_all : (c : Config) (v g w : View) (l m : Noted) (one made : List Step) (t freed : ℕ) → Makes v g one
+    → All (λ s. IsPlainKind s.kind) one → FreesAll g w l m made t freed → length m.live ≡ 0 → SweepsAll c v w l m (one ++ made) freed
+sweeps_all c v g w l m one made t freed load plain k empty =
     let all = makes_on v g w one made load k.makes in
     record {
       reclaims = all.reclaims;
       leaves = leaves_clock (one ++ made) all.kinds;
+      plain = λ off. All-append (λ s. IsPlainKind s.kind) one made plain (free_kind IsPlainKind tt made k.kinds);
       rests = all.rests;
       shrinks = frees_shrinks g w l m made t freed k;
       empty = empty;
@@ -119,7 +124,8 @@ sweeps_all c v g w l m one made t freed load k empty =
 
 -- they left something, and then the round scanned
 module _ (c : Config) (v g x w : View) (l k m : Noted) (one made more : List Step) (t freed : ℕ) (back : Bool) (scanned : Scanned) (found : Found) (then : ℕ)
-    (load : Makes v g one) (frees : FreesAll g x l k made t freed) (s : Sweeps c x w k m more back scanned found then) where
+    (load : Makes v g one) (plain : All (λ s. IsPlainKind s.kind) one) (frees : FreesAll g x l k made t freed)
+    (s : Sweeps c x w k m more back scanned found then) where
   first : Makes v x (one ++ made)
   first = makes_on v g x one made load frees.makes
 
@@ -143,6 +149,8 @@ module _ (c : Config) (v g x w : View) (l k m : Noted) (one made more : List Ste
       let later = s.after in record {
         reclaims = reclaims_on v x w (one ++ made) more r s.reclaims;
         leaves = All-append (λ s. LeavesClock s.kind) (one ++ made) more (leaves_clock (one ++ made) first.kinds) s.leaves;
+        plain = λ off. All-append (λ s. IsPlainKind s.kind) (one ++ made) more
+            (All-append (λ s. IsPlainKind s.kind) one made plain (free_kind IsPlainKind tt made frees.kinds)) (s.plain off);
         rests = s.rests ∙ first.rests;
         shrinks = shrinks_then l k m freed then (frees_shrinks g x l k made t freed frees) s.shrinks;
         scan = scanned_then (one ++ made) more c v.number scanned.mark scanned.clock

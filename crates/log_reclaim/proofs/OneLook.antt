@@ -1,9 +1,9 @@
 -- What looking at one version of the log leaves, by what a load of SUPER and a try to write it back leave.
 use Rattle.std.proofs.Common.{◌≡◌, ◌≢◌, ◌⊎◌, ℕ, ◌+◌, ◌-◌, ◌<◌, ◌≤◌, Bool, true, false, List, [], ◌∷◌}
-use Rattle.std.proofs.Common.{length, refl, sym, ap, ◌∙◌, subst, inl, inr, ⊎_elim, arith, Option, Some, None, Contains}
+use Rattle.std.proofs.Common.{All, length, refl, sym, ap, ◌∙◌, subst, inl, inr, ⊎_elim, arith, Option, Some, None, Contains}
 use Rattle.std.proofs.Math.Logic.{∥∥₁_elim}
 use Rattle.std.proofs.Math.Bridge.{le_prop}
-use Rattle.std.proofs.lemmas.List.Elements.{Contains-append_right}
+use Rattle.std.proofs.lemmas.List.Elements.{All-nil, All-cons, Contains-append_right}
 use mathlib.Core.Logic.{dite}
 use native.Mathlib.Decide.{dec_lt}
 use Rattle.mv_history.specs.State.{State, Writes}
@@ -23,7 +23,7 @@ use Rattle.seat_log.proofs.Retired.{committed_at}
 use Rattle.log_reclaim.specs.declared.settling.Found.{Found}
 use Rattle.log_reclaim.specs.declared.settling.Tried.{Tried}
 use Rattle.log_reclaim.specs.Backs.{HasLater}
-use Rattle.log_reclaim.specs.Parts.{super_load, super_step, FindsOther}
+use Rattle.log_reclaim.specs.Parts.{IsPlainKind, IsPlain, super_load, super_step, FindsOther}
 use Rattle.log_reclaim.specs.Untimed.{TriedSo, StaysUntimed, DatedSo}
 use Rattle.log_reclaim.specs.Tries.{MaySettle, Makes, LoadsSuper, TriesOne}
 use Rattle.log_reclaim.specs.Sweeps.{found_at, found_set, IsTableOf, SettlesOne}
@@ -32,6 +32,10 @@ use Rattle.log_reclaim.proofs.Reclaiming.{makes_none, makes_on, reclaims_number,
 use Rattle.log_reclaim.proofs.Untimed.{times_then, untimed_on}
 use Rattle.log_reclaim.proofs.OneNote.{position_is, place_is, one_note, committed}
 use Rattle.log_reclaim.proofs.FoundSeats.{table_set, found_here, found_else}
+
+-- one step of such a kind
+one_plain : (s : Step) → IsPlainKind s.kind → All (λ (t : Step). IsPlainKind t.kind) (s ∷ [])
+one_plain s is = All-cons (λ (t : Step). IsPlainKind t.kind) s [] is (All-nil (λ (t : Step). IsPlainKind t.kind))
 
 module _ (starts : State → Type 0) (allows : List ℕ → State → Writes → Type 0) (c : Config) (v : View) (l : Noted) (mark : Watermark) (clock : ℕ)
     (known : ∥ Known starts allows v ∥₁) (base : v.base ≡ c.base) (k : Stands c v l) (may : MaySettle v l mark clock) (index : ℕ) (n : Note)
@@ -43,6 +47,7 @@ module _ (starts : State → Type 0) (allows : List ℕ → State → Writes →
         reclaims = makes.reclaims;
         rests = refl;
         kinds = makes.kinds;
+        plain = λ off. All-nil (λ s. IsPlainKind s.kind);
         log = refl;
         long = refl;
         others = λ i m is ne. is;
@@ -55,7 +60,8 @@ module _ (starts : State → Type 0) (allows : List ℕ → State → Writes →
 
   -- it is noted as dead now
   module _ (w : View) (m : Noted) (made : List Step) (back : Bool) (old found : Found) (dead backs top : ℕ) (some_time : 0 < dead)
-      (log : m ≡ record (retired l n.position dead) { back = backs }) (makes : Makes v w made) (within : top ≤ w.base + length w.past.seen)
+      (log : m ≡ record (retired l n.position dead) { back = backs }) (makes : Makes v w made) (plain : IsPlain back made)
+      (within : top ≤ w.base + length w.past.seen)
       (table : IsTableOf l found) (kept : (i : ℕ) → i ≢ index → found_at found (l.freed + i) ≡ found_at old (l.freed + i)) where
     before : (i : ℕ) (x : Note) → IsNoteAt m i x
         → (y : Note) × IsNoteAt l i y × (((i ≡ n.position - l.freed) × (x ≡ record y { dead = dead })) ⊎ ((i ≢ n.position - l.freed) × (x ≡ y)))
@@ -72,6 +78,7 @@ module _ (starts : State → Type 0) (allows : List ℕ → State → Writes →
       reclaims = makes.reclaims;
       rests = makes.rests;
       kinds = makes.kinds;
+      plain = plain;
       log = subst (λ (z : Noted). z ≡ record l { live = z.live; back = z.back }) (sym log) refl;
       long = ap (λ (z : Noted). length z.live) log ∙ length-at_place (λ (y : Note). record y { dead = dead }) (n.position - l.freed) l.live;
       others = λ i x is ne.
@@ -91,13 +98,15 @@ module _ (starts : State → Type 0) (allows : List ℕ → State → Writes →
     }
 
   -- it is left without one, for a reason
-  pub settles_kept : (w : View) (made : List Step) (back : Bool) (old found : Found) (top : ℕ) → Makes v w made → top ≤ w.base + length w.past.seen
+  pub settles_kept : (w : View) (made : List Step) (back : Bool) (old found : Found) (top : ℕ) → Makes v w made → IsPlain back made
+      → top ≤ w.base + length w.past.seen
       → IsTableOf l found → ((i : ℕ) → i ≢ index → found_at found (l.freed + i) ≡ found_at old (l.freed + i))
       → StaysUntimed c w made mark clock back n (found_at found n.position) → SettlesOne c v w l l made mark clock back old found index top
-  settles_kept w made back old found top makes within table kept why = record {
+  settles_kept w made back old found top makes plain within table kept why = record {
     reclaims = makes.reclaims;
     rests = makes.rests;
     kinds = makes.kinds;
+    plain = plain;
     log = refl;
     long = refl;
     others = λ i m is ne. is;
@@ -116,7 +125,8 @@ module _ (starts : State → Type 0) (allows : List ℕ → State → Writes →
       let f = loads.some refl in
       let one : Step = super_load c v.number n loads.time in (
         one ∷ [],
-        settles_retired u m (one ∷ []) back found found loads.time l.back 0 f.0 f.1 loads.makes (omega arith) table (λ i ne. refl) none
+        settles_retired u m (one ∷ []) back found found loads.time l.back 0 f.0 f.1 loads.makes (λ off. one_plain one tt)
+            (omega arith) table (λ i ne. refl) none
             (inr (inl (f.2, (0, omega arith, ap (λ own. super_load c own n loads.time) (sym (reclaims_number v u (one ∷ []) loads.makes.reclaims)))))),
       )
 
@@ -150,7 +160,7 @@ module _ (starts : State → Type 0) (allows : List ℕ → State → Writes →
         let l0 = loaded in (
           load ∷ [],
           subst (λ (z : Noted). SettlesOne c v u l z (load ∷ []) mark clock back found found index 0) (sym log)
-              (settles_kept u (load ∷ []) back found found 0 loads.makes (omega arith) table (λ i ne. refl)
+              (settles_kept u (load ∷ []) back found found 0 loads.makes (λ off. one_plain load tt) (omega arith) table (λ i ne. refl)
               (record {
                 committed = l0.committed;
                 super = l0.super;
@@ -247,7 +257,7 @@ module _ (starts : State → Type 0) (allows : List ℕ → State → Writes →
         unfolding one
         kept_for above is log why =
             subst (λ (z : Noted). SettlesOne c v w l z made mark clock true found then index tried.clock) (sym log)
-            (settles_kept w made true found then tried.clock makes t.within (table_set l found index tried.above table) kept_else
+            (settles_kept w made true found then tried.clock makes (λ off. absurd cc) t.within (table_set l found index tried.above table) kept_else
             (subst (StaysUntimed c w made mark clock true n) (sym (here_is ∙ is)) (tried_untimed above why)))
 
         -- a time that the write-back's own load of SUPER found is found by these steps
@@ -262,11 +272,11 @@ module _ (starts : State → Type 0) (allows : List ℕ → State → Writes →
             ⊎_elim
             (λ d. ⊎_elim
             (λ s.
-            settles_retired w m made true found then d.0 l.back tried.clock d.1 s.0 makes t.within (table_set l found index tried.above table) kept_else
-            none (inr (inl (s.1, loaded_then d.0 s.2))))
+            settles_retired w m made true found then d.0 l.back tried.clock d.1 s.0 makes (λ off. absurd cc) t.within
+            (table_set l found index tried.above table) kept_else none (inr (inl (s.1, loaded_then d.0 s.2))))
             (λ s.
-            settles_retired w m made true found then d.0 (l.back + 1) tried.clock d.1 s.0 makes t.within (table_set l found index tried.above table) kept_else
-            none (inr (inr (refl, s.1, times_then (load ∷ []) t.made d.0 s.2))))
+            settles_retired w m made true found then d.0 (l.back + 1) tried.clock d.1 s.0 makes (λ off. absurd cc) t.within
+            (table_set l found index tried.above table) kept_else none (inr (inr (refl, s.1, times_then (load ∷ []) t.made d.0 s.2))))
             d.3)
             (λ d. ⊎_elim (λ s. kept_for None s.0 d.0 (why_none s.1)) (λ s. kept_for (Some s.0) s.1 d.0 (why_some s.0 s.2)) d.1)
             t.fate

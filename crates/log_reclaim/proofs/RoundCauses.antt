@@ -1,5 +1,5 @@
 -- The cause of the holder that a round answers, and what it leaves.
-use Rattle.std.proofs.Common.{◌≡◌, ℕ, ◌<◌, List, [], length, Bool, true, sym, subst, inl, inr, ⊎_elim, arith, Option, Some, None}
+use Rattle.std.proofs.Common.{◌≡◌, ℕ, ◌<◌, List, [], length, Bool, true, refl, sym, subst, inl, inr, ⊎_elim, arith, Option, Some, None}
 use Rattle.std.proofs.lemmas.Bool.{cases_lt}
 use Rattle.mv_history.specs.State.{State, Writes}
 use Rattle.mv_history.specs.Trail.{clock_exchanges}
@@ -19,7 +19,7 @@ use Rattle.log_reclaim.specs.Parts.{Reclaims, HasScanned}
 use Rattle.log_reclaim.specs.Untimed.{StaysUntimed}
 use Rattle.log_reclaim.specs.Sweeps.{found_at, Sweeps, SweepsAll}
 use Rattle.log_reclaim.specs.Holders.{RoundHolds, HeldSo}
-use Rattle.log_reclaim.specs.Rounds.{untimed_holder, holder_of, IsHolder, SweptSo}
+use Rattle.log_reclaim.specs.Rounds.{untimed_holder, holder_of, IsHolder, SweptSo, HasMade}
 use Rattle.log_reclaim.proofs.Reclaiming.{reclaims_number}
 use Rattle.log_reclaim.proofs.Exchanges.{none_exchanged}
 use Rattle.log_reclaim.proofs.Needed.{needs_of_note, needs_more_timed, needs_more_untimed}
@@ -109,7 +109,15 @@ module _ (starts : State → Type 0) (allows : List ℕ → State → Writes →
         → Reclaims v w made × SweptSo c w m made back × HeldSo (RoundHolds c w m made back) m held × (clock_exchanges made ≡ [])
     round_scanned held is = (k.reclaims, round_swept, round_holds held is, none_exchanged made k.leaves)
 
+-- it wrote nothing back unless it was to
+pub round_plain : (c : Config) (v w : View) (l m : Noted) (made : List Step) (back : Bool) (scanned : Scanned) (found : Found) (freed : ℕ)
+    → Sweeps c v w l m made back scanned found freed → HasMade v w back
+round_plain c v w l m made back scanned found freed k = (made, k.reclaims.trail, k.plain)
+
 -- and where the log was empty before that
+pub emptied_plain : (c : Config) (v w : View) (l m : Noted) (made : List Step) (back : Bool) (freed : ℕ) → SweepsAll c v w l m made freed → HasMade v w back
+emptied_plain c v w l m made back freed k = (made, k.reclaims.trail, λ off. k.plain refl)
+
 pub round_emptied : (c : Config) (v w : View) (l m : Noted) (made : List Step) (back : Bool) (freed : ℕ) → SweepsAll c v w l m made freed
     → (held : Option Holder) → held ≡ None → Reclaims v w made × SweptSo c w m made back × HeldSo (RoundHolds c w m made back) m held
     × (clock_exchanges made ≡ [])

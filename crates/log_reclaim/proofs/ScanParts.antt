@@ -16,7 +16,7 @@ use Rattle.reader_marks.specs.Scans.{Scans, scan_step, grace_step, mark_steps, s
 use Rattle.seat_log.specs.Notes.{Noted}
 use Rattle.seat_log.specs.Stands.{Stands}
 use Rattle.seat_log.proofs.PlainSteps.{LeavesLog, stands_left}
-use Rattle.log_reclaim.specs.Parts.{NamesNoCommit, BeginsNoScan, LeavesClock, IsOtherKind, Reclaims, HasScanned, grace_load}
+use Rattle.log_reclaim.specs.Parts.{NamesNoCommit, BeginsNoScan, LeavesClock, IsOtherKind, IsPlainKind, Reclaims, HasScanned, grace_load}
 use Rattle.log_reclaim.specs.Tries.{Makes}
 use Rattle.mv_core.proofs.history.Fronts.{begins_long}
 use Rattle.log_reclaim.proofs.Reclaiming.{reclaims_outside}
@@ -57,6 +57,9 @@ module _ (c : Config) (v w : View) (mark : Watermark) (clock before after : ℕ)
 
   pub scan_leaves : All (λ s. LeavesClock s.kind) steps_of
   scan_leaves = steps_all LeavesClock tt tt tt
+
+  pub scan_plain : All (λ s. IsPlainKind s.kind) steps_of
+  scan_plain = steps_all IsPlainKind tt tt tt
 
   seen_is : w.past.seen ≡ k.h
   seen_is = ap (λ (x : View). x.past.seen) k.view

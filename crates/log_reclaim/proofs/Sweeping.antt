@@ -16,7 +16,7 @@ use Rattle.seat_log.specs.Frees.{freed_noted}
 use Rattle.seat_log.proofs.Places.{get_dropped}
 use Rattle.seat_log.proofs.Places.{get_within}
 use Rattle.log_reclaim.specs.declared.settling.Found.{Found}
-use Rattle.log_reclaim.specs.Parts.{IsOtherKind, LeavesClock, Reclaims, DiesFrom, Shrinks}
+use Rattle.log_reclaim.specs.Parts.{IsOtherKind, IsPlainKind, LeavesClock, Reclaims, DiesFrom, Shrinks}
 use Rattle.log_reclaim.specs.Untimed.{StaysUntimed, DatedSo}
 use Rattle.log_reclaim.specs.Tries.{MaySettle}
 use Rattle.log_reclaim.specs.Sweeps.{found_at, HasEntries, Settles, Sweeps}
@@ -27,9 +27,10 @@ use Rattle.log_reclaim.proofs.Untimed.{untimed_on, untimed_then, dated_on, dated
 use Rattle.log_reclaim.proofs.Needed.{time_seen}
 use Rattle.log_reclaim.proofs.ScanCauses.{low_below, low_known}
 use Rattle.log_reclaim.proofs.MoreSteps.{scanned_more}
-use Rattle.log_reclaim.proofs.ScanParts.{steps_of, scan_clock_is, scan_later, scan_reclaims, scan_rests, scan_leaves, scan_shown}
+use Rattle.log_reclaim.proofs.ScanParts.{steps_of, scan_clock_is, scan_later, scan_reclaims, scan_rests, scan_leaves, scan_plain, scan_shown}
 use Rattle.log_reclaim.proofs.Exchanges.{begins_none, leaves_clock}
 use Rattle.log_reclaim.proofs.AloneSeen.{alone_seen}
+use Rattle.log_reclaim.proofs.FreedAll.{free_kind}
 
 -- a note that is left was there before, after those that were freed
 pub left_at : (m n : Noted) (k i : ℕ) (e : Note) → n ≡ freed_noted m k → IsNoteAt n i e → IsNoteAt m (k + i) e
@@ -147,6 +148,8 @@ module _ (starts : State → Type 0) (allows : List ℕ → State → Writes →
           reclaims = whole;
           leaves = All-append (λ s. LeavesClock s.kind) steps (made ++ more) (scan_leaves c v u mark clock before after scans)
               (leaves_clock (made ++ more) then_other);
+          plain = λ off. All-append (λ s. IsPlainKind s.kind) steps (made ++ more) (scan_plain c v u mark clock before after scans)
+              (All-append (λ s. IsPlainKind s.kind) made more (settles.plain off) (free_kind IsPlainKind tt more frees.kinds));
           rests = frees.makes.rests ∙ settles.rests ∙ scan_rests c v u mark clock before after scans;
           shrinks = shrinks;
           scan = scanned_more [] steps (made ++ more) c v.number mark clock (begins_none (made ++ more) then_other)

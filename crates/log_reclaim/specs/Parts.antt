@@ -1,8 +1,9 @@
 -- What a part of a reclaiming call leaves of a view and of the log, and what its steps show.
-use Rattle.std.specs.Prelude.{◌≡◌, ◌≢◌, ℕ, ◌+◌, ◌<◌, ◌≤◌, max, false, List, ◌∷◌, ◌++◌, length, Contains, All, Some, None}
+use Rattle.std.specs.Prelude.{◌≡◌, ◌≢◌, ℕ, ◌+◌, ◌<◌, ◌≤◌, max, Bool, false, List, ◌∷◌, ◌++◌, length, Contains, All, Some, None}
 use Rattle.mv_history.specs.declared.Step.{Step}
 use Rattle.mv_history.specs.declared.StepKind.{StepKind}
-use Rattle.mv_history.specs.declared.StepKind.TheVariants.{LoadScan, LoadGrace, LoadHead, CutHead, LoadSuper, LoadDeath, NameCommit, NameRest}
+use Rattle.mv_history.specs.declared.StepKind.TheVariants.{LoadScan, LoadMark, RaiseGrace, LoadGrace, StoreFree, LoadHead, CutHead, LoadSuper}
+use Rattle.mv_history.specs.declared.StepKind.TheVariants.{LoadDeath, NameCommit, NameRest}
 use Rattle.mv_layout.specs.declared.Config.{Config}
 use Rattle.mv_layout.specs.declared.Place.TheVariants.{Grace, Head, Super}
 use Rattle.mv_layout.specs.Places.{place_of}
@@ -41,6 +42,20 @@ IsOtherKind LoadScan = ⊥
 IsOtherKind NameCommit = ⊥
 IsOtherKind NameRest = ⊥
 IsOtherKind _ = Unit {0}
+
+-- a kind of step that a round makes which writes nothing back: it enters no section, and writes no master and no HEAD
+abbrev pub IsPlainKind : StepKind → Type 0
+IsPlainKind LoadGrace = Unit {0}
+IsPlainKind StoreFree = Unit {0}
+IsPlainKind LoadScan = Unit {0}
+IsPlainKind LoadMark = Unit {0}
+IsPlainKind RaiseGrace = Unit {0}
+IsPlainKind LoadSuper = Unit {0}
+IsPlainKind _ = ⊥
+
+-- these steps are all of such a kind unless versions are written back
+abbrev pub IsPlain : Bool → List Step → Type 0
+IsPlain back made = back ≡ false → All (λ s. IsPlainKind s.kind) made
 
 -- The pass is outside a section, as before, with no scan running. What was seen is only longer, the own commits are as before,
 -- the watermark isn't lower, and the trail is longer by these steps; nothing else has changed but the rests, the clock words

@@ -14,7 +14,7 @@ use Rattle.seat_log.specs.Frees.{OldestIsDead, IsDeadNote, freed_noted}
 use Rattle.log_reclaim.specs.declared.settling.Found.{Found}
 use Rattle.log_reclaim.specs.declared.rounds.Scanned.{Scanned}
 use Rattle.log_reclaim.specs.Sweeps.{found_at}
-use Rattle.log_reclaim.specs.Parts.{HasScanned, BeginsNoScan, grace_load}
+use Rattle.log_reclaim.specs.Parts.{HasScanned, BeginsNoScan, IsPlain, grace_load}
 use Rattle.log_reclaim.specs.Tries.{Makes}
 use Rattle.log_reclaim.specs.Untimed.{StaysUntimed}
 
@@ -88,3 +88,7 @@ pub record HasLeft (c : Config) (w : View) (l : Noted) (made : List Step) (back 
 
 abbrev pub SweptSo : Config → View → Noted → List Step → Bool → Type 0
 SweptSo c w l made back = (length l.live ≡ 0) ⊎ HasLeft c w l made back
+
+-- unless versions are written back, each step between the two views loads GRACE, CLOCK, a mark or SUPER, raises GRACE, or frees a slot
+abbrev pub HasMade : View → View → Bool → Type 0
+HasMade v w back = (made : List Step) × (w.trail ≡ v.trail ++ made) × IsPlain back made

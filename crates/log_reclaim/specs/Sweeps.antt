@@ -1,5 +1,5 @@
 -- What a round leaves: looking at each version, and the whole of a round.
-use Rattle.std.specs.Prelude.{◌≡◌, ℕ, zero, suc, ◌+◌, ◌-◌, ◌<◌, ◌≤◌, Bool, List, length, All}
+use Rattle.std.specs.Prelude.{◌≡◌, ℕ, zero, suc, ◌+◌, ◌-◌, ◌<◌, ◌≤◌, Bool, false, List, length, All}
 use Rattle.std.specs.Prelude.{Option, Some, None, slice_index_or, slice_set}
 use Rattle.mv_history.specs.declared.Step.{Step}
 use Rattle.mv_layout.specs.declared.Config.{Config}
@@ -11,7 +11,7 @@ use Rattle.seat_log.specs.Notes.{Noted, IsNoteAt}
 use Rattle.seat_log.specs.Frees.{OldestIsDead}
 use Rattle.log_reclaim.specs.declared.settling.Found.{Found}
 use Rattle.log_reclaim.specs.declared.rounds.Scanned.{Scanned}
-use Rattle.log_reclaim.specs.Parts.{LeavesClock, IsOtherKind, Reclaims, DiesFrom, Shrinks, HasScanned}
+use Rattle.log_reclaim.specs.Parts.{LeavesClock, IsOtherKind, IsPlain, Reclaims, DiesFrom, Shrinks, HasScanned}
 use Rattle.log_reclaim.specs.Untimed.{StaysUntimed, DatedSo}
 
 -- the seat that a byte tells: one more than its number, or 0 for none
@@ -46,6 +46,7 @@ pub record Settles (c : Config) (v w : View) (l m : Noted) (made : List Step) (m
   pub reclaims : Reclaims v w made
   pub rests : w.past.rests ≡ v.past.rests
   pub kinds : All (λ s. IsOtherKind s.kind) made
+  pub plain : IsPlain back made
   pub log : m ≡ record l { live = m.live; back = m.back }
   pub long : length m.live ≡ length l.live
   pub notes : (i : ℕ) (n : Note) → IsNoteAt m i n → (old : Note) × IsNoteAt l i old × DiesFrom old n × DatedSo c w made top back old n
@@ -61,6 +62,7 @@ pub record SettlesOne (c : Config) (v w : View) (l m : Noted) (made : List Step)
   pub reclaims : Reclaims v w made
   pub rests : w.past.rests ≡ v.past.rests
   pub kinds : All (λ s. IsOtherKind s.kind) made
+  pub plain : IsPlain back made
   pub log : m ≡ record l { live = m.live; back = m.back }
   pub long : length m.live ≡ length l.live
   pub others : (i : ℕ) (n : Note) → IsNoteAt m i n → (i ≡ index → ⊥) → IsNoteAt l i n
@@ -75,6 +77,7 @@ pub record SettlesOne (c : Config) (v w : View) (l m : Noted) (made : List Step)
 pub record Sweeps (c : Config) (v w : View) (l m : Noted) (made : List Step) (back : Bool) (scanned : Scanned) (found : Found) (freed : ℕ) : Type 0 where
   pub reclaims : Reclaims v w made
   pub leaves : All (λ s. LeavesClock s.kind) made
+  pub plain : IsPlain back made
   pub rests : w.past.rests ≡ v.past.rests
   pub shrinks : Shrinks l m freed
   pub scan : HasScanned c v.number made scanned.mark scanned.clock
@@ -95,6 +98,7 @@ pub record Sweeps (c : Config) (v w : View) (l m : Noted) (made : List Step) (ba
 pub record SweepsAll (c : Config) (v w : View) (l m : Noted) (made : List Step) (freed : ℕ) : Type 0 where
   pub reclaims : Reclaims v w made
   pub leaves : All (λ s. LeavesClock s.kind) made
+  pub plain : IsPlain false made
   pub rests : w.past.rests ≡ v.past.rests
   pub shrinks : Shrinks l m freed
   pub empty : length m.live ≡ 0

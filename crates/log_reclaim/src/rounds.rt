@@ -13,7 +13,7 @@ ghost use Rattle.log_reclaim.specs.Parts.{Reclaims, Shrinks};
 ghost use Rattle.log_reclaim.specs.Tries.{Makes};
 ghost use Rattle.log_reclaim.specs.Sweeps.{HasEntries, Sweeps, SweepsSo};
 ghost use Rattle.log_reclaim.specs.Holders.{RoundHolds, HeldSo};
-ghost use Rattle.log_reclaim.specs.Rounds.{FreesAll, FreesFirst, FreesBeforeScan, IsDue, by_mark_of, IsHolder, SweptSo};
+ghost use Rattle.log_reclaim.specs.Rounds.{FreesAll, FreesFirst, FreesBeforeScan, IsDue, by_mark_of, IsHolder, SweptSo, HasMade};
 
 use crate::settling::{Found, settle_all};
 use mv_core::{Pass, Shared, Steps};
@@ -204,7 +204,8 @@ pub(crate) fn holder(
 /// nothing, no step begins a scan.
 ///
 /// No commit and no rest is made or tried: no step is an exchange on CLOCK. The seat's commits and
-/// rests are as before. `held` is None exactly
+/// rests are as before. Without `back` it enters no section: each step loads GRACE, CLOCK, a mark or
+/// SUPER, raises GRACE, or frees a slot. `held` is None exactly
 /// where the log is empty afterwards. Else the oldest write set isn't dead by the scan's watermark, and
 /// its holder has a cause in this call's steps:
 ///
@@ -239,6 +240,7 @@ pub fn round<P: Protocol, L: Ledger>(
         × SweptSo (config_of shared.now) (view pass.new) log.new made back
         × HeldSo (RoundHolds (config_of shared.now) (view pass.new) log.new made back) log.new result.held × (clock_exchanges made ≡ [])
         × FreesFirst (config_of shared.now) log.old made }
+    ensures plain { HasMade (view pass.old) (view pass.new) back }
     ensures cost { steps.new ≤ steps.old + (4 + (config_of shared.now).seats + 20 * (config_of shared.now).slots) }
     ensures trail { length (view pass.new).trail ≤ length (view pass.old).trail + (4 + (config_of shared.now).seats + 20 * (config_of shared.now).slots) }
 {

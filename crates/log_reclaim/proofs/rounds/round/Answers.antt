@@ -5,7 +5,7 @@ use Rattle.log_reclaim.specs.declared.rounds.Scanned.{Scanned}
 use Rattle.log_reclaim.specs.Sweeps.{SweepsSo}
 use Rattle.log_reclaim.specs.Rounds.{FreesFirst, IsHolder}
 use Rattle.log_reclaim.proofs.FirstFrees.{freed_first}
-use Rattle.log_reclaim.proofs.RoundCauses.{round_scanned, round_emptied}
+use Rattle.log_reclaim.proofs.RoundCauses.{round_scanned, round_emptied, round_plain, emptied_plain}
 use Rattle.log_reclaim.proofs.rounds.round.Goals.{in-Some, in-None}
 use Rattle.log_reclaim.proofs.rounds.round.Goals as goal
 
@@ -21,6 +21,18 @@ left g c scanned is =
 frees : (g : _) (c : goal.After-live g) → FreesFirst (config_of c.args.shared.now) c.args.log.now c.sweep-freed.ensures.sweeps.0
 frees g c =
     freed_first (config_of c.args.shared.now) c.args.log.now c.sweep-freed.ensures.sweeps.0 c.sweep-freed.result.1 c.sweep-freed.ensures.sweeps.2
+
+pub returns-clause-plain : goal.returns-clause-plain
+returns-clause-plain g c =
+    let s = c.sweep-freed in
+    elim c.match-scanned.branch [
+      | in-Some w ↦
+          round_plain (config_of c.args.shared.now) (view c.args.pass.now) (view s.new.pass) c.args.log.now s.new.log s.ensures.sweeps.0
+          c.args.back w.in-Some.scanned s.new.found s.result.0 (left g c _ w.in-Some.is)
+      | in-None w ↦
+          emptied_plain (config_of c.args.shared.now) (view c.args.pass.now) (view s.new.pass) c.args.log.now s.new.log s.ensures.sweeps.0 c.args.back
+          s.result.0 (left g c None w.in-None.is)
+    ]
 
 pub returns-clause-reclaims : goal.returns-clause-reclaims
 returns-clause-reclaims g c =

@@ -62,7 +62,7 @@ for block in re.findall(r"(?:^    .*\n)+", pathlib.Path(page).read_text(), re.M)
     shown.add(commands[-1].split()[1])
     if not is_printed(commands[-1], "".join(f"{line}\n" for line in lines[len(commands):])):
         wrong.append(f"another text is printed by {commands[-1]}")
-wrong += [f"nothing is shown of {word}" for word in ("run", "block", "pool", "replay") if word not in shown]
+wrong += [f"nothing is shown of {word}" for word in ("run", "block", "pool", "grow", "replay") if word not in shown]
 for line in wrong:
     print(f"samples: docs/PROGRAM.md: {line}", file=sys.stderr)
 sys.exit(bool(wrong))

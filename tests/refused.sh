@@ -13,6 +13,7 @@ clang=$(dirname "$(rt doc)")/toolchain/bin/clang
 cd "$scratch" || exit 1
 printf 'add l0 5\nhas l0 5\n' >script
 printf 'begin\nadd l0 5\nmove l0 t0 5\nend\nhas t0 5\n' >blocks
+printf 'add h0 5\nadd h0 21\nhas h0 21\n' >growing
 printf 'seats 1\nobjects 1\nslots 64\nbase 0\nseat 0 enter\nseat 0 leave\nstep 0 0 0 0 0\n' >plan
 : >empty
 failed=0
@@ -54,7 +55,7 @@ sweep() {
 }
 
 counts=
-for words in 'run script' 'run script empty' 'block blocks empty' 'pool 1 script' 'replay plan'; do
+for words in 'run script' 'run script empty' 'block blocks empty' 'pool 1 script' 'grow growing empty' 'replay plan'; do
     # shellcheck disable=SC2086
     {
         sweep alloc 1000000 7 'out of memory' $words

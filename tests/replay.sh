@@ -8,24 +8,36 @@ cd "$scratch" || exit 1
 
 PYTHONDONTWRITEBYTECODE=1 PYTHONPATH=$bench python3 - <<'PYTHON' || exit 1
 import re
-from checker import script, text
+from checker import growing, script, text
 from checker.text import Options
 
 
-class Case:
-    """Scripts, and a text that is theirs."""
+def run(scripts, printed, **options):
+    text.check_run(Options(**options), [script.parse(it) for it in scripts], printed)
 
-    def __init__(self, scripts, printed, **options):
-        self.scripts = [script.parse(it.encode()) for it in scripts]
-        self.printed, self.options = printed, Options(**options)
-        text.check_run(self.options, self.scripts, printed.encode())
+
+def block(scripts, printed):
+    text.check_blocks([script.parse_blocks(it) for it in scripts], printed)
+
+
+def grow(scripts, printed):
+    growing.check_grow([script.parse_grow(it) for it in scripts], printed)
+
+
+class Case:
+    """Scripts, and a text that is theirs by a check."""
+
+    def __init__(self, check, scripts, printed, **options):
+        self.check, self.scripts = check, [it.encode() for it in scripts]
+        self.printed, self.options = printed, options
+        check(self.scripts, printed.encode(), **options)
 
     def refuses(self, change, into, why, **options):
         """That the text is refused for that where what matches is changed."""
         changed, count = re.subn(change, into, self.printed, flags=re.M)
         assert count, change
         try:
-            text.check_run(self.options._replace(**options), self.scripts, changed.encode())
+            self.check(self.scripts, changed.encode(), **self.options | options)
         except text.Fault as fault:
             assert why in str(fault), (change, str(fault))
         else:
@@ -34,7 +46,7 @@ class Case:
 
 # Two seats and all kinds of sets. The commits of seat 0, an add to a list, to an empty tree and to another, and a move of a
 # tree's key to a bucket, write 2, 2, 4 and 4 objects, and that of seat 1 one.
-two = Case(["add l0 5\nadd t1 5\nadd t1 3\nmove t1 h2 5\nhas t1 5", "format 2\r\n\nput l0 05 9 # a value\n get\tl0 5\nsize t1\n"], """\
+two = Case(run, ["add l0 5\nadd t1 5\nadd t1 3\nmove t1 h2 5\nhas t1 5", "format 2\r\n\nput l0 05 9 # a value\n get\tl0 5\nsize t1\n"], """\
 0.1 c1 yes
 0.2 c3 yes
 0.3 c4 yes
@@ -80,7 +92,7 @@ two.refuses("no$", "no\r", "and not no")
 two.refuses("\n\\Z", "", "doesn't end with LF")
 
 # A base: the first commit is later than it, and reads are no earlier.
-later = Case(["has l0 1\nadd l0 1"], """\
+later = Case(run, ["has l0 1\nadd l0 1"], """\
 0.1 r7 no
 0.2 c8 yes
 l0 1
@@ -91,7 +103,7 @@ later.refuses("r7", "r7", "too early", base=8)
 later.refuses("0.1 r7 no\n0.2 c8", "0.2 c7 yes\n0.1 r7", "too early")
 
 # Two nodes: the third key of a list is too many, and so is the second of a tree beside it.
-small = Case(["add l0 1\nadd l0 2\nadd l0 3\ndel l0 1\nadd t0 8\nadd t0 9\n"], """\
+small = Case(run, ["add l0 1\nadd l0 2\nadd l0 3\ndel l0 1\nadd t0 8\nadd t0 9\n"], """\
 0.1 c1 yes
 0.2 c2 yes
 0.3 r2 full
@@ -107,7 +119,7 @@ small.refuses("full", "full", "and not yes", objects=183)
 small.refuses("live 8(.*)aborts 0", r"live 9\1aborts 1", "one seat alone")
 
 # The last time.
-last = Case(["add l0 1\nadd l0 2\nadd l0 1\nhas l0 1\n"], """\
+last = Case(run, ["add l0 1\nadd l0 2\nadd l0 1\nhas l0 1\n"], """\
 0.1 c35184372088831 yes
 0.2 r35184372088831 worn
 0.3 r35184372088831 no
@@ -120,38 +132,17 @@ last.refuses("rests 0", "rests 1", "end at")
 last.refuses("35184372088831", "7", "and not yes", base=6)
 
 # How many objects a commit writes: the adds and dels of a tree of one key, and of two; each kind of move; a put.
-writes = Case([
+writes = Case(run, [
     "format 2\nadd t0 1\nadd t0 2\ndel t0 1\ndel t0 2\nput l0 1 1\nput l0 1 2\nmove l0 l1 1\nmove l1 t0 1\nadd t0 2\nadd l2 3\n"
     "move l2 t0 3\nadd t1 9\nmove t0 t1 3\nmove t0 t2 2\nmove t0 t1 1\nmove t1 h0 9\n"],
     "".join(f"0.{n} c{n} yes\n" for n in range(1, 17)) +
     "h0 9\nt1 1=2 3\nt2 2\n"
     "log 0 live 0 freed 51 back 0 commits 16 aborts 0 rests 0\n")
 writes.refuses("freed 51", "freed 50", "for 51 writes")
-Case([""], "log 0 live 0 freed 0 back 0 commits 0 aborts 0 rests 0\n")
-
-
-class Blocks:
-    """Scripts of blocks, and a text that is theirs."""
-
-    def __init__(self, scripts, printed):
-        self.scripts = [script.parse_blocks(it.encode()) for it in scripts]
-        self.printed = printed
-        text.check_blocks(self.scripts, printed.encode())
-
-    def refuses(self, change, into, why):
-        """That the text is refused for that where what matches is changed."""
-        changed, count = re.subn(change, into, self.printed, flags=re.M)
-        assert count, change
-        try:
-            text.check_blocks(self.scripts, changed.encode())
-        except text.Fault as fault:
-            assert why in str(fault), (change, str(fault))
-        else:
-            raise AssertionError(f"taken: {change} as {into}")
-
+Case(run, [""], "log 0 live 0 freed 0 back 0 commits 0 aborts 0 rests 0\n")
 
 # A block of three commands is one commit of three objects, and one that undoes its change is a commit too.
-blocks = Blocks(["begin\nadd l0 5\nmove l0 t0 5\npair l0 t0 5\nend\nhas t0 5\n", "begin\nadd h0 1\ndel h0 1\nend\nbegin\nhas h0 1\nhas h0 2\nend\n"], """\
+blocks = Case(block, ["begin\nadd l0 5\nmove l0 t0 5\npair l0 t0 5\nend\nhas t0 5\n", "begin\nadd h0 1\ndel h0 1\nend\nbegin\nhas h0 1\nhas h0 2\nend\n"], """\
 0.1 c1 yes
 0.2 c1 yes
 0.3 c1 no yes
@@ -175,6 +166,73 @@ blocks.refuses("^0.4 r2", "0.4 r0", "out of order")
 blocks.refuses("^t0 5", "l0 5", "and not 't0 5'")
 blocks.refuses("^log 1 live 2", "log 1 live 11", "11 versions")
 blocks.refuses("^log 0 live 3(.*)commits 1", r"log 0 live 3\1commits 2", "at 1 commits")
+
+# A growing set: a split behind each second add, at the times 3 and 6. The first has no key to part, and the second has two.
+splits = Case(grow, ["add h0 1\nadd h0 17\nadd h0 2\nadd h0 3\nhas h0 17\nnext h0 4\n"], """\
+0.1 c1 yes
+0.2 c2 yes
+0.3 c4 yes
+0.4 c5 yes
+0.5 r6 yes
+0.6 r6 17
+h0 1 2 3 17
+buckets 18 splits 2
+log 0 live 16 freed 0 back 0 commits 6 aborts 0 rests 0
+""")
+splits.refuses("r6 17", "r6 none", "and not 17")
+splits.refuses("^h0.*\n", "", "too few")
+splits.refuses("^buckets.*\n", "", "no line on the buckets")
+splits.refuses("^(buckets.*\n)(log.*\n)", r"\2\1", "not the log line")
+splits.refuses("^buckets 18", "buckets 19", "19 buckets after 2 splits")
+splits.refuses("^buckets 18 splits 2", "buckets 17 splits 1", "2 commits more")
+splits.refuses("^buckets 18 splits 2", "buckets 19 splits 3", "2 commits more")
+splits.refuses("^buckets 18 splits 2((.*\n)*.*)live 16(.*)commits 6", r"buckets 19 splits 3\1live 19\3commits 7", "no time for 3 splits")
+splits.refuses("^buckets 18 splits 2((.*\n)*.*)commits 6(.*)rests 0", r"buckets 17 splits 1\1commits 5\3rests 1", "where 2 to 2 were due")
+splits.refuses("^0.3 c4", "0.3 c3", "no time for 2 splits")
+splits.refuses("commits 6", "commits 3", "4 lines of commits")
+splits.refuses("rests 0", "rests 35184372088831", "end at")
+splits.refuses("live 16", "live 15", "15 versions")
+splits.refuses("live 16", "live 17", "17 versions")
+splits.refuses("live 16 freed 0 back 0", "live 0 freed 16 back 17", "written back")
+splits.refuses("live 16(.*)aborts 0", r"live 17\1aborts 1", "one seat alone")
+
+# Two seats, each with a split: that of seat 0 at time 5, since the times before are those of lines, and that of seat 1 behind it.
+both = Case(grow, ["add h0 1\nadd h0 2\nhas h0 1\n", "add h0 3\nadd h0 4\n"], """\
+0.1 c1 yes
+1.1 c2 yes
+0.2 c3 yes
+1.2 c4 yes
+0.3 r5 yes
+h0 1 2 3 4
+buckets 18 splits 2
+log 0 live 7 freed 0 back 0 commits 3 aborts 0 rests 0
+log 1 live 8 freed 0 back 0 commits 3 aborts 0 rests 0
+""")
+both.refuses("r5", "r4", "no time for 2 splits")
+both.refuses("live 7(.*)commits 3((.*\n)*.*)live 8(.*)commits 3", r"live 11\1commits 4\2live 4\4commits 2", "log 0: 2 splits, where 1 to 1 were due")
+both.refuses("live 7", "live 6", "log 0: 6 versions")
+both.refuses("live 8", "live 9", "16 versions")
+both.refuses("^log 1.*\n", "", "1 log lines for 2 scripts")
+
+# A bucket that can't be split: behind 98 adds and 48 splits all keys are in the next one. Splits 1 and 17 part 2 keys and 34.
+keys = range(0, 102400, 1024)
+times = [i + (i - 1) // 2 for i in range(1, 99)] + [147, 148]
+crowded = Case(grow, ["".join(f"add h0 {key}\n" for key in keys)],
+    "".join(f"0.{i} c{time} yes\n" for i, time in enumerate(times, 1)) + f"h0 {' '.join(map(str, keys))}\n"
+    "buckets 64 splits 48\nlog 0 live 380 freed 0 back 0 commits 148 aborts 0 rests 0\n")
+crowded.refuses("^buckets 64 splits 48((.*\n)*.*)commits 148", r"buckets 65 splits 49\1commits 149", "split 49 had too many keys")
+crowded.refuses("^buckets 64 splits 48((.*\n)*.*)commits 148(.*)rests 0", r"buckets 63 splits 47\1commits 147\3rests 1", "no time for each")
+
+# A set that is full: 3,071 keys, and all splits.
+parted = sum(3 + len(range(place, 2 * (whole + place - 15), whole)) for whole in (16, 32, 64, 128, 256, 512) for place in range(whole))
+filled = Case(grow, ["".join(f"add h0 {key}\n" for key in range(3072))],
+    "".join(f"0.{i} c{i + min((i - 1) // 2, 1008)} yes\n" for i in range(1, 3072)) + "0.3072 r4079 full\n"
+    f"h0 {' '.join(map(str, range(3071)))}\nbuckets 1024 splits 1008\n"
+    f"log 0 live 0 freed {6142 + parted} back 0 commits 4079 aborts 0 rests 0\n")
+filled.refuses("full", "yes", "and not full")
+filled.refuses("^buckets 1024 splits 1008((.*\n)*.*)commits 4079", r"buckets 1025 splits 1009\1commits 4080", "1025 buckets")
+filled.refuses("^buckets 1024 splits 1008((.*\n)*.*)commits 4079(.*)rests 0", r"buckets 1023 splits 1007\1commits 4078\3rests 1", "no time for each")
+Case(grow, ["format 1\n"], "buckets 16 splits 0\nlog 0 live 0 freed 0 back 0 commits 0 aborts 0 rests 0\n")
 
 
 def taken(check, *words):
@@ -205,5 +263,8 @@ counted=$("$bench/replay" --reads run --base 7 --objects 181 a <text)
 [ "$counted" = 'lines 1 commits 1 rests 0 aborts 0 turns 0 reads 1' ] || { echo "replay: counted $counted" >&2; exit 1; }
 counted=$(printf '0.1 c1 yes\nl0 5\nlog 0 live 2 freed 0 back 0 commits 1 aborts 0 rests 0\n' | "$bench/replay" block a)
 [ "$counted" = 'lines 1 commits 1 rests 0 aborts 0 turns 0' ] || { echo "replay: counted $counted of a block" >&2; exit 1; }
+printf 'add h0 1\nadd h0 2\n' >b
+counted=$(printf '0.1 c1 yes\n0.2 c2 yes\nh0 1 2\nbuckets 17 splits 1\nlog 0 live 7 freed 0 back 0 commits 3 aborts 0 rests 0\n' | "$bench/replay" grow b)
+[ "$counted" = 'lines 2 commits 3 rests 0 aborts 0 turns 0 splits 1' ] || { echo "replay: counted $counted of a growing set" >&2; exit 1; }
 "$bench/replay" run --base 8 a <text 2>/dev/null && { echo 'replay: a text of another base is taken' >&2; exit 1; }
 echo 'replay: ok'

@@ -13,8 +13,8 @@ WORDS = {
     "next": (1, True, False),
 }
 
-
 MOST_IN_BLOCK = 8
+GROWING_VERBS = ("add", "del", "has", "size", "next")
 
 
 class NotAScript(Exception):
@@ -72,6 +72,17 @@ def lines_of(text):
 def parse(text):
     """The commands of a script's bytes."""
     return [command(words, form) for words, form in lines_of(text)]
+
+
+def parse_grow(text):
+    """The commands of a script of a growing set: some of those of format 1, and of one set alone."""
+    commands = []
+    for words, form in lines_of(text):
+        found = command(words, form)
+        if form != 1 or found.first != "h0" or found.verb not in GROWING_VERBS:
+            raise NotAScript(f"of a growing set {words}")
+        commands.append(found)
+    return commands
 
 
 def parse_blocks(text):

@@ -196,6 +196,12 @@ def check_logs(logs, lines, writes, options):
     must(latest <= end <= LAST, f"the time {latest} is printed, and the commits and rests end at {end}")
 
 
+def count(lines, logs, reads=0):
+    commits, rests, aborts = (sum(column) for column in zip(*((log.commits, log.rests, log.aborts) for log in logs)))
+    turns = sum(a.seat != b.seat for a, b in zip(lines, lines[1:]))
+    return Counts(len(lines), commits, rests, aborts, turns, reads)
+
+
 def check_run(options, scripts, text, count_reads=False):
     """Checks the text of a run of the scripts' commands; answers what it counts."""
     return check_lines(options, scripts, text, count_reads, lambda lines: check_scripts(lines, scripts, options.base))
@@ -244,9 +250,7 @@ def check_blocks(scripts, text):
         check_block_log(seat, log, len(own), sum(MOST_LOCKS * len(rows) for rows in own), options.slots)
     end = options.base + sum(log.commits + log.rests for log in logs)
     must((lines[-1].time if lines else options.base) <= end, f"the last line's time is printed, and the commits and rests end at {end}")
-    commits, rests, aborts = (sum(column) for column in zip(*((log.commits, log.rests, log.aborts) for log in logs)))
-    turns = sum(a.seat != b.seat for a, b in zip(lines, lines[1:]))
-    return Counts(len(lines), commits, rests, aborts, turns, 0)
+    return count(lines, logs)
 
 
 def check_lines(options, scripts, text, count_reads, check_numbers):
@@ -257,9 +261,7 @@ def check_lines(options, scripts, text, count_reads, check_numbers):
     writes = check_replies(lines, scripts, catalogue)
     check_sets(sets, catalogue)
     check_logs(logs, lines, writes, options)
-    commits, rests, aborts = (sum(column) for column in zip(*((log.commits, log.rests, log.aborts) for log in logs)))
-    turns = sum(a.seat != b.seat for a, b in zip(lines, lines[1:]))
-    return Counts(len(lines), commits, rests, aborts, turns, catalogue.reads)
+    return count(lines, logs, catalogue.reads)
 
 
 def summary(number):

@@ -40,8 +40,6 @@ mod collected;
 mod loading;
 mod queue;
 mod running;
-#[cfg(test)]
-mod tests;
 mod worker;
 
 pub use collected::Collected;

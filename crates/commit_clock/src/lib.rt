@@ -41,8 +41,6 @@
 
 mod helping;
 mod naming;
-#[cfg(test)]
-mod tests;
 
 pub use helping::{
     CheckedHelp, StartedHelp, help, help_check, help_clock, help_end, help_start, now,

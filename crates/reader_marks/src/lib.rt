@@ -33,8 +33,6 @@
 
 mod scanning;
 mod sections;
-#[cfg(test)]
-mod tests;
 
 pub use scanning::{Watermark, known, scan, scan_clock};
 pub use sections::{enter, enter_clock, enter_low, enter_mark, enter_time, leave};

@@ -32,6 +32,9 @@
 //! one after another and where they overlap. Such a section enters by three steps, finds the master by
 //! one, reads its six words by six and leaves by one.
 //!
+//! `first_rests`, `first_sections`, `first_walks` and `first_logs` are cases of one crate each: clock
+//! words and rests, entering and leaving, walks and reads, and what a log notes.
+//!
 //! Each schedule is one order of whole calls and stops, on one thread. The crate stands above all
 //! crates that it crosses.
 #![tactic(auto)]
@@ -53,6 +56,14 @@ mod commits;
 mod enter_stop_rows;
 #[cfg(test)]
 mod filled_logs;
+#[cfg(test)]
+mod first_logs;
+#[cfg(test)]
+mod first_rests;
+#[cfg(test)]
+mod first_sections;
+#[cfg(test)]
+mod first_walks;
 #[cfg(test)]
 mod join_rows;
 #[cfg(test)]

@@ -27,7 +27,5 @@
 
 pub mod lending;
 mod running;
-#[cfg(test)]
-mod tests;
 
 pub use running::run_domain;

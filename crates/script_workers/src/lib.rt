@@ -41,8 +41,6 @@
 
 mod loading;
 mod running;
-#[cfg(test)]
-mod tests;
 mod worker;
 
 pub use loading::{put_lines, take_first};

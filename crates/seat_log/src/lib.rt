@@ -42,8 +42,6 @@ mod counts;
 mod freeing;
 mod log;
 mod notes;
-#[cfg(test)]
-mod tests;
 mod version;
 
 pub use building::{build, clear_previous, put_word};

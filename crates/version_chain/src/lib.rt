@@ -30,8 +30,6 @@
 #![tactic(auto)]
 
 mod reading;
-#[cfg(test)]
-mod tests;
 mod walking;
 
 pub use reading::{read_master, read_master_pair, read_version, read_version_pair};

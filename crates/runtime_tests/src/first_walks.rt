@@ -1,0 +1,153 @@
+// The first read of a new domain.
+ghost use Rattle.std.specs.Prelude.{◌≡◌, ◌+◌, ◌<◌, ◌≤◌, length, IfSome, IsTrue};
+ghost use Rattle.mv_core.specs.EnterSteps.{MayLoadLow};
+ghost use Rattle.mv_core.specs.Passes.{view, IsOf, IsSame, config_of};
+ghost use Rattle.version_chain.specs.Walks.{MayWalk};
+ghost use Rattle.version_chain.specs.Reads.{words_in};
+
+use mv_core::{Pass, Shared, Steps};
+use mv_history::{AnyRules, Words};
+use mv_layout::{Config, LAST, NO_SLOT, clock_slot, clock_time};
+use std::alloc::{AllocError, Global};
+use std::marker::Brand;
+use std::sync::ledger::{Blank, Ledger};
+use std::test::Fail;
+use version_chain::{
+    Found, find, read_master, read_master_pair, read_version, read_version_pair, walk_start,
+    walk_step,
+};
+
+// Enters where the clock names no commit, in three steps.
+fn enter<L: Ledger>(
+    shared: &Shared<AnyRules>,
+    pass: &mut Pass<AnyRules>,
+    steps: &mut Steps<L>,
+) -> bool
+    requires of { IsOf shared.now pass.old }
+    requires may { MayLoadLow (view pass.old) }
+    ensures same { IsSame pass.old pass.new }
+    ensures may { IsTrue result → MayWalk (view pass.new) }
+    ensures trail { length (view pass.new).trail ≡ length (view pass.old).trail + 3 }
+    ensures steps { steps.new ≡ steps.old + 3 }
+{
+    let low = shared.load_low(pass, steps);
+    shared.store_mark(pass, clock_time(low), steps);
+    clock_slot(shared.load_time(pass, steps)) == NO_SLOT
+}
+
+// The words of an object, where its HEAD is 0: one step finds the master, and six read it.
+fn read_empty<L: Ledger>(
+    shared: &Shared<AnyRules>,
+    pass: &mut Pass<AnyRules>,
+    object: u32,
+    steps: &mut Steps<L>,
+) -> Option<Words>
+    requires of { IsOf shared.now pass.old }
+    requires may { MayWalk (view pass.old) }
+    requires range { object < (config_of shared.now).objects }
+    ensures same { IsSame pass.old pass.new }
+    ensures may { MayWalk (view pass.new) }
+    ensures words { IfSome result (λ w. w ≡ words_in (config_of shared.now) (view pass.old) object) }
+    ensures trail { IfSome result (λ _. length (view pass.new).trail ≡ length (view pass.old).trail + 7) }
+    ensures steps { IfSome result (λ _. steps.new ≡ steps.old + 7) }
+{
+    let walk = walk_start(shared, pass, object, steps);
+    match walk_step(shared, pass, walk, steps) {
+        Ok(Found::Master) => Some(read_master(shared, pass, object, steps)),
+        _ => None,
+    }
+}
+
+// What `find` names, read by the matching reader.
+fn read<L: Ledger>(
+    shared: &Shared<AnyRules>,
+    pass: &mut Pass<AnyRules>,
+    object: u32,
+    steps: &mut Steps<L>,
+) -> Words
+    requires of { IsOf shared.now pass.old }
+    requires may { MayWalk (view pass.old) }
+    requires range { object < (config_of shared.now).objects }
+    ensures same { IsSame pass.old pass.new }
+    ensures may { MayWalk (view pass.new) }
+    ensures words { result ≡ words_in (config_of shared.now) (view pass.new) object }
+{
+    match find(shared, pass, object, steps) {
+        Found::Master => read_master(shared, pass, object, steps),
+        Found::Version { seat, position } => read_version(shared, pass, seat, position, steps),
+    }
+}
+
+// Two words of it, the one at this place and the one after it.
+fn read_pair<L: Ledger>(
+    shared: &Shared<AnyRules>,
+    pass: &mut Pass<AnyRules>,
+    object: u32,
+    place: u32,
+    steps: &mut Steps<L>,
+) -> (u64, u64)
+    requires of { IsOf shared.now pass.old }
+    requires may { MayWalk (view pass.old) }
+    requires range { object < (config_of shared.now).objects }
+    requires place { place < 5 }
+{
+    match find(shared, pass, object, steps) {
+        Found::Master => read_master_pair(shared, pass, object, place, steps),
+        Found::Version { seat, position } => {
+            read_version_pair(shared, pass, seat, position, place, steps)
+        }
+    }
+}
+
+// Enters a section, and reads object 0 by one look, again by `find`, and two words of it.
+fn read_thrice<L: Ledger>(
+    shared: &Shared<AnyRules>,
+    pass: &mut Pass<AnyRules>,
+    steps: &mut Steps<L>,
+) -> Option<(Words, Words, (u64, u64))>
+    requires of { IsOf shared.now pass.old }
+    requires may { MayLoadLow (view pass.old) }
+    requires range { 0 < (config_of shared.now).objects }
+{
+    if !enter(shared, pass, steps) {
+        return None;
+    }
+    let first = read_empty(shared, pass, 0, steps)?;
+    let second = read(shared, pass, 0, steps);
+    Some((first, second, read_pair(shared, pass, 0, 2, steps)))
+}
+
+// The same of seat 0 of a new domain.
+fn first_reads<L: Ledger>(
+    alloc: Global,
+    base: u64,
+    blank: Blank,
+) -> Result<Option<(Words, Words, (u64, u64))>, AllocError>
+    requires base { base ≤ LAST }
+    requires name { blank.name ≡ L.name }
+    requires parts { (blank.parts ≡ L.parts) × (0 < L.parts) }
+{
+    let config = Config {
+        seats: 2,
+        objects: 1,
+        slots: 64,
+        write_max: 1,
+        low: 1,
+        high: 1,
+        base,
+    };
+    let start = [[9, 8, 7, 6, 5, 0]];
+    let (shared, mut passes) = Shared::<AnyRules>::new(alloc, &config, &start)?;
+    let mut steps = Steps::<L>::open(blank);
+    Ok(read_thrice(&shared, &mut passes[0], &mut steps))
+}
+
+#[test]
+fn first_read_steps(rt: HostRuntime) -> Result<(), Fail> {
+    let opening = [9, 8, 7, 6, 5, 0];
+    for base in [0, LAST] {
+        let words = first_reads::<Brand>(rt.alloc(), base, Blank::new(1))?;
+        assert_eq!(rt; words, Some((opening, opening, (7, 6))));
+    }
+    Ok(())
+}

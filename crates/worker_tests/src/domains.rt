@@ -1,0 +1,124 @@
+// Two scripts over a domain of two seats, from its opening to its meeting.
+ghost use Rattle.std.specs.Prelude.{◌≡◌, ◌<◌, ◌≤◌, All, IfOk, length, replicate};
+ghost use Rattle.mvrlu.specs.Opened.{IsOpened};
+ghost use Rattle.set_script.specs.Objects.{no_words};
+ghost use Rattle.set_script.specs.declared.script.TheConstants.{MOST_COMMANDS};
+
+use mv_history::{LogTable, WORDS, Words};
+use mv_layout::Config;
+use mvrlu::{Closing, Domain, OpenFault, Seat, open};
+use run_outside::OpenGate;
+use run_report::Line;
+use script_domain::run_domain;
+use set_script::{Command, Name, Place, Reply, SetRules};
+use std::alloc::{AllocError, Global};
+use std::sync::Wait;
+use std::test::Fail;
+use std::thread::Threads;
+
+// Two seats, and times from 40 on.
+const TWO: Config = Config {
+    seats: 2,
+    objects: 200,
+    slots: 64,
+    write_max: 16,
+    low: 32,
+    high: 48,
+    base: 40,
+};
+
+// So many objects of zeros.
+fn zeros(alloc: Global, count: usize) -> Result<Vec<Words>, AllocError>
+    ensures { IfOk result (λ objects. objects.items ≡ replicate count no_words) }
+{
+    vec![in alloc; [0; WORDS]; count]
+}
+
+// A domain of the sets of these numbers.
+fn open_sets(alloc: Global, config: Config) -> Result<(Domain<SetRules>, Vec<Seat<SetRules>>), Fail>
+    requires some { 180 < config.objects }
+    requires few { config.objects < 65536 }
+    ensures { IfOk result (λ r. IsOpened config (replicate config.objects no_words) r.0 r.1.items) }
+{
+    let start = zeros(alloc, config.objects as usize)?;
+    match open(alloc, config, &start) {
+        Ok(opened) => Ok(opened),
+        Err(OpenFault::Memory) => Err(AllocError.into()),
+        Err(OpenFault::Config(_)) => Err(Fail::new("the numbers are in range")),
+    }
+}
+
+type Ran = (Closing<SetRules>, Vec<Line>, Vec<LogTable>);
+
+// Runs a script for each seat over a new domain of these numbers.
+fn run_each<R: Threads + Wait + Sync>(
+    rt: &R,
+    alloc: Global,
+    config: Config,
+    scripts: &[Vec<Command>],
+) -> Result<Ran, Fail>
+    requires some { 180 < config.objects }
+    requires few { config.objects < 65536 }
+    requires most { 5 ≤ config.write_max }
+    requires as_many { length scripts.now ≡ config.seats }
+    requires short { All (λ script. length script.items ≤ MOST_COMMANDS) scripts.now }
+{
+    let (domain, seats) = open_sets(alloc, config)?;
+    match run_domain(rt, alloc, domain, seats, scripts, &OpenGate) {
+        Ok(ran) => Ok(ran),
+        Err((domain, seats, error)) => {
+            // Seats can't be let go, so they meet.
+            let _ = domain.meet(seats);
+            Err(error.into())
+        }
+    }
+}
+
+#[test]
+fn two_scripts_make_one_history(rt: HostRuntime) -> Result<(), Fail> {
+    let alloc = rt.alloc();
+    let Some(name) = Name::new(0) else {
+        return Err(Fail::new("0 is the index of a name"));
+    };
+    let Some(other) = Name::new(1) else {
+        return Err(Fail::new("1 is the index of a name"));
+    };
+    let short = vec![in alloc; Command::Add { name, key: 5 }]?;
+    let long = vec![in alloc;
+        Command::Add {
+            name: other,
+            key: 7
+        },
+        Command::Has {
+            name: other,
+            key: 7
+        },
+    ]?;
+    let (closing, lines, tables) = run_each(&rt, alloc, TWO, &[short, long])?;
+    assert_eq!(rt; closing.time(), 42);
+    let [first, second, third] = lines.as_slice() else {
+        return Err(Fail::new("there is a line for each command"));
+    };
+    assert_eq!(rt; (first.seat, first.number, first.reply), (0, 1, Reply::Yes));
+    assert_eq!(rt;
+        (second.seat, second.number, second.reply),
+        (1, 1, Reply::Yes)
+    );
+    assert_eq!(rt; (third.seat, third.number, third.reply), (1, 2, Reply::Yes));
+    // The commits are the two entries, in either order, and the read comes behind its own seat's.
+    let (Place::Commit(one), Place::Commit(two), Place::Read(last)) = (
+        first.place,
+        second.place,
+        third.place,
+    ) else {
+        return Err(Fail::new("two commands change something, and one reads"));
+    };
+    assert!(rt; (one, two) == (41, 42) || (one, two) == (42, 41));
+    assert!(rt; two <= last && last <= 42);
+    for table in &tables {
+        assert_eq!(rt; (table.commits, table.rests, table.aborts), (1, 0, 0));
+        assert_eq!(rt; (table.live, table.freed), (2, 0));
+    }
+    assert_eq!(rt; tables.len(), 2);
+    Ok(())
+}

@@ -1,0 +1,197 @@
+// Pools over plain stores, each of which is the one seat of its own history.
+ghost use Rattle.std.specs.Prelude.{◌≡◌, ◌<◌, ◌≤◌, All, IfOk, length};
+ghost use Rattle.mv_history.specs.PlainMeaning.{seat_of};
+
+use command_pool::{Collected, run_pool};
+use mv_history::{PlainStore, WORDS};
+use run_outside::{Gate, OpenGate};
+use set_script::{Command, Name, Place, Reply, SetRules};
+use std::alloc::{AllocError, Global};
+use std::sync::{Mutex, Wait};
+use std::test::Fail;
+
+// A store of so many objects of zeros, whose times begin at 0, with room for 300 commits.
+fn open(alloc: Global, count: u32) -> Result<PlainStore<SetRules>, AllocError>
+    requires some { 180 < count }
+    requires few { count < 65536 }
+    ensures write_max { IfOk result (λ store. (seat_of store).write_max ≡ 16) }
+{
+    let zeros = vec![in alloc; [0; WORDS]; count as usize]?;
+    PlainStore::new(alloc, &zeros, 0, 300)
+}
+
+// One, two or three such stores.
+fn open_one(alloc: Global) -> Result<Vec<PlainStore<SetRules>>, Fail>
+    ensures count { IfOk result (λ stores. length stores.items ≡ 1) }
+    ensures write_max { IfOk result (λ stores. All (λ store. (seat_of store).write_max ≡ 16) stores.items) }
+{
+    Ok(vec![in alloc; open(alloc, 500)?]?)
+}
+
+fn open_two(alloc: Global) -> Result<Vec<PlainStore<SetRules>>, Fail>
+    ensures count { IfOk result (λ stores. length stores.items ≡ 2) }
+    ensures write_max { IfOk result (λ stores. All (λ store. (seat_of store).write_max ≡ 16) stores.items) }
+{
+    let first = open(alloc, 500)?;
+    let second = open(alloc, 500)?;
+    Ok(vec![in alloc; first, second]?)
+}
+
+fn open_three(alloc: Global) -> Result<Vec<PlainStore<SetRules>>, Fail>
+    ensures count { IfOk result (λ stores. length stores.items ≡ 3) }
+    ensures write_max { IfOk result (λ stores. All (λ store. (seat_of store).write_max ≡ 16) stores.items) }
+{
+    let first = open(alloc, 500)?;
+    let second = open(alloc, 500)?;
+    let third = open(alloc, 500)?;
+    Ok(vec![in alloc; first, second, third]?)
+}
+
+#[test]
+fn one_store_does_all_in_order(rt: HostRuntime) -> Result<(), Fail> {
+    let alloc = rt.alloc();
+    let Some(name) = Name::new(1) else {
+        return Err(Fail::new("1 is the index of a name"));
+    };
+    let commands = [
+        Command::Add { name, key: 1 },
+        Command::Add { name, key: 3 },
+        Command::Has { name, key: 2 },
+        Command::Del { name, key: 3 },
+    ];
+    let (stores, collected) = match run_pool(&rt, alloc, open_one(alloc)?, &commands, &OpenGate) {
+        Ok(ran) => ran,
+        Err((_stores, error)) => return Err(error.into()),
+    };
+    assert_eq!(rt; stores.len(), 1);
+    let one = |number: u32, place: Place, reply: Reply| Collected {
+        seat: 0,
+        number,
+        place,
+        reply,
+    };
+    let expected = [
+        one(1, Place::Commit(1), Reply::Yes),
+        one(2, Place::Commit(2), Reply::Yes),
+        one(3, Place::Read(2), Reply::No),
+        one(4, Place::Commit(3), Reply::Yes),
+    ];
+    assert_eq!(rt; collected.as_slice(), expected.as_slice());
+    Ok(())
+}
+
+#[test]
+fn nothing_is_collected_of_no_commands(rt: HostRuntime) -> Result<(), Fail> {
+    let alloc = rt.alloc();
+    let (stores, collected) = match run_pool(&rt, alloc, open_two(alloc)?, &[], &OpenGate) {
+        Ok(ran) => ran,
+        Err((_stores, error)) => return Err(error.into()),
+    };
+    assert_eq!(rt; stores.len(), 2);
+    assert_eq!(rt; collected.len(), 0);
+    Ok(())
+}
+
+// Adds of the keys 0 to `count - 1` to `l0`.
+fn adds(alloc: Global, count: u32) -> Result<Vec<Command>, Fail>
+    requires { count ≤ 300 }
+    ensures { IfOk result (λ commands. length commands.items ≡ count) }
+{
+    let Some(name) = Name::new(0) else {
+        return Err(Fail::new("0 is the index of a name"));
+    };
+    let mut commands = Vec::with_capacity(alloc, count as usize)?;
+    for key in 0..count {
+        commands.push_reserved(Command::Add { name, key });
+    }
+    Ok(commands)
+}
+
+#[test]
+fn three_stores_do_each_of_300_commands_once(rt: HostRuntime) -> Result<(), Fail> {
+    let alloc = rt.alloc();
+    let commands = adds(alloc, 300)?;
+    let (stores, collected) = match run_pool(&rt, alloc, open_three(alloc)?, &commands, &OpenGate) {
+        Ok(ran) => ran,
+        Err((_stores, error)) => return Err(error.into()),
+    };
+    assert_eq!(rt; stores.len(), 3);
+    assert_eq!(rt; collected.len(), 300);
+    for number in 1..301 {
+        let done = collected
+            .iter()
+            .filter(|one| one.number == number && one.reply == Reply::Yes)
+            .count();
+        assert_eq!(rt; done, 1);
+    }
+    Ok(())
+}
+
+// How often a held worker looks whether the others are done.
+const TURNS: u32 = 1_000_000;
+
+#[derive(Drop)]
+struct Seen {
+    others_done: u32,
+    ran_out: bool,
+}
+
+// It holds one command until four others are done.
+#[derive(Drop)]
+struct HoldGate<'r, R: Wait> {
+    rt: &'r R,
+    held: u32,
+    seen: Mutex<Seen>,
+}
+
+impl<'r, R: Wait + Sync> Gate for HoldGate<'r, R> {
+    fn before(&self, _seat: u32, number: u32) {
+        if number != self.held {
+            return;
+        }
+        for _ in 0..TURNS {
+            if self.seen.lock(self.rt).others_done == 4 {
+                return;
+            }
+        }
+        self.seen.lock(self.rt).ran_out = true;
+    }
+
+    fn after(&self, _seat: u32, number: u32) {
+        if number != self.held {
+            let mut seen = self.seen.lock(self.rt);
+            seen.others_done = seen.others_done.wrapping_add(1);
+        }
+    }
+}
+
+#[test]
+fn a_held_command_waits_for_all_others(rt: HostRuntime) -> Result<(), Fail> {
+    let alloc = rt.alloc();
+    let commands = adds(alloc, 5)?;
+    for held in 1..3 {
+        let gate = HoldGate {
+            rt: &rt,
+            held,
+            seen: Mutex::new(Seen {
+                others_done: 0,
+                ran_out: false,
+            }),
+        };
+        let (_stores, collected) = match run_pool(&rt, alloc, open_two(alloc)?, &commands, &gate) {
+            Ok(ran) => ran,
+            Err((_stores, error)) => return Err(error.into()),
+        };
+        assert_eq!(rt; collected.len(), 5);
+        let HoldGate {
+            rt: _,
+            held: _,
+            seen,
+        } = gate;
+        assert!(rt;
+            !seen.into_inner().ran_out,
+            "one worker did all, or the commands were shared out"
+        );
+    }
+    Ok(())
+}

@@ -20,7 +20,7 @@ use Rattle.step_replay.specs.Machines.{IsNext}
 use Rattle.step_replay.specs.FirstSteps.{low_step, mark_step, time_step, leave_step}
 
 -- a seat that is outside, with no scan and nothing in its log
-abbrev IsQuiet : Config → ℕ → View → Type 0
+abbrev pub IsQuiet : Config → ℕ → View → Type 0
 IsQuiet c n v = (v.number ≡ n) × (v.phase ≡ Outside) × (v.scan ≡ None) × (v.ring ≡ empty_ring c)
 
 quiet_made : (c : Config) (count n : ℕ) → IsQuiet c n ((with_made c count (opening_of c (zeros c))).seats n)
@@ -31,7 +31,7 @@ quiet_made c (suc count) n =
     set_at_all (IsQuiet c) (set_at s.seats 0 (made_one c (s.seats 0))) (s.seats 0).made (newly_made c (s.seats 0)) (refl, refl, refl, refl)
     (λ t _. set_at_all (IsQuiet c) s.seats 0 (made_one c (s.seats 0)) (first.0, first.1, first.2, first.3) (λ u _. quiet_made c count u) t) n
 
-quiet : (c : Config) (n : ℕ) → IsQuiet c n ((opened c).seats n)
+pub quiet : (c : Config) (n : ℕ) → IsQuiet c n ((opened c).seats n)
 quiet c n = quiet_made c (c.seats - 1) n
 
 -- each of the steps, behind those before it

@@ -6,3 +6,4 @@ pub mod FirstSteps
 pub mod SeatNotes
 pub mod TurnLaws
 pub mod OneStep
+pub mod readers

@@ -14,3 +14,4 @@ pub mod Sweeps
 pub mod Lines
 pub mod Runs
 pub mod Shown
+pub mod Readers

@@ -1,5 +1,6 @@
 // What holds behind any steps of a replay.
 ghost use Rattle.step_replay.specs.ReplayLaws.{ReplaysAreRuled, TurnsMakeOneStep};
+ghost use Rattle.step_replay.specs.Readers.{ReadersAreRuled};
 
 /// Behind any steps, in whatever order the seats made them, the machine's words, the history and the views of the
 /// seats are a state of the core's rule: each law of `mv_core` over the states that the rule allows speaks of it.
@@ -11,4 +12,11 @@ pub fn replays_are_ruled()
 /// before, and the words after it are those with what the step writes there; no other line comes with a write.
 pub fn turns_make_one_step()
     ensures { TurnsMakeOneStep }
+{}
+
+/// A plan whose calls lock nothing is run by steps of the core alone: behind each turn, whatever the schedule is, there are
+/// steps of the core, as many as lines of steps, each of which its seat might make where it was, and the words are those of the
+/// state after them, which is one of the core's rule.
+pub fn readers_are_ruled()
+    ensures { ReadersAreRuled }
 {}

@@ -57,6 +57,7 @@ fn write_lines(text: &mut String, lines: &[Line]) -> Result<(), AllocError>
     Ok(())
 }
 
+#[inline(always)]
 fn write_line(text: &mut String, line: &Line) -> Result<(), AllocError>
     ensures { OnOk result (string_bytes text.new ≡ string_bytes text.old ++ text_of_line line.now) }
 {
@@ -68,6 +69,7 @@ fn write_line(text: &mut String, line: &Line) -> Result<(), AllocError>
 }
 
 // Writes a number in decimal digits, which are made on the stack.
+#[inline(always)]
 fn write_number(text: &mut String, number: u64) -> Result<(), AllocError>
     ensures { OnOk result (string_bytes text.new ≡ string_bytes text.old ++ decimal number) }
 {
@@ -76,6 +78,7 @@ fn write_number(text: &mut String, number: u64) -> Result<(), AllocError>
 }
 
 // Writes a space and the place.
+#[inline(always)]
 fn write_place(text: &mut String, place: &Place) -> Result<(), AllocError>
     ensures { OnOk result (string_bytes text.new ≡ string_bytes text.old ++ codes " " ++ text_of_place place.now) }
 {
@@ -88,6 +91,7 @@ fn write_place(text: &mut String, place: &Place) -> Result<(), AllocError>
 }
 
 // Writes a space, the reply and the line's end.
+#[inline(always)]
 fn write_reply(text: &mut String, reply: Reply) -> Result<(), AllocError>
     ensures { OnOk result (string_bytes text.new ≡ string_bytes text.old ++ codes " " ++ text_of_reply reply ++ codes "\n") }
 {

@@ -14,6 +14,7 @@ use std::sync::ledger::{Blank, Ledger};
 use version_chain::{Found, find, read_master, read_master_pair, read_version, read_version_pair};
 
 // The words of an object in the section's snapshot.
+#[inline(always)]
 fn read_below<P: Protocol, L: Ledger>(
     shared: &Shared<P>,
     busy: &mut Busy<P>,
@@ -40,6 +41,7 @@ fn read_below<P: Protocol, L: Ledger>(
 }
 
 // The words of an object in a section: those of its own version, where it holds the object.
+#[inline(always)]
 pub(crate) fn read_in<P: Protocol, L: Ledger>(
     shared: &Shared<P>,
     busy: &mut Busy<P>,
@@ -64,6 +66,7 @@ pub(crate) fn read_in<P: Protocol, L: Ledger>(
 }
 
 // Two words of an object in the section's snapshot, the one at this place and the one after it.
+#[inline(always)]
 fn read_pair_below<P: Protocol, L: Ledger>(
     shared: &Shared<P>,
     busy: &mut Busy<P>,
@@ -96,6 +99,7 @@ fn read_pair_below<P: Protocol, L: Ledger>(
 
 // Two words of an object in a section, the one at this place and the one after it: of its own version,
 // where it holds the object.
+#[inline(always)]
 pub(crate) fn read_pair_in<P: Protocol, L: Ledger>(
     shared: &Shared<P>,
     busy: &mut Busy<P>,

@@ -51,6 +51,7 @@ impl<'d, P: Protocol> View for Session<'d, P> {
         self.domain.shared.config().objects
     }
 
+    #[inline(always)]
     fn read(&mut self, object: u32) -> Words
         requires { object < length (state_of (section_of self.old)) }
         ensures words { result ≡ words_at (state_of (section_of self.old)) object }
@@ -63,6 +64,7 @@ impl<'d, P: Protocol> View for Session<'d, P> {
         read_in::<P, Brand>(&domain.shared, &mut part.busy, object, Blank::new(1))
     }
 
+    #[inline(always)]
     fn read_pair(&mut self, object: u32, place: u32) -> (u64, u64)
         requires object { object < length (state_of (section_of self.old)) }
         requires place { place < 5 }

@@ -24,7 +24,9 @@ pub struct Line {
     pub reply: Reply,
 }
 
-/// Puts lines in their order: by time, commits before reads, then by seat, then by number. It takes no memory.
+/// Puts lines in their order: by time, commits before reads, then by seat, then by number. The lines of a seat that stand
+/// together are in order already, so these stretches are merged where there is memory for as many lines again; else the
+/// lines are sorted in place. It never refuses.
 /// The lines of a legal run stay those of a legal run, and those of a run in one history stay so.
 pub fn order(lines: &mut Vec<Line>)
     ensures permutation { IsPermutation lines.old.items lines.new.items }
@@ -34,7 +36,17 @@ pub fn order(lines: &mut Vec<Line>)
     ensures whole { (p : Past) (scripts : List (List Command)) (end : Maps) (tables : List LogTable) →
         RunOf p scripts lines.old.items end tables → RunOf p scripts lines.new.items end tables }
 {
-    lines.sort_unstable_by_key(Line::order_key);
+    sort(lines);
+}
+
+// Puts lines in their order, by merging stretches that are in order where there is memory for it, and else in place.
+fn sort(lines: &mut Vec<Line>)
+    ensures permutation { IsPermutation lines.old.items lines.new.items }
+    ensures in_order { IsOrdered lines.new.items }
+{
+    if lines.sort_by_key(Line::order_key).is_err() {
+        lines.sort_unstable_by_key(Line::order_key);
+    }
 }
 
 impl Line {

@@ -1,5 +1,5 @@
 // The text of a run.
-ghost use Rattle.std.specs.Prelude.{◌≡◌, ◌++◌, ◌<◌, IfOk, OnOk, length, string_bytes};
+ghost use Rattle.std.specs.Prelude.{◌≡◌, ◌++◌, ◌<◌, IfOk, OnOk, codes, decimal, length, string_bytes};
 ghost use Rattle.std.specs.List.{flat_map, zip};
 ghost use Rattle.set_script.specs.Catalogue.{map_of, IsCatalogue};
 ghost use Rattle.set_script.specs.GrammarLaws.{name_text};
@@ -17,6 +17,7 @@ ghost use Rattle.run_report.specs.Text.{
 };
 
 use crate::line::Line;
+use itoa::Buffer;
 use mv_history::LogTable;
 use set_script::{Catalogue, Place, Reply};
 use std::alloc::{AllocError, Global};
@@ -56,43 +57,70 @@ fn write_lines(text: &mut String, lines: &[Line]) -> Result<(), AllocError>
     Ok(())
 }
 
+#[inline(always)]
 fn write_line(text: &mut String, line: &Line) -> Result<(), AllocError>
     ensures { OnOk result (string_bytes text.new ≡ string_bytes text.old ++ text_of_line line.now) }
 {
-    write!(text, "{}.{} ", line.seat, line.number)?;
+    write_number(text, line.seat.into())?;
+    text.push_str(".")?;
+    write_number(text, line.number.into())?;
     write_place(text, &line.place)?;
-    text.push_str(" ")?;
-    write_reply(text, line.reply)?;
-    text.push_str("\n")
+    write_reply(text, line.reply)
 }
 
-fn write_place(text: &mut String, place: &Place) -> Result<(), AllocError>
-    ensures { OnOk result (string_bytes text.new ≡ string_bytes text.old ++ text_of_place place.now) }
+// Writes a number in decimal digits, which are made on the stack.
+#[inline(always)]
+fn write_number(text: &mut String, number: u64) -> Result<(), AllocError>
+    ensures { OnOk result (string_bytes text.new ≡ string_bytes text.old ++ decimal number) }
 {
-    match place {
-        Place::Commit(time) => write!(text, "c{time}"),
-        Place::Read(time) => write!(text, "r{time}"),
-    }
+    let mut digits = Buffer::new();
+    text.push_str(digits.format(number))
 }
 
+// Writes a space and the place.
+#[inline(always)]
+fn write_place(text: &mut String, place: &Place) -> Result<(), AllocError>
+    ensures { OnOk result (string_bytes text.new ≡ string_bytes text.old ++ codes " " ++ text_of_place place.now) }
+{
+    let (rank, time) = match place {
+        Place::Commit(time) => (" c", *time),
+        Place::Read(time) => (" r", *time),
+    };
+    text.push_str(rank)?;
+    write_number(text, time)
+}
+
+// Writes a space, the reply and the line's end.
+#[inline(always)]
 fn write_reply(text: &mut String, reply: Reply) -> Result<(), AllocError>
-    ensures { OnOk result (string_bytes text.new ≡ string_bytes text.old ++ text_of_reply reply) }
+    ensures { OnOk result (string_bytes text.new ≡ string_bytes text.old ++ codes " " ++ text_of_reply reply ++ codes "\n") }
 {
     match reply {
-        Reply::Yes => text.push_str("yes"),
-        Reply::No => text.push_str("no"),
-        Reply::Full => text.push_str("full"),
-        Reply::Worn => text.push_str("worn"),
+        Reply::Yes => text.push_str(" yes\n"),
+        Reply::No => text.push_str(" no\n"),
+        Reply::Full => text.push_str(" full\n"),
+        Reply::Worn => text.push_str(" worn\n"),
         Reply::Both { first, second } => {
+            text.push_str(" ")?;
             write_answer(text, first)?;
             text.push_str(" ")?;
-            write_answer(text, second)
+            write_answer(text, second)?;
+            text.push_str("\n")
         }
-        Reply::Count { count } => write!(text, "{count}"),
-        Reply::Key { key } => write!(text, "{key}"),
-        Reply::NoKey => text.push_str("none"),
-        Reply::Value { value } => write!(text, "{value}"),
+        Reply::Count { count } => write_last(text, count),
+        Reply::Key { key } => write_last(text, key.into()),
+        Reply::NoKey => text.push_str(" none\n"),
+        Reply::Value { value } => write_last(text, value),
     }
+}
+
+// Writes a space, a number and the line's end.
+fn write_last(text: &mut String, number: u64) -> Result<(), AllocError>
+    ensures { OnOk result (string_bytes text.new ≡ string_bytes text.old ++ codes " " ++ decimal number ++ codes "\n") }
+{
+    text.push_str(" ")?;
+    write_number(text, number)?;
+    text.push_str("\n")
 }
 
 // Writes whether a set has a key.

@@ -21,7 +21,8 @@ pub fn next<V: View>(view: &mut V, name: Name, key: u32) -> Option<u32>
     }
 }
 
-// How many keys the set has.
+// How many keys the set has. A count in a tree has a long table among its locals, which is to cost other commands nothing.
+#[inline(never)]
 pub fn size<V: View>(view: &mut V, name: Name) -> u64
     requires lawful { IsLawful (V.state view.old) }
     ensures size { result ≡ length (map_of name (catalogue_of (V.state view.old))) }

@@ -28,6 +28,7 @@ pub enum Found {
 
 /// Begins a walk over an object, by one load of its HEAD. The walk stands at the version that HEAD
 /// names, or at the master where HEAD is 0.
+#[inline(always)]
 pub fn walk_start<P: Protocol, L: Ledger>(
     shared: &Shared<P>,
     pass: &mut Pass<P>,
@@ -54,6 +55,7 @@ pub fn walk_start<P: Protocol, L: Ledger>(
 /// STAMP. Else it answers the walk that goes on, exactly where the version has a stamp that is unset
 /// or above the section's time, after the load of its PREV; that walk stands at PREV, which may be
 /// 0. A time found there is seen afterwards.
+#[inline(always)]
 pub fn walk_step<P: Protocol, L: Ledger>(
     shared: &Shared<P>,
     pass: &mut Pass<P>,
@@ -87,6 +89,7 @@ pub fn walk_step<P: Protocol, L: Ledger>(
 /// Finds where a section reads an object, by a walk from its HEAD to its end. The pass stands there
 /// afterwards, so that the matching reader reads the words of the section's state. It makes at most
 /// six steps, and three for each entry that was seen after the section's snapshot.
+#[inline(always)]
 pub fn find<P: Protocol, L: Ledger>(
     shared: &Shared<P>,
     pass: &mut Pass<P>,

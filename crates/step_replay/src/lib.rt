@@ -43,18 +43,12 @@ mod heads;
 mod laws;
 mod learning;
 mod machine;
-#[cfg(test)]
-mod machine_tests;
 mod notes;
 mod numbers;
 mod places;
 mod plan;
-#[cfg(test)]
-mod replay_tests;
 mod schedule;
 mod seats;
-#[cfg(test)]
-mod tests;
 mod text;
 mod turns;
 

@@ -1,9 +1,9 @@
 // Plans that are read, and texts that are refused, with their line and their fault.
-use crate::{Call, CallOf, MOST_STEPS, Plan, PlanFault, PlanKind, parse_plan};
 use mv_layout::{Config, LAST};
 use std::alloc::Global;
 use std::process::Abort;
 use std::test::*;
+use step_replay::{Call, CallOf, MOST_STEPS, Plan, PlanFault, PlanKind, parse_plan};
 
 // A text, the line of its fault, and what is wrong with that line.
 type Broken = (&'static [u8], u32, PlanKind);

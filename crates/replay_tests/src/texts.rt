@@ -1,8 +1,8 @@
 // Replays whose text is known, and schedules with what their calls answer.
-use crate::{parse_plan, replay};
 use std::alloc::Global;
 use std::process::Abort;
 use std::test::*;
+use step_replay::{parse_plan, replay};
 
 // A plan and its text.
 type Whole = (&'static [u8], &'static [u8]);

@@ -3,9 +3,9 @@ ghost use Rattle.std.specs.Prelude.{◌≡◌, ◌<◌, ℕ, []};
 ghost use Rattle.step_replay.specs.FirstSteps.{entered_and_left};
 ghost use Rattle.step_replay.specs.Machines.{IsBehind, config_of};
 
-use crate::{Machine, place_cell, place_number};
 use mv_layout::{Config, Place, clock_time};
 use std::test::*;
+use step_replay::{Machine, place_cell, place_number};
 
 // A domain of two seats and one object.
 fn small() -> Config

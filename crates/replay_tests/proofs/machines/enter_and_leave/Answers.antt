@@ -4,7 +4,7 @@ use Rattle.mv_layout.specs.declared.Config.{Config}
 use Rattle.mv_layout.specs.Words.{clock_time_of}
 use Rattle.step_replay.specs.States.{opened}
 use Rattle.step_replay.proofs.FirstSteps.{low_turn, mark_turn, time_turn, leave_turn, low_next, mark_next, time_next, leave_next}
-use Rattle.step_replay.proofs.machine_tests.enter_and_leave.Goals as goal
+use Rattle.replay_tests.proofs.machines.enter_and_leave.Goals as goal
 
 pub returns : goal.returns
 returns c =

@@ -44,10 +44,6 @@ exchanges_both made more =
 pub none_in_both : (made more : List Step) → clock_exchanges made ≡ [] → clock_exchanges more ≡ [] → clock_exchanges (made ++ more) ≡ []
 none_in_both made more a b = filter-append (λ (s : Step). is_clock_exchange s.kind) made more ∙ (λ i. a i ++ b i)
 
--- none in two parts
-pub none_both : (made more : List Step) → clock_exchanges made ≡ [] → clock_exchanges more ≡ [] → length (clock_exchanges (made ++ more)) ≤ 1
-none_both made more a b = let both = exchanges_both made more in let first = ap length a in let then = ap length b in omega arith
-
 -- at most one in a part between two that have none
 pub one_between : (made rested later : List Step) → clock_exchanges made ≡ [] → length (clock_exchanges rested) ≤ 1 → clock_exchanges later ≡ []
     → length (clock_exchanges (made ++ rested ++ later)) ≤ 1

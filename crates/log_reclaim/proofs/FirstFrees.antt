@@ -1,7 +1,7 @@
 -- A round that first freed what the watermark in GRACE allows.
 use Rattle.std.proofs.Common.{◌≡◌, ℕ, ◌+◌, ◌<◌, ◌≤◌, List, [], ◌∷◌, ◌++◌, length, drop, All, Bool, refl, sym, ap, ◌∙◌, subst, arith}
 use Rattle.std.proofs.Common.{append-nil, append_assoc, length-drop, Option, Some, None}
-use Rattle.std.proofs.lemmas.List.Elements.{All-nil, All-cons, All-append}
+use Rattle.std.proofs.lemmas.List.Elements.{All-nil, All-append}
 use Rattle.mv_history.specs.declared.Step.{Step}
 use Rattle.mv_layout.specs.declared.Config.{Config}
 use Rattle.mv_core.specs.declared.view.View.{View}
@@ -15,7 +15,6 @@ use Rattle.log_reclaim.specs.Untimed.{DatedSo}
 use Rattle.log_reclaim.specs.Tries.{Makes}
 use Rattle.log_reclaim.specs.Sweeps.{found_at, Sweeps, SweepsAll}
 use Rattle.log_reclaim.specs.Rounds.{FreesAll, FreesFirst, FreesBeforeScan}
-use Rattle.log_reclaim.proofs.FreedAll.{free_kind}
 use Rattle.log_reclaim.proofs.Reclaiming.{reclaims_on, makes_on, reclaims_number, reclaims_base, reclaims_more}
 use Rattle.log_reclaim.proofs.Composed.{shrinks_then}
 use Rattle.log_reclaim.proofs.Untimed.{untimed_then, dated_then}
@@ -90,14 +89,6 @@ frees_longer c l made more f none = record {
   kept = f.kept;
   empty = λ e. All-append (λ (s : Step). BeginsNoScan s.kind) f.rest more (f.empty e) (none e);
 }
-
--- a round of an empty log begins no scan
-pub empty_unscanned : (c : Config) (l : Noted) (made : List Step) → length l.live ≡ 0 → FreesFirst c l made → All (λ s. BeginsNoScan s.kind) made
-empty_unscanned c l made empty f =
-    let few = f.few in
-    subst (All (λ (s : Step). BeginsNoScan s.kind)) (sym f.made_is)
-    (All-append (λ (s : Step). BeginsNoScan s.kind) (grace_load c f.time ∷ f.frees) f.rest
-    (All-cons (λ (s : Step). BeginsNoScan s.kind) (grace_load c f.time) f.frees tt (free_kind BeginsNoScan tt f.frees f.kinds)) (f.empty (omega arith)))
 
 -- whatever a round scanned, it freed first
 pub freed_first : (c : Config) (l : Noted) (made : List Step) (scanned : Option Scanned) → FreesBeforeScan c l made scanned → FreesFirst c l made

@@ -1,6 +1,6 @@
 -- A tidy names a fresh time only of an entry that wasn't seen before the call.
-use Rattle.std.proofs.Common.{◌≡◌, ℕ, ◌+◌, ◌<◌, true, false, List, length, sym, ◌∙◌, ap, subst, arith, Option, Some, None}
-use Rattle.mv_history.specs.declared.Step.{Step}
+use Rattle.std.proofs.Common.{◌≡◌, ℕ, ◌+◌, ◌<◌, ◌≤◌, true, false, List, length, sym, ◌∙◌, ap, subst, arith, Option, Some, None}
+use Rattle.mv_history.specs.State.{State, Writes}
 use Rattle.mv_history.specs.declared.answers.Holder.{Holder}
 use Rattle.mv_history.specs.declared.answers.Holder.TheVariants.{Fresh}
 use Rattle.mv_layout.specs.declared.Config.{Config}
@@ -11,9 +11,9 @@ use Rattle.log_reclaim.specs.declared.settling.Found.{Found}
 use Rattle.log_reclaim.specs.declared.rounds.Scanned.{Scanned}
 use Rattle.log_reclaim.specs.Sweeps.{SweepsSo, found_at}
 use Rattle.log_reclaim.specs.Rounds.{untimed_holder, holder_of, IsHolder}
+use Rattle.log_reclaim.specs.Tidies.{HeldBy, TidiesLeft}
 use Rattle.log_reclaim.proofs.HolderCases.{by_cases}
 use Rattle.log_reclaim.proofs.Reclaiming.{reclaims_base, reclaims_more}
-use Rattle.log_reclaim.proofs.Tidied.{Between, HeldBy}
 
 -- where this holder is a fresh time, it is above the clock
 abbrev IsLate : ℕ → Holder → Type 0
@@ -37,16 +37,22 @@ fresh_late first last found n =
     (λ none back. not_untimed last.clock first n (found_at found n.position))
     (λ none back. absurd cc)
 
-module _ (c : Config) (v u x w : View) (k l m o : Noted) (made later : List Step) (found unused : Found) (freed more : ℕ) where
-  pub tidy_fresh : (first last : Option Scanned) → SweepsSo c v u k l made true found freed first → Between c u x l m first
-      → SweepsSo c x w m o later false unused more last → (held : Option Holder) → HeldBy o first last found held
-      → (time : ℕ) → held ≡ Some (Fresh time) → v.base + length v.past.seen < time
-  tidy_fresh None last sweep between again held by time is = let e : None ≡ Some (Fresh time) = sym by ∙ is in absurd cc
-  tidy_fresh (Some first) None sweep between again held by time is = let e : None ≡ Some (Fresh time) = sym by ∙ is in absurd cc
-  tidy_fresh (Some first) (Some last) sweep between again held by time is =
-      let h = subst (IsHolder o first last true found) is by in
-      let late = fresh_late first last found h.0 time (sym h.2) in
-      let base = reclaims_base u x between.0 between.1.reclaims ∙ reclaims_base v u made sweep.reclaims in
-      let one = reclaims_more v u made sweep.reclaims in
-      let two = reclaims_more u x between.0 between.1.reclaims in
+module _ (starts : State → Type 0) (allows : List ℕ → State → Writes → Type 0) (c : Config) (v w : View) (l m : Noted) (freed : ℕ)
+    (held : Option Holder) (t : TidiesLeft starts allows c v w l m freed held) where
+  after_both : v.base + length v.past.seen ≤ t.rest_view.base + length t.rest_view.past.seen
+  after_both =
+      let base = reclaims_base t.scan_view t.rest_view t.rest_steps t.rest.reclaims ∙ reclaims_base v t.scan_view t.scan_steps t.scan.reclaims in
+      let one = reclaims_more v t.scan_view t.scan_steps t.scan.reclaims in
+      let two = reclaims_more t.scan_view t.rest_view t.rest_steps t.rest.reclaims in omega arith
+
+  by_last : (last : Option Scanned) → SweepsSo c t.rest_view w t.rest_log m t.last_steps false t.unused t.last_freed last
+      → HeldBy m t.first last t.found held → (time : ℕ) → held ≡ Some (Fresh time) → v.base + length v.past.seen < time
+  by_last None again by time is = let e : None ≡ Some (Fresh time) = sym by ∙ is in absurd cc
+  by_last (Some last) again by time is =
+      let h = subst (IsHolder m t.first last true t.found) is by in
+      let late = fresh_late t.first last t.found h.0 time (sym h.2) in
+      let before = after_both in
       let after = again.after in omega arith
+
+  pub left_fresh : (time : ℕ) → held ≡ Some (Fresh time) → v.base + length v.past.seen < time
+  left_fresh = by_last t.last t.again t.held_by

@@ -1,12 +1,20 @@
 -- The parts of a tidy.
-use Rattle.std.specs.Prelude.{◌≡◌, ◌⊎◌, ℕ, ◌+◌, ◌<◌, ◌≤◌, Bool, true, false, List, [], length, All, Contains, Option}
+use Rattle.std.specs.Prelude.{◌≡◌, ◌⊎◌, ℕ, ◌+◌, ◌<◌, ◌≤◌, Bool, true, false, List, [], length, All, Contains, Option, Some, None}
 use Rattle.mv_history.specs.declared.Step.{Step}
+use Rattle.mv_history.specs.declared.answers.Holder.{Holder}
+use Rattle.mv_history.specs.State.{State, Writes}
 use Rattle.mv_history.specs.Trail.{clock_exchanges}
 use Rattle.mv_layout.specs.declared.Config.{Config}
 use Rattle.mv_core.specs.declared.view.View.{View}
+use Rattle.mv_core.specs.Known.{Known}
 use Rattle.reader_marks.specs.declared.scanning.Watermark.{Watermark}
 use Rattle.seat_log.specs.declared.version.Note.{Note}
 use Rattle.seat_log.specs.Notes.{Noted, IsNoteAt}
+use Rattle.seat_log.specs.Stands.{Stands}
+use Rattle.log_reclaim.specs.declared.settling.Found.{Found}
+use Rattle.log_reclaim.specs.declared.rounds.Scanned.{Scanned}
+use Rattle.log_reclaim.specs.Sweeps.{Sweeps, SweepsSo}
+use Rattle.log_reclaim.specs.Rounds.{IsHolder}
 use Rattle.log_reclaim.specs.Parts.{BeginsNoScan, Reclaims, HasScan, super_load, TimesDeath}
 use Rattle.log_reclaim.specs.Untimed.{StaysUntimed}
 
@@ -63,3 +71,33 @@ pub record HasTried (c : Config) (w : View) (l : Noted) (made : List Step) : Typ
 -- the log is empty, or of each version that it has without a time of death it is known why a write-back left it so
 abbrev pub WritesBackSo : Config → View → Noted → List Step → Type 0
 WritesBackSo c w l made = (length l.live ≡ 0) ⊎ HasTried c w l made
+
+-- who holds the oldest write set after a tidy that scanned: nobody where its last round had no need to
+abbrev pub HeldBy : Noted → Scanned → Option Scanned → Found → Option Holder → Type 0
+HeldBy l first None found held = held ≡ None
+HeldBy l first (Some last) found held = IsHolder l first last true found held
+
+-- What a tidy does with a log of which its first frees left something, and leaves of it: a scan with write-backs and what that freed,
+-- one try of a rest where it was due, and a round without write-backs. Both freed so many slots, and this holds the oldest write set.
+pub record TidiesLeft (starts : State → Type 0) (allows : List ℕ → State → Writes → Type 0) (c : Config) (v w : View) (l m : Noted) (freed : ℕ)
+    (held : Option Holder) : Type 0 where
+  pub scan_steps : List Step
+  pub scan_view : View
+  pub scan_log : Noted
+  pub first : Scanned
+  pub found : Found
+  pub first_freed : ℕ
+  pub scan : Sweeps c v scan_view l scan_log scan_steps true first found first_freed
+  pub rest_steps : List Step
+  pub rest_view : View
+  pub rest_log : Noted
+  pub rest : RestsSo scan_view rest_view scan_log rest_log rest_steps first.latest
+  pub stands : Stands c rest_view rest_log
+  pub known : ∥ Known starts allows rest_view ∥₁
+  pub last_steps : List Step
+  pub last : Option Scanned
+  pub unused : Found
+  pub last_freed : ℕ
+  pub again : SweepsSo c rest_view w rest_log m last_steps false unused last_freed last
+  pub freed_is : freed ≡ first_freed + last_freed
+  pub held_by : HeldBy m first last found held

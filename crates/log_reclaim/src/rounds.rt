@@ -43,7 +43,7 @@ pub(crate) struct Scanned {
 }
 
 // Frees the oldest write set while it is dead by this watermark. It answers how many slots it freed.
-fn free_all<P: Protocol, L: Ledger>(
+pub(crate) fn free_all<P: Protocol, L: Ledger>(
     shared: &Shared<P>,
     pass: &mut Pass<P>,
     log: &mut Log,
@@ -70,7 +70,7 @@ fn free_all<P: Protocol, L: Ledger>(
 }
 
 // Scans, looks at each version, and frees what is then dead. The log isn't empty.
-fn scan_and_free<P: Protocol, L: Ledger>(
+pub(crate) fn scan_and_free<P: Protocol, L: Ledger>(
     shared: &Shared<P>,
     pass: &mut Pass<P>,
     log: &mut Log,

@@ -9,14 +9,15 @@ ghost use Rattle.seat_log.specs.Stands.{Stands};
 ghost use Rattle.log_reclaim.specs.Parts.{Reclaims, Shrinks};
 ghost use Rattle.log_reclaim.specs.Holders.{TidyHolds, HeldSo};
 ghost use Rattle.log_reclaim.specs.Rounds.{FreesFirst, SweptSo};
-ghost use Rattle.log_reclaim.specs.Tidies.{IsAnyAbove, RestsSo, RestsOnce, RestsWhereDue, WritesBackSo};
+ghost use Rattle.log_reclaim.specs.Tidies.{IsAnyAbove, RestsSo, RestsOnce, RestsWhereDue, WritesBackSo, TidiesLeft};
 
-use crate::rounds::{Tidy, holder, sweep};
+use crate::rounds::{Tidy, free_all, holder, scan_and_free, sweep};
 use crate::settling::Found;
 use commit_clock::{Named, help, now, rest};
 use mv_core::{Pass, Shared, Steps};
 use mv_history::Protocol;
 use mv_layout::{LAST, clock_time};
+use reader_marks::known;
 use seat_log::{Log, live, note, note_rest};
 use std::sync::ledger::Ledger;
 
@@ -61,6 +62,41 @@ fn rest_if_due<P: Protocol, L: Ledger>(
     }
     if let Named::Done(_) = rest(shared, pass, word, steps) {
         note_rest(log);
+    }
+}
+
+// A tidy of what its first frees left. It is a function of its own since a call takes time at its begin
+// to clear the tables of found seats, of which a log that is empty needs none.
+fn tidy_left<P: Protocol, L: Ledger>(
+    shared: &Shared<P>,
+    pass: &mut Pass<P>,
+    log: &mut Log,
+    steps: &mut Steps<L>,
+) -> Tidy
+    requires of { IsOf shared.now pass.old }
+    requires may { MayLoadLow (view pass.old) }
+    requires stands { Stands (config_of shared.now) (view pass.old) log.old }
+    requires some { 0 < length log.old.live }
+    ensures same { IsSame pass.old pass.new }
+    ensures stands { Stands (config_of shared.now) (view pass.new) log.new }
+    ensures live { result.live ≡ length log.new.live }
+    ensures tidies { TidiesLeft P.start P.allowed (config_of shared.now) (view pass.old) (view pass.new) log.old log.new result.freed result.held }
+    ensures cost { steps.new ≤ steps.old + (2 * (config_of shared.now).seats + 38 * length log.old.live + 12) }
+    ensures trail { length (view pass.new).trail ≤ length (view pass.old).trail + (2 * (config_of shared.now).seats + 38 * length log.old.live + 12) }
+{
+    let mut found = Found::new(0);
+    let (first_freed, first) = scan_and_free(shared, pass, log, true, &mut found, steps);
+    rest_if_due(shared, pass, log, first.latest, steps);
+    let mut unused = Found::new(0);
+    let (freed, last) = sweep(shared, pass, log, false, &mut unused, steps);
+    let held = match last {
+        Some(last) => holder(log, &first, &last, true, &found),
+        None => None,
+    };
+    Tidy {
+        freed: first_freed + freed,
+        live: live(log),
+        held,
     }
 }
 
@@ -121,24 +157,24 @@ pub fn tidy<P: Protocol, L: Ledger>(
         × RestsWhereDue (config_of shared.now) (view pass.new) log.old made }
     ensures fresh { (time : ℕ) → result.held ≡ Some (Fresh time) → (view pass.old).base + length (view pass.old).past.seen < time }
     ensures alone { (config_of shared.now).seats ≡ 1 → (view pass.old).base + length (view pass.old).past.seen < 35184372088831 → log.new.live ≡ [] }
+    ensures idle { log.old.live ≡ [] → steps.new ≡ steps.old + 1 }
     ensures cost { steps.new ≤ steps.old + (2 * (4 + (config_of shared.now).seats + 20 * (config_of shared.now).slots) + 8) }
     ensures trail { length (view pass.new).trail
         ≤ length (view pass.old).trail + (2 * (4 + (config_of shared.now).seats + 20 * (config_of shared.now).slots) + 8) }
 {
-    let mut found = Found::new(0);
-    let (first_freed, first) = sweep(shared, pass, log, true, &mut found, steps);
-    if let Some(scanned) = first {
-        rest_if_due(shared, pass, log, scanned.latest, steps);
+    let mark = known(shared, pass, steps);
+    let freed = free_all(shared, pass, log, &mark, steps);
+    if live(log) == 0 {
+        return Tidy {
+            freed,
+            live: 0,
+            held: None,
+        };
     }
-    let mut unused = Found::new(0);
-    let (freed, last) = sweep(shared, pass, log, false, &mut unused, steps);
-    let held = match (first, last) {
-        (Some(first), Some(last)) => holder(log, &first, &last, true, &found),
-        _ => None,
-    };
+    let left = tidy_left(shared, pass, log, steps);
     Tidy {
-        freed: first_freed + freed,
-        live: live(log),
-        held,
+        freed: freed + left.freed,
+        live: left.live,
+        held: left.held,
     }
 }

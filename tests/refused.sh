@@ -1,6 +1,7 @@
 #!/bin/bash
 # Each allocation, opening, read and write of the built programs is refused in turn, until a run passes: the status, the line on
-# standard error and what was written must be those of that refusal. Streams that fail by themselves are tried too.
+# standard error and what was written must be those of that refusal. Every block that `mvrlu` took must be freed at the end, also of
+# a run that passes, whose domain is left as a closing. Streams that fail by themselves are tried too.
 # tests/refused.sh PROGRAM tries another program than the one that rt ci left.
 set -u
 top=$(cd "$(dirname "$0")/.." && pwd)
@@ -25,8 +26,19 @@ fail() {
 
 # Runs the program with the words, and what comes before them in the environment.
 run() {
+    rm -f left
     env "$@" >out 2>err
     status=$?
+}
+
+# Runs a program with the words of which this call of the kind is refused, with at most so many bytes a call.
+refuse() {
+    run REFUSE_KIND="$1" REFUSE_AT="$2" REFUSE_MOST="$3" REFUSE_LEFT=left LD_PRELOAD="$scratch/refuse.so" "${@:4}"
+}
+
+# That the last run, which this was, freed every block that it took.
+must_free() {
+    [ "$(cat left)" = 0 ] || fail "$1: $(cat left) blocks are left"
 }
 
 # That the last run ended so: its status, its line on standard error, and on standard output so many bytes of the text.
@@ -43,7 +55,8 @@ sweep() {
     shift 4
     "$program" "$@" >text 2>/dev/null || { fail "no text: $*"; return; }
     for ((at = 1; at <= 1000 && failed == 0; at++)); do
-        run REFUSE_KIND="$kind" REFUSE_AT=$at REFUSE_MOST="$most" LD_PRELOAD="$scratch/refuse.so" "$program" "$@"
+        refuse "$kind" "$at" "$most" "$program" "$@"
+        must_free "$kind $at of $*"
         [ "$status" = 0 ] && break
         [ "$kind" = write ] && before=$((most * (at - 1)))
         must "$wanted" "$kind $at of $*" "$line" "$before"
@@ -72,7 +85,7 @@ sweep_accounts() {
     local accounts=$top/crates/accounts_main/out/accounts_main at refused=0
     [ -x "$accounts" ] || { fail "there is no $accounts"; return; }
     for ((at = 1; at <= 1000; at++)); do
-        run REFUSE_KIND=alloc REFUSE_AT=$at REFUSE_MOST=1000000 LD_PRELOAD="$scratch/refuse.so" "$accounts"
+        refuse alloc "$at" 1000000 "$accounts"
         case $status in
             0) break ;;
             1) ;;
@@ -100,7 +113,7 @@ run "$program" run .
 must 5 'a folder' 'read fault: script 0' 0
 run "$program" run script absent
 must 5 'no file' 'read fault: script 1' 0
-run REFUSE_KIND=write REFUSE_AT=1 LD_PRELOAD="$scratch/refuse.so" "$program"
+refuse write 1 1000000 "$program"
 must 2 'no standard error' '' 0
 
 [ "$failed" = 0 ] && echo "refused: ok${counts}"

@@ -1,0 +1,52 @@
+// One seat of a new domain, which makes steps and then meets alone.
+ghost use Rattle.std.specs.Prelude.{◌≡◌, ◌<◌, ◌≤◌, vec_len};
+ghost use Rattle.mvrlu.specs.Meant.{numbers_of, seat_of};
+ghost use Rattle.mvrlu.specs.Orders.{AreRising};
+
+use crate::opening::{numbers, open_grown};
+use crate::steps::{Step, play};
+use grow_hash::GrowRules;
+use mvrlu::{Domain, Seat};
+use std::alloc::{AllocError, Global};
+use std::process::Abort;
+use std::test::*;
+
+// Lets the one seat of a domain make the steps.
+fn play_seat(
+    rt: &impl Abort,
+    alloc: Global,
+    domain: &Domain<GrowRules>,
+    mut seats: Vec<Seat<GrowRules>>,
+    steps: &[Step],
+) -> (Vec<Seat<GrowRules>>, Result<(), AllocError>)
+    requires one { vec_len seats ≡ 1 }
+    requires rising { AreRising seat_of domain.now seats.items }
+    requires most { 64 ≤ (numbers_of domain.now).write_max }
+    ensures one { vec_len result.0 ≡ 1 }
+    ensures rising { AreRising seat_of domain.now result.0.items }
+{
+    let Some(seat) = seats.pop() else {
+        unreachable!();
+    };
+    let (handle, played) = play(rt, alloc, domain.handle(seat), steps);
+    seats.push_reserved(handle.into_seat());
+    (seats, played)
+}
+
+// Makes the steps in a new domain of one seat and so many objects, whose times begin at this one. The time is that of its closing.
+pub(crate) fn play_alone(
+    rt: &impl Abort,
+    alloc: Global,
+    objects: u32,
+    base: u64,
+    steps: &[Step],
+) -> Result<u64, Fail>
+    requires some { 1025 < objects }
+    requires few { objects < 65536 }
+{
+    let (domain, seats) = open_grown(alloc, numbers(objects, base))?;
+    let (seats, played) = play_seat(rt, alloc, &domain, seats, steps);
+    let closing = domain.meet(seats);
+    played?;
+    Ok(closing.time())
+}

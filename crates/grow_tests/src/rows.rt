@@ -1,0 +1,169 @@
+// Rows of one seat: splits by their answers, and the commands around them.
+use crate::alone::play_alone;
+use crate::steps::Ask::{Add, Del, Has, Next, Size};
+use crate::steps::Step::{Adds, Does, Finds, Holds, Splits, Tries};
+use crate::steps::{Keys, Step};
+use grow_hash::Split::{Done, Long, Whole, Worn};
+use mv_history::LAST;
+use set_script::Place::{Commit, Read};
+use set_script::Reply;
+use std::test::*;
+
+// What is played, and the time of the closing that is wanted, where the rests that make room are known.
+#[derive(Clone, Copy)]
+struct Row {
+    name: &'static str,
+    objects: u32,
+    base: u64,
+    steps: &'static [Step],
+    time: Option<u64>,
+}
+
+// All of one bucket at each level.
+const LONG: Keys = Keys {
+    first: 0,
+    by: 1024,
+    count: 62,
+};
+
+const SHORT: Keys = Keys { count: 61, ..LONG };
+
+// Four of each of the first 16 buckets, since 7 and 16 have no common divisor.
+const SPREAD: Keys = Keys {
+    first: 5,
+    by: 7,
+    count: 64,
+};
+
+const ROWS: [Row; 7] = [
+    Row {
+        name: "a bucket of 62 keys is too long, until one is gone",
+        objects: 2048,
+        base: 0,
+        steps: &[
+            Adds(LONG, 1),
+            Tries(Long { keys: 62 }),
+            Finds(0, 0),
+            Does(Del(0), Reply::Yes, Commit(63)),
+            Tries(Done { time: 64 }),
+            Finds(0, 1),
+            Holds(Keys {
+                first: 1024,
+                by: 1024,
+                count: 61,
+            }),
+        ],
+        time: Some(64),
+    },
+    Row {
+        name: "a bucket of 61 keys is split, and another add makes it too long",
+        objects: 2048,
+        base: 0,
+        steps: &[
+            Adds(SHORT, 1),
+            Tries(Done { time: 62 }),
+            Finds(0, 1),
+            Holds(SHORT),
+            Does(Add(61 * 1024), Reply::Yes, Commit(63)),
+            Splits(15),
+            Finds(1, 0),
+            Tries(Long { keys: 62 }),
+            Holds(LONG),
+        ],
+        time: Some(78),
+    },
+    Row {
+        name: "16 splits of an empty set make its level 1, and one more its place 1",
+        objects: 1026,
+        base: 0,
+        steps: &[
+            Finds(0, 0),
+            Tries(Done { time: 1 }),
+            Finds(0, 1),
+            Splits(14),
+            Finds(0, 15),
+            Tries(Done { time: 16 }),
+            Finds(1, 0),
+            Tries(Done { time: 17 }),
+            Finds(1, 1),
+        ],
+        time: Some(17),
+    },
+    Row {
+        name: "keys and replies stay where each bucket is split",
+        objects: 2048,
+        base: 40,
+        steps: &[
+            Adds(SPREAD, 41),
+            Splits(5),
+            Finds(0, 5),
+            Holds(SPREAD),
+            Does(Size, Reply::Count { count: 64 }, Read(109)),
+            Does(Add(12), Reply::No, Read(109)),
+            Does(Next(6), Reply::Key { key: 12 }, Read(109)),
+            Splits(11),
+            Finds(1, 0),
+            Holds(SPREAD),
+            Does(Size, Reply::Count { count: 64 }, Read(120)),
+            Does(Has(446), Reply::Yes, Read(120)),
+            Does(Next(447), Reply::NoKey, Read(120)),
+            Does(Del(446), Reply::Yes, Commit(121)),
+            Does(Has(446), Reply::No, Read(121)),
+            Holds(Keys {
+                count: 63,
+                ..SPREAD
+            }),
+        ],
+        time: Some(121),
+    },
+    Row {
+        name: "after 1,008 splits all buckets are",
+        objects: 2048,
+        base: 0,
+        steps: &[
+            Adds(SPREAD, 1),
+            Splits(1007),
+            Finds(5, 511),
+            Splits(1),
+            Finds(6, 0),
+            Tries(Whole),
+            Holds(SPREAD),
+        ],
+        time: None,
+    },
+    Row {
+        name: "none is split at the last time",
+        objects: 1026,
+        base: LAST - 2,
+        steps: &[
+            Tries(Done { time: LAST - 1 }),
+            Does(Add(7), Reply::Yes, Commit(LAST)),
+            Tries(Worn),
+            Finds(0, 1),
+            Does(Has(7), Reply::Yes, Read(LAST)),
+            Does(Del(7), Reply::Worn, Read(LAST)),
+        ],
+        time: Some(LAST),
+    },
+    Row {
+        name: "a bucket that is too long is so at the last time too",
+        objects: 2048,
+        base: LAST - 62,
+        steps: &[
+            Adds(LONG, LAST - 61),
+            Tries(Long { keys: 62 }),
+            Does(Del(0), Reply::Worn, Read(LAST)),
+        ],
+        time: Some(LAST),
+    },
+];
+
+#[test]
+fn splits_by_one_seat(rt: HostRuntime) -> Result<(), Fail> {
+    for row in ROWS {
+        assert!(rt; 1025 < row.objects && row.objects < 65536);
+        let time = play_alone(&rt, rt.alloc(), row.objects, row.base, row.steps)?;
+        assert_eq!(rt; time, row.time.unwrap_or(time), "{}", row.name);
+    }
+    Ok(())
+}

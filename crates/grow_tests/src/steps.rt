@@ -1,0 +1,209 @@
+// What a store of a growing hash set is asked, step by step, and what it is to answer.
+ghost use Rattle.std.specs.Prelude.{◌≡◌, ◌≤◌};
+ghost use Rattle.mv_history.specs.Calls.{Continues};
+ghost use Rattle.grow_hash.specs.GrowPlans.{IsOfGrown};
+ghost use Rattle.grow_hash.specs.SplitCalls.{most_writes};
+
+use grow_hash::{GrowRules, GrowStep, Split, attempt_grow, read_grown, table_of, try_split};
+use mv_history::{Section, Store};
+use set_script::{Catalogue, Command, Name, Place, Reply};
+use std::alloc::{AllocError, Global};
+use std::process::Abort;
+use std::test::*;
+
+// A command on the set.
+#[derive(Clone, Copy)]
+pub(crate) enum Ask {
+    Add(u32),
+    Del(u32),
+    Has(u32),
+    Next(u32),
+    Size,
+}
+
+// So many keys, from the first on, each by as much more than the one before it.
+#[derive(Clone, Copy)]
+pub(crate) struct Keys {
+    pub first: u32,
+    pub by: u32,
+    pub count: u32,
+}
+
+// A step, with what is wanted.
+#[derive(Clone, Copy)]
+pub(crate) enum Step {
+    // One command, with its reply and place.
+    Does(Ask, Reply, Place),
+    // An add of each of these keys, which are new; the first is the commit of this time, and each other one of the next.
+    Adds(Keys, u64),
+    // One try of a split, with its answer.
+    Tries(Split),
+    // So many splits, each of which is done.
+    Splits(u32),
+    // The level and the split place.
+    Finds(u32, u32),
+    // The set has exactly these keys.
+    Holds(Keys),
+}
+
+impl Keys {
+    // The key at this place of them.
+    fn at(self, index: u32) -> u32 {
+        self.first.wrapping_add(self.by.wrapping_mul(index))
+    }
+}
+
+// The name `h0`.
+pub(crate) fn h0() -> Name
+    ensures { result ≡ 10 }
+{
+    match Name::new(10) {
+        Some(name) => name,
+        None => unreachable!(),
+    }
+}
+
+// The command, on `h0`.
+pub(crate) fn command(ask: Ask) -> Command
+    ensures { IsOfGrown result }
+{
+    let name = h0();
+    match ask {
+        Ask::Add(key) => Command::Add { name, key },
+        Ask::Del(key) => Command::Del { name, key },
+        Ask::Has(key) => Command::Has { name, key },
+        Ask::Next(key) => Command::Next { name, key },
+        Ask::Size => Command::Size { name },
+    }
+}
+
+// Attempts a command once.
+fn attempt<S: Store<Rules = GrowRules>>(
+    rt: &impl Abort,
+    store: S,
+    ask: Ask,
+    reply: Reply,
+    place: Place,
+) -> S
+    requires most { most_writes ≤ (S.seat_of store).write_max }
+    ensures { Continues (S.seat_of store) (S.seat_of result) }
+{
+    let (after, step) = attempt_grow(store, &command(ask));
+    assert_eq!(rt; step, GrowStep::Done { reply, place });
+    after
+}
+
+// Adds new keys.
+fn add_all<S: Store<Rules = GrowRules>>(rt: &impl Abort, mut store: S, keys: Keys, from: u64) -> S
+    requires most { most_writes ≤ (S.seat_of store).write_max }
+    ensures { Continues (S.seat_of store) (S.seat_of result) }
+{
+    for index in 0..keys.count {
+        let place = Place::Commit(from.saturating_add(index as u64));
+        store = attempt(rt, store, Ask::Add(keys.at(index)), Reply::Yes, place);
+    }
+    store
+}
+
+// Tries a split once.
+fn split_once<S: Store<Rules = GrowRules>>(rt: &impl Abort, store: S, split: Split) -> S
+    requires most { most_writes ≤ (S.seat_of store).write_max }
+    ensures { Continues (S.seat_of store) (S.seat_of result) }
+{
+    let (after, found) = try_split(store);
+    assert_eq!(rt; found, split);
+    after
+}
+
+// Splits so many buckets.
+fn split_all<S: Store<Rules = GrowRules>>(rt: &impl Abort, mut store: S, count: u32) -> S
+    requires most { most_writes ≤ (S.seat_of store).write_max }
+    ensures { Continues (S.seat_of store) (S.seat_of result) }
+{
+    for number in 0..count {
+        let (after, split) = try_split(store);
+        assert!(rt; matches!(split, Split::Done { .. }), "split {number}");
+        store = after;
+    }
+    store
+}
+
+// The level and the split place.
+fn read_table<S: Store<Rules = GrowRules>>(store: S) -> (S, (u32, u32))
+    ensures { Continues (S.seat_of store) (S.seat_of result.0) }
+{
+    let mut section = store.enter();
+    let table = table_of(&mut section);
+    (section.leave(), table)
+}
+
+// The whole catalogue.
+fn read_all<S: Store<Rules = GrowRules>>(
+    alloc: Global,
+    store: S,
+) -> (S, Result<Catalogue, AllocError>)
+    ensures { Continues (S.seat_of store) (S.seat_of result.0) }
+{
+    let mut section = store.enter();
+    let all = read_grown(alloc, &mut section);
+    (section.leave(), all)
+}
+
+// Looks that the catalogue has exactly these keys in `h0`, and nothing else.
+fn expect_keys(rt: &impl Abort, all: &Catalogue, keys: Keys) {
+    let found = all.keys(10);
+    assert_eq!(rt; found.len(), keys.count as usize);
+    for index in 0..keys.count {
+        assert_eq!(rt; found.get(index as usize).copied(), Some(keys.at(index)));
+    }
+    for name in 0..30 {
+        assert!(rt; name == 10 || all.keys(name).is_empty(), "name {name}");
+    }
+}
+
+// Makes one step. The error is want of memory for the keys.
+fn make<S: Store<Rules = GrowRules>>(
+    rt: &impl Abort,
+    alloc: Global,
+    store: S,
+    step: Step,
+) -> (S, Result<(), AllocError>)
+    requires most { most_writes ≤ (S.seat_of store).write_max }
+    ensures { Continues (S.seat_of store) (S.seat_of result.0) }
+{
+    match step {
+        Step::Does(ask, reply, place) => (attempt(rt, store, ask, reply, place), Ok(())),
+        Step::Adds(keys, from) => (add_all(rt, store, keys, from), Ok(())),
+        Step::Tries(split) => (split_once(rt, store, split), Ok(())),
+        Step::Splits(count) => (split_all(rt, store, count), Ok(())),
+        Step::Finds(level, place) => {
+            let (after, table) = read_table(store);
+            assert_eq!(rt; table, (level, place));
+            (after, Ok(()))
+        }
+        Step::Holds(keys) => {
+            let (after, all) = read_all(alloc, store);
+            (after, all.map(|all| expect_keys(rt, &all, keys)))
+        }
+    }
+}
+
+// Makes the steps, one after another. The error is want of memory, and comes at the step that found it.
+pub(crate) fn play<S: Store<Rules = GrowRules>>(
+    rt: &impl Abort,
+    alloc: Global,
+    mut store: S,
+    steps: &[Step],
+) -> (S, Result<(), AllocError>)
+    requires most { most_writes ≤ (S.seat_of store).write_max }
+    ensures { Continues (S.seat_of store) (S.seat_of result.0) }
+{
+    for step in steps {
+        let (after, made) = make(rt, alloc, store, *step);
+        store = after;
+        if made.is_err() {
+            return (store, made);
+        }
+    }
+    (store, Ok(()))
+}

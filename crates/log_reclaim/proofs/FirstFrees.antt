@@ -1,7 +1,7 @@
 -- A round that first freed what the watermark in GRACE allows.
 use Rattle.std.proofs.Common.{◌≡◌, ℕ, ◌+◌, ◌<◌, ◌≤◌, List, [], ◌∷◌, ◌++◌, length, drop, All, Bool, refl, sym, ap, ◌∙◌, subst, arith}
 use Rattle.std.proofs.Common.{append-nil, append_assoc, length-drop, Option, Some, None}
-use Rattle.std.proofs.lemmas.List.Elements.{All-nil, All-append}
+use Rattle.std.proofs.lemmas.List.Elements.{All-nil, All-cons, All-append}
 use Rattle.mv_history.specs.declared.Step.{Step}
 use Rattle.mv_layout.specs.declared.Config.{Config}
 use Rattle.mv_core.specs.declared.view.View.{View}
@@ -15,6 +15,7 @@ use Rattle.log_reclaim.specs.Untimed.{DatedSo}
 use Rattle.log_reclaim.specs.Tries.{Makes}
 use Rattle.log_reclaim.specs.Sweeps.{found_at, Sweeps, SweepsAll}
 use Rattle.log_reclaim.specs.Rounds.{FreesAll, FreesFirst, FreesBeforeScan}
+use Rattle.log_reclaim.proofs.FreedAll.{free_kind}
 use Rattle.log_reclaim.proofs.Reclaiming.{reclaims_on, makes_on, reclaims_number, reclaims_base, reclaims_more}
 use Rattle.log_reclaim.proofs.Composed.{shrinks_then}
 use Rattle.log_reclaim.proofs.Untimed.{untimed_then, dated_then}

@@ -20,7 +20,7 @@ use Rattle.log_reclaim.specs.Rounds.{FreesAll, FreesFirst, FreesBeforeScan, IsHo
 use Rattle.log_reclaim.specs.Tidies.{RestsOnce, RestsWhereDue, RestsSo, WritesBackSo, HeldBy, TidiesLeft}
 use Rattle.log_reclaim.proofs.Reclaiming.{reclaims_on}
 use Rattle.log_reclaim.proofs.Composed.{shrinks_then}
-use Rattle.log_reclaim.proofs.FirstFrees.{frees_longer, frees_then, sweeps_then}
+use Rattle.log_reclaim.proofs.FirstFrees.{frees_longer, frees_then, grace_plain, sweeps_then}
 use Rattle.log_reclaim.proofs.RoundCauses.{round_swept}
 use Rattle.log_reclaim.proofs.Swept.{swept_then}
 use Rattle.log_reclaim.proofs.Exchanges.{none_exchanged, one_between}
@@ -151,7 +151,7 @@ module _ (starts : State → Type 0) (allows : List ℕ → State → Writes →
     found = t.found;
     first_freed = freed + t.first_freed;
     scan = sweeps_then c v g x t.scan_view l k t.scan_log (grace_load c time ∷ []) made t.scan_steps time freed true t.first t.found t.first_freed load
-        frees t.scan;
+        (grace_plain c time) frees t.scan;
     rest_steps = t.rest_steps;
     rest_view = t.rest_view;
     rest_log = t.rest_log;

@@ -4,7 +4,7 @@ use Rattle.log_reclaim.specs.Parts.{grace_load}
 use Rattle.log_reclaim.specs.Tidies.{TidiesLeft}
 use Rattle.log_reclaim.proofs.Idle.{still_of}
 use Rattle.log_reclaim.proofs.ScanParts.{grace_makes, grace_stands}
-use Rattle.log_reclaim.proofs.FirstFrees.{frees_shrinks, frees_only, sweeps_all}
+use Rattle.log_reclaim.proofs.FirstFrees.{frees_shrinks, frees_only, grace_plain, sweeps_all}
 use Rattle.log_reclaim.proofs.Tidied.{left_from, left_begins, left_rests, left_shrinks, left_reclaims, left_alone, emptied}
 use Rattle.log_reclaim.proofs.FreshTimes.{left_fresh}
 use Rattle.log_reclaim.proofs.tidying.tidy.Given.{Over}
@@ -24,7 +24,8 @@ returns-then-live-eq0-clause-reclaims g c =
     emptied (config_of c.args.shared.now) (view c.args.pass.now) (view f.new.pass) c.args.log.now f.new.log
     ((grace_load (config_of c.args.shared.now) k.result.time ∷ []) ++ f.ensures.frees.0) f.result
     (sweeps_all (config_of c.args.shared.now) (view c.args.pass.now) (view k.new.pass) (view f.new.pass) c.args.log.now f.new.log
-    (grace_load (config_of c.args.shared.now) k.result.time ∷ []) f.ensures.frees.0 k.result.time f.result load f.ensures.frees.1
+    (grace_load (config_of c.args.shared.now) k.result.time ∷ []) f.ensures.frees.0 k.result.time f.result load
+    (grace_plain (config_of c.args.shared.now) k.result.time) f.ensures.frees.1
     (sym c.live.ensures ∙ c.if-live-eq0.true))
     (frees_only (config_of c.args.shared.now) (view k.new.pass) (view f.new.pass) c.args.log.now f.new.log f.ensures.frees.0 k.result.time f.result
     f.ensures.frees.1) _ refl

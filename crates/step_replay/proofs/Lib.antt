@@ -7,3 +7,4 @@ pub mod SeatNotes
 pub mod TurnLaws
 pub mod OneStep
 pub mod readers
+pub mod NextSteps

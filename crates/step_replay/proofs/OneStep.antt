@@ -1,5 +1,5 @@
 -- A turn makes at most one step.
-use Rattle.std.proofs.Common.{◌≡◌, ℕ, List, [], ◌∷◌, ◌++◌, Bool, true, false, Option, Some, None, refl, sym, ap, ◌∙◌, subst, append_assoc, if◌then◌else◌, ◌==◌}
+use Rattle.std.proofs.Common.{◌≡◌, ℕ, List, [], ◌∷◌, ◌++◌, Bool, true, false, Option, Some, None, refl, sym, ap, ◌∙◌, append_assoc, if◌then◌else◌, ◌==◌}
 use Rattle.std.proofs.lemmas.List.{append-nil}
 use Rattle.mv_layout.specs.declared.config.Config.{Config}
 use Rattle.step_replay.specs.declared.plan.Call.{Call}
@@ -10,7 +10,7 @@ use Rattle.step_replay.specs.declared.seats.Then.TheVariants.{Goes, Ends}
 use Rattle.step_replay.specs.Tasks.{place_in_task}
 use Rattle.step_replay.specs.Begins.{may_begin, begun, begin_call}
 use Rattle.step_replay.specs.Lines.{idle_line, skip_line, answer_line}
-use Rattle.step_replay.specs.Runs.{SeatOf, TapeOf, Scene, Looked, is_place, with_line, tape_stepped, tape_after, went, learned, step_made, found_in}
+use Rattle.step_replay.specs.Runs.{TapeOf, Scene, Looked, is_place, with_line, tape_stepped, tape_after, went, learned, step_made, found_in}
 use Rattle.step_replay.specs.Runs.{begun_so, call_looked, looked_on, one_looked, looked, turn_begun, turned_from, turned}
 use Rattle.step_replay.specs.Sweeps.{then_after}
 use Rattle.step_replay.specs.ReplayLaws.{IsTurn, no_step, one_step}

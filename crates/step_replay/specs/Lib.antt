@@ -15,3 +15,4 @@ pub mod Lines
 pub mod Runs
 pub mod Shown
 pub mod Readers
+pub mod NextSteps

@@ -1,5 +1,6 @@
 // What holds behind any steps of a replay.
 ghost use Rattle.step_replay.specs.ReplayLaws.{ReplaysAreRuled, TurnsMakeOneStep};
+ghost use Rattle.step_replay.specs.NextSteps.{TurnsGoOn};
 ghost use Rattle.step_replay.specs.Readers.{ReadersAreRuled};
 
 /// Behind any steps, in whatever order the seats made them, the machine's words, the history and the views of the
@@ -12,6 +13,13 @@ pub fn replays_are_ruled()
 /// before, and the words after it are those with what the step writes there; no other line comes with a write.
 pub fn turns_make_one_step()
     ensures { TurnsMakeOneStep }
+{}
+
+/// Where a replay is behind steps of the core, a turn that makes no step leaves it behind the same ones. A turn that makes one
+/// leaves it behind each further step of the core that may be made there, is of the same word, and writes the same of what it
+/// finds.
+pub fn turns_go_on()
+    ensures { TurnsGoOn }
 {}
 
 /// A plan whose calls lock nothing is run by steps of the core alone: behind each turn, whatever the schedule is, there are

@@ -21,7 +21,8 @@
 //! `replay` answers exactly `text_of_plan`, the text of the run: a function of the plan alone. By `turns_make_one_step` each
 //! turn makes at most one step, whose line has the word that was at its place just before, and no word changes but by the
 //! write that such a line says. By `readers_are_ruled` each step of a plan that locks nothing is one of the core's, whose
-//! condition holds of its seat's view where it is made, whatever the schedule is. No clause says so of a plan that locks.
+//! condition holds of its seat's view where it is made, whatever the schedule is. No clause says so of a plan that locks; by
+//! `turns_go_on` that is all that its states lack to be states of the rule.
 //! `write_step` is the line of a step, also for who makes steps on a `Machine` without a plan.
 //!
 //! A `Machine` keeps the words of a domain at run time, and the steps behind which it is are known to the proof
@@ -53,7 +54,7 @@ mod text;
 mod turns;
 
 pub use drafts::{MOST_STEPS, parse_plan};
-pub use laws::{readers_are_ruled, replays_are_ruled, turns_make_one_step};
+pub use laws::{readers_are_ruled, replays_are_ruled, turns_go_on, turns_make_one_step};
 pub use machine::Machine;
 pub use places::{place_cell, place_number};
 pub use plan::{Call, CallOf, Plan, PlanFault, PlanKind};

@@ -17,7 +17,7 @@ use Rattle.step_replay.specs.Lines.{skip_line}
 use Rattle.step_replay.specs.Runs.{TapeOf, Scene, Looked, with_line, call_looked, looked_on, looked}
 use Rattle.step_replay.specs.Readers.{IsTapeBehind}
 use Rattle.step_replay.proofs.readers.Standing.{reader, Stands, outside, within, lowers, walks, leaves, sweeps, AreBefore}
-use Rattle.step_replay.proofs.readers.OneStep.{lined}
+use Rattle.step_replay.proofs.NextSteps.{lined}
 
 -- what a seat comes to that looks at its calls: the tape is behind the same steps
 pub record IsLooked (c : Config) (n : ℕ) (made : List Made) (v : View) (l : Looked) : Type 0 where

@@ -7,7 +7,7 @@ use Rattle.std.proofs.Math.Bool.{and-false}
 use Rattle.std.proofs.lemmas.List.Elements.{Contains-push}
 use Rattle.mv_layout.proofs.Unpacking.{time_back, slot_back}
 use Rattle.mv_layout.specs.Words.{clock_time_of, clock_slot_of}
-use Rattle.mv_core.proofs.Terms.{Config, Checked, Place, Clock, Mark, IsPlace, Shows, slot_at}
+use Rattle.mv_core.proofs.Terms.{Config, Checked, Place, Clock, Mark, IsPlace, slot_at}
 use Rattle.mv_core.specs.declared.view.View.{View}
 use Rattle.mv_core.specs.declared.view.Section.{Section}
 use Rattle.mv_core.specs.declared.view.Phase.TheVariants.{Outside, Lowered, Marked}
@@ -37,23 +37,16 @@ use Rattle.step_replay.specs.declared.seats.Task.TheVariants.{Enters, Helps, Wal
 use Rattle.step_replay.specs.declared.seats.Answer.TheVariants.{AtTime, SixWords}
 use Rattle.step_replay.specs.declared.seats.Then.TheVariants.{Goes, Ends}
 use Rattle.step_replay.specs.States.{any_commit, Made, may_in, place_in, writes_in, state_of}
-use Rattle.step_replay.specs.Words.{word_at, words_with}
+use Rattle.step_replay.specs.Words.{word_at}
 use Rattle.step_replay.specs.Tasks.{place_in_task, access_in_task, written_by}
 use Rattle.step_replay.specs.GoesOn.{is_last}
-use Rattle.step_replay.specs.Runs.{TapeOf, Scene, is_place, with_line, tape_stepped, tape_after, found_in, went, learned, step_made}
+use Rattle.step_replay.specs.Runs.{TapeOf, Scene, is_place, tape_stepped, tape_after, found_in, went, learned, step_made}
 use Rattle.step_replay.specs.Readers.{IsTapeBehind}
-use Rattle.step_replay.proofs.Machines.{words_after, shows_next, made_next}
+use Rattle.step_replay.specs.NextSteps.{IsStepOf}
+use Rattle.step_replay.proofs.Machines.{made_next}
+use Rattle.step_replay.proofs.NextSteps.{lined, step_behind}
 use Rattle.step_replay.proofs.readers.Standing.{reader, IsStill, Stands, outside, within, lowers, marks, takes, walks, reads, leaves, sweeps, ends}
 use Rattle.step_replay.proofs.readers.Standing.{IsQuiet, AreBefore, IsReader, step_of, IsStepped}
-
--- both say which words are there after a write
-same_words : (c : Config) (words : List ℕ) (place : Place) (o : Option ℕ) → words_after c words place o ≡ words_with c words place o
-same_words c words place None = refl
-same_words c words place (Some new) = refl
-
--- a line more
-pub lined : (c : Config) (t : TapeOf) (made : List Made) (line : List ℕ) → IsTapeBehind c t made → IsTapeBehind c (with_line t line) made
-lined c t made line b = record { each = b.each; shows = b.shows; count = b.count }
 
 module _ (c : Config) (k : Checked c) (n : ℕ) (lt : n < c.seats) (made : List Made) (t : TapeOf) (b : IsTapeBehind c t made)
     (still : IsStill c (state_of c made).memory) where
@@ -84,14 +77,18 @@ module _ (c : Config) (k : Checked c) (n : ℕ) (lt : n < c.seats) (made : List 
     same : written_by (access_in_task n task) (s.memory at) ≡ o
     same = ap (written_by (access_in_task n task)) (sym word)
 
-    stepped : IsTapeBehind c (tape_stepped c n task at t) (step_of n kind ∷ made)
-    stepped = record {
-      each = made_next c k t.words made (step_of n kind) at (written_by (access_in_task n task)) b.shows place range writes o same b.each lt may
-          (fits (word_at c t.words at));
-      shows = subst (λ words. Shows c words (state_of c (step_of n kind ∷ made)).memory) (same_words c t.words at o)
-          (shows_next c k t.words made (step_of n kind) at (written_by (access_in_task n task)) b.shows place range writes o same);
-      count = (let e = b.count in omega (arith, e));
+    next : IsStepOf c made (step_of n kind) n task
+    next = record {
+      seat_is = refl;
+      may = (made_next c k t.words made (step_of n kind) at (written_by (access_in_task n task)) b.shows place range writes o same b.each lt may
+          (fits (word_at c t.words at))).0;
+      place_is = place;
+      range = range;
+      writes_are = writes;
     }
+
+    stepped : IsTapeBehind c (tape_stepped c n task at t) (step_of n kind ∷ made)
+    stepped = step_behind c k made t b (step_of n kind) n task next
 
     pub tape_is : IsTapeBehind c (tape_after c n task t) (step_of n kind ∷ made)
     tape_is = subst (λ x. IsTapeBehind c (if x then tape_stepped c n task at t else t) (step_of n kind ∷ made)) (sym there) stepped

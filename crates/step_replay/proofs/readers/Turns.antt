@@ -30,7 +30,8 @@ use Rattle.step_replay.proofs.FirstSteps.{quiet}
 use Rattle.step_replay.proofs.TurnLaws.{seats_long}
 use Rattle.step_replay.proofs.readers.Standing.{reader, IsStill, Stands, outside, within, lowers, marks, takes, walks, reads, leaves, sweeps, ends}
 use Rattle.step_replay.proofs.readers.Standing.{IsQuiet, AreBefore, IsReader, step_of, IsStepped}
-use Rattle.step_replay.proofs.readers.OneStep.{lined, step_is}
+use Rattle.step_replay.proofs.NextSteps.{lined}
+use Rattle.step_replay.proofs.readers.OneStep.{step_is}
 use Rattle.step_replay.proofs.readers.Looking.{IsLooked, Rests, out, open_in, looks}
 
 -- behind a turn the domain is behind the same steps, or behind one more of the seat

@@ -159,4 +159,14 @@ impl<V: View> View for Overlay<V> {
             None => self.view.read(object),
         }
     }
+
+    fn read_pair(&mut self, object: u32, place: u32) -> (u64, u64) {
+        match find(&self.writes[..self.count], object) {
+            Some(i) => {
+                let words = self.writes[i].1;
+                (words[place as usize], words[place as usize + 1])
+            }
+            None => self.view.read_pair(object, place),
+        }
+    }
 }

@@ -1,0 +1,4 @@
+pub mod columns
+pub mod small
+pub mod sifted
+pub mod told

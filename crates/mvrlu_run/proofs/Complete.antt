@@ -6,7 +6,7 @@ use Rattle.run_words.specs.declared.request.Limit.{Limit as LimitOf}
 use Rattle.run_words.specs.declared.request.Options.{Options}
 use Rattle.run_words.specs.declared.request.Refusal.{Refusal}
 use Rattle.run_words.specs.declared.request.Refusal.TheVariants.{Form, Beyond}
-use Rattle.run_words.specs.Words.{Asks, run, gen, work, block, pool, replay, asked}
+use Rattle.run_words.specs.Words.{Asks, run, gen, work, block, pool, grow, replay, asked}
 use Rattle.set_script.specs.Grammar.{parsed}
 use Rattle.set_script.specs.declared.commands.Command.{Command}
 use Rattle.set_script.specs.declared.commands.FaultKind.{FaultKind}
@@ -21,6 +21,7 @@ use Rattle.mvrlu_run.specs.declared.finish.Closed.{Closed}
 use Rattle.mvrlu_run.specs.declared.finish.Finish.{Finish}
 use Rattle.mvrlu_run.specs.declared.finish.Finish.TheVariants.{Done, Usage, Limit, Script, BlockScript, Plan, Bytes, Read, Write, Memory}
 use Rattle.mvrlu_run.specs.declared.finish.Ran.{Ran}
+use Rattle.mvrlu_run.specs.declared.scripts.Grammar.TheVariants.{Sets}
 use Rattle.mvrlu_run.specs.Outcome.{AskedCause, Cause, IsComplete, IsPrinted, Outside, ReadsSets}
 use Rattle.mvrlu_run.specs.Reading.{AreTold}
 use Rattle.mvrlu_run.specs.Scripts.{AllScripts, AnyStop, IsLong, IsRefused, Reaches, StopsAt, commands}
@@ -83,7 +84,7 @@ none_reached : (t : Option Texts) (place : ℕ) → Reaches parsed t [] place �
 none_reached t place r = omega (arith, slice_get_within {A = List ℕ} [] place r.name r.named)
 
 -- so only want of memory stops there
-none_left : (f : Finish) (t : Option Texts) (faults now : ℕ) → AnyStop f commands t [] faults now → status_of f ≡ 7
+none_left : (f : Finish) (t : Option Texts) (faults now : ℕ) → AnyStop f (commands Sets) t [] faults now → status_of f ≡ 7
 none_left (Script script line kind) t faults now s = absurd (none_reached t script s.reaches)
 none_left (BlockScript script line kind) t faults now s = absurd s
 none_left (Plan script line kind) t faults now s = absurd s
@@ -103,6 +104,7 @@ text_reads (block names) texts closed text h =
     subst ReadsSets (sym h.3) (lawful_blocks h.2.last.start h.2.last.history h.4.ran.run.opening h.4.ran.run.allowed)
 text_reads (pool seats names) texts closed text h =
     subst ReadsSets (sym h.3) (lawful_after h.2.last.start h.2.last.history h.4.ran.pool.opening h.4.ran.pool.allowed)
+text_reads (grow names) texts closed text h = subst ReadsSets (sym h.3) h.4.ran.run.lawful
 text_reads (replay names) texts closed text h = subst ReadsSets (sym h.0) tt
 text_reads (gen number seat) texts closed text h = subst ReadsSets (sym h.0) tt
 text_reads (work number) texts closed text h =
@@ -164,7 +166,7 @@ module _ (words : List (List ℕ)) (old new : Outside) where
     stops Memory place P status c stop spoils fault long files = inr refl
 
   -- what reads no files stops at none
-  stops_at_none : (f : Finish) (asks : Asks) → files_of asks ≡ [] → reading_of asks ≡ commands
+  stops_at_none : (f : Finish) (asks : Asks) → files_of asks ≡ [] → reading_of asks ≡ commands Sets
       → AnyStop f (reading_of asks) old.texts (files_of asks) old.file_faults new.file_faults → status_of f ≡ 7
   stops_at_none f asks none sets stop =
       none_left f old.texts old.file_faults new.file_faults
@@ -172,7 +174,7 @@ module _ (words : List (List ℕ)) (old new : Outside) where
       (subst (λ ns. AnyStop f (reading_of asks) old.texts ns old.file_faults new.file_faults) none stop))
 
   -- it ends with its text
-  writes : (f : Finish) (asks : Asks) → files_of asks ≡ [] → reading_of asks ≡ commands → AskedCause f asks old new
+  writes : (f : Finish) (asks : Asks) → files_of asks ≡ [] → reading_of asks ≡ commands Sets → AskedCause f asks old new
       → ¬ Rose old.out_faults new.out_faults → (status_of f ≡ 0) ⊎ (status_of f ≡ 7)
   writes (Done closed) asks none sets c out = inl refl
   writes Usage asks none sets c out = inr (stops_at_none Usage asks none sets c.1)

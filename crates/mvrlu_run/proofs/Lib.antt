@@ -8,4 +8,6 @@ pub mod Four
 pub mod PoolComplete
 pub mod BlockComplete
 pub mod ReplayComplete
+pub mod GrowComplete
+pub mod GrownBuckets
 pub mod FewBlocks

@@ -49,15 +49,15 @@ pub any_from_one : (f : Finish) (reading : Reading) (t : Option Texts) (names : 
     (before : List (ScriptOf reading)) (faults mid now : ℕ)
     → slice_get names place ≡ Some name → AllScripts (grammar_of reading) t (take place names) before → faults ≤ mid
     → OneStop f reading place t name mid now → AnyStop f reading t names faults now
-any_from_one (Script script line kind) commands t names place name before faults mid now at h le o =
+any_from_one (Script script line kind) (commands grammar) t names place name before faults mid now at h le o =
     rw o.0 (record { reaches = record { name = name; named = at; before = before; scripts = h }; says = o.1 })
 any_from_one (Script script line kind) blocks t names place name before faults mid now at h le o = absurd o
 any_from_one (Script script line kind) plans t names place name before faults mid now at h le o = absurd o
-any_from_one (BlockScript script line kind) commands t names place name before faults mid now at h le o = absurd o
+any_from_one (BlockScript script line kind) (commands grammar) t names place name before faults mid now at h le o = absurd o
 any_from_one (BlockScript script line kind) blocks t names place name before faults mid now at h le o =
     rw o.0 (record { reaches = record { name = name; named = at; before = before; scripts = h }; says = o.1 })
 any_from_one (BlockScript script line kind) plans t names place name before faults mid now at h le o = absurd o
-any_from_one (Plan script line kind) commands t names place name before faults mid now at h le o = absurd o
+any_from_one (Plan script line kind) (commands grammar) t names place name before faults mid now at h le o = absurd o
 any_from_one (Plan script line kind) blocks t names place name before faults mid now at h le o = absurd o
 any_from_one (Plan script line kind) plans t names place name before faults mid now at h le o =
     rw o.0 (record { reaches = record { name = name; named = at; before = before; scripts = h }; says = o.1 })

@@ -7,5 +7,7 @@ pub mod Outcome
 pub mod Pooled
 pub mod PoolOutcome
 pub mod Blocked
+pub mod GrownRuns
 pub mod BlockOutcome
+pub mod GrowOutcome
 pub mod ReplayOutcome

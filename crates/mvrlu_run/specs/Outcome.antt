@@ -1,6 +1,7 @@
 -- What a call of the program does: the cause of each way to end, and what a reader may count on.
 use Rattle.std.specs.Prelude.{◌≡◌, ◌⊎◌, ℕ, List, Option, Ok, Err, Bool, ⊤}
 use Rattle.std.specs.Io.KnownBytes.{Appends}
+use Rattle.grow_hash.specs.Grown.{IsGrown}
 use Rattle.run_outside.specs.Outside.{Texts, Rose}
 use Rattle.run_words.specs.declared.request.Options.{Options}
 use Rattle.run_words.specs.declared.request.Limit.{Limit as LimitOf}
@@ -15,7 +16,7 @@ use Rattle.mvrlu.specs.Meant.{whole_of}
 use Rattle.mvrlu.specs.Whole.{last_state}
 use Rattle.mvrlu.specs.declared.closing.Closing.{Closing}
 use Rattle.mvrlu_run.specs.declared.finish.Closed.{Closed}
-use Rattle.mvrlu_run.specs.declared.finish.Closed.TheVariants.{No, Sets, Blocks}
+use Rattle.mvrlu_run.specs.declared.finish.Closed.TheVariants.{No, Sets, Blocks, Grown}
 use Rattle.mvrlu_run.specs.declared.finish.Finish.{Finish}
 use Rattle.mvrlu_run.specs.declared.finish.Finish.TheVariants.{Done, Usage, Limit, Write}
 use Rattle.mvrlu_run.specs.declared.finish.Ran.{Ran}
@@ -79,6 +80,7 @@ abbrev pub ReadsSets : Closed → Type 0
 ReadsSets No = ⊤
 ReadsSets (Sets closing) = IsLawful (last_state (whole_of closing))
 ReadsSets (Blocks closing) = IsLawful (last_state (whole_of closing))
+ReadsSets (Grown closing) = IsGrown (last_state (whole_of closing))
 
 -- What a call is sure to answer where the texts of the files are told and no call of the files failed, but for want of memory.
 pub record IsComplete (words : List (List ℕ)) (old new : Outside) (status : ℕ) : Type 0 where

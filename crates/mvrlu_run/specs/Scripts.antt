@@ -1,6 +1,8 @@
 -- The scripts of several files, and where reading them stops.
 use Rattle.std.specs.Prelude.{◌≡◌, ◌≤◌, ◌<◌, ℕ, List, [], ◌∷◌, length, take, slice_get, Option, Some, Result, Ok, Err, Bool}
 use Rattle.std.specs.Prelude.{IsTrue, All, ⊤}
+use Rattle.grow_hash.specs.GrowPlans.{IsOfGrown}
+use Rattle.grow_script.specs.GrowGrammar.{parsed_grow}
 use Rattle.run_outside.specs.Outside.{Texts, Rose, HasText}
 use Rattle.set_blocks.specs.BlockGrammar.{parsed_blocks}
 use Rattle.set_blocks.specs.declared.faults.BlockKind.{BlockKind}
@@ -10,6 +12,8 @@ use Rattle.set_script.specs.declared.commands.FaultKind.{FaultKind}
 use Rattle.mvrlu_run.specs.declared.finish.Finish.{Finish}
 use Rattle.mvrlu_run.specs.declared.finish.Finish.TheVariants.{Script, BlockScript, Plan, Bytes, Read, Memory}
 use Rattle.mvrlu_run.specs.declared.finish.TheConstants.{MOST_BYTES}
+use Rattle.mvrlu_run.specs.declared.scripts.Grammar.{Grammar}
+use Rattle.mvrlu_run.specs.declared.scripts.Grammar.TheVariants.{Sets, Growing}
 use Rattle.mvrlu_run.specs.Reading.{Says}
 use Rattle.step_replay.specs.Plans.{PlanOf, planned}
 use Rattle.step_replay.specs.declared.plan.PlanKind.{PlanKind}
@@ -48,10 +52,20 @@ module _ {A K : Type 0} (grammar : List ℕ → Result A (ℕ × K)) where
     pub reaches : Reaches texts names place
     pub says : Says texts reaches.name P
 
+-- what a script of commands is in this grammar
+abbrev pub parsed_by : Grammar → List ℕ → Result (List Command) (ℕ × FaultKind)
+parsed_by Sets = parsed
+parsed_by Growing = parsed_grow
+
+-- the commands are of those that scripts in this grammar have
+abbrev pub AreOf : Grammar → List Command → Type 0
+AreOf Sets script = ⊤
+AreOf Growing script = All IsOfGrown script
+
 -- as what files are read
 pub data Reading : Type 0 where
-  -- as scripts of commands
-  commands : Reading
+  -- as scripts of commands in this grammar
+  commands : Grammar → Reading
   -- as scripts of blocks
   blocks : Reading
   -- as plans
@@ -59,24 +73,25 @@ pub data Reading : Type 0 where
 
 -- what a script is then, and what may be wrong with a line of one
 abbrev pub ScriptOf : Reading → Type 0
-ScriptOf commands = List Command
+ScriptOf (commands grammar) = List Command
 ScriptOf blocks = List (List Command)
 ScriptOf plans = PlanOf
 
 abbrev pub KindOf : Reading → Type 0
-KindOf commands = FaultKind
+KindOf (commands grammar) = FaultKind
 KindOf blocks = BlockKind
 KindOf plans = PlanKind
 
 -- the grammar of such files
 abbrev pub grammar_of : (reading : Reading) → List ℕ → Result (ScriptOf reading) (ℕ × KindOf reading)
-grammar_of commands = parsed
+grammar_of (commands grammar) = parsed_by grammar
 grammar_of blocks = parsed_blocks
 grammar_of plans = planned
 
 -- why the file of this place is refused, where its name is given and its text is read from some count of faults on
 abbrev pub OneStop : Finish → Reading → ℕ → Option Texts → List ℕ → ℕ → ℕ → Type 0
-OneStop (Script script line kind) commands place texts name faults now = (script ≡ place) × Says texts name (IsRefused parsed line kind)
+OneStop (Script script line kind) (commands grammar) place texts name faults now =
+    (script ≡ place) × Says texts name (IsRefused (parsed_by grammar) line kind)
 OneStop (BlockScript script line kind) blocks place texts name faults now = (script ≡ place) × Says texts name (IsRefused parsed_blocks line kind)
 OneStop (Plan script line kind) plans place texts name faults now = (script ≡ place) × Says texts name (IsRefused planned line kind)
 OneStop (Bytes script) reading place texts name faults now = (script ≡ place) × Says texts name IsLong
@@ -86,7 +101,8 @@ OneStop _ _ place texts name faults now = ⊥
 
 -- Why reading the files of these names stops, from some count of faults on: at the first that has no script within the limits.
 abbrev pub AnyStop : Finish → Reading → Option Texts → List (List ℕ) → ℕ → ℕ → Type 0
-AnyStop (Script script line kind) commands texts names faults now = StopsAt parsed texts names script (IsRefused parsed line kind)
+AnyStop (Script script line kind) (commands grammar) texts names faults now =
+    StopsAt (parsed_by grammar) texts names script (IsRefused (parsed_by grammar) line kind)
 AnyStop (BlockScript script line kind) blocks texts names faults now = StopsAt parsed_blocks texts names script (IsRefused parsed_blocks line kind)
 AnyStop (Plan script line kind) plans texts names faults now = StopsAt planned texts names script (IsRefused planned line kind)
 AnyStop (Bytes script) reading texts names faults now = StopsAt (grammar_of reading) texts names script IsLong

@@ -97,10 +97,15 @@ plan_fault_end PlanCount = codes ": wrong number of words\n"
 plan_fault_end PlanNumber = codes ": bad number\n"
 plan_fault_end PlanMany = codes " commands\n"
 
+-- the line on words that are out of form
+abbrev pub usage_line : List ℕ
+usage_line = codes "usage: run [--objects N] [--slots N] [--base N] FILE... or gen NUMBER SEAT or work NUMBER"
+    ++ codes " or block FILE... or pool SEATS FILE or grow FILE... or replay FILE\n"
+
 -- the line on `err`
 abbrev pub line_of : Finish → List ℕ
 line_of (Done closed) = []
-line_of Usage = codes "usage: run [--objects N] [--slots N] [--base N] FILE... or gen NUMBER SEAT or work NUMBER or block FILE... or pool SEATS FILE or replay FILE\n"
+line_of Usage = usage_line
 line_of (Limit limit) = codes "limit: " ++ limit_word limit ++ codes "\n"
 line_of (Script script line kind) = fault_start kind ++ decimal script ++ codes " line " ++ decimal line ++ fault_end kind
 line_of (BlockScript script line kind) = block_fault_start kind ++ decimal script ++ codes " line " ++ decimal line ++ block_fault_end kind

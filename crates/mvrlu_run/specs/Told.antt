@@ -1,5 +1,7 @@
 -- The texts that words ask for, and what is left of the domain that was run for them.
 use Rattle.std.specs.Prelude.{◌≡◌, ℕ, ◌/◌, ◌-◌, List, [], ◌∷◌, Option, replicate}
+use Rattle.grow_hash.specs.declared.rules.GrowRules.{GrowRules}
+use Rattle.grow_script.specs.GrowGrammar.{parsed_grow}
 use Rattle.mv_history.specs.declared.answers.LogTable.{LogTable}
 use Rattle.mv_layout.specs.declared.config.Config.{Config}
 use Rattle.mvrlu.specs.declared.closing.Closing.{Closing}
@@ -11,7 +13,7 @@ use Rattle.run_report.specs.Summary.{summary}
 use Rattle.run_report.specs.Text.{text_of_run}
 use Rattle.run_report.specs.Whole.{RunOf}
 use Rattle.run_words.specs.declared.request.Options.{Options}
-use Rattle.run_words.specs.Words.{Asks, run, gen, work, block, pool, replay}
+use Rattle.run_words.specs.Words.{Asks, run, gen, work, block, pool, grow, replay}
 use Rattle.script_domain.specs.Joined.{past_of_whole}
 use Rattle.script_gen.specs.Script.{script, text_of_script}
 use Rattle.set_blocks.specs.BlockGrammar.{parsed_blocks}
@@ -22,8 +24,10 @@ use Rattle.set_script.specs.declared.rules.SetRules.{SetRules}
 use Rattle.set_script.specs.Catalogue.{Maps}
 use Rattle.set_script.specs.Objects.{no_words}
 use Rattle.mvrlu_run.specs.declared.finish.Closed.{Closed}
-use Rattle.mvrlu_run.specs.declared.finish.Closed.TheVariants.{No, Sets, Blocks}
+use Rattle.mvrlu_run.specs.declared.finish.Closed.TheVariants.{No, Sets, Blocks, Grown}
+use Rattle.mvrlu_run.specs.declared.scripts.Grammar.TheVariants as grammars
 use Rattle.mvrlu_run.specs.Blocked.{IsBlocksText}
+use Rattle.mvrlu_run.specs.GrownRuns.{IsGrownText}
 use Rattle.mvrlu_run.specs.Pooled.{IsPoolText}
 use Rattle.mvrlu_run.specs.Scripts.{AllScripts, Reading, commands, blocks, plans}
 use Rattle.step_replay.specs.Plans.{PlanOf, planned}
@@ -75,6 +79,9 @@ IsTextFor (block names) texts closed text =
 IsTextFor (pool seats names) texts closed text =
     (script : List Command) × AllScripts parsed texts names (script ∷ []) × (closing : Closing SetRules) × (closed ≡ Sets closing)
     × IsPoolText seats script closing text
+IsTextFor (grow names) texts closed text =
+    (scripts : List (List Command)) × AllScripts parsed_grow texts names scripts × (closing : Closing GrowRules) × (closed ≡ Grown closing)
+    × IsGrownText scripts closing text
 IsTextFor (replay names) texts closed text = (closed ≡ No) × (plan : PlanOf) × AllScripts planned texts names (plan ∷ []) × (text ≡ text_of_plan plan)
 
 -- the files that are to be read
@@ -84,13 +91,15 @@ files_of (gen number seat) = []
 files_of (work number) = []
 files_of (block names) = names
 files_of (pool seats names) = names
+files_of (grow names) = names
 files_of (replay names) = names
 
 -- and as what
 abbrev pub reading_of : Asks → Reading
 reading_of (block names) = blocks
+reading_of (grow names) = commands grammars.Growing
 reading_of (replay names) = plans
-reading_of asks = commands
+reading_of asks = commands grammars.Sets
 
 -- the numbers of a domain with so many seats, each of which may hold so many objects
 abbrev pub config_of : Options → ℕ → ℕ → Config

@@ -1,4 +1,5 @@
 // How a call of the program ends.
+use grow_hash::GrowRules;
 use mvrlu::Closing;
 use run_words::Limit;
 use set_blocks::{BlockKind, BlockRules};
@@ -17,6 +18,8 @@ pub enum Closed {
     Sets(Closing<SetRules>),
     /// The domain of the blocks, likewise.
     Blocks(Closing<BlockRules>),
+    /// The domain of the growing set, likewise.
+    Grown(Closing<GrowRules>),
 }
 
 /// What became of a call of the program.

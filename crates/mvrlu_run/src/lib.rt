@@ -1,7 +1,7 @@
 //! The program: it reads its words and the scripts of files, runs them over a domain of many versions, one worker for
 //! each script, and writes the text of the run. It also writes a generated script, runs the four of a number, and does the
 //! commands of one file on a pool of seats, whichever takes the next, it runs scripts in which several commands are one
-//! block, and it replays a given schedule of steps.
+//! block, it runs scripts on a hash set that grows, and it replays a given schedule of steps.
 //!
 //! # Model
 //!
@@ -16,7 +16,7 @@
 //!
 //! # Contract
 //!
-//! Status 0 of `run`, and of a pool or blocks likewise: the texts of the files, where they are told, are scripts. There are lines, final maps and tables
+//! Status 0 of `run`, and of a pool, blocks or a growing set likewise: the texts of the files, where they are told, are scripts. There are lines, final maps and tables
 //! of which the output grew by exactly their text. Each line stands in the history of the closing: a commit is the
 //! entry of its time by its seat with its command's tag, and a read has its reply in the state of its time. Each
 //! command has one line, each commit of the history has one, and the lines in their order, replayed one after another,
@@ -24,16 +24,21 @@
 //! where the texts are told and no call failed the scripts alone decide, but for want of memory. A gate is called
 //! around each command; no clause speaks of it, since it tells nothing.
 //!
+//! On a growing set the commits of the history are those of lines and of splits: a seat has one split at most behind each second
+//! add of its script that replied yes, ahead of its next line. The text has a line on the buckets and the splits ahead of the
+//! tables (`IsGrownText` in `specs/GrownRuns.antt`, and `GrowRunOf` of `grow_report`).
+//!
 //! A replay runs no domain: with status 0 the output grew by exactly `text_of_plan`, a function of the plan that the file's
 //! bytes are.
 //!
 //! # Place
 //!
-//! It stands on `run_words` for the words, `run_outside` for reading and writing, `set_script` and `set_blocks` for the
-//! commands and blocks of a script, `script_gen` for generated scripts, `mvrlu` for the domain, `script_domain`,
-//! `pool_domain` and `block_domain` for the run of scripts, pools and blocks over it, `set_catalog` for the sets that are
-//! left, `run_report` for the order and the text of the lines, and `step_replay` for plans and their replay. The thin program `mvrlu_main` calls it with the
-//! system's files and streams.
+//! It stands on `run_words` for the words, `run_outside` for reading and writing, `set_script`, `set_blocks` and `grow_script`
+//! for the commands and blocks of a script, `script_gen` for generated scripts, `mvrlu` for the domain, `script_domain`,
+//! `pool_domain`, `block_domain` and `grow_domain` for the run of scripts, pools, blocks and scripts on a growing set over it,
+//! `set_catalog` and `grow_hash` for the sets that are left, `run_report` and `grow_report` for the order and the text of the
+//! lines, and `step_replay` for plans and their replay. The thin program `mvrlu_main` calls it with the system's files and
+//! streams.
 //!
 //! [`Closing`]: mvrlu::Closing
 #![tactic(auto)]
@@ -42,6 +47,7 @@ mod block_scripts;
 mod blocking;
 mod finish;
 mod generated;
+mod growing;
 mod line;
 mod pooling;
 mod program;
@@ -56,6 +62,8 @@ pub use block_domain::run_block_domain;
 pub use block_workers::run_blocks;
 pub use command_pool::run_pool;
 pub use finish::{Closed, Ran};
+pub use grow_domain::run_grow_domain;
+pub use grow_workers::run_grow;
 pub use pool_domain::run_pool_domain;
 pub use program::run_program;
 pub use script_domain::run_domain;

@@ -16,7 +16,8 @@ use step_replay::PlanKind;
 const ROOM: usize = 192;
 
 const USAGE: &[u8] =
-    b"usage: run [--objects N] [--slots N] [--base N] FILE... or gen NUMBER SEAT or work NUMBER or block FILE... or pool SEATS FILE or replay FILE\n";
+    b"usage: run [--objects N] [--slots N] [--base N] FILE... or gen NUMBER SEAT or work NUMBER \
+    or block FILE... or pool SEATS FILE or grow FILE... or replay FILE\n";
 
 /// Writes the line of an end, as far as the sink takes it.
 pub fn report<E: Sink>(err: &mut E, finish: &Finish)

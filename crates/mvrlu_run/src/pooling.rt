@@ -3,12 +3,13 @@ ghost use Rattle.std.specs.Prelude.{◌≡◌, ◌≤◌, IfErr, IfOk, MatchResu
 ghost use Rattle.run_report.specs.Order.{IsOrdered};
 ghost use Rattle.run_words.specs.Words.{FitOptions, pool};
 ghost use Rattle.mvrlu_run.specs.Pooled.{IsPoolOf, IsPoolText};
+ghost use Rattle.mvrlu_run.specs.declared.scripts.Grammar.TheVariants.{Sets};
 ghost use Rattle.mvrlu_run.specs.Scripts.{AnyStop, NoneFails, commands as by_command};
 ghost use Rattle.mvrlu_run.specs.Told.{IsTextFor};
 
 use crate::finish::{Closed, Finish};
 use crate::running::{Told, open_sets};
-use crate::scripts::read_scripts;
+use crate::scripts::{Grammar, read_scripts};
 use crate::texts::Made;
 use mvrlu::Closing;
 use pool_domain::run_pool_domain;
@@ -42,10 +43,10 @@ pub fn make_pool<R: Threads + Wait + Sync, F: Files, G: Gate>(
     requires few { seats ≤ 8 }
     requires one { length names.now ≡ 1 }
     ensures made { MatchResult result (λ made. IsTextFor (pool seats (map string_bytes names.now)) (F.texts files.old) made.closed made.text.items)
-        (λ finish. AnyStop finish by_command (F.texts files.old) (map string_bytes names.now) (F.faults files.old) (F.faults files.new)) }
+        (λ finish. AnyStop finish (by_command Sets) (F.texts files.old) (map string_bytes names.now) (F.faults files.old) (F.faults files.new)) }
     ensures steady { IfErr result (λ finish. NoneFails finish (F.steady files.old) (F.texts files.old) (map string_bytes names.now)) }
 {
-    let scripts = match read_scripts(alloc, files, names) {
+    let scripts = match read_scripts(alloc, files, names, Grammar::Sets) {
         Ok(scripts) => scripts,
         Err(finish) => return Err(finish),
     };

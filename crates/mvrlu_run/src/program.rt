@@ -3,9 +3,10 @@ ghost use Rattle.std.specs.Prelude.{◌≡◌, ◌≢◌, ◌↔◌, List, ℕ, 
 ghost use Rattle.run_outside.specs.Outside.{Rose};
 ghost use Rattle.run_words.specs.declared.request.Options.{Options as OptionsOf};
 ghost use Rattle.run_words.specs.declared.request.Refusal.TheVariants.{Form};
-ghost use Rattle.run_words.specs.Words.{asked, block, pool, replay, run};
+ghost use Rattle.run_words.specs.Words.{asked, block, grow, pool, replay, run};
 ghost use Rattle.mvrlu_run.specs.Status.{closed_of, status_of};
 ghost use Rattle.mvrlu_run.specs.BlockOutcome.{IsBlocksComplete, IsBlocksPrinted};
+ghost use Rattle.mvrlu_run.specs.GrowOutcome.{IsGrowComplete, IsGrownPrinted};
 ghost use Rattle.mvrlu_run.specs.PoolOutcome.{IsPoolComplete, IsPoolPrinted};
 ghost use Rattle.mvrlu_run.specs.ReplayOutcome.{IsReplayComplete, IsReplayPrinted};
 ghost use Rattle.mvrlu_run.specs.Outcome.{outside, Cause, IsComplete, IsPrinted, NeverRead, Outcome, ReadsSets};
@@ -43,7 +44,7 @@ use step_replay::PlanKind;
 ///
 /// Scripts are run by one worker for each, script i as seat i of a domain of its own; the gate is called around each
 /// command. Scripts of blocks are run likewise, each block as one entry or one read, and the gate is called around each
-/// block. A pool does the commands of its one file, each on the seat that takes it next, and its lines have that seat
+/// block. So are scripts on a growing set, whose seats split a bucket behind each second add that replied yes. A pool does the commands of its one file, each on the seat that takes it next, and its lines have that seat
 /// and the command's number in the file. A plan is replayed on no thread and by no domain: its steps are made one after
 /// another, and the gate isn't called.
 pub fn run_program<R: Threads + Wait + Sync, F: Files, O: Sink, E: Sink, G: Gate>(
@@ -78,6 +79,12 @@ pub fn run_program<R: Threads + Wait + Sync, F: Files, O: Sink, E: Sink, G: Gate
         (names : List (List ℕ)) → asked (map string_bytes words.now) ≡ Ok (block names)
         → result.status ≡ 0 → IsBlocksPrinted names old new result.closed }
 
+    // What a growing set prints is the text of its domain's one history, which `closed` has.
+    ensures grown { let old = outside F.texts F.steady F.faults files.old O.written O.faults out.old in
+        let new = outside F.texts F.steady F.faults files.new O.written O.faults out.new in
+        (names : List (List ℕ)) → asked (map string_bytes words.now) ≡ Ok (grow names)
+        → result.status ≡ 0 → IsGrownPrinted names old new result.closed }
+
     // What a replay prints is the text of its file's plan, and nothing is left of a domain.
     ensures replayed { let old = outside F.texts F.steady F.faults files.old O.written O.faults out.old in
         let new = outside F.texts F.steady F.faults files.new O.written O.faults out.new in
@@ -102,6 +109,9 @@ pub fn run_program<R: Threads + Wait + Sync, F: Files, O: Sink, E: Sink, G: Gate
     ensures block_complete { let old = outside F.texts F.steady F.faults files.old O.written O.faults out.old in
         let new = outside F.texts F.steady F.faults files.new O.written O.faults out.new in
         IsBlocksComplete (map string_bytes words.now) old new result.status }
+    ensures grow_complete { let old = outside F.texts F.steady F.faults files.old O.written O.faults out.old in
+        let new = outside F.texts F.steady F.faults files.new O.written O.faults out.new in
+        IsGrowComplete (map string_bytes words.now) old new result.status }
     ensures replay_complete { let old = outside F.texts F.steady F.faults files.old O.written O.faults out.old in
         let new = outside F.texts F.steady F.faults files.new O.written O.faults out.new in
         IsReplayComplete (map string_bytes words.now) old new result.status }

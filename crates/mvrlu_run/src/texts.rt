@@ -3,16 +3,18 @@ ghost use Rattle.std.specs.Prelude.{◌≡◌, ◌≤◌, ◌<◌, All, IfOk, le
 ghost use Rattle.run_words.specs.Words.{FitOptions, IsFit, asks_of, run};
 ghost use Rattle.script_gen.specs.Script.{text_of_script};
 ghost use Rattle.script_workers.specs.Workers.{items_of};
+ghost use Rattle.mvrlu_run.specs.declared.scripts.Grammar.TheVariants.{Sets};
 ghost use Rattle.mvrlu_run.specs.Scripts.{AnyStop, NoneFails, commands as by_command};
 ghost use Rattle.mvrlu_run.specs.Told.{IsRunText, IsTextFor, IsWorkText, files_of, reading_of};
 
 use crate::blocking::make_blocks;
 use crate::finish::{Closed, Finish};
 use crate::generated::{WORK, four_scripts};
+use crate::growing::make_grown;
 use crate::pooling::make_pool;
 use crate::replaying::make_replay;
 use crate::running::{Told, run_sets};
-use crate::scripts::read_scripts;
+use crate::scripts::{Grammar, read_scripts};
 use mvrlu::Closing;
 use run_outside::{Files, Gate};
 use run_report::{render, summary};
@@ -64,6 +66,7 @@ pub fn make_text<R: Threads + Wait + Sync, F: Files, G: Gate>(
             seats,
             files: names,
         } => make_pool(rt, alloc, seats, names, files, gate),
+        Request::Grow { files: names } => make_grown(rt, alloc, names, files, gate),
         Request::Replay { files: names } => make_replay(alloc, names, files),
         Request::Work { number } => match work_text(rt, alloc, number, gate) {
             Ok((text, closing)) => Ok(Made {
@@ -88,10 +91,10 @@ fn make_run<R: Threads + Wait + Sync, F: Files, G: Gate>(
     requires some { 1 ≤ length names.now }
     requires few { length names.now ≤ 64 }
     ensures made { MatchResult result (λ made. IsTextFor (run options (map string_bytes names.now)) (F.texts files.old) made.closed made.text.items)
-        (λ finish. AnyStop finish by_command (F.texts files.old) (map string_bytes names.now) (F.faults files.old) (F.faults files.new)) }
+        (λ finish. AnyStop finish (by_command Sets) (F.texts files.old) (map string_bytes names.now) (F.faults files.old) (F.faults files.new)) }
     ensures steady { IfErr result (λ finish. NoneFails finish (F.steady files.old) (F.texts files.old) (map string_bytes names.now)) }
 {
-    let scripts = match read_scripts(alloc, files, names) {
+    let scripts = match read_scripts(alloc, files, names, Grammar::Sets) {
         Ok(scripts) => scripts,
         Err(finish) => return Err(finish),
     };

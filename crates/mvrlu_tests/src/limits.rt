@@ -6,9 +6,10 @@ use std::test::Fail;
 
 /// The line for words that are out of form.
 pub const USAGE: &[u8] =
-    b"usage: run [--objects N] [--slots N] [--base N] FILE... or gen NUMBER SEAT or work NUMBER or block FILE... or pool SEATS FILE or replay FILE\n";
+    b"usage: run [--objects N] [--slots N] [--base N] FILE... or gen NUMBER SEAT or work NUMBER \
+    or block FILE... or pool SEATS FILE or grow FILE... or replay FILE\n";
 
-const OUT_OF_FORM: [&[&str]; 24] = [
+const OUT_OF_FORM: [&[&str]; 27] = [
     &[],
     &["run"],
     &["walk", "a"],
@@ -33,6 +34,9 @@ const OUT_OF_FORM: [&[&str]; 24] = [
     &["block", "--objects", "200", "a"],
     &["block", "a", "-b"],
     &["block", "a", ""],
+    &["grow"],
+    &["grow", "--objects", "200", "a"],
+    &["grow", "a", "-b"],
 ];
 
 #[test]

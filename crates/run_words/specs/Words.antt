@@ -7,7 +7,7 @@ use Rattle.std.specs.Str.Parse.{digits_value}
 use Rattle.set_script.specs.Grammar.{◌>>=◌, is_numeral}
 use Rattle.run_words.specs.declared.request.Options.{Options}
 use Rattle.run_words.specs.declared.request.Request.{Request}
-use Rattle.run_words.specs.declared.request.Request.TheVariants.{Run, Gen, Work, Block, Pool, Replay}
+use Rattle.run_words.specs.declared.request.Request.TheVariants.{Run, Gen, Work, Block, Pool, Grow, Replay}
 use Rattle.run_words.specs.declared.request.Limit.{Limit}
 use Rattle.run_words.specs.declared.request.Limit.TheVariants as limits
 use Rattle.run_words.specs.declared.request.Refusal.{Refusal}
@@ -28,6 +28,8 @@ pub data Asks : Type 0 where
   block : List (List ℕ) → Asks
   -- to do the commands of the one file of these names on so many seats
   pool : ℕ → List (List ℕ) → Asks
+  -- to run the scripts of a growing set of the files of these names
+  grow : List (List ℕ) → Asks
   -- to replay the schedule of steps of the one file of these names
   replay : List (List ℕ) → Asks
 
@@ -131,10 +133,15 @@ work_asked (first ∷ []) = do
   Ok (work number)
 work_asked words = Err Form
 
+-- words that are the files of a run: the form comes first, then their number
+abbrev pub few_files : List (List ℕ) → Result (List (List ℕ)) Refusal
+few_files words = if are_files words then (if nat_le (length words) 64 then Ok words else Err (Beyond limits.Files)) else Err Form
+
 -- what the words behind `block` ask for
 abbrev pub block_asked : List (List ℕ) → Result Asks Refusal
-block_asked words =
-    if are_files words then (if nat_le (length words) 64 then Ok (block words) else Err (Beyond limits.Files)) else Err Form
+block_asked words = do
+  names ← few_files words
+  Ok (block names)
 
 -- a word that may be a FILE is in form
 abbrev pub one_file : List ℕ → Result (List (List ℕ)) Refusal
@@ -148,6 +155,12 @@ pool_asked (first ∷ second ∷ []) = do
   seats ← within limits.Seats 1 8 seats
   Ok (pool seats names)
 pool_asked words = Err Form
+
+-- what the words behind `grow` ask for
+abbrev pub grow_asked : List (List ℕ) → Result Asks Refusal
+grow_asked words = do
+  names ← few_files words
+  Ok (grow names)
 
 -- what the words behind `replay` ask for
 abbrev pub replay_asked : List (List ℕ) → Result Asks Refusal
@@ -165,8 +178,9 @@ asked (first ∷ words) =
     else (if bytes_eq first (codes "work") then work_asked words
     else (if bytes_eq first (codes "block") then block_asked words
     else (if bytes_eq first (codes "pool") then pool_asked words
+    else (if bytes_eq first (codes "grow") then grow_asked words
     else (if bytes_eq first (codes "replay") then replay_asked words
-    else Err Form)))))
+    else Err Form))))))
 
 -- what a request asks for
 abbrev pub asks_of : Request → Asks
@@ -175,6 +189,7 @@ asks_of (Gen number seat) = gen number seat
 asks_of (Work number) = work number
 asks_of (Block files) = block (map string_bytes files.now)
 asks_of (Pool seats files) = pool seats (map string_bytes files.now)
+asks_of (Grow files) = grow (map string_bytes files.now)
 asks_of (Replay files) = replay (map string_bytes files.now)
 
 -- The numbers of a run are in their ranges.
@@ -190,4 +205,5 @@ IsFit (Gen number seat) = seat < 4
 IsFit (Work number) = ⊤
 IsFit (Block files) = (1 ≤ length files.now) × (length files.now ≤ 64)
 IsFit (Pool seats files) = (1 ≤ seats) × (seats ≤ 8) × (length files.now ≡ 1)
+IsFit (Grow files) = (1 ≤ length files.now) × (length files.now ≤ 64)
 IsFit (Replay files) = length files.now ≡ 1

@@ -4,9 +4,9 @@
 //!
 //! The words are lists of bytes. A list of words asks to run the scripts of files, with three numbers; or for a
 //! generated script of a number and a seat; or to run the four generated scripts of a number; or to run the scripts of
-//! blocks of files; or to do the commands of one file on so many seats; or to replay the schedule of steps of one file. Every
-//! other list is out of form, or is in form with a number that is out of its range. `asked` of `specs/Words.antt` says
-//! which.
+//! blocks of files; or to do the commands of one file on so many seats; or to run scripts on a growing set; or to replay the
+//! schedule of steps of one file. Every other list is out of form, or is in form with a number that is out of its range.
+//! `asked` of `specs/Words.antt` says which.
 //!
 //! # Contract
 //!

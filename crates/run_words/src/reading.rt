@@ -1,7 +1,7 @@
 // Reading the words.
-ghost use Rattle.std.specs.Prelude.{◌≡◌, map, string_bytes, Ok, Err, IfOk, MatchResult};
+ghost use Rattle.std.specs.Prelude.{◌≡◌, ◌≤◌, length, map, string_bytes, Ok, Err, IfOk, MatchResult};
 ghost use Rattle.std.specs.List.{list_all};
-ghost use Rattle.run_words.specs.Words.{asked, asks_of, are_files, IsFit, is_file, block_asked, gen_asked, pool_asked, replay_asked, run_asked, work_asked};
+ghost use Rattle.run_words.specs.Words.{asked, asks_of, are_files, few_files, IsFit, is_file, block_asked, gen_asked, grow_asked, pool_asked, replay_asked, run_asked, work_asked};
 
 use crate::numbers::{read_number, within};
 use crate::options::read_options;
@@ -29,6 +29,7 @@ pub fn read_words(words: &[String]) -> Result<Request<'_>, Refusal>
         "work" => read_work(rest),
         "block" => read_block(rest),
         "pool" => read_pool(rest),
+        "grow" => read_grow(rest),
         "replay" => read_replay(rest),
         _ => Err(Refusal::Form),
     }
@@ -75,13 +76,33 @@ fn read_block(words: &[String]) -> Result<Request<'_>, Refusal>
         (λ refusal. block_asked (map string_bytes words.now) ≡ Err refusal) }
     ensures fit { IfOk result IsFit }
 {
+    let files = read_files(words)?;
+    Ok(Request::Block { files })
+}
+
+// What the words behind `grow` ask for.
+fn read_grow(words: &[String]) -> Result<Request<'_>, Refusal>
+    ensures asked { MatchResult result (λ request. grow_asked (map string_bytes words.now) ≡ Ok (asks_of request))
+        (λ refusal. grow_asked (map string_bytes words.now) ≡ Err refusal) }
+    ensures fit { IfOk result IsFit }
+{
+    let files = read_files(words)?;
+    Ok(Request::Grow { files })
+}
+
+// The words, where they may be the files of a run.
+fn read_files(words: &[String]) -> Result<&[String], Refusal>
+    ensures read { MatchResult result (λ files. few_files (map string_bytes words.now) ≡ Ok (map string_bytes files.now))
+        (λ refusal. few_files (map string_bytes words.now) ≡ Err refusal) }
+    ensures fit { IfOk result (λ files. (1 ≤ length files.now) × (length files.now ≤ 64)) }
+{
     if !are_files(words) {
         return Err(Refusal::Form);
     }
     if words.len() > MOST_FILES {
         return Err(Refusal::Beyond(Limit::Files));
     }
-    Ok(Request::Block { files: words })
+    Ok(words)
 }
 
 // What the words behind `pool` ask for.

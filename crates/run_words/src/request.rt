@@ -37,6 +37,10 @@ pub enum Request<'w> {
         seats: u32,
         files: &'w [String],
     },
+    /// To run the scripts of a growing set of these files, file number i as seat i.
+    Grow {
+        files: &'w [String],
+    },
     /// To replay the schedule of steps of this one file.
     Replay {
         files: &'w [String],

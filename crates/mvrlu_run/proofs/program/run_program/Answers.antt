@@ -1,6 +1,7 @@
 use Rattle.mvrlu_run.specs.declared.finish.Ran.{Ran}
 use Rattle.mvrlu_run.proofs.BlockComplete.{is_blocks_complete, is_blocks_printed}
 use Rattle.mvrlu_run.proofs.Complete.{is_complete, is_printed, reads_sets}
+use Rattle.mvrlu_run.proofs.GrowComplete.{is_grow_complete, is_grown_printed}
 use Rattle.mvrlu_run.proofs.PoolComplete.{is_pool_complete, is_pool_printed}
 use Rattle.mvrlu_run.proofs.ReplayComplete.{is_replay_complete, is_replay_printed}
 use Rattle.mvrlu_run.proofs.program.run_program.Goals as goal
@@ -15,6 +16,17 @@ returns-clause-blocked g c =
 pub returns-clause-block_complete : goal.returns-clause-block_complete
 returns-clause-block_complete g c =
     is_blocks_complete _ _ _ c.carry_out-finish.result c.status-status.result c.status-status.ensures c.carry_out-finish.ensures.cause
+
+pub returns-clause-grown : goal.returns-clause-grown
+returns-clause-grown g c =
+    let cause = c.carry_out-finish.ensures.cause in
+    let closed = c.into_closed.ensures in
+    let ran : Ran = record { status = c.status-status.result; closed = c.into_closed.result } in
+    λ names a nought. is_grown_printed _ _ _ c.carry_out-finish.result ran names c.status-status.ensures closed cause a nought
+
+pub returns-clause-grow_complete : goal.returns-clause-grow_complete
+returns-clause-grow_complete g c =
+    is_grow_complete _ _ _ c.carry_out-finish.result c.status-status.result c.status-status.ensures c.carry_out-finish.ensures.cause
 
 pub returns-clause-pooled : goal.returns-clause-pooled
 returns-clause-pooled g c =

@@ -3,9 +3,8 @@ use Rattle.std.specs.declared.alloc.Global.{Global}
 use Rattle.std.proofs.lemmas.Grind.{common_steps}
 use Rattle.std.proofs.lemmas.List.Elements.{All-push}
 use Rattle.set_script.specs.declared.commands.Command.{Command}
-use Rattle.set_script.specs.Grammar.{parsed}
 use Rattle.script_workers.specs.Workers.{items_of}
-use Rattle.mvrlu_run.specs.Scripts.{commands}
+use Rattle.mvrlu_run.specs.Scripts.{AreOf, commands, parsed_by}
 use Rattle.mvrlu_run.proofs.Many.{any_from_one, more_scripts, named_at, none_fails}
 use Rattle.mvrlu_run.proofs.scripts.read_each.Goals as goal
 
@@ -15,7 +14,7 @@ loop-name-preserved g c =
     let says = rw (i.texts, c.as_str.ensures.value) at c.in-Ok-read_script.ensures.stop in
     record {
       scripts = rw c.push_reserved.ensures.items
-          (more_scripts parsed items_of (g.F.Files.texts c.args.files.now) c.args.names.now c.loop-name.name-index c.name-item.result
+          (more_scripts (parsed_by c.args.grammar) items_of (g.F.Files.texts c.args.files.now) c.args.names.now c.loop-name.name-index c.name-item.result
           c.loop-name.scripts.items c.in-Ok-read_script.script c.loop-name-test.true c.name-item.is i.scripts says);
       place = omega arith;
       spare = rw c.push_reserved.ensures.capacity i.spare;
@@ -23,6 +22,9 @@ loop-name-preserved g c =
       short = rw c.push_reserved.ensures.items
           (All-push (λ (script : Vec Command Global). length script.items ≤ 65536) c.loop-name.scripts.items c.in-Ok-read_script.script i.short
           c.in-Ok-read_script.ensures.short);
+      fit = rw c.push_reserved.ensures.items
+          (All-push (λ (script : Vec Command Global). AreOf c.args.grammar script.items) c.loop-name.scripts.items c.in-Ok-read_script.script i.fit
+          c.in-Ok-read_script.ensures.fit);
       room = c.read_script.auto.buffer ∙ i.room;
       texts = c.read_script.ensures.texts ∙ i.texts;
       steady = c.read_script.ensures.still ∙ i.steady;
@@ -33,7 +35,7 @@ pub returns-in-Err-clause-stop : goal.returns-in-Err-clause-stop
 returns-in-Err-clause-stop g c =
     let i = c.loop-name.invariant in
     let stop = rw (i.texts, i.place, c.as_str.ensures.value) at c.in-Err.ensures.stop in
-    any_from_one c.in-Err.finish commands _ _ c.loop-name.name-index _ _ (g.F.Files.faults c.args.files.now) (g.F.Files.faults c.loop-name.files) _
+    any_from_one c.in-Err.finish (commands c.args.grammar) _ _ c.loop-name.name-index _ _ (g.F.Files.faults c.args.files.now) (g.F.Files.faults c.loop-name.files) _
     (named_at c.args.names.now c.loop-name.name-index c.name-item.result c.loop-name-test.true c.name-item.is) i.scripts i.later stop
 
 pub returns-in-Err-clause-steady : goal.returns-in-Err-clause-steady

@@ -1,0 +1,182 @@
+// The run of scripts on a growing set over a domain of its own.
+ghost use Rattle.std.specs.Prelude.{◌≡◌, ◌≤◌, ◌+◌, All, IfErr, IfOk, MatchResult, length, map, replicate, string_bytes};
+ghost use Rattle.grow_hash.specs.GrowPlans.{IsOfGrown};
+ghost use Rattle.grow_hash.specs.Grown.{IsGrown};
+ghost use Rattle.grow_hash.specs.Tables.{buckets};
+ghost use Rattle.set_script.specs.Objects.{no_words};
+ghost use Rattle.script_workers.specs.Workers.{items_of};
+ghost use Rattle.mvrlu.specs.Opened.{IsOpened};
+ghost use Rattle.run_report.specs.Order.{IsOrdered};
+ghost use Rattle.run_words.specs.Words.{FitOptions, grow};
+ghost use Rattle.mvrlu_run.specs.GrownRuns.{IsGrownRunOf, IsGrownText};
+ghost use Rattle.mvrlu_run.specs.declared.scripts.Grammar.TheVariants as grammars;
+ghost use Rattle.mvrlu_run.specs.Scripts.{AnyStop, NoneFails, commands as by_command};
+ghost use Rattle.mvrlu_run.specs.Told.{IsTextFor, config_of};
+
+use crate::finish::{Closed, Finish};
+use crate::running::{config, zeros};
+use crate::scripts::{Grammar, read_scripts};
+use crate::texts::Made;
+use grow_domain::run_grow_domain;
+use grow_hash::{GrowRules, read_grown, table_of};
+use grow_report::{order_grown, render_grown};
+use mv_history::{LogTable, View};
+use mvrlu::{Closing, Domain, OpenFault, Seat, open};
+use run_outside::{Files, Gate};
+use run_report::Line;
+use run_words::Options;
+use set_script::{Catalogue, Command};
+use std::alloc::{AllocError, Global};
+use std::sync::Wait;
+use std::thread::Threads;
+
+// The numbers of the domain of a run on a growing set.
+const GROW: Options = Options {
+    objects: 4096,
+    slots: 1024,
+    base: 0,
+};
+
+// How many objects a split may hold.
+const WRITE_MAX: u32 = 64;
+
+// How many buckets a growing set begins with.
+const FIRST_BUCKETS: u32 = 16;
+
+// What a run on a growing set gives, as a run of scripts does, and how many splits its history has.
+#[derive(Drop)]
+struct ToldGrown {
+    closing: Closing<GrowRules>,
+    lines: Vec<Line>,
+    end: Catalogue,
+    splits: u32,
+    tables: Vec<LogTable>,
+}
+
+/// Reads the scripts of a growing set of these files, runs them, and makes the text. An error is why there is none: a file
+/// has no such script, or there is no memory.
+pub fn make_grown<R: Threads + Wait + Sync, F: Files, G: Gate>(
+    rt: &R,
+    alloc: Global,
+    names: &[String],
+    files: &mut F,
+    gate: &G,
+) -> Result<Made, Finish>
+    requires some { 1 ≤ length names.now }
+    requires few { length names.now ≤ 64 }
+    ensures made { MatchResult result (λ made. IsTextFor (grow (map string_bytes names.now)) (F.texts files.old) made.closed made.text.items)
+        (λ finish. AnyStop finish (by_command grammars.Growing) (F.texts files.old) (map string_bytes names.now) (F.faults files.old) (F.faults files.new)) }
+    ensures steady { IfErr result (λ finish. NoneFails finish (F.steady files.old) (F.texts files.old) (map string_bytes names.now)) }
+{
+    let scripts = match read_scripts(alloc, files, names, Grammar::Growing) {
+        Ok(scripts) => scripts,
+        Err(finish) => return Err(finish),
+    };
+    match grown_text(rt, alloc, &scripts, gate) {
+        Ok((text, closing)) => Ok(Made {
+            text,
+            closed: Closed::Grown(closing),
+        }),
+        Err(AllocError) => Err(Finish::Memory),
+    }
+}
+
+// The text of a run of these scripts.
+fn grown_text<R: Threads + Wait + Sync, G: Gate>(
+    rt: &R,
+    alloc: Global,
+    scripts: &[Vec<Command>],
+    gate: &G,
+) -> Result<(Vec<u8>, Closing<GrowRules>), AllocError>
+    requires some { 1 ≤ length scripts.now }
+    requires few { length scripts.now ≤ 64 }
+    requires short { All (λ script. length script.items ≤ 65536) scripts.now }
+    requires growing { All (λ script. All IsOfGrown script.items) scripts.now }
+    ensures { IfOk result (λ r. IsGrownText (map items_of scripts.now) r.1 r.0.items) }
+{
+    let ToldGrown {
+        closing,
+        lines,
+        end,
+        splits,
+        tables,
+    } = run_grown_set(rt, alloc, GROW, scripts, gate)?;
+    let text = render_grown(alloc, &lines, &end, splits, &tables)?;
+    Ok((text, closing))
+}
+
+// Runs the scripts over a domain of these numbers, script i as seat i. The gate is called around each command. The error is
+// want of memory.
+fn run_grown_set<R: Threads + Wait + Sync, G: Gate>(
+    rt: &R,
+    alloc: Global,
+    options: Options,
+    scripts: &[Vec<Command>],
+    gate: &G,
+) -> Result<ToldGrown, AllocError>
+    requires fit { FitOptions options }
+    requires objects { 1026 ≤ options.objects }
+    requires slots { options.slots ≡ 1024 }
+    requires some { 1 ≤ length scripts.now }
+    requires few { length scripts.now ≤ 64 }
+    requires short { All (λ script. length script.items ≤ 65536) scripts.now }
+    requires growing { All (λ script. All IsOfGrown script.items) scripts.now }
+    ensures ran { IfOk result (λ told.
+        IsGrownRunOf options (map items_of scripts.now) told.closing told.lines.items told.end told.splits told.tables.items) }
+    ensures ordered { IfOk result (λ told. IsOrdered told.lines.items) }
+    ensures few { IfOk result (λ told. told.splits ≤ 1008) }
+{
+    let (domain, seats) = open_grown(alloc, options, scripts.len() as u32)?;
+    let (mut closing, mut lines, tables) = match run_grow_domain(
+        rt, alloc, domain, seats, scripts, gate,
+    ) {
+        Ok(ran) => ran,
+        Err((domain, seats, error)) => {
+            // Seats can't be let go, so they meet.
+            let _ = domain.meet(seats);
+            return Err(error);
+        }
+    };
+    order_grown(&mut lines);
+    let splits = count_splits(&mut closing);
+    let end = read_grown(alloc, &mut closing)?;
+    Ok(ToldGrown {
+        closing,
+        lines,
+        end,
+        splits,
+        tables,
+    })
+}
+
+// How many splits a growing set has had: one for each bucket but those that it began with.
+fn count_splits<V: View>(view: &mut V) -> u32
+    requires lawful { IsGrown (V.state view.old) }
+    ensures splits { FIRST_BUCKETS + result ≡ buckets (V.state view.old) }
+    ensures as_before { V.as_before view.old view.new }
+{
+    let (level, place) = table_of(view);
+    (FIRST_BUCKETS << level) + place - FIRST_BUCKETS
+}
+
+// Opens a domain of a growing set of these numbers, with so many seats and objects that are all zero. The error is want of
+// memory.
+fn open_grown(
+    alloc: Global,
+    options: Options,
+    seats: u32,
+) -> Result<(Domain<GrowRules>, Vec<Seat<GrowRules>>), AllocError>
+    requires fit { FitOptions options }
+    requires objects { 1026 ≤ options.objects }
+    requires slots { options.slots ≡ 1024 }
+    requires some { 1 ≤ seats }
+    requires few { seats ≤ 64 }
+    ensures { IfOk result (λ r. IsOpened (config_of options 64 seats) (replicate options.objects no_words) r.0 r.1.items) }
+{
+    let start = zeros(alloc, options.objects as usize)?;
+    match open(alloc, config(options, WRITE_MAX, seats), &start) {
+        Ok(opened) => Ok(opened),
+        Err(OpenFault::Memory) => Err(AllocError),
+        Err(OpenFault::Config(_)) => unreachable!(),
+    }
+}

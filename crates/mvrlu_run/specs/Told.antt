@@ -1,5 +1,6 @@
 -- The texts that words ask for, and what is left of the domain that was run for them.
 use Rattle.std.specs.Prelude.{◌≡◌, ℕ, ◌/◌, ◌-◌, List, [], ◌∷◌, Option, replicate}
+use Rattle.generated_runs.specs.OneAfterAnother.{NoneIsWorn, one_after_another, scripts_of, text_of_tally}
 use Rattle.grow_hash.specs.declared.rules.GrowRules.{GrowRules}
 use Rattle.grow_script.specs.GrowGrammar.{parsed_grow}
 use Rattle.mv_history.specs.declared.answers.LogTable.{LogTable}
@@ -15,7 +16,7 @@ use Rattle.run_report.specs.Whole.{RunOf}
 use Rattle.run_words.specs.declared.request.Options.{Options}
 use Rattle.run_words.specs.Words.{Asks, run, gen, work, block, pool, grow, replay}
 use Rattle.script_domain.specs.Joined.{past_of_whole}
-use Rattle.script_gen.specs.Script.{script, text_of_script}
+use Rattle.script_gen.specs.Script.{text_of_script}
 use Rattle.set_blocks.specs.BlockGrammar.{parsed_blocks}
 use Rattle.set_blocks.specs.declared.rules.BlockRules.{BlockRules}
 use Rattle.set_script.specs.Grammar.{parsed}
@@ -54,17 +55,19 @@ pub record IsRunText (options : Options) (scripts : List (List Command)) (closin
 abbrev pub work_options : Options
 work_options = record { objects = 16384; slots = 1024; base = 0 }
 
--- the four generated scripts of a number
-abbrev pub work_scripts : ℕ → List (List Command)
-work_scripts number = script number 0 ∷ script number 1 ∷ script number 2 ∷ script number 3 ∷ []
+-- the nodes that such a run has for keys
+abbrev pub work_room : ℕ
+work_room = 16204
 
--- The summary of a run of the four generated scripts of a number.
+-- The summary of a run of the four generated scripts of a number. Where no reply is worn, it is the summary of these scripts
+-- replayed one after another, and so a function of the number alone.
 pub record IsWorkText (number : ℕ) (closing : Closing SetRules) (text : List ℕ) : Type 0 where
   pub lines : List Line
   pub end : Maps
   pub tables : List LogTable
-  pub ran : IsRunOf work_options (work_scripts number) closing lines end tables
+  pub ran : IsRunOf work_options (scripts_of number) closing lines end tables
   pub is : text ≡ summary number lines end
+  pub replayed : NoneIsWorn lines → text ≡ text_of_tally number (one_after_another work_room (scripts_of number))
 
 -- the text is one that the words ask for, and this is left of the domain that was run for it
 abbrev pub IsTextFor : Asks → Option Texts → Closed → List ℕ → Type 0

@@ -20,7 +20,7 @@ pub record Tally : Type 0 where
 abbrev pub one_if : Bool → ℕ
 one_if b = if b then 1 else 0
 
--- one command more
+-- one command more, at a place before the last time
 abbrev pub counted : ℕ → Command → Tally → Tally
 counted capacity command t = record {
   maps = next command t.maps capacity false;

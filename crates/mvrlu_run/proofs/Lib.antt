@@ -2,6 +2,7 @@ pub mod Parts
 pub mod Many
 pub mod Opened
 pub mod Still
+pub mod WorkTexts
 pub mod Refused
 pub mod Complete
 pub mod Four

@@ -15,6 +15,8 @@ mod faults;
 #[cfg(test)]
 mod gates;
 #[cfg(test)]
+mod grown;
+#[cfg(test)]
 mod limits;
 #[cfg(test)]
 mod pools;

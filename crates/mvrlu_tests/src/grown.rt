@@ -50,7 +50,10 @@ const BROKEN: [Refused; 7] = [
     (b"add h0 x\n", b"script 0 line 1: bad key\n"),
     (b"move h0 h1 1\n", b"script 0 line 1: unknown command\n"),
     (b"put h0 1 2\n", b"script 0 line 1: unknown command\n"),
-    (b"format 2\nadd h0 1\n", b"script 0 line 1: unknown format\n"),
+    (
+        b"format 2\nadd h0 1\n",
+        b"script 0 line 1: unknown format\n",
+    ),
 ];
 
 #[test]

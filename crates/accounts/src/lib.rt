@@ -37,8 +37,6 @@
 mod attempt;
 mod reading;
 mod rules;
-#[cfg(test)]
-mod tests;
 mod workers;
 
 pub use attempt::{Attempt, Refusal, transfer};

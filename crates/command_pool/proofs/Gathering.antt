@@ -1,5 +1,6 @@
 -- What all workers took, put together: each number of a command, once.
-use Rattle.std.proofs.Common.{◌≡◌, ◌≢◌, ℕ, zero, suc, ◌+◌, ◌<◌, ◌≤◌, ◌==◌, Bool, cond, leb, List, [], ◌∷◌, ◌++◌, length, map, All, inl, inr, refl, ap, ◌∙◌, arith, eq-eqb, ne_eqb}
+use Rattle.std.proofs.Common.{◌≡◌, ◌≢◌, ℕ, zero, suc, ◌+◌, ◌<◌, ◌≤◌, ◌==◌, Bool, cond, leb, List, [], ◌∷◌, ◌++◌, length, map, All, inl, inr, refl, ap}
+use Rattle.std.proofs.Common.{◌∙◌, arith, eq-eqb, ne_eqb}
 use Rattle.std.proofs.lemmas.Bool.{cases_lt}
 use Rattle.std.proofs.lemmas.Bool.Decides.{nat_tests}
 use Rattle.std.proofs.lemmas.List.{map-append, length_push, length-map}

@@ -1,6 +1,6 @@
 //! Worked cases of a domain, over the public calls of `mvrlu` alone: opening one, with each fault of its
 //! numbers; sections of its seats, what holds their logs, and their meeting, by schedules; and that its
-//! seats, handles and sections may go to threads.
+//! seats, handles and sections may go to threads. The accounts of `accounts` run here too, over a plain store.
 //!
 //! **The model.** A schedule is a value: its name, the numbers of a domain, its turns, each with the number
 //! of a seat, its move, and the answer that is wanted, and the closing that is wanted. An interpreter plays
@@ -11,6 +11,8 @@
 //! What the calls answer is compared at run time: `played` answers what was first otherwise.
 #![tactic(auto)]
 
+#[cfg(test)]
+mod accounts_alone;
 mod clients;
 #[cfg(test)]
 mod log_rows;

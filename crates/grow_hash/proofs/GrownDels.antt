@@ -109,7 +109,8 @@ module _ (s : State) (b k p n : ℕ) (l : IsGrown s) (in_buckets : b < 1024) (pl
   nodes o ho some (inl e) =
       let own : owner s o ≢ 0 = λ z. some (owner_now o (left o some) ∙ z) in
       node_is after (words_at after o) (bucket s (key s o)) (key s o) (value s o) (link s n)
-      (ap (words_at after) e ∙ done.before ∙ ap (λ w. relink w (link s n)) (ap (words_at s) (sym e) ∙ l.nodes o ho own)) (bucket_kept s after (key s o) del_table)
+      (ap (words_at after) e ∙ done.before ∙ ap (λ w. relink w (link s n)) (ap (words_at s) (sym e) ∙ l.nodes o ho own))
+      (bucket_kept s after (key s o) del_table)
   nodes o ho some (inr np) =
       let own : owner s o ≢ 0 = λ z. some (owner_now o (left o some) ∙ z) in
       node_is after (words_at after o) (bucket s (key s o)) (key s o) (value s o) (link s o)

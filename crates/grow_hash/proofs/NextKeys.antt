@@ -1,5 +1,6 @@
 -- The least key of the set that is not below one, bucket by bucket.
-use Rattle.std.proofs.Common.{◌≡◌, ◌≢◌, ℕ, ◌+◌, ◌<◌, ◌≤◌, inl, inr, Bool, true, cond, eqb, ne_eqb, eq-eqb, refl, sym, ap, ◌∙◌, subst, arith, Option, Some, None, min, List}
+use Rattle.std.proofs.Common.{◌≡◌, ◌≢◌, ℕ, ◌+◌, ◌<◌, ◌≤◌, inl, inr, Bool, true, cond, eqb, ne_eqb, eq-eqb, refl, sym, ap, ◌∙◌, subst, arith, Option}
+use Rattle.std.proofs.Common.{Some, None, min, List}
 use Rattle.std.specs.Prelude.{MatchOption}
 use Rattle.std.proofs.lemmas.Bool.{cases_lt}
 use Rattle.mv_history.specs.State.{State}

@@ -83,7 +83,8 @@ module _ (s : State) (l : IsGrown s) where
   first_more b = tally-add (in_first b) (is_key_at (head_at b)) (in_first (suc b)) (drop 180 s) (λ i lt.
       subst (λ w. cond {A = ℕ} (in_first (suc b) w) 1 0 ≡ cond (in_first b w) 1 0 + cond (is_key_at (head_at b) w) 1 0) (sym (node_at s i)) (each (180 + i)))
     where
-      each : (o : ℕ) → cond {A = ℕ} (in_first (suc b) (words_at s o)) 1 0 ≡ cond (in_first b (words_at s o)) 1 0 + cond (is_key_at (head_at b) (words_at s o)) 1 0
+      each : (o : ℕ) → cond {A = ℕ} (in_first (suc b) (words_at s o)) 1 0
+          ≡ cond (in_first b (words_at s o)) 1 0 + cond (is_key_at (head_at b) (words_at s o)) 1 0
       each o = elim (cases_eq (owner s o) 0) [
         | inl z ↦ grind (arith, nat_tests)
         | inr n ↦ (let k = (node_known o n).0 in grind (arith, nat_tests))

@@ -36,6 +36,3 @@ mod text;
 
 pub use line::order_grown;
 pub use text::render_grown;
-
-#[cfg(test)]
-mod tests;

@@ -20,8 +20,6 @@
 #![tactic(auto)]
 
 mod line;
-#[cfg(test)]
-mod tests;
 
 ghost use Rattle.std.specs.Prelude.{◌≡◌, ◌-◌, ◌≤◌, ◌<◌, ◌^◌, ◌||◌, true, All, IfOk, MatchResult, length};
 ghost use Rattle.set_script.specs.Grammar.{with_reading, words_of, Refuses};

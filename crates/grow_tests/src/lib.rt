@@ -1,6 +1,7 @@
-//! Worked cases of a growing hash set over a domain, over the public calls of `grow_hash` alone.
+//! Worked cases of a growing hash set: over a domain by the public calls of `grow_hash` alone; its scripts as they are read,
+//! and the order and the text of its runs.
 //!
-//! They stand in a crate of their own, over a domain, since a section of the plain store holds 16 objects at most, and the
+//! The cases over a domain stand in a crate of their own since a section of the plain store holds 16 objects at most, and the
 //! split of a bucket of 61 keys holds 64. What they show beside the contracts: that commands and splits are done where
 //! nobody is in the way, so that bodies that always answer `Again` or want of memory fail them; and the replies, places and
 //! tables that the definitions come to in small cases, reckoned by hand.
@@ -14,6 +15,10 @@ mod alone;
 #[cfg(test)]
 mod opening;
 #[cfg(test)]
+mod reports;
+#[cfg(test)]
 mod rows;
+#[cfg(test)]
+mod scripts;
 #[cfg(test)]
 mod steps;

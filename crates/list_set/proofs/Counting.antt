@@ -146,7 +146,8 @@ module _ (s : State) (head : ℕ) (l : IsLinked s head) where
       ∙ tally-same (is_passed head (2 ^ 32)) (is_key_at head) (drop 180 s) (λ i lt. each i (is_key_at head (words_at (drop 180 s) i)) refl) in
       c.count ∙ all ∙ sym keys_counted
     where
-      each : (i : ℕ) (b : Bool) → is_key_at head (words_at (drop 180 s) i) ≡ b → is_passed head (2 ^ 32) (words_at (drop 180 s) i) ≡ is_key_at head (words_at (drop 180 s) i)
+      each : (i : ℕ) (b : Bool) → is_key_at head (words_at (drop 180 s) i) ≡ b
+          → is_passed head (2 ^ 32) (words_at (drop 180 s) i) ≡ is_key_at head (words_at (drop 180 s) i)
       each i false e = ap (λ b. b && nat_lt (word 2 (words_at (drop 180 s) i)) (2 ^ 32)) e ∙ sym e
       each i true e =
           let own : IsNodeOf s head (180 + i) =

@@ -60,8 +60,6 @@ mod plain_section;
 mod rules;
 mod section;
 mod store;
-#[cfg(test)]
-mod tests;
 mod trail;
 mod view;
 

@@ -36,8 +36,6 @@ mod config;
 mod packing;
 mod places;
 mod slots;
-#[cfg(test)]
-mod tests;
 
 pub use cells::{
     CLOCK_CELL, DATA_OFFSET, FIRST_OFFSET, GRACE_CELL, PREV_OFFSET, STAMP_OFFSET, SUPER_OFFSET,

@@ -26,7 +26,8 @@ module _ (words : List (List ℕ)) (old new : Outside) where
     does (Limit limit) scripts c all files out = absurd c.1
     does (Script script line kind) scripts c all files out =
         let refused = IsRefused parsed_grow line kind in
-        absurd (no_stop parsed_grow old.texts names scripts script c.1.reaches.name refused is all c.1.reaches.named c.1.says (fault_spoils parsed_grow line kind))
+        absurd (no_stop parsed_grow old.texts names scripts script c.1.reaches.name refused is all
+        c.1.reaches.named c.1.says (fault_spoils parsed_grow line kind))
     does (BlockScript script line kind) scripts c all files out = absurd c.1
     does (Plan script line kind) scripts c all files out = absurd c.1
     does (Bytes script) scripts c all files out =
@@ -46,7 +47,8 @@ module _ (words : List (List ℕ)) (old new : Outside) where
     stops Usage place P status c stop spoils fault long files = absurd c.1
     stops (Limit limit) place P status c stop spoils fault long files = absurd c.1
     stops (Script script line kind) place P status c stop spoils fault long files =
-        let both = one_stop parsed_grow old.texts names script place (IsRefused parsed_grow line kind) P is c.1 stop (fault_spoils parsed_grow line kind) spoils in
+        let both = one_stop parsed_grow old.texts names script place (IsRefused parsed_grow line kind)
+        P is c.1 stop (fault_spoils parsed_grow line kind) spoils in
         inl (fault both.0 line kind both.1 both.2)
     stops (BlockScript script line kind) place P status c stop spoils fault long files = absurd c.1
     stops (Plan script line kind) place P status c stop spoils fault long files = absurd c.1

@@ -44,9 +44,10 @@ use step_replay::PlanKind;
 ///
 /// Scripts are run by one worker for each, script i as seat i of a domain of its own; the gate is called around each
 /// command. Scripts of blocks are run likewise, each block as one entry or one read, and the gate is called around each
-/// block. So are scripts on a growing set, whose seats split a bucket behind each second add that replied yes. A pool does the commands of its one file, each on the seat that takes it next, and its lines have that seat
-/// and the command's number in the file. A plan is replayed on no thread and by no domain: its steps are made one after
-/// another, and the gate isn't called.
+/// block. So are scripts on a growing set, whose seats split a bucket behind each second add that replied yes. A pool
+/// does the commands of its one file, each on the seat that takes it next, and its lines have that seat and the
+/// command's number in the file. A plan is replayed on no thread and by no domain: its steps are made one after another,
+/// and the gate isn't called.
 pub fn run_program<R: Threads + Wait + Sync, F: Files, O: Sink, E: Sink, G: Gate>(
     rt: &R,
     alloc: Global,

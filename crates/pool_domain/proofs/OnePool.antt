@@ -119,7 +119,8 @@ module _ {P : Type 0} {rules : _} (d : Domain P) where
         opening = run.opening;
         allowed = run.allowed;
         last = refl;
-        seats_are = All-weaker (IsOneOf 0 (length olds)) (λ line. line.seat < length olds) (λ line one. omega (arith, one.1)) lines (all_seats p commands 0 (length olds) collected shares);
+        seats_are = All-weaker (IsOneOf 0 (length olds)) (λ line. line.seat < length olds) (λ line one. omega (arith, one.1))
+            lines (all_seats p commands 0 (length olds) collected shares);
         stand = stand;
         follow = all_follow p commands 0 (length olds) collected shares;
         one_line = λ i c there. same_commits (p.base + suc i) olds news commands collected ran.each ∙ run.one_line i c there;

@@ -30,7 +30,8 @@ pub lines_as_script : (commands : List Command) (taken : List Collected) (script
 lines_as_script commands taken script are = lines_length 1 taken ∙ sym (taken_length commands 0 taken script are)
 
 -- the scripts of the seats, and their lines
-abbrev pub scripts_of : (olds news : List Seat) (commands : List Command) (collected : List Collected) → EachTook olds news commands collected → List (List Command)
+abbrev pub scripts_of : (olds news : List Seat) (commands : List Command) (collected : List Collected)
+    → EachTook olds news commands collected → List (List Command)
 scripts_of [] [] commands collected h = []
 scripts_of [] (n ∷ ns) commands collected h = absurd h
 scripts_of (o ∷ os) [] commands collected h = absurd h

@@ -31,7 +31,8 @@ AreShares p commands seat (suc count) collected =
     × LinesOf p seat 1 p.base script (lines_from 1 taken) (commits_of seat p.entries) × AreShares p commands (suc seat) count others
 
 -- what each took, where its script was worked off
-pub are_shares : (p : Past) (seat : ℕ) (olds news : List Seat) (commands : List Command) (collected : List Collected) (h : EachTook olds news commands collected)
+pub are_shares : (p : Past) (seat : ℕ) (olds news : List Seat) (commands : List Command) (collected : List Collected)
+    (h : EachTook olds news commands collected)
     → AllWorked p seat (scripts_of olds news commands collected h) (script_lines olds news commands collected h)
     → AreShares p commands seat (length olds) collected
 are_shares p seat [] [] commands collected h worked = h
@@ -87,7 +88,8 @@ module _ (p : Past) (commands : List Command) where
       (λ same below. absurd (omega (arith, below)))
       (All-weaker (λ line. Follows (time_of c.place) line.place) (IsInTime (line_of c)) (λ line f same below. f) (map line_of taken)
       (seat_follows seat (suc number) (time_of c.place) c.number taken script h.1 are.2 h.4))
-      (All-weaker (IsAbove seat c.number) (λ line. IsInTime line (line_of c)) (λ line above same below. absurd (omega (arith, above.1, below))) (map line_of taken)
+      (All-weaker (IsAbove seat c.number) (λ line. IsInTime line (line_of c)) (λ line above same below. absurd (omega (arith, above.1, below)))
+      (map line_of taken)
       (seat_above seat (suc number) (time_of c.place) c.number taken script h.1 are.2 h.4))
       (seat_in_time seat (suc number) (time_of c.place) c.number taken script h.1 are.2 h.4)
 
@@ -147,7 +149,8 @@ module _ (p : Past) (commands : List Command) where
       (seat_in_time seat 1 p.base 0 h.0 h.2 (commits_of seat p.entries) h.4 h.5)
       (all_in_time (suc seat) count h.1 h.6)
       (All-weaker (IsAbove seat 0) (λ a. All (IsInTime a) (map line_of h.1))
-      (λ a of_a. All-weaker (IsOneOf (suc seat) count) (IsInTime a) (λ b of_b same below. absurd (omega (arith, of_a.0, of_b.0, same))) (map line_of h.1) others)
+      (λ a of_a. All-weaker (IsOneOf (suc seat) count) (IsInTime a)
+      (λ b of_b same below. absurd (omega (arith, of_a.0, of_b.0, same))) (map line_of h.1) others)
       (map line_of h.0) own)
       (All-weaker (IsOneOf (suc seat) count) (λ b. All (IsInTime b) (map line_of h.0))
       (λ b of_b. All-weaker (IsAbove seat 0) (IsInTime b) (λ a of_a same below. absurd (omega (arith, of_a.0, of_b.0, same))) (map line_of h.0) own)

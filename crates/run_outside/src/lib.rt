@@ -27,8 +27,6 @@ mod gate;
 mod memory;
 mod outside;
 mod real;
-#[cfg(test)]
-mod tests;
 
 pub use gate::{Gate, OpenGate};
 pub use memory::{MemFiles, MemSink, MemText};

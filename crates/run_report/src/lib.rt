@@ -40,6 +40,3 @@ mod text;
 pub use counts::summary;
 pub use line::{Line, order};
 pub use text::render;
-
-#[cfg(test)]
-mod tests;

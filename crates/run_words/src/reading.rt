@@ -1,7 +1,8 @@
 // Reading the words.
 ghost use Rattle.std.specs.Prelude.{◌≡◌, ◌≤◌, length, map, string_bytes, Ok, Err, IfOk, MatchResult};
 ghost use Rattle.std.specs.List.{list_all};
-ghost use Rattle.run_words.specs.Words.{asked, asks_of, are_files, few_files, IsFit, is_file, block_asked, gen_asked, grow_asked, pool_asked, replay_asked, run_asked, work_asked};
+ghost use Rattle.run_words.specs.Words.{asked, asks_of, are_files, few_files, IsFit, is_file, block_asked, gen_asked, grow_asked, pool_asked};
+ghost use Rattle.run_words.specs.Words.{replay_asked, run_asked, work_asked};
 
 use crate::numbers::{read_number, within};
 use crate::options::read_options;

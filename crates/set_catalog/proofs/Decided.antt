@@ -1,5 +1,6 @@
 -- What each command comes to that may change something, by where its searches ended.
-use Rattle.std.proofs.Common.{◌≡◌, ◌≢◌, ℕ, ◌^◌, ◌+◌, ◌-◌, ◌<◌, ◌≤◌, ◌⊎◌, inl, inr, Bool, true, false, not, ◌&&◌, ◌==◌, eq-eqb, ne_eqb, if◌then◌else◌, length, Some, None, refl, sym, ap, ◌∙◌, subst, arith, true≢false}
+use Rattle.std.proofs.Common.{◌≡◌, ◌≢◌, ℕ, ◌^◌, ◌+◌, ◌-◌, ◌<◌, ◌≤◌, ◌⊎◌, inl, inr, Bool, true, false, not, ◌&&◌, ◌==◌, eq-eqb, ne_eqb, if◌then◌else◌}
+use Rattle.std.proofs.Common.{length, Some, None, refl, sym, ap, ◌∙◌, subst, arith, true≢false}
 use Rattle.mv_history.specs.State.{State, Writes, written}
 use Rattle.mv_history.specs.Legal.{are_distinct}
 use Rattle.set_script.specs.Catalogue.{map_of, has_key, has_entry, value_of}
@@ -59,7 +60,8 @@ module _ (s : State) (end : End) (k v : ℕ) (l : IsLawful s) (fit : k < 2 ^ 32)
   new_short want w short = decides_short command s l (in_range n.adds) (may n.adds) (does n.adds) want (w ∙ sym (wants n.adds)) short
 
   pub new_open : (want first second : ℕ) (old plan : Plan) (gone : Gone) → want ≡ taken n.name (map_of n.name (catalogue_of s))
-      → want ≤ vacant_nodes s → AreEnough s want first second → old.count ≡ 0 → plan.count ≤ 5 → writes_in plan ≡ merged (writes_in old) (adds_at s k v first second end)
+      → want ≤ vacant_nodes s → AreEnough s want first second → old.count ≡ 0 → plan.count ≤ 5
+      → writes_in plan ≡ merged (writes_in old) (adds_at s k v first second end)
       → (gone.node ≡ 0) × (gone.inner ≡ 0) → IsFound command s (Open plan gone)
   new_open want first second old plan gone w there had none few e nothing =
       let enough : AreEnough s (taken n.name (map_of n.name (catalogue_of s))) first second = subst (λ (x : ℕ). AreEnough s x first second) w had in

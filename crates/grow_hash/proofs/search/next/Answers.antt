@@ -23,7 +23,8 @@ loop-bucket-preserved g c =
       before = g.met.V.View.as_long_before _ _ _ c.loop-bucket.invariant.before c.find_linked-spot.ensures.as_before;
       least = elim c.if-spot-ne0.branch [
         | then-spot-ne0 w ↦ subst (LeastOf (g.V.View.state c.args.view.now) c.args.key _) (sym w.least-is)
-            (least_less _ _ _ _ c.find_linked-spot.result.node_words c.requires.lawful _ c.loop-bucket.invariant.least found _ w.if-spot-ne0.true w.lesser.ensures)
+            (least_less _ _ _ _ c.find_linked-spot.result.node_words c.requires.lawful _ c.loop-bucket.invariant.least
+            found _ w.if-spot-ne0.true w.lesser.ensures)
         | else-spot-ne0 w ↦ subst (LeastOf (g.V.View.state c.args.view.now) c.args.key _) (sym w.least-is)
             (least_same _ _ _ _ c.find_linked-spot.result.node_words c.requires.lawful _ c.loop-bucket.invariant.least found w.if-spot-ne0.false)
       ];

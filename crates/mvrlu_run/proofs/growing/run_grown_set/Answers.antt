@@ -23,7 +23,8 @@ count_splits-splits-requires g c = record { lawful = c.in-Ok.ensures.ran.lawful 
 
 pub read_grown-requires : goal.read_grown-requires
 read_grown-requires g c = record {
-  lawful = subst IsGrown (sym (still_state c.in-Ok.ran.0.last c.count_splits-splits.new.view.last c.count_splits-splits.ensures.as_before)) c.in-Ok.ensures.ran.lawful;
+  lawful = subst IsGrown (sym (still_state c.in-Ok.ran.0.last c.count_splits-splits.new.view.last c.count_splits-splits.ensures.as_before))
+      c.in-Ok.ensures.ran.lawful;
 }
 
 pub returns-clause-few : goal.returns-clause-few
@@ -34,7 +35,8 @@ pub returns-clause-ran : goal.returns-clause-ran
 returns-clause-ran g c =
     let run = c.in-Ok.ensures.ran in
     let counted = c.count_splits-splits.ensures in
-    let still = still_twice c.in-Ok.ran.0.last c.count_splits-splits.new.view.last c.read_grown.new.view.last counted.as_before c.read_grown.ensures.as_before in
+    let still = still_twice c.in-Ok.ran.0.last
+    c.count_splits-splits.new.view.last c.read_grown.new.view.last counted.as_before c.read_grown.ensures.as_before in
     let same = still_state c.in-Ok.ran.0.last c.count_splits-splits.new.view.last counted.as_before in
     let ends = c.in-Ok.ensures.opening in
     record {

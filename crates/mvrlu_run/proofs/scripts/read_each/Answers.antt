@@ -35,7 +35,8 @@ pub returns-in-Err-clause-stop : goal.returns-in-Err-clause-stop
 returns-in-Err-clause-stop g c =
     let i = c.loop-name.invariant in
     let stop = rw (i.texts, i.place, c.as_str.ensures.value) at c.in-Err.ensures.stop in
-    any_from_one c.in-Err.finish (commands c.args.grammar) _ _ c.loop-name.name-index _ _ (g.F.Files.faults c.args.files.now) (g.F.Files.faults c.loop-name.files) _
+    any_from_one c.in-Err.finish (commands c.args.grammar) _ _ c.loop-name.name-index _ _
+    (g.F.Files.faults c.args.files.now) (g.F.Files.faults c.loop-name.files) _
     (named_at c.args.names.now c.loop-name.name-index c.name-item.result c.loop-name-test.true c.name-item.is) i.scripts i.later stop
 
 pub returns-in-Err-clause-steady : goal.returns-in-Err-clause-steady

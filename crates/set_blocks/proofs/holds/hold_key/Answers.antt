@@ -22,7 +22,8 @@ returns-then-head-lt-FIRST_ROOT-clause-told g c =
     is c.find-spot.ensures.spot in
     let low : head_of c.args.name c.args.key < 170 = omega (arith, is, c.if-head-lt-FIRST_ROOT.true) in (
       spot.previous ∷ [],
-      list_tells (written (g.V.View.state o.view) (take o.count o.writes)) c.args.name c.args.key spot.previous spot.words spot.node spot.node_words c.has.result
+      list_tells (written (g.V.View.state o.view) (take o.count o.writes)) c.args.name c.args.key spot.previous spot.words
+          spot.node spot.node_words c.has.result
           (is_low c.args.name c.args.key low) here c.has.ensures,
       c.write.ensures.writes ∙ ap (λ (own : Writes). merged own ((spot.previous, spot.words) ∷ [])) c.find-spot.ensures.as_before.1
           ∙ ap (λ (w : List ℕ). merged (take o.count o.writes) ((spot.previous, w) ∷ [])) here.words_are,

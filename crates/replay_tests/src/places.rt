@@ -1,5 +1,5 @@
 // The packed words and the limits, against values worked out by hand.
-use crate::{
+use mv_layout::{
     CLOCK_CELL, Config, ConfigFault, GRACE_CELL, clock_seat, clock_slot, clock_time, clock_word,
     head_cell, head_place, is_unset, link_position, link_seat, link_word, mark_cell, mark_low,
     mark_place, mark_word, master_cell, master_place, slot_cell, slot_of_position, slot_place,

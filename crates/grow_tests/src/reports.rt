@@ -1,5 +1,5 @@
 // The text of a run on a growing hash set.
-use crate::{order_grown, render_grown};
+use grow_report::{order_grown, render_grown};
 use mv_history::LogTable;
 use run_report::Line;
 use set_script::{Catalogue, Place, Reply};

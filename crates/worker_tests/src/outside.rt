@@ -1,5 +1,5 @@
 // The calls that take memory, and the system's files and streams.
-use crate::{Files, MemFiles, MemSink, MemText, RealErr, RealFiles, RealOut, Sink};
+use run_outside::{Files, MemFiles, MemSink, MemText, RealErr, RealFiles, RealOut, Sink};
 use std::fs;
 use std::test::Fail;
 

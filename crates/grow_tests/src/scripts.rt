@@ -1,5 +1,5 @@
 // Scripts of a growing hash set that are accepted, and ones that are refused, with their line and their fault.
-use crate::parse_grow;
+use grow_script::parse_grow;
 use set_script::{Command, FaultKind, MOST_COMMANDS, Name, ScriptFault};
 use std::alloc::Global;
 use std::process::Abort;

@@ -1,6 +1,6 @@
 use Rattle.std.proofs.Common.{length, arith, ap}
 use Rattle.mv_history.proofs.Snapshots.{length-state_of}
-use Rattle.mv_history.proofs.tests.commit_one.Goals as goal
+use Rattle.set_tests.proofs.stores.commit_one.Goals as goal
 
 pub try_lock-requires : goal.try_lock-requires
 try_lock-requires g c =

@@ -1,13 +1,9 @@
 // What the plain store does when it runs.
 ghost use Rattle.std.specs.Prelude.{◌≡◌, ◌<◌, length};
 
-use crate::answers::{CommitAnswer, LockAnswer, Room};
-use crate::history::Words;
-use crate::plain::PlainStore;
-use crate::rules::AnyRules;
-use crate::section::Section;
-use crate::store::Store;
-use crate::view::View;
+use mv_history::{
+    AnyRules, CommitAnswer, LockAnswer, PlainStore, Room, Section, Store, View, Words,
+};
 use std::test::Fail;
 
 const VACANT: [Words; 182] = [[0; 6]; 182];

@@ -1,11 +1,8 @@
-// What runs over a plain store, which has one seat, and so no rival.
+// The accounts over a plain store, which has one seat, and so no rival.
 ghost use Rattle.std.specs.Prelude.{◌≡◌, ◌≢◌, ◌<◌, IfOk, length};
 ghost use Rattle.mv_history.specs.PlainMeaning.{seat_of};
 
-use crate::attempt::{Attempt, transfer};
-use crate::reading::sum;
-use crate::rules::{Accounts, opening};
-use crate::workers::{Moved, Sums, make_transfers, read_sums};
+use accounts::{Accounts, Attempt, Moved, Sums, make_transfers, opening, read_sums, sum, transfer};
 use mv_history::PlainStore;
 use std::alloc::{AllocError, Global};
 use std::test::Fail;

@@ -1,6 +1,6 @@
 // The order and the text of runs.
-use crate::{Line, order, render, summary};
 use mv_history::LogTable;
+use run_report::{Line, order, render, summary};
 use set_script::{Catalogue, Place, Reply};
 use std::test::Fail;
 
@@ -159,10 +159,10 @@ fn values_follow_their_keys(rt: HostRuntime) -> Result<(), Fail> {
         ..NO_TABLE
     };
     let text = render(rt.alloc(), &lines, &end, &[table])?;
-    assert_eq!(rt;
-        text.as_slice(),
-        b"0.1 c1 yes\n0.2 r1 no\n0.3 r1 7\n0.4 c2 yes\n0.5 c3 yes\n0.6 r3 7\n0.7 r3 none\nl0 6\nt0 5=7\nlog 0 live 7 freed 0 back 0 commits 3 aborts 0 rests 0\n".as_slice()
-    );
+    let lines = b"0.1 c1 yes\n0.2 r1 no\n0.3 r1 7\n0.4 c2 yes\n0.5 c3 yes\n0.6 r3 7\n0.7 r3 none\n";
+    let ends = b"l0 6\nt0 5=7\nlog 0 live 7 freed 0 back 0 commits 3 aborts 0 rests 0\n";
+    assert!(rt; text.starts_with(lines));
+    assert_eq!(rt; &text[lines.len()..], ends.as_slice());
     Ok(())
 }
 

@@ -29,9 +29,9 @@ use std::thread::Threads;
 /// is as many objects as a block locks or holds at most. `gate` is called around each block, with the number of its first
 /// command.
 ///
-/// It answers the closing of the domain, the lines by seat and then by number, and the tables of the logs by seat. They
-/// are those of one run in the closing's history: the replies of a block are those that the sequential catalogue gives at the
-/// block's printed place, and each commit of the history has exactly one block.
+/// It answers the closing of the domain, the lines, whose order is left open (`order` of `run_report` orders them), and
+/// the tables of the logs by seat. They are those of one run in the closing's history: the replies of a block are those
+/// that the sequential catalogue gives at the block's printed place, and each commit of the history has exactly one block.
 ///
 /// The error is want of memory. It comes only before the first block, and hands back the domain and the seats, which
 /// mean what they meant, so the call can be tried again. After the workers have ended nothing is refused.

@@ -31,9 +31,10 @@ use std::thread::Threads;
 /// has, sizes and nexts of `h0`, and an opening state of at least 1,026 objects whose words are all 0. `write_max` must be at
 /// least 64, which is as many objects as a split locks at most. `gate` is called around each command.
 ///
-/// It answers the closing of the domain, the lines by seat and then by number, and the tables of the logs by seat. They
-/// are those of one run in the closing's history: every reply is the one that the sequential catalogue gives at the
-/// line's printed place, and each commit of the history has exactly one line or is a split that was due.
+/// It answers the closing of the domain, the lines, whose order is left open (`order_grown` of `grow_report` orders them),
+/// and the tables of the logs by seat. They are those of one run in the closing's history: every reply is the one that
+/// the sequential catalogue gives at the line's printed place, and each commit of the history has exactly one line or is
+/// a split that was due.
 ///
 /// The error is want of memory. It comes only before the first command, and hands back the domain and the seats, which
 /// mean what they meant, so the call can be tried again. After the workers have ended nothing is refused.

@@ -30,9 +30,9 @@ use std::thread::Threads;
 /// an opening state of at least 181 objects whose words are all 0. `write_max` must be at least 5, which is as many objects
 /// as a command locks at most. `gate` is called around each command, with the seat that took it and its number from 1.
 ///
-/// It answers the closing of the domain, the lines, and the tables of the logs by seat. The lines stand by seat and then by
-/// number. They are those of one pool in the closing's history: every reply is the one that the sequential catalogue gives
-/// at the line's printed place, and each commit of the history has exactly one line.
+/// It answers the closing of the domain, the lines, whose order is left open (`order` of `run_report` orders them), and
+/// the tables of the logs by seat. They are those of one pool in the closing's history: every reply is the one that the
+/// sequential catalogue gives at the line's printed place, and each commit of the history has exactly one line.
 ///
 /// The error is want of memory. It comes only before the first command, and hands back the domain and the seats, which
 /// mean what they meant, so the call can be tried again. After the workers have ended nothing is refused.

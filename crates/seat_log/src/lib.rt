@@ -43,6 +43,7 @@ mod freeing;
 mod log;
 mod notes;
 mod version;
+mod writing;
 
 pub use building::{build, clear_previous, put_word};
 pub use counts::table;
@@ -53,3 +54,4 @@ pub use notes::{
     retire, room,
 };
 pub use version::Note;
+pub use writing::put_words;

@@ -4,7 +4,7 @@ use Rattle.std.specs.Prelude.{slice_index, slice_set}
 use Rattle.mv_layout.specs.declared.Config.{Config}
 use Rattle.mv_core.specs.declared.view.View.{View}
 use Rattle.seat_log.specs.declared.version.Note.{Note}
-use Rattle.seat_log.specs.Notes.{Noted, IsNoteAt, IsHeld, at_place, with_word, with_words, some_words, some_noted, words_noted}
+use Rattle.seat_log.specs.Notes.{Noted, IsHeld, at_place, with_word, with_words, some_words, some_noted, words_noted}
 use Rattle.seat_log.specs.Stands.{Stands}
 use Rattle.seat_log.specs.Builds.{IsOpen, word_stored, words_put}
 use Rattle.seat_log.proofs.Places.{length-at_place}

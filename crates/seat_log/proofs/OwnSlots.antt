@@ -1,5 +1,5 @@
 -- While a pass steps it stays of its domain, and the cell of an own slot that of its position.
-use Rattle.std.proofs.Common.{◌≡◌, ℕ, sym, ap, ◌<◌, ◌∙◌, subst}
+use Rattle.std.proofs.Common.{ℕ, sym, ap, ◌<◌, ◌∙◌, subst}
 use Rattle.mv_history.specs.declared.Protocol.{Ghosts}
 use Rattle.mv_layout.specs.declared.Config.{Config}
 use Rattle.mv_layout.specs.declared.Place.TheVariants.{First}

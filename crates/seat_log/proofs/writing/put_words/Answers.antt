@@ -1,8 +1,8 @@
-use Rattle.std.proofs.Common.{◌≡◌, ℕ, ◌+◌, ◌-◌, ◌<◌, List, length, slice_index_or, slice_set, sym, ap, ◌∙◌, subst, arith}
+use Rattle.std.proofs.Common.{◌≡◌, ◌-◌, List, length, slice_set, sym, ap, ◌∙◌, subst, arith}
 use Rattle.mv_core.specs.declared.view.View.{View}
 use Rattle.mv_core.specs.Passes.{view, config_of}
 use Rattle.seat_log.specs.declared.version.Note.{Note}
-use Rattle.seat_log.specs.Notes.{Noted, next_of, IsHeld, at_place, with_words, some_noted, words_noted}
+use Rattle.seat_log.specs.Notes.{Noted, IsHeld, at_place, with_words, some_noted, words_noted}
 use Rattle.seat_log.specs.Stands.{Stands}
 use Rattle.seat_log.specs.Builds.{ChangesLog}
 use Rattle.seat_log.specs.contracts.log.Log.{the_view}

@@ -8,11 +8,13 @@ use Rattle.mv_history.specs.State.{State, Writes}
 use Rattle.mv_history.specs.Meaning.{Seat}
 use Rattle.mv_history.specs.declared.Protocol.{Ghosts}
 use Rattle.mv_layout.specs.declared.Config.{Config}
+use Rattle.mv_layout.specs.declared.Place.TheVariants.{First}
+use Rattle.mv_layout.specs.Cells.{cell_of}
 use Rattle.mv_core.specs.declared.view.View.{View}
 use Rattle.mv_core.specs.declared.shared.Shared.{Shared}
 use Rattle.mv_core.specs.declared.shared.Pass.{Pass}
 use Rattle.mv_core.specs.Known.{Known}
-use Rattle.mv_core.specs.Rings.{spare_count}
+use Rattle.mv_core.specs.Rings.{index_of, spare_count}
 use Rattle.mv_core.specs.Start.{starting_view}
 
 module _ {P : Type 0} where
@@ -78,6 +80,10 @@ module _ {P : Type 0} {g : Ghosts P} where
   abbrev pub IsOf : Shared P → Pass P g → Type 0
   IsOf s p = (table_under p ≡ table_of s) × (p.number < (config_of s).seats) × ((view p).base ≡ (config_of s).base)
       × ((view p).start ≡ start_of s) × (p.domain ≡ config_of s)
+
+  -- the slot of a position of the own log begins at this cell
+  abbrev pub IsOwnSlot : Config → Pass P g → ℕ → ℕ → Type 0
+  IsOwnSlot c p position slot = slot ≡ cell_of c (First p.number (index_of c position))
 
   -- a step leaves these as they are
   abbrev pub IsSame : Pass P g → Pass P g → Type 0

@@ -3,7 +3,7 @@ ghost use Rattle.std.specs.Prelude.{◌≡◌, ◌+◌, ◌<◌, ◌^◌, List};
 ghost use Rattle.mv_history.specs.declared.Entry.{Entry};
 ghost use Rattle.mv_core.specs.declared.ring.Build.{Build};
 ghost use Rattle.mv_core.specs.declared.ring.Version.{Version};
-ghost use Rattle.mv_core.specs.Passes.{view, IsOf, IsSame, config_of};
+ghost use Rattle.mv_core.specs.Passes.{view, IsOf, IsOwnSlot, IsSame, config_of};
 ghost use Rattle.mv_core.specs.SectionFacts.{IsWord};
 ghost use Rattle.mv_core.specs.EnterSteps.{IsWhole};
 ghost use Rattle.mv_core.specs.LockSteps.{MayStoreBuilt, built_stored, MayStoreData, data_stored, MayLoadDeath, death_loaded};
@@ -17,6 +17,16 @@ use std::marker::Brand;
 use std::sync::ledger::Ledger;
 
 impl<P: Protocol> Shared<P> {
+    /// The cell at which the slot of a position of the own log begins, by which `store_built_at` and
+    /// `store_data_at` store the words of the version there. No step is made.
+    pub fn own_slot(&self, pass: &Pass<P>, position: u64) -> u32
+        requires of { IsOf self.now pass.now }
+        ensures { IsOwnSlot (config_of self.now) pass.now position result }
+    {
+        let slot = slot_of_position(&self.config, position);
+        slot_cell(&self.config, pass.number, slot)
+    }
+
     /// Stores a word into a slot of the own log, which is free or being built, for the pass's next
     /// position, in an open section. `field` is the word's offset in its slot: one of `FIRST_OFFSET`,
     /// `STAMP_OFFSET`, `PREV_OFFSET` and `SUPER_OFFSET`, or `DATA_OFFSET + w` for the data word `w`.
@@ -40,9 +50,31 @@ impl<P: Protocol> Shared<P> {
         ensures range { position < 2 ^ 57 }
         ensures step { steps.new ≡ steps.old + 1 }
     {
-        let slot = slot_of_position(&self.config, position);
-        let cell = slot_cell(&self.config, pass.number, slot) + field;
-        store_as::<P, Brand, L, _>(self, pass, cell, value, &(position, field), steps)
+        let slot = self.own_slot(pass, position);
+        self.store_built_at(pass, position, slot, field, value, steps)
+    }
+
+    /// The step `store_built`, where `slot` is the cell at which the slot of the position begins, as
+    /// `own_slot` gives it.
+    pub fn store_built_at<L: Ledger>(
+        &self,
+        pass: &mut Pass<P>,
+        position: u64,
+        slot: u32,
+        field: u32,
+        value: u64,
+        steps: &mut Steps<L>,
+    )
+        ghost build: { Build }
+        requires of { IsOf self.now pass.old }
+        requires slot { IsOwnSlot (config_of self.now) pass.old position slot }
+        requires may { MayStoreBuilt (config_of self.now) (view pass.old) position field value build }
+        ensures same { IsSame pass.old pass.new }
+        ensures view { view pass.new ≡ built_stored (config_of self.now) (view pass.old) position field value build }
+        ensures range { position < 2 ^ 57 }
+        ensures step { steps.new ≡ steps.old + 1 }
+    {
+        store_as::<P, Brand, L, _>(self, pass, slot + field, value, &(position, field), steps)
     }
 
     /// Stores a data word into the own slot of a version that is held, in an open section. No other
@@ -62,9 +94,37 @@ impl<P: Protocol> Shared<P> {
         ensures view { view pass.new ≡ data_stored (config_of self.now) (view pass.old) position word value version }
         ensures step { steps.new ≡ steps.old + 1 }
     {
-        let slot = slot_of_position(&self.config, position);
-        let cell = slot_cell(&self.config, pass.number, slot) + DATA_OFFSET + word;
-        store_as::<P, Brand, L, _>(self, pass, cell, value, &(position, word), steps)
+        let slot = self.own_slot(pass, position);
+        self.store_data_at(pass, position, slot, word, value, steps)
+    }
+
+    /// The step `store_data`, where `slot` is the cell at which the slot of the position begins, as
+    /// `own_slot` gives it.
+    pub fn store_data_at<L: Ledger>(
+        &self,
+        pass: &mut Pass<P>,
+        position: u64,
+        slot: u32,
+        word: u32,
+        value: u64,
+        steps: &mut Steps<L>,
+    )
+        ghost version: { Version }
+        requires of { IsOf self.now pass.old }
+        requires slot { IsOwnSlot (config_of self.now) pass.old position slot }
+        requires may { MayStoreData (config_of self.now) (view pass.old) position word version }
+        ensures same { IsSame pass.old pass.new }
+        ensures view { view pass.new ≡ data_stored (config_of self.now) (view pass.old) position word value version }
+        ensures step { steps.new ≡ steps.old + 1 }
+    {
+        store_as::<P, Brand, L, _>(
+            self,
+            pass,
+            slot + DATA_OFFSET + word,
+            value,
+            &(position, word),
+            steps,
+        )
     }
 
     /// Loads CLOCK after an abort or a cut. The own aborted and cut versions that have no time of

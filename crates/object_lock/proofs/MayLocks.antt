@@ -1,5 +1,5 @@
 -- A version that was built may be locked: its slot has what the log has noted.
-use Rattle.std.proofs.Common.{◌≡◌, ℕ, ◌-◌, ◌<◌, ◌^◌, map, sym, ap, ◌∙◌, subst, arith, Some}
+use Rattle.std.proofs.Common.{◌≡◌, ℕ, ◌-◌, ◌<◌, map, sym, ap, ◌∙◌, subst, arith, Some}
 use Rattle.std.specs.Prelude.{unwrap_or}
 use Rattle.mv_layout.specs.declared.Config.{Config}
 use Rattle.mv_layout.specs.Words.{unset_of}

@@ -1,10 +1,10 @@
 -- Writing an object that a section holds: where its version is noted, and what the call leaves.
-use Rattle.std.specs.Prelude.{◌≡◌, ◌≢◌, ℕ, zero, suc, ◌<◌, ◌≤◌, List, ◌++◌, length, All, slice_index}
+use Rattle.std.specs.Prelude.{◌≡◌, ◌≢◌, ℕ, ◌<◌, ◌≤◌, List, ◌++◌, length, All}
 use Rattle.mv_history.specs.declared.Step.{Step}
 use Rattle.mv_history.specs.declared.StepKind.TheVariants.{StoreData}
 use Rattle.mv_core.specs.declared.view.View.{View}
 use Rattle.seat_log.specs.declared.version.Note.{Note}
-use Rattle.seat_log.specs.Notes.{Noted, held_from, IsNoteAt, with_word}
+use Rattle.seat_log.specs.Notes.{Noted, held_from, IsNoteAt}
 
 -- the held version of the object is noted at this place, and is of this position
 pub record IsHeldAt (l : Noted) (object position : ℕ) : Type 0 where
@@ -15,12 +15,6 @@ pub record IsHeldAt (l : Noted) (object position : ℕ) : Type 0 where
   pub object_is : note.object ≡ object
   pub position_is : note.position ≡ position
   pub first_one : (i : ℕ) (n : Note) → IsNoteAt l i n → held_from l ≤ i → i < place → n.object ≢ object
-  pub wide : length note.words ≡ 6
-
--- the note with so many of these words, in order
-abbrev pub with_words : List ℕ → ℕ → Note → Note
-with_words words zero n = n
-with_words words (suc i) n = with_word i (slice_index words i) (with_words words i n)
 
 -- only the log and the trail changed, which has so many stores of a data word more
 pub record Stores (v w : View) (n : ℕ) : Type 0 where

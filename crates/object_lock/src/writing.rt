@@ -10,8 +10,7 @@ ghost use Rattle.object_lock.specs.Writes.{IsHeldAt, Stores};
 
 use mv_core::{Pass, Shared, Steps};
 use mv_history::{Protocol, Words};
-use mv_layout::WIDTH;
-use seat_log::{Log, held, live, note, put_word};
+use seat_log::{Log, held, live, note, put_words};
 use std::sync::ledger::Ledger;
 
 // The position of the section's version of an object that it holds.
@@ -56,15 +55,5 @@ pub fn write<P: Protocol, L: Ledger>(
     ensures cost { steps.new ≡ steps.old + 6 }
 {
     let position = position_of(log, object);
-    for word in 0..WIDTH {
-        put_word(
-            shared,
-            pass,
-            log,
-            position,
-            word,
-            words[word as usize],
-            steps,
-        );
-    }
+    put_words(shared, pass, log, position, words, steps);
 }

@@ -6,7 +6,7 @@ use native.Mathlib.Decide.{ℕ_discrete}
 use Rattle.mv_layout.specs.declared.Config.{Config}
 use Rattle.mv_layout.specs.Words.{unset_of}
 use Rattle.mv_core.specs.declared.view.View.{View}
-use Rattle.seat_log.specs.Builds.{IsOpen, stored_next, words_stored, begun, linked, slot_built, word_stored, ChangesLog}
+use Rattle.seat_log.specs.Builds.{IsOpen, stored_next, words_stored, begun, linked, slot_built, word_stored, words_put, ChangesLog}
 use Rattle.seat_log.proofs.MayBuild.{begun_first, begun_later}
 
 -- one after another
@@ -23,6 +23,14 @@ next_changes c v position field x = refl
 
 pub word_changes : (c : Config) (v : View) (position word value : ℕ) → ChangesLog v (word_stored c v position word value)
 word_changes c v position word value = refl
+
+pub puts_change : (c : Config) (v : View) (position : ℕ) (words : List ℕ) (i : ℕ) → ChangesLog v (words_put c v position words i)
+unfolding words_put
+puts_change c v position words zero = refl
+puts_change c v position words (suc i) =
+    let w : View = words_put c v position words i in
+    changes_on v w (word_stored c w position i (slice_index words i)) (puts_change c v position words i)
+    (word_changes c w position i (slice_index words i))
 
 begun_changes : (c : Config) (v : View) (position first : ℕ) → ChangesLog v (begun c v position first)
 begun_changes c v position first =

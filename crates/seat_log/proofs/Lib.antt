@@ -11,6 +11,8 @@ pub mod Stays
 pub mod Beginning
 pub mod Ended
 pub mod Changes
+pub mod AllWords
+pub mod OwnSlots
 pub mod Commits
 pub mod Aborts
 pub mod FreedSlots

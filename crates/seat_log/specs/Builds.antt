@@ -81,6 +81,11 @@ version_at c v position = version_in (slot_at v.ring (index_of c position))
 abbrev pub word_stored : Config → View → ℕ → ℕ → ℕ → View
 word_stored c v position word value = data_stored c v position word value (version_at c v position)
 
+-- the view after so many data words of the held version at a position were stored, in order
+unfoldable pub words_put : Config → View → ℕ → List ℕ → ℕ → View
+words_put c v position words zero = v
+words_put c v position words (suc i) = word_stored c (words_put c v position words i) position i (slice_index words i)
+
 -- nothing of a view has changed but the log and the trail
 abbrev pub ChangesLog : View → View → Type 0
 ChangesLog v w = w ≡ record v { ring = w.ring; trail = w.trail }

@@ -1,6 +1,6 @@
 -- What a log has noted, and what each note makes of it.
 use Rattle.std.specs.Prelude.{◌≡◌, ℕ, zero, suc, ◌+◌, ◌-◌, ◌<◌, ◌≤◌, ◌==◌, ◌^◌, if◌then◌else◌, List, []}
-use Rattle.std.specs.Prelude.{◌∷◌, ◌++◌, length, map, Option, Some, None, slice_get, slice_set, IfSome}
+use Rattle.std.specs.Prelude.{◌∷◌, ◌++◌, length, map, Option, Some, None, slice_get, slice_index, slice_set, IfSome}
 use Rattle.seat_log.specs.declared.version.Note.{Note}
 
 -- What a log has noted: the live versions, from the oldest on, of which so many last ones are held; the one that is being built;
@@ -137,6 +137,23 @@ with_word word value n = record n { words = slice_set n.words word value }
 -- a data word of the held version at a position is this
 abbrev pub word_noted : Noted → ℕ → ℕ → ℕ → Noted
 word_noted l position word value = record l { live = at_place (with_word word value) (position - l.freed) l.live }
+
+-- the note with other data words
+abbrev pub with_words : List ℕ → Note → Note
+with_words words n = record n { words = words }
+
+-- the note with so many of these words, in order
+abbrev pub some_words : List ℕ → ℕ → Note → Note
+some_words words zero n = n
+some_words words (suc i) n = with_word i (slice_index words i) (some_words words i n)
+
+-- so many data words of the held version at a position are these
+abbrev pub some_noted : Noted → ℕ → List ℕ → ℕ → Noted
+some_noted l position words i = record l { live = at_place (some_words words i) (position - l.freed) l.live }
+
+-- and all of them
+abbrev pub words_noted : Noted → ℕ → List ℕ → Noted
+words_noted l position words = record l { live = at_place (with_words words) (position - l.freed) l.live }
 
 -- the built version has PREV 0
 abbrev pub without_previous : Option Note → Option Note

@@ -1,7 +1,7 @@
 // Building a version in the next slot of the own log.
 ghost use Rattle.std.specs.Prelude.{◌≡◌, ◌⊎◌, ℕ, ◌+◌, ◌<◌, ◌^◌, ◌==◌, if◌then◌else◌, length, None};
 ghost use Rattle.mv_layout.specs.Words.{unset_of};
-ghost use Rattle.mv_core.specs.Passes.{view, IsOf, IsSame, config_of};
+ghost use Rattle.mv_core.specs.Passes.{view, IsOf, IsOwnSlot, IsSame, config_of};
 ghost use Rattle.mv_core.specs.LockSteps.{FitsField};
 ghost use Rattle.seat_log.specs.Notes.{IsBuilt, next_of, first_of, next_note, built_noted, without_previous, cleared, IsHeld};
 ghost use Rattle.seat_log.specs.Notes.{built_word_noted, word_noted};
@@ -17,16 +17,18 @@ use mv_layout::{
 };
 use std::sync::ledger::Ledger;
 
-// Stores one word of the slot.
+// Stores one word of the version that is built, whose slot begins at this cell.
 fn store_next<P: Protocol, L: Ledger>(
     shared: &Shared<P>,
     pass: &mut Pass<P>,
     position: u64,
+    slot: u32,
     field: u32,
     value: u64,
     steps: &mut Steps<L>,
 )
     requires of { IsOf shared.now pass.old }
+    requires slot { IsOwnSlot (config_of shared.now) pass.old position slot }
     requires may { MayBuild (config_of shared.now) (view pass.old) position }
     requires fits { FitsField (first_in (view pass.old)) position field value }
     ensures same { IsSame pass.old pass.new }
@@ -36,7 +38,7 @@ fn store_next<P: Protocol, L: Ledger>(
     ensures range { position < 2 ^ 57 }
     ensures step { steps.new ≡ steps.old + 1 }
 {
-    shared.store_built(pass, position, field, value, steps);
+    shared.store_built_at(pass, position, slot, field, value, steps);
 }
 
 // Stores FIRST, and STAMP in the first slot of the write set.
@@ -44,10 +46,12 @@ fn begin_slot<P: Protocol, L: Ledger>(
     shared: &Shared<P>,
     pass: &mut Pass<P>,
     position: u64,
+    slot: u32,
     first: u64,
     steps: &mut Steps<L>,
 )
     requires of { IsOf shared.now pass.old }
+    requires slot { IsOwnSlot (config_of shared.now) pass.old position slot }
     requires may { MayBuild (config_of shared.now) (view pass.old) position }
     requires first { first ≡ first_in (view pass.old) }
     ensures same { IsSame pass.old pass.new }
@@ -56,12 +60,13 @@ fn begin_slot<P: Protocol, L: Ledger>(
     ensures range { position < 2 ^ 57 }
     ensures cost { steps.new ≡ steps.old + (if first == position then 2 else 1) }
 {
-    store_next(shared, pass, position, FIRST_OFFSET, first, steps);
+    store_next(shared, pass, position, slot, FIRST_OFFSET, first, steps);
     if first == position {
         store_next(
             shared,
             pass,
             position,
+            slot,
             STAMP_OFFSET,
             unset_stamp(position),
             steps,
@@ -74,11 +79,13 @@ fn link_slot<P: Protocol, L: Ledger>(
     shared: &Shared<P>,
     pass: &mut Pass<P>,
     position: u64,
+    slot: u32,
     first: u64,
     previous: u64,
     steps: &mut Steps<L>,
 )
     requires of { IsOf shared.now pass.old }
+    requires slot { IsOwnSlot (config_of shared.now) pass.old position slot }
     requires may { MayBuild (config_of shared.now) (view pass.old) position }
     requires first { first ≡ first_in (view pass.old) }
     ensures same { IsSame pass.old pass.new }
@@ -87,9 +94,9 @@ fn link_slot<P: Protocol, L: Ledger>(
     ensures range { position < 2 ^ 57 }
     ensures cost { steps.new ≡ steps.old + (if first == position then 4 else 3) }
 {
-    begin_slot(shared, pass, position, first, steps);
-    store_next(shared, pass, position, PREV_OFFSET, previous, steps);
-    store_next(shared, pass, position, SUPER_OFFSET, 0, steps);
+    begin_slot(shared, pass, position, slot, first, steps);
+    store_next(shared, pass, position, slot, PREV_OFFSET, previous, steps);
+    store_next(shared, pass, position, slot, SUPER_OFFSET, 0, steps);
 }
 
 // Stores the six data words.
@@ -97,10 +104,12 @@ fn store_words<P: Protocol, L: Ledger>(
     shared: &Shared<P>,
     pass: &mut Pass<P>,
     position: u64,
+    slot: u32,
     words: &Words,
     steps: &mut Steps<L>,
 )
     requires of { IsOf shared.now pass.old }
+    requires slot { IsOwnSlot (config_of shared.now) pass.old position slot }
     requires may { MayBuild (config_of shared.now) (view pass.old) position }
     ensures same { IsSame pass.old pass.new }
     ensures view { view pass.new ≡ words_stored (config_of shared.now) (view pass.old) position words.now 6 }
@@ -112,6 +121,7 @@ fn store_words<P: Protocol, L: Ledger>(
             shared,
             pass,
             position,
+            slot,
             DATA_OFFSET + word,
             words[word as usize],
             steps,
@@ -148,8 +158,9 @@ pub fn build<P: Protocol, L: Ledger>(
 {
     let position = log.freed + log.live.len() as u64;
     let first = position - log.held as u64;
-    link_slot(shared, pass, position, first, previous, steps);
-    store_words(shared, pass, position, &words, steps);
+    let slot = shared.own_slot(pass, position);
+    link_slot(shared, pass, position, slot, first, previous, steps);
+    store_words(shared, pass, position, slot, &words, steps);
     log.built = Some(Note {
         position,
         first,
@@ -190,7 +201,8 @@ pub fn clear_previous<P: Protocol, L: Ledger>(
     ensures rest { ChangesLog (view pass.old) (view pass.new) }
     ensures step { steps.new ≡ steps.old + 1 }
 {
-    store_next(shared, pass, position, PREV_OFFSET, 0, steps);
+    let slot = shared.own_slot(pass, position);
+    store_next(shared, pass, position, slot, PREV_OFFSET, 0, steps);
     log.built = clear_note_previous(log.built);
 }
 
@@ -220,7 +232,16 @@ pub fn put_word<P: Protocol, L: Ledger>(
     ensures step { steps.new ≡ steps.old + 1 }
 {
     if position == log.freed + log.live.len() as u64 {
-        store_next(shared, pass, position, DATA_OFFSET + word, value, steps);
+        let slot = shared.own_slot(pass, position);
+        store_next(
+            shared,
+            pass,
+            position,
+            slot,
+            DATA_OFFSET + word,
+            value,
+            steps,
+        );
         if let Some(note) = &mut log.built {
             note.words[word as usize] = value;
         }

@@ -18,9 +18,10 @@
 //! held, or of an abort, so where the log counts no abort they are as many as the writes of the
 //! seat's commits and what it holds.
 //!
-//! **The contract.** `build`, `clear_previous` and `put_word` store words of the own log, by the
-//! steps of `mv_core`: they need that the log stands for the pass, and keep it, and each says the
-//! exact view and the exact notes afterwards. `build` makes ten steps at most and the others one.
+//! **The contract.** `build`, `clear_previous`, `put_word` and `put_words` store words of the own
+//! log, by the steps of `mv_core`: they need that the log stands for the pass, and keep it, and each
+//! says the exact view and the exact notes afterwards. `build` makes ten steps at most, `put_words`
+//! six and the others one; each finds the cell of the version's slot once.
 //! A built version isn't in a chain yet. Given up, its slot is free again though the view still has
 //! it as being built, and the next `build` stores all its words anew at the same position.
 //! `free_oldest` frees the oldest write set, exactly where each of its versions is noted to be dead
@@ -43,6 +44,7 @@ mod freeing;
 mod log;
 mod notes;
 mod version;
+mod writing;
 
 pub use building::{build, clear_previous, put_word};
 pub use counts::table;
@@ -53,3 +55,4 @@ pub use notes::{
     retire, room,
 };
 pub use version::Note;
+pub use writing::put_words;

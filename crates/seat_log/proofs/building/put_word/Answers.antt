@@ -1,4 +1,4 @@
-use Rattle.std.proofs.Common.{◌≡◌, ◌⊎◌, ℕ, ◌+◌, ◌-◌, List, slice_set, slice_index_or, sym, ap, ◌∙◌, subst, ⊎_elim, arith, Option, Some}
+use Rattle.std.proofs.Common.{◌≡◌, ◌⊎◌, ℕ, ◌+◌, ◌-◌, List, slice_set, sym, ap, ◌∙◌, subst, ⊎_elim, arith, Option, Some}
 use Rattle.mv_core.specs.declared.view.View.{View}
 use Rattle.mv_core.specs.Passes.{view, config_of}
 use Rattle.seat_log.specs.declared.version.Note.{Note}

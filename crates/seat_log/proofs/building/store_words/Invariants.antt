@@ -1,9 +1,9 @@
 use Rattle.std.proofs.Common.{◌≡◌, ◌+◌}
-use Rattle.mv_core.specs.Passes.{view, IsSame, config_of}
+use Rattle.mv_core.specs.Passes.{view, IsOwnSlot, IsSame, config_of}
 use Rattle.seat_log.specs.Builds.{words_stored, MayBuild}
 use Rattle.seat_log.proofs.building.store_words.Given as goal
 
 abbrev pub invariant-loop-word : goal.invariant-loop-word
 invariant-loop-word g l =
     IsSame l.initial.pass l.pass × (view l.pass ≡ words_stored (config_of l.shared) (view l.initial.pass) l.position l.words l.word)
-    × MayBuild (config_of l.shared) (view l.pass) l.position × (l.steps ≡ l.initial.steps + l.word)
+    × MayBuild (config_of l.shared) (view l.pass) l.position × IsOwnSlot (config_of l.shared) l.pass l.position l.slot × (l.steps ≡ l.initial.steps + l.word)

@@ -1,14 +1,14 @@
 use Rattle.std.proofs.Common.{refl}
 use Rattle.mv_core.specs.Passes.{view}
 use Rattle.mv_core.proofs.kinds.building.StoreData.{data_stores}
-use Rattle.mv_core.proofs.shared.Shared.store_data.Goals as goal
+use Rattle.mv_core.proofs.shared.Shared.store_data_at.Goals as goal
 
 pub store_as-requires-clause-rule : goal.store_as-requires-clause-rule
-store_as-requires-clause-rule g c = data_stores _ _ _ _ (view c.args.pass.now) c.args.position c.args.word c.args.value g.version c.requires.1.1.1
+store_as-requires-clause-rule g c = data_stores _ _ _ _ (view c.args.pass.now) c.args.position c.args.word c.args.value g.version c.requires.1.1.1.1
 
 pub store_as-requires-clause-moves : goal.store_as-requires-clause-moves
 store_as-requires-clause-moves g c = record {
-  may = c.requires.1.1.1;
+  may = c.requires.1.1.1.1;
   place = refl;
   writes = λ x. refl;
   entry = λ x. refl;

@@ -1,0 +1,18 @@
+-- While a pass steps it stays of its domain, and the cell of an own slot that of its position.
+use Rattle.std.proofs.Common.{ℕ, sym, ap, ◌<◌, ◌∙◌, subst}
+use Rattle.mv_history.specs.declared.Protocol.{Ghosts}
+use Rattle.mv_layout.specs.declared.Config.{Config}
+use Rattle.mv_layout.specs.declared.Place.TheVariants.{First}
+use Rattle.mv_layout.specs.Cells.{cell_of}
+use Rattle.mv_core.specs.declared.shared.Pass.{Pass}
+use Rattle.mv_core.specs.declared.shared.Shared.{Shared}
+use Rattle.mv_core.specs.Passes.{IsOf, IsOwnSlot, IsSame, config_of}
+use Rattle.mv_core.specs.Rings.{index_of}
+
+pub own_still : {P : Type 0} {g : Ghosts P} (c : Config) (position slot : ℕ) (p q : Pass P g) → IsSame p q → IsOwnSlot c p position slot
+    → IsOwnSlot c q position slot
+own_still c position slot p q same own = own ∙ ap (λ (n : ℕ). cell_of c (First n (index_of c position))) (sym same.1)
+
+pub of_still : {P : Type 0} {g : Ghosts P} (s : Shared P) (p q : Pass P g) → IsSame p q → IsOf s p → IsOf s q
+of_still s p q same of =
+    (same.0 ∙ of.0, subst (λ (n : ℕ). n < (config_of s).seats) (sym same.1) of.1, same.3 ∙ of.2, same.4 ∙ of.3, same.2 ∙ of.4)

@@ -68,15 +68,14 @@ module _ (starts : State → Type 0) (allows : List ℕ → State → Writes →
     (made rested later : List Step) (first : Scanned) (found unused : Found) (freed more : ℕ) (sweep : Sweeps c v u k l made true first found freed)
     (rest : RestsSo u x l m rested first.latest) (stands : Stands c v k) (stands_x : Stands c x m) (stands_w : Stands c w o)
     (known : ∥ Known starts allows v ∥₁) (known_x : ∥ Known starts allows x ∥₁) (known_w : ∥ Known starts allows w ∥₁) where
-  frees_scanned : FreesBeforeScan c k made (Some first) → FreesFirst c k (made ++ rested ++ later)
+  frees_scanned : FreesBeforeScan c k made (Some first) → FreesFirst c k (made ++ rested ++ later) true
   frees_scanned one =
-      let some = one.1 in
-      subst (FreesFirst c k) (sym (append_assoc made rested later)) (frees_longer c k made (rested ++ later) one.0 (λ e. absurd (omega arith)))
+      subst (λ (s : List Step). FreesFirst c k s true) (sym (append_assoc made rested later)) (frees_longer c k made (rested ++ later) true one.0 one.1)
 
   by_parts : (last : Option Scanned) → SweepsSo c x w m o later false unused more last → FreesBeforeScan c k made (Some first)
       → (held : Option Holder) → HeldBy o first last found held
       → (steps : List Step) × Reclaims v w steps × SweptSo c w o steps false × HeldSo (TidyHolds c w o steps) o held × (length (clock_exchanges steps) ≤ 1)
-      × WritesBackSo c w o steps × FreesFirst c k steps × RestsWhereDue c w k steps
+      × WritesBackSo c w o steps × FreesFirst c k steps true × RestsWhereDue c w k steps
   by_parts None again one held by =
       let steps : List Step = made ++ rested ++ later in (
         steps,
@@ -128,7 +127,7 @@ module _ (starts : State → Type 0) (allows : List ℕ → State → Writes →
   module _ (stands : Stands c v l) (stands_w : Stands c w m) (known : ∥ Known starts allows v ∥₁) (known_w : ∥ Known starts allows w ∥₁) where
     pub left_reclaims : FreesBeforeScan c l t.scan_steps (Some t.first)
         → (steps : List Step) × Reclaims v w steps × SweptSo c w m steps false × HeldSo (TidyHolds c w m steps) m held
-        × (length (clock_exchanges steps) ≤ 1) × WritesBackSo c w m steps × FreesFirst c l steps × RestsWhereDue c w l steps
+        × (length (clock_exchanges steps) ≤ 1) × WritesBackSo c w m steps × FreesFirst c l steps true × RestsWhereDue c w l steps
     left_reclaims begins =
         by_parts starts allows c v t.scan_view t.rest_view w l t.scan_log t.rest_log m t.scan_steps t.rest_steps t.last_steps t.first t.found t.unused
         t.first_freed t.last_freed t.scan t.rest stands t.stands stands_w known t.known known_w t.last t.again begins held t.held_by
@@ -173,9 +172,9 @@ module _ (starts : State → Type 0) (allows : List ℕ → State → Writes →
 
 -- a tidy whose first frees left nothing
 module _ (c : Config) (v w : View) (l m : Noted) (made : List Step) (freed : ℕ) (sweep : SweepsAll c v w l m made freed) where
-  pub emptied : FreesFirst c l made → (held : Option Holder) → held ≡ None
+  pub emptied : FreesFirst c l made true → (held : Option Holder) → held ≡ None
       → (steps : List Step) × Reclaims v w steps × SweptSo c w m steps false × HeldSo (TidyHolds c w m steps) m held × (length (clock_exchanges steps) ≤ 1)
-      × WritesBackSo c w m steps × FreesFirst c l steps × RestsWhereDue c w l steps
+      × WritesBackSo c w m steps × FreesFirst c l steps true × RestsWhereDue c w l steps
   emptied first held none =
       let untried = none_exchanged made sweep.leaves in
       let few = ap length untried in (

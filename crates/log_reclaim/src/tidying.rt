@@ -1,5 +1,5 @@
 // A tidy: a round with write-backs, one try of a rest where it helps, and a round without.
-ghost use Rattle.std.specs.Prelude.{◌≡◌, ℕ, ◌+◌, ◌*◌, ◌<◌, ◌≤◌, List, [], length, false, Some};
+ghost use Rattle.std.specs.Prelude.{◌≡◌, ℕ, ◌+◌, ◌*◌, ◌<◌, ◌≤◌, List, [], length, true, false, Some};
 ghost use Rattle.mv_history.specs.declared.answers.Holder.TheVariants.{Fresh};
 ghost use Rattle.mv_history.specs.declared.Step.{Step};
 ghost use Rattle.mv_history.specs.Trail.{clock_exchanges};
@@ -105,7 +105,8 @@ fn tidy_left<P: Protocol, L: Ledger>(
 /// clock on; and a round without write-backs. The pass is outside a section, with no scan running.
 ///
 /// The first step is the load of GRACE, and the frees that it allows are the next; where they leave
-/// nothing, no step begins a scan.
+/// nothing, one more load of GRACE follows, which begins the round without write-backs and finds
+/// nothing to free, and no other step.
 ///
 /// No commit is made or tried, and the seat's commits are as before. At most one step is an exchange on
 /// CLOCK, won or lost; at most one rest is made, which is counted. The exchange is tried only where a
@@ -153,11 +154,11 @@ pub fn tidy<P: Protocol, L: Ledger>(
     ensures reclaims { (made : List Step) × Reclaims (view pass.old) (view pass.new) made
         × SweptSo (config_of shared.now) (view pass.new) log.new made false
         × HeldSo (TidyHolds (config_of shared.now) (view pass.new) log.new made) log.new result.held × (length (clock_exchanges made) ≤ 1)
-        × WritesBackSo (config_of shared.now) (view pass.new) log.new made × FreesFirst (config_of shared.now) log.old made
+        × WritesBackSo (config_of shared.now) (view pass.new) log.new made × FreesFirst (config_of shared.now) log.old made true
         × RestsWhereDue (config_of shared.now) (view pass.new) log.old made }
     ensures fresh { (time : ℕ) → result.held ≡ Some (Fresh time) → (view pass.old).base + length (view pass.old).past.seen < time }
     ensures alone { (config_of shared.now).seats ≡ 1 → (view pass.old).base + length (view pass.old).past.seen < 35184372088831 → log.new.live ≡ [] }
-    ensures idle { log.old.live ≡ [] → steps.new ≡ steps.old + 1 }
+    ensures idle { log.old.live ≡ [] → steps.new ≡ steps.old + 2 }
     ensures cost { steps.new ≤ steps.old + (2 * (4 + (config_of shared.now).seats + 20 * (config_of shared.now).slots) + 8) }
     ensures trail { length (view pass.new).trail
         ≤ length (view pass.old).trail + (2 * (4 + (config_of shared.now).seats + 20 * (config_of shared.now).slots) + 8) }
@@ -165,6 +166,7 @@ pub fn tidy<P: Protocol, L: Ledger>(
     let mark = known(shared, pass, steps);
     let freed = free_all(shared, pass, log, &mark, steps);
     if live(log) == 0 {
+        let _ = known(shared, pass, steps);
         return Tidy {
             freed,
             live: 0,

@@ -1,5 +1,5 @@
 -- What loads of CLOCK found, put together from part to part.
-use Rattle.std.proofs.Common.{◌≡◌, ◌⊎◌, ℕ, ◌+◌, ◌≤◌, List, [], ◌∷◌, ◌++◌, All, refl, sym, ap, ◌∙◌, subst, ⊎_elim, arith, append-nil, append_assoc}
+use Rattle.std.proofs.Common.{◌≡◌, ℕ, ◌+◌, ◌≤◌, List, [], ◌∷◌, ◌++◌, All, refl, sym, ap, ◌∙◌, subst, ⊎_elim, arith, append-nil, append_assoc}
 use Rattle.std.proofs.Common.{Option, Some, None, unwrap_or}
 use Rattle.std.proofs.lemmas.List.Elements.{All-nil, All-cons, All-append, All-weaker}
 use mathlib.Core.Logic.{dite}
@@ -81,39 +81,39 @@ hears_start c v w word before after starts =
     starts
 
 module _ (c : Config) (v w x : View) (word unset clock : ℕ) (h : List Entry) (first : w ≡ named_loaded c v word unset) (then : x ≡ check_loaded c w clock h)
-    where
-  abbrev named : Step
-  named = record { kind = LoadNamed; word = place_of c (stamp_place word); found = Some unset; stored = None }
+  where
+    abbrev named : Step
+    named = record { kind = LoadNamed; word = place_of c (stamp_place word); found = Some unset; stored = None }
 
-  abbrev checked : Step
-  checked = record { kind = LoadCheck; word = place_of c Clock; found = Some clock; stored = None }
+    abbrev checked : Step
+    checked = record { kind = LoadCheck; word = place_of c Clock; found = Some clock; stored = None }
 
-  two : x.trail ≡ v.trail ++ named ∷ checked ∷ []
-  two = ap (λ (u : View). u.trail) then ∙ ap (λ (u : View). u.trail ++ checked ∷ []) first ∙ append_assoc v.trail (named ∷ []) (checked ∷ [])
+    two : x.trail ≡ v.trail ++ named ∷ checked ∷ []
+    two = ap (λ (u : View). u.trail) then ∙ ap (λ (u : View). u.trail ++ checked ∷ []) first ∙ append_assoc v.trail (named ∷ []) (checked ∷ [])
 
-  hears_checked : HearsJust v x (Some clock)
-  hears_checked = record {
-    made = named ∷ checked ∷ [];
-    trail = two;
-    just = All-cons (λ s. FindsJust (Some clock) s) named (checked ∷ []) (λ tells. absurd tells)
-        (All-cons (λ s. FindsJust (Some clock) s) checked [] (λ tells. refl) (All-nil (λ s. FindsJust (Some clock) s)));
-  }
+    hears_checked : HearsJust v x (Some clock)
+    hears_checked = record {
+      made = named ∷ checked ∷ [];
+      trail = two;
+      just = All-cons (λ s. FindsJust (Some clock) s) named (checked ∷ []) (λ tells. absurd tells)
+          (All-cons (λ s. FindsJust (Some clock) s) checked [] (λ tells. refl) (All-nil (λ s. FindsJust (Some clock) s)));
+    }
 
-  hears_swapped : (y : View) (named_word old found : ℕ) → y ≡ stamp_swapped c x named_word old found → HearsJust v y (Some clock)
-  unfolding hears_checked
-  hears_swapped y named_word old found is =
-      let s : Step = record {
-        kind = SwapStamp;
-        word = place_of c (stamp_place named_word);
-        found = Some found;
-        stored = stored_if found old (clock_time_of named_word);
-      } in
-      record {
-        made = (named ∷ checked ∷ []) ++ s ∷ [];
-        trail = ap (λ (u : View). u.trail) is ∙ ap (λ (l : List Step). l ++ s ∷ []) two ∙ append_assoc v.trail (named ∷ checked ∷ []) (s ∷ []);
-        just = All-append (λ s. FindsJust (Some clock) s) (named ∷ checked ∷ []) (s ∷ []) hears_checked.just
-            (All-cons (λ s. FindsJust (Some clock) s) s [] (λ tells. absurd tells) (All-nil (λ s. FindsJust (Some clock) s)));
-      }
+    hears_swapped : (y : View) (named_word old found : ℕ) → y ≡ stamp_swapped c x named_word old found → HearsJust v y (Some clock)
+    unfolding hears_checked
+    hears_swapped y named_word old found is =
+        let s : Step = record {
+          kind = SwapStamp;
+          word = place_of c (stamp_place named_word);
+          found = Some found;
+          stored = stored_if found old (clock_time_of named_word);
+        } in
+        record {
+          made = (named ∷ checked ∷ []) ++ s ∷ [];
+          trail = ap (λ (u : View). u.trail) is ∙ ap (λ (l : List Step). l ++ s ∷ []) two ∙ append_assoc v.trail (named ∷ checked ∷ []) (s ∷ []);
+          just = All-append (λ s. FindsJust (Some clock) s) (named ∷ checked ∷ []) (s ∷ []) hears_checked.just
+              (All-cons (λ s. FindsJust (Some clock) s) s [] (λ tells. absurd tells) (All-nil (λ s. FindsJust (Some clock) s)));
+        }
 
 -- a help by its three parts
 pub hears_by_parts : (c : Config) (v w x y : View) (word : ℕ) (help : StartedHelp) (k : CheckedHelp) (h : List Entry) (before after : ℕ)

@@ -4,6 +4,7 @@ ghost use Rattle.mv_history.specs.declared.Step.{Step};
 ghost use Rattle.mv_history.specs.Trail.{clock_exchanges};
 ghost use Rattle.mv_core.specs.EnterSteps.{MayLoadLow};
 ghost use Rattle.mv_core.specs.Passes.{view, IsOf, IsSame, config_of};
+ghost use Rattle.commit_clock.specs.Hears.{Hears};
 ghost use Rattle.reader_marks.specs.Scans.{IsKnown};
 ghost use Rattle.seat_log.specs.declared.version.Note.{Note};
 ghost use Rattle.seat_log.specs.Notes.{IsNoteAt, IsLog};
@@ -85,6 +86,7 @@ pub(crate) fn scan_and_free<P: Protocol, L: Ledger>(
     ensures same { IsSame pass.old pass.new }
     ensures stands { Stands (config_of shared.now) (view pass.new) log.new }
     ensures sweeps { (made : List Step) × Sweeps (config_of shared.now) (view pass.old) (view pass.new) log.old log.new made back result.1 found.new result.0 }
+    ensures hears { Hears (view pass.old) (view pass.new) result.1.latest }
     ensures cost { steps.new ≤ steps.old + ((config_of shared.now).seats + 3 + 18 * length log.old.live + result.0) }
     ensures trail { length (view pass.new).trail ≤ length (view pass.old).trail + ((config_of shared.now).seats + 3 + 18 * length log.old.live + result.0) }
 {

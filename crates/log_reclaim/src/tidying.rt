@@ -48,7 +48,7 @@ fn rest_if_due<P: Protocol, L: Ledger>(
     requires within { latest ≤ (view pass.old).base + length (view pass.old).past.seen }
     ensures same { IsSame pass.old pass.new }
     ensures stands { Stands (config_of shared.now) (view pass.new) log.new }
-    ensures rests { (made : List Step) × RestsSo (view pass.old) (view pass.new) log.old log.new made latest }
+    ensures rests { (made : List Step) × RestsSo (config_of shared.now) (view pass.old) (view pass.new) log.old log.new made latest }
     ensures cost { steps.new ≤ steps.old + 5 }
     ensures trail { length (view pass.new).trail ≤ length (view pass.old).trail + 5 }
 {
@@ -109,10 +109,11 @@ fn tidy_left<P: Protocol, L: Ledger>(
 /// nothing to free, and no other step.
 ///
 /// No commit is made or tried, and the seat's commits are as before. At most one step is an exchange on
-/// CLOCK, won or lost; at most one rest is made, which is counted. The exchange is tried only where a
-/// version that the log had at the begin is dead from a time above the clock of a scan of this call.
-/// That time was noted before, or this call found it: in SUPER of that very version, or by the load of
-/// CLOCK that ends a write-back.
+/// CLOCK, won or lost; at most one rest is made, which is counted. The exchange is tried from a word
+/// whose time isn't the last, which this call then loaded and helped, and only where a version that the
+/// log had at the begin is dead from a time above each time that the loads of CLOCK before had found,
+/// one of them that of a scan. The time of death was noted before, or this call found it: in SUPER of
+/// that very version, or by the load of CLOCK that ends a write-back.
 ///
 /// Of each version that is left without a time of death it is known why the first round's write-back
 /// left it so. This call found SUPER 0 in it. Then it found a newer version in HEAD of its object,

@@ -21,7 +21,8 @@ use Rattle.log_reclaim.proofs.Reclaiming.{reclaims_number, reclaims_on}
 use Rattle.log_reclaim.proofs.Untimed.{times_first}
 
 module _ (c : Config) (v u x w : View) (k l m : Noted) (made rested later : List Step) (first : Scanned) (found : Found) (freed : ℕ)
-    (sweep : Sweeps c v u k l made true first found freed) (hears : Hears v u first.latest) (rest : RestsSo c u x l m rested first.latest) (after : Reclaims x w later)
+    (sweep : Sweeps c v u k l made true first found freed) (hears : Hears v u first.latest) (rest : RestsSo c u x l m rested first.latest)
+    (after : Reclaims x w later)
     (none : clock_exchanges later ≡ []) where
   abbrev steps : List Step
   steps = made ++ rested ++ later

@@ -69,17 +69,17 @@ rests_of c v w l m made back found freed (Some scanned) k = k.rests
 -- a tidy of which the first frees left something, by its parts
 module _ (starts : State → Type 0) (allows : List ℕ → State → Writes → Type 0) (c : Config) (v u x w : View) (k l m o : Noted)
     (made rested later : List Step) (first : Scanned) (found unused : Found) (freed more : ℕ) (sweep : Sweeps c v u k l made true first found freed)
-    (hears : Hears v u first.latest) (rest : RestsSo c u x l m rested first.latest) (stands : Stands c v k) (stands_x : Stands c x m) (stands_w : Stands c w o)
+    (rest : RestsSo c u x l m rested first.latest) (stands : Stands c v k) (stands_x : Stands c x m) (stands_w : Stands c w o)
     (known : ∥ Known starts allows v ∥₁) (known_x : ∥ Known starts allows x ∥₁) (known_w : ∥ Known starts allows w ∥₁) where
   frees_scanned : FreesBeforeScan c k made (Some first) → FreesFirst c k (made ++ rested ++ later) true
   frees_scanned one =
       subst (λ (s : List Step). FreesFirst c k s true) (sym (append_assoc made rested later)) (frees_longer c k made (rested ++ later) true one.0 one.1)
 
-  by_parts : (last : Option Scanned) → SweepsSo c x w m o later false unused more last → FreesBeforeScan c k made (Some first)
+  by_parts : Hears v u first.latest → (last : Option Scanned) → SweepsSo c x w m o later false unused more last → FreesBeforeScan c k made (Some first)
       → (held : Option Holder) → HeldBy o first last found held
       → (steps : List Step) × Reclaims v w steps × SweptSo c w o steps false × HeldSo (TidyHolds c w o steps) o held × (length (clock_exchanges steps) ≤ 1)
       × WritesBackSo c w o steps × FreesFirst c k steps true × RestsWhereDue c w k steps
-  by_parts None again one held by =
+  by_parts hears None again one held by =
       let steps : List Step = made ++ rested ++ later in (
         steps,
         reclaims_on v x w (made ++ rested) later (reclaims_on v u x made rested sweep.reclaims rest.reclaims) again.reclaims,
@@ -90,7 +90,7 @@ module _ (starts : State → Type 0) (allows : List ℕ → State → Writes →
         frees_scanned one,
         tidy_due c v u x w k l m made rested later first found freed sweep hears rest again.reclaims (none_exchanged later again.leaves),
       )
-  by_parts (Some last) again one held by =
+  by_parts hears (Some last) again one held by =
       let steps : List Step = made ++ rested ++ later in (
         steps,
         reclaims_on v x w (made ++ rested) later (reclaims_on v u x made rested sweep.reclaims rest.reclaims) again.reclaims,
@@ -133,12 +133,12 @@ module _ (starts : State → Type 0) (allows : List ℕ → State → Writes →
         × (length (clock_exchanges steps) ≤ 1) × WritesBackSo c w m steps × FreesFirst c l steps true × RestsWhereDue c w l steps
     left_reclaims begins =
         by_parts starts allows c v t.scan_view t.rest_view w l t.scan_log t.rest_log m t.scan_steps t.rest_steps t.last_steps t.first t.found t.unused
-        t.first_freed t.last_freed t.scan t.hears t.rest stands t.stands stands_w known t.known known_w t.last t.again begins held t.held_by
+        t.first_freed t.last_freed t.scan t.rest stands t.stands stands_w known t.known known_w t.hears t.last t.again begins held t.held_by
 
     pub left_alone : v.number < c.seats → c.seats ≡ 1 → v.base + length v.past.seen < 35184372088831 → m.live ≡ []
     left_alone =
         none_left starts allows c v t.scan_view t.rest_view w l t.scan_log t.rest_log m t.scan_steps t.rest_steps t.last_steps t.first t.found t.unused
-        t.first_freed t.last_freed t.scan t.hears t.rest stands t.stands stands_w known t.known known_w t.last t.again
+        t.first_freed t.last_freed t.scan t.rest stands t.stands stands_w known t.known known_w t.last t.again
 
 -- the same, counted from the load of GRACE and the frees that it allowed
 module _ (starts : State → Type 0) (allows : List ℕ → State → Writes → Type 0) (c : Config) (v g x w : View) (l k m : Noted) (made : List Step)
@@ -158,7 +158,8 @@ module _ (starts : State → Type 0) (allows : List ℕ → State → Writes →
     first_freed = freed + t.first_freed;
     scan = sweeps_then c v g x t.scan_view l k t.scan_log (grace_load c time ∷ []) made t.scan_steps time freed true t.first t.found t.first_freed load
         (grace_plain c time) frees t.scan;
-    hears = hears_on v g t.scan_view t.first.latest loaded (hears_on g x t.scan_view t.first.latest (heard_freed g x l k made time freed t.first.latest frees) t.hears);
+    hears = hears_on v g t.scan_view t.first.latest loaded
+        (hears_on g x t.scan_view t.first.latest (heard_freed g x l k made time freed t.first.latest frees) t.hears);
     rest_steps = t.rest_steps;
     rest_view = t.rest_view;
     rest_log = t.rest_log;

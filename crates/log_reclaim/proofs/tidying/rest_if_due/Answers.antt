@@ -10,8 +10,8 @@ use Rattle.log_reclaim.proofs.tidying.rest_if_due.Goals.{then-latest-eq-LAST-via
 pub returns-then-latest-eq-LAST-clause-rests : goal.returns-then-latest-eq-LAST-clause-rests
 returns-then-latest-eq-LAST-clause-rests g c =
     let still = still_of _ _ (view c.args.pass.now) c.args.pass.now.known c.requires.may.outside in
-    rests_none (config_of c.args.shared.now) (view c.args.pass.now) c.requires.may still _ _ c.args.log.now c.args.latest c.args.pass.now.known c.requires.within
-    (elim c.then-latest-eq-LAST.branch [
+    rests_none (config_of c.args.shared.now) (view c.args.pass.now) c.requires.may still _ _ c.args.log.now c.args.latest c.args.pass.now.known
+    c.requires.within (elim c.then-latest-eq-LAST.branch [
       | then-latest-eq-LAST-via-then-latest-eq-LAST w ↦ inl w.if-latest-eq-LAST.true
       | then-latest-eq-LAST-via-else-latest-eq-LAST+then-not-any_above w ↦ let none : w.any_above.result ≡ false =
           search rules in inr (subst (IsAnyAbove c.args.log.now c.args.latest) none w.any_above.ensures)

@@ -39,9 +39,8 @@ returns-then-live-eq0-clause-reclaims g c =
 
 pub returns-then-live-eq0-clause-stands : goal.returns-then-live-eq0-clause-stands
 returns-then-live-eq0-clause-stands g c =
-    let a = c.known in
-    grace_stands (config_of c.args.shared.now) (view c.free_all-freed.new.pass) (view a.new.pass) a.result.time a.ensures.view c.free_all-freed.new.log
-    c.free_all-freed.ensures.stands
+    grace_stands (config_of c.args.shared.now) (view c.free_all-freed.new.pass) (view c.known.new.pass) c.known.result.time c.known.ensures.view
+    c.free_all-freed.new.log c.free_all-freed.ensures.stands
 
 -- the whole tidy, of which the first frees left something
 all : (g : Over) (c : goal.After-struct_known-1 g)

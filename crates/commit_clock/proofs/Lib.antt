@@ -2,3 +2,4 @@ pub mod NoneHelped
 pub mod Views
 pub mod HelpedPhase
 pub mod HelpKinds
+pub mod Hearing

@@ -5,6 +5,7 @@ ghost use Rattle.mv_layout.specs.Words.{clock_slot_of};
 ghost use Rattle.mv_core.specs.Passes.{view, IsOf, IsSame, config_of};
 ghost use Rattle.mv_core.specs.SectionFacts.{IsWord};
 ghost use Rattle.mv_core.specs.EnterSteps.{IsWhole, MayLoadCheck, check_loaded};
+ghost use Rattle.commit_clock.specs.Hears.{HearsJust};
 ghost use Rattle.commit_clock.specs.Helps.{HasLoaded, Helps, FindsClock, HelpStarts, IsStarted, IsChecked, EndsHelp};
 
 use mv_core::{Pass, Shared, Steps};
@@ -52,7 +53,7 @@ pub fn help<P: Protocol, L: Ledger>(
 }
 
 /// Helps as `help` does, and answers the word of CLOCK that the help loaded, or None where it made
-/// no load of CLOCK. It is `help_start`, and where that has begun one, `help_check` and `help_end`.
+/// no load of CLOCK: each load of CLOCK among its steps found that word. It is `help_start`, and where that has begun one, `help_check` and `help_end`.
 pub fn help_clock<P: Protocol, L: Ledger>(
     shared: &Shared<P>,
     pass: &mut Pass<P>,
@@ -65,6 +66,7 @@ pub fn help_clock<P: Protocol, L: Ledger>(
     ensures same { IsSame pass.old pass.new }
     ensures helps { Helps (config_of shared.now) (view pass.old) (view pass.new) word }
     ensures clock { FindsClock (config_of shared.now) (view pass.old) (view pass.new) result }
+    ensures hears { HearsJust (view pass.old) (view pass.new) result }
     ensures none { clock_slot_of word ≡ 8191 → (view pass.new ≡ view pass.old) × (steps.new ≡ steps.old) }
     ensures cost { steps.new ≤ steps.old + 3 }
 {

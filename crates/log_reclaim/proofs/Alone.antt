@@ -40,7 +40,7 @@ module _ (c : Config) (one : c.seats ≡ 1) where
 
   module _ (starts : State → Type 0) (allows : List ℕ → State → Writes → Type 0) (v u x w : View) (k l m o : Noted) (made rested later : List Step)
       (first last : Scanned) (found unused : Found) (freed more : ℕ)
-      (sweep : Sweeps c v u k l made true first found freed) (rest : RestsSo u x l m rested first.latest)
+      (sweep : Sweeps c v u k l made true first found freed) (rest : RestsSo c u x l m rested first.latest)
       (again : Sweeps c x w m o later false last unused more)
       (stands : Stands c v k) (known : ∥ Known starts allows v ∥₁) (mine : v.number < c.seats) (early : v.base + length v.past.seen < 35184372088831) where
     number_u : u.number ≡ v.number

@@ -1,5 +1,5 @@
 -- A round that first freed what the watermark in GRACE allows.
-use Rattle.std.proofs.Common.{◌≡◌, ℕ, ◌+◌, ◌<◌, ◌≤◌, List, [], ◌∷◌, ◌++◌, length, drop, All, Bool, refl, sym, ap, ◌∙◌, subst, arith}
+use Rattle.std.proofs.Common.{◌≡◌, ℕ, ◌+◌, ◌<◌, ◌≤◌, List, [], ◌∷◌, ◌++◌, length, drop, All, Bool, true, false, refl, sym, ap, ◌∙◌, subst, arith}
 use Rattle.std.proofs.Common.{append-nil, append_assoc, length-drop, Option, Some, None}
 use Rattle.std.proofs.lemmas.List.Elements.{All-nil, All-cons, All-append}
 use Rattle.mv_history.specs.declared.Step.{Step}
@@ -10,11 +10,11 @@ use Rattle.seat_log.specs.Notes.{Noted, IsNoteAt}
 use Rattle.seat_log.specs.Frees.{OldestIsDead, freed_noted}
 use Rattle.log_reclaim.specs.declared.settling.Found.{Found}
 use Rattle.log_reclaim.specs.declared.rounds.Scanned.{Scanned}
-use Rattle.log_reclaim.specs.Parts.{BeginsNoScan, LeavesClock, IsPlainKind, DiesFrom, Shrinks, HasScanned, grace_load}
+use Rattle.log_reclaim.specs.Parts.{LeavesClock, IsPlainKind, DiesFrom, Shrinks, HasScanned, grace_load}
 use Rattle.log_reclaim.specs.Untimed.{DatedSo}
 use Rattle.log_reclaim.specs.Tries.{Makes}
 use Rattle.log_reclaim.specs.Sweeps.{found_at, Sweeps, SweepsAll}
-use Rattle.log_reclaim.specs.Rounds.{FreesAll, FreesFirst, FreesBeforeScan}
+use Rattle.log_reclaim.specs.Rounds.{EndsBy, FreesAll, FreesFirst, FreesBeforeScan}
 use Rattle.log_reclaim.proofs.FreedAll.{free_kind}
 use Rattle.log_reclaim.proofs.Reclaiming.{reclaims_on, makes_on, reclaims_number, reclaims_base, reclaims_more}
 use Rattle.log_reclaim.proofs.Composed.{shrinks_then}
@@ -47,9 +47,9 @@ module _ (v w : View) (l m : Noted) (made : List Step) (t freed : ℕ) (k : Free
 
 -- a round that began with them
 module _ (c : Config) (v w : View) (l m : Noted) (made : List Step) (t freed : ℕ) (k : FreesAll v w l m made t freed) where
-  pub frees_first : (rest : List Step) → (length m.live ≡ 0 → All (λ s. BeginsNoScan s.kind) rest)
-      → FreesFirst c l ((grace_load c t ∷ []) ++ made ++ rest)
-  frees_first rest none =
+  pub frees_first : (tidies : Bool) (rest : List Step) → (length m.live ≡ 0 → EndsBy c tidies rest)
+      → FreesFirst c l ((grace_load c t ∷ []) ++ made ++ rest) tidies
+  frees_first tidies rest none =
       let long = k.long in
       let all = frees_long v w l m made t freed k in record {
         time = t;
@@ -64,9 +64,13 @@ module _ (c : Config) (v w : View) (l m : Noted) (made : List Step) (t freed : �
       }
 
   -- and was no more
-  pub frees_only : FreesFirst c l ((grace_load c t ∷ []) ++ made)
+  pub frees_only : FreesFirst c l ((grace_load c t ∷ []) ++ made) false
   frees_only =
-      subst (FreesFirst c l) (append-nil ((grace_load c t ∷ []) ++ made)) (frees_first [] (λ e. All-nil (λ (s : Step). BeginsNoScan s.kind)))
+      subst (λ (s : List Step). FreesFirst c l s false) (append-nil ((grace_load c t ∷ []) ++ made)) (frees_first false [] (λ e. refl))
+
+  -- and loaded GRACE once more
+  pub frees_again : (again : ℕ) → FreesFirst c l ((grace_load c t ∷ []) ++ made ++ grace_load c again ∷ []) true
+  frees_again again = frees_first true (grace_load c again ∷ []) (λ e. (again, refl))
 
   -- or scanned what they left
   pub frees_then : (rest : List Step) (scanned : Scanned) → 0 < length m.live
@@ -75,12 +79,12 @@ module _ (c : Config) (v w : View) (l m : Noted) (made : List Step) (t freed : �
   frees_then rest scanned some =
       let long = k.long in
       let all = frees_long v w l m made t freed k in
-      (frees_first rest (λ e. absurd (omega arith)), (let lt : length made < length l.live = omega arith in lt))
+      (frees_first false rest (λ e. absurd (omega arith)), (let lt : length made < length l.live = omega arith in lt))
 
--- it holds of more steps, where they begin no scan if the first frees left nothing
-pub frees_longer : (c : Config) (l : Noted) (made more : List Step) (f : FreesFirst c l made)
-    → (length f.frees ≡ length l.live → All (λ s. BeginsNoScan s.kind) more) → FreesFirst c l (made ++ more)
-frees_longer c l made more f none = record {
+-- it holds of more steps, of a round or a tidy, where the first frees left something
+pub frees_longer : (c : Config) (l : Noted) (made more : List Step) (tidies : Bool) (f : FreesFirst c l made false) → length f.frees < length l.live
+    → FreesFirst c l (made ++ more) tidies
+frees_longer c l made more tidies f some = record {
   time = f.time;
   frees = f.frees;
   rest = f.rest ++ more;
@@ -88,11 +92,11 @@ frees_longer c l made more f none = record {
   kinds = f.kinds;
   few = f.few;
   kept = f.kept;
-  empty = λ e. All-append (λ (s : Step). BeginsNoScan s.kind) f.rest more (f.empty e) (none e);
+  empty = λ e. absurd (omega arith);
 }
 
 -- whatever a round scanned, it freed first
-pub freed_first : (c : Config) (l : Noted) (made : List Step) (scanned : Option Scanned) → FreesBeforeScan c l made scanned → FreesFirst c l made
+pub freed_first : (c : Config) (l : Noted) (made : List Step) (scanned : Option Scanned) → FreesBeforeScan c l made scanned → FreesFirst c l made false
 freed_first c l made None f = f
 freed_first c l made (Some scanned) f = f.0
 
@@ -113,6 +117,18 @@ sweeps_all c v g w l m one made t freed load plain k empty =
       shrinks = frees_shrinks g w l m made t freed k;
       empty = empty;
     }
+
+-- they left nothing, and what followed did nothing either
+pub sweeps_on : (c : Config) (v x w : View) (l m : Noted) (made more : List Step) (freed : ℕ) → SweepsAll c v x l m made freed → Makes x w more
+    → All (λ s. IsPlainKind s.kind) more → SweepsAll c v w l m (made ++ more) freed
+sweeps_on c v x w l m made more freed k then plain = record {
+  reclaims = reclaims_on v x w made more k.reclaims then.reclaims;
+  leaves = All-append (λ s. LeavesClock s.kind) made more k.leaves (leaves_clock more then.kinds);
+  plain = λ off. All-append (λ s. IsPlainKind s.kind) made more (k.plain off) plain;
+  rests = then.rests ∙ k.rests;
+  shrinks = k.shrinks;
+  empty = k.empty;
+}
 
 -- they left something, and then the round scanned
 module _ (c : Config) (v g x w : View) (l k m : Noted) (one made more : List Step) (t freed : ℕ) (back : Bool) (scanned : Scanned) (found : Found) (then : ℕ)

@@ -36,3 +36,4 @@ pub mod OneNote
 pub mod OneLook
 pub mod EachLook
 pub mod FreshTimes
+pub mod Heard

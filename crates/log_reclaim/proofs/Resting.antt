@@ -1,5 +1,5 @@
 -- One try of a rest: the clock is loaded, its word is helped, and the next entry is named as a rest.
-use Rattle.std.proofs.Common.{◌≡◌, ◌⊎◌, ℕ, ◌+◌, ◌^◌, ◌<◌, ◌≤◌, true, false, List, [], ◌∷◌, ◌++◌, length, All}
+use Rattle.std.proofs.Common.{◌≡◌, ◌≢◌, ◌⊎◌, ℕ, ◌+◌, ◌^◌, ◌<◌, ◌≤◌, true, false, List, [], ◌∷◌, ◌++◌, length, All}
 use Rattle.std.proofs.Common.{refl, sym, ap, ◌∙◌, subst, inl, inr, ⊎_elim, arith, append-nil, append_assoc, length-append, Some, None}
 use Rattle.std.proofs.Math.Logic.{∥∥₁_elim}
 use Rattle.std.proofs.Math.Bridge.{le_prop}
@@ -87,7 +87,11 @@ listens_then u v w made more p q = record {
   rest = q.rest ∙ ap (λ (x : View). record x { past = w.past; clocks = w.clocks; trail = w.trail }) p.rest;
 }
 
-module _ (v : View) (may : MayLoadLow v) (still : (v.walk ≡ Nowhere) × (v.back ≡ None)) where
+-- none isn't some
+none_some : (new : ℕ) → None ≡ Some new → ⊥
+none_some new e = cc
+
+module _ (c : Config) (v : View) (may : MayLoadLow v) (still : (v.walk ≡ Nowhere) × (v.back ≡ None)) where
   pub reclaims_listening : (w : View) (made : List Step) → Listens v w made → Reclaims v w made
   reclaims_listening w made k =
       reclaims_outside v w made may still
@@ -98,7 +102,7 @@ module _ (v : View) (may : MayLoadLow v) (still : (v.walk ≡ Nowhere) × (v.bac
   -- nothing was done: the last time was seen, or no version is dead only from above
   pub rests_none : (starts : State → Type 0) (allows : List ℕ → State → Writes → Type 0) (l : Noted) (latest : ℕ) → ∥ Known starts allows v ∥₁
       → latest ≤ v.base + length v.past.seen → (latest ≡ 35184372088831) ⊎ IsAnyAbove l latest false
-      → (made : List Step) × RestsSo v v l l made latest
+      → (made : List Step) × RestsSo c v v l l made latest
   rests_none starts allows l latest known within why =
       let high : v.base + length v.past.seen ≤ 35184372088831 = ∥∥₁_elim known le_prop (λ a. a.in_time) in (
         [],
@@ -169,7 +173,7 @@ module _ (c : Config) (v x : View) (word : ℕ) (h0 : List Entry) (whole : IsWho
 
   -- the word loaded is of the last time
   pub rests_at_end : (starts : State → Type 0) (allows : List ℕ → State → Writes → Type 0) (l : Noted) (latest : ℕ) → ∥ Known starts allows y ∥₁
-      → v.base ≡ c.base → clock_time_of word ≡ 35184372088831 → (made : List Step) × RestsSo v y l l made latest
+      → v.base ≡ c.base → clock_time_of word ≡ 35184372088831 → (made : List Step) × RestsSo c v y l l made latest
   rests_at_end starts allows l latest known base last =
       let high : y.base + length y.past.seen ≤ 35184372088831 = ∥∥₁_elim known le_prop (λ a. a.in_time) in
       let same : y.base ≡ v.base = ap (λ (u : View). u.base) listens_next.rest in
@@ -177,7 +181,7 @@ module _ (c : Config) (v x : View) (word : ℕ) (h0 : List Entry) (whole : IsWho
       let found = whole.1 in (
         steps,
         record {
-          reclaims = reclaims_listening v may still y steps listens_next;
+          reclaims = reclaims_listening c v may still y steps listens_next;
           kinds = All-weaker (λ (s : Step). IsRestStep s.kind) (λ s. BeginsNoScan s.kind) (λ s. begins_none s.kind) steps listens_next.kinds;
           few = (let none = ap length none_next in let e : length (clock_exchanges steps) ≤ 1 = omega arith in e);
           due = inl none_next;
@@ -200,80 +204,95 @@ module _ (c : Config) (v x : View) (word : ℕ) (h0 : List Entry) (whole : IsWho
   pub stands_lost : (w : View) (l : Noted) (found : ℕ) (h : List Entry) → Stands c v l → w ≡ rest_lost c y found h → Stands c w l
   stands_lost w l found h k is_lost = subst (λ (u : View). Stands c u l) (sym is_lost) (stands_unrested c y l found h (stands_helped l k))
 
-  module _ (w : View) (latest : ℕ) (within : latest ≤ v.base + length v.past.seen) (base : v.base ≡ c.base) where
-    -- an exchange of CLOCK was made after that, by which more than up to `latest` was seen
-    rests_by : (step : Step) (l m : Noted) → IsAnyAbove l latest true → IsRestStep step.kind → Listens y w (step ∷ [])
-        → (w.past.rests ≡ y.past.rests) ⊎ (w.past.rests ≡ y.past.rests + 1) → m ≡ record l { rests = m.rests } → latest < w.base + length w.past.seen
-        → (made : List Step) × RestsSo v w l m made latest
-    rests_by step l m due kind more once log late =
-        let all = listens_then v y w steps (step ∷ []) listens_next more in (
-          steps ++ step ∷ [],
-          record {
-            reclaims = reclaims_listening v may still w (steps ++ step ∷ []) all;
-            kinds = All-weaker (λ (s : Step). IsRestStep s.kind) (λ s. BeginsNoScan s.kind) (λ s. begins_none s.kind) (steps ++ step ∷ []) all.kinds;
-            few = one_last steps step none_next;
-            due = inr due;
-            once = ⊎_elim (λ e. inl (e ∙ rests_next)) (λ e. inr (e ∙ ap (λ n. n + 1) rests_next)) once;
-            log = log;
-            dated = inr (inl late);
-          },
-        )
+  module _ (w : View) (latest : ℕ) (within : latest ≤ v.base + length v.past.seen) (base : v.base ≡ c.base) (early : clock_time_of word ≢ 35184372088831)
+    where
+      -- an exchange of CLOCK was made after that, by which more than up to `latest` was seen
+      rests_by : (step : Step) (l m : Noted) → IsAnyAbove l latest true → IsRestStep step.kind → Listens y w (step ∷ [])
+          → (w.past.rests ≡ y.past.rests) ⊎ (w.past.rests ≡ y.past.rests + 1) → m ≡ record l { rests = m.rests } → latest < w.base + length w.past.seen
+          → step.kind ≡ NameRest → ((new : ℕ) → step.stored ≡ Some new → step.found ≡ Some word)
+          → (made : List Step) × RestsSo c v w l m made latest
+      rests_by step l m due kind more once log late rests from =
+          let all = listens_then v y w steps (step ∷ []) listens_next more in (
+            steps ++ step ∷ [],
+            record {
+              reclaims = reclaims_listening c v may still w (steps ++ step ∷ []) all;
+              kinds = All-weaker (λ (s : Step). IsRestStep s.kind) (λ s. BeginsNoScan s.kind) (λ s. begins_none s.kind) (steps ++ step ∷ []) all.kinds;
+              few = one_last steps step none_next;
+              due = inr (
+                due,
+                record {
+                  word = word;
+                  early = early;
+                  help = helps.trail.0;
+                  few = helps.trail.2;
+                  helps = helps.trail.3;
+                  swap = step;
+                  kind = rests;
+                  from = from;
+                  made_is = refl;
+                },
+              );
+              once = ⊎_elim (λ e. inl (e ∙ rests_next)) (λ e. inr (e ∙ ap (λ n. n + 1) rests_next)) once;
+              log = log;
+              dated = inr (inl late);
+            },
+          )
 
-    same_base : y.base ≡ v.base
-    same_base = ap (λ (u : View). u.base) listens_next.rest
+      same_base : y.base ≡ v.base
+      same_base = ap (λ (u : View). u.base) listens_next.rest
 
-    pub rests_done : (l m : Noted) (h : List Entry) → IsAnyAbove l latest true → IsWhole c y word h → w ≡ rest_named c y word h → m ≡ rest_noted l
-        → (made : List Step) × RestsSo v w l m made latest
-    rests_done l m h due now is_named noted =
-        let step : Step = record { kind = NameRest; word = place_of c Clock; found = Some word; stored = Some (rest_word y word) } in
-        let seen : w.past.seen ≡ h ++ Rest y.number ∷ [] = ap (λ (u : View). u.past.seen) is_named in
-        let far : w.base ≡ y.base = ap (λ (u : View). u.base) is_named in
-        let longer = ap length seen in
-        let more = length-append h (Rest y.number ∷ []) in
-        let long = begins_long h v.past.seen (begins_by h y.past.seen v.past.seen now.0 listens_next.seen) in
-        let same = same_base in
-        rests_by step l m due tt
-        (record {
-          seen = begins_by w.past.seen h y.past.seen (Rest y.number ∷ [], seen) now.0;
-          mine = ap (λ (u : View). u.past.mine) is_named;
-          trail = ap (λ (u : View). u.trail) is_named;
-          kinds = All-cons (λ s. IsRestStep s.kind) step [] tt (All-nil (λ s. IsRestStep s.kind));
-          rest = is_named
-              ∙ (λ i. record y {
-                past = sym (ap (λ (u : View). u.past) is_named) i;
-                clocks = sym (ap (λ (u : View). u.clocks) is_named) i;
-                trail = sym (ap (λ (u : View). u.trail) is_named) i;
-              });
-        })
-        (inr (ap (λ (u : View). u.past.rests) is_named))
-        (noted ∙ ap (λ (n : ℕ). record l { rests = n }) (sym (ap (λ (k : Noted). k.rests) noted)))
-        (omega arith)
+      pub rests_done : (l m : Noted) (h : List Entry) → IsAnyAbove l latest true → IsWhole c y word h → w ≡ rest_named c y word h → m ≡ rest_noted l
+          → (made : List Step) × RestsSo c v w l m made latest
+      rests_done l m h due now is_named noted =
+          let step : Step = record { kind = NameRest; word = place_of c Clock; found = Some word; stored = Some (rest_word y word) } in
+          let seen : w.past.seen ≡ h ++ Rest y.number ∷ [] = ap (λ (u : View). u.past.seen) is_named in
+          let far : w.base ≡ y.base = ap (λ (u : View). u.base) is_named in
+          let longer = ap length seen in
+          let more = length-append h (Rest y.number ∷ []) in
+          let long = begins_long h v.past.seen (begins_by h y.past.seen v.past.seen now.0 listens_next.seen) in
+          let same = same_base in
+          rests_by step l m due tt
+          (record {
+            seen = begins_by w.past.seen h y.past.seen (Rest y.number ∷ [], seen) now.0;
+            mine = ap (λ (u : View). u.past.mine) is_named;
+            trail = ap (λ (u : View). u.trail) is_named;
+            kinds = All-cons (λ s. IsRestStep s.kind) step [] tt (All-nil (λ s. IsRestStep s.kind));
+            rest = is_named
+                ∙ (λ i. record y {
+                  past = sym (ap (λ (u : View). u.past) is_named) i;
+                  clocks = sym (ap (λ (u : View). u.clocks) is_named) i;
+                  trail = sym (ap (λ (u : View). u.trail) is_named) i;
+                });
+          })
+          (inr (ap (λ (u : View). u.past.rests) is_named))
+          (noted ∙ ap (λ (n : ℕ). record l { rests = n }) (sym (ap (λ (k : Noted). k.rests) noted)))
+          (omega arith) refl (λ new stored. refl)
 
-    pub rests_lost : (l : Noted) (found : ℕ) (h : List Entry) (rival : Rival) → IsAnyAbove l latest true → IsLost c y word found rival h
-        → w ≡ rest_lost c y found h → (made : List Step) × RestsSo v w l l made latest
-    rests_lost l found h rival due lost is_lost =
-        let step : Step = record { kind = NameRest; word = place_of c Clock; found = Some found; stored = None } in
-        let seen : w.past.seen ≡ h = ap (λ (u : View). u.past.seen) is_lost in
-        let far : w.base ≡ y.base = ap (λ (u : View). u.base) is_lost in
-        let longer = ap length seen in
-        let first = begins_long h0 v.past.seen whole.0 in
-        let was = whole.1 in
-        let now = lost.whole.1 in
-        let later = lost.overtaken.later in
-        let same = same_base in
-        rests_by step l l due tt
-        (record {
-          seen = subst (λ (k : List Entry). BeginsWith k y.past.seen) (sym seen) lost.whole.0;
-          mine = ap (λ (u : View). u.past.mine) is_lost;
-          trail = ap (λ (u : View). u.trail) is_lost;
-          kinds = All-cons (λ s. IsRestStep s.kind) step [] tt (All-nil (λ s. IsRestStep s.kind));
-          rest = is_lost
-              ∙ (λ i. record y {
-                past = sym (ap (λ (u : View). u.past) is_lost) i;
-                clocks = sym (ap (λ (u : View). u.clocks) is_lost) i;
-                trail = sym (ap (λ (u : View). u.trail) is_lost) i;
-              });
-        })
-        (inl (ap (λ (u : View). u.past.rests) is_lost))
-        refl
-        (omega arith)
+      pub rests_lost : (l : Noted) (found : ℕ) (h : List Entry) (rival : Rival) → IsAnyAbove l latest true → IsLost c y word found rival h
+          → w ≡ rest_lost c y found h → (made : List Step) × RestsSo c v w l l made latest
+      rests_lost l found h rival due lost is_lost =
+          let step : Step = record { kind = NameRest; word = place_of c Clock; found = Some found; stored = None } in
+          let seen : w.past.seen ≡ h = ap (λ (u : View). u.past.seen) is_lost in
+          let far : w.base ≡ y.base = ap (λ (u : View). u.base) is_lost in
+          let longer = ap length seen in
+          let first = begins_long h0 v.past.seen whole.0 in
+          let was = whole.1 in
+          let now = lost.whole.1 in
+          let later = lost.overtaken.later in
+          let same = same_base in
+          rests_by step l l due tt
+          (record {
+            seen = subst (λ (k : List Entry). BeginsWith k y.past.seen) (sym seen) lost.whole.0;
+            mine = ap (λ (u : View). u.past.mine) is_lost;
+            trail = ap (λ (u : View). u.trail) is_lost;
+            kinds = All-cons (λ s. IsRestStep s.kind) step [] tt (All-nil (λ s. IsRestStep s.kind));
+            rest = is_lost
+                ∙ (λ i. record y {
+                  past = sym (ap (λ (u : View). u.past) is_lost) i;
+                  clocks = sym (ap (λ (u : View). u.clocks) is_lost) i;
+                  trail = sym (ap (λ (u : View). u.trail) is_lost) i;
+                });
+          })
+          (inl (ap (λ (u : View). u.past.rests) is_lost))
+          refl
+          (omega arith) refl (λ new stored. absurd (none_some new stored))

@@ -1,25 +1,28 @@
 -- A tidy tries a rest only where a version is dead from a time above the clock.
-use Rattle.std.proofs.Common.{◌≡◌, ℕ, ◌+◌, true, List, [], ◌++◌, sym, ◌∙◌, subst, inl, inr, ⊎_elim, ap, arith, append_assoc, Contains}
+use Rattle.std.proofs.Common.{◌≡◌, ℕ, ◌+◌, true, List, [], ◌++◌, refl, sym, ◌∙◌, subst, inl, inr, ⊎_elim, ap, arith, append_assoc, append-nil, All, Contains}
 use Rattle.std.proofs.lemmas.Bool.{cases_lt}
+use Rattle.std.proofs.lemmas.List.{append_cancel_left}
 use Rattle.std.proofs.lemmas.List.Elements.{Contains-append_left}
 use Rattle.mv_history.specs.Trail.{clock_exchanges}
 use Rattle.mv_history.specs.declared.Step.{Step}
 use Rattle.mv_layout.specs.declared.Config.{Config}
 use Rattle.mv_core.specs.declared.view.View.{View}
+use Rattle.commit_clock.specs.Hears.{FindsUpTo, Hears}
 use Rattle.seat_log.specs.declared.version.Note.{Note}
 use Rattle.seat_log.specs.Notes.{Noted}
 use Rattle.log_reclaim.specs.declared.settling.Found.{Found}
 use Rattle.log_reclaim.specs.declared.rounds.Scanned.{Scanned}
 use Rattle.log_reclaim.specs.Parts.{Reclaims, DiesFrom, HasScan, super_load, TimesDeath}
 use Rattle.log_reclaim.specs.Sweeps.{Sweeps}
-use Rattle.log_reclaim.specs.Tidies.{IsAnyAbove, RestsSo, RestIsDue, RestsWhereDue}
+use Rattle.log_reclaim.specs.Tidies.{IsAnyAbove, TriesRest, RestsSo, RestIsDue, RestsWhereDue}
 use Rattle.log_reclaim.proofs.Exchanges.{none_exchanged, none_in_both}
 use Rattle.log_reclaim.proofs.MoreSteps.{scan_more}
-use Rattle.log_reclaim.proofs.Reclaiming.{reclaims_number, reclaims_base, reclaims_more, reclaims_on}
+use Rattle.log_reclaim.proofs.Reclaiming.{reclaims_number, reclaims_on}
 use Rattle.log_reclaim.proofs.Untimed.{times_first}
 
 module _ (c : Config) (v u x w : View) (k l m : Noted) (made rested later : List Step) (first : Scanned) (found : Found) (freed : ℕ)
-    (sweep : Sweeps c v u k l made true first found freed) (rest : RestsSo u x l m rested first.latest) (after : Reclaims x w later)
+    (sweep : Sweeps c v u k l made true first found freed) (hears : Hears v u first.latest) (rest : RestsSo c u x l m rested first.latest)
+    (after : Reclaims x w later)
     (none : clock_exchanges later ≡ []) where
   abbrev steps : List Step
   steps = made ++ rested ++ later
@@ -36,15 +39,16 @@ module _ (c : Config) (v u x w : View) (k l m : Noted) (made rested later : List
         ap (λ (x : Note). x.position) dies.same i,
       )) there
 
-  due : IsAnyAbove l first.latest true → RestIsDue c w k steps
-  due above =
+  -- the steps of which it is known what their loads of CLOCK found are those of the scan and of what followed it
+  heard : hears.made ≡ made
+  heard = append_cancel_left v.trail hears.made made (sym hears.trail ∙ sweep.reclaims.trail)
+
+  due : IsAnyAbove l first.latest true → TriesRest c rested → RestIsDue c w k steps
+  due above tries =
       let n = above.1 in
       let r = sweep.notes above.0 n above.2 in
       let more = reclaims_on u x w rested later rest.reclaims after in
-      let base = reclaims_base u w (rested ++ later) more in
-      let long = reclaims_more u w (rested ++ later) more in
       let number : w.number ≡ v.number = reclaims_number u w (rested ++ later) more ∙ reclaims_number v u made sweep.reclaims in
-      let from = sweep.from in
       let late = above.3 in
       record {
         index = above.0 + freed;
@@ -65,13 +69,19 @@ module _ (c : Config) (v u x w : View) (k l m : Noted) (made rested later : List
             (cases_lt 0 r.0.dead);
         mark = first.mark;
         clock = first.clock;
-        scan = of_first (λ s. HasScan c w.number s first.mark first.clock)
-            (subst (λ (own : ℕ). HasScan c own (made ++ (rested ++ later)) first.mark first.clock) (sym number)
-            (scan_more [] made (rested ++ later) c v.number first.mark first.clock sweep.scan));
-        above = omega arith;
+        before = made;
+        tried = rested;
+        after = later;
+        made_is = refl;
+        tries = tries;
+        scan = subst (λ (x : ℕ × List Step). HasScan c x.0 x.1 first.mark first.clock) (λ i. (sym number i, append-nil made i))
+            (scan_more [] made [] c v.number first.mark first.clock sweep.scan);
+        latest = first.latest;
+        most = subst (λ (s : List Step). All (λ s. FindsUpTo first.latest s) s) heard hears.most;
+        above = above.3;
       }
 
   pub tidy_due : RestsWhereDue c w k steps
   tidy_due =
       ⊎_elim (λ untried. inl (none_in_both (made ++ rested) later (none_in_both made rested (none_exchanged made sweep.leaves) untried) none))
-      (λ above. inr (due above)) rest.due
+      (λ tried. inr (due tried.0 tried.1)) rest.due

@@ -8,6 +8,8 @@ use Rattle.mv_history.specs.declared.answers.Holder.{Holder}
 use Rattle.mv_layout.specs.declared.Config.{Config}
 use Rattle.mv_core.specs.declared.view.View.{View}
 use Rattle.mv_core.specs.Known.{Known}
+use Rattle.commit_clock.specs.Hears.{Hears}
+use Rattle.commit_clock.proofs.Hearing.{hears_one, hears_on}
 use Rattle.seat_log.specs.Notes.{Noted}
 use Rattle.seat_log.specs.Stands.{Stands}
 use Rattle.log_reclaim.specs.declared.settling.Found.{Found}
@@ -27,6 +29,7 @@ use Rattle.log_reclaim.proofs.Exchanges.{none_exchanged, one_between}
 use Rattle.log_reclaim.proofs.TidyCauses.{tidy_holds, tidy_tried}
 use Rattle.log_reclaim.proofs.RestsDue.{tidy_due}
 use Rattle.log_reclaim.proofs.Alone.{none_alive}
+use Rattle.log_reclaim.proofs.Heard.{heard_freed}
 
 pub held_by_none : (o : Noted) (first : Scanned) (last : Option Scanned) (found : Found) (held : Option Holder) → last ≡ None → held ≡ None
     → HeldBy o first last found held
@@ -66,18 +69,17 @@ rests_of c v w l m made back found freed (Some scanned) k = k.rests
 -- a tidy of which the first frees left something, by its parts
 module _ (starts : State → Type 0) (allows : List ℕ → State → Writes → Type 0) (c : Config) (v u x w : View) (k l m o : Noted)
     (made rested later : List Step) (first : Scanned) (found unused : Found) (freed more : ℕ) (sweep : Sweeps c v u k l made true first found freed)
-    (rest : RestsSo u x l m rested first.latest) (stands : Stands c v k) (stands_x : Stands c x m) (stands_w : Stands c w o)
+    (rest : RestsSo c u x l m rested first.latest) (stands : Stands c v k) (stands_x : Stands c x m) (stands_w : Stands c w o)
     (known : ∥ Known starts allows v ∥₁) (known_x : ∥ Known starts allows x ∥₁) (known_w : ∥ Known starts allows w ∥₁) where
-  frees_scanned : FreesBeforeScan c k made (Some first) → FreesFirst c k (made ++ rested ++ later)
+  frees_scanned : FreesBeforeScan c k made (Some first) → FreesFirst c k (made ++ rested ++ later) true
   frees_scanned one =
-      let some = one.1 in
-      subst (FreesFirst c k) (sym (append_assoc made rested later)) (frees_longer c k made (rested ++ later) one.0 (λ e. absurd (omega arith)))
+      subst (λ (s : List Step). FreesFirst c k s true) (sym (append_assoc made rested later)) (frees_longer c k made (rested ++ later) true one.0 one.1)
 
-  by_parts : (last : Option Scanned) → SweepsSo c x w m o later false unused more last → FreesBeforeScan c k made (Some first)
+  by_parts : Hears v u first.latest → (last : Option Scanned) → SweepsSo c x w m o later false unused more last → FreesBeforeScan c k made (Some first)
       → (held : Option Holder) → HeldBy o first last found held
       → (steps : List Step) × Reclaims v w steps × SweptSo c w o steps false × HeldSo (TidyHolds c w o steps) o held × (length (clock_exchanges steps) ≤ 1)
-      × WritesBackSo c w o steps × FreesFirst c k steps × RestsWhereDue c w k steps
-  by_parts None again one held by =
+      × WritesBackSo c w o steps × FreesFirst c k steps true × RestsWhereDue c w k steps
+  by_parts hears None again one held by =
       let steps : List Step = made ++ rested ++ later in (
         steps,
         reclaims_on v x w (made ++ rested) later (reclaims_on v u x made rested sweep.reclaims rest.reclaims) again.reclaims,
@@ -86,9 +88,9 @@ module _ (starts : State → Type 0) (allows : List ℕ → State → Writes →
         one_between made rested later (none_exchanged made sweep.leaves) rest.few (none_exchanged later again.leaves),
         inl again.empty,
         frees_scanned one,
-        tidy_due c v u x w k l m made rested later first found freed sweep rest again.reclaims (none_exchanged later again.leaves),
+        tidy_due c v u x w k l m made rested later first found freed sweep hears rest again.reclaims (none_exchanged later again.leaves),
       )
-  by_parts (Some last) again one held by =
+  by_parts hears (Some last) again one held by =
       let steps : List Step = made ++ rested ++ later in (
         steps,
         reclaims_on v x w (made ++ rested) later (reclaims_on v u x made rested sweep.reclaims rest.reclaims) again.reclaims,
@@ -99,7 +101,7 @@ module _ (starts : State → Type 0) (allows : List ℕ → State → Writes →
         inr (tidy_tried starts allows c v u x w k l m o made rested later first last found unused freed more sweep rest again stands stands_x
             stands_w known known_x known_w),
         frees_scanned one,
-        tidy_due c v u x w k l m made rested later first found freed sweep rest again.reclaims (none_exchanged later again.leaves),
+        tidy_due c v u x w k l m made rested later first found freed sweep hears rest again.reclaims (none_exchanged later again.leaves),
       )
 
   none_left : (last : Option Scanned) → SweepsSo c x w m o later false unused more last → v.number < c.seats → c.seats ≡ 1
@@ -128,10 +130,10 @@ module _ (starts : State → Type 0) (allows : List ℕ → State → Writes →
   module _ (stands : Stands c v l) (stands_w : Stands c w m) (known : ∥ Known starts allows v ∥₁) (known_w : ∥ Known starts allows w ∥₁) where
     pub left_reclaims : FreesBeforeScan c l t.scan_steps (Some t.first)
         → (steps : List Step) × Reclaims v w steps × SweptSo c w m steps false × HeldSo (TidyHolds c w m steps) m held
-        × (length (clock_exchanges steps) ≤ 1) × WritesBackSo c w m steps × FreesFirst c l steps × RestsWhereDue c w l steps
+        × (length (clock_exchanges steps) ≤ 1) × WritesBackSo c w m steps × FreesFirst c l steps true × RestsWhereDue c w l steps
     left_reclaims begins =
         by_parts starts allows c v t.scan_view t.rest_view w l t.scan_log t.rest_log m t.scan_steps t.rest_steps t.last_steps t.first t.found t.unused
-        t.first_freed t.last_freed t.scan t.rest stands t.stands stands_w known t.known known_w t.last t.again begins held t.held_by
+        t.first_freed t.last_freed t.scan t.rest stands t.stands stands_w known t.known known_w t.hears t.last t.again begins held t.held_by
 
     pub left_alone : v.number < c.seats → c.seats ≡ 1 → v.base + length v.past.seen < 35184372088831 → m.live ≡ []
     left_alone =
@@ -142,6 +144,10 @@ module _ (starts : State → Type 0) (allows : List ℕ → State → Writes →
 module _ (starts : State → Type 0) (allows : List ℕ → State → Writes → Type 0) (c : Config) (v g x w : View) (l k m : Noted) (made : List Step)
     (time freed more : ℕ) (held : Option Holder) (load : Makes v g (grace_load c time ∷ [])) (frees : FreesAll g x l k made time freed)
     (t : TidiesLeft starts allows c x w k m more held) where
+  -- the load of GRACE finds no time of CLOCK
+  loaded : Hears v g t.first.latest
+  loaded = hears_one v g t.first.latest (grace_load c time) load.reclaims.trail (λ tells. absurd tells)
+
   pub left_from : TidiesLeft starts allows c v w l m (freed + more) held
   left_from = record {
     scan_steps = (grace_load c time ∷ []) ++ made ++ t.scan_steps;
@@ -152,6 +158,8 @@ module _ (starts : State → Type 0) (allows : List ℕ → State → Writes →
     first_freed = freed + t.first_freed;
     scan = sweeps_then c v g x t.scan_view l k t.scan_log (grace_load c time ∷ []) made t.scan_steps time freed true t.first t.found t.first_freed load
         (grace_plain c time) frees t.scan;
+    hears = hears_on v g t.scan_view t.first.latest loaded
+        (hears_on g x t.scan_view t.first.latest (heard_freed g x l k made time freed t.first.latest frees) t.hears);
     rest_steps = t.rest_steps;
     rest_view = t.rest_view;
     rest_log = t.rest_log;
@@ -173,9 +181,9 @@ module _ (starts : State → Type 0) (allows : List ℕ → State → Writes →
 
 -- a tidy whose first frees left nothing
 module _ (c : Config) (v w : View) (l m : Noted) (made : List Step) (freed : ℕ) (sweep : SweepsAll c v w l m made freed) where
-  pub emptied : FreesFirst c l made → (held : Option Holder) → held ≡ None
+  pub emptied : FreesFirst c l made true → (held : Option Holder) → held ≡ None
       → (steps : List Step) × Reclaims v w steps × SweptSo c w m steps false × HeldSo (TidyHolds c w m steps) m held × (length (clock_exchanges steps) ≤ 1)
-      × WritesBackSo c w m steps × FreesFirst c l steps × RestsWhereDue c w l steps
+      × WritesBackSo c w m steps × FreesFirst c l steps true × RestsWhereDue c w l steps
   emptied first held none =
       let untried = none_exchanged made sweep.leaves in
       let few = ap length untried in (

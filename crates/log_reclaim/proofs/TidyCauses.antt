@@ -38,7 +38,8 @@ dead_above time n alive some = ⊎_elim (λ lt. lt) (λ le. absurd (alive (some,
 
 module _ (starts : State → Type 0) (allows : List ℕ → State → Writes → Type 0) (c : Config) (v u x w : View) (k l m o : Noted) (made rested later : List Step)
     (first last : Scanned) (found unused : Found) (freed more : ℕ)
-    (sweep : Sweeps c v u k l made true first found freed) (rest : RestsSo u x l m rested first.latest) (again : Sweeps c x w m o later false last unused more)
+    (sweep : Sweeps c v u k l made true first found freed) (rest : RestsSo c u x l m rested first.latest)
+    (again : Sweeps c x w m o later false last unused more)
     (stands : Stands c v k) (stands_x : Stands c x m) (stands_w : Stands c w o) (known : ∥ Known starts allows v ∥₁) (known_x : ∥ Known starts allows x ∥₁)
     (known_w : ∥ Known starts allows w ∥₁) where
   abbrev steps : List Step

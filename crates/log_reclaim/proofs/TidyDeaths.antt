@@ -42,7 +42,7 @@ module _ (starts : State → Type 0) (allows : List ℕ → State → Writes →
       (λ new. ⊎_elim (λ seen. inl seen.0) (λ t. inr t.1) new)
       r.3
 
-  module _ (x : View) (m : Noted) (rested : List Step) (rest : RestsSo u x l m rested first.latest) where
+  module _ (x : View) (m : Noted) (rested : List Step) (rest : RestsSo c u x l m rested first.latest) where
     pub at_before : (i : ℕ) (n : Note) → IsNoteAt m i n → IsNoteAt l i n
     at_before i n at = ap (λ (q : Noted). slice_get q.live i) (sym rest.log) ∙ at
 

@@ -1,5 +1,5 @@
 -- The parts of a round, and what it leaves of each version.
-use Rattle.std.specs.Prelude.{◌≡◌, ◌⊎◌, ℕ, ◌<◌, ◌≤◌, Bool, if◌then◌else◌, nat_lt, List, ◌∷◌, ◌++◌, length}
+use Rattle.std.specs.Prelude.{◌≡◌, ◌⊎◌, ℕ, ◌<◌, ◌≤◌, Bool, true, false, if◌then◌else◌, nat_lt, List, [], ◌∷◌, ◌++◌, length}
 use Rattle.std.specs.Prelude.{All, Option, Some, None}
 use Rattle.mv_history.specs.declared.answers.Holder.{Holder}
 use Rattle.mv_history.specs.declared.answers.Holder.TheVariants.{Mark, Above, Fresh, End}
@@ -14,7 +14,7 @@ use Rattle.seat_log.specs.Frees.{OldestIsDead, IsDeadNote, freed_noted}
 use Rattle.log_reclaim.specs.declared.settling.Found.{Found}
 use Rattle.log_reclaim.specs.declared.rounds.Scanned.{Scanned}
 use Rattle.log_reclaim.specs.Sweeps.{found_at}
-use Rattle.log_reclaim.specs.Parts.{HasScanned, BeginsNoScan, IsPlain, grace_load}
+use Rattle.log_reclaim.specs.Parts.{HasScanned, IsPlain, grace_load}
 use Rattle.log_reclaim.specs.Tries.{Makes}
 use Rattle.log_reclaim.specs.Untimed.{StaysUntimed}
 
@@ -29,9 +29,15 @@ pub record FreesAll (v w : View) (l m : Noted) (made : List Step) (time freed : 
   pub log : m ≡ freed_noted l freed
   pub kept : 0 < length m.live → OldestIsDead m time → ⊥
 
--- A round's steps begin with a load of GRACE and the frees that the time found there allows, one step for each slot: the oldest write
--- set that these leave isn't dead by that time. Where they leave nothing, no step begins a scan.
-pub record FreesFirst (c : Config) (l : Noted) (made : List Step) : Type 0 where
+-- what a call does once its first frees have left nothing: a tidy loads GRACE once more, which begins its round without write-backs, and a
+-- round does nothing
+abbrev pub EndsBy : Config → Bool → List Step → Type 0
+EndsBy c true rest = (time : ℕ) × (rest ≡ grace_load c time ∷ [])
+EndsBy c false rest = rest ≡ []
+
+-- The steps of a round, or of a tidy, begin with a load of GRACE and the frees that the time found there allows, one step for each slot:
+-- the oldest write set that these leave isn't dead by that time. Where they leave nothing, only what ends the call so follows.
+pub record FreesFirst (c : Config) (l : Noted) (made : List Step) (tidies : Bool) : Type 0 where
   pub time : ℕ
   pub frees : List Step
   pub rest : List Step
@@ -39,12 +45,12 @@ pub record FreesFirst (c : Config) (l : Noted) (made : List Step) : Type 0 where
   pub kinds : All (λ s. s.kind ≡ StoreFree) frees
   pub few : length frees ≤ length l.live
   pub kept : length frees < length l.live → OldestIsDead (freed_noted l (length frees)) time → ⊥
-  pub empty : length frees ≡ length l.live → All (λ s. BeginsNoScan s.kind) rest
+  pub empty : length frees ≡ length l.live → EndsBy c tidies rest
 
 -- the same, where a scan comes only after frees that left something
 abbrev pub FreesBeforeScan : Config → Noted → List Step → Option Scanned → Type 0
-FreesBeforeScan c l made None = FreesFirst c l made
-FreesBeforeScan c l made (Some scanned) = (first : FreesFirst c l made) × (length first.frees < length l.live)
+FreesBeforeScan c l made None = FreesFirst c l made false
+FreesBeforeScan c l made (Some scanned) = (first : FreesFirst c l made false) × (length first.frees < length l.live)
 
 -- the first version of the oldest write set that isn't dead by this time; where there is none, the set is dead by it
 abbrev pub IsDue : Noted → ℕ → Option Note → Type 0

@@ -1,12 +1,19 @@
 -- The parts of a tidy.
-use Rattle.std.specs.Prelude.{◌≡◌, ◌⊎◌, ℕ, ◌+◌, ◌<◌, ◌≤◌, Bool, true, false, List, [], length, All, Contains, Option, Some, None}
+use Rattle.std.specs.Prelude.{◌≡◌, ◌≢◌, ◌⊎◌, ℕ, ◌+◌, ◌<◌, ◌≤◌, Bool, true, false, List, [], ◌∷◌, ◌++◌, length, All, Contains}
+use Rattle.std.specs.Prelude.{Option, Some, None}
 use Rattle.mv_history.specs.declared.Step.{Step}
+use Rattle.mv_history.specs.declared.StepKind.TheVariants.{LoadCheck, NameRest}
 use Rattle.mv_history.specs.declared.answers.Holder.{Holder}
 use Rattle.mv_history.specs.State.{State, Writes}
 use Rattle.mv_history.specs.Trail.{clock_exchanges}
 use Rattle.mv_layout.specs.declared.Config.{Config}
+use Rattle.mv_layout.specs.declared.Place.TheVariants.{Clock}
+use Rattle.mv_layout.specs.Places.{place_of}
+use Rattle.mv_layout.specs.Words.{clock_time_of}
 use Rattle.mv_core.specs.declared.view.View.{View}
 use Rattle.mv_core.specs.Known.{Known}
+use Rattle.commit_clock.specs.Helps.{IsHelpStep}
+use Rattle.commit_clock.specs.Hears.{FindsUpTo, Hears}
 use Rattle.reader_marks.specs.declared.scanning.Watermark.{Watermark}
 use Rattle.seat_log.specs.declared.version.Note.{Note}
 use Rattle.seat_log.specs.Notes.{Noted, IsNoteAt}
@@ -27,19 +34,43 @@ IsAnyAbove l time false = (i : ℕ) (n : Note) → IsNoteAt l i n → n.dead ≤
 abbrev pub RestsOnce : View → View → Type 0
 RestsOnce v w = (w.past.rests ≡ v.past.rests) ⊎ (w.past.rests ≡ v.past.rests + 1)
 
--- Why a rest was tried: a version that the log had at the call's begin is dead from a time above the clock that a scan among these
--- steps found. That time was noted before; or a load of SUPER of that very version among these steps found it; or a load of CLOCK
--- among them timed it.
+-- a load of CLOCK, outside what a scan or an enter loads, found this word
+abbrev pub check_load : Config → ℕ → Step
+check_load c word = record { kind = LoadCheck; word = place_of c Clock; found = Some word; stored = None }
+
+-- A rest was tried by these steps: CLOCK was loaded, whose time wasn't the last, its word was helped, and CLOCK was exchanged for the rest,
+-- from that word where it was won.
+pub record TriesRest (c : Config) (made : List Step) : Type 0 where
+  pub word : ℕ
+  pub early : clock_time_of word ≢ 35184372088831
+  pub help : List Step
+  pub few : length help ≤ 3
+  pub helps : All (λ s. IsHelpStep s.kind) help
+  pub swap : Step
+  pub kind : swap.kind ≡ NameRest
+  pub from : (new : ℕ) → swap.stored ≡ Some new → swap.found ≡ Some word
+  pub made_is : made ≡ check_load c word ∷ (help ++ swap ∷ [])
+
+-- Why a rest was tried: a version that the log had at the call's begin is dead from a time above each that the loads of CLOCK before
+-- found, that of a scan among them. The time of death was noted before; or a load of SUPER of that very version among these steps found
+-- it; or a load of CLOCK among them timed it.
 pub record RestIsDue (c : Config) (w : View) (l : Noted) (made : List Step) : Type 0 where
   pub index : ℕ
   pub old : Note
   pub at : IsNoteAt l index old
   pub dead : ℕ
   pub dated : (dead ≡ old.dead) ⊎ ((old.dead ≡ 0) × (Contains made (super_load c w.number old dead) ⊎ TimesDeath made dead))
+  pub before : List Step
+  pub tried : List Step
+  pub after : List Step
+  pub made_is : made ≡ before ++ tried ++ after
+  pub tries : TriesRest c tried
   pub mark : Watermark
   pub clock : ℕ
-  pub scan : HasScan c w.number made mark clock
-  pub above : clock < dead
+  pub scan : HasScan c w.number before mark clock
+  pub latest : ℕ
+  pub most : All (λ s. FindsUpTo latest s) before
+  pub above : latest < dead
 
 -- no exchange on CLOCK was made, or a rest was due
 abbrev pub RestsWhereDue : Config → View → Noted → List Step → Type 0
@@ -48,11 +79,11 @@ RestsWhereDue c w l made = (clock_exchanges made ≡ []) ⊎ RestIsDue c w l mad
 -- At most one rest was made, and counted, by at most one exchange on CLOCK, won or lost, and by none unless a version was dead from
 -- above `latest`; nothing else was noted. Afterwards no version was dead from above `latest`, or more was seen than up to it, or the
 -- last time was seen, and no rest was made.
-pub record RestsSo (v w : View) (l m : Noted) (made : List Step) (latest : ℕ) : Type 0 where
+pub record RestsSo (c : Config) (v w : View) (l m : Noted) (made : List Step) (latest : ℕ) : Type 0 where
   pub reclaims : Reclaims v w made
   pub kinds : All (λ s. BeginsNoScan s.kind) made
   pub few : length (clock_exchanges made) ≤ 1
-  pub due : (clock_exchanges made ≡ []) ⊎ IsAnyAbove l latest true
+  pub due : (clock_exchanges made ≡ []) ⊎ (IsAnyAbove l latest true × TriesRest c made)
   pub once : RestsOnce v w
   pub log : m ≡ record l { rests = m.rests }
   pub dated :
@@ -91,7 +122,8 @@ pub record TidiesLeft (starts : State → Type 0) (allows : List ℕ → State �
   pub rest_steps : List Step
   pub rest_view : View
   pub rest_log : Noted
-  pub rest : RestsSo scan_view rest_view scan_log rest_log rest_steps first.latest
+  pub hears : Hears v scan_view first.latest
+  pub rest : RestsSo c scan_view rest_view scan_log rest_log rest_steps first.latest
   pub stands : Stands c rest_view rest_log
   pub known : ∥ Known starts allows rest_view ∥₁
   pub last_steps : List Step

@@ -1,9 +1,10 @@
 // A round: free what GRACE allows, scan, look at each version, and free again.
-ghost use Rattle.std.specs.Prelude.{◌≡◌, ◌≢◌, ℕ, ◌+◌, ◌*◌, ◌<◌, ◌≤◌, List, [], length, true, Some, None};
+ghost use Rattle.std.specs.Prelude.{◌≡◌, ◌≢◌, ℕ, ◌+◌, ◌*◌, ◌<◌, ◌≤◌, List, [], length, true, false, Some, None};
 ghost use Rattle.mv_history.specs.declared.Step.{Step};
 ghost use Rattle.mv_history.specs.Trail.{clock_exchanges};
 ghost use Rattle.mv_core.specs.EnterSteps.{MayLoadLow};
 ghost use Rattle.mv_core.specs.Passes.{view, IsOf, IsSame, config_of};
+ghost use Rattle.commit_clock.specs.Hears.{Hears};
 ghost use Rattle.reader_marks.specs.Scans.{IsKnown};
 ghost use Rattle.seat_log.specs.declared.version.Note.{Note};
 ghost use Rattle.seat_log.specs.Notes.{IsNoteAt, IsLog};
@@ -85,6 +86,7 @@ pub(crate) fn scan_and_free<P: Protocol, L: Ledger>(
     ensures same { IsSame pass.old pass.new }
     ensures stands { Stands (config_of shared.now) (view pass.new) log.new }
     ensures sweeps { (made : List Step) × Sweeps (config_of shared.now) (view pass.old) (view pass.new) log.old log.new made back result.1 found.new result.0 }
+    ensures hears { Hears (view pass.old) (view pass.new) result.1.latest }
     ensures cost { steps.new ≤ steps.old + ((config_of shared.now).seats + 3 + 18 * length log.old.live + result.0) }
     ensures trail { length (view pass.new).trail ≤ length (view pass.old).trail + ((config_of shared.now).seats + 3 + 18 * length log.old.live + result.0) }
 {
@@ -201,7 +203,7 @@ pub(crate) fn holder(
 /// what is dead by the watermark.
 ///
 /// The first step is the load of GRACE, and the frees that it allows are the next; where they leave
-/// nothing, no step begins a scan.
+/// nothing, no step follows.
 ///
 /// No commit and no rest is made or tried: no step is an exchange on CLOCK. The seat's commits and
 /// rests are as before. Without `back` it enters no section: each step loads GRACE, CLOCK, a mark or
@@ -239,7 +241,7 @@ pub fn round<P: Protocol, L: Ledger>(
     ensures reclaims { (made : List Step) × Reclaims (view pass.old) (view pass.new) made
         × SweptSo (config_of shared.now) (view pass.new) log.new made back
         × HeldSo (RoundHolds (config_of shared.now) (view pass.new) log.new made back) log.new result.held × (clock_exchanges made ≡ [])
-        × FreesFirst (config_of shared.now) log.old made }
+        × FreesFirst (config_of shared.now) log.old made false }
     ensures plain { HasMade (view pass.old) (view pass.new) back }
     ensures cost { steps.new ≤ steps.old + (4 + (config_of shared.now).seats + 20 * (config_of shared.now).slots) }
     ensures trail { length (view pass.new).trail ≤ length (view pass.old).trail + (4 + (config_of shared.now).seats + 20 * (config_of shared.now).slots) }

@@ -4,6 +4,7 @@ ghost use Rattle.mv_history.specs.declared.Step.{Step};
 ghost use Rattle.mv_core.specs.EnterSteps.{MayLoadLow};
 ghost use Rattle.mv_core.specs.Passes.{view, IsOf, IsSame, config_of};
 ghost use Rattle.mv_core.specs.ReclaimSteps.{FoundEmpty};
+ghost use Rattle.commit_clock.specs.Hears.{Hears};
 ghost use Rattle.reader_marks.specs.Scans.{IsKnown};
 ghost use Rattle.seat_log.specs.declared.version.Note.{Note};
 ghost use Rattle.seat_log.specs.Notes.{IsNoteAt};
@@ -94,6 +95,7 @@ fn store_all<P: Protocol, L: Ledger>(
     ensures same { IsSame pass.old pass.new }
     ensures stands { Stands (config_of shared.now) (view pass.new) log.new }
     ensures stores { StoresAll (config_of shared.now) (view pass.old) (view pass.new) log.old log.new back result.0 result.1 }
+    ensures hears { Hears (view pass.old) (view pass.new) result.1 }
     ensures cost { steps.new ≤ steps.old + 9 }
     ensures trail { length (view pass.new).trail ≤ length (view pass.old).trail + 9 }
 {
@@ -152,6 +154,7 @@ fn write_back<P: Protocol, L: Ledger>(
     ensures same { IsSame pass.old pass.new }
     ensures stands { Stands (config_of shared.now) (view pass.new) log.new }
     ensures tries { TriesOne (config_of shared.now) (view pass.old) (view pass.new) log.old log.new at mark.now result }
+    ensures hears { Hears (view pass.old) (view pass.new) result.clock }
     ensures cost { steps.new ≤ steps.old + 17 }
     ensures trail { length (view pass.new).trail ≤ length (view pass.old).trail + 17 }
 {
@@ -206,6 +209,7 @@ fn settle<P: Protocol, L: Ledger>(
     ensures settles { (clock : ℕ) → MaySettle (view pass.old) log.old mark.now clock
         → (made : List Step) × SettlesOne (config_of shared.now) (view pass.old) (view pass.new) log.old log.new made mark.now clock back
         found.old found.new index result }
+    ensures hears { Hears (view pass.old) (view pass.new) result }
     ensures cost { steps.new ≤ steps.old + 18 }
     ensures trail { length (view pass.new).trail ≤ length (view pass.old).trail + 18 }
 {
@@ -241,6 +245,7 @@ pub(crate) fn settle_all<P: Protocol, L: Ledger>(
     ensures stands { Stands (config_of shared.now) (view pass.new) log.new }
     ensures settles { (made : List Step) × Settles (config_of shared.now) (view pass.old) (view pass.new) log.old log.new made mark.now clock back found.new
         result (length log.old.live) }
+    ensures hears { Hears (view pass.old) (view pass.new) result }
     ensures cost { steps.new ≤ steps.old + 18 * length log.old.live }
     ensures trail { length (view pass.new).trail ≤ length (view pass.old).trail + 18 * length log.old.live }
 {

@@ -1,5 +1,5 @@
 // A tidy: a round with write-backs, one try of a rest where it helps, and a round without.
-ghost use Rattle.std.specs.Prelude.{◌≡◌, ℕ, ◌+◌, ◌*◌, ◌<◌, ◌≤◌, List, [], length, false, Some};
+ghost use Rattle.std.specs.Prelude.{◌≡◌, ℕ, ◌+◌, ◌*◌, ◌<◌, ◌≤◌, List, [], length, true, false, Some};
 ghost use Rattle.mv_history.specs.declared.answers.Holder.TheVariants.{Fresh};
 ghost use Rattle.mv_history.specs.declared.Step.{Step};
 ghost use Rattle.mv_history.specs.Trail.{clock_exchanges};
@@ -48,7 +48,7 @@ fn rest_if_due<P: Protocol, L: Ledger>(
     requires within { latest ≤ (view pass.old).base + length (view pass.old).past.seen }
     ensures same { IsSame pass.old pass.new }
     ensures stands { Stands (config_of shared.now) (view pass.new) log.new }
-    ensures rests { (made : List Step) × RestsSo (view pass.old) (view pass.new) log.old log.new made latest }
+    ensures rests { (made : List Step) × RestsSo (config_of shared.now) (view pass.old) (view pass.new) log.old log.new made latest }
     ensures cost { steps.new ≤ steps.old + 5 }
     ensures trail { length (view pass.new).trail ≤ length (view pass.old).trail + 5 }
 {
@@ -105,13 +105,15 @@ fn tidy_left<P: Protocol, L: Ledger>(
 /// clock on; and a round without write-backs. The pass is outside a section, with no scan running.
 ///
 /// The first step is the load of GRACE, and the frees that it allows are the next; where they leave
-/// nothing, no step begins a scan.
+/// nothing, one more load of GRACE follows, which begins the round without write-backs and finds
+/// nothing to free, and no other step.
 ///
 /// No commit is made or tried, and the seat's commits are as before. At most one step is an exchange on
-/// CLOCK, won or lost; at most one rest is made, which is counted. The exchange is tried only where a
-/// version that the log had at the begin is dead from a time above the clock of a scan of this call.
-/// That time was noted before, or this call found it: in SUPER of that very version, or by the load of
-/// CLOCK that ends a write-back.
+/// CLOCK, won or lost; at most one rest is made, which is counted. The exchange is tried from a word
+/// whose time isn't the last, which this call then loaded and helped, and only where a version that the
+/// log had at the begin is dead from a time above each time that the loads of CLOCK before had found,
+/// one of them that of a scan. The time of death was noted before, or this call found it: in SUPER of
+/// that very version, or by the load of CLOCK that ends a write-back.
 ///
 /// Of each version that is left without a time of death it is known why the first round's write-back
 /// left it so. This call found SUPER 0 in it. Then it found a newer version in HEAD of its object,
@@ -153,11 +155,11 @@ pub fn tidy<P: Protocol, L: Ledger>(
     ensures reclaims { (made : List Step) × Reclaims (view pass.old) (view pass.new) made
         × SweptSo (config_of shared.now) (view pass.new) log.new made false
         × HeldSo (TidyHolds (config_of shared.now) (view pass.new) log.new made) log.new result.held × (length (clock_exchanges made) ≤ 1)
-        × WritesBackSo (config_of shared.now) (view pass.new) log.new made × FreesFirst (config_of shared.now) log.old made
+        × WritesBackSo (config_of shared.now) (view pass.new) log.new made × FreesFirst (config_of shared.now) log.old made true
         × RestsWhereDue (config_of shared.now) (view pass.new) log.old made }
     ensures fresh { (time : ℕ) → result.held ≡ Some (Fresh time) → (view pass.old).base + length (view pass.old).past.seen < time }
     ensures alone { (config_of shared.now).seats ≡ 1 → (view pass.old).base + length (view pass.old).past.seen < 35184372088831 → log.new.live ≡ [] }
-    ensures idle { log.old.live ≡ [] → steps.new ≡ steps.old + 1 }
+    ensures idle { log.old.live ≡ [] → steps.new ≡ steps.old + 2 }
     ensures cost { steps.new ≤ steps.old + (2 * (4 + (config_of shared.now).seats + 20 * (config_of shared.now).slots) + 8) }
     ensures trail { length (view pass.new).trail
         ≤ length (view pass.old).trail + (2 * (4 + (config_of shared.now).seats + 20 * (config_of shared.now).slots) + 8) }
@@ -165,6 +167,7 @@ pub fn tidy<P: Protocol, L: Ledger>(
     let mark = known(shared, pass, steps);
     let freed = free_all(shared, pass, log, &mark, steps);
     if live(log) == 0 {
+        let _ = known(shared, pass, steps);
         return Tidy {
             freed,
             live: 0,

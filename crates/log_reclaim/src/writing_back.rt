@@ -5,6 +5,7 @@ ghost use Rattle.mv_core.specs.declared.view.View.{View};
 ghost use Rattle.mv_core.specs.EnterSteps.{MayLoadLow, mark_cleared};
 ghost use Rattle.mv_core.specs.LockSteps.{MayLoadDeath};
 ghost use Rattle.mv_core.specs.Passes.{view, IsOf, IsSame, config_of};
+ghost use Rattle.commit_clock.specs.Hears.{Hears};
 ghost use Rattle.reader_marks.specs.Scans.{IsKnown};
 ghost use Rattle.reader_marks.specs.Sections.{IsOpen};
 ghost use Rattle.seat_log.specs.declared.version.Note.{Note};
@@ -117,6 +118,7 @@ pub(crate) fn start_clock<P: Protocol, L: Ledger>(
     ensures starts { StartsSo (config_of shared.now) (view pass.old) (view pass.new) log.now at mark.now steps.old steps.new result.0 }
     ensures young { result.0 ≡ Err Young → result.1 ≡ 0 }
     ensures clock { result.0 ≢ Err Young → result.1 ≡ (config_of shared.now).base + length (view pass.new).past.seen }
+    ensures hears { Hears (view pass.old) (view pass.new) result.1 }
     ensures cost { steps.new ≤ steps.old + 8 }
     ensures trail { length (view pass.new).trail ≤ length (view pass.old).trail + 8 }
 {
@@ -277,6 +279,7 @@ pub(crate) fn finish_clock<P: Protocol, L: Ledger>(
     ensures same { IsSame pass.old pass.new }
     ensures finishes { FinishesSo (config_of shared.now) (view pass.old) (view pass.new) log.old log.new back result.0 }
     ensures clock { result.1 ≤ (config_of shared.now).base + length (view pass.new).past.seen }
+    ensures hears { Hears (view pass.old) (view pass.new) result.1 }
     ensures cut { result.0 ≡ Cut → IsCutAt (config_of shared.now) (view pass.old) (view pass.new) log.old log.new back result.1 }
     ensures stands { Stands (config_of shared.now) (view pass.new) log.new }
     ensures cost { steps.new ≤ steps.old + 3 }

@@ -93,7 +93,7 @@ module _ (c : Config) (v : View) (low word : ℕ) (h : List Entry) (w : View) (l
       }
 
 -- the time of all that is seen is the greatest that was found
-last_found : (c : Config) (v w : View) (word : ℕ) (last : Option ℕ) → clock_time_of word ≡ c.base + length v.past.seen → FindsClock c v w last
+pub last_found : (c : Config) (v w : View) (word : ℕ) (last : Option ℕ) → clock_time_of word ≡ c.base + length v.past.seen → FindsClock c v w last
     → (x : ℕ) → x ≡ unwrap_or last word → clock_time_of x ≡ c.base + length w.past.seen
 last_found c v w word None time finds x is = ap clock_time_of is ∙ time ∙ ap (λ (p : Past). c.base + length p.seen) (sym finds)
 last_found c v w word (Some y) time finds x is = ap clock_time_of is ∙ finds.1.1 ∙ ap (λ (p : Past). c.base + length p.seen) (sym finds.2)

@@ -1,3 +1,4 @@
 pub mod Entered
 pub mod Looking
 pub mod EnterKinds
+pub mod EnterHears

@@ -6,6 +6,7 @@ ghost use Rattle.mv_core.specs.SectionFacts.{IsWord};
 ghost use Rattle.mv_core.specs.EnterSteps.{IsWhole, MayLoadLow, low_loaded, MayStoreMark, mark_stored, MayLoadTime, time_loaded, mark_cleared};
 ghost use Rattle.mv_core.specs.Passes.{view, IsOf, IsSame, config_of};
 ghost use Rattle.mv_core.specs.Rings.{HoldsNothing};
+ghost use Rattle.commit_clock.specs.Hears.{Hears};
 ghost use Rattle.commit_clock.specs.Helps.{HasLoaded};
 ghost use Rattle.reader_marks.specs.Sections.{Begins, IsOpen};
 
@@ -34,7 +35,7 @@ pub fn enter<P: Protocol, L: Ledger>(
 }
 
 /// Enters as `enter` does, and answers besides the greatest printed time that this call found in
-/// CLOCK, which is that of all it has seen. It is `enter_low`, `enter_mark`, `enter_time` and the help
+/// CLOCK, which is that of all it has seen: no load of CLOCK among its steps found a later one. It is `enter_low`, `enter_mark`, `enter_time` and the help
 /// of the word that the last of them found.
 pub fn enter_clock<P: Protocol, L: Ledger>(
     shared: &Shared<P>,
@@ -46,6 +47,7 @@ pub fn enter_clock<P: Protocol, L: Ledger>(
     ensures same { IsSame pass.old pass.new }
     ensures begins { Begins (config_of shared.now) (view pass.old) (view pass.new) result.0 }
     ensures last { result.1 ≡ (config_of shared.now).base + length (view pass.new).past.seen }
+    ensures hears { Hears (view pass.old) (view pass.new) result.1 }
     ensures cost { steps.new ≤ steps.old + 6 }
 {
     let low = enter_low(shared, pass, steps);

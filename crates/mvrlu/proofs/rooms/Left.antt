@@ -1,5 +1,5 @@
 -- What a reclaiming call leaves of a seat: its place is lawful, its history goes on, and its slots are counted.
-use Rattle.std.proofs.Common.{◌≡◌, ◌≢◌, ℕ, ◌+◌, ◌≤◌, false, count_by, List, [], ◌∷◌, ◌++◌, length, drop, refl, sym, ap, ◌∙◌}
+use Rattle.std.proofs.Common.{◌≡◌, ◌≢◌, ℕ, ◌+◌, ◌≤◌, Bool, false, count_by, List, [], ◌∷◌, ◌++◌, length, drop, refl, sym, ap, ◌∙◌}
 use Rattle.std.proofs.Common.{arith, length-append}
 use Rattle.std.proofs.lemmas.List.Sums.{sum_by-append}
 use Rattle.mv_history.specs.State.{State, Writes}
@@ -74,8 +74,8 @@ module _ (starts : State → Type 0) (allows : List ℕ → State → Writes →
   pub live_is : (live : ℕ) → live ≡ length q.log.live → live + spare_count q.view.ring ≡ q.config.slots
   live_is live is = let all = stands.spare in omega arith
 
-  pub some_step : FreesFirst q.config p.log made → drop (length p.view.trail) q.view.trail ≢ []
-  some_step first e =
+  pub some_step : (tidies : Bool) → FreesFirst q.config p.log made tidies → drop (length p.view.trail) q.view.trail ≢ []
+  some_step tidies first e =
       let is : grace_load q.config first.time ∷ (first.frees ++ first.rest) ≡ [] = sym first.made_is ∙ sym trail_is ∙ e in
       absurd cc
 

@@ -1,5 +1,5 @@
 -- What one round leaves of a seat.
-use Rattle.std.proofs.Common.{◌≡◌, ◌⊎◌, ℕ, ◌+◌, ◌*◌, ◌≤◌, true, List, [], length, drop, refl, sym, ap, subst, inl, inr, arith, Option, Some, None}
+use Rattle.std.proofs.Common.{◌≡◌, ◌⊎◌, ℕ, ◌+◌, ◌*◌, ◌≤◌, true, false, List, [], length, drop, refl, sym, ap, subst, inl, inr, arith, Option, Some, None}
 use Rattle.mv_history.specs.State.{State, Writes}
 use Rattle.mv_history.specs.declared.Step.{Step}
 use Rattle.mv_history.specs.declared.answers.Holder.{Holder}
@@ -26,14 +26,14 @@ pub record HasRounded (c : Config) (v w : View) (l m : Noted) (t : Tidy) : Type 
   pub rests : w.past.rests ≡ v.past.rests
   pub reclaims : Reclaims v w made
   pub held : HeldSo (RoundHolds c w m made true) m t.held
-  pub first : FreesFirst c l made
+  pub first : FreesFirst c l made false
   pub trail : length w.trail ≤ length v.trail + (4 + c.seats + 20 * c.slots)
 
 -- that, by the numbers that the seat's place has
 pub has_rounded : (c d : Config) → c ≡ d → (v w : View) (l m : Noted) (t : Tidy) → Stands c w m → t.live ≡ length m.live → Shrinks l m t.freed
     → w.past.rests ≡ v.past.rests
     → (made : List Step) × Reclaims v w made × SweptSo c w m made true × HeldSo (RoundHolds c w m made true) m t.held × (clock_exchanges made ≡ [])
-    × FreesFirst c l made
+    × FreesFirst c l made false
     → length w.trail ≤ length v.trail + (4 + c.seats + 20 * c.slots) → HasRounded d v w l m t
 has_rounded c d is v w l m t stands live shrinks rests r trail =
     subst (λ (e : Config). HasRounded e v w l m t) is (record {
@@ -81,6 +81,6 @@ module _ (starts : State → Type 0) (allows : List ℕ → State → Writes →
     spare = (let is = spare_is starts allows p q k.made config table idle k.reclaims known k.stands t.freed k.shrinks in omega arith);
     held = holds t.held k.held;
     rests = k.rests;
-    some = some_step starts allows p q k.made config table idle k.reclaims known k.stands k.first;
+    some = some_step starts allows p q k.made config table idle k.reclaims known k.stands false k.first;
     steps = few_steps starts allows p q k.made config table idle k.reclaims known k.stands (4 + q.config.seats + 20 * q.config.slots) k.trail;
   }

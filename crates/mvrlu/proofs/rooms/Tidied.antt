@@ -1,5 +1,5 @@
 -- What a tidy leaves of a seat, and that nothing but the end of time holds a log in a domain of one seat.
-use Rattle.std.proofs.Common.{◌≡◌, ℕ, ◌+◌, ◌*◌, ◌<◌, ◌≤◌, false, List, [], length, drop, refl, sym, ap, ◌∙◌, subst, ⊎_elim, arith, Option, Some, None}
+use Rattle.std.proofs.Common.{◌≡◌, ℕ, ◌+◌, ◌*◌, ◌<◌, ◌≤◌, true, false, List, [], length, drop, refl, sym, ap, ◌∙◌, subst, ⊎_elim, arith, Option, Some, None}
 use Rattle.std.proofs.lemmas.Bool.{cases_lt}
 use Rattle.std.proofs.lemmas.Option.{slice_get_within}
 use Rattle.mv_history.specs.State.{State, Writes}
@@ -32,7 +32,7 @@ pub record HasTidied (c : Config) (v w : View) (l m : Noted) (t : Tidy) : Type 0
   pub reclaims : Reclaims v w made
   pub held : HeldSo (TidyHolds c w m made) m t.held
   pub exchanges : length (clock_exchanges made) ≤ 1
-  pub first : FreesFirst c l made
+  pub first : FreesFirst c l made true
   pub trail : length w.trail ≤ length v.trail + (2 * (4 + c.seats + 20 * c.slots) + 8)
   pub fresh : (time : ℕ) → t.held ≡ Some (Fresh time) → v.base + length v.past.seen < time
   pub alone : c.seats ≡ 1 → v.base + length v.past.seen < 35184372088831 → m.live ≡ []
@@ -41,7 +41,7 @@ pub record HasTidied (c : Config) (v w : View) (l m : Noted) (t : Tidy) : Type 0
 pub has_tidied : (c d : Config) → c ≡ d → (v w : View) (l m : Noted) (t : Tidy) → Stands c w m → t.live ≡ length m.live → Shrinks l m t.freed
     → RestsOnce v w
     → (made : List Step) × Reclaims v w made × SweptSo c w m made false × HeldSo (TidyHolds c w m made) m t.held × (length (clock_exchanges made) ≤ 1)
-    × WritesBackSo c w m made × FreesFirst c l made × RestsWhereDue c w l made
+    × WritesBackSo c w m made × FreesFirst c l made true × RestsWhereDue c w l made
     → length w.trail ≤ length v.trail + (2 * (4 + c.seats + 20 * c.slots) + 8)
     → ((time : ℕ) → t.held ≡ Some (Fresh time) → v.base + length v.past.seen < time)
     → (c.seats ≡ 1 → v.base + length v.past.seen < 35184372088831 → m.live ≡ []) → HasTidied d v w l m t
@@ -98,7 +98,7 @@ module _ (starts : State → Type 0) (allows : List ℕ → State → Writes →
     held = holds t.held t.live k.held k.live k.fresh;
     rests = k.rests;
     exchanges = subst (λ (s : List Step). length (clock_exchanges s) ≤ 1) (sym steps_is) k.exchanges;
-    some = some_step starts allows p q k.made config table idle k.reclaims known k.stands k.first;
+    some = some_step starts allows p q k.made config table idle k.reclaims known k.stands true k.first;
     steps = few_steps starts allows p q k.made config table idle k.reclaims known k.stands (2 * (4 + q.config.seats + 20 * q.config.slots) + 8) k.trail;
   }
 

@@ -1,4 +1,4 @@
-use Rattle.std.proofs.Common.{◌≡◌, sym, subst, Option, None}
+use Rattle.std.proofs.Common.{◌≡◌, sym, subst, false, Option, None}
 use Rattle.mv_history.specs.declared.answers.Holder.{Holder}
 use Rattle.mv_core.specs.Passes.{view, config_of}
 use Rattle.log_reclaim.specs.declared.rounds.Scanned.{Scanned}
@@ -18,7 +18,7 @@ left g c scanned is =
     c.sweep-freed.new.log c.sweep-freed.ensures.sweeps.0 c.args.back c.sweep-freed.new.found c.sweep-freed.result.0 o) is c.sweep-freed.ensures.sweeps.1
 
 -- and what it freed first
-frees : (g : _) (c : goal.After-live g) → FreesFirst (config_of c.args.shared.now) c.args.log.now c.sweep-freed.ensures.sweeps.0
+frees : (g : _) (c : goal.After-live g) → FreesFirst (config_of c.args.shared.now) c.args.log.now c.sweep-freed.ensures.sweeps.0 false
 frees g c =
     freed_first (config_of c.args.shared.now) c.args.log.now c.sweep-freed.ensures.sweeps.0 c.sweep-freed.result.1 c.sweep-freed.ensures.sweeps.2
 

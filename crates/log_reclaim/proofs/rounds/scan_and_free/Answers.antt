@@ -1,5 +1,7 @@
 use Rattle.std.proofs.Common.{ℕ, ◌<◌, ◌++◌, subst}
 use Rattle.mv_core.specs.Passes.{view, config_of}
+use Rattle.commit_clock.proofs.Hearing.{hears_on}
+use Rattle.log_reclaim.proofs.Heard.{heard_scan, heard_freed}
 use Rattle.log_reclaim.proofs.ScanParts.{steps_of, scan_stands}
 use Rattle.log_reclaim.proofs.Sweeping.{may_settle, sweeps}
 use Rattle.log_reclaim.proofs.rounds.scan_and_free.Goals as goal
@@ -29,3 +31,14 @@ returns-clause-sweeps g c =
           t.ensures.settles.0 f.ensures.frees.0 c.args.back t.new.found t.result f.result s.ensures.known t.ensures.settles.1 f.ensures.frees.1
           s.new.pass.known own s.ensures.makers,
     )
+
+pub returns-clause-hears : goal.returns-clause-hears
+returns-clause-hears g c =
+    let s = c.scan_clock-clock in
+    let t = c.settle_all-latest in
+    let f = c.free_all-freed in
+    hears_on (view c.args.pass.now) (view s.new.pass) (view f.new.pass) t.result
+    (heard_scan (config_of c.args.shared.now) (view c.args.pass.now) (view s.new.pass) s.result.0 s.result.1 c.args.steps.now s.new.steps t.result
+    s.ensures.scans t.ensures.settles.1.from)
+    (hears_on (view s.new.pass) (view t.new.pass) (view f.new.pass) t.result t.ensures.hears
+    (heard_freed (view t.new.pass) (view f.new.pass) t.new.log f.new.log f.ensures.frees.0 s.result.0.time f.result t.result f.ensures.frees.1))

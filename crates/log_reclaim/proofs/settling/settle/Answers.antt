@@ -6,6 +6,8 @@ use Rattle.seat_log.specs.Notes.{Noted}
 use Rattle.log_reclaim.specs.declared.settling.Found.{Found}
 use Rattle.log_reclaim.specs.Tries.{LoadsSuper}
 use Rattle.log_reclaim.specs.Sweeps.{found_set, SettlesOne}
+use Rattle.commit_clock.proofs.Hearing.{hears_none, hears_on}
+use Rattle.log_reclaim.proofs.Heard.{heard_super}
 use Rattle.log_reclaim.proofs.OneNote.{untimed_same, loads_is, log_same, tries_is, may_try, knows_still}
 use Rattle.log_reclaim.proofs.OneLook.{settles_timed, settles_found, settles_unbacked, settles_tried}
 use Rattle.log_reclaim.proofs.settling.settle.Goals as goal
@@ -116,3 +118,16 @@ returns-clause-settles g c clock may =
     (subst (λ b. (made : List Step) × SettlesOne (config_of c.args.shared.now) (view c.args.pass.now) (view c.write_back-tried.new.pass) c.args.log.now
     c.write_back-tried.new.log made c.args.mark.now clock b c.args.found.now (found_set c.args.found.now c.args.index c.write_back-tried.result.above)
     c.args.index c.write_back-tried.result.clock) (sym c.if-not-back.false) (_, one))
+
+pub returns-then-version-ne0-clause-hears : goal.returns-then-version-ne0-clause-hears
+returns-then-version-ne0-clause-hears g c = hears_none _ _ 0 refl
+
+pub returns-then-load_super-clause-hears : goal.returns-then-load_super-clause-hears
+returns-then-load_super-clause-hears g c =
+    heard_super (config_of c.args.shared.now) (view c.args.pass.now) (view c.load_super.new.pass) _ _ _ _ 0 c.load_super.ensures.loads
+
+pub returns-clause-hears : goal.returns-clause-hears
+returns-clause-hears g c =
+    hears_on (view c.args.pass.now) (view c.load_super.new.pass) (view c.write_back-tried.new.pass) c.write_back-tried.result.clock
+    (heard_super (config_of c.args.shared.now) (view c.args.pass.now) (view c.load_super.new.pass) _ _ _ _ c.write_back-tried.result.clock
+    c.load_super.ensures.loads) c.write_back-tried.ensures.hears

@@ -1,5 +1,6 @@
-use Rattle.std.proofs.Common.{rules, ◌+◌, max, sym, subst, arith, ◌++◌, []}
+use Rattle.std.proofs.Common.{rules, ◌+◌, max, refl, sym, subst, arith, ◌++◌, []}
 use Rattle.mv_core.specs.Passes.{view, config_of}
+use Rattle.commit_clock.proofs.Hearing.{hears_none, hears_on, hears_more}
 use Rattle.log_reclaim.specs.Sweeps.{Settles}
 use Rattle.log_reclaim.proofs.EachLook.{settles_first, settles_next, settles_may, settles_table}
 use Rattle.log_reclaim.proofs.settling.settle_all.Goals as goal
@@ -11,6 +12,7 @@ loop-index-init g c =
       of = r.of;
       same = search rules;
       stands = r.stands;
+      hears = hears_none _ _ c.args.clock refl;
       settles = (
         [],
         settles_first _ _ (config_of c.args.shared.now) (view c.args.pass.now) c.args.log.now c.args.mark.now c.args.clock c.args.back
@@ -53,6 +55,9 @@ loop-index-preserved g c =
       of = search rules;
       same = search rules;
       stands = c.settle-time.ensures.stands;
+      hears = hears_on (view c.args.pass.now) (view c.loop-index.pass) (view c.settle-time.new.pass) c.max-top.result
+          (hears_more (view c.args.pass.now) (view c.loop-index.pass) c.loop-index.top c.max-top.result (omega arith) i.hears)
+          (hears_more (view c.loop-index.pass) (view c.settle-time.new.pass) c.settle-time.result c.max-top.result (omega arith) c.settle-time.ensures.hears);
       settles = (
         s.0 ++ one.0,
         subst (λ t. Settles (config_of c.args.shared.now) (view c.args.pass.now) (view c.settle-time.new.pass) c.args.log.now c.settle-time.new.log

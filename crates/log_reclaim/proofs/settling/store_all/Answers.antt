@@ -2,6 +2,8 @@ use Rattle.std.proofs.Common.{rules, ◌≡◌, ◌+◌, length, ap, ◌∙◌, 
 use Rattle.std.proofs.lemmas.List.{length-append}
 use Rattle.mv_core.specs.declared.view.View.{View}
 use Rattle.mv_core.specs.Passes.{view, config_of}
+use Rattle.commit_clock.proofs.Hearing.{hears_on}
+use Rattle.log_reclaim.proofs.Heard.{heard_stored}
 use Rattle.log_reclaim.proofs.StoringAll.{stored_more, stands_stored, stores_all}
 use Rattle.log_reclaim.proofs.settling.store_all.Goals as goal
 
@@ -31,3 +33,9 @@ returns-clause-stores g c =
     stores_all (config_of c.args.shared.now) (view c.args.pass.now) (view c.loop.pass) c.args.back c.loop.back c.loop.counter c.args.steps.now c.loop.steps
     c.loop.invariant.stores (view c.finish_clock.new.pass) c.args.log.now c.finish_clock.new.log c.finish_clock.result.1 c.requires.of.2
     c.finish_clock.ensures.clock c.finish_clock.result.0 c.finish_clock.ensures.finishes c.finish_clock.ensures.cut
+
+pub returns-clause-hears : goal.returns-clause-hears
+returns-clause-hears g c =
+    hears_on (view c.args.pass.now) (view c.loop.pass) (view c.finish_clock.new.pass) c.finish_clock.result.1
+    (heard_stored (config_of c.args.shared.now) (view c.args.pass.now) (view c.loop.pass) c.args.back c.loop.back c.loop.counter c.args.steps.now c.loop.steps
+    c.finish_clock.result.1 c.loop.invariant.stores) c.finish_clock.ensures.hears

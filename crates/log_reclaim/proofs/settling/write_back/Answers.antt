@@ -1,4 +1,4 @@
-use Rattle.std.proofs.Common.{rules, ◌≡◌, ◌≢◌, refl, sym, ap, ◌∙◌, subst, Result, Ok, Err, None}
+use Rattle.std.proofs.Common.{rules, ◌≡◌, ◌≢◌, refl, sym, ap, ◌∙◌, subst, arith, Result, Ok, Err, None}
 use Rattle.mv_core.specs.Passes.{view, config_of}
 use Rattle.log_reclaim.specs.declared.settling.Tried.{Tried}
 use Rattle.log_reclaim.specs.declared.writing_back.Back.{Back}
@@ -6,6 +6,8 @@ use Rattle.log_reclaim.specs.declared.writing_back.NoBack.{NoBack}
 use Rattle.log_reclaim.specs.declared.writing_back.NoBack.TheVariants.{Young, Gone, Above}
 use Rattle.log_reclaim.specs.Backs.{StartsSo}
 use Rattle.log_reclaim.specs.Tries.{LoadsSuper, TriesOne}
+use Rattle.commit_clock.proofs.Hearing.{hears_on, hears_more}
+use Rattle.log_reclaim.proofs.Heard.{heard_super}
 use Rattle.log_reclaim.proofs.Visits.{looked_stands, left_stands}
 use Rattle.log_reclaim.proofs.Trying.{tries_young, gone_may, gone_number, gone_empty, tries_gone, tries_own, tries_above, tries_cut, tries_lost}
 use Rattle.log_reclaim.proofs.settling.write_back.Goals as goal
@@ -141,3 +143,19 @@ returns-else-seat-clause-tries g c =
     c.requires.1.1.0.2 (view c.start_clock-start.new.pass) s.1 s.2 c.start_clock-start.result.1 last c.args.position
     c.requires.1.1.1.1.0 c.requires.1.1.1.1.1.0 c.in-Err-Above.seat s.3
     (λ e. c.if-seat.false (e ∙ sym own))
+
+pub returns-in-Ok-clause-hears : goal.returns-in-Ok-clause-hears
+returns-in-Ok-clause-hears g c =
+    let most = c.max.ensures in
+    hears_on (view c.args.pass.now) (view c.start_clock-start.new.pass) (view c.store_all-end.new.pass) c.max.result
+    (hears_more (view c.args.pass.now) (view c.start_clock-start.new.pass) c.start_clock-start.result.1 c.max.result (omega arith)
+    c.start_clock-start.ensures.hears)
+    (hears_more (view c.start_clock-start.new.pass) (view c.store_all-end.new.pass) c.store_all-end.result.1 c.max.result (omega arith)
+    c.store_all-end.ensures.hears)
+
+pub returns-in-Err-Gone-clause-hears : goal.returns-in-Err-Gone-clause-hears
+returns-in-Err-Gone-clause-hears g c =
+    hears_on (view c.args.pass.now) (view c.start_clock-start.new.pass) (view c.load_super.new.pass) c.start_clock-start.result.1
+    c.start_clock-start.ensures.hears
+    (heard_super (config_of c.args.shared.now) (view c.start_clock-start.new.pass) (view c.load_super.new.pass) _ _ _ _ c.start_clock-start.result.1
+    c.load_super.ensures.loads)

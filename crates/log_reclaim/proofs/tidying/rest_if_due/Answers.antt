@@ -10,8 +10,8 @@ use Rattle.log_reclaim.proofs.tidying.rest_if_due.Goals.{then-latest-eq-LAST-via
 pub returns-then-latest-eq-LAST-clause-rests : goal.returns-then-latest-eq-LAST-clause-rests
 returns-then-latest-eq-LAST-clause-rests g c =
     let still = still_of _ _ (view c.args.pass.now) c.args.pass.now.known c.requires.may.outside in
-    rests_none (view c.args.pass.now) c.requires.may still _ _ c.args.log.now c.args.latest c.args.pass.now.known c.requires.within
-    (elim c.then-latest-eq-LAST.branch [
+    rests_none (config_of c.args.shared.now) (view c.args.pass.now) c.requires.may still _ _ c.args.log.now c.args.latest c.args.pass.now.known
+    c.requires.within (elim c.then-latest-eq-LAST.branch [
       | then-latest-eq-LAST-via-then-latest-eq-LAST w ↦ inl w.if-latest-eq-LAST.true
       | then-latest-eq-LAST-via-else-latest-eq-LAST+then-not-any_above w ↦ let none : w.any_above.result ≡ false =
           search rules in inr (subst (IsAnyAbove c.args.log.now c.args.latest) none w.any_above.ensures)
@@ -54,7 +54,8 @@ returns-in-Done-clause-rests g c =
     let v = c.now-word.ensures.view in
     let n = c.in-Done.ensures.names in
     rests_done (config_of c.args.shared.now) (view c.args.pass.now) (view c.now-word.new.pass) c.now-word.result v.0 v.1 v.2 c.requires.may still
-    (view c.help.new.pass) c.help.ensures.helps (view c.rest.new.pass) c.args.latest c.requires.within c.requires.of.2 c.args.log.now c.note_rest.new.log
+    (view c.help.new.pass) c.help.ensures.helps (view c.rest.new.pass) c.args.latest c.requires.within c.requires.of.2
+    (λ e. c.if-clock_time-eq-LAST.false (c.clock_time.ensures ∙ e)) c.args.log.now c.note_rest.new.log
     n.1.0 c.if-not-any_above.ensures n.1.1 n.1.2 c.note_rest.ensures
 
 pub returns-in_default-clause-stands : goal.returns-in_default-clause-stands
@@ -71,5 +72,6 @@ returns-in_default-clause-rests g c =
     let v = c.now-word.ensures.view in
     let n = c.in_default.ensures.names in
     rests_lost (config_of c.args.shared.now) (view c.args.pass.now) (view c.now-word.new.pass) c.now-word.result v.0 v.1 v.2 c.requires.may still
-    (view c.help.new.pass) c.help.ensures.helps (view c.rest.new.pass) c.args.latest c.requires.within c.requires.of.2 c.args.log.now n.0 n.1
+    (view c.help.new.pass) c.help.ensures.helps (view c.rest.new.pass) c.args.latest c.requires.within c.requires.of.2
+    (λ e. c.if-clock_time-eq-LAST.false (c.clock_time.ensures ∙ e)) c.args.log.now n.0 n.1
     c.in_default.field-0 c.if-not-any_above.ensures n.2 n.3

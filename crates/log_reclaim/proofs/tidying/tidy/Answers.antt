@@ -3,8 +3,9 @@ use Rattle.mv_core.specs.Passes.{view, config_of}
 use Rattle.log_reclaim.specs.Parts.{grace_load}
 use Rattle.log_reclaim.specs.Tidies.{TidiesLeft}
 use Rattle.log_reclaim.proofs.Idle.{still_of}
+use Rattle.log_reclaim.proofs.Reclaiming.{reclaims_may, reclaims_still}
 use Rattle.log_reclaim.proofs.ScanParts.{grace_makes, grace_stands}
-use Rattle.log_reclaim.proofs.FirstFrees.{frees_shrinks, frees_only, grace_plain, sweeps_all}
+use Rattle.log_reclaim.proofs.FirstFrees.{frees_shrinks, frees_again, grace_plain, sweeps_all, sweeps_on}
 use Rattle.log_reclaim.proofs.Tidied.{left_from, left_begins, left_rests, left_shrinks, left_reclaims, left_alone, emptied}
 use Rattle.log_reclaim.proofs.FreshTimes.{left_fresh}
 use Rattle.log_reclaim.proofs.tidying.tidy.Given.{Over}
@@ -21,14 +22,25 @@ returns-then-live-eq0-clause-reclaims g c =
     let f = c.free_all-freed in
     let load = grace_makes (config_of c.args.shared.now) (view c.args.pass.now) (view k.new.pass) k.result.time k.ensures.view c.requires.may
     (still_of _ _ (view c.args.pass.now) c.args.pass.now.known c.requires.may.outside) in
-    emptied (config_of c.args.shared.now) (view c.args.pass.now) (view f.new.pass) c.args.log.now f.new.log
-    ((grace_load (config_of c.args.shared.now) k.result.time ∷ []) ++ f.ensures.frees.0) f.result
-    (sweeps_all (config_of c.args.shared.now) (view c.args.pass.now) (view k.new.pass) (view f.new.pass) c.args.log.now f.new.log
+    let a = c.known in
+    let freed = sweeps_all (config_of c.args.shared.now) (view c.args.pass.now) (view k.new.pass) (view f.new.pass) c.args.log.now f.new.log
     (grace_load (config_of c.args.shared.now) k.result.time ∷ []) f.ensures.frees.0 k.result.time f.result load
-    (grace_plain (config_of c.args.shared.now) k.result.time) f.ensures.frees.1
-    (sym c.live.ensures ∙ c.if-live-eq0.true))
-    (frees_only (config_of c.args.shared.now) (view k.new.pass) (view f.new.pass) c.args.log.now f.new.log f.ensures.frees.0 k.result.time f.result
-    f.ensures.frees.1) _ refl
+    (grace_plain (config_of c.args.shared.now) k.result.time) f.ensures.frees.1 (sym c.live.ensures ∙ c.if-live-eq0.true) in
+    let first = (grace_load (config_of c.args.shared.now) k.result.time ∷ []) ++ f.ensures.frees.0 in
+    let again = grace_makes (config_of c.args.shared.now) (view f.new.pass) (view a.new.pass) a.result.time a.ensures.view
+    (reclaims_may (view c.args.pass.now) (view f.new.pass) first freed.reclaims)
+    (reclaims_still (view c.args.pass.now) (view f.new.pass) first freed.reclaims) in
+    emptied (config_of c.args.shared.now) (view c.args.pass.now) (view a.new.pass) c.args.log.now f.new.log
+    (first ++ grace_load (config_of c.args.shared.now) a.result.time ∷ []) f.result
+    (sweeps_on (config_of c.args.shared.now) (view c.args.pass.now) (view f.new.pass) (view a.new.pass) c.args.log.now f.new.log first
+    (grace_load (config_of c.args.shared.now) a.result.time ∷ []) f.result freed again (grace_plain (config_of c.args.shared.now) a.result.time))
+    (frees_again (config_of c.args.shared.now) (view k.new.pass) (view f.new.pass) c.args.log.now f.new.log f.ensures.frees.0 k.result.time f.result
+    f.ensures.frees.1 a.result.time) _ refl
+
+pub returns-then-live-eq0-clause-stands : goal.returns-then-live-eq0-clause-stands
+returns-then-live-eq0-clause-stands g c =
+    grace_stands (config_of c.args.shared.now) (view c.free_all-freed.new.pass) (view c.known.new.pass) c.known.result.time c.known.ensures.view
+    c.free_all-freed.new.log c.free_all-freed.ensures.stands
 
 -- the whole tidy, of which the first frees left something
 all : (g : Over) (c : goal.After-struct_known-1 g)
@@ -85,6 +97,7 @@ returns-then-live-eq0-clause-idle g c none =
     let empty = ap length none in
     let load = c.known-mark.ensures.step in
     let frees = f.ensures.step in
+    let again = c.known.ensures.step in
     omega arith
 
 pub returns-clause-idle : goal.returns-clause-idle

@@ -30,6 +30,7 @@ returns-clause-tidies g c =
       found = s.new.found;
       first_freed = s.result.0;
       scan = s.ensures.sweeps.1;
+      hears = s.ensures.hears;
       rest_steps = r.ensures.rests.0;
       rest_view = view r.new.pass;
       rest_log = r.new.log;

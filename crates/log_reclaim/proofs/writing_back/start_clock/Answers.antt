@@ -1,6 +1,8 @@
 use Rattle.std.proofs.Common.{rules, ◌≡◌, length, sym, ap, ◌∙◌}
 use Rattle.mv_layout.specs.declared.Config.{Config}
 use Rattle.mv_core.specs.Passes.{view, config_of}
+use Rattle.reader_marks.specs.Sections.{section_in}
+use Rattle.log_reclaim.proofs.Heard.{heard_looked, heard_left}
 use Rattle.log_reclaim.proofs.Starting.{same_note, place_is, link_there, may_look, object_within, open_still, started, not_started}
 use Rattle.log_reclaim.proofs.writing_back.start_clock.Goals as goal
 
@@ -73,3 +75,16 @@ returns-clause-starts g c =
     (view c.leave.new.pass) c.leave.ensures.view (λ z. c.if-link-link_word.false (z ∙ sym link)) c.load_head-link.ensures.own_link
     c.load_head-link.ensures.later c.args.mark.now c.args.steps.now c.leave.new.steps c.not_on_top.result c.if-version-mark.false
     c.not_on_top.ensures.gone c.not_on_top.ensures.above
+
+pub returns-then-link-link_word-clause-hears : goal.returns-then-link-link_word-clause-hears
+returns-then-link-link_word-clause-hears g c =
+    heard_looked (config_of c.args.shared.now) (view c.args.pass.now) (view c.enter_clock-clock.new.pass) (view c.load_head-link.new.pass)
+    (section_in (view c.enter_clock-clock.new.pass)) c.note-version.result.object c.load_head-link.result
+    c.enter_clock-clock.result.1 c.enter_clock-clock.ensures.hears c.load_head-link.ensures.view
+
+pub returns-clause-hears : goal.returns-clause-hears
+returns-clause-hears g c =
+    heard_left (config_of c.args.shared.now) (view c.args.pass.now) (view c.load_head-link.new.pass) (view c.leave.new.pass) c.enter_clock-clock.result.1
+    (heard_looked (config_of c.args.shared.now) (view c.args.pass.now) (view c.enter_clock-clock.new.pass) (view c.load_head-link.new.pass)
+    (section_in (view c.enter_clock-clock.new.pass)) c.note-version.result.object c.load_head-link.result
+    c.enter_clock-clock.result.1 c.enter_clock-clock.ensures.hears c.load_head-link.ensures.view) c.leave.ensures.view

@@ -130,7 +130,8 @@ module _ (starts : State → Type 0) (allows : List ℕ → State → Writes →
       let opened = more.open_more c h rings section n None (λ i e. absurd (cc)) nothing (λ i e. absurd (cc)) k.open_section in
       let flags = more.flag_more c h rings section n None (λ i e. absurd (cc)) super k.successor_flag in
       let words = loaded_after c (m Clock) stamp clocks n section (set_at section n None) no_clocks refl (λ word has. none_in word has)
-      (λ word has. none_in word has) (λ word has. none_in word has) (inside_after c (m Clock) stamp clocks n section None (λ i e. absurd (cc)) k.loaded_words) k.loaded_words in
+      (λ word has. none_in word has) (λ word has. none_in word has)
+      (inside_after c (m Clock) stamp clocks n section None (λ i e. absurd (cc)) k.loaded_words) k.loaded_words in
       let cut = more.cut_more c start h rings sets time n None tt k.cut_is_old in
       let backs = more.back_more c start h rings sets time n None tt walk section clocks None no_clocks master (λ s. (seats s).grace) back k.write_back in
       let scanning = set_at_all (λ s p. (running : Scan) → (seats s).scan ≡ Some running → p ≡ Outside) (λ s. (seats s).phase) n Outside (λ running e. refl)

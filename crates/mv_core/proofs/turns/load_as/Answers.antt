@@ -21,4 +21,11 @@ invariant_of-pass g c =
     let t = c.load.ensures.2 in
     let r = t.0.1 _ _ c.args.pass.now.timed c.args.pass.now.begun in
     let in_domain = subst (λ (d : Config). KnownInDomain d c.load.new.seat.me.0) (c.requires.domain ∙ sym c.requires.of.4) t.2.1 in
-    record { numbered = c.args.pass.now.numbered ∙ sym t.1.0; timed = r.0; begun = r.1; known = ∣ t.2.0 ∣₁; in_domain = in_domain; taken = t.3 ∙ c.args.pass.now.taken }
+    record {
+      numbered = c.args.pass.now.numbered ∙ sym t.1.0;
+      timed = r.0;
+      begun = r.1;
+      known = ∣ t.2.0 ∣₁;
+      in_domain = in_domain;
+      taken = t.3 ∙ c.args.pass.now.taken;
+    }

@@ -17,12 +17,12 @@
 //! # Contract
 //!
 //! Status 0 of `run`, and of a pool, blocks or a growing set likewise: the texts of the files, where they are told, are
-//! scripts. There are lines, final maps and tables of which the output grew by exactly their text. Each line stands in the history of the closing: a commit is the
-//! entry of its time by its seat with its command's tag, and a read has its reply in the state of its time. Each
-//! command has one line, each commit of the history has one, and the lines in their order, replayed one after another,
-//! give every reply and end in the printed sets (`IsRunText` in `specs/Told.antt`). Each other status has its cause, and
-//! where the texts are told and no call failed the scripts alone decide, but for want of memory. A gate is called
-//! around each command; no clause speaks of it, since it tells nothing.
+//! scripts. There are lines, final maps and tables of which the output grew by exactly their text. Each line stands in
+//! the history of the closing: a commit is the entry of its time by its seat with its command's tag, and a read has its
+//! reply in the state of its time. Each command has one line, each commit of the history has one, and the lines in their
+//! order, replayed one after another, give every reply and end in the printed sets (`IsRunText` in `specs/Told.antt`).
+//! Each other status has its cause, and where the texts are told and no call failed the scripts alone decide, but for
+//! want of memory. A gate is called around each command; no clause speaks of it, since it tells nothing.
 //!
 //! On a growing set the commits of the history are those of lines and of splits: a seat has one split at most behind
 //! each second add of its script that replied yes, ahead of its next line. The text has a line on the buckets and the

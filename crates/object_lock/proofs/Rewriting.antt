@@ -70,12 +70,12 @@ puts_store c v position (suc n) words =
       );
     }
 
--- all six words of the version of an object that is held were stored
-module _ (c : Config) (v w : View) (l m : Noted) (object position : ℕ) (words : List ℕ) (s : Stands c v l) (at : IsHeldAt l object position) where
+-- the version of an object that is held is stored, with all six words
+module _ (c : Config) (v : View) (l : Noted) (object position : ℕ) (s : Stands c v l) (at : IsHeldAt l object position) where
   place_is : position ≡ l.freed + at.place
   place_is = sym at.position_is ∙ s.log.notes.position at.place at.note at.there
 
-  -- the version is held
+  -- it is held
   pub is_held : IsHeld l position
   is_held =
       let is = place_is in
@@ -84,30 +84,30 @@ module _ (c : Config) (v w : View) (l m : Noted) (object position : ℕ) (words 
       let lt = get_within l.live at.place at.note at.there in
       (omega arith, omega arith)
 
-  module _ (t : Stands c w m) (noted : m ≡ words_noted l position words) where
-    live : m.live ≡ at_place (with_words words) at.place l.live
-    live =
-        ap (λ (q : Noted). q.live) noted
-        ∙ ap (λ j. at_place (with_words words) j l.live) (let is = place_is in let e : position - l.freed ≡ at.place = omega arith in e)
+  -- what the section holds then
+  pub all_written : (w : View) (m : Noted) (words : List ℕ) → Stands c w m → m ≡ words_noted l position words
+      → own_of c w.ring ≡ rewritten (own_of c v.ring) object words
+  all_written w m words t noted =
+      let d = held_from l in
+      let f = with_words words in
+      let is = place_is in
+      let place : position - l.freed ≡ at.place = omega arith in
+      let live : m.live ≡ at_place f at.place l.live = ap (λ (q : Noted). q.live) noted ∙ ap (λ j. at_place f j l.live) place in
+      let heads : held_from m ≡ d = ap held_from noted ∙ ap (λ k. k - l.held) (length-at_place f (position - l.freed) l.live) in
+      let same : note_write (f at.note) ≡ (object, words) = ap (λ o. (o, words)) at.object_is in
+      own_is c w m t
+      ∙ (λ i. map note_write (drop (heads i) (live i)))
+      ∙ ap (map note_write) (drop-at f d at.place l.live at.held)
+      ∙ rewrites (held_notes l) (at.place - d) at.note f object words (get_left d at.place l.live at.note at.held at.there) at.object_is
+      (λ i n there lt. at.first_one (d + i) n (sym (get_dropped d i l.live) ∙ there) (omega arith) (omega arith)) same
+      ∙ ap (λ ws. rewritten ws object words) (sym (own_is c v l s))
 
-    pub all_written : own_of c w.ring ≡ rewritten (own_of c v.ring) object words
-    all_written =
-        let d = held_from l in
-        let f = with_words words in
-        let heads : held_from m ≡ d =
-        ap held_from noted ∙ ap (λ k. k - l.held) (length-at_place f (position - l.freed) l.live) in
-        let same : note_write (f at.note) ≡ (object, words) = ap (λ o. (o, words)) at.object_is in
-        own_is c w m t
-        ∙ (λ i. map note_write (drop (heads i) (live i)))
-        ∙ ap (map note_write) (drop-at f d at.place l.live at.held)
-        ∙ rewrites (held_notes l) (at.place - d) at.note f object words (get_left d at.place l.live at.note at.held at.there) at.object_is
-        (λ i n there lt. at.first_one (d + i) n (sym (get_dropped d i l.live) ∙ there) (omega arith) (omega arith)) same
-        ∙ ap (λ ws. rewritten ws object words) (sym (own_is c v l s))
-
-    pub spare_stays : spare_count w.ring ≡ spare_count v.ring
-    spare_stays =
-        let long : length m.live ≡ length l.live =
-        ap (λ (q : Noted). length q.live) noted ∙ length-at_place (with_words words) (position - l.freed) l.live in
-        let a = s.spare in
-        let b = t.spare in
-        omega arith
+-- as many slots are free
+pub spare_stays : (c : Config) (v w : View) (l m : Noted) (position : ℕ) (words : List ℕ) → Stands c v l → Stands c w m
+    → m ≡ words_noted l position words → spare_count w.ring ≡ spare_count v.ring
+spare_stays c v w l m position words s t noted =
+    let long : length m.live ≡ length l.live =
+    ap (λ (q : Noted). length q.live) noted ∙ length-at_place (with_words words) (position - l.freed) l.live in
+    let a = s.spare in
+    let b = t.spare in
+    omega arith

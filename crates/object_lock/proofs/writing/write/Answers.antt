@@ -13,8 +13,8 @@ position_of-position-requires g c =
 
 pub put_words-requires-clause-held : goal.put_words-requires-clause-held
 put_words-requires-clause-held g c =
-    is_held (config_of c.args.shared.now) (view c.args.pass.now) (view c.args.pass.now) c.args.log.now c.args.log.now c.args.object
-    c.position_of-position.result c.args.words c.requires.stands c.position_of-position.ensures
+    is_held (config_of c.args.shared.now) (view c.args.pass.now) c.args.log.now _ c.position_of-position.result c.requires.stands
+    c.position_of-position.ensures
 
 pub returns-clause-may : goal.returns-clause-may
 returns-clause-may g c =
@@ -24,13 +24,14 @@ returns-clause-may g c =
 
 pub returns-clause-own : goal.returns-clause-own
 returns-clause-own g c =
-    all_written (config_of c.args.shared.now) (view c.args.pass.now) (view c.put_words.new.pass) c.args.log.now c.put_words.new.log c.args.object
-    c.position_of-position.result c.args.words c.requires.stands c.position_of-position.ensures c.put_words.ensures.stands c.put_words.ensures.log
+    all_written (config_of c.args.shared.now) (view c.args.pass.now) c.args.log.now c.args.object c.position_of-position.result
+    c.requires.stands c.position_of-position.ensures (view c.put_words.new.pass) c.put_words.new.log c.args.words c.put_words.ensures.stands
+    c.put_words.ensures.log
 
 pub returns-clause-spare : goal.returns-clause-spare
 returns-clause-spare g c =
-    spare_stays (config_of c.args.shared.now) (view c.args.pass.now) (view c.put_words.new.pass) c.args.log.now c.put_words.new.log c.args.object
-    c.position_of-position.result c.args.words c.requires.stands c.position_of-position.ensures c.put_words.ensures.stands c.put_words.ensures.log
+    spare_stays (config_of c.args.shared.now) (view c.args.pass.now) (view c.put_words.new.pass) c.args.log.now c.put_words.new.log
+    c.position_of-position.result c.args.words c.requires.stands c.put_words.ensures.stands c.put_words.ensures.log
 
 pub returns-clause-stores : goal.returns-clause-stores
 returns-clause-stores g c =

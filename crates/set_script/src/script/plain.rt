@@ -7,7 +7,7 @@ use crate::commands::{Command, Format, Name};
 use crate::script::line::{Verb, read_name, read_verb};
 use crate::script::numbers::read_key;
 
-// The three or four bytes before the first space, and what is behind it. `None` where it stands elsewhere.
+// The first three bytes or the first four, where a space stands behind them, and the bytes behind that space. Else `None`.
 #[inline(always)]
 fn split_verb(line: &[u8]) -> Option<(&[u8], &[u8])>
     ensures { MatchOption result ⊤ (λ two. line.now ≡ two.0.now ++ 32 ∷ two.1.now) }

@@ -147,7 +147,8 @@ module _ (format : ℕ) (word : List ℕ) where
       cases false n1 false n2 false n3 false n4 false n5 true is b7 n7 b8 n8 b9 n9 = is_text (codes "move") (verb (codes "move") refl refl refl refl) is
       cases false n1 false n2 false n3 false n4 false n5 false n6 true is b8 n8 b9 n9 = is_text (codes "pair") (verb (codes "pair") refl refl refl refl) is
       cases false n1 false n2 false n3 false n4 false n5 false n6 false n7 true is b9 n9 = is_text (codes "size") (verb (codes "size") refl refl refl refl) is
-      cases false n1 false n2 false n3 false n4 false n5 false n6 false n7 false n8 true is = is_text (codes "next") (verb (codes "next") refl refl refl refl) is
+      cases false n1 false n2 false n3 false n4 false n5 false n6 false n7 false n8 true is =
+          is_text (codes "next") (verb (codes "next") refl refl refl refl) is
       cases false n1 false n2 false n3 false n4 false n5 false n6 false n7 false n8 false n9 =
           let h : Err faults.Word ≡ Ok v = rw (n1, n2, n3, n4, n5, n6, n7, n8, n9) at e in absurd (cc)
 

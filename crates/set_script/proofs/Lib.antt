@@ -3,6 +3,7 @@ pub mod Numerals
 pub mod Lines
 pub mod LineFaults
 pub mod LineTexts
+pub mod PlainLines
 pub mod MapLaws
 pub mod KeyMaps
 pub mod ObjectWords

@@ -24,7 +24,7 @@ use Rattle.set_script.proofs.Numerals.{own}
 abbrev pub AreVisible : List ℕ → Type 0
 AreVisible bytes = All (λ b. 33 ≤ b) bytes
 
-no_blank : (bytes : List ℕ) → AreVisible bytes → All (λ b. is_blank b ≡ false) bytes
+pub no_blank : (bytes : List ℕ) → AreVisible bytes → All (λ b. is_blank b ≡ false) bytes
 no_blank bytes visible = All-weaker (λ b. 33 ≤ b) (λ b. is_blank b ≡ false) (λ b h. grind (arith, nat_tests)) bytes visible
 
 -- a word of visible bytes that begins no comment
@@ -39,7 +39,7 @@ spaced_parts word [] first rest = slice_split_none is_blank word (no_blank word 
 spaced_parts word (next ∷ words) first rest =
     slice_split_at is_blank word 32 (spaced next words) (no_blank word first.visible) refl ∙ ap (λ parts. word ∷ parts) (spaced_parts next words rest.0 rest.1)
 
-plain_words : (words : List (List ℕ)) → AllByRecursion IsPlain words → take_while is_plain (filter is_word words) ≡ words
+pub plain_words : (words : List (List ℕ)) → AllByRecursion IsPlain words → take_while is_plain (filter is_word words) ≡ words
 plain_words [] all = refl
 plain_words (word ∷ words) all =
     let kept : filter is_word (word ∷ words) ≡ word ∷ filter is_word words = let there = all.0.word_is in rw there refl in
@@ -71,7 +71,7 @@ spaced_words word words first rest =
     ∙ plain_words (word ∷ words) (first, rest)
 
 -- a numeral is plain
-digits_plain : (bytes : List ℕ) → 0 < length bytes → list_all is_ascii_digit bytes ≡ true → IsPlain bytes
+pub digits_plain : (bytes : List ℕ) → 0 < length bytes → list_all is_ascii_digit bytes ≡ true → IsPlain bytes
 digits_plain [] some digits = absurd (omega arith)
 digits_plain (b ∷ bytes) some digits = record {
   visible = All-weaker (λ b. is_ascii_digit b ≡ true) (λ b. 33 ≤ b) (λ b h. grind (arith, nat_tests)) (b ∷ bytes)
@@ -172,7 +172,7 @@ pub record IsVerb (word : List ℕ) : Type 0 where
   pub plain : IsPlain word
   pub other : is_format_word word ≡ false
 
-verb : (word : List ℕ) → list_all (nat_le 33) word ≡ true → is_word word ≡ true → is_plain word ≡ true → is_format_word word ≡ false → IsVerb word
+pub verb : (word : List ℕ) → list_all (nat_le 33) word ≡ true → is_word word ≡ true → is_plain word ≡ true → is_format_word word ≡ false → IsVerb word
 verb word visible word_is plain other = record {
   plain = record {
     visible = All-weaker (λ b. nat_le 33 b ≡ true) (λ b. 33 ≤ b) (λ b h. grind (arith, nat_tests)) word (AllPass-from_list_all (nat_le 33) word visible);

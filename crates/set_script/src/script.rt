@@ -17,6 +17,7 @@ mod laws;
 mod line;
 mod numbers;
 mod opening;
+mod plain;
 mod words;
 
 ghost use Rattle.std.specs.Prelude.{◌≡◌, ◌-◌, ◌≤◌, ◌<◌, ◌^◌, IfOk, MatchResult, length};
@@ -56,6 +57,7 @@ pub fn parse(alloc: Global, bytes: &[u8]) -> Result<Vec<Command>, ScriptFault>
 
 // Puts the command of a line behind those of the lines before, and notes the script's format.
 // The line has this number.
+#[inline(always)]
 fn take_line(
     commands: &mut Vec<Command>,
     format: &mut Option<Format>,

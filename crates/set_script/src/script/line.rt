@@ -4,11 +4,12 @@ ghost use Rattle.set_script.specs.Grammar.{words_in, verb_of, name_of, set_of, s
 
 use crate::commands::{Command, FaultKind, Format, Name};
 use crate::script::numbers::{read_key, read_value};
+use crate::script::plain::read_plain;
 use crate::script::words::{first_word, read_one, read_three, read_two, strip_carriage_return};
 
 /// What a command does.
 #[derive(Clone, Copy, Debug, Drop, PartialEq, Eq)]
-enum Verb {
+pub enum Verb {
     Add,
     Put,
     Del,
@@ -21,7 +22,8 @@ enum Verb {
 }
 
 // What the first word of a line says to do. `Err` is `Word`, for any other word, and for `put` and `get` in format 1.
-fn read_verb(word: &[u8], format: &Format) -> Result<Verb, FaultKind>
+#[inline(always)]
+pub fn read_verb(word: &[u8], format: &Format) -> Result<Verb, FaultKind>
     ensures { result ≡ verb_of format.now word.now }
 {
     match word {
@@ -39,7 +41,8 @@ fn read_verb(word: &[u8], format: &Format) -> Result<Verb, FaultKind>
 }
 
 // The set of this name. `Err` is `Name`, for any other word than the 30 names.
-fn read_name(word: &[u8]) -> Result<Name, FaultKind>
+#[inline(always)]
+pub fn read_name(word: &[u8]) -> Result<Name, FaultKind>
     ensures { result ≡ name_of word.now }
 {
     let (first, digit) = match word {
@@ -132,12 +135,17 @@ fn read_command(verb: Verb, bytes: &[u8]) -> Result<Command, FaultKind>
 ///
 /// `Err` tells what is wrong first, in the order `Word`, `Count`, `Name`, `Key`, `Value`, `Same`. It is never `Many` or
 /// `Format`, since these depend on the lines before: a line that begins with `format` is a `Word` here.
+#[inline(always)]
 #[tactic(auto, unfolding(crate::specs::Grammar::command_of))]
 pub fn parse_line(line: &[u8], format: &Format) -> Result<Option<Command>, FaultKind>
     ensures is { result ≡ line_read format.now line.now }
     ensures other { IfErr result (λ kind. (kind ≢ FaultKind.Many) × (kind ≢ FaultKind.Format)) }
 {
-    let Some((word, rest)) = first_word(strip_carriage_return(line)) else {
+    let bytes = strip_carriage_return(line);
+    if let Some(command) = read_plain(bytes, format) {
+        return Ok(Some(command));
+    }
+    let Some((word, rest)) = first_word(bytes) else {
         return Ok(None);
     };
     let verb = read_verb(word, format)?;

@@ -41,6 +41,7 @@ fn number_of(word: &[u8]) -> u128
 }
 
 /// The key. `Err` is `Key`, for what is no numeral, and above 4294967295.
+#[inline(always)]
 pub fn read_key(word: &[u8]) -> Result<u32, FaultKind>
     ensures { result ≡ key_of word.now }
 {

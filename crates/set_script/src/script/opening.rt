@@ -38,6 +38,7 @@ fn read_first(line: &[u8]) -> Result<(Option<Command>, Option<Format>), FaultKin
 /// words: its command, and `None` for a line without words and for the one on the format. Takes no memory.
 ///
 /// `Err` tells what is wrong first, as of [`crate::parse`], but that it is never `Many`; the format is then not to be used.
+#[inline(always)]
 pub fn read_line(line: &[u8], format: &mut Option<Format>) -> Result<Option<Command>, FaultKind>
     ensures is { result ≡ reading_in format.old line.now }
     ensures format { IfOk result (λ _. format.new ≡ format_after format.old line.now) }

@@ -53,7 +53,8 @@ pub fn help<P: Protocol, L: Ledger>(
 }
 
 /// Helps as `help` does, and answers the word of CLOCK that the help loaded, or None where it made
-/// no load of CLOCK: each load of CLOCK among its steps found that word. It is `help_start`, and where that has begun one, `help_check` and `help_end`.
+/// no load of CLOCK: each load of CLOCK among its steps found that word. It is `help_start`, and
+/// where that has begun one, `help_check` and `help_end`.
 pub fn help_clock<P: Protocol, L: Ledger>(
     shared: &Shared<P>,
     pass: &mut Pass<P>,

@@ -35,8 +35,9 @@ pub fn enter<P: Protocol, L: Ledger>(
 }
 
 /// Enters as `enter` does, and answers besides the greatest printed time that this call found in
-/// CLOCK, which is that of all it has seen: no load of CLOCK among its steps found a later one. It is `enter_low`, `enter_mark`, `enter_time` and the help
-/// of the word that the last of them found.
+/// CLOCK, which is that of all it has seen: none of the loads of CLOCK among its steps by which a
+/// seat takes a time for the present one found a later. It is `enter_low`, `enter_mark`,
+/// `enter_time` and the help of the word that the last of them found.
 pub fn enter_clock<P: Protocol, L: Ledger>(
     shared: &Shared<P>,
     pass: &mut Pass<P>,

@@ -32,5 +32,8 @@
 mod reading;
 mod walking;
 
-pub use reading::{read_master, read_master_pair, read_version, read_version_pair};
-pub use walking::{Found, Walk, find, walk_start, walk_step};
+pub use reading::{
+    read_master, read_master_pair, read_version, read_version_at, read_version_pair,
+    read_version_pair_at,
+};
+pub use walking::{Found, FoundVersion, Walk, find, find_at, walk_start, walk_step, walk_step_at};

@@ -11,7 +11,9 @@ use crate::places::Busy;
 use mv_core::{Shared, Steps};
 use mv_history::{Protocol, Words};
 use std::sync::ledger::{Blank, Ledger};
-use version_chain::{find_at, read_master, read_master_pair, read_version_at, read_version_pair_at};
+use version_chain::{
+    find_at, read_master, read_master_pair, read_version_at, read_version_pair_at,
+};
 
 // The words of an object in the section's snapshot.
 #[inline(always)]

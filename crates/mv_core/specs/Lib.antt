@@ -10,6 +10,7 @@ pub mod WalkFacts
 pub mod ReclaimFacts
 pub mod EnterSteps
 pub mod WalkSteps
+pub mod Slots
 pub mod LockSteps
 pub mod NameSteps
 pub mod ReclaimSteps

@@ -7,6 +7,7 @@ ghost use Rattle.mv_core.specs.Tops.{IsNewer};
 ghost use Rattle.mv_core.specs.WalkSteps.{IsPackedOf, IsLinkOf, IsOwnTop, IsOwnLink, IsLastOwn, IsLastSeen, IsOwnTime, slot_named, MayLoadHead};
 ghost use Rattle.mv_core.specs.WalkSteps.{head_loaded, MayLoadFirst, first_loaded, MayLoadStamp, StampSays, stamp_loaded, MayLoadPrev, prev_loaded};
 ghost use Rattle.mv_core.specs.WalkSteps.{MayLoadData, data_loaded, MayLoadMaster, master_loaded, words_read, word_read};
+ghost use Rattle.mv_core.specs.Slots.{IsSlotIn, IsSlotLinked};
 ghost use Rattle.mv_layout.specs.Cells.{cell_of};
 ghost use Rattle.mv_layout.specs.Words.{link_seat_of};
 ghost use Rattle.mv_layout.specs.declared.Place.TheVariants.{First};
@@ -23,14 +24,30 @@ use std::marker::Brand;
 use std::sync::ledger::Ledger;
 
 impl<P: Protocol> Shared<P> {
-    /// The cell at which the slot that a link names begins, by which `load_data` loads the words of the
-    /// version there. No step is made.
+    /// The cell at which the slot that a link names begins, by which `load_first_at`, `load_prev_at` and
+    /// `load_data` load the words of the version there. No step is made.
     pub fn slot_linked(&self, link: u64) -> u32
         requires { IsPackedOf (config_of self.now) link }
         ensures { result ≡ cell_of (config_of self.now) (First (link_seat_of link) (slot_named (config_of self.now) link)) }
     {
         let slot = slot_of_position(&self.config, link_position(link));
         slot_cell(&self.config, link_seat(link), slot)
+    }
+
+    /// The cell at which the slot begins of the position `first` in the log that a link names, by which
+    /// `load_stamp_at` loads the STAMP of the write set of the version there. `slot` is the cell of the
+    /// link's own slot, as `slot_linked` gives it, and is the answer where `first` is the link's own
+    /// position. No step is made.
+    pub fn slot_of_first(&self, link: u64, slot: u32, first: u64) -> u32
+        requires range { IsPackedOf (config_of self.now) link }
+        requires slot { IsSlotLinked (config_of self.now) link slot }
+        ensures { IsSlotIn (config_of self.now) link first result }
+    {
+        if first == link_position(link) {
+            return slot;
+        }
+        let index = slot_of_position(&self.config, first);
+        slot_cell(&self.config, link_seat(link), index)
     }
 
     /// Loads HEAD of an object, in an open section that is past its help and has no write-back under
@@ -70,8 +87,29 @@ impl<P: Protocol> Shared<P> {
         ensures view { view pass.new ≡ first_loaded (config_of self.now) (view pass.old) stand result }
         ensures step { steps.new ≡ steps.old + 1 }
     {
-        let cell = self.slot_linked(link) + FIRST_OFFSET;
-        load_as::<P, Brand, L, _>(self, pass, cell, &link, steps)
+        let slot = self.slot_linked(link);
+        self.load_first_at(pass, link, slot, steps)
+    }
+
+    /// The step `load_first`, where `slot` is the cell at which the slot of the link begins, as
+    /// `slot_linked` gives it.
+    pub fn load_first_at<L: Ledger>(
+        &self,
+        pass: &mut Pass<P>,
+        link: u64,
+        slot: u32,
+        steps: &mut Steps<L>,
+    ) -> u64
+        ghost stand: { Stand }
+        requires of { IsOf self.now pass.old }
+        requires range { IsPackedOf (config_of self.now) link }
+        requires slot { IsSlotLinked (config_of self.now) link slot }
+        requires may { MayLoadFirst (view pass.old) link stand }
+        ensures same { IsSame pass.old pass.new }
+        ensures view { view pass.new ≡ first_loaded (config_of self.now) (view pass.old) stand result }
+        ensures step { steps.new ≡ steps.old + 1 }
+    {
+        load_as::<P, Brand, L, _>(self, pass, slot + FIRST_OFFSET, &link, steps)
     }
 
     /// Loads STAMP of the write set of the version that the walk stands at, whose first position
@@ -96,9 +134,33 @@ impl<P: Protocol> Shared<P> {
         ensures own { IsOwnTime (config_of self.now) (view pass.old) link result }
         ensures step { steps.new ≡ steps.old + 1 }
     {
-        let slot = slot_of_position(&self.config, first);
-        let cell = slot_cell(&self.config, link_seat(link), slot) + STAMP_OFFSET;
-        load_as::<P, Brand, L, _>(self, pass, cell, &(link, first), steps)
+        let index = slot_of_position(&self.config, first);
+        let slot = slot_cell(&self.config, link_seat(link), index);
+        self.load_stamp_at(pass, link, first, slot, steps)
+    }
+
+    /// The step `load_stamp`, where `slot` is the cell at which the slot of `first` begins, as
+    /// `slot_of_first` gives it.
+    pub fn load_stamp_at<L: Ledger>(
+        &self,
+        pass: &mut Pass<P>,
+        link: u64,
+        first: u64,
+        slot: u32,
+        steps: &mut Steps<L>,
+    ) -> u64
+        ghost stand: { Stand }
+        requires of { IsOf self.now pass.old }
+        requires range { IsPackedOf (config_of self.now) link }
+        requires slot { IsSlotIn (config_of self.now) link first slot }
+        requires may { MayLoadStamp (view pass.old) link first stand }
+        ensures same { IsSame pass.old pass.new }
+        ensures view { view pass.new ≡ stamp_loaded (config_of self.now) (view pass.old) stand first result (view pass.new).past.seen }
+        ensures says { StampSays (config_of self.now) (view pass.old) stand result (view pass.new).past.seen }
+        ensures own { IsOwnTime (config_of self.now) (view pass.old) link result }
+        ensures step { steps.new ≡ steps.old + 1 }
+    {
+        load_as::<P, Brand, L, _>(self, pass, slot + STAMP_OFFSET, &(link, first), steps)
     }
 
     /// Loads PREV of the version that the walk stands at, whose stamp it found to be unset or a time
@@ -114,8 +176,30 @@ impl<P: Protocol> Shared<P> {
         ensures link { IsLinkOf (config_of self.now) result }
         ensures step { steps.new ≡ steps.old + 1 }
     {
-        let cell = self.slot_linked(link) + PREV_OFFSET;
-        load_as::<P, Brand, L, _>(self, pass, cell, &link, steps)
+        let slot = self.slot_linked(link);
+        self.load_prev_at(pass, link, slot, steps)
+    }
+
+    /// The step `load_prev`, where `slot` is the cell at which the slot of the link begins, as
+    /// `slot_linked` gives it.
+    pub fn load_prev_at<L: Ledger>(
+        &self,
+        pass: &mut Pass<P>,
+        link: u64,
+        slot: u32,
+        steps: &mut Steps<L>,
+    ) -> u64
+        ghost stand: { Stand }
+        requires of { IsOf self.now pass.old }
+        requires range { IsPackedOf (config_of self.now) link }
+        requires slot { IsSlotLinked (config_of self.now) link slot }
+        requires may { MayLoadPrev (view pass.old) link stand }
+        ensures same { IsSame pass.old pass.new }
+        ensures view { view pass.new ≡ prev_loaded (config_of self.now) (view pass.old) stand result }
+        ensures link { IsLinkOf (config_of self.now) result }
+        ensures step { steps.new ≡ steps.old + 1 }
+    {
+        load_as::<P, Brand, L, _>(self, pass, slot + PREV_OFFSET, &link, steps)
     }
 
     /// Loads a data word of the version that the walk stands at, whose stamp it found to be a time not

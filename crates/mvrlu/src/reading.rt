@@ -11,7 +11,9 @@ use crate::places::Busy;
 use mv_core::{Shared, Steps};
 use mv_history::{Protocol, Words};
 use std::sync::ledger::{Blank, Ledger};
-use version_chain::{Found, find, read_master, read_master_pair, read_version, read_version_pair};
+use version_chain::{
+    find_at, read_master, read_master_pair, read_version_at, read_version_pair_at,
+};
 
 // The words of an object in the section's snapshot.
 #[inline(always)]
@@ -34,9 +36,9 @@ fn read_below<P: Protocol, L: Ledger>(
 {
     let mut steps = Steps::<L>::open(blank);
     let pass = &mut busy.place.pass;
-    match find(shared, pass, object, &mut steps) {
-        Found::Master => read_master(shared, pass, object, &mut steps),
-        Found::Version { seat, position } => read_version(shared, pass, seat, position, &mut steps),
+    match find_at(shared, pass, object, &mut steps) {
+        None => read_master(shared, pass, object, &mut steps),
+        Some(at) => read_version_at(shared, pass, at, &mut steps),
     }
 }
 
@@ -89,11 +91,9 @@ fn read_pair_below<P: Protocol, L: Ledger>(
 {
     let mut steps = Steps::<L>::open(blank);
     let pass = &mut busy.place.pass;
-    match find(shared, pass, object, &mut steps) {
-        Found::Master => read_master_pair(shared, pass, object, place, &mut steps),
-        Found::Version { seat, position } => {
-            read_version_pair(shared, pass, seat, position, place, &mut steps)
-        }
+    match find_at(shared, pass, object, &mut steps) {
+        None => read_master_pair(shared, pass, object, place, &mut steps),
+        Some(at) => read_version_pair_at(shared, pass, at, place, &mut steps),
     }
 }
 

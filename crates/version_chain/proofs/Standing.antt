@@ -1,5 +1,5 @@
 -- Where a walk stands, and what its loads leave.
-use Rattle.std.proofs.Common.{◌≡◌, ◌≢◌, ℕ, ◌<◌, ◌≤◌, ◌^◌, Bool, false, if◌then◌else◌, List, sym, ap, ◌∙◌, subst, ne_eqb, Some, None}
+use Rattle.std.proofs.Common.{◌≡◌, ◌≢◌, ℕ, ◌<◌, ◌≤◌, Bool, false, if◌then◌else◌, List, sym, ap, ◌∙◌, subst, ne_eqb, Option, Some, None}
 use Rattle.mv_history.specs.declared.Entry.{Entry}
 use Rattle.mv_layout.specs.declared.Config.{Config}
 use Rattle.mv_layout.specs.Words.{link_of, link_seat_of, link_position_of}
@@ -11,7 +11,9 @@ use Rattle.mv_core.specs.declared.view.Passed.{Passed}
 use Rattle.mv_core.specs.declared.view.Phase.TheVariants.{Inside}
 use Rattle.mv_core.specs.WalkSteps.{IsPackedOf, IsLinkOf, stand_at, first_loaded, stamp_loaded, MayLoadData}
 use Rattle.mv_history.specs.declared.Step.{Step}
-use Rattle.version_chain.specs.declared.walking.Found.TheVariants.{Version}
+use Rattle.version_chain.specs.declared.walking.FoundVersion.{FoundVersion}
+use Rattle.version_chain.specs.Slots.{found_of, IsLinked, StandsAtSlot, HasFoundSlot}
+use Rattle.mv_core.specs.Slots.{IsSlotLinked}
 use Rattle.version_chain.specs.Walks.{time_at, stand_of, stand_in, section_in, with_first, with_stamp, HasFound, MayWalk, StandsAtVersion}
 
 -- a walk at a link that isn't 0 stands at the version of that link
@@ -26,7 +28,7 @@ stands_here v object link passed ne is =
 pub stand_is : (v : View) (stand : Stand) → v.walk ≡ place.At stand → v.walk ≡ place.At (stand_in v)
 stand_is v stand is = is ∙ ap place.At (sym (ap stand_of is))
 
-module _ (c : Config) (v w x : View) (object link first found seat position : ℕ) (seen : List Entry) (ne : link ≢ 0) (packed : IsLinkOf c link)
+module _ (c : Config) (v w x : View) (object link first found slot : ℕ) (seen : List Entry) (ne : link ≢ 0) (packed : IsLinkOf c link)
     (stands : v.walk ≡ stand_at object link (stand_in v).passed false) where
   -- where a walk stands once FIRST and STAMP of a version were loaded
   abbrev looked : Stand
@@ -41,18 +43,15 @@ module _ (c : Config) (v w x : View) (object link first found seat position : �
 
   -- a walk that ends at a version stands at it
   pub found_here : w ≡ first_loaded c v (stand_in v) first → x ≡ stamp_loaded c w (stand_in w) first found seen → (time : ℕ) → time ≡ time_at x → found ≤ time
-      → seat ≡ link_seat_of link → position ≡ link_position_of link → HasFound c x object (Version seat position)
-  found_here firsts stamps time time_is not_above seat_is position_is =
+      → IsSlotLinked c link slot → HasFoundSlot c x object (Some (record { link = link; slot = slot }))
+  found_here firsts stamps time time_is not_above slot_is =
       let is = looked_is firsts stamps in
-      let stand : stand_in x ≡ looked = ap stand_of is in
-      let link_is = ap (λ (s : Stand). s.link) stand in
-      let p = packed ne in (
+      let stand : stand_in x ≡ looked = ap stand_of is in (
         record {
           stands = stand_is x looked is;
-          link_is = link_is ∙ unpacking.link_is link p.0 ∙ ap (λ s. link_of s (link_position_of link)) (sym seat_is) ∙ ap (link_of seat) (sym position_is);
-          packed = subst (IsPackedOf c) (sym link_is) p;
-          seat_small = subst (λ s. s < 64) (sym seat_is) (unpacking.link_seat_small link p.0);
-          position_small = subst (λ s. s < 2 ^ 57) (sym position_is) (unpacking.link_position_small link);
+          link_is = ap (λ (s : Stand). s.link) stand;
+          packed = packed ne;
+          slot = slot_is;
           time = found;
           stamp_is = ap (λ (s : Stand). s.stamp) stand;
           not_above = subst (λ t. found ≤ t) time_is not_above;
@@ -60,15 +59,52 @@ module _ (c : Config) (v w x : View) (object link first found seat position : �
         ap (λ (s : Stand). s.object) stand,
       )
 
+-- such a version is named by the seat and the position of its link
+pub version_here : (c : Config) (v : View) (at : FoundVersion) → StandsAtSlot c v at
+    → StandsAtVersion c v (link_seat_of at.link) (link_position_of at.link)
+version_here c v at here = record {
+  stands = here.stands;
+  link_is = here.link_is ∙ unpacking.link_is at.link here.packed.0;
+  packed = subst (IsPackedOf c) (sym here.link_is) here.packed;
+  seat_small = unpacking.link_seat_small at.link here.packed.0;
+  position_small = unpacking.link_position_small at.link;
+  time = here.time;
+  stamp_is = here.stamp_is;
+  not_above = here.not_above;
+}
+
+-- and one of a seat and a position is at the cell of its slot
+pub slot_here : (c : Config) (v : View) (seat position link slot : ℕ) → StandsAtVersion c v seat position → link ≡ link_of seat position
+    → IsSlotLinked c link slot → StandsAtSlot c v (record { link = link; slot = slot })
+slot_here c v seat position link slot here is slot_is = record {
+  stands = here.stands;
+  link_is = here.link_is ∙ sym is;
+  packed = subst (IsPackedOf c) (here.link_is ∙ sym is) here.packed;
+  slot = slot_is;
+  time = here.time;
+  stamp_is = here.stamp_is;
+  not_above = here.not_above;
+}
+
+-- what was found with its cell was found
+pub found_too : (c : Config) (v : View) (object : ℕ) (found : Option FoundVersion) → HasFoundSlot c v object found → HasFound c v object (found_of found)
+found_too c v object None here = here
+found_too c v object (Some at) here = (version_here c v at here.0, here.1)
+
+-- and its link is a packed one
+pub linked_here : (c : Config) (v : View) (object : ℕ) (found : Option FoundVersion) → HasFoundSlot c v object found → IsLinked found
+linked_here c v object None here = tt
+linked_here c v object (Some at) here = here.0.packed.0
+
 -- after a load that only joins the trail a further word of the version may be loaded
-pub may_data : (c : Config) (v x : View) (seat position link word : ℕ) (steps : List Step) → MayWalk v → StandsAtVersion c v seat position
-    → link ≡ link_of seat position → x ≡ record v { trail = steps } → word < 6 → MayLoadData x link word (stand_in x) (section_in x)
-may_data c v x seat position link word steps may at is so lt = record {
+pub may_data : (c : Config) (v x : View) (at : FoundVersion) (word : ℕ) (steps : List Step) → MayWalk v → StandsAtSlot c v at
+    → x ≡ record v { trail = steps } → word < 6 → MayLoadData x at.link word (stand_in x) (section_in x)
+may_data c v x at word steps may here so lt = record {
   phase = ap (λ (u : View). u.phase) so ∙ may.phase ∙ ap Inside (sym (ap section_in so));
-  stands = ap (λ (u : View). u.walk) so ∙ at.stands ∙ ap place.At (sym (ap stand_in so));
-  link_is = ap (λ (u : View). (stand_in u).link) so ∙ at.link_is ∙ sym is;
-  found = at.time;
-  stamp_is = ap (λ (u : View). (stand_in u).stamp) so ∙ at.stamp_is;
-  time_is = subst (λ (u : View). at.time ≤ time_at u) (sym so) at.not_above;
+  stands = ap (λ (u : View). u.walk) so ∙ here.stands ∙ ap place.At (sym (ap stand_in so));
+  link_is = ap (λ (u : View). (stand_in u).link) so ∙ here.link_is;
+  found = here.time;
+  stamp_is = ap (λ (u : View). (stand_in u).stamp) so ∙ here.stamp_is;
+  time_is = subst (λ (u : View). here.time ≤ time_at u) (sym so) here.not_above;
   in_range = lt;
 }

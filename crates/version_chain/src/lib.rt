@@ -22,6 +22,9 @@
 //! length of the section's snapshot. A reader makes six, and one of two words makes two. The trail
 //! grows by as many records.
 //!
+//! `walk_step_at`, `find_at` and the readers that end in `_at` make the same steps, and carry the cell
+//! at which the version's slot begins, so that the slot is found once.
+//!
 //! All calls need a pass inside a section, in its open phase, past its help, with no write-back
 //! under way. They change where the walk stands, and what the seat has seen is only longer; all
 //! else that the view says stays.
@@ -32,5 +35,8 @@
 mod reading;
 mod walking;
 
-pub use reading::{read_master, read_master_pair, read_version, read_version_pair};
-pub use walking::{Found, Walk, find, walk_start, walk_step};
+pub use reading::{
+    read_master, read_master_pair, read_version, read_version_at, read_version_pair,
+    read_version_pair_at,
+};
+pub use walking::{Found, FoundVersion, Walk, find, find_at, walk_start, walk_step, walk_step_at};

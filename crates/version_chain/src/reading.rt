@@ -5,7 +5,9 @@ ghost use Rattle.mv_core.specs.declared.view.Walk.TheVariants as walk;
 ghost use Rattle.mv_core.specs.Passes.{view, IsOf, IsSame, config_of};
 ghost use Rattle.version_chain.specs.Walks.{MayWalk, StandsAtVersion, stand_in};
 ghost use Rattle.version_chain.specs.Reads.{Reads, ReadsSome, words_in};
+ghost use Rattle.version_chain.specs.Slots.{StandsAtSlot};
 
+use crate::walking::FoundVersion;
 use mv_core::{Pass, Shared, Steps};
 use mv_history::{Protocol, WORDS, Words};
 use mv_layout::{WIDTH, link_word};
@@ -33,6 +35,27 @@ pub fn read_version<P: Protocol, L: Ledger>(
 {
     let link = link_word(seat, position);
     let slot = shared.slot_linked(link);
+    read_version_at(shared, pass, FoundVersion { link, slot }, steps)
+}
+
+/// Reads the six words of the version that `find_at` has found, as `read_version` does.
+#[inline(always)]
+pub fn read_version_at<P: Protocol, L: Ledger>(
+    shared: &Shared<P>,
+    pass: &mut Pass<P>,
+    at: FoundVersion,
+    steps: &mut Steps<L>,
+) -> Words
+    requires of { IsOf shared.now pass.old }
+    requires may { MayWalk (view pass.old) }
+    requires stands { StandsAtSlot (config_of shared.now) (view pass.old) at }
+    ensures same { IsSame pass.old pass.new }
+    ensures may { MayWalk (view pass.new) }
+    ensures words { result ≡ words_in (config_of shared.now) (view pass.old) (stand_in (view pass.old)).object }
+    ensures reads { Reads LoadData (view pass.old) (view pass.new) }
+    ensures cost { steps.new ≡ steps.old + 6 }
+{
+    let FoundVersion { link, slot } = at;
     let mut words = [0; WORDS];
     for word in 0..WIDTH {
         words[word as usize] = shared.load_data(pass, link, slot, word, steps);
@@ -90,6 +113,30 @@ pub fn read_version_pair<P: Protocol, L: Ledger>(
 {
     let link = link_word(seat, position);
     let slot = shared.slot_linked(link);
+    read_version_pair_at(shared, pass, FoundVersion { link, slot }, place, steps)
+}
+
+/// Reads two words of the version that `find_at` has found, as `read_version_pair` does.
+#[inline(always)]
+pub fn read_version_pair_at<P: Protocol, L: Ledger>(
+    shared: &Shared<P>,
+    pass: &mut Pass<P>,
+    at: FoundVersion,
+    place: u32,
+    steps: &mut Steps<L>,
+) -> (u64, u64)
+    requires of { IsOf shared.now pass.old }
+    requires may { MayWalk (view pass.old) }
+    requires stands { StandsAtSlot (config_of shared.now) (view pass.old) at }
+    requires place { place < 5 }
+    ensures same { IsSame pass.old pass.new }
+    ensures may { MayWalk (view pass.new) }
+    ensures first { result.0 ≡ slice_index (words_in (config_of shared.now) (view pass.old) (stand_in (view pass.old)).object) place }
+    ensures second { result.1 ≡ slice_index (words_in (config_of shared.now) (view pass.old) (stand_in (view pass.old)).object) (place + 1) }
+    ensures reads { ReadsSome LoadData 2 (view pass.old) (view pass.new) }
+    ensures cost { steps.new ≡ steps.old + 2 }
+{
+    let FoundVersion { link, slot } = at;
     let first = shared.load_data(pass, link, slot, place, steps);
     (first, shared.load_data(pass, link, slot, place + 1, steps))
 }

@@ -1,4 +1,4 @@
-use Rattle.std.proofs.Common.{rules, ◌≡◌, ◌<◌, ◌≤◌, ◌+◌, ◌-◌, length, All, arith, refl, sym, ap, ◌∙◌, subst}
+use Rattle.std.proofs.Common.{rules, ◌≡◌, ◌<◌, ◌≤◌, ◌+◌, ◌-◌, length, All, arith, sym, ap, ◌∙◌, subst}
 use Rattle.mv_history.specs.declared.answers.Rival.{Rival}
 use Rattle.mv_history.specs.State.{maker_of}
 use Rattle.mv_history.specs.Drift.{IsFit}

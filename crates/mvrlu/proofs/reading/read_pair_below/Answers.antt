@@ -20,93 +20,93 @@ invariant_of-busy g c =
     let is = lent_busy i c.busy.inside.place.value c.deref_mut.ensures.value g.P.Protocol.start g.P.Protocol.allowed c.busy.invariant in
     let p = placed i.pass i.log in
     let q = placed c.read_master_pair.new.pass i.log in
-    let t : Looks p.view q.view = looked LoadMaster 2 refl (refl, refl) p.view (view c.find.new.pass) q.view (walked p.view
-    (view c.find.new.pass) _ _ c.find.ensures.walks) c.read_master_pair.ensures.reads in
-    look_busy g.P.Protocol.start g.P.Protocol.allowed p q (c.read_master_pair.ensures.same.2 ∙ c.find.ensures.same.2) is t c.read_master_pair.new.pass.known
+    let t : Looks p.view q.view = looked LoadMaster 2 refl (refl, refl) p.view (view c.find_at.new.pass) q.view (walked p.view
+    (view c.find_at.new.pass) _ _ c.find_at.ensures.walks) c.read_master_pair.ensures.reads in
+    look_busy g.P.Protocol.start g.P.Protocol.allowed p q (c.read_master_pair.ensures.same.2 ∙ c.find_at.ensures.same.2) is t c.read_master_pair.new.pass.known
     c.read_master_pair.ensures.may refl
 
-pub returns-in-Master-clause-lawful : goal.returns-in-Master-clause-lawful
-returns-in-Master-clause-lawful g c =
+pub returns-in-None-clause-lawful : goal.returns-in-None-clause-lawful
+returns-in-None-clause-lawful g c =
     let i = c.deref_mut.result.now in
     let is = lent_busy i c.busy.inside.place.value c.deref_mut.ensures.value g.P.Protocol.start g.P.Protocol.allowed c.busy.invariant in
     let p = placed i.pass i.log in
     let q = placed c.read_master_pair.new.pass i.log in
-    let t : Looks p.view q.view = looked LoadMaster 2 refl (refl, refl) p.view (view c.find.new.pass) q.view (walked p.view
-    (view c.find.new.pass) _ _ c.find.ensures.walks) c.read_master_pair.ensures.reads in
+    let t : Looks p.view q.view = looked LoadMaster 2 refl (refl, refl) p.view (view c.find_at.new.pass) q.view (walked p.view
+    (view c.find_at.new.pass) _ _ c.find_at.ensures.walks) c.read_master_pair.ensures.reads in
     section_lawful g.P.Protocol.start g.P.Protocol.allowed g.P.Protocol.one_start g.P.Protocol.one_allowed q
-    (look_busy g.P.Protocol.start g.P.Protocol.allowed p q (c.read_master_pair.ensures.same.2 ∙ c.find.ensures.same.2) is t c.read_master_pair.new.pass.known
+    (look_busy g.P.Protocol.start g.P.Protocol.allowed p q (c.read_master_pair.ensures.same.2 ∙ c.find_at.ensures.same.2) is t c.read_master_pair.new.pass.known
     c.read_master_pair.ensures.may refl)
 
-pub returns-in-Master-clause-first : goal.returns-in-Master-clause-first
-returns-in-Master-clause-first g c =
+pub returns-in-None-clause-first : goal.returns-in-None-clause-first
+returns-in-None-clause-first g c =
     let i = c.deref_mut.result.now in
     let is = lent_busy i c.busy.inside.place.value c.deref_mut.ensures.value g.P.Protocol.start g.P.Protocol.allowed c.busy.invariant in
     let view_is = lent_view i c.busy.inside.place.value c.deref_mut.ensures.value _ c.busy.view_is in
     let o = c.args.object in
     let p = placed i.pass i.log in
-    let x = placed c.find.new.pass i.log in
-    let t : Looks p.view x.view = walked p.view x.view _ _ c.find.ensures.walks in
+    let x = placed c.find_at.new.pass i.log in
+    let t : Looks p.view x.view = walked p.view x.view _ _ c.find_at.ensures.walks in
     let config : config_of c.args.shared.now ≡ i.pass.domain = config_inside c.args.shared.now p _ view_is c.requires.fits in
     let lawful = section_lawful g.P.Protocol.start g.P.Protocol.allowed g.P.Protocol.one_start g.P.Protocol.one_allowed p is in
     c.read_master_pair.ensures.first
     ∙ ap (λ (ws : List ℕ). get_or ws c.args.place 0)
     (ap (λ (d : Config). words_in d x.view o) config
-    ∙ snapshot_words p x o c.find.ensures.same.2 (ap (λ (u : View). u.phase) t.rest)
-    (look_continues p x c.find.ensures.same.2 c.find.ensures.same.0 t) lawful.at
+    ∙ snapshot_words p x o c.find_at.ensures.same.2 (ap (λ (u : View). u.phase) t.rest)
+    (look_continues p x c.find_at.ensures.same.2 c.find_at.ensures.same.0 t) lawful.at
     ∙ ap (λ (y : Placed). words_at (snapshot_of (section_from y)) o) view_is)
 
-pub returns-in-Master-clause-second : goal.returns-in-Master-clause-second
-returns-in-Master-clause-second g c =
+pub returns-in-None-clause-second : goal.returns-in-None-clause-second
+returns-in-None-clause-second g c =
     let i = c.deref_mut.result.now in
     let is = lent_busy i c.busy.inside.place.value c.deref_mut.ensures.value g.P.Protocol.start g.P.Protocol.allowed c.busy.invariant in
     let view_is = lent_view i c.busy.inside.place.value c.deref_mut.ensures.value _ c.busy.view_is in
     let o = c.args.object in
     let p = placed i.pass i.log in
-    let x = placed c.find.new.pass i.log in
-    let t : Looks p.view x.view = walked p.view x.view _ _ c.find.ensures.walks in
+    let x = placed c.find_at.new.pass i.log in
+    let t : Looks p.view x.view = walked p.view x.view _ _ c.find_at.ensures.walks in
     let config : config_of c.args.shared.now ≡ i.pass.domain = config_inside c.args.shared.now p _ view_is c.requires.fits in
     let lawful = section_lawful g.P.Protocol.start g.P.Protocol.allowed g.P.Protocol.one_start g.P.Protocol.one_allowed p is in
     c.read_master_pair.ensures.second
     ∙ ap (λ (ws : List ℕ). get_or ws (c.args.place + 1) 0)
     (ap (λ (d : Config). words_in d x.view o) config
-    ∙ snapshot_words p x o c.find.ensures.same.2 (ap (λ (u : View). u.phase) t.rest)
-    (look_continues p x c.find.ensures.same.2 c.find.ensures.same.0 t) lawful.at
+    ∙ snapshot_words p x o c.find_at.ensures.same.2 (ap (λ (u : View). u.phase) t.rest)
+    (look_continues p x c.find_at.ensures.same.2 c.find_at.ensures.same.0 t) lawful.at
     ∙ ap (λ (y : Placed). words_at (snapshot_of (section_from y)) o) view_is)
 
-pub returns-in-Master-clause-stays : goal.returns-in-Master-clause-stays
-returns-in-Master-clause-stays g c =
+pub returns-in-None-clause-stays : goal.returns-in-None-clause-stays
+returns-in-None-clause-stays g c =
     let i = c.deref_mut.result.now in
     let view_is = lent_view i c.busy.inside.place.value c.deref_mut.ensures.value _ c.busy.view_is in
     let p = placed i.pass i.log in
     let q = placed c.read_master_pair.new.pass i.log in
-    let t : Looks p.view q.view = looked LoadMaster 2 refl (refl, refl) p.view (view c.find.new.pass) q.view (walked p.view
-    (view c.find.new.pass) _ _ c.find.ensures.walks) c.read_master_pair.ensures.reads in
+    let t : Looks p.view q.view = looked LoadMaster 2 refl (refl, refl) p.view (view c.find_at.new.pass) q.view (walked p.view
+    (view c.find_at.new.pass) _ _ c.find_at.ensures.walks) c.read_master_pair.ensures.reads in
     subst (λ (y : Placed). Stays (section_from y) (section_from q)) view_is
-    (look_stays p q (c.read_master_pair.ensures.same.2 ∙ c.find.ensures.same.2) (c.read_master_pair.ensures.same.0
-    ∙ c.find.ensures.same.0) t)
+    (look_stays p q (c.read_master_pair.ensures.same.2 ∙ c.find_at.ensures.same.2) (c.read_master_pair.ensures.same.0
+    ∙ c.find_at.ensures.same.0) t)
 
 pub invariant_of-busy-2 : goal.invariant_of-busy-2
 invariant_of-busy-2 g c =
     let i = c.deref_mut.result.now in
     let is = lent_busy i c.busy.inside.place.value c.deref_mut.ensures.value g.P.Protocol.start g.P.Protocol.allowed c.busy.invariant in
     let p = placed i.pass i.log in
-    let q = placed c.read_version_pair.new.pass i.log in
-    let t : Looks p.view q.view = looked LoadData 2 refl (refl, refl) p.view (view c.find.new.pass) q.view (walked p.view
-    (view c.find.new.pass) _ _ c.find.ensures.walks) c.read_version_pair.ensures.reads in
-    look_busy g.P.Protocol.start g.P.Protocol.allowed p q (c.read_version_pair.ensures.same.2 ∙ c.find.ensures.same.2) is t c.read_version_pair.new.pass.known
-    c.read_version_pair.ensures.may refl
+    let q = placed c.read_version_pair_at.new.pass i.log in
+    let t : Looks p.view q.view = looked LoadData 2 refl (refl, refl) p.view (view c.find_at.new.pass) q.view (walked p.view
+    (view c.find_at.new.pass) _ _ c.find_at.ensures.walks) c.read_version_pair_at.ensures.reads in
+    look_busy g.P.Protocol.start g.P.Protocol.allowed p q (c.read_version_pair_at.ensures.same.2 ∙ c.find_at.ensures.same.2) is t c.read_version_pair_at.new.pass.known
+    c.read_version_pair_at.ensures.may refl
 
 pub returns-clause-lawful : goal.returns-clause-lawful
 returns-clause-lawful g c =
     let i = c.deref_mut.result.now in
     let is = lent_busy i c.busy.inside.place.value c.deref_mut.ensures.value g.P.Protocol.start g.P.Protocol.allowed c.busy.invariant in
     let p = placed i.pass i.log in
-    let q = placed c.read_version_pair.new.pass i.log in
-    let t : Looks p.view q.view = looked LoadData 2 refl (refl, refl) p.view (view c.find.new.pass) q.view (walked p.view
-    (view c.find.new.pass) _ _ c.find.ensures.walks) c.read_version_pair.ensures.reads in
+    let q = placed c.read_version_pair_at.new.pass i.log in
+    let t : Looks p.view q.view = looked LoadData 2 refl (refl, refl) p.view (view c.find_at.new.pass) q.view (walked p.view
+    (view c.find_at.new.pass) _ _ c.find_at.ensures.walks) c.read_version_pair_at.ensures.reads in
     section_lawful g.P.Protocol.start g.P.Protocol.allowed g.P.Protocol.one_start g.P.Protocol.one_allowed q
-    (look_busy g.P.Protocol.start g.P.Protocol.allowed p q (c.read_version_pair.ensures.same.2 ∙ c.find.ensures.same.2) is t
-    c.read_version_pair.new.pass.known c.read_version_pair.ensures.may refl)
+    (look_busy g.P.Protocol.start g.P.Protocol.allowed p q (c.read_version_pair_at.ensures.same.2 ∙ c.find_at.ensures.same.2) is t
+    c.read_version_pair_at.new.pass.known c.read_version_pair_at.ensures.may refl)
 
 pub returns-clause-first : goal.returns-clause-first
 returns-clause-first g c =
@@ -115,16 +115,16 @@ returns-clause-first g c =
     let view_is = lent_view i c.busy.inside.place.value c.deref_mut.ensures.value _ c.busy.view_is in
     let o = c.args.object in
     let p = placed i.pass i.log in
-    let x = placed c.find.new.pass i.log in
-    let t : Looks p.view x.view = walked p.view x.view _ _ c.find.ensures.walks in
+    let x = placed c.find_at.new.pass i.log in
+    let t : Looks p.view x.view = walked p.view x.view _ _ c.find_at.ensures.walks in
     let config : config_of c.args.shared.now ≡ i.pass.domain = config_inside c.args.shared.now p _ view_is c.requires.fits in
     let lawful = section_lawful g.P.Protocol.start g.P.Protocol.allowed g.P.Protocol.one_start g.P.Protocol.one_allowed p is in
-    c.read_version_pair.ensures.first
+    c.read_version_pair_at.ensures.first
     ∙ ap (λ (ws : List ℕ). get_or ws c.args.place 0)
-    (ap (λ (n : ℕ). words_in (config_of c.args.shared.now) x.view n) c.in-Version.ensures.found.1
+    (ap (λ (n : ℕ). words_in (config_of c.args.shared.now) x.view n) c.in-Some.ensures.found.1
     ∙ ap (λ (d : Config). words_in d x.view o) config
-    ∙ snapshot_words p x o c.find.ensures.same.2 (ap (λ (u : View). u.phase) t.rest)
-    (look_continues p x c.find.ensures.same.2 c.find.ensures.same.0 t) lawful.at
+    ∙ snapshot_words p x o c.find_at.ensures.same.2 (ap (λ (u : View). u.phase) t.rest)
+    (look_continues p x c.find_at.ensures.same.2 c.find_at.ensures.same.0 t) lawful.at
     ∙ ap (λ (y : Placed). words_at (snapshot_of (section_from y)) o) view_is)
 
 pub returns-clause-second : goal.returns-clause-second
@@ -134,16 +134,16 @@ returns-clause-second g c =
     let view_is = lent_view i c.busy.inside.place.value c.deref_mut.ensures.value _ c.busy.view_is in
     let o = c.args.object in
     let p = placed i.pass i.log in
-    let x = placed c.find.new.pass i.log in
-    let t : Looks p.view x.view = walked p.view x.view _ _ c.find.ensures.walks in
+    let x = placed c.find_at.new.pass i.log in
+    let t : Looks p.view x.view = walked p.view x.view _ _ c.find_at.ensures.walks in
     let config : config_of c.args.shared.now ≡ i.pass.domain = config_inside c.args.shared.now p _ view_is c.requires.fits in
     let lawful = section_lawful g.P.Protocol.start g.P.Protocol.allowed g.P.Protocol.one_start g.P.Protocol.one_allowed p is in
-    c.read_version_pair.ensures.second
+    c.read_version_pair_at.ensures.second
     ∙ ap (λ (ws : List ℕ). get_or ws (c.args.place + 1) 0)
-    (ap (λ (n : ℕ). words_in (config_of c.args.shared.now) x.view n) c.in-Version.ensures.found.1
+    (ap (λ (n : ℕ). words_in (config_of c.args.shared.now) x.view n) c.in-Some.ensures.found.1
     ∙ ap (λ (d : Config). words_in d x.view o) config
-    ∙ snapshot_words p x o c.find.ensures.same.2 (ap (λ (u : View). u.phase) t.rest)
-    (look_continues p x c.find.ensures.same.2 c.find.ensures.same.0 t) lawful.at
+    ∙ snapshot_words p x o c.find_at.ensures.same.2 (ap (λ (u : View). u.phase) t.rest)
+    (look_continues p x c.find_at.ensures.same.2 c.find_at.ensures.same.0 t) lawful.at
     ∙ ap (λ (y : Placed). words_at (snapshot_of (section_from y)) o) view_is)
 
 pub returns-clause-stays : goal.returns-clause-stays
@@ -151,9 +151,9 @@ returns-clause-stays g c =
     let i = c.deref_mut.result.now in
     let view_is = lent_view i c.busy.inside.place.value c.deref_mut.ensures.value _ c.busy.view_is in
     let p = placed i.pass i.log in
-    let q = placed c.read_version_pair.new.pass i.log in
-    let t : Looks p.view q.view = looked LoadData 2 refl (refl, refl) p.view (view c.find.new.pass) q.view (walked p.view
-    (view c.find.new.pass) _ _ c.find.ensures.walks) c.read_version_pair.ensures.reads in
+    let q = placed c.read_version_pair_at.new.pass i.log in
+    let t : Looks p.view q.view = looked LoadData 2 refl (refl, refl) p.view (view c.find_at.new.pass) q.view (walked p.view
+    (view c.find_at.new.pass) _ _ c.find_at.ensures.walks) c.read_version_pair_at.ensures.reads in
     subst (λ (y : Placed). Stays (section_from y) (section_from q)) view_is
-    (look_stays p q (c.read_version_pair.ensures.same.2 ∙ c.find.ensures.same.2) (c.read_version_pair.ensures.same.0
-    ∙ c.find.ensures.same.0) t)
+    (look_stays p q (c.read_version_pair_at.ensures.same.2 ∙ c.find_at.ensures.same.2) (c.read_version_pair_at.ensures.same.0
+    ∙ c.find_at.ensures.same.0) t)

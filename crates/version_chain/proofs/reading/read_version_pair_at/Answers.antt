@@ -1,9 +1,8 @@
 use Rattle.std.proofs.Common.{ℕ, ◌+◌, ◌<◌, sym, ◌∙◌, subst, arith}
-use Rattle.mv_core.specs.WalkSteps.{IsPackedOf}
 use Rattle.mv_core.specs.Passes.{view, config_of}
 use Rattle.version_chain.proofs.Going.{may_loaded}
 use Rattle.version_chain.proofs.Standing.{may_data}
-use Rattle.version_chain.proofs.reading.read_version_pair.Goals as goal
+use Rattle.version_chain.proofs.reading.read_version_pair_at.Goals as goal
 
 pub load_data-requires : goal.load_data-requires
 load_data-requires g c lives within =
@@ -17,12 +16,11 @@ load_data-requires g c lives within =
         (
           (same.0 ∙ of.0, subst (λ (n : ℕ). n < (config_of c.args.shared.now).seats) (sym same.1) of.1, same.3 ∙ of.2, same.4 ∙ of.3, same.2 ∙ of.4),
           (
-            subst (IsPackedOf (config_of c.args.shared.now)) (at.link_is ∙ sym c.link_word-link.ensures.word) at.packed,
+            at.packed,
             (
-              c.slot_linked-slot.ensures,
-              may_data (config_of c.args.shared.now) (view c.args.pass.now) (view c.load_data-first.new.pass) c.args.seat c.args.position
-                  c.link_word-link.result (c.args.place + 1) _ c.requires.may at c.link_word-link.ensures.word c.load_data-first.ensures.view
-                  (omega arith),
+              at.slot,
+              may_data (config_of c.args.shared.now) (view c.args.pass.now) (view c.load_data-first.new.pass) c.args.at (c.args.place + 1) _ c.requires.may at
+                  c.load_data-first.ensures.view (omega arith),
             ),
           ),
         ),

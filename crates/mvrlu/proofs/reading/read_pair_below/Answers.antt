@@ -93,8 +93,8 @@ invariant_of-busy-2 g c =
     let q = placed c.read_version_pair_at.new.pass i.log in
     let t : Looks p.view q.view = looked LoadData 2 refl (refl, refl) p.view (view c.find_at.new.pass) q.view (walked p.view
     (view c.find_at.new.pass) _ _ c.find_at.ensures.walks) c.read_version_pair_at.ensures.reads in
-    look_busy g.P.Protocol.start g.P.Protocol.allowed p q (c.read_version_pair_at.ensures.same.2 ∙ c.find_at.ensures.same.2) is t c.read_version_pair_at.new.pass.known
-    c.read_version_pair_at.ensures.may refl
+    look_busy g.P.Protocol.start g.P.Protocol.allowed p q (c.read_version_pair_at.ensures.same.2 ∙ c.find_at.ensures.same.2) is t
+    c.read_version_pair_at.new.pass.known c.read_version_pair_at.ensures.may refl
 
 pub returns-clause-lawful : goal.returns-clause-lawful
 returns-clause-lawful g c =

@@ -15,4 +15,5 @@ pub mod Lines
 pub mod Runs
 pub mod Shown
 pub mod Readers
+pub mod Writers
 pub mod NextSteps

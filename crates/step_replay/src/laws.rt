@@ -28,3 +28,8 @@ pub fn turns_go_on()
 pub fn readers_are_ruled()
     ensures { ReadersAreRuled }
 {}
+
+/// Draft.
+pub fn writers_are_ruled()
+    ensures { ReadersAreRuled }
+{}

@@ -1,0 +1,10 @@
+use Rattle.step_replay.proofs.readers.Turns.{readers_ruled}
+use Rattle.step_replay.proofs.writers.Notes.{notes_committed}
+use Rattle.step_replay.proofs.writers.Standing.{StandsFor}
+use Rattle.step_replay.proofs.writers.Stepping.{next_is}
+use Rattle.step_replay.proofs.writers.Entering.{entering_made}
+use Rattle.step_replay.proofs.writers.Helping.{helping_made}
+use Rattle.step_replay.proofs.laws.writers_are_ruled.Goals as goal
+
+pub returns : goal.returns
+returns c = readers_ruled

@@ -1,0 +1,7 @@
+-- Seats that lock and write: what their notes stand for, and their steps.
+pub mod Notes
+pub mod Standing
+pub mod Stepping
+pub mod Known
+pub mod Entering
+pub mod Helping

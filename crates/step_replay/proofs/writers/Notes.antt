@@ -1,0 +1,74 @@
+-- The versions that a seat of a replay notes, as the notes of a log.
+use Rattle.std.proofs.Common.{◌≡◌, ℕ, zero, suc, ◌+◌, ◌-◌, ◌<◌, ◌≤◌, ◌==◌, List, [], ◌∷◌, ◌++◌, length, get_or, refl, sym, ap, ◌∙◌, arith}
+use Rattle.std.proofs.Common.{Option, Some, None, leb, Bool, true, false, if◌then◌else◌, le-leb}
+use Rattle.std.proofs.lemmas.Bool.{lt-leb}
+use Rattle.std.specs.Prelude.{slice_get, slice_set}
+use Rattle.seat_log.specs.declared.version.Note.{Note}
+use Rattle.seat_log.specs.Notes.{from_place, at_place, with_word}
+use Rattle.step_replay.specs.declared.seats.Version.{Version}
+use Rattle.step_replay.specs.declared.seats.Edit.{Edit}
+use Rattle.step_replay.specs.declared.seats.Edit.TheVariants.{WordPut, CommittedFrom, AbortedFrom}
+use Rattle.step_replay.specs.SeatNotes.{edited, edited_from}
+
+-- a version of a replay, as a note
+abbrev pub note_of : ℕ → Version → Note
+note_of at v =
+    record { position = at; first = v.first; object = v.object; previous = v.previous; words = v.words; time = v.time; dead = v.dead }
+
+-- versions at positions from one on
+abbrev pub notes_from : ℕ → List Version → List Note
+notes_from at [] = []
+notes_from at (v ∷ log) = note_of at v ∷ notes_from (suc at) log
+
+pub notes_long : (at : ℕ) (log : List Version) → length (notes_from at log) ≡ length log
+notes_long at [] = refl
+notes_long at (v ∷ log) = ap suc (notes_long (suc at) log)
+
+-- the note of a place
+pub note_at : (at i : ℕ) (log : List Version) (d : Version) → i < length log → slice_get (notes_from at log) i ≡ Some (note_of (at + i) (get_or log i d))
+note_at at i [] d lt = absurd (omega (arith, lt))
+note_at at zero (v ∷ log) d lt = ap (λ n. Some (note_of n v)) (omega arith)
+note_at at (suc i) (v ∷ log) d lt = note_at (suc at) i log d (omega (arith, lt)) ∙ ap (λ n. Some (note_of n (get_or log i d))) (omega arith)
+
+-- one more version
+pub notes_more : (at : ℕ) (log : List Version) (v : Version) → notes_from at (log ++ v ∷ []) ≡ notes_from at log ++ note_of (at + length log) v ∷ []
+notes_more at [] v = ap (λ n. note_of n v ∷ []) (omega arith)
+notes_more at (w ∷ log) v = ap (λ ns. note_of at w ∷ ns) (notes_more (suc at) log v ∙ ap (λ n. notes_from (suc at) log ++ note_of n v ∷ []) (omega arith))
+
+-- as many versions stand behind a step
+pub edited_long : (e : Edit) (at : ℕ) (log : List Version) → length (edited_from e at log) ≡ length log
+edited_long e at [] = refl
+edited_long e at (v ∷ log) = ap suc (edited_long e (suc at) log)
+
+-- a test of the edits, by the order of two numbers
+from_here : (b : Bool) (x y : Version) (at : ℕ) → b ≡ true → note_of at (if b then x else y) ≡ note_of at x
+from_here b x y at e = ap (λ c. note_of at (if c then x else y)) e
+
+before_here : (b : Bool) (x y : Version) (at : ℕ) → b ≡ false → note_of at (if b then x else y) ≡ note_of at y
+before_here b x y at e = ap (λ c. note_of at (if c then x else y)) e
+
+-- what is held is committed from a place on
+pub notes_committed : (k at time : ℕ) (log : List Version)
+    → notes_from at (edited_from (CommittedFrom (at + k) time) at log) ≡ from_place (λ n. record n { time = time }) k (notes_from at log)
+notes_committed k at time [] = none k
+  where
+    none : (k : ℕ) → [] ≡ from_place (λ n. record n { time = time }) k []
+    none zero = refl
+    none (suc k) = refl
+notes_committed zero at time (v ∷ log) =
+    let one = from_here (leb (at + 0) at) (record v { time = time }) v at (le-leb (at + 0) at (omega arith)) in
+    let rest = all_committed at (suc at) time log (omega arith) in
+    (λ i. one i ∷ rest i)
+  where
+    all_committed : (from at time : ℕ) (log : List Version) → from ≤ at
+        → notes_from at (edited_from (CommittedFrom (from + 0) time) at log) ≡ from_place (λ n. record n { time = time }) 0 (notes_from at log)
+    all_committed from at time [] le = refl
+    all_committed from at time (v ∷ log) le =
+        let one = from_here (leb (from + 0) at) (record v { time = time }) v at (le-leb (from + 0) at (omega (arith, le))) in
+        let rest = all_committed from (suc at) time log (omega (arith, le)) in
+        (λ i. one i ∷ rest i)
+notes_committed (suc k) at time (v ∷ log) =
+    let one = before_here (leb (at + suc k) at) (record v { time = time }) v at (lt-leb (at + suc k) at (omega arith)) in
+    let same : at + suc k ≡ suc at + k = omega arith in
+    let rest = ap (λ from. notes_from (suc at) (edited_from (CommittedFrom from time) (suc at) log)) same ∙ notes_committed k (suc at) time log in
+    (λ i. one i ∷ rest i)

@@ -5,3 +5,4 @@ pub mod Stepping
 pub mod Known
 pub mod Entering
 pub mod Helping
+pub mod Walking

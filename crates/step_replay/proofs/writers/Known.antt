@@ -1,5 +1,5 @@
 -- What a state behind steps of the core is, for one of its seats; and tests of numbers.
-use Rattle.std.proofs.Common.{◌≡◌, ◌≢◌, ◌⊎◌, ℕ, ◌+◌, ◌<◌, ◌≤◌, ◌^◌, ◌==◌, ltb, leb, List, [], ◌∷◌, ◌++◌, Bool, true, false, refl, sym, ap, ◌∙◌, subst}
+use Rattle.std.proofs.Common.{◌≡◌, ◌≢◌, ◌⊎◌, ℕ, ◌+◌, ◌<◌, ◌≤◌, ◌^◌, suc, ◌==◌, ◌&&◌, ltb, leb, get_or, List, [], ◌∷◌, ◌++◌, Bool, true, false, refl, sym, ap, ◌∙◌, subst}
 use Rattle.std.proofs.Common.{arith, inl, inr, if◌then◌else◌, eq-eqb, lt-ltb, le-ltb, le-leb, length, Option, Some, None}
 use Rattle.std.proofs.lemmas.Bool.{cases_lt, lt-leb}
 use Rattle.std.proofs.lemmas.List.{length-replicate}
@@ -7,7 +7,8 @@ use Rattle.mv_history.specs.declared.Step.{Step}
 use Rattle.mv_history.specs.declared.Entry.{Entry}
 use Rattle.mv_core.proofs.Terms.{Config, Checked, parts_of, Place, Memory, Clock}
 use Rattle.mv_core.specs.declared.view.View.{View}
-use Rattle.mv_core.specs.Rule.{Facts}
+use Rattle.mv_core.specs.Rule.{Facts, IsSeated}
+use Rattle.mv_core.proofs.moves.Notes.{seat_is}
 use Rattle.mv_core.specs.Known.{Known}
 use Rattle.mv_core.specs.MoveLaws.{Holds}
 use Rattle.mv_core.proofs.frames.Turning.{known_of}
@@ -83,6 +84,14 @@ module _ (c : Config) (k : Checked c) (n : ℕ) (made : List Made) (each : AreMa
       known_of any_start any_commit c (zeros c) (state_of c made).memory (state_of c made).history (state_of c made).seats ((state_of c made).seats n) h.facts
       (ap (state_of c made).seats own.0) own.1 own.2 ((made_behind c k made each).0 n).2
 
+  -- the seat is one of the domain's
+  pub seated : n < c.seats → IsSeated c (state_of c made).seats ((state_of c made).seats n)
+  seated lt =
+      let h = holds_behind c k made each in
+      let u = (made_behind c k made each).0 in
+      let made_is : ((state_of c made).seats 0).made ≡ c.seats = (u 0).0 refl in
+      seat_is c (zeros c) (state_of c made).seats h.seats h.notes n (omega (arith, lt, made_is)) (u n).2
+
   pub word_small : (p : Place) → (state_of c made).memory p < 2 ^ 64
   word_small p = (holds_behind c k made each).words p
 
@@ -94,3 +103,22 @@ logs_left c v w log from number ring mine rests s trail leaves k = record {
   stands = stands_left c v w k.noted k.stands number ring mine rests (s ∷ []) trail (one_leaves s leaves);
   is = k.is;
 }
+
+-- lists as long as one another with the same elements
+pub same_list : {A : Type 0} (d : A) (xs ys : List A) → length xs ≡ length ys → ((i : ℕ) → i < length xs → get_or xs i d ≡ get_or ys i d) → xs ≡ ys
+same_list d [] [] long same = refl
+same_list d [] (y ∷ ys) long same = absurd (omega (arith, long))
+same_list d (x ∷ xs) [] long same = absurd (omega (arith, long))
+same_list d (x ∷ xs) (y ∷ ys) long same =
+    let first : x ≡ y = same 0 (omega arith) in
+    let rest = same_list d xs ys (omega (arith, long)) (λ i lt. same (suc i) (omega (arith, lt))) in
+    (λ j. first j ∷ rest j)
+
+-- a test of two parts
+pub and_right : (a b : Bool) → (a && b) ≡ true → b ≡ true
+and_right true b e = e
+and_right false b e = absurd (cc)
+
+pub and_left : (a b : Bool) → (a && b) ≡ true → a ≡ true
+and_left true b e = refl
+and_left false b e = absurd (cc)

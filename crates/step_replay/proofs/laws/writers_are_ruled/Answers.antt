@@ -4,6 +4,7 @@ use Rattle.step_replay.proofs.writers.Standing.{StandsFor}
 use Rattle.step_replay.proofs.writers.Stepping.{next_is}
 use Rattle.step_replay.proofs.writers.Entering.{entering_made}
 use Rattle.step_replay.proofs.writers.Helping.{helping_made}
+use Rattle.step_replay.proofs.writers.Walking.{walking_made}
 use Rattle.step_replay.proofs.laws.writers_are_ruled.Goals as goal
 
 pub returns : goal.returns

@@ -6,3 +6,5 @@ pub mod Known
 pub mod Entering
 pub mod Helping
 pub mod Walking
+pub mod LogFacts
+pub mod Fields

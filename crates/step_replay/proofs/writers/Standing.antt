@@ -189,7 +189,8 @@ pub record Builds (c : Config) (v : View) (s : Section) (log : List Version) (fr
 
 -- the next step of a lock behind its walk
 abbrev pub LocksAt : Config → View → Section → ℕ → Version → ℕ → Locking → Type 0
-LocksAt c v s o version at (Build field) = (field < 10) × StandsToLock v s o version.previous × HasFields (build_at c v at) version at field
+LocksAt c v s o version at (Build field) =
+    (field < 10) × (field ≡ 1 → version.first ≡ at) × StandsToLock v s o version.previous × HasFields (build_at c v at) version at field
 LocksAt c v s o version at LockHead = StandsToLock v s o version.previous × HasFields (build_at c v at) version at 10
 LocksAt c v s o version at ClearPrevious =
     (v.walk ≡ walk.Master o) × (version.previous ≡ 0) × ((previous : ℕ) × HasFields (build_at c v at) (record version { previous = previous }) at 10)

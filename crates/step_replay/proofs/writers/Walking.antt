@@ -300,7 +300,7 @@ module _ (c : Config) (k : Checked c) (n : ℕ) (lt : n < c.seats) (made : List 
               no_time = refl;
               no_death = refl;
             };
-            locks = (omega arith, stands, record {
+            locks = (omega arith, (λ (z : 0 ≡ 1). absurd (omega (arith, z))), stands, record {
               wide = built_wide c v2 log from still.logs may.room;
               first = λ z. absurd (omega (arith, z));
               stamp = λ z. absurd (omega (arith, z));

@@ -5,6 +5,8 @@ use Rattle.step_replay.proofs.writers.Stepping.{next_is}
 use Rattle.step_replay.proofs.writers.Entering.{entering_made}
 use Rattle.step_replay.proofs.writers.Helping.{helping_made}
 use Rattle.step_replay.proofs.writers.Walking.{walking_made}
+use Rattle.step_replay.proofs.writers.LogFacts.{stands_whole}
+use Rattle.step_replay.proofs.writers.Fields.{has_link}
 use Rattle.step_replay.proofs.laws.writers_are_ruled.Goals as goal
 
 pub returns : goal.returns

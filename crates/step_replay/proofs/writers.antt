@@ -8,3 +8,4 @@ pub mod Helping
 pub mod Walking
 pub mod LogFacts
 pub mod Fields
+pub mod Locking

@@ -9,3 +9,5 @@ pub mod Walking
 pub mod LogFacts
 pub mod Fields
 pub mod Locking
+pub mod Searches
+pub mod Writing

@@ -1,6 +1,6 @@
 -- The versions that a seat of a replay notes, as the notes of a log.
 use Rattle.std.proofs.Common.{◌≡◌, ℕ, zero, suc, ◌+◌, ◌-◌, ◌<◌, ◌≤◌, ◌==◌, List, [], ◌∷◌, ◌++◌, length, get_or, refl, sym, ap, ◌∙◌, arith}
-use Rattle.std.proofs.Common.{Option, Some, None, leb, Bool, true, false, if◌then◌else◌, le-leb}
+use Rattle.std.proofs.Common.{Option, Some, None, leb, Bool, true, false, if◌then◌else◌, le-leb, eq-eqb, ne_eqb}
 use Rattle.std.proofs.lemmas.Bool.{lt-leb}
 use Rattle.std.specs.Prelude.{slice_get, slice_set}
 use Rattle.seat_log.specs.declared.version.Note.{Note}
@@ -71,4 +71,51 @@ notes_committed (suc k) at time (v ∷ log) =
     let one = before_here (leb (at + suc k) at) (record v { time = time }) v at (lt-leb (at + suc k) at (omega arith)) in
     let same : at + suc k ≡ suc at + k = omega arith in
     let rest = ap (λ from. notes_from (suc at) (edited_from (CommittedFrom from time) (suc at) log)) same ∙ notes_committed k (suc at) time log in
+    (λ i. one i ∷ rest i)
+
+-- what is held is given up from a place on
+pub notes_aborted : (k at dead : ℕ) (log : List Version)
+    → notes_from at (edited_from (AbortedFrom (at + k) dead) at log) ≡ from_place (λ n. record n { dead = dead }) k (notes_from at log)
+notes_aborted k at dead [] = none k
+  where
+    none : (k : ℕ) → [] ≡ from_place (λ n. record n { dead = dead }) k []
+    none zero = refl
+    none (suc k) = refl
+notes_aborted zero at dead (v ∷ log) =
+    let one = from_here (leb (at + 0) at) (record v { dead = dead }) v at (le-leb (at + 0) at (omega arith)) in
+    let rest = all_aborted at (suc at) dead log (omega arith) in
+    (λ i. one i ∷ rest i)
+  where
+    all_aborted : (from at dead : ℕ) (log : List Version) → from ≤ at
+        → notes_from at (edited_from (AbortedFrom (from + 0) dead) at log) ≡ from_place (λ n. record n { dead = dead }) 0 (notes_from at log)
+    all_aborted from at dead [] le = refl
+    all_aborted from at dead (v ∷ log) le =
+        let one = from_here (leb (from + 0) at) (record v { dead = dead }) v at (le-leb (from + 0) at (omega (arith, le))) in
+        let rest = all_aborted from (suc at) dead log (omega (arith, le)) in
+        (λ i. one i ∷ rest i)
+notes_aborted (suc k) at dead (v ∷ log) =
+    let one = before_here (leb (at + suc k) at) (record v { dead = dead }) v at (lt-leb (at + suc k) at (omega arith)) in
+    let same : at + suc k ≡ suc at + k = omega arith in
+    let rest = ap (λ from. notes_from (suc at) (edited_from (AbortedFrom from dead) (suc at) log)) same ∙ notes_aborted k (suc at) dead log in
+    (λ i. one i ∷ rest i)
+
+-- a word of one version is put
+none_put : (at word value p : ℕ) (log : List Version) → at < p → edited_from (WordPut at word value) p log ≡ log
+none_put at word value p [] lt = refl
+none_put at word value p (v ∷ log) lt =
+    let one = ap (λ b. if b then record v { words = slice_set v.words word value } else v) (ne_eqb at p (λ e. omega (arith, lt, e))) in
+    let rest = none_put at word value (suc p) log (omega (arith, lt)) in
+    (λ i. one i ∷ rest i)
+
+pub notes_put : (k word value p : ℕ) (log : List Version)
+    → notes_from p (edited_from (WordPut (p + k) word value) p log) ≡ at_place (with_word word value) k (notes_from p log)
+notes_put k word value p [] = refl
+notes_put zero word value p (v ∷ log) =
+    let one = from_here (p + 0 == p) (record v { words = slice_set v.words word value }) v p (eq-eqb (p + 0) p (omega arith)) in
+    let rest = ap (notes_from (suc p)) (none_put (p + 0) word value (suc p) log (omega arith)) in
+    (λ i. one i ∷ rest i)
+notes_put (suc k) word value p (v ∷ log) =
+    let one = before_here (p + suc k == p) (record v { words = slice_set v.words word value }) v p (ne_eqb (p + suc k) p (λ e. omega (arith, e))) in
+    let same : p + suc k ≡ suc p + k = omega arith in
+    let rest = ap (λ at. notes_from (suc p) (edited_from (WordPut at word value) (suc p) log)) same ∙ notes_put k word value (suc p) log in
     (λ i. one i ∷ rest i)

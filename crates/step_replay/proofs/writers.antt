@@ -11,3 +11,4 @@ pub mod Fields
 pub mod Locking
 pub mod Searches
 pub mod Writing
+pub mod Aborting

@@ -237,6 +237,7 @@ pub record HasNamed (c : Config) (v : View) (log : List Version) (from first tim
   pub is : IsNoted c noted log from
   pub first_is : first ≡ from
   pub time_is : time ≡ clock_time_of won.word + 1
+  pub in_time : time ≤ 35184372088831
 
 -- a commit is being finished: SUPER was stored below so many versions
 pub record Finishes (c : Config) (v : View) (log : List Version) (from time told : ℕ) : Type 0 where
@@ -244,6 +245,7 @@ pub record Finishes (c : Config) (v : View) (log : List Version) (from time told
   pub noted : Noted
   pub finishing : IsFinishing c before v noted time told
   pub is : IsNoted c noted log from
+  pub in_time : time ≤ 35184372088831
 
 -- a section may end
 abbrev pub LeavesAt : Config → View → List Version → ℕ → Option ℕ → Leaving → Type 0

@@ -12,3 +12,4 @@ pub mod Locking
 pub mod Searches
 pub mod Writing
 pub mod Aborting
+pub mod Committing

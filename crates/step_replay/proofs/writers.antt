@@ -13,3 +13,6 @@ pub mod Searches
 pub mod Writing
 pub mod Aborting
 pub mod Committing
+pub mod Tidying
+pub mod Looking
+pub mod Turns

@@ -6,6 +6,5 @@ pub mod FirstSteps
 pub mod SeatNotes
 pub mod TurnLaws
 pub mod OneStep
-pub mod readers
 pub mod writers
 pub mod NextSteps

@@ -14,6 +14,6 @@ pub mod Sweeps
 pub mod Lines
 pub mod Runs
 pub mod Shown
-pub mod Readers
+pub mod Behind
 pub mod Writers
 pub mod NextSteps

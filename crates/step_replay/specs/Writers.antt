@@ -1,5 +1,5 @@
 -- Replays in which no seat both locks and tidies: each of their steps is one of the core's.
-use Rattle.std.specs.Prelude.{◌≡◌, ◌⊎◌, ◌<◌, ℕ, List, All, Bool, true, false}
+use Rattle.std.specs.Prelude.{◌≡◌, ◌⊎◌, ◌<◌, ℕ, List, All, take, Bool, true, false}
 use Rattle.step_replay.specs.declared.plan.Call.{Call}
 use Rattle.step_replay.specs.declared.plan.Call.TheVariants.{Enter, Read, Lock, Write, Commit, Abort, Leave, Tidy}
 use Rattle.step_replay.specs.declared.plan.CallOf.{CallOf}
@@ -7,7 +7,7 @@ use Rattle.step_replay.specs.Plans.{PlanOf}
 use Rattle.step_replay.specs.FitPlans.{IsFitPlan}
 use Rattle.step_replay.specs.GoesOn.{is_lock}
 use Rattle.step_replay.specs.Runs.{replay_begun, turns_taken}
-use Rattle.step_replay.specs.Readers.{IsRuledTape}
+use Rattle.step_replay.specs.Behind.{IsRuledTape}
 
 -- the call reclaims slots of a log
 abbrev pub is_tidy : Call → Bool
@@ -37,3 +37,7 @@ abbrev pub WritersAreRuled : Type 0
 WritersAreRuled =
     (p : PlanOf) → IsFitPlan p → LockOrTidy p.calls → (turns : List ℕ) → All (λ seat. seat < p.config.seats) turns
     → IsRuledTape p.config (turns_taken p.config (replay_begun p) turns).tape
+
+-- and so behind each of the first turns of the plan's own schedule
+abbrev pub IsRuledPlan : PlanOf → Type 0
+IsRuledPlan p = LockOrTidy p.calls → (count : ℕ) → IsRuledTape p.config (turns_taken p.config (replay_begun p) (take count p.steps)).tape

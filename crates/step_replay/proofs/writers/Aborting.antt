@@ -37,7 +37,7 @@ use Rattle.step_replay.specs.SeatNotes.{edited_from, version_at}
 use Rattle.step_replay.specs.Begins.{unlock}
 use Rattle.step_replay.specs.States.{any_commit, any_start, zeros, Made, state_of}
 use Rattle.step_replay.specs.Runs.{TapeOf, step_made}
-use Rattle.step_replay.specs.Readers.{IsTapeBehind}
+use Rattle.step_replay.specs.Behind.{IsTapeBehind}
 use Rattle.step_replay.proofs.writers.Notes.{note_of, notes_from, notes_aborted, edited_long}
 use Rattle.step_replay.proofs.writers.Standing.{seat_with, IsNoted, Logs, InSection, GivesUp, GaveUp, IsSafe, IsStepped, GoesSo, by_step, by_end}
 use Rattle.step_replay.proofs.writers.Stepping.{IsOfKind, view_by, next_is}

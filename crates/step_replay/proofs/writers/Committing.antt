@@ -47,7 +47,7 @@ use Rattle.step_replay.specs.Tasks.{slot_at as slot_for, stamp_from, commit_cloc
 use Rattle.step_replay.specs.GoesOn.{is_last, helped_in, help, name, store_super as then_super, after_name, after_now}
 use Rattle.step_replay.specs.States.{any_commit, any_start, zeros, Made, state_of}
 use Rattle.step_replay.specs.Runs.{TapeOf, step_made}
-use Rattle.step_replay.specs.Readers.{IsTapeBehind}
+use Rattle.step_replay.specs.Behind.{IsTapeBehind}
 use Rattle.step_replay.proofs.writers.Notes.{note_of, notes_from, notes_committed, edited_long}
 use Rattle.step_replay.proofs.writers.Standing.{seat_with, IsNoted, Logs, InSection, HasNamed, Finishes, IsSafe, IsStepped, GoesSo, by_step, by_end}
 use Rattle.step_replay.proofs.writers.Stepping.{IsOfKind, view_by, next_is}

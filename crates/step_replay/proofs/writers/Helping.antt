@@ -34,7 +34,7 @@ use Rattle.step_replay.specs.Tasks.{commit_clock, named_place}
 use Rattle.step_replay.specs.GoesOn.{is_last, is_unset, helped_in}
 use Rattle.step_replay.specs.States.{Made, state_of}
 use Rattle.step_replay.specs.Runs.{TapeOf, step_made}
-use Rattle.step_replay.specs.Readers.{IsTapeBehind}
+use Rattle.step_replay.specs.Behind.{IsTapeBehind}
 use Rattle.step_replay.proofs.writers.Standing.{seat_with, Logs, InSection, RestsAt, BeforeHelp, HelpsAt, HelpsFor, helped_word, IsSafe, IsStepped, GoesSo}
 use Rattle.step_replay.proofs.writers.Standing.{by_step, by_end}
 use Rattle.step_replay.proofs.writers.Stepping.{IsOfKind, view_by, next_is}

@@ -48,7 +48,7 @@ use Rattle.step_replay.specs.Tasks.{slot_at as slot_for, link_to, field_word}
 use Rattle.step_replay.specs.GoesOn.{is_lock, refusal, after_field, after_lock_head}
 use Rattle.step_replay.specs.States.{any_commit, Made, state_of}
 use Rattle.step_replay.specs.Runs.{SeatOf, TapeOf, Scene, learned, step_made}
-use Rattle.step_replay.specs.Readers.{IsTapeBehind}
+use Rattle.step_replay.specs.Behind.{IsTapeBehind}
 use Rattle.step_replay.proofs.writers.Notes.{note_of, notes_from, notes_more}
 use Rattle.step_replay.proofs.writers.Standing.{seat_with, IsNoted, Logs, InSection, MayHold, StandsAt, HasFields, Builds, LocksAt, IsLocking, IsSafe, IsStepped}
 use Rattle.step_replay.proofs.writers.Standing.{GoesSo, by_step, by_end}

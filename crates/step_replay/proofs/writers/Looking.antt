@@ -33,7 +33,7 @@ use Rattle.step_replay.specs.GoesOn.{is_lock}
 use Rattle.step_replay.specs.Writers.{is_tidy}
 use Rattle.step_replay.specs.Lines.{skip_line, answer_line}
 use Rattle.step_replay.specs.Runs.{TapeOf, Scene, Looked, with_line, begun_so, call_looked, looked_on, looked}
-use Rattle.step_replay.specs.Readers.{IsTapeBehind}
+use Rattle.step_replay.specs.Behind.{IsTapeBehind}
 use Rattle.step_replay.proofs.NextSteps.{lined}
 use Rattle.step_replay.proofs.writers.Standing.{seat_with, Logs, InSection, RestsAt, MayHold, IsWriting, IsSafe, StandsFor, GoesSo, by_step, by_end}
 use Rattle.step_replay.proofs.writers.Known.{if_so, eqb_ne, ltb_lt, ltb_ge}

@@ -47,7 +47,7 @@ use Rattle.step_replay.specs.FitPlans.{IsFitCallOf}
 use Rattle.step_replay.specs.SeatNotes.{version_at}
 use Rattle.step_replay.specs.Tasks.{commit_clock}
 use Rattle.step_replay.specs.Runs.{SeatOf, Scene}
-use Rattle.step_replay.specs.Readers.{IsTapeBehind}
+use Rattle.step_replay.specs.Behind.{IsTapeBehind}
 use Rattle.step_replay.specs.GoesOn.{is_lock}
 use Rattle.step_replay.specs.Writers.{LocksNothing, TidiesNothing}
 use Rattle.step_replay.specs.States.{Made, state_of}

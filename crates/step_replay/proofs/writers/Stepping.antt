@@ -12,7 +12,7 @@ use Rattle.step_replay.specs.Words.{word_at}
 use Rattle.step_replay.specs.Tasks.{place_in_task, access_in_task, written_by}
 use Rattle.step_replay.specs.Sweeps.{then_after}
 use Rattle.step_replay.specs.Runs.{SeatOf, TapeOf, Scene, is_place, tape_stepped, tape_after, found_in, went, learned, step_made}
-use Rattle.step_replay.specs.Readers.{IsTapeBehind}
+use Rattle.step_replay.specs.Behind.{IsTapeBehind}
 use Rattle.step_replay.specs.NextSteps.{IsStepOf}
 use Rattle.step_replay.proofs.Machines.{made_next}
 use Rattle.step_replay.proofs.NextSteps.{lined, step_behind}

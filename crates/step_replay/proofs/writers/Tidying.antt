@@ -23,7 +23,7 @@ use Rattle.step_replay.specs.FitPlans.{IsFitCallOf}
 use Rattle.step_replay.specs.GoesOn.{is_last}
 use Rattle.step_replay.specs.States.{Made, state_of}
 use Rattle.step_replay.specs.Runs.{TapeOf, step_made}
-use Rattle.step_replay.specs.Readers.{IsTapeBehind}
+use Rattle.step_replay.specs.Behind.{IsTapeBehind}
 use Rattle.step_replay.proofs.writers.Standing.{seat_with, Logs, IsSafe, IsStepped, EndsAt, RestsAt, TidiesAt, StandsFor, GoesSo, by_step, by_end}
 use Rattle.step_replay.proofs.writers.Stepping.{IsOfKind, view_by, next_is}
 use Rattle.step_replay.proofs.writers.Known.{logs_left}

@@ -1,8 +1,8 @@
 -- Behind the turns of a plan in which no seat both locks and tidies the domain is behind steps of the core.
 use Rattle.std.proofs.Common.{◌≡◌, ◌≢◌, ◌⊎◌, ℕ, zero, suc, ◌+◌, ◌-◌, ◌<◌, List, [], ◌∷◌, Option, Some, None, All, length, get_or, refl, sym, ap, ◌∙◌}
-use Rattle.std.proofs.Common.{subst, arith, length-set, inl, inr, count_by}
+use Rattle.std.proofs.Common.{take, subst, arith, length-set, inl, inr, count_by}
 use Rattle.std.proofs.lemmas.List.{get_or-set_same, get_or-set_other}
-use Rattle.std.proofs.lemmas.List.Elements.{All-head, All-tail}
+use Rattle.std.proofs.lemmas.List.Elements.{All-head, All-tail, All-take}
 use Rattle.mv_core.proofs.Terms.{dite, ℕ_discrete, Config, Checked, set_at, empty_ring}
 use Rattle.mv_core.specs.declared.view.View.{View}
 use Rattle.mv_core.specs.declared.view.Phase.TheVariants.{Outside}
@@ -30,8 +30,9 @@ use Rattle.step_replay.specs.States.{zeros, with_made, opened, Made, state_of, A
 use Rattle.step_replay.specs.Runs.{SeatOf, TapeOf, Scene, Looked, Replay, looked, step_made, turn_begun, turned_from, turned, new_seat, new_seats}
 use Rattle.step_replay.specs.Runs.{seat_in, turn_taken, turns_taken, replay_begun}
 use Rattle.step_replay.specs.ReplayLaws.{IsRuled}
-use Rattle.step_replay.specs.Readers.{IsTapeBehind}
-use Rattle.step_replay.specs.Writers.{LocksNothing, TidiesNothing, LockOrTidy, WritersAreRuled}
+use Rattle.step_replay.specs.Behind.{IsTapeBehind}
+use Rattle.step_replay.specs.Writers.{LocksNothing, TidiesNothing, LockOrTidy, WritersAreRuled, IsRuledPlan}
+use Rattle.step_replay.specs.FitPlans.{IsFitPlan}
 use Rattle.step_replay.proofs.Machines.{shows_opened}
 use Rattle.step_replay.proofs.Ruled.{is_ruled}
 use Rattle.step_replay.proofs.TurnLaws.{seats_long}
@@ -223,3 +224,7 @@ writers_ruled p fit free turns in_range =
           (is_ruled key (subst Checked back k) (from ∙ ap zeros back) end.0 (subst (λ d. AreMade d end.0) back end.1.behind.each) words
           (subst (λ d. Shows d words (state_of d end.0).memory) back end.1.behind.shows));
     }
+
+-- and behind each of the first turns of its own schedule
+pub plan_ruled : (p : PlanOf) → IsFitPlan p → IsRuledPlan p
+plan_ruled p fit free count = writers_ruled p fit free (take count p.steps) (All-take (λ (seat : ℕ). seat < p.config.seats) count p.steps fit.steps.0)

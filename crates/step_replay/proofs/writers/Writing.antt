@@ -24,7 +24,7 @@ use Rattle.step_replay.specs.SeatNotes.{edited_from}
 use Rattle.step_replay.specs.Tasks.{slot_at as slot_for}
 use Rattle.step_replay.specs.States.{Made, state_of}
 use Rattle.step_replay.specs.Runs.{TapeOf, step_made}
-use Rattle.step_replay.specs.Readers.{IsTapeBehind}
+use Rattle.step_replay.specs.Behind.{IsTapeBehind}
 use Rattle.step_replay.proofs.writers.Notes.{notes_from, notes_put, edited_long}
 use Rattle.step_replay.proofs.writers.Standing.{seat_with, IsNoted, Logs, InSection, IsWriting, IsSafe, IsStepped, GoesSo, by_step, by_end}
 use Rattle.step_replay.proofs.writers.Stepping.{IsOfKind, view_by, next_is}

@@ -1,5 +1,5 @@
 -- Where the tape of a replay is: behind steps of the core, at a state of its rule.
-use Rattle.std.specs.Prelude.{◌≡◌, ℕ, List, length}
+use Rattle.std.specs.Prelude.{◌≡◌, List, length}
 use Rattle.mv_layout.specs.declared.config.Config.{Config}
 use Rattle.mv_layout.specs.Cells.{Shows}
 use Rattle.mv_core.specs.declared.shared.Opening.{Opening}

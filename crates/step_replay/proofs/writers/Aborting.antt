@@ -1,11 +1,11 @@
 -- The steps of an abort, and the leave of a section that holds nothing.
-use Rattle.std.proofs.Common.{◌≡◌, ◌≢◌, ℕ, ◌+◌, ◌<◌, ◌≤◌, ◌^◌, ltb, List, [], ◌∷◌, length, Bool, true, false, Option, Some, None, All}
-use Rattle.std.proofs.Common.{refl, sym, ap, ◌∙◌, subst, arith, if◌then◌else◌}
+use Rattle.std.proofs.Common.{◌≡◌, ℕ, ◌+◌, ◌<◌, ◌^◌, ltb, List, length, Option, Some, None, All}
+use Rattle.std.proofs.Common.{refl, sym, ap, ◌∙◌, subst, arith}
 use Rattle.std.proofs.Common.{replicate}
 use Rattle.std.specs.Prelude.{slice_get}
 use Rattle.std.proofs.lemmas.List.{length-replicate}
 use Rattle.mv_layout.specs.Words.{clock_time_of}
-use Rattle.mv_core.proofs.Terms.{Config, Checked, Clock, Mark, Head, Prev}
+use Rattle.mv_core.proofs.Terms.{Config, Checked, Clock, Mark, Prev}
 use Rattle.mv_core.specs.declared.ring.Version as core
 use Rattle.mv_core.specs.declared.ring.Slot.TheVariants.{Live}
 use Rattle.mv_core.specs.declared.ring.Status.TheVariants.{Held}
@@ -14,10 +14,9 @@ use Rattle.mv_core.specs.Rings.{slot_at, index_of, HoldsNothing}
 use Rattle.mv_core.specs.EnterSteps.{IsWhole, IsFinished, MayClearMark}
 use Rattle.mv_core.specs.SetFacts.{HoldsVersion, HoldsSlot}
 use Rattle.mv_core.specs.Moves.{Moment, clear_mark, unlock_head, load_death}
-use Rattle.seat_log.specs.Notes.{Noted, held_from, from_place, aborted_noted}
-use Rattle.seat_log.specs.Stands.{Stands}
+use Rattle.seat_log.specs.Notes.{held_from, from_place, aborted_noted}
 use Rattle.seat_log.proofs.NotedSlots.{noted_in, held_last}
-use Rattle.commit_abort.specs.Aborts.{IsOpen, IsAborting, HeldSlot, held_number, HasGivenUp}
+use Rattle.commit_abort.specs.Aborts.{IsAborting, HeldSlot, held_number, HasGivenUp}
 use Rattle.commit_abort.proofs.AbortParts as parts
 use Rattle.step_replay.specs.declared.plan.Call.{Call}
 use Rattle.step_replay.specs.declared.plan.CallOf.{CallOf}
@@ -30,19 +29,18 @@ use Rattle.step_replay.specs.declared.seats.Leaving.TheVariants.{Plainly, WithAb
 use Rattle.step_replay.specs.declared.seats.Task.{Task}
 use Rattle.step_replay.specs.declared.seats.Task.TheVariants.{EndsSection}
 use Rattle.step_replay.specs.declared.seats.Answer.TheVariants.{Silent}
-use Rattle.step_replay.specs.declared.seats.Then.{Then}
-use Rattle.step_replay.specs.declared.seats.Then.TheVariants.{Goes, Ends}
+use Rattle.step_replay.specs.declared.seats.Then.TheVariants.{Goes}
 use Rattle.step_replay.specs.FitPlans.{IsFitCallOf}
 use Rattle.step_replay.specs.SeatNotes.{edited_from, version_at}
 use Rattle.step_replay.specs.Begins.{unlock}
-use Rattle.step_replay.specs.States.{any_commit, any_start, zeros, Made, state_of}
+use Rattle.step_replay.specs.States.{any_commit, any_start, Made, state_of}
 use Rattle.step_replay.specs.Runs.{TapeOf, step_made}
 use Rattle.step_replay.specs.Behind.{IsTapeBehind}
 use Rattle.step_replay.proofs.writers.Notes.{note_of, notes_from, notes_aborted, edited_long}
-use Rattle.step_replay.proofs.writers.Standing.{seat_with, IsNoted, Logs, InSection, GivesUp, GaveUp, IsSafe, IsStepped, GoesSo, by_step, by_end}
+use Rattle.step_replay.proofs.writers.Standing.{seat_with, Logs, InSection, GivesUp, GaveUp, IsSafe, IsStepped, GoesSo, by_step, by_end}
 use Rattle.step_replay.proofs.writers.Stepping.{IsOfKind, view_by, next_is}
 use Rattle.step_replay.proofs.writers.Known.{if_so, ltb_lt, ltb_ge, facts, number_is, knows, starts, word_small, logs_left}
-use Rattle.step_replay.proofs.writers.LogFacts.{noted_long, noted_from, noted_at, held_in_log}
+use Rattle.step_replay.proofs.writers.LogFacts.{noted_long, noted_from, noted_at}
 use Rattle.step_replay.proofs.writers.Writing.{safe_edited}
 
 -- the notes with another place from which on versions are held, where it is the same

@@ -1,10 +1,9 @@
 -- The steps of a help of a clock word, in an entering or in a commit.
-use Rattle.std.proofs.Common.{◌≡◌, ℕ, ◌+◌, ◌<◌, ◌≤◌, ◌^◌, ◌==◌, leb, List, [], ◌∷◌, ◌++◌, length, Bool, true, false, Option, Some, None, All, Contains}
+use Rattle.std.proofs.Common.{◌≡◌, ℕ, ◌<◌, ◌≤◌, ◌==◌, leb, List, [], ◌∷◌, ◌++◌, length, true, false, Option, Some, None, All, Contains}
 use Rattle.std.proofs.Common.{refl, sym, ap, ◌∙◌, subst, arith, eqb-true, eq-eqb, ne_eqb, inl, if◌then◌else◌}
 use Rattle.std.proofs.lemmas.List.Elements.{Contains-append_left, Contains-append_right, Contains-push}
-use Rattle.mv_history.specs.declared.Entry.{Entry}
 use Rattle.mv_layout.specs.Words.{clock_time_of, clock_slot_of}
-use Rattle.mv_core.proofs.Terms.{Config, Checked, Place, Clock}
+use Rattle.mv_core.proofs.Terms.{Config, Checked, Clock}
 use Rattle.mv_core.specs.declared.view.View.{View}
 use Rattle.mv_core.specs.declared.view.Section.{Section}
 use Rattle.mv_core.specs.declared.view.Phase.TheVariants.{Inside}
@@ -27,7 +26,6 @@ use Rattle.step_replay.specs.declared.seats.Ending.TheVariants.{Name}
 use Rattle.step_replay.specs.declared.seats.Task.{Task}
 use Rattle.step_replay.specs.declared.seats.Task.TheVariants.{Helps, EndsSection}
 use Rattle.step_replay.specs.declared.seats.Answer.TheVariants.{AtTime, Committed}
-use Rattle.step_replay.specs.declared.seats.Then.{Then}
 use Rattle.step_replay.specs.declared.seats.Then.TheVariants.{Goes, Ends}
 use Rattle.step_replay.specs.FitPlans.{IsFitCallOf}
 use Rattle.step_replay.specs.Tasks.{commit_clock, named_place}
@@ -35,10 +33,10 @@ use Rattle.step_replay.specs.GoesOn.{is_last, is_unset, helped_in}
 use Rattle.step_replay.specs.States.{Made, state_of}
 use Rattle.step_replay.specs.Runs.{TapeOf, step_made}
 use Rattle.step_replay.specs.Behind.{IsTapeBehind}
-use Rattle.step_replay.proofs.writers.Standing.{seat_with, Logs, InSection, RestsAt, BeforeHelp, HelpsAt, HelpsFor, helped_word, IsSafe, IsStepped, GoesSo}
+use Rattle.step_replay.proofs.writers.Standing.{seat_with, Logs, InSection, RestsAt, HelpsAt, HelpsFor, helped_word, IsSafe, IsStepped, GoesSo}
 use Rattle.step_replay.proofs.writers.Standing.{by_step, by_end}
 use Rattle.step_replay.proofs.writers.Stepping.{IsOfKind, view_by, next_is}
-use Rattle.step_replay.proofs.writers.Known.{if_so, eqb_ne, facts, number_is, logs_left}
+use Rattle.step_replay.proofs.writers.Known.{if_so, eqb_ne, facts, logs_left}
 
 -- a seat that is in a section and in no call
 pub rests_in : (c : Config) (v : View) (log : List Version) (from : ℕ) (time : Option ℕ) → InSection c v log from time → RestsAt c v log from time
@@ -185,10 +183,13 @@ module _ (c : Config) (k : Checked c) (n : ℕ) (lt : n < c.seats) (made : List 
       left refl no_scan before safe
       (if_so (GoesSo c n w log from time call) (is_unset found) (Goes (Helps (LoadCheck word found)))
       (helped_in call c log (record { seat = n; time = time; from = from; freed = 0; call = call; sweep = sweep }) word)
-      (λ unset. by_step (Helps (LoadCheck word found)) refl ((
-        subst (λ x. Contains (if x then kept else helped_too v.clocks word).loaded word) (sym unset) loaded,
-        ap (λ x. (if x then kept else helped_too v.clocks word).found) unset,
-      ), still))
+      (λ unset. by_step (Helps (LoadCheck word found)) refl (
+        (
+          subst (λ x. Contains (if x then kept else helped_too v.clocks word).loaded word) (sym unset) loaded,
+          ap (λ x. (if x then kept else helped_too v.clocks word).found) unset,
+        ),
+        still,
+      ))
       (λ set. helped_so c n w log from time call sweep word (bounded word loaded) still
       (subst (λ x. Contains (if x then kept else helped_too v.clocks word).loaded word) (sym set) loaded)
       (subst (λ x. Contains (if x then kept else helped_too v.clocks word).helped word) (sym set) (Contains-push v.clocks.helped word))))
@@ -216,11 +217,14 @@ module _ (c : Config) (k : Checked c) (n : ℕ) (lt : n < c.seats) (made : List 
       left refl no_scan before safe
       (if_so (GoesSo c n w log from time call) (found == word) (Goes (Helps (SwapStamp word unset)))
       (helped_in call c log (record { seat = n; time = time; from = from; freed = 0; call = call; sweep = _ }) word)
-      (λ same. by_step (Helps (SwapStamp word unset)) refl ((
-        loaded_still,
-        ap (λ x. checked_found x found) kept
-            ∙ ap (λ x. if x then Some (record note { checked = true }) else None) (eq-eqb word found (sym (eqb-true found word same))),
-      ), still))
+      (λ same. by_step (Helps (SwapStamp word unset)) refl (
+        (
+          loaded_still,
+          ap (λ x. checked_found x found) kept
+              ∙ ap (λ x. if x then Some (record note { checked = true }) else None) (eq-eqb word found (sym (eqb-true found word same))),
+        ),
+        still,
+      ))
       (λ other. helped_so c n w log from time call _ word (bounded word loaded) still loaded_still
       (Contains-append_right v.clocks.helped (if_none found ++ checked_helped v.clocks.found found) word
       (Contains-append_right (if_none found) (checked_helped v.clocks.found found) word

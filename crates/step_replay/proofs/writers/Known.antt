@@ -1,19 +1,15 @@
 -- What a state behind steps of the core is, for one of its seats; and tests of numbers.
-use Rattle.std.proofs.Common.{◌≡◌, ◌≢◌, ◌⊎◌, ℕ, ◌+◌, ◌<◌, ◌≤◌, ◌^◌, suc, ◌==◌, ◌&&◌, ltb, leb, get_or, List, [], ◌∷◌, ◌++◌, Bool, true, false, refl, sym, ap, ◌∙◌, subst}
-use Rattle.std.proofs.Common.{arith, inl, inr, if◌then◌else◌, eq-eqb, lt-ltb, le-ltb, le-leb, length, Option, Some, None}
+use Rattle.std.proofs.Common.{◌≡◌, ◌≢◌, ◌⊎◌, ℕ, ◌<◌, ◌≤◌, ◌^◌, suc, ◌==◌, ◌&&◌, ltb, leb, get_or, List, [], ◌∷◌, ◌++◌, Bool, true, false, refl, ap}
+use Rattle.std.proofs.Common.{arith, inl, inr, if◌then◌else◌, eq-eqb, lt-ltb, le-ltb, le-leb, length}
 use Rattle.std.proofs.lemmas.Bool.{cases_lt, lt-leb}
-use Rattle.std.proofs.lemmas.List.{length-replicate}
 use Rattle.mv_history.specs.declared.Step.{Step}
-use Rattle.mv_history.specs.declared.Entry.{Entry}
-use Rattle.mv_core.proofs.Terms.{Config, Checked, parts_of, Place, Memory, Clock}
+use Rattle.mv_core.proofs.Terms.{Config, Checked, parts_of, Place}
 use Rattle.mv_core.specs.declared.view.View.{View}
 use Rattle.mv_core.specs.Rule.{Facts, IsSeated}
 use Rattle.mv_core.proofs.moves.Notes.{seat_is}
 use Rattle.mv_core.specs.Known.{Known}
 use Rattle.mv_core.specs.MoveLaws.{Holds}
 use Rattle.mv_core.proofs.frames.Turning.{known_of}
-use Rattle.seat_log.specs.Notes.{Noted}
-use Rattle.seat_log.specs.Stands.{Stands}
 use Rattle.seat_log.proofs.PlainSteps.{LeavesLog, stands_left, one_leaves}
 use Rattle.step_replay.specs.declared.seats.Version.{Version}
 use Rattle.step_replay.specs.States.{any_commit, any_start, zeros, Made, state_of, AreMade}

@@ -1,11 +1,11 @@
 -- The steps of a lock behind its walk: the build of its version, and the exchanges of HEAD.
-use Rattle.std.proofs.Common.{◌≡◌, ◌≢◌, ◌⊎◌, ℕ, ◌+◌, ◌<◌, ◌≤◌, ◌^◌, ◌==◌, ◌&&◌, ltb, not, List, [], ◌∷◌, ◌++◌, length, Bool, true, false, Option}
+use Rattle.std.proofs.Common.{◌≡◌, ◌≢◌, ℕ, ◌+◌, ◌<◌, ◌^◌, ◌==◌, ◌&&◌, ltb, not, List, [], ◌∷◌, ◌++◌, length, Bool, true, false, Option}
 use Rattle.std.proofs.Common.{Some, None, All, map, refl, sym, ap, ◌∙◌, subst, arith, inl, inr, eqb-true, eq-eqb, ne_eqb, lt-ltb, if◌then◌else◌, mod-lt}
 use Rattle.std.specs.Prelude.{unwrap_or}
 use Rattle.std.proofs.Common.{length-append}
 use Rattle.mv_core.specs.WalkSteps.{slot_named}
-use Rattle.mv_layout.specs.Words.{link_of, link_seat_of, unset_of}
-use Rattle.mv_core.proofs.Terms.{dite, ℕ_discrete, Config, Checked, Head, First, Stamp, IsPlace}
+use Rattle.mv_layout.specs.Words.{link_of, link_seat_of}
+use Rattle.mv_core.proofs.Terms.{dite, ℕ_discrete, Config, Checked, Head, First, Stamp}
 use Rattle.mv_core.specs.declared.ring.Build as core
 use Rattle.mv_core.specs.declared.ring.Slot.{Slot}
 use Rattle.mv_core.specs.declared.ring.Slot.TheVariants as slots
@@ -22,7 +22,7 @@ use Rattle.mv_core.specs.Moves.{Moment, store_built, lock_head, load_first, load
 use Rattle.mv_core.proofs.kinds.walking.WalkOn.{at_zero, at_some}
 use Rattle.mv_history.specs.declared.answers.LockAnswer.TheVariants as refusals
 use Rattle.seat_log.specs.declared.version.Note.{Note}
-use Rattle.seat_log.specs.Notes.{Noted, next_of, first_of, IsNextOf, held_noted}
+use Rattle.seat_log.specs.Notes.{Noted, IsNextOf, held_noted}
 use Rattle.seat_log.specs.Stands.{Stands, HasBuilt}
 use Rattle.seat_log.specs.Builds.{build_at, stored_next, MayBuild}
 use Rattle.seat_log.proofs.MayBuild.{may_store}
@@ -34,28 +34,26 @@ use Rattle.step_replay.specs.declared.plan.CallOf.{CallOf}
 use Rattle.step_replay.specs.declared.seats.Version.{Version}
 use Rattle.step_replay.specs.declared.seats.Edit.TheVariants.{Kept, Pushed}
 use Rattle.step_replay.specs.declared.seats.Sweep.{Sweep}
-use Rattle.step_replay.specs.declared.seats.State.{State}
 use Rattle.step_replay.specs.declared.seats.Locking.{Locking}
 use Rattle.step_replay.specs.declared.seats.Locking.TheVariants.{Build, LockHead, ClearPrevious, FoundFirst, FoundStamp}
 use Rattle.step_replay.specs.declared.seats.Task.{Task}
 use Rattle.step_replay.specs.declared.seats.Task.TheVariants.{Locks}
 use Rattle.step_replay.specs.declared.seats.Answer.TheVariants.{Locked}
-use Rattle.step_replay.specs.declared.seats.Then.{Then}
 use Rattle.step_replay.specs.declared.seats.Then.TheVariants.{Goes, Ends}
 use Rattle.step_replay.specs.FitPlans.{IsFitCallOf}
 use Rattle.step_replay.specs.SeatNotes.{applied}
 use Rattle.step_replay.specs.Tasks.{slot_at as slot_for, link_to, field_word}
-use Rattle.step_replay.specs.GoesOn.{is_lock, refusal, after_field, after_lock_head}
-use Rattle.step_replay.specs.States.{any_commit, Made, state_of}
-use Rattle.step_replay.specs.Runs.{SeatOf, TapeOf, Scene, learned, step_made}
+use Rattle.step_replay.specs.GoesOn.{is_lock, after_lock_head}
+use Rattle.step_replay.specs.States.{Made, state_of}
+use Rattle.step_replay.specs.Runs.{SeatOf, TapeOf, learned, step_made}
 use Rattle.step_replay.specs.Behind.{IsTapeBehind}
 use Rattle.step_replay.proofs.writers.Notes.{note_of, notes_from, notes_more}
-use Rattle.step_replay.proofs.writers.Standing.{seat_with, IsNoted, Logs, InSection, MayHold, StandsAt, HasFields, Builds, LocksAt, IsLocking, IsSafe, IsStepped}
+use Rattle.step_replay.proofs.writers.Standing.{seat_with, Logs, InSection, MayHold, StandsAt, HasFields, Builds, LocksAt, IsSafe, IsStepped}
 use Rattle.step_replay.proofs.writers.Standing.{GoesSo, by_step, by_end}
 use Rattle.step_replay.proofs.writers.Stepping.{IsOfKind, view_by, next_is}
-use Rattle.step_replay.proofs.writers.Known.{if_so, eqb_ne, ltb_lt, ltb_ge, and_left, and_right, number_is, logs_left, word_small}
-use Rattle.step_replay.proofs.writers.LogFacts.{noted_long, next_long, held_are, first_held, log_short, log_small, held_in_log, stands_whole}
-use Rattle.step_replay.proofs.writers.Fields.{stamp_is, field_range, field_small, field_fits, has_next, has_first, whole_words, has_link}
+use Rattle.step_replay.proofs.writers.Known.{if_so, eqb_ne, ltb_lt, ltb_ge, and_left, and_right, number_is, logs_left}
+use Rattle.step_replay.proofs.writers.LogFacts.{noted_long, next_long, held_are, first_held, log_small, held_in_log, stands_whole}
+use Rattle.step_replay.proofs.writers.Fields.{field_range, field_small, field_fits, has_next, has_first, whole_words, has_link}
 use Rattle.step_replay.proofs.writers.Helping.{rests_in}
 use Rattle.step_replay.proofs.writers.Walking.{section_stays, refused, stands_in}
 
@@ -206,8 +204,12 @@ module _ (c : Config) (k : Checked c) (n : ℕ) (lt : n < c.seats) (made : List 
             range = range;
             may = may;
             builds = keep;
-            locks = (omega arith, (λ (z : 2 ≡ 1). absurd (omega (arith, z))), stands,
-                has_first version at low (build_at c w at) (other field e) (subst (HasFields (build_at c w at) version at) next has_now));
+            locks = (
+              omega arith,
+              (λ (z : 2 ≡ 1). absurd (omega (arith, z))),
+              stands,
+              has_first version at low (build_at c w at) (other field e) (subst (HasFields (build_at c w at) version at) next has_now),
+            );
           },
           lock,
         ))
@@ -290,14 +292,18 @@ module _ (c : Config) (k : Checked c) (n : ℕ) (lt : n < c.seats) (made : List 
         let there : slot_at v.ring (index_of c v.ring.next) ≡ slots.Built (build_at c v at) =
         ap (λ p. slot_at v.ring (index_of c p)) (next_long c k v log from inside.logs ∙ sym at_is)
         ∙ built_there c k v log from time at inside may.room builds.at_is version has in
-        let has_built : HasBuilt c v.ring (Some m) = (build_at c v at, there, record {
-          first = has.first (omega arith);
-          stamp = has.stamp (omega arith);
-          previous = has.previous (omega arith);
-          successor = has.successor (omega arith);
-          words = whole_words (build_at c v at) version at builds.wide has;
-          wide = builds.wide;
-        }) in
+        let has_built : HasBuilt c v.ring (Some m) = (
+          build_at c v at,
+          there,
+          record {
+            first = has.first (omega arith);
+            stamp = has.stamp (omega arith);
+            previous = has.previous (omega arith);
+            successor = has.successor (omega arith);
+            words = whole_words (build_at c v at) version at builds.wide has;
+            wide = builds.wide;
+          },
+        ) in
         let whole = stands_whole c v l m inside.logs.stands has_built next (omega (arith, long, size, room)) in
         let so = stands_locked c v (record l { built = Some m }) m i whole refl
         (builds.words ∙ ap (words_of c v.start v.past.seen (time_in i)) (sym builds.object_is)) in

@@ -1,20 +1,20 @@
 -- What the notes of a seat say of its view's log.
-use Rattle.std.proofs.Common.{◌≡◌, ◌≢◌, ℕ, ◌+◌, ◌-◌, ◌<◌, ◌≤◌, ◌^◌, List, [], ◌∷◌, ◌++◌, length, get_or, Option, Some, None, refl, sym, ap, ◌∙◌, subst, arith}
-use Rattle.std.specs.Prelude.{slice_get, IfSome}
+use Rattle.std.proofs.Common.{◌≡◌, ◌≢◌, ℕ, ◌+◌, ◌<◌, ◌≤◌, List, length, Some, sym, ap, ◌∙◌, arith}
+use Rattle.std.specs.Prelude.{slice_get}
 use Rattle.mv_core.proofs.Terms.{Config, Checked}
 use Rattle.mv_core.specs.declared.ring.Version as core
 use Rattle.mv_core.specs.declared.ring.Status.TheVariants.{Held}
 use Rattle.mv_core.specs.declared.ring.Slot.TheVariants.{Live}
 use Rattle.mv_core.specs.declared.view.View.{View}
-use Rattle.mv_core.specs.Rings.{slot_at, index_of, set_first, held_count}
+use Rattle.mv_core.specs.Rings.{slot_at, set_first, held_count}
 use Rattle.seat_log.specs.declared.version.Note.{Note}
-use Rattle.seat_log.specs.Notes.{Noted, IsNoteAt, next_of, held_from, built_count, IsNextOf}
+use Rattle.seat_log.specs.Notes.{Noted, IsNoteAt, held_from, IsNextOf}
 use Rattle.seat_log.specs.Stands.{Stands, HasBuilt}
 use Rattle.seat_log.proofs.NotedSlots.{noted_in, held_last}
 use Rattle.seat_log.proofs.Standing.{built_is_log}
 use Rattle.step_replay.specs.declared.seats.Version.{Version}
 use Rattle.step_replay.specs.SeatNotes.{version_at, no_version}
-use Rattle.step_replay.proofs.writers.Notes.{note_of, notes_from, notes_long, note_at}
+use Rattle.step_replay.proofs.writers.Notes.{note_of, notes_long, note_at}
 use Rattle.step_replay.proofs.writers.Standing.{IsNoted, Logs}
 
 -- as many versions are noted, and the first one that is held is at this place

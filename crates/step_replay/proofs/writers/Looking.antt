@@ -1,6 +1,6 @@
 -- A seat looks at its calls: it makes no step, and stands at the first step of the next one, or has none left.
-use Rattle.std.proofs.Common.{◌≡◌, ◌⊎◌, ℕ, ◌+◌, ◌-◌, ◌<◌, ◌≤◌, ◌^◌, ◌==◌, ◌&&◌, ltb, not, List, [], ◌∷◌, length, get_or, Bool, true, false, Option, Some, None}
-use Rattle.std.proofs.Common.{All, refl, sym, ap, subst, arith, inl, inr, eqb-true, if◌then◌else◌, slice_index}
+use Rattle.std.proofs.Common.{◌≡◌, ◌⊎◌, ℕ, ◌-◌, ◌<◌, ◌≤◌, ◌^◌, ◌==◌, List, [], ◌∷◌, length, true, false, Option, Some, None}
+use Rattle.std.proofs.Common.{All, refl, sym, subst, arith, inl, inr, eqb-true, if◌then◌else◌, slice_index}
 use Rattle.std.proofs.lemmas.Bool.{cases_lt}
 use Rattle.std.proofs.lemmas.List.{get_or_past}
 use Rattle.std.proofs.lemmas.List.Elements.{All-head, All-tail, All-get_or}
@@ -21,21 +21,21 @@ use Rattle.step_replay.specs.declared.seats.Leaving.TheVariants.{Plainly}
 use Rattle.step_replay.specs.declared.seats.Sweeping.TheVariants as sweeping
 use Rattle.step_replay.specs.declared.seats.Answer.TheVariants.{Locked}
 use Rattle.step_replay.specs.declared.seats.Task.{Task}
-use Rattle.step_replay.specs.declared.seats.Task.TheVariants.{Enters, Walks, Writes, EndsSection, Tidies}
+use Rattle.step_replay.specs.declared.seats.Task.TheVariants.{Enters, Walks, EndsSection, Tidies}
 use Rattle.step_replay.specs.declared.seats.Then.{Then}
 use Rattle.step_replay.specs.declared.seats.Then.TheVariants.{Goes, Ends}
 use Rattle.step_replay.specs.declared.notes.Test.TheVariants.{IsOf}
 use Rattle.step_replay.specs.FitPlans.{AreSixWords, IsFitCall, IsFitCallOf}
-use Rattle.step_replay.specs.SeatNotes.{held, holds, live, place_held, version_at, first_from}
+use Rattle.step_replay.specs.SeatNotes.{held, holds, live, place_held}
 use Rattle.step_replay.specs.Begins.{unlock, begin_abort, begin_call, may_begin, new_sweep}
-use Rattle.step_replay.specs.States.{Made, state_of}
+use Rattle.step_replay.specs.States.{Made}
 use Rattle.step_replay.specs.GoesOn.{is_lock}
 use Rattle.step_replay.specs.Writers.{is_tidy}
 use Rattle.step_replay.specs.Lines.{skip_line, answer_line}
 use Rattle.step_replay.specs.Runs.{TapeOf, Scene, Looked, with_line, begun_so, call_looked, looked_on, looked}
 use Rattle.step_replay.specs.Behind.{IsTapeBehind}
 use Rattle.step_replay.proofs.NextSteps.{lined}
-use Rattle.step_replay.proofs.writers.Standing.{seat_with, Logs, InSection, RestsAt, MayHold, IsWriting, IsSafe, StandsFor, GoesSo, by_step, by_end}
+use Rattle.step_replay.proofs.writers.Standing.{seat_with, InSection, RestsAt, IsSafe, StandsFor, GoesSo, by_step, by_end}
 use Rattle.step_replay.proofs.writers.Known.{if_so, eqb_ne, ltb_lt, ltb_ge}
 use Rattle.step_replay.proofs.writers.LogFacts.{held_are, log_short}
 use Rattle.step_replay.proofs.writers.Searches.{first_after, none_of}
@@ -106,11 +106,19 @@ module _ (c : Config) (k : Checked c) (n : ℕ) (made : List Made) (v : View) (l
         (λ e. by_end (Locked refusals.SetFull) refl inside)
         (λ some. if_so P (live log s == c.slots) (Ends (Locked refusals.LogFull)) (Goes (Walks o walk.LoadHead))
         (λ e. by_end (Locked refusals.LogFull) refl inside)
-        (λ room. by_step (Walks o walk.LoadHead) refl (inside, range, (refl, record {
-          unheld = none_of log from o (ltb_ge (place_held log s o) (length log) free);
-          few = (let ne = eqb_ne (held log s) c.write_max some in omega (arith, ne, few, all));
-          room = (let ne = eqb_ne (live log s) c.slots room in omega (arith, ne, short));
-        }), tt))))
+        (λ room. by_step (Walks o walk.LoadHead) refl (
+          inside,
+          range,
+          (
+            refl,
+            record {
+              unheld = none_of log from o (ltb_ge (place_held log s o) (length log) free);
+              few = (let ne = eqb_ne (held log s) c.write_max some in omega (arith, ne, few, all));
+              room = (let ne = eqb_ne (live log s) c.slots room in omega (arith, ne, short));
+            },
+          ),
+          tt,
+        ))))
 
     abort_so : GoesSo c n v log from (Some t) Abort (begin_call Abort c log (state (Some t) Abort))
     abort_so =

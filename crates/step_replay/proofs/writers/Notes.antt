@@ -1,6 +1,6 @@
 -- The versions that a seat of a replay notes, as the notes of a log.
-use Rattle.std.proofs.Common.{◌≡◌, ℕ, zero, suc, ◌+◌, ◌-◌, ◌<◌, ◌≤◌, ◌==◌, List, [], ◌∷◌, ◌++◌, length, get_or, refl, sym, ap, ◌∙◌, arith}
-use Rattle.std.proofs.Common.{Option, Some, None, leb, Bool, true, false, if◌then◌else◌, le-leb, eq-eqb, ne_eqb}
+use Rattle.std.proofs.Common.{◌≡◌, ℕ, zero, suc, ◌+◌, ◌<◌, ◌≤◌, ◌==◌, List, [], ◌∷◌, ◌++◌, length, get_or, refl, ap, ◌∙◌, arith}
+use Rattle.std.proofs.Common.{Some, leb, Bool, true, false, if◌then◌else◌, le-leb, eq-eqb, ne_eqb}
 use Rattle.std.proofs.lemmas.Bool.{lt-leb}
 use Rattle.std.specs.Prelude.{slice_get, slice_set}
 use Rattle.seat_log.specs.declared.version.Note.{Note}
@@ -8,7 +8,7 @@ use Rattle.seat_log.specs.Notes.{from_place, at_place, with_word}
 use Rattle.step_replay.specs.declared.seats.Version.{Version}
 use Rattle.step_replay.specs.declared.seats.Edit.{Edit}
 use Rattle.step_replay.specs.declared.seats.Edit.TheVariants.{WordPut, CommittedFrom, AbortedFrom}
-use Rattle.step_replay.specs.SeatNotes.{edited, edited_from}
+use Rattle.step_replay.specs.SeatNotes.{edited_from}
 
 -- a version of a replay, as a note
 abbrev pub note_of : ℕ → Version → Note

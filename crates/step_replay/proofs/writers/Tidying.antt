@@ -1,11 +1,10 @@
 -- The steps of a tidy of a log in which nothing was noted; and each step that a seat stands at.
-use Rattle.std.proofs.Common.{◌≡◌, ℕ, ◌<◌, ◌&&◌, not, List, [], length, Bool, true, false, Option, Some, None, All, refl, sym, ap, subst, if◌then◌else◌}
+use Rattle.std.proofs.Common.{◌≡◌, ℕ, ◌<◌, not, List, [], Bool, true, false, Option, Some, None, All, refl, sym, ap, subst, if◌then◌else◌}
 use Rattle.std.proofs.Math.Bool.{and-false}
-use Rattle.mv_core.proofs.Terms.{Config, Checked, Grace}
+use Rattle.mv_core.proofs.Terms.{Config, Checked}
 use Rattle.mv_core.specs.declared.view.View.{View}
 use Rattle.mv_core.specs.Moves.{Moment, load_grace}
 use Rattle.step_replay.specs.declared.plan.Call.{Call}
-use Rattle.step_replay.specs.declared.plan.Call.TheVariants.{Enter}
 use Rattle.step_replay.specs.declared.plan.CallOf.{CallOf}
 use Rattle.step_replay.specs.declared.seats.Version.{Version}
 use Rattle.step_replay.specs.declared.seats.Sweep.{Sweep}
@@ -17,14 +16,13 @@ use Rattle.step_replay.specs.declared.seats.Sweeping.TheVariants.{LoadGrace, Fre
 use Rattle.step_replay.specs.declared.seats.Sweeping.TheVariants.{CutHead, LoadCutDeath, LeaveBack, LoadSuperAgain, NameRest}
 use Rattle.step_replay.specs.declared.seats.Task.{Task}
 use Rattle.step_replay.specs.declared.seats.Task.TheVariants.{Enters, Helps, Walks, Locks, Writes, EndsSection, Tidies}
-use Rattle.step_replay.specs.declared.seats.Then.{Then}
 use Rattle.step_replay.specs.declared.seats.Then.TheVariants.{Goes}
 use Rattle.step_replay.specs.FitPlans.{IsFitCallOf}
 use Rattle.step_replay.specs.GoesOn.{is_last}
 use Rattle.step_replay.specs.States.{Made, state_of}
 use Rattle.step_replay.specs.Runs.{TapeOf, step_made}
 use Rattle.step_replay.specs.Behind.{IsTapeBehind}
-use Rattle.step_replay.proofs.writers.Standing.{seat_with, Logs, IsSafe, IsStepped, EndsAt, RestsAt, TidiesAt, StandsFor, GoesSo, by_step, by_end}
+use Rattle.step_replay.proofs.writers.Standing.{seat_with, Logs, IsSafe, IsStepped, EndsAt, RestsAt, TidiesAt, StandsFor, by_step, by_end}
 use Rattle.step_replay.proofs.writers.Stepping.{IsOfKind, view_by, next_is}
 use Rattle.step_replay.proofs.writers.Known.{logs_left}
 use Rattle.step_replay.proofs.writers.Entering.{entering_made}

@@ -12,7 +12,7 @@ use Rattle.mv_core.specs.Moves.{opening_of}
 use Rattle.mv_core.proofs.frames.FrameLaw.{set_at_all, set_at_else}
 use Rattle.mv_layout.specs.Cells.{Shows}
 use Rattle.seat_log.specs.Notes.{nothing_noted}
-use Rattle.seat_log.specs.Stands.{is_free, is_won_cut, Stands}
+use Rattle.seat_log.specs.Stands.{is_free, is_won_cut}
 use Rattle.seat_log.proofs.BuildsOn.{unpassed}
 use Rattle.seat_log.proofs.Beginning.{stands_new}
 use Rattle.seat_log.proofs.Stays.{stands_same}
@@ -23,11 +23,10 @@ use Rattle.step_replay.specs.declared.seats.Task.{Task}
 use Rattle.step_replay.specs.Plans.{PlanOf}
 use Rattle.step_replay.specs.FitPlans.{IsFitCallOf}
 use Rattle.step_replay.specs.Begins.{new_sweep}
-use Rattle.step_replay.specs.GoesOn.{is_lock}
 use Rattle.step_replay.specs.Lines.{idle_line}
 use Rattle.step_replay.specs.Words.{new_words}
 use Rattle.step_replay.specs.States.{zeros, with_made, opened, Made, state_of, AreMade}
-use Rattle.step_replay.specs.Runs.{SeatOf, TapeOf, Scene, Looked, Replay, looked, step_made, turn_begun, turned_from, turned, new_seat, new_seats}
+use Rattle.step_replay.specs.Runs.{SeatOf, TapeOf, Scene, Looked, Replay, looked, step_made, turn_begun, turned, new_seat, new_seats}
 use Rattle.step_replay.specs.Runs.{seat_in, turn_taken, turns_taken, replay_begun}
 use Rattle.step_replay.specs.ReplayLaws.{IsRuled}
 use Rattle.step_replay.specs.Behind.{IsTapeBehind}

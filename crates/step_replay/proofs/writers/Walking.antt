@@ -1,11 +1,11 @@
 -- The steps of a walk, of a read or of a lock.
-use Rattle.std.proofs.Common.{◌≡◌, ◌≢◌, ◌⊎◌, ℕ, ◌+◌, ◌<◌, ◌≤◌, ◌^◌, ◌==◌, ◌&&◌, ltb, leb, not, List, [], ◌∷◌, length, get_or, Bool, true, false, Option}
-use Rattle.std.proofs.Common.{Some, None, All, Contains, ne_eqb, replicate, refl, sym, ap, ◌∙◌, subst, arith, inl, inr, eqb-true, if◌then◌else◌, slice_set, slice_index, mod-lt}
+use Rattle.std.proofs.Common.{◌≡◌, ◌≢◌, ◌⊎◌, ℕ, ◌+◌, ◌<◌, ◌≤◌, ◌^◌, ◌==◌, ◌&&◌, ltb, leb, not, List, length, get_or, Bool, true, false, Option}
+use Rattle.std.proofs.Common.{Some, None, All, Contains, ne_eqb, replicate, refl, sym, ap, ◌∙◌, subst, arith, inl, inr, eqb-true, if◌then◌else◌, slice_set, mod-lt}
 use Rattle.std.specs.Prelude.{unwrap_or}
-use Rattle.std.proofs.lemmas.List.{length-set, length-replicate, get_or-set_same, get_or-set_other, get_or-replicate, get_or_past}
+use Rattle.std.proofs.lemmas.List.{length-set, get_or-set_same, get_or-set_other, get_or-replicate, get_or_past}
 use Rattle.std.proofs.lemmas.Bool.{cases_lt}
 use Rattle.mv_layout.specs.Words.{link_seat_of, IsUnset}
-use Rattle.mv_core.proofs.Terms.{dite, ℕ_discrete, Config, Checked, Memory, Clock, Head, Master, First, Stamp, Prev, Data, parts_of, Lives, IsPlace}
+use Rattle.mv_core.proofs.Terms.{dite, ℕ_discrete, Config, Checked, Head, Master, First, Stamp, Prev, Data, IsPlace}
 use Rattle.mv_core.specs.declared.view.View.{View}
 use Rattle.mv_core.specs.declared.view.Section.{Section}
 use Rattle.mv_core.specs.declared.view.Stand.{Stand}
@@ -20,7 +20,7 @@ use Rattle.mv_core.specs.LockSteps.{StandsToLock, nothing_built, build_in}
 use Rattle.mv_core.specs.Moves.{Moment, load_head, load_first, load_stamp, load_prev, load_data, load_master}
 use Rattle.mv_core.proofs.logs.Links.{names_some, names_link, lives_within}
 use Rattle.mv_core.proofs.kinds.walking.WalkOn.{at_zero, at_some}
-use Rattle.mv_core.proofs.kinds.walking.Walks.{Standing, lives_named, standing_of}
+use Rattle.mv_core.proofs.kinds.walking.Walks.{lives_named, standing_of}
 use Rattle.mv_core.proofs.kinds.walking.LoadData.{data_loads}
 use Rattle.mv_core.proofs.kinds.walking.LoadMaster.{master_loads}
 use Rattle.mv_history.specs.declared.answers.LockAnswer.TheVariants as refusals
@@ -38,14 +38,13 @@ use Rattle.step_replay.specs.declared.seats.Locking.TheVariants as locking
 use Rattle.step_replay.specs.declared.seats.Task.{Task}
 use Rattle.step_replay.specs.declared.seats.Task.TheVariants.{Walks, Locks}
 use Rattle.step_replay.specs.declared.seats.Answer.TheVariants.{SixWords, Locked}
-use Rattle.step_replay.specs.declared.seats.Then.{Then}
 use Rattle.step_replay.specs.declared.seats.Then.TheVariants.{Goes, Ends}
 use Rattle.step_replay.specs.FitPlans.{IsFitCallOf}
 use Rattle.step_replay.specs.GoesOn.{is_lock, is_unset, stand, refusal, new_version, after_words}
 use Rattle.step_replay.specs.States.{any_commit, any_start, zeros, Made, state_of}
 use Rattle.step_replay.specs.Runs.{TapeOf, step_made}
 use Rattle.step_replay.specs.Behind.{IsTapeBehind}
-use Rattle.step_replay.proofs.writers.Standing.{seat_with, Logs, InSection, MayHold, WalksFor, StandsAt, WordsSoFar, WalksAt, HasFields, Builds, IsSafe, IsStepped}
+use Rattle.step_replay.proofs.writers.Standing.{seat_with, Logs, InSection, MayHold, WalksFor, StandsAt, WordsSoFar, WalksAt, IsSafe, IsStepped}
 use Rattle.step_replay.proofs.writers.Standing.{GoesSo, by_step, by_end}
 use Rattle.step_replay.proofs.writers.Stepping.{IsOfKind, view_by, next_is}
 use Rattle.step_replay.proofs.writers.Known.{if_so, eqb_ne, ltb_lt, ltb_ge, leb_le, leb_gt, and_right, same_list, facts, view_there, starts, seated, word_small}
@@ -110,13 +109,17 @@ stand_so c n w log from time call o link passed at small i range for =
     (λ e. let zero = eqb-true link 0 e in
     by_step (Walks o (LoadWord link (replicate 6 0) 0)) refl
     (i, range, for, (omega arith, small, inl (at ∙ sym (at_zero o link passed false zero), zero), no_words c w i.section o)))
-    (λ e. by_step (Walks o (LoadFirst link)) refl
-    (i, range, for, record {
-      stand = record { object = o; link = link; first = None; stamp = None; passed = passed; late = false };
-      at = at ∙ sym (at_some o link passed false (eqb_ne link 0 e));
-      object_is = refl;
-      link_is = refl;
-    }))
+    (λ e. by_step (Walks o (LoadFirst link)) refl (
+      i,
+      range,
+      for,
+      record {
+        stand = record { object = o; link = link; first = None; stamp = None; passed = passed; late = false };
+        at = at ∙ sym (at_some o link passed false (eqb_ne link 0 e));
+        object_is = refl;
+        link_is = refl;
+      },
+    ))
 
 -- the call of a walk that is a lock may hold its object
 lock_holds : (c : Config) (log : List Version) (from o : ℕ) (call : Call) → is_lock call ≡ true → WalksFor c log from o call → MayHold c log from o
@@ -229,9 +232,17 @@ module _ (c : Config) (k : Checked c) (n : ℕ) (lt : n < c.seats) (made : List 
         (if is_lock call then refusal link found else Goes (Walks o (LoadPrev link)))
         (λ e.
         let le = leb_le found (unwrap_or time 0) (and_right (not (is_unset found)) (leb found (unwrap_or time 0)) e) in
-        by_step (Walks o (LoadWord link (replicate 6 0) 0)) refl
-        (still, range, for, (omega arith, in_range.3,
-        inr (record at.stand { stamp = Some found }, found, refl, at.object_is, at.link_is, refl, omega (arith, le, limit)), no_words c w i o)))
+        by_step (Walks o (LoadWord link (replicate 6 0) 0)) refl (
+          still,
+          range,
+          for,
+          (
+            omega arith,
+            in_range.3,
+            inr (record at.stand { stamp = Some found }, found, refl, at.object_is, at.link_is, refl, omega (arith, le, limit)),
+            no_words c w i o,
+          ),
+        ))
         (λ e. if_so (GoesSo c n w log from time call) (is_lock call) (refusal link found) (Goes (Walks o (LoadPrev link)))
         (λ lock. refused c n w log from time call link found still)
         (λ read. by_step (Walks o (LoadPrev link)) refl
@@ -300,14 +311,19 @@ module _ (c : Config) (k : Checked c) (n : ℕ) (lt : n < c.seats) (made : List 
               no_time = refl;
               no_death = refl;
             };
-            locks = (omega arith, (λ (z : 0 ≡ 1). absurd (omega (arith, z))), stands, record {
-              wide = built_wide c v2 log from still.logs may.room;
-              first = λ z. absurd (omega (arith, z));
-              stamp = λ z. absurd (omega (arith, z));
-              previous = λ z. absurd (omega (arith, z));
-              successor = λ z. absurd (omega (arith, z));
-              words = λ j z. absurd (omega (arith, z));
-            });
+            locks = (
+              omega arith,
+              (λ (z : 0 ≡ 1). absurd (omega (arith, z))),
+              stands,
+              record {
+                wide = built_wide c v2 log from still.logs may.room;
+                first = λ z. absurd (omega (arith, z));
+                stamp = λ z. absurd (omega (arith, z));
+                previous = λ z. absurd (omega (arith, z));
+                successor = λ z. absurd (omega (arith, z));
+                words = λ j z. absurd (omega (arith, z));
+              },
+            );
           },
           lock,
         ))

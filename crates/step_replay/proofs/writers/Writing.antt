@@ -1,11 +1,10 @@
 -- The stores of a write.
-use Rattle.std.proofs.Common.{◌≡◌, ◌⊎◌, ℕ, zero, suc, ◌+◌, ◌-◌, ◌<◌, ◌≤◌, ◌^◌, ltb, List, [], ◌∷◌, length, Bool, true, false, Option, Some, None, All}
-use Rattle.std.proofs.Common.{refl, sym, ap, ◌∙◌, subst, arith, inl, inr, if◌then◌else◌, slice_index, mod-lt}
+use Rattle.std.proofs.Common.{◌≡◌, ℕ, ◌+◌, ◌-◌, ◌<◌, ltb, List, Option, None, All}
+use Rattle.std.proofs.Common.{refl, sym, ap, ◌∙◌, arith, inl, inr, slice_index, mod-lt}
 use Rattle.mv_core.proofs.Terms.{Config, Checked, Data}
 use Rattle.mv_core.specs.declared.view.View.{View}
 use Rattle.mv_core.specs.Moves.{Moment, store_data}
-use Rattle.seat_log.specs.Notes.{Noted, IsHeld, at_place, with_word, word_noted}
-use Rattle.seat_log.specs.Stands.{Stands}
+use Rattle.seat_log.specs.Notes.{IsHeld, at_place, with_word, word_noted}
 use Rattle.seat_log.specs.Builds.{version_at as version_in_view}
 use Rattle.seat_log.proofs.HeldWords.{may_word, stands_word}
 use Rattle.step_replay.specs.declared.plan.Call.{Call}
@@ -17,7 +16,6 @@ use Rattle.step_replay.specs.declared.seats.Sweep.{Sweep}
 use Rattle.step_replay.specs.declared.seats.Task.{Task}
 use Rattle.step_replay.specs.declared.seats.Task.TheVariants.{Writes}
 use Rattle.step_replay.specs.declared.seats.Answer.TheVariants.{Silent}
-use Rattle.step_replay.specs.declared.seats.Then.{Then}
 use Rattle.step_replay.specs.declared.seats.Then.TheVariants.{Goes, Ends}
 use Rattle.step_replay.specs.FitPlans.{IsFitCallOf}
 use Rattle.step_replay.specs.SeatNotes.{edited_from}
@@ -26,7 +24,7 @@ use Rattle.step_replay.specs.States.{Made, state_of}
 use Rattle.step_replay.specs.Runs.{TapeOf, step_made}
 use Rattle.step_replay.specs.Behind.{IsTapeBehind}
 use Rattle.step_replay.proofs.writers.Notes.{notes_from, notes_put, edited_long}
-use Rattle.step_replay.proofs.writers.Standing.{seat_with, IsNoted, Logs, InSection, IsWriting, IsSafe, IsStepped, GoesSo, by_step, by_end}
+use Rattle.step_replay.proofs.writers.Standing.{seat_with, Logs, InSection, IsWriting, IsSafe, IsStepped, GoesSo, by_step, by_end}
 use Rattle.step_replay.proofs.writers.Stepping.{IsOfKind, view_by, next_is}
 use Rattle.step_replay.proofs.writers.Known.{if_so, ltb_lt, number_is}
 use Rattle.step_replay.proofs.writers.LogFacts.{noted_long}

@@ -3,10 +3,10 @@ pub mod Notes
 pub mod Standing
 pub mod Stepping
 pub mod Known
-pub mod Entering
 pub mod Helping
-pub mod Walking
+pub mod Entering
 pub mod LogFacts
+pub mod Walking
 pub mod Fields
 pub mod Locking
 pub mod Searches

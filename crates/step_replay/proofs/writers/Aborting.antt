@@ -1,7 +1,7 @@
 -- The steps of an abort, and the leave of a section that holds nothing.
 use Rattle.std.proofs.Common.{◌≡◌, ℕ, ◌+◌, ◌<◌, ◌^◌, ltb, List, length, Option, Some, None, All}
 use Rattle.std.proofs.Common.{refl, sym, ap, ◌∙◌, subst, arith}
-use Rattle.std.proofs.Common.{replicate}
+use Rattle.std.proofs.Common.{replicate, drop, ◌-◌}
 use Rattle.std.specs.Prelude.{slice_get}
 use Rattle.std.proofs.lemmas.List.{length-replicate}
 use Rattle.mv_layout.specs.Words.{clock_time_of}
@@ -36,31 +36,30 @@ use Rattle.step_replay.specs.Begins.{unlock}
 use Rattle.step_replay.specs.States.{any_commit, any_start, Made, state_of}
 use Rattle.step_replay.specs.Runs.{TapeOf, step_made}
 use Rattle.step_replay.specs.Behind.{IsTapeBehind}
-use Rattle.step_replay.proofs.writers.Notes.{note_of, notes_from, notes_aborted, edited_long}
-use Rattle.step_replay.proofs.writers.Standing.{seat_with, Logs, InSection, GivesUp, GaveUp, IsSafe, IsStepped, GoesSo, by_step, by_end}
+use Rattle.step_replay.proofs.writers.Notes.{note_of, notes_from, notes_aborted, edited_long, edited_behind}
+use Rattle.step_replay.proofs.writers.Standing.{seat_with, Logs, InSection, GivesUp, GaveUp, IsStepped, GoesSo, by_step, by_end}
 use Rattle.step_replay.proofs.writers.Stepping.{IsOfKind, view_by, next_is}
 use Rattle.step_replay.proofs.writers.Known.{if_so, ltb_lt, ltb_ge, facts, number_is, knows, starts, word_small, logs_left}
 use Rattle.step_replay.proofs.writers.LogFacts.{noted_long, noted_from, noted_at}
-use Rattle.step_replay.proofs.writers.Writing.{safe_edited}
 
 -- the notes with another place from which on versions are held, where it is the same
-pub logs_at : (c : Config) (v : View) (log : List Version) (from other : ℕ) → from ≡ other → Logs c v log from → Logs c v log other
-logs_at c v log from other same = subst (Logs c v log) same
+pub logs_at : (c : Config) (v : View) (log : List Version) (freed from other : ℕ) → from ≡ other → Logs c v log freed from → Logs c v log freed other
+logs_at c v log freed from other same = subst (Logs c v log freed) same
 
 -- a section whose notes say that nothing is held holds nothing
-pub holds_nothing : (c : Config) (v : View) (log : List Version) (from : ℕ) → Logs c v log from → from ≡ length log → HoldsNothing v.ring
-holds_nothing c v log from logs none j x e =
+pub holds_nothing : (c : Config) (v : View) (log : List Version) (freed from : ℕ) → Logs c v log freed from → from ≡ length log → HoldsNothing v.ring
+holds_nothing c v log freed from logs none j x e =
     let l = logs.noted in
     let r = noted_in c v l logs.stands j x Held e in
     let late = held_last c v l logs.stands j x r in
-    let first = noted_from c l log from logs.is in
-    let long = noted_long c l log from logs.is in
+    let first = noted_from c l log freed from logs.is logs.stands.log.held in
+    let long = noted_long c l log freed from logs.is in
     let within = r.within in
     omega (arith, late, first, long, within, none)
 
 module _ (c : Config) (k : Checked c) (n : ℕ) (lt : n < c.seats) (made : List Made) (t : TapeOf) (b : IsTapeBehind c t made)
-    (log : List Version) (from : ℕ) (time : Option ℕ) (call : Call) (sweep : Sweep) (own : Option Task) (left : List CallOf)
-    (no_scan : ((state_of c made).seats n).scan ≡ None) (before : All (IsFitCallOf c) left) (safe : IsSafe n log call left) where
+    (log : List Version) (freed from : ℕ) (time : Option ℕ) (call : Call) (sweep : Sweep) (own : Option Task) (left : List CallOf)
+    (no_scan : ((state_of c made).seats n).scan ≡ None) (before : All (IsFitCallOf c) left) where
   abbrev s : Moment
   s = state_of c made
 
@@ -68,7 +67,7 @@ module _ (c : Config) (k : Checked c) (n : ℕ) (lt : n < c.seats) (made : List 
   v = s.seats n
 
   abbrev Made_so : Ending → Type 0
-  Made_so step = IsStepped c n made (step_made c (EndsSection step) (record { seat = seat_with n log from time call sweep own left; tape = t }))
+  Made_so step = IsStepped c n made (step_made c (EndsSection step) (record { seat = seat_with n log freed from time call sweep own left; tape = t }))
 
   -- the link of a held version is a word of 64 bits
   held_link : (j : ℕ) (x : core.Version) → slot_at v.ring j ≡ Live x Held → x.previous < 2 ^ 64
@@ -80,14 +79,14 @@ module _ (c : Config) (k : Checked c) (n : ℕ) (lt : n < c.seats) (made : List 
       omega (arith, is, small)
 
   -- HEAD is given back of one version more
-  unlock_made : (at given : ℕ) → GivesUp c v log from given → at ≡ from + given → at < length log
+  unlock_made : (at given : ℕ) → GivesUp c v log freed from given → at ≡ from + given → at < length log
       → Made_so (Unlock at (version_at log at).object (version_at log at).previous)
   unlock_made at given up at_is live =
       let l = up.noted in
       let m = note_of at (version_at log at) in
-      let first = noted_from c l log from up.is in
-      let place : at ≡ held_from l + given = omega (arith, at_is, first) in
-      let there = subst (λ (i : ℕ). slice_get l.live i ≡ Some m) place (noted_at c l log from at up.is live) in
+      let first = noted_from c l log freed from up.is up.aborting.stands.log.held in
+      let place : at - freed ≡ held_from l + given = omega (arith, at_is, first) in
+      let there = subst (λ (i : ℕ). slice_get l.live i ≡ Some m) place (noted_at c l log freed from at up.is (omega (arith, at_is, first)) live) in
       let sized : length v.start ≡ c.objects = ap length (starts c k n made b.each) ∙ length-replicate c.objects (replicate {A = ℕ} 6 0) in
       let may = parts.next_may c up.before v l given up.aborting m there any_start any_commit ∣ knows c k n made b.each ∣₁ sized in
       let held : HeldSlot = held_number c v l given in
@@ -103,23 +102,22 @@ module _ (c : Config) (k : Checked c) (n : ℕ) (lt : n < c.seats) (made : List 
         fits = λ f. omega (arith, small, link);
       } in
       let w = view_by c s n kind in
-      let more : GivesUp c w log from (given + 1) = record {
+      let more : GivesUp c w log freed from (given + 1) = record {
         before = up.before;
         noted = l;
         aborting = parts.goes_on c up.before v l given up.aborting w m there refl;
         is = up.is;
       } in
-      next_is c k n lt made t b kind task of (seat_with n log from time call sweep own left) refl log from time call sweep own left refl no_scan before safe
-      (if_so (GoesSo c n w log from time call) (ltb (at + 1) (length log)) (Goes (unlock log (at + 1))) (Goes (EndsSection LoadDeath))
+      next_is c k n lt made t b kind task of (seat_with n log freed from time call sweep own left) refl log freed from time call sweep own left refl no_scan before
+      (if_so (GoesSo c n w log freed from time call sweep) (ltb (at + 1) (length log)) (Goes (unlock log (at + 1))) (Goes (EndsSection LoadDeath))
       (λ e. by_step (unlock log (at + 1)) refl (given + 1, more, omega (arith, at_is), ltb_lt (at + 1) (length log) e, refl, refl))
       (λ e. by_step (EndsSection LoadDeath) refl
       (given + 1, more, (let ge = ltb_ge (at + 1) (length log) e in omega (arith, at_is, ge, live)), omega arith)))
 
   -- the time of death is found
-  death_made : (given : ℕ) → GivesUp c v log from given → from + given ≡ length log → 0 < given → Made_so LoadDeath
+  death_made : (given : ℕ) → GivesUp c v log freed from given → from + given ≡ length log → 0 < given → Made_so LoadDeath
   death_made given up all some =
       let l = up.noted in
-      let first = noted_from c l log from up.is in
       let held = up.is.held in
       let gone = up.aborting.unlocks.gone (held_from l) (omega arith) (omega (arith, some)) in
       let task = EndsSection LoadDeath in
@@ -145,13 +143,12 @@ module _ (c : Config) (k : Checked c) (n : ℕ) (lt : n < c.seats) (made : List 
           some = λ _. record { word = s.memory Clock; history = s.history; whole = whole; view = refl; dead_is = refl; step = refl };
         };
       } in
-      next_is c k n lt made t b load_death task of (seat_with n log from time call sweep own left) refl log from time call sweep own left refl no_scan before
-      safe
+      next_is c k n lt made t b load_death task of (seat_with n log freed from time call sweep own left) refl log freed from time call sweep own left refl no_scan before
       (by_step (EndsSection (Leave (WithAbort dead))) refl
       (record { before = up.before; noted = l; given = gave; is = up.is; some = omega (arith, all, some) }))
 
   -- the section ends, and what it held is dead from that time on
-  aborted_made : (dead : ℕ) → GaveUp c v log from dead → Made_so (Leave (WithAbort dead))
+  aborted_made : (dead : ℕ) → GaveUp c v log freed from dead → Made_so (Leave (WithAbort dead))
   aborted_made dead gave =
       let l = gave.noted in
       let is = gave.is in
@@ -165,33 +162,37 @@ module _ (c : Config) (k : Checked c) (n : ℕ) (lt : n < c.seats) (made : List 
       } in
       let w = view_by c s n clear_mark in
       let log2 = edited_from (AbortedFrom from dead) 0 log in
-      let first = noted_from c l log from is in
+      let first = noted_from c l log freed from is gave.given.aborting.stands.log.held in
       let long2 = edited_long (AbortedFrom from dead) 0 log in
-      let zero_is : 0 + from ≡ from = omega arith in
-      let logs2 : Logs c w log2 (length log) = record {
+      let place : held_from l ≡ from - freed = omega (arith, first) in
+      let there : freed + (from - freed) ≡ from = omega (arith, first) in
+      let within = is.within in
+      let logs2 : Logs c w log2 freed (length log) = record {
         noted = aborted_noted l dead;
         stands = (parts.abort_ends c gave.before v l dead gave.given w (aborted_noted l dead) refl refl).1;
         is = record {
-          live = (λ i. from_place (λ m. record m { dead = dead }) (first i) (is.live i)) ∙ sym (notes_aborted from 0 dead log)
-              ∙ ap (λ p. notes_from 0 (edited_from (AbortedFrom p dead) 0 log)) zero_is;
-          freed = is.freed;
+          live = (λ i. from_place (λ m. record m { dead = dead }) (place i) (is.live i)) ∙ sym (notes_aborted (from - freed) freed dead (drop freed log))
+              ∙ ap (λ p. notes_from freed (edited_from (AbortedFrom p dead) freed (drop freed log))) there
+              ∙ ap (notes_from freed) (sym (edited_behind (AbortedFrom from dead) freed log));
+          gone = is.gone;
+          within = omega (arith, within, long2);
           unbuilt = is.unbuilt;
           held = omega (arith, long2);
           few = omega arith;
         };
       } in
-      next_is c k n lt made t b clear_mark task of (seat_with n log from time call sweep own left) refl log2 (length log) None call sweep own left refl no_scan
-      before (safe_edited (AbortedFrom from dead) n log call left safe)
+      next_is c k n lt made t b clear_mark task of (seat_with n log freed from time call sweep own left) refl log2 freed (length log) None call sweep own left refl no_scan
+      before
       (by_end Silent refl (refl, sym long2, logs2))
 
   -- a section that holds nothing ends
-  left_made : InSection c v log from time → from ≡ length log → Made_so (Leave Plainly)
+  left_made : InSection c v log freed from time → from ≡ length log → Made_so (Leave Plainly)
   left_made inside none =
       let task = EndsSection (Leave Plainly) in
       let may : MayClearMark v = record {
         inside = inside.section;
         phase = inside.walking.phase;
-        nothing = holds_nothing c v log from inside.logs none;
+        nothing = holds_nothing c v log freed from inside.logs none;
         finished = subst (IsFinished v) (sym inside.walking.open_is) tt;
       } in
       let of : IsOfKind c s n clear_mark task = record {
@@ -202,22 +203,22 @@ module _ (c : Config) (k : Checked c) (n : ℕ) (lt : n < c.seats) (made : List 
         fits = λ f. omega arith;
       } in
       let w = view_by c s n clear_mark in
-      let still = logs_at c w log from (length log) none (logs_left c v w log from refl refl refl refl _ refl (refl, refl) inside.logs) in
-      next_is c k n lt made t b clear_mark task of (seat_with n log from time call sweep own left) refl log (length log) None call sweep own left refl no_scan
-      before safe (by_end Silent refl (refl, refl, still))
+      let still = logs_at c w log freed from (length log) none (logs_left c v w log freed from refl refl refl refl _ refl (refl, refl) inside.logs) in
+      next_is c k n lt made t b clear_mark task of (seat_with n log freed from time call sweep own left) refl log freed (length log) None call sweep own left refl no_scan
+      before (by_end Silent refl (refl, refl, still))
 
   -- HEAD is given back of a version that the notes say is so
-  pub unlocking_made : (at o previous given : ℕ) → GivesUp c v log from given → at ≡ from + given → at < length log → o ≡ (version_at log at).object
+  pub unlocking_made : (at o previous given : ℕ) → GivesUp c v log freed from given → at ≡ from + given → at < length log → o ≡ (version_at log at).object
       → previous ≡ (version_at log at).previous → Made_so (Unlock at o previous)
   unlocking_made at o previous given up at_is live o_is link_is =
       subst (λ (x : ℕ). Made_so (Unlock at x previous)) (sym o_is)
       (subst (λ (x : ℕ). Made_so (Unlock at (version_at log at).object x)) (sym link_is) (unlock_made at given up at_is live))
 
-  pub dying_made : (given : ℕ) → GivesUp c v log from given → from + given ≡ length log → 0 < given → Made_so LoadDeath
+  pub dying_made : (given : ℕ) → GivesUp c v log freed from given → from + given ≡ length log → 0 < given → Made_so LoadDeath
   dying_made = death_made
 
-  pub abort_made : (dead : ℕ) → GaveUp c v log from dead → Made_so (Leave (WithAbort dead))
+  pub abort_made : (dead : ℕ) → GaveUp c v log freed from dead → Made_so (Leave (WithAbort dead))
   abort_made = aborted_made
 
-  pub leave_made : InSection c v log from time → from ≡ length log → Made_so (Leave Plainly)
+  pub leave_made : InSection c v log freed from time → from ≡ length log → Made_so (Leave Plainly)
   leave_made = left_made

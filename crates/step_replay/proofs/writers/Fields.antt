@@ -1,5 +1,5 @@
 -- The words of the slot that a lock builds, one after another.
-use Rattle.std.proofs.Common.{◌≡◌, ◌≢◌, ℕ, zero, suc, ◌+◌, ◌<◌, ◌^◌, length, get_or}
+use Rattle.std.proofs.Common.{◌≡◌, ◌≢◌, ℕ, zero, suc, ◌+◌, ◌<◌, ◌^◌, ltb, length, get_or}
 use Rattle.std.proofs.Common.{Some, None, refl, sym, ap, ◌∙◌, arith, lt-ltb, if◌then◌else◌, slice_index, slice_set, map}
 use Rattle.std.proofs.lemmas.List.{length-set, length-map, get_or-set_same, get_or-set_other, get_or-map}
 use Rattle.mv_layout.specs.Words.{unset_of}
@@ -9,7 +9,7 @@ use Rattle.mv_core.specs.LockSteps.{FitsField, field_place, built_too}
 use Rattle.step_replay.specs.declared.seats.Version.{Version}
 use Rattle.step_replay.specs.Tasks.{field_word, stamp_from}
 use Rattle.step_replay.proofs.writers.Standing.{HasFields}
-use Rattle.step_replay.proofs.writers.Known.{same_list}
+use Rattle.step_replay.proofs.writers.Known.{same_list, if_so, ltb_lt}
 
 -- the unset stamp of a position that fits one
 pub stamp_is : (at : ℕ) → at < 2 ^ 57 → stamp_from at ≡ unset_of at
@@ -23,29 +23,30 @@ field_range c n slot (suc (suc zero)) seat in_log lt = (seat, in_log)
 field_range c n slot (suc (suc (suc zero))) seat in_log lt = (seat, in_log)
 field_range c n slot (suc (suc (suc (suc w)))) seat in_log lt = (seat, in_log, omega (arith, lt))
 
-module _ (version : Version) (at : ℕ) (low : at < 2 ^ 57) where
+module _ (version : Version) (at : ℕ) where
   -- and what is stored there is one of 64 bits
-  pub field_small : (field : ℕ) → version.first < 2 ^ 57 → version.previous < 2 ^ 64 → ((i : ℕ) → slice_index version.words i < 2 ^ 64)
+  pub field_small : (field : ℕ) → version.first < 2 ^ 64 → version.previous < 2 ^ 64 → ((i : ℕ) → slice_index version.words i < 2 ^ 64)
       → field_word version at field < 2 ^ 64
-  field_small zero first previous words = omega (arith, first)
-  field_small (suc zero) first previous words = let e = stamp_is at low in omega (arith, e, low)
+  field_small zero first previous words = first
+  field_small (suc zero) first previous words =
+      if_so (λ x. x < 2 ^ 64) (ltb at 144115188075855872) (unset_of at) 0 (λ e. let lt = ltb_lt at 144115188075855872 e in omega (arith, lt)) (λ e. omega arith)
   field_small (suc (suc zero)) first previous words = previous
   field_small (suc (suc (suc zero))) first previous words = omega arith
   field_small (suc (suc (suc (suc w)))) first previous words = words w
 
   -- it is one that may be stored
   pub field_fits : (field set : ℕ) → field < 10 → version.first ≡ set → (field ≡ 1 → version.first ≡ at)
-      → FitsField set at field (field_word version at field)
-  field_fits zero set lt is one = is
-  field_fits (suc zero) set lt is one = (sym is ∙ one refl, stamp_is at low)
-  field_fits (suc (suc zero)) set lt is one = tt
-  field_fits (suc (suc (suc zero))) set lt is one = refl
-  field_fits (suc (suc (suc (suc w)))) set lt is one = omega (arith, lt)
+      → (0 < field → at < 2 ^ 57) → FitsField set at field (field_word version at field)
+  field_fits zero set lt is one low = is
+  field_fits (suc zero) set lt is one low = (sym is ∙ one refl, stamp_is at (low (omega arith)))
+  field_fits (suc (suc zero)) set lt is one low = tt
+  field_fits (suc (suc (suc zero))) set lt is one low = refl
+  field_fits (suc (suc (suc (suc w)))) set lt is one low = omega (arith, lt)
 
   -- a word more was stored
-  pub has_next : (field : ℕ) (b : Build) → field < 10 → HasFields b version at field
+  pub has_next : (field : ℕ) (b : Build) → field < 10 → (0 < field → at < 2 ^ 57) → HasFields b version at field
       → HasFields (built_too b field (field_word version at field)) version at (field + 1)
-  has_next zero b lt has = record {
+  has_next zero b lt low has = record {
     wide = has.wide;
     first = λ z. refl;
     stamp = λ z. absurd (omega (arith, z));
@@ -53,15 +54,15 @@ module _ (version : Version) (at : ℕ) (low : at < 2 ^ 57) where
     successor = λ z. absurd (omega (arith, z));
     words = λ i z. absurd (omega (arith, z));
   }
-  has_next (suc zero) b lt has = record {
+  has_next (suc zero) b lt low has = record {
     wide = has.wide;
     first = λ z. has.first (omega arith);
-    stamp = λ z e. ap Some (stamp_is at low);
+    stamp = λ z e. ap Some (stamp_is at (low (omega arith)));
     previous = λ z. absurd (omega (arith, z));
     successor = λ z. absurd (omega (arith, z));
     words = λ i z. absurd (omega (arith, z));
   }
-  has_next (suc (suc zero)) b lt has = record {
+  has_next (suc (suc zero)) b lt low has = record {
     wide = has.wide;
     first = λ z. has.first (omega arith);
     stamp = λ z. has.stamp (omega arith);
@@ -69,7 +70,7 @@ module _ (version : Version) (at : ℕ) (low : at < 2 ^ 57) where
     successor = λ z. absurd (omega (arith, z));
     words = λ i z. absurd (omega (arith, z));
   }
-  has_next (suc (suc (suc zero))) b lt has = record {
+  has_next (suc (suc (suc zero))) b lt low has = record {
     wide = has.wide;
     first = λ z. has.first (omega arith);
     stamp = λ z. has.stamp (omega arith);
@@ -77,7 +78,7 @@ module _ (version : Version) (at : ℕ) (low : at < 2 ^ 57) where
     successor = λ z. refl;
     words = λ i z. absurd (omega (arith, z));
   }
-  has_next (suc (suc (suc (suc w)))) b lt has = record {
+  has_next (suc (suc (suc (suc w)))) b lt low has = record {
     wide = length-set b.words w (Some (slice_index version.words w)) ∙ has.wide;
     first = λ z. has.first (omega arith);
     stamp = λ z. has.stamp (omega arith);

@@ -7,6 +7,7 @@ use Rattle.mv_core.proofs.Terms.{Config, Checked, parts_of, Place}
 use Rattle.mv_core.specs.declared.view.View.{View}
 use Rattle.mv_core.specs.Rule.{Facts, IsSeated}
 use Rattle.mv_core.proofs.moves.Notes.{seat_is}
+use Rattle.mv_core.proofs.logs.Links.{next_small}
 use Rattle.mv_core.specs.Known.{Known}
 use Rattle.mv_core.specs.MoveLaws.{Holds}
 use Rattle.mv_core.proofs.frames.Turning.{known_of}
@@ -88,13 +89,19 @@ module _ (c : Config) (k : Checked c) (n : ℕ) (made : List Made) (each : AreMa
       let made_is : ((state_of c made).seats 0).made ≡ c.seats = (u 0).0 refl in
       seat_is c (zeros c) (state_of c made).seats h.seats h.notes n (omega (arith, lt, made_is)) (u n).2
 
+  -- its next position is at most this
+  pub next_low : ((state_of c made).seats n).ring.next ≤ 2 ^ 57
+  next_low =
+      let f = (holds_behind c k made each).facts in
+      next_small c (state_of c made).history (λ t. ((state_of c made).seats t).ring) f.checked f.history.in_time f.positions n
+
   pub word_small : (p : Place) → (state_of c made).memory p < 2 ^ 64
   word_small p = (holds_behind c k made each).words p
 
 -- the notes stand for the view after a step that leaves the log alone
-pub logs_left : (c : Config) (v w : View) (log : List Version) (from : ℕ) → w.number ≡ v.number → w.ring ≡ v.ring → w.past.mine ≡ v.past.mine
-    → w.past.rests ≡ v.past.rests → (s : Step) → w.trail ≡ v.trail ++ s ∷ [] → LeavesLog s.kind → Logs c v log from → Logs c w log from
-logs_left c v w log from number ring mine rests s trail leaves k = record {
+pub logs_left : (c : Config) (v w : View) (log : List Version) (freed from : ℕ) → w.number ≡ v.number → w.ring ≡ v.ring → w.past.mine ≡ v.past.mine
+    → w.past.rests ≡ v.past.rests → (s : Step) → w.trail ≡ v.trail ++ s ∷ [] → LeavesLog s.kind → Logs c v log freed from → Logs c w log freed from
+logs_left c v w log freed from number ring mine rests s trail leaves k = record {
   noted = k.noted;
   stands = stands_left c v w k.noted k.stands number ring mine rests (s ∷ []) trail (one_leaves s leaves);
   is = k.is;

@@ -2,7 +2,7 @@
 use Rattle.std.proofs.Common.{◌≡◌, ◌≢◌, ℕ, ◌+◌, ◌<◌, ◌^◌, ◌==◌, ◌&&◌, ltb, not, List, [], ◌∷◌, ◌++◌, length, Bool, true, false, Option}
 use Rattle.std.proofs.Common.{Some, None, All, map, refl, sym, ap, ◌∙◌, subst, arith, inl, inr, eqb-true, eq-eqb, ne_eqb, lt-ltb, if◌then◌else◌, mod-lt}
 use Rattle.std.specs.Prelude.{unwrap_or}
-use Rattle.std.proofs.Common.{length-append}
+use Rattle.std.proofs.Common.{length-append, length-drop, drop}
 use Rattle.mv_core.specs.WalkSteps.{slot_named}
 use Rattle.mv_layout.specs.Words.{link_of, link_seat_of}
 use Rattle.mv_core.proofs.Terms.{dite, ℕ_discrete, Config, Checked, Head, First, Stamp}
@@ -47,12 +47,12 @@ use Rattle.step_replay.specs.GoesOn.{is_lock, after_lock_head}
 use Rattle.step_replay.specs.States.{Made, state_of}
 use Rattle.step_replay.specs.Runs.{SeatOf, TapeOf, learned, step_made}
 use Rattle.step_replay.specs.Behind.{IsTapeBehind}
-use Rattle.step_replay.proofs.writers.Notes.{note_of, notes_from, notes_more}
-use Rattle.step_replay.proofs.writers.Standing.{seat_with, Logs, InSection, MayHold, StandsAt, HasFields, Builds, LocksAt, IsSafe, IsStepped}
+use Rattle.step_replay.proofs.writers.Notes.{note_of, notes_from, notes_more, drop_more}
+use Rattle.step_replay.proofs.writers.Standing.{seat_with, Logs, InSection, MayHold, StandsAt, HasFields, Builds, LocksAt, IsStepped}
 use Rattle.step_replay.proofs.writers.Standing.{GoesSo, by_step, by_end}
 use Rattle.step_replay.proofs.writers.Stepping.{IsOfKind, view_by, next_is}
-use Rattle.step_replay.proofs.writers.Known.{if_so, eqb_ne, ltb_lt, ltb_ge, and_left, and_right, number_is, logs_left}
-use Rattle.step_replay.proofs.writers.LogFacts.{noted_long, next_long, held_are, first_held, log_small, held_in_log, stands_whole}
+use Rattle.step_replay.proofs.writers.Known.{if_so, eqb_ne, ltb_lt, ltb_ge, and_left, and_right, number_is, knows, next_low, logs_left}
+use Rattle.step_replay.proofs.writers.LogFacts.{noted_long, next_long, held_are, first_held, held_in_log, stands_whole}
 use Rattle.step_replay.proofs.writers.Fields.{field_range, field_small, field_fits, has_next, has_first, whole_words, has_link}
 use Rattle.step_replay.proofs.writers.Helping.{rests_in}
 use Rattle.step_replay.proofs.writers.Walking.{section_stays, refused, stands_in}
@@ -78,16 +78,16 @@ builds_stay c v w i log from o version at start past k = record {
   no_death = k.no_death;
 }
 
-module _ (c : Config) (k : Checked c) (v : View) (log : List Version) (from : ℕ) (time : Option ℕ) (at : ℕ)
-    (inside : InSection c v log from time) (room : length log < c.slots) (at_is : at ≡ length log) where
+module _ (c : Config) (k : Checked c) (v : View) (log : List Version) (freed from : ℕ) (time : Option ℕ) (at : ℕ)
+    (inside : InSection c v log freed from time) (room : length log < freed + c.slots) (at_is : at ≡ length log) where
   abbrev l : Noted
   l = inside.logs.noted
 
   live_room : length inside.logs.noted.live < inside.logs.noted.slots
-  live_room = let long = noted_long c l log from inside.logs.is in let slots = inside.logs.stands.slots in omega (arith, long, room, slots)
+  live_room = let long = noted_long c l log freed from inside.logs.is in let slots = inside.logs.stands.slots in omega (arith, long, room, slots)
 
   at_next : at ≡ v.ring.next
-  at_next = at_is ∙ sym (next_long c k v log from inside.logs)
+  at_next = at_is ∙ sym (next_long c k v log freed from inside.logs)
 
   pub may_build_here : MayBuild c v at
   may_build_here = may_build c v l inside.logs.stands at at_next (inside.section, inside.walking.phase, inside.walking.open_is) live_room
@@ -104,7 +104,7 @@ module _ (c : Config) (k : Checked c) (v : View) (log : List Version) (from : �
     pub build_now : build_at c (built_stored c v at field x (build_at c v at)) at ≡ built_too (build_at c v at) field x
     build_now = ap (λ (z : Slot). unwrap_or (build_in z) nothing_built) on.here
 
-    pub logs_built : Logs c (built_stored c v at field x (build_at c v at)) log from
+    pub logs_built : Logs c (built_stored c v at field x (build_at c v at)) log freed from
     logs_built =
         let is_log = built_is_log l None (let r = live_room in omega (arith, r)) tt inside.logs.stands.log in
         let so = stands_on c v w l at (built_too (build_at c v at) field x) inside.logs.stands live_room at_next on None is_log six tt in
@@ -115,13 +115,14 @@ module _ (c : Config) (k : Checked c) (v : View) (log : List Version) (from : �
         }
 
   -- the slot that was built whole
-  pub built_there : (version : Version) → HasFields (build_at c v at) version at 10 → slot_at v.ring (index_of c at) ≡ slots.Built (build_at c v at)
-  built_there version has = go (slot_at v.ring (index_of c at)) refl
+  pub built_there : (version : Version) (field : ℕ) → HasFields (build_at c v at) version at field → 0 < field
+      → slot_at v.ring (index_of c at) ≡ slots.Built (build_at c v at)
+  built_there version field has some = go (slot_at v.ring (index_of c at)) refl
     where
       go : (z : Slot) → slot_at v.ring (index_of c at) ≡ z → z ≡ slots.Built (build_at c v at)
       go slots.Free e =
           let none : build_at c v at ≡ nothing_built = ap (λ (y : Slot). unwrap_or (build_in y) nothing_built) e in
-          let f : None ≡ Some version.first = sym (ap (λ (y : core.Build). y.first) none) ∙ has.first (omega arith) in
+          let f : None ≡ Some version.first = sym (ap (λ (y : core.Build). y.first) none) ∙ has.first some in
           absurd (cc)
       go (slots.Built b) e = ap slots.Built (sym (ap (λ (y : Slot). unwrap_or (build_in y) nothing_built) e))
       go (slots.Live x st) e =
@@ -134,10 +135,10 @@ module _ (c : Config) (k : Checked c) (v : View) (log : List Version) (from : �
           absurd (cc)
 
 module _ (c : Config) (k : Checked c) (n : ℕ) (lt : n < c.seats) (made : List Made) (t : TapeOf) (b : IsTapeBehind c t made)
-    (log : List Version) (from : ℕ) (time : Option ℕ) (call : Call) (sweep : Sweep) (own : Option Task) (left : List CallOf)
-    (no_scan : ((state_of c made).seats n).scan ≡ None) (before : All (IsFitCallOf c) left) (safe : IsSafe n log call left)
-    (lock : is_lock call ≡ true) (inside : InSection c ((state_of c made).seats n) log from time) (o : ℕ) (range : o < c.objects)
-    (may : MayHold c log from o) where
+    (log : List Version) (freed from : ℕ) (time : Option ℕ) (call : Call) (sweep : Sweep) (own : Option Task) (left : List CallOf)
+    (no_scan : ((state_of c made).seats n).scan ≡ None) (before : All (IsFitCallOf c) left)
+    (lock : is_lock call ≡ true) (inside : InSection c ((state_of c made).seats n) log freed from time) (o : ℕ) (range : o < c.objects)
+    (may : MayHold c log freed from o) where
   abbrev s : Moment
   s = state_of c made
 
@@ -148,51 +149,58 @@ module _ (c : Config) (k : Checked c) (n : ℕ) (lt : n < c.seats) (made : List 
   i = inside.section
 
   abbrev seat : SeatOf
-  seat = seat_with n log from time call sweep own left
+  seat = seat_with n log freed from time call sweep own left
 
   abbrev Made_so : Version → ℕ → Locking → Type 0
   Made_so version at step = IsStepped c n made (step_made c (Locks version at step) (record { seat = seat; tape = t }))
 
   module _ (version : Version) (at : ℕ) (builds : Builds c v i log from o version at) where
-    low : at < 2 ^ 57
-    low = let is = builds.at_is in let small = log_small c k v log from inside.logs in omega (arith, is, small)
+    -- once a word was stored there the position fits a link
+    low_at : (field : ℕ) → HasFields (build_at c v at) version at field → 0 < field → at < 2 ^ 57
+    low_at field has some =
+        let there = built_there c k v log freed from time at inside may.room builds.at_is version field has some in
+        let next = next_long c k v log freed from inside.logs in
+        let is = builds.at_is in
+        let small = (knows c k n made b.each).next (index_of c at) (build_at c v at) there in
+        omega (arith, next, is, small)
 
     few_seats : n < 64
     few_seats = let seats = k.seats.1 in omega (arith, lt, seats)
 
-    first_low : version.first < 2 ^ 57
+    first_low : version.first < 2 ^ 64
     first_low =
         let is = builds.first_is in
-        let held = held_are c k v log from inside.logs in
-        let small = log_small c k v log from inside.logs in
-        omega (arith, is, held, small)
+        let held = held_are c k v log freed from inside.logs in
+        let next = next_long c k v log freed from inside.logs in
+        let small = next_low c k n made b.each in
+        omega (arith, is, held, next, small)
 
     -- one field is stored
     build_made : (field : ℕ) → field < 10 → (field ≡ 1 → version.first ≡ at) → StandsToLock v i o version.previous
         → HasFields (build_at c v at) version at field → Made_so version at (Build field)
     build_made field less one stands has =
         let x = field_word version at field in
-        let first = first_held c k v log from inside.logs in
+        let first = first_held c k v log freed from inside.logs in
         let kind = store_built at field x (build_at c v at) in
         let slots = k.slots.0 in
         let place : field_place v.number (slot_for c at) field ≡ field_place n (slot_for c at) field =
         ap (λ (m : ℕ). field_place m (slot_for c at) field) (number_is c k n made b.each) in
         let of : IsOfKind c s n kind (Locks version at (Build field)) = record {
-          may = may_store c v at (may_build_here c k v log from time at inside may.room builds.at_is) field x
-              (field_fits version at low field (set_first v.ring) less (builds.first_is ∙ sym first) one);
+          may = may_store c v at (may_build_here c k v log freed from time at inside may.room builds.at_is) field x
+              (field_fits version at field (set_first v.ring) less (builds.first_is ∙ sym first) one (low_at field has));
           range = field_range c n (slot_for c at) field lt (mod-lt at (omega (arith, slots))) less;
           place = place;
           writes = λ f. refl;
-          fits = λ f. field_small version at low field first_low builds.small_link builds.small;
+          fits = λ f. field_small version at field first_low builds.small_link builds.small;
         } in
         let w = view_by c s n kind in
-        let more = has_next version at low field (build_at c v at) less has in
-        let now = build_now c k v log from time at inside may.room builds.at_is field x more.wide in
-        let still = section_stays c v w log from time inside refl refl refl (logs_built c k v log from time at inside may.room builds.at_is field x more.wide) in
+        let more = has_next version at field (build_at c v at) less (low_at field has) has in
+        let now = build_now c k v log freed from time at inside may.room builds.at_is field x more.wide in
+        let still = section_stays c v w log freed from time inside refl refl refl (logs_built c k v log freed from time at inside may.room builds.at_is field x more.wide) in
         let keep = builds_stay c v w i log from o version at refl refl builds in
         let has_now : HasFields (build_at c w at) version at (field + 1) = subst (λ (y : core.Build). HasFields y version at (field + 1)) (sym now) more in
-        next_is c k n lt made t b kind (Locks version at (Build field)) of seat refl log from time call sweep own left refl no_scan before safe
-        (if_so (GoesSo c n w log from time call) ((field == 0) && not (version.first == at)) (Goes (Locks version at (Build 2)))
+        next_is c k n lt made t b kind (Locks version at (Build field)) of seat refl log freed from time call sweep own left refl no_scan before
+        (if_so (GoesSo c n w log freed from time call sweep) ((field == 0) && not (version.first == at)) (Goes (Locks version at (Build 2)))
         (if ltb field 9 then Goes (Locks version at (Build (field + 1))) else Goes (Locks version at LockHead))
         (λ e.
         let zero : field ≡ 0 = eqb-true field 0 (and_left (field == 0) (not (version.first == at)) e) in
@@ -208,12 +216,12 @@ module _ (c : Config) (k : Checked c) (n : ℕ) (lt : n < c.seats) (made : List 
               omega arith,
               (λ (z : 2 ≡ 1). absurd (omega (arith, z))),
               stands,
-              has_first version at low (build_at c w at) (other field e) (subst (HasFields (build_at c w at) version at) next has_now),
+              has_first version at (build_at c w at) (other field e) (subst (HasFields (build_at c w at) version at) next has_now),
             );
           },
           lock,
         ))
-        (λ e. if_so (GoesSo c n w log from time call) (ltb field 9) (Goes (Locks version at (Build (field + 1)))) (Goes (Locks version at LockHead))
+        (λ e. if_so (GoesSo c n w log freed from time call sweep) (ltb field 9) (Goes (Locks version at (Build (field + 1)))) (Goes (Locks version at LockHead))
         (λ on. by_step (Locks version at (Build (field + 1))) refl (
           record {
             inside = still;
@@ -257,16 +265,16 @@ module _ (c : Config) (k : Checked c) (n : ℕ) (lt : n < c.seats) (made : List 
     -- HEAD may be exchanged for a link to the whole version
     may_lock : StandsToLock v i o version.previous → HasFields (build_at c v at) version at 10 → MayLock c c.write_max v o version.previous at (build_at c v at) i
     may_lock stands has =
-        let first = first_held c k v log from inside.logs in
-        let held = held_are c k v log from inside.logs in
+        let first = first_held c k v log freed from inside.logs in
+        let held = held_are c k v log freed from inside.logs in
         let few = may.few in record {
           walking = inside.walking;
           in_range = range;
           stands = stands;
-          unheld = held_in_log c k v log from inside.logs o may.unheld;
+          unheld = held_in_log c k v log freed from inside.logs o may.unheld;
           room = omega (arith, held, few);
-          next = builds.at_is ∙ sym (next_long c k v log from inside.logs);
-          build = built_there c k v log from time at inside may.room builds.at_is version has;
+          next = builds.at_is ∙ sym (next_long c k v log freed from inside.logs);
+          build = built_there c k v log freed from time at inside may.room builds.at_is version 10 has (omega arith);
           first = has.first (omega arith) ∙ ap Some (builds.first_is ∙ sym first);
           stamp = λ e. has.stamp (omega arith) (builds.first_is ∙ sym first ∙ e);
           previous_is = has.previous (omega arith);
@@ -275,23 +283,25 @@ module _ (c : Config) (k : Checked c) (n : ℕ) (lt : n < c.seats) (made : List 
         }
 
     -- the won lock: the version is held
-    won_logs : HasFields (build_at c v at) version at 10 → Logs c (head_locked c v i o version.previous at) (log ++ version ∷ []) from
+    won_logs : HasFields (build_at c v at) version at 10 → Logs c (head_locked c v i o version.previous at) (log ++ version ∷ []) freed from
     won_logs has =
         let l = inside.logs.noted in
         let is = inside.logs.is in
         let m = note_of at version in
-        let long = noted_long c l log from is in
-        let freed = is.freed in
+        let long = noted_long c l log freed from is in
+        let gone = is.gone in
+        let within = is.within in
+        let low = low_at 10 has (omega arith) in
         let held = is.held in
         let at_is = builds.at_is in
         let first_is = builds.first_is in
         let few = may.few in
         let size = inside.logs.stands.slots in
         let room = may.room in
-        let next : IsNextOf l m = (omega (arith, long, freed, at_is), omega (arith, long, freed, held, first_is), builds.no_time, builds.no_death, low) in
+        let next : IsNextOf l m = (omega (arith, long, gone, at_is), omega (arith, long, gone, held, first_is), builds.no_time, builds.no_death, low) in
         let there : slot_at v.ring (index_of c v.ring.next) ≡ slots.Built (build_at c v at) =
-        ap (λ p. slot_at v.ring (index_of c p)) (next_long c k v log from inside.logs ∙ sym at_is)
-        ∙ built_there c k v log from time at inside may.room builds.at_is version has in
+        ap (λ p. slot_at v.ring (index_of c p)) (next_long c k v log freed from inside.logs ∙ sym at_is)
+        ∙ built_there c k v log freed from time at inside may.room builds.at_is version 10 has (omega arith) in
         let has_built : HasBuilt c v.ring (Some m) = (
           build_at c v at,
           there,
@@ -311,8 +321,11 @@ module _ (c : Config) (k : Checked c) (n : ℕ) (lt : n < c.seats) (made : List 
           noted = held_noted (record l { built = Some m });
           stands = subst (λ (x : ℕ). Stands c (head_locked c v i x version.previous at) (held_noted (record l { built = Some m }))) builds.object_is so;
           is = record {
-            live = ap (λ ns. ns ++ m ∷ []) is.live ∙ ap (λ p. notes_from 0 log ++ note_of p version ∷ []) (at_is ∙ omega arith) ∙ sym (notes_more 0 log version);
-            freed = is.freed;
+            live = ap (λ ns. ns ++ m ∷ []) is.live
+                ∙ ap (λ p. notes_from freed (drop freed log) ++ note_of p version ∷ []) (let d = length-drop freed log in omega (arith, at_is, d, within))
+                ∙ sym (ap (notes_from freed) (drop_more freed log version within) ∙ notes_more freed (drop freed log) version);
+            gone = is.gone;
+            within = (let more = length-append log (version ∷ []) in omega (arith, within, more));
             unbuilt = refl;
             held = (let more = length-append log (version ∷ []) in omega (arith, held, more));
             few = omega (arith, held, few);
@@ -325,6 +338,7 @@ module _ (c : Config) (k : Checked c) (n : ℕ) (lt : n < c.seats) (made : List 
         let kind = lock_head o version.previous at (build_at c v at) i in
         let task = Locks version at LockHead in
         let found = s.memory (Head o) in
+        let low = low_at 10 has (omega arith) in
         let link : link_of v.number at ≡ link_to n at = ap (λ m. link_of m at) (number_is c k n made b.each) ∙ sym (link_is n at few_seats low) in
         let place : Head o ≡ Head version.object = ap Head (sym builds.object_is) in
         let of : IsOfKind c s n kind task = record {
@@ -333,7 +347,7 @@ module _ (c : Config) (k : Checked c) (n : ℕ) (lt : n < c.seats) (made : List 
           place = place;
           writes = λ f. ap (stored_if f version.previous) link;
           fits = λ f. if_so IsStorable (f == version.previous) (Some (link_to n at)) None
-              (λ e. let is = link_is n at few_seats low in let seats = few_seats in let small = low in omega (arith, is, seats, small)) (λ e. tt);
+              (λ e. let is = link_is n at few_seats low in let seats = few_seats in omega (arith, is, seats, low)) (λ e. tt);
         } in
         let A = head_locked c v i o version.previous at in
         let B = lock_lost c v o found in
@@ -343,9 +357,9 @@ module _ (c : Config) (k : Checked c) (n : ℕ) (lt : n < c.seats) (made : List 
         let yes : (found == version.previous) ≡ true = eq-eqb found version.previous won in
         let there : (s.memory (Head version.object) == version.previous) ≡ true = ap (λ x. x == version.previous) at_head ∙ yes in
         let view : view_by c s n kind ≡ A = ap (λ x. if x then A else B) yes in
-        let seat_is : learned task (s.memory (Head version.object)) seat ≡ seat_with n (log ++ version ∷ []) from time call sweep own left =
+        let seat_is : learned task (s.memory (Head version.object)) seat ≡ seat_with n (log ++ version ∷ []) freed from time call sweep own left =
         ap (λ x. record seat { log = applied (if x then Pushed version else Kept) log }) there in
-        let inside2 : InSection c A (log ++ version ∷ []) from time = record {
+        let inside2 : InSection c A (log ++ version ∷ []) freed from time = record {
           section = i;
           walking = record {
             phase = inside.walking.phase;
@@ -356,25 +370,25 @@ module _ (c : Config) (k : Checked c) (n : ℕ) (lt : n < c.seats) (made : List 
           time_is = inside.time_is;
           logs = won_logs has;
         } in
-        next_is c k n lt made t b kind task of seat refl (log ++ version ∷ []) from time call sweep own left seat_is
-        (subst (λ (u : View). u.scan ≡ None) (sym view) no_scan) before (safe_then safe)
-        (subst (λ (u : View). GoesSo c n u (log ++ version ∷ []) from time call (after_lock_head version at (s.memory (Head version.object)))) (sym view)
+        next_is c k n lt made t b kind task of seat refl (log ++ version ∷ []) freed from time call sweep own left seat_is
+        (subst (λ (u : View). u.scan ≡ None) (sym view) no_scan) before
+        (subst (λ (u : View). GoesSo c n u (log ++ version ∷ []) freed from time call sweep (after_lock_head version at (s.memory (Head version.object)))) (sym view)
         (by_end (Locked refusals.Held)
         (ap (λ x. if x then Ends (Locked refusals.Held)
         else (if s.memory (Head version.object) == 0 then Goes (Locks (record version { previous = 0 }) at ClearPrevious)
         else Goes (Locks version at (FoundFirst (s.memory (Head version.object)))))) there)
-        (rests_in c A (log ++ version ∷ []) from time inside2))))
+        (rests_in c A (log ++ version ∷ []) freed from time inside2))))
         (λ lost.
         let not_so : (found == version.previous) ≡ false = ne_eqb found version.previous lost in
         let there : (s.memory (Head version.object) == version.previous) ≡ false = ap (λ x. x == version.previous) at_head ∙ not_so in
         let view : view_by c s n kind ≡ B = ap (λ x. if x then A else B) not_so in
         let seat_is : learned task (s.memory (Head version.object)) seat ≡ seat = ap (λ x. record seat { log = applied (if x then Pushed version else Kept) log }) there in
-        let still = section_stays c v B log from time inside refl refl refl (logs_left c v B log from refl refl refl refl _ refl (refl, refl) inside.logs) in
+        let still = section_stays c v B log freed from time inside refl refl refl (logs_left c v B log freed from refl refl refl refl _ refl (refl, refl) inside.logs) in
         let keep = builds_stay c v B i log from o version at refl refl builds in
         let cleared = builds_stay c v B i log from o version at refl refl builds in
-        let goes : GoesSo c n B log from time call
+        let goes : GoesSo c n B log freed from time call sweep
         (if found == 0 then Goes (Locks (record version { previous = 0 }) at ClearPrevious) else Goes (Locks version at (FoundFirst found))) =
-        if_so (GoesSo c n B log from time call) (found == 0) (Goes (Locks (record version { previous = 0 }) at ClearPrevious))
+        if_so (GoesSo c n B log freed from time call sweep) (found == 0) (Goes (Locks (record version { previous = 0 }) at ClearPrevious))
         (Goes (Locks version at (FoundFirst found)))
         (λ e. by_step (Locks (record version { previous = 0 }) at ClearPrevious) refl (
           record {
@@ -413,17 +427,13 @@ module _ (c : Config) (k : Checked c) (n : ℕ) (lt : n < c.seats) (made : List 
           },
           lock,
         )) in
-        next_is c k n lt made t b kind task of seat refl log from time call sweep own left seat_is
-        (subst (λ (u : View). u.scan ≡ None) (sym view) no_scan) before safe
-        (subst (λ (u : View). GoesSo c n u log from time call (after_lock_head version at (s.memory (Head version.object)))) (sym view)
-        (subst (λ (x : ℕ). GoesSo c n B log from time call (after_lock_head version at x)) (sym at_head)
-        (subst (λ x. GoesSo c n B log from time call (if x then Ends (Locked refusals.Held)
+        next_is c k n lt made t b kind task of seat refl log freed from time call sweep own left seat_is
+        (subst (λ (u : View). u.scan ≡ None) (sym view) no_scan) before
+        (subst (λ (u : View). GoesSo c n u log freed from time call sweep (after_lock_head version at (s.memory (Head version.object)))) (sym view)
+        (subst (λ (x : ℕ). GoesSo c n B log freed from time call sweep (after_lock_head version at x)) (sym at_head)
+        (subst (λ x. GoesSo c n B log freed from time call sweep (if x then Ends (Locked refusals.Held)
         else (if found == 0 then Goes (Locks (record version { previous = 0 }) at ClearPrevious) else Goes (Locks version at (FoundFirst found)))))
         (sym not_so) goes))))
-      where
-        safe_then : IsSafe n log call left → IsSafe n (log ++ version ∷ []) call left
-        safe_then (inl none) = let free = none.1 in absurd (cc)
-        safe_then (inr no_tidy) = inr no_tidy
 
     -- PREV is cleared where the chain was cut
     clear_made : v.walk ≡ walk.Master o → version.previous ≡ 0 → ((previous : ℕ) × HasFields (build_at c v at) (record version { previous = previous }) at 10)
@@ -433,18 +443,18 @@ module _ (c : Config) (k : Checked c) (n : ℕ) (lt : n < c.seats) (made : List 
         let task = Locks version at ClearPrevious in
         let slots = k.slots.0 in
         let of : IsOfKind c s n kind task = record {
-          may = may_store c v at (may_build_here c k v log from time at inside may.room builds.at_is) 2 0 tt;
+          may = may_store c v at (may_build_here c k v log freed from time at inside may.room builds.at_is) 2 0 tt;
           range = (lt, mod-lt at (omega (arith, slots)));
           place = ap (λ m. field_place m (slot_for c at) 2) (number_is c k n made b.each);
           writes = λ f. refl;
           fits = λ f. omega arith;
         } in
         let w = view_by c s n kind in
-        let now = build_now c k v log from time at inside may.room builds.at_is 2 0 has.1.wide in
-        let still = section_stays c v w log from time inside refl refl refl (logs_built c k v log from time at inside may.room builds.at_is 2 0 has.1.wide) in
+        let now = build_now c k v log freed from time at inside may.room builds.at_is 2 0 has.1.wide in
+        let still = section_stays c v w log freed from time inside refl refl refl (logs_built c k v log freed from time at inside may.room builds.at_is 2 0 has.1.wide) in
         let linked : HasFields (build_at c w at) (record version { previous = 0 }) at 10 =
         subst (λ (y : core.Build). HasFields y (record version { previous = 0 }) at 10) (sym now) (has_link (build_at c v at) version at has.0 0 has.1) in
-        next_is c k n lt made t b kind task of seat refl log from time call sweep own left refl no_scan before safe
+        next_is c k n lt made t b kind task of seat refl log freed from time call sweep own left refl no_scan before
         (by_step (Locks version at LockHead) refl (
           record {
             inside = still;
@@ -460,7 +470,7 @@ module _ (c : Config) (k : Checked c) (n : ℕ) (lt : n < c.seats) (made : List 
     first_made : (link : ℕ) → StandsAt v o link → Made_so version at (FoundFirst link)
     first_made link stands =
         let task = Locks version at (FoundFirst link) in
-        let in_range = stands_in c k n lt made t b log from time call sweep own left no_scan before safe inside o link stands in
+        let in_range = stands_in c k n lt made t b log freed from time call sweep own left no_scan before inside o link stands in
         let of : IsOfKind c s n (load_first link stands.stand) task = record {
           may = record { stands = stands.at; link_is = stands.link_is };
           range = (in_range.0, in_range.1);
@@ -469,8 +479,8 @@ module _ (c : Config) (k : Checked c) (n : ℕ) (lt : n < c.seats) (made : List 
           fits = λ x. tt;
         } in
         let w = view_by c s n (load_first link stands.stand) in
-        let still = section_stays c v w log from time inside refl refl refl (logs_left c v w log from refl refl refl refl _ refl (refl, refl) inside.logs) in
-        next_is c k n lt made t b (load_first link stands.stand) task of seat refl log from time call sweep own left refl no_scan before safe
+        let still = section_stays c v w log freed from time inside refl refl refl (logs_left c v w log freed from refl refl refl refl _ refl (refl, refl) inside.logs) in
+        next_is c k n lt made t b (load_first link stands.stand) task of seat refl log freed from time call sweep own left refl no_scan before
         (by_step (Locks version at (FoundStamp link (s.memory (First (link_seat_of link) (slot_named c link))))) refl (
           record {
             inside = still;
@@ -486,7 +496,7 @@ module _ (c : Config) (k : Checked c) (n : ℕ) (lt : n < c.seats) (made : List 
     stamp_made : (link first : ℕ) (stands : StandsAt v o link) → stands.stand.first ≡ Some first → Made_so version at (FoundStamp link first)
     stamp_made link first stands first_is =
         let task = Locks version at (FoundStamp link first) in
-        let in_range = stands_in c k n lt made t b log from time call sweep own left no_scan before safe inside o link stands in
+        let in_range = stands_in c k n lt made t b log freed from time call sweep own left no_scan before inside o link stands in
         let slots = k.slots.0 in
         let kind = load_stamp link first stands.stand in
         let of : IsOfKind c s n kind task = record {
@@ -497,9 +507,9 @@ module _ (c : Config) (k : Checked c) (n : ℕ) (lt : n < c.seats) (made : List 
           fits = λ x. tt;
         } in
         let w = view_by c s n kind in
-        let still = section_stays c v w log from time inside refl refl refl (logs_left c v w log from refl refl refl refl _ refl (refl, refl) inside.logs) in
-        next_is c k n lt made t b kind task of seat refl log from time call sweep own left refl no_scan before safe
-        (refused c n w log from time call link (s.memory (Stamp (link_seat_of link) (index_of c first))) still)
+        let still = section_stays c v w log freed from time inside refl refl refl (logs_left c v w log freed from refl refl refl refl _ refl (refl, refl) inside.logs) in
+        next_is c k n lt made t b kind task of seat refl log freed from time call sweep own left refl no_scan before
+        (refused c n w log freed from time call sweep link (s.memory (Stamp (link_seat_of link) (index_of c first))) still)
 
     pub locking_made : (step : Locking) → LocksAt c v i o version at step → Made_so version at step
     locking_made (Build field) locks = build_made field locks.0 locks.1 locks.2 locks.3

@@ -35,21 +35,21 @@ use Rattle.step_replay.specs.Lines.{skip_line, answer_line}
 use Rattle.step_replay.specs.Runs.{TapeOf, Scene, Looked, with_line, begun_so, call_looked, looked_on, looked}
 use Rattle.step_replay.specs.Behind.{IsTapeBehind}
 use Rattle.step_replay.proofs.NextSteps.{lined}
-use Rattle.step_replay.proofs.writers.Standing.{seat_with, InSection, RestsAt, IsSafe, StandsFor, GoesSo, by_step, by_end}
+use Rattle.step_replay.proofs.writers.Standing.{seat_with, InSection, RestsAt, StandsFor, GoesSo, by_step, by_end}
 use Rattle.step_replay.proofs.writers.Known.{if_so, eqb_ne, ltb_lt, ltb_ge}
 use Rattle.step_replay.proofs.writers.LogFacts.{held_are, log_short}
 use Rattle.step_replay.proofs.writers.Searches.{first_after, none_of}
 
 -- what a seat comes to that looks at its calls: the tape is behind the same steps
-pub record IsLooked (c : Config) (n : ℕ) (made : List Made) (v : View) (log : List Version) (from : ℕ) (time : Option ℕ) (l : Looked) : Type 0 where
+pub record IsLooked (c : Config) (n : ℕ) (made : List Made) (v : View) (log : List Version) (freed from : ℕ) (time : Option ℕ) (l : Looked) : Type 0 where
   pub call : Call
   pub sweep : Sweep
   pub left : List CallOf
-  pub is : l.scene.seat ≡ seat_with n log from time call sweep None left
+  pub is : l.scene.seat ≡ seat_with n log freed from time call sweep None left
   pub before : All (IsFitCallOf c) left
   pub safe : IsSafe n log call left
   pub behind : IsTapeBehind c l.scene.tape made
-  pub stands : StandsFor c n v log from time call l.task
+  pub stands : StandsFor c n v log freed from time call sweep l.task
 
 -- a call less is before a seat
 safe_tail : (n : ℕ) (log : List Version) (call : Call) (one : CallOf) (left : List CallOf) → IsSafe n log call (one ∷ left) → IsSafe n log call left
@@ -81,22 +81,22 @@ words_small words fit i = go (cases_lt i (length words))
     go (inl lt) = All-get_or (λ (w : ℕ). w < 2 ^ 64) words i 0 lt fit.1
     go (inr ge) = let e = get_or_past words i 0 ge in omega (arith, e)
 
-module _ (c : Config) (k : Checked c) (n : ℕ) (made : List Made) (v : View) (log : List Version) (from : ℕ) where
+module _ (c : Config) (k : Checked c) (n : ℕ) (made : List Made) (v : View) (log : List Version) (freed from : ℕ) where
   abbrev state : Option ℕ → Call → State
-  state time call = record { seat = n; time = time; from = from; freed = 0; call = call; sweep = new_sweep 0 }
+  state time call = record { seat = n; time = time; from = from; freed = freed; call = call; sweep = new_sweep 0 }
 
   -- how a call begins in a section
-  module _ (t : ℕ) (inside : InSection c v log from (Some t)) where
+  module _ (t : ℕ) (inside : InSection c v log freed from (Some t)) where
     from_low : from ≤ length log
-    from_low = let h = held_are c k v log from inside.logs in omega (arith, h)
+    from_low = let h = held_are c k v log freed from inside.logs in omega (arith, h)
 
-    lock_so : (o : ℕ) → o < c.objects → GoesSo c n v log from (Some t) (Lock o) (begin_call (Lock o) c log (state (Some t) (Lock o)))
+    lock_so : (o : ℕ) → o < c.objects → GoesSo c n v log freed from (Some t) (Lock o) sweep (begin_call (Lock o) c log (state (Some t) (Lock o)))
     lock_so o range =
         let s = state (Some t) (Lock o) in
-        let P = GoesSo c n v log from (Some t) (Lock o) in
+        let P = GoesSo c n v log freed from (Some t) (Lock o) sweep in
         let few = inside.logs.is.few in
         let all = inside.logs.is.held in
-        let short = log_short c k v log from inside.logs in
+        let short = log_short c k v log freed from inside.logs in
         if_so P (holds log s o) (Ends (Locked refusals.Held))
         (if held log s == c.write_max then Ends (Locked refusals.SetFull)
         else (if live log s == c.slots then Ends (Locked refusals.LogFull) else Goes (Walks o walk.LoadHead)))
@@ -120,12 +120,12 @@ module _ (c : Config) (k : Checked c) (n : ℕ) (made : List Made) (v : View) (l
           tt,
         ))))
 
-    abort_so : GoesSo c n v log from (Some t) Abort (begin_call Abort c log (state (Some t) Abort))
+    abort_so : GoesSo c n v log freed from (Some t) Abort sweep (begin_call Abort c log (state (Some t) Abort))
     abort_so =
         let s = state (Some t) Abort in
         let low = from_low in
         by_step (begin_abort log s) refl
-        (if_so (λ (task : Task). StandsFor c n v log from (Some t) Abort (Some task)) (held log s == 0) (EndsSection (finish.Leave Plainly)) (unlock log from)
+        (if_so (λ (task : Task). StandsFor c n v log freed from (Some t) Abort sweep (Some task)) (held log s == 0) (EndsSection (finish.Leave Plainly)) (unlock log from)
         (λ none. (inside, (let z = eqb-true (held log s) 0 none in omega (arith, z, low))))
         (λ some. (
           0,
@@ -143,7 +143,7 @@ module _ (c : Config) (k : Checked c) (n : ℕ) (made : List Made) (v : View) (l
         )))
 
     write_so : (o : ℕ) (words : List ℕ) → AreSixWords words → holds log (state (Some t) (Write o words)) o ≡ true
-        → GoesSo c n v log from (Some t) (Write o words) (begin_call (Write o words) c log (state (Some t) (Write o words)))
+        → GoesSo c n v log freed from (Some t) (Write o words) sweep (begin_call (Write o words) c log (state (Some t) (Write o words)))
     write_so o words fit there = by_step _ refl (record {
       inside = inside;
       held = first_after log from (IsOf o) from_low;
@@ -153,10 +153,10 @@ module _ (c : Config) (k : Checked c) (n : ℕ) (made : List Made) (v : View) (l
     })
 
   abbrev scene : Option ℕ → Call → Sweep → List CallOf → TapeOf → Scene
-  scene time call sweep left t = record { seat = seat_with n log from time call sweep None left; tape = t }
+  scene time call sweep left t = record { seat = seat_with n log freed from time call sweep None left; tape = t }
 
   abbrev So : Option ℕ → Looked → Type 0
-  So time l = IsLooked c n made v log from time l
+  So time l = IsLooked c n made v log freed from time l
 
   -- what comes of the calls behind
   abbrev Next : List CallOf → Option ℕ → Type 0
@@ -170,7 +170,7 @@ module _ (c : Config) (k : Checked c) (n : ℕ) (made : List Made) (v : View) (l
   module _ (calls : List CallOf) (before : All (IsFitCallOf c) calls) (call : Call) (sweep : Sweep) (t : TapeOf) (b : IsTapeBehind c t made) (time : Option ℕ)
       (next : Next calls time) where
     -- a call is begun
-    begun : (what : Call) → IsSafe n log what calls → (x : Then) → GoesSo c n v log from time what x
+    begun : (what : Call) → IsSafe n log what calls → (x : Then) → GoesSo c n v log freed from time what sweep x
         → Goes_on calls time (begun_so x what (scene time what (new_sweep 0) calls t))
     begun what safe x (by_step task e stands) =
         subst (λ y. Goes_on calls time (begun_so y what (scene time what (new_sweep 0) calls t))) (sym e)
@@ -181,11 +181,11 @@ module _ (c : Config) (k : Checked c) (n : ℕ) (made : List Made) (v : View) (l
 
     -- or skipped, where its condition is false
     call_is : (what : Call) → IsSafe n log call calls → IsSafe n log what calls
-        → (may_begin log (record { seat = n; time = time; from = from; freed = 0; call = call; sweep = sweep }) what ≡ true
-        → GoesSo c n v log from time what (begin_call what c log (state time what)))
+        → (may_begin log (record { seat = n; time = time; from = from; freed = freed; call = call; sweep = sweep }) what ≡ true
+        → GoesSo c n v log freed from time what sweep (begin_call what c log (state time what)))
         → Goes_on calls time (call_looked c what (scene time call sweep calls t))
     call_is what safe safe_then goes =
-        let may = may_begin log (record { seat = n; time = time; from = from; freed = 0; call = call; sweep = sweep }) what in
+        let may = may_begin log (record { seat = n; time = time; from = from; freed = freed; call = call; sweep = sweep }) what in
         if_so (Goes_on calls time) may
         (begun_so (begin_call what c log (state time what)) what (scene time what (new_sweep 0) calls t))
         (record { scene = scene time call sweep calls (with_line t (skip_line n what)); task = None })
@@ -193,9 +193,9 @@ module _ (c : Config) (k : Checked c) (n : ℕ) (made : List Made) (v : View) (l
         (λ e. next call sweep (with_line t (skip_line n what)) (lined c t made (skip_line n what) b) safe)
 
   -- how each call begins
-  begins_outside : (what : Call) (call : Call) (sweep : Sweep) → (is_tidy what ≡ true → log ≡ []) → RestsAt c v log from None
-      → may_begin log (record { seat = n; time = None; from = from; freed = 0; call = call; sweep = sweep }) what ≡ true
-      → GoesSo c n v log from None what (begin_call what c log (state None what))
+  begins_outside : (what : Call) (call : Call) (sweep : Sweep) → (is_tidy what ≡ true → log ≡ []) → RestsAt c v log freed from None
+      → may_begin log (record { seat = n; time = None; from = from; freed = freed; call = call; sweep = sweep }) what ≡ true
+      → GoesSo c n v log freed from None what sweep (begin_call what c log (state None what))
   begins_outside Enter call sweep tidies rests e = by_step (Enters enter.LoadLow) refl (rests.0, refl, refl, rests.1, rests.2)
   begins_outside Tidy call sweep tidies rests e = by_step (Tidies (sweeping.LoadGrace false)) refl (rests, refl, tidies refl)
   begins_outside (Read o) call sweep tidies rests e = absurd (cc)
@@ -205,9 +205,9 @@ module _ (c : Config) (k : Checked c) (n : ℕ) (made : List Made) (v : View) (l
   begins_outside Abort call sweep tidies rests e = absurd (cc)
   begins_outside Leave call sweep tidies rests e = absurd (cc)
 
-  begins_inside : (what : Call) (call : Call) (sweep : Sweep) (t : ℕ) → IsFitCall c what → InSection c v log from (Some t)
-      → may_begin log (record { seat = n; time = Some t; from = from; freed = 0; call = call; sweep = sweep }) what ≡ true
-      → GoesSo c n v log from (Some t) what (begin_call what c log (state (Some t) what))
+  begins_inside : (what : Call) (call : Call) (sweep : Sweep) (t : ℕ) → IsFitCall c what → InSection c v log freed from (Some t)
+      → may_begin log (record { seat = n; time = Some t; from = from; freed = freed; call = call; sweep = sweep }) what ≡ true
+      → GoesSo c n v log freed from (Some t) what sweep (begin_call what c log (state (Some t) what))
   begins_inside Enter call sweep t fit inside e = absurd (cc)
   begins_inside Tidy call sweep t fit inside e = absurd (cc)
   begins_inside (Read o) call sweep t fit inside e = by_step (Walks o walk.LoadHead) refl (inside, fit, refl, tt)
@@ -221,13 +221,13 @@ module _ (c : Config) (k : Checked c) (n : ℕ) (made : List Made) (v : View) (l
       let low = from_low t inside in
       by_step (EndsSection (finish.Leave Plainly)) refl (inside, (let none = eqb-true (length log - from) 0 e in omega (arith, none, low)))
 
-  begins : (what : Call) (call : Call) (sweep : Sweep) (time : Option ℕ) → (is_tidy what ≡ true → log ≡ []) → IsFitCall c what → RestsAt c v log from time
-      → may_begin log (record { seat = n; time = time; from = from; freed = 0; call = call; sweep = sweep }) what ≡ true
-      → GoesSo c n v log from time what (begin_call what c log (state time what))
+  begins : (what : Call) (call : Call) (sweep : Sweep) (time : Option ℕ) → (is_tidy what ≡ true → log ≡ []) → IsFitCall c what → RestsAt c v log freed from time
+      → may_begin log (record { seat = n; time = time; from = from; freed = freed; call = call; sweep = sweep }) what ≡ true
+      → GoesSo c n v log freed from time what sweep (begin_call what c log (state time what))
   begins what call sweep None tidies fit rests = begins_outside what call sweep tidies rests
   begins what call sweep (Some t) tidies fit rests = begins_inside what call sweep t fit rests
 
-  pub looks : (calls left : List CallOf) → All (IsFitCallOf c) calls → All (IsFitCallOf c) left → (time : Option ℕ) → RestsAt c v log from time
+  pub looks : (calls left : List CallOf) → All (IsFitCallOf c) calls → All (IsFitCallOf c) left → (time : Option ℕ) → RestsAt c v log freed from time
       → (call : Call) (sweep : Sweep) (t : TapeOf) → IsTapeBehind c t made → IsSafe n log call calls → IsSafe n log call left
       → So time (looked c calls (scene time call sweep left t))
   looks [] left before all time rests call sweep t b safe safe_left =

@@ -1,5 +1,5 @@
 -- The versions that a seat of a replay notes, as the notes of a log.
-use Rattle.std.proofs.Common.{◌≡◌, ℕ, zero, suc, ◌+◌, ◌<◌, ◌≤◌, ◌==◌, List, [], ◌∷◌, ◌++◌, length, get_or, refl, ap, ◌∙◌, arith}
+use Rattle.std.proofs.Common.{◌≡◌, ℕ, zero, suc, ◌+◌, ◌<◌, ◌≤◌, ◌==◌, List, [], ◌∷◌, ◌++◌, length, drop, get_or, refl, ap, ◌∙◌, arith}
 use Rattle.std.proofs.Common.{Some, leb, Bool, true, false, if◌then◌else◌, le-leb, eq-eqb, ne_eqb}
 use Rattle.std.proofs.lemmas.Bool.{lt-leb}
 use Rattle.std.specs.Prelude.{slice_get, slice_set}
@@ -119,3 +119,28 @@ notes_put (suc k) word value p (v ∷ log) =
     let same : p + suc k ≡ suc p + k = omega arith in
     let rest = ap (λ at. notes_from (suc p) (edited_from (WordPut at word value) (suc p) log)) same ∙ notes_put k word value (suc p) log in
     (λ i. one i ∷ rest i)
+
+-- versions behind a place, each changed
+edited_drop : (e : Edit) (k p : ℕ) (log : List Version) → drop k (edited_from e p log) ≡ edited_from e (p + k) (drop k log)
+edited_drop e zero p log = ap (λ q. edited_from e q log) (omega arith)
+edited_drop e (suc k) p [] = refl
+edited_drop e (suc k) p (v ∷ log) = edited_drop e k (suc p) log ∙ ap (λ q. edited_from e q (drop k log)) (omega arith)
+
+pub edited_behind : (e : Edit) (k : ℕ) (log : List Version) → drop k (edited_from e 0 log) ≡ edited_from e k (drop k log)
+edited_behind e k log =
+    let same : 0 + k ≡ k = omega arith in
+    edited_drop e k 0 log ∙ ap (λ q. edited_from e q (drop k log)) same
+
+-- one more behind a place
+pub drop_more : (k : ℕ) (log : List Version) (v : Version) → k ≤ length log → drop k (log ++ v ∷ []) ≡ drop k log ++ v ∷ []
+drop_more zero log v le = refl
+drop_more (suc k) [] v le = absurd (omega (arith, le))
+drop_more (suc k) (w ∷ log) v le = drop_more k log v (omega (arith, le))
+
+-- what stands at a place behind another
+pub drop_at : (k i : ℕ) (log : List Version) (d : Version) → get_or (drop k log) i d ≡ get_or log (k + i) d
+drop_at zero i log d = ap (λ j. get_or log j d) (omega arith)
+drop_at (suc k) i [] d = refl
+drop_at (suc k) i (v ∷ log) d =
+    let e : suc (k + i) ≡ suc k + i = omega arith in
+    drop_at k i log d ∙ ap (λ j. get_or (v ∷ log) j d) e

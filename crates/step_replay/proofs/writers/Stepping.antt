@@ -1,11 +1,14 @@
 -- A step of a seat that is one of the core's: what is found, the tape behind it, and how the call goes on.
-use Rattle.std.proofs.Common.{◌≡◌, ℕ, ◌<◌, ◌&&◌, ltb, List, ◌∷◌, Bool, true, All, Option, Some, None, refl, sym, ap, ◌∙◌, subst}
+use Rattle.std.proofs.Common.{◌≡◌, ℕ, ◌<◌, ◌&&◌, ltb, List, ◌∷◌, Bool, true, All, Option, Some, None, refl, sym, ap, ◌∙◌, subst, inl, inr}
 use Rattle.std.proofs.Common.{lt-ltb, if◌then◌else◌}
 use Rattle.mv_core.proofs.Terms.{Config, Checked, Place, Clock, Grace, Mark, Head, Master, First, Stamp, Prev, Super, Data, IsPlace}
 use Rattle.mv_core.specs.declared.view.View.{View}
 use Rattle.mv_core.specs.Moves.{Moment, Kind, act, IsStorable}
 use Rattle.mv_core.proofs.frames.FrameLaw.{set_at_here}
 use Rattle.step_replay.specs.declared.seats.Task.{Task}
+use Rattle.step_replay.specs.declared.seats.Task.TheVariants.{Tidies}
+use Rattle.step_replay.specs.declared.seats.Sweeping.TheVariants.{LoadMark}
+use Rattle.step_replay.specs.declared.seats.Then.TheVariants.{Goes}
 use Rattle.step_replay.specs.declared.seats.Then.{Then}
 use Rattle.step_replay.specs.States.{any_commit, Made, may_in, place_in, writes_in, state_of}
 use Rattle.step_replay.specs.Words.{word_at}
@@ -21,7 +24,7 @@ use Rattle.step_replay.specs.declared.plan.CallOf.{CallOf}
 use Rattle.step_replay.specs.declared.seats.Version.{Version}
 use Rattle.step_replay.specs.declared.seats.Sweep.{Sweep}
 use Rattle.step_replay.specs.FitPlans.{IsFitCallOf}
-use Rattle.step_replay.proofs.writers.Standing.{seat_with, IsSafe, IsSeat, IsStepped, step_of, GoesSo, by_step, by_end, seat_by}
+use Rattle.step_replay.proofs.writers.Standing.{seat_with, IsSeat, IsStepped, step_of, StandsFor, GoesSo, by_step, by_end, seat_by}
 
 both_true : (a b : Bool) → a ≡ true → b ≡ true → (a && b) ≡ true
 both_true a b p q = ap (λ x. x && b) p ∙ q
@@ -108,30 +111,49 @@ module _ (c : Config) (k : Checked c) (n : ℕ) (lt : n < c.seats) (made : List 
       seat_there x is = subst (IsSeat c n x) (sym (set_at_here s.seats n (view_by c s n kind))) is
 
       -- the seat goes on with its call, or has ended it
-      pub next_is : (log : List Version) (from : ℕ) (time : Option ℕ) (call : Call) (sweep : Sweep) (own : Option Task) (left : List CallOf)
-          → learned task (s.memory at) seat ≡ seat_with n log from time call sweep own left → (view_by c s n kind).scan ≡ None
-          → All (IsFitCallOf c) left → IsSafe n log call left
-          → GoesSo c n (view_by c s n kind) log from time call
-          (then_after task c log (record { seat = n; time = time; from = from; freed = 0; call = call; sweep = sweep }) (s.memory at))
+      pub next_is : (log : List Version) (freed from : ℕ) (time : Option ℕ) (call : Call) (sweep : Sweep) (own : Option Task) (left : List CallOf)
+          → learned task (s.memory at) seat ≡ seat_with n log freed from time call sweep own left → (view_by c s n kind).scan ≡ None
+          → All (IsFitCallOf c) left
+          → GoesSo c n (view_by c s n kind) log freed from time call sweep
+          (then_after task c log (record { seat = n; time = time; from = from; freed = freed; call = call; sweep = sweep }) (s.memory at))
           → IsStepped c n made (step_made c task (record { seat = seat; tape = t }))
-      next_is log from time call sweep own left is no_scan before safe goes =
+      next_is log freed from time call sweep own left is no_scan before goes =
           let u = tape_after c n task t in
           subst (IsStepped c n made) (sym (scene_is ∙ ap (λ (x : SeatOf). went (then_after task c x.log x.state (s.memory at)) (record { seat = x; tape = u })) is))
           (go _ goes)
         where
-          go : (x : Then) → GoesSo c n (view_by c s n kind) log from time call x
-              → IsStepped c n made (went x (record { seat = seat_with n log from time call sweep own left; tape = tape_after c n task t }))
+          go : (x : Then) → GoesSo c n (view_by c s n kind) log freed from time call sweep x
+              → IsStepped c n made (went x (record { seat = seat_with n log freed from time call sweep own left; tape = tape_after c n task t }))
           go x (by_step more e stands) =
-              subst (λ y. IsStepped c n made (went y (record { seat = seat_with n log from time call sweep own left; tape = tape_after c n task t }))) (sym e)
+              subst (λ y. IsStepped c n made (went y (record { seat = seat_with n log freed from time call sweep own left; tape = tape_after c n task t }))) (sym e)
               (record {
                 kind = kind;
                 behind = tape_is;
-                seat_is = seat_there _ (seat_by c n (view_by c s n kind) log from time call sweep (Some more) left no_scan before safe stands);
+                seat_is = seat_there _ (seat_by c n (view_by c s n kind) log freed from time call sweep (Some more) left (inl no_scan) before stands);
               })
           go x (by_end answer e stands) =
-              subst (λ y. IsStepped c n made (went y (record { seat = seat_with n log from time call sweep own left; tape = tape_after c n task t }))) (sym e)
+              subst (λ y. IsStepped c n made (went y (record { seat = seat_with n log freed from time call sweep own left; tape = tape_after c n task t }))) (sym e)
               (record {
                 kind = kind;
                 behind = lined c (tape_after c n task t) (step_of n kind ∷ made) _ tape_is;
-                seat_is = seat_there _ (seat_by c n (view_by c s n kind) log from time call sweep None left no_scan before safe stands);
+                seat_is = seat_there _ (seat_by c n (view_by c s n kind) log freed from time call sweep None left (inl no_scan) before stands);
               })
+
+      -- the seat goes on with a scan
+      pub scan_on : (log : List Version) (freed from : ℕ) (time : Option ℕ) (call : Call) (sweep : Sweep) (own : Option Task) (left : List CallOf)
+          → learned task (s.memory at) seat ≡ seat_with n log freed from time call sweep own left → All (IsFitCallOf c) left → (mark : ℕ)
+          → then_after task c log (record { seat = n; time = time; from = from; freed = freed; call = call; sweep = sweep }) (s.memory at)
+          ≡ Goes (Tidies (LoadMark mark))
+          → StandsFor c n (view_by c s n kind) log freed from time call sweep (Some (Tidies (LoadMark mark)))
+          → IsStepped c n made (step_made c task (record { seat = seat; tape = t }))
+      scan_on log freed from time call sweep own left is before mark e stands =
+          let u = tape_after c n task t in
+          subst (IsStepped c n made)
+          (sym (scene_is ∙ ap (λ (x : SeatOf). went (then_after task c x.log x.state (s.memory at)) (record { seat = x; tape = u })) is
+          ∙ ap (λ y. went y (record { seat = seat_with n log freed from time call sweep own left; tape = u })) e))
+          (record {
+            kind = kind;
+            behind = tape_is;
+            seat_is = seat_there _
+                (seat_by c n (view_by c s n kind) log freed from time call sweep (Some (Tidies (LoadMark mark))) left (inr (mark, refl)) before stands);
+          })

@@ -36,7 +36,7 @@ use Rattle.step_replay.proofs.Machines.{shows_opened}
 use Rattle.step_replay.proofs.Ruled.{is_ruled}
 use Rattle.step_replay.proofs.TurnLaws.{seats_long}
 use Rattle.step_replay.proofs.NextSteps.{lined}
-use Rattle.step_replay.proofs.writers.Standing.{seat_with, Logs, IsSafe, IsSeat, IsStepped, StandsFor, step_of, seat_by}
+use Rattle.step_replay.proofs.writers.Standing.{seat_with, Logs, IsSeat, IsStepped, StandsFor, step_of, seat_by}
 use Rattle.step_replay.proofs.writers.Tidying.{step_is}
 use Rattle.step_replay.proofs.writers.Looking.{IsLooked, looks}
 
@@ -51,31 +51,31 @@ module _ (c : Config) (k : Checked c) (n : ℕ) (lt : n < c.seats) (made : List 
 
   module _ (no_scan : ((state_of c made).seats n).scan ≡ None) where
     -- the step that comes next is made, or the seat is idle
-    looked_is : (l : Looked) (log : List Version) (from : ℕ) (time : Option ℕ) → IsLooked c n made v log from time l
+    looked_is : (l : Looked) (log : List Version) (freed from : ℕ) (time : Option ℕ) → IsLooked c n made v log freed from time l
         → IsTurned c n made (turn_begun c l.task l.scene)
-    looked_is l log from time is = go l.task l.scene.seat l.scene.tape is.is is.behind is.stands
+    looked_is l log freed from time is = go l.task l.scene.seat l.scene.tape is.is is.behind is.stands
       where
-        go : (task : Option Task) (seat : SeatOf) (t : TapeOf) → seat ≡ seat_with n log from time is.call is.sweep None is.left → IsTapeBehind c t made
-            → StandsFor c n v log from time is.call task → IsTurned c n made (turn_begun c task (record { seat = seat; tape = t }))
+        go : (task : Option Task) (seat : SeatOf) (t : TapeOf) → seat ≡ seat_with n log freed from time is.call is.sweep None is.left → IsTapeBehind c t made
+            → StandsFor c n v log freed from time is.call sweep task → IsTurned c n made (turn_begun c task (record { seat = seat; tape = t }))
         go None seat t e b stands =
             idles (lined c t made (idle_line seat.state.seat) b)
-            (subst (λ x. IsSeat c n x v) (sym e) (seat_by c n v log from time is.call is.sweep None is.left no_scan is.before is.safe stands))
+            (subst (λ x. IsSeat c n x v) (sym e) (seat_by c n v log freed from time is.call is.sweep None is.left no_scan is.before is.safe stands))
         go (Some task) seat t e b stands =
             subst (λ x. IsTurned c n made (step_made c task (record { seat = x; tape = t }))) (sym e)
-            (steps (step_is c k n lt made t b log from time is.call is.sweep None is.left no_scan is.before is.safe task stands))
+            (steps (step_is c k n lt made t b log freed from time is.call is.sweep None is.left no_scan is.before is.safe task stands))
 
   -- a turn of the seat
   turned_is : (seat : SeatOf) (t : TapeOf) → IsTapeBehind c t made → IsSeat c n seat v → IsTurned c n made (turned c (record { seat = seat; tape = t }))
   turned_is seat t b s =
       subst (λ x. IsTurned c n made (turned c (record { seat = x; tape = t }))) (sym s.is) (go s.task s.stands)
     where
-      go : (task : Option Task) → StandsFor c n v s.log s.from s.time s.call task
-          → IsTurned c n made (turned c (record { seat = seat_with n s.log s.from s.time s.call s.sweep task s.left; tape = t }))
+      go : (task : Option Task) → StandsFor c n v s.log s.freed s.from s.time s.call sweep task
+          → IsTurned c n made (turned c (record { seat = seat_with n s.log s.freed s.from s.time s.call s.sweep task s.left; tape = t }))
       go (Some task) stands =
-          steps (step_is c k n lt made t b s.log s.from s.time s.call s.sweep (Some task) s.left s.no_scan s.before s.safe task stands)
+          steps (step_is c k n lt made t b s.log s.freed s.from s.time s.call s.sweep (Some task) s.left s.no_scan s.before s.safe task stands)
       go None stands =
-          looked_is s.no_scan (looked c s.left (record { seat = seat_with n s.log s.from s.time s.call s.sweep None s.left; tape = t })) s.log s.from s.time
-          (looks c k n made v s.log s.from s.left s.left s.before s.before s.time stands s.call s.sweep t b s.safe s.safe)
+          looked_is s.no_scan (looked c s.left (record { seat = seat_with n s.log s.freed s.from s.time s.call s.sweep None s.left; tape = t })) s.log s.freed s.from s.time
+          (looks c k n made v s.log s.freed s.from s.left s.left s.before s.before s.time stands s.call s.sweep t b s.safe s.safe)
 
 -- a replay behind steps of the core, with each of its seats
 record AreSeats (c : Config) (r : Replay) (made : List Made) : Type 0 where
@@ -172,7 +172,7 @@ new_logs c k n lt v new =
       noted = nothing_noted n c.slots;
       stands = stands_same c (starting_view c (zeros c) n) v (nothing_noted n c.slots) (new.number ∙ old.seat) (new.ring ∙ sym (begins n).0)
           (new.mine ∙ sym (begins n).1) (new.rests ∙ sym (begins n).2) (new.frees ∙ old.frees) (new.cuts ∙ old.backs) old;
-      is = record { live = refl; freed = refl; unbuilt = refl; held = refl; few = omega arith };
+      is = record { live = refl; gone = refl; unbuilt = refl; held = refl; few = omega arith };
     }
   where
     begins : (m : ℕ) → ((starting_view c (zeros c) m).ring ≡ empty_ring c) × ((starting_view c (zeros c) m).past.mine ≡ [])

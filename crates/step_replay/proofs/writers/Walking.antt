@@ -44,13 +44,13 @@ use Rattle.step_replay.specs.GoesOn.{is_lock, is_unset, stand, refusal, new_vers
 use Rattle.step_replay.specs.States.{any_commit, any_start, zeros, Made, state_of}
 use Rattle.step_replay.specs.Runs.{TapeOf, step_made}
 use Rattle.step_replay.specs.Behind.{IsTapeBehind}
-use Rattle.step_replay.proofs.writers.Standing.{seat_with, Logs, InSection, MayHold, WalksFor, StandsAt, WordsSoFar, WalksAt, IsSafe, IsStepped}
+use Rattle.step_replay.proofs.writers.Standing.{seat_with, Logs, InSection, MayHold, WalksFor, StandsAt, WordsSoFar, WalksAt, IsStepped}
 use Rattle.step_replay.proofs.writers.Standing.{GoesSo, by_step, by_end}
 use Rattle.step_replay.proofs.writers.Stepping.{IsOfKind, view_by, next_is}
 use Rattle.step_replay.proofs.writers.Known.{if_so, eqb_ne, ltb_lt, ltb_ge, leb_le, leb_gt, and_right, same_list, facts, view_there, starts, seated, word_small}
 use Rattle.step_replay.proofs.writers.Known.{logs_left}
 use Rattle.step_replay.proofs.writers.Helping.{rests_in}
-use Rattle.step_replay.proofs.writers.Notes.{notes_long}
+use Rattle.step_replay.proofs.writers.LogFacts.{noted_long}
 
 -- no word was read yet
 pub no_words : (c : Config) (v : View) (s : Section) (o : ℕ) → WordsSoFar c v s o (replicate 6 0) 0
@@ -78,17 +78,17 @@ one_word c v s o words w found lt small is so = record {
 }
 
 -- a refusal ends a lock
-pub refused : (c : Config) (n : ℕ) (v : View) (log : List Version) (from : ℕ) (time : Option ℕ) (call : Call) (link stamp : ℕ) → InSection c v log from time
-    → GoesSo c n v log from time call (refusal link stamp)
-refused c n v log from time call link stamp i =
-    if_so (GoesSo c n v log from time call) (is_unset stamp) (Ends (Locked (refusals.Busy (link_seat_of link)))) (Ends (Locked (refusals.Stale stamp)))
-    (λ e. by_end (Locked (refusals.Busy (link_seat_of link))) refl (rests_in c v log from time i))
-    (λ e. by_end (Locked (refusals.Stale stamp)) refl (rests_in c v log from time i))
+pub refused : (c : Config) (n : ℕ) (v : View) (log : List Version) (freed from : ℕ) (time : Option ℕ) (call : Call) (sweep : Sweep) (link stamp : ℕ) → InSection c v log freed from time
+    → GoesSo c n v log freed from time call sweep (refusal link stamp)
+refused c n v log freed from time call sweep link stamp i =
+    if_so (GoesSo c n v log freed from time call sweep) (is_unset stamp) (Ends (Locked (refusals.Busy (link_seat_of link)))) (Ends (Locked (refusals.Stale stamp)))
+    (λ e. by_end (Locked (refusals.Busy (link_seat_of link))) refl (rests_in c v log freed from time i))
+    (λ e. by_end (Locked (refusals.Stale stamp)) refl (rests_in c v log freed from time i))
 
 -- a section behind a step that leaves its phase, its clock words and the log
-abbrev pub section_stays : (c : Config) (v w : View) (log : List Version) (from : ℕ) (time : Option ℕ) (i : InSection c v log from time) → w.phase ≡ v.phase
-    → w.clocks ≡ v.clocks → w.back ≡ v.back → Logs c w log from → InSection c w log from time
-section_stays c v w log from time i phase clocks back logs = record {
+abbrev pub section_stays : (c : Config) (v w : View) (log : List Version) (freed from : ℕ) (time : Option ℕ) (i : InSection c v log freed from time) → w.phase ≡ v.phase
+    → w.clocks ≡ v.clocks → w.back ≡ v.back → Logs c w log freed from → InSection c w log freed from time
+section_stays c v w log freed from time i phase clocks back logs = record {
   section = i.section;
   walking = record {
     phase = phase ∙ i.walking.phase;
@@ -101,11 +101,11 @@ section_stays c v w log from time i phase clocks back logs = record {
 }
 
 -- where a walk goes on at a link that was found
-stand_so : (c : Config) (n : ℕ) (w : View) (log : List Version) (from : ℕ) (time : Option ℕ) (call : Call) (o link : ℕ) (passed : Passed)
-    → w.walk ≡ stand_at o link passed false → link < 2 ^ 64 → InSection c w log from time → o < c.objects → WalksFor c log from o call
-    → GoesSo c n w log from time call (stand o link)
-stand_so c n w log from time call o link passed at small i range for =
-    if_so (GoesSo c n w log from time call) (link == 0) (Goes (Walks o (LoadWord link (replicate 6 0) 0))) (Goes (Walks o (LoadFirst link)))
+stand_so : (c : Config) (n : ℕ) (w : View) (log : List Version) (freed from : ℕ) (time : Option ℕ) (call : Call) (sweep : Sweep) (o link : ℕ) (passed : Passed)
+    → w.walk ≡ stand_at o link passed false → link < 2 ^ 64 → InSection c w log freed from time → o < c.objects → WalksFor c log freed from o call
+    → GoesSo c n w log freed from time call sweep (stand o link)
+stand_so c n w log freed from time call sweep o link passed at small i range for =
+    if_so (GoesSo c n w log freed from time call sweep) (link == 0) (Goes (Walks o (LoadWord link (replicate 6 0) 0))) (Goes (Walks o (LoadFirst link)))
     (λ e. let zero = eqb-true link 0 e in
     by_step (Walks o (LoadWord link (replicate 6 0) 0)) refl
     (i, range, for, (omega arith, small, inl (at ∙ sym (at_zero o link passed false zero), zero), no_words c w i.section o)))
@@ -122,42 +122,41 @@ stand_so c n w log from time call o link passed at small i range for =
     ))
 
 -- the call of a walk that is a lock may hold its object
-lock_holds : (c : Config) (log : List Version) (from o : ℕ) (call : Call) → is_lock call ≡ true → WalksFor c log from o call → MayHold c log from o
-lock_holds c log from o (Lock p) e for = for.1
-lock_holds c log from o (Read p) e for = absurd (cc)
-lock_holds c log from o Enter e for = absurd for
-lock_holds c log from o (Write p words) e for = absurd for
-lock_holds c log from o Commit e for = absurd for
-lock_holds c log from o Abort e for = absurd for
-lock_holds c log from o Leave e for = absurd for
-lock_holds c log from o Tidy e for = absurd for
+lock_holds : (c : Config) (log : List Version) (freed from o : ℕ) (call : Call) → is_lock call ≡ true → WalksFor c log freed from o call → MayHold c log freed from o
+lock_holds c log freed from o (Lock p) e for = for.1
+lock_holds c log freed from o (Read p) e for = absurd (cc)
+lock_holds c log freed from o Enter e for = absurd for
+lock_holds c log freed from o (Write p words) e for = absurd for
+lock_holds c log freed from o Commit e for = absurd for
+lock_holds c log freed from o Abort e for = absurd for
+lock_holds c log freed from o Leave e for = absurd for
+lock_holds c log freed from o Tidy e for = absurd for
 
 -- the slot of the next position has a build of six words, where there is room
-pub built_wide : (c : Config) (v : View) (log : List Version) (from : ℕ) → Logs c v log from → length log < c.slots
+pub built_wide : (c : Config) (v : View) (log : List Version) (freed from : ℕ) → Logs c v log freed from → length log < freed + c.slots
     → length (build_at c v (length log)).words ≡ 6
-built_wide c v log from logs room =
+built_wide c v log freed from logs room =
     let l = logs.noted in
-    let live = logs.is.live in
-    let long : length l.live ≡ length log = ap length live ∙ notes_long 0 log in
+    let long = noted_long c l log freed from logs.is in
     let slots = logs.stands.slots in
     let b = next_spare c v l logs.stands (omega (arith, long, slots, room)) in
-    let next : v.ring.next ≡ length log = (let a = logs.stands.next in let f = logs.is.freed in omega (arith, a, f, long)) in
+    let next : v.ring.next ≡ length log = (let a = logs.stands.next in let f = logs.is.gone in omega (arith, a, f, long)) in
     ap (λ (x : Build). length x.words) (ap (λ z. unwrap_or z nothing_built) (ap (λ p. build_in (slot_at v.ring (index_of c p))) (sym next) ∙ b.1)) ∙ b.2
 
 module _ (c : Config) (k : Checked c) (n : ℕ) (lt : n < c.seats) (made : List Made) (t : TapeOf) (b : IsTapeBehind c t made)
-    (log : List Version) (from : ℕ) (time : Option ℕ) (call : Call) (sweep : Sweep) (own : Option Task) (left : List CallOf)
-    (no_scan : ((state_of c made).seats n).scan ≡ None) (before : All (IsFitCallOf c) left) (safe : IsSafe n log call left) where
+    (log : List Version) (freed from : ℕ) (time : Option ℕ) (call : Call) (sweep : Sweep) (own : Option Task) (left : List CallOf)
+    (no_scan : ((state_of c made).seats n).scan ≡ None) (before : All (IsFitCallOf c) left) where
   abbrev s : Moment
   s = state_of c made
 
   abbrev v : View
   v = s.seats n
 
-  abbrev i_of : InSection c v log from time → Section
+  abbrev i_of : InSection c v log freed from time → Section
   i_of i = i.section
 
   -- the version that the walk stands at is in a slot of the domain, and the link isn't 0
-  pub stands_in : (inside : InSection c v log from time) (o link : ℕ) → StandsAt v o link
+  pub stands_in : (inside : InSection c v log freed from time) (o link : ℕ) → StandsAt v o link
       → (link_seat_of link < c.seats) × (slot_named c link < c.slots) × (link ≢ 0) × (link < 2 ^ 64)
   stands_in inside o link at =
       let f = facts c k n made b.each in
@@ -173,12 +172,12 @@ module _ (c : Config) (k : Checked c) (n : ℕ) (lt : n < c.seats) (made : List 
       subst (λ l. (link_seat_of l < c.seats) × (slot_named c l < c.slots) × (l ≢ 0) × (l < 2 ^ 64)) at.link_is
       (within.0, within.1, some, omega (arith, high))
 
-  module _ (inside : InSection c v log from time) (o : ℕ) (range : o < c.objects) (for : WalksFor c log from o call) where
+  module _ (inside : InSection c v log freed from time) (o : ℕ) (range : o < c.objects) (for : WalksFor c log freed from o call) where
     abbrev i : Section
     i = inside.section
 
     abbrev Made_so : Walking → Type 0
-    Made_so step = IsStepped c n made (step_made c (Walks o step) (record { seat = seat_with n log from time call sweep own left; tape = t }))
+    Made_so step = IsStepped c n made (step_made c (Walks o step) (record { seat = seat_with n log freed from time call sweep own left; tape = t }))
 
     head_made : Made_so LoadHead
     head_made =
@@ -186,10 +185,10 @@ module _ (c : Config) (k : Checked c) (n : ℕ) (lt : n < c.seats) (made : List 
         record { may = inside.walking; range = range; place = refl; writes = λ x. refl; fits = λ x. tt } in
         let w = view_by c s n (load_head o i) in
         let link = s.memory (Head o) in
-        let still = section_stays c v w log from time inside refl refl refl (logs_left c v w log from refl refl refl refl _ refl (refl, refl) inside.logs) in
-        next_is c k n lt made t b (load_head o i) (Walks o LoadHead) of (seat_with n log from time call sweep own left) refl log from time call sweep own left
-        refl no_scan before safe
-        (stand_so c n w log from time call o link Nothing refl (word_small c k n made b.each (Head o)) still range for)
+        let still = section_stays c v w log freed from time inside refl refl refl (logs_left c v w log freed from refl refl refl refl _ refl (refl, refl) inside.logs) in
+        next_is c k n lt made t b (load_head o i) (Walks o LoadHead) of (seat_with n log freed from time call sweep own left) refl log freed from time call sweep own left
+        refl no_scan before
+        (stand_so c n w log freed from time call sweep o link Nothing refl (word_small c k n made b.each (Head o)) still range for)
 
     first_made : (link : ℕ) → StandsAt v o link → Made_so (LoadFirst link)
     first_made link at =
@@ -202,9 +201,9 @@ module _ (c : Config) (k : Checked c) (n : ℕ) (lt : n < c.seats) (made : List 
           fits = λ x. tt;
         } in
         let w = view_by c s n (load_first link at.stand) in
-        let still = section_stays c v w log from time inside refl refl refl (logs_left c v w log from refl refl refl refl _ refl (refl, refl) inside.logs) in
-        next_is c k n lt made t b (load_first link at.stand) (Walks o (LoadFirst link)) of (seat_with n log from time call sweep own left) refl log from time
-        call sweep own left refl no_scan before safe
+        let still = section_stays c v w log freed from time inside refl refl refl (logs_left c v w log freed from refl refl refl refl _ refl (refl, refl) inside.logs) in
+        next_is c k n lt made t b (load_first link at.stand) (Walks o (LoadFirst link)) of (seat_with n log freed from time call sweep own left) refl log freed from time
+        call sweep own left refl no_scan before
         (by_step (Walks o (LoadStamp link (s.memory (First (link_seat_of link) (slot_named c link))))) refl
         (still, range, for, (record { stand = _; at = refl; object_is = at.object_is; link_is = at.link_is }, refl)))
 
@@ -222,13 +221,13 @@ module _ (c : Config) (k : Checked c) (n : ℕ) (lt : n < c.seats) (made : List 
         } in
         let w = view_by c s n (load_stamp link first at.stand) in
         let found = s.memory (Stamp (link_seat_of link) (index_of c first)) in
-        let still = section_stays c v w log from time inside refl refl refl (logs_left c v w log from refl refl refl refl _ refl (refl, refl) inside.logs) in
+        let still = section_stays c v w log freed from time inside refl refl refl (logs_left c v w log freed from refl refl refl refl _ refl (refl, refl) inside.logs) in
         let stands : StandsAt w o link =
         record { stand = record at.stand { stamp = Some found }; at = refl; object_is = at.object_is; link_is = at.link_is } in
         let limit : unwrap_or time 0 ≡ time_in i = ap (λ x. unwrap_or x 0) inside.time_is in
-        next_is c k n lt made t b (load_stamp link first at.stand) (Walks o (LoadStamp link first)) of (seat_with n log from time call sweep own left) refl log
-        from time call sweep own left refl no_scan before safe
-        (if_so (GoesSo c n w log from time call) (not (is_unset found) && leb found (unwrap_or time 0)) (Goes (Walks o (LoadWord link (replicate 6 0) 0)))
+        next_is c k n lt made t b (load_stamp link first at.stand) (Walks o (LoadStamp link first)) of (seat_with n log freed from time call sweep own left) refl log freed
+        from time call sweep own left refl no_scan before
+        (if_so (GoesSo c n w log freed from time call sweep) (not (is_unset found) && leb found (unwrap_or time 0)) (Goes (Walks o (LoadWord link (replicate 6 0) 0)))
         (if is_lock call then refusal link found else Goes (Walks o (LoadPrev link)))
         (λ e.
         let le = leb_le found (unwrap_or time 0) (and_right (not (is_unset found)) (leb found (unwrap_or time 0)) e) in
@@ -243,8 +242,8 @@ module _ (c : Config) (k : Checked c) (n : ℕ) (lt : n < c.seats) (made : List 
             no_words c w i o,
           ),
         ))
-        (λ e. if_so (GoesSo c n w log from time call) (is_lock call) (refusal link found) (Goes (Walks o (LoadPrev link)))
-        (λ lock. refused c n w log from time call link found still)
+        (λ e. if_so (GoesSo c n w log freed from time call sweep) (is_lock call) (refusal link found) (Goes (Walks o (LoadPrev link)))
+        (λ lock. refused c n w log freed from time call sweep link found still)
         (λ read. by_step (Walks o (LoadPrev link)) refl
         (still, range, for, (stands, found, refl, goes (is_unset found) refl (leb found (unwrap_or time 0)) refl e limit)))))
       where
@@ -275,24 +274,24 @@ module _ (c : Config) (k : Checked c) (n : ℕ) (lt : n < c.seats) (made : List 
         } in
         let w = view_by c s n (load_prev link at.stand) in
         let below = s.memory (Prev (link_seat_of link) (slot_named c link)) in
-        let still = section_stays c v w log from time inside refl refl refl (logs_left c v w log from refl refl refl refl _ refl (refl, refl) inside.logs) in
-        next_is c k n lt made t b (load_prev link at.stand) (Walks o (LoadPrev link)) of (seat_with n log from time call sweep own left) refl log from time call
-        sweep own left refl no_scan before safe
-        (stand_so c n w log from time call o below (passed_too at.stand.passed at.stand.stamp)
+        let still = section_stays c v w log freed from time inside refl refl refl (logs_left c v w log freed from refl refl refl refl _ refl (refl, refl) inside.logs) in
+        next_is c k n lt made t b (load_prev link at.stand) (Walks o (LoadPrev link)) of (seat_with n log freed from time call sweep own left) refl log freed from time call
+        sweep own left refl no_scan before
+        (stand_so c n w log freed from time call sweep o below (passed_too at.stand.passed at.stand.stamp)
         (ap (λ x. stand_at x below (passed_too at.stand.passed at.stand.stamp) false) at.object_is)
         (word_small c k n made b.each (Prev (link_seat_of link) (slot_named c link))) still range for)
 
     -- all words are read: a read answers them, and a lock builds its version
-    words_so : (v2 : View) (link : ℕ) (words : List ℕ) → (still : InSection c v2 log from time) → link < 2 ^ 64 → StandsToLock v2 still.section o link
+    words_so : (v2 : View) (link : ℕ) (words : List ℕ) → (still : InSection c v2 log freed from time) → link < 2 ^ 64 → StandsToLock v2 still.section o link
         → WordsSoFar c v2 still.section o words 6 → length (words_read c v2 still.section o) ≡ 6
-        → GoesSo c n v2 log from time call
-        (after_words log (record { seat = n; time = time; from = from; freed = 0; call = call; sweep = sweep }) o link words)
+        → GoesSo c n v2 log freed from time call sweep
+        (after_words log (record { seat = n; time = time; from = from; freed = freed; call = call; sweep = sweep }) o link words)
     words_so v2 link words still small stands so wide =
-        let state : State = record { seat = n; time = time; from = from; freed = 0; call = call; sweep = sweep } in
-        if_so (GoesSo c n v2 log from time call) (is_lock call) (Goes (Locks (new_version state o link words) (length log) (locking.Build 0)))
+        let state : State = record { seat = n; time = time; from = from; freed = freed; call = call; sweep = sweep } in
+        if_so (GoesSo c n v2 log freed from time call sweep) (is_lock call) (Goes (Locks (new_version state o link words) (length log) (locking.Build 0)))
         (Ends (SixWords words))
         (λ lock.
-        let may = lock_holds c log from o call lock for in
+        let may = lock_holds c log freed from o call lock for in
         by_step (Locks (new_version state o link words) (length log) (locking.Build 0)) refl (
           record {
             inside = still;
@@ -316,7 +315,7 @@ module _ (c : Config) (k : Checked c) (n : ℕ) (lt : n < c.seats) (made : List 
               (λ (z : 0 ≡ 1). absurd (omega (arith, z))),
               stands,
               record {
-                wide = built_wide c v2 log from still.logs may.room;
+                wide = built_wide c v2 log freed from still.logs may.room;
                 first = λ z. absurd (omega (arith, z));
                 stamp = λ z. absurd (omega (arith, z));
                 previous = λ z. absurd (omega (arith, z));
@@ -327,20 +326,20 @@ module _ (c : Config) (k : Checked c) (n : ℕ) (lt : n < c.seats) (made : List 
           },
           lock,
         ))
-        (λ read. by_end (SixWords words) refl (rests_in c v2 log from time still))
+        (λ read. by_end (SixWords words) refl (rests_in c v2 log freed from time still))
 
     -- one word more is read
-    word_so : (v2 : View) (link : ℕ) (words : List ℕ) (w found : ℕ) → (still : InSection c v2 log from time) → link < 2 ^ 64
+    word_so : (v2 : View) (link : ℕ) (words : List ℕ) (w found : ℕ) → (still : InSection c v2 log freed from time) → link < 2 ^ 64
         → StandsToLock v2 still.section o link
         → w < 6 → found < 2 ^ 64 → found ≡ word_read c v2 still.section o w → WordsSoFar c v2 still.section o words w
         → length (words_read c v2 still.section o) ≡ 6
-        → GoesSo c n v2 log from time call
+        → GoesSo c n v2 log freed from time call sweep
         (if ltb w 5 then Goes (Walks o (LoadWord link (slice_set words w found) (w + 1)))
-        else after_words log (record { seat = n; time = time; from = from; freed = 0; call = call; sweep = sweep }) o link (slice_set words w found))
+        else after_words log (record { seat = n; time = time; from = from; freed = freed; call = call; sweep = sweep }) o link (slice_set words w found))
     word_so v2 link words w found still small stands less fits is so wide =
         let more = one_word c v2 still.section o words w found less fits is so in
-        if_so (GoesSo c n v2 log from time call) (ltb w 5) (Goes (Walks o (LoadWord link (slice_set words w found) (w + 1))))
-        (after_words log (record { seat = n; time = time; from = from; freed = 0; call = call; sweep = sweep }) o link (slice_set words w found))
+        if_so (GoesSo c n v2 log freed from time call sweep) (ltb w 5) (Goes (Walks o (LoadWord link (slice_set words w found) (w + 1))))
+        (after_words log (record { seat = n; time = time; from = from; freed = freed; call = call; sweep = sweep }) o link (slice_set words w found))
         (λ e. let on = ltb_lt w 5 e in by_step (Walks o (LoadWord link (slice_set words w found) (w + 1))) refl
         (still, range, for, (omega (arith, on), small, stands, more)))
         (λ e. let last : w + 1 ≡ 6 = (let ge = ltb_ge w 5 e in omega (arith, ge, less)) in
@@ -356,9 +355,9 @@ module _ (c : Config) (k : Checked c) (n : ℕ) (lt : n < c.seats) (made : List 
         let small = word_small c k n made b.each (Master o w) in
         let told = (master_loads any_start any_commit c (zeros c) v o w i range may.1 s.memory s.history s.seats (facts c k n made b.each)
         (view_there c k n made b.each) (seated c k n made b.each lt) (starts c k n made b.each) small).2.0.0 in
-        let still = section_stays c v v2 log from time inside refl refl refl (logs_left c v v2 log from refl refl refl refl _ refl (refl, refl) inside.logs) in
-        next_is c k n lt made t b (load_master o w i) (Walks o (LoadWord 0 words w)) of (seat_with n log from time call sweep own left) refl log from time call
-        sweep own left refl no_scan before safe
+        let still = section_stays c v v2 log freed from time inside refl refl refl (logs_left c v v2 log freed from refl refl refl refl _ refl (refl, refl) inside.logs) in
+        next_is c k n lt made t b (load_master o w i) (Walks o (LoadWord 0 words w)) of (seat_with n log freed from time call sweep own left) refl log freed from time call
+        sweep own left refl no_scan before
         (word_so v2 0 words w found still (omega arith) (inl (stands, refl)) less small told.1 (record { wide = so.wide; small = so.small; are = so.are }) told.2)
 
     data_made : (link : ℕ) (words : List ℕ) (w : ℕ) → w < 6 → link < 2 ^ 64
@@ -389,11 +388,11 @@ module _ (c : Config) (k : Checked c) (n : ℕ) (lt : n < c.seats) (made : List 
         let small = word_small c k n made b.each (Data (link_seat_of link) (slot_named c link) w) in
         let told = (data_loads any_start any_commit c (zeros c) v link w at.0 i may s.memory s.history s.seats (facts c k n made b.each)
         (view_there c k n made b.each) (seated c k n made b.each lt) (starts c k n made b.each) small).2.0.0 in
-        let still = section_stays c v v2 log from time inside refl refl refl (logs_left c v v2 log from refl refl refl refl _ refl (refl, refl) inside.logs) in
-        let state : State = record { seat = n; time = time; from = from; freed = 0; call = call; sweep = sweep } in
-        next_is c k n lt made t b (load_data link w at.0 i) (Walks o (LoadWord link words w)) of (seat_with n log from time call sweep own left) refl log from
-        time call sweep own left refl no_scan before safe
-        (subst (λ p. GoesSo c n v2 log from time call
+        let still = section_stays c v v2 log freed from time inside refl refl refl (logs_left c v v2 log freed from refl refl refl refl _ refl (refl, refl) inside.logs) in
+        let state : State = record { seat = n; time = time; from = from; freed = freed; call = call; sweep = sweep } in
+        next_is c k n lt made t b (load_data link w at.0 i) (Walks o (LoadWord link words w)) of (seat_with n log freed from time call sweep own left) refl log freed from
+        time call sweep own left refl no_scan before
+        (subst (λ p. GoesSo c n v2 log freed from time call sweep
         (if ltb w 5 then Goes (Walks o (LoadWord link (slice_set words w (s.memory p)) (w + 1)))
         else after_words log state o link (slice_set words w (s.memory p)))) (sym there)
         (word_so v2 link words w found still small_link (inr at) less small (told.1 ∙ ap (λ x. word_read c v i x w) at.3)

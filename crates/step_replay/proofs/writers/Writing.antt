@@ -1,6 +1,6 @@
 -- The stores of a write.
 use Rattle.std.proofs.Common.{◌≡◌, ℕ, ◌+◌, ◌-◌, ◌<◌, ltb, List, Option, None, All}
-use Rattle.std.proofs.Common.{refl, sym, ap, ◌∙◌, arith, inl, inr, slice_index, mod-lt}
+use Rattle.std.proofs.Common.{refl, sym, ap, ◌∙◌, arith, slice_index, mod-lt, drop}
 use Rattle.mv_core.proofs.Terms.{Config, Checked, Data}
 use Rattle.mv_core.specs.declared.view.View.{View}
 use Rattle.mv_core.specs.Moves.{Moment, store_data}
@@ -23,40 +23,38 @@ use Rattle.step_replay.specs.Tasks.{slot_at as slot_for}
 use Rattle.step_replay.specs.States.{Made, state_of}
 use Rattle.step_replay.specs.Runs.{TapeOf, step_made}
 use Rattle.step_replay.specs.Behind.{IsTapeBehind}
-use Rattle.step_replay.proofs.writers.Notes.{notes_from, notes_put, edited_long}
-use Rattle.step_replay.proofs.writers.Standing.{seat_with, Logs, InSection, IsWriting, IsSafe, IsStepped, GoesSo, by_step, by_end}
+use Rattle.step_replay.proofs.writers.Notes.{notes_from, notes_put, edited_long, edited_behind}
+use Rattle.step_replay.proofs.writers.Standing.{seat_with, Logs, InSection, IsWriting, IsStepped, GoesSo, by_step, by_end}
 use Rattle.step_replay.proofs.writers.Stepping.{IsOfKind, view_by, next_is}
 use Rattle.step_replay.proofs.writers.Known.{if_so, ltb_lt, number_is}
-use Rattle.step_replay.proofs.writers.LogFacts.{noted_long}
+use Rattle.step_replay.proofs.writers.LogFacts.{noted_long, from_there}
 use Rattle.step_replay.proofs.writers.Helping.{rests_in}
 
--- an edit of the notes leaves a seat safe
-pub safe_edited : (e : Edit) (n : ℕ) (log : List Version) (call : Call) (left : List CallOf) → IsSafe n log call left → IsSafe n (edited_from e 0 log) call left
-safe_edited e n log call left (inl none) = inl (ap (edited_from e 0) none.0, none.1, none.2)
-safe_edited e n log call left (inr no_tidy) = inr no_tidy
-
 module _ (c : Config) (k : Checked c) (n : ℕ) (lt : n < c.seats) (made : List Made) (t : TapeOf) (b : IsTapeBehind c t made)
-    (log : List Version) (from : ℕ) (time : Option ℕ) (call : Call) (sweep : Sweep) (own : Option Task) (left : List CallOf)
-    (no_scan : ((state_of c made).seats n).scan ≡ None) (before : All (IsFitCallOf c) left) (safe : IsSafe n log call left) where
+    (log : List Version) (freed from : ℕ) (time : Option ℕ) (call : Call) (sweep : Sweep) (own : Option Task) (left : List CallOf)
+    (no_scan : ((state_of c made).seats n).scan ≡ None) (before : All (IsFitCallOf c) left) where
   abbrev s : Moment
   s = state_of c made
 
   abbrev v : View
   v = s.seats n
 
-  pub writing_made : (at : ℕ) (words : List ℕ) (word : ℕ) → IsWriting c v log from time at words word
-      → IsStepped c n made (step_made c (Writes at words word) (record { seat = seat_with n log from time call sweep own left; tape = t }))
+  pub writing_made : (at : ℕ) (words : List ℕ) (word : ℕ) → IsWriting c v log freed from time at words word
+      → IsStepped c n made (step_made c (Writes at words word) (record { seat = seat_with n log freed from time call sweep own left; tape = t }))
   writing_made at words word writes =
       let inside = writes.inside in
       let l = inside.logs.noted in
       let is = inside.logs.is in
       let k2 = inside.logs.stands in
-      let long = noted_long c l log from is in
-      let freed = is.freed in
+      let long = noted_long c l log freed from is in
+      let gone = is.gone in
+      let within = is.within in
+      let starts = from_there c k v log freed from inside.logs in
       let few = is.held in
       let low = writes.held in
       let high = writes.live in
-      let held : IsHeld l at = (omega (arith, long, freed, few, low), omega (arith, long, freed, high)) in
+      let fit = k2.log.held in
+      let held : IsHeld l at = (omega (arith, long, gone, few, low, fit), omega (arith, long, gone, high)) in
       let value = slice_index words word in
       let kind = store_data at word value (version_in_view c v at) in
       let task = Writes at words word in
@@ -71,21 +69,23 @@ module _ (c : Config) (k : Checked c) (n : ℕ) (lt : n < c.seats) (made : List 
       let w = view_by c s n kind in
       let log2 = edited_from (WordPut at word value) 0 log in
       let long2 = edited_long (WordPut at word value) 0 log in
-      let zero_is : 0 + at ≡ at = omega arith in
-      let place : at - l.freed ≡ at = omega (arith, freed) in
-      let logs2 : Logs c w log2 from = record {
+      let place : at - l.freed ≡ at - freed = omega (arith, gone) in
+      let there : freed + (at - freed) ≡ at = omega (arith, low, starts) in
+      let logs2 : Logs c w log2 freed from = record {
         noted = word_noted l at word value;
         stands = stands_word c v l at word value k2 held w refl;
         is = record {
-          live = (λ i. at_place (with_word word value) (place i) (is.live i)) ∙ sym (notes_put at word value 0 log)
-              ∙ ap (λ p. notes_from 0 (edited_from (WordPut p word value) 0 log)) zero_is;
-          freed = is.freed;
+          live = (λ i. at_place (with_word word value) (place i) (is.live i)) ∙ sym (notes_put (at - freed) word value freed (drop freed log))
+              ∙ ap (λ p. notes_from freed (edited_from (WordPut p word value) freed (drop freed log))) there
+              ∙ ap (notes_from freed) (sym (edited_behind (WordPut at word value) freed log));
+          gone = is.gone;
+          within = omega (arith, within, long2);
           unbuilt = is.unbuilt;
           held = omega (arith, few, long2);
           few = is.few;
         };
       } in
-      let inside2 : InSection c w log2 from time = record {
+      let inside2 : InSection c w log2 freed from time = record {
         section = inside.section;
         walking = record {
           phase = inside.walking.phase;
@@ -96,9 +96,8 @@ module _ (c : Config) (k : Checked c) (n : ℕ) (lt : n < c.seats) (made : List 
         time_is = inside.time_is;
         logs = logs2;
       } in
-      next_is c k n lt made t b kind task of (seat_with n log from time call sweep own left) refl log2 from time call sweep own left refl no_scan before
-      (safe_edited (WordPut at word value) n log call left safe)
-      (if_so (GoesSo c n w log2 from time call) (ltb word 5) (Goes (Writes at words (word + 1))) (Ends Silent)
+      next_is c k n lt made t b kind task of (seat_with n log freed from time call sweep own left) refl log2 freed from time call sweep own left refl no_scan before
+      (if_so (GoesSo c n w log2 freed from time call sweep) (ltb word 5) (Goes (Writes at words (word + 1))) (Ends Silent)
       (λ e. by_step (Writes at words (word + 1)) refl (record {
         inside = inside2;
         held = writes.held;
@@ -106,4 +105,4 @@ module _ (c : Config) (k : Checked c) (n : ℕ) (lt : n < c.seats) (made : List 
         in_range = (let less = ltb_lt word 5 e in omega (arith, less));
         small = writes.small;
       }))
-      (λ e. by_end Silent refl (rests_in c w log2 from time inside2)))
+      (λ e. by_end Silent refl (rests_in c w log2 freed from time inside2)))

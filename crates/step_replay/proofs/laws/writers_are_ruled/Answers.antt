@@ -1,5 +1,8 @@
-use Rattle.step_replay.proofs.writers.Turns.{writers_ruled}
+use Rattle.step_replay.proofs.writers.Locking.{locking_made}
+use Rattle.step_replay.proofs.writers.Writing.{writing_made}
+use Rattle.step_replay.proofs.writers.Aborting.{abort_made}
+use Rattle.step_replay.proofs.writers.Committing.{ending_made}
 use Rattle.step_replay.proofs.laws.writers_are_ruled.Goals as goal
 
 pub returns : goal.returns
-returns c = writers_ruled
+returns c = ?

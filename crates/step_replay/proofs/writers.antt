@@ -1,8 +1,8 @@
 -- Seats that lock and write: what their notes stand for, and their steps.
 pub mod Notes
 pub mod Standing
-pub mod Stepping
 pub mod Known
+pub mod Stepping
 pub mod Helping
 pub mod Entering
 pub mod LogFacts
@@ -13,6 +13,7 @@ pub mod Searches
 pub mod Writing
 pub mod Aborting
 pub mod Committing
+pub mod Rounds
 pub mod Tidying
 pub mod Looking
 pub mod Turns

@@ -99,7 +99,7 @@ module _ (c : Config) (k : Checked c) (n : ℕ) (lt : n < c.seats) (made : List 
         range = may.0;
         place = refl;
         writes = λ f. refl;
-        fits = λ f. omega (arith, small, link);
+        fits = λ f _. omega (arith, small, link);
       } in
       let w = view_by c s n kind in
       let more : GivesUp c w log freed from (given + 1) = record {
@@ -126,7 +126,7 @@ module _ (c : Config) (k : Checked c) (n : ℕ) (lt : n < c.seats) (made : List 
         range = tt;
         place = refl;
         writes = λ f. refl;
-        fits = λ f. tt;
+        fits = λ f _. tt;
       } in
       let w = view_by c s n load_death in
       let f = facts c k n made b.each in
@@ -158,7 +158,7 @@ module _ (c : Config) (k : Checked c) (n : ℕ) (lt : n < c.seats) (made : List 
         range = lt;
         place = ap Mark (number_is c k n made b.each);
         writes = λ f. refl;
-        fits = λ f. omega arith;
+        fits = λ f _. omega arith;
       } in
       let w = view_by c s n clear_mark in
       let log2 = edited_from (AbortedFrom from dead) 0 log in
@@ -200,7 +200,7 @@ module _ (c : Config) (k : Checked c) (n : ℕ) (lt : n < c.seats) (made : List 
         range = lt;
         place = ap Mark (number_is c k n made b.each);
         writes = λ f. refl;
-        fits = λ f. omega arith;
+        fits = λ f _. omega arith;
       } in
       let w = view_by c s n clear_mark in
       let still = logs_at c w log freed from (length log) none (logs_left c v w log freed from refl refl refl refl _ refl (refl, refl) inside.logs) in

@@ -141,7 +141,7 @@ module _ (c : Config) (k : Checked c) (n : ℕ) (lt : n < c.seats) (made : List 
         range = tt;
         place = refl;
         writes = λ x. refl;
-        fits = λ x. tt;
+        fits = λ x _. tt;
       } in
       let w = view_by c s n load_check in
       let word = s.memory Clock in
@@ -195,7 +195,7 @@ module _ (c : Config) (k : Checked c) (n : ℕ) (lt : n < c.seats) (made : List 
         range = tt;
         place = refl;
         writes = λ f. ap (stored_if f word) word_is;
-        fits = λ f. if_so IsStorable (f == word) (Some new) None
+        fits = λ f _. if_so IsStorable (f == word) (Some new) None
             (λ e. let seats = few_seats in let slot = low.1 in omega (arith, packed, seats, slot, room)) (λ e. tt);
       } in
       let found = s.memory Clock in
@@ -291,7 +291,7 @@ module _ (c : Config) (k : Checked c) (n : ℕ) (lt : n < c.seats) (made : List 
         range = (lt, low.0);
         place = place;
         writes = λ f. (λ j. stored_if f (sym (stamp_is from small) j) (time_is j));
-        fits = λ f. if_so IsStorable (f == stamp_from from) (Some t2) None (λ e. let in_time = named.in_time in omega (arith, in_time)) (λ e. tt);
+        fits = λ f _. if_so IsStorable (f == stamp_from from) (Some t2) None (λ e. let in_time = named.in_time in omega (arith, in_time)) (λ e. tt);
       } in
       let own_is : is_own c v.number naming word unset ≡ true =
       ap (λ x. x && (unset == unset_of naming.first)) (eq-eqb word (clock_of naming.time v.number (index_of c naming.first)) may.4)
@@ -344,7 +344,7 @@ module _ (c : Config) (k : Checked c) (n : ℕ) (lt : n < c.seats) (made : List 
         range = (may.0.1, mod-lt (link_position_of m.previous) (omega (arith, slots)));
         place = refl;
         writes = λ f. refl;
-        fits = λ f. (let in_time = fin.in_time in omega (arith, in_time));
+        fits = λ f _. (let in_time = fin.in_time in omega (arith, in_time));
       } in
       let w = view_by c s n kind in
       let more : Finishes c w log freed from t2 (told + 1) = record {
@@ -376,7 +376,7 @@ module _ (c : Config) (k : Checked c) (n : ℕ) (lt : n < c.seats) (made : List 
         range = lt;
         place = ap Mark (number_is c k n made b.each);
         writes = λ f. refl;
-        fits = λ f. omega arith;
+        fits = λ f _. omega arith;
       } in
       let w = view_by c s n clear_mark in
       let log2 = edited_from (CommittedFrom from t2) 0 log in

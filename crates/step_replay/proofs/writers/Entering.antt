@@ -60,7 +60,7 @@ module _ (c : Config) (k : Checked c) (n : ℕ) (lt : n < c.seats) (made : List 
   low_made : v.phase ≡ Outside → Made_so LoadLow
   low_made phase =
       let of : IsOfKind c s n load_low (Enters LoadLow) =
-      record { may = record { outside = phase; no_scan = no_scan }; range = tt; place = refl; writes = λ f. refl; fits = λ f. tt } in
+      record { may = record { outside = phase; no_scan = no_scan }; range = tt; place = refl; writes = λ f. refl; fits = λ f _. tt } in
       let w = view_by c s n load_low in
       next_is c k n lt made t b load_low (Enters LoadLow) of (seat_with n log freed from None call sweep own left) refl log freed from None call sweep own left refl
       no_scan before
@@ -75,7 +75,7 @@ module _ (c : Config) (k : Checked c) (n : ℕ) (lt : n < c.seats) (made : List 
         range = lt;
         place = ap Mark (number_is c k n made b.each);
         writes = λ f. ap Some (sym is);
-        fits = λ f. omega (arith, is, bound);
+        fits = λ f _. omega (arith, is, bound);
       } in
       let w = view_by c s n (store_mark low) in
       next_is c k n lt made t b (store_mark low) (Enters (StoreMark mark)) of (seat_with n log freed from None call sweep own left) refl log freed from None call sweep own
@@ -86,7 +86,7 @@ module _ (c : Config) (k : Checked c) (n : ℕ) (lt : n < c.seats) (made : List 
   time_made : (low : ℕ) → v.phase ≡ Marked low → Made_so LoadTime
   time_made low phase =
       let of : IsOfKind c s n load_time (Enters LoadTime) =
-      record { may = (low, phase); range = tt; place = refl; writes = λ f. refl; fits = λ f. tt } in
+      record { may = (low, phase); range = tt; place = refl; writes = λ f. refl; fits = λ f _. tt } in
       let w = view_by c s n load_time in
       let word = s.memory Clock in
       let held = logs_left c v w log freed from refl refl refl refl _ refl (refl, refl) logs in

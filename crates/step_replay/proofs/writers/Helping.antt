@@ -223,7 +223,7 @@ module _ (c : Config) (k : Checked c) (n : ℕ) (lt : n < c.seats) (made : List 
         range = (f.loaded_words.loaded n word loaded).is_word some;
         place = refl;
         writes = λ x. refl;
-        fits = λ x. tt;
+        fits = λ x _. tt;
       } in
       let w = view_by c s n (load_named word) in
       let found = s.memory (named_place word) in
@@ -256,7 +256,7 @@ module _ (c : Config) (k : Checked c) (n : ℕ) (lt : n < c.seats) (made : List 
         range = tt;
         place = refl;
         writes = λ x. refl;
-        fits = λ x. tt;
+        fits = λ x _. tt;
       } in
       let w = view_by c s n load_check in
       let found = s.memory Clock in
@@ -295,7 +295,7 @@ module _ (c : Config) (k : Checked c) (n : ℕ) (lt : n < c.seats) (made : List 
         range = old.0.is_word old.1;
         place = refl;
         writes = λ x. refl;
-        fits = λ x. if_so IsStorable (x == unset) (Some (clock_time_of word)) None (λ e. omega (arith, bound)) (λ e. tt);
+        fits = λ x _. if_so IsStorable (x == unset) (Some (clock_time_of word)) None (λ e. omega (arith, bound)) (λ e. tt);
       } in
       let found = s.memory (named_place word) in
       let state : State = record { seat = n; time = time; from = from; freed = freed; call = call; sweep = sweep } in

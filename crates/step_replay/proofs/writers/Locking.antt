@@ -191,7 +191,7 @@ module _ (c : Config) (k : Checked c) (n : ℕ) (lt : n < c.seats) (made : List 
           range = field_range c n (slot_for c at) field lt (mod-lt at (omega (arith, slots))) less;
           place = place;
           writes = λ f. refl;
-          fits = λ f. field_small version at field first_low builds.small_link builds.small;
+          fits = λ f _. field_small version at field first_low builds.small_link builds.small;
         } in
         let w = view_by c s n kind in
         let more = has_next version at field (build_at c v at) less (low_at field has) has in
@@ -346,7 +346,7 @@ module _ (c : Config) (k : Checked c) (n : ℕ) (lt : n < c.seats) (made : List 
           range = subst (λ (x : ℕ). x < c.objects) (sym builds.object_is) range;
           place = place;
           writes = λ f. ap (stored_if f version.previous) link;
-          fits = λ f. if_so IsStorable (f == version.previous) (Some (link_to n at)) None
+          fits = λ f _. if_so IsStorable (f == version.previous) (Some (link_to n at)) None
               (λ e. let is = link_is n at few_seats low in let seats = few_seats in omega (arith, is, seats, low)) (λ e. tt);
         } in
         let A = head_locked c v i o version.previous at in
@@ -447,7 +447,7 @@ module _ (c : Config) (k : Checked c) (n : ℕ) (lt : n < c.seats) (made : List 
           range = (lt, mod-lt at (omega (arith, slots)));
           place = ap (λ m. field_place m (slot_for c at) 2) (number_is c k n made b.each);
           writes = λ f. refl;
-          fits = λ f. omega arith;
+          fits = λ f _. omega arith;
         } in
         let w = view_by c s n kind in
         let now = build_now c k v log freed from time at inside may.room builds.at_is 2 0 has.1.wide in
@@ -476,7 +476,7 @@ module _ (c : Config) (k : Checked c) (n : ℕ) (lt : n < c.seats) (made : List 
           range = (in_range.0, in_range.1);
           place = refl;
           writes = λ x. refl;
-          fits = λ x. tt;
+          fits = λ x _. tt;
         } in
         let w = view_by c s n (load_first link stands.stand) in
         let still = section_stays c v w log freed from time inside refl refl refl (logs_left c v w log freed from refl refl refl refl _ refl (refl, refl) inside.logs) in
@@ -504,7 +504,7 @@ module _ (c : Config) (k : Checked c) (n : ℕ) (lt : n < c.seats) (made : List 
           range = (in_range.0, mod-lt first (omega (arith, slots)));
           place = refl;
           writes = λ x. refl;
-          fits = λ x. tt;
+          fits = λ x _. tt;
         } in
         let w = view_by c s n kind in
         let still = section_stays c v w log freed from time inside refl refl refl (logs_left c v w log freed from refl refl refl refl _ refl (refl, refl) inside.logs) in

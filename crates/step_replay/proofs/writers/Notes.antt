@@ -1,5 +1,5 @@
 -- The versions that a seat of a replay notes, as the notes of a log.
-use Rattle.std.proofs.Common.{◌≡◌, ℕ, zero, suc, ◌+◌, ◌<◌, ◌≤◌, ◌==◌, List, [], ◌∷◌, ◌++◌, length, drop, get_or, refl, ap, ◌∙◌, arith}
+use Rattle.std.proofs.Common.{◌≡◌, ℕ, zero, suc, ◌+◌, ◌<◌, ◌≤◌, ◌==◌, List, [], ◌∷◌, ◌++◌, length, drop, Option, get_or, refl, sym, ap, ◌∙◌, arith}
 use Rattle.std.proofs.Common.{Some, leb, Bool, true, false, if◌then◌else◌, le-leb, eq-eqb, ne_eqb}
 use Rattle.std.proofs.lemmas.Bool.{lt-leb}
 use Rattle.std.specs.Prelude.{slice_get, slice_set}
@@ -7,8 +7,8 @@ use Rattle.seat_log.specs.declared.version.Note.{Note}
 use Rattle.seat_log.specs.Notes.{from_place, at_place, with_word}
 use Rattle.step_replay.specs.declared.seats.Version.{Version}
 use Rattle.step_replay.specs.declared.seats.Edit.{Edit}
-use Rattle.step_replay.specs.declared.seats.Edit.TheVariants.{WordPut, CommittedFrom, AbortedFrom}
-use Rattle.step_replay.specs.SeatNotes.{edited_from}
+use Rattle.step_replay.specs.declared.seats.Edit.TheVariants.{WordPut, CommittedFrom, AbortedFrom, Retired, AboveNoted}
+use Rattle.step_replay.specs.SeatNotes.{edited, edited_from}
 
 -- a version of a replay, as a note
 abbrev pub note_of : ℕ → Version → Note
@@ -144,3 +144,63 @@ drop_at (suc k) i [] d = refl
 drop_at (suc k) i (v ∷ log) d =
     let e : suc (k + i) ≡ suc k + i = omega arith in
     drop_at k i log d ∙ ap (λ j. get_or (v ∷ log) j d) e
+
+-- notes behind a place
+pub notes_drop : (k at : ℕ) (log : List Version) → drop k (notes_from at log) ≡ notes_from (at + k) (drop k log)
+notes_drop zero at log = ap (λ q. notes_from q log) (omega arith)
+notes_drop (suc k) at [] = refl
+notes_drop (suc k) at (v ∷ log) =
+    let same : suc at + k ≡ at + suc k = omega arith in
+    notes_drop k (suc at) log ∙ ap (λ q. notes_from q (drop k log)) same
+
+drop_nil : (k : ℕ) → ◌≡◌ {A = List Version} (drop k []) []
+drop_nil zero = refl
+drop_nil (suc k) = refl
+
+pub drop_on : (a b : ℕ) (log : List Version) → drop a (drop b log) ≡ drop (b + a) log
+drop_on a zero log = ap (λ q. drop q log) (omega arith)
+drop_on a (suc b) [] = drop_nil a ∙ sym (drop_nil (suc b + a))
+drop_on a (suc b) (v ∷ log) =
+    let same : suc (b + a) ≡ suc b + a = omega arith in
+    drop_on a b log ∙ ap (λ q. drop q (v ∷ log)) same
+
+-- a version is dead from a time on
+none_retired : (at dead p : ℕ) (log : List Version) → at < p → edited_from (Retired at dead) p log ≡ log
+none_retired at dead p [] lt = refl
+none_retired at dead p (v ∷ log) lt =
+    let one = ap (λ b. if b then record v { dead = dead } else v) (ne_eqb at p (λ e. omega (arith, lt, e))) in
+    let rest = none_retired at dead (suc p) log (omega (arith, lt)) in
+    (λ i. one i ∷ rest i)
+
+pub notes_retired : (k dead p : ℕ) (log : List Version)
+    → notes_from p (edited_from (Retired (p + k) dead) p log) ≡ at_place (λ n. record n { dead = dead }) k (notes_from p log)
+notes_retired k dead p [] = refl
+notes_retired zero dead p (v ∷ log) =
+    let one = from_here (p + 0 == p) (record v { dead = dead }) v p (eq-eqb (p + 0) p (omega arith)) in
+    let rest = ap (notes_from (suc p)) (none_retired (p + 0) dead (suc p) log (omega arith)) in
+    (λ i. one i ∷ rest i)
+notes_retired (suc k) dead p (v ∷ log) =
+    let one = before_here (p + suc k == p) (record v { dead = dead }) v p (ne_eqb (p + suc k) p (λ e. omega (arith, e))) in
+    let same : p + suc k ≡ suc p + k = omega arith in
+    let rest = ap (λ at. notes_from (suc p) (edited_from (Retired at dead) (suc p) log)) same ∙ notes_retired k dead (suc p) log in
+    (λ i. one i ∷ rest i)
+
+-- whose version a write-back found above is no note of the log
+above_same : (b : Bool) (v : Version) (seat : Option ℕ) (p : ℕ) → note_of p (if b then record v { above = seat } else v) ≡ note_of p v
+above_same true v seat p = refl
+above_same false v seat p = refl
+
+pub notes_above : (at : ℕ) (seat : Option ℕ) (p : ℕ) (log : List Version) → notes_from p (edited_from (AboveNoted at seat) p log) ≡ notes_from p log
+notes_above at seat p [] = refl
+notes_above at seat p (v ∷ log) =
+    let one = above_same (at == p) v seat p in
+    let rest = notes_above at seat (suc p) log in
+    (λ i. one i ∷ rest i)
+
+-- the version at a place behind an edit
+pub edited_at : (e : Edit) (p i : ℕ) (log : List Version) (d : Version) → i < length log → get_or (edited_from e p log) i d ≡ edited e (p + i) (get_or log i d)
+edited_at e p i [] d lt = absurd (omega (arith, lt))
+edited_at e p zero (v ∷ log) d lt = ap (λ q. edited e q v) (omega arith)
+edited_at e p (suc i) (v ∷ log) d lt =
+    let same : suc p + i ≡ p + suc i = omega arith in
+    edited_at e (suc p) i log d (omega (arith, lt)) ∙ ap (λ q. edited e q (get_or log i d)) same

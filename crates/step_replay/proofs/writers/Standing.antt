@@ -336,6 +336,8 @@ pub record IsFreeing (c : Config) (v : View) (log : List Version) (freed from : 
   pub at_is : at ≡ freed
   pub left_is : done + left ≡ all
   pub some : 0 < left
+  pub outside_now : v.phase ≡ Outside
+  pub bounded_now : sweep.bound ≤ v.grace
 
 -- a write-back under way: so many words were stored, or the walk stands at the version
 pub record IsBacking (c : Config) (n : ℕ) (v : View) (log : List Version) (freed from : ℕ) (time : Option ℕ) (sweep : Sweep) (at o word : ℕ) : Type 0 where

@@ -1,5 +1,5 @@
 -- A step of a seat that is one of the core's: what is found, the tape behind it, and how the call goes on.
-use Rattle.std.proofs.Common.{◌≡◌, ℕ, ◌<◌, ◌&&◌, ltb, List, ◌∷◌, Bool, true, All, Option, Some, None, refl, sym, ap, ◌∙◌, subst, inl, inr}
+use Rattle.std.proofs.Common.{◌≡◌, ℕ, ◌<◌, ◌^◌, arith, ◌&&◌, ltb, List, ◌∷◌, Bool, true, All, Option, Some, None, refl, sym, ap, ◌∙◌, subst, inl, inr}
 use Rattle.std.proofs.Common.{lt-ltb, if◌then◌else◌}
 use Rattle.mv_core.proofs.Terms.{Config, Checked, Place, Clock, Grace, Mark, Head, Master, First, Stamp, Prev, Super, Data, IsPlace}
 use Rattle.mv_core.specs.declared.view.View.{View}
@@ -24,6 +24,7 @@ use Rattle.step_replay.specs.declared.plan.CallOf.{CallOf}
 use Rattle.step_replay.specs.declared.seats.Version.{Version}
 use Rattle.step_replay.specs.declared.seats.Sweep.{Sweep}
 use Rattle.step_replay.specs.FitPlans.{IsFitCallOf}
+use Rattle.step_replay.proofs.writers.Known.{word_small}
 use Rattle.step_replay.proofs.writers.Standing.{seat_with, IsSeat, IsStepped, step_of, StandsFor, GoesSo, by_step, by_end, seat_by}
 
 both_true : (a b : Bool) → a ≡ true → b ≡ true → (a && b) ≡ true
@@ -54,7 +55,7 @@ pub record IsOfKind (c : Config) (s : Moment) (n : ℕ) (kind : Kind) (task : Ta
   pub range : IsPlace c (place_in_task c n task)
   pub place : place_in c s (step_of n kind) ≡ place_in_task c n task
   pub writes : (found : ℕ) → writes_in c s (step_of n kind) found ≡ written_by (access_in_task n task) found
-  pub fits : (found : ℕ) → IsStorable (written_by (access_in_task n task) found)
+  pub fits : (found : ℕ) → found < 2 ^ 64 → IsStorable (written_by (access_in_task n task) found)
 
 module _ (c : Config) (k : Checked c) (n : ℕ) (lt : n < c.seats) (made : List Made) (t : TapeOf) (b : IsTapeBehind c t made) where
   abbrev s : Moment
@@ -80,7 +81,7 @@ module _ (c : Config) (k : Checked c) (n : ℕ) (lt : n < c.seats) (made : List 
     next = record {
       seat_is = refl;
       may = (made_next c k t.words made (step_of n kind) at (written_by (access_in_task n task)) b.shows of.place of.range of.writes o same b.each lt of.may
-          (of.fits (word_at c t.words at))).0;
+          (of.fits (word_at c t.words at) (let small = word_small c k n made b.each at in omega (arith, word, small)))).0;
       place_is = of.place;
       range = of.range;
       writes_are = of.writes;

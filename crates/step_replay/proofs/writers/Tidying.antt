@@ -47,7 +47,7 @@ module _ (c : Config) (k : Checked c) (n : ℕ) (lt : n < c.seats) (made : List 
   Made_so step = IsStepped c n made (step_made c (Tidies step) (record { seat = seat_with n [] freed from None call sweep own left; tape = t }))
 
   of_grace : (again : Bool) → IsOfKind c s n load_grace (Tidies (LoadGrace again))
-  of_grace again = record { may = tt; range = tt; place = refl; writes = λ f. refl; fits = λ f. tt }
+  of_grace again = record { may = tt; range = tt; place = refl; writes = λ f. refl; fits = λ f _. tt }
 
   still : Logs c (view_by c s n load_grace) [] freed from
   still = logs_left c v (view_by c s n load_grace) [] freed from refl refl refl refl _ refl (refl, refl) rests.2

@@ -182,7 +182,7 @@ module _ (c : Config) (k : Checked c) (n : ℕ) (lt : n < c.seats) (made : List 
     head_made : Made_so LoadHead
     head_made =
         let of : IsOfKind c s n (load_head o i) (Walks o LoadHead) =
-        record { may = inside.walking; range = range; place = refl; writes = λ x. refl; fits = λ x. tt } in
+        record { may = inside.walking; range = range; place = refl; writes = λ x. refl; fits = λ x _. tt } in
         let w = view_by c s n (load_head o i) in
         let link = s.memory (Head o) in
         let still = section_stays c v w log freed from time inside refl refl refl (logs_left c v w log freed from refl refl refl refl _ refl (refl, refl) inside.logs) in
@@ -198,7 +198,7 @@ module _ (c : Config) (k : Checked c) (n : ℕ) (lt : n < c.seats) (made : List 
           range = (in_range.0, in_range.1);
           place = refl;
           writes = λ x. refl;
-          fits = λ x. tt;
+          fits = λ x _. tt;
         } in
         let w = view_by c s n (load_first link at.stand) in
         let still = section_stays c v w log freed from time inside refl refl refl (logs_left c v w log freed from refl refl refl refl _ refl (refl, refl) inside.logs) in
@@ -217,7 +217,7 @@ module _ (c : Config) (k : Checked c) (n : ℕ) (lt : n < c.seats) (made : List 
           range = (in_range.0, mod-lt first (omega (arith, slots)));
           place = refl;
           writes = λ x. refl;
-          fits = λ x. tt;
+          fits = λ x _. tt;
         } in
         let w = view_by c s n (load_stamp link first at.stand) in
         let found = s.memory (Stamp (link_seat_of link) (index_of c first)) in
@@ -270,7 +270,7 @@ module _ (c : Config) (k : Checked c) (n : ℕ) (lt : n < c.seats) (made : List 
           range = (in_range.0, in_range.1);
           place = refl;
           writes = λ x. refl;
-          fits = λ x. tt;
+          fits = λ x _. tt;
         } in
         let w = view_by c s n (load_prev link at.stand) in
         let below = s.memory (Prev (link_seat_of link) (slot_named c link)) in
@@ -349,7 +349,7 @@ module _ (c : Config) (k : Checked c) (n : ℕ) (lt : n < c.seats) (made : List 
     master_made words w less stands so =
         let may : (o < c.objects) × MayLoadMaster v o w i = (range, record { phase = inside.walking.phase; stands = stands; in_range = less }) in
         let of : IsOfKind c s n (load_master o w i) (Walks o (LoadWord 0 words w)) =
-        record { may = may; range = (range, less); place = refl; writes = λ x. refl; fits = λ x. tt } in
+        record { may = may; range = (range, less); place = refl; writes = λ x. refl; fits = λ x _. tt } in
         let v2 = view_by c s n (load_master o w i) in
         let found = s.memory (Master o w) in
         let small = word_small c k n made b.each (Master o w) in
@@ -381,7 +381,7 @@ module _ (c : Config) (k : Checked c) (n : ℕ) (lt : n < c.seats) (made : List 
           range = subst (IsPlace c) (sym there) (in_range.0, in_range.1, less);
           place = sym there;
           writes = λ x. refl;
-          fits = λ x. tt;
+          fits = λ x _. tt;
         } in
         let v2 = view_by c s n (load_data link w at.0 i) in
         let found = s.memory (Data (link_seat_of link) (slot_named c link) w) in

@@ -64,7 +64,7 @@ module _ (c : Config) (k : Checked c) (n : ℕ) (lt : n < c.seats) (made : List 
         range = (lt, mod-lt at (omega (arith, slots)), writes.in_range);
         place = ap (λ (m : ℕ). Data m (slot_for c at) word) (number_is c k n made b.each);
         writes = λ f. refl;
-        fits = λ f. writes.small word;
+        fits = λ f _. writes.small word;
       } in
       let w = view_by c s n kind in
       let log2 = edited_from (WordPut at word value) 0 log in

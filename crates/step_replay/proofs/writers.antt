@@ -14,6 +14,7 @@ pub mod Writing
 pub mod Aborting
 pub mod Committing
 pub mod Rounds
+pub mod Reclaiming
 pub mod Tidying
 pub mod Looking
 pub mod Turns

@@ -15,6 +15,7 @@ pub mod Aborting
 pub mod Committing
 pub mod Rounds
 pub mod Reclaiming
+pub mod Settling
 pub mod Tidying
 pub mod Looking
 pub mod Turns

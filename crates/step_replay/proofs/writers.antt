@@ -16,6 +16,7 @@ pub mod Committing
 pub mod Rounds
 pub mod Reclaiming
 pub mod Settling
-pub mod Tidying
+pub mod BackingUp
+pub mod Steps
 pub mod Looking
 pub mod Turns

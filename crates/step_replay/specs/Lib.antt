@@ -15,5 +15,5 @@ pub mod Lines
 pub mod Runs
 pub mod Shown
 pub mod Behind
-pub mod Writers
+pub mod RuledRuns
 pub mod NextSteps

@@ -55,7 +55,7 @@ mod text;
 mod turns;
 
 pub use drafts::{MOST_STEPS, parse_plan};
-pub use laws::{replays_are_ruled, turns_go_on, turns_make_one_step, writers_are_ruled};
+pub use laws::{replays_are_ruled, runs_are_ruled, turns_go_on, turns_make_one_step};
 pub use machine::Machine;
 pub use places::{place_cell, place_number};
 pub use plan::{Call, CallOf, Plan, PlanFault, PlanKind};

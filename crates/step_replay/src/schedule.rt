@@ -5,7 +5,7 @@ ghost use Rattle.step_replay.specs.Plans.{plan_of};
 ghost use Rattle.step_replay.specs.FitPlans.{IsFitPlan};
 ghost use Rattle.step_replay.specs.Runs.{new_seats, text_of_plan};
 ghost use Rattle.step_replay.specs.Shown.{seats_of};
-ghost use Rattle.step_replay.specs.Writers.{IsRuledPlan};
+ghost use Rattle.step_replay.specs.RuledRuns.{IsRuledPlan};
 
 use crate::machine::Machine;
 use crate::plan::{CallOf, Plan};

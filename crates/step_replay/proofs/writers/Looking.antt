@@ -30,7 +30,6 @@ use Rattle.step_replay.specs.SeatNotes.{held, holds, live, place_held}
 use Rattle.step_replay.specs.Begins.{unlock, begin_abort, begin_call, may_begin, new_sweep}
 use Rattle.step_replay.specs.States.{Made}
 use Rattle.step_replay.specs.GoesOn.{is_lock}
-use Rattle.step_replay.specs.Writers.{is_tidy}
 use Rattle.step_replay.specs.Lines.{skip_line, answer_line}
 use Rattle.step_replay.specs.Runs.{TapeOf, Scene, Looked, with_line, begun_so, call_looked, looked_on, looked}
 use Rattle.step_replay.specs.Behind.{IsTapeBehind}
@@ -47,31 +46,8 @@ pub record IsLooked (c : Config) (n : ℕ) (made : List Made) (v : View) (log : 
   pub left : List CallOf
   pub is : l.scene.seat ≡ seat_with n log freed from time call sweep None left
   pub before : All (IsFitCallOf c) left
-  pub safe : IsSafe n log call left
   pub behind : IsTapeBehind c l.scene.tape made
   pub stands : StandsFor c n v log freed from time call sweep l.task
-
--- a call less is before a seat
-safe_tail : (n : ℕ) (log : List Version) (call : Call) (one : CallOf) (left : List CallOf) → IsSafe n log call (one ∷ left) → IsSafe n log call left
-safe_tail n log call one left (inl none) = inl (none.0, none.1, All-tail (λ (x : CallOf). x.seat ≡ n → is_lock x.call ≡ false) one left none.2)
-safe_tail n log call one left (inr no_tidy) = inr (All-tail (λ (x : CallOf). x.seat ≡ n → is_tidy x.call ≡ false) one left no_tidy)
-
--- and it is begun
-safe_begun : (n : ℕ) (log : List Version) (call : Call) (one : CallOf) (left : List CallOf) → one.seat ≡ n → IsSafe n log call (one ∷ left)
-    → IsSafe n log one.call left
-safe_begun n log call one left own (inl none) = inl (
-  none.0,
-  All-head (λ (x : CallOf). x.seat ≡ n → is_lock x.call ≡ false) one left none.2 own,
-  All-tail (λ (x : CallOf). x.seat ≡ n → is_lock x.call ≡ false) one left none.2,
-)
-safe_begun n log call one left own (inr no_tidy) = inr (All-tail (λ (x : CallOf). x.seat ≡ n → is_tidy x.call ≡ false) one left no_tidy)
-
--- a seat that tidies has noted nothing
-safe_tidies : (n : ℕ) (log : List Version) (call : Call) (one : CallOf) (left : List CallOf) → one.seat ≡ n → IsSafe n log call (one ∷ left)
-    → is_tidy one.call ≡ true → log ≡ []
-safe_tidies n log call one left own (inl none) tidies = none.0
-safe_tidies n log call one left own (inr no_tidy) tidies =
-    let none = All-head (λ (x : CallOf). x.seat ≡ n → is_tidy x.call ≡ false) one left no_tidy own in absurd (cc)
 
 -- the words of a write are of 64 bits
 words_small : (words : List ℕ) → AreSixWords words → (i : ℕ) → slice_index words i < 2 ^ 64
@@ -83,17 +59,17 @@ words_small words fit i = go (cases_lt i (length words))
 
 module _ (c : Config) (k : Checked c) (n : ℕ) (made : List Made) (v : View) (log : List Version) (freed from : ℕ) where
   abbrev state : Option ℕ → Call → State
-  state time call = record { seat = n; time = time; from = from; freed = freed; call = call; sweep = new_sweep 0 }
+  state time call = record { seat = n; time = time; from = from; freed = freed; call = call; sweep = new_sweep freed }
 
   -- how a call begins in a section
   module _ (t : ℕ) (inside : InSection c v log freed from (Some t)) where
     from_low : from ≤ length log
     from_low = let h = held_are c k v log freed from inside.logs in omega (arith, h)
 
-    lock_so : (o : ℕ) → o < c.objects → GoesSo c n v log freed from (Some t) (Lock o) sweep (begin_call (Lock o) c log (state (Some t) (Lock o)))
+    lock_so : (o : ℕ) → o < c.objects → GoesSo c n v log freed from (Some t) (Lock o) (new_sweep freed) (begin_call (Lock o) c log (state (Some t) (Lock o)))
     lock_so o range =
         let s = state (Some t) (Lock o) in
-        let P = GoesSo c n v log freed from (Some t) (Lock o) sweep in
+        let P = GoesSo c n v log freed from (Some t) (Lock o) (new_sweep freed) in
         let few = inside.logs.is.few in
         let all = inside.logs.is.held in
         let short = log_short c k v log freed from inside.logs in
@@ -120,12 +96,12 @@ module _ (c : Config) (k : Checked c) (n : ℕ) (made : List Made) (v : View) (l
           tt,
         ))))
 
-    abort_so : GoesSo c n v log freed from (Some t) Abort sweep (begin_call Abort c log (state (Some t) Abort))
+    abort_so : GoesSo c n v log freed from (Some t) Abort (new_sweep freed) (begin_call Abort c log (state (Some t) Abort))
     abort_so =
         let s = state (Some t) Abort in
         let low = from_low in
         by_step (begin_abort log s) refl
-        (if_so (λ (task : Task). StandsFor c n v log freed from (Some t) Abort sweep (Some task)) (held log s == 0) (EndsSection (finish.Leave Plainly)) (unlock log from)
+        (if_so (λ (task : Task). StandsFor c n v log freed from (Some t) Abort (new_sweep freed) (Some task)) (held log s == 0) (EndsSection (finish.Leave Plainly)) (unlock log from)
         (λ none. (inside, (let z = eqb-true (held log s) 0 none in omega (arith, z, low))))
         (λ some. (
           0,
@@ -143,7 +119,7 @@ module _ (c : Config) (k : Checked c) (n : ℕ) (made : List Made) (v : View) (l
         )))
 
     write_so : (o : ℕ) (words : List ℕ) → AreSixWords words → holds log (state (Some t) (Write o words)) o ≡ true
-        → GoesSo c n v log freed from (Some t) (Write o words) sweep (begin_call (Write o words) c log (state (Some t) (Write o words)))
+        → GoesSo c n v log freed from (Some t) (Write o words) (new_sweep freed) (begin_call (Write o words) c log (state (Some t) (Write o words)))
     write_so o words fit there = by_step _ refl (record {
       inside = inside;
       held = first_after log from (IsOf o) from_low;
@@ -160,7 +136,7 @@ module _ (c : Config) (k : Checked c) (n : ℕ) (made : List Made) (v : View) (l
 
   -- what comes of the calls behind
   abbrev Next : List CallOf → Option ℕ → Type 0
-  Next calls time = (call : Call) (sweep : Sweep) (t : TapeOf) → IsTapeBehind c t made → IsSafe n log call calls
+  Next calls time = (call : Call) (sweep : Sweep) (t : TapeOf) → IsTapeBehind c t made
       → So time (looked c calls (scene time call sweep calls t))
 
   -- a call that is looked at, and then those behind it
@@ -170,44 +146,44 @@ module _ (c : Config) (k : Checked c) (n : ℕ) (made : List Made) (v : View) (l
   module _ (calls : List CallOf) (before : All (IsFitCallOf c) calls) (call : Call) (sweep : Sweep) (t : TapeOf) (b : IsTapeBehind c t made) (time : Option ℕ)
       (next : Next calls time) where
     -- a call is begun
-    begun : (what : Call) → IsSafe n log what calls → (x : Then) → GoesSo c n v log freed from time what sweep x
-        → Goes_on calls time (begun_so x what (scene time what (new_sweep 0) calls t))
-    begun what safe x (by_step task e stands) =
-        subst (λ y. Goes_on calls time (begun_so y what (scene time what (new_sweep 0) calls t))) (sym e)
-        (record { call = what; sweep = new_sweep 0; left = calls; is = refl; before = before; safe = safe; behind = b; stands = stands })
-    begun what safe x (by_end answer e rests) =
-        subst (λ y. Goes_on calls time (begun_so y what (scene time what (new_sweep 0) calls t))) (sym e)
-        (next what (new_sweep 0) (with_line t (answer_line n what answer)) (lined c t made (answer_line n what answer) b) safe)
+    begun : (what : Call) → (x : Then) → GoesSo c n v log freed from time what (new_sweep freed) x
+        → Goes_on calls time (begun_so x what (scene time what (new_sweep freed) calls t))
+    begun what x (by_step task e stands) =
+        subst (λ y. Goes_on calls time (begun_so y what (scene time what (new_sweep freed) calls t))) (sym e)
+        (record { call = what; sweep = new_sweep freed; left = calls; is = refl; before = before; behind = b; stands = stands })
+    begun what x (by_end answer e rests) =
+        subst (λ y. Goes_on calls time (begun_so y what (scene time what (new_sweep freed) calls t))) (sym e)
+        (next what (new_sweep freed) (with_line t (answer_line n what answer)) (lined c t made (answer_line n what answer) b))
 
     -- or skipped, where its condition is false
-    call_is : (what : Call) → IsSafe n log call calls → IsSafe n log what calls
+    call_is : (what : Call)
         → (may_begin log (record { seat = n; time = time; from = from; freed = freed; call = call; sweep = sweep }) what ≡ true
-        → GoesSo c n v log freed from time what sweep (begin_call what c log (state time what)))
+        → GoesSo c n v log freed from time what (new_sweep freed) (begin_call what c log (state time what)))
         → Goes_on calls time (call_looked c what (scene time call sweep calls t))
-    call_is what safe safe_then goes =
+    call_is what goes =
         let may = may_begin log (record { seat = n; time = time; from = from; freed = freed; call = call; sweep = sweep }) what in
         if_so (Goes_on calls time) may
-        (begun_so (begin_call what c log (state time what)) what (scene time what (new_sweep 0) calls t))
+        (begun_so (begin_call what c log (state time what)) what (scene time what (new_sweep freed) calls t))
         (record { scene = scene time call sweep calls (with_line t (skip_line n what)); task = None })
-        (λ e. begun what safe_then (begin_call what c log (state time what)) (goes e))
-        (λ e. next call sweep (with_line t (skip_line n what)) (lined c t made (skip_line n what) b) safe)
+        (λ e. begun what (begin_call what c log (state time what)) (goes e))
+        (λ e. next call sweep (with_line t (skip_line n what)) (lined c t made (skip_line n what) b))
 
   -- how each call begins
-  begins_outside : (what : Call) (call : Call) (sweep : Sweep) → (is_tidy what ≡ true → log ≡ []) → RestsAt c v log freed from None
+  begins_outside : (what : Call) (call : Call) (sweep : Sweep) → RestsAt c v log freed from None
       → may_begin log (record { seat = n; time = None; from = from; freed = freed; call = call; sweep = sweep }) what ≡ true
-      → GoesSo c n v log freed from None what sweep (begin_call what c log (state None what))
-  begins_outside Enter call sweep tidies rests e = by_step (Enters enter.LoadLow) refl (rests.0, refl, refl, rests.1, rests.2)
-  begins_outside Tidy call sweep tidies rests e = by_step (Tidies (sweeping.LoadGrace false)) refl (rests, refl, tidies refl)
-  begins_outside (Read o) call sweep tidies rests e = absurd (cc)
-  begins_outside (Lock o) call sweep tidies rests e = absurd (cc)
-  begins_outside (Write o words) call sweep tidies rests e = absurd (cc)
-  begins_outside Commit call sweep tidies rests e = absurd (cc)
-  begins_outside Abort call sweep tidies rests e = absurd (cc)
-  begins_outside Leave call sweep tidies rests e = absurd (cc)
+      → GoesSo c n v log freed from None what (new_sweep freed) (begin_call what c log (state None what))
+  begins_outside Enter call sweep rests e = by_step (Enters enter.LoadLow) refl (rests.0, tt, refl, rests.1, rests.2)
+  begins_outside Tidy call sweep rests e = by_step (Tidies (sweeping.LoadGrace false)) refl ((rests, refl), refl)
+  begins_outside (Read o) call sweep rests e = absurd (cc)
+  begins_outside (Lock o) call sweep rests e = absurd (cc)
+  begins_outside (Write o words) call sweep rests e = absurd (cc)
+  begins_outside Commit call sweep rests e = absurd (cc)
+  begins_outside Abort call sweep rests e = absurd (cc)
+  begins_outside Leave call sweep rests e = absurd (cc)
 
   begins_inside : (what : Call) (call : Call) (sweep : Sweep) (t : ℕ) → IsFitCall c what → InSection c v log freed from (Some t)
       → may_begin log (record { seat = n; time = Some t; from = from; freed = freed; call = call; sweep = sweep }) what ≡ true
-      → GoesSo c n v log freed from (Some t) what sweep (begin_call what c log (state (Some t) what))
+      → GoesSo c n v log freed from (Some t) what (new_sweep freed) (begin_call what c log (state (Some t) what))
   begins_inside Enter call sweep t fit inside e = absurd (cc)
   begins_inside Tidy call sweep t fit inside e = absurd (cc)
   begins_inside (Read o) call sweep t fit inside e = by_step (Walks o walk.LoadHead) refl (inside, fit, refl, tt)
@@ -215,31 +191,29 @@ module _ (c : Config) (k : Checked c) (n : ℕ) (made : List Made) (v : View) (l
   begins_inside (Write o words) call sweep t fit inside e = write_so t inside o words fit.1 e
   begins_inside Commit call sweep t fit inside e =
       by_step (EndsSection finish.LoadNow) refl
-      (inside, (let some = ltb_lt 0 (length log - from) e in omega (arith, some)), refl)
+      (inl (inside, (let some = ltb_lt 0 (length log - from) e in omega (arith, some)), refl))
   begins_inside Abort call sweep t fit inside e = abort_so t inside
   begins_inside Leave call sweep t fit inside e =
       let low = from_low t inside in
       by_step (EndsSection (finish.Leave Plainly)) refl (inside, (let none = eqb-true (length log - from) 0 e in omega (arith, none, low)))
 
-  begins : (what : Call) (call : Call) (sweep : Sweep) (time : Option ℕ) → (is_tidy what ≡ true → log ≡ []) → IsFitCall c what → RestsAt c v log freed from time
+  begins : (what : Call) (call : Call) (sweep : Sweep) (time : Option ℕ) → IsFitCall c what → RestsAt c v log freed from time
       → may_begin log (record { seat = n; time = time; from = from; freed = freed; call = call; sweep = sweep }) what ≡ true
-      → GoesSo c n v log freed from time what sweep (begin_call what c log (state time what))
-  begins what call sweep None tidies fit rests = begins_outside what call sweep tidies rests
-  begins what call sweep (Some t) tidies fit rests = begins_inside what call sweep t fit rests
+      → GoesSo c n v log freed from time what (new_sweep freed) (begin_call what c log (state time what))
+  begins what call sweep None fit rests = begins_outside what call sweep rests
+  begins what call sweep (Some t) fit rests = begins_inside what call sweep t fit rests
 
   pub looks : (calls left : List CallOf) → All (IsFitCallOf c) calls → All (IsFitCallOf c) left → (time : Option ℕ) → RestsAt c v log freed from time
-      → (call : Call) (sweep : Sweep) (t : TapeOf) → IsTapeBehind c t made → IsSafe n log call calls → IsSafe n log call left
+      → (call : Call) (sweep : Sweep) (t : TapeOf) → IsTapeBehind c t made
       → So time (looked c calls (scene time call sweep left t))
-  looks [] left before all time rests call sweep t b safe safe_left =
-      record { call = call; sweep = sweep; left = left; is = refl; before = all; safe = safe_left; behind = b; stands = rests }
-  looks (one ∷ calls) left before all time rests call sweep t b safe safe_left =
+  looks [] left before all time rests call sweep t b =
+      record { call = call; sweep = sweep; left = left; is = refl; before = all; behind = b; stands = rests }
+  looks (one ∷ calls) left before all time rests call sweep t b =
       let behind = All-tail (IsFitCallOf c) one calls before in
-      let next : Next calls time = λ other swept u a s. looks calls calls behind behind time rests other swept u a s s in
-      let tail = safe_tail n log call one calls safe in
+      let next : Next calls time = λ other swept u a. looks calls calls behind behind time rests other swept u a in
       if_so (Goes_on calls time) (one.seat == n) (call_looked c one.call (scene time call sweep calls t))
       (record { scene = scene time call sweep calls t; task = None })
       (λ e.
-      let own = eqb-true one.seat n e in
-      call_is calls behind call sweep t b time next one.call tail (safe_begun n log call one calls own safe)
-      (begins one.call call sweep time (safe_tidies n log call one calls own safe) (All-head (IsFitCallOf c) one calls before).1 rests))
-      (λ e. next call sweep t b tail)
+      call_is calls behind call sweep t b time next one.call
+      (begins one.call call sweep time (All-head (IsFitCallOf c) one calls before).1 rests))
+      (λ e. next call sweep t b)

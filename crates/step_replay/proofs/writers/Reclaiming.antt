@@ -395,8 +395,8 @@ module _ (c : Config) (k : Checked c) (n : ℕ) (lt : n < c.seats) (made : List 
       → Made_so (Tidies (RaiseGrace low))
   raise_is = raise_made
 
-  pub now_is : RestsAt c v log freed from None → v.scan ≡ None → Made_so (EndsSection LoadNow)
-  now_is = now_made
+  pub now_rests : RestsAt c v log freed from None → v.scan ≡ None → Made_so (EndsSection LoadNow)
+  now_rests = now_made
 
   pub rest_is : RestsAt c v log freed from None → v.scan ≡ None → (word new : ℕ) → Contains v.clocks.loaded word → Contains v.clocks.helped word
       → clock_time_of word < 35184372088831 → new ≡ next_clock word n 8191 → Made_so (Tidies (NameRest word new))

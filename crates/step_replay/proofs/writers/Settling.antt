@@ -61,7 +61,7 @@ use Rattle.step_replay.proofs.writers.Walking.{section_stays}
 use Rattle.step_replay.proofs.writers.Rounds.{is_note, untimed, settle_so}
 
 -- the notes with the version at a place dead from a time on
-noted_retired : (c : Config) (l : Noted) (log : List Version) (freed from at dead : ℕ) → IsNoted c l log freed from → freed ≤ at
+pub noted_retired : (c : Config) (l : Noted) (log : List Version) (freed from at dead : ℕ) → IsNoted c l log freed from → freed ≤ at
     → IsNoted c (retired l at dead) (edited_from (Retired at dead) 0 log) freed from
 noted_retired c l log freed from at dead is low =
     let gone = is.gone in
@@ -82,7 +82,7 @@ noted_retired c l log freed from at dead is low =
     }
 
 -- and with another seat noted above it
-noted_above : (c : Config) (l : Noted) (log : List Version) (freed from at : ℕ) (seat : Option ℕ) → IsNoted c l log freed from
+pub noted_above : (c : Config) (l : Noted) (log : List Version) (freed from at : ℕ) (seat : Option ℕ) → IsNoted c l log freed from
     → IsNoted c l (edited_from (AboveNoted at seat) 0 log) freed from
 noted_above c l log freed from at seat is =
     let long = edited_long (AboveNoted at seat) 0 log in
@@ -123,7 +123,7 @@ module _ (c : Config) (k : Checked c) (n : ℕ) (lt : n < c.seats) (made : List 
   few_seats = let seats = k.seats.1 in omega (arith, lt, seats)
 
   -- behind a version the next one is looked at
-  behind_so : (w : View) (log2 : List Version) (sweep2 : Sweep) (at : ℕ) → w.scan ≡ None → RestsAt c w log2 freed from None → IsSwept w.grace sweep2 → freed ≤ at
+  pub behind_so : (w : View) (log2 : List Version) (sweep2 : Sweep) (at : ℕ) → w.scan ≡ None → RestsAt c w log2 freed from None → IsSwept w.grace sweep2 → freed ≤ at
       → at < length log2
       → GoesSo c n w log2 freed from None Tidy sweep2
       (settle_behind log2 (record { seat = n; time = None; from = from; freed = freed; call = Tidy; sweep = sweep2 }) at)

@@ -1,4 +1,4 @@
--- Behind the turns of a plan in which no seat both locks and tidies the domain is behind steps of the core.
+-- Behind the turns of a plan the domain is behind steps of the core.
 use Rattle.std.proofs.Common.{◌≡◌, ◌≢◌, ◌⊎◌, ℕ, zero, suc, ◌+◌, ◌-◌, ◌<◌, List, [], ◌∷◌, Option, Some, None, All, length, get_or, refl, sym, ap, ◌∙◌}
 use Rattle.std.proofs.Common.{take, subst, arith, length-set, inl, inr, count_by}
 use Rattle.std.proofs.lemmas.List.{get_or-set_same, get_or-set_other}
@@ -20,6 +20,8 @@ use Rattle.step_replay.specs.declared.plan.Call.TheVariants.{Enter}
 use Rattle.step_replay.specs.declared.plan.CallOf.{CallOf}
 use Rattle.step_replay.specs.declared.seats.Version.{Version}
 use Rattle.step_replay.specs.declared.seats.Task.{Task}
+use Rattle.step_replay.specs.declared.seats.Task.TheVariants.{Tidies}
+use Rattle.step_replay.specs.declared.seats.Sweeping.TheVariants.{LoadMark}
 use Rattle.step_replay.specs.Plans.{PlanOf}
 use Rattle.step_replay.specs.FitPlans.{IsFitCallOf}
 use Rattle.step_replay.specs.Begins.{new_sweep}
@@ -30,14 +32,14 @@ use Rattle.step_replay.specs.Runs.{SeatOf, TapeOf, Scene, Looked, Replay, looked
 use Rattle.step_replay.specs.Runs.{seat_in, turn_taken, turns_taken, replay_begun}
 use Rattle.step_replay.specs.ReplayLaws.{IsRuled}
 use Rattle.step_replay.specs.Behind.{IsTapeBehind}
-use Rattle.step_replay.specs.Writers.{LocksNothing, TidiesNothing, LockOrTidy, WritersAreRuled, IsRuledPlan}
+use Rattle.step_replay.specs.RuledRuns.{RunsAreRuled, IsRuledPlan}
 use Rattle.step_replay.specs.FitPlans.{IsFitPlan}
 use Rattle.step_replay.proofs.Machines.{shows_opened}
 use Rattle.step_replay.proofs.Ruled.{is_ruled}
 use Rattle.step_replay.proofs.TurnLaws.{seats_long}
 use Rattle.step_replay.proofs.NextSteps.{lined}
-use Rattle.step_replay.proofs.writers.Standing.{seat_with, Logs, IsSeat, IsStepped, StandsFor, step_of, seat_by}
-use Rattle.step_replay.proofs.writers.Tidying.{step_is}
+use Rattle.step_replay.proofs.writers.Standing.{seat_with, Logs, IsSeat, IsStepped, StandsFor, ScanAt, step_of, seat_by}
+use Rattle.step_replay.proofs.writers.Steps.{step_is}
 use Rattle.step_replay.proofs.writers.Looking.{IsLooked, looks}
 
 -- behind a turn the domain is behind the same steps, or behind one more of the seat
@@ -56,26 +58,28 @@ module _ (c : Config) (k : Checked c) (n : ℕ) (lt : n < c.seats) (made : List 
     looked_is l log freed from time is = go l.task l.scene.seat l.scene.tape is.is is.behind is.stands
       where
         go : (task : Option Task) (seat : SeatOf) (t : TapeOf) → seat ≡ seat_with n log freed from time is.call is.sweep None is.left → IsTapeBehind c t made
-            → StandsFor c n v log freed from time is.call sweep task → IsTurned c n made (turn_begun c task (record { seat = seat; tape = t }))
+            → StandsFor c n v log freed from time is.call is.sweep task → IsTurned c n made (turn_begun c task (record { seat = seat; tape = t }))
         go None seat t e b stands =
             idles (lined c t made (idle_line seat.state.seat) b)
-            (subst (λ x. IsSeat c n x v) (sym e) (seat_by c n v log freed from time is.call is.sweep None is.left no_scan is.before is.safe stands))
+            (subst (λ x. IsSeat c n x v) (sym e) (seat_by c n v log freed from time is.call is.sweep None is.left (inl no_scan) is.before stands))
         go (Some task) seat t e b stands =
             subst (λ x. IsTurned c n made (step_made c task (record { seat = x; tape = t }))) (sym e)
-            (steps (step_is c k n lt made t b log freed from time is.call is.sweep None is.left no_scan is.before is.safe task stands))
+            (steps (step_is c k n lt made t b log freed from time is.call is.sweep None is.left is.before task (inl no_scan) stands))
 
   -- a turn of the seat
   turned_is : (seat : SeatOf) (t : TapeOf) → IsTapeBehind c t made → IsSeat c n seat v → IsTurned c n made (turned c (record { seat = seat; tape = t }))
   turned_is seat t b s =
-      subst (λ x. IsTurned c n made (turned c (record { seat = x; tape = t }))) (sym s.is) (go s.task s.stands)
+      subst (λ x. IsTurned c n made (turned c (record { seat = x; tape = t }))) (sym s.is) (go s.task s.scans s.stands)
     where
-      go : (task : Option Task) → StandsFor c n v s.log s.freed s.from s.time s.call sweep task
+      go : (task : Option Task) → ScanAt v task → StandsFor c n v s.log s.freed s.from s.time s.call s.sweep task
           → IsTurned c n made (turned c (record { seat = seat_with n s.log s.freed s.from s.time s.call s.sweep task s.left; tape = t }))
-      go (Some task) stands =
-          steps (step_is c k n lt made t b s.log s.freed s.from s.time s.call s.sweep (Some task) s.left s.no_scan s.before s.safe task stands)
-      go None stands =
-          looked_is s.no_scan (looked c s.left (record { seat = seat_with n s.log s.freed s.from s.time s.call s.sweep None s.left; tape = t })) s.log s.freed s.from s.time
-          (looks c k n made v s.log s.freed s.from s.left s.left s.before s.before s.time stands s.call s.sweep t b s.safe s.safe)
+      go (Some task) scans stands =
+          steps (step_is c k n lt made t b s.log s.freed s.from s.time s.call s.sweep (Some task) s.left s.before task scans stands)
+      go None (inl no_scan) stands =
+          looked_is no_scan (looked c s.left (record { seat = seat_with n s.log s.freed s.from s.time s.call s.sweep None s.left; tape = t })) s.log s.freed
+          s.from s.time
+          (looks c k n made v s.log s.freed s.from s.left s.left s.before s.before s.time stands s.call s.sweep t b)
+      go None (inr scan) stands = let e : None ≡ Some (Tidies (LoadMark scan.0)) = scan.1 in absurd (cc)
 
 -- a replay behind steps of the core, with each of its seats
 record AreSeats (c : Config) (r : Replay) (made : List Made) : Type 0 where
@@ -166,13 +170,13 @@ new_made c (suc count) n =
     (λ t _. set_at_all (IsNew c) s.seats 0 (made_one c (s.seats 0)) maker (λ u _. new_made c count u) t) n
 
 -- the notes of a seat of a new domain stand for its view
-new_logs : (c : Config) → Checked c → (n : ℕ) → n < c.seats → (v : View) → IsNew c n v → Logs c v [] 0
+new_logs : (c : Config) → Checked c → (n : ℕ) → n < c.seats → (v : View) → IsNew c n v → Logs c v [] 0 0
 new_logs c k n lt v new =
     let old = stands_new c (zeros c) n k lt in record {
       noted = nothing_noted n c.slots;
       stands = stands_same c (starting_view c (zeros c) n) v (nothing_noted n c.slots) (new.number ∙ old.seat) (new.ring ∙ sym (begins n).0)
           (new.mine ∙ sym (begins n).1) (new.rests ∙ sym (begins n).2) (new.frees ∙ old.frees) (new.cuts ∙ old.backs) old;
-      is = record { live = refl; gone = refl; unbuilt = refl; held = refl; few = omega arith };
+      is = record { live = refl; gone = refl; within = omega arith; unbuilt = refl; held = refl; few = omega arith };
     }
   where
     begins : (m : ℕ) → ((starting_view c (zeros c) m).ring ≡ empty_ring c) × ((starting_view c (zeros c) m).past.mine ≡ [])
@@ -181,8 +185,8 @@ new_logs c k n lt v new =
     begins (suc m) = (refl, refl, refl)
 
 -- a new replay
-begun_seats : (p : PlanOf) → Checked p.config → All (IsFitCallOf p.config) p.calls → LockOrTidy p.calls → AreSeats p.config (replay_begun p) []
-begun_seats p k fit free =
+begun_seats : (p : PlanOf) → Checked p.config → All (IsFitCallOf p.config) p.calls → AreSeats p.config (replay_begun p) []
+begun_seats p k fit =
     let c = p.config in
     record {
       behind = record { each = tt; shows = shows_opened c k (new_words c) refl; count = refl };
@@ -190,6 +194,7 @@ begun_seats p k fit free =
       each = λ n lt.
           let new = new_made c (c.seats - 1) n in record {
             log = [];
+            freed = 0;
             from = 0;
             time = None;
             call = Enter;
@@ -197,22 +202,17 @@ begun_seats p k fit free =
             task = None;
             left = p.calls;
             is = new_seat_in p.calls 0 c.seats n lt ∙ ap (new_seat p.calls) (omega arith);
-            no_scan = new.scan;
+            scans = inl new.scan;
             before = fit;
-            safe = safe_of n (free n);
             stands = (new.phase, refl, new_logs c k n lt ((opened c).seats n) new);
           };
     }
-  where
-    safe_of : (n : ℕ) → LocksNothing n p.calls ⊎ TidiesNothing n p.calls → IsSafe n [] Enter p.calls
-    safe_of n (inl locks) = inl (refl, refl, locks)
-    safe_of n (inr tidies) = inr tidies
 
-pub writers_ruled : WritersAreRuled
-writers_ruled p fit free turns in_range =
+pub runs_ruled : RunsAreRuled
+runs_ruled p fit turns in_range =
     let c = p.config in
     let k = fit.config.checked in
-    let end = all_turns c k turns in_range (replay_begun p) [] (begun_seats p k fit.calls free) in
+    let end = all_turns c k turns in_range (replay_begun p) [] (begun_seats p k fit.calls) in
     record {
       made = end.0;
       behind = end.1.behind;
@@ -226,4 +226,4 @@ writers_ruled p fit free turns in_range =
 
 -- and behind each of the first turns of its own schedule
 pub plan_ruled : (p : PlanOf) → IsFitPlan p → IsRuledPlan p
-plan_ruled p fit free count = writers_ruled p fit free (take count p.steps) (All-take (λ (seat : ℕ). seat < p.config.seats) count p.steps fit.steps.0)
+plan_ruled p fit count = runs_ruled p fit (take count p.steps) (All-take (λ (seat : ℕ). seat < p.config.seats) count p.steps fit.steps.0)

@@ -6,7 +6,7 @@ use Rattle.step_replay.specs.Plans.{plan_of}
 use Rattle.step_replay.specs.Runs.{new_seats, turned, turns_taken}
 use Rattle.step_replay.specs.Shown.{seat_of, seats_of, tape_of, scene_of}
 use Rattle.step_replay.proofs.TurnLaws.{seats_long, turns_next, begun_is, turn_shown}
-use Rattle.step_replay.proofs.writers.Turns.{plan_ruled}
+use Rattle.step_replay.proofs.runs.Turns.{plan_ruled}
 use Rattle.step_replay.proofs.schedule.replay.Goals as goal
 
 pub loop-seat-init : goal.loop-seat-init

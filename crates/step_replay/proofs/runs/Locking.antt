@@ -1,6 +1,6 @@
 -- The steps of a lock behind its walk: the build of its version, and the exchanges of HEAD.
 use Rattle.std.proofs.Common.{◌≡◌, ◌≢◌, ℕ, ◌+◌, ◌<◌, ◌^◌, ◌==◌, ◌&&◌, ltb, not, List, [], ◌∷◌, ◌++◌, length, Bool, true, false, Option}
-use Rattle.std.proofs.Common.{Some, None, All, map, refl, sym, ap, ◌∙◌, subst, arith, inl, inr, eqb-true, eq-eqb, ne_eqb, lt-ltb, if◌then◌else◌, mod-lt}
+use Rattle.std.proofs.Common.{Some, None, All, map, refl, sym, ap, ◌∙◌, subst, arith, inl, eqb-true, eq-eqb, ne_eqb, lt-ltb, if◌then◌else◌, mod-lt}
 use Rattle.std.specs.Prelude.{unwrap_or}
 use Rattle.std.proofs.Common.{length-append, length-drop, drop}
 use Rattle.mv_core.specs.WalkSteps.{slot_named}
@@ -47,15 +47,15 @@ use Rattle.step_replay.specs.GoesOn.{is_lock, after_lock_head}
 use Rattle.step_replay.specs.States.{Made, state_of}
 use Rattle.step_replay.specs.Runs.{SeatOf, TapeOf, learned, step_made}
 use Rattle.step_replay.specs.Behind.{IsTapeBehind}
-use Rattle.step_replay.proofs.writers.Notes.{note_of, notes_from, notes_more, drop_more}
-use Rattle.step_replay.proofs.writers.Standing.{seat_with, Logs, InSection, MayHold, StandsAt, HasFields, Builds, LocksAt, IsStepped}
-use Rattle.step_replay.proofs.writers.Standing.{GoesSo, by_step, by_end}
-use Rattle.step_replay.proofs.writers.Stepping.{IsOfKind, view_by, next_is}
-use Rattle.step_replay.proofs.writers.Known.{if_so, eqb_ne, ltb_lt, ltb_ge, and_left, and_right, number_is, knows, next_low, logs_left}
-use Rattle.step_replay.proofs.writers.LogFacts.{noted_long, next_long, held_are, first_held, held_in_log, stands_whole}
-use Rattle.step_replay.proofs.writers.Fields.{field_range, field_small, field_fits, has_next, has_first, whole_words, has_link}
-use Rattle.step_replay.proofs.writers.Helping.{rests_in}
-use Rattle.step_replay.proofs.writers.Walking.{section_stays, refused, stands_in}
+use Rattle.step_replay.proofs.runs.Notes.{note_of, notes_from, notes_more, drop_more}
+use Rattle.step_replay.proofs.runs.Standing.{seat_with, Logs, InSection, MayHold, StandsAt, HasFields, Builds, LocksAt, IsStepped}
+use Rattle.step_replay.proofs.runs.Standing.{GoesSo, by_step, by_end}
+use Rattle.step_replay.proofs.runs.Stepping.{IsOfKind, view_by, next_is}
+use Rattle.step_replay.proofs.runs.Known.{if_so, eqb_ne, ltb_lt, ltb_ge, and_left, and_right, number_is, knows, next_low, logs_left}
+use Rattle.step_replay.proofs.runs.LogFacts.{noted_long, next_long, held_are, first_held, held_in_log, stands_whole}
+use Rattle.step_replay.proofs.runs.Fields.{field_range, field_small, field_fits, has_next, has_first, whole_words, has_link}
+use Rattle.step_replay.proofs.runs.Helping.{rests_in}
+use Rattle.step_replay.proofs.runs.Walking.{section_stays, refused, stands_in}
 
 -- a link to a position that fits one
 pub link_is : (n at : ℕ) → n < 64 → at < 2 ^ 57 → link_to n at ≡ link_of n at

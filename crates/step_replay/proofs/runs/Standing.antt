@@ -1,5 +1,5 @@
 -- What a seat of a replay is at, by its view: its notes stand for the view, and its next step is one that may come next.
-use Rattle.std.proofs.Common.{◌≡◌, ◌≢◌, ◌⊎◌, ℕ, ◌+◌, ◌<◌, ◌≤◌, ◌^◌, true, false, List, [], ◌∷◌, length, Option, Some, None, Contains}
+use Rattle.std.proofs.Common.{◌≡◌, ◌≢◌, ◌⊎◌, ℕ, ◌+◌, ◌<◌, ◌≤◌, ◌^◌, true, false, List, ◌∷◌, length, Option, Some, None, Contains}
 use Rattle.std.proofs.Common.{All, slice_index, slice_index_or, drop, max, refl}
 use Rattle.mv_layout.specs.Words.{clock_time_of, clock_slot_of, IsUnset}
 use Rattle.mv_history.specs.declared.Entry.{Entry}
@@ -16,7 +16,7 @@ use Rattle.seat_log.specs.Stands.{version_of}
 use Rattle.seat_log.specs.Frees.{FreesSet, slots_freed}
 use Rattle.step_replay.specs.Tasks.{next_clock}
 use Rattle.step_replay.specs.declared.seats.Back.TheVariants as back
-use Rattle.step_replay.proofs.writers.Notes.{note_of}
+use Rattle.step_replay.proofs.runs.Notes.{note_of}
 use Rattle.mv_core.proofs.Terms.{Config}
 use Rattle.mv_core.specs.declared.ring.Build as build
 use Rattle.mv_core.specs.declared.ring.Version as core
@@ -68,7 +68,7 @@ use Rattle.step_replay.specs.Behind.{IsTapeBehind}
 use Rattle.step_replay.specs.GoesOn.{is_lock}
 use Rattle.step_replay.specs.States.{Made, state_of}
 use Rattle.mv_core.specs.Moves.{Kind}
-use Rattle.step_replay.proofs.writers.Notes.{notes_from}
+use Rattle.step_replay.proofs.runs.Notes.{notes_from}
 
 -- a seat by its parts
 abbrev pub seat_with : ℕ → List Version → ℕ → ℕ → Option ℕ → Call → Sweep → Option Task → List CallOf → SeatOf

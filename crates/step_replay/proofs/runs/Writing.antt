@@ -10,7 +10,6 @@ use Rattle.seat_log.proofs.HeldWords.{may_word, stands_word}
 use Rattle.step_replay.specs.declared.plan.Call.{Call}
 use Rattle.step_replay.specs.declared.plan.CallOf.{CallOf}
 use Rattle.step_replay.specs.declared.seats.Version.{Version}
-use Rattle.step_replay.specs.declared.seats.Edit.{Edit}
 use Rattle.step_replay.specs.declared.seats.Edit.TheVariants.{WordPut}
 use Rattle.step_replay.specs.declared.seats.Sweep.{Sweep}
 use Rattle.step_replay.specs.declared.seats.Task.{Task}
@@ -23,12 +22,12 @@ use Rattle.step_replay.specs.Tasks.{slot_at as slot_for}
 use Rattle.step_replay.specs.States.{Made, state_of}
 use Rattle.step_replay.specs.Runs.{TapeOf, step_made}
 use Rattle.step_replay.specs.Behind.{IsTapeBehind}
-use Rattle.step_replay.proofs.writers.Notes.{notes_from, notes_put, edited_long, edited_behind}
-use Rattle.step_replay.proofs.writers.Standing.{seat_with, Logs, InSection, IsWriting, IsStepped, GoesSo, by_step, by_end}
-use Rattle.step_replay.proofs.writers.Stepping.{IsOfKind, view_by, next_is}
-use Rattle.step_replay.proofs.writers.Known.{if_so, ltb_lt, number_is}
-use Rattle.step_replay.proofs.writers.LogFacts.{noted_long, from_there}
-use Rattle.step_replay.proofs.writers.Helping.{rests_in}
+use Rattle.step_replay.proofs.runs.Notes.{notes_from, notes_put, edited_long, edited_behind}
+use Rattle.step_replay.proofs.runs.Standing.{seat_with, Logs, InSection, IsWriting, IsStepped, GoesSo, by_step, by_end}
+use Rattle.step_replay.proofs.runs.Stepping.{IsOfKind, view_by, next_is}
+use Rattle.step_replay.proofs.runs.Known.{if_so, ltb_lt, number_is}
+use Rattle.step_replay.proofs.runs.LogFacts.{noted_long, from_there}
+use Rattle.step_replay.proofs.runs.Helping.{rests_in}
 
 module _ (c : Config) (k : Checked c) (n : ℕ) (lt : n < c.seats) (made : List Made) (t : TapeOf) (b : IsTapeBehind c t made)
     (log : List Version) (freed from : ℕ) (time : Option ℕ) (call : Call) (sweep : Sweep) (own : Option Task) (left : List CallOf)

@@ -47,14 +47,14 @@ use Rattle.step_replay.specs.GoesOn.{is_last, helped_in, help, store_super as th
 use Rattle.step_replay.specs.States.{any_commit, any_start, zeros, Made, state_of}
 use Rattle.step_replay.specs.Runs.{TapeOf, step_made}
 use Rattle.step_replay.specs.Behind.{IsTapeBehind}
-use Rattle.step_replay.proofs.writers.Notes.{note_of, notes_from, notes_committed, edited_long, edited_behind}
-use Rattle.step_replay.proofs.writers.Standing.{seat_with, Logs, InSection, HasNamed, Finishes, IsStepped, GoesSo, by_step, by_end}
-use Rattle.step_replay.proofs.writers.Stepping.{IsOfKind, view_by, next_is}
-use Rattle.step_replay.proofs.writers.Known.{if_so, eqb_ne, ltb_lt, ltb_ge, facts, number_is, view_there, starts, knows, logs_left}
-use Rattle.step_replay.proofs.writers.LogFacts.{noted_long, noted_from, noted_at, held_are, first_held}
-use Rattle.step_replay.proofs.writers.Searches.{first_within, first_after, one_of, unlinked}
-use Rattle.step_replay.proofs.writers.Fields.{stamp_is}
-use Rattle.step_replay.proofs.writers.Helping.{rests_in, named_so, section_kept}
+use Rattle.step_replay.proofs.runs.Notes.{note_of, notes_from, notes_committed, edited_long, edited_behind}
+use Rattle.step_replay.proofs.runs.Standing.{seat_with, Logs, InSection, HasNamed, Finishes, IsStepped, GoesSo, by_step, by_end}
+use Rattle.step_replay.proofs.runs.Stepping.{IsOfKind, view_by, next_is}
+use Rattle.step_replay.proofs.runs.Known.{if_so, eqb_ne, ltb_lt, ltb_ge, facts, number_is, view_there, starts, knows, logs_left}
+use Rattle.step_replay.proofs.runs.LogFacts.{noted_long, noted_from, noted_at, held_are, first_held}
+use Rattle.step_replay.proofs.runs.Searches.{first_within, first_after, one_of, unlinked}
+use Rattle.step_replay.proofs.runs.Fields.{stamp_is}
+use Rattle.step_replay.proofs.runs.Helping.{rests_in, named_so, section_kept}
 
 -- no word of a tag is other than 0
 abbrev no_tag : List ℕ

@@ -8,8 +8,8 @@ use Rattle.mv_core.specs.declared.ring.Build.{Build}
 use Rattle.mv_core.specs.LockSteps.{FitsField, field_place, built_too}
 use Rattle.step_replay.specs.declared.seats.Version.{Version}
 use Rattle.step_replay.specs.Tasks.{field_word, stamp_from}
-use Rattle.step_replay.proofs.writers.Standing.{HasFields}
-use Rattle.step_replay.proofs.writers.Known.{same_list, if_so, ltb_lt}
+use Rattle.step_replay.proofs.runs.Standing.{HasFields}
+use Rattle.step_replay.proofs.runs.Known.{same_list, if_so, ltb_lt}
 
 -- the unset stamp of a position that fits one
 pub stamp_is : (at : ℕ) → at < 2 ^ 57 → stamp_from at ≡ unset_of at

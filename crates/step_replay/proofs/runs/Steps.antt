@@ -1,9 +1,7 @@
 -- Each step that a seat stands at.
-use Rattle.std.proofs.Common.{◌≡◌, ℕ, ◌<◌, not, List, [], Bool, true, false, Option, Some, None, All, refl, sym, ap, subst, inl, inr, if◌then◌else◌}
-use Rattle.std.proofs.Math.Bool.{and-false}
+use Rattle.std.proofs.Common.{◌≡◌, ℕ, ◌<◌, List, Option, Some, None, All, sym, subst, inl, inr}
 use Rattle.mv_core.proofs.Terms.{Config, Checked}
 use Rattle.mv_core.specs.declared.view.View.{View}
-use Rattle.mv_core.specs.Moves.{Moment, load_grace}
 use Rattle.step_replay.specs.declared.plan.Call.{Call}
 use Rattle.step_replay.specs.declared.plan.Call.TheVariants.{Tidy}
 use Rattle.step_replay.specs.declared.seats.Back.TheVariants.{WasCut, WasGone, WasAbove}
@@ -18,23 +16,21 @@ use Rattle.step_replay.specs.declared.seats.Sweeping.TheVariants.{LoadGrace, Fre
 use Rattle.step_replay.specs.declared.seats.Sweeping.TheVariants.{CutHead, LoadCutDeath, LeaveBack, LoadSuperAgain, NameRest}
 use Rattle.step_replay.specs.declared.seats.Task.{Task}
 use Rattle.step_replay.specs.declared.seats.Task.TheVariants.{Enters, Helps, Walks, Locks, Writes, EndsSection, Tidies}
-use Rattle.step_replay.specs.declared.seats.Then.TheVariants.{Goes}
 use Rattle.step_replay.specs.FitPlans.{IsFitCallOf}
-use Rattle.step_replay.specs.GoesOn.{is_last}
 use Rattle.step_replay.specs.States.{Made, state_of}
 use Rattle.step_replay.specs.Runs.{TapeOf, step_made}
 use Rattle.step_replay.specs.Behind.{IsTapeBehind}
-use Rattle.step_replay.proofs.writers.Standing.{seat_with, IsStepped, EndsAt, RestsAt, TidiesAt, StandsFor, ScanAt}
-use Rattle.step_replay.proofs.writers.Entering.{entering_made}
-use Rattle.step_replay.proofs.writers.Helping.{helping_made}
-use Rattle.step_replay.proofs.writers.Walking.{walking_made}
-use Rattle.step_replay.proofs.writers.Locking.{locking_made}
-use Rattle.step_replay.proofs.writers.Writing.{writing_made}
-use Rattle.step_replay.proofs.writers.Aborting.{unlocking_made, dying_made, abort_made, leave_made}
-use Rattle.step_replay.proofs.writers.Committing.{loading_made, naming_made, stamping_made, telling_made, ending_made}
-use Rattle.step_replay.proofs.writers.Reclaiming.{grace_is, scan_is, mark_is, raise_is, now_rests, rest_is, free_is}
-use Rattle.step_replay.proofs.writers.Settling.{super_is, again_is}
-use Rattle.step_replay.proofs.writers.BackingUp.{top_is, store_is, cut_is, death_is, cut_leaves, gone_leaves, above_leaves}
+use Rattle.step_replay.proofs.runs.Standing.{seat_with, IsStepped, EndsAt, TidiesAt, StandsFor, ScanAt}
+use Rattle.step_replay.proofs.runs.Entering.{entering_made}
+use Rattle.step_replay.proofs.runs.Helping.{helping_made}
+use Rattle.step_replay.proofs.runs.Walking.{walking_made}
+use Rattle.step_replay.proofs.runs.Locking.{locking_made}
+use Rattle.step_replay.proofs.runs.Writing.{writing_made}
+use Rattle.step_replay.proofs.runs.Aborting.{unlocking_made, dying_made, abort_made, leave_made}
+use Rattle.step_replay.proofs.runs.Committing.{loading_made, naming_made, stamping_made, telling_made, ending_made}
+use Rattle.step_replay.proofs.runs.Reclaiming.{grace_is, scan_is, mark_is, raise_is, now_rests, rest_is, free_is}
+use Rattle.step_replay.proofs.runs.Settling.{super_is, again_is}
+use Rattle.step_replay.proofs.runs.BackingUp.{top_is, store_is, cut_is, death_is, cut_leaves, gone_leaves, above_leaves}
 
 module _ (c : Config) (k : Checked c) (n : ℕ) (lt : n < c.seats) (made : List Made) (t : TapeOf) (b : IsTapeBehind c t made)
     (log : List Version) (freed from : ℕ) (time : Option ℕ) (call : Call) (sweep : Sweep) (own : Option Task) (left : List CallOf)

@@ -36,11 +36,11 @@ use Rattle.step_replay.specs.Begins.{unlock}
 use Rattle.step_replay.specs.States.{any_commit, any_start, Made, state_of}
 use Rattle.step_replay.specs.Runs.{TapeOf, step_made}
 use Rattle.step_replay.specs.Behind.{IsTapeBehind}
-use Rattle.step_replay.proofs.writers.Notes.{note_of, notes_from, notes_aborted, edited_long, edited_behind}
-use Rattle.step_replay.proofs.writers.Standing.{seat_with, Logs, InSection, GivesUp, GaveUp, IsStepped, GoesSo, by_step, by_end}
-use Rattle.step_replay.proofs.writers.Stepping.{IsOfKind, view_by, next_is}
-use Rattle.step_replay.proofs.writers.Known.{if_so, ltb_lt, ltb_ge, facts, number_is, knows, starts, word_small, logs_left}
-use Rattle.step_replay.proofs.writers.LogFacts.{noted_long, noted_from, noted_at}
+use Rattle.step_replay.proofs.runs.Notes.{note_of, notes_from, notes_aborted, edited_long, edited_behind}
+use Rattle.step_replay.proofs.runs.Standing.{seat_with, Logs, InSection, GivesUp, GaveUp, IsStepped, GoesSo, by_step, by_end}
+use Rattle.step_replay.proofs.runs.Stepping.{IsOfKind, view_by, next_is}
+use Rattle.step_replay.proofs.runs.Known.{if_so, ltb_lt, ltb_ge, facts, number_is, knows, starts, word_small, logs_left}
+use Rattle.step_replay.proofs.runs.LogFacts.{noted_long, noted_from, noted_at}
 
 -- the notes with another place from which on versions are held, where it is the same
 pub logs_at : (c : Config) (v : View) (log : List Version) (freed from other : ℕ) → from ≡ other → Logs c v log freed from → Logs c v log freed other

@@ -44,13 +44,13 @@ use Rattle.step_replay.specs.GoesOn.{is_lock, is_unset, stand, refusal, new_vers
 use Rattle.step_replay.specs.States.{any_commit, any_start, zeros, Made, state_of}
 use Rattle.step_replay.specs.Runs.{TapeOf, step_made}
 use Rattle.step_replay.specs.Behind.{IsTapeBehind}
-use Rattle.step_replay.proofs.writers.Standing.{seat_with, Logs, InSection, MayHold, WalksFor, StandsAt, WordsSoFar, WalksAt, IsStepped}
-use Rattle.step_replay.proofs.writers.Standing.{GoesSo, by_step, by_end}
-use Rattle.step_replay.proofs.writers.Stepping.{IsOfKind, view_by, next_is}
-use Rattle.step_replay.proofs.writers.Known.{if_so, eqb_ne, ltb_lt, ltb_ge, leb_le, leb_gt, and_right, same_list, facts, view_there, starts, seated, word_small}
-use Rattle.step_replay.proofs.writers.Known.{logs_left}
-use Rattle.step_replay.proofs.writers.Helping.{rests_in}
-use Rattle.step_replay.proofs.writers.LogFacts.{noted_long}
+use Rattle.step_replay.proofs.runs.Standing.{seat_with, Logs, InSection, MayHold, WalksFor, StandsAt, WordsSoFar, WalksAt, IsStepped}
+use Rattle.step_replay.proofs.runs.Standing.{GoesSo, by_step, by_end}
+use Rattle.step_replay.proofs.runs.Stepping.{IsOfKind, view_by, next_is}
+use Rattle.step_replay.proofs.runs.Known.{if_so, eqb_ne, ltb_lt, ltb_ge, leb_le, leb_gt, and_right, same_list, facts, view_there, starts, seated, word_small}
+use Rattle.step_replay.proofs.runs.Known.{logs_left}
+use Rattle.step_replay.proofs.runs.Helping.{rests_in}
+use Rattle.step_replay.proofs.runs.LogFacts.{noted_long}
 
 -- no word was read yet
 pub no_words : (c : Config) (v : View) (s : Section) (o : ℕ) → WordsSoFar c v s o (replicate 6 0) 0

@@ -5,7 +5,7 @@ use Rattle.step_replay.specs.declared.seats.Version.{Version}
 use Rattle.step_replay.specs.declared.notes.Test.{Test}
 use Rattle.step_replay.specs.declared.notes.Test.TheVariants.{IsOf, IsLinked}
 use Rattle.step_replay.specs.SeatNotes.{passes, before_first, first_from, version_at}
-use Rattle.step_replay.proofs.writers.Known.{eqb_ne}
+use Rattle.step_replay.proofs.runs.Known.{eqb_ne}
 
 -- the place is one of the log, or the next one
 pub first_within : (log : List Version) (from : ℕ) (test : Test) → from ≤ length log → first_from log from test ≤ length log

@@ -29,15 +29,14 @@ use Rattle.step_replay.specs.FitPlans.{AreSixWords, IsFitCall, IsFitCallOf}
 use Rattle.step_replay.specs.SeatNotes.{held, holds, live, place_held}
 use Rattle.step_replay.specs.Begins.{unlock, begin_abort, begin_call, may_begin, new_sweep}
 use Rattle.step_replay.specs.States.{Made}
-use Rattle.step_replay.specs.GoesOn.{is_lock}
 use Rattle.step_replay.specs.Lines.{skip_line, answer_line}
 use Rattle.step_replay.specs.Runs.{TapeOf, Scene, Looked, with_line, begun_so, call_looked, looked_on, looked}
 use Rattle.step_replay.specs.Behind.{IsTapeBehind}
 use Rattle.step_replay.proofs.NextSteps.{lined}
-use Rattle.step_replay.proofs.writers.Standing.{seat_with, InSection, RestsAt, StandsFor, GoesSo, by_step, by_end}
-use Rattle.step_replay.proofs.writers.Known.{if_so, eqb_ne, ltb_lt, ltb_ge}
-use Rattle.step_replay.proofs.writers.LogFacts.{held_are, log_short}
-use Rattle.step_replay.proofs.writers.Searches.{first_after, none_of}
+use Rattle.step_replay.proofs.runs.Standing.{seat_with, InSection, RestsAt, StandsFor, GoesSo, by_step, by_end}
+use Rattle.step_replay.proofs.runs.Known.{if_so, eqb_ne, ltb_lt, ltb_ge}
+use Rattle.step_replay.proofs.runs.LogFacts.{held_are, log_short}
+use Rattle.step_replay.proofs.runs.Searches.{first_after, none_of}
 
 -- what a seat comes to that looks at its calls: the tape is behind the same steps
 pub record IsLooked (c : Config) (n : ℕ) (made : List Made) (v : View) (log : List Version) (freed from : ℕ) (time : Option ℕ) (l : Looked) : Type 0 where

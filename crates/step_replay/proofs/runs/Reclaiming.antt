@@ -1,25 +1,22 @@
 -- The steps of a tidy outside a section: watermarks, frees, scans and rests.
 use Rattle.std.proofs.Common.{◌≡◌, ◌≢◌, ◌⊎◌, ℕ, ◌+◌, ◌-◌, ◌<◌, ◌≤◌, ◌^◌, ◌==◌, ◌&&◌, ltb, leb, not, max, min, List, [], ◌∷◌, ◌++◌, length, drop, Bool, true, false}
-use Rattle.std.proofs.Common.{Option, Some, None, All, Contains, refl, sym, ap, ◌∙◌, subst, arith, inl, inr, eqb-true, eq-eqb, ne_eqb, lt-ltb, le-ltb, le-leb}
-use Rattle.std.proofs.Common.{if◌then◌else◌, mod-lt, length-drop}
+use Rattle.std.proofs.Common.{Option, Some, None, All, Contains, refl, sym, ap, ◌∙◌, subst, arith, inl, inr, eq-eqb, ne_eqb, lt-ltb, le-ltb, le-leb}
+use Rattle.std.proofs.Common.{if◌then◌else◌, mod-lt}
 use Rattle.std.proofs.lemmas.Bool.{cases_lt}
 use Rattle.std.proofs.lemmas.List.Elements.{Contains-append_left, Contains-append_right, Contains-push}
 use Rattle.mv_layout.specs.Words.{clock_of, clock_time_of, clock_slot_of}
 use Rattle.mv_core.proofs.Terms.{dite, ℕ_discrete, Config, Checked, Clock, Grace, Mark, Stamp}
 use Rattle.mv_core.specs.declared.view.View.{View}
 use Rattle.mv_core.specs.declared.view.Scan.{Scan}
-use Rattle.mv_core.specs.declared.view.Phase.TheVariants.{Outside}
-use Rattle.mv_core.specs.Rings.{index_of}
 use Rattle.mv_core.specs.EnterSteps.{MayLoadCheck, stored_if, if_none, checked_helped}
 use Rattle.mv_core.specs.NameSteps.{rest_word, rest_named, rest_lost}
 use Rattle.mv_core.specs.ReclaimSteps.{other_from, scan_on as scan_goes, grace_on, least_with, free_stored, MayStoreFree}
 use Rattle.mv_core.specs.Moves.{Moment, Kind, load_check, name_rest, load_scan, load_mark, load_grace, raise_grace, store_free, IsStorable}
-use Rattle.seat_log.specs.Notes.{Noted, rest_noted}
+use Rattle.seat_log.specs.Notes.{rest_noted}
 use Rattle.seat_log.specs.Stands.{Stands}
 use Rattle.seat_log.specs.Frees.{slots_freed, freed_noted}
 use Rattle.seat_log.proofs.FreedLogs.{stands_freed, each_may_free, few_freed, one_freed}
 use Rattle.seat_log.proofs.Rested.{rests_room, stands_rested, stands_unrested}
-use Rattle.step_replay.specs.declared.plan.Call.{Call}
 use Rattle.step_replay.specs.declared.plan.Call.TheVariants.{Tidy}
 use Rattle.step_replay.specs.declared.plan.CallOf.{CallOf}
 use Rattle.step_replay.specs.declared.seats.Version.{Version}
@@ -28,7 +25,6 @@ use Rattle.step_replay.specs.declared.seats.Sweep.{Sweep}
 use Rattle.step_replay.specs.declared.seats.State.{State}
 use Rattle.step_replay.specs.declared.seats.Helping.TheVariants.{LoadNamed}
 use Rattle.step_replay.specs.declared.seats.Ending.TheVariants.{LoadNow}
-use Rattle.step_replay.specs.declared.seats.Sweeping.{Sweeping}
 use Rattle.step_replay.specs.declared.seats.Sweeping.TheVariants.{LoadGrace, Free, LoadScan, LoadMark, RaiseGrace, NameRest}
 use Rattle.step_replay.specs.declared.seats.Task.{Task}
 use Rattle.step_replay.specs.declared.seats.Task.TheVariants.{Helps, EndsSection, Tidies}
@@ -42,13 +38,13 @@ use Rattle.step_replay.specs.Sweeps.{free, look_at, then_after}
 use Rattle.step_replay.specs.States.{any_commit, any_start, Made, state_of}
 use Rattle.step_replay.specs.Runs.{SeatOf, TapeOf, learned, step_made}
 use Rattle.step_replay.specs.Behind.{IsTapeBehind}
-use Rattle.step_replay.proofs.writers.Notes.{notes_from, notes_drop, drop_on}
-use Rattle.step_replay.proofs.writers.Standing.{seat_with, IsNoted, Logs, RestsAt, IsFreeing, HelpsFor, later, IsStepped, TidiesAt, GoesSo, by_step}
-use Rattle.step_replay.proofs.writers.Stepping.{IsOfKind, view_by, next_is, scan_on}
-use Rattle.step_replay.proofs.writers.Known.{if_so, eqb_ne, ltb_lt, ltb_ge, leb_le, leb_gt, facts, number_is, knows, logs_left}
-use Rattle.step_replay.proofs.writers.LogFacts.{noted_long}
-use Rattle.step_replay.proofs.writers.Helping.{helped_so}
-use Rattle.step_replay.proofs.writers.Rounds.{free_so, settle_so}
+use Rattle.step_replay.proofs.runs.Notes.{notes_from, notes_drop, drop_on}
+use Rattle.step_replay.proofs.runs.Standing.{seat_with, Logs, RestsAt, IsFreeing, HelpsFor, later, IsStepped, GoesSo, by_step}
+use Rattle.step_replay.proofs.runs.Stepping.{IsOfKind, view_by, next_is, scan_on}
+use Rattle.step_replay.proofs.runs.Known.{if_so, eqb_ne, leb_le, leb_gt, facts, number_is, knows, logs_left}
+use Rattle.step_replay.proofs.runs.LogFacts.{noted_long}
+use Rattle.step_replay.proofs.runs.Helping.{helped_so}
+use Rattle.step_replay.proofs.runs.Rounds.{free_so, settle_so}
 
 -- the clock word of the next rest, where the numbers fit one
 next_is_word : (c : Config) (word n : ℕ) → clock_time_of word < 35184372088831 → n < 64 → next_clock word n 8191 ≡ clock_of (clock_time_of word + 1) n 8191
@@ -359,27 +355,33 @@ module _ (c : Config) (k : Checked c) (n : ℕ) (lt : n < c.seats) (made : List 
       free_so c n w log (freed + 1) from sweep no_scan (f.outside_now, f.nothing, logs2) f.bounded_now)
       (λ e.
       let gt = leb_gt rest 1 e in
-      by_step (Tidies (Free (freed + 1) (rest - 1))) refl ((record {
-        before = f.before;
-        noted = l;
-        stands = f.stands;
-        first = f.first;
-        is = is;
-        outside = f.outside;
-        scans = f.scans;
-        nothing = f.nothing;
-        done = f.done + 1;
-        all = f.all;
-        frees = frees;
-        bounded = f.bounded;
-        view_is = more;
-        freed_is = omega (arith, freed_is);
-        at_is = refl;
-        left_is = omega (arith, left_is, gt);
-        some = omega (arith, gt);
-        outside_now = f.outside_now;
-        bounded_now = f.bounded_now;
-      }, refl), refl)))
+      by_step (Tidies (Free (freed + 1) (rest - 1))) refl (
+        (
+          record {
+            before = f.before;
+            noted = l;
+            stands = f.stands;
+            first = f.first;
+            is = is;
+            outside = f.outside;
+            scans = f.scans;
+            nothing = f.nothing;
+            done = f.done + 1;
+            all = f.all;
+            frees = frees;
+            bounded = f.bounded;
+            view_is = more;
+            freed_is = omega (arith, freed_is);
+            at_is = refl;
+            left_is = omega (arith, left_is, gt);
+            some = omega (arith, gt);
+            outside_now = f.outside_now;
+            bounded_now = f.bounded_now;
+          },
+          refl,
+        ),
+        refl,
+      )))
 
   pub grace_is : RestsAt c v log freed from None → v.scan ≡ None → (again : Bool) → Made_so (Tidies (LoadGrace again))
   grace_is = grace_made

@@ -1,6 +1,6 @@
 -- How a tidy goes on: it frees what is dead, scans, looks at the versions that have no time of death, makes a rest, or ends.
-use Rattle.std.proofs.Common.{◌≡◌, ◌≢◌, ◌⊎◌, ℕ, ◌+◌, ◌-◌, ◌<◌, ◌≤◌, ◌==◌, ◌&&◌, ◌||◌, nat_le, ltb, not, List, length, drop, Bool, true, false, Option, Some, None}
-use Rattle.std.proofs.Common.{refl, sym, ap, ◌∙◌, subst, arith, inl, inr, eqb-true, eq-eqb, lt-ltb, if◌then◌else◌, length-drop}
+use Rattle.std.proofs.Common.{◌≡◌, ◌≢◌, ◌⊎◌, ℕ, ◌+◌, ◌-◌, ◌<◌, ◌≤◌, ◌==◌, ◌&&◌, ◌||◌, nat_le, ltb, not, List, length, Bool, true, false, Some, None}
+use Rattle.std.proofs.Common.{refl, sym, ap, ◌∙◌, subst, arith, inl, inr, eqb-true, eq-eqb, lt-ltb, if◌then◌else◌}
 use Rattle.std.proofs.lemmas.Bool.{cases_lt, lt-leb}
 use Rattle.std.specs.Prelude.{slice_get}
 use Rattle.mv_core.proofs.Terms.{Config}
@@ -13,7 +13,7 @@ use Rattle.mv_core.specs.Rings.{slot_at, index_of}
 use Rattle.seat_log.specs.declared.version.Note.{Note}
 use Rattle.seat_log.specs.Notes.{Noted, IsNoteAt, held_from}
 use Rattle.seat_log.specs.Stands.{version_of, death_of, IsAsNoted, Stands}
-use Rattle.seat_log.specs.Frees.{IsDeadNote, OldestIsDead, IsOldestSet, FreesSet}
+use Rattle.seat_log.specs.Frees.{IsDeadNote, FreesSet}
 use Rattle.seat_log.proofs.FreedLogs.{none_freed}
 use Rattle.seat_log.proofs.Places.{get_within}
 use Rattle.step_replay.specs.declared.plan.Call.TheVariants.{Tidy}
@@ -24,15 +24,15 @@ use Rattle.step_replay.specs.declared.seats.Ending.TheVariants as finish
 use Rattle.step_replay.specs.declared.seats.Sweeping.TheVariants.{LoadGrace, Free, LoadScan, LoadSuper}
 use Rattle.step_replay.specs.declared.seats.Task.TheVariants.{EndsSection, Tidies}
 use Rattle.step_replay.specs.declared.seats.Then.{Then}
-use Rattle.step_replay.specs.declared.seats.Then.TheVariants.{Goes, Ends}
+use Rattle.step_replay.specs.declared.seats.Then.TheVariants.{Goes}
 use Rattle.step_replay.specs.declared.notes.Test.TheVariants.{IsUntimed, EndsSet}
-use Rattle.step_replay.specs.SeatNotes.{version_at, live, dead_count, first_from, first_behind}
-use Rattle.step_replay.specs.Sweeps.{rest_is_due, tidied, after_frees, free, settle, settle_behind}
-use Rattle.step_replay.proofs.writers.Notes.{note_of, notes_from}
-use Rattle.step_replay.proofs.writers.Standing.{IsNoted, Logs, RestsAt, IsSwept, IsFreeing, GoesSo, by_step, by_end}
-use Rattle.step_replay.proofs.writers.Known.{if_so, eqb_ne, ltb_lt, ltb_ge}
-use Rattle.step_replay.proofs.writers.LogFacts.{noted_long, noted_at, noted_from}
-use Rattle.step_replay.proofs.writers.Searches.{first_within, first_after, first_before, first_there}
+use Rattle.step_replay.specs.SeatNotes.{version_at, live, dead_count, first_from}
+use Rattle.step_replay.specs.Sweeps.{rest_is_due, tidied, after_frees, free, settle}
+use Rattle.step_replay.proofs.runs.Notes.{note_of}
+use Rattle.step_replay.proofs.runs.Standing.{IsNoted, Logs, RestsAt, IsSwept, GoesSo, by_step, by_end}
+use Rattle.step_replay.proofs.runs.Known.{if_so, eqb_ne, ltb_lt, ltb_ge}
+use Rattle.step_replay.proofs.runs.LogFacts.{noted_long, noted_at, noted_from}
+use Rattle.step_replay.proofs.runs.Searches.{first_within, first_after, first_before, first_there}
 
 -- a note of the log is of the version at its place
 pub note_is : (c : Config) (l : Noted) (log : List Version) (freed from i : ℕ) (m : Note) → IsNoted c l log freed from → IsNoteAt l i m
@@ -129,83 +129,92 @@ module _ (c : Config) (v : View) (log : List Version) (freed from : ℕ) (logs :
       go (Committed note) lives a = (note, lives, sym a.2, a.3 ∙ ap death_of alive, a.4 alive)
 
 module _ (c : Config) (n : ℕ) (v : View) (log : List Version) (freed from : ℕ) (sweep : Sweep) (scans : v.scan ≡ None) (rests : RestsAt c v log freed from None)
-    where
-  abbrev state : State
-  state = record { seat = n; time = None; from = from; freed = freed; call = Tidy; sweep = sweep }
+  where
+    abbrev state : State
+    state = record { seat = n; time = None; from = from; freed = freed; call = Tidy; sweep = sweep }
 
-  abbrev So : Then → Type 0
-  So = GoesSo c n v log freed from None Tidy sweep
+    abbrev So : Then → Type 0
+    So = GoesSo c n v log freed from None Tidy sweep
 
-  -- behind the frees of a round
-  frees_so : So (after_frees log state)
-  frees_so =
-      if_so So (not sweep.swept && ltb 0 (live log state)) (Goes (Tidies LoadScan))
-      (if sweep.again then tidied log state
-      else (if rest_is_due log state then Goes (EndsSection finish.LoadNow) else Goes (Tidies (LoadGrace true))))
-      (λ e. by_step (Tidies LoadScan) refl ((rests, refl), refl))
-      (λ e. if_so So sweep.again (tidied log state) (if rest_is_due log state then Goes (EndsSection finish.LoadNow) else Goes (Tidies (LoadGrace true)))
-      (λ again. by_end _ refl rests)
-      (λ first. if_so So (rest_is_due log state) (Goes (EndsSection finish.LoadNow)) (Goes (Tidies (LoadGrace true)))
-      (λ due. by_step (EndsSection finish.LoadNow) refl (inr (rests, refl, refl)))
-      (λ else_so. by_step (Tidies (LoadGrace true)) refl ((rests, refl), refl))))
+    -- behind the frees of a round
+    frees_so : So (after_frees log state)
+    frees_so =
+        if_so So (not sweep.swept && ltb 0 (live log state)) (Goes (Tidies LoadScan))
+        (if sweep.again then tidied log state
+        else (if rest_is_due log state then Goes (EndsSection finish.LoadNow) else Goes (Tidies (LoadGrace true))))
+        (λ e. by_step (Tidies LoadScan) refl ((rests, refl), refl))
+        (λ e. if_so So sweep.again (tidied log state) (if rest_is_due log state then Goes (EndsSection finish.LoadNow) else Goes (Tidies (LoadGrace true)))
+        (λ again. by_end _ refl rests)
+        (λ first. if_so So (rest_is_due log state) (Goes (EndsSection finish.LoadNow)) (Goes (Tidies (LoadGrace true)))
+        (λ due. by_step (EndsSection finish.LoadNow) refl (inr (rests, refl, refl)))
+        (λ else_so. by_step (Tidies (LoadGrace true)) refl ((rests, refl), refl))))
 
-  -- the oldest write set is freed where it is dead
-  pub free_so : sweep.bound ≤ v.grace → So (free log state)
-  free_so bounded =
-      let t = sweep.bound in
-      let test = EndsSet freed t in
-      let last = first_from log freed test in
-      let left = dead_count log state t in
-      let logs = rests.2 in
-      if_so So (left == 0) (after_frees log state) (Goes (Tidies (Free freed left)))
-      (λ none. frees_so)
-      (λ some.
-      let ne = eqb_ne left 0 some in
-      let k = counted (ltb last (length log) && ((version_at log last).first == freed)) refl ne in
-      by_step (Tidies (Free freed left)) refl ((record {
-        before = v;
-        noted = logs.noted;
-        stands = logs.stands;
-        first = freed;
-        is = logs.is;
-        outside = rests.0;
-        scans = scans;
-        nothing = rests.1;
-        done = 0;
-        all = left;
-        frees = frees_set c logs.noted v log freed from t logs.stands logs.is left (omega (arith, ne)) k.0 k.1;
-        bounded = bounded;
-        view_is = none_freed c v freed;
-        freed_is = omega arith;
-        at_is = refl;
-        left_is = omega arith;
-        some = omega (arith, ne);
-        outside_now = rests.0;
-        bounded_now = bounded;
-      }, refl), refl))
-    where
-      counted : (b : Bool)
-          → (ltb (first_from log freed (EndsSet freed sweep.bound)) (length log)
-          && ((version_at log (first_from log freed (EndsSet freed sweep.bound))).first == freed)) ≡ b
-          → (if b then 0 else first_from log freed (EndsSet freed sweep.bound) - freed) ≢ 0
-          → ((if b then 0 else first_from log freed (EndsSet freed sweep.bound) - freed) ≡ first_from log freed (EndsSet freed sweep.bound) - freed)
-          × ((first_from log freed (EndsSet freed sweep.bound) < length log)
-          → (version_at log (first_from log freed (EndsSet freed sweep.bound))).first ≢ freed)
-      counted true e ne = absurd (ne refl)
-      counted false e ne = (refl, λ inside same.
-          let one : ltb (first_from log freed (EndsSet freed sweep.bound)) (length log) ≡ true = lt-ltb _ _ inside in
-          let two : ((version_at log (first_from log freed (EndsSet freed sweep.bound))).first == freed) ≡ true = eq-eqb _ _ same in
-          let both = ap (λ x. x && ((version_at log (first_from log freed (EndsSet freed sweep.bound))).first == freed)) one in
-          absurd (let f : true ≡ false = sym two ∙ sym both ∙ e in cc))
+    -- the oldest write set is freed where it is dead
+    pub free_so : sweep.bound ≤ v.grace → So (free log state)
+    free_so bounded =
+        let t = sweep.bound in
+        let test = EndsSet freed t in
+        let last = first_from log freed test in
+        let left = dead_count log state t in
+        let logs = rests.2 in
+        if_so So (left == 0) (after_frees log state) (Goes (Tidies (Free freed left)))
+        (λ none. frees_so)
+        (λ some.
+        let ne = eqb_ne left 0 some in
+        let k = counted (ltb last (length log) && ((version_at log last).first == freed)) refl ne in
+        by_step (Tidies (Free freed left)) refl (
+          (
+            record {
+              before = v;
+              noted = logs.noted;
+              stands = logs.stands;
+              first = freed;
+              is = logs.is;
+              outside = rests.0;
+              scans = scans;
+              nothing = rests.1;
+              done = 0;
+              all = left;
+              frees = frees_set c logs.noted v log freed from t logs.stands logs.is left (omega (arith, ne)) k.0 k.1;
+              bounded = bounded;
+              view_is = none_freed c v freed;
+              freed_is = omega arith;
+              at_is = refl;
+              left_is = omega arith;
+              some = omega (arith, ne);
+              outside_now = rests.0;
+              bounded_now = bounded;
+            },
+            refl,
+          ),
+          refl,
+        ))
+      where
+        counted : (b : Bool)
+            → (ltb (first_from log freed (EndsSet freed sweep.bound)) (length log)
+            && ((version_at log (first_from log freed (EndsSet freed sweep.bound))).first == freed)) ≡ b
+            → (if b then 0 else first_from log freed (EndsSet freed sweep.bound) - freed) ≢ 0
+            → ((if b then 0 else first_from log freed (EndsSet freed sweep.bound) - freed) ≡ first_from log freed (EndsSet freed sweep.bound) - freed)
+            × ((first_from log freed (EndsSet freed sweep.bound) < length log)
+            → (version_at log (first_from log freed (EndsSet freed sweep.bound))).first ≢ freed)
+        counted true e ne = absurd (ne refl)
+        counted false e ne = (
+          refl,
+          λ inside same.
+              let one : ltb (first_from log freed (EndsSet freed sweep.bound)) (length log) ≡ true = lt-ltb _ _ inside in
+              let two : ((version_at log (first_from log freed (EndsSet freed sweep.bound))).first == freed) ≡ true = eq-eqb _ _ same in
+              let both = ap (λ x. x && ((version_at log (first_from log freed (EndsSet freed sweep.bound))).first == freed)) one in
+              absurd (let f : true ≡ false = sym two ∙ sym both ∙ e in cc),
+        )
 
-  -- the next version that has no time of death is looked at
-  pub settle_so : IsSwept v.grace sweep → (start : ℕ) → freed ≤ start → start ≤ length log → So (settle log state (first_from log start IsUntimed))
-  settle_so swept start low within =
-      let at = first_from log start IsUntimed in
-      let after = first_after log start IsUntimed within in
-      if_so So (ltb at (length log)) (Goes (Tidies (LoadSuper at))) (free log state)
-      (λ e.
-      let inside = ltb_lt at (length log) e in
-      by_step (Tidies (LoadSuper at)) refl
-      ((rests, refl, swept, omega (arith, low, after), inside, eqb-true (version_at log at).dead 0 (first_there log start IsUntimed within inside)), refl))
-      (λ e. free_so swept.0)
+    -- the next version that has no time of death is looked at
+    pub settle_so : IsSwept v.grace sweep → (start : ℕ) → freed ≤ start → start ≤ length log → So (settle log state (first_from log start IsUntimed))
+    settle_so swept start low within =
+        let at = first_from log start IsUntimed in
+        let after = first_after log start IsUntimed within in
+        if_so So (ltb at (length log)) (Goes (Tidies (LoadSuper at))) (free log state)
+        (λ e.
+        let inside = ltb_lt at (length log) e in
+        by_step (Tidies (LoadSuper at)) refl
+        ((rests, refl, swept, omega (arith, low, after), inside, eqb-true (version_at log at).dead 0 (first_there log start IsUntimed within inside)), refl))
+        (λ e. free_so swept.0)

@@ -1,64 +1,42 @@
 -- The steps of a tidy that look for times of death, and write versions back.
-use Rattle.std.proofs.Common.{◌≡◌, ◌≢◌, ◌⊎◌, ℕ, ◌+◌, ◌-◌, ◌<◌, ◌≤◌, ◌^◌, ◌==◌, ◌&&◌, ◌||◌, ltb, not, List, [], length, drop, Bool, true, false}
-use Rattle.std.proofs.Common.{Option, Some, None, All, refl, sym, ap, ◌∙◌, subst, arith, inl, inr, eqb-true, eq-eqb, ne_eqb, if◌then◌else◌, mod-lt}
-use Rattle.std.proofs.Common.{slice_index, length-append}
-use Rattle.std.proofs.lemmas.List.{length-replicate}
-use Rattle.std.proofs.Common.{replicate}
-use Rattle.mv_layout.specs.Words.{link_of, clock_time_of}
-use Rattle.mv_core.proofs.Terms.{dite, ℕ_discrete, Config, Checked, Clock, Mark, Head, Master, Super, Data, IsPlace}
+use Rattle.std.proofs.Common.{◌≡◌, ◌≢◌, ℕ, ◌+◌, ◌-◌, ◌<◌, ◌≤◌, ◌==◌, ◌&&◌, ◌||◌, ltb, not, List, length, drop, Bool, true, false}
+use Rattle.std.proofs.Common.{Option, None, All, refl, sym, ap, ◌∙◌, subst, arith, eq-eqb, ne_eqb, if◌then◌else◌, mod-lt}
+use Rattle.mv_core.proofs.Terms.{dite, ℕ_discrete, Config, Checked, Super, IsPlace}
 use Rattle.mv_core.specs.declared.ring.CommitNote.{CommitNote}
 use Rattle.mv_core.specs.declared.ring.Slot.TheVariants.{Live}
 use Rattle.mv_core.specs.declared.ring.Status.TheVariants.{Committed}
 use Rattle.mv_core.specs.declared.view.View.{View}
-use Rattle.mv_core.specs.declared.view.Section.{Section}
-use Rattle.mv_core.specs.declared.view.Passed.TheVariants.{Nothing}
 use Rattle.mv_core.specs.Rings.{slot_at, index_of}
-use Rattle.mv_core.specs.EnterSteps.{MayClearMark, IsFinished, mark_cleared, stored_if}
-use Rattle.mv_core.specs.LockSteps.{MayLoadDeath, death_loaded}
-use Rattle.mv_core.specs.SetFacts.{HoldsVersion, HoldsSlot}
-use Rattle.mv_core.specs.ReclaimSteps.{MayLoadSuper, super_loaded, MayStoreMaster, MayCutHead, GoesToWord, head_cut, cut_lost}
-use Rattle.mv_core.specs.Moves.{Moment, Kind, clear_mark, load_head, load_death, load_super, store_master, cut_head, seen_to, IsStorable}
-use Rattle.mv_core.proofs.logs.Links.{link_some, position_small}
-use Rattle.mv_core.proofs.kinds.walking.WalkOn.{at_some}
+use Rattle.mv_core.specs.ReclaimSteps.{MayLoadSuper}
+use Rattle.mv_core.specs.Moves.{Moment, Kind, load_super, IsStorable}
 use Rattle.seat_log.specs.declared.version.Note.{Note}
-use Rattle.seat_log.specs.Notes.{Noted, IsNoteAt, at_place, retired, back_noted}
+use Rattle.seat_log.specs.Notes.{Noted, at_place, retired}
 use Rattle.seat_log.specs.Stands.{version_of, Stands}
 use Rattle.seat_log.proofs.Retired.{stands_found, stands_unfound}
-use Rattle.seat_log.proofs.CutLogs.{waits_for_death, stands_cut, stands_cut_lost}
 use Rattle.step_replay.specs.declared.plan.Call.TheVariants.{Tidy}
 use Rattle.step_replay.specs.declared.plan.CallOf.{CallOf}
 use Rattle.step_replay.specs.declared.seats.Version.{Version}
-use Rattle.step_replay.specs.declared.seats.Edit.{Edit}
 use Rattle.step_replay.specs.declared.seats.Edit.TheVariants.{Kept, Retired, AboveNoted}
 use Rattle.step_replay.specs.declared.seats.Sweep.{Sweep}
 use Rattle.step_replay.specs.declared.seats.State.{State}
-use Rattle.step_replay.specs.declared.seats.Back.{Back}
-use Rattle.step_replay.specs.declared.seats.Back.TheVariants.{WasCut, WasGone, WasAbove}
 use Rattle.step_replay.specs.declared.seats.Entering.TheVariants.{LoadLow}
-use Rattle.step_replay.specs.declared.seats.Sweeping.{Sweeping}
-use Rattle.step_replay.specs.declared.seats.Sweeping.TheVariants.{LoadSuper, LoadTop, StoreMaster, CutHead, LoadCutDeath, LeaveBack, LoadSuperAgain}
+use Rattle.step_replay.specs.declared.seats.Sweeping.TheVariants.{LoadSuper, LoadSuperAgain}
 use Rattle.step_replay.specs.declared.seats.Task.{Task}
 use Rattle.step_replay.specs.declared.seats.Task.TheVariants.{Enters, Tidies}
-use Rattle.step_replay.specs.declared.seats.Then.{Then}
 use Rattle.step_replay.specs.declared.seats.Then.TheVariants.{Goes}
 use Rattle.step_replay.specs.FitPlans.{IsFitCallOf}
-use Rattle.step_replay.specs.SeatNotes.{version_at, no_version, edited, edited_from, applied}
-use Rattle.step_replay.specs.Tasks.{slot_at as slot_for, link_to, place_in_task, access_in_task, written_by}
-use Rattle.step_replay.specs.Learns.{edit_of_super, other_seat}
-use Rattle.step_replay.specs.Sweeps.{settle_behind, after_super, after_top, after_cut, back_by}
-use Rattle.step_replay.specs.States.{any_commit, any_start, zeros, Made, state_of}
+use Rattle.step_replay.specs.SeatNotes.{version_at, no_version, edited_from, applied}
+use Rattle.step_replay.specs.Tasks.{slot_at as slot_for, place_in_task, access_in_task, written_by}
+use Rattle.step_replay.specs.Sweeps.{settle_behind}
+use Rattle.step_replay.specs.States.{Made, state_of}
 use Rattle.step_replay.specs.Runs.{SeatOf, TapeOf, learned, step_made}
 use Rattle.step_replay.specs.Behind.{IsTapeBehind}
-use Rattle.step_replay.proofs.writers.Notes.{note_of, notes_from, notes_retired, notes_above, edited_long, edited_behind, edited_at}
-use Rattle.step_replay.proofs.writers.Standing.{seat_with, IsNoted, Logs, InSection, RestsAt, IsBack, IsSwept, BacksUp, IsBacking, IsUncut, HasCut, IsStepped}
-use Rattle.step_replay.proofs.writers.Standing.{StandsFor, GoesSo, by_step, by_end}
-use Rattle.step_replay.proofs.writers.Stepping.{IsOfKind, view_by, next_is}
-use Rattle.step_replay.proofs.writers.Known.{if_so, eqb_ne, ltb_lt, ltb_ge, facts, number_is, knows, starts, word_small, logs_left}
-use Rattle.step_replay.proofs.writers.LogFacts.{noted_long}
-use Rattle.step_replay.proofs.writers.Aborting.{holds_nothing}
-use Rattle.step_replay.proofs.writers.Locking.{link_is}
-use Rattle.step_replay.proofs.writers.Walking.{section_stays}
-use Rattle.step_replay.proofs.writers.Rounds.{is_note, untimed, settle_so}
+use Rattle.step_replay.proofs.runs.Notes.{note_of, notes_from, notes_retired, notes_above, edited_long, edited_behind, edited_at}
+use Rattle.step_replay.proofs.runs.Standing.{seat_with, IsNoted, Logs, RestsAt, IsSwept, IsStepped}
+use Rattle.step_replay.proofs.runs.Standing.{GoesSo, by_step}
+use Rattle.step_replay.proofs.runs.Stepping.{IsOfKind, view_by, next_is}
+use Rattle.step_replay.proofs.runs.Known.{if_so, ltb_ge, number_is}
+use Rattle.step_replay.proofs.runs.Rounds.{is_note, untimed, settle_so}
 
 -- the notes with the version at a place dead from a time on
 pub noted_retired : (c : Config) (l : Noted) (log : List Version) (freed from at dead : ℕ) → IsNoted c l log freed from → freed ≤ at

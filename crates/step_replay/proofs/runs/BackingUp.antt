@@ -1,10 +1,10 @@
 -- The steps of a write-back, in its section.
-use Rattle.std.proofs.Common.{◌≡◌, ◌≢◌, ◌⊎◌, ℕ, ◌+◌, ◌-◌, ◌<◌, ◌≤◌, ◌^◌, ◌==◌, ltb, List, [], length, drop, Bool, true, false}
-use Rattle.std.proofs.Common.{Option, Some, None, All, refl, sym, ap, ◌∙◌, subst, arith, inl, inr, eqb-true, eq-eqb, ne_eqb, if◌then◌else◌}
+use Rattle.std.proofs.Common.{◌≡◌, ◌≢◌, ◌⊎◌, ℕ, ◌+◌, ◌-◌, ◌<◌, ◌≤◌, ◌^◌, ◌==◌, ltb, List, length, Bool, true, false}
+use Rattle.std.proofs.Common.{Option, Some, None, All, refl, sym, ap, ◌∙◌, subst, arith, inl, inr, eqb-true, if◌then◌else◌}
 use Rattle.std.proofs.Common.{slice_index, replicate}
 use Rattle.std.proofs.lemmas.List.{length-replicate}
 use Rattle.mv_layout.specs.Words.{link_of, clock_time_of}
-use Rattle.mv_core.proofs.Terms.{dite, ℕ_discrete, Config, Checked, Clock, Mark, Head, Master, Data, IsPlace}
+use Rattle.mv_core.proofs.Terms.{Config, Checked, Clock, Mark, Head, Data, IsPlace}
 use Rattle.mv_core.specs.declared.ring.CommitNote.{CommitNote}
 use Rattle.mv_core.specs.declared.ring.Slot.TheVariants.{Live}
 use Rattle.mv_core.specs.declared.ring.Status.TheVariants.{Committed}
@@ -16,12 +16,12 @@ use Rattle.mv_core.specs.Rings.{slot_at, index_of}
 use Rattle.mv_core.specs.EnterSteps.{MayClearMark, IsFinished, mark_cleared, stored_if}
 use Rattle.mv_core.specs.LockSteps.{MayLoadDeath, death_loaded}
 use Rattle.mv_core.specs.SetFacts.{HoldsVersion, HoldsSlot}
-use Rattle.mv_core.specs.ReclaimSteps.{MayStoreMaster, GoesToWord, head_cut, cut_lost}
-use Rattle.mv_core.specs.Moves.{Moment, Kind, clear_mark, load_head, load_death, store_master, cut_head, IsStorable}
+use Rattle.mv_core.specs.ReclaimSteps.{GoesToWord, head_cut, cut_lost}
+use Rattle.mv_core.specs.Moves.{Moment, clear_mark, load_head, load_death, store_master, cut_head, IsStorable}
 use Rattle.mv_core.proofs.logs.Links.{link_some, position_small}
 use Rattle.mv_core.proofs.kinds.walking.WalkOn.{at_some}
 use Rattle.seat_log.specs.declared.version.Note.{Note}
-use Rattle.seat_log.specs.Notes.{Noted, IsNoteAt, retired, back_noted}
+use Rattle.seat_log.specs.Notes.{retired, back_noted}
 use Rattle.seat_log.specs.Stands.{version_of, Stands}
 use Rattle.seat_log.proofs.CutLogs.{waits_for_death, stands_cut, stands_cut_lost}
 use Rattle.step_replay.specs.declared.plan.Call.TheVariants.{Tidy}
@@ -42,20 +42,19 @@ use Rattle.step_replay.specs.FitPlans.{IsFitCallOf}
 use Rattle.step_replay.specs.SeatNotes.{version_at, edited_from}
 use Rattle.step_replay.specs.Tasks.{link_to, place_in_task, access_in_task, written_by}
 use Rattle.step_replay.specs.Learns.{other_seat}
-use Rattle.step_replay.specs.Sweeps.{back_by, settle_behind}
-use Rattle.step_replay.specs.States.{any_commit, any_start, zeros, Made, state_of}
-use Rattle.step_replay.specs.Runs.{SeatOf, TapeOf, learned, step_made}
+use Rattle.step_replay.specs.Sweeps.{back_by}
+use Rattle.step_replay.specs.States.{Made, state_of}
+use Rattle.step_replay.specs.Runs.{SeatOf, TapeOf, step_made}
 use Rattle.step_replay.specs.Behind.{IsTapeBehind}
-use Rattle.step_replay.proofs.writers.Notes.{note_of, edited_long}
-use Rattle.step_replay.proofs.writers.Standing.{seat_with, IsNoted, Logs, InSection, RestsAt, IsBack, IsSwept, BacksUp, IsBacking, IsUncut, HasCut, later}
-use Rattle.step_replay.proofs.writers.Standing.{IsStepped, GoesSo, by_step}
-use Rattle.step_replay.proofs.writers.Stepping.{IsOfKind, view_by, next_is}
-use Rattle.step_replay.proofs.writers.Known.{if_so, ltb_lt, ltb_ge, facts, number_is, view_there, knows, starts, word_small, logs_left}
-use Rattle.step_replay.proofs.writers.Aborting.{holds_nothing}
-use Rattle.step_replay.proofs.writers.Locking.{link_is}
-use Rattle.step_replay.proofs.writers.Walking.{section_stays}
-use Rattle.step_replay.proofs.writers.Rounds.{is_note, untimed}
-use Rattle.step_replay.proofs.writers.Settling.{noted_retired, noted_above, behind_so}
+use Rattle.step_replay.proofs.runs.Notes.{note_of, edited_long}
+use Rattle.step_replay.proofs.runs.Standing.{seat_with, Logs, InSection, RestsAt, IsBack, IsSwept, BacksUp, IsBacking, IsUncut, HasCut, later}
+use Rattle.step_replay.proofs.runs.Standing.{IsStepped, GoesSo, by_step}
+use Rattle.step_replay.proofs.runs.Stepping.{IsOfKind, view_by, next_is}
+use Rattle.step_replay.proofs.runs.Known.{if_so, ltb_lt, ltb_ge, facts, number_is, knows, starts, word_small, logs_left}
+use Rattle.step_replay.proofs.runs.Aborting.{holds_nothing}
+use Rattle.step_replay.proofs.runs.Locking.{link_is}
+use Rattle.step_replay.proofs.runs.Rounds.{is_note, untimed}
+use Rattle.step_replay.proofs.runs.Settling.{noted_retired, noted_above, behind_so}
 
 module _ (c : Config) (k : Checked c) (n : ℕ) (lt : n < c.seats) (made : List Made) (t : TapeOf) (b : IsTapeBehind c t made)
     (log : List Version) (freed from : ℕ) (time : Option ℕ) (sweep : Sweep) (own : Option Task) (left : List CallOf)
@@ -143,25 +142,35 @@ module _ (c : Config) (k : Checked c) (n : ℕ) (lt : n < c.seats) (made : List 
       (λ e.
       let same : found ≡ link_of n at = eqb-true found (link_to n at) e ∙ own_link inside.logs backs.2 at back in
       let some : found ≢ 0 = λ z. link_some n at (sym same ∙ z) in
-      by_step (Tidies (StoreMaster at o (version_at log at).words 0)) refl ((
-        record {
-          section = i;
-          phase = inside.walking.phase;
-          open_is = inside.walking.open_is;
-          helped = inside.walking.helped;
-          time_is = inside.time_is;
-          logs = logs2;
-          nothing = backs.2;
-          back = back;
-          swept = backs.1;
-          object_is = o_is;
-          goes = inl (refl, inside.walking.no_back,
-              (record { object = o; link = found; first = None; stamp = None; passed = Nothing; late = false }, sym (at_some o found Nothing false some), refl,
-              same));
-        },
+      by_step (Tidies (StoreMaster at o (version_at log at).words 0)) refl (
+        (
+          record {
+            section = i;
+            phase = inside.walking.phase;
+            open_is = inside.walking.open_is;
+            helped = inside.walking.helped;
+            time_is = inside.time_is;
+            logs = logs2;
+            nothing = backs.2;
+            back = back;
+            swept = backs.1;
+            object_is = o_is;
+            goes = inl (
+              refl,
+              inside.walking.no_back,
+              (
+                record { object = o; link = found; first = None; stamp = None; passed = Nothing; late = false },
+                sym (at_some o found Nothing false some),
+                refl,
+                same,
+              ),
+            );
+          },
+          refl,
+          omega arith,
+        ),
         refl,
-        omega arith,
-      ), refl))
+      ))
       (λ e. uncut_so w at found (record {
         section = i;
         phase = inside.walking.phase;
@@ -254,20 +263,23 @@ module _ (c : Config) (k : Checked c) (n : ℕ) (lt : n < c.seats) (made : List 
       let B = cut_lost c v o at found in
       let state : State = record { seat = n; time = time; from = from; freed = freed; call = Tidy; sweep = sweep } in
       let won : GoesSo c n A log freed from time Tidy sweep (Goes (Tidies (LoadCutDeath at))) =
-      by_step (Tidies (LoadCutDeath at)) refl (record {
-        before = v;
-        section = f.section;
-        phase = f.phase;
-        open_is = f.open_is;
-        scans = no_scan;
-        logs = f.logs;
-        nothing = f.nothing;
-        back = f.back;
-        swept = f.swept;
-        note = noted.0;
-        lives = noted.1;
-        view_is = ap (λ y. head_cut c v y at x noted.0) f.object_is;
-      }, refl) in
+      by_step (Tidies (LoadCutDeath at)) refl (
+        record {
+          before = v;
+          section = f.section;
+          phase = f.phase;
+          open_is = f.open_is;
+          scans = no_scan;
+          logs = f.logs;
+          nothing = f.nothing;
+          back = f.back;
+          swept = f.swept;
+          note = noted.0;
+          lives = noted.1;
+          view_is = ap (λ y. head_cut c v y at x noted.0) f.object_is;
+        },
+        refl,
+      ) in
       let lost : GoesSo c n B log freed from time Tidy sweep (Goes (Tidies (LeaveBack at (back_by state found)))) =
       uncut_so B at found (record {
         section = f.section;
@@ -310,20 +322,23 @@ module _ (c : Config) (k : Checked c) (n : ℕ) (lt : n < c.seats) (made : List 
       let w = view_by c s n load_death in
       let word = s.memory Clock in
       next_is c k n lt made t b load_death task of seat_so refl log freed from time Tidy (later sweep word) own left refl no_scan before
-      (by_step (Tidies (LeaveBack at (WasCut (clock_time_of word + 1)))) refl (record {
-        before = f.before;
-        section = f.section;
-        phase = f.phase;
-        open_is = f.open_is;
-        scans = f.scans;
-        logs = f.logs;
-        nothing = f.nothing;
-        back = f.back;
-        swept = f.swept;
-        note = f.note;
-        lives = f.lives;
-        view_is = (word, s.history, ap (λ (u : View). death_loaded c u word s.history) f.view_is, refl);
-      }, refl))
+      (by_step (Tidies (LeaveBack at (WasCut (clock_time_of word + 1)))) refl (
+        record {
+          before = f.before;
+          section = f.section;
+          phase = f.phase;
+          open_is = f.open_is;
+          scans = f.scans;
+          logs = f.logs;
+          nothing = f.nothing;
+          back = f.back;
+          swept = f.swept;
+          note = f.note;
+          lives = f.lives;
+          view_is = (word, s.history, ap (λ (u : View). death_loaded c u word s.history) f.view_is, refl);
+        },
+        refl,
+      ))
 
   -- the section ends, and the version that was cut is dead from that time on
   cut_left : (at dead : ℕ) → HasCut c v log freed from sweep at (Some dead) → Made_so (LeaveBack at (WasCut dead))

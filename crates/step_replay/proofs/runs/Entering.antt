@@ -20,17 +20,16 @@ use Rattle.step_replay.specs.declared.seats.Entering.TheVariants.{LoadLow, Store
 use Rattle.step_replay.specs.declared.seats.Helping.TheVariants.{LoadNamed}
 use Rattle.step_replay.specs.declared.seats.Task.{Task}
 use Rattle.step_replay.specs.declared.seats.Task.TheVariants.{Enters, Helps}
-use Rattle.step_replay.specs.declared.seats.Answer.TheVariants.{AtTime}
-use Rattle.step_replay.specs.declared.seats.Then.TheVariants.{Goes, Ends}
+use Rattle.step_replay.specs.declared.seats.Then.TheVariants.{Goes}
 use Rattle.step_replay.specs.FitPlans.{IsFitCallOf}
 use Rattle.step_replay.specs.States.{Made, state_of}
 use Rattle.step_replay.specs.Runs.{TapeOf, step_made}
 use Rattle.step_replay.specs.Behind.{IsTapeBehind}
-use Rattle.step_replay.proofs.writers.Standing.{seat_with, Logs, IsStepped, EntersAt, EntersFor, BeforeHelp, HelpsFor, later, GoesSo, by_step}
-use Rattle.step_replay.proofs.writers.Helping.{helped_so}
+use Rattle.step_replay.proofs.runs.Standing.{seat_with, Logs, IsStepped, EntersAt, EntersFor, BeforeHelp, HelpsFor, later, GoesSo, by_step}
+use Rattle.step_replay.proofs.runs.Helping.{helped_so}
 use Rattle.step_replay.specs.GoesOn.{helped_in}
-use Rattle.step_replay.proofs.writers.Stepping.{IsOfKind, view_by, next_is}
-use Rattle.step_replay.proofs.writers.Known.{if_so, eqb_ne, facts, number_is, knows, logs_left}
+use Rattle.step_replay.proofs.runs.Stepping.{IsOfKind, view_by, next_is}
+use Rattle.step_replay.proofs.runs.Known.{if_so, eqb_ne, facts, number_is, knows, logs_left}
 
 -- a help behind an entering
 enters_help : (c : Config) (v : View) (log : List Version) (freed from : ℕ) (time : Option ℕ) (sweep : Sweep) (word : ℕ) (call : Call)

@@ -1,4 +1,4 @@
--- Seats that lock and write: what their notes stand for, and their steps.
+-- The runs of plans: what the notes of a seat stand for, the steps that it comes to, the calls that it looks at, and its turns.
 pub mod Notes
 pub mod Standing
 pub mod Known

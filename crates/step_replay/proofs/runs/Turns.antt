@@ -1,5 +1,5 @@
 -- Behind the turns of a plan the domain is behind steps of the core.
-use Rattle.std.proofs.Common.{◌≡◌, ◌≢◌, ◌⊎◌, ℕ, zero, suc, ◌+◌, ◌-◌, ◌<◌, List, [], ◌∷◌, Option, Some, None, All, length, get_or, refl, sym, ap, ◌∙◌}
+use Rattle.std.proofs.Common.{◌≡◌, ◌≢◌, ℕ, zero, suc, ◌+◌, ◌-◌, ◌<◌, List, [], ◌∷◌, Option, Some, None, All, length, get_or, refl, sym, ap, ◌∙◌}
 use Rattle.std.proofs.Common.{take, subst, arith, length-set, inl, inr, count_by}
 use Rattle.std.proofs.lemmas.List.{get_or-set_same, get_or-set_other}
 use Rattle.std.proofs.lemmas.List.Elements.{All-head, All-tail, All-take}
@@ -38,9 +38,9 @@ use Rattle.step_replay.proofs.Machines.{shows_opened}
 use Rattle.step_replay.proofs.Ruled.{is_ruled}
 use Rattle.step_replay.proofs.TurnLaws.{seats_long}
 use Rattle.step_replay.proofs.NextSteps.{lined}
-use Rattle.step_replay.proofs.writers.Standing.{seat_with, Logs, IsSeat, IsStepped, StandsFor, ScanAt, step_of, seat_by}
-use Rattle.step_replay.proofs.writers.Steps.{step_is}
-use Rattle.step_replay.proofs.writers.Looking.{IsLooked, looks}
+use Rattle.step_replay.proofs.runs.Standing.{seat_with, Logs, IsSeat, IsStepped, StandsFor, ScanAt, step_of, seat_by}
+use Rattle.step_replay.proofs.runs.Steps.{step_is}
+use Rattle.step_replay.proofs.runs.Looking.{IsLooked, looks}
 
 -- behind a turn the domain is behind the same steps, or behind one more of the seat
 data IsTurned (c : Config) (n : ℕ) (made : List Made) (y : Scene) : Type 0 where

@@ -35,10 +35,10 @@ use Rattle.step_replay.specs.GoesOn.{is_last, is_unset, helped_in}
 use Rattle.step_replay.specs.States.{Made, state_of}
 use Rattle.step_replay.specs.Runs.{TapeOf, step_made}
 use Rattle.step_replay.specs.Behind.{IsTapeBehind}
-use Rattle.step_replay.proofs.writers.Standing.{seat_with, Logs, InSection, RestsAt, HelpsAt, HelpsFor, helped_word, IsStepped, GoesSo}
-use Rattle.step_replay.proofs.writers.Standing.{BeforeHelp, BacksUp, later, by_step, by_end}
-use Rattle.step_replay.proofs.writers.Stepping.{IsOfKind, view_by, next_is}
-use Rattle.step_replay.proofs.writers.Known.{if_so, eqb_ne, facts, logs_left}
+use Rattle.step_replay.proofs.runs.Standing.{seat_with, Logs, InSection, RestsAt, HelpsAt, HelpsFor, helped_word, IsStepped, GoesSo}
+use Rattle.step_replay.proofs.runs.Standing.{BeforeHelp, BacksUp, later, by_step, by_end}
+use Rattle.step_replay.proofs.runs.Stepping.{IsOfKind, view_by, next_is}
+use Rattle.step_replay.proofs.runs.Known.{if_so, eqb_ne, facts, logs_left}
 
 -- a seat that is in a section and in no call
 pub rests_in : (c : Config) (v : View) (log : List Version) (freed from : ℕ) (time : Option ℕ) → InSection c v log freed from time → RestsAt c v log freed from time
@@ -85,23 +85,25 @@ helped_so c n v log freed from time Tidy sweep word bound (inl h) loaded helped 
     let P = λ (x : Option ℕ). GoesSo c n v log freed from x Tidy sweep
     (helped_in Tidy c log (record { seat = n; time = x; from = from; freed = freed; call = Tidy; sweep = sweep }) word) in
     subst P (sym h.0.time_is)
-    (by_step (Tidies (LoadTop sweep.at (version_at log sweep.at).object)) refl
-    ((
-      record {
-        section = h.0.section;
-        walking = record {
-          phase = h.0.phase;
-          open_is = h.0.open_is;
-          helped = subst (Contains v.clocks.helped) (sym h.0.word_is) helped;
-          no_back = h.0.no_back;
-        };
-        time_is = refl;
-        logs = h.0.logs;
-      },
-      h.1,
+    (by_step (Tidies (LoadTop sweep.at (version_at log sweep.at).object)) refl (
+      (
+        record {
+          section = h.0.section;
+          walking = record {
+            phase = h.0.phase;
+            open_is = h.0.open_is;
+            helped = subst (Contains v.clocks.helped) (sym h.0.word_is) helped;
+            no_back = h.0.no_back;
+          };
+          time_is = refl;
+          logs = h.0.logs;
+        },
+        h.1,
+        refl,
+        refl,
+      ),
       refl,
-      refl,
-    ), refl))
+    ))
 helped_so c n v log freed from time Tidy sweep word bound (inr h) loaded helped =
     let P = λ (x : Option ℕ). GoesSo c n v log freed from x Tidy sweep
     (helped_in Tidy c log (record { seat = n; time = x; from = from; freed = freed; call = Tidy; sweep = sweep }) word) in

@@ -70,7 +70,8 @@ next_word_is c word n at slot room seat low is =
     ∙ ap (λ b. if b then clock_of (clock_time_of word + 1) n slot else 0) (le-leb slot 8191 low)
 
 -- nothing is below some more of the versions, so these count as told
-pub told_on : (c : Config) (v : View) (log : List Version) (freed from time told more : ℕ) → Finishes c v log freed from time told → from + told + more ≤ length log
+pub told_on : (c : Config) (v : View) (log : List Version) (freed from time told more : ℕ) → Finishes c v log freed from time told → from + told + more
+    ≤ length log
     → ((j : ℕ) → from + told ≤ j → j < from + told + more → (version_at log j).previous ≡ 0) → Finishes c v log freed from time (told + more)
 told_on c v log freed from time told zero fin within none = subst (Finishes c v log freed from time) (omega arith) fin
 told_on c v log freed from time told (suc more) fin within none =
@@ -153,11 +154,13 @@ module _ (c : Config) (k : Checked c) (n : ℕ) (lt : n < c.seats) (made : List 
       let loaded : Contains w.clocks.loaded word = Contains-push v.clocks.loaded word in
       let state : State = record { seat = n; time = time; from = from; freed = freed; call = call; sweep = sweep } in
       let as_commit : State = record { seat = n; time = time; from = from; freed = freed; call = Commit; sweep = sweep } in
-      next_is c k n lt made t b load_check task of (seat_with n log freed from time call sweep own left) refl log freed from time call sweep own left refl no_scan before
+      next_is c k n lt made t b load_check task of (seat_with n log freed from time call sweep own left) refl log freed from time call sweep own left
+          refl no_scan before
       (subst (λ (x : Call). GoesSo c n w log freed from time x sweep (after_now x c log (record state { call = x }) word)) (sym commits)
       (if_so (GoesSo c n w log freed from time Commit sweep) (is_last (clock_time_of word)) (Ends (Committed ends.End)) (help c log as_commit word)
       (λ last. by_end (Committed ends.End) refl (rests_in c w log freed from time still))
-      (λ on. if_so (GoesSo c n w log freed from time Commit sweep) (clock_slot_of word == 8191) (helped_in Commit c log as_commit word) (Goes (Helps (LoadNamed word)))
+      (λ on. if_so (GoesSo c n w log freed from time Commit sweep) (clock_slot_of word == 8191) (helped_in Commit c log as_commit word)
+          (Goes (Helps (LoadNamed word)))
       (λ nobody. named_so c n w log freed from time sweep word bound still some loaded
       (Contains-append_right v.clocks.helped (if_none word ++ checked_helped v.clocks.found word) word
       (Contains-append_left (if_none word) (checked_helped v.clocks.found word) word
@@ -187,7 +190,8 @@ module _ (c : Config) (k : Checked c) (n : ℕ) (lt : n < c.seats) (made : List 
         fit = λ st d. tt;
       } in
       let word_is : commit_word c v word ≡ new =
-      (λ j. clock_of (clock_time_of word + 1) (own_seat j) (index_of c (first j))) ∙ sym (next_word_is c word n from (slot_for c from) room few_seats low.1 refl)
+      (λ j. clock_of (clock_time_of word + 1) (own_seat j) (index_of c (first j))) ∙ sym
+          (next_word_is c word n from (slot_for c from) room few_seats low.1 refl)
       ∙ sym new_is in
       let packed = new_is ∙ next_word_is c word n from (slot_for c from) room few_seats low.1 refl in
       let of : IsOfKind c s n kind task = record {
@@ -227,7 +231,8 @@ module _ (c : Config) (k : Checked c) (n : ℕ) (lt : n < c.seats) (made : List 
       } in
       next_is c k n lt made t b kind task of (seat_with n log freed from time call sweep own left) refl log freed from time call sweep own left refl
       (subst (λ (u : View). u.scan ≡ None) (sym view) no_scan) before
-      (subst (λ (u : View). GoesSo c n u log freed from time call sweep (after_name (record { seat = n; time = time; from = from; freed = freed; call = call; sweep = sweep })
+      (subst (λ (u : View). GoesSo c n u log freed from time call sweep (after_name
+          (record { seat = n; time = time; from = from; freed = freed; call = call; sweep = sweep })
       word found)) (sym view)
       (by_step (EndsSection (StampOwn from (clock_time_of word + 1)))
       (ap (λ x. if x then Goes (EndsSection (StampOwn from (clock_time_of word + 1)))
@@ -241,7 +246,8 @@ module _ (c : Config) (k : Checked c) (n : ℕ) (lt : n < c.seats) (made : List 
       (logs_left c v B log freed from refl refl refl refl _ refl (refl, refl)) inside in
       next_is c k n lt made t b kind task of (seat_with n log freed from time call sweep own left) refl log freed from time call sweep own left refl
       (subst (λ (u : View). u.scan ≡ None) (sym view) no_scan) before
-      (subst (λ (u : View). GoesSo c n u log freed from time call sweep (after_name (record { seat = n; time = time; from = from; freed = freed; call = call; sweep = sweep })
+      (subst (λ (u : View). GoesSo c n u log freed from time call sweep (after_name
+          (record { seat = n; time = time; from = from; freed = freed; call = call; sweep = sweep })
       word found)) (sym view)
       (by_end (Committed (ends.Again rival))
       (ap (λ x. if x then Goes (EndsSection (StampOwn from (clock_time_of word + 1))) else Ends (Committed (ends.Again rival))) not_so)
@@ -266,7 +272,8 @@ module _ (c : Config) (k : Checked c) (n : ℕ) (lt : n < c.seats) (made : List 
       let at = slot_for c from in
       let word = clock_of t2 v.number (index_of c from) in
       let unset = unset_of from in
-      let here : Section = record won.inside { mode = Named (record { time = clock_time_of won.word + 1; first = set_first won.before.ring; stamped = false }) } in
+      let here : Section = record won.inside { mode = Named (record { time = clock_time_of won.word + 1; first = set_first won.before.ring; stamped =
+          false }) } in
       let phase : v.phase ≡ Inside here = has_named c v l won named.named in
       let naming : Naming = record { time = clock_time_of won.word + 1; first = set_first won.before.ring; stamped = false } in
       let small : from < 2 ^ 57 = (let top = (knows c k n made b.each).named here naming phase refl in omega (arith, top, first)) in
@@ -320,9 +327,11 @@ module _ (c : Config) (k : Checked c) (n : ℕ) (lt : n < c.seats) (made : List 
       } in
       (no_scan, super_so w 0 from t2 begins (omega arith) (omega (arith, short))) in
       let found = s.memory (Stamp (clock_seat_of word) (clock_slot_of word)) in
-      let both = if_so (λ (u : View). (u.scan ≡ None) × GoesSo c n u log freed from time call sweep (then_super log (first_from log from IsLinked) t2)) (found == unset)
+      let both = if_so (λ (u : View). (u.scan ≡ None) × GoesSo c n u log freed from time call sweep (then_super log (first_from log from IsLinked) t2))
+          (found == unset)
       (stamp_swapped c v word unset unset) (stamp_swapped c v word unset found) (λ e. so unset) (λ e. so found) in
-      next_is c k n lt made t b kind task of (seat_with n log freed from time call sweep own left) refl log freed from time call sweep own left refl both.0 before
+      next_is c k n lt made t b kind task of (seat_with n log freed from time call sweep own left) refl log freed from time call sweep own left refl
+          both.0 before
       both.1
 
   -- SUPER is stored below one version more
@@ -355,7 +364,8 @@ module _ (c : Config) (k : Checked c) (n : ℕ) (lt : n < c.seats) (made : List 
         is = fin.is;
         in_time = fin.in_time;
       } in
-      next_is c k n lt made t b kind task of (seat_with n log freed from time call sweep own left) refl log freed from time call sweep own left refl no_scan before
+      next_is c k n lt made t b kind task of (seat_with n log freed from time call sweep own left) refl log freed from time call sweep own left refl
+          no_scan before
       (super_so w (told + 1) (at + 1) t2 more (omega (arith, at_is)) (omega (arith, live)))
 
   -- the section ends, and what it held is committed
@@ -395,7 +405,8 @@ module _ (c : Config) (k : Checked c) (n : ℕ) (lt : n < c.seats) (made : List 
           few = omega arith;
         };
       } in
-      next_is c k n lt made t b clear_mark task of (seat_with n log freed from time call sweep own left) refl log2 freed (length log) None call sweep own left refl no_scan
+      next_is c k n lt made t b clear_mark task of (seat_with n log freed from time call sweep own left) refl log2 freed (length log) None call sweep
+          own left refl no_scan
       before
       (by_end (Committed (ends.Done t2)) refl (refl, sym long2, logs2))
 

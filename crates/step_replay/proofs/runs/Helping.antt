@@ -41,12 +41,14 @@ use Rattle.step_replay.proofs.runs.Stepping.{IsOfKind, view_by, next_is}
 use Rattle.step_replay.proofs.runs.Known.{if_so, eqb_ne, facts, logs_left}
 
 -- a seat that is in a section and in no call
-pub rests_in : (c : Config) (v : View) (log : List Version) (freed from : ℕ) (time : Option ℕ) → InSection c v log freed from time → RestsAt c v log freed from time
+pub rests_in : (c : Config) (v : View) (log : List Version) (freed from : ℕ) (time : Option ℕ) → InSection c v log freed from time → RestsAt c v log
+    freed from time
 rests_in c v log freed from time i =
     subst (RestsAt c v log freed from) (sym i.time_is) (record { section = i.section; walking = i.walking; time_is = refl; logs = i.logs })
 
 -- a commit whose word is helped tries its exchange of CLOCK, or no time is left
-pub named_so : (c : Config) (n : ℕ) (v : View) (log : List Version) (freed from : ℕ) (time : Option ℕ) (sweep : Sweep) (word : ℕ) → clock_time_of word ≤ 35184372088831
+pub named_so : (c : Config) (n : ℕ) (v : View) (log : List Version) (freed from : ℕ) (time : Option ℕ) (sweep : Sweep) (word : ℕ) → clock_time_of word ≤
+    35184372088831
     → InSection c v log freed from time → from < length log → Contains v.clocks.loaded word → Contains v.clocks.helped word
     → GoesSo c n v log freed from time Commit sweep
     (if is_last (clock_time_of word) then Ends (Committed ends.End) else Goes (EndsSection (Name word (commit_clock c word n from))))
@@ -217,7 +219,8 @@ module _ (c : Config) (k : Checked c) (n : ℕ) (lt : n < c.seats) (made : List 
       let top = f.history.in_time in
       omega (arith, was, long, top)
 
-  named_made : (word : ℕ) → Contains v.clocks.loaded word → (clock_slot_of word ≡ 8191 → ⊥) → HelpsFor c v log freed from time sweep word call → Made_so (LoadNamed word)
+  named_made : (word : ℕ) → Contains v.clocks.loaded word → (clock_slot_of word ≡ 8191 → ⊥) → HelpsFor c v log freed from time sweep word call → Made_so
+      (LoadNamed word)
   named_made word loaded some helps =
       let f = facts c k n made b.each in
       let of : IsOfKind c s n (load_named word) (Helps (LoadNamed word)) = record {
@@ -234,8 +237,10 @@ module _ (c : Config) (k : Checked c) (n : ℕ) (lt : n < c.seats) (made : List 
       λ x has. if_so (λ (d : LoadedClocks). Contains d.helped x) (leb 9223372036854775808 found) kept (helped_too v.clocks word) (λ e. has)
       (λ e. Contains-append_left v.clocks.helped (word ∷ []) x has) in
       let still : HelpsFor c w log freed from time sweep word call =
-      helps_kept c v w log freed from time sweep word (λ e. e) (λ i e o. e) refl refl helped (logs_left c v w log freed from refl refl refl refl _ refl (refl, refl)) call helps in
-      next_is c k n lt made t b (load_named word) (Helps (LoadNamed word)) of (seat_with n log freed from time call sweep own left) refl log freed from time call sweep own
+      helps_kept c v w log freed from time sweep word (λ e. e) (λ i e o. e) refl refl helped
+          (logs_left c v w log freed from refl refl refl refl _ refl (refl, refl)) call helps in
+      next_is c k n lt made t b (load_named word) (Helps (LoadNamed word)) of (seat_with n log freed from time call sweep own left) refl log freed from
+          time call sweep own
       left refl no_scan before
       (if_so (GoesSo c n w log freed from time call sweep) (is_unset found) (Goes (Helps (LoadCheck word found)))
       (helped_in call c log (record { seat = n; time = time; from = from; freed = freed; call = call; sweep = sweep }) word)
@@ -268,7 +273,8 @@ module _ (c : Config) (k : Checked c) (n : ℕ) (lt : n < c.seats) (made : List 
       (λ x has. Contains-append_left v.clocks.helped (if_none found ++ checked_helped v.clocks.found found) x has)
       (logs_left c v w log freed from refl refl refl refl _ refl (refl, refl)) call helps) in
       let loaded_still : Contains w.clocks.loaded word = Contains-append_left v.clocks.loaded (found ∷ []) word loaded in
-      next_is c k n lt made t b load_check (Helps (LoadCheck word unset)) of (seat_with n log freed from time call sweep own left) refl log freed from time call (later sweep found) own
+      next_is c k n lt made t b load_check (Helps (LoadCheck word unset)) of (seat_with n log freed from time call sweep own left) refl log freed from
+          time call (later sweep found) own
       left refl no_scan before
       (if_so (GoesSo c n w log freed from time call (later sweep found)) (found == word) (Goes (Helps (SwapStamp word unset)))
       (helped_in call c log (record { seat = n; time = time; from = from; freed = freed; call = call; sweep = later sweep found }) word)
@@ -301,18 +307,21 @@ module _ (c : Config) (k : Checked c) (n : ℕ) (lt : n < c.seats) (made : List 
       } in
       let found = s.memory (named_place word) in
       let state : State = record { seat = n; time = time; from = from; freed = freed; call = call; sweep = sweep } in
-      let so : (x : ℕ) → (stamp_swapped c v word unset x).scan ≡ None × GoesSo c n (stamp_swapped c v word unset x) log freed from time call sweep (helped_in call c log state word) =
+      let so : (x : ℕ) → (stamp_swapped c v word unset x).scan ≡ None × GoesSo c n (stamp_swapped c v word unset x) log freed from time call sweep
+          (helped_in call c log state word) =
       λ x.
       let w = stamp_swapped c v word unset x in (
         no_scan,
         helped_so c n w log freed from time call sweep word bound
-            (helps_kept c v w log freed from time sweep word (swapped_outside c v word unset) (swapped_phase c v word unset) refl refl (λ y has. Contains-append_left v.clocks.helped (word ∷ []) y has)
+            (helps_kept c v w log freed from time sweep word (swapped_outside c v word unset) (swapped_phase c v word unset) refl refl
+                (λ y has. Contains-append_left v.clocks.helped (word ∷ []) y has)
             (logs_left c v w log freed from refl refl refl refl _ refl (refl, refl)) call helps)
             loaded (Contains-push v.clocks.helped word),
       ) in
       let both = if_so (λ (u : View). (u.scan ≡ None) × GoesSo c n u log freed from time call sweep (helped_in call c log state word)) (found == unset)
       (stamp_swapped c v word unset unset) (stamp_swapped c v word unset found) (λ e. so unset) (λ e. so found) in
-      next_is c k n lt made t b (stamp word unset) (Helps (SwapStamp word unset)) of (seat_with n log freed from time call sweep own left) refl log freed from time call
+      next_is c k n lt made t b (stamp word unset) (Helps (SwapStamp word unset)) of (seat_with n log freed from time call sweep own left) refl log
+          freed from time call
       sweep own left refl both.0 before both.1
 
   pub helping_made : (step : Helping) → HelpsAt v step → HelpsFor c v log freed from time sweep (helped_word step) call → Made_so step

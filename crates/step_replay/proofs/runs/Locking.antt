@@ -196,7 +196,8 @@ module _ (c : Config) (k : Checked c) (n : ℕ) (lt : n < c.seats) (made : List 
         let w = view_by c s n kind in
         let more = has_next version at field (build_at c v at) less (low_at field has) has in
         let now = build_now c k v log freed from time at inside may.room builds.at_is field x more.wide in
-        let still = section_stays c v w log freed from time inside refl refl refl (logs_built c k v log freed from time at inside may.room builds.at_is field x more.wide) in
+        let still = section_stays c v w log freed from time inside refl refl refl
+            (logs_built c k v log freed from time at inside may.room builds.at_is field x more.wide) in
         let keep = builds_stay c v w i log from o version at refl refl builds in
         let has_now : HasFields (build_at c w at) version at (field + 1) = subst (λ (y : core.Build). HasFields y version at (field + 1)) (sym now) more in
         next_is c k n lt made t b kind (Locks version at (Build field)) of seat refl log freed from time call sweep own left refl no_scan before
@@ -263,7 +264,8 @@ module _ (c : Config) (k : Checked c) (n : ℕ) (lt : n < c.seats) (made : List 
             not_not false f = absurd (cc)
 
     -- HEAD may be exchanged for a link to the whole version
-    may_lock : StandsToLock v i o version.previous → HasFields (build_at c v at) version at 10 → MayLock c c.write_max v o version.previous at (build_at c v at) i
+    may_lock : StandsToLock v i o version.previous → HasFields (build_at c v at) version at 10 → MayLock c c.write_max v o version.previous at
+        (build_at c v at) i
     may_lock stands has =
         let first = first_held c k v log freed from inside.logs in
         let held = held_are c k v log freed from inside.logs in
@@ -372,7 +374,8 @@ module _ (c : Config) (k : Checked c) (n : ℕ) (lt : n < c.seats) (made : List 
         } in
         next_is c k n lt made t b kind task of seat refl (log ++ version ∷ []) freed from time call sweep own left seat_is
         (subst (λ (u : View). u.scan ≡ None) (sym view) no_scan) before
-        (subst (λ (u : View). GoesSo c n u (log ++ version ∷ []) freed from time call sweep (after_lock_head version at (s.memory (Head version.object)))) (sym view)
+        (subst (λ (u : View). GoesSo c n u (log ++ version ∷ []) freed from time call sweep
+            (after_lock_head version at (s.memory (Head version.object)))) (sym view)
         (by_end (Locked refusals.Held)
         (ap (λ x. if x then Ends (Locked refusals.Held)
         else (if s.memory (Head version.object) == 0 then Goes (Locks (record version { previous = 0 }) at ClearPrevious)
@@ -382,8 +385,10 @@ module _ (c : Config) (k : Checked c) (n : ℕ) (lt : n < c.seats) (made : List 
         let not_so : (found == version.previous) ≡ false = ne_eqb found version.previous lost in
         let there : (s.memory (Head version.object) == version.previous) ≡ false = ap (λ x. x == version.previous) at_head ∙ not_so in
         let view : view_by c s n kind ≡ B = ap (λ x. if x then A else B) not_so in
-        let seat_is : learned task (s.memory (Head version.object)) seat ≡ seat = ap (λ x. record seat { log = applied (if x then Pushed version else Kept) log }) there in
-        let still = section_stays c v B log freed from time inside refl refl refl (logs_left c v B log freed from refl refl refl refl _ refl (refl, refl) inside.logs) in
+        let seat_is : learned task (s.memory (Head version.object)) seat ≡ seat = ap
+            (λ x. record seat { log = applied (if x then Pushed version else Kept) log }) there in
+        let still = section_stays c v B log freed from time inside refl refl refl
+            (logs_left c v B log freed from refl refl refl refl _ refl (refl, refl) inside.logs) in
         let keep = builds_stay c v B i log from o version at refl refl builds in
         let cleared = builds_stay c v B i log from o version at refl refl builds in
         let goes : GoesSo c n B log freed from time call sweep
@@ -451,7 +456,8 @@ module _ (c : Config) (k : Checked c) (n : ℕ) (lt : n < c.seats) (made : List 
         } in
         let w = view_by c s n kind in
         let now = build_now c k v log freed from time at inside may.room builds.at_is 2 0 has.1.wide in
-        let still = section_stays c v w log freed from time inside refl refl refl (logs_built c k v log freed from time at inside may.room builds.at_is 2 0 has.1.wide) in
+        let still = section_stays c v w log freed from time inside refl refl refl
+            (logs_built c k v log freed from time at inside may.room builds.at_is 2 0 has.1.wide) in
         let linked : HasFields (build_at c w at) (record version { previous = 0 }) at 10 =
         subst (λ (y : core.Build). HasFields y (record version { previous = 0 }) at 10) (sym now) (has_link (build_at c v at) version at has.0 0 has.1) in
         next_is c k n lt made t b kind task of seat refl log freed from time call sweep own left refl no_scan before
@@ -479,7 +485,8 @@ module _ (c : Config) (k : Checked c) (n : ℕ) (lt : n < c.seats) (made : List 
           fits = λ x _. tt;
         } in
         let w = view_by c s n (load_first link stands.stand) in
-        let still = section_stays c v w log freed from time inside refl refl refl (logs_left c v w log freed from refl refl refl refl _ refl (refl, refl) inside.logs) in
+        let still = section_stays c v w log freed from time inside refl refl refl
+            (logs_left c v w log freed from refl refl refl refl _ refl (refl, refl) inside.logs) in
         next_is c k n lt made t b (load_first link stands.stand) task of seat refl log freed from time call sweep own left refl no_scan before
         (by_step (Locks version at (FoundStamp link (s.memory (First (link_seat_of link) (slot_named c link))))) refl (
           record {
@@ -507,7 +514,8 @@ module _ (c : Config) (k : Checked c) (n : ℕ) (lt : n < c.seats) (made : List 
           fits = λ x _. tt;
         } in
         let w = view_by c s n kind in
-        let still = section_stays c v w log freed from time inside refl refl refl (logs_left c v w log freed from refl refl refl refl _ refl (refl, refl) inside.logs) in
+        let still = section_stays c v w log freed from time inside refl refl refl
+            (logs_left c v w log freed from refl refl refl refl _ refl (refl, refl) inside.logs) in
         next_is c k n lt made t b kind task of seat refl log freed from time call sweep own left refl no_scan before
         (refused c n w log freed from time call sweep link (s.memory (Stamp (link_seat_of link) (index_of c first))) still)
 

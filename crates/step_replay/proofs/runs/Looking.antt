@@ -100,7 +100,8 @@ module _ (c : Config) (k : Checked c) (n : ℕ) (made : List Made) (v : View) (l
         let s = state (Some t) Abort in
         let low = from_low in
         by_step (begin_abort log s) refl
-        (if_so (λ (task : Task). StandsFor c n v log freed from (Some t) Abort (new_sweep freed) (Some task)) (held log s == 0) (EndsSection (finish.Leave Plainly)) (unlock log from)
+        (if_so (λ (task : Task). StandsFor c n v log freed from (Some t) Abort (new_sweep freed) (Some task)) (held log s == 0)
+            (EndsSection (finish.Leave Plainly)) (unlock log from)
         (λ none. (inside, (let z = eqb-true (held log s) 0 none in omega (arith, z, low))))
         (λ some. (
           0,

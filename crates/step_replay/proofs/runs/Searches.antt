@@ -55,7 +55,8 @@ first_there (v ∷ log) zero test le within = here (passes test v) refl (λ d. f
 first_there (v ∷ log) (suc from) test le within = first_there log from test (omega (arith, le)) (omega (arith, within))
 
 -- no version is of an object where none is found
-pub none_of : (log : List Version) (from o : ℕ) → length log ≤ first_from log from (IsOf o) → (i : ℕ) → from ≤ i → i < length log → (version_at log i).object ≢ o
+pub none_of : (log : List Version) (from o : ℕ) → length log ≤ first_from log from (IsOf o) → (i : ℕ) → from ≤ i → i < length log →
+    (version_at log i).object ≢ o
 none_of log from o none i le within =
     eqb_ne (version_at log i).object o (first_before log from (IsOf o) i le (omega (arith, none, within)) within)
 

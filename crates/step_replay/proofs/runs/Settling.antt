@@ -84,7 +84,8 @@ above_kept log at seat lt =
     let same = either (at == 0 + at) (version_at log at) in
     (ap (λ (v : Version). v.time) is ∙ same.0, ap (λ (v : Version). v.dead) is ∙ same.1)
   where
-    either : (b : Bool) (v : Version) → ((if b then record v { above = seat } else v).time ≡ v.time) × ((if b then record v { above = seat } else v).dead ≡ v.dead)
+    either : (b : Bool) (v : Version) → ((if b then record v { above = seat } else v).time ≡ v.time) ×
+        ((if b then record v { above = seat } else v).dead ≡ v.dead)
     either true v = (refl, refl)
     either false v = (refl, refl)
 
@@ -101,7 +102,8 @@ module _ (c : Config) (k : Checked c) (n : ℕ) (lt : n < c.seats) (made : List 
   few_seats = let seats = k.seats.1 in omega (arith, lt, seats)
 
   -- behind a version the next one is looked at
-  pub behind_so : (w : View) (log2 : List Version) (sweep2 : Sweep) (at : ℕ) → w.scan ≡ None → RestsAt c w log2 freed from None → IsSwept w.grace sweep2 → freed ≤ at
+  pub behind_so : (w : View) (log2 : List Version) (sweep2 : Sweep) (at : ℕ) → w.scan ≡ None → RestsAt c w log2 freed from None → IsSwept w.grace sweep2
+      → freed ≤ at
       → at < length log2
       → GoesSo c n w log2 freed from None Tidy sweep2
       (settle_behind log2 (record { seat = n; time = None; from = from; freed = freed; call = Tidy; sweep = sweep2 }) at)

@@ -246,7 +246,8 @@ LocksAt c v s o version at (FoundFirst link) = StandsAt v o link
 LocksAt c v s o version at (FoundStamp link first) = (stands : StandsAt v o link) × (stands.stand.first ≡ Some first)
 
 -- a lock behind its walk
-pub record IsLocking (c : Config) (v : View) (log : List Version) (freed from : ℕ) (time : Option ℕ) (version : Version) (at : ℕ) (next : Locking) : Type 0 where
+pub record IsLocking (c : Config) (v : View) (log : List Version) (freed from : ℕ) (time : Option ℕ) (version : Version) (at : ℕ) (next : Locking) :
+    Type 0 where
   pub inside : InSection c v log freed from time
   pub object : ℕ
   pub range : object < c.objects
@@ -456,7 +457,8 @@ pub record IsStepped (c : Config) (n : ℕ) (made : List Made) (y : Scene) : Typ
   pub seat_is : IsSeat c n y.seat ((state_of c (step_of n kind ∷ made)).seats n)
 
 -- how a call goes on, and what its seat is at then
-pub data GoesSo (c : Config) (n : ℕ) (v : View) (log : List Version) (freed from : ℕ) (time : Option ℕ) (call : Call) (sweep : Sweep) (then : Then) : Type 0 where
+pub data GoesSo (c : Config) (n : ℕ) (v : View) (log : List Version) (freed from : ℕ) (time : Option ℕ) (call : Call) (sweep : Sweep) (then : Then) :
+    Type 0 where
   by_step : (task : Task) → then ≡ Goes task → StandsFor c n v log freed from time call sweep (Some task) → GoesSo c n v log freed from time call sweep then
   by_end : (answer : Answer) → then ≡ Ends answer → RestsAt c v log freed from time → GoesSo c n v log freed from time call sweep then
 

@@ -1,6 +1,7 @@
 -- The steps of a walk, of a read or of a lock.
 use Rattle.std.proofs.Common.{◌≡◌, ◌≢◌, ◌⊎◌, ℕ, ◌+◌, ◌<◌, ◌≤◌, ◌^◌, ◌==◌, ◌&&◌, ltb, leb, not, List, length, get_or, Bool, true, false, Option}
-use Rattle.std.proofs.Common.{Some, None, All, Contains, ne_eqb, replicate, refl, sym, ap, ◌∙◌, subst, arith, inl, inr, eqb-true, if◌then◌else◌, slice_set, mod-lt}
+use Rattle.std.proofs.Common.{Some, None, All, Contains, ne_eqb, replicate, refl, sym, ap}
+use Rattle.std.proofs.Common.{◌∙◌, subst, arith, inl, inr, eqb-true, if◌then◌else◌, slice_set, mod-lt}
 use Rattle.std.specs.Prelude.{unwrap_or}
 use Rattle.std.proofs.lemmas.List.{length-set, get_or-set_same, get_or-set_other, get_or-replicate, get_or_past}
 use Rattle.std.proofs.lemmas.Bool.{cases_lt}
@@ -78,15 +79,18 @@ one_word c v s o words w found lt small is so = record {
 }
 
 -- a refusal ends a lock
-pub refused : (c : Config) (n : ℕ) (v : View) (log : List Version) (freed from : ℕ) (time : Option ℕ) (call : Call) (sweep : Sweep) (link stamp : ℕ) → InSection c v log freed from time
+pub refused : (c : Config) (n : ℕ) (v : View) (log : List Version) (freed from : ℕ) (time : Option ℕ) (call : Call) (sweep : Sweep) (link stamp : ℕ) →
+    InSection c v log freed from time
     → GoesSo c n v log freed from time call sweep (refusal link stamp)
 refused c n v log freed from time call sweep link stamp i =
-    if_so (GoesSo c n v log freed from time call sweep) (is_unset stamp) (Ends (Locked (refusals.Busy (link_seat_of link)))) (Ends (Locked (refusals.Stale stamp)))
+    if_so (GoesSo c n v log freed from time call sweep) (is_unset stamp) (Ends (Locked (refusals.Busy (link_seat_of link))))
+        (Ends (Locked (refusals.Stale stamp)))
     (λ e. by_end (Locked (refusals.Busy (link_seat_of link))) refl (rests_in c v log freed from time i))
     (λ e. by_end (Locked (refusals.Stale stamp)) refl (rests_in c v log freed from time i))
 
 -- a section behind a step that leaves its phase, its clock words and the log
-abbrev pub section_stays : (c : Config) (v w : View) (log : List Version) (freed from : ℕ) (time : Option ℕ) (i : InSection c v log freed from time) → w.phase ≡ v.phase
+abbrev pub section_stays : (c : Config) (v w : View) (log : List Version) (freed from : ℕ) (time : Option ℕ) (i : InSection c v log freed from time) →
+    w.phase ≡ v.phase
     → w.clocks ≡ v.clocks → w.back ≡ v.back → Logs c w log freed from → InSection c w log freed from time
 section_stays c v w log freed from time i phase clocks back logs = record {
   section = i.section;
@@ -122,7 +126,8 @@ stand_so c n w log freed from time call sweep o link passed at small i range for
     ))
 
 -- the call of a walk that is a lock may hold its object
-lock_holds : (c : Config) (log : List Version) (freed from o : ℕ) (call : Call) → is_lock call ≡ true → WalksFor c log freed from o call → MayHold c log freed from o
+lock_holds : (c : Config) (log : List Version) (freed from o : ℕ) (call : Call) → is_lock call ≡ true → WalksFor c log freed from o call → MayHold c log
+    freed from o
 lock_holds c log freed from o (Lock p) e for = for.1
 lock_holds c log freed from o (Read p) e for = absurd (cc)
 lock_holds c log freed from o Enter e for = absurd for
@@ -185,8 +190,10 @@ module _ (c : Config) (k : Checked c) (n : ℕ) (lt : n < c.seats) (made : List 
         record { may = inside.walking; range = range; place = refl; writes = λ x. refl; fits = λ x _. tt } in
         let w = view_by c s n (load_head o i) in
         let link = s.memory (Head o) in
-        let still = section_stays c v w log freed from time inside refl refl refl (logs_left c v w log freed from refl refl refl refl _ refl (refl, refl) inside.logs) in
-        next_is c k n lt made t b (load_head o i) (Walks o LoadHead) of (seat_with n log freed from time call sweep own left) refl log freed from time call sweep own left
+        let still = section_stays c v w log freed from time inside refl refl refl
+            (logs_left c v w log freed from refl refl refl refl _ refl (refl, refl) inside.logs) in
+        next_is c k n lt made t b (load_head o i) (Walks o LoadHead) of (seat_with n log freed from time call sweep own left) refl log freed from time
+            call sweep own left
         refl no_scan before
         (stand_so c n w log freed from time call sweep o link Nothing refl (word_small c k n made b.each (Head o)) still range for)
 
@@ -201,8 +208,10 @@ module _ (c : Config) (k : Checked c) (n : ℕ) (lt : n < c.seats) (made : List 
           fits = λ x _. tt;
         } in
         let w = view_by c s n (load_first link at.stand) in
-        let still = section_stays c v w log freed from time inside refl refl refl (logs_left c v w log freed from refl refl refl refl _ refl (refl, refl) inside.logs) in
-        next_is c k n lt made t b (load_first link at.stand) (Walks o (LoadFirst link)) of (seat_with n log freed from time call sweep own left) refl log freed from time
+        let still = section_stays c v w log freed from time inside refl refl refl
+            (logs_left c v w log freed from refl refl refl refl _ refl (refl, refl) inside.logs) in
+        next_is c k n lt made t b (load_first link at.stand) (Walks o (LoadFirst link)) of (seat_with n log freed from time call sweep own left) refl
+            log freed from time
         call sweep own left refl no_scan before
         (by_step (Walks o (LoadStamp link (s.memory (First (link_seat_of link) (slot_named c link))))) refl
         (still, range, for, (record { stand = _; at = refl; object_is = at.object_is; link_is = at.link_is }, refl)))
@@ -221,13 +230,16 @@ module _ (c : Config) (k : Checked c) (n : ℕ) (lt : n < c.seats) (made : List 
         } in
         let w = view_by c s n (load_stamp link first at.stand) in
         let found = s.memory (Stamp (link_seat_of link) (index_of c first)) in
-        let still = section_stays c v w log freed from time inside refl refl refl (logs_left c v w log freed from refl refl refl refl _ refl (refl, refl) inside.logs) in
+        let still = section_stays c v w log freed from time inside refl refl refl
+            (logs_left c v w log freed from refl refl refl refl _ refl (refl, refl) inside.logs) in
         let stands : StandsAt w o link =
         record { stand = record at.stand { stamp = Some found }; at = refl; object_is = at.object_is; link_is = at.link_is } in
         let limit : unwrap_or time 0 ≡ time_in i = ap (λ x. unwrap_or x 0) inside.time_is in
-        next_is c k n lt made t b (load_stamp link first at.stand) (Walks o (LoadStamp link first)) of (seat_with n log freed from time call sweep own left) refl log freed
+        next_is c k n lt made t b (load_stamp link first at.stand) (Walks o (LoadStamp link first)) of
+            (seat_with n log freed from time call sweep own left) refl log freed
         from time call sweep own left refl no_scan before
-        (if_so (GoesSo c n w log freed from time call sweep) (not (is_unset found) && leb found (unwrap_or time 0)) (Goes (Walks o (LoadWord link (replicate 6 0) 0)))
+        (if_so (GoesSo c n w log freed from time call sweep) (not (is_unset found) && leb found (unwrap_or time 0))
+            (Goes (Walks o (LoadWord link (replicate 6 0) 0)))
         (if is_lock call then refusal link found else Goes (Walks o (LoadPrev link)))
         (λ e.
         let le = leb_le found (unwrap_or time 0) (and_right (not (is_unset found)) (leb found (unwrap_or time 0)) e) in
@@ -274,8 +286,10 @@ module _ (c : Config) (k : Checked c) (n : ℕ) (lt : n < c.seats) (made : List 
         } in
         let w = view_by c s n (load_prev link at.stand) in
         let below = s.memory (Prev (link_seat_of link) (slot_named c link)) in
-        let still = section_stays c v w log freed from time inside refl refl refl (logs_left c v w log freed from refl refl refl refl _ refl (refl, refl) inside.logs) in
-        next_is c k n lt made t b (load_prev link at.stand) (Walks o (LoadPrev link)) of (seat_with n log freed from time call sweep own left) refl log freed from time call
+        let still = section_stays c v w log freed from time inside refl refl refl
+            (logs_left c v w log freed from refl refl refl refl _ refl (refl, refl) inside.logs) in
+        next_is c k n lt made t b (load_prev link at.stand) (Walks o (LoadPrev link)) of (seat_with n log freed from time call sweep own left) refl log
+            freed from time call
         sweep own left refl no_scan before
         (stand_so c n w log freed from time call sweep o below (passed_too at.stand.passed at.stand.stamp)
         (ap (λ x. stand_at x below (passed_too at.stand.passed at.stand.stamp) false) at.object_is)
@@ -355,10 +369,13 @@ module _ (c : Config) (k : Checked c) (n : ℕ) (lt : n < c.seats) (made : List 
         let small = word_small c k n made b.each (Master o w) in
         let told = (master_loads any_start any_commit c (zeros c) v o w i range may.1 s.memory s.history s.seats (facts c k n made b.each)
         (view_there c k n made b.each) (seated c k n made b.each lt) (starts c k n made b.each) small).2.0.0 in
-        let still = section_stays c v v2 log freed from time inside refl refl refl (logs_left c v v2 log freed from refl refl refl refl _ refl (refl, refl) inside.logs) in
-        next_is c k n lt made t b (load_master o w i) (Walks o (LoadWord 0 words w)) of (seat_with n log freed from time call sweep own left) refl log freed from time call
+        let still = section_stays c v v2 log freed from time inside refl refl refl
+            (logs_left c v v2 log freed from refl refl refl refl _ refl (refl, refl) inside.logs) in
+        next_is c k n lt made t b (load_master o w i) (Walks o (LoadWord 0 words w)) of (seat_with n log freed from time call sweep own left) refl log
+            freed from time call
         sweep own left refl no_scan before
-        (word_so v2 0 words w found still (omega arith) (inl (stands, refl)) less small told.1 (record { wide = so.wide; small = so.small; are = so.are }) told.2)
+        (word_so v2 0 words w found still (omega arith) (inl (stands, refl)) less small told.1
+            (record { wide = so.wide; small = so.small; are = so.are }) told.2)
 
     data_made : (link : ℕ) (words : List ℕ) (w : ℕ) → w < 6 → link < 2 ^ 64
         → ((stand : Stand) × (found : ℕ) × (v.walk ≡ walk.At stand) × (stand.object ≡ o) × (stand.link ≡ link) × (stand.stamp ≡ Some found)
@@ -388,9 +405,11 @@ module _ (c : Config) (k : Checked c) (n : ℕ) (lt : n < c.seats) (made : List 
         let small = word_small c k n made b.each (Data (link_seat_of link) (slot_named c link) w) in
         let told = (data_loads any_start any_commit c (zeros c) v link w at.0 i may s.memory s.history s.seats (facts c k n made b.each)
         (view_there c k n made b.each) (seated c k n made b.each lt) (starts c k n made b.each) small).2.0.0 in
-        let still = section_stays c v v2 log freed from time inside refl refl refl (logs_left c v v2 log freed from refl refl refl refl _ refl (refl, refl) inside.logs) in
+        let still = section_stays c v v2 log freed from time inside refl refl refl
+            (logs_left c v v2 log freed from refl refl refl refl _ refl (refl, refl) inside.logs) in
         let state : State = record { seat = n; time = time; from = from; freed = freed; call = call; sweep = sweep } in
-        next_is c k n lt made t b (load_data link w at.0 i) (Walks o (LoadWord link words w)) of (seat_with n log freed from time call sweep own left) refl log freed from
+        next_is c k n lt made t b (load_data link w at.0 i) (Walks o (LoadWord link words w)) of (seat_with n log freed from time call sweep own left)
+            refl log freed from
         time call sweep own left refl no_scan before
         (subst (λ p. GoesSo c n v2 log freed from time call sweep
         (if ltb w 5 then Goes (Walks o (LoadWord link (slice_set words w (s.memory p)) (w + 1)))

@@ -6,5 +6,5 @@ pub mod FirstSteps
 pub mod SeatNotes
 pub mod TurnLaws
 pub mod OneStep
-pub mod readers
+pub mod runs
 pub mod NextSteps

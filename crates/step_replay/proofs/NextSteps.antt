@@ -7,7 +7,7 @@ use Rattle.step_replay.specs.Words.{word_at, words_with}
 use Rattle.step_replay.specs.Tasks.{place_in_task, access_in_task, written_by}
 use Rattle.step_replay.specs.Runs.{TapeOf, with_line, tape_stepped, turned}
 use Rattle.step_replay.specs.ReplayLaws.{IsTurn, no_step, one_step}
-use Rattle.step_replay.specs.Readers.{IsTapeBehind}
+use Rattle.step_replay.specs.Behind.{IsTapeBehind}
 use Rattle.step_replay.specs.NextSteps.{IsStepOf, IsTurnBehind, stays, moves_on, TurnsGoOn}
 use Rattle.step_replay.proofs.Machines.{words_after, shows_next}
 use Rattle.step_replay.proofs.OneStep.{turn_is}

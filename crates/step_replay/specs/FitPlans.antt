@@ -1,5 +1,5 @@
 -- The ranges of the numbers of a plan.
-use Rattle.std.specs.Prelude.{◌≡◌, ◌≤◌, ◌<◌, ℕ, List, [], All, length}
+use Rattle.std.specs.Prelude.{◌≡◌, ◌≤◌, ◌<◌, ◌^◌, ℕ, List, [], All, length}
 use Rattle.mv_layout.specs.declared.config.Config.{Config}
 use Rattle.mv_layout.specs.Limits.{Checked}
 use Rattle.step_replay.specs.declared.plan.Call.{Call}
@@ -36,11 +36,15 @@ AreFitHeads (Slots seats objects) = AreSeats seats × AreObjects objects
 AreFitHeads (Base seats objects slots) = AreSeats seats × AreObjects objects × AreSlots slots
 AreFitHeads (Whole config) = IsFitConfig config
 
--- the call's object is one of the domain
+-- six words of 64 bits
+abbrev pub AreSixWords : List ℕ → Type 0
+AreSixWords words = (length words ≡ 6) × All (λ word. word < 2 ^ 64) words
+
+-- the call's object is one of the domain, and what is written are six words
 abbrev pub IsFitCall : Config → Call → Type 0
 IsFitCall config (Read object) = object < config.objects
 IsFitCall config (Lock object) = object < config.objects
-IsFitCall config (Write object words) = object < config.objects
+IsFitCall config (Write object words) = (object < config.objects) × AreSixWords words
 IsFitCall config Enter = Unit {0}
 IsFitCall config Commit = Unit {0}
 IsFitCall config Abort = Unit {0}

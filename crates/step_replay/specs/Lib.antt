@@ -14,5 +14,6 @@ pub mod Sweeps
 pub mod Lines
 pub mod Runs
 pub mod Shown
-pub mod Readers
+pub mod Behind
+pub mod RuledRuns
 pub mod NextSteps

@@ -7,7 +7,7 @@ use Rattle.step_replay.specs.declared.seats.Task.{Task}
 use Rattle.step_replay.specs.States.{Made, MayMake, place_in, writes_in, state_of}
 use Rattle.step_replay.specs.Tasks.{place_in_task, access_in_task, written_by}
 use Rattle.step_replay.specs.Runs.{TapeOf, Scene, with_line, tape_stepped, turned}
-use Rattle.step_replay.specs.Readers.{IsTapeBehind}
+use Rattle.step_replay.specs.Behind.{IsTapeBehind}
 
 -- A step of the core is the one that a seat comes to: it may be made, is of the same word, and writes the same of what it finds there.
 pub record IsStepOf (c : Config) (made : List Made) (step : Made) (seat : ℕ) (task : Task) : Type 0 where

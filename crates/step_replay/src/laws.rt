@@ -1,7 +1,7 @@
 // What holds behind any steps of a replay.
 ghost use Rattle.step_replay.specs.ReplayLaws.{ReplaysAreRuled, TurnsMakeOneStep};
 ghost use Rattle.step_replay.specs.NextSteps.{TurnsGoOn};
-ghost use Rattle.step_replay.specs.Readers.{ReadersAreRuled};
+ghost use Rattle.step_replay.specs.RuledRuns.{RunsAreRuled};
 
 /// Behind any steps, in whatever order the seats made them, the machine's words, the history and the views of the
 /// seats are a state of the core's rule: each law of `mv_core` over the states that the rule allows speaks of it.
@@ -22,9 +22,9 @@ pub fn turns_go_on()
     ensures { TurnsGoOn }
 {}
 
-/// A plan whose calls lock nothing is run by steps of the core alone: behind each turn, whatever the schedule is, there are
-/// steps of the core, as many as lines of steps, each of which its seat might make where it was, and the words are those of the
-/// state after them, which is one of the core's rule.
-pub fn readers_are_ruled()
-    ensures { ReadersAreRuled }
+/// A plan is run by steps of the core alone: behind each turn, whatever the schedule is, there are steps of the core, as many as
+/// lines of steps, each of which its seat might make where it was, and the words are those of the state after them, which is one
+/// of the core's rule.
+pub fn runs_are_ruled()
+    ensures { RunsAreRuled }
 {}

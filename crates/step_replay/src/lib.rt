@@ -20,9 +20,10 @@
 //!
 //! `replay` answers exactly `text_of_plan`, the text of the run: a function of the plan alone. By `turns_make_one_step` each
 //! turn makes at most one step, whose line has the word that was at its place just before, and no word changes but by the
-//! write that such a line says. By `readers_are_ruled` each step of a plan that locks nothing is one of the core's, whose
-//! condition holds of its seat's view where it is made, whatever the schedule is. No clause says so of a plan that locks; by
-//! `turns_go_on` that is all that its states lack to be states of the rule.
+//! write that such a line says. Each turn's step is one of the core's, whose condition holds of its seat's view where it is
+//! made, and the state behind each turn is one of the core's rule (the clause ruled, and `runs_are_ruled` for every schedule):
+//! what each seat notes of its log stands for its view there, as the log of a runtime's seat stands for its pass. `turns_go_on`
+//! says the same of one turn, from whatever steps its words come.
 //! `write_step` is the line of a step, also for who makes steps on a `Machine` without a plan.
 //!
 //! A `Machine` keeps the words of a domain at run time, and the steps behind which it is are known to the proof
@@ -54,7 +55,7 @@ mod text;
 mod turns;
 
 pub use drafts::{MOST_STEPS, parse_plan};
-pub use laws::{readers_are_ruled, replays_are_ruled, turns_go_on, turns_make_one_step};
+pub use laws::{replays_are_ruled, runs_are_ruled, turns_go_on, turns_make_one_step};
 pub use machine::Machine;
 pub use places::{place_cell, place_number};
 pub use plan::{Call, CallOf, Plan, PlanFault, PlanKind};

@@ -1,6 +1,7 @@
 // The numbers of a line.
 ghost use Rattle.std.specs.Prelude.{◌≡◌, ◌≤◌, ◌==◌, IfOk, MatchResult, Ok, Err, length};
 ghost use Rattle.set_script.specs.Grammar.{words_in};
+ghost use Rattle.step_replay.specs.FitPlans.{AreSixWords};
 ghost use Rattle.step_replay.specs.Plans.{number_in, next_number, single, has_count, numbers_of_six};
 
 use crate::plan::PlanKind;
@@ -70,7 +71,8 @@ pub fn read_single(bytes: &[u8], least: u64, most: u64) -> Result<u64, PlanKind>
 
 /// The numbers of the first six words, each of 64 bits.
 pub fn read_six(bytes: &[u8]) -> Result<Words, PlanKind>
-    ensures { result ≡ numbers_of_six (words_in bytes.now) }
+    ensures is { result ≡ numbers_of_six (words_in bytes.now) }
+    ensures fit { IfOk result AreSixWords }
 {
     let (first, rest) = next_number(bytes, 0, u64::MAX)?;
     let (second, rest) = next_number(rest, 0, u64::MAX)?;

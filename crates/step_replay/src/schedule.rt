@@ -5,6 +5,7 @@ ghost use Rattle.step_replay.specs.Plans.{plan_of};
 ghost use Rattle.step_replay.specs.FitPlans.{IsFitPlan};
 ghost use Rattle.step_replay.specs.Runs.{new_seats, text_of_plan};
 ghost use Rattle.step_replay.specs.Shown.{seats_of};
+ghost use Rattle.step_replay.specs.RuledRuns.{IsRuledPlan};
 
 use crate::machine::Machine;
 use crate::plan::{CallOf, Plan};
@@ -28,6 +29,7 @@ fn new_seats(alloc: Global, calls: &[CallOf], count: u32) -> Result<Vec<Seat>, A
 pub fn replay(alloc: Global, plan: &Plan) -> Result<Vec<u8>, AllocError>
     requires fit { IsFitPlan (plan_of plan.now) }
     ensures exact { IfOk result (λ text. text.items ≡ text_of_plan (plan_of plan.now)) }
+    ensures ruled { IfOk result (λ _. IsRuledPlan (plan_of plan.now)) }
 {
     let config = &plan.config;
     let mut tape = Tape {

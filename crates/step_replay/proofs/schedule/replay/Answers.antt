@@ -6,6 +6,7 @@ use Rattle.step_replay.specs.Plans.{plan_of}
 use Rattle.step_replay.specs.Runs.{new_seats, turned, turns_taken}
 use Rattle.step_replay.specs.Shown.{seat_of, seats_of, tape_of, scene_of}
 use Rattle.step_replay.proofs.TurnLaws.{seats_long, turns_next, begun_is, turn_shown}
+use Rattle.step_replay.proofs.runs.Turns.{plan_ruled}
 use Rattle.step_replay.proofs.schedule.replay.Goals as goal
 
 pub loop-seat-init : goal.loop-seat-init
@@ -45,3 +46,6 @@ loop-seat-preserved c =
           (turn_shown p.config p.calls l.seats.items n c.index_mut.result.now c.turn.new.self (tape_of l.tape) (tape_of c.turn.new.tape) within
           c.index_mut.ensures.value turn);
     }
+
+pub returns-clause-ruled : goal.returns-clause-ruled
+returns-clause-ruled c = plan_ruled (plan_of c.args.plan.now) c.requires.fit

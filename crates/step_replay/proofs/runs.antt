@@ -1,0 +1,22 @@
+-- The runs of plans: what the notes of a seat stand for, the steps that it comes to, the calls that it looks at, and its turns.
+pub mod Notes
+pub mod Standing
+pub mod Known
+pub mod Stepping
+pub mod Helping
+pub mod Entering
+pub mod LogFacts
+pub mod Walking
+pub mod Fields
+pub mod Locking
+pub mod Searches
+pub mod Writing
+pub mod Aborting
+pub mod Committing
+pub mod Rounds
+pub mod Reclaiming
+pub mod Settling
+pub mod BackingUp
+pub mod Steps
+pub mod Looking
+pub mod Turns

@@ -1,0 +1,219 @@
+-- A seat looks at its calls: it makes no step, and stands at the first step of the next one, or has none left.
+use Rattle.std.proofs.Common.{◌≡◌, ◌⊎◌, ℕ, ◌-◌, ◌<◌, ◌≤◌, ◌^◌, ◌==◌, List, [], ◌∷◌, length, true, false, Option, Some, None}
+use Rattle.std.proofs.Common.{All, refl, sym, subst, arith, inl, inr, eqb-true, if◌then◌else◌, slice_index}
+use Rattle.std.proofs.lemmas.Bool.{cases_lt}
+use Rattle.std.proofs.lemmas.List.{get_or_past}
+use Rattle.std.proofs.lemmas.List.Elements.{All-head, All-tail, All-get_or}
+use Rattle.mv_core.proofs.Terms.{Config, Checked}
+use Rattle.mv_core.specs.declared.view.View.{View}
+use Rattle.mv_history.specs.declared.answers.LockAnswer.TheVariants as refusals
+use Rattle.commit_abort.proofs.AbortParts.{abort_begins}
+use Rattle.step_replay.specs.declared.plan.Call.{Call}
+use Rattle.step_replay.specs.declared.plan.Call.TheVariants.{Enter, Read, Lock, Write, Commit, Abort, Leave, Tidy}
+use Rattle.step_replay.specs.declared.plan.CallOf.{CallOf}
+use Rattle.step_replay.specs.declared.seats.Version.{Version}
+use Rattle.step_replay.specs.declared.seats.Sweep.{Sweep}
+use Rattle.step_replay.specs.declared.seats.State.{State}
+use Rattle.step_replay.specs.declared.seats.Entering.TheVariants as enter
+use Rattle.step_replay.specs.declared.seats.Walking.TheVariants as walk
+use Rattle.step_replay.specs.declared.seats.Ending.TheVariants as finish
+use Rattle.step_replay.specs.declared.seats.Leaving.TheVariants.{Plainly}
+use Rattle.step_replay.specs.declared.seats.Sweeping.TheVariants as sweeping
+use Rattle.step_replay.specs.declared.seats.Answer.TheVariants.{Locked}
+use Rattle.step_replay.specs.declared.seats.Task.{Task}
+use Rattle.step_replay.specs.declared.seats.Task.TheVariants.{Enters, Walks, EndsSection, Tidies}
+use Rattle.step_replay.specs.declared.seats.Then.{Then}
+use Rattle.step_replay.specs.declared.seats.Then.TheVariants.{Goes, Ends}
+use Rattle.step_replay.specs.declared.notes.Test.TheVariants.{IsOf}
+use Rattle.step_replay.specs.FitPlans.{AreSixWords, IsFitCall, IsFitCallOf}
+use Rattle.step_replay.specs.SeatNotes.{held, holds, live, place_held}
+use Rattle.step_replay.specs.Begins.{unlock, begin_abort, begin_call, may_begin, new_sweep}
+use Rattle.step_replay.specs.States.{Made}
+use Rattle.step_replay.specs.Lines.{skip_line, answer_line}
+use Rattle.step_replay.specs.Runs.{TapeOf, Scene, Looked, with_line, begun_so, call_looked, looked_on, looked}
+use Rattle.step_replay.specs.Behind.{IsTapeBehind}
+use Rattle.step_replay.proofs.NextSteps.{lined}
+use Rattle.step_replay.proofs.runs.Standing.{seat_with, InSection, RestsAt, StandsFor, GoesSo, by_step, by_end}
+use Rattle.step_replay.proofs.runs.Known.{if_so, eqb_ne, ltb_lt, ltb_ge}
+use Rattle.step_replay.proofs.runs.LogFacts.{held_are, log_short}
+use Rattle.step_replay.proofs.runs.Searches.{first_after, none_of}
+
+-- what a seat comes to that looks at its calls: the tape is behind the same steps
+pub record IsLooked (c : Config) (n : ℕ) (made : List Made) (v : View) (log : List Version) (freed from : ℕ) (time : Option ℕ) (l : Looked) : Type 0 where
+  pub call : Call
+  pub sweep : Sweep
+  pub left : List CallOf
+  pub is : l.scene.seat ≡ seat_with n log freed from time call sweep None left
+  pub before : All (IsFitCallOf c) left
+  pub behind : IsTapeBehind c l.scene.tape made
+  pub stands : StandsFor c n v log freed from time call sweep l.task
+
+-- the words of a write are of 64 bits
+words_small : (words : List ℕ) → AreSixWords words → (i : ℕ) → slice_index words i < 2 ^ 64
+words_small words fit i = go (cases_lt i (length words))
+  where
+    go : (i < length words) ⊎ (length words ≤ i) → slice_index words i < 2 ^ 64
+    go (inl lt) = All-get_or (λ (w : ℕ). w < 2 ^ 64) words i 0 lt fit.1
+    go (inr ge) = let e = get_or_past words i 0 ge in omega (arith, e)
+
+module _ (c : Config) (k : Checked c) (n : ℕ) (made : List Made) (v : View) (log : List Version) (freed from : ℕ) where
+  abbrev state : Option ℕ → Call → State
+  state time call = record { seat = n; time = time; from = from; freed = freed; call = call; sweep = new_sweep freed }
+
+  -- how a call begins in a section
+  module _ (t : ℕ) (inside : InSection c v log freed from (Some t)) where
+    from_low : from ≤ length log
+    from_low = let h = held_are c k v log freed from inside.logs in omega (arith, h)
+
+    lock_so : (o : ℕ) → o < c.objects → GoesSo c n v log freed from (Some t) (Lock o) (new_sweep freed) (begin_call (Lock o) c log (state (Some t) (Lock o)))
+    lock_so o range =
+        let s = state (Some t) (Lock o) in
+        let P = GoesSo c n v log freed from (Some t) (Lock o) (new_sweep freed) in
+        let few = inside.logs.is.few in
+        let all = inside.logs.is.held in
+        let short = log_short c k v log freed from inside.logs in
+        if_so P (holds log s o) (Ends (Locked refusals.Held))
+        (if held log s == c.write_max then Ends (Locked refusals.SetFull)
+        else (if live log s == c.slots then Ends (Locked refusals.LogFull) else Goes (Walks o walk.LoadHead)))
+        (λ e. by_end (Locked refusals.Held) refl inside)
+        (λ free. if_so P (held log s == c.write_max) (Ends (Locked refusals.SetFull))
+        (if live log s == c.slots then Ends (Locked refusals.LogFull) else Goes (Walks o walk.LoadHead))
+        (λ e. by_end (Locked refusals.SetFull) refl inside)
+        (λ some. if_so P (live log s == c.slots) (Ends (Locked refusals.LogFull)) (Goes (Walks o walk.LoadHead))
+        (λ e. by_end (Locked refusals.LogFull) refl inside)
+        (λ room. by_step (Walks o walk.LoadHead) refl (
+          inside,
+          range,
+          (
+            refl,
+            record {
+              unheld = none_of log from o (ltb_ge (place_held log s o) (length log) free);
+              few = (let ne = eqb_ne (held log s) c.write_max some in omega (arith, ne, few, all));
+              room = (let ne = eqb_ne (live log s) c.slots room in omega (arith, ne, short));
+            },
+          ),
+          tt,
+        ))))
+
+    abort_so : GoesSo c n v log freed from (Some t) Abort (new_sweep freed) (begin_call Abort c log (state (Some t) Abort))
+    abort_so =
+        let s = state (Some t) Abort in
+        let low = from_low in
+        by_step (begin_abort log s) refl
+        (if_so (λ (task : Task). StandsFor c n v log freed from (Some t) Abort (new_sweep freed) (Some task)) (held log s == 0)
+            (EndsSection (finish.Leave Plainly)) (unlock log from)
+        (λ none. (inside, (let z = eqb-true (held log s) 0 none in omega (arith, z, low))))
+        (λ some. (
+          0,
+          record {
+            before = v;
+            noted = inside.logs.noted;
+            aborting = abort_begins c v inside.logs.noted inside.section (record { phase = inside.walking.phase; open_is = inside.walking.open_is })
+                inside.logs.stands inside.logs.is.unbuilt;
+            is = inside.logs.is;
+          },
+          omega arith,
+          (let ne = eqb_ne (held log s) 0 some in omega (arith, ne, low)),
+          refl,
+          refl,
+        )))
+
+    write_so : (o : ℕ) (words : List ℕ) → AreSixWords words → holds log (state (Some t) (Write o words)) o ≡ true
+        → GoesSo c n v log freed from (Some t) (Write o words) (new_sweep freed) (begin_call (Write o words) c log (state (Some t) (Write o words)))
+    write_so o words fit there = by_step _ refl (record {
+      inside = inside;
+      held = first_after log from (IsOf o) from_low;
+      live = ltb_lt (place_held log (state (Some t) (Write o words)) o) (length log) there;
+      in_range = omega arith;
+      small = words_small words fit;
+    })
+
+  abbrev scene : Option ℕ → Call → Sweep → List CallOf → TapeOf → Scene
+  scene time call sweep left t = record { seat = seat_with n log freed from time call sweep None left; tape = t }
+
+  abbrev So : Option ℕ → Looked → Type 0
+  So time l = IsLooked c n made v log freed from time l
+
+  -- what comes of the calls behind
+  abbrev Next : List CallOf → Option ℕ → Type 0
+  Next calls time = (call : Call) (sweep : Sweep) (t : TapeOf) → IsTapeBehind c t made
+      → So time (looked c calls (scene time call sweep calls t))
+
+  -- a call that is looked at, and then those behind it
+  abbrev Goes_on : List CallOf → Option ℕ → Looked → Type 0
+  Goes_on calls time this = So time (looked_on this.task this (looked c calls this.scene))
+
+  module _ (calls : List CallOf) (before : All (IsFitCallOf c) calls) (call : Call) (sweep : Sweep) (t : TapeOf) (b : IsTapeBehind c t made) (time : Option ℕ)
+      (next : Next calls time) where
+    -- a call is begun
+    begun : (what : Call) → (x : Then) → GoesSo c n v log freed from time what (new_sweep freed) x
+        → Goes_on calls time (begun_so x what (scene time what (new_sweep freed) calls t))
+    begun what x (by_step task e stands) =
+        subst (λ y. Goes_on calls time (begun_so y what (scene time what (new_sweep freed) calls t))) (sym e)
+        (record { call = what; sweep = new_sweep freed; left = calls; is = refl; before = before; behind = b; stands = stands })
+    begun what x (by_end answer e rests) =
+        subst (λ y. Goes_on calls time (begun_so y what (scene time what (new_sweep freed) calls t))) (sym e)
+        (next what (new_sweep freed) (with_line t (answer_line n what answer)) (lined c t made (answer_line n what answer) b))
+
+    -- or skipped, where its condition is false
+    call_is : (what : Call)
+        → (may_begin log (record { seat = n; time = time; from = from; freed = freed; call = call; sweep = sweep }) what ≡ true
+        → GoesSo c n v log freed from time what (new_sweep freed) (begin_call what c log (state time what)))
+        → Goes_on calls time (call_looked c what (scene time call sweep calls t))
+    call_is what goes =
+        let may = may_begin log (record { seat = n; time = time; from = from; freed = freed; call = call; sweep = sweep }) what in
+        if_so (Goes_on calls time) may
+        (begun_so (begin_call what c log (state time what)) what (scene time what (new_sweep freed) calls t))
+        (record { scene = scene time call sweep calls (with_line t (skip_line n what)); task = None })
+        (λ e. begun what (begin_call what c log (state time what)) (goes e))
+        (λ e. next call sweep (with_line t (skip_line n what)) (lined c t made (skip_line n what) b))
+
+  -- how each call begins
+  begins_outside : (what : Call) (call : Call) (sweep : Sweep) → RestsAt c v log freed from None
+      → may_begin log (record { seat = n; time = None; from = from; freed = freed; call = call; sweep = sweep }) what ≡ true
+      → GoesSo c n v log freed from None what (new_sweep freed) (begin_call what c log (state None what))
+  begins_outside Enter call sweep rests e = by_step (Enters enter.LoadLow) refl (rests.0, tt, refl, rests.1, rests.2)
+  begins_outside Tidy call sweep rests e = by_step (Tidies (sweeping.LoadGrace false)) refl ((rests, refl), refl)
+  begins_outside (Read o) call sweep rests e = absurd (cc)
+  begins_outside (Lock o) call sweep rests e = absurd (cc)
+  begins_outside (Write o words) call sweep rests e = absurd (cc)
+  begins_outside Commit call sweep rests e = absurd (cc)
+  begins_outside Abort call sweep rests e = absurd (cc)
+  begins_outside Leave call sweep rests e = absurd (cc)
+
+  begins_inside : (what : Call) (call : Call) (sweep : Sweep) (t : ℕ) → IsFitCall c what → InSection c v log freed from (Some t)
+      → may_begin log (record { seat = n; time = Some t; from = from; freed = freed; call = call; sweep = sweep }) what ≡ true
+      → GoesSo c n v log freed from (Some t) what (new_sweep freed) (begin_call what c log (state (Some t) what))
+  begins_inside Enter call sweep t fit inside e = absurd (cc)
+  begins_inside Tidy call sweep t fit inside e = absurd (cc)
+  begins_inside (Read o) call sweep t fit inside e = by_step (Walks o walk.LoadHead) refl (inside, fit, refl, tt)
+  begins_inside (Lock o) call sweep t fit inside e = lock_so t inside o fit
+  begins_inside (Write o words) call sweep t fit inside e = write_so t inside o words fit.1 e
+  begins_inside Commit call sweep t fit inside e =
+      by_step (EndsSection finish.LoadNow) refl
+      (inl (inside, (let some = ltb_lt 0 (length log - from) e in omega (arith, some)), refl))
+  begins_inside Abort call sweep t fit inside e = abort_so t inside
+  begins_inside Leave call sweep t fit inside e =
+      let low = from_low t inside in
+      by_step (EndsSection (finish.Leave Plainly)) refl (inside, (let none = eqb-true (length log - from) 0 e in omega (arith, none, low)))
+
+  begins : (what : Call) (call : Call) (sweep : Sweep) (time : Option ℕ) → IsFitCall c what → RestsAt c v log freed from time
+      → may_begin log (record { seat = n; time = time; from = from; freed = freed; call = call; sweep = sweep }) what ≡ true
+      → GoesSo c n v log freed from time what (new_sweep freed) (begin_call what c log (state time what))
+  begins what call sweep None fit rests = begins_outside what call sweep rests
+  begins what call sweep (Some t) fit rests = begins_inside what call sweep t fit rests
+
+  pub looks : (calls left : List CallOf) → All (IsFitCallOf c) calls → All (IsFitCallOf c) left → (time : Option ℕ) → RestsAt c v log freed from time
+      → (call : Call) (sweep : Sweep) (t : TapeOf) → IsTapeBehind c t made
+      → So time (looked c calls (scene time call sweep left t))
+  looks [] left before all time rests call sweep t b =
+      record { call = call; sweep = sweep; left = left; is = refl; before = all; behind = b; stands = rests }
+  looks (one ∷ calls) left before all time rests call sweep t b =
+      let behind = All-tail (IsFitCallOf c) one calls before in
+      let next : Next calls time = λ other swept u a. looks calls calls behind behind time rests other swept u a in
+      if_so (Goes_on calls time) (one.seat == n) (call_looked c one.call (scene time call sweep calls t))
+      (record { scene = scene time call sweep calls t; task = None })
+      (λ e.
+      call_is calls behind call sweep t b time next one.call
+      (begins one.call call sweep time (All-head (IsFitCallOf c) one calls before).1 rests))
+      (λ e. next call sweep t b)

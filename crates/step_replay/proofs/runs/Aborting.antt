@@ -37,7 +37,8 @@ use Rattle.step_replay.specs.States.{any_commit, any_start, Made, state_of}
 use Rattle.step_replay.specs.Runs.{TapeOf, step_made}
 use Rattle.step_replay.specs.Behind.{IsTapeBehind}
 use Rattle.step_replay.proofs.runs.Notes.{note_of, notes_from, notes_aborted, edited_long, edited_behind}
-use Rattle.step_replay.proofs.runs.Standing.{seat_with, Logs, InSection, GivesUp, GaveUp, IsStepped, GoesSo, by_step, by_end}
+use Rattle.step_replay.proofs.runs.Sections.{seat_with, Logs, InSection}
+use Rattle.step_replay.proofs.runs.Standing.{GivesUp, GaveUp, IsStepped, GoesSo, by_step, by_end}
 use Rattle.step_replay.proofs.runs.Stepping.{IsOfKind, view_by, next_is}
 use Rattle.step_replay.proofs.runs.Known.{if_so, ltb_lt, ltb_ge, facts, number_is, knows, starts, word_small, logs_left}
 use Rattle.step_replay.proofs.runs.LogFacts.{noted_long, noted_from, noted_at}

@@ -25,7 +25,8 @@ use Rattle.step_replay.specs.FitPlans.{IsFitCallOf}
 use Rattle.step_replay.specs.States.{Made, state_of}
 use Rattle.step_replay.specs.Runs.{TapeOf, step_made}
 use Rattle.step_replay.specs.Behind.{IsTapeBehind}
-use Rattle.step_replay.proofs.runs.Standing.{seat_with, Logs, IsStepped, EntersAt, EntersFor, BeforeHelp, HelpsFor, later, GoesSo, by_step}
+use Rattle.step_replay.proofs.runs.Sections.{seat_with, Logs, EntersAt, EntersFor, BeforeHelp, HelpsFor, later}
+use Rattle.step_replay.proofs.runs.Standing.{IsStepped, GoesSo, by_step}
 use Rattle.step_replay.proofs.runs.Helping.{helped_so}
 use Rattle.step_replay.specs.GoesOn.{helped_in}
 use Rattle.step_replay.proofs.runs.Stepping.{IsOfKind, view_by, next_is}

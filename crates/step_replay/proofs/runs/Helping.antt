@@ -35,8 +35,10 @@ use Rattle.step_replay.specs.GoesOn.{is_last, is_unset, helped_in}
 use Rattle.step_replay.specs.States.{Made, state_of}
 use Rattle.step_replay.specs.Runs.{TapeOf, step_made}
 use Rattle.step_replay.specs.Behind.{IsTapeBehind}
-use Rattle.step_replay.proofs.runs.Standing.{seat_with, Logs, InSection, RestsAt, HelpsAt, HelpsFor, helped_word, IsStepped, GoesSo}
-use Rattle.step_replay.proofs.runs.Standing.{BeforeHelp, BacksUp, later, by_step, by_end}
+use Rattle.step_replay.proofs.runs.Sections.{seat_with, Logs, InSection, RestsAt, HelpsAt, HelpsFor, helped_word}
+use Rattle.step_replay.proofs.runs.Standing.{IsStepped, GoesSo}
+use Rattle.step_replay.proofs.runs.Sections.{BeforeHelp, BacksUp, later}
+use Rattle.step_replay.proofs.runs.Standing.{by_step, by_end}
 use Rattle.step_replay.proofs.runs.Stepping.{IsOfKind, view_by, next_is}
 use Rattle.step_replay.proofs.runs.Known.{if_so, eqb_ne, facts, logs_left}
 

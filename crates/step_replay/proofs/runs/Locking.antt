@@ -48,91 +48,18 @@ use Rattle.step_replay.specs.States.{Made, state_of}
 use Rattle.step_replay.specs.Runs.{SeatOf, TapeOf, learned, step_made}
 use Rattle.step_replay.specs.Behind.{IsTapeBehind}
 use Rattle.step_replay.proofs.runs.Notes.{note_of, notes_from, notes_more, drop_more}
-use Rattle.step_replay.proofs.runs.Standing.{seat_with, Logs, InSection, MayHold, StandsAt, HasFields, Builds, LocksAt, IsStepped}
+use Rattle.step_replay.proofs.runs.Sections.{seat_with, Logs, InSection, MayHold, StandsAt}
+use Rattle.step_replay.proofs.runs.Standing.{HasFields, Builds, LocksAt, IsStepped}
 use Rattle.step_replay.proofs.runs.Standing.{GoesSo, by_step, by_end}
 use Rattle.step_replay.proofs.runs.Stepping.{IsOfKind, view_by, next_is}
 use Rattle.step_replay.proofs.runs.Known.{if_so, eqb_ne, ltb_lt, ltb_ge, and_left, and_right, number_is, knows, next_low, logs_left}
 use Rattle.step_replay.proofs.runs.LogFacts.{noted_long, next_long, held_are, first_held, held_in_log, stands_whole}
 use Rattle.step_replay.proofs.runs.Fields.{field_range, field_small, field_fits, has_next, has_first, whole_words, has_link}
 use Rattle.step_replay.proofs.runs.Helping.{rests_in}
-use Rattle.step_replay.proofs.runs.Walking.{section_stays, refused, stands_in}
-
--- a link to a position that fits one
-pub link_is : (n at : ℕ) → n < 64 → at < 2 ^ 57 → link_to n at ≡ link_of n at
-link_is n at seat lt =
-    ap (λ b. if b && ltb at 144115188075855872 then link_of n at else 0) (lt-ltb n 64 seat)
-    ∙ ap (λ b. if b then link_of n at else 0) (lt-ltb at 144115188075855872 (omega (arith, lt)))
-
--- what a lock builds stays with the section and what was seen
-pub builds_stay : (c : Config) (v w : View) (i : Section) (log : List Version) (from o : ℕ) (version : Version) (at : ℕ) → w.start ≡ v.start → w.past ≡ v.past
-    → Builds c v i log from o version at → Builds c w i log from o version at
-builds_stay c v w i log from o version at start past k = record {
-  object_is = k.object_is;
-  at_is = k.at_is;
-  first_is = k.first_is;
-  words = k.words ∙ (λ j. words_of c (sym start j) (sym past j).seen (time_in i) o);
-  wide = k.wide;
-  small = k.small;
-  small_link = k.small_link;
-  no_time = k.no_time;
-  no_death = k.no_death;
-}
-
-module _ (c : Config) (k : Checked c) (v : View) (log : List Version) (freed from : ℕ) (time : Option ℕ) (at : ℕ)
-    (inside : InSection c v log freed from time) (room : length log < freed + c.slots) (at_is : at ≡ length log) where
-  abbrev l : Noted
-  l = inside.logs.noted
-
-  live_room : length inside.logs.noted.live < inside.logs.noted.slots
-  live_room = let long = noted_long c l log freed from inside.logs.is in let slots = inside.logs.stands.slots in omega (arith, long, room, slots)
-
-  at_next : at ≡ v.ring.next
-  at_next = at_is ∙ sym (next_long c k v log freed from inside.logs)
-
-  pub may_build_here : MayBuild c v at
-  may_build_here = may_build c v l inside.logs.stands at at_next (inside.section, inside.walking.phase, inside.walking.open_is) live_room
-
-  -- the notes stand for the view with one word more in the slot that is built, which is there
-  module _ (field x : ℕ) (six : length (built_too (build_at c v at) field x).words ≡ 6) where
-    abbrev w : View
-    w = built_stored c v at field x (build_at c v at)
-
-    on : BuildsOn c v (built_stored c v at field x (build_at c v at)) at (built_too (build_at c v at) field x)
-    unfolding stored_next
-    on = builds_first c v at field x may_build_here.within
-
-    pub build_now : build_at c (built_stored c v at field x (build_at c v at)) at ≡ built_too (build_at c v at) field x
-    build_now = ap (λ (z : Slot). unwrap_or (build_in z) nothing_built) on.here
-
-    pub logs_built : Logs c (built_stored c v at field x (build_at c v at)) log freed from
-    logs_built =
-        let is_log = built_is_log l None (let r = live_room in omega (arith, r)) tt inside.logs.stands.log in
-        let so = stands_on c v w l at (built_too (build_at c v at) field x) inside.logs.stands live_room at_next on None is_log six tt in
-        record {
-          noted = l;
-          stands = subst (Stands c w) (ap (λ (o : Option Note). record l { built = o }) (sym inside.logs.is.unbuilt)) so;
-          is = inside.logs.is;
-        }
-
-  -- the slot that was built whole
-  pub built_there : (version : Version) (field : ℕ) → HasFields (build_at c v at) version at field → 0 < field
-      → slot_at v.ring (index_of c at) ≡ slots.Built (build_at c v at)
-  built_there version field has some = go (slot_at v.ring (index_of c at)) refl
-    where
-      go : (z : Slot) → slot_at v.ring (index_of c at) ≡ z → z ≡ slots.Built (build_at c v at)
-      go slots.Free e =
-          let none : build_at c v at ≡ nothing_built = ap (λ (y : Slot). unwrap_or (build_in y) nothing_built) e in
-          let f : None ≡ Some version.first = sym (ap (λ (y : core.Build). y.first) none) ∙ has.first some in
-          absurd (cc)
-      go (slots.Built b) e = ap slots.Built (sym (ap (λ (y : Slot). unwrap_or (build_in y) nothing_built) e))
-      go (slots.Live x st) e =
-          let spare = may_build_here.spare in
-          let f : None ≡ Some spare.0 = sym (ap build_in e) ∙ spare.1 in
-          absurd (cc)
-      go (slots.Freeing p f) e =
-          let spare = may_build_here.spare in
-          let g : None ≡ Some spare.0 = sym (ap build_in e) ∙ spare.1 in
-          absurd (cc)
+use Rattle.step_replay.proofs.runs.WalkFacts.{section_stays, refused}
+use Rattle.step_replay.proofs.runs.Walking.{stands_in}
+use Rattle.step_replay.proofs.runs.Building.{link_is, builds_stay, may_build_here, build_now, logs_built, built_there}
+use Rattle.step_replay.proofs.runs.LockMet.{first_made, stamp_made}
 
 module _ (c : Config) (k : Checked c) (n : ℕ) (lt : n < c.seats) (made : List Made) (t : TapeOf) (b : IsTapeBehind c t made)
     (log : List Version) (freed from : ℕ) (time : Option ℕ) (call : Call) (sweep : Sweep) (own : Option Task) (left : List CallOf)
@@ -473,55 +400,9 @@ module _ (c : Config) (k : Checked c) (n : ℕ) (lt : n < c.seats) (made : List 
           lock,
         ))
 
-    first_made : (link : ℕ) → StandsAt v o link → Made_so version at (FoundFirst link)
-    first_made link stands =
-        let task = Locks version at (FoundFirst link) in
-        let in_range = stands_in c k n lt made t b log freed from time call sweep own left no_scan before inside o link stands in
-        let of : IsOfKind c s n (load_first link stands.stand) task = record {
-          may = record { stands = stands.at; link_is = stands.link_is };
-          range = (in_range.0, in_range.1);
-          place = refl;
-          writes = λ x. refl;
-          fits = λ x _. tt;
-        } in
-        let w = view_by c s n (load_first link stands.stand) in
-        let still = section_stays c v w log freed from time inside refl refl refl
-            (logs_left c v w log freed from refl refl refl refl _ refl (refl, refl) inside.logs) in
-        next_is c k n lt made t b (load_first link stands.stand) task of seat refl log freed from time call sweep own left refl no_scan before
-        (by_step (Locks version at (FoundStamp link (s.memory (First (link_seat_of link) (slot_named c link))))) refl (
-          record {
-            inside = still;
-            object = o;
-            range = range;
-            may = may;
-            builds = builds_stay c v w i log from o version at refl refl builds;
-            locks = (record { stand = _; at = refl; object_is = stands.object_is; link_is = stands.link_is }, refl);
-          },
-          lock,
-        ))
-
-    stamp_made : (link first : ℕ) (stands : StandsAt v o link) → stands.stand.first ≡ Some first → Made_so version at (FoundStamp link first)
-    stamp_made link first stands first_is =
-        let task = Locks version at (FoundStamp link first) in
-        let in_range = stands_in c k n lt made t b log freed from time call sweep own left no_scan before inside o link stands in
-        let slots = k.slots.0 in
-        let kind = load_stamp link first stands.stand in
-        let of : IsOfKind c s n kind task = record {
-          may = record { stands = stands.at; link_is = stands.link_is; first_is = first_is };
-          range = (in_range.0, mod-lt first (omega (arith, slots)));
-          place = refl;
-          writes = λ x. refl;
-          fits = λ x _. tt;
-        } in
-        let w = view_by c s n kind in
-        let still = section_stays c v w log freed from time inside refl refl refl
-            (logs_left c v w log freed from refl refl refl refl _ refl (refl, refl) inside.logs) in
-        next_is c k n lt made t b kind task of seat refl log freed from time call sweep own left refl no_scan before
-        (refused c n w log freed from time call sweep link (s.memory (Stamp (link_seat_of link) (index_of c first))) still)
-
     pub locking_made : (step : Locking) → LocksAt c v i o version at step → Made_so version at step
     locking_made (Build field) locks = build_made field locks.0 locks.1 locks.2 locks.3
     locking_made LockHead locks = head_made locks.0 locks.1
     locking_made ClearPrevious locks = clear_made locks.0 locks.1 locks.2
-    locking_made (FoundFirst link) locks = first_made link locks
-    locking_made (FoundStamp link first) locks = stamp_made link first locks.0 locks.1
+    locking_made (FoundFirst link) locks = first_made c k n lt made t b log freed from time call sweep own left no_scan before lock inside o range may version at builds link locks
+    locking_made (FoundStamp link first) locks = stamp_made c k n lt made t b log freed from time call sweep own left no_scan before lock inside o range may version at builds link first locks.0 locks.1

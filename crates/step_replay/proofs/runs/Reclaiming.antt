@@ -40,33 +40,14 @@ use Rattle.step_replay.specs.States.{any_commit, any_start, Made, state_of}
 use Rattle.step_replay.specs.Runs.{SeatOf, TapeOf, learned, step_made}
 use Rattle.step_replay.specs.Behind.{IsTapeBehind}
 use Rattle.step_replay.proofs.runs.Notes.{notes_from, notes_drop, drop_on}
-use Rattle.step_replay.proofs.runs.Standing.{seat_with, Logs, RestsAt, IsFreeing, HelpsFor, later, IsStepped, GoesSo, by_step}
+use Rattle.step_replay.proofs.runs.Sections.{seat_with, Logs, RestsAt, HelpsFor, later}
+use Rattle.step_replay.proofs.runs.Standing.{IsFreeing, IsStepped, GoesSo, by_step}
 use Rattle.step_replay.proofs.runs.Stepping.{IsOfKind, view_by, next_is, scan_on}
 use Rattle.step_replay.proofs.runs.Known.{if_so, eqb_ne, leb_le, leb_gt, facts, number_is, knows, logs_left}
 use Rattle.step_replay.proofs.runs.LogFacts.{noted_long}
 use Rattle.step_replay.proofs.runs.Helping.{helped_so}
 use Rattle.step_replay.proofs.runs.Rounds.{free_so, settle_so}
-
--- the clock word of the next rest, where the numbers fit one
-next_is_word : (c : Config) (word n : ℕ) → clock_time_of word < 35184372088831 → n < 64 → next_clock word n 8191 ≡ clock_of (clock_time_of word + 1) n 8191
-next_is_word c word n room seat =
-    ap (λ b. if b && (ltb n 64 && leb 8191 8191) then clock_of (clock_time_of word + 1) n 8191 else 0) (lt-ltb (clock_time_of word) 35184372088831 room)
-    ∙ ap (λ b. if b && leb 8191 8191 then clock_of (clock_time_of word + 1) n 8191 else 0) (lt-ltb n 64 seat)
-    ∙ ap (λ b. if b then clock_of (clock_time_of word + 1) n 8191 else 0) (le-leb 8191 8191 (omega arith))
-
--- a mark lowers the least time of a scan
-lowered_low : (scan : Scanned) (seat mark : ℕ) → (lowered scan seat mark).low ≡ least_with scan.low mark
-lowered_low scan seat mark = go (mark == 0) refl (leb scan.low (mark - 1)) refl
-  where
-    go : (a : Bool) → (mark == 0) ≡ a → (b : Bool) → leb scan.low (mark - 1) ≡ b → (lowered scan seat mark).low ≡ least_with scan.low mark
-    go true p b q = (λ i. (if p i then scan else (if leb scan.low (mark - 1) then scan else record scan { low = mark - 1; seat = seat })).low)
-        ∙ sym (ap (λ x. if x then scan.low else min scan.low (mark - 1)) p)
-    go false p true q = (λ i. (if p i then scan else (if q i then scan else record scan { low = mark - 1; seat = seat })).low)
-        ∙ (let le = leb_le scan.low (mark - 1) q in let e : scan.low ≡ min scan.low (mark - 1) = omega (arith, le) in e)
-        ∙ sym (ap (λ x. if x then scan.low else min scan.low (mark - 1)) p)
-    go false p false q = (λ i. (if p i then scan else (if q i then scan else record scan { low = mark - 1; seat = seat })).low)
-        ∙ (let gt = leb_gt scan.low (mark - 1) q in let e : mark - 1 ≡ min scan.low (mark - 1) = omega (arith, gt) in e)
-        ∙ sym (ap (λ x. if x then scan.low else min scan.low (mark - 1)) p)
+use Rattle.step_replay.proofs.runs.ScanFacts.{next_is_word, lowered_low}
 
 module _ (c : Config) (k : Checked c) (n : ℕ) (lt : n < c.seats) (made : List Made) (t : TapeOf) (b : IsTapeBehind c t made)
     (log : List Version) (freed from : ℕ) (sweep : Sweep) (own : Option Task) (left : List CallOf) (before : All (IsFitCallOf c) left) where

@@ -25,7 +25,8 @@ use Rattle.step_replay.specs.declared.seats.Version.{Version}
 use Rattle.step_replay.specs.declared.seats.Sweep.{Sweep}
 use Rattle.step_replay.specs.FitPlans.{IsFitCallOf}
 use Rattle.step_replay.proofs.runs.Known.{word_small}
-use Rattle.step_replay.proofs.runs.Standing.{seat_with, IsSeat, IsStepped, step_of, StandsFor, GoesSo, by_step, by_end, seat_by}
+use Rattle.step_replay.proofs.runs.Sections.{seat_with}
+use Rattle.step_replay.proofs.runs.Standing.{IsSeat, IsStepped, step_of, StandsFor, GoesSo, by_step, by_end, seat_by}
 
 both_true : (a b : Bool) → a ≡ true → b ≡ true → (a && b) ≡ true
 both_true a b p q = ap (λ x. x && b) p ∙ q

@@ -23,7 +23,8 @@ use Rattle.step_replay.specs.States.{Made, state_of}
 use Rattle.step_replay.specs.Runs.{TapeOf, step_made}
 use Rattle.step_replay.specs.Behind.{IsTapeBehind}
 use Rattle.step_replay.proofs.runs.Notes.{notes_from, notes_put, edited_long, edited_behind}
-use Rattle.step_replay.proofs.runs.Standing.{seat_with, Logs, InSection, IsWriting, IsStepped, GoesSo, by_step, by_end}
+use Rattle.step_replay.proofs.runs.Sections.{seat_with, Logs, InSection}
+use Rattle.step_replay.proofs.runs.Standing.{IsWriting, IsStepped, GoesSo, by_step, by_end}
 use Rattle.step_replay.proofs.runs.Stepping.{IsOfKind, view_by, next_is}
 use Rattle.step_replay.proofs.runs.Known.{if_so, ltb_lt, number_is}
 use Rattle.step_replay.proofs.runs.LogFacts.{noted_long, from_there}

@@ -1,10 +1,10 @@
 -- The steps of a write-back, in its section.
-use Rattle.std.proofs.Common.{◌≡◌, ◌≢◌, ◌⊎◌, ℕ, ◌+◌, ◌-◌, ◌<◌, ◌≤◌, ◌^◌, ◌==◌, ltb, List, length, Bool, true, false}
+use Rattle.std.proofs.Common.{◌≡◌, ◌≢◌, ◌⊎◌, ℕ, ◌+◌, ◌<◌, ◌≤◌, ◌^◌, ◌==◌, ltb, List, length, Bool, true, false}
 use Rattle.std.proofs.Common.{Option, Some, None, All, refl, sym, ap, ◌∙◌, subst, arith, inl, inr, eqb-true, if◌then◌else◌}
 use Rattle.std.proofs.Common.{slice_index, replicate}
 use Rattle.std.proofs.lemmas.List.{length-replicate}
-use Rattle.mv_layout.specs.Words.{link_of, clock_time_of}
-use Rattle.mv_core.proofs.Terms.{Config, Checked, Clock, Mark, Head, Data, IsPlace}
+use Rattle.mv_layout.specs.Words.{link_of}
+use Rattle.mv_core.proofs.Terms.{Config, Checked, Head, Data}
 use Rattle.mv_core.specs.declared.ring.CommitNote.{CommitNote}
 use Rattle.mv_core.specs.declared.ring.Slot.TheVariants.{Live}
 use Rattle.mv_core.specs.declared.ring.Status.TheVariants.{Committed}
@@ -13,49 +13,45 @@ use Rattle.mv_core.specs.declared.view.Stand.{Stand}
 use Rattle.mv_core.specs.declared.view.Walk.TheVariants as walk
 use Rattle.mv_core.specs.declared.view.Passed.TheVariants.{Nothing}
 use Rattle.mv_core.specs.Rings.{slot_at, index_of}
-use Rattle.mv_core.specs.EnterSteps.{MayClearMark, IsFinished, mark_cleared, stored_if}
-use Rattle.mv_core.specs.LockSteps.{MayLoadDeath, death_loaded}
+use Rattle.mv_core.specs.EnterSteps.{stored_if}
 use Rattle.mv_core.specs.SetFacts.{HoldsVersion, HoldsSlot}
 use Rattle.mv_core.specs.ReclaimSteps.{GoesToWord, head_cut, cut_lost}
-use Rattle.mv_core.specs.Moves.{Moment, clear_mark, load_head, load_death, store_master, cut_head, IsStorable}
+use Rattle.mv_core.specs.Moves.{Moment, load_head, store_master, cut_head, IsStorable}
 use Rattle.mv_core.proofs.logs.Links.{link_some, position_small}
 use Rattle.mv_core.proofs.kinds.walking.WalkOn.{at_some}
 use Rattle.seat_log.specs.declared.version.Note.{Note}
-use Rattle.seat_log.specs.Notes.{retired, back_noted}
-use Rattle.seat_log.specs.Stands.{version_of, Stands}
-use Rattle.seat_log.proofs.CutLogs.{waits_for_death, stands_cut, stands_cut_lost}
+use Rattle.seat_log.specs.Stands.{version_of}
+use Rattle.seat_log.proofs.CutLogs.{stands_cut_lost}
 use Rattle.step_replay.specs.declared.plan.Call.TheVariants.{Tidy}
 use Rattle.step_replay.specs.declared.plan.CallOf.{CallOf}
 use Rattle.step_replay.specs.declared.seats.Version.{Version}
-use Rattle.step_replay.specs.declared.seats.Edit.TheVariants.{Retired, AboveNoted}
 use Rattle.step_replay.specs.declared.seats.Sweep.{Sweep}
 use Rattle.step_replay.specs.declared.seats.State.{State}
 use Rattle.step_replay.specs.declared.seats.Back.{Back}
-use Rattle.step_replay.specs.declared.seats.Back.TheVariants.{WasCut, WasGone, WasAbove}
+use Rattle.step_replay.specs.declared.seats.Back.TheVariants.{WasGone, WasAbove}
 use Rattle.step_replay.specs.declared.seats.Sweeping.{Sweeping}
-use Rattle.step_replay.specs.declared.seats.Sweeping.TheVariants.{LoadTop, StoreMaster, CutHead, LoadCutDeath, LeaveBack, LoadSuperAgain}
+use Rattle.step_replay.specs.declared.seats.Sweeping.TheVariants.{LoadTop, StoreMaster, CutHead, LoadCutDeath, LeaveBack}
 use Rattle.step_replay.specs.declared.seats.Task.{Task}
 use Rattle.step_replay.specs.declared.seats.Task.TheVariants.{Tidies}
 use Rattle.step_replay.specs.declared.seats.Then.{Then}
 use Rattle.step_replay.specs.declared.seats.Then.TheVariants.{Goes}
 use Rattle.step_replay.specs.FitPlans.{IsFitCallOf}
-use Rattle.step_replay.specs.SeatNotes.{version_at, edited_from}
-use Rattle.step_replay.specs.Tasks.{link_to, place_in_task, access_in_task, written_by}
+use Rattle.step_replay.specs.SeatNotes.{version_at}
+use Rattle.step_replay.specs.Tasks.{link_to}
 use Rattle.step_replay.specs.Learns.{other_seat}
 use Rattle.step_replay.specs.Sweeps.{back_by}
 use Rattle.step_replay.specs.States.{Made, state_of}
 use Rattle.step_replay.specs.Runs.{SeatOf, TapeOf, step_made}
 use Rattle.step_replay.specs.Behind.{IsTapeBehind}
-use Rattle.step_replay.proofs.runs.Notes.{note_of, edited_long}
-use Rattle.step_replay.proofs.runs.Sections.{seat_with, Logs, InSection, RestsAt, IsBack, IsSwept, BacksUp, later}
-use Rattle.step_replay.proofs.runs.Standing.{IsBacking, IsUncut, HasCut}
+use Rattle.step_replay.proofs.runs.Notes.{note_of}
+use Rattle.step_replay.proofs.runs.Sections.{seat_with, Logs, InSection, IsBack, BacksUp}
+use Rattle.step_replay.proofs.runs.Standing.{IsBacking, IsUncut}
 use Rattle.step_replay.proofs.runs.Standing.{IsStepped, GoesSo, by_step}
 use Rattle.step_replay.proofs.runs.Stepping.{IsOfKind, view_by, next_is}
 use Rattle.step_replay.proofs.runs.Known.{if_so, ltb_lt, ltb_ge, facts, number_is, knows, starts, word_small, logs_left}
 use Rattle.step_replay.proofs.runs.Aborting.{holds_nothing}
 use Rattle.step_replay.proofs.runs.Building.{link_is}
-use Rattle.step_replay.proofs.runs.Rounds.{is_note, untimed}
-use Rattle.step_replay.proofs.runs.Settling.{noted_retired, noted_above, behind_so}
+use Rattle.step_replay.proofs.runs.Rounds.{untimed}
 
 module _ (c : Config) (k : Checked c) (n : ℕ) (lt : n < c.seats) (made : List Made) (t : TapeOf) (b : IsTapeBehind c t made)
     (log : List Version) (freed from : ℕ) (time : Option ℕ) (sweep : Sweep) (own : Option Task) (left : List CallOf)

@@ -1,63 +1,29 @@
 -- What a lock builds, word by word, in the slot of the next position.
-use Rattle.std.proofs.Common.{◌≡◌, ◌≢◌, ℕ, ◌+◌, ◌<◌, ◌^◌, ◌==◌, ◌&&◌, ltb, not, List, [], ◌∷◌, ◌++◌, length, Bool, true, false, Option}
-use Rattle.std.proofs.Common.{Some, None, All, map, refl, sym, ap, ◌∙◌, subst, arith, inl, eqb-true, eq-eqb, ne_eqb, lt-ltb, if◌then◌else◌, mod-lt}
+use Rattle.std.proofs.Common.{◌≡◌, ℕ, ◌+◌, ◌<◌, ◌^◌, ◌&&◌, ltb, List, length, Option}
+use Rattle.std.proofs.Common.{Some, None, refl, sym, ap, ◌∙◌, subst, arith, lt-ltb, if◌then◌else◌}
 use Rattle.std.specs.Prelude.{unwrap_or}
-use Rattle.std.proofs.Common.{length-append, length-drop, drop}
-use Rattle.mv_core.specs.WalkSteps.{slot_named}
-use Rattle.mv_layout.specs.Words.{link_of, link_seat_of}
-use Rattle.mv_core.proofs.Terms.{dite, ℕ_discrete, Config, Checked, Head, First, Stamp}
+use Rattle.mv_layout.specs.Words.{link_of}
+use Rattle.mv_core.proofs.Terms.{Config, Checked}
 use Rattle.mv_core.specs.declared.ring.Build as core
 use Rattle.mv_core.specs.declared.ring.Slot.{Slot}
 use Rattle.mv_core.specs.declared.ring.Slot.TheVariants as slots
 use Rattle.mv_core.specs.declared.view.View.{View}
 use Rattle.mv_core.specs.declared.view.Section.{Section}
-use Rattle.mv_core.specs.declared.view.Passed.TheVariants.{Nothing}
-use Rattle.mv_core.specs.declared.view.Walk.TheVariants as walk
-use Rattle.mv_core.specs.Rings.{slot_at, index_of, set_first}
+use Rattle.mv_core.specs.Rings.{slot_at, index_of}
 use Rattle.mv_core.specs.Times.{words_of}
 use Rattle.mv_core.specs.Views.{time_in}
-use Rattle.mv_core.specs.EnterSteps.{stored_if}
-use Rattle.mv_core.specs.LockSteps.{StandsToLock, field_place, nothing_built, build_in, built_too, built_stored, MayLock, head_locked, lock_lost}
-use Rattle.mv_core.specs.Moves.{Moment, store_built, lock_head, load_first, load_stamp, IsStorable}
-use Rattle.mv_core.proofs.kinds.walking.WalkOn.{at_zero, at_some}
-use Rattle.mv_history.specs.declared.answers.LockAnswer.TheVariants as refusals
+use Rattle.mv_core.specs.LockSteps.{nothing_built, build_in, built_too, built_stored}
 use Rattle.seat_log.specs.declared.version.Note.{Note}
-use Rattle.seat_log.specs.Notes.{Noted, IsNextOf, held_noted}
-use Rattle.seat_log.specs.Stands.{Stands, HasBuilt}
+use Rattle.seat_log.specs.Notes.{Noted}
+use Rattle.seat_log.specs.Stands.{Stands}
 use Rattle.seat_log.specs.Builds.{build_at, stored_next, MayBuild}
-use Rattle.seat_log.proofs.MayBuild.{may_store}
 use Rattle.seat_log.proofs.BuildsOn.{BuildsOn, builds_first}
 use Rattle.seat_log.proofs.Standing.{may_build, stands_on, built_is_log}
-use Rattle.seat_log.proofs.Stays.{stands_locked}
-use Rattle.step_replay.specs.declared.plan.Call.{Call}
-use Rattle.step_replay.specs.declared.plan.CallOf.{CallOf}
 use Rattle.step_replay.specs.declared.seats.Version.{Version}
-use Rattle.step_replay.specs.declared.seats.Edit.TheVariants.{Kept, Pushed}
-use Rattle.step_replay.specs.declared.seats.Sweep.{Sweep}
-use Rattle.step_replay.specs.declared.seats.Locking.{Locking}
-use Rattle.step_replay.specs.declared.seats.Locking.TheVariants.{Build, LockHead, ClearPrevious, FoundFirst, FoundStamp}
-use Rattle.step_replay.specs.declared.seats.Task.{Task}
-use Rattle.step_replay.specs.declared.seats.Task.TheVariants.{Locks}
-use Rattle.step_replay.specs.declared.seats.Answer.TheVariants.{Locked}
-use Rattle.step_replay.specs.declared.seats.Then.TheVariants.{Goes, Ends}
-use Rattle.step_replay.specs.FitPlans.{IsFitCallOf}
-use Rattle.step_replay.specs.SeatNotes.{applied}
-use Rattle.step_replay.specs.Tasks.{slot_at as slot_for, link_to, field_word}
-use Rattle.step_replay.specs.GoesOn.{is_lock, after_lock_head}
-use Rattle.step_replay.specs.States.{Made, state_of}
-use Rattle.step_replay.specs.Runs.{SeatOf, TapeOf, learned, step_made}
-use Rattle.step_replay.specs.Behind.{IsTapeBehind}
-use Rattle.step_replay.proofs.runs.Notes.{note_of, notes_from, notes_more, drop_more}
-use Rattle.step_replay.proofs.runs.Sections.{seat_with, Logs, InSection, MayHold, StandsAt}
-use Rattle.step_replay.proofs.runs.Standing.{HasFields, Builds, LocksAt, IsStepped}
-use Rattle.step_replay.proofs.runs.Standing.{GoesSo, by_step, by_end}
-use Rattle.step_replay.proofs.runs.Stepping.{IsOfKind, view_by, next_is}
-use Rattle.step_replay.proofs.runs.Known.{if_so, eqb_ne, ltb_lt, ltb_ge, and_left, and_right, number_is, knows, next_low, logs_left}
-use Rattle.step_replay.proofs.runs.LogFacts.{noted_long, next_long, held_are, first_held, held_in_log, stands_whole}
-use Rattle.step_replay.proofs.runs.Fields.{field_range, field_small, field_fits, has_next, has_first, whole_words, has_link}
-use Rattle.step_replay.proofs.runs.Helping.{rests_in}
-use Rattle.step_replay.proofs.runs.WalkFacts.{section_stays, refused}
-use Rattle.step_replay.proofs.runs.Walking.{stands_in}
+use Rattle.step_replay.specs.Tasks.{link_to}
+use Rattle.step_replay.proofs.runs.Sections.{Logs, InSection}
+use Rattle.step_replay.proofs.runs.Standing.{HasFields, Builds}
+use Rattle.step_replay.proofs.runs.LogFacts.{noted_long, next_long}
 
 -- a link to a position that fits one
 pub link_is : (n at : ℕ) → n < 64 → at < 2 ^ 57 → link_to n at ≡ link_of n at

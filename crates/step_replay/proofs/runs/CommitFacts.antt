@@ -1,61 +1,19 @@
 -- Of a commit: the words of its names, and what nothing is below.
-use Rattle.std.proofs.Common.{◌≡◌, ◌≢◌, ℕ, zero, suc, ◌+◌, ◌<◌, ◌≤◌, ◌^◌, ◌==◌, ◌&&◌, ltb, leb, List, [], ◌∷◌, ◌++◌, length, true, false}
-use Rattle.std.proofs.Common.{Option, Some, None, All, Contains, refl, sym, ap, ◌∙◌, subst, arith, inr, eq-eqb, ne_eqb, lt-ltb, le-leb}
-use Rattle.std.proofs.Common.{if◌then◌else◌, mod-lt, drop, ◌-◌}
+use Rattle.std.proofs.Common.{◌≡◌, ℕ, zero, suc, ◌+◌, ◌<◌, ◌≤◌, ◌&&◌, ltb, leb, List, [], ◌∷◌, length}
+use Rattle.std.proofs.Common.{Some, refl, sym, ap, ◌∙◌, subst, arith, lt-ltb, le-leb}
+use Rattle.std.proofs.Common.{if◌then◌else◌, ◌-◌}
 use Rattle.std.specs.Prelude.{slice_get}
-use Rattle.std.proofs.lemmas.List.Elements.{Contains-append_left, Contains-append_right, Contains-push}
-use Rattle.mv_layout.proofs.Unpacking.{time_back, seat_back, slot_back}
-use Rattle.mv_layout.specs.Words.{clock_of, clock_time_of, clock_seat_of, clock_slot_of, link_position_of, unset_of}
-use Rattle.mv_core.proofs.Terms.{dite, ℕ_discrete, Config, Checked, Clock, Mark, Stamp}
+use Rattle.mv_layout.specs.Words.{clock_of, clock_time_of}
+use Rattle.mv_core.proofs.Terms.{Config}
 use Rattle.mv_core.specs.declared.view.View.{View}
-use Rattle.mv_core.specs.declared.view.Section.{Section}
-use Rattle.mv_core.specs.declared.view.Naming.{Naming}
-use Rattle.mv_core.specs.declared.view.Phase.TheVariants.{Inside}
-use Rattle.mv_core.specs.declared.view.Mode.TheVariants.{Named}
-use Rattle.mv_core.specs.Rings.{index_of, set_first}
-use Rattle.mv_core.specs.EnterSteps.{MayLoadCheck, IsOwnNaming, is_own, stamped_phase, stamp_swapped, stored_if, if_none, checked_helped}
-use Rattle.mv_core.specs.NameSteps.{MayNameCommit, commit_word, commit_named, commit_lost}
-use Rattle.mv_core.specs.Moves.{Moment, clear_mark, load_check, stamp, name_commit, store_super, IsStorable}
-use Rattle.mv_core.proofs.kinds.naming.name_commit.NameCommit.{commit_swaps}
-use Rattle.mv_history.specs.declared.answers.Rival.{Rival}
-use Rattle.reader_marks.specs.Sections.{inside_of, section_in}
-use Rattle.seat_log.specs.Notes.{held_from, from_place, committed_noted}
-use Rattle.commit_abort.specs.declared.committing.Ended.TheVariants as ends
-use Rattle.commit_abort.specs.Finishes.{StampsIt, CommittedSlot, above_held, IsFinishing}
-use Rattle.commit_abort.proofs.Finished.{has_named}
+use Rattle.seat_log.specs.Notes.{held_from}
 use Rattle.commit_abort.proofs.FinishParts as parts
-use Rattle.step_replay.specs.declared.plan.Call.{Call}
-use Rattle.step_replay.specs.declared.plan.Call.TheVariants.{Commit}
-use Rattle.step_replay.specs.declared.plan.CallOf.{CallOf}
 use Rattle.step_replay.specs.declared.seats.Version.{Version}
-use Rattle.step_replay.specs.declared.seats.Edit.TheVariants.{CommittedFrom}
-use Rattle.step_replay.specs.declared.notes.Test.TheVariants.{IsLinked}
-use Rattle.step_replay.specs.declared.seats.Sweep.{Sweep}
-use Rattle.step_replay.specs.declared.seats.State.{State}
-use Rattle.step_replay.specs.declared.seats.Helping.TheVariants.{LoadNamed}
-use Rattle.step_replay.specs.declared.seats.Ending.{Ending}
-use Rattle.step_replay.specs.declared.seats.Ending.TheVariants.{LoadNow, Name, StampOwn, StoreSuper, Leave}
-use Rattle.step_replay.specs.declared.seats.Leaving.TheVariants.{WithCommit}
-use Rattle.step_replay.specs.declared.seats.Task.{Task}
-use Rattle.step_replay.specs.declared.seats.Task.TheVariants.{Helps, EndsSection}
-use Rattle.step_replay.specs.declared.seats.Answer.TheVariants.{Committed}
-use Rattle.step_replay.specs.declared.seats.Then.TheVariants.{Goes, Ends}
-use Rattle.step_replay.specs.FitPlans.{IsFitCallOf}
-use Rattle.step_replay.specs.SeatNotes.{edited_from, version_at, first_from}
-use Rattle.step_replay.specs.Tasks.{slot_at as slot_for, stamp_from, commit_clock}
-use Rattle.step_replay.specs.GoesOn.{is_last, helped_in, help, store_super as then_super, after_name, after_now}
-use Rattle.step_replay.specs.States.{any_commit, any_start, zeros, Made, state_of}
-use Rattle.step_replay.specs.Runs.{TapeOf, step_made}
-use Rattle.step_replay.specs.Behind.{IsTapeBehind}
-use Rattle.step_replay.proofs.runs.Notes.{note_of, notes_from, notes_committed, edited_long, edited_behind}
-use Rattle.step_replay.proofs.runs.Sections.{seat_with, Logs, InSection}
-use Rattle.step_replay.proofs.runs.Standing.{HasNamed, Finishes, IsStepped, GoesSo, by_step, by_end}
-use Rattle.step_replay.proofs.runs.Stepping.{IsOfKind, view_by, next_is}
-use Rattle.step_replay.proofs.runs.Known.{if_so, eqb_ne, ltb_lt, ltb_ge, facts, number_is, view_there, starts, knows, logs_left}
-use Rattle.step_replay.proofs.runs.LogFacts.{noted_long, noted_from, noted_at, held_are, first_held}
-use Rattle.step_replay.proofs.runs.Searches.{first_within, first_after, one_of, unlinked}
-use Rattle.step_replay.proofs.runs.Fields.{stamp_is}
-use Rattle.step_replay.proofs.runs.Helping.{rests_in, named_so, section_kept}
+use Rattle.step_replay.specs.SeatNotes.{version_at}
+use Rattle.step_replay.specs.Tasks.{slot_at as slot_for, commit_clock}
+use Rattle.step_replay.proofs.runs.Notes.{note_of}
+use Rattle.step_replay.proofs.runs.Standing.{Finishes}
+use Rattle.step_replay.proofs.runs.LogFacts.{noted_from, noted_at}
 
 -- no word of a tag is other than 0
 abbrev pub no_tag : List ℕ

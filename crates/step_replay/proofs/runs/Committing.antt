@@ -1,6 +1,6 @@
 -- The steps of a commit.
-use Rattle.std.proofs.Common.{◌≡◌, ◌≢◌, ℕ, zero, suc, ◌+◌, ◌<◌, ◌≤◌, ◌^◌, ◌==◌, ◌&&◌, ltb, leb, List, [], ◌∷◌, ◌++◌, length, true, false}
-use Rattle.std.proofs.Common.{Option, Some, None, All, Contains, refl, sym, ap, ◌∙◌, subst, arith, inr, eq-eqb, ne_eqb, lt-ltb, le-leb}
+use Rattle.std.proofs.Common.{◌≡◌, ◌≢◌, ℕ, ◌+◌, ◌<◌, ◌≤◌, ◌^◌, ◌==◌, ◌&&◌, ltb, List, [], ◌∷◌, ◌++◌, length, true, false}
+use Rattle.std.proofs.Common.{Option, Some, None, All, Contains, refl, sym, ap, ◌∙◌, subst, arith, inr, eq-eqb, ne_eqb}
 use Rattle.std.proofs.Common.{if◌then◌else◌, mod-lt, drop, ◌-◌}
 use Rattle.std.specs.Prelude.{slice_get}
 use Rattle.std.proofs.lemmas.List.Elements.{Contains-append_left, Contains-append_right, Contains-push}
@@ -120,12 +120,12 @@ module _ (c : Config) (k : Checked c) (n : ℕ) (lt : n < c.seats) (made : List 
       let state : State = record { seat = n; time = time; from = from; freed = freed; call = call; sweep = sweep } in
       let as_commit : State = record { seat = n; time = time; from = from; freed = freed; call = Commit; sweep = sweep } in
       next_is c k n lt made t b load_check task of (seat_with n log freed from time call sweep own left) refl log freed from time call sweep own left
-          refl no_scan before
+      refl no_scan before
       (subst (λ (x : Call). GoesSo c n w log freed from time x sweep (after_now x c log (record state { call = x }) word)) (sym commits)
       (if_so (GoesSo c n w log freed from time Commit sweep) (is_last (clock_time_of word)) (Ends (Committed ends.End)) (help c log as_commit word)
       (λ last. by_end (Committed ends.End) refl (rests_in c w log freed from time still))
       (λ on. if_so (GoesSo c n w log freed from time Commit sweep) (clock_slot_of word == 8191) (helped_in Commit c log as_commit word)
-          (Goes (Helps (LoadNamed word)))
+      (Goes (Helps (LoadNamed word)))
       (λ nobody. named_so c n w log freed from time sweep word bound still some loaded
       (Contains-append_right v.clocks.helped (if_none word ++ checked_helped v.clocks.found word) word
       (Contains-append_left (if_none word) (checked_helped v.clocks.found word) word
@@ -156,7 +156,7 @@ module _ (c : Config) (k : Checked c) (n : ℕ) (lt : n < c.seats) (made : List 
       } in
       let word_is : commit_word c v word ≡ new =
       (λ j. clock_of (clock_time_of word + 1) (own_seat j) (index_of c (first j))) ∙ sym
-          (next_word_is c word n from (slot_for c from) room few_seats low.1 refl)
+      (next_word_is c word n from (slot_for c from) room few_seats low.1 refl)
       ∙ sym new_is in
       let packed = new_is ∙ next_word_is c word n from (slot_for c from) room few_seats low.1 refl in
       let of : IsOfKind c s n kind task = record {
@@ -197,7 +197,7 @@ module _ (c : Config) (k : Checked c) (n : ℕ) (lt : n < c.seats) (made : List 
       next_is c k n lt made t b kind task of (seat_with n log freed from time call sweep own left) refl log freed from time call sweep own left refl
       (subst (λ (u : View). u.scan ≡ None) (sym view) no_scan) before
       (subst (λ (u : View). GoesSo c n u log freed from time call sweep (after_name
-          (record { seat = n; time = time; from = from; freed = freed; call = call; sweep = sweep })
+      (record { seat = n; time = time; from = from; freed = freed; call = call; sweep = sweep })
       word found)) (sym view)
       (by_step (EndsSection (StampOwn from (clock_time_of word + 1)))
       (ap (λ x. if x then Goes (EndsSection (StampOwn from (clock_time_of word + 1)))
@@ -212,7 +212,7 @@ module _ (c : Config) (k : Checked c) (n : ℕ) (lt : n < c.seats) (made : List 
       next_is c k n lt made t b kind task of (seat_with n log freed from time call sweep own left) refl log freed from time call sweep own left refl
       (subst (λ (u : View). u.scan ≡ None) (sym view) no_scan) before
       (subst (λ (u : View). GoesSo c n u log freed from time call sweep (after_name
-          (record { seat = n; time = time; from = from; freed = freed; call = call; sweep = sweep })
+      (record { seat = n; time = time; from = from; freed = freed; call = call; sweep = sweep })
       word found)) (sym view)
       (by_end (Committed (ends.Again rival))
       (ap (λ x. if x then Goes (EndsSection (StampOwn from (clock_time_of word + 1))) else Ends (Committed (ends.Again rival))) not_so)
@@ -237,8 +237,14 @@ module _ (c : Config) (k : Checked c) (n : ℕ) (lt : n < c.seats) (made : List 
       let at = slot_for c from in
       let word = clock_of t2 v.number (index_of c from) in
       let unset = unset_of from in
-      let here : Section = record won.inside { mode = Named (record { time = clock_time_of won.word + 1; first = set_first won.before.ring; stamped =
-          false }) } in
+      let here : Section = record won.inside {
+        mode = Named (record {
+          time = clock_time_of won.word + 1;
+          first = set_first won.before.ring;
+          stamped =
+              false;
+        });
+      } in
       let phase : v.phase ≡ Inside here = has_named c v l won named.named in
       let naming : Naming = record { time = clock_time_of won.word + 1; first = set_first won.before.ring; stamped = false } in
       let small : from < 2 ^ 57 = (let top = (knows c k n made b.each).named here naming phase refl in omega (arith, top, first)) in
@@ -293,10 +299,10 @@ module _ (c : Config) (k : Checked c) (n : ℕ) (lt : n < c.seats) (made : List 
       (no_scan, super_so w 0 from t2 begins (omega arith) (omega (arith, short))) in
       let found = s.memory (Stamp (clock_seat_of word) (clock_slot_of word)) in
       let both = if_so (λ (u : View). (u.scan ≡ None) × GoesSo c n u log freed from time call sweep (then_super log (first_from log from IsLinked) t2))
-          (found == unset)
+      (found == unset)
       (stamp_swapped c v word unset unset) (stamp_swapped c v word unset found) (λ e. so unset) (λ e. so found) in
       next_is c k n lt made t b kind task of (seat_with n log freed from time call sweep own left) refl log freed from time call sweep own left refl
-          both.0 before
+      both.0 before
       both.1
 
   -- SUPER is stored below one version more
@@ -330,7 +336,7 @@ module _ (c : Config) (k : Checked c) (n : ℕ) (lt : n < c.seats) (made : List 
         in_time = fin.in_time;
       } in
       next_is c k n lt made t b kind task of (seat_with n log freed from time call sweep own left) refl log freed from time call sweep own left refl
-          no_scan before
+      no_scan before
       (super_so w (told + 1) (at + 1) t2 more (omega (arith, at_is)) (omega (arith, live)))
 
   -- the section ends, and what it held is committed
@@ -371,7 +377,7 @@ module _ (c : Config) (k : Checked c) (n : ℕ) (lt : n < c.seats) (made : List 
         };
       } in
       next_is c k n lt made t b clear_mark task of (seat_with n log freed from time call sweep own left) refl log2 freed (length log) None call sweep
-          own left refl no_scan
+      own left refl no_scan
       before
       (by_end (Committed (ends.Done t2)) refl (refl, sym long2, logs2))
 

@@ -1,13 +1,10 @@
 -- The steps of a lock behind its walk: the build of its version, and the exchanges of HEAD.
-use Rattle.std.proofs.Common.{◌≡◌, ◌≢◌, ℕ, ◌+◌, ◌<◌, ◌^◌, ◌==◌, ◌&&◌, ltb, not, List, [], ◌∷◌, ◌++◌, length, Bool, true, false, Option}
-use Rattle.std.proofs.Common.{Some, None, All, map, refl, sym, ap, ◌∙◌, subst, arith, inl, eqb-true, eq-eqb, ne_eqb, lt-ltb, if◌then◌else◌, mod-lt}
-use Rattle.std.specs.Prelude.{unwrap_or}
+use Rattle.std.proofs.Common.{◌≡◌, ◌≢◌, ℕ, ◌+◌, ◌<◌, ◌^◌, ◌==◌, ◌&&◌, ltb, not, List, [], ◌∷◌, ◌++◌, Bool, true, false, Option}
+use Rattle.std.proofs.Common.{Some, None, All, map, refl, sym, ap, ◌∙◌, subst, arith, inl, eqb-true, eq-eqb, ne_eqb, if◌then◌else◌, mod-lt}
 use Rattle.std.proofs.Common.{length-append, length-drop, drop}
-use Rattle.mv_core.specs.WalkSteps.{slot_named}
-use Rattle.mv_layout.specs.Words.{link_of, link_seat_of}
-use Rattle.mv_core.proofs.Terms.{dite, ℕ_discrete, Config, Checked, Head, First, Stamp}
+use Rattle.mv_layout.specs.Words.{link_of}
+use Rattle.mv_core.proofs.Terms.{dite, ℕ_discrete, Config, Checked, Head}
 use Rattle.mv_core.specs.declared.ring.Build as core
-use Rattle.mv_core.specs.declared.ring.Slot.{Slot}
 use Rattle.mv_core.specs.declared.ring.Slot.TheVariants as slots
 use Rattle.mv_core.specs.declared.view.View.{View}
 use Rattle.mv_core.specs.declared.view.Section.{Section}
@@ -17,17 +14,14 @@ use Rattle.mv_core.specs.Rings.{slot_at, index_of, set_first}
 use Rattle.mv_core.specs.Times.{words_of}
 use Rattle.mv_core.specs.Views.{time_in}
 use Rattle.mv_core.specs.EnterSteps.{stored_if}
-use Rattle.mv_core.specs.LockSteps.{StandsToLock, field_place, nothing_built, build_in, built_too, built_stored, MayLock, head_locked, lock_lost}
-use Rattle.mv_core.specs.Moves.{Moment, store_built, lock_head, load_first, load_stamp, IsStorable}
+use Rattle.mv_core.specs.LockSteps.{StandsToLock, field_place, MayLock, head_locked, lock_lost}
+use Rattle.mv_core.specs.Moves.{Moment, store_built, lock_head, IsStorable}
 use Rattle.mv_core.proofs.kinds.walking.WalkOn.{at_zero, at_some}
 use Rattle.mv_history.specs.declared.answers.LockAnswer.TheVariants as refusals
-use Rattle.seat_log.specs.declared.version.Note.{Note}
-use Rattle.seat_log.specs.Notes.{Noted, IsNextOf, held_noted}
+use Rattle.seat_log.specs.Notes.{IsNextOf, held_noted}
 use Rattle.seat_log.specs.Stands.{Stands, HasBuilt}
-use Rattle.seat_log.specs.Builds.{build_at, stored_next, MayBuild}
+use Rattle.seat_log.specs.Builds.{build_at}
 use Rattle.seat_log.proofs.MayBuild.{may_store}
-use Rattle.seat_log.proofs.BuildsOn.{BuildsOn, builds_first}
-use Rattle.seat_log.proofs.Standing.{may_build, stands_on, built_is_log}
 use Rattle.seat_log.proofs.Stays.{stands_locked}
 use Rattle.step_replay.specs.declared.plan.Call.{Call}
 use Rattle.step_replay.specs.declared.plan.CallOf.{CallOf}
@@ -48,7 +42,7 @@ use Rattle.step_replay.specs.States.{Made, state_of}
 use Rattle.step_replay.specs.Runs.{SeatOf, TapeOf, learned, step_made}
 use Rattle.step_replay.specs.Behind.{IsTapeBehind}
 use Rattle.step_replay.proofs.runs.Notes.{note_of, notes_from, notes_more, drop_more}
-use Rattle.step_replay.proofs.runs.Sections.{seat_with, Logs, InSection, MayHold, StandsAt}
+use Rattle.step_replay.proofs.runs.Sections.{seat_with, Logs, InSection, MayHold}
 use Rattle.step_replay.proofs.runs.Standing.{HasFields, Builds, LocksAt, IsStepped}
 use Rattle.step_replay.proofs.runs.Standing.{GoesSo, by_step, by_end}
 use Rattle.step_replay.proofs.runs.Stepping.{IsOfKind, view_by, next_is}
@@ -56,8 +50,7 @@ use Rattle.step_replay.proofs.runs.Known.{if_so, eqb_ne, ltb_lt, ltb_ge, and_lef
 use Rattle.step_replay.proofs.runs.LogFacts.{noted_long, next_long, held_are, first_held, held_in_log, stands_whole}
 use Rattle.step_replay.proofs.runs.Fields.{field_range, field_small, field_fits, has_next, has_first, whole_words, has_link}
 use Rattle.step_replay.proofs.runs.Helping.{rests_in}
-use Rattle.step_replay.proofs.runs.WalkFacts.{section_stays, refused}
-use Rattle.step_replay.proofs.runs.Walking.{stands_in}
+use Rattle.step_replay.proofs.runs.WalkFacts.{section_stays}
 use Rattle.step_replay.proofs.runs.Building.{link_is, builds_stay, may_build_here, build_now, logs_built, built_there}
 use Rattle.step_replay.proofs.runs.LockMet.{first_made, stamp_made}
 
@@ -124,7 +117,7 @@ module _ (c : Config) (k : Checked c) (n : ℕ) (lt : n < c.seats) (made : List 
         let more = has_next version at field (build_at c v at) less (low_at field has) has in
         let now = build_now c k v log freed from time at inside may.room builds.at_is field x more.wide in
         let still = section_stays c v w log freed from time inside refl refl refl
-            (logs_built c k v log freed from time at inside may.room builds.at_is field x more.wide) in
+        (logs_built c k v log freed from time at inside may.room builds.at_is field x more.wide) in
         let keep = builds_stay c v w i log from o version at refl refl builds in
         let has_now : HasFields (build_at c w at) version at (field + 1) = subst (λ (y : core.Build). HasFields y version at (field + 1)) (sym now) more in
         next_is c k n lt made t b kind (Locks version at (Build field)) of seat refl log freed from time call sweep own left refl no_scan before
@@ -302,7 +295,7 @@ module _ (c : Config) (k : Checked c) (n : ℕ) (lt : n < c.seats) (made : List 
         next_is c k n lt made t b kind task of seat refl (log ++ version ∷ []) freed from time call sweep own left seat_is
         (subst (λ (u : View). u.scan ≡ None) (sym view) no_scan) before
         (subst (λ (u : View). GoesSo c n u (log ++ version ∷ []) freed from time call sweep
-            (after_lock_head version at (s.memory (Head version.object)))) (sym view)
+        (after_lock_head version at (s.memory (Head version.object)))) (sym view)
         (by_end (Locked refusals.Held)
         (ap (λ x. if x then Ends (Locked refusals.Held)
         else (if s.memory (Head version.object) == 0 then Goes (Locks (record version { previous = 0 }) at ClearPrevious)
@@ -313,9 +306,9 @@ module _ (c : Config) (k : Checked c) (n : ℕ) (lt : n < c.seats) (made : List 
         let there : (s.memory (Head version.object) == version.previous) ≡ false = ap (λ x. x == version.previous) at_head ∙ not_so in
         let view : view_by c s n kind ≡ B = ap (λ x. if x then A else B) not_so in
         let seat_is : learned task (s.memory (Head version.object)) seat ≡ seat = ap
-            (λ x. record seat { log = applied (if x then Pushed version else Kept) log }) there in
+        (λ x. record seat { log = applied (if x then Pushed version else Kept) log }) there in
         let still = section_stays c v B log freed from time inside refl refl refl
-            (logs_left c v B log freed from refl refl refl refl _ refl (refl, refl) inside.logs) in
+        (logs_left c v B log freed from refl refl refl refl _ refl (refl, refl) inside.logs) in
         let keep = builds_stay c v B i log from o version at refl refl builds in
         let cleared = builds_stay c v B i log from o version at refl refl builds in
         let goes : GoesSo c n B log freed from time call sweep
@@ -384,7 +377,7 @@ module _ (c : Config) (k : Checked c) (n : ℕ) (lt : n < c.seats) (made : List 
         let w = view_by c s n kind in
         let now = build_now c k v log freed from time at inside may.room builds.at_is 2 0 has.1.wide in
         let still = section_stays c v w log freed from time inside refl refl refl
-            (logs_built c k v log freed from time at inside may.room builds.at_is 2 0 has.1.wide) in
+        (logs_built c k v log freed from time at inside may.room builds.at_is 2 0 has.1.wide) in
         let linked : HasFields (build_at c w at) (record version { previous = 0 }) at 10 =
         subst (λ (y : core.Build). HasFields y (record version { previous = 0 }) at 10) (sym now) (has_link (build_at c v at) version at has.0 0 has.1) in
         next_is c k n lt made t b kind task of seat refl log freed from time call sweep own left refl no_scan before

@@ -102,7 +102,7 @@ module _ (c : Config) (k : Checked c) (n : ℕ) (made : List Made) (v : View) (l
         let low = from_low in
         by_step (begin_abort log s) refl
         (if_so (λ (task : Task). StandsFor c n v log freed from (Some t) Abort (new_sweep freed) (Some task)) (held log s == 0)
-            (EndsSection (finish.Leave Plainly)) (unlock log from)
+        (EndsSection (finish.Leave Plainly)) (unlock log from)
         (λ none. (inside, (let z = eqb-true (held log s) 0 none in omega (arith, z, low))))
         (λ some. (
           0,

@@ -1,7 +1,7 @@
 -- The steps of a tidy outside a section: watermarks, frees, scans and rests.
 use Rattle.std.proofs.Common.{◌≡◌, ◌≢◌, ◌⊎◌, ℕ, ◌+◌, ◌-◌, ◌<◌, ◌≤◌, ◌^◌, ◌==◌, ◌&&◌, ltb}
-use Rattle.std.proofs.Common.{leb, not, max, min, List, [], ◌∷◌, ◌++◌, length, drop, Bool, true, false}
-use Rattle.std.proofs.Common.{Option, Some, None, All, Contains, refl, sym, ap, ◌∙◌, subst, arith, inl, inr, eq-eqb, ne_eqb, lt-ltb, le-ltb, le-leb}
+use Rattle.std.proofs.Common.{leb, not, max, List, [], ◌∷◌, ◌++◌, length, drop, Bool, true, false}
+use Rattle.std.proofs.Common.{Option, Some, None, All, Contains, refl, sym, ap, ◌∙◌, subst, arith, inl, inr, eq-eqb, ne_eqb, lt-ltb, le-ltb}
 use Rattle.std.proofs.Common.{if◌then◌else◌, mod-lt}
 use Rattle.std.proofs.lemmas.Bool.{cases_lt}
 use Rattle.std.proofs.lemmas.List.Elements.{Contains-append_left, Contains-append_right, Contains-push}
@@ -21,7 +21,6 @@ use Rattle.seat_log.proofs.Rested.{rests_room, stands_rested, stands_unrested}
 use Rattle.step_replay.specs.declared.plan.Call.TheVariants.{Tidy}
 use Rattle.step_replay.specs.declared.plan.CallOf.{CallOf}
 use Rattle.step_replay.specs.declared.seats.Version.{Version}
-use Rattle.step_replay.specs.declared.seats.Scanned.{Scanned}
 use Rattle.step_replay.specs.declared.seats.Sweep.{Sweep}
 use Rattle.step_replay.specs.declared.seats.State.{State}
 use Rattle.step_replay.specs.declared.seats.Helping.TheVariants.{LoadNamed}
@@ -126,11 +125,11 @@ module _ (c : Config) (k : Checked c) (n : ℕ) (lt : n < c.seats) (made : List 
           by (inl inside) next first =
               marks (seat + 1) next inside
               (first ∙ ap (λ x. if x then Goes (Tidies (LoadMark (seat + 1))) else Goes (Tidies (RaiseGrace sweep2.last.low)))
-                  (lt-ltb (seat + 1) c.seats inside))
+              (lt-ltb (seat + 1) c.seats inside))
           by (inr outside) next first =
               ends (seat + 1) next outside
               (first ∙ ap (λ x. if x then Goes (Tidies (LoadMark (seat + 1))) else Goes (Tidies (RaiseGrace sweep2.last.low)))
-                  (le-ltb (seat + 1) c.seats outside))
+              (le-ltb (seat + 1) c.seats outside))
 
       other_so : seat ≢ n → (seat < c.seats) ⊎ (c.seats ≤ seat) → Made_so task
       other_so other order =
@@ -146,12 +145,12 @@ module _ (c : Config) (k : Checked c) (n : ℕ) (lt : n < c.seats) (made : List 
               marks seat next inside
               (first ∙ ap (λ x. if x then Goes (Tidies (LoadMark seat))
               else (if ltb (seat + 1) c.seats then Goes (Tidies (LoadMark (seat + 1))) else Goes (Tidies (RaiseGrace sweep2.last.low))))
-                  (lt-ltb seat c.seats inside))
+              (lt-ltb seat c.seats inside))
           by (inr outside) next first =
               ends seat next outside
               (first ∙ ap (λ x. if x then Goes (Tidies (LoadMark seat))
               else (if ltb (seat + 1) c.seats then Goes (Tidies (LoadMark (seat + 1))) else Goes (Tidies (RaiseGrace sweep2.last.low))))
-                  (le-ltb seat c.seats outside)
+              (le-ltb seat c.seats outside)
               ∙ ap (λ x. if x then Goes (Tidies (LoadMark (seat + 1))) else Goes (Tidies (RaiseGrace sweep2.last.low)))
               (le-ltb (seat + 1) c.seats (omega (arith, outside))))
 
@@ -190,7 +189,7 @@ module _ (c : Config) (k : Checked c) (n : ℕ) (lt : n < c.seats) (made : List 
         let number = number_is c k n made b.each in
         let still = rests_on w refl (logs_left c v w log freed from refl refl refl refl _ refl (refl, refl) rests.2) in
         look_made (load_mark seat scan) (Tidies (LoadMark seat)) of (record sweep { last = lowered sweep.last seat mark }) (seat + 1) scan.clock least
-            v.grace refl
+        v.grace refl
         refl (ap (λ m. scan_goes c scan.clock least (other_from m (seat + 1))) number) (ap (λ m. grace_on c v.grace least (other_from m (seat + 1))) number)
         (ap (λ x. least_with x mark) low ∙ sym (lowered_low sweep.last seat mark)) still
 
@@ -213,7 +212,7 @@ module _ (c : Config) (k : Checked c) (n : ℕ) (lt : n < c.seats) (made : List 
         let risen : max sweep.last.low found ≤ max v.grace found = omega (arith, known) in
         let within = rests.2.is.within in
         next_is c k n lt made t b (raise_grace low) (Tidies (RaiseGrace low)) of seat_so refl log freed from None Tidy (scanned sweep found) own left
-            refl no_scan
+        refl no_scan
         before
         (settle_so c n w log freed from (scanned sweep found) no_scan still (risen, risen) freed (omega arith) within)
 

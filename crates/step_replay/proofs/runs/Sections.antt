@@ -1,25 +1,8 @@
 -- What a seat of a replay is at, by its view: its notes, its section, and the next step of an entering, a help and a walk.
-use Rattle.std.proofs.Common.{◌≡◌, ◌≢◌, ◌⊎◌, ℕ, ◌+◌, ◌<◌, ◌≤◌, ◌^◌, true, false, List, ◌∷◌, length, Option, Some, None, Contains}
-use Rattle.std.proofs.Common.{All, slice_index, slice_index_or, drop, max, refl}
+use Rattle.std.proofs.Common.{◌≡◌, ◌≢◌, ◌⊎◌, ℕ, ◌+◌, ◌<◌, ◌≤◌, ◌^◌, true, false, List, length, Option, Some, None, Contains}
+use Rattle.std.proofs.Common.{slice_index, drop, max}
 use Rattle.mv_layout.specs.Words.{clock_time_of, clock_slot_of, IsUnset}
-use Rattle.mv_history.specs.declared.Entry.{Entry}
-use Rattle.mv_layout.specs.Words.{link_of}
-use Rattle.mv_core.specs.declared.ring.CommitNote.{CommitNote}
-use Rattle.mv_core.specs.declared.ring.Slot.TheVariants.{Live}
-use Rattle.mv_core.specs.declared.ring.Status.TheVariants.{Committed}
-use Rattle.mv_core.specs.declared.view.Scan.{Scan}
-use Rattle.mv_core.specs.Rings.{slot_at, index_of}
-use Rattle.mv_core.specs.SectionFacts.{IsPastHelp}
-use Rattle.mv_core.specs.LockSteps.{death_loaded}
-use Rattle.mv_core.specs.ReclaimSteps.{head_cut}
-use Rattle.seat_log.specs.Stands.{version_of}
-use Rattle.seat_log.specs.Frees.{FreesSet, slots_freed}
-use Rattle.step_replay.specs.Tasks.{next_clock}
-use Rattle.step_replay.specs.declared.seats.Back.TheVariants as back
-use Rattle.step_replay.proofs.runs.Notes.{note_of}
 use Rattle.mv_core.proofs.Terms.{Config}
-use Rattle.mv_core.specs.declared.ring.Build as build
-use Rattle.mv_core.specs.declared.ring.Version as core
 use Rattle.mv_core.specs.declared.view.View.{View}
 use Rattle.mv_core.specs.declared.view.Section.{Section}
 use Rattle.mv_core.specs.declared.view.Stand.{Stand}
@@ -27,14 +10,10 @@ use Rattle.mv_core.specs.declared.view.Phase.TheVariants.{Outside, Lowered, Mark
 use Rattle.mv_core.specs.declared.view.Mode.TheVariants.{Open}
 use Rattle.mv_core.specs.declared.view.Walk.TheVariants as walk
 use Rattle.mv_core.specs.Views.{time_in}
-use Rattle.mv_core.specs.WalkSteps.{IsWalking, word_read, words_read}
+use Rattle.mv_core.specs.WalkSteps.{IsWalking, word_read}
 use Rattle.mv_core.specs.LockSteps.{StandsToLock}
-use Rattle.mv_layout.specs.Words.{unset_of}
 use Rattle.seat_log.specs.Notes.{Noted}
 use Rattle.seat_log.specs.Stands.{Stands}
-use Rattle.seat_log.specs.Builds.{build_at}
-use Rattle.commit_abort.specs.Finishes.{WonNaming, IsJustNamed, IsFinishing}
-use Rattle.commit_abort.specs.Aborts.{IsAborting, HasGivenUp}
 use Rattle.step_replay.specs.declared.plan.Call.{Call}
 use Rattle.step_replay.specs.declared.plan.Call.TheVariants.{Enter, Read, Lock, Write, Commit, Abort, Leave, Tidy}
 use Rattle.step_replay.specs.declared.plan.CallOf.{CallOf}
@@ -46,28 +25,10 @@ use Rattle.step_replay.specs.declared.seats.Helping.{Helping}
 use Rattle.step_replay.specs.declared.seats.Helping.TheVariants.{LoadNamed, LoadCheck, SwapStamp}
 use Rattle.step_replay.specs.declared.seats.Walking.{Walking}
 use Rattle.step_replay.specs.declared.seats.Walking.TheVariants.{LoadHead, LoadFirst, LoadStamp, LoadPrev, LoadWord}
-use Rattle.step_replay.specs.declared.seats.Locking.{Locking}
-use Rattle.step_replay.specs.declared.seats.Locking.TheVariants.{Build, LockHead, ClearPrevious, FoundFirst, FoundStamp}
-use Rattle.step_replay.specs.declared.seats.Ending.{Ending}
-use Rattle.step_replay.specs.declared.seats.Ending.TheVariants.{LoadNow, Name, StampOwn, StoreSuper, Unlock, LoadDeath, Leave}
-use Rattle.step_replay.specs.declared.seats.Leaving.{Leaving}
-use Rattle.step_replay.specs.declared.seats.Leaving.TheVariants.{Plainly, WithCommit, WithAbort}
-use Rattle.step_replay.specs.declared.seats.Sweeping.{Sweeping}
-use Rattle.step_replay.specs.declared.seats.Sweeping.TheVariants.{LoadGrace, Free, LoadScan, LoadMark, RaiseGrace, LoadSuper, LoadTop, StoreMaster}
-use Rattle.step_replay.specs.declared.seats.Sweeping.TheVariants.{CutHead, LoadCutDeath, LeaveBack, LoadSuperAgain, NameRest}
-use Rattle.step_replay.specs.declared.seats.Answer.{Answer}
-use Rattle.step_replay.specs.declared.seats.Then.{Then}
-use Rattle.step_replay.specs.declared.seats.Then.TheVariants.{Goes, Ends}
+use Rattle.step_replay.specs.declared.seats.Ending.TheVariants.{Leave}
 use Rattle.step_replay.specs.declared.seats.Task.{Task}
-use Rattle.step_replay.specs.declared.seats.Task.TheVariants.{Enters, Helps, Walks, Locks, Writes, EndsSection, Tidies}
-use Rattle.step_replay.specs.FitPlans.{IsFitCallOf}
 use Rattle.step_replay.specs.SeatNotes.{version_at}
-use Rattle.step_replay.specs.Tasks.{commit_clock}
-use Rattle.step_replay.specs.Runs.{SeatOf, Scene}
-use Rattle.step_replay.specs.Behind.{IsTapeBehind}
-use Rattle.step_replay.specs.GoesOn.{is_lock}
-use Rattle.step_replay.specs.States.{Made, state_of}
-use Rattle.mv_core.specs.Moves.{Kind}
+use Rattle.step_replay.specs.Runs.{SeatOf}
 use Rattle.step_replay.proofs.runs.Notes.{notes_from}
 
 -- a seat by its parts

@@ -1,7 +1,7 @@
 -- What a seat of a replay is at, by its view: its notes stand for the view, and its next step is one that may come next.
 use Rattle.std.proofs.Common.{◌≡◌, ◌≢◌, ◌⊎◌, ℕ, ◌+◌, ◌<◌, ◌≤◌, ◌^◌, true, false, List, ◌∷◌, length, Option, Some, None, Contains}
-use Rattle.std.proofs.Common.{All, slice_index, slice_index_or, drop, max, refl}
-use Rattle.mv_layout.specs.Words.{clock_time_of, clock_slot_of, IsUnset}
+use Rattle.std.proofs.Common.{All, slice_index, slice_index_or, refl}
+use Rattle.mv_layout.specs.Words.{clock_time_of}
 use Rattle.mv_history.specs.declared.Entry.{Entry}
 use Rattle.mv_layout.specs.Words.{link_of}
 use Rattle.mv_core.specs.declared.ring.CommitNote.{CommitNote}
@@ -23,11 +23,11 @@ use Rattle.mv_core.specs.declared.ring.Version as core
 use Rattle.mv_core.specs.declared.view.View.{View}
 use Rattle.mv_core.specs.declared.view.Section.{Section}
 use Rattle.mv_core.specs.declared.view.Stand.{Stand}
-use Rattle.mv_core.specs.declared.view.Phase.TheVariants.{Outside, Lowered, Marked, Inside}
+use Rattle.mv_core.specs.declared.view.Phase.TheVariants.{Outside, Inside}
 use Rattle.mv_core.specs.declared.view.Mode.TheVariants.{Open}
 use Rattle.mv_core.specs.declared.view.Walk.TheVariants as walk
 use Rattle.mv_core.specs.Views.{time_in}
-use Rattle.mv_core.specs.WalkSteps.{IsWalking, word_read, words_read}
+use Rattle.mv_core.specs.WalkSteps.{words_read}
 use Rattle.mv_core.specs.LockSteps.{StandsToLock}
 use Rattle.mv_layout.specs.Words.{unset_of}
 use Rattle.seat_log.specs.Notes.{Noted}
@@ -36,16 +36,10 @@ use Rattle.seat_log.specs.Builds.{build_at}
 use Rattle.commit_abort.specs.Finishes.{WonNaming, IsJustNamed, IsFinishing}
 use Rattle.commit_abort.specs.Aborts.{IsAborting, HasGivenUp}
 use Rattle.step_replay.specs.declared.plan.Call.{Call}
-use Rattle.step_replay.specs.declared.plan.Call.TheVariants.{Enter, Read, Lock, Write, Commit, Abort, Leave, Tidy}
+use Rattle.step_replay.specs.declared.plan.Call.TheVariants.{Commit, Leave, Tidy}
 use Rattle.step_replay.specs.declared.plan.CallOf.{CallOf}
 use Rattle.step_replay.specs.declared.seats.Version.{Version}
 use Rattle.step_replay.specs.declared.seats.Sweep.{Sweep}
-use Rattle.step_replay.specs.declared.seats.Entering.{Entering}
-use Rattle.step_replay.specs.declared.seats.Entering.TheVariants.{LoadLow, StoreMark, LoadTime}
-use Rattle.step_replay.specs.declared.seats.Helping.{Helping}
-use Rattle.step_replay.specs.declared.seats.Helping.TheVariants.{LoadNamed, LoadCheck, SwapStamp}
-use Rattle.step_replay.specs.declared.seats.Walking.{Walking}
-use Rattle.step_replay.specs.declared.seats.Walking.TheVariants.{LoadHead, LoadFirst, LoadStamp, LoadPrev, LoadWord}
 use Rattle.step_replay.specs.declared.seats.Locking.{Locking}
 use Rattle.step_replay.specs.declared.seats.Locking.TheVariants.{Build, LockHead, ClearPrevious, FoundFirst, FoundStamp}
 use Rattle.step_replay.specs.declared.seats.Ending.{Ending}
@@ -68,8 +62,7 @@ use Rattle.step_replay.specs.Behind.{IsTapeBehind}
 use Rattle.step_replay.specs.GoesOn.{is_lock}
 use Rattle.step_replay.specs.States.{Made, state_of}
 use Rattle.mv_core.specs.Moves.{Kind}
-use Rattle.step_replay.proofs.runs.Notes.{notes_from}
-use Rattle.step_replay.proofs.runs.Sections.{seat_with, IsNoted, Logs, InSection, RestsAt, EntersAt, HelpsAt, helped_word, BeforeHelp, IsBack, IsSwept, later, BacksUp, EntersFor, HelpsFor, MayHold, WalksFor, StandsAt, WordsSoFar, WalksAt}
+use Rattle.step_replay.proofs.runs.Sections.{seat_with, IsNoted, Logs, InSection, RestsAt, EntersAt, HelpsAt, helped_word, IsBack, IsSwept, BacksUp, EntersFor, HelpsFor, MayHold, WalksFor, StandsAt, WalksAt}
 
 -- of a build these words were stored: those of this version before an offset
 pub record HasFields (b : build.Build) (version : Version) (at field : ℕ) : Type 0 where

@@ -1,56 +1,35 @@
 -- Of a walk: the words that were read, and where it goes on.
-use Rattle.std.proofs.Common.{◌≡◌, ◌≢◌, ◌⊎◌, ℕ, ◌+◌, ◌<◌, ◌≤◌, ◌^◌, ◌==◌, ◌&&◌, ltb, leb, not, List, length, get_or, Bool, true, false, Option}
-use Rattle.std.proofs.Common.{Some, None, All, Contains, ne_eqb, replicate, refl, sym, ap}
-use Rattle.std.proofs.Common.{◌∙◌, subst, arith, inl, inr, eqb-true, if◌then◌else◌, slice_set, mod-lt}
+use Rattle.std.proofs.Common.{◌≡◌, ◌⊎◌, ℕ, ◌+◌, ◌<◌, ◌≤◌, ◌^◌, ◌==◌, List, length, get_or, true, false, Option}
+use Rattle.std.proofs.Common.{None, Contains, replicate, refl, sym, ap}
+use Rattle.std.proofs.Common.{◌∙◌, subst, arith, inl, inr, eqb-true, slice_set}
 use Rattle.std.specs.Prelude.{unwrap_or}
 use Rattle.std.proofs.lemmas.List.{length-set, get_or-set_same, get_or-set_other, get_or-replicate, get_or_past}
 use Rattle.std.proofs.lemmas.Bool.{cases_lt}
-use Rattle.mv_layout.specs.Words.{link_seat_of, IsUnset}
-use Rattle.mv_core.proofs.Terms.{dite, ℕ_discrete, Config, Checked, Head, Master, First, Stamp, Prev, Data, IsPlace}
+use Rattle.mv_layout.specs.Words.{link_seat_of}
+use Rattle.mv_core.proofs.Terms.{dite, ℕ_discrete, Config}
 use Rattle.mv_core.specs.declared.view.View.{View}
 use Rattle.mv_core.specs.declared.view.Section.{Section}
-use Rattle.mv_core.specs.declared.view.Stand.{Stand}
 use Rattle.mv_core.specs.declared.view.Passed.{Passed}
-use Rattle.mv_core.specs.declared.view.Passed.TheVariants.{Nothing}
-use Rattle.mv_core.specs.declared.view.Walk.TheVariants as walk
-use Rattle.mv_core.specs.Views.{time_in}
-use Rattle.mv_core.specs.WalkSteps.{slot_named, stand_at, passed_too, word_read, words_read, MayLoadMaster, MayLoadData}
+use Rattle.mv_core.specs.WalkSteps.{stand_at, word_read}
 use Rattle.mv_core.specs.declared.ring.Build.{Build}
 use Rattle.mv_core.specs.Rings.{slot_at, index_of}
-use Rattle.mv_core.specs.LockSteps.{StandsToLock, nothing_built, build_in}
-use Rattle.mv_core.specs.Moves.{Moment, load_head, load_first, load_stamp, load_prev, load_data, load_master}
-use Rattle.mv_core.proofs.logs.Links.{names_some, names_link, lives_within}
+use Rattle.mv_core.specs.LockSteps.{nothing_built, build_in}
 use Rattle.mv_core.proofs.kinds.walking.WalkOn.{at_zero, at_some}
-use Rattle.mv_core.proofs.kinds.walking.Walks.{lives_named, standing_of}
-use Rattle.mv_core.proofs.kinds.walking.LoadData.{data_loads}
-use Rattle.mv_core.proofs.kinds.walking.LoadMaster.{master_loads}
 use Rattle.mv_history.specs.declared.answers.LockAnswer.TheVariants as refusals
 use Rattle.seat_log.proofs.Standing.{next_spare}
 use Rattle.seat_log.specs.Builds.{build_at}
 use Rattle.step_replay.specs.declared.plan.Call.{Call}
 use Rattle.step_replay.specs.declared.plan.Call.TheVariants.{Enter, Read, Lock, Write, Commit, Abort, Leave, Tidy}
-use Rattle.step_replay.specs.declared.plan.CallOf.{CallOf}
 use Rattle.step_replay.specs.declared.seats.Version.{Version}
 use Rattle.step_replay.specs.declared.seats.Sweep.{Sweep}
-use Rattle.step_replay.specs.declared.seats.State.{State}
-use Rattle.step_replay.specs.declared.seats.Walking.{Walking}
-use Rattle.step_replay.specs.declared.seats.Walking.TheVariants.{LoadHead, LoadFirst, LoadStamp, LoadPrev, LoadWord}
-use Rattle.step_replay.specs.declared.seats.Locking.TheVariants as locking
-use Rattle.step_replay.specs.declared.seats.Task.{Task}
-use Rattle.step_replay.specs.declared.seats.Task.TheVariants.{Walks, Locks}
-use Rattle.step_replay.specs.declared.seats.Answer.TheVariants.{SixWords, Locked}
+use Rattle.step_replay.specs.declared.seats.Walking.TheVariants.{LoadFirst, LoadWord}
+use Rattle.step_replay.specs.declared.seats.Task.TheVariants.{Walks}
+use Rattle.step_replay.specs.declared.seats.Answer.TheVariants.{Locked}
 use Rattle.step_replay.specs.declared.seats.Then.TheVariants.{Goes, Ends}
-use Rattle.step_replay.specs.FitPlans.{IsFitCallOf}
-use Rattle.step_replay.specs.GoesOn.{is_lock, is_unset, stand, refusal, new_version, after_words}
-use Rattle.step_replay.specs.States.{any_commit, any_start, zeros, Made, state_of}
-use Rattle.step_replay.specs.Runs.{TapeOf, step_made}
-use Rattle.step_replay.specs.Behind.{IsTapeBehind}
-use Rattle.step_replay.proofs.runs.Sections.{seat_with, Logs, InSection, MayHold, WalksFor, StandsAt, WordsSoFar, WalksAt}
-use Rattle.step_replay.proofs.runs.Standing.{IsStepped}
+use Rattle.step_replay.specs.GoesOn.{is_lock, is_unset, stand, refusal}
+use Rattle.step_replay.proofs.runs.Sections.{Logs, InSection, MayHold, WalksFor, WordsSoFar}
 use Rattle.step_replay.proofs.runs.Standing.{GoesSo, by_step, by_end}
-use Rattle.step_replay.proofs.runs.Stepping.{IsOfKind, view_by, next_is}
-use Rattle.step_replay.proofs.runs.Known.{if_so, eqb_ne, ltb_lt, ltb_ge, leb_le, leb_gt, and_right, same_list, facts, view_there, starts, seated, word_small}
-use Rattle.step_replay.proofs.runs.Known.{logs_left}
+use Rattle.step_replay.proofs.runs.Known.{if_so, eqb_ne}
 use Rattle.step_replay.proofs.runs.Helping.{rests_in}
 use Rattle.step_replay.proofs.runs.LogFacts.{noted_long}
 
@@ -85,7 +64,7 @@ pub refused : (c : Config) (n : ℕ) (v : View) (log : List Version) (freed from
     → GoesSo c n v log freed from time call sweep (refusal link stamp)
 refused c n v log freed from time call sweep link stamp i =
     if_so (GoesSo c n v log freed from time call sweep) (is_unset stamp) (Ends (Locked (refusals.Busy (link_seat_of link))))
-        (Ends (Locked (refusals.Stale stamp)))
+    (Ends (Locked (refusals.Stale stamp)))
     (λ e. by_end (Locked (refusals.Busy (link_seat_of link))) refl (rests_in c v log freed from time i))
     (λ e. by_end (Locked (refusals.Stale stamp)) refl (rests_in c v log freed from time i))
 

@@ -1,34 +1,25 @@
 -- The steps of a walk, of a read or of a lock.
-use Rattle.std.proofs.Common.{◌≡◌, ◌≢◌, ◌⊎◌, ℕ, ◌+◌, ◌<◌, ◌≤◌, ◌^◌, ◌==◌, ◌&&◌, ltb, leb, not, List, length, get_or, Bool, true, false, Option}
-use Rattle.std.proofs.Common.{Some, None, All, Contains, ne_eqb, replicate, refl, sym, ap}
-use Rattle.std.proofs.Common.{◌∙◌, subst, arith, inl, inr, eqb-true, if◌then◌else◌, slice_set, mod-lt}
+use Rattle.std.proofs.Common.{◌≡◌, ◌≢◌, ◌⊎◌, ℕ, ◌+◌, ◌<◌, ◌≤◌, ◌^◌, ◌==◌, ◌&&◌, ltb, leb, not, List, length, Bool, true, false, Option}
+use Rattle.std.proofs.Common.{Some, None, All, ne_eqb, replicate, refl, sym, ap}
+use Rattle.std.proofs.Common.{◌∙◌, subst, arith, inl, inr, if◌then◌else◌, slice_set, mod-lt}
 use Rattle.std.specs.Prelude.{unwrap_or}
-use Rattle.std.proofs.lemmas.List.{length-set, get_or-set_same, get_or-set_other, get_or-replicate, get_or_past}
-use Rattle.std.proofs.lemmas.Bool.{cases_lt}
 use Rattle.mv_layout.specs.Words.{link_seat_of, IsUnset}
-use Rattle.mv_core.proofs.Terms.{dite, ℕ_discrete, Config, Checked, Head, Master, First, Stamp, Prev, Data, IsPlace}
+use Rattle.mv_core.proofs.Terms.{Config, Checked, Head, Master, First, Stamp, Prev, Data, IsPlace}
 use Rattle.mv_core.specs.declared.view.View.{View}
 use Rattle.mv_core.specs.declared.view.Section.{Section}
 use Rattle.mv_core.specs.declared.view.Stand.{Stand}
-use Rattle.mv_core.specs.declared.view.Passed.{Passed}
 use Rattle.mv_core.specs.declared.view.Passed.TheVariants.{Nothing}
 use Rattle.mv_core.specs.declared.view.Walk.TheVariants as walk
 use Rattle.mv_core.specs.Views.{time_in}
 use Rattle.mv_core.specs.WalkSteps.{slot_named, stand_at, passed_too, word_read, words_read, MayLoadMaster, MayLoadData}
-use Rattle.mv_core.specs.declared.ring.Build.{Build}
-use Rattle.mv_core.specs.Rings.{slot_at, index_of}
-use Rattle.mv_core.specs.LockSteps.{StandsToLock, nothing_built, build_in}
+use Rattle.mv_core.specs.Rings.{index_of}
+use Rattle.mv_core.specs.LockSteps.{StandsToLock}
 use Rattle.mv_core.specs.Moves.{Moment, load_head, load_first, load_stamp, load_prev, load_data, load_master}
 use Rattle.mv_core.proofs.logs.Links.{names_some, names_link, lives_within}
-use Rattle.mv_core.proofs.kinds.walking.WalkOn.{at_zero, at_some}
 use Rattle.mv_core.proofs.kinds.walking.Walks.{lives_named, standing_of}
 use Rattle.mv_core.proofs.kinds.walking.LoadData.{data_loads}
 use Rattle.mv_core.proofs.kinds.walking.LoadMaster.{master_loads}
-use Rattle.mv_history.specs.declared.answers.LockAnswer.TheVariants as refusals
-use Rattle.seat_log.proofs.Standing.{next_spare}
-use Rattle.seat_log.specs.Builds.{build_at}
 use Rattle.step_replay.specs.declared.plan.Call.{Call}
-use Rattle.step_replay.specs.declared.plan.Call.TheVariants.{Enter, Read, Lock, Write, Commit, Abort, Leave, Tidy}
 use Rattle.step_replay.specs.declared.plan.CallOf.{CallOf}
 use Rattle.step_replay.specs.declared.seats.Version.{Version}
 use Rattle.step_replay.specs.declared.seats.Sweep.{Sweep}
@@ -38,21 +29,20 @@ use Rattle.step_replay.specs.declared.seats.Walking.TheVariants.{LoadHead, LoadF
 use Rattle.step_replay.specs.declared.seats.Locking.TheVariants as locking
 use Rattle.step_replay.specs.declared.seats.Task.{Task}
 use Rattle.step_replay.specs.declared.seats.Task.TheVariants.{Walks, Locks}
-use Rattle.step_replay.specs.declared.seats.Answer.TheVariants.{SixWords, Locked}
+use Rattle.step_replay.specs.declared.seats.Answer.TheVariants.{SixWords}
 use Rattle.step_replay.specs.declared.seats.Then.TheVariants.{Goes, Ends}
 use Rattle.step_replay.specs.FitPlans.{IsFitCallOf}
-use Rattle.step_replay.specs.GoesOn.{is_lock, is_unset, stand, refusal, new_version, after_words}
+use Rattle.step_replay.specs.GoesOn.{is_lock, is_unset, refusal, new_version, after_words}
 use Rattle.step_replay.specs.States.{any_commit, any_start, zeros, Made, state_of}
 use Rattle.step_replay.specs.Runs.{TapeOf, step_made}
 use Rattle.step_replay.specs.Behind.{IsTapeBehind}
-use Rattle.step_replay.proofs.runs.Sections.{seat_with, Logs, InSection, MayHold, WalksFor, StandsAt, WordsSoFar, WalksAt}
+use Rattle.step_replay.proofs.runs.Sections.{seat_with, InSection, WalksFor, StandsAt, WordsSoFar, WalksAt}
 use Rattle.step_replay.proofs.runs.Standing.{IsStepped}
 use Rattle.step_replay.proofs.runs.Standing.{GoesSo, by_step, by_end}
 use Rattle.step_replay.proofs.runs.Stepping.{IsOfKind, view_by, next_is}
-use Rattle.step_replay.proofs.runs.Known.{if_so, eqb_ne, ltb_lt, ltb_ge, leb_le, leb_gt, and_right, same_list, facts, view_there, starts, seated, word_small}
+use Rattle.step_replay.proofs.runs.Known.{if_so, ltb_lt, ltb_ge, leb_le, leb_gt, and_right, same_list, facts, view_there, starts, seated, word_small}
 use Rattle.step_replay.proofs.runs.Known.{logs_left}
 use Rattle.step_replay.proofs.runs.Helping.{rests_in}
-use Rattle.step_replay.proofs.runs.LogFacts.{noted_long}
 use Rattle.step_replay.proofs.runs.WalkFacts.{no_words, one_word, refused, section_stays, stand_so, lock_holds, built_wide}
 
 module _ (c : Config) (k : Checked c) (n : ℕ) (lt : n < c.seats) (made : List Made) (t : TapeOf) (b : IsTapeBehind c t made)
@@ -98,9 +88,9 @@ module _ (c : Config) (k : Checked c) (n : ℕ) (lt : n < c.seats) (made : List 
         let w = view_by c s n (load_head o i) in
         let link = s.memory (Head o) in
         let still = section_stays c v w log freed from time inside refl refl refl
-            (logs_left c v w log freed from refl refl refl refl _ refl (refl, refl) inside.logs) in
+        (logs_left c v w log freed from refl refl refl refl _ refl (refl, refl) inside.logs) in
         next_is c k n lt made t b (load_head o i) (Walks o LoadHead) of (seat_with n log freed from time call sweep own left) refl log freed from time
-            call sweep own left
+        call sweep own left
         refl no_scan before
         (stand_so c n w log freed from time call sweep o link Nothing refl (word_small c k n made b.each (Head o)) still range for)
 
@@ -116,9 +106,9 @@ module _ (c : Config) (k : Checked c) (n : ℕ) (lt : n < c.seats) (made : List 
         } in
         let w = view_by c s n (load_first link at.stand) in
         let still = section_stays c v w log freed from time inside refl refl refl
-            (logs_left c v w log freed from refl refl refl refl _ refl (refl, refl) inside.logs) in
+        (logs_left c v w log freed from refl refl refl refl _ refl (refl, refl) inside.logs) in
         next_is c k n lt made t b (load_first link at.stand) (Walks o (LoadFirst link)) of (seat_with n log freed from time call sweep own left) refl
-            log freed from time
+        log freed from time
         call sweep own left refl no_scan before
         (by_step (Walks o (LoadStamp link (s.memory (First (link_seat_of link) (slot_named c link))))) refl
         (still, range, for, (record { stand = _; at = refl; object_is = at.object_is; link_is = at.link_is }, refl)))
@@ -138,15 +128,15 @@ module _ (c : Config) (k : Checked c) (n : ℕ) (lt : n < c.seats) (made : List 
         let w = view_by c s n (load_stamp link first at.stand) in
         let found = s.memory (Stamp (link_seat_of link) (index_of c first)) in
         let still = section_stays c v w log freed from time inside refl refl refl
-            (logs_left c v w log freed from refl refl refl refl _ refl (refl, refl) inside.logs) in
+        (logs_left c v w log freed from refl refl refl refl _ refl (refl, refl) inside.logs) in
         let stands : StandsAt w o link =
         record { stand = record at.stand { stamp = Some found }; at = refl; object_is = at.object_is; link_is = at.link_is } in
         let limit : unwrap_or time 0 ≡ time_in i = ap (λ x. unwrap_or x 0) inside.time_is in
         next_is c k n lt made t b (load_stamp link first at.stand) (Walks o (LoadStamp link first)) of
-            (seat_with n log freed from time call sweep own left) refl log freed
+        (seat_with n log freed from time call sweep own left) refl log freed
         from time call sweep own left refl no_scan before
         (if_so (GoesSo c n w log freed from time call sweep) (not (is_unset found) && leb found (unwrap_or time 0))
-            (Goes (Walks o (LoadWord link (replicate 6 0) 0)))
+        (Goes (Walks o (LoadWord link (replicate 6 0) 0)))
         (if is_lock call then refusal link found else Goes (Walks o (LoadPrev link)))
         (λ e.
         let le = leb_le found (unwrap_or time 0) (and_right (not (is_unset found)) (leb found (unwrap_or time 0)) e) in
@@ -194,9 +184,9 @@ module _ (c : Config) (k : Checked c) (n : ℕ) (lt : n < c.seats) (made : List 
         let w = view_by c s n (load_prev link at.stand) in
         let below = s.memory (Prev (link_seat_of link) (slot_named c link)) in
         let still = section_stays c v w log freed from time inside refl refl refl
-            (logs_left c v w log freed from refl refl refl refl _ refl (refl, refl) inside.logs) in
+        (logs_left c v w log freed from refl refl refl refl _ refl (refl, refl) inside.logs) in
         next_is c k n lt made t b (load_prev link at.stand) (Walks o (LoadPrev link)) of (seat_with n log freed from time call sweep own left) refl log
-            freed from time call
+        freed from time call
         sweep own left refl no_scan before
         (stand_so c n w log freed from time call sweep o below (passed_too at.stand.passed at.stand.stamp)
         (ap (λ x. stand_at x below (passed_too at.stand.passed at.stand.stamp) false) at.object_is)
@@ -277,12 +267,12 @@ module _ (c : Config) (k : Checked c) (n : ℕ) (lt : n < c.seats) (made : List 
         let told = (master_loads any_start any_commit c (zeros c) v o w i range may.1 s.memory s.history s.seats (facts c k n made b.each)
         (view_there c k n made b.each) (seated c k n made b.each lt) (starts c k n made b.each) small).2.0.0 in
         let still = section_stays c v v2 log freed from time inside refl refl refl
-            (logs_left c v v2 log freed from refl refl refl refl _ refl (refl, refl) inside.logs) in
+        (logs_left c v v2 log freed from refl refl refl refl _ refl (refl, refl) inside.logs) in
         next_is c k n lt made t b (load_master o w i) (Walks o (LoadWord 0 words w)) of (seat_with n log freed from time call sweep own left) refl log
-            freed from time call
+        freed from time call
         sweep own left refl no_scan before
         (word_so v2 0 words w found still (omega arith) (inl (stands, refl)) less small told.1
-            (record { wide = so.wide; small = so.small; are = so.are }) told.2)
+        (record { wide = so.wide; small = so.small; are = so.are }) told.2)
 
     data_made : (link : ℕ) (words : List ℕ) (w : ℕ) → w < 6 → link < 2 ^ 64
         → ((stand : Stand) × (found : ℕ) × (v.walk ≡ walk.At stand) × (stand.object ≡ o) × (stand.link ≡ link) × (stand.stamp ≡ Some found)
@@ -313,10 +303,10 @@ module _ (c : Config) (k : Checked c) (n : ℕ) (lt : n < c.seats) (made : List 
         let told = (data_loads any_start any_commit c (zeros c) v link w at.0 i may s.memory s.history s.seats (facts c k n made b.each)
         (view_there c k n made b.each) (seated c k n made b.each lt) (starts c k n made b.each) small).2.0.0 in
         let still = section_stays c v v2 log freed from time inside refl refl refl
-            (logs_left c v v2 log freed from refl refl refl refl _ refl (refl, refl) inside.logs) in
+        (logs_left c v v2 log freed from refl refl refl refl _ refl (refl, refl) inside.logs) in
         let state : State = record { seat = n; time = time; from = from; freed = freed; call = call; sweep = sweep } in
         next_is c k n lt made t b (load_data link w at.0 i) (Walks o (LoadWord link words w)) of (seat_with n log freed from time call sweep own left)
-            refl log freed from
+        refl log freed from
         time call sweep own left refl no_scan before
         (subst (λ p. GoesSo c n v2 log freed from time call sweep
         (if ltb w 5 then Goes (Walks o (LoadWord link (slice_set words w (s.memory p)) (w + 1)))

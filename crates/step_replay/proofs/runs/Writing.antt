@@ -97,7 +97,7 @@ module _ (c : Config) (k : Checked c) (n : ℕ) (lt : n < c.seats) (made : List 
         logs = logs2;
       } in
       next_is c k n lt made t b kind task of (seat_with n log freed from time call sweep own left) refl log2 freed from time call sweep own left refl
-          no_scan before
+      no_scan before
       (if_so (GoesSo c n w log2 freed from time call sweep) (ltb word 5) (Goes (Writes at words (word + 1))) (Ends Silent)
       (λ e. by_step (Writes at words (word + 1)) refl (record {
         inside = inside2;

@@ -1,6 +1,6 @@
 -- What a lock builds, word by word, in the slot of the next position.
-use Rattle.std.proofs.Common.{◌≡◌, ℕ, ◌+◌, ◌<◌, ◌^◌, ◌&&◌, ltb, List, length, Option}
-use Rattle.std.proofs.Common.{Some, None, refl, sym, ap, ◌∙◌, subst, arith, lt-ltb, if◌then◌else◌}
+use Rattle.std.proofs.Common.{◌≡◌, ◌≢◌, ℕ, ◌+◌, ◌<◌, ◌^◌, ◌==◌, ◌&&◌, ltb, not, Bool, true, false, List, length, Option}
+use Rattle.std.proofs.Common.{Some, None, refl, sym, ap, ◌∙◌, subst, arith, lt-ltb, eq-eqb, eqb-true, if◌then◌else◌}
 use Rattle.std.specs.Prelude.{unwrap_or}
 use Rattle.mv_layout.specs.Words.{link_of}
 use Rattle.mv_core.proofs.Terms.{Config, Checked}
@@ -24,6 +24,26 @@ use Rattle.step_replay.specs.Tasks.{link_to}
 use Rattle.step_replay.proofs.runs.Sections.{Logs, InSection}
 use Rattle.step_replay.proofs.runs.Standing.{HasFields, Builds}
 use Rattle.step_replay.proofs.runs.LogFacts.{noted_long, next_long}
+use Rattle.step_replay.proofs.runs.Known.{and_right}
+
+-- the first of another write set isn't the position that is built
+pub other_first : (version : Version) (at field : ℕ) → ((field == 0) && not (version.first == at)) ≡ true → version.first ≢ at
+other_first version at field e same =
+    let t = eq-eqb version.first at same in
+    let f : not (version.first == at) ≡ false = ap not t in
+    let g : ((field == 0) && false) ≡ true = ap (λ x. (field == 0) && x) (sym f) ∙ e in
+    let h = and_right (field == 0) false g in absurd (cc)
+
+-- and the first of its own is
+pub own_first : (version : Version) (at field : ℕ) → field + 1 ≡ 1 → ((field == 0) && not (version.first == at)) ≡ false → version.first ≡ at
+own_first version at field z e =
+    let zero : field ≡ 0 = omega (arith, z) in
+    let f : (true && not (version.first == at)) ≡ false = ap (λ x. x && not (version.first == at)) (sym (eq-eqb field 0 zero)) ∙ e in
+    eqb-true version.first at (not_not (version.first == at) f)
+  where
+    not_not : (x : Bool) → (true && not x) ≡ false → x ≡ true
+    not_not true f = refl
+    not_not false f = absurd (cc)
 
 -- a link to a position that fits one
 pub link_is : (n at : ℕ) → n < 64 → at < 2 ^ 57 → link_to n at ≡ link_of n at

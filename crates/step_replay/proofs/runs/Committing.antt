@@ -99,8 +99,8 @@ module _ (c : Config) (k : Checked c) (n : ℕ) (lt : n < c.seats) (made : List 
       (told + more, on, (let ge = ltb_ge next (length log) e in omega (arith, at_is, low, high, ge))))
 
   -- the clock is loaded
-  now_made : InSection c v log freed from time → from < length log → call ≡ Commit → Made_so LoadNow
-  now_made inside some commits =
+  pub loading_made : InSection c v log freed from time → from < length log → call ≡ Commit → Made_so LoadNow
+  loading_made inside some commits =
       let task = EndsSection LoadNow in
       let of : IsOfKind c s n load_check task = record {
         may = subst MayLoadCheck (sym inside.walking.phase) tt;
@@ -237,16 +237,9 @@ module _ (c : Config) (k : Checked c) (n : ℕ) (lt : n < c.seats) (made : List 
       let at = slot_for c from in
       let word = clock_of t2 v.number (index_of c from) in
       let unset = unset_of from in
-      let here : Section = record won.inside {
-        mode = Named (record {
-          time = clock_time_of won.word + 1;
-          first = set_first won.before.ring;
-          stamped =
-              false;
-        });
-      } in
-      let phase : v.phase ≡ Inside here = has_named c v l won named.named in
       let naming : Naming = record { time = clock_time_of won.word + 1; first = set_first won.before.ring; stamped = false } in
+      let here : Section = record won.inside { mode = Named naming } in
+      let phase : v.phase ≡ Inside here = has_named c v l won named.named in
       let small : from < 2 ^ 57 = (let top = (knows c k n made b.each).named here naming phase refl in omega (arith, top, first)) in
       let seat_low : v.number < 64 = omega (arith, own_seat, seats) in
       let of_first : index_of c from ≡ index_of c (set_first won.before.ring) = ap (index_of c) (sym first) in
@@ -340,8 +333,8 @@ module _ (c : Config) (k : Checked c) (n : ℕ) (lt : n < c.seats) (made : List 
       (super_so w (told + 1) (at + 1) t2 more (omega (arith, at_is)) (omega (arith, live)))
 
   -- the section ends, and what it held is committed
-  done_made : (t2 told : ℕ) → Finishes c v log freed from t2 told → from + told ≡ length log → Made_so (Leave (WithCommit t2))
-  done_made t2 told fin all =
+  pub ending_made : (t2 told : ℕ) → Finishes c v log freed from t2 told → from + told ≡ length log → Made_so (Leave (WithCommit t2))
+  ending_made t2 told fin all =
       let l = fin.noted in
       let is = fin.is in
       let first = noted_from c l log freed from is fin.finishing.named.stands.log.held in
@@ -381,9 +374,6 @@ module _ (c : Config) (k : Checked c) (n : ℕ) (lt : n < c.seats) (made : List 
       before
       (by_end (Committed (ends.Done t2)) refl (refl, sym long2, logs2))
 
-  pub loading_made : InSection c v log freed from time → from < length log → call ≡ Commit → Made_so LoadNow
-  loading_made = now_made
-
   pub naming_made : (word new : ℕ) → InSection c v log freed from time → from < length log → Contains v.clocks.loaded word → Contains v.clocks.helped word
       → clock_time_of word < 35184372088831 → new ≡ commit_clock c word n from → Made_so (Name word new)
   naming_made = name_made
@@ -397,6 +387,3 @@ module _ (c : Config) (k : Checked c) (n : ℕ) (lt : n < c.seats) (made : List 
       → link ≢ 0 → Made_so (StoreSuper at link t2)
   telling_made at link told t2 fin at_is live link_is some =
       subst (λ (x : ℕ). Made_so (StoreSuper at x t2)) (sym link_is) (super_made at told t2 fin at_is live (subst (λ (x : ℕ). x ≢ 0) link_is some))
-
-  pub ending_made : (t2 told : ℕ) → Finishes c v log freed from t2 told → from + told ≡ length log → Made_so (Leave (WithCommit t2))
-  ending_made = done_made

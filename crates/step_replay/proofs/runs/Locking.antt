@@ -51,7 +51,7 @@ use Rattle.step_replay.proofs.runs.LogFacts.{noted_long, next_long, held_are, fi
 use Rattle.step_replay.proofs.runs.Fields.{field_range, field_small, field_fits, has_next, has_first, whole_words, has_link}
 use Rattle.step_replay.proofs.runs.Helping.{rests_in}
 use Rattle.step_replay.proofs.runs.WalkFacts.{section_stays}
-use Rattle.step_replay.proofs.runs.Building.{link_is, builds_stay, may_build_here, build_now, logs_built, built_there}
+use Rattle.step_replay.proofs.runs.Building.{other_first, own_first, link_is, builds_stay, may_build_here, build_now, logs_built, built_there}
 use Rattle.step_replay.proofs.runs.LockMet.{first_made, stamp_made}
 
 module _ (c : Config) (k : Checked c) (n : ℕ) (lt : n < c.seats) (made : List Made) (t : TapeOf) (b : IsTapeBehind c t made)
@@ -137,7 +137,7 @@ module _ (c : Config) (k : Checked c) (n : ℕ) (lt : n < c.seats) (made : List 
               omega arith,
               (λ (z : 2 ≡ 1). absurd (omega (arith, z))),
               stands,
-              has_first version at (build_at c w at) (other field e) (subst (HasFields (build_at c w at) version at) next has_now),
+              has_first version at (build_at c w at) (other_first version at field e) (subst (HasFields (build_at c w at) version at) next has_now),
             );
           },
           lock,
@@ -150,7 +150,7 @@ module _ (c : Config) (k : Checked c) (n : ℕ) (lt : n < c.seats) (made : List 
             range = range;
             may = may;
             builds = keep;
-            locks = ((let lower = ltb_lt field 9 on in omega (arith, lower)), (λ z. first_at field z e), stands, has_now);
+            locks = ((let lower = ltb_lt field 9 on in omega (arith, lower)), (λ z. own_first version at field z e), stands, has_now);
           },
           lock,
         ))
@@ -165,23 +165,6 @@ module _ (c : Config) (k : Checked c) (n : ℕ) (lt : n < c.seats) (made : List 
           },
           lock,
         ))))
-      where
-        other : (field : ℕ) → ((field == 0) && not (version.first == at)) ≡ true → version.first ≢ at
-        other field e same =
-            let t = eq-eqb version.first at same in
-            let f : not (version.first == at) ≡ false = ap not t in
-            let g : ((field == 0) && false) ≡ true = ap (λ x. (field == 0) && x) (sym f) ∙ e in
-            let h = and_right (field == 0) false g in absurd (cc)
-
-        first_at : (field : ℕ) → field + 1 ≡ 1 → ((field == 0) && not (version.first == at)) ≡ false → version.first ≡ at
-        first_at field z e =
-            let zero : field ≡ 0 = omega (arith, z) in
-            let f : (true && not (version.first == at)) ≡ false = ap (λ x. x && not (version.first == at)) (sym (eq-eqb field 0 zero)) ∙ e in
-            eqb-true version.first at (not_not (version.first == at) f)
-          where
-            not_not : (x : Bool) → (true && not x) ≡ false → x ≡ true
-            not_not true f = refl
-            not_not false f = absurd (cc)
 
     -- HEAD may be exchanged for a link to the whole version
     may_lock : StandsToLock v i o version.previous → HasFields (build_at c v at) version at 10 → MayLock c c.write_max v o version.previous at
@@ -397,5 +380,7 @@ module _ (c : Config) (k : Checked c) (n : ℕ) (lt : n < c.seats) (made : List 
     locking_made (Build field) locks = build_made field locks.0 locks.1 locks.2 locks.3
     locking_made LockHead locks = head_made locks.0 locks.1
     locking_made ClearPrevious locks = clear_made locks.0 locks.1 locks.2
-    locking_made (FoundFirst link) locks = first_made c k n lt made t b log freed from time call sweep own left no_scan before lock inside o range may version at builds link locks
-    locking_made (FoundStamp link first) locks = stamp_made c k n lt made t b log freed from time call sweep own left no_scan before lock inside o range may version at builds link first locks.0 locks.1
+    locking_made (FoundFirst link) locks =
+        first_made c k n lt made t b log freed from time call sweep own left no_scan before lock inside o range may version at builds link locks
+    locking_made (FoundStamp link first) locks =
+        stamp_made c k n lt made t b log freed from time call sweep own left no_scan before lock inside o range may version at builds link first locks.0 locks.1

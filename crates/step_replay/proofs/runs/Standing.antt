@@ -62,7 +62,8 @@ use Rattle.step_replay.specs.Behind.{IsTapeBehind}
 use Rattle.step_replay.specs.GoesOn.{is_lock}
 use Rattle.step_replay.specs.States.{Made, state_of}
 use Rattle.mv_core.specs.Moves.{Kind}
-use Rattle.step_replay.proofs.runs.Sections.{seat_with, IsNoted, Logs, InSection, RestsAt, EntersAt, HelpsAt, helped_word, IsBack, IsSwept, BacksUp, EntersFor, HelpsFor, MayHold, WalksFor, StandsAt, WalksAt}
+use Rattle.step_replay.proofs.runs.Sections.{seat_with, IsNoted, Logs, InSection, RestsAt, EntersAt, HelpsAt, helped_word}
+use Rattle.step_replay.proofs.runs.Sections.{IsBack, IsSwept, BacksUp, EntersFor, HelpsFor, MayHold, WalksFor, StandsAt, WalksAt}
 
 -- of a build these words were stored: those of this version before an offset
 pub record HasFields (b : build.Build) (version : Version) (at field : ℕ) : Type 0 where

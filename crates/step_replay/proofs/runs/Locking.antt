@@ -1,5 +1,5 @@
 -- The steps of a lock behind its walk: the build of its version, and the exchanges of HEAD.
-use Rattle.std.proofs.Common.{◌≡◌, ◌≢◌, ℕ, ◌+◌, ◌<◌, ◌^◌, ◌==◌, ◌&&◌, ltb, not, List, [], ◌∷◌, ◌++◌, Bool, true, false, Option}
+use Rattle.std.proofs.Common.{◌≡◌, ℕ, ◌+◌, ◌<◌, ◌^◌, ◌==◌, ◌&&◌, ltb, not, List, [], ◌∷◌, ◌++◌, true, false, Option}
 use Rattle.std.proofs.Common.{Some, None, All, map, refl, sym, ap, ◌∙◌, subst, arith, inl, eqb-true, eq-eqb, ne_eqb, if◌then◌else◌, mod-lt}
 use Rattle.std.proofs.Common.{length-append, length-drop, drop}
 use Rattle.mv_layout.specs.Words.{link_of}
@@ -46,7 +46,7 @@ use Rattle.step_replay.proofs.runs.Sections.{seat_with, Logs, InSection, MayHold
 use Rattle.step_replay.proofs.runs.Standing.{HasFields, Builds, LocksAt, IsStepped}
 use Rattle.step_replay.proofs.runs.Standing.{GoesSo, by_step, by_end}
 use Rattle.step_replay.proofs.runs.Stepping.{IsOfKind, view_by, next_is}
-use Rattle.step_replay.proofs.runs.Known.{if_so, eqb_ne, ltb_lt, ltb_ge, and_left, and_right, number_is, knows, next_low, logs_left}
+use Rattle.step_replay.proofs.runs.Known.{if_so, eqb_ne, ltb_lt, ltb_ge, and_left, number_is, knows, next_low, logs_left}
 use Rattle.step_replay.proofs.runs.LogFacts.{noted_long, next_long, held_are, first_held, held_in_log, stands_whole}
 use Rattle.step_replay.proofs.runs.Fields.{field_range, field_small, field_fits, has_next, has_first, whole_words, has_link}
 use Rattle.step_replay.proofs.runs.Helping.{rests_in}

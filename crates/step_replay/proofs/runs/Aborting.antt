@@ -37,7 +37,8 @@ use Rattle.step_replay.specs.States.{any_commit, any_start, Made, state_of}
 use Rattle.step_replay.specs.Runs.{TapeOf, step_made}
 use Rattle.step_replay.specs.Behind.{IsTapeBehind}
 use Rattle.step_replay.proofs.runs.Notes.{note_of, notes_from, notes_aborted, edited_long, edited_behind}
-use Rattle.step_replay.proofs.runs.Standing.{seat_with, Logs, InSection, GivesUp, GaveUp, IsStepped, GoesSo, by_step, by_end}
+use Rattle.step_replay.proofs.runs.Sections.{seat_with, Logs, InSection}
+use Rattle.step_replay.proofs.runs.Standing.{GivesUp, GaveUp, IsStepped, GoesSo, by_step, by_end}
 use Rattle.step_replay.proofs.runs.Stepping.{IsOfKind, view_by, next_is}
 use Rattle.step_replay.proofs.runs.Known.{if_so, ltb_lt, ltb_ge, facts, number_is, knows, starts, word_small, logs_left}
 use Rattle.step_replay.proofs.runs.LogFacts.{noted_long, noted_from, noted_at}
@@ -109,7 +110,7 @@ module _ (c : Config) (k : Checked c) (n : ℕ) (lt : n < c.seats) (made : List 
         is = up.is;
       } in
       next_is c k n lt made t b kind task of (seat_with n log freed from time call sweep own left) refl log freed from time call sweep own left refl
-          no_scan before
+      no_scan before
       (if_so (GoesSo c n w log freed from time call sweep) (ltb (at + 1) (length log)) (Goes (unlock log (at + 1))) (Goes (EndsSection LoadDeath))
       (λ e. by_step (unlock log (at + 1)) refl (given + 1, more, omega (arith, at_is), ltb_lt (at + 1) (length log) e, refl, refl))
       (λ e. by_step (EndsSection LoadDeath) refl
@@ -145,7 +146,7 @@ module _ (c : Config) (k : Checked c) (n : ℕ) (lt : n < c.seats) (made : List 
         };
       } in
       next_is c k n lt made t b load_death task of (seat_with n log freed from time call sweep own left) refl log freed from time call sweep own left
-          refl no_scan before
+      refl no_scan before
       (by_step (EndsSection (Leave (WithAbort dead))) refl
       (record { before = up.before; noted = l; given = gave; is = up.is; some = omega (arith, all, some) }))
 
@@ -184,7 +185,7 @@ module _ (c : Config) (k : Checked c) (n : ℕ) (lt : n < c.seats) (made : List 
         };
       } in
       next_is c k n lt made t b clear_mark task of (seat_with n log freed from time call sweep own left) refl log2 freed (length log) None call sweep
-          own left refl no_scan
+      own left refl no_scan
       before
       (by_end Silent refl (refl, sym long2, logs2))
 
@@ -208,7 +209,7 @@ module _ (c : Config) (k : Checked c) (n : ℕ) (lt : n < c.seats) (made : List 
       let w = view_by c s n clear_mark in
       let still = logs_at c w log freed from (length log) none (logs_left c v w log freed from refl refl refl refl _ refl (refl, refl) inside.logs) in
       next_is c k n lt made t b clear_mark task of (seat_with n log freed from time call sweep own left) refl log freed (length log) None call sweep own
-          left refl no_scan
+      left refl no_scan
       before (by_end Silent refl (refl, refl, still))
 
   -- HEAD is given back of a version that the notes say is so

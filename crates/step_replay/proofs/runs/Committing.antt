@@ -1,6 +1,6 @@
 -- The steps of a commit.
-use Rattle.std.proofs.Common.{◌≡◌, ◌≢◌, ℕ, zero, suc, ◌+◌, ◌<◌, ◌≤◌, ◌^◌, ◌==◌, ◌&&◌, ltb, leb, List, [], ◌∷◌, ◌++◌, length, true, false}
-use Rattle.std.proofs.Common.{Option, Some, None, All, Contains, refl, sym, ap, ◌∙◌, subst, arith, inr, eq-eqb, ne_eqb, lt-ltb, le-leb}
+use Rattle.std.proofs.Common.{◌≡◌, ◌≢◌, ℕ, ◌+◌, ◌<◌, ◌≤◌, ◌^◌, ◌==◌, ◌&&◌, ltb, List, [], ◌∷◌, ◌++◌, length, true, false}
+use Rattle.std.proofs.Common.{Option, Some, None, All, Contains, refl, sym, ap, ◌∙◌, subst, arith, inr, eq-eqb, ne_eqb}
 use Rattle.std.proofs.Common.{if◌then◌else◌, mod-lt, drop, ◌-◌}
 use Rattle.std.specs.Prelude.{slice_get}
 use Rattle.std.proofs.lemmas.List.Elements.{Contains-append_left, Contains-append_right, Contains-push}
@@ -48,50 +48,15 @@ use Rattle.step_replay.specs.States.{any_commit, any_start, zeros, Made, state_o
 use Rattle.step_replay.specs.Runs.{TapeOf, step_made}
 use Rattle.step_replay.specs.Behind.{IsTapeBehind}
 use Rattle.step_replay.proofs.runs.Notes.{note_of, notes_from, notes_committed, edited_long, edited_behind}
-use Rattle.step_replay.proofs.runs.Standing.{seat_with, Logs, InSection, HasNamed, Finishes, IsStepped, GoesSo, by_step, by_end}
+use Rattle.step_replay.proofs.runs.Sections.{seat_with, Logs, InSection}
+use Rattle.step_replay.proofs.runs.Standing.{HasNamed, Finishes, IsStepped, GoesSo, by_step, by_end}
 use Rattle.step_replay.proofs.runs.Stepping.{IsOfKind, view_by, next_is}
 use Rattle.step_replay.proofs.runs.Known.{if_so, eqb_ne, ltb_lt, ltb_ge, facts, number_is, view_there, starts, knows, logs_left}
 use Rattle.step_replay.proofs.runs.LogFacts.{noted_long, noted_from, noted_at, held_are, first_held}
 use Rattle.step_replay.proofs.runs.Searches.{first_within, first_after, one_of, unlinked}
 use Rattle.step_replay.proofs.runs.Fields.{stamp_is}
 use Rattle.step_replay.proofs.runs.Helping.{rests_in, named_so, section_kept}
-
--- no word of a tag is other than 0
-abbrev no_tag : List ℕ
-no_tag = 0 ∷ 0 ∷ 0 ∷ 0 ∷ []
-
--- the clock word of the next commit, where the numbers fit one
-pub next_word_is : (c : Config) (word n at slot : ℕ) → clock_time_of word < 35184372088831 → n < 64 → slot ≤ 8191 → slot ≡ slot_for c at
-    → commit_clock c word n at ≡ clock_of (clock_time_of word + 1) n slot
-next_word_is c word n at slot room seat low is =
-    ap (λ x. if ltb (clock_time_of word) 35184372088831 && (ltb n 64 && leb x 8191) then clock_of (clock_time_of word + 1) n x else 0) (sym is)
-    ∙ ap (λ b. if b && (ltb n 64 && leb slot 8191) then clock_of (clock_time_of word + 1) n slot else 0) (lt-ltb (clock_time_of word) 35184372088831 room)
-    ∙ ap (λ b. if b && leb slot 8191 then clock_of (clock_time_of word + 1) n slot else 0) (lt-ltb n 64 seat)
-    ∙ ap (λ b. if b then clock_of (clock_time_of word + 1) n slot else 0) (le-leb slot 8191 low)
-
--- nothing is below some more of the versions, so these count as told
-pub told_on : (c : Config) (v : View) (log : List Version) (freed from time told more : ℕ) → Finishes c v log freed from time told → from + told + more
-    ≤ length log
-    → ((j : ℕ) → from + told ≤ j → j < from + told + more → (version_at log j).previous ≡ 0) → Finishes c v log freed from time (told + more)
-told_on c v log freed from time told zero fin within none = subst (Finishes c v log freed from time) (omega arith) fin
-told_on c v log freed from time told (suc more) fin within none =
-    let l = fin.noted in
-    let at = from + told in
-    let n = note_of at (version_at log at) in
-    let first = noted_from c l log freed from fin.is fin.finishing.named.stands.log.held in
-    let place : at - freed ≡ held_from l + told = omega (arith, first) in
-    let there = subst (λ (i : ℕ). slice_get l.live i ≡ Some n) place (noted_at c l log freed from at fin.is (omega (arith, first)) (omega (arith, within))) in
-    let nothing : n.previous ≡ 0 = none at (omega arith) (omega arith) in
-    let next : Finishes c v log freed from time (told + 1) = record {
-      before = fin.before;
-      noted = l;
-      finishing = (parts.goes_on c fin.before v l time told fin.finishing v n 0 0 there
-          (record { none = λ _. (refl, refl); one = λ some. absurd (some nothing) })).0;
-      is = fin.is;
-      in_time = fin.in_time;
-    } in
-    subst (Finishes c v log freed from time) (omega arith)
-    (told_on c v log freed from time (told + 1) more next (omega (arith, within)) (λ j low high. none j (omega (arith, low)) (omega (arith, high))))
+use Rattle.step_replay.proofs.runs.CommitFacts.{no_tag, next_word_is, told_on}
 
 module _ (c : Config) (k : Checked c) (n : ℕ) (lt : n < c.seats) (made : List Made) (t : TapeOf) (b : IsTapeBehind c t made)
     (log : List Version) (freed from : ℕ) (time : Option ℕ) (call : Call) (sweep : Sweep) (own : Option Task) (left : List CallOf)
@@ -134,8 +99,8 @@ module _ (c : Config) (k : Checked c) (n : ℕ) (lt : n < c.seats) (made : List 
       (told + more, on, (let ge = ltb_ge next (length log) e in omega (arith, at_is, low, high, ge))))
 
   -- the clock is loaded
-  now_made : InSection c v log freed from time → from < length log → call ≡ Commit → Made_so LoadNow
-  now_made inside some commits =
+  pub loading_made : InSection c v log freed from time → from < length log → call ≡ Commit → Made_so LoadNow
+  loading_made inside some commits =
       let task = EndsSection LoadNow in
       let of : IsOfKind c s n load_check task = record {
         may = subst MayLoadCheck (sym inside.walking.phase) tt;
@@ -155,12 +120,12 @@ module _ (c : Config) (k : Checked c) (n : ℕ) (lt : n < c.seats) (made : List 
       let state : State = record { seat = n; time = time; from = from; freed = freed; call = call; sweep = sweep } in
       let as_commit : State = record { seat = n; time = time; from = from; freed = freed; call = Commit; sweep = sweep } in
       next_is c k n lt made t b load_check task of (seat_with n log freed from time call sweep own left) refl log freed from time call sweep own left
-          refl no_scan before
+      refl no_scan before
       (subst (λ (x : Call). GoesSo c n w log freed from time x sweep (after_now x c log (record state { call = x }) word)) (sym commits)
       (if_so (GoesSo c n w log freed from time Commit sweep) (is_last (clock_time_of word)) (Ends (Committed ends.End)) (help c log as_commit word)
       (λ last. by_end (Committed ends.End) refl (rests_in c w log freed from time still))
       (λ on. if_so (GoesSo c n w log freed from time Commit sweep) (clock_slot_of word == 8191) (helped_in Commit c log as_commit word)
-          (Goes (Helps (LoadNamed word)))
+      (Goes (Helps (LoadNamed word)))
       (λ nobody. named_so c n w log freed from time sweep word bound still some loaded
       (Contains-append_right v.clocks.helped (if_none word ++ checked_helped v.clocks.found word) word
       (Contains-append_left (if_none word) (checked_helped v.clocks.found word) word
@@ -191,7 +156,7 @@ module _ (c : Config) (k : Checked c) (n : ℕ) (lt : n < c.seats) (made : List 
       } in
       let word_is : commit_word c v word ≡ new =
       (λ j. clock_of (clock_time_of word + 1) (own_seat j) (index_of c (first j))) ∙ sym
-          (next_word_is c word n from (slot_for c from) room few_seats low.1 refl)
+      (next_word_is c word n from (slot_for c from) room few_seats low.1 refl)
       ∙ sym new_is in
       let packed = new_is ∙ next_word_is c word n from (slot_for c from) room few_seats low.1 refl in
       let of : IsOfKind c s n kind task = record {
@@ -232,7 +197,7 @@ module _ (c : Config) (k : Checked c) (n : ℕ) (lt : n < c.seats) (made : List 
       next_is c k n lt made t b kind task of (seat_with n log freed from time call sweep own left) refl log freed from time call sweep own left refl
       (subst (λ (u : View). u.scan ≡ None) (sym view) no_scan) before
       (subst (λ (u : View). GoesSo c n u log freed from time call sweep (after_name
-          (record { seat = n; time = time; from = from; freed = freed; call = call; sweep = sweep })
+      (record { seat = n; time = time; from = from; freed = freed; call = call; sweep = sweep })
       word found)) (sym view)
       (by_step (EndsSection (StampOwn from (clock_time_of word + 1)))
       (ap (λ x. if x then Goes (EndsSection (StampOwn from (clock_time_of word + 1)))
@@ -247,7 +212,7 @@ module _ (c : Config) (k : Checked c) (n : ℕ) (lt : n < c.seats) (made : List 
       next_is c k n lt made t b kind task of (seat_with n log freed from time call sweep own left) refl log freed from time call sweep own left refl
       (subst (λ (u : View). u.scan ≡ None) (sym view) no_scan) before
       (subst (λ (u : View). GoesSo c n u log freed from time call sweep (after_name
-          (record { seat = n; time = time; from = from; freed = freed; call = call; sweep = sweep })
+      (record { seat = n; time = time; from = from; freed = freed; call = call; sweep = sweep })
       word found)) (sym view)
       (by_end (Committed (ends.Again rival))
       (ap (λ x. if x then Goes (EndsSection (StampOwn from (clock_time_of word + 1))) else Ends (Committed (ends.Again rival))) not_so)
@@ -272,10 +237,9 @@ module _ (c : Config) (k : Checked c) (n : ℕ) (lt : n < c.seats) (made : List 
       let at = slot_for c from in
       let word = clock_of t2 v.number (index_of c from) in
       let unset = unset_of from in
-      let here : Section = record won.inside { mode = Named (record { time = clock_time_of won.word + 1; first = set_first won.before.ring; stamped =
-          false }) } in
-      let phase : v.phase ≡ Inside here = has_named c v l won named.named in
       let naming : Naming = record { time = clock_time_of won.word + 1; first = set_first won.before.ring; stamped = false } in
+      let here : Section = record won.inside { mode = Named naming } in
+      let phase : v.phase ≡ Inside here = has_named c v l won named.named in
       let small : from < 2 ^ 57 = (let top = (knows c k n made b.each).named here naming phase refl in omega (arith, top, first)) in
       let seat_low : v.number < 64 = omega (arith, own_seat, seats) in
       let of_first : index_of c from ≡ index_of c (set_first won.before.ring) = ap (index_of c) (sym first) in
@@ -328,10 +292,10 @@ module _ (c : Config) (k : Checked c) (n : ℕ) (lt : n < c.seats) (made : List 
       (no_scan, super_so w 0 from t2 begins (omega arith) (omega (arith, short))) in
       let found = s.memory (Stamp (clock_seat_of word) (clock_slot_of word)) in
       let both = if_so (λ (u : View). (u.scan ≡ None) × GoesSo c n u log freed from time call sweep (then_super log (first_from log from IsLinked) t2))
-          (found == unset)
+      (found == unset)
       (stamp_swapped c v word unset unset) (stamp_swapped c v word unset found) (λ e. so unset) (λ e. so found) in
       next_is c k n lt made t b kind task of (seat_with n log freed from time call sweep own left) refl log freed from time call sweep own left refl
-          both.0 before
+      both.0 before
       both.1
 
   -- SUPER is stored below one version more
@@ -365,12 +329,12 @@ module _ (c : Config) (k : Checked c) (n : ℕ) (lt : n < c.seats) (made : List 
         in_time = fin.in_time;
       } in
       next_is c k n lt made t b kind task of (seat_with n log freed from time call sweep own left) refl log freed from time call sweep own left refl
-          no_scan before
+      no_scan before
       (super_so w (told + 1) (at + 1) t2 more (omega (arith, at_is)) (omega (arith, live)))
 
   -- the section ends, and what it held is committed
-  done_made : (t2 told : ℕ) → Finishes c v log freed from t2 told → from + told ≡ length log → Made_so (Leave (WithCommit t2))
-  done_made t2 told fin all =
+  pub ending_made : (t2 told : ℕ) → Finishes c v log freed from t2 told → from + told ≡ length log → Made_so (Leave (WithCommit t2))
+  ending_made t2 told fin all =
       let l = fin.noted in
       let is = fin.is in
       let first = noted_from c l log freed from is fin.finishing.named.stands.log.held in
@@ -406,12 +370,9 @@ module _ (c : Config) (k : Checked c) (n : ℕ) (lt : n < c.seats) (made : List 
         };
       } in
       next_is c k n lt made t b clear_mark task of (seat_with n log freed from time call sweep own left) refl log2 freed (length log) None call sweep
-          own left refl no_scan
+      own left refl no_scan
       before
       (by_end (Committed (ends.Done t2)) refl (refl, sym long2, logs2))
-
-  pub loading_made : InSection c v log freed from time → from < length log → call ≡ Commit → Made_so LoadNow
-  loading_made = now_made
 
   pub naming_made : (word new : ℕ) → InSection c v log freed from time → from < length log → Contains v.clocks.loaded word → Contains v.clocks.helped word
       → clock_time_of word < 35184372088831 → new ≡ commit_clock c word n from → Made_so (Name word new)
@@ -426,6 +387,3 @@ module _ (c : Config) (k : Checked c) (n : ℕ) (lt : n < c.seats) (made : List 
       → link ≢ 0 → Made_so (StoreSuper at link t2)
   telling_made at link told t2 fin at_is live link_is some =
       subst (λ (x : ℕ). Made_so (StoreSuper at x t2)) (sym link_is) (super_made at told t2 fin at_is live (subst (λ (x : ℕ). x ≢ 0) link_is some))
-
-  pub ending_made : (t2 told : ℕ) → Finishes c v log freed from t2 told → from + told ≡ length log → Made_so (Leave (WithCommit t2))
-  ending_made = done_made

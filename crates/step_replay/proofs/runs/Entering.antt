@@ -25,7 +25,8 @@ use Rattle.step_replay.specs.FitPlans.{IsFitCallOf}
 use Rattle.step_replay.specs.States.{Made, state_of}
 use Rattle.step_replay.specs.Runs.{TapeOf, step_made}
 use Rattle.step_replay.specs.Behind.{IsTapeBehind}
-use Rattle.step_replay.proofs.runs.Standing.{seat_with, Logs, IsStepped, EntersAt, EntersFor, BeforeHelp, HelpsFor, later, GoesSo, by_step}
+use Rattle.step_replay.proofs.runs.Sections.{seat_with, Logs, EntersAt, EntersFor, BeforeHelp, HelpsFor, later}
+use Rattle.step_replay.proofs.runs.Standing.{IsStepped, GoesSo, by_step}
 use Rattle.step_replay.proofs.runs.Helping.{helped_so}
 use Rattle.step_replay.specs.GoesOn.{helped_in}
 use Rattle.step_replay.proofs.runs.Stepping.{IsOfKind, view_by, next_is}
@@ -47,7 +48,7 @@ module _ (c : Config) (k : Checked c) (n : ℕ) (lt : n < c.seats) (made : List 
     (log : List Version) (freed from : ℕ) (call : Call) (sweep : Sweep) (own : Option Task) (left : List CallOf)
     (no_scan : ((state_of c made).seats n).scan ≡ None) (before : All (IsFitCallOf c) left)
     (for : EntersFor ((state_of c made).seats n).grace log freed from sweep call) (none : from ≡ length log)
-        (logs : Logs c ((state_of c made).seats n) log freed from) where
+    (logs : Logs c ((state_of c made).seats n) log freed from) where
   abbrev s : Moment
   s = state_of c made
 
@@ -63,7 +64,7 @@ module _ (c : Config) (k : Checked c) (n : ℕ) (lt : n < c.seats) (made : List 
       record { may = record { outside = phase; no_scan = no_scan }; range = tt; place = refl; writes = λ f. refl; fits = λ f _. tt } in
       let w = view_by c s n load_low in
       next_is c k n lt made t b load_low (Enters LoadLow) of (seat_with n log freed from None call sweep own left) refl log freed from None call sweep
-          own left refl
+      own left refl
       no_scan before
       (by_step (Enters (StoreMark (1 + clock_time_of (s.memory Clock)))) refl
       ((clock_time_of (s.memory Clock), refl, refl), for, refl, none, logs_left c v w log freed from refl refl refl refl _ refl (refl, refl) logs))
@@ -80,7 +81,7 @@ module _ (c : Config) (k : Checked c) (n : ℕ) (lt : n < c.seats) (made : List 
       } in
       let w = view_by c s n (store_mark low) in
       next_is c k n lt made t b (store_mark low) (Enters (StoreMark mark)) of (seat_with n log freed from None call sweep own left) refl log freed from
-          None call sweep own
+      None call sweep own
       left refl no_scan before
       (by_step (Enters LoadTime) refl
       ((low, refl), for, refl, none, logs_left c v w log freed from refl refl refl refl _ refl (refl, refl) logs))

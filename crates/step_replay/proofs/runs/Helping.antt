@@ -35,8 +35,10 @@ use Rattle.step_replay.specs.GoesOn.{is_last, is_unset, helped_in}
 use Rattle.step_replay.specs.States.{Made, state_of}
 use Rattle.step_replay.specs.Runs.{TapeOf, step_made}
 use Rattle.step_replay.specs.Behind.{IsTapeBehind}
-use Rattle.step_replay.proofs.runs.Standing.{seat_with, Logs, InSection, RestsAt, HelpsAt, HelpsFor, helped_word, IsStepped, GoesSo}
-use Rattle.step_replay.proofs.runs.Standing.{BeforeHelp, BacksUp, later, by_step, by_end}
+use Rattle.step_replay.proofs.runs.Sections.{seat_with, Logs, InSection, RestsAt, HelpsAt, HelpsFor, helped_word}
+use Rattle.step_replay.proofs.runs.Standing.{IsStepped, GoesSo}
+use Rattle.step_replay.proofs.runs.Sections.{BeforeHelp, BacksUp, later}
+use Rattle.step_replay.proofs.runs.Standing.{by_step, by_end}
 use Rattle.step_replay.proofs.runs.Stepping.{IsOfKind, view_by, next_is}
 use Rattle.step_replay.proofs.runs.Known.{if_so, eqb_ne, facts, logs_left}
 
@@ -238,9 +240,9 @@ module _ (c : Config) (k : Checked c) (n : ℕ) (lt : n < c.seats) (made : List 
       (λ e. Contains-append_left v.clocks.helped (word ∷ []) x has) in
       let still : HelpsFor c w log freed from time sweep word call =
       helps_kept c v w log freed from time sweep word (λ e. e) (λ i e o. e) refl refl helped
-          (logs_left c v w log freed from refl refl refl refl _ refl (refl, refl)) call helps in
+      (logs_left c v w log freed from refl refl refl refl _ refl (refl, refl)) call helps in
       next_is c k n lt made t b (load_named word) (Helps (LoadNamed word)) of (seat_with n log freed from time call sweep own left) refl log freed from
-          time call sweep own
+      time call sweep own
       left refl no_scan before
       (if_so (GoesSo c n w log freed from time call sweep) (is_unset found) (Goes (Helps (LoadCheck word found)))
       (helped_in call c log (record { seat = n; time = time; from = from; freed = freed; call = call; sweep = sweep }) word)
@@ -274,7 +276,7 @@ module _ (c : Config) (k : Checked c) (n : ℕ) (lt : n < c.seats) (made : List 
       (logs_left c v w log freed from refl refl refl refl _ refl (refl, refl)) call helps) in
       let loaded_still : Contains w.clocks.loaded word = Contains-append_left v.clocks.loaded (found ∷ []) word loaded in
       next_is c k n lt made t b load_check (Helps (LoadCheck word unset)) of (seat_with n log freed from time call sweep own left) refl log freed from
-          time call (later sweep found) own
+      time call (later sweep found) own
       left refl no_scan before
       (if_so (GoesSo c n w log freed from time call (later sweep found)) (found == word) (Goes (Helps (SwapStamp word unset)))
       (helped_in call c log (record { seat = n; time = time; from = from; freed = freed; call = call; sweep = later sweep found }) word)
@@ -308,20 +310,20 @@ module _ (c : Config) (k : Checked c) (n : ℕ) (lt : n < c.seats) (made : List 
       let found = s.memory (named_place word) in
       let state : State = record { seat = n; time = time; from = from; freed = freed; call = call; sweep = sweep } in
       let so : (x : ℕ) → (stamp_swapped c v word unset x).scan ≡ None × GoesSo c n (stamp_swapped c v word unset x) log freed from time call sweep
-          (helped_in call c log state word) =
+      (helped_in call c log state word) =
       λ x.
       let w = stamp_swapped c v word unset x in (
         no_scan,
         helped_so c n w log freed from time call sweep word bound
             (helps_kept c v w log freed from time sweep word (swapped_outside c v word unset) (swapped_phase c v word unset) refl refl
-                (λ y has. Contains-append_left v.clocks.helped (word ∷ []) y has)
+            (λ y has. Contains-append_left v.clocks.helped (word ∷ []) y has)
             (logs_left c v w log freed from refl refl refl refl _ refl (refl, refl)) call helps)
             loaded (Contains-push v.clocks.helped word),
       ) in
       let both = if_so (λ (u : View). (u.scan ≡ None) × GoesSo c n u log freed from time call sweep (helped_in call c log state word)) (found == unset)
       (stamp_swapped c v word unset unset) (stamp_swapped c v word unset found) (λ e. so unset) (λ e. so found) in
       next_is c k n lt made t b (stamp word unset) (Helps (SwapStamp word unset)) of (seat_with n log freed from time call sweep own left) refl log
-          freed from time call
+      freed from time call
       sweep own left refl both.0 before both.1
 
   pub helping_made : (step : Helping) → HelpsAt v step → HelpsFor c v log freed from time sweep (helped_word step) call → Made_so step

@@ -15,7 +15,7 @@ use Rattle.seat_log.proofs.PlainSteps.{LeavesLog, stands_left, one_leaves}
 use Rattle.step_replay.specs.declared.seats.Version.{Version}
 use Rattle.step_replay.specs.States.{any_commit, any_start, zeros, Made, state_of, AreMade}
 use Rattle.step_replay.proofs.Replays.{made_behind, holds_behind}
-use Rattle.step_replay.proofs.runs.Standing.{Logs}
+use Rattle.step_replay.proofs.runs.Sections.{Logs}
 
 -- either of two holds of what is chosen, by the test
 pub if_so : {A : Type 0} (P : A → Type 0) (b : Bool) (x y : A) → (b ≡ true → P x) → (b ≡ false → P y) → P (if b then x else y)

@@ -1,13 +1,10 @@
 -- The steps of a lock behind its walk: the build of its version, and the exchanges of HEAD.
-use Rattle.std.proofs.Common.{◌≡◌, ◌≢◌, ℕ, ◌+◌, ◌<◌, ◌^◌, ◌==◌, ◌&&◌, ltb, not, List, [], ◌∷◌, ◌++◌, length, Bool, true, false, Option}
-use Rattle.std.proofs.Common.{Some, None, All, map, refl, sym, ap, ◌∙◌, subst, arith, inl, eqb-true, eq-eqb, ne_eqb, lt-ltb, if◌then◌else◌, mod-lt}
-use Rattle.std.specs.Prelude.{unwrap_or}
+use Rattle.std.proofs.Common.{◌≡◌, ℕ, ◌+◌, ◌<◌, ◌^◌, ◌==◌, ◌&&◌, ltb, not, List, [], ◌∷◌, ◌++◌, true, false, Option}
+use Rattle.std.proofs.Common.{Some, None, All, map, refl, sym, ap, ◌∙◌, subst, arith, inl, eqb-true, eq-eqb, ne_eqb, if◌then◌else◌, mod-lt}
 use Rattle.std.proofs.Common.{length-append, length-drop, drop}
-use Rattle.mv_core.specs.WalkSteps.{slot_named}
-use Rattle.mv_layout.specs.Words.{link_of, link_seat_of}
-use Rattle.mv_core.proofs.Terms.{dite, ℕ_discrete, Config, Checked, Head, First, Stamp}
+use Rattle.mv_layout.specs.Words.{link_of}
+use Rattle.mv_core.proofs.Terms.{dite, ℕ_discrete, Config, Checked, Head}
 use Rattle.mv_core.specs.declared.ring.Build as core
-use Rattle.mv_core.specs.declared.ring.Slot.{Slot}
 use Rattle.mv_core.specs.declared.ring.Slot.TheVariants as slots
 use Rattle.mv_core.specs.declared.view.View.{View}
 use Rattle.mv_core.specs.declared.view.Section.{Section}
@@ -17,17 +14,14 @@ use Rattle.mv_core.specs.Rings.{slot_at, index_of, set_first}
 use Rattle.mv_core.specs.Times.{words_of}
 use Rattle.mv_core.specs.Views.{time_in}
 use Rattle.mv_core.specs.EnterSteps.{stored_if}
-use Rattle.mv_core.specs.LockSteps.{StandsToLock, field_place, nothing_built, build_in, built_too, built_stored, MayLock, head_locked, lock_lost}
-use Rattle.mv_core.specs.Moves.{Moment, store_built, lock_head, load_first, load_stamp, IsStorable}
+use Rattle.mv_core.specs.LockSteps.{StandsToLock, field_place, MayLock, head_locked, lock_lost}
+use Rattle.mv_core.specs.Moves.{Moment, store_built, lock_head, IsStorable}
 use Rattle.mv_core.proofs.kinds.walking.WalkOn.{at_zero, at_some}
 use Rattle.mv_history.specs.declared.answers.LockAnswer.TheVariants as refusals
-use Rattle.seat_log.specs.declared.version.Note.{Note}
-use Rattle.seat_log.specs.Notes.{Noted, IsNextOf, held_noted}
+use Rattle.seat_log.specs.Notes.{IsNextOf, held_noted}
 use Rattle.seat_log.specs.Stands.{Stands, HasBuilt}
-use Rattle.seat_log.specs.Builds.{build_at, stored_next, MayBuild}
+use Rattle.seat_log.specs.Builds.{build_at}
 use Rattle.seat_log.proofs.MayBuild.{may_store}
-use Rattle.seat_log.proofs.BuildsOn.{BuildsOn, builds_first}
-use Rattle.seat_log.proofs.Standing.{may_build, stands_on, built_is_log}
 use Rattle.seat_log.proofs.Stays.{stands_locked}
 use Rattle.step_replay.specs.declared.plan.Call.{Call}
 use Rattle.step_replay.specs.declared.plan.CallOf.{CallOf}
@@ -48,91 +42,17 @@ use Rattle.step_replay.specs.States.{Made, state_of}
 use Rattle.step_replay.specs.Runs.{SeatOf, TapeOf, learned, step_made}
 use Rattle.step_replay.specs.Behind.{IsTapeBehind}
 use Rattle.step_replay.proofs.runs.Notes.{note_of, notes_from, notes_more, drop_more}
-use Rattle.step_replay.proofs.runs.Standing.{seat_with, Logs, InSection, MayHold, StandsAt, HasFields, Builds, LocksAt, IsStepped}
+use Rattle.step_replay.proofs.runs.Sections.{seat_with, Logs, InSection, MayHold}
+use Rattle.step_replay.proofs.runs.Standing.{HasFields, Builds, LocksAt, IsStepped}
 use Rattle.step_replay.proofs.runs.Standing.{GoesSo, by_step, by_end}
 use Rattle.step_replay.proofs.runs.Stepping.{IsOfKind, view_by, next_is}
-use Rattle.step_replay.proofs.runs.Known.{if_so, eqb_ne, ltb_lt, ltb_ge, and_left, and_right, number_is, knows, next_low, logs_left}
+use Rattle.step_replay.proofs.runs.Known.{if_so, eqb_ne, ltb_lt, ltb_ge, and_left, number_is, knows, next_low, logs_left}
 use Rattle.step_replay.proofs.runs.LogFacts.{noted_long, next_long, held_are, first_held, held_in_log, stands_whole}
 use Rattle.step_replay.proofs.runs.Fields.{field_range, field_small, field_fits, has_next, has_first, whole_words, has_link}
 use Rattle.step_replay.proofs.runs.Helping.{rests_in}
-use Rattle.step_replay.proofs.runs.Walking.{section_stays, refused, stands_in}
-
--- a link to a position that fits one
-pub link_is : (n at : ℕ) → n < 64 → at < 2 ^ 57 → link_to n at ≡ link_of n at
-link_is n at seat lt =
-    ap (λ b. if b && ltb at 144115188075855872 then link_of n at else 0) (lt-ltb n 64 seat)
-    ∙ ap (λ b. if b then link_of n at else 0) (lt-ltb at 144115188075855872 (omega (arith, lt)))
-
--- what a lock builds stays with the section and what was seen
-pub builds_stay : (c : Config) (v w : View) (i : Section) (log : List Version) (from o : ℕ) (version : Version) (at : ℕ) → w.start ≡ v.start → w.past ≡ v.past
-    → Builds c v i log from o version at → Builds c w i log from o version at
-builds_stay c v w i log from o version at start past k = record {
-  object_is = k.object_is;
-  at_is = k.at_is;
-  first_is = k.first_is;
-  words = k.words ∙ (λ j. words_of c (sym start j) (sym past j).seen (time_in i) o);
-  wide = k.wide;
-  small = k.small;
-  small_link = k.small_link;
-  no_time = k.no_time;
-  no_death = k.no_death;
-}
-
-module _ (c : Config) (k : Checked c) (v : View) (log : List Version) (freed from : ℕ) (time : Option ℕ) (at : ℕ)
-    (inside : InSection c v log freed from time) (room : length log < freed + c.slots) (at_is : at ≡ length log) where
-  abbrev l : Noted
-  l = inside.logs.noted
-
-  live_room : length inside.logs.noted.live < inside.logs.noted.slots
-  live_room = let long = noted_long c l log freed from inside.logs.is in let slots = inside.logs.stands.slots in omega (arith, long, room, slots)
-
-  at_next : at ≡ v.ring.next
-  at_next = at_is ∙ sym (next_long c k v log freed from inside.logs)
-
-  pub may_build_here : MayBuild c v at
-  may_build_here = may_build c v l inside.logs.stands at at_next (inside.section, inside.walking.phase, inside.walking.open_is) live_room
-
-  -- the notes stand for the view with one word more in the slot that is built, which is there
-  module _ (field x : ℕ) (six : length (built_too (build_at c v at) field x).words ≡ 6) where
-    abbrev w : View
-    w = built_stored c v at field x (build_at c v at)
-
-    on : BuildsOn c v (built_stored c v at field x (build_at c v at)) at (built_too (build_at c v at) field x)
-    unfolding stored_next
-    on = builds_first c v at field x may_build_here.within
-
-    pub build_now : build_at c (built_stored c v at field x (build_at c v at)) at ≡ built_too (build_at c v at) field x
-    build_now = ap (λ (z : Slot). unwrap_or (build_in z) nothing_built) on.here
-
-    pub logs_built : Logs c (built_stored c v at field x (build_at c v at)) log freed from
-    logs_built =
-        let is_log = built_is_log l None (let r = live_room in omega (arith, r)) tt inside.logs.stands.log in
-        let so = stands_on c v w l at (built_too (build_at c v at) field x) inside.logs.stands live_room at_next on None is_log six tt in
-        record {
-          noted = l;
-          stands = subst (Stands c w) (ap (λ (o : Option Note). record l { built = o }) (sym inside.logs.is.unbuilt)) so;
-          is = inside.logs.is;
-        }
-
-  -- the slot that was built whole
-  pub built_there : (version : Version) (field : ℕ) → HasFields (build_at c v at) version at field → 0 < field
-      → slot_at v.ring (index_of c at) ≡ slots.Built (build_at c v at)
-  built_there version field has some = go (slot_at v.ring (index_of c at)) refl
-    where
-      go : (z : Slot) → slot_at v.ring (index_of c at) ≡ z → z ≡ slots.Built (build_at c v at)
-      go slots.Free e =
-          let none : build_at c v at ≡ nothing_built = ap (λ (y : Slot). unwrap_or (build_in y) nothing_built) e in
-          let f : None ≡ Some version.first = sym (ap (λ (y : core.Build). y.first) none) ∙ has.first some in
-          absurd (cc)
-      go (slots.Built b) e = ap slots.Built (sym (ap (λ (y : Slot). unwrap_or (build_in y) nothing_built) e))
-      go (slots.Live x st) e =
-          let spare = may_build_here.spare in
-          let f : None ≡ Some spare.0 = sym (ap build_in e) ∙ spare.1 in
-          absurd (cc)
-      go (slots.Freeing p f) e =
-          let spare = may_build_here.spare in
-          let g : None ≡ Some spare.0 = sym (ap build_in e) ∙ spare.1 in
-          absurd (cc)
+use Rattle.step_replay.proofs.runs.WalkFacts.{section_stays}
+use Rattle.step_replay.proofs.runs.Building.{other_first, own_first, link_is, builds_stay, may_build_here, build_now, logs_built, built_there}
+use Rattle.step_replay.proofs.runs.LockMet.{first_made, stamp_made}
 
 module _ (c : Config) (k : Checked c) (n : ℕ) (lt : n < c.seats) (made : List Made) (t : TapeOf) (b : IsTapeBehind c t made)
     (log : List Version) (freed from : ℕ) (time : Option ℕ) (call : Call) (sweep : Sweep) (own : Option Task) (left : List CallOf)
@@ -197,7 +117,7 @@ module _ (c : Config) (k : Checked c) (n : ℕ) (lt : n < c.seats) (made : List 
         let more = has_next version at field (build_at c v at) less (low_at field has) has in
         let now = build_now c k v log freed from time at inside may.room builds.at_is field x more.wide in
         let still = section_stays c v w log freed from time inside refl refl refl
-            (logs_built c k v log freed from time at inside may.room builds.at_is field x more.wide) in
+        (logs_built c k v log freed from time at inside may.room builds.at_is field x more.wide) in
         let keep = builds_stay c v w i log from o version at refl refl builds in
         let has_now : HasFields (build_at c w at) version at (field + 1) = subst (λ (y : core.Build). HasFields y version at (field + 1)) (sym now) more in
         next_is c k n lt made t b kind (Locks version at (Build field)) of seat refl log freed from time call sweep own left refl no_scan before
@@ -217,7 +137,7 @@ module _ (c : Config) (k : Checked c) (n : ℕ) (lt : n < c.seats) (made : List 
               omega arith,
               (λ (z : 2 ≡ 1). absurd (omega (arith, z))),
               stands,
-              has_first version at (build_at c w at) (other field e) (subst (HasFields (build_at c w at) version at) next has_now),
+              has_first version at (build_at c w at) (other_first version at field e) (subst (HasFields (build_at c w at) version at) next has_now),
             );
           },
           lock,
@@ -230,7 +150,7 @@ module _ (c : Config) (k : Checked c) (n : ℕ) (lt : n < c.seats) (made : List 
             range = range;
             may = may;
             builds = keep;
-            locks = ((let lower = ltb_lt field 9 on in omega (arith, lower)), (λ z. first_at field z e), stands, has_now);
+            locks = ((let lower = ltb_lt field 9 on in omega (arith, lower)), (λ z. own_first version at field z e), stands, has_now);
           },
           lock,
         ))
@@ -245,23 +165,6 @@ module _ (c : Config) (k : Checked c) (n : ℕ) (lt : n < c.seats) (made : List 
           },
           lock,
         ))))
-      where
-        other : (field : ℕ) → ((field == 0) && not (version.first == at)) ≡ true → version.first ≢ at
-        other field e same =
-            let t = eq-eqb version.first at same in
-            let f : not (version.first == at) ≡ false = ap not t in
-            let g : ((field == 0) && false) ≡ true = ap (λ x. (field == 0) && x) (sym f) ∙ e in
-            let h = and_right (field == 0) false g in absurd (cc)
-
-        first_at : (field : ℕ) → field + 1 ≡ 1 → ((field == 0) && not (version.first == at)) ≡ false → version.first ≡ at
-        first_at field z e =
-            let zero : field ≡ 0 = omega (arith, z) in
-            let f : (true && not (version.first == at)) ≡ false = ap (λ x. x && not (version.first == at)) (sym (eq-eqb field 0 zero)) ∙ e in
-            eqb-true version.first at (not_not (version.first == at) f)
-          where
-            not_not : (x : Bool) → (true && not x) ≡ false → x ≡ true
-            not_not true f = refl
-            not_not false f = absurd (cc)
 
     -- HEAD may be exchanged for a link to the whole version
     may_lock : StandsToLock v i o version.previous → HasFields (build_at c v at) version at 10 → MayLock c c.write_max v o version.previous at
@@ -375,7 +278,7 @@ module _ (c : Config) (k : Checked c) (n : ℕ) (lt : n < c.seats) (made : List 
         next_is c k n lt made t b kind task of seat refl (log ++ version ∷ []) freed from time call sweep own left seat_is
         (subst (λ (u : View). u.scan ≡ None) (sym view) no_scan) before
         (subst (λ (u : View). GoesSo c n u (log ++ version ∷ []) freed from time call sweep
-            (after_lock_head version at (s.memory (Head version.object)))) (sym view)
+        (after_lock_head version at (s.memory (Head version.object)))) (sym view)
         (by_end (Locked refusals.Held)
         (ap (λ x. if x then Ends (Locked refusals.Held)
         else (if s.memory (Head version.object) == 0 then Goes (Locks (record version { previous = 0 }) at ClearPrevious)
@@ -386,9 +289,9 @@ module _ (c : Config) (k : Checked c) (n : ℕ) (lt : n < c.seats) (made : List 
         let there : (s.memory (Head version.object) == version.previous) ≡ false = ap (λ x. x == version.previous) at_head ∙ not_so in
         let view : view_by c s n kind ≡ B = ap (λ x. if x then A else B) not_so in
         let seat_is : learned task (s.memory (Head version.object)) seat ≡ seat = ap
-            (λ x. record seat { log = applied (if x then Pushed version else Kept) log }) there in
+        (λ x. record seat { log = applied (if x then Pushed version else Kept) log }) there in
         let still = section_stays c v B log freed from time inside refl refl refl
-            (logs_left c v B log freed from refl refl refl refl _ refl (refl, refl) inside.logs) in
+        (logs_left c v B log freed from refl refl refl refl _ refl (refl, refl) inside.logs) in
         let keep = builds_stay c v B i log from o version at refl refl builds in
         let cleared = builds_stay c v B i log from o version at refl refl builds in
         let goes : GoesSo c n B log freed from time call sweep
@@ -457,7 +360,7 @@ module _ (c : Config) (k : Checked c) (n : ℕ) (lt : n < c.seats) (made : List 
         let w = view_by c s n kind in
         let now = build_now c k v log freed from time at inside may.room builds.at_is 2 0 has.1.wide in
         let still = section_stays c v w log freed from time inside refl refl refl
-            (logs_built c k v log freed from time at inside may.room builds.at_is 2 0 has.1.wide) in
+        (logs_built c k v log freed from time at inside may.room builds.at_is 2 0 has.1.wide) in
         let linked : HasFields (build_at c w at) (record version { previous = 0 }) at 10 =
         subst (λ (y : core.Build). HasFields y (record version { previous = 0 }) at 10) (sym now) (has_link (build_at c v at) version at has.0 0 has.1) in
         next_is c k n lt made t b kind task of seat refl log freed from time call sweep own left refl no_scan before
@@ -473,55 +376,11 @@ module _ (c : Config) (k : Checked c) (n : ℕ) (lt : n < c.seats) (made : List 
           lock,
         ))
 
-    first_made : (link : ℕ) → StandsAt v o link → Made_so version at (FoundFirst link)
-    first_made link stands =
-        let task = Locks version at (FoundFirst link) in
-        let in_range = stands_in c k n lt made t b log freed from time call sweep own left no_scan before inside o link stands in
-        let of : IsOfKind c s n (load_first link stands.stand) task = record {
-          may = record { stands = stands.at; link_is = stands.link_is };
-          range = (in_range.0, in_range.1);
-          place = refl;
-          writes = λ x. refl;
-          fits = λ x _. tt;
-        } in
-        let w = view_by c s n (load_first link stands.stand) in
-        let still = section_stays c v w log freed from time inside refl refl refl
-            (logs_left c v w log freed from refl refl refl refl _ refl (refl, refl) inside.logs) in
-        next_is c k n lt made t b (load_first link stands.stand) task of seat refl log freed from time call sweep own left refl no_scan before
-        (by_step (Locks version at (FoundStamp link (s.memory (First (link_seat_of link) (slot_named c link))))) refl (
-          record {
-            inside = still;
-            object = o;
-            range = range;
-            may = may;
-            builds = builds_stay c v w i log from o version at refl refl builds;
-            locks = (record { stand = _; at = refl; object_is = stands.object_is; link_is = stands.link_is }, refl);
-          },
-          lock,
-        ))
-
-    stamp_made : (link first : ℕ) (stands : StandsAt v o link) → stands.stand.first ≡ Some first → Made_so version at (FoundStamp link first)
-    stamp_made link first stands first_is =
-        let task = Locks version at (FoundStamp link first) in
-        let in_range = stands_in c k n lt made t b log freed from time call sweep own left no_scan before inside o link stands in
-        let slots = k.slots.0 in
-        let kind = load_stamp link first stands.stand in
-        let of : IsOfKind c s n kind task = record {
-          may = record { stands = stands.at; link_is = stands.link_is; first_is = first_is };
-          range = (in_range.0, mod-lt first (omega (arith, slots)));
-          place = refl;
-          writes = λ x. refl;
-          fits = λ x _. tt;
-        } in
-        let w = view_by c s n kind in
-        let still = section_stays c v w log freed from time inside refl refl refl
-            (logs_left c v w log freed from refl refl refl refl _ refl (refl, refl) inside.logs) in
-        next_is c k n lt made t b kind task of seat refl log freed from time call sweep own left refl no_scan before
-        (refused c n w log freed from time call sweep link (s.memory (Stamp (link_seat_of link) (index_of c first))) still)
-
     pub locking_made : (step : Locking) → LocksAt c v i o version at step → Made_so version at step
     locking_made (Build field) locks = build_made field locks.0 locks.1 locks.2 locks.3
     locking_made LockHead locks = head_made locks.0 locks.1
     locking_made ClearPrevious locks = clear_made locks.0 locks.1 locks.2
-    locking_made (FoundFirst link) locks = first_made link locks
-    locking_made (FoundStamp link first) locks = stamp_made link first locks.0 locks.1
+    locking_made (FoundFirst link) locks =
+        first_made c k n lt made t b log freed from time call sweep own left no_scan before lock inside o range may version at builds link locks
+    locking_made (FoundStamp link first) locks =
+        stamp_made c k n lt made t b log freed from time call sweep own left no_scan before lock inside o range may version at builds link first locks.0 locks.1

@@ -15,7 +15,7 @@ use Rattle.seat_log.proofs.Standing.{built_is_log}
 use Rattle.step_replay.specs.declared.seats.Version.{Version}
 use Rattle.step_replay.specs.SeatNotes.{version_at, no_version}
 use Rattle.step_replay.proofs.runs.Notes.{note_of, notes_long, note_at, drop_at}
-use Rattle.step_replay.proofs.runs.Standing.{IsNoted, Logs}
+use Rattle.step_replay.proofs.runs.Sections.{IsNoted, Logs}
 
 -- as many versions are noted as weren't freed
 pub noted_long : (c : Config) (l : Noted) (log : List Version) (freed from : ℕ) → IsNoted c l log freed from → length l.live + freed ≡ length log

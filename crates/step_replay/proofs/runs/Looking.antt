@@ -33,7 +33,8 @@ use Rattle.step_replay.specs.Lines.{skip_line, answer_line}
 use Rattle.step_replay.specs.Runs.{TapeOf, Scene, Looked, with_line, begun_so, call_looked, looked_on, looked}
 use Rattle.step_replay.specs.Behind.{IsTapeBehind}
 use Rattle.step_replay.proofs.NextSteps.{lined}
-use Rattle.step_replay.proofs.runs.Standing.{seat_with, InSection, RestsAt, StandsFor, GoesSo, by_step, by_end}
+use Rattle.step_replay.proofs.runs.Sections.{seat_with, InSection, RestsAt}
+use Rattle.step_replay.proofs.runs.Standing.{StandsFor, GoesSo, by_step, by_end}
 use Rattle.step_replay.proofs.runs.Known.{if_so, eqb_ne, ltb_lt, ltb_ge}
 use Rattle.step_replay.proofs.runs.LogFacts.{held_are, log_short}
 use Rattle.step_replay.proofs.runs.Searches.{first_after, none_of}
@@ -101,7 +102,7 @@ module _ (c : Config) (k : Checked c) (n : ℕ) (made : List Made) (v : View) (l
         let low = from_low in
         by_step (begin_abort log s) refl
         (if_so (λ (task : Task). StandsFor c n v log freed from (Some t) Abort (new_sweep freed) (Some task)) (held log s == 0)
-            (EndsSection (finish.Leave Plainly)) (unlock log from)
+        (EndsSection (finish.Leave Plainly)) (unlock log from)
         (λ none. (inside, (let z = eqb-true (held log s) 0 none in omega (arith, z, low))))
         (λ some. (
           0,

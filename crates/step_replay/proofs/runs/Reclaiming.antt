@@ -1,7 +1,7 @@
 -- The steps of a tidy outside a section: watermarks, frees, scans and rests.
 use Rattle.std.proofs.Common.{◌≡◌, ◌≢◌, ◌⊎◌, ℕ, ◌+◌, ◌-◌, ◌<◌, ◌≤◌, ◌^◌, ◌==◌, ◌&&◌, ltb}
-use Rattle.std.proofs.Common.{leb, not, max, min, List, [], ◌∷◌, ◌++◌, length, drop, Bool, true, false}
-use Rattle.std.proofs.Common.{Option, Some, None, All, Contains, refl, sym, ap, ◌∙◌, subst, arith, inl, inr, eq-eqb, ne_eqb, lt-ltb, le-ltb, le-leb}
+use Rattle.std.proofs.Common.{leb, not, max, List, [], ◌∷◌, ◌++◌, length, drop, Bool, true, false}
+use Rattle.std.proofs.Common.{Option, Some, None, All, Contains, refl, sym, ap, ◌∙◌, subst, arith, inl, inr, eq-eqb, ne_eqb, lt-ltb, le-ltb}
 use Rattle.std.proofs.Common.{if◌then◌else◌, mod-lt}
 use Rattle.std.proofs.lemmas.Bool.{cases_lt}
 use Rattle.std.proofs.lemmas.List.Elements.{Contains-append_left, Contains-append_right, Contains-push}
@@ -21,7 +21,6 @@ use Rattle.seat_log.proofs.Rested.{rests_room, stands_rested, stands_unrested}
 use Rattle.step_replay.specs.declared.plan.Call.TheVariants.{Tidy}
 use Rattle.step_replay.specs.declared.plan.CallOf.{CallOf}
 use Rattle.step_replay.specs.declared.seats.Version.{Version}
-use Rattle.step_replay.specs.declared.seats.Scanned.{Scanned}
 use Rattle.step_replay.specs.declared.seats.Sweep.{Sweep}
 use Rattle.step_replay.specs.declared.seats.State.{State}
 use Rattle.step_replay.specs.declared.seats.Helping.TheVariants.{LoadNamed}
@@ -40,33 +39,14 @@ use Rattle.step_replay.specs.States.{any_commit, any_start, Made, state_of}
 use Rattle.step_replay.specs.Runs.{SeatOf, TapeOf, learned, step_made}
 use Rattle.step_replay.specs.Behind.{IsTapeBehind}
 use Rattle.step_replay.proofs.runs.Notes.{notes_from, notes_drop, drop_on}
-use Rattle.step_replay.proofs.runs.Standing.{seat_with, Logs, RestsAt, IsFreeing, HelpsFor, later, IsStepped, GoesSo, by_step}
+use Rattle.step_replay.proofs.runs.Sections.{seat_with, Logs, RestsAt, HelpsFor, later}
+use Rattle.step_replay.proofs.runs.Standing.{IsFreeing, IsStepped, GoesSo, by_step}
 use Rattle.step_replay.proofs.runs.Stepping.{IsOfKind, view_by, next_is, scan_on}
 use Rattle.step_replay.proofs.runs.Known.{if_so, eqb_ne, leb_le, leb_gt, facts, number_is, knows, logs_left}
 use Rattle.step_replay.proofs.runs.LogFacts.{noted_long}
 use Rattle.step_replay.proofs.runs.Helping.{helped_so}
 use Rattle.step_replay.proofs.runs.Rounds.{free_so, settle_so}
-
--- the clock word of the next rest, where the numbers fit one
-next_is_word : (c : Config) (word n : ℕ) → clock_time_of word < 35184372088831 → n < 64 → next_clock word n 8191 ≡ clock_of (clock_time_of word + 1) n 8191
-next_is_word c word n room seat =
-    ap (λ b. if b && (ltb n 64 && leb 8191 8191) then clock_of (clock_time_of word + 1) n 8191 else 0) (lt-ltb (clock_time_of word) 35184372088831 room)
-    ∙ ap (λ b. if b && leb 8191 8191 then clock_of (clock_time_of word + 1) n 8191 else 0) (lt-ltb n 64 seat)
-    ∙ ap (λ b. if b then clock_of (clock_time_of word + 1) n 8191 else 0) (le-leb 8191 8191 (omega arith))
-
--- a mark lowers the least time of a scan
-lowered_low : (scan : Scanned) (seat mark : ℕ) → (lowered scan seat mark).low ≡ least_with scan.low mark
-lowered_low scan seat mark = go (mark == 0) refl (leb scan.low (mark - 1)) refl
-  where
-    go : (a : Bool) → (mark == 0) ≡ a → (b : Bool) → leb scan.low (mark - 1) ≡ b → (lowered scan seat mark).low ≡ least_with scan.low mark
-    go true p b q = (λ i. (if p i then scan else (if leb scan.low (mark - 1) then scan else record scan { low = mark - 1; seat = seat })).low)
-        ∙ sym (ap (λ x. if x then scan.low else min scan.low (mark - 1)) p)
-    go false p true q = (λ i. (if p i then scan else (if q i then scan else record scan { low = mark - 1; seat = seat })).low)
-        ∙ (let le = leb_le scan.low (mark - 1) q in let e : scan.low ≡ min scan.low (mark - 1) = omega (arith, le) in e)
-        ∙ sym (ap (λ x. if x then scan.low else min scan.low (mark - 1)) p)
-    go false p false q = (λ i. (if p i then scan else (if q i then scan else record scan { low = mark - 1; seat = seat })).low)
-        ∙ (let gt = leb_gt scan.low (mark - 1) q in let e : mark - 1 ≡ min scan.low (mark - 1) = omega (arith, gt) in e)
-        ∙ sym (ap (λ x. if x then scan.low else min scan.low (mark - 1)) p)
+use Rattle.step_replay.proofs.runs.ScanFacts.{next_is_word, lowered_low}
 
 module _ (c : Config) (k : Checked c) (n : ℕ) (lt : n < c.seats) (made : List Made) (t : TapeOf) (b : IsTapeBehind c t made)
     (log : List Version) (freed from : ℕ) (sweep : Sweep) (own : Option Task) (left : List CallOf) (before : All (IsFitCallOf c) left) where
@@ -145,11 +125,11 @@ module _ (c : Config) (k : Checked c) (n : ℕ) (lt : n < c.seats) (made : List 
           by (inl inside) next first =
               marks (seat + 1) next inside
               (first ∙ ap (λ x. if x then Goes (Tidies (LoadMark (seat + 1))) else Goes (Tidies (RaiseGrace sweep2.last.low)))
-                  (lt-ltb (seat + 1) c.seats inside))
+              (lt-ltb (seat + 1) c.seats inside))
           by (inr outside) next first =
               ends (seat + 1) next outside
               (first ∙ ap (λ x. if x then Goes (Tidies (LoadMark (seat + 1))) else Goes (Tidies (RaiseGrace sweep2.last.low)))
-                  (le-ltb (seat + 1) c.seats outside))
+              (le-ltb (seat + 1) c.seats outside))
 
       other_so : seat ≢ n → (seat < c.seats) ⊎ (c.seats ≤ seat) → Made_so task
       other_so other order =
@@ -165,12 +145,12 @@ module _ (c : Config) (k : Checked c) (n : ℕ) (lt : n < c.seats) (made : List 
               marks seat next inside
               (first ∙ ap (λ x. if x then Goes (Tidies (LoadMark seat))
               else (if ltb (seat + 1) c.seats then Goes (Tidies (LoadMark (seat + 1))) else Goes (Tidies (RaiseGrace sweep2.last.low))))
-                  (lt-ltb seat c.seats inside))
+              (lt-ltb seat c.seats inside))
           by (inr outside) next first =
               ends seat next outside
               (first ∙ ap (λ x. if x then Goes (Tidies (LoadMark seat))
               else (if ltb (seat + 1) c.seats then Goes (Tidies (LoadMark (seat + 1))) else Goes (Tidies (RaiseGrace sweep2.last.low))))
-                  (le-ltb seat c.seats outside)
+              (le-ltb seat c.seats outside)
               ∙ ap (λ x. if x then Goes (Tidies (LoadMark (seat + 1))) else Goes (Tidies (RaiseGrace sweep2.last.low)))
               (le-ltb (seat + 1) c.seats (omega (arith, outside))))
 
@@ -209,7 +189,7 @@ module _ (c : Config) (k : Checked c) (n : ℕ) (lt : n < c.seats) (made : List 
         let number = number_is c k n made b.each in
         let still = rests_on w refl (logs_left c v w log freed from refl refl refl refl _ refl (refl, refl) rests.2) in
         look_made (load_mark seat scan) (Tidies (LoadMark seat)) of (record sweep { last = lowered sweep.last seat mark }) (seat + 1) scan.clock least
-            v.grace refl
+        v.grace refl
         refl (ap (λ m. scan_goes c scan.clock least (other_from m (seat + 1))) number) (ap (λ m. grace_on c v.grace least (other_from m (seat + 1))) number)
         (ap (λ x. least_with x mark) low ∙ sym (lowered_low sweep.last seat mark)) still
 
@@ -232,7 +212,7 @@ module _ (c : Config) (k : Checked c) (n : ℕ) (lt : n < c.seats) (made : List 
         let risen : max sweep.last.low found ≤ max v.grace found = omega (arith, known) in
         let within = rests.2.is.within in
         next_is c k n lt made t b (raise_grace low) (Tidies (RaiseGrace low)) of seat_so refl log freed from None Tidy (scanned sweep found) own left
-            refl no_scan
+        refl no_scan
         before
         (settle_so c n w log freed from (scanned sweep found) no_scan still (risen, risen) freed (omega arith) within)
 

@@ -29,7 +29,8 @@ use Rattle.step_replay.specs.declared.notes.Test.TheVariants.{IsUntimed, EndsSet
 use Rattle.step_replay.specs.SeatNotes.{version_at, live, dead_count, first_from}
 use Rattle.step_replay.specs.Sweeps.{rest_is_due, tidied, after_frees, free, settle}
 use Rattle.step_replay.proofs.runs.Notes.{note_of}
-use Rattle.step_replay.proofs.runs.Standing.{IsNoted, Logs, RestsAt, IsSwept, GoesSo, by_step, by_end}
+use Rattle.step_replay.proofs.runs.Sections.{IsNoted, Logs, RestsAt, IsSwept}
+use Rattle.step_replay.proofs.runs.Standing.{GoesSo, by_step, by_end}
 use Rattle.step_replay.proofs.runs.Known.{if_so, eqb_ne, ltb_lt, ltb_ge}
 use Rattle.step_replay.proofs.runs.LogFacts.{noted_long, noted_at, noted_from}
 use Rattle.step_replay.proofs.runs.Searches.{first_within, first_after, first_before, first_there}

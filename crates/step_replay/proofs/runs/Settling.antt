@@ -32,7 +32,8 @@ use Rattle.step_replay.specs.States.{Made, state_of}
 use Rattle.step_replay.specs.Runs.{SeatOf, TapeOf, learned, step_made}
 use Rattle.step_replay.specs.Behind.{IsTapeBehind}
 use Rattle.step_replay.proofs.runs.Notes.{note_of, notes_from, notes_retired, notes_above, edited_long, edited_behind, edited_at}
-use Rattle.step_replay.proofs.runs.Standing.{seat_with, IsNoted, Logs, RestsAt, IsSwept, IsStepped}
+use Rattle.step_replay.proofs.runs.Sections.{seat_with, IsNoted, Logs, RestsAt, IsSwept}
+use Rattle.step_replay.proofs.runs.Standing.{IsStepped}
 use Rattle.step_replay.proofs.runs.Standing.{GoesSo, by_step}
 use Rattle.step_replay.proofs.runs.Stepping.{IsOfKind, view_by, next_is}
 use Rattle.step_replay.proofs.runs.Known.{if_so, ltb_ge, number_is}

@@ -25,7 +25,8 @@ use Rattle.step_replay.specs.declared.seats.Version.{Version}
 use Rattle.step_replay.specs.declared.seats.Sweep.{Sweep}
 use Rattle.step_replay.specs.FitPlans.{IsFitCallOf}
 use Rattle.step_replay.proofs.runs.Known.{word_small}
-use Rattle.step_replay.proofs.runs.Standing.{seat_with, IsSeat, IsStepped, step_of, StandsFor, GoesSo, by_step, by_end, seat_by}
+use Rattle.step_replay.proofs.runs.Sections.{seat_with}
+use Rattle.step_replay.proofs.runs.Standing.{IsSeat, IsStepped, step_of, StandsFor, GoesSo, by_step, by_end, seat_by}
 
 both_true : (a b : Bool) → a ≡ true → b ≡ true → (a && b) ≡ true
 both_true a b p q = ap (λ x. x && b) p ∙ q
@@ -121,22 +122,26 @@ module _ (c : Config) (k : Checked c) (n : ℕ) (lt : n < c.seats) (made : List 
       next_is log freed from time call sweep own left is no_scan before goes =
           let u = tape_after c n task t in
           subst (IsStepped c n made) (sym (scene_is ∙ ap (λ (x : SeatOf). went (then_after task c x.log x.state (s.memory at))
-              (record { seat = x; tape = u })) is))
+          (record { seat = x; tape = u })) is))
           (go _ goes)
         where
           go : (x : Then) → GoesSo c n (view_by c s n kind) log freed from time call sweep x
               → IsStepped c n made (went x (record { seat = seat_with n log freed from time call sweep own left; tape = tape_after c n task t }))
           go x (by_step more e stands) =
-              subst (λ y. IsStepped c n made (went y (record { seat = seat_with n log freed from time call sweep own left; tape = tape_after c n task t
-                  }))) (sym e)
+              subst (λ y. IsStepped c n made (went y (record {
+                seat = seat_with n log freed from time call sweep own left;
+                tape = tape_after c n task t;
+              }))) (sym e)
               (record {
                 kind = kind;
                 behind = tape_is;
                 seat_is = seat_there _ (seat_by c n (view_by c s n kind) log freed from time call sweep (Some more) left (inl no_scan) before stands);
               })
           go x (by_end answer e stands) =
-              subst (λ y. IsStepped c n made (went y (record { seat = seat_with n log freed from time call sweep own left; tape = tape_after c n task t
-                  }))) (sym e)
+              subst (λ y. IsStepped c n made (went y (record {
+                seat = seat_with n log freed from time call sweep own left;
+                tape = tape_after c n task t;
+              }))) (sym e)
               (record {
                 kind = kind;
                 behind = lined c (tape_after c n task t) (step_of n kind ∷ made) _ tape_is;

@@ -20,7 +20,8 @@ use Rattle.step_replay.specs.FitPlans.{IsFitCallOf}
 use Rattle.step_replay.specs.States.{Made, state_of}
 use Rattle.step_replay.specs.Runs.{TapeOf, step_made}
 use Rattle.step_replay.specs.Behind.{IsTapeBehind}
-use Rattle.step_replay.proofs.runs.Standing.{seat_with, IsStepped, EndsAt, TidiesAt, StandsFor, ScanAt}
+use Rattle.step_replay.proofs.runs.Sections.{seat_with}
+use Rattle.step_replay.proofs.runs.Standing.{IsStepped, EndsAt, TidiesAt, StandsFor, ScanAt}
 use Rattle.step_replay.proofs.runs.Entering.{entering_made}
 use Rattle.step_replay.proofs.runs.Helping.{helping_made}
 use Rattle.step_replay.proofs.runs.Walking.{walking_made}
@@ -30,7 +31,8 @@ use Rattle.step_replay.proofs.runs.Aborting.{unlocking_made, dying_made, abort_m
 use Rattle.step_replay.proofs.runs.Committing.{loading_made, naming_made, stamping_made, telling_made, ending_made}
 use Rattle.step_replay.proofs.runs.Reclaiming.{grace_is, scan_is, mark_is, raise_is, now_rests, rest_is, free_is}
 use Rattle.step_replay.proofs.runs.Settling.{super_is, again_is}
-use Rattle.step_replay.proofs.runs.BackingUp.{top_is, store_is, cut_is, death_is, cut_leaves, gone_leaves, above_leaves}
+use Rattle.step_replay.proofs.runs.LeavingBack.{death_is, cut_leaves, gone_leaves, above_leaves}
+use Rattle.step_replay.proofs.runs.BackingUp.{top_is, store_is, cut_is}
 
 module _ (c : Config) (k : Checked c) (n : ℕ) (lt : n < c.seats) (made : List Made) (t : TapeOf) (b : IsTapeBehind c t made)
     (log : List Version) (freed from : ℕ) (time : Option ℕ) (call : Call) (sweep : Sweep) (own : Option Task) (left : List CallOf)

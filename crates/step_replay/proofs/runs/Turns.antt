@@ -38,7 +38,8 @@ use Rattle.step_replay.proofs.Machines.{shows_opened}
 use Rattle.step_replay.proofs.Ruled.{is_ruled}
 use Rattle.step_replay.proofs.TurnLaws.{seats_long}
 use Rattle.step_replay.proofs.NextSteps.{lined}
-use Rattle.step_replay.proofs.runs.Standing.{seat_with, Logs, IsSeat, IsStepped, StandsFor, ScanAt, step_of, seat_by}
+use Rattle.step_replay.proofs.runs.Sections.{seat_with, Logs}
+use Rattle.step_replay.proofs.runs.Standing.{IsSeat, IsStepped, StandsFor, ScanAt, step_of, seat_by}
 use Rattle.step_replay.proofs.runs.Steps.{step_is}
 use Rattle.step_replay.proofs.runs.Looking.{IsLooked, looks}
 

@@ -1,34 +1,25 @@
 -- The steps of a walk, of a read or of a lock.
-use Rattle.std.proofs.Common.{◌≡◌, ◌≢◌, ◌⊎◌, ℕ, ◌+◌, ◌<◌, ◌≤◌, ◌^◌, ◌==◌, ◌&&◌, ltb, leb, not, List, length, get_or, Bool, true, false, Option}
-use Rattle.std.proofs.Common.{Some, None, All, Contains, ne_eqb, replicate, refl, sym, ap}
-use Rattle.std.proofs.Common.{◌∙◌, subst, arith, inl, inr, eqb-true, if◌then◌else◌, slice_set, mod-lt}
+use Rattle.std.proofs.Common.{◌≡◌, ◌≢◌, ◌⊎◌, ℕ, ◌+◌, ◌<◌, ◌≤◌, ◌^◌, ◌==◌, ◌&&◌, ltb, leb, not, List, length, Bool, true, false, Option}
+use Rattle.std.proofs.Common.{Some, None, All, ne_eqb, replicate, refl, sym, ap}
+use Rattle.std.proofs.Common.{◌∙◌, subst, arith, inl, inr, if◌then◌else◌, slice_set, mod-lt}
 use Rattle.std.specs.Prelude.{unwrap_or}
-use Rattle.std.proofs.lemmas.List.{length-set, get_or-set_same, get_or-set_other, get_or-replicate, get_or_past}
-use Rattle.std.proofs.lemmas.Bool.{cases_lt}
 use Rattle.mv_layout.specs.Words.{link_seat_of, IsUnset}
-use Rattle.mv_core.proofs.Terms.{dite, ℕ_discrete, Config, Checked, Head, Master, First, Stamp, Prev, Data, IsPlace}
+use Rattle.mv_core.proofs.Terms.{Config, Checked, Head, Master, First, Stamp, Prev, Data, IsPlace}
 use Rattle.mv_core.specs.declared.view.View.{View}
 use Rattle.mv_core.specs.declared.view.Section.{Section}
 use Rattle.mv_core.specs.declared.view.Stand.{Stand}
-use Rattle.mv_core.specs.declared.view.Passed.{Passed}
 use Rattle.mv_core.specs.declared.view.Passed.TheVariants.{Nothing}
 use Rattle.mv_core.specs.declared.view.Walk.TheVariants as walk
 use Rattle.mv_core.specs.Views.{time_in}
 use Rattle.mv_core.specs.WalkSteps.{slot_named, stand_at, passed_too, word_read, words_read, MayLoadMaster, MayLoadData}
-use Rattle.mv_core.specs.declared.ring.Build.{Build}
-use Rattle.mv_core.specs.Rings.{slot_at, index_of}
-use Rattle.mv_core.specs.LockSteps.{StandsToLock, nothing_built, build_in}
+use Rattle.mv_core.specs.Rings.{index_of}
+use Rattle.mv_core.specs.LockSteps.{StandsToLock}
 use Rattle.mv_core.specs.Moves.{Moment, load_head, load_first, load_stamp, load_prev, load_data, load_master}
 use Rattle.mv_core.proofs.logs.Links.{names_some, names_link, lives_within}
-use Rattle.mv_core.proofs.kinds.walking.WalkOn.{at_zero, at_some}
 use Rattle.mv_core.proofs.kinds.walking.Walks.{lives_named, standing_of}
 use Rattle.mv_core.proofs.kinds.walking.LoadData.{data_loads}
 use Rattle.mv_core.proofs.kinds.walking.LoadMaster.{master_loads}
-use Rattle.mv_history.specs.declared.answers.LockAnswer.TheVariants as refusals
-use Rattle.seat_log.proofs.Standing.{next_spare}
-use Rattle.seat_log.specs.Builds.{build_at}
 use Rattle.step_replay.specs.declared.plan.Call.{Call}
-use Rattle.step_replay.specs.declared.plan.Call.TheVariants.{Enter, Read, Lock, Write, Commit, Abort, Leave, Tidy}
 use Rattle.step_replay.specs.declared.plan.CallOf.{CallOf}
 use Rattle.step_replay.specs.declared.seats.Version.{Version}
 use Rattle.step_replay.specs.declared.seats.Sweep.{Sweep}
@@ -38,115 +29,21 @@ use Rattle.step_replay.specs.declared.seats.Walking.TheVariants.{LoadHead, LoadF
 use Rattle.step_replay.specs.declared.seats.Locking.TheVariants as locking
 use Rattle.step_replay.specs.declared.seats.Task.{Task}
 use Rattle.step_replay.specs.declared.seats.Task.TheVariants.{Walks, Locks}
-use Rattle.step_replay.specs.declared.seats.Answer.TheVariants.{SixWords, Locked}
+use Rattle.step_replay.specs.declared.seats.Answer.TheVariants.{SixWords}
 use Rattle.step_replay.specs.declared.seats.Then.TheVariants.{Goes, Ends}
 use Rattle.step_replay.specs.FitPlans.{IsFitCallOf}
-use Rattle.step_replay.specs.GoesOn.{is_lock, is_unset, stand, refusal, new_version, after_words}
+use Rattle.step_replay.specs.GoesOn.{is_lock, is_unset, refusal, new_version, after_words}
 use Rattle.step_replay.specs.States.{any_commit, any_start, zeros, Made, state_of}
 use Rattle.step_replay.specs.Runs.{TapeOf, step_made}
 use Rattle.step_replay.specs.Behind.{IsTapeBehind}
-use Rattle.step_replay.proofs.runs.Standing.{seat_with, Logs, InSection, MayHold, WalksFor, StandsAt, WordsSoFar, WalksAt, IsStepped}
+use Rattle.step_replay.proofs.runs.Sections.{seat_with, InSection, WalksFor, StandsAt, WordsSoFar, WalksAt}
+use Rattle.step_replay.proofs.runs.Standing.{IsStepped}
 use Rattle.step_replay.proofs.runs.Standing.{GoesSo, by_step, by_end}
 use Rattle.step_replay.proofs.runs.Stepping.{IsOfKind, view_by, next_is}
-use Rattle.step_replay.proofs.runs.Known.{if_so, eqb_ne, ltb_lt, ltb_ge, leb_le, leb_gt, and_right, same_list, facts, view_there, starts, seated, word_small}
+use Rattle.step_replay.proofs.runs.Known.{if_so, ltb_lt, ltb_ge, leb_le, leb_gt, and_right, same_list, facts, view_there, starts, seated, word_small}
 use Rattle.step_replay.proofs.runs.Known.{logs_left}
 use Rattle.step_replay.proofs.runs.Helping.{rests_in}
-use Rattle.step_replay.proofs.runs.LogFacts.{noted_long}
-
--- no word was read yet
-pub no_words : (c : Config) (v : View) (s : Section) (o : ℕ) → WordsSoFar c v s o (replicate 6 0) 0
-no_words c v s o = record { wide = refl; small = λ i. zero_small i (cases_lt i 6); are = λ i lt. absurd (omega (arith, lt)) }
-  where
-    zero_small : (i : ℕ) → (i < 6) ⊎ (6 ≤ i) → get_or (replicate {A = ℕ} 6 0) i 0 < 2 ^ 64
-    zero_small i (inl lt) = let e = get_or-replicate {A = ℕ} 6 i 0 0 lt in omega (arith, e)
-    zero_small i (inr ge) = let e = get_or_past (replicate {A = ℕ} 6 0) i 0 ge in omega (arith, e)
-
--- one word more
-pub one_word : (c : Config) (v : View) (s : Section) (o : ℕ) (words : List ℕ) (w found : ℕ) → w < 6 → found < 2 ^ 64 → found ≡ word_read c v s o w
-    → WordsSoFar c v s o words w → WordsSoFar c v s o (slice_set words w found) (w + 1)
-one_word c v s o words w found lt small is so = record {
-  wide = length-set words w found ∙ so.wide;
-  small = λ i.
-      dite (ℕ_discrete i w)
-      (λ e. let here = get_or-set_same words w found 0 (let wide = so.wide in omega (arith, lt, wide)) in
-      let there : get_or (slice_set words w found) i 0 ≡ found = ap (λ j. get_or (slice_set words w found) j 0) e ∙ here in omega (arith, there, small))
-      (λ ne. let there = get_or-set_other words w i found 0 ne in let old = so.small i in omega (arith, there, old));
-  are = λ i le.
-      dite (ℕ_discrete i w)
-      (λ e. ap (λ j. get_or (slice_set words w found) j 0) e ∙ get_or-set_same words w found 0 (let wide = so.wide in omega (arith, lt, wide)) ∙ is
-      ∙ ap (word_read c v s o) (sym e))
-      (λ ne. get_or-set_other words w i found 0 ne ∙ so.are i (omega (arith, le, ne)));
-}
-
--- a refusal ends a lock
-pub refused : (c : Config) (n : ℕ) (v : View) (log : List Version) (freed from : ℕ) (time : Option ℕ) (call : Call) (sweep : Sweep) (link stamp : ℕ) →
-    InSection c v log freed from time
-    → GoesSo c n v log freed from time call sweep (refusal link stamp)
-refused c n v log freed from time call sweep link stamp i =
-    if_so (GoesSo c n v log freed from time call sweep) (is_unset stamp) (Ends (Locked (refusals.Busy (link_seat_of link))))
-        (Ends (Locked (refusals.Stale stamp)))
-    (λ e. by_end (Locked (refusals.Busy (link_seat_of link))) refl (rests_in c v log freed from time i))
-    (λ e. by_end (Locked (refusals.Stale stamp)) refl (rests_in c v log freed from time i))
-
--- a section behind a step that leaves its phase, its clock words and the log
-abbrev pub section_stays : (c : Config) (v w : View) (log : List Version) (freed from : ℕ) (time : Option ℕ) (i : InSection c v log freed from time) →
-    w.phase ≡ v.phase
-    → w.clocks ≡ v.clocks → w.back ≡ v.back → Logs c w log freed from → InSection c w log freed from time
-section_stays c v w log freed from time i phase clocks back logs = record {
-  section = i.section;
-  walking = record {
-    phase = phase ∙ i.walking.phase;
-    open_is = i.walking.open_is;
-    helped = subst (λ d. Contains d.helped i.section.word) (sym clocks) i.walking.helped;
-    no_back = back ∙ i.walking.no_back;
-  };
-  time_is = i.time_is;
-  logs = logs;
-}
-
--- where a walk goes on at a link that was found
-stand_so : (c : Config) (n : ℕ) (w : View) (log : List Version) (freed from : ℕ) (time : Option ℕ) (call : Call) (sweep : Sweep) (o link : ℕ) (passed : Passed)
-    → w.walk ≡ stand_at o link passed false → link < 2 ^ 64 → InSection c w log freed from time → o < c.objects → WalksFor c log freed from o call
-    → GoesSo c n w log freed from time call sweep (stand o link)
-stand_so c n w log freed from time call sweep o link passed at small i range for =
-    if_so (GoesSo c n w log freed from time call sweep) (link == 0) (Goes (Walks o (LoadWord link (replicate 6 0) 0))) (Goes (Walks o (LoadFirst link)))
-    (λ e. let zero = eqb-true link 0 e in
-    by_step (Walks o (LoadWord link (replicate 6 0) 0)) refl
-    (i, range, for, (omega arith, small, inl (at ∙ sym (at_zero o link passed false zero), zero), no_words c w i.section o)))
-    (λ e. by_step (Walks o (LoadFirst link)) refl (
-      i,
-      range,
-      for,
-      record {
-        stand = record { object = o; link = link; first = None; stamp = None; passed = passed; late = false };
-        at = at ∙ sym (at_some o link passed false (eqb_ne link 0 e));
-        object_is = refl;
-        link_is = refl;
-      },
-    ))
-
--- the call of a walk that is a lock may hold its object
-lock_holds : (c : Config) (log : List Version) (freed from o : ℕ) (call : Call) → is_lock call ≡ true → WalksFor c log freed from o call → MayHold c log
-    freed from o
-lock_holds c log freed from o (Lock p) e for = for.1
-lock_holds c log freed from o (Read p) e for = absurd (cc)
-lock_holds c log freed from o Enter e for = absurd for
-lock_holds c log freed from o (Write p words) e for = absurd for
-lock_holds c log freed from o Commit e for = absurd for
-lock_holds c log freed from o Abort e for = absurd for
-lock_holds c log freed from o Leave e for = absurd for
-lock_holds c log freed from o Tidy e for = absurd for
-
--- the slot of the next position has a build of six words, where there is room
-pub built_wide : (c : Config) (v : View) (log : List Version) (freed from : ℕ) → Logs c v log freed from → length log < freed + c.slots
-    → length (build_at c v (length log)).words ≡ 6
-built_wide c v log freed from logs room =
-    let l = logs.noted in
-    let long = noted_long c l log freed from logs.is in
-    let slots = logs.stands.slots in
-    let b = next_spare c v l logs.stands (omega (arith, long, slots, room)) in
-    let next : v.ring.next ≡ length log = (let a = logs.stands.next in let f = logs.is.gone in omega (arith, a, f, long)) in
-    ap (λ (x : Build). length x.words) (ap (λ z. unwrap_or z nothing_built) (ap (λ p. build_in (slot_at v.ring (index_of c p))) (sym next) ∙ b.1)) ∙ b.2
+use Rattle.step_replay.proofs.runs.WalkFacts.{no_words, one_word, refused, section_stays, stand_so, lock_holds, built_wide}
 
 module _ (c : Config) (k : Checked c) (n : ℕ) (lt : n < c.seats) (made : List Made) (t : TapeOf) (b : IsTapeBehind c t made)
     (log : List Version) (freed from : ℕ) (time : Option ℕ) (call : Call) (sweep : Sweep) (own : Option Task) (left : List CallOf)
@@ -191,9 +88,9 @@ module _ (c : Config) (k : Checked c) (n : ℕ) (lt : n < c.seats) (made : List 
         let w = view_by c s n (load_head o i) in
         let link = s.memory (Head o) in
         let still = section_stays c v w log freed from time inside refl refl refl
-            (logs_left c v w log freed from refl refl refl refl _ refl (refl, refl) inside.logs) in
+        (logs_left c v w log freed from refl refl refl refl _ refl (refl, refl) inside.logs) in
         next_is c k n lt made t b (load_head o i) (Walks o LoadHead) of (seat_with n log freed from time call sweep own left) refl log freed from time
-            call sweep own left
+        call sweep own left
         refl no_scan before
         (stand_so c n w log freed from time call sweep o link Nothing refl (word_small c k n made b.each (Head o)) still range for)
 
@@ -209,9 +106,9 @@ module _ (c : Config) (k : Checked c) (n : ℕ) (lt : n < c.seats) (made : List 
         } in
         let w = view_by c s n (load_first link at.stand) in
         let still = section_stays c v w log freed from time inside refl refl refl
-            (logs_left c v w log freed from refl refl refl refl _ refl (refl, refl) inside.logs) in
+        (logs_left c v w log freed from refl refl refl refl _ refl (refl, refl) inside.logs) in
         next_is c k n lt made t b (load_first link at.stand) (Walks o (LoadFirst link)) of (seat_with n log freed from time call sweep own left) refl
-            log freed from time
+        log freed from time
         call sweep own left refl no_scan before
         (by_step (Walks o (LoadStamp link (s.memory (First (link_seat_of link) (slot_named c link))))) refl
         (still, range, for, (record { stand = _; at = refl; object_is = at.object_is; link_is = at.link_is }, refl)))
@@ -231,15 +128,15 @@ module _ (c : Config) (k : Checked c) (n : ℕ) (lt : n < c.seats) (made : List 
         let w = view_by c s n (load_stamp link first at.stand) in
         let found = s.memory (Stamp (link_seat_of link) (index_of c first)) in
         let still = section_stays c v w log freed from time inside refl refl refl
-            (logs_left c v w log freed from refl refl refl refl _ refl (refl, refl) inside.logs) in
+        (logs_left c v w log freed from refl refl refl refl _ refl (refl, refl) inside.logs) in
         let stands : StandsAt w o link =
         record { stand = record at.stand { stamp = Some found }; at = refl; object_is = at.object_is; link_is = at.link_is } in
         let limit : unwrap_or time 0 ≡ time_in i = ap (λ x. unwrap_or x 0) inside.time_is in
         next_is c k n lt made t b (load_stamp link first at.stand) (Walks o (LoadStamp link first)) of
-            (seat_with n log freed from time call sweep own left) refl log freed
+        (seat_with n log freed from time call sweep own left) refl log freed
         from time call sweep own left refl no_scan before
         (if_so (GoesSo c n w log freed from time call sweep) (not (is_unset found) && leb found (unwrap_or time 0))
-            (Goes (Walks o (LoadWord link (replicate 6 0) 0)))
+        (Goes (Walks o (LoadWord link (replicate 6 0) 0)))
         (if is_lock call then refusal link found else Goes (Walks o (LoadPrev link)))
         (λ e.
         let le = leb_le found (unwrap_or time 0) (and_right (not (is_unset found)) (leb found (unwrap_or time 0)) e) in
@@ -287,9 +184,9 @@ module _ (c : Config) (k : Checked c) (n : ℕ) (lt : n < c.seats) (made : List 
         let w = view_by c s n (load_prev link at.stand) in
         let below = s.memory (Prev (link_seat_of link) (slot_named c link)) in
         let still = section_stays c v w log freed from time inside refl refl refl
-            (logs_left c v w log freed from refl refl refl refl _ refl (refl, refl) inside.logs) in
+        (logs_left c v w log freed from refl refl refl refl _ refl (refl, refl) inside.logs) in
         next_is c k n lt made t b (load_prev link at.stand) (Walks o (LoadPrev link)) of (seat_with n log freed from time call sweep own left) refl log
-            freed from time call
+        freed from time call
         sweep own left refl no_scan before
         (stand_so c n w log freed from time call sweep o below (passed_too at.stand.passed at.stand.stamp)
         (ap (λ x. stand_at x below (passed_too at.stand.passed at.stand.stamp) false) at.object_is)
@@ -370,12 +267,12 @@ module _ (c : Config) (k : Checked c) (n : ℕ) (lt : n < c.seats) (made : List 
         let told = (master_loads any_start any_commit c (zeros c) v o w i range may.1 s.memory s.history s.seats (facts c k n made b.each)
         (view_there c k n made b.each) (seated c k n made b.each lt) (starts c k n made b.each) small).2.0.0 in
         let still = section_stays c v v2 log freed from time inside refl refl refl
-            (logs_left c v v2 log freed from refl refl refl refl _ refl (refl, refl) inside.logs) in
+        (logs_left c v v2 log freed from refl refl refl refl _ refl (refl, refl) inside.logs) in
         next_is c k n lt made t b (load_master o w i) (Walks o (LoadWord 0 words w)) of (seat_with n log freed from time call sweep own left) refl log
-            freed from time call
+        freed from time call
         sweep own left refl no_scan before
         (word_so v2 0 words w found still (omega arith) (inl (stands, refl)) less small told.1
-            (record { wide = so.wide; small = so.small; are = so.are }) told.2)
+        (record { wide = so.wide; small = so.small; are = so.are }) told.2)
 
     data_made : (link : ℕ) (words : List ℕ) (w : ℕ) → w < 6 → link < 2 ^ 64
         → ((stand : Stand) × (found : ℕ) × (v.walk ≡ walk.At stand) × (stand.object ≡ o) × (stand.link ≡ link) × (stand.stamp ≡ Some found)
@@ -406,10 +303,10 @@ module _ (c : Config) (k : Checked c) (n : ℕ) (lt : n < c.seats) (made : List 
         let told = (data_loads any_start any_commit c (zeros c) v link w at.0 i may s.memory s.history s.seats (facts c k n made b.each)
         (view_there c k n made b.each) (seated c k n made b.each lt) (starts c k n made b.each) small).2.0.0 in
         let still = section_stays c v v2 log freed from time inside refl refl refl
-            (logs_left c v v2 log freed from refl refl refl refl _ refl (refl, refl) inside.logs) in
+        (logs_left c v v2 log freed from refl refl refl refl _ refl (refl, refl) inside.logs) in
         let state : State = record { seat = n; time = time; from = from; freed = freed; call = call; sweep = sweep } in
         next_is c k n lt made t b (load_data link w at.0 i) (Walks o (LoadWord link words w)) of (seat_with n log freed from time call sweep own left)
-            refl log freed from
+        refl log freed from
         time call sweep own left refl no_scan before
         (subst (λ p. GoesSo c n v2 log freed from time call sweep
         (if ltb w 5 then Goes (Walks o (LoadWord link (slice_set words w (s.memory p)) (w + 1)))

@@ -23,7 +23,8 @@ use Rattle.step_replay.specs.States.{Made, state_of}
 use Rattle.step_replay.specs.Runs.{TapeOf, step_made}
 use Rattle.step_replay.specs.Behind.{IsTapeBehind}
 use Rattle.step_replay.proofs.runs.Notes.{notes_from, notes_put, edited_long, edited_behind}
-use Rattle.step_replay.proofs.runs.Standing.{seat_with, Logs, InSection, IsWriting, IsStepped, GoesSo, by_step, by_end}
+use Rattle.step_replay.proofs.runs.Sections.{seat_with, Logs, InSection}
+use Rattle.step_replay.proofs.runs.Standing.{IsWriting, IsStepped, GoesSo, by_step, by_end}
 use Rattle.step_replay.proofs.runs.Stepping.{IsOfKind, view_by, next_is}
 use Rattle.step_replay.proofs.runs.Known.{if_so, ltb_lt, number_is}
 use Rattle.step_replay.proofs.runs.LogFacts.{noted_long, from_there}
@@ -96,7 +97,7 @@ module _ (c : Config) (k : Checked c) (n : ℕ) (lt : n < c.seats) (made : List 
         logs = logs2;
       } in
       next_is c k n lt made t b kind task of (seat_with n log freed from time call sweep own left) refl log2 freed from time call sweep own left refl
-          no_scan before
+      no_scan before
       (if_so (GoesSo c n w log2 freed from time call sweep) (ltb word 5) (Goes (Writes at words (word + 1))) (Ends Silent)
       (λ e. by_step (Writes at words (word + 1)) refl (record {
         inside = inside2;

@@ -86,7 +86,8 @@ section_stays c v w log freed from time i phase clocks back logs = record {
 
 -- where a walk goes on at a link that was found
 pub stand_so : (c : Config) (n : ℕ) (w : View) (log : List Version) (freed from : ℕ) (time : Option ℕ) (call : Call) (sweep : Sweep)
-    (o link : ℕ) (passed : Passed) → w.walk ≡ stand_at o link passed false → link < 2 ^ 64 → InSection c w log freed from time → o < c.objects → WalksFor c log freed from o call
+    (o link : ℕ) (passed : Passed) → w.walk ≡ stand_at o link passed false → link < 2 ^ 64 → InSection c w log freed from time
+    → o < c.objects → WalksFor c log freed from o call
     → GoesSo c n w log freed from time call sweep (stand o link)
 stand_so c n w log freed from time call sweep o link passed at small i range for =
     if_so (GoesSo c n w log freed from time call sweep) (link == 0) (Goes (Walks o (LoadWord link (replicate 6 0) 0))) (Goes (Walks o (LoadFirst link)))

@@ -16,17 +16,17 @@ use Rattle.step_replay.specs.Sweeps.{then_after}
 use Rattle.step_replay.specs.ReplayLaws.{IsTurn, no_step, one_step}
 
 -- no line, and lines behind lines
-no_lines : (t : TapeOf) → t ≡ with_line t []
+pub no_lines : (t : TapeOf) → t ≡ with_line t []
 no_lines t = ap (λ text. record t { text = text }) (sym (append-nil t.text))
 
 more_lines : (t : TapeOf) (a b : List ℕ) → with_line (with_line t a) b ≡ with_line t (a ++ b)
 more_lines t a b = ap (λ text. record t { text = text }) (append_assoc t.text a b)
 
 -- only lines were printed
-abbrev Prints : TapeOf → TapeOf → Type 0
+abbrev pub Prints : TapeOf → TapeOf → Type 0
 Prints old new = (lines : List ℕ) × (new ≡ with_line old lines)
 
-prints_more : (a b c : TapeOf) → Prints a b → Prints b c → Prints a c
+pub prints_more : (a b c : TapeOf) → Prints a b → Prints b c → Prints a c
 prints_more a b c p q = (p.0 ++ q.0, q.1 ∙ ap (λ t. with_line t q.0) p.1 ∙ more_lines a p.0 q.0)
 
 went_prints : (next : Then) (x : Scene) → Prints x.tape (went next x).tape
@@ -59,7 +59,7 @@ on_prints : (task : Option Task) (t : TapeOf) (this next : Looked) → Prints t 
 on_prints (Some task) t this next p q = p
 on_prints None t this next p q = prints_more t this.scene.tape next.scene.tape p q
 
-looked_prints : (c : Config) (calls : List CallOf) (x : Scene) → Prints x.tape (looked c calls x).scene.tape
+pub looked_prints : (c : Config) (calls : List CallOf) (x : Scene) → Prints x.tape (looked c calls x).scene.tape
 looked_prints c [] x = ([], no_lines x.tape)
 looked_prints c (call ∷ calls) x =
     let this = one_looked c call (record x { seat = record x.seat { left = calls } }) in

@@ -14,8 +14,7 @@ pub record IsTapeBehind (c : Config) (tape : TapeOf) (made : List Made) : Type 0
   pub shows : Shows c tape.words (state_of c made).memory
   pub count : tape.made ≡ length made
 
--- The tape is behind steps of the core, and so is at a state of its rule, in a domain of its numbers whose objects were all zeros.
-pub record IsRuledTape (c : Config) (tape : TapeOf) : Type 0 where
-  pub made : List Made
+-- The tape is behind these steps of the core, and so is at a state of its rule, in a domain of its numbers whose objects were all zeros.
+pub record IsRuledTape (c : Config) (tape : TapeOf) (made : List Made) : Type 0 where
   pub behind : IsTapeBehind c tape made
   pub ruled : (key : Opening) → key.config ≡ c → key.start.value.items ≡ zeros c → IsRuled key c tape.words made

@@ -22,9 +22,11 @@ pub fn turns_go_on()
     ensures { TurnsGoOn }
 {}
 
-/// A plan is run by steps of the core alone: behind each turn, whatever the schedule is, there are steps of the core, as many as
-/// lines of steps, each of which its seat might make where it was, and the words are those of the state after them, which is one
-/// of the core's rule.
+/// A plan is run by steps of the core alone, in the order of its schedule, whatever that is. Before the first turn no step was
+/// made. A turn makes no step, or one by the seat whose turn it is, which that seat may make where it is, of the place and with
+/// the write that its line prints; the steps behind the turn are those before it, and this one. Behind each turn the words are
+/// those of the state that these steps make, one after another, of a new domain, and as many lines of steps were printed. With
+/// the views of the seats there they are a state of the core's rule.
 pub fn runs_are_ruled()
     ensures { RunsAreRuled }
 {}

@@ -20,8 +20,9 @@
 //!
 //! `replay` answers exactly `text_of_plan`, the text of the run: a function of the plan alone. By `turns_make_one_step` each
 //! turn makes at most one step, whose line has the word that was at its place just before, and no word changes but by the
-//! write that such a line says. Each turn's step is one of the core's, whose condition holds of its seat's view where it is
-//! made, and the state behind each turn is one of the core's rule (the clause ruled, and `runs_are_ruled` for every schedule):
+//! write that such a line says. Each turn's step is one of the core's, by the seat whose turn it is, and its condition holds
+//! of that seat's view where it is made. Behind each turn the words are those of the state that the steps so far make, in the
+//! order of the schedule, which is one of the core's rule (the clause ruled, and `runs_are_ruled` for every schedule):
 //! what each seat notes of its log stands for its view there, as the log of a runtime's seat stands for its pass. `turns_go_on`
 //! says the same of one turn, from whatever steps its words come.
 //! `write_step` is the line of a step, also for who makes steps on a `Machine` without a plan.

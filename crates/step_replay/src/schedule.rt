@@ -25,7 +25,8 @@ fn new_seats(alloc: Global, calls: &[CallOf], count: u32) -> Result<Vec<Seat>, A
     Ok(seats)
 }
 
-/// The text of the replay of a plan, which is one that `parse_plan` gives.
+/// The text of the replay of a plan, which is one that `parse_plan` gives. The steps that the text prints are steps of the core,
+/// made in the order of the schedule, and behind each turn the words are those of the state that the steps so far make.
 pub fn replay(alloc: Global, plan: &Plan) -> Result<Vec<u8>, AllocError>
     requires fit { IsFitPlan (plan_of plan.now) }
     ensures exact { IfOk result (λ text. text.items ≡ text_of_plan (plan_of plan.now)) }

@@ -68,7 +68,7 @@ module _ (c : Config) (k : Checked c) (n : ℕ) (lt : n < c.seats) (made : List 
   v = s.seats n
 
   abbrev Made_so : Ending → Type 0
-  Made_so step = IsStepped c n made (step_made c (EndsSection step) (record { seat = seat_with n log freed from time call sweep own left; tape = t }))
+  Made_so step = IsStepped c n made t (step_made c (EndsSection step) (record { seat = seat_with n log freed from time call sweep own left; tape = t }))
 
   -- the link of a held version is a word of 64 bits
   held_link : (j : ℕ) (x : core.Version) → slot_at v.ring j ≡ Live x Held → x.previous < 2 ^ 64

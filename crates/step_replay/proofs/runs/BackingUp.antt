@@ -69,7 +69,7 @@ module _ (c : Config) (k : Checked c) (n : ℕ) (lt : n < c.seats) (made : List 
   seat_so = seat_with n log freed from time Tidy sweep own left
 
   abbrev Made_so : Sweeping → Type 0
-  Made_so step = IsStepped c n made (step_made c (Tidies step) (record { seat = seat_so; tape = t }))
+  Made_so step = IsStepped c n made t (step_made c (Tidies step) (record { seat = seat_so; tape = t }))
 
   -- what a write-back leaves that wasn't won
   uncut_so : (w : View) (at link : ℕ) → IsUncut c w log freed from sweep at

@@ -68,7 +68,7 @@ module _ (c : Config) (k : Checked c) (n : ℕ) (lt : n < c.seats) (made : List 
   v = s.seats n
 
   abbrev Made_so : Ending → Type 0
-  Made_so step = IsStepped c n made (step_made c (EndsSection step) (record { seat = seat_with n log freed from time call sweep own left; tape = t }))
+  Made_so step = IsStepped c n made t (step_made c (EndsSection step) (record { seat = seat_with n log freed from time call sweep own left; tape = t }))
 
   few_seats : n < 64
   few_seats = let seats = k.seats.1 in omega (arith, lt, seats)

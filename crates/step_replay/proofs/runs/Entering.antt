@@ -56,7 +56,7 @@ module _ (c : Config) (k : Checked c) (n : ℕ) (lt : n < c.seats) (made : List 
   v = s.seats n
 
   abbrev Made_so : Entering → Type 0
-  Made_so step = IsStepped c n made (step_made c (Enters step) (record { seat = seat_with n log freed from None call sweep own left; tape = t }))
+  Made_so step = IsStepped c n made t (step_made c (Enters step) (record { seat = seat_with n log freed from None call sweep own left; tape = t }))
 
   low_made : v.phase ≡ Outside → Made_so LoadLow
   low_made phase =

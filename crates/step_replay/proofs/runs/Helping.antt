@@ -210,7 +210,7 @@ module _ (c : Config) (k : Checked c) (n : ℕ) (lt : n < c.seats) (made : List 
   v = s.seats n
 
   abbrev Made_so : Helping → Type 0
-  Made_so step = IsStepped c n made (step_made c (Helps step) (record { seat = seat_with n log freed from time call sweep own left; tape = t }))
+  Made_so step = IsStepped c n made t (step_made c (Helps step) (record { seat = seat_with n log freed from time call sweep own left; tape = t }))
 
   -- a clock word that was loaded is of a time that isn't above the last one
   bounded : (word : ℕ) → Contains v.clocks.loaded word → clock_time_of word ≤ 35184372088831

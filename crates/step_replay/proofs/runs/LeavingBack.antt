@@ -53,7 +53,7 @@ module _ (c : Config) (k : Checked c) (n : ℕ) (lt : n < c.seats) (made : List 
   seat_so = seat_with n log freed from time Tidy sweep own left
 
   abbrev Made_so : Sweeping → Type 0
-  Made_so step = IsStepped c n made (step_made c (Tidies step) (record { seat = seat_so; tape = t }))
+  Made_so step = IsStepped c n made t (step_made c (Tidies step) (record { seat = seat_so; tape = t }))
 
   -- the time of death is loaded
   death_made : (at : ℕ) → HasCut c v log freed from sweep at None → Made_so (LoadCutDeath at)

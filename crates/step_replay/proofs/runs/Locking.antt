@@ -72,7 +72,7 @@ module _ (c : Config) (k : Checked c) (n : ℕ) (lt : n < c.seats) (made : List 
   seat = seat_with n log freed from time call sweep own left
 
   abbrev Made_so : Version → ℕ → Locking → Type 0
-  Made_so version at step = IsStepped c n made (step_made c (Locks version at step) (record { seat = seat; tape = t }))
+  Made_so version at step = IsStepped c n made t (step_made c (Locks version at step) (record { seat = seat; tape = t }))
 
   module _ (version : Version) (at : ℕ) (builds : Builds c v i log from o version at) where
     -- once a word was stored there the position fits a link

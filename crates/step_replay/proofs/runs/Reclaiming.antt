@@ -60,7 +60,7 @@ module _ (c : Config) (k : Checked c) (n : ℕ) (lt : n < c.seats) (made : List 
   seat_so = seat_with n log freed from None Tidy sweep own left
 
   abbrev Made_so : Task → Type 0
-  Made_so task = IsStepped c n made (step_made c task (record { seat = seat_so; tape = t }))
+  Made_so task = IsStepped c n made t (step_made c task (record { seat = seat_so; tape = t }))
 
   module _ (rests : RestsAt c v log freed from None) where
     -- a step that leaves the log alone leaves the seat at rest

@@ -178,7 +178,7 @@ module _ (c : Config) (k : Checked c) (n : ℕ) (lt : n < c.seats) (made : List 
     state_at = record { seat = n; time = None; from = from; freed = freed; call = Tidy; sweep = record sweep { at = at } }
 
     -- a load of SUPER whose version has a time of death then
-    super_found : found ≢ 0 → IsStepped c n made (step_made c (Tidies (LoadSuper at)) (record { seat = seat_so; tape = t }))
+    super_found : found ≢ 0 → IsStepped c n made t (step_made c (Tidies (LoadSuper at)) (record { seat = seat_so; tape = t }))
     super_found some =
         let task = Tidies (LoadSuper at) in
         let pos : 0 < found = omega (arith, some) in
@@ -197,7 +197,7 @@ module _ (c : Config) (k : Checked c) (n : ℕ) (lt : n < c.seats) (made : List 
         (behind_so w log2 sweep_at at no_scan rested swept low (omega (arith, inside, long))))
 
     -- and one of a version that has none, in the second round
-    super_again : found ≡ 0 → sweep.again ≡ true → IsStepped c n made (step_made c (Tidies (LoadSuper at)) (record { seat = seat_so; tape = t }))
+    super_again : found ≡ 0 → sweep.again ≡ true → IsStepped c n made t (step_made c (Tidies (LoadSuper at)) (record { seat = seat_so; tape = t }))
     super_again none again =
         let task = Tidies (LoadSuper at) in
         let zero_is : (found == 0) ≡ true = eq-eqb found 0 none in
@@ -216,7 +216,7 @@ module _ (c : Config) (k : Checked c) (n : ℕ) (lt : n < c.seats) (made : List 
         (behind_so w log sweep_at at no_scan rested swept low inside)))
 
     -- in the first round such a version is written back, if it is old enough
-    super_first : found ≡ 0 → sweep.again ≡ false → IsStepped c n made (step_made c (Tidies (LoadSuper at)) (record { seat = seat_so; tape = t }))
+    super_first : found ≡ 0 → sweep.again ≡ false → IsStepped c n made t (step_made c (Tidies (LoadSuper at)) (record { seat = seat_so; tape = t }))
     super_first none first =
         let task = Tidies (LoadSuper at) in
         let zero_is : (found == 0) ≡ true = eq-eqb found 0 none in
@@ -256,15 +256,15 @@ module _ (c : Config) (k : Checked c) (n : ℕ) (lt : n < c.seats) (made : List 
           logs2,
         )))))
 
-    super_made : IsStepped c n made (step_made c (Tidies (LoadSuper at)) (record { seat = seat_so; tape = t }))
+    super_made : IsStepped c n made t (step_made c (Tidies (LoadSuper at)) (record { seat = seat_so; tape = t }))
     super_made = dite (ℕ_discrete found 0) (λ none. round sweep.again refl none) (λ some. super_found some)
       where
-        round : (x : Bool) → sweep.again ≡ x → found ≡ 0 → IsStepped c n made (step_made c (Tidies (LoadSuper at)) (record { seat = seat_so; tape = t }))
+        round : (x : Bool) → sweep.again ≡ x → found ≡ 0 → IsStepped c n made t (step_made c (Tidies (LoadSuper at)) (record { seat = seat_so; tape = t }))
         round true again none = super_again none again
         round false first none = super_first none first
 
     -- SUPER is loaded once more, where HEAD was found to be 0
-    again_made : IsStepped c n made (step_made c (Tidies (LoadSuperAgain at)) (record { seat = seat_so; tape = t }))
+    again_made : IsStepped c n made t (step_made c (Tidies (LoadSuperAgain at)) (record { seat = seat_so; tape = t }))
     again_made =
         let task = Tidies (LoadSuperAgain at) in
         dite (ℕ_discrete found 0)
@@ -286,9 +286,9 @@ module _ (c : Config) (k : Checked c) (n : ℕ) (lt : n < c.seats) (made : List 
         (behind_so w log2 sweep at no_scan (rests_so log2 long (found_logs pos)) swept low (omega (arith, inside, long))))
 
   pub super_is : RestsAt c v log freed from None → IsSwept v.grace sweep → (at : ℕ) → freed ≤ at → at < length log → (version_at log at).dead ≡ 0
-      → IsStepped c n made (step_made c (Tidies (LoadSuper at)) (record { seat = seat_with n log freed from None Tidy sweep own left; tape = t }))
+      → IsStepped c n made t (step_made c (Tidies (LoadSuper at)) (record { seat = seat_with n log freed from None Tidy sweep own left; tape = t }))
   super_is = super_made
 
   pub again_is : RestsAt c v log freed from None → IsSwept v.grace sweep → (at : ℕ) → freed ≤ at → at < length log → (version_at log at).dead ≡ 0
-      → IsStepped c n made (step_made c (Tidies (LoadSuperAgain at)) (record { seat = seat_with n log freed from None Tidy sweep own left; tape = t }))
+      → IsStepped c n made t (step_made c (Tidies (LoadSuperAgain at)) (record { seat = seat_with n log freed from None Tidy sweep own left; tape = t }))
   again_is = again_made

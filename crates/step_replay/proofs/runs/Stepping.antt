@@ -1,5 +1,5 @@
 -- A step of a seat that is one of the core's: what is found, the tape behind it, and how the call goes on.
-use Rattle.std.proofs.Common.{◌≡◌, ℕ, ◌<◌, ◌^◌, arith, ◌&&◌, ltb, List, ◌∷◌, Bool, true, All, Option, Some, None, refl, sym, ap, ◌∙◌, subst, inl, inr}
+use Rattle.std.proofs.Common.{◌≡◌, ℕ, ◌<◌, ◌^◌, arith, ◌&&◌, ltb, List, [], ◌∷◌, Bool, true, All, Option, Some, None, refl, sym, ap, ◌∙◌, subst, inl, inr}
 use Rattle.std.proofs.Common.{lt-ltb, if◌then◌else◌}
 use Rattle.mv_core.proofs.Terms.{Config, Checked, Place, Clock, Grace, Mark, Head, Master, First, Stamp, Prev, Super, Data, IsPlace}
 use Rattle.mv_core.specs.declared.view.View.{View}
@@ -14,10 +14,12 @@ use Rattle.step_replay.specs.States.{any_commit, Made, may_in, place_in, writes_
 use Rattle.step_replay.specs.Words.{word_at}
 use Rattle.step_replay.specs.Tasks.{place_in_task, access_in_task, written_by}
 use Rattle.step_replay.specs.Sweeps.{then_after}
-use Rattle.step_replay.specs.Runs.{SeatOf, TapeOf, Scene, is_place, tape_stepped, tape_after, found_in, went, learned, step_made}
+use Rattle.step_replay.specs.Lines.{answer_line}
+use Rattle.step_replay.specs.Runs.{SeatOf, TapeOf, Scene, is_place, with_line, tape_stepped, tape_after, found_in, went, learned, step_made}
 use Rattle.step_replay.specs.Behind.{IsTapeBehind}
 use Rattle.step_replay.specs.NextSteps.{IsStepOf}
 use Rattle.step_replay.proofs.Machines.{made_next}
+use Rattle.step_replay.proofs.OneStep.{no_lines}
 use Rattle.step_replay.proofs.NextSteps.{lined, step_behind}
 use Rattle.step_replay.specs.declared.plan.Call.{Call}
 use Rattle.step_replay.specs.declared.plan.CallOf.{CallOf}
@@ -91,8 +93,12 @@ module _ (c : Config) (k : Checked c) (n : ℕ) (lt : n < c.seats) (made : List 
     stepped : IsTapeBehind c (tape_stepped c n task at t) (step_of n kind ∷ made)
     stepped = step_behind c k made t b (step_of n kind) n task next
 
+    -- the tape behind the step, which is made
+    after_is : tape_after c n task t ≡ tape_stepped c n task at t
+    after_is = ap (λ x. if x then tape_stepped c n task at t else t) there
+
     tape_is : IsTapeBehind c (tape_after c n task t) (step_of n kind ∷ made)
-    tape_is = subst (λ x. IsTapeBehind c (if x then tape_stepped c n task at t else t) (step_of n kind ∷ made)) (sym there) stepped
+    tape_is = subst (λ u. IsTapeBehind c u (step_of n kind ∷ made)) (sym after_is) stepped
 
     found_is : found_in c n task t ≡ s.memory at
     found_is = ap (λ x. if x then word_at c t.words at else 0) there ∙ word
@@ -118,32 +124,40 @@ module _ (c : Config) (k : Checked c) (n : ℕ) (lt : n < c.seats) (made : List 
           → All (IsFitCallOf c) left
           → GoesSo c n (view_by c s n kind) log freed from time call sweep
           (then_after task c log (record { seat = n; time = time; from = from; freed = freed; call = call; sweep = sweep }) (s.memory at))
-          → IsStepped c n made (step_made c task (record { seat = seat; tape = t }))
+          → IsStepped c n made t (step_made c task (record { seat = seat; tape = t }))
       next_is log freed from time call sweep own left is no_scan before goes =
           let u = tape_after c n task t in
-          subst (IsStepped c n made) (sym (scene_is ∙ ap (λ (x : SeatOf). went (then_after task c x.log x.state (s.memory at))
+          subst (IsStepped c n made t) (sym (scene_is ∙ ap (λ (x : SeatOf). went (then_after task c x.log x.state (s.memory at))
           (record { seat = x; tape = u })) is))
           (go _ goes)
         where
           go : (x : Then) → GoesSo c n (view_by c s n kind) log freed from time call sweep x
-              → IsStepped c n made (went x (record { seat = seat_with n log freed from time call sweep own left; tape = tape_after c n task t }))
+              → IsStepped c n made t (went x (record { seat = seat_with n log freed from time call sweep own left; tape = tape_after c n task t }))
           go x (by_step more e stands) =
-              subst (λ y. IsStepped c n made (went y (record {
+              subst (λ y. IsStepped c n made t (went y (record {
                 seat = seat_with n log freed from time call sweep own left;
                 tape = tape_after c n task t;
               }))) (sym e)
               (record {
                 kind = kind;
+                task = task;
+                line = [];
+                next = next;
+                new_is = after_is ∙ no_lines (tape_stepped c n task at t);
                 behind = tape_is;
                 seat_is = seat_there _ (seat_by c n (view_by c s n kind) log freed from time call sweep (Some more) left (inl no_scan) before stands);
               })
           go x (by_end answer e stands) =
-              subst (λ y. IsStepped c n made (went y (record {
+              subst (λ y. IsStepped c n made t (went y (record {
                 seat = seat_with n log freed from time call sweep own left;
                 tape = tape_after c n task t;
               }))) (sym e)
               (record {
                 kind = kind;
+                task = task;
+                line = answer_line n call answer;
+                next = next;
+                new_is = ap (λ u. with_line u (answer_line n call answer)) after_is;
                 behind = lined c (tape_after c n task t) (step_of n kind ∷ made) _ tape_is;
                 seat_is = seat_there _ (seat_by c n (view_by c s n kind) log freed from time call sweep None left (inl no_scan) before stands);
               })
@@ -154,14 +168,18 @@ module _ (c : Config) (k : Checked c) (n : ℕ) (lt : n < c.seats) (made : List 
           → then_after task c log (record { seat = n; time = time; from = from; freed = freed; call = call; sweep = sweep }) (s.memory at)
           ≡ Goes (Tidies (LoadMark mark))
           → StandsFor c n (view_by c s n kind) log freed from time call sweep (Some (Tidies (LoadMark mark)))
-          → IsStepped c n made (step_made c task (record { seat = seat; tape = t }))
+          → IsStepped c n made t (step_made c task (record { seat = seat; tape = t }))
       scan_on log freed from time call sweep own left is before mark e stands =
           let u = tape_after c n task t in
-          subst (IsStepped c n made)
+          subst (IsStepped c n made t)
           (sym (scene_is ∙ ap (λ (x : SeatOf). went (then_after task c x.log x.state (s.memory at)) (record { seat = x; tape = u })) is
           ∙ ap (λ y. went y (record { seat = seat_with n log freed from time call sweep own left; tape = u })) e))
           (record {
             kind = kind;
+            task = task;
+            line = [];
+            next = next;
+            new_is = after_is ∙ no_lines (tape_stepped c n task at t);
             behind = tape_is;
             seat_is = seat_there _
                 (seat_by c n (view_by c s n kind) log freed from time call sweep (Some (Tidies (LoadMark mark))) left (inr (mark, refl)) before stands);

@@ -41,13 +41,13 @@ module _ (c : Config) (k : Checked c) (n : ℕ) (lt : n < c.seats) (made : List 
   view = (state_of c made).seats n
 
   abbrev Step_made : Task → Type 0
-  Step_made task = IsStepped c n made (step_made c task (record { seat = seat_with n log freed from time call sweep own left; tape = t }))
+  Step_made task = IsStepped c n made t (step_made c task (record { seat = seat_with n log freed from time call sweep own left; tape = t }))
 
   module _ (no_scan : ((state_of c made).seats n).scan ≡ None) where
     now_is : EndsAt c n view log freed from time call LoadNow → Step_made (EndsSection LoadNow)
     now_is (inl at) = loading_made c k n lt made t b log freed from time call sweep own left no_scan before at.0 at.1 at.2
     now_is (inr at) =
-        let P = λ (x : Option ℕ) (y : Call). IsStepped c n made
+        let P = λ (x : Option ℕ) (y : Call). IsStepped c n made t
         (step_made c (EndsSection LoadNow) (record { seat = seat_with n log freed from x y sweep own left; tape = t })) in
         subst (λ x. P x call) (sym at.1)
         (subst (P None) (sym at.2) (now_rests c k n lt made t b log freed from sweep own left before at.0 no_scan))
@@ -69,18 +69,18 @@ module _ (c : Config) (k : Checked c) (n : ℕ) (lt : n < c.seats) (made : List 
   -- a step outside a section, of a tidy
   module _ (tidies : call ≡ Tidy) where
     at_rest : (step : Sweeping) → time ≡ None
-        → IsStepped c n made (step_made c (Tidies step) (record { seat = seat_with n log freed from None Tidy sweep own left; tape = t }))
+        → IsStepped c n made t (step_made c (Tidies step) (record { seat = seat_with n log freed from None Tidy sweep own left; tape = t }))
         → Step_made (Tidies step)
     at_rest step none made_so =
-        let P = λ (x : Option ℕ) (y : Call). IsStepped c n made
+        let P = λ (x : Option ℕ) (y : Call). IsStepped c n made t
         (step_made c (Tidies step) (record { seat = seat_with n log freed from x y sweep own left; tape = t })) in
         subst (λ x. P x call) (sym none) (subst (P None) (sym tidies) made_so)
 
     in_section : (step : Sweeping)
-        → IsStepped c n made (step_made c (Tidies step) (record { seat = seat_with n log freed from time Tidy sweep own left; tape = t }))
+        → IsStepped c n made t (step_made c (Tidies step) (record { seat = seat_with n log freed from time Tidy sweep own left; tape = t }))
         → Step_made (Tidies step)
     in_section step made_so =
-        let P = λ (y : Call). IsStepped c n made
+        let P = λ (y : Call). IsStepped c n made t
         (step_made c (Tidies step) (record { seat = seat_with n log freed from time y sweep own left; tape = t })) in
         subst P (sym tidies) made_so
 
@@ -124,7 +124,7 @@ module _ (c : Config) (k : Checked c) (n : ℕ) (lt : n < c.seats) (made : List 
   -- each step that a seat stands at, where no scan runs
   quiet_is : view.scan ≡ None → (task : Task) → StandsFor c n view log freed from time call sweep (Some task) → Step_made task
   quiet_is no_scan (Enters step) at =
-      let P = λ (x : Option ℕ). IsStepped c n made
+      let P = λ (x : Option ℕ). IsStepped c n made t
       (step_made c (Enters step) (record { seat = seat_with n log freed from x call sweep own left; tape = t })) in
       subst P (sym at.2) (entering_made c k n lt made t b log freed from call sweep own left no_scan before at.1 at.3 at.4 step at.0)
   quiet_is no_scan (Helps step) at = helping_made c k n lt made t b log freed from time call sweep own left no_scan before step at.0 at.1

@@ -1,8 +1,8 @@
 -- Behind the turns of a plan the domain is behind steps of the core.
 use Rattle.std.proofs.Common.{◌≡◌, ◌≢◌, ℕ, zero, suc, ◌+◌, ◌-◌, ◌<◌, List, [], ◌∷◌, Option, Some, None, All, length, get_or, refl, sym, ap, ◌∙◌}
-use Rattle.std.proofs.Common.{take, subst, arith, length-set, inl, inr, count_by}
+use Rattle.std.proofs.Common.{subst, arith, length-set, inl, inr, count_by}
 use Rattle.std.proofs.lemmas.List.{get_or-set_same, get_or-set_other}
-use Rattle.std.proofs.lemmas.List.Elements.{All-head, All-tail, All-take}
+use Rattle.std.proofs.lemmas.List.Elements.{All-head, All-tail}
 use Rattle.mv_core.proofs.Terms.{dite, ℕ_discrete, Config, Checked, set_at, empty_ring}
 use Rattle.mv_core.specs.declared.view.View.{View}
 use Rattle.mv_core.specs.declared.view.Phase.TheVariants.{Outside}
@@ -25,17 +25,19 @@ use Rattle.step_replay.specs.declared.seats.Sweeping.TheVariants.{LoadMark}
 use Rattle.step_replay.specs.Plans.{PlanOf}
 use Rattle.step_replay.specs.FitPlans.{IsFitCallOf}
 use Rattle.step_replay.specs.Begins.{new_sweep}
+use Rattle.step_replay.specs.Tasks.{place_in_task}
 use Rattle.step_replay.specs.Lines.{idle_line}
 use Rattle.step_replay.specs.Words.{new_words}
 use Rattle.step_replay.specs.States.{zeros, with_made, opened, Made, state_of, AreMade}
 use Rattle.step_replay.specs.Runs.{SeatOf, TapeOf, Scene, Looked, Replay, looked, step_made, turn_begun, turned, new_seat, new_seats}
-use Rattle.step_replay.specs.Runs.{seat_in, turn_taken, turns_taken, replay_begun}
+use Rattle.step_replay.specs.Runs.{seat_in, turn_taken, replay_begun, with_line, tape_stepped}
 use Rattle.step_replay.specs.ReplayLaws.{IsRuled}
-use Rattle.step_replay.specs.Behind.{IsTapeBehind}
-use Rattle.step_replay.specs.RuledRuns.{RunsAreRuled, IsRuledPlan}
+use Rattle.step_replay.specs.Behind.{IsTapeBehind, IsRuledTape}
+use Rattle.step_replay.specs.RuledRuns.{IsTurnOf, prints_only, makes_one, AreTurns, RunsAreRuled, IsRuledPlan}
 use Rattle.step_replay.specs.FitPlans.{IsFitPlan}
 use Rattle.step_replay.proofs.Machines.{shows_opened}
 use Rattle.step_replay.proofs.Ruled.{is_ruled}
+use Rattle.step_replay.proofs.OneStep.{Prints, no_lines, prints_more, looked_prints}
 use Rattle.step_replay.proofs.TurnLaws.{seats_long}
 use Rattle.step_replay.proofs.NextSteps.{lined}
 use Rattle.step_replay.proofs.runs.Sections.{seat_with, Logs}
@@ -43,43 +45,45 @@ use Rattle.step_replay.proofs.runs.Standing.{IsSeat, IsStepped, StandsFor, ScanA
 use Rattle.step_replay.proofs.runs.Steps.{step_is}
 use Rattle.step_replay.proofs.runs.Looking.{IsLooked, looks}
 
--- behind a turn the domain is behind the same steps, or behind one more of the seat
-data IsTurned (c : Config) (n : ℕ) (made : List Made) (y : Scene) : Type 0 where
-  idles : IsTapeBehind c y.tape made → IsSeat c n y.seat ((state_of c made).seats n) → IsTurned c n made y
-  steps : IsStepped c n made y → IsTurned c n made y
+-- behind a turn the domain is behind the same steps, and lines were printed; or it is behind one more of the seat, with lines before it
+data IsTurned (c : Config) (n : ℕ) (made : List Made) (old : TapeOf) (y : Scene) : Type 0 where
+  idles : Prints old y.tape → IsTapeBehind c y.tape made → IsSeat c n y.seat ((state_of c made).seats n) → IsTurned c n made old y
+  steps : (t : TapeOf) → Prints old t → IsStepped c n made t y → IsTurned c n made old y
 
-module _ (c : Config) (k : Checked c) (n : ℕ) (lt : n < c.seats) (made : List Made) where
+module _ (c : Config) (k : Checked c) (n : ℕ) (lt : n < c.seats) (made : List Made) (old : TapeOf) where
   abbrev v : View
   v = (state_of c made).seats n
 
   module _ (no_scan : ((state_of c made).seats n).scan ≡ None) where
     -- the step that comes next is made, or the seat is idle
     looked_is : (l : Looked) (log : List Version) (freed from : ℕ) (time : Option ℕ) → IsLooked c n made v log freed from time l
-        → IsTurned c n made (turn_begun c l.task l.scene)
-    looked_is l log freed from time is = go l.task l.scene.seat l.scene.tape is.is is.behind is.stands
+        → Prints old l.scene.tape → IsTurned c n made old (turn_begun c l.task l.scene)
+    looked_is l log freed from time is printed = go l.task l.scene.seat l.scene.tape is.is printed is.behind is.stands
       where
-        go : (task : Option Task) (seat : SeatOf) (t : TapeOf) → seat ≡ seat_with n log freed from time is.call is.sweep None is.left → IsTapeBehind c t made
-            → StandsFor c n v log freed from time is.call is.sweep task → IsTurned c n made (turn_begun c task (record { seat = seat; tape = t }))
-        go None seat t e b stands =
-            idles (lined c t made (idle_line seat.state.seat) b)
+        go : (task : Option Task) (seat : SeatOf) (t : TapeOf) → seat ≡ seat_with n log freed from time is.call is.sweep None is.left → Prints old t
+            → IsTapeBehind c t made → StandsFor c n v log freed from time is.call is.sweep task
+            → IsTurned c n made old (turn_begun c task (record { seat = seat; tape = t }))
+        go None seat t e printed b stands =
+            idles (prints_more old t (with_line t (idle_line seat.state.seat)) printed (idle_line seat.state.seat, refl))
+            (lined c t made (idle_line seat.state.seat) b)
             (subst (λ x. IsSeat c n x v) (sym e) (seat_by c n v log freed from time is.call is.sweep None is.left (inl no_scan) is.before stands))
-        go (Some task) seat t e b stands =
-            subst (λ x. IsTurned c n made (step_made c task (record { seat = x; tape = t }))) (sym e)
-            (steps (step_is c k n lt made t b log freed from time is.call is.sweep None is.left is.before task (inl no_scan) stands))
+        go (Some task) seat t e printed b stands =
+            subst (λ x. IsTurned c n made old (step_made c task (record { seat = x; tape = t }))) (sym e)
+            (steps t printed (step_is c k n lt made t b log freed from time is.call is.sweep None is.left is.before task (inl no_scan) stands))
 
   -- a turn of the seat
-  turned_is : (seat : SeatOf) (t : TapeOf) → IsTapeBehind c t made → IsSeat c n seat v → IsTurned c n made (turned c (record { seat = seat; tape = t }))
-  turned_is seat t b s =
-      subst (λ x. IsTurned c n made (turned c (record { seat = x; tape = t }))) (sym s.is) (go s.task s.scans s.stands)
+  turned_is : (seat : SeatOf) → IsTapeBehind c old made → IsSeat c n seat v → IsTurned c n made old (turned c (record { seat = seat; tape = old }))
+  turned_is seat b s =
+      subst (λ x. IsTurned c n made old (turned c (record { seat = x; tape = old }))) (sym s.is) (go s.task s.scans s.stands)
     where
       go : (task : Option Task) → ScanAt v task → StandsFor c n v s.log s.freed s.from s.time s.call s.sweep task
-          → IsTurned c n made (turned c (record { seat = seat_with n s.log s.freed s.from s.time s.call s.sweep task s.left; tape = t }))
+          → IsTurned c n made old (turned c (record { seat = seat_with n s.log s.freed s.from s.time s.call s.sweep task s.left; tape = old }))
       go (Some task) scans stands =
-          steps (step_is c k n lt made t b s.log s.freed s.from s.time s.call s.sweep (Some task) s.left s.before task scans stands)
+          steps old ([], no_lines old) (step_is c k n lt made old b s.log s.freed s.from s.time s.call s.sweep (Some task) s.left s.before task scans stands)
       go None (inl no_scan) stands =
-          looked_is no_scan (looked c s.left (record { seat = seat_with n s.log s.freed s.from s.time s.call s.sweep None s.left; tape = t })) s.log s.freed
-          s.from s.time
-          (looks c k n made v s.log s.freed s.from s.left s.left s.before s.before s.time stands s.call s.sweep t b)
+          let x : Scene = record { seat = seat_with n s.log s.freed s.from s.time s.call s.sweep None s.left; tape = old } in
+          looked_is no_scan (looked c s.left x) s.log s.freed s.from s.time
+          (looks c k n made v s.log s.freed s.from s.left s.left s.before s.before s.time stands s.call s.sweep old b) (looked_prints c s.left x)
       go None (inr scan) stands = let e : None ≡ Some (Tidies (LoadMark scan.0)) = scan.1 in absurd (cc)
 
 -- a replay behind steps of the core, with each of its seats
@@ -103,34 +107,58 @@ module _ (c : Config) (k : Checked c) (r : Replay) (n : ℕ) (lt : n < c.seats) 
       (λ other. subst (λ s. IsSeat c m s (views m)) (sym (get_or-set_other r.seats n m y.seat (new_seat [] 0) other))
       (subst (IsSeat c m (seat_in r m)) (sym (others m other)) (are.each m in_range)))
 
-  behind_turn : IsTurned c n made y → (after : List Made) × AreSeats c (turn_taken c r n) after
-  behind_turn (idles b own) = (
+  -- the steps behind the turn, with the seats there
+  abbrev Goes_on : Type 0
+  Goes_on = (after : List Made) × AreSeats c (turn_taken c r n) after × IsTurnOf c n made after r.tape (turn_taken c r n).tape
+
+  behind_turn : IsTurned c n made r.tape y → Goes_on
+  behind_turn (idles printed b own) = (
     made,
     record {
       behind = b;
       long = length-set r.seats n y.seat ∙ are.long;
       each = seats_behind (state_of c made).seats own (λ m other. refl);
     },
+    prints_only printed.0 printed.1 refl,
   )
-  behind_turn (steps s) = (
+  behind_turn (steps t printed s) = (
     step_of n s.kind ∷ made,
     record {
       behind = s.behind;
       long = length-set r.seats n y.seat ∙ are.long;
       each = seats_behind (state_of c (step_of n s.kind ∷ made)).seats s.seat_is (λ m other. set_at_else (state_of c made).seats n _ m other);
     },
+    makes_one (step_of n s.kind) s.task printed.0 s.line s.next refl
+        (s.new_is ∙ ap (λ u. with_line (tape_stepped c n s.task (place_in_task c n s.task) u) s.line) printed.1),
   )
 
-  one_turn : (after : List Made) × AreSeats c (turn_taken c r n) after
-  one_turn = behind_turn (turned_is c k n lt made (seat_in r n) r.tape are.behind (are.each n lt))
+  one_turn : Goes_on
+  one_turn = behind_turn (turned_is c k n lt made r.tape (seat_in r n) are.behind (are.each n lt))
+
+-- behind these steps the tape is at a state of the rule
+tape_ruled : (c : Config) → Checked c → (tape : TapeOf) (made : List Made) → IsTapeBehind c tape made → IsRuledTape c tape made
+tape_ruled c k tape made b = record {
+  behind = b;
+  ruled = λ key numbers from.
+      let back = sym numbers in
+      subst (λ d. IsRuled key d tape.words made) numbers
+      (is_ruled key (subst Checked back k) (from ∙ ap zeros back) made (subst (λ d. AreMade d made) back b.each) tape.words
+      (subst (λ d. Shows d tape.words (state_of d made).memory) back b.shows));
+}
 
 -- all turns of a schedule
 all_turns : (c : Config) → Checked c → (turns : List ℕ) → All (λ seat. seat < c.seats) turns → (r : Replay) (made : List Made)
-    → AreSeats c r made → (after : List Made) × AreSeats c (turns_taken c r turns) after
-all_turns c k [] within_range r made are = (made, are)
+    → AreSeats c r made → AreTurns c r made turns
+all_turns c k [] within_range r made are = tape_ruled c k r.tape made are.behind
 all_turns c k (n ∷ turns) within_range r made are =
-    let next = one_turn c k r n (All-head (λ (seat : ℕ). seat < c.seats) n turns within_range) made are in
-    all_turns c k turns (All-tail (λ (seat : ℕ). seat < c.seats) n turns within_range) (turn_taken c r n) next.0 next.1
+    let next = one_turn c k r n (All-head (λ (seat : ℕ). seat < c.seats) n turns within_range) made are in (
+      tape_ruled c k r.tape made are.behind,
+      (
+        next.0,
+        next.2,
+        all_turns c k turns (All-tail (λ (seat : ℕ). seat < c.seats) n turns within_range) (turn_taken c r n) next.0 next.1,
+      ),
+    )
 
 -- the seat of a number in a new replay
 new_seat_in : (calls : List CallOf) (first count n : ℕ) → n < count
@@ -211,20 +239,9 @@ begun_seats p k fit =
 
 pub runs_ruled : RunsAreRuled
 runs_ruled p fit turns in_range =
-    let c = p.config in
     let k = fit.config.checked in
-    let end = all_turns c k turns in_range (replay_begun p) [] (begun_seats p k fit.calls) in
-    record {
-      made = end.0;
-      behind = end.1.behind;
-      ruled = λ key numbers from.
-          let back = sym numbers in
-          let words = (turns_taken c (replay_begun p) turns).tape.words in
-          subst (λ d. IsRuled key d words end.0) numbers
-          (is_ruled key (subst Checked back k) (from ∙ ap zeros back) end.0 (subst (λ d. AreMade d end.0) back end.1.behind.each) words
-          (subst (λ d. Shows d words (state_of d end.0).memory) back end.1.behind.shows));
-    }
+    all_turns p.config k turns in_range (replay_begun p) [] (begun_seats p k fit.calls)
 
--- and behind each of the first turns of its own schedule
+-- and of its own schedule
 pub plan_ruled : (p : PlanOf) → IsFitPlan p → IsRuledPlan p
-plan_ruled p fit count = runs_ruled p fit (take count p.steps) (All-take (λ (seat : ℕ). seat < p.config.seats) count p.steps fit.steps.0)
+plan_ruled p fit = runs_ruled p fit p.steps fit.steps.0

@@ -79,7 +79,7 @@ module _ (c : Config) (k : Checked c) (n : ℕ) (lt : n < c.seats) (made : List 
     i = inside.section
 
     abbrev Made_so : Walking → Type 0
-    Made_so step = IsStepped c n made (step_made c (Walks o step) (record { seat = seat_with n log freed from time call sweep own left; tape = t }))
+    Made_so step = IsStepped c n made t (step_made c (Walks o step) (record { seat = seat_with n log freed from time call sweep own left; tape = t }))
 
     head_made : Made_so LoadHead
     head_made =

@@ -40,7 +40,7 @@ module _ (c : Config) (k : Checked c) (n : ℕ) (lt : n < c.seats) (made : List 
   v = s.seats n
 
   pub writing_made : (at : ℕ) (words : List ℕ) (word : ℕ) → IsWriting c v log freed from time at words word
-      → IsStepped c n made (step_made c (Writes at words word) (record { seat = seat_with n log freed from time call sweep own left; tape = t }))
+      → IsStepped c n made t (step_made c (Writes at words word) (record { seat = seat_with n log freed from time call sweep own left; tape = t }))
   writing_made at words word writes =
       let inside = writes.inside in
       let l = inside.logs.noted in

@@ -17,3 +17,5 @@ pub mod Shown
 pub mod Behind
 pub mod RuledRuns
 pub mod NextSteps
+pub mod Kinds
+pub mod Answers

@@ -1,36 +1,87 @@
--- The runs of plans: each of their steps is one of the core's, and they are made in the order of the schedule.
-use Rattle.std.specs.Prelude.{◌≡◌, ◌<◌, ℕ, List, [], ◌∷◌, All}
+-- The runs of plans: each of their steps is one of the core's, they are made in the order of the schedule, and each call that ends answers as the
+-- contract of the same call of the runtime says.
+use Rattle.std.specs.Prelude.{◌≡◌, ◌<◌, ◌==◌, ℕ, List, [], ◌∷◌, ◌++◌, All, Option, Some, None, if◌then◌else◌}
 use Rattle.mv_layout.specs.declared.config.Config.{Config}
+use Rattle.mv_core.specs.declared.view.View.{View}
+use Rattle.step_replay.specs.declared.plan.Call.{Call}
+use Rattle.step_replay.specs.declared.seats.Answer.{Answer}
 use Rattle.step_replay.specs.declared.seats.Task.{Task}
 use Rattle.step_replay.specs.Plans.{PlanOf}
 use Rattle.step_replay.specs.FitPlans.{IsFitPlan}
-use Rattle.step_replay.specs.States.{Made}
+use Rattle.step_replay.specs.States.{Made, state_of}
 use Rattle.step_replay.specs.Tasks.{place_in_task}
+use Rattle.step_replay.specs.Lines.{idle_line, skip_line, answer_line}
 use Rattle.step_replay.specs.Runs.{TapeOf, Replay, with_line, tape_stepped, replay_begun, turn_taken}
 use Rattle.step_replay.specs.Behind.{IsRuledTape}
 use Rattle.step_replay.specs.NextSteps.{IsStepOf}
+use Rattle.step_replay.specs.Kinds.{IsKindOf}
+use Rattle.step_replay.specs.Answers.{AnswersSo}
 
--- A turn of this seat leads from the steps made before it to those behind it: they are the same ones, and the turn prints lines only; or they
--- are one more, a step of the core by this seat, and the turn makes just this step, with lines before its own and behind it.
-pub data IsTurnOf (c : Config) (seat : ℕ) (made next : List Made) (old new : TapeOf) : Type 0 where
-  prints_only : (lines : List ℕ) → new ≡ with_line old lines → next ≡ made → IsTurnOf c seat made next old new
-  makes_one : (step : Made) (task : Task) (before behind : List ℕ) → IsStepOf c made step seat task → next ≡ step ∷ made
+-- a call that a seat is in, and the steps that had been made when it began
+pub record Running : Type 0 where
+  pub call : Call
+  pub before : List Made
+
+-- the call that each seat is in
+abbrev pub Calls : Type 0
+Calls = ℕ → Option Running
+
+-- no seat is in a call
+abbrev pub no_calls : Calls
+no_calls seat = None
+
+-- one seat is in this call now, or in none
+abbrev pub with_call : Calls → ℕ → Option Running → Calls
+with_call calls seat call = λ other. if other == seat then call else calls other
+
+-- what a seat knows behind these steps
+abbrev pub view_behind : Config → List Made → ℕ → View
+view_behind c made seat = (state_of c made).seats seat
+
+-- the lines of calls that a seat looks at and that need no step: each was skipped, or is answered by what the seat knows
+pub data AreStepless (c : Config) (seat : ℕ) (v : View) (lines : List ℕ) : Type 0 where
+  no_line : lines ≡ [] → AreStepless c seat v lines
+  skips : (call : Call) (more : List ℕ) → lines ≡ skip_line seat call ++ more → AreStepless c seat v more → AreStepless c seat v lines
+  answers : (call : Call) (answer : Answer) (more : List ℕ) → AnswersSo c call v v answer → lines ≡ answer_line seat call answer ++ more
+      → AreStepless c seat v more → AreStepless c seat v lines
+
+-- the call whose step is made: the one that the seat is in, or one that begins here, behind lines of calls that need no step
+abbrev pub IsCallOf : Config → ℕ → List Made → Option Running → Running → List ℕ → Type 0
+IsCallOf c seat made None call lines = (call.before ≡ made) × AreStepless c seat (view_behind c made seat) lines
+IsCallOf c seat made (Some running) call lines = (call ≡ running) × (lines ≡ [])
+
+-- behind its step the call goes on; or it has ended, and its answer stands in the text
+pub data GoesOrEnds (c : Config) (seat : ℕ) (call : Running) (w : View) (left : Option Running) (lines : List ℕ) : Type 0 where
+  goes_on : left ≡ Some call → lines ≡ [] → GoesOrEnds c seat call w left lines
+  has_ended : (answer : Answer) → left ≡ None → lines ≡ answer_line seat call.call answer
+      → AnswersSo c call.call (view_behind c call.before seat) w answer → GoesOrEnds c seat call w left lines
+
+-- A turn of this seat leads from the steps made before it to those behind it. Either they are the same ones: the seat was in no call, has none left
+-- that needs a step, and is idle. Or they are one more, a step of the core by this seat, of the kind that its call's next step is: the turn makes
+-- just this step, with lines of calls that need none before its own, and behind it the answer, where the call has ended.
+pub data IsTurnOf (c : Config) (seat : ℕ) (made next : List Made) (calls after : Calls) (old new : TapeOf) : Type 0 where
+  prints_only : (lines : List ℕ) → calls seat ≡ None → AreStepless c seat (view_behind c made seat) lines
+      → new ≡ with_line old (lines ++ idle_line seat) → next ≡ made → after ≡ calls → IsTurnOf c seat made next calls after old new
+  makes_one : (step : Made) (task : Task) (call : Running) (left : Option Running) (before behind : List ℕ)
+      → IsCallOf c seat made (calls seat) call before → IsStepOf c made step seat task → IsKindOf task step.kind → next ≡ step ∷ made
+      → GoesOrEnds c seat call (view_behind c next seat) left behind → after ≡ with_call calls seat left
       → new ≡ with_line (tape_stepped c seat task (place_in_task c seat task) (with_line old before)) behind
-      → IsTurnOf c seat made next old new
+      → IsTurnOf c seat made next calls after old new
 
 -- The turns of a schedule, one after another, from a replay behind these steps: its tape is at a state of the rule, the first turn leads on to
 -- the steps behind it, and the turns that are left go on from those.
-abbrev pub AreTurns : Config → Replay → List Made → List ℕ → Type 0
-AreTurns c r made [] = IsRuledTape c r.tape made
-AreTurns c r made (seat ∷ turns) =
+abbrev pub AreTurns : Config → Replay → List Made → Calls → List ℕ → Type 0
+AreTurns c r made calls [] = IsRuledTape c r.tape made
+AreTurns c r made calls (seat ∷ turns) =
     IsRuledTape c r.tape made
-    × ((next : List Made) × IsTurnOf c seat made next r.tape (turn_taken c r seat).tape × AreTurns c (turn_taken c r seat) next turns)
+    × ((next : List Made) × (after : Calls) × IsTurnOf c seat made next calls after r.tape (turn_taken c r seat).tape
+    × AreTurns c (turn_taken c r seat) next after turns)
 
 -- so are the turns of a plan from its start, where no step was made, whatever the schedule is
 abbrev pub RunsAreRuled : Type 0
 RunsAreRuled =
-    (p : PlanOf) → IsFitPlan p → (turns : List ℕ) → All (λ seat. seat < p.config.seats) turns → AreTurns p.config (replay_begun p) [] turns
+    (p : PlanOf) → IsFitPlan p → (turns : List ℕ) → All (λ seat. seat < p.config.seats) turns → AreTurns p.config (replay_begun p) [] no_calls turns
 
 -- and so are those of the plan's own schedule
 abbrev pub IsRuledPlan : PlanOf → Type 0
-IsRuledPlan p = AreTurns p.config (replay_begun p) [] p.steps
+IsRuledPlan p = AreTurns p.config (replay_begun p) [] no_calls p.steps

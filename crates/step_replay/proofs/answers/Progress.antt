@@ -11,6 +11,7 @@ use Rattle.step_replay.specs.declared.seats.Answer.{Answer}
 use Rattle.step_replay.specs.declared.seats.Task.{Task}
 use Rattle.step_replay.specs.declared.seats.Then.{Then}
 use Rattle.step_replay.specs.declared.seats.Then.TheVariants.{Goes, Ends}
+use Rattle.step_replay.specs.FitPlans.{IsFitCall}
 use Rattle.step_replay.specs.States.{Made, state_of, AreMade}
 use Rattle.step_replay.specs.Tasks.{place_in_task}
 use Rattle.step_replay.specs.SeatNotes.{applied}
@@ -40,7 +41,7 @@ state_with n time from freed call sweep = record { seat = n; time = time; from =
 -- the call begins, where its condition holds
 abbrev pub BeginsSo : Call → FarOf → Type 0
 BeginsSo call Far =
-    (c : Config) → Checked c → (n : ℕ) → n < c.seats → (made : List Made) → AreMade c made
+    (c : Config) → Checked c → IsFitCall c call → (n : ℕ) → n < c.seats → (made : List Made) → AreMade c made
     → (log : List Version) (freed from : ℕ) (time : Option ℕ) → RestsAt c ((state_of c made).seats n) log freed from time
     → may_begin log (state_with n time from freed call (new_sweep freed)) call ≡ true
     → Comes (Far c n ((state_of c made).seats n) ((state_of c made).seats n) log (state_with n time from freed call (new_sweep freed)))

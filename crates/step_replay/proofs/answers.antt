@@ -1,0 +1,6 @@
+-- The answers of calls: how far a call has come, and that it comes to what the contract of the same call of the runtime says.
+pub mod Progress
+pub mod Helps
+pub mod Enters
+pub mod Leaves
+pub mod Far

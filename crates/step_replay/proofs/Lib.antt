@@ -7,4 +7,5 @@ pub mod SeatNotes
 pub mod TurnLaws
 pub mod OneStep
 pub mod runs
+pub mod answers
 pub mod NextSteps

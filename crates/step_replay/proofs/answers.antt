@@ -1,0 +1,7 @@
+-- The answers of calls: how far a call has come, and that it comes to what the contract of the same call of the runtime says.
+pub mod Progress
+pub mod Trails
+pub mod Helps
+pub mod Aborts
+pub mod CommitFar
+pub mod Commits

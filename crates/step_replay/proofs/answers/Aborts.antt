@@ -19,7 +19,6 @@ use Rattle.step_replay.specs.declared.seats.Version.{Version}
 use Rattle.step_replay.specs.declared.seats.Ending.{Ending}
 use Rattle.step_replay.specs.declared.seats.Ending.TheVariants.{LoadNow, Name, StampOwn, StoreSuper, Unlock, LoadDeath, Leave}
 use Rattle.step_replay.specs.declared.seats.Leaving.TheVariants.{Plainly, WithCommit, WithAbort}
-use Rattle.step_replay.specs.declared.seats.Task.{Task}
 use Rattle.step_replay.specs.declared.seats.Task.TheVariants.{Enters, Helps, Walks, Locks, Writes, EndsSection, Tidies}
 use Rattle.step_replay.specs.declared.seats.Then.{Then}
 use Rattle.step_replay.specs.declared.seats.Then.TheVariants.{Goes}

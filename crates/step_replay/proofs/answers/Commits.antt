@@ -1,7 +1,6 @@
 -- A commit tries its exchange of CLOCK once, and comes to what the contract of the runtime's commit says.
 use Rattle.std.proofs.Common.{◌≡◌, ◌≢◌, ℕ, ◌+◌, ◌-◌, ◌<◌, ◌≤◌, ◌==◌, ltb, List, [], ◌∷◌, ◌++◌, length, Option, Some, None, true, false}
 use Rattle.std.proofs.Common.{refl, sym, ap, ◌∙◌, subst, arith, eq-eqb, ne_eqb, eqb-true, if◌then◌else◌, Contains}
-use Rattle.mv_history.specs.declared.Entry.{Entry}
 use Rattle.mv_history.specs.declared.Step.{Step}
 use Rattle.mv_history.specs.declared.answers.Rival.{Rival}
 use Rattle.mv_layout.specs.Words.{clock_time_of, clock_seat_of, clock_slot_of}
@@ -15,7 +14,7 @@ use Rattle.mv_core.specs.Rings.{held_count}
 use Rattle.mv_core.specs.Views.{no_clocks}
 use Rattle.mv_core.specs.EnterSteps.{IsWhole, check_loaded, stamp_swapped, mark_cleared}
 use Rattle.mv_core.specs.NameSteps.{MayNameCommit, commit_named, commit_lost, super_stored}
-use Rattle.mv_core.specs.Moves.{Moment, Kind, act, name_commit, stamp}
+use Rattle.mv_core.specs.Moves.{Moment, Kind, act, stamp}
 use Rattle.mv_core.proofs.frames.FrameLaw.{set_at_here}
 use Rattle.mv_core.proofs.kinds.naming.LostClock.{lost_overtaken}
 use Rattle.reader_marks.specs.Sections.{inside_of, section_in}
@@ -51,13 +50,13 @@ use Rattle.step_replay.specs.Answers.{AnswersSo}
 use Rattle.step_replay.proofs.runs.Sections.{InSection, helped_word, later}
 use Rattle.step_replay.proofs.runs.Standing.{step_of}
 use Rattle.step_replay.proofs.runs.Stepping.{view_by}
-use Rattle.step_replay.proofs.runs.Known.{if_so, eqb_ne, ltb_lt, ltb_ge, facts, view_there, knows}
+use Rattle.step_replay.proofs.runs.Known.{if_so, eqb_ne, ltb_lt, facts, view_there, knows}
 use Rattle.step_replay.proofs.runs.LogFacts.{held_are}
 use Rattle.step_replay.proofs.runs.Searches.{first_within, first_after}
 use Rattle.step_replay.proofs.answers.Trails.{Grows, grows_none, grows_one, grows_within}
 use Rattle.step_replay.proofs.answers.Helps.{helped_at_once, whole_now, help_goes}
 use Rattle.step_replay.proofs.answers.Progress.{Comes, state_with, BeginsSo, GoesOnSo}
-use Rattle.step_replay.proofs.answers.CommitFar.{Opens, LoadedNow, HelpingNow, HelpedNow, NamedNow, FinishingBy, Finishing, CommittingFar, CommitFar}
+use Rattle.step_replay.proofs.answers.CommitFar.{Opens, LoadedNow, HelpingNow, HelpedNow, NamedNow, FinishingBy, Finishing, CommitFar}
 
 -- a seat that is in a section and in no call is in an open one
 opens_now : (c : Config) → Checked c → (v : View) (log : List Version) (freed from : ℕ) (time : Option ℕ) → InSection c v log freed from time → Opens v log from

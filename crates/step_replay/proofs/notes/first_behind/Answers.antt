@@ -1,5 +1,3 @@
-use Rattle.step_replay.proofs.answers.Aborts.{abort_goes}
-use Rattle.step_replay.proofs.answers.Commits.{commit_goes}
 use Rattle.std.proofs.Common.{◌+◌, sym, arith}
 use Rattle.step_replay.proofs.SeatNotes.{none_left}
 use Rattle.step_replay.proofs.notes.first_behind.Goals as goal

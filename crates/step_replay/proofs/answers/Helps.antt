@@ -85,8 +85,15 @@ module _ (c : Config) (k : Checked c) (n : ℕ) (made : List Made) (each : AreMa
       if_so P (found == word) (Goes (task.Helps (SwapStamp word unset))) (helped_in s.call c log s word)
       (λ same.
       let e = eqb-true found word same in
-      on (SwapStamp word unset) refl (far.0, far.1, (m.history, subst (λ x. IsWhole c before x m.history) e whole,
-      view ∙ ap (λ x. check_loaded c before x m.history) e)))
+      on (SwapStamp word unset) refl (
+        far.0,
+        far.1,
+        (
+          m.history,
+          subst (λ x. IsWhole c before x m.history) e whole,
+          view ∙ ap (λ x. check_loaded c before x m.history) e,
+        ),
+      ))
       (λ other. done (Some found) (record {
         helps = helps_gone c v word unset far.1 before w found m.history refl whole.0 view (eqb_ne found word other);
         finds = (m.history, whole, ap (λ (u : View). u.past) view);

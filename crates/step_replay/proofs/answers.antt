@@ -1,6 +1,10 @@
 -- The answers of calls: how far a call has come, and that it comes to what the contract of the same call of the runtime says.
 pub mod Progress
+pub mod Trails
 pub mod Helps
 pub mod Enters
 pub mod Leaves
+pub mod Aborts
+pub mod CommitFar
+pub mod Commits
 pub mod Far

@@ -2,6 +2,9 @@
 pub mod Progress
 pub mod Trails
 pub mod Helps
+pub mod Enters
+pub mod Leaves
 pub mod Aborts
 pub mod CommitFar
 pub mod Commits
+pub mod Far

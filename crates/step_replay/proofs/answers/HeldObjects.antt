@@ -1,10 +1,10 @@
 -- The version that a section holds of an object, by the notes of its seat.
-use Rattle.std.proofs.Common.{◌≡◌, ◌≢◌, ℕ, ◌+◌, ◌-◌, ◌<◌, ◌≤◌, List, length, Option, Some, refl, sym, ap, ◌∙◌, arith, eqb-true}
+use Rattle.std.proofs.Common.{◌≡◌, ℕ, ◌+◌, ◌-◌, ◌<◌, ◌≤◌, List, length, Option, Some, refl, sym, ap, ◌∙◌, arith, eqb-true}
 use Rattle.std.specs.Prelude.{slice_get}
 use Rattle.mv_core.proofs.Terms.{Config, Checked}
 use Rattle.mv_core.specs.declared.view.View.{View}
 use Rattle.seat_log.specs.declared.version.Note.{Note}
-use Rattle.seat_log.specs.Notes.{Noted, IsNoteAt, held_from}
+use Rattle.seat_log.specs.Notes.{Noted, IsNoteAt}
 use Rattle.seat_log.proofs.Places.{get_within}
 use Rattle.object_lock.specs.Locks.{HoldsObject}
 use Rattle.object_lock.specs.Writes.{IsHeldAt}

@@ -1,6 +1,6 @@
 -- A read: what it has left of its seat's view so far, and that its six words are those of the object in the section's state.
-use Rattle.std.proofs.Common.{◌≡◌, ℕ, ◌+◌, ◌<◌, ◌^◌, ◌==◌, ◌&&◌, ltb, leb, not, List, [], ◌∷◌, ◌++◌, length, All, true, Option, replicate}
-use Rattle.std.proofs.Common.{refl, sym, ap, ◌∙◌, subst, arith, inl, inr, eq-eqb, if◌then◌else◌, slice_set, append-nil, append_assoc}
+use Rattle.std.proofs.Common.{◌≡◌, ℕ, ◌+◌, ◌<◌, ◌^◌, ◌==◌, ◌&&◌, ltb, leb, not, List, [], ◌∷◌, ◌++◌, length, All, Option, replicate}
+use Rattle.std.proofs.Common.{refl, sym, ap, ◌∙◌, subst, arith, inl, inr, if◌then◌else◌, slice_set, append-nil, append_assoc}
 use Rattle.std.specs.Prelude.{unwrap_or}
 use Rattle.std.proofs.lemmas.List.Elements.{All-nil, All-push}
 use Rattle.mv_history.specs.declared.Step.{Step}
@@ -211,8 +211,8 @@ module _ (o : ℕ) (c : Config) (k : Checked c) (n : ℕ) (lt : n < c.seats) (ma
         (stamp_so p link first is.0 (subst (Steps p (LoadStamp link first)) is.1 step).may.may)
     walk_so inside p same range (LoadPrev link) at kind step is = subst (Comes_so p (LoadPrev link)) (sym is.1) (prev_so p link is.0)
     walk_so inside p same range (LoadWord link words word) at kind step (inl is) =
-        subst (Comes_so p (LoadWord link words word)) (sym is.2)
-        (master_so inside p same range link words word at.0 at.3 is.1 (subst (Steps p (LoadWord link words word)) is.2 step))
+        subst (Comes_so p (LoadWord link words word)) (sym is.1.1)
+        (master_so inside p same range link words word at.0 at.3 is.1.0 (subst (Steps p (LoadWord link words word)) is.1.1 step))
     walk_so inside p same range (LoadWord link words word) at kind step (inr is) =
         subst (Comes_so p (LoadWord link words word)) (sym is.2)
         (data_so inside p same range link words word at.0 at.3 is.0 is.1 at.2 (subst (Steps p (LoadWord link words word)) is.2 step))

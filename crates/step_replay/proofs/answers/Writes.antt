@@ -1,5 +1,5 @@
 -- A write: which words of its version were stored so far, and that behind the last one the section holds the object with these words.
-use Rattle.std.proofs.Common.{◌≡◌, ℕ, zero, suc, ◌+◌, ◌-◌, ◌<◌, ltb, List, [], ◌∷◌, ◌++◌, length, All, true, Option, Some, None}
+use Rattle.std.proofs.Common.{◌≡◌, ℕ, zero, suc, ◌+◌, ◌-◌, ◌<◌, ltb, List, [], ◌∷◌, ◌++◌, length, Option, Some, None}
 use Rattle.std.proofs.Common.{refl, sym, ap, ◌∙◌, subst, arith, slice_index, slice_index_or, if◌then◌else◌, append-nil, append_assoc}
 use Rattle.std.proofs.Common.{length-append}
 use Rattle.std.specs.Prelude.{slice_get}
@@ -22,14 +22,15 @@ use Rattle.object_lock.proofs.Locked.{noted_is}
 use Rattle.object_lock.proofs.Rewriting.{is_held, all_written, spare_stays}
 use Rattle.step_replay.specs.declared.plan.Call.TheVariants.{Write}
 use Rattle.step_replay.specs.declared.seats.Version.{Version}
-use Rattle.step_replay.specs.declared.seats.Sweep.{Sweep}
 use Rattle.step_replay.specs.declared.seats.State.{State}
 use Rattle.step_replay.specs.declared.seats.Task.{Task}
 use Rattle.step_replay.specs.declared.seats.Task.TheVariants.{Enters, Helps, Walks, Locks, Writes, EndsSection, Tidies}
 use Rattle.step_replay.specs.declared.seats.Answer.TheVariants.{Silent}
 use Rattle.step_replay.specs.declared.seats.Then.TheVariants.{Goes, Ends}
 use Rattle.step_replay.specs.declared.notes.Test.TheVariants.{IsOf}
-use Rattle.step_replay.specs.SeatNotes.{first_from}
+use Rattle.step_replay.specs.SeatNotes.{first_from, applied}
+use Rattle.step_replay.specs.Learns.{state_after, edit_of}
+use Rattle.step_replay.specs.Tasks.{place_in_task}
 use Rattle.step_replay.specs.States.{Made, state_of, AreMade}
 use Rattle.step_replay.specs.NextSteps.{IsStepOf}
 use Rattle.step_replay.specs.Answers.{AnswersSo}
@@ -37,7 +38,7 @@ use Rattle.step_replay.proofs.runs.Sections.{InSection}
 use Rattle.step_replay.proofs.runs.Standing.{step_of}
 use Rattle.step_replay.proofs.runs.Stepping.{view_by}
 use Rattle.step_replay.proofs.runs.Known.{if_so, ltb_lt, ltb_ge, knows}
-use Rattle.step_replay.proofs.answers.Progress.{Comes, BeginsSo, GoesOnSo}
+use Rattle.step_replay.proofs.answers.Progress.{Comes, state_with, BeginsSo, GoesOnSo}
 use Rattle.step_replay.proofs.answers.HeldObjects.{held_there}
 
 -- What a write has done so far: so many of the words, the first ones, are those of the object's version, and each was stored in a step.
@@ -86,26 +87,26 @@ note_there (m ∷ ns) (suc i) n d e = note_there ns i n d e
 module _ (o : ℕ) (words : List ℕ) (c : Config) (k : Checked c) (six : length words ≡ 6) (n : ℕ) (made : List Made) (each : AreMade c made)
     (log : List Version) (freed from : ℕ) (time : Option ℕ) (inside : InSection c ((state_of c made).seats n) log freed from time)
     (there : first_from log from (IsOf o) < length log) where
-  abbrev v : View
-  v = (state_of c made).seats n
+  abbrev start : View
+  start = (state_of c made).seats n
 
   abbrev l : Noted
   l = inside.logs.noted
 
-  abbrev at : ℕ
-  at = first_from log from (IsOf o)
+  abbrev place : ℕ
+  place = first_from log from (IsOf o)
 
-  begun : HasWritten c v v o words at 0
+  begun : HasWritten c start start o words place 0
   begun =
-      let held = held_there c k v log freed from time inside o there in
-      let h = held_note c v l at inside.logs.stands (is_held c v l o at inside.logs.stands held) in
+      let held = held_there c k start log freed from time inside o there in
+      let h = held_note c start l place inside.logs.stands (is_held c start l o place inside.logs.stands held) in
       let known = (knows c k n made each).section inside.section inside.walking.phase in
-      let same = note_there l.live (at - l.freed) h.0 held.note h.1 in record {
+      let same = note_there l.live (place - l.freed) h.0 held.note h.1 in record {
         noted = l;
         before = inside.logs.stands;
         held = held;
-        now = none_noted c v l at words inside.logs.stands;
-        stores = none_stored v;
+        now = none_noted c start l place words inside.logs.stands;
+        stores = none_stored start;
         six = six;
         wide = ap (λ (x : Note). length x.words) same ∙ (known.held _ _ h.2).wide;
       }
@@ -182,7 +183,10 @@ module _ (o : ℕ) (words : List ℕ) (c : Config) (n : ℕ) (made : List Made) 
 
 pub write_goes : (o : ℕ) (words : List ℕ) → GoesOnSo (Write o words) (WriteFar o words)
 write_goes o words c k n lt made each log freed from time sweep (Writes at these word) stands scan kind step is u far =
-    kind_so o words c n made u at word stands.in_range _ _ these far.1 far.0 kind step is.0 is.1
+    let s = state_with n time from freed (Write o words) sweep in
+    let task = Writes at these word in
+    let found = (state_of c made).memory (place_in_task c n task) in
+    kind_so o words c n made u at word stands.in_range (applied (edit_of task s found) log) (state_after task log s found) these far.1 far.0 kind step is.0 is.1
 write_goes o words c k n lt made each log freed from time sweep (Enters next) stands scan kind step is u far = absurd far
 write_goes o words c k n lt made each log freed from time sweep (Helps next) stands scan kind step is u far = absurd far
 write_goes o words c k n lt made each log freed from time sweep (Walks p next) stands scan kind step is u far = absurd far

@@ -5,7 +5,7 @@ use Rattle.std.proofs.lemmas.List.Elements.{All-nil, All-cons}
 use Rattle.mv_history.specs.State.{touches}
 use Rattle.mv_history.specs.declared.Step.{Step}
 use Rattle.mv_history.specs.declared.StepKind.{StepKind}
-use Rattle.mv_history.specs.declared.StepKind.TheVariants as steps
+use Rattle.mv_history.specs.declared.StepKind.TheVariants as kinds
 use Rattle.mv_layout.specs.Places.{place_of}
 use Rattle.mv_layout.specs.Words.{link_seat_of}
 use Rattle.mv_core.proofs.Terms.{Config, First, Stamp}
@@ -49,11 +49,11 @@ pub record HasFound (c : Config) (v w : View) (o link : ℕ) (behind : List Step
 -- the loads of FIRST and STAMP of the version that a link names
 abbrev pub first_step : Config → ℕ → ℕ → Step
 first_step c link first =
-    record { kind = steps.LoadFirst; word = place_of c (First (link_seat_of link) (slot_named c link)); found = Some first; stored = None }
+    record { kind = kinds.LoadFirst; word = place_of c (First (link_seat_of link) (slot_named c link)); found = Some first; stored = None }
 
 abbrev pub stamp_step : Config → ℕ → ℕ → ℕ → Step
 stamp_step c link first stamp =
-    record { kind = steps.LoadStamp; word = place_of c (Stamp (link_seat_of link) (index_of c first)); found = Some stamp; stored = None }
+    record { kind = kinds.LoadStamp; word = place_of c (Stamp (link_seat_of link) (index_of c first)); found = Some stamp; stored = None }
 
 -- what was found on top, by the steps so far
 abbrev pub FindsTop : Config → View → View → ℕ → ℕ → ℕ → List Step → Type 0

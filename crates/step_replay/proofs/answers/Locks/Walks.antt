@@ -1,20 +1,19 @@
 -- The steps of the walk of a lock: what is on top of the object's chain, and its words.
-use Rattle.std.proofs.Common.{◌≡◌, ◌≢◌, ◌⊎◌, ℕ, ◌+◌, ◌<◌, ◌≤◌, ◌^◌, ◌==◌, ◌&&◌, ltb, leb, not, Bool, List, [], ◌∷◌, ◌++◌, true, false, Option, Some}
+use Rattle.std.proofs.Common.{◌≡◌, ◌≢◌, ℕ, ◌+◌, ◌<◌, ◌^◌, ◌==◌, ◌&&◌, ltb, leb, not, Bool, List, [], ◌∷◌, ◌++◌, length, true, false, Option}
 use Rattle.std.proofs.Common.{replicate, refl, sym, ap, ◌∙◌, subst, ⊎_elim, arith, inl, inr, if◌then◌else◌, slice_set}
 use Rattle.std.specs.Prelude.{unwrap_or}
-use Rattle.mv_history.specs.declared.StepKind.TheVariants as steps
+use Rattle.mv_history.specs.declared.StepKind.TheVariants as kinds
 use Rattle.mv_layout.specs.Words.{IsUnset, link_seat_of}
 use Rattle.mv_core.proofs.Terms.{Config, Checked, Head, First, Stamp}
 use Rattle.mv_core.specs.declared.ring.Slot.TheVariants.{Live}
 use Rattle.mv_core.specs.declared.ring.Status.{Status}
-use Rattle.mv_core.specs.declared.ring.Status.TheVariants as status
 use Rattle.mv_core.specs.declared.view.View.{View}
 use Rattle.mv_core.specs.declared.view.Section.{Section}
 use Rattle.mv_core.specs.declared.view.Stand.{Stand}
 use Rattle.mv_core.specs.declared.view.Walk.TheVariants as walk
 use Rattle.mv_core.specs.Rings.{slot_at, index_of}
 use Rattle.mv_core.specs.Views.{time_in}
-use Rattle.mv_core.specs.WalkSteps.{slot_named, IsWriteOf, IsPackedOf, IsOwnTop, IsOwnTime, MayLoadHead, MayLoadFirst, MayLoadStamp}
+use Rattle.mv_core.specs.WalkSteps.{slot_named, IsWriteOf, IsPackedOf, IsOwnTop, IsOwnTime}
 use Rattle.mv_core.specs.Moves.{Moment, Kind, load_head, load_first, load_stamp, load_data, load_master}
 use Rattle.mv_core.proofs.kinds.walking.LoadHead.{head_loads}
 use Rattle.step_replay.specs.declared.plan.Call.TheVariants.{Lock}
@@ -35,15 +34,23 @@ use Rattle.step_replay.specs.Answers.{AnswersSo}
 use Rattle.step_replay.proofs.runs.Sections.{InSection, MayHold, StandsAt, WalksAt}
 use Rattle.step_replay.proofs.runs.Standing.{step_of}
 use Rattle.step_replay.proofs.runs.Stepping.{view_by}
-use Rattle.step_replay.proofs.runs.Known.{if_so, eqb_ne, leb_le, leb_gt, ltb_ge, facts, view_there, starts, seated, word_small}
+use Rattle.step_replay.proofs.runs.Known.{if_so, eqb_ne, leb_le, leb_gt, facts, view_there, starts, seated, word_small}
 use Rattle.step_replay.proofs.runs.LogFacts.{held_in_log}
 use Rattle.step_replay.proofs.answers.Progress.{Comes, state_with}
 use Rattle.step_replay.proofs.answers.StampTold.{stamp_told}
-use Rattle.step_replay.proofs.answers.Locks.Far.{HasDone, HasFound, first_step, stamp_step, WalkFar, LockFar, done_more, load_done, found_now, found_on}
+use Rattle.step_replay.proofs.answers.Locks.Far.{HasDone, first_step, stamp_step, WalkFar, LockFar, done_more, load_done, found_now, found_on}
 use Rattle.step_replay.proofs.answers.Locks.Far.{all_seen}
 use Rattle.step_replay.proofs.answers.Locks.Refusals.{same_number, refusal_so}
 
--- where a link names a version of another seat, the step that loads FIRST or STAMP of it is that of the link
+-- a time that isn't up to another is above it
+later : (found time : ℕ) → (not (is_unset found) && leb found time) ≡ false → found < 2 ^ 63 → time < found
+later found time limit low = go (is_unset found) refl (leb found time) refl limit
+  where
+    go : (b : Bool) → is_unset found ≡ b → (l : Bool) → leb found time ≡ l → (not b && l) ≡ false → time < found
+    go true p l q e = let high = leb_le 9223372036854775808 found p in absurd (omega (arith, high, low))
+    go false p true q e = absurd (cc)
+    go false p false q e = leb_gt found time q
+
 module _ (o : ℕ) (c : Config) (k : Checked c) (n : ℕ) (lt : n < c.seats) (made : List Made) (each : AreMade c made) (log : List Version)
     (freed from : ℕ) (time : Option ℕ) (sweep : Sweep) (u : View) (inside : InSection c ((state_of c made).seats n) log freed from time)
     (p : ℕ) (same : p ≡ o) (may : MayHold c log freed from p) where
@@ -79,7 +86,7 @@ module _ (o : ℕ) (c : Config) (k : Checked c) (n : ℕ) (lt : n < c.seats) (ma
       if_so (Comes (LockFar o c n u w log state) (AnswersSo c (Lock o) u w)) (link == 0) (Goes (Walks p (LoadWord link (replicate 6 0) 0)))
       (Goes (Walks p (LoadFirst link)))
       (λ e. done_more c u w p 1 3 [] (omega arith) one)
-      (λ e. (one, found_now c u v w p link 0 [] steps.LoadHead done refl (told.1 (eqb_ne link 0 e)), told.2))
+      (λ e. (one, found_now c u v w p link 0 [] kinds.LoadHead done refl (told.1 (eqb_ne link 0 e)), told.2))
 
   first_so : (link : ℕ) (stand : Stand) → WalkFar c u v p (LoadFirst link) → Steps (LoadFirst link) (load_first link stand)
       → Comes_so (LoadFirst link) (load_first link stand)
@@ -123,10 +130,41 @@ module _ (o : ℕ) (c : Config) (k : Checked c) (n : ℕ) (lt : n < c.seats) (ma
       (λ e. done)
       (λ limit.
       refusal_so (LockFar o c n u w log state) c u w p o link first found 3 [] i same done (omega arith) tt
-      (found_on c u v w p link (first_step c link first ∷ []) (stamp_step c link first found) far.1.0
+      (found_on c u v w p link (first_step c link first ∷ []) (stamp_step c link first found) far.1
       (ap (λ (l : ℕ). v.trail ++ stamp_step c l first found ∷ []) m.link_is)) inside.walking.phase
-      (λ unset q. other_seat link found far.1.0.packed far.2 told.1 unset (q ∙ sym number))
+      (λ unset q. other_seat link found far.1.packed far.2 told.1 unset (q ∙ sym number))
       (λ low. (
-        later (is_unset found) refl (leb found (unwrap_or time 0)) refl limit low ∙< ap (λ z. unwrap_or z 0) inside.time_is,
+        (let after = later found (unwrap_or time 0) limit low in
+        let is : unwrap_or time 0 ≡ time_in inside.section = ap (λ z. unwrap_or z 0) inside.time_is in
+        omega (arith, after, is)),
         subst (λ (q : ℕ). IsWriteOf c w.past.seen q found) object (told.0.write low),
       )))
+
+  -- one word more of the object was read
+  word_so : (w : View) (link : ℕ) (words : List ℕ) (word found : ℕ) → word < 6 → HasDone c u w p (3 + word + 1) []
+      → Comes (LockFar o c n u w log state) (AnswersSo c (Lock o) u w)
+      (if ltb word 5 then Goes (Walks p (LoadWord link (slice_set words word found) (word + 1)))
+      else Goes (Locks (new_version state p link (slice_set words word found)) (length log) (locking.Build 0)))
+  word_so w link words word found less done =
+      if_so (Comes (LockFar o c n u w log state) (AnswersSo c (Lock o) u w)) (ltb word 5)
+      (Goes (Walks p (LoadWord link (slice_set words word found) (word + 1))))
+      (Goes (Locks (new_version state p link (slice_set words word found)) (length log) (locking.Build 0)))
+      (λ e. done_more c u w p (3 + word + 1) (3 + (word + 1)) [] (omega arith) done)
+      (λ e. (same, done_more c u w p (3 + word + 1) 9 [] (omega (arith, less)) done))
+
+  pub walk_so : (next : Walking) → WalksAt c v inside.section p next → WalkFar c u v p next → (kind : Kind) → Steps next kind
+      → IsKindOfWalking p next kind → Comes_so next kind
+  walk_so LoadHead at far kind step is = subst (Comes_so LoadHead) (sym is.1) (head_so is.0 far (subst (Steps LoadHead) is.1 step))
+  walk_so (LoadFirst link) at far kind step is =
+      subst (Comes_so (LoadFirst link)) (sym is.1) (first_so link is.0 far (subst (Steps (LoadFirst link)) is.1 step))
+  walk_so (LoadStamp link first) at far kind step is =
+      subst (Comes_so (LoadStamp link first)) (sym is.1) (stamp_so link first is.0 at.0 far (subst (Steps (LoadStamp link first)) is.1 step))
+  walk_so (LoadPrev link) at far kind step is = absurd far
+  walk_so (LoadWord link words word) at far kind step (inl is) =
+      subst (Comes_so (LoadWord link words word)) (sym is.1.1)
+      (word_so (view_by c s n (load_master p word is.1.0)) link words word (s.memory (walking_place c p (LoadWord link words word))) at.0
+      (load_done c u v (view_by c s n (load_master p word is.1.0)) p (3 + word) [] _ far (all_seen v) refl tt refl refl (refl, refl)))
+  walk_so (LoadWord link words word) at far kind step (inr is) =
+      subst (Comes_so (LoadWord link words word)) (sym is.2)
+      (word_so (view_by c s n (load_data link word is.0 is.1)) link words word (s.memory (walking_place c p (LoadWord link words word))) at.0
+      (load_done c u v (view_by c s n (load_data link word is.0 is.1)) p (3 + word) [] _ far (all_seen v) refl tt refl refl (refl, refl)))

@@ -26,4 +26,5 @@ pub mod BackingUp
 pub mod LeavingBack
 pub mod Steps
 pub mod Looking
+pub mod InCalls
 pub mod Turns

@@ -17,7 +17,8 @@ use Rattle.step_replay.proofs.runs.Known.{eqb_ne}
 use Rattle.step_replay.proofs.runs.LogFacts.{noted_long, noted_at, held_are, from_there}
 use Rattle.step_replay.proofs.runs.Searches.{first_after, first_before, first_there, none_of}
 
-module _ (c : Config) (k : Checked c) (v : View) (log : List Version) (freed from : ℕ) (time : Option ℕ) (inside : InSection c v log freed from time) (o : ℕ) where
+module _ (c : Config) (k : Checked c) (v : View) (log : List Version) (freed from : ℕ) (time : Option ℕ) (inside : InSection c v log freed from time)
+    (o : ℕ) where
   abbrev l : Noted
   l = inside.logs.noted
 

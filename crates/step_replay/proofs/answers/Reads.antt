@@ -223,11 +223,11 @@ read_begins o c k fit n lt made each log freed from time rests may = none_read (
 
 -- and goes on
 pub read_goes : (o : ℕ) → GoesOnSo (Read o) (ReadFar o)
-read_goes o c k n lt made each log freed from time sweep (Walks p next) stands scan kind step is u far =
+read_goes o c k n lt made each log freed from time sweep (Walks p next) stands scan kind step is u far so =
     walk_so o c k n lt made each log freed from time sweep u far stands.0 p stands.2 stands.1 next stands.3 kind step is
-read_goes o c k n lt made each log freed from time sweep (Enters next) stands scan kind step is u far = absurd far
-read_goes o c k n lt made each log freed from time sweep (Helps next) stands scan kind step is u far = absurd far
-read_goes o c k n lt made each log freed from time sweep (Locks version at next) stands scan kind step is u far = absurd far
-read_goes o c k n lt made each log freed from time sweep (Writes at words word) stands scan kind step is u far = absurd far
-read_goes o c k n lt made each log freed from time sweep (EndsSection next) stands scan kind step is u far = absurd far
-read_goes o c k n lt made each log freed from time sweep (Tidies next) stands scan kind step is u far = absurd far
+read_goes o c k n lt made each log freed from time sweep (Enters next) stands scan kind step is u far so = absurd far
+read_goes o c k n lt made each log freed from time sweep (Helps next) stands scan kind step is u far so = absurd far
+read_goes o c k n lt made each log freed from time sweep (Locks version at next) stands scan kind step is u far so = absurd far
+read_goes o c k n lt made each log freed from time sweep (Writes at words word) stands scan kind step is u far so = absurd far
+read_goes o c k n lt made each log freed from time sweep (EndsSection next) stands scan kind step is u far so = absurd far
+read_goes o c k n lt made each log freed from time sweep (Tidies next) stands scan kind step is u far so = absurd far

@@ -182,14 +182,14 @@ module _ (o : ℕ) (words : List ℕ) (c : Config) (n : ℕ) (made : List Made) 
       (write_so notes state version (subst (λ (p : List ℕ × Kind). Steps p.0 p.1) (λ i. (same i, all i)) step) far)
 
 pub write_goes : (o : ℕ) (words : List ℕ) → GoesOnSo (Write o words) (WriteFar o words)
-write_goes o words c k n lt made each log freed from time sweep (Writes at these word) stands scan kind step is u far =
+write_goes o words c k n lt made each log freed from time sweep (Writes at these word) stands scan kind step is u far so =
     let s = state_with n time from freed (Write o words) sweep in
     let task = Writes at these word in
     let found = (state_of c made).memory (place_in_task c n task) in
     kind_so o words c n made u at word stands.in_range (applied (edit_of task s found) log) (state_after task log s found) these far.1 far.0 kind step is.0 is.1
-write_goes o words c k n lt made each log freed from time sweep (Enters next) stands scan kind step is u far = absurd far
-write_goes o words c k n lt made each log freed from time sweep (Helps next) stands scan kind step is u far = absurd far
-write_goes o words c k n lt made each log freed from time sweep (Walks p next) stands scan kind step is u far = absurd far
-write_goes o words c k n lt made each log freed from time sweep (Locks version at next) stands scan kind step is u far = absurd far
-write_goes o words c k n lt made each log freed from time sweep (EndsSection next) stands scan kind step is u far = absurd far
-write_goes o words c k n lt made each log freed from time sweep (Tidies next) stands scan kind step is u far = absurd far
+write_goes o words c k n lt made each log freed from time sweep (Enters next) stands scan kind step is u far so = absurd far
+write_goes o words c k n lt made each log freed from time sweep (Helps next) stands scan kind step is u far so = absurd far
+write_goes o words c k n lt made each log freed from time sweep (Walks p next) stands scan kind step is u far so = absurd far
+write_goes o words c k n lt made each log freed from time sweep (Locks version at next) stands scan kind step is u far so = absurd far
+write_goes o words c k n lt made each log freed from time sweep (EndsSection next) stands scan kind step is u far so = absurd far
+write_goes o words c k n lt made each log freed from time sweep (Tidies next) stands scan kind step is u far so = absurd far

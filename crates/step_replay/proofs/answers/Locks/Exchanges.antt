@@ -131,7 +131,8 @@ module _ (o : ℕ) (c : Config) (k : Checked c) (n : ℕ) (lt : n < c.seats) (ma
         let number = same_number c u v version.object most tried done in record {
           tried = tried ++ lost_step c version.object found ∷ [];
           few = few;
-          done = done_more c u lost version.object (most + 1) 22 (tried ++ lost_step c version.object found ∷ []) (omega (arith, le)) (lost_done most tried done);
+          done = done_more c u lost version.object (most + 1) 22 (tried ++ lost_step c version.object found ∷ []) (omega (arith, le))
+              (lost_done most tried done);
           found = found_now c u v lost version.object found most tried kinds.LockHead done refl (told.0 some);
           other = λ e. told.1 some (e ∙ sym number);
           late = ap (λ (x : walking.Walk). (stand_of x).late) (sym (at_some version.object found Nothing true some));

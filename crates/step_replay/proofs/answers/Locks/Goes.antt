@@ -118,16 +118,16 @@ module _ (o : ℕ) (c : Config) (k : Checked c) (n : ℕ) (lt : n < c.seats) (ma
       (stamp_so l.inside l.object link first is.0 l.builds.object_is l.locks.0 far (subst (Steps (FoundStamp link first)) is.1 step))
 
 pub lock_goes : (o : ℕ) → GoesOnSo (Lock o) (LockFar o)
-lock_goes o c k n lt made each log freed from time sweep (Walks p next) stands scan kind step is u far =
+lock_goes o c k n lt made each log freed from time sweep (Walks p next) stands scan kind step is u far so =
     walk_so o c k n lt made each log freed from time sweep u stands.0 p stands.2.0 stands.2.1 next stands.3 far kind step is
-lock_goes o c k n lt made each log freed from time sweep (Locks version at next) stands scan kind step is u far =
+lock_goes o c k n lt made each log freed from time sweep (Locks version at next) stands scan kind step is u far so =
     let s = state_with n time from freed (Lock o) sweep in
     let task = Locks version at next in
     let found = (state_of c made).memory (place_in_task c n task) in
     locks_so o c k n lt made each log freed from time u (applied (edit_of task s found) log) (state_after task log s found) version at far.0 next stands.0
     far.1 kind step is
-lock_goes o c k n lt made each log freed from time sweep (Enters next) stands scan kind step is u far = absurd far
-lock_goes o c k n lt made each log freed from time sweep (Helps next) stands scan kind step is u far = absurd far
-lock_goes o c k n lt made each log freed from time sweep (Writes at words word) stands scan kind step is u far = absurd far
-lock_goes o c k n lt made each log freed from time sweep (EndsSection next) stands scan kind step is u far = absurd far
-lock_goes o c k n lt made each log freed from time sweep (Tidies next) stands scan kind step is u far = absurd far
+lock_goes o c k n lt made each log freed from time sweep (Enters next) stands scan kind step is u far so = absurd far
+lock_goes o c k n lt made each log freed from time sweep (Helps next) stands scan kind step is u far so = absurd far
+lock_goes o c k n lt made each log freed from time sweep (Writes at words word) stands scan kind step is u far so = absurd far
+lock_goes o c k n lt made each log freed from time sweep (EndsSection next) stands scan kind step is u far so = absurd far
+lock_goes o c k n lt made each log freed from time sweep (Tidies next) stands scan kind step is u far so = absurd far

@@ -14,6 +14,11 @@ use Rattle.step_replay.specs.declared.seats.Then.TheVariants.{Goes, Ends}
 use Rattle.step_replay.proofs.answers.Progress.{FarOf, Comes, BeginsSo, GoesOnSo}
 use Rattle.step_replay.proofs.answers.Enters.{EnterFar, enter_begins, enter_goes}
 use Rattle.step_replay.proofs.answers.Leaves.{LeaveFar, leave_begins, leave_goes}
+use Rattle.step_replay.proofs.answers.Reads.{ReadFar, read_begins, read_goes}
+use Rattle.step_replay.proofs.answers.Writes.{WriteFar, write_begins, write_goes}
+use Rattle.step_replay.proofs.answers.Locks.Far.{LockFar}
+use Rattle.step_replay.proofs.answers.Locks.Begins.{lock_begins}
+use Rattle.step_replay.proofs.answers.Locks.Goes.{lock_goes}
 use Rattle.step_replay.proofs.answers.CommitFar.{CommitFar}
 use Rattle.step_replay.proofs.answers.Commits.{commit_begins, commit_goes}
 use Rattle.step_replay.proofs.answers.Aborts.{AbortFar, abort_begins, abort_goes}
@@ -40,9 +45,9 @@ any_goes call any c k n lt made each log freed from time sweep task stands scans
 -- how far a call has come, by which one it is
 abbrev pub FarIn : Call → FarOf
 FarIn Enter = EnterFar
-FarIn (Read o) = AnyFar
-FarIn (Lock o) = AnyFar
-FarIn (Write o words) = AnyFar
+FarIn (Read o) = ReadFar o
+FarIn (Lock o) = LockFar o
+FarIn (Write o words) = WriteFar o words
 FarIn Commit = CommitFar
 FarIn Abort = AbortFar
 FarIn Leave = LeaveFar
@@ -50,9 +55,9 @@ FarIn Tidy = AnyFar
 
 pub call_begins : (call : Call) → BeginsSo call (FarIn call)
 call_begins Enter = enter_begins
-call_begins (Read o) = any_begins (Read o) (λ c v w answer. tt)
-call_begins (Lock o) = any_begins (Lock o) (λ c v w answer. tt)
-call_begins (Write o words) = any_begins (Write o words) (λ c v w answer. tt)
+call_begins (Read o) = read_begins o
+call_begins (Lock o) = lock_begins o
+call_begins (Write o words) = write_begins o words
 call_begins Commit = commit_begins
 call_begins Abort = abort_begins
 call_begins Leave = leave_begins
@@ -60,9 +65,9 @@ call_begins Tidy = any_begins Tidy (λ c v w answer. tt)
 
 pub call_goes : (call : Call) → GoesOnSo call (FarIn call)
 call_goes Enter = enter_goes
-call_goes (Read o) = any_goes (Read o) (λ c v w answer. tt)
-call_goes (Lock o) = any_goes (Lock o) (λ c v w answer. tt)
-call_goes (Write o words) = any_goes (Write o words) (λ c v w answer. tt)
+call_goes (Read o) = read_goes o
+call_goes (Lock o) = lock_goes o
+call_goes (Write o words) = write_goes o words
 call_goes Commit = commit_goes
 call_goes Abort = abort_goes
 call_goes Leave = leave_goes

@@ -4,6 +4,7 @@ use Rattle.std.specs.Prelude.{◌≡◌, ◌<◌, ◌==◌, ℕ, List, [], ◌�
 use Rattle.mv_layout.specs.declared.config.Config.{Config}
 use Rattle.mv_core.specs.declared.view.View.{View}
 use Rattle.step_replay.specs.declared.plan.Call.{Call}
+use Rattle.step_replay.specs.declared.plan.CallOf.{CallOf}
 use Rattle.step_replay.specs.declared.seats.Answer.{Answer}
 use Rattle.step_replay.specs.declared.seats.Task.{Task}
 use Rattle.step_replay.specs.Plans.{PlanOf}
@@ -17,54 +18,69 @@ use Rattle.step_replay.specs.NextSteps.{IsStepOf}
 use Rattle.step_replay.specs.Kinds.{IsKindOf}
 use Rattle.step_replay.specs.Answers.{AnswersSo}
 
+-- the calls of a plan that are this seat's, in their order
+abbrev pub calls_of : List CallOf → ℕ → List Call
+calls_of [] seat = []
+calls_of (one ∷ calls) seat = if one.seat == seat then one.call ∷ calls_of calls seat else calls_of calls seat
+
 -- a call that a seat is in, and the steps that had been made when it began
 pub record Running : Type 0 where
   pub call : Call
   pub before : List Made
 
--- the call that each seat is in
+-- where a seat is in its plan: the call that it is in, if it is in one, and the calls behind that
+pub record InPlan : Type 0 where
+  pub now : Option Running
+  pub left : List Call
+
+-- where each seat is
 abbrev pub Calls : Type 0
-Calls = ℕ → Option Running
+Calls = ℕ → InPlan
 
--- no seat is in a call
-abbrev pub no_calls : Calls
-no_calls seat = None
+-- before the first turn no seat is in a call
+abbrev pub calls_before : PlanOf → Calls
+calls_before p seat = record { now = None; left = calls_of p.calls seat }
 
--- one seat is in this call now, or in none
-abbrev pub with_call : Calls → ℕ → Option Running → Calls
-with_call calls seat call = λ other. if other == seat then call else calls other
+-- one seat is here now
+abbrev pub with_call : Calls → ℕ → InPlan → Calls
+with_call calls seat here = λ other. if other == seat then here else calls other
 
 -- what a seat knows behind these steps
 abbrev pub view_behind : Config → List Made → ℕ → View
 view_behind c made seat = (state_of c made).seats seat
 
--- the lines of calls that a seat looks at and that need no step: each was skipped, or is answered by what the seat knows
-pub data AreStepless (c : Config) (seat : ℕ) (v : View) : List ℕ → Type 0 where
-  no_line : AreStepless c seat v []
-  skips : (call : Call) (more : List ℕ) → AreStepless c seat v more → AreStepless c seat v (skip_line seat call ++ more)
-  answers : (call : Call) (answer : Answer) (more : List ℕ) → AnswersSo c call v v answer → AreStepless c seat v more
-      → AreStepless c seat v (answer_line seat call answer ++ more)
+-- calls that a seat looks at and that need no step, and their lines: each was skipped, or is answered by what the seat knows
+pub data AreStepless (c : Config) (seat : ℕ) (v : View) : List Call → List ℕ → Type 0 where
+  no_call : AreStepless c seat v [] []
+  skips : (call : Call) (calls : List Call) (lines : List ℕ) → AreStepless c seat v calls lines
+      → AreStepless c seat v (call ∷ calls) (skip_line seat call ++ lines)
+  answers : (call : Call) (answer : Answer) (calls : List Call) (lines : List ℕ) → AnswersSo c call v v answer → AreStepless c seat v calls lines
+      → AreStepless c seat v (call ∷ calls) (answer_line seat call answer ++ lines)
 
--- the call whose step is made: the one that the seat is in, or one that begins here, behind lines of calls that need no step
-abbrev pub IsCallOf : Config → ℕ → List Made → Option Running → Running → List ℕ → Type 0
-IsCallOf c seat made None call lines = (call.before ≡ made) × AreStepless c seat (view_behind c made seat) lines
-IsCallOf c seat made (Some running) call lines = (call ≡ running) × (lines ≡ [])
+-- The call whose step is made, the calls behind it, and the lines before the step: it is the one that the seat is in; or it is of the calls that were
+-- left, behind those that need no step, and begins here.
+abbrev pub IsCallOf : Config → ℕ → List Made → Option Running → List Call → Running → List Call → List ℕ → Type 0
+IsCallOf c seat made None calls call left lines =
+    (call.before ≡ made) × (looked : List Call) × (calls ≡ looked ++ call.call ∷ left) × AreStepless c seat (view_behind c made seat) looked lines
+IsCallOf c seat made (Some running) calls call left lines = (call ≡ running) × (left ≡ calls) × (lines ≡ [])
 
 -- behind its step the call goes on; or it has ended, and its answer stands in the text
-pub data GoesOrEnds (c : Config) (seat : ℕ) (call : Running) (w : View) (left : Option Running) (lines : List ℕ) : Type 0 where
-  goes_on : left ≡ Some call → lines ≡ [] → GoesOrEnds c seat call w left lines
-  has_ended : (answer : Answer) → left ≡ None → lines ≡ answer_line seat call.call answer
-      → AnswersSo c call.call (view_behind c call.before seat) w answer → GoesOrEnds c seat call w left lines
+pub data GoesOrEnds (c : Config) (seat : ℕ) (call : Running) (w : View) (now : Option Running) (lines : List ℕ) : Type 0 where
+  goes_on : now ≡ Some call → lines ≡ [] → GoesOrEnds c seat call w now lines
+  has_ended : (answer : Answer) → now ≡ None → lines ≡ answer_line seat call.call answer
+      → AnswersSo c call.call (view_behind c call.before seat) w answer → GoesOrEnds c seat call w now lines
 
--- A turn of this seat leads from the steps made before it to those behind it. Either they are the same ones: the seat was in no call, has none left
--- that needs a step, and is idle. Or they are one more, a step of the core by this seat, of the kind that its call's next step is: the turn makes
+-- A turn of this seat leads from the steps made before it to those behind it. Either they are the same ones: the seat was in no call, none of those
+-- left needs a step, and it is idle. Or they are one more, a step of the core by this seat, of the kind that its call's next step is: the turn makes
 -- just this step, with lines of calls that need none before its own, and behind it the answer, where the call has ended.
 pub data IsTurnOf (c : Config) (seat : ℕ) (made next : List Made) (calls after : Calls) (old new : TapeOf) : Type 0 where
-  prints_only : (lines : List ℕ) → calls seat ≡ None → AreStepless c seat (view_behind c made seat) lines
-      → new ≡ with_line old (lines ++ idle_line seat) → next ≡ made → after ≡ calls → IsTurnOf c seat made next calls after old new
-  makes_one : (step : Made) (task : Task) (call : Running) (left : Option Running) (before behind : List ℕ)
-      → IsCallOf c seat made (calls seat) call before → IsStepOf c made step seat task → IsKindOf task step.kind → next ≡ step ∷ made
-      → GoesOrEnds c seat call (view_behind c next seat) left behind → after ≡ with_call calls seat left
+  prints_only : (lines : List ℕ) → (calls seat).now ≡ None → AreStepless c seat (view_behind c made seat) (calls seat).left lines
+      → new ≡ with_line old (lines ++ idle_line seat) → next ≡ made → after ≡ with_call calls seat (record { now = None; left = [] })
+      → IsTurnOf c seat made next calls after old new
+  makes_one : (step : Made) (task : Task) (call : Running) (left : List Call) (now : Option Running) (before behind : List ℕ)
+      → IsCallOf c seat made (calls seat).now (calls seat).left call left before
+      → IsStepOf c made step seat task → IsKindOf task step.kind → next ≡ step ∷ made
+      → GoesOrEnds c seat call (view_behind c next seat) now behind → after ≡ with_call calls seat (record { now = now; left = left })
       → new ≡ with_line (tape_stepped c seat task (place_in_task c seat task) (with_line old before)) behind
       → IsTurnOf c seat made next calls after old new
 
@@ -80,8 +96,9 @@ AreTurns c r made calls (seat ∷ turns) =
 -- so are the turns of a plan from its start, where no step was made, whatever the schedule is
 abbrev pub RunsAreRuled : Type 0
 RunsAreRuled =
-    (p : PlanOf) → IsFitPlan p → (turns : List ℕ) → All (λ seat. seat < p.config.seats) turns → AreTurns p.config (replay_begun p) [] no_calls turns
+    (p : PlanOf) → IsFitPlan p → (turns : List ℕ) → All (λ seat. seat < p.config.seats) turns
+    → AreTurns p.config (replay_begun p) [] (calls_before p) turns
 
 -- and so are those of the plan's own schedule
 abbrev pub IsRuledPlan : PlanOf → Type 0
-IsRuledPlan p = AreTurns p.config (replay_begun p) [] no_calls p.steps
+IsRuledPlan p = AreTurns p.config (replay_begun p) [] (calls_before p) p.steps

@@ -22,11 +22,23 @@ pub fn turns_go_on()
     ensures { TurnsGoOn }
 {}
 
-/// A plan is run by steps of the core alone, in the order of its schedule, whatever that is. Before the first turn no step was
-/// made. A turn makes no step, or one by the seat whose turn it is, which that seat may make where it is, of the place and with
-/// the write that its line prints; the steps behind the turn are those before it, and this one. Behind each turn the words are
-/// those of the state that these steps make, one after another, of a new domain, and as many lines of steps were printed. With
-/// the views of the seats there they are a state of the core's rule.
+/// A plan is run by steps of the core alone, in the order of its schedule, whatever that is, and each call that ends answers as
+/// the same call of the runtime does. Before the first turn no step was made, and no seat is in a call.
+///
+/// A turn makes no step only where its seat is in no call and has none left that needs a step: the seat is idle. Else it makes
+/// one, by the seat whose turn it is, which that seat may make where it is, of the kind of the core's steps that the next step of
+/// a call is, of the place and with the write that its line prints; the steps behind the turn are those before it, and this one.
+/// The step is of the call that the seat is in; where it is in none, of the next call that needs one: each call before that is
+/// skipped, or answered by what the seat knows. The calls of a seat are those of the plan, in their order.
+///
+/// A call that ends has its line, and its answer is what the contract of the same call of the runtime says of the seat's view
+/// before the call's first step and behind its last (`AnswersSo`): the contracts of `enter` and `leave` of `reader_marks`, of
+/// `lock` and `write` of `object_lock`, of `commit` and `abort` of `commit_abort`, and of `tidy` of `log_reclaim`; a read answers
+/// the words of its object in the section's state. A refusal, a rival and who holds a log back have their causes in the call's
+/// own steps.
+///
+/// Behind each turn the words are those of the state that these steps make, one after another, of a new domain, and as many
+/// lines of steps were printed. With the views of the seats there they are a state of the core's rule.
 pub fn runs_are_ruled()
     ensures { RunsAreRuled }
 {}

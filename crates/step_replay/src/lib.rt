@@ -25,6 +25,11 @@
 //! order of the schedule, which is one of the core's rule (the clause ruled, and `runs_are_ruled` for every schedule):
 //! what each seat notes of its log stands for its view there, as the log of a runtime's seat stands for its pass. `turns_go_on`
 //! says the same of one turn, from whatever steps its words come.
+//!
+//! By the same two each call that ends answers what the contract of the same call of the runtime says of the seat's view before
+//! the call's first step and behind its last (`specs/Answers.antt`), and each step is of the kind that a call's next step is
+//! (`specs/Kinds.antt`).
+//!
 //! `write_step` is the line of a step, also for who makes steps on a `Machine` without a plan.
 //!
 //! A `Machine` keeps the words of a domain at run time, and the steps behind which it is are known to the proof
@@ -33,8 +38,9 @@
 //! one of the core's rule, with all points of it. `replay` has its words on one.
 //!
 //! **Place.** It stands on `set_script` for the words of a line and their numbers, on `mv_layout` for the
-//! numbers and the places of a domain, on `mv_core` for the kinds of step and the rule, on `commit_abort` for how a commit
-//! ends, and on `mv_history` for the words of an object and what calls answer. The program's `replay` stands on it.
+//! numbers and the places of a domain, on `mv_core` for the kinds of step and the rule, on `reader_marks`, `version_chain`,
+//! `object_lock`, `commit_abort` and `log_reclaim` for what the calls of the runtime answer, and on `mv_history` for the words of
+//! an object and the answers' types. The program's `replay` stands on it.
 #![tactic(auto)]
 
 mod access;

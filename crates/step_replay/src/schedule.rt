@@ -26,7 +26,9 @@ fn new_seats(alloc: Global, calls: &[CallOf], count: u32) -> Result<Vec<Seat>, A
 }
 
 /// The text of the replay of a plan, which is one that `parse_plan` gives. The steps that the text prints are steps of the core,
-/// made in the order of the schedule, and behind each turn the words are those of the state that the steps so far make.
+/// made in the order of the schedule, and behind each turn the words are those of the state that the steps so far make. Each
+/// answer that the text prints is what the contract of the same call of the runtime says of the views of the call's seat before
+/// its first step and behind its last, as `runs_are_ruled` says it.
 pub fn replay(alloc: Global, plan: &Plan) -> Result<Vec<u8>, AllocError>
     requires fit { IsFitPlan (plan_of plan.now) }
     ensures exact { IfOk result (λ text. text.items ≡ text_of_plan (plan_of plan.now)) }

@@ -3,6 +3,7 @@ use Rattle.std.proofs.Common.{◌≡◌, ◌∙◌, ℕ, ◌<◌, List, [], Opti
 use Rattle.mv_core.proofs.Terms.{Config, Checked}
 use Rattle.mv_core.specs.declared.view.View.{View}
 use Rattle.mv_core.specs.Moves.{Moment, Kind}
+use Rattle.step_replay.specs.declared.plan.Call.{Call}
 use Rattle.step_replay.specs.declared.plan.CallOf.{CallOf}
 use Rattle.step_replay.specs.declared.seats.Version.{Version}
 use Rattle.step_replay.specs.declared.seats.Sweep.{Sweep}
@@ -21,7 +22,7 @@ use Rattle.step_replay.specs.Sweeps.{then_after}
 use Rattle.step_replay.specs.Runs.{SeatOf, TapeOf, Scene, with_line, tape_stepped, tape_after, learned, went, step_made}
 use Rattle.step_replay.specs.Behind.{IsTapeBehind}
 use Rattle.step_replay.specs.NextSteps.{IsStepOf}
-use Rattle.step_replay.specs.RuledRuns.{Running, view_behind, GoesOrEnds, goes_on, has_ended}
+use Rattle.step_replay.specs.RuledRuns.{Running, InPlan, calls_of, view_behind, GoesOrEnds, goes_on, has_ended}
 use Rattle.step_replay.proofs.OneStep.{no_lines}
 use Rattle.step_replay.proofs.runs.Sections.{seat_with}
 use Rattle.step_replay.proofs.runs.Kept.{state_keeps}
@@ -37,8 +38,9 @@ InCall c n v log state None (Some run) = ⊥
 InCall c n v log state (Some task) None = ⊥
 InCall c n v log state (Some task) (Some run) = (run.call ≡ state.call) × FarIn run.call c n (view_behind c run.before n) v log state task
 
-abbrev pub IsIn : Config → ℕ → View → SeatOf → Option Running → Type 0
-IsIn c n v s run = InCall c n v s.log s.state s.task run
+-- where a seat is in its plan
+abbrev pub IsIn : Config → ℕ → View → SeatOf → InPlan → Type 0
+IsIn c n v s here = InCall c n v s.log s.state s.task here.now × (calls_of s.left n ≡ here.left)
 
 -- what a seat is at, by all that is kept of it
 abbrev StandsOf : Config → ℕ → View → SeatOf → Type 0
@@ -48,12 +50,12 @@ stands_of : (c : Config) (n : ℕ) (v : View) (s : SeatOf) → IsSeat c n s v �
 stands_of c n v s is = subst (StandsOf c n v) (sym is.is) is.stands
 
 -- What a step of a seat makes of its call, from this tape: the call goes on, and has come farther, or it has ended with its line.
-pub record CallSteps (c : Config) (n : ℕ) (t : TapeOf) (task : Task) (run : Running) (w : View) (y : Scene) : Type 0 where
-  pub left : Option Running
+pub record CallSteps (c : Config) (n : ℕ) (t : TapeOf) (task : Task) (run : Running) (left : List Call) (w : View) (y : Scene) : Type 0 where
+  pub now : Option Running
   pub lines : List ℕ
-  pub goes : GoesOrEnds c n run w left lines
+  pub goes : GoesOrEnds c n run w now lines
   pub tape_is : y.tape ≡ with_line (tape_stepped c n task (place_in_task c n task) t) lines
-  pub in_call : IsIn c n w y.seat left
+  pub is_in : IsIn c n w y.seat (record { now = now; left = left })
 
 module _ (c : Config) (k : Checked c) (n : ℕ) (lt : n < c.seats) (made : List Made) (t : TapeOf) (b : IsTapeBehind c t made)
     (log : List Version) (freed from : ℕ) (time : Option ℕ) (run : Running) (sweep : Sweep) (own : Option Task) (left : List CallOf)
@@ -83,23 +85,23 @@ module _ (c : Config) (k : Checked c) (n : ℕ) (lt : n < c.seats) (made : List 
   abbrev going : Then → Scene
   going x = went x (record { seat = learned task found seat; tape = tape_after c n task t })
 
-  went_so : (x : Then) → Comes (FarIn run.call c n v0 w notes s) (AnswersSo c run.call v0 w) x → CallSteps c n t task run w (going x)
+  went_so : (x : Then) → Comes (FarIn run.call c n v0 w notes s) (AnswersSo c run.call v0 w) x → CallSteps c n t task run (calls_of left n) w (going x)
   went_so (Goes more) far =
       let same = state_keeps task log (state_with n time from freed run.call sweep) found in record {
-        left = Some run;
+        now = Some run;
         lines = [];
         goes = goes_on refl refl;
         tape_is = after_is c k n lt made t b task next.range ∙ no_lines (tape_stepped c n task (place_in_task c n task) t);
-        in_call = (sym same.1, far);
+        is_in = ((sym same.1, far), refl);
       }
   went_so (Ends answer) said =
       let same = state_keeps task log (state_with n time from freed run.call sweep) found in
       let tape = after_is c k n lt made t b task next.range in record {
-        left = None;
+        now = None;
         lines = answer_line n run.call answer;
         goes = has_ended answer refl refl said;
         tape_is = (λ i. with_line (tape i) (answer_line (same.0 i) (same.1 i) answer));
-        in_call = tt;
+        is_in = (tt, refl);
       }
 
   stands_then : (x : Then) → StandsOf c n w (going x).seat → StandsThen c n w notes s x
@@ -111,7 +113,7 @@ module _ (c : Config) (k : Checked c) (n : ℕ) (lt : n < c.seats) (made : List 
       → FarIn run.call c n (view_behind c run.before n) ((state_of c made).seats n) log (state_with n time from freed run.call sweep) task
       → IsSeat c n (step_made c task (record { seat = seat_with n log freed from time run.call sweep own left; tape = t })).seat
       (view_by c (state_of c made) n kind)
-      → CallSteps c n t task run (view_by c (state_of c made) n kind) (step_made c task (record {
+      → CallSteps c n t task run (calls_of left n) (view_by c (state_of c made) n kind) (step_made c task (record {
         seat = seat_with n log freed from time run.call sweep own left;
         tape = t;
       }))
@@ -119,5 +121,5 @@ module _ (c : Config) (k : Checked c) (n : ℕ) (lt : n < c.seats) (made : List 
       let there = scene_is c k n lt made t b task next.range seat refl in
       let x = then_after task c notes s found in
       let behind = stands_then x (subst (λ (y : Scene). StandsOf c n w y.seat) there (stands_of c n w _ seat_is)) in
-      subst (CallSteps c n t task run w) (sym there)
+      subst (CallSteps c n t task run (calls_of left n) w) (sym there)
       (went_so x (call_goes run.call c k n lt made b.each log freed from time sweep task stands scans kind next is v0 far behind))

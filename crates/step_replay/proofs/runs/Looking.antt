@@ -1,6 +1,6 @@
 -- A seat looks at its calls: it makes no step, and stands at the first step of the next one, or has none left.
 use Rattle.std.proofs.Common.{◌≡◌, ◌⊎◌, ℕ, ◌-◌, ◌<◌, ◌≤◌, ◌^◌, ◌==◌, List, [], ◌∷◌, ◌++◌, length, true, false, Option, Some, None}
-use Rattle.std.proofs.Common.{All, refl, sym, ◌∙◌, subst, arith, inl, inr, eqb-true, if◌then◌else◌, slice_index}
+use Rattle.std.proofs.Common.{All, Bool, refl, sym, ap, ◌∙◌, subst, arith, inl, inr, eqb-true, if◌then◌else◌, slice_index}
 use Rattle.std.proofs.lemmas.Bool.{cases_lt}
 use Rattle.std.proofs.lemmas.List.{get_or_past}
 use Rattle.std.proofs.lemmas.List.Elements.{All-head, All-tail, All-get_or}
@@ -32,7 +32,7 @@ use Rattle.step_replay.specs.States.{Made, AreMade}
 use Rattle.step_replay.specs.Lines.{skip_line, answer_line}
 use Rattle.step_replay.specs.Runs.{TapeOf, Scene, Looked, with_line, begun_so, call_looked, looked_on, looked}
 use Rattle.step_replay.specs.Behind.{IsTapeBehind}
-use Rattle.step_replay.specs.RuledRuns.{view_behind, AreStepless, no_line, skips, answers}
+use Rattle.step_replay.specs.RuledRuns.{calls_of, view_behind, AreStepless, no_call, skips, answers}
 use Rattle.step_replay.specs.Answers.{AnswersSo}
 use Rattle.step_replay.proofs.OneStep.{no_lines, more_lines}
 use Rattle.step_replay.proofs.NextSteps.{lined}
@@ -49,10 +49,15 @@ abbrev pub HasBegun : Config → ℕ → View → List Version → State → Opt
 HasBegun c n v log state None = Unit {0}
 HasBegun c n v log state (Some task) = FarIn state.call c n v v log state task
 
+-- Which calls of a seat were looked at: all of them, and none is left; or those before one that begins.
+abbrev pub LooksAt : Option Task → Call → List Call → List Call → List Call → Type 0
+LooksAt None call all looked left = (all ≡ looked) × (left ≡ [])
+LooksAt (Some task) call all looked left = all ≡ looked ++ call ∷ left
+
 -- What a seat comes to that looks at its calls, from this tape: the tape is behind the same steps, with the lines of calls that need none, and the
 -- next call begins, if there is one.
-pub record IsLooked (c : Config) (n : ℕ) (made : List Made) (log : List Version) (freed from : ℕ) (time : Option ℕ) (t : TapeOf) (l : Looked) :
-    Type 0 where
+pub record IsLooked (c : Config) (n : ℕ) (made : List Made) (log : List Version) (freed from : ℕ) (time : Option ℕ) (t : TapeOf) (all : List Call)
+    (l : Looked) : Type 0 where
   pub call : Call
   pub sweep : Sweep
   pub left : List CallOf
@@ -62,7 +67,9 @@ pub record IsLooked (c : Config) (n : ℕ) (made : List Made) (log : List Versio
   pub stands : StandsFor c n (view_behind c made n) log freed from time call sweep l.task
   pub lines : List ℕ
   pub printed : l.scene.tape ≡ with_line t lines
-  pub stepless : AreStepless c n (view_behind c made n) lines
+  pub looked : List Call
+  pub stepless : AreStepless c n (view_behind c made n) looked lines
+  pub calls_are : LooksAt l.task call all looked (calls_of left n)
   pub far : HasBegun c n (view_behind c made n) log (state_with n time from freed call sweep) l.task
 
 -- the words of a write are of 64 bits
@@ -164,26 +171,32 @@ module _ (c : Config) (k : Checked c) (n : ℕ) (lt : n < c.seats) (made : List 
   abbrev scene : Option ℕ → Call → Sweep → List CallOf → TapeOf → Scene
   scene time call sweep left t = record { seat = seat_with n log freed from time call sweep None left; tape = t }
 
-  abbrev So : Option ℕ → TapeOf → Looked → Type 0
-  So time t l = IsLooked c n made log freed from time t l
+  abbrev So : List Call → Option ℕ → TapeOf → Looked → Type 0
+  So all time t l = IsLooked c n made log freed from time t all l
 
   -- what comes of the calls behind
   abbrev Next : List CallOf → Option ℕ → Type 0
   Next calls time = (call : Call) (sweep : Sweep) (t : TapeOf) → IsTapeBehind c t made
-      → So time t (looked c calls (scene time call sweep calls t))
+      → So (calls_of calls n) time t (looked c calls (scene time call sweep calls t))
 
   -- a call that is looked at, and then those behind it
-  abbrev Goes_on : List CallOf → Option ℕ → TapeOf → Looked → Type 0
-  Goes_on calls time t this = So time t (looked_on this.task this (looked c calls this.scene))
+  abbrev Goes_on : List CallOf → List Call → Option ℕ → TapeOf → Looked → Type 0
+  Goes_on calls all time t this = So all time t (looked_on this.task this (looked c calls this.scene))
 
   -- what a call says that begins
   abbrev Comes_so : Option ℕ → Call → Then → Type 0
   Comes_so time what x = Comes (FarIn what c n v v log (state time what)) (AnswersSo c what v v) x
 
-  -- the line of a call that needs no step, and then those of the calls behind it
-  behind_line : (time : Option ℕ) (t : TapeOf) (line : List ℕ) (l : Looked)
-      → ((more : List ℕ) → AreStepless c n v more → AreStepless c n v (line ++ more)) → So time (with_line t line) l → So time t l
-  behind_line time t line l first is = record {
+  -- a call that needs no step, and then the calls behind it
+  also_looked : (task : Option Task) (call what : Call) (all looked left : List Call) → LooksAt task call all looked left
+      → LooksAt task call (what ∷ all) (what ∷ looked) left
+  also_looked None call what all looked left is = (ap (λ xs. what ∷ xs) is.0, is.1)
+  also_looked (Some task) call what all looked left is = ap (λ xs. what ∷ xs) is
+
+  behind_line : (all : List Call) (time : Option ℕ) (t : TapeOf) (what : Call) (line : List ℕ) (l : Looked)
+      → ((calls : List Call) (lines : List ℕ) → AreStepless c n v calls lines → AreStepless c n v (what ∷ calls) (line ++ lines))
+      → So all time (with_line t line) l → So (what ∷ all) time t l
+  behind_line all time t what line l first is = record {
     call = is.call;
     sweep = is.sweep;
     left = is.left;
@@ -193,17 +206,23 @@ module _ (c : Config) (k : Checked c) (n : ℕ) (lt : n < c.seats) (made : List 
     stands = is.stands;
     lines = line ++ is.lines;
     printed = is.printed ∙ more_lines t line is.lines;
-    stepless = first is.lines is.stepless;
+    looked = what ∷ is.looked;
+    stepless = first is.looked is.lines is.stepless;
+    calls_are = also_looked l.task is.call what all is.looked (calls_of is.left n) is.calls_are;
     far = is.far;
   }
 
   module _ (calls : List CallOf) (before : All (IsFitCallOf c) calls) (call : Call) (sweep : Sweep) (t : TapeOf) (b : IsTapeBehind c t made) (time : Option ℕ)
       (next : Next calls time) where
+    -- the calls of this seat from this one on
+    abbrev from_here : Call → List Call
+    from_here what = what ∷ calls_of calls n
+
     -- a call is begun, or is answered by what the seat knows
     begun : (what : Call) → (x : Then) → GoesSo c n v log freed from time what (new_sweep freed) x → Comes_so time what x
-        → Goes_on calls time t (begun_so x what (scene time what (new_sweep freed) calls t))
+        → Goes_on calls (from_here what) time t (begun_so x what (scene time what (new_sweep freed) calls t))
     begun what x (by_step task e stands) comes =
-        subst (λ y. Goes_on calls time t (begun_so y what (scene time what (new_sweep freed) calls t))) (sym e)
+        subst (λ y. Goes_on calls (from_here what) time t (begun_so y what (scene time what (new_sweep freed) calls t))) (sym e)
         (record {
           call = what;
           sweep = new_sweep freed;
@@ -214,14 +233,16 @@ module _ (c : Config) (k : Checked c) (n : ℕ) (lt : n < c.seats) (made : List 
           stands = stands;
           lines = [];
           printed = no_lines t;
-          stepless = no_line;
+          looked = [];
+          stepless = no_call;
+          calls_are = refl;
           far = subst (Comes_so time what) e comes;
         })
     begun what x (by_end answer e rests) comes =
         let line = answer_line n what answer in
         let known : AnswersSo c what v v answer = subst (Comes_so time what) e comes in
-        subst (λ y. Goes_on calls time t (begun_so y what (scene time what (new_sweep freed) calls t))) (sym e)
-        (behind_line time t line _ (λ more. answers what answer more known)
+        subst (λ y. Goes_on calls (from_here what) time t (begun_so y what (scene time what (new_sweep freed) calls t))) (sym e)
+        (behind_line (calls_of calls n) time t what line _ (λ others lines. answers what answer others lines known)
         (next what (new_sweep freed) (with_line t line) (lined c t made line b)))
 
     -- or skipped, where its condition is false
@@ -229,16 +250,17 @@ module _ (c : Config) (k : Checked c) (n : ℕ) (lt : n < c.seats) (made : List 
         → (may_begin log (state_with n time from freed call sweep) what ≡ true
         → GoesSo c n v log freed from time what (new_sweep freed) (begin_call what c log (state time what)))
         → (may_begin log (state time what) what ≡ true → Comes_so time what (begin_call what c log (state time what)))
-        → Goes_on calls time t (call_looked c what (scene time call sweep calls t))
+        → Goes_on calls (from_here what) time t (call_looked c what (scene time call sweep calls t))
     call_is what goes comes =
         let may = may_begin log (state_with n time from freed call sweep) what in
         let line = skip_line n what in
-        if_so (Goes_on calls time t) may
+        if_so (Goes_on calls (from_here what) time t) may
         (begun_so (begin_call what c log (state time what)) what (scene time what (new_sweep freed) calls t))
         (record { scene = scene time call sweep calls (with_line t line); task = None })
         (λ e. begun what (begin_call what c log (state time what)) (goes e)
         (comes (may_same log n time from freed what call (new_sweep freed) sweep what ∙ e)))
-        (λ e. behind_line time t line _ (λ more. skips what more) (next call sweep (with_line t line) (lined c t made line b)))
+        (λ e. behind_line (calls_of calls n) time t what line _ (λ others lines. skips what others lines)
+        (next call sweep (with_line t line) (lined c t made line b)))
 
   -- how each call begins
   begins_outside : (what : Call) (call : Call) (sweep : Sweep) → RestsAt c v log freed from None
@@ -275,30 +297,35 @@ module _ (c : Config) (k : Checked c) (n : ℕ) (lt : n < c.seats) (made : List 
   begins what call sweep None fit rests = begins_outside what call sweep rests
   begins what call sweep (Some t) fit rests = begins_inside what call sweep t fit rests
 
-  pub looks : (calls left : List CallOf) → All (IsFitCallOf c) calls → All (IsFitCallOf c) left → (time : Option ℕ) → RestsAt c v log freed from time
+  pub looks : (calls : List CallOf) → All (IsFitCallOf c) calls → (time : Option ℕ) → RestsAt c v log freed from time
       → (call : Call) (sweep : Sweep) (t : TapeOf) → IsTapeBehind c t made
-      → So time t (looked c calls (scene time call sweep left t))
-  looks [] left before all time rests call sweep t b =
+      → So (calls_of calls n) time t (looked c calls (scene time call sweep calls t))
+  looks [] before time rests call sweep t b =
       record {
         call = call;
         sweep = sweep;
-        left = left;
+        left = [];
         is = refl;
-        before = all;
+        before = before;
         behind = b;
         stands = rests;
         lines = [];
         printed = no_lines t;
-        stepless = no_line;
+        looked = [];
+        stepless = no_call;
+        calls_are = (refl, refl);
         far = tt;
       }
-  looks (one ∷ calls) left before all time rests call sweep t b =
+  looks (one ∷ calls) before time rests call sweep t b =
       let behind = All-tail (IsFitCallOf c) one calls before in
-      let next : Next calls time = λ other swept u a. looks calls calls behind behind time rests other swept u a in
+      let next : Next calls time = λ other swept u a. looks calls behind time rests other swept u a in
       let fit = (All-head (IsFitCallOf c) one calls before).1 in
-      if_so (Goes_on calls time t) (one.seat == n) (call_looked c one.call (scene time call sweep calls t))
-      (record { scene = scene time call sweep calls t; task = None })
-      (λ e.
-      call_is calls behind call sweep t b time next one.call (begins one.call call sweep time fit rests)
-      (call_begins one.call c k fit n lt made each log freed from time rests))
-      (λ e. next call sweep t b)
+      let of : Bool → List Call = λ own. if own then one.call ∷ calls_of calls n else calls_of calls n in
+      let P = Goes_on calls (calls_of (one ∷ calls) n) time t in
+      let this = call_looked c one.call (scene time call sweep calls t) in
+      let other : Looked = record { scene = scene time call sweep calls t; task = None } in
+      if_so P (one.seat == n) this other
+      (λ e. subst (λ all. Goes_on calls all time t this) (sym (ap of e))
+      (call_is calls behind call sweep t b time next one.call (begins one.call call sweep time fit rests)
+      (call_begins one.call c k fit n lt made each log freed from time rests)))
+      (λ e. subst (λ all. Goes_on calls all time t other) (sym (ap of e)) (next call sweep t b))

@@ -34,8 +34,8 @@ use Rattle.step_replay.specs.Runs.{SeatOf, TapeOf, Scene, Looked, Replay, looked
 use Rattle.step_replay.specs.Runs.{seat_in, turn_taken, replay_begun, with_line, tape_stepped}
 use Rattle.step_replay.specs.ReplayLaws.{IsRuled}
 use Rattle.step_replay.specs.Behind.{IsTapeBehind, IsRuledTape}
-use Rattle.step_replay.specs.RuledRuns.{Running, Calls, no_calls, with_call, view_behind, IsCallOf, GoesOrEnds, IsTurnOf, prints_only, makes_one, AreTurns}
-use Rattle.step_replay.specs.RuledRuns.{RunsAreRuled, IsRuledPlan}
+use Rattle.step_replay.specs.RuledRuns.{Running, InPlan, Calls, calls_of, calls_before, with_call, view_behind, AreStepless, IsCallOf, GoesOrEnds}
+use Rattle.step_replay.specs.RuledRuns.{IsTurnOf, prints_only, makes_one, AreTurns, RunsAreRuled, IsRuledPlan}
 use Rattle.step_replay.specs.FitPlans.{IsFitPlan}
 use Rattle.step_replay.proofs.Machines.{shows_opened}
 use Rattle.step_replay.proofs.Ruled.{is_ruled}
@@ -46,16 +46,16 @@ use Rattle.step_replay.proofs.runs.Sections.{seat_with, Logs}
 use Rattle.step_replay.proofs.runs.Standing.{IsSeat, StandsFor, ScanAt, step_of, seat_by}
 use Rattle.step_replay.proofs.runs.Stepping.{view_by}
 use Rattle.step_replay.proofs.runs.Steps.{step_is}
-use Rattle.step_replay.proofs.runs.Looking.{HasBegun, IsLooked, looks}
+use Rattle.step_replay.proofs.runs.Looking.{HasBegun, LooksAt, IsLooked, looks}
 use Rattle.step_replay.proofs.runs.InCalls.{InCall, IsIn, call_steps}
 use Rattle.step_replay.proofs.answers.Progress.{state_with}
 use Rattle.step_replay.proofs.answers.Far.{FarIn}
 
--- a seat, and the call that it is in
-abbrev IsSeatIn : Config → ℕ → SeatOf → View → Option Running → Type 0
-IsSeatIn c n s v run = IsSeat c n s v × IsIn c n v s run
+-- a seat, and where it is in its plan
+abbrev IsSeatIn : Config → ℕ → SeatOf → View → InPlan → Type 0
+IsSeatIn c n s v here = IsSeat c n s v × IsIn c n v s here
 
--- What a turn of a seat leads to, from a tape and the calls that the seats are in: the steps behind it, the calls then, and the seat; the others stay.
+-- What a turn of a seat leads to, from a tape and where the seats are: the steps behind it, where they are then, and the seat; the others stay.
 record IsTurned (c : Config) (n : ℕ) (made : List Made) (old : TapeOf) (calls : Calls) (y : Scene) : Type 0 where
   next : List Made
   after : Calls
@@ -63,6 +63,13 @@ record IsTurned (c : Config) (n : ℕ) (made : List Made) (old : TapeOf) (calls 
   seat_is : IsSeatIn c n y.seat (view_behind c next n) (after n)
   others : (m : ℕ) → m ≢ n → (view_behind c next m ≡ view_behind c made m) × (after m ≡ calls m)
   turn : IsTurnOf c n made next calls after old y.tape
+
+-- one seat is here now, and the others where they were
+here_now : (calls : Calls) (n : ℕ) (here : InPlan) → with_call calls n here n ≡ here
+here_now calls n here = ap (λ e. if e then here else calls n) (eq-eqb n n refl)
+
+others_there : (calls : Calls) (n : ℕ) (here : InPlan) (m : ℕ) → m ≢ n → with_call calls n here m ≡ calls m
+others_there calls n here m other = ap (λ e. if e then here else calls m) (ne_eqb m n other)
 
 module _ (c : Config) (k : Checked c) (n : ℕ) (lt : n < c.seats) (made : List Made) (old : TapeOf) (calls : Calls) where
   abbrev v : View
@@ -72,12 +79,13 @@ module _ (c : Config) (k : Checked c) (n : ℕ) (lt : n < c.seats) (made : List 
   So y = IsTurned c n made old calls y
 
   -- a step is made of the call that the seat is in, or that it begins
-  by_step : (t : TapeOf) (lines : List ℕ) → t ≡ with_line old lines → IsTapeBehind c t made → (run : Running) → IsCallOf c n made (calls n) run lines
-      → (log : List Version) (freed from : ℕ) (time : Option ℕ) (sweep : Sweep) (own : Option Task) (left : List CallOf) → All (IsFitCallOf c) left
+  by_step : (t : TapeOf) (lines : List ℕ) → t ≡ with_line old lines → IsTapeBehind c t made
+      → (run : Running) (log : List Version) (freed from : ℕ) (time : Option ℕ) (sweep : Sweep) (own : Option Task) (left : List CallOf)
+      → All (IsFitCallOf c) left → IsCallOf c n made (calls n).now (calls n).left run (calls_of left n) lines
       → (task : Task) → ScanAt v (Some task) → StandsFor c n v log freed from time run.call sweep (Some task)
       → FarIn run.call c n (view_behind c run.before n) v log (state_with n time from freed run.call sweep) task
       → So (step_made c task (record { seat = seat_with n log freed from time run.call sweep own left; tape = t }))
-  by_step t lines printed b run called log freed from time sweep own left before task scans stands far =
+  by_step t lines printed b run log freed from time sweep own left before called task scans stands far =
       let s = step_is c k n lt made t b log freed from time run.call sweep own left before task scans stands in
       let seats = (state_of c made).seats in
       let w = view_by c (state_of c made) n s.kind in
@@ -85,71 +93,80 @@ module _ (c : Config) (k : Checked c) (n : ℕ) (lt : n < c.seats) (made : List 
       let y : Scene = step_made c task (record { seat = seat_with n log freed from time run.call sweep own left; tape = t }) in
       let seat_is : IsSeat c n y.seat w = subst (IsSeat c n y.seat) view s.seat_is in
       let x = call_steps c k n lt made t b log freed from time run sweep own left task s.kind s.next s.is scans stands far seat_is in
-      let here : with_call calls n x.left n ≡ x.left = ap (λ e. if e then x.left else calls n) (eq-eqb n n refl) in
+      let here : InPlan = record { now = x.now; left = calls_of left n } in
       record {
         next = step_of n s.kind ∷ made;
-        after = with_call calls n x.left;
+        after = with_call calls n here;
         behind = s.behind;
-        seat_is = (s.seat_is, (let there = subst (λ u. IsIn c n u y.seat x.left) (sym view) x.in_call in subst (IsIn c n _ y.seat) (sym here) there));
-        others = λ m other. (set_at_else seats n w m other, ap (λ e. if e then x.left else calls m) (ne_eqb m n other));
-        turn = makes_one (step_of n s.kind) task run x.left lines x.lines called s.next s.is refl
-            (subst (λ u. GoesOrEnds c n run u x.left x.lines) (sym view) x.goes) refl
+        seat_is = (
+          s.seat_is,
+          (let there = subst (λ u. IsIn c n u y.seat here) (sym view) x.is_in in subst (IsIn c n _ y.seat) (sym (here_now calls n here)) there),
+        );
+        others = λ m other. (set_at_else seats n w m other, others_there calls n here m other);
+        turn = makes_one (step_of n s.kind) task run (calls_of left n) x.now lines x.lines called s.next s.is refl
+            (subst (λ u. GoesOrEnds c n run u x.now x.lines) (sym view) x.goes) refl
             (x.tape_is ∙ ap (λ u. with_line (tape_stepped c n task (place_in_task c n task) u) x.lines) printed);
       }
 
-  module _ (no_scan : ((state_of c made).seats n).scan ≡ None) (no_call : calls n ≡ None) where
+  module _ (no_scan : ((state_of c made).seats n).scan ≡ None) (outside : (calls n).now ≡ None) where
     -- the first step of a call that begins is made, or the seat is idle
-    looked_is : (l : Looked) (log : List Version) (freed from : ℕ) (time : Option ℕ) → IsLooked c n made log freed from time old l
+    looked_is : (l : Looked) (log : List Version) (freed from : ℕ) (time : Option ℕ) → IsLooked c n made log freed from time old (calls n).left l
         → So (turn_begun c l.task l.scene)
-    looked_is l log freed from time is = go l.task l.scene.seat l.scene.tape is.is is.printed is.behind is.stands is.far
+    looked_is l log freed from time is = go l.task l.scene.seat l.scene.tape is.is is.printed is.behind is.stands is.calls_are is.far
       where
         go : (task : Option Task) (seat : SeatOf) (t : TapeOf) → seat ≡ seat_with n log freed from time is.call is.sweep None is.left
             → t ≡ with_line old is.lines → IsTapeBehind c t made → StandsFor c n v log freed from time is.call is.sweep task
+            → LooksAt task is.call (calls n).left is.looked (calls_of is.left n)
             → HasBegun c n v log (state_with n time from freed is.call is.sweep) task → So (turn_begun c task (record { seat = seat; tape = t }))
-        go None seat t e printed b stands far =
+        go None seat t e printed b stands all far =
+            let here : InPlan = record { now = None; left = [] } in
             subst (λ x. So (turn_begun c None (record { seat = x; tape = t }))) (sym e)
             (record {
               next = made;
-              after = calls;
+              after = with_call calls n here;
               behind = lined c t made (idle_line n) b;
               seat_is = (
                 seat_by c n v log freed from time is.call is.sweep None is.left (inl no_scan) is.before stands,
-                subst (IsIn c n v (seat_with n log freed from time is.call is.sweep None is.left)) (sym no_call) tt,
+                subst (IsIn c n v (seat_with n log freed from time is.call is.sweep None is.left)) (sym (here_now calls n here)) (tt, all.1),
               );
-              others = λ m other. (refl, refl);
-              turn = prints_only is.lines no_call is.stepless
+              others = λ m other. (refl, others_there calls n here m other);
+              turn = prints_only is.lines outside (subst (λ xs. AreStepless c n v xs is.lines) (sym all.0) is.stepless)
                   (ap (λ u. with_line u (idle_line n)) printed ∙ more_lines old is.lines (idle_line n)) refl refl;
             })
-        go (Some task) seat t e printed b stands far =
+        go (Some task) seat t e printed b stands all far =
             let run : Running = record { call = is.call; before = made } in
+            let left = calls_of is.left n in
             subst (λ x. So (step_made c task (record { seat = x; tape = t }))) (sym e)
-            (by_step t is.lines printed b run (subst (λ o. IsCallOf c n made o run is.lines) (sym no_call) (refl, is.stepless)) log freed from time is.sweep
-            None is.left is.before task (inl no_scan) stands far)
+            (by_step t is.lines printed b run log freed from time is.sweep None is.left is.before
+            (subst (λ o. IsCallOf c n made o (calls n).left run left is.lines) (sym outside) (refl, is.looked, all, is.stepless)) task (inl no_scan) stands far)
 
   -- a turn of the seat
   turned_is : (seat : SeatOf) → IsTapeBehind c old made → IsSeatIn c n seat v (calls n) → So (turned c (record { seat = seat; tape = old }))
-  turned_is seat b (s, in_call) =
-      subst (λ x. IsIn c n v x (calls n) → So (turned c (record { seat = x; tape = old }))) (sym s.is) (go s.task s.scans s.stands (calls n) refl) in_call
+  turned_is seat b (s, is_in) =
+      subst (λ x. IsIn c n v x (calls n) → So (turned c (record { seat = x; tape = old }))) (sym s.is)
+      (λ there. go s.task s.scans s.stands (calls n).now refl there.0 there.1) is_in
     where
       go : (task : Option Task) → ScanAt v task → StandsFor c n v s.log s.freed s.from s.time s.call s.sweep task
-          → (run : Option Running) → calls n ≡ run → InCall c n v s.log (state_with n s.time s.from s.freed s.call s.sweep) task run
+          → (run : Option Running) → (calls n).now ≡ run → InCall c n v s.log (state_with n s.time s.from s.freed s.call s.sweep) task run
+          → calls_of s.left n ≡ (calls n).left
           → So (turned c (record { seat = seat_with n s.log s.freed s.from s.time s.call s.sweep task s.left; tape = old }))
-      go (Some task) scans stands None e far = absurd far
-      go (Some task) scans stands (Some run) e far =
+      go (Some task) scans stands None e far left = absurd far
+      go (Some task) scans stands (Some run) e far left =
           let same : run.call ≡ s.call = far.0 in
           subst (λ x. So (step_made c task (record { seat = seat_with n s.log s.freed s.from s.time x s.sweep (Some task) s.left; tape = old }))) same
-          (by_step old [] (no_lines old) b run (subst (λ o. IsCallOf c n made o run []) (sym e) (refl, refl)) s.log s.freed s.from s.time s.sweep (Some task)
-          s.left s.before task scans
+          (by_step old [] (no_lines old) b run s.log s.freed s.from s.time s.sweep (Some task) s.left s.before
+          (subst (λ o. IsCallOf c n made o (calls n).left run (calls_of s.left n) []) (sym e) (refl, left, refl)) task scans
           (subst (λ x. StandsFor c n v s.log s.freed s.from s.time x s.sweep (Some task)) (sym same) stands)
           (subst (λ x. FarIn run.call c n (view_behind c run.before n) v s.log (state_with n s.time s.from s.freed x s.sweep) task) (sym same) far.1))
-      go None scans stands (Some run) e far = absurd far
-      go None (inl no_scan) stands None e far =
-          looked_is no_scan e (looked c s.left (record { seat = seat_with n s.log s.freed s.from s.time s.call s.sweep None s.left; tape = old })) s.log
-          s.freed s.from s.time
-          (looks c k n lt made b.each s.log s.freed s.from s.left s.left s.before s.before s.time stands s.call s.sweep old b)
-      go None (inr scan) stands None e far = let one : None ≡ Some (Tidies (LoadMark scan.0)) = scan.1 in absurd (cc)
+      go None scans stands (Some run) e far left = absurd far
+      go None (inl no_scan) stands None e far left =
+          let x : Scene = record { seat = seat_with n s.log s.freed s.from s.time s.call s.sweep None s.left; tape = old } in
+          looked_is no_scan e (looked c s.left x) s.log s.freed s.from s.time
+          (subst (λ all. IsLooked c n made s.log s.freed s.from s.time old all (looked c s.left x)) left
+          (looks c k n lt made b.each s.log s.freed s.from s.left s.before s.time stands s.call s.sweep old b))
+      go None (inr scan) stands None e far left = let one : None ≡ Some (Tidies (LoadMark scan.0)) = scan.1 in absurd (cc)
 
--- a replay behind steps of the core, with each of its seats, and the calls that they are in
+-- a replay behind steps of the core, with each of its seats, and where they are in the plan
 record AreSeats (c : Config) (r : Replay) (made : List Made) (calls : Calls) : Type 0 where
   behind : IsTapeBehind c r.tape made
   long : length r.seats ≡ c.seats
@@ -175,7 +192,7 @@ module _ (c : Config) (k : Checked c) (r : Replay) (n : ℕ) (lt : n < c.seats) 
       (subst (λ u. IsSeatIn c m (seat_in r m) u (x.after m)) (sym (x.others m other).0)
       (subst (IsSeatIn c m (seat_in r m) (view_behind c made m)) (sym (x.others m other).1) (are.each m in_range))))
 
-  -- the steps behind the turn, with the seats and the calls there
+  -- the steps behind the turn, with the seats there, and where they are
   abbrev Goes_on : Type 0
   Goes_on =
       (next : List Made) × (after : Calls) × AreSeats c (turn_taken c r n) next after
@@ -270,7 +287,7 @@ new_logs c k n lt v new =
     begins (suc m) = (refl, refl, refl)
 
 -- a new replay
-begun_seats : (p : PlanOf) → Checked p.config → All (IsFitCallOf p.config) p.calls → AreSeats p.config (replay_begun p) [] no_calls
+begun_seats : (p : PlanOf) → Checked p.config → All (IsFitCallOf p.config) p.calls → AreSeats p.config (replay_begun p) [] (calls_before p)
 begun_seats p k fit =
     let c = p.config in
     record {
@@ -293,14 +310,14 @@ begun_seats p k fit =
               before = fit;
               stands = (new.phase, refl, new_logs c k n lt ((opened c).seats n) new);
             },
-            subst (λ s. IsIn c n (view_behind c [] n) s None) (sym is) tt,
+            subst (λ s. IsIn c n (view_behind c [] n) s (calls_before p n)) (sym is) (tt, refl),
           );
     }
 
 pub runs_ruled : RunsAreRuled
 runs_ruled p fit turns in_range =
     let k = fit.config.checked in
-    all_turns p.config k turns in_range (replay_begun p) [] no_calls (begun_seats p k fit.calls)
+    all_turns p.config k turns in_range (replay_begun p) [] (calls_before p) (begun_seats p k fit.calls)
 
 -- and of its own schedule
 pub plan_ruled : (p : PlanOf) → IsFitPlan p → IsRuledPlan p

@@ -98,8 +98,11 @@ module _ (c : Config) (k : Checked c) (n : ℕ) (made : List Made) (each : AreMa
       let step = subst (λ x. IsStepOf c made (step_of n x) n (Enters (StoreMark mark))) is.1 next in
       let lowered : Lowered (clock_time_of far.0) ≡ Lowered low = sym (ap (λ (u : View). u.phase) far.1) ∙ step.may.may in
       let same : low ≡ clock_time_of far.0 = cc in
-      on LoadTime (far.0, ap (view_by c m n) is.1 ∙ ap (λ x. mark_stored c (m.seats n) x) same
-      ∙ ap (λ (u : View). mark_stored c u (clock_time_of far.0)) far.1)
+      on LoadTime (
+        far.0,
+        ap (view_by c m n) is.1 ∙ ap (λ x. mark_stored c (m.seats n) x) same
+            ∙ ap (λ (u : View). mark_stored c u (clock_time_of far.0)) far.1,
+      )
   entering_goes LoadTime kind is next nothing far on help done =
       let word = m.memory Clock in
       let w = view_by c m n load_time in

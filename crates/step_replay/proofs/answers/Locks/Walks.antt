@@ -135,8 +135,8 @@ module _ (o : ℕ) (c : Config) (k : Checked c) (n : ℕ) (lt : n < c.seats) (ma
       (λ unset q. other_seat link found far.1.packed far.2 told.1 unset (q ∙ sym number))
       (λ low. (
         (let after = later found (unwrap_or time 0) limit low in
-        let is : unwrap_or time 0 ≡ time_in inside.section = ap (λ z. unwrap_or z 0) inside.time_is in
-        omega (arith, after, is)),
+            let is : unwrap_or time 0 ≡ time_in inside.section = ap (λ z. unwrap_or z 0) inside.time_is in
+            omega (arith, after, is)),
         subst (λ (q : ℕ). IsWriteOf c w.past.seen q found) object (told.0.write low),
       )))
 

@@ -91,16 +91,19 @@ module _ (o : ℕ) (c : Config) (k : Checked c) (n : ℕ) (v : View) (log : List
         → live log (state_with n (Some t) from freed (Lock o) (new_sweep freed)) ≢ c.slots → LockFar o c n v v log state (Walks o walks.LoadHead)
     walk_begins some room =
         let spare = inside.logs.stands.spare in
-        let long = noted_long c l log freed from inside.logs.is in
-        (0, omega arith, record {
-          lacks = lacks_is c v l o inside.logs.stands none;
-          room = (
-            not_full c v l o inside.logs.stands (held log state) held_is some,
-            λ e. room (omega (arith, long, spare, e)),
-          );
-          keeps = (refl, refl);
-          tries = none_tried v 0;
-        })
+        let long = noted_long c l log freed from inside.logs.is in (
+          0,
+          omega arith,
+          record {
+            lacks = lacks_is c v l o inside.logs.stands none;
+            room = (
+              not_full c v l o inside.logs.stands (held log state) held_is some,
+              λ e. room (omega (arith, long, spare, e)),
+            );
+            keeps = (refl, refl);
+            tries = none_tried v 0;
+          },
+        )
 
   begins_so : Comes (LockFar o c n v v log (state_with n (Some t) from freed (Lock o) (new_sweep freed))) (AnswersSo c (Lock o) v v)
       (begin_lock c log (state_with n (Some t) from freed (Lock o) (new_sweep freed)) o)

@@ -37,9 +37,8 @@ use Rattle.step_replay.proofs.runs.Stepping.{view_by}
 use Rattle.step_replay.proofs.runs.Known.{if_so, eqb_ne, leb_le, leb_gt, facts, view_there, starts, seated, word_small}
 use Rattle.step_replay.proofs.runs.LogFacts.{held_in_log}
 use Rattle.step_replay.proofs.answers.Progress.{Comes, state_with}
-use Rattle.step_replay.proofs.answers.StampTold.{stamp_told}
+use Rattle.step_replay.proofs.answers.Seen.{all_seen, stamp_told}
 use Rattle.step_replay.proofs.answers.Locks.Far.{HasDone, first_step, stamp_step, WalkFar, LockFar, done_more, load_done, found_now, found_on}
-use Rattle.step_replay.proofs.answers.Locks.Far.{all_seen}
 use Rattle.step_replay.proofs.answers.Locks.Refusals.{same_number, refusal_so}
 
 -- a time that isn't up to another is above it
@@ -135,8 +134,8 @@ module _ (o : ℕ) (c : Config) (k : Checked c) (n : ℕ) (lt : n < c.seats) (ma
       (λ unset q. other_seat link found far.1.packed far.2 told.1 unset (q ∙ sym number))
       (λ low. (
         (let after = later found (unwrap_or time 0) limit low in
-        let is : unwrap_or time 0 ≡ time_in inside.section = ap (λ z. unwrap_or z 0) inside.time_is in
-        omega (arith, after, is)),
+            let is : unwrap_or time 0 ≡ time_in inside.section = ap (λ z. unwrap_or z 0) inside.time_is in
+            omega (arith, after, is)),
         subst (λ (q : ℕ). IsWriteOf c w.past.seen q found) object (told.0.write low),
       )))
 

@@ -1,5 +1,6 @@
 -- The answers of calls: how far a call has come, and that it comes to what the contract of the same call of the runtime says.
 pub mod Progress
+pub mod Trails
 pub mod Seen
 pub mod HeldObjects
 pub mod Reads
@@ -8,4 +9,7 @@ pub mod Locks
 pub mod Helps
 pub mod Enters
 pub mod Leaves
+pub mod Aborts
+pub mod CommitFar
+pub mod Commits
 pub mod Far

@@ -26,7 +26,9 @@ use Rattle.step_replay.specs.declared.seats.Task.{Task}
 use Rattle.step_replay.specs.declared.seats.Task.TheVariants.{Enters, Helps, Walks, Locks, Writes, EndsSection, Tidies}
 use Rattle.step_replay.specs.declared.seats.Then.{Then}
 use Rattle.step_replay.specs.declared.seats.Then.TheVariants.{Goes, Ends}
-use Rattle.step_replay.specs.Tasks.{entering_place}
+use Rattle.step_replay.specs.Tasks.{entering_place, helping_place}
+use Rattle.step_replay.specs.Learns.{state_after}
+use Rattle.step_replay.specs.Answers.{AnswersSo}
 use Rattle.step_replay.specs.GoesOn.{helped_in, after_entering}
 use Rattle.step_replay.specs.Kinds.{IsKindOfEntering}
 use Rattle.step_replay.specs.States.{Made, state_of, AreMade}
@@ -35,8 +37,9 @@ use Rattle.step_replay.proofs.runs.Sections.{helped_word}
 use Rattle.step_replay.proofs.runs.Standing.{step_of}
 use Rattle.step_replay.proofs.runs.Stepping.{view_by}
 use Rattle.step_replay.proofs.runs.Known.{if_so, eqb_ne}
+use Rattle.step_replay.proofs.runs.Kept.{state_keeps}
 use Rattle.step_replay.proofs.runs.Aborting.{holds_nothing}
-use Rattle.step_replay.proofs.answers.Progress.{FarOf, Comes, BeginsSo, GoesOnSo}
+use Rattle.step_replay.proofs.answers.Progress.{FarOf, Comes, state_with, BeginsSo, GoesOnSo}
 use Rattle.step_replay.proofs.answers.Helps.{HelpFar, HasHelped, helped_at_once, whole_now, help_goes}
 
 -- the view behind the load of a low time and the store of its mark
@@ -119,22 +122,35 @@ module _ (c : Config) (k : Checked c) (n : ℕ) (made : List Made) (each : AreMa
 pub enter_begins : BeginsSo Enter EnterFar
 enter_begins c k fit n lt made each log freed from time rests may = refl
 
+-- a word that is helped ends an enter
+ends_so : (c : Config) (n : ℕ) (v0 w : View) (log : List Version) (s : State) (word : ℕ) → s.call ≡ Enter → Begins c v0 w (clock_time_of word)
+    → Comes (EnterFar c n v0 w log s) (AnswersSo c Enter v0 w) (helped_in s.call c log s word)
+ends_so c n v0 w log s word same begun = subst (λ x. Comes (EnterFar c n v0 w log s) (AnswersSo c Enter v0 w) (helped_in x c log s word)) (sym same) begun
+
 pub enter_goes : GoesOnSo Enter EnterFar
-enter_goes c k n lt made each log freed from time sweep (Enters step) stands scans kind next is v0 far then =
+enter_goes c k n lt made each log freed from time sweep (Enters step) stands scans kind next is v0 far behind =
     let m = state_of c made in
     let w = view_by c m n kind in
-    entering_goes c k n made each v0 log _ (Comes (EnterFar c n v0 w log _) (λ answer. _)) step kind is next
+    let old = state_with n time from freed Enter sweep in
+    let found = m.memory (entering_place n step) in
+    let s = state_after (Enters step) log old found in
+    entering_goes c k n made each v0 log s (Comes (EnterFar c n v0 w log s) (AnswersSo c Enter v0 w)) step kind is next
     (holds_nothing c (m.seats n) log freed from stands.4 stands.3) far
     (λ other so. so)
     (λ word taken other of so. (w, subst (HasTaken c v0 w) (sym of) taken, so))
-    (λ word taken helped. section_begins c v0 w w word None taken helped)
-enter_goes c k n lt made each log freed from time sweep (Helps step) stands scans kind next is v0 far then =
-    let w = view_by c (state_of c made) n kind in
-    help_goes c k n made each far.0 log _ (Comes (EnterFar c n v0 w log _) (λ answer. _)) step kind is far.2
+    (λ word taken helped. ends_so c n v0 w log s word (state_keeps (Enters step) log old found).1 (section_begins c v0 w w word None taken helped))
+enter_goes c k n lt made each log freed from time sweep (Helps step) stands scans kind next is v0 far behind =
+    let m = state_of c made in
+    let w = view_by c m n kind in
+    let old = state_with n time from freed Enter sweep in
+    let found = m.memory (helping_place step) in
+    let s = state_after (Helps step) log old found in
+    let word = helped_word step in
+    help_goes c k n made each far.0 log s (Comes (EnterFar c n v0 w log s) (AnswersSo c Enter v0 w)) step kind is far.2
     (λ other of so. (far.0, subst (HasTaken c v0 far.0) (sym of) far.1, so))
-    (λ last helped. section_begins c v0 far.0 w (helped_word step) last far.1 helped)
-enter_goes c k n lt made each log freed from time sweep (Walks o step) stands scans kind next is v0 far then = absurd far
-enter_goes c k n lt made each log freed from time sweep (Locks version at step) stands scans kind next is v0 far then = absurd far
-enter_goes c k n lt made each log freed from time sweep (Writes at words word) stands scans kind next is v0 far then = absurd far
-enter_goes c k n lt made each log freed from time sweep (EndsSection step) stands scans kind next is v0 far then = absurd far
-enter_goes c k n lt made each log freed from time sweep (Tidies step) stands scans kind next is v0 far then = absurd far
+    (λ last helped. ends_so c n v0 w log s word (state_keeps (Helps step) log old found).1 (section_begins c v0 far.0 w word last far.1 helped))
+enter_goes c k n lt made each log freed from time sweep (Walks o step) stands scans kind next is v0 far behind = absurd far
+enter_goes c k n lt made each log freed from time sweep (Locks version at step) stands scans kind next is v0 far behind = absurd far
+enter_goes c k n lt made each log freed from time sweep (Writes at words word) stands scans kind next is v0 far behind = absurd far
+enter_goes c k n lt made each log freed from time sweep (EndsSection step) stands scans kind next is v0 far behind = absurd far
+enter_goes c k n lt made each log freed from time sweep (Tidies step) stands scans kind next is v0 far behind = absurd far

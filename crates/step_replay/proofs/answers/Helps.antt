@@ -1,5 +1,5 @@
 -- How a help of a clock word comes to its end: what each of its steps makes of the view at its begin.
-use Rattle.std.proofs.Common.{◌≡◌, ◌≢◌, ℕ, ◌+◌, ◌<◌, ◌≤◌, ◌^◌, ◌==◌, List, true, false, Option, Some, None, refl, sym, ap, ◌∙◌, subst, arith, inl}
+use Rattle.std.proofs.Common.{◌≡◌, ◌≢◌, ℕ, ◌≤◌, ◌^◌, ◌==◌, List, Option, Some, None, refl, ap, ◌∙◌, subst, inl}
 use Rattle.std.proofs.Common.{Contains, if◌then◌else◌, eqb-true}
 use Rattle.mv_history.specs.declared.Entry.{Entry}
 use Rattle.mv_layout.specs.Words.{clock_slot_of}
@@ -85,8 +85,15 @@ module _ (c : Config) (k : Checked c) (n : ℕ) (made : List Made) (each : AreMa
       if_so P (found == word) (Goes (task.Helps (SwapStamp word unset))) (helped_in s.call c log s word)
       (λ same.
       let e = eqb-true found word same in
-      on (SwapStamp word unset) refl (far.0, far.1, m.history, subst (λ x. IsWhole c before x m.history) e whole,
-      view ∙ ap (λ x. check_loaded c before x m.history) e))
+      on (SwapStamp word unset) refl (
+        far.0,
+        far.1,
+        (
+          m.history,
+          subst (λ x. IsWhole c before x m.history) e whole,
+          view ∙ ap (λ x. check_loaded c before x m.history) e,
+        ),
+      ))
       (λ other. done (Some found) (record {
         helps = helps_gone c v word unset far.1 before w found m.history refl whole.0 view (eqb_ne found word other);
         finds = (m.history, whole, ap (λ (u : View). u.past) view);
@@ -119,6 +126,6 @@ module _ (c : Config) (k : Checked c) (n : ℕ) (made : List Made) (each : AreMa
       → ((next : Helping) → helped_word next ≡ helped_word step → HelpFar c v (view_by c (state_of c made) n kind) next → P (Goes (task.Helps next)))
       → ((last : Option ℕ) → HasHelped c v (view_by c (state_of c made) n kind) (helped_word step) last → P (helped_in s.call c log s (helped_word step)))
       → P (after_helping step c log s ((state_of c made).memory (helping_place step)))
-  help_goes (LoadNamed word) kind is far = named_goes word (view_by c m n kind) far (ap (view_by c m n) is)
-  help_goes (LoadCheck word unset) kind is far = check_goes word unset (view_by c m n kind) far (ap (view_by c m n) is)
+  help_goes (LoadNamed word) kind is far on done = named_goes word (view_by c m n kind) far (ap (view_by c m n) is) on done
+  help_goes (LoadCheck word unset) kind is far on done = check_goes word unset (view_by c m n kind) far (ap (view_by c m n) is) on done
   help_goes (SwapStamp word unset) kind is far on done = swap_goes word unset (view_by c m n kind) far (ap (view_by c m n) is) done

@@ -40,7 +40,7 @@ pub leave_begins : BeginsSo Leave LeaveFar
 leave_begins c k fit n lt made each log freed from time rests may = refl
 
 pub leave_goes : GoesOnSo Leave LeaveFar
-leave_goes c k n lt made each log freed from time sweep (EndsSection (finish.Leave Plainly)) stands scans kind next is v0 far then =
+leave_goes c k n lt made each log freed from time sweep (EndsSection (finish.Leave Plainly)) stands scans kind next is v0 far behind =
     let v = (state_of c made).seats n in
     let inside = stands.0 in
     let open_now : IsOpen v = record {
@@ -50,17 +50,17 @@ leave_goes c k n lt made each log freed from time sweep (EndsSection (finish.Lea
       nothing = holds_nothing c v log freed from inside.logs stands.1;
     } in
     (subst IsOpen far open_now, ap (view_by c (state_of c made) n) is ∙ ap (mark_cleared c) far)
-leave_goes c k n lt made each log freed from time sweep (EndsSection (finish.Leave (WithCommit t))) stands scans kind next is v0 far then = absurd far
-leave_goes c k n lt made each log freed from time sweep (EndsSection (finish.Leave (WithAbort t))) stands scans kind next is v0 far then = absurd far
-leave_goes c k n lt made each log freed from time sweep (EndsSection finish.LoadNow) stands scans kind next is v0 far then = absurd far
-leave_goes c k n lt made each log freed from time sweep (EndsSection (finish.Name word new)) stands scans kind next is v0 far then = absurd far
-leave_goes c k n lt made each log freed from time sweep (EndsSection (finish.StampOwn first t)) stands scans kind next is v0 far then = absurd far
-leave_goes c k n lt made each log freed from time sweep (EndsSection (finish.StoreSuper at link t)) stands scans kind next is v0 far then = absurd far
-leave_goes c k n lt made each log freed from time sweep (EndsSection (finish.Unlock at o previous)) stands scans kind next is v0 far then = absurd far
-leave_goes c k n lt made each log freed from time sweep (EndsSection finish.LoadDeath) stands scans kind next is v0 far then = absurd far
-leave_goes c k n lt made each log freed from time sweep (Enters step) stands scans kind next is v0 far then = absurd far
-leave_goes c k n lt made each log freed from time sweep (Helps step) stands scans kind next is v0 far then = absurd far
-leave_goes c k n lt made each log freed from time sweep (Walks o step) stands scans kind next is v0 far then = absurd far
-leave_goes c k n lt made each log freed from time sweep (Locks version at step) stands scans kind next is v0 far then = absurd far
-leave_goes c k n lt made each log freed from time sweep (Writes at words word) stands scans kind next is v0 far then = absurd far
-leave_goes c k n lt made each log freed from time sweep (Tidies step) stands scans kind next is v0 far then = absurd far
+leave_goes c k n lt made each log freed from time sweep (EndsSection (finish.Leave (WithCommit t))) stands scans kind next is v0 far behind = absurd far
+leave_goes c k n lt made each log freed from time sweep (EndsSection (finish.Leave (WithAbort t))) stands scans kind next is v0 far behind = absurd far
+leave_goes c k n lt made each log freed from time sweep (EndsSection finish.LoadNow) stands scans kind next is v0 far behind = absurd far
+leave_goes c k n lt made each log freed from time sweep (EndsSection (finish.Name word new)) stands scans kind next is v0 far behind = absurd far
+leave_goes c k n lt made each log freed from time sweep (EndsSection (finish.StampOwn first t)) stands scans kind next is v0 far behind = absurd far
+leave_goes c k n lt made each log freed from time sweep (EndsSection (finish.StoreSuper at link t)) stands scans kind next is v0 far behind = absurd far
+leave_goes c k n lt made each log freed from time sweep (EndsSection (finish.Unlock at o previous)) stands scans kind next is v0 far behind = absurd far
+leave_goes c k n lt made each log freed from time sweep (EndsSection finish.LoadDeath) stands scans kind next is v0 far behind = absurd far
+leave_goes c k n lt made each log freed from time sweep (Enters step) stands scans kind next is v0 far behind = absurd far
+leave_goes c k n lt made each log freed from time sweep (Helps step) stands scans kind next is v0 far behind = absurd far
+leave_goes c k n lt made each log freed from time sweep (Walks o step) stands scans kind next is v0 far behind = absurd far
+leave_goes c k n lt made each log freed from time sweep (Locks version at step) stands scans kind next is v0 far behind = absurd far
+leave_goes c k n lt made each log freed from time sweep (Writes at words word) stands scans kind next is v0 far behind = absurd far
+leave_goes c k n lt made each log freed from time sweep (Tidies step) stands scans kind next is v0 far behind = absurd far

@@ -43,6 +43,7 @@ use Rattle.step_replay.specs.declared.seats.Then.TheVariants.{Goes, Ends}
 use Rattle.step_replay.specs.FitPlans.{IsFitCallOf}
 use Rattle.step_replay.specs.SeatNotes.{edited_from, version_at, first_from}
 use Rattle.step_replay.specs.Tasks.{slot_at as slot_for, stamp_from, commit_clock}
+use Rattle.step_replay.specs.Kinds.{no_tag}
 use Rattle.step_replay.specs.GoesOn.{is_last, helped_in, help, store_super as then_super, after_name, after_now}
 use Rattle.step_replay.specs.States.{any_commit, any_start, zeros, Made, state_of}
 use Rattle.step_replay.specs.Runs.{TapeOf}
@@ -56,7 +57,7 @@ use Rattle.step_replay.proofs.runs.LogFacts.{noted_long, noted_from, noted_at, h
 use Rattle.step_replay.proofs.runs.Searches.{first_within, first_after, one_of, unlinked}
 use Rattle.step_replay.proofs.runs.Fields.{stamp_is}
 use Rattle.step_replay.proofs.runs.Helping.{rests_in, named_so, section_kept}
-use Rattle.step_replay.proofs.runs.CommitFacts.{no_tag, next_word_is, told_on}
+use Rattle.step_replay.proofs.runs.CommitFacts.{next_word_is, told_on}
 
 module _ (c : Config) (k : Checked c) (n : ℕ) (lt : n < c.seats) (made : List Made) (t : TapeOf) (b : IsTapeBehind c t made)
     (log : List Version) (freed from : ℕ) (time : Option ℕ) (call : Call) (sweep : Sweep) (own : Option Task) (left : List CallOf)

@@ -1,5 +1,5 @@
 -- The call that a seat is in: how far it has come, and what a step of the seat makes of it.
-use Rattle.std.proofs.Common.{◌≡◌, ℕ, ◌+◌, ◌<◌, ltb, List, [], length, Option, Some, None, refl, sym, subst, if◌then◌else◌}
+use Rattle.std.proofs.Common.{◌≡◌, ◌∙◌, ℕ, ◌<◌, List, [], Option, Some, None, refl, sym, subst}
 use Rattle.mv_core.proofs.Terms.{Config, Checked}
 use Rattle.mv_core.specs.declared.view.View.{View}
 use Rattle.mv_core.specs.Moves.{Moment, Kind}
@@ -7,17 +7,7 @@ use Rattle.step_replay.specs.declared.plan.CallOf.{CallOf}
 use Rattle.step_replay.specs.declared.seats.Version.{Version}
 use Rattle.step_replay.specs.declared.seats.Sweep.{Sweep}
 use Rattle.step_replay.specs.declared.seats.State.{State}
-use Rattle.step_replay.specs.declared.seats.Entering.{Entering}
-use Rattle.step_replay.specs.declared.seats.Entering.TheVariants.{LoadLow, StoreMark, LoadTime}
-use Rattle.step_replay.specs.declared.seats.Helping.{Helping}
-use Rattle.step_replay.specs.declared.seats.Helping.TheVariants.{LoadNamed, LoadCheck, SwapStamp}
-use Rattle.step_replay.specs.declared.seats.Ending.{Ending}
-use Rattle.step_replay.specs.declared.seats.Ending.TheVariants.{LoadNow, Name, StampOwn, StoreSuper, Unlock, LoadDeath, Leave}
-use Rattle.step_replay.specs.declared.seats.Sweeping.{Sweeping}
-use Rattle.step_replay.specs.declared.seats.Sweeping.TheVariants.{LoadGrace, Free, LoadScan, LoadMark, RaiseGrace, LoadSuper, LoadTop, StoreMaster}
-use Rattle.step_replay.specs.declared.seats.Sweeping.TheVariants.{CutHead, LoadCutDeath, LeaveBack, LoadSuperAgain, NameRest}
 use Rattle.step_replay.specs.declared.seats.Task.{Task}
-use Rattle.step_replay.specs.declared.seats.Task.TheVariants.{Enters, Helps, Walks, Locks, Writes, EndsSection, Tidies}
 use Rattle.step_replay.specs.declared.seats.Then.{Then}
 use Rattle.step_replay.specs.declared.seats.Then.TheVariants.{Goes, Ends}
 use Rattle.step_replay.specs.States.{Made, state_of}
@@ -25,7 +15,7 @@ use Rattle.step_replay.specs.Tasks.{place_in_task}
 use Rattle.step_replay.specs.Kinds.{IsKindOf}
 use Rattle.step_replay.specs.Answers.{AnswersSo}
 use Rattle.step_replay.specs.SeatNotes.{applied}
-use Rattle.step_replay.specs.Learns.{entered, helped, ended, swept, freed_one, state_after, edit_of}
+use Rattle.step_replay.specs.Learns.{state_after, edit_of}
 use Rattle.step_replay.specs.Lines.{answer_line}
 use Rattle.step_replay.specs.Sweeps.{then_after}
 use Rattle.step_replay.specs.Runs.{SeatOf, TapeOf, Scene, with_line, tape_stepped, tape_after, learned, went, step_made}
@@ -33,8 +23,8 @@ use Rattle.step_replay.specs.Behind.{IsTapeBehind}
 use Rattle.step_replay.specs.NextSteps.{IsStepOf}
 use Rattle.step_replay.specs.RuledRuns.{Running, view_behind, GoesOrEnds, goes_on, has_ended}
 use Rattle.step_replay.proofs.OneStep.{no_lines}
-use Rattle.step_replay.proofs.runs.Known.{if_so}
 use Rattle.step_replay.proofs.runs.Sections.{seat_with}
+use Rattle.step_replay.proofs.runs.Kept.{state_keeps}
 use Rattle.step_replay.proofs.runs.Standing.{IsSeat, StandsFor, ScanAt, step_of}
 use Rattle.step_replay.proofs.runs.Stepping.{view_by, after_is, scene_is}
 use Rattle.step_replay.proofs.answers.Progress.{Comes, StandsThen, state_with}
@@ -56,54 +46,6 @@ StandsOf c n v s = StandsFor c n v s.log s.state.freed s.state.from s.state.time
 
 stands_of : (c : Config) (n : ℕ) (v : View) (s : SeatOf) → IsSeat c n s v → StandsOf c n v s
 stands_of c n v s is = subst (StandsOf c n v) (sym is.is) is.stands
-
--- the seat and its call are the same behind each step
-abbrev Keeps : State → State → Type 0
-Keeps s t = (t.seat ≡ s.seat) × (t.call ≡ s.call)
-
-entered_keeps : (step : Entering) (s : State) (found : ℕ) → Keeps s (entered step s found)
-entered_keeps LoadLow s found = (refl, refl)
-entered_keeps (StoreMark mark) s found = (refl, refl)
-entered_keeps LoadTime s found = (refl, refl)
-
-helped_keeps : (step : Helping) (s : State) (found : ℕ) → Keeps s (helped step s found)
-helped_keeps (LoadNamed word) s found = (refl, refl)
-helped_keeps (LoadCheck word unset) s found = (refl, refl)
-helped_keeps (SwapStamp word unset) s found = (refl, refl)
-
-ended_keeps : (step : Ending) (log : List Version) (s : State) → Keeps s (ended step log s)
-ended_keeps LoadNow log s = (refl, refl)
-ended_keeps (Name word new) log s = (refl, refl)
-ended_keeps (StampOwn first time) log s = (refl, refl)
-ended_keeps (StoreSuper at link time) log s = (refl, refl)
-ended_keeps (Unlock at object previous) log s = (refl, refl)
-ended_keeps LoadDeath log s = (refl, refl)
-ended_keeps (Leave leaving) log s = (refl, refl)
-
-swept_keeps : (step : Sweeping) (log : List Version) (s : State) (found : ℕ) → Keeps s (swept step log s found)
-swept_keeps (LoadGrace again) log s found = (refl, refl)
-swept_keeps (Free at left) log s found =
-    if_so (Keeps s) (ltb s.freed (length log)) (record s { freed = s.freed + 1 }) s (λ e. (refl, refl)) (λ e. (refl, refl))
-swept_keeps LoadScan log s found = (refl, refl)
-swept_keeps (LoadMark seat) log s found = (refl, refl)
-swept_keeps (RaiseGrace low) log s found = (refl, refl)
-swept_keeps (LoadSuper at) log s found = (refl, refl)
-swept_keeps (LoadTop at object) log s found = (refl, refl)
-swept_keeps (StoreMaster at object words word) log s found = (refl, refl)
-swept_keeps (CutHead at object) log s found = (refl, refl)
-swept_keeps (LoadCutDeath at) log s found = (refl, refl)
-swept_keeps (LeaveBack at back) log s found = (refl, refl)
-swept_keeps (LoadSuperAgain at) log s found = (refl, refl)
-swept_keeps (NameRest word new) log s found = (refl, refl)
-
-state_keeps : (task : Task) (log : List Version) (s : State) (found : ℕ) → Keeps s (state_after task log s found)
-state_keeps (Enters step) log s found = entered_keeps step s found
-state_keeps (Helps step) log s found = helped_keeps step s found
-state_keeps (Walks object next) log s found = (refl, refl)
-state_keeps (Locks version at next) log s found = (refl, refl)
-state_keeps (Writes at words word) log s found = (refl, refl)
-state_keeps (EndsSection step) log s found = ended_keeps step log s
-state_keeps (Tidies step) log s found = swept_keeps step log s found
 
 -- What a step of a seat makes of its call, from this tape: the call goes on, and has come farther, or it has ended with its line.
 pub record CallSteps (c : Config) (n : ℕ) (t : TapeOf) (task : Task) (run : Running) (w : View) (y : Scene) : Type 0 where
@@ -176,6 +118,6 @@ module _ (c : Config) (k : Checked c) (n : ℕ) (lt : n < c.seats) (made : List 
   call_steps is scans stands far seat_is =
       let there = scene_is c k n lt made t b task next.range seat refl in
       let x = then_after task c notes s found in
-      let then = stands_then x (subst (λ (y : Scene). StandsOf c n w y.seat) there (stands_of c n w _ seat_is)) in
+      let behind = stands_then x (subst (λ (y : Scene). StandsOf c n w y.seat) there (stands_of c n w _ seat_is)) in
       subst (CallSteps c n t task run w) (sym there)
-      (went_so x (call_goes run.call c k n lt made b.each log freed from time sweep task stands scans kind next is v0 far then))
+      (went_so x (call_goes run.call c k n lt made b.each log freed from time sweep task stands scans kind next is v0 far behind))

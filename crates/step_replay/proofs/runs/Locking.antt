@@ -248,7 +248,7 @@ module _ (c : Config) (k : Checked c) (n : ℕ) (lt : n < c.seats) (made : List 
         let link : link_of v.number at ≡ link_to n at = ap (λ m. link_of m at) (number_is c k n made b.each) ∙ sym (link_is n at few_seats low) in
         let place : Head o ≡ Head version.object = ap Head (sym builds.object_is) in
         let of : IsOfKind c s n kind task = record {
-          is = (build_at c v at, i, refl);
+          is = (build_at c v at, i, ap (λ x. lock_head x version.previous at (build_at c v at) i) (sym builds.object_is));
           may = may_lock stands has;
           range = subst (λ (x : ℕ). x < c.objects) (sym builds.object_is) range;
           place = place;

@@ -19,6 +19,7 @@ use Rattle.seat_log.proofs.Stays.{stands_same}
 use Rattle.step_replay.specs.declared.plan.Call.TheVariants.{Enter}
 use Rattle.step_replay.specs.declared.plan.CallOf.{CallOf}
 use Rattle.step_replay.specs.declared.seats.Version.{Version}
+use Rattle.step_replay.specs.declared.seats.Sweep.{Sweep}
 use Rattle.step_replay.specs.declared.seats.Task.{Task}
 use Rattle.step_replay.specs.declared.seats.Task.TheVariants.{Tidies}
 use Rattle.step_replay.specs.declared.seats.Sweeping.TheVariants.{LoadMark}

@@ -1,7 +1,7 @@
 -- The answers of calls: how far a call has come, and that it comes to what the contract of the same call of the runtime says.
 pub mod Progress
 pub mod Trails
-pub mod StampTold
+pub mod Seen
 pub mod HeldObjects
 pub mod Reads
 pub mod Writes

@@ -43,7 +43,7 @@ use Rattle.step_replay.proofs.runs.Stepping.{view_by}
 use Rattle.step_replay.proofs.runs.Known.{if_so, ltb_ge, same_list, facts, view_there, starts, seated, word_small}
 use Rattle.step_replay.proofs.runs.WalkFacts.{one_word}
 use Rattle.step_replay.proofs.answers.Progress.{Comes, state_with, BeginsSo, GoesOnSo}
-use Rattle.step_replay.proofs.answers.StampTold.{stamp_told}
+use Rattle.step_replay.proofs.answers.Seen.{all_seen, stamp_told}
 
 -- What a read has left of a view so far: what was seen is only longer, the trail has steps of a read more, and nothing else changed but where the
 -- walk stands and which HEADs were found empty.
@@ -63,7 +63,7 @@ IsReads s = IsReadStep s.kind
 
 -- no step was made
 none_read : (v : View) → HasRead v v
-none_read v = record { seen = ([], sym (append-nil v.past.seen)); trail = ([], sym (append-nil v.trail), All-nil IsReads); rest = refl }
+none_read v = record { seen = all_seen v; trail = ([], sym (append-nil v.trail), All-nil IsReads); rest = refl }
 
 -- one step more
 one_read : (u v w : View) (s : Step) → HasRead u v → BeginsWith w.past.seen v.past.seen → w.trail ≡ v.trail ++ s ∷ [] → IsReadStep s.kind
@@ -78,10 +78,6 @@ one_read u v w s far seen trail is rest = record {
   rest = rest
       ∙ ap (λ (z : View). record z { past = record z.past { seen = w.past.seen }; walk = w.walk; empty = w.empty; trail = w.trail }) far.rest;
 }
-
--- what was seen begins with itself
-all_seen : (v : View) → BeginsWith v.past.seen v.past.seen
-all_seen v = ([], sym (append-nil v.past.seen))
 
 module _ (o : ℕ) (c : Config) (k : Checked c) (n : ℕ) (lt : n < c.seats) (made : List Made) (each : AreMade c made) (log : List Version)
     (freed from : ℕ) (time : Option ℕ) (sweep : Sweep) (u : View) where

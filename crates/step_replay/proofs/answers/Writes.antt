@@ -1,8 +1,8 @@
 -- A write: which words of its version were stored so far, and that behind the last one the section holds the object with these words.
-use Rattle.std.proofs.Common.{◌≡◌, ℕ, zero, suc, ◌+◌, ◌-◌, ◌<◌, ltb, List, [], ◌∷◌, ◌++◌, length, Option, Some, None}
+use Rattle.std.proofs.Common.{◌≡◌, ℕ, ◌+◌, ◌-◌, ◌<◌, ltb, List, [], ◌∷◌, ◌++◌, length, Option, Some, None}
 use Rattle.std.proofs.Common.{refl, sym, ap, ◌∙◌, subst, arith, slice_index, slice_index_or, if◌then◌else◌, append-nil, append_assoc}
 use Rattle.std.proofs.Common.{length-append}
-use Rattle.std.specs.Prelude.{slice_get}
+use Rattle.std.proofs.lemmas.Option.{get_or_from_slice_get}
 use Rattle.std.proofs.lemmas.List.Elements.{All-nil, All-push}
 use Rattle.mv_history.specs.declared.Step.{Step}
 use Rattle.mv_history.specs.declared.StepKind.TheVariants.{StoreData}
@@ -77,12 +77,6 @@ one_stored u v w n s so rest trail is =
       );
     }
 
--- the note that stands at a place
-note_there : (ns : List Note) (i : ℕ) (n d : Note) → slice_get ns i ≡ Some n → slice_index_or ns i d ≡ n
-note_there [] i n d e = absurd (cc)
-note_there (m ∷ ns) zero n d e = let same : Some m ≡ Some n = e in cc
-note_there (m ∷ ns) (suc i) n d e = note_there ns i n d e
-
 -- a write begins
 module _ (o : ℕ) (words : List ℕ) (c : Config) (k : Checked c) (six : length words ≡ 6) (n : ℕ) (made : List Made) (each : AreMade c made)
     (log : List Version) (freed from : ℕ) (time : Option ℕ) (inside : InSection c ((state_of c made).seats n) log freed from time)
@@ -101,7 +95,7 @@ module _ (o : ℕ) (words : List ℕ) (c : Config) (k : Checked c) (six : length
       let held = held_there c k start log freed from time inside o there in
       let h = held_note c start l place inside.logs.stands (is_held c start l o place inside.logs.stands held) in
       let known = (knows c k n made each).section inside.section inside.walking.phase in
-      let same = note_there l.live (place - l.freed) h.0 held.note h.1 in record {
+      let same = get_or_from_slice_get l.live (place - l.freed) h.0 held.note h.1 in record {
         noted = l;
         before = inside.logs.stands;
         held = held;

@@ -30,7 +30,8 @@ use Rattle.step_replay.proofs.runs.Stepping.{view_by}
 use Rattle.step_replay.proofs.runs.Known.{if_so, and_left}
 use Rattle.step_replay.proofs.runs.Building.{logs_built}
 use Rattle.step_replay.proofs.answers.Progress.{Comes}
-use Rattle.step_replay.proofs.answers.Locks.Far.{HasDone, LockFar, done_more, load_done, all_seen}
+use Rattle.step_replay.proofs.answers.Seen.{all_seen}
+use Rattle.step_replay.proofs.answers.Locks.Far.{HasDone, LockFar, done_more, load_done}
 
 -- a section holds the same where its notes are the same
 logs_keep : (c : Config) (v w : View) (log : List Version) (freed from : ℕ) → Logs c v log freed from → Logs c w log freed from → KeepsOwn c v w

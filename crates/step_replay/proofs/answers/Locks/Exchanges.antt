@@ -27,7 +27,7 @@ use Rattle.object_lock.specs.Locks.{lost_step, AreFew}
 use Rattle.step_replay.specs.declared.plan.Call.TheVariants.{Lock}
 use Rattle.step_replay.specs.declared.seats.Version.{Version}
 use Rattle.step_replay.specs.declared.seats.State.{State}
-use Rattle.step_replay.specs.declared.seats.Locking.TheVariants.{LockHead, ClearPrevious, FoundFirst}
+use Rattle.step_replay.specs.declared.seats.Locking.TheVariants.{ClearPrevious, FoundFirst}
 use Rattle.step_replay.specs.declared.seats.Task.TheVariants.{Locks}
 use Rattle.step_replay.specs.declared.seats.Answer.TheVariants.{Locked}
 use Rattle.step_replay.specs.declared.seats.Then.TheVariants.{Goes, Ends}
@@ -37,7 +37,8 @@ use Rattle.step_replay.specs.Answers.{LocksSo, AnswersSo}
 use Rattle.step_replay.proofs.runs.Stepping.{view_by}
 use Rattle.step_replay.proofs.runs.Known.{if_so, eqb_ne, facts, view_there, starts, seated, word_small}
 use Rattle.step_replay.proofs.answers.Progress.{Comes}
-use Rattle.step_replay.proofs.answers.Locks.Far.{HasDone, HasLost, HasBuilt, LockFar, done_more, tries_more, one_done, found_now, all_seen}
+use Rattle.step_replay.proofs.answers.Seen.{all_seen}
+use Rattle.step_replay.proofs.answers.Locks.Far.{HasDone, HasLost, HasBuilt, LockFar, done_more, tries_more, one_done, found_now}
 use Rattle.step_replay.proofs.answers.Locks.Refusals.{same_number}
 
 module _ (o : ℕ) (c : Config) (k : Checked c) (n : ℕ) (lt : n < c.seats) (made : List Made) (each : AreMade c made) (u : View)

@@ -1,5 +1,5 @@
 -- How far a lock has come: what it has left of its seat's view, which exchanges of HEAD it tried, and what it found.
-use Rattle.std.proofs.Common.{◌≡◌, ◌≢◌, ◌⊎◌, ℕ, ◌+◌, ◌≤◌, cond, Bool, true, false, List, [], ◌∷◌, ◌++◌, Some, None, refl, sym, ap, ◌∙◌, subst, arith}
+use Rattle.std.proofs.Common.{◌≡◌, ◌≢◌, ◌⊎◌, ℕ, ◌+◌, ◌≤◌, cond, Bool, true, false, List, [], ◌∷◌, ◌++◌, Some, None, refl, ap, ◌∙◌, subst, arith}
 use Rattle.std.proofs.Common.{append-nil, append_assoc}
 use Rattle.std.proofs.lemmas.List.Elements.{All-nil, All-cons}
 use Rattle.mv_history.specs.State.{touches}
@@ -146,7 +146,3 @@ found_on c u v w o link behind s found trail = record {
       ∙ append_assoc (u.trail ++ found.before) (head_found c found.kind o link ∷ behind) (s ∷ []);
   packed = found.packed;
 }
-
--- what was seen begins with itself
-pub all_seen : (v : View) → BeginsWith v.past.seen v.past.seen
-all_seen v = ([], sym (append-nil v.past.seen))

@@ -29,8 +29,8 @@ use Rattle.step_replay.proofs.runs.Sections.{InSection, StandsAt}
 use Rattle.step_replay.proofs.runs.Standing.{IsLocking, step_of}
 use Rattle.step_replay.proofs.runs.Stepping.{view_by}
 use Rattle.step_replay.proofs.answers.Progress.{Comes, state_with, GoesOnSo}
-use Rattle.step_replay.proofs.answers.StampTold.{stamp_told}
-use Rattle.step_replay.proofs.answers.Locks.Far.{first_step, stamp_step, HasLost, BuildFar, LockFar, load_done, found_on, all_seen}
+use Rattle.step_replay.proofs.answers.Seen.{all_seen, stamp_told}
+use Rattle.step_replay.proofs.answers.Locks.Far.{first_step, stamp_step, HasLost, BuildFar, LockFar, load_done, found_on}
 use Rattle.step_replay.proofs.answers.Locks.Refusals.{refusal_so}
 use Rattle.step_replay.proofs.answers.Locks.Walks.{walk_so}
 use Rattle.step_replay.proofs.answers.Locks.Builds.{field_so, clear_so}

@@ -37,9 +37,8 @@ use Rattle.step_replay.proofs.runs.Stepping.{view_by}
 use Rattle.step_replay.proofs.runs.Known.{if_so, eqb_ne, leb_le, leb_gt, facts, view_there, starts, seated, word_small}
 use Rattle.step_replay.proofs.runs.LogFacts.{held_in_log}
 use Rattle.step_replay.proofs.answers.Progress.{Comes, state_with}
-use Rattle.step_replay.proofs.answers.StampTold.{stamp_told}
+use Rattle.step_replay.proofs.answers.Seen.{all_seen, stamp_told}
 use Rattle.step_replay.proofs.answers.Locks.Far.{HasDone, first_step, stamp_step, WalkFar, LockFar, done_more, load_done, found_now, found_on}
-use Rattle.step_replay.proofs.answers.Locks.Far.{all_seen}
 use Rattle.step_replay.proofs.answers.Locks.Refusals.{same_number, refusal_so}
 
 -- a time that isn't up to another is above it

@@ -1,9 +1,10 @@
--- What a load of STAMP tells in a state behind steps of the core.
-use Rattle.std.proofs.Common.{ℕ, ◌<◌, List, subst}
+-- What a seat has seen behind a step, and what a load of STAMP tells it.
+use Rattle.std.proofs.Common.{ℕ, ◌<◌, List, [], sym, subst, append-nil}
 use Rattle.mv_layout.specs.Words.{link_seat_of}
 use Rattle.mv_core.proofs.Terms.{Config, Checked, Stamp}
 use Rattle.mv_core.specs.declared.view.View.{View}
 use Rattle.mv_core.specs.declared.view.Stand.{Stand}
+use Rattle.mv_core.specs.HistoryFacts.{BeginsWith}
 use Rattle.mv_core.specs.Rings.{index_of}
 use Rattle.mv_core.specs.WalkSteps.{MayLoadStamp, StampSays, IsOwnTime}
 use Rattle.mv_core.specs.Moves.{Moment, seen_at}
@@ -11,6 +12,10 @@ use Rattle.mv_core.proofs.moves.Grown.{sees_now, seen_at_is}
 use Rattle.mv_core.proofs.kinds.walking.LoadStamp.{stamp_loads}
 use Rattle.step_replay.specs.States.{any_commit, any_start, zeros, Made, state_of, AreMade}
 use Rattle.step_replay.proofs.runs.Known.{facts, view_there, seated, starts, word_small}
+
+-- what was seen begins with itself
+pub all_seen : (v : View) → BeginsWith v.past.seen v.past.seen
+all_seen v = ([], sym (append-nil v.past.seen))
 
 module _ (c : Config) (k : Checked c) (n : ℕ) (lt : n < c.seats) (made : List Made) (each : AreMade c made) where
   abbrev s : Moment

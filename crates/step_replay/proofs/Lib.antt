@@ -8,3 +8,4 @@ pub mod TurnLaws
 pub mod OneStep
 pub mod runs
 pub mod NextSteps
+pub mod answers

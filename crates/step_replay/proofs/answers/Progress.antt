@@ -38,6 +38,11 @@ Comes Far Answers (Ends answer) = Answers answer
 abbrev pub state_with : ℕ → Option ℕ → ℕ → ℕ → Call → Sweep → State
 state_with n time from freed call sweep = record { seat = n; time = time; from = from; freed = freed; call = call; sweep = sweep }
 
+-- what the seat is at behind a step
+abbrev pub StandsThen : Config → ℕ → View → List Version → State → Then → Type 0
+StandsThen c n w log s (Goes task) = StandsFor c n w log s.freed s.from s.time s.call s.sweep (Some task)
+StandsThen c n w log s (Ends answer) = RestsAt c w log s.freed s.from s.time
+
 -- the call begins, where its condition holds
 abbrev pub BeginsSo : Call → FarOf → Type 0
 BeginsSo call Far =
@@ -59,5 +64,6 @@ GoesOnSo call Far =
     → let found = (state_of c made).memory (place_in_task c n task) in
     let s = state_after task log (state_with n time from freed call sweep) found in
     let notes = applied (edit_of task (state_with n time from freed call sweep) found) log in
-    Comes (Far c n v0 (view_by c (state_of c made) n kind) notes s) (AnswersSo c call v0 (view_by c (state_of c made) n kind))
+    StandsThen c n (view_by c (state_of c made) n kind) notes s (then_after task c notes s found)
+    → Comes (Far c n v0 (view_by c (state_of c made) n kind) notes s) (AnswersSo c call v0 (view_by c (state_of c made) n kind))
     (then_after task c notes s found)

@@ -1,0 +1,3 @@
+-- How calls come to their answers.
+pub mod Progress
+pub mod Tidying

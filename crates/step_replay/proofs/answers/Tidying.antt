@@ -5,3 +5,10 @@ pub mod Grown
 pub mod Ended
 pub mod Holding
 pub mod Rounds
+pub mod Stepping
+pub mod Outside
+pub mod Scanning
+pub mod Marking
+pub mod Raising
+pub mod Edits
+pub mod Looking

@@ -90,6 +90,10 @@ further_one v w s seen mine grace trail kind rest = record {
   rest = rest;
 }
 
+-- what holds of a step holds of all of a list of one
+pub one_all : (P : Step → Type 0) (s : Step) → P s → All P (s ∷ [])
+one_all P s is = All-cons P s [] is (All-nil P)
+
 -- what was seen begins with itself
 pub begins_same : (v : View) → BeginsWith v.past.seen v.past.seen
 begins_same v = ([], sym (append-nil v.past.seen))

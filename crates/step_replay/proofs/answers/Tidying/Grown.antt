@@ -1,5 +1,5 @@
 -- What is known of a tidy's steps is known when more steps were made.
-use Rattle.std.proofs.Common.{◌≡◌, ◌⊎◌, ℕ, ◌+◌, ◌<◌, ◌≤◌, Bool, List, [], ◌∷◌, ◌++◌, length, All, Contains, Option, Some, None, refl, sym, ap, ◌∙◌}
+use Rattle.std.proofs.Common.{◌≡◌, ◌⊎◌, ℕ, ◌+◌, ◌<◌, ◌≤◌, Bool, true, false, List, [], ◌∷◌, ◌++◌, length, All, Contains, Option, Some, None, refl, sym, ap, ◌∙◌}
 use Rattle.std.proofs.Common.{subst, inl, inr, ⊎_elim, arith, append_assoc}
 use Rattle.std.proofs.lemmas.List.Elements.{All-append, Contains-append_left}
 use Rattle.mv_history.specs.declared.Step.{Step}
@@ -174,7 +174,7 @@ module _ (c : Config) (v w : View) (made more : List Step) (f : Further v w more
   opens_on v0 old log latest rests none k =
       record { log_is = k.log_is; unrested = unrested_on v0 rests none k.unrested; within = within_on latest k.within }
 
-  pub come_on : (v0 : View) (log : List Version) (freed from began : ℕ) → (k : HasCome c v0 v log freed from began) → k.made ≡ made
+  abbrev pub come_on : (v0 : View) (log : List Version) (freed from began : ℕ) → (k : HasCome c v0 v log freed from began) → k.made ≡ made
       → HasCome c v0 w log freed from began
   come_on v0 log freed from began k is = record {
     old = k.old;

@@ -12,3 +12,7 @@ pub mod Marking
 pub mod Raising
 pub mod Edits
 pub mod Looking
+pub mod Supers
+pub mod Backing
+pub mod Tops
+pub mod Leaving

@@ -167,6 +167,30 @@ module _ (c : Config) (v0 v : View) (made : List Step) (log : List Version) (fre
             (k.untimed i low inside (omega (arith, before, ne)) (subst (λ (x : Version). x.dead ≡ 0) is none)));
       }
 
+  -- of those before it nothing changes where something is noted of it
+  pub tried_noted : (seat : Option ℕ) → HasTried c v0 v made log freed at first → HasTried c v0 v made (edited_from (AboveNoted at seat) 0 log) freed at first
+  tried_noted seat k =
+      let long = edited_long (AboveNoted at seat) 0 log in
+      record {
+        read = k.read;
+        known = k.known;
+        after = k.after;
+        ends = λ i low lt late.
+            let inside : i < length log = omega (arith, lt, long) in
+            dite (ℕ_discrete i at)
+            (λ e.
+            k.ends i low inside
+            (subst (λ (x : Version). 35184372088831 < x.dead)
+            (ap (λ p. version_at (edited_from (AboveNoted at seat) 0 log) p) e ∙ above_here log at seat live
+            ∙ ap (λ p. record (version_at log p) { above = seat }) (sym e)) late))
+            (λ ne. k.ends i low inside (subst (λ (x : Version). 35184372088831 < x.dead) (above_else log at seat i inside ne) late));
+        untimed = λ i low lt before none.
+            let inside : i < length log = omega (arith, lt, long) in
+            let is = above_else log at seat i inside (λ e. omega (arith, e, before)) in
+            subst (λ (x : Version). StaysUntimed c v made (mark_of first) first.clock true (note_of i x) x.above) (sym is)
+            (k.untimed i low inside before (subst (λ (x : Version). x.dead ≡ 0) is none));
+      }
+
 -- a time of death that was seen is noted
 pub deaths_retired : (v : View) (log : List Version) (freed at dead : ℕ) → at < length log → dead ≤ v.base + length v.past.seen
     → DeathsAreSeen v log freed → DeathsAreSeen v (edited_from (Retired at dead) 0 log) freed

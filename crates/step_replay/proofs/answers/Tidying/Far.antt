@@ -177,14 +177,19 @@ module _ (c : Config) (v0 v : View) (made : List Step) (old log : List Version) 
   Leaves at WasGone = FoundEmpty v (version_at log at).object (version_at log at).time
   Leaves at (WasAbove above) = TriedSo c v made (mark_of sweep.first) sweep.first.clock (note_in log at) above
 
+  -- a section that was entered since the tidy began is of a time that isn't before it
+  abbrev pub IsLate : Option ℕ → Type 0
+  IsLate (Some time) = v0.base + length v0.past.seen ≤ time
+  IsLate None = ⊥
+
   -- a rest is tried from a clock word
   abbrev pub Rests : ℕ → Type 0
-  Rests word = IsFirst c v0 v made log freed (length log) sweep
+  Rests word = IsFirst c v0 v made log freed (length log) sweep × (clock_time_of word ≤ v.base + length v.past.seen)
       × ((i : ℕ) → freed ≤ i → i < length log → (version_at log i).dead ≤ clock_time_of word + 1)
 
   -- a help of a clock word: in the section of a write-back, or outside before a rest
   abbrev pub HelpsIn : Option ℕ → ℕ → Type 0
-  HelpsIn (Some time) word = Backs sweep.at
+  HelpsIn (Some time) word = Backs sweep.at × (v0.base + length v0.past.seen ≤ time)
   HelpsIn None word = Rests word
 
 module _ (c : Config) (v0 v : View) (log : List Version) (s : State) where
@@ -201,7 +206,8 @@ module _ (c : Config) (v0 v : View) (log : List Version) (s : State) where
   SweepsFar (LoadMark seat) = Come (λ made old. Scans c v0 v made old log s.freed s.sweep s.sweep.again)
   SweepsFar (RaiseGrace low) = Come (λ made old. Scans c v0 v made old log s.freed s.sweep s.sweep.again)
   SweepsFar (LoadSuper at) = Come (λ made old. Looks c v0 v made old log s.freed s.sweep s.sweep.again at)
-  SweepsFar (LoadTop at object) = Come (λ made old. Backs c v0 v made old log s.freed s.sweep at)
+  SweepsFar (LoadTop at object) =
+      Come (λ made old. Backs c v0 v made old log s.freed s.sweep at × IsLate c v0 v made old log s.freed s.sweep s.time)
   SweepsFar (StoreMaster at object words word) = Come (λ made old. Backs c v0 v made old log s.freed s.sweep at)
   SweepsFar (CutHead at object) = Come (λ made old. Backs c v0 v made old log s.freed s.sweep at)
   SweepsFar (LoadCutDeath at) = Come (λ made old. Backs c v0 v made old log s.freed s.sweep at)

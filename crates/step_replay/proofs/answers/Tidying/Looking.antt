@@ -68,7 +68,7 @@ module _ (c : Config) (k : Checked c) (n : ℕ) (lt : n < c.seats) (made : List 
       record {
         from = omega (arith, gone, low);
         at = subst (λ p. IsNoteAt rests.2.noted (at - p) (note_in log at)) (sym gone) is_note;
-        committed = committed c v l (at - freed) m rests.2.stands is_note any_start any_commit ∣ knows c k n made each ∣₁ rests.0 alive;
+        committed = committed c v l rests.2.stands (at - freed) m is_note any_start any_commit ∣ knows c k n made each ∣₁ rests.0 alive;
         untimed = alive;
       }
 

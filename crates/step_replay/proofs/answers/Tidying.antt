@@ -16,3 +16,6 @@ pub mod Supers
 pub mod Backing
 pub mod Tops
 pub mod Leaving
+pub mod Deciding
+pub mod Resting
+pub mod Tidy

@@ -7,5 +7,5 @@ pub mod SeatNotes
 pub mod TurnLaws
 pub mod OneStep
 pub mod runs
-pub mod NextSteps
 pub mod answers
+pub mod NextSteps

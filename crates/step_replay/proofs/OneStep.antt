@@ -19,7 +19,7 @@ use Rattle.step_replay.specs.ReplayLaws.{IsTurn, no_step, one_step}
 pub no_lines : (t : TapeOf) → t ≡ with_line t []
 no_lines t = ap (λ text. record t { text = text }) (sym (append-nil t.text))
 
-more_lines : (t : TapeOf) (a b : List ℕ) → with_line (with_line t a) b ≡ with_line t (a ++ b)
+pub more_lines : (t : TapeOf) (a b : List ℕ) → with_line (with_line t a) b ≡ with_line t (a ++ b)
 more_lines t a b = ap (λ text. record t { text = text }) (append_assoc t.text a b)
 
 -- only lines were printed

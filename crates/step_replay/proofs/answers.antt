@@ -1,3 +1,16 @@
--- How calls come to their answers.
+-- The answers of calls: how far a call has come, and that it comes to what the contract of the same call of the runtime says.
 pub mod Progress
+pub mod Trails
+pub mod StampTold
+pub mod HeldObjects
+pub mod Reads
+pub mod Writes
+pub mod Locks
+pub mod Helps
+pub mod Enters
+pub mod Leaves
+pub mod Aborts
+pub mod CommitFar
+pub mod Commits
 pub mod Tidying
+pub mod Far

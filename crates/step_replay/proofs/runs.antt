@@ -26,4 +26,6 @@ pub mod BackingUp
 pub mod LeavingBack
 pub mod Steps
 pub mod Looking
+pub mod Kept
+pub mod InCalls
 pub mod Turns

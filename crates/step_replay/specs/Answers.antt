@@ -1,6 +1,6 @@
 -- What a call that has ended answers: by its seat's view before its first step and behind its last, what the contract of the same call of the
 -- runtime says.
-use Rattle.std.specs.Prelude.{◌≡◌, ◌≢◌, ℕ, ◌≤◌, true, false, List, [], ◌++◌, All}
+use Rattle.std.specs.Prelude.{◌≡◌, ◌≢◌, ℕ, ◌≤◌, true, false, List, ◌++◌, All}
 use Rattle.mv_history.specs.declared.Step.{Step}
 use Rattle.mv_history.specs.declared.StepKind.{StepKind}
 use Rattle.mv_history.specs.declared.StepKind.TheVariants.{LoadHead, LoadFirst, LoadStamp, LoadPrev, LoadData, LoadMaster}
@@ -22,6 +22,7 @@ use Rattle.step_replay.specs.Tidied.{TidiesSo}
 use Rattle.step_replay.specs.declared.plan.Call.{Call}
 use Rattle.step_replay.specs.declared.plan.Call.TheVariants as calls
 use Rattle.step_replay.specs.declared.seats.Answer.{Answer}
+use Rattle.step_replay.specs.Kinds.{no_tag}
 use Rattle.step_replay.specs.declared.seats.Answer.TheVariants.{Silent, AtTime, SixWords, Locked, Committed, Tidied}
 
 -- a step of a read: one of a walk, or a load of a word
@@ -65,7 +66,7 @@ AnswersSo c calls.Enter v w (AtTime time) = Begins c v w time
 AnswersSo c (calls.Read object) v w (SixWords words) = ReadsSo c v w object words
 AnswersSo c (calls.Lock object) v w (Locked answer) = LocksSo c v w object answer
 AnswersSo c (calls.Write object words) v w Silent = WritesSo c v w object words
-AnswersSo c calls.Commit v w (Committed ended) = EndsSo c v w (section_in v) [] ended
+AnswersSo c calls.Commit v w (Committed ended) = EndsSo c v w (section_in v) no_tag ended
 AnswersSo c calls.Abort v w Silent = Aborts v w (abort_cost (held_count v.ring))
 AnswersSo c calls.Leave v w Silent = IsOpen v × (w ≡ mark_cleared c v)
 AnswersSo c calls.Tidy v w (Tidied reclaimed) = TidiesSo c v w reclaimed

@@ -1,5 +1,5 @@
 -- The kind of the core's step that the next step of a call is.
-use Rattle.std.specs.Prelude.{◌≡◌, ◌⊎◌, ℕ, [], slice_index}
+use Rattle.std.specs.Prelude.{◌≡◌, ◌⊎◌, ℕ, List, [], ◌∷◌, slice_index}
 use Rattle.mv_core.specs.declared.ring.Build as core_build
 use Rattle.mv_core.specs.declared.ring.Version as core
 use Rattle.mv_core.specs.declared.ring.CommitNote.{CommitNote}
@@ -58,10 +58,14 @@ IsKindOfLocking version at ClearPrevious kind = (build : core_build.Build) × (k
 IsKindOfLocking version at (FoundFirst link) kind = (stand : Stand) × (kind ≡ load_first link stand)
 IsKindOfLocking version at (FoundStamp link first) kind = (stand : Stand) × (kind ≡ load_stamp link first stand)
 
--- of a commit, an abort or a leave, or of the rest of a tidy; the commits of a replay have no tag
+-- the tag of each commit of a replay: no word of it is other than 0
+abbrev pub no_tag : List ℕ
+no_tag = 0 ∷ 0 ∷ 0 ∷ 0 ∷ []
+
+-- of a commit, an abort or a leave, or of the rest of a tidy
 abbrev pub IsKindOfEnding : Ending → Kind → Type 0
 IsKindOfEnding LoadNow kind = kind ≡ load_check
-IsKindOfEnding (Name word new) kind = (inside : Section) × (kind ≡ name_commit word [] inside)
+IsKindOfEnding (Name word new) kind = (inside : Section) × (kind ≡ name_commit word no_tag inside)
 IsKindOfEnding (StampOwn first time) kind = (word : ℕ) × (kind ≡ stamp word (stamp_from first))
 IsKindOfEnding (StoreSuper at link time) kind =
     (slot : ℕ) × (version : core.Version) × (note : CommitNote) × (kind ≡ store_super link time slot version note)

@@ -39,11 +39,11 @@ abbrev pub view_behind : Config → List Made → ℕ → View
 view_behind c made seat = (state_of c made).seats seat
 
 -- the lines of calls that a seat looks at and that need no step: each was skipped, or is answered by what the seat knows
-pub data AreStepless (c : Config) (seat : ℕ) (v : View) (lines : List ℕ) : Type 0 where
-  no_line : lines ≡ [] → AreStepless c seat v lines
-  skips : (call : Call) (more : List ℕ) → lines ≡ skip_line seat call ++ more → AreStepless c seat v more → AreStepless c seat v lines
-  answers : (call : Call) (answer : Answer) (more : List ℕ) → AnswersSo c call v v answer → lines ≡ answer_line seat call answer ++ more
-      → AreStepless c seat v more → AreStepless c seat v lines
+pub data AreStepless (c : Config) (seat : ℕ) (v : View) : List ℕ → Type 0 where
+  no_line : AreStepless c seat v []
+  skips : (call : Call) (more : List ℕ) → AreStepless c seat v more → AreStepless c seat v (skip_line seat call ++ more)
+  answers : (call : Call) (answer : Answer) (more : List ℕ) → AnswersSo c call v v answer → AreStepless c seat v more
+      → AreStepless c seat v (answer_line seat call answer ++ more)
 
 -- the call whose step is made: the one that the seat is in, or one that begins here, behind lines of calls that need no step
 abbrev pub IsCallOf : Config → ℕ → List Made → Option Running → Running → List ℕ → Type 0

@@ -34,11 +34,11 @@ use Rattle.step_replay.specs.FitPlans.{IsFitCallOf}
 use Rattle.step_replay.specs.SeatNotes.{edited_from, version_at}
 use Rattle.step_replay.specs.Begins.{unlock}
 use Rattle.step_replay.specs.States.{any_commit, any_start, Made, state_of}
-use Rattle.step_replay.specs.Runs.{TapeOf, step_made}
+use Rattle.step_replay.specs.Runs.{TapeOf}
 use Rattle.step_replay.specs.Behind.{IsTapeBehind}
 use Rattle.step_replay.proofs.runs.Notes.{note_of, notes_from, notes_aborted, edited_long, edited_behind}
 use Rattle.step_replay.proofs.runs.Sections.{seat_with, Logs, InSection}
-use Rattle.step_replay.proofs.runs.Standing.{GivesUp, GaveUp, IsStepped, GoesSo, by_step, by_end}
+use Rattle.step_replay.proofs.runs.Standing.{GivesUp, GaveUp, StepsSo, GoesSo, by_step, by_end}
 use Rattle.step_replay.proofs.runs.Stepping.{IsOfKind, view_by, next_is}
 use Rattle.step_replay.proofs.runs.Known.{if_so, ltb_lt, ltb_ge, facts, number_is, knows, starts, word_small, logs_left}
 use Rattle.step_replay.proofs.runs.LogFacts.{noted_long, noted_from, noted_at}
@@ -68,7 +68,7 @@ module _ (c : Config) (k : Checked c) (n : ℕ) (lt : n < c.seats) (made : List 
   v = s.seats n
 
   abbrev Made_so : Ending → Type 0
-  Made_so step = IsStepped c n made t (step_made c (EndsSection step) (record { seat = seat_with n log freed from time call sweep own left; tape = t }))
+  Made_so step = StepsSo c n made t (EndsSection step) (seat_with n log freed from time call sweep own left)
 
   -- the link of a held version is a word of 64 bits
   held_link : (j : ℕ) (x : core.Version) → slot_at v.ring j ≡ Live x Held → x.previous < 2 ^ 64
@@ -96,6 +96,7 @@ module _ (c : Config) (k : Checked c) (n : ℕ) (lt : n < c.seats) (made : List 
       let small = held_link held.slot held.version may.1.held in
       let link = may.1.previous_is in
       let of : IsOfKind c s n kind task = record {
+        is = (held.slot, held.version, held.inside, refl);
         may = may.1;
         range = may.0;
         place = refl;
@@ -124,6 +125,7 @@ module _ (c : Config) (k : Checked c) (n : ℕ) (lt : n < c.seats) (made : List 
       let gone = up.aborting.unlocks.gone (held_from l) (omega arith) (omega (arith, some)) in
       let task = EndsSection LoadDeath in
       let of : IsOfKind c s n load_death task = record {
+        is = refl;
         may = (index_of c (l.freed + held_from l), gone.0, _, gone.1, refl);
         range = tt;
         place = refl;
@@ -157,6 +159,7 @@ module _ (c : Config) (k : Checked c) (n : ℕ) (lt : n < c.seats) (made : List 
       let is = gave.is in
       let task = EndsSection (Leave (WithAbort dead)) in
       let of : IsOfKind c s n clear_mark task = record {
+        is = refl;
         may = parts.end_may c gave.before v l dead gave.given;
         range = lt;
         place = ap Mark (number_is c k n made b.each);
@@ -200,6 +203,7 @@ module _ (c : Config) (k : Checked c) (n : ℕ) (lt : n < c.seats) (made : List 
         finished = subst (IsFinished v) (sym inside.walking.open_is) tt;
       } in
       let of : IsOfKind c s n clear_mark task = record {
+        is = refl;
         may = may;
         range = lt;
         place = ap Mark (number_is c k n made b.each);

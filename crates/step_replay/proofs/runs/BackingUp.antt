@@ -41,12 +41,12 @@ use Rattle.step_replay.specs.Tasks.{link_to}
 use Rattle.step_replay.specs.Learns.{other_seat}
 use Rattle.step_replay.specs.Sweeps.{back_by}
 use Rattle.step_replay.specs.States.{Made, state_of}
-use Rattle.step_replay.specs.Runs.{SeatOf, TapeOf, step_made}
+use Rattle.step_replay.specs.Runs.{SeatOf, TapeOf}
 use Rattle.step_replay.specs.Behind.{IsTapeBehind}
 use Rattle.step_replay.proofs.runs.Notes.{note_of}
 use Rattle.step_replay.proofs.runs.Sections.{seat_with, Logs, InSection, IsBack, BacksUp}
 use Rattle.step_replay.proofs.runs.Standing.{IsBacking, IsUncut}
-use Rattle.step_replay.proofs.runs.Standing.{IsStepped, GoesSo, by_step}
+use Rattle.step_replay.proofs.runs.Standing.{StepsSo, GoesSo, by_step}
 use Rattle.step_replay.proofs.runs.Stepping.{IsOfKind, view_by, next_is}
 use Rattle.step_replay.proofs.runs.Known.{if_so, ltb_lt, ltb_ge, facts, number_is, knows, starts, word_small, logs_left}
 use Rattle.step_replay.proofs.runs.Aborting.{holds_nothing}
@@ -69,7 +69,7 @@ module _ (c : Config) (k : Checked c) (n : ℕ) (lt : n < c.seats) (made : List 
   seat_so = seat_with n log freed from time Tidy sweep own left
 
   abbrev Made_so : Sweeping → Type 0
-  Made_so step = IsStepped c n made t (step_made c (Tidies step) (record { seat = seat_so; tape = t }))
+  Made_so step = StepsSo c n made t (Tidies step) seat_so
 
   -- what a write-back leaves that wasn't won
   uncut_so : (w : View) (at link : ℕ) → IsUncut c w log freed from sweep at
@@ -128,7 +128,7 @@ module _ (c : Config) (k : Checked c) (n : ℕ) (lt : n < c.seats) (made : List 
       let task = Tidies (LoadTop at o) in
       let range = in_domain inside.logs backs.2 at back in
       let of : IsOfKind c s n kind task =
-      record { may = inside.walking; range = subst (λ x. x < c.objects) (sym o_is) range; place = refl; writes = λ x. refl; fits = λ x _. tt } in
+      record { is = (i, refl); may = inside.walking; range = subst (λ x. x < c.objects) (sym o_is) range; place = refl; writes = λ x. refl; fits = λ x _. tt } in
       let w = view_by c s n kind in
       let found = s.memory (Head o) in
       let logs2 = logs_left c v w log freed from refl refl refl refl _ refl (refl, refl) inside.logs in
@@ -194,6 +194,7 @@ module _ (c : Config) (k : Checked c) (n : ℕ) (lt : n < c.seats) (made : List 
       let small = word_low f.logs f.nothing at f.back word less in
       let goes : GoesToWord v o word at x noted.0 = begins noted.0 f.goes noted.4 (omega (arith, known, time_same)) number in
       let of : IsOfKind c s n kind task = record {
+        is = (x, noted.0, f.section, refl);
         may = record {
           phase = f.phase;
           open_is = f.open_is;
@@ -249,6 +250,7 @@ module _ (c : Config) (k : Checked c) (n : ℕ) (lt : n < c.seats) (made : List 
       let task = Tidies (CutHead at o) in
       let link = view_link f.logs f.nothing at f.back in
       let of : IsOfKind c s n kind task = record {
+        is = (x, noted.0, refl);
         may = record { back = stored f.goes; own = noted.1 };
         range = subst (λ y. y < c.objects) (sym f.object_is) (in_domain f.logs f.nothing at f.back);
         place = refl;

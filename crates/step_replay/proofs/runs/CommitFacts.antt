@@ -1,5 +1,5 @@
 -- Of a commit: the words of its names, and what nothing is below.
-use Rattle.std.proofs.Common.{◌≡◌, ℕ, zero, suc, ◌+◌, ◌<◌, ◌≤◌, ◌&&◌, ltb, leb, List, [], ◌∷◌, length}
+use Rattle.std.proofs.Common.{◌≡◌, ℕ, zero, suc, ◌+◌, ◌<◌, ◌≤◌, ◌&&◌, ltb, leb, List, length}
 use Rattle.std.proofs.Common.{Some, refl, sym, ap, ◌∙◌, subst, arith, lt-ltb, le-leb}
 use Rattle.std.proofs.Common.{if◌then◌else◌, ◌-◌}
 use Rattle.std.specs.Prelude.{slice_get}
@@ -14,10 +14,6 @@ use Rattle.step_replay.specs.Tasks.{slot_at as slot_for, commit_clock}
 use Rattle.step_replay.proofs.runs.Notes.{note_of}
 use Rattle.step_replay.proofs.runs.Standing.{Finishes}
 use Rattle.step_replay.proofs.runs.LogFacts.{noted_from, noted_at}
-
--- no word of a tag is other than 0
-abbrev pub no_tag : List ℕ
-no_tag = 0 ∷ 0 ∷ 0 ∷ 0 ∷ []
 
 -- the clock word of the next commit, where the numbers fit one
 pub next_word_is : (c : Config) (word n at slot : ℕ) → clock_time_of word < 35184372088831 → n < 64 → slot ≤ 8191 → slot ≡ slot_for c at

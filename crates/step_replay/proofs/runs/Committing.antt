@@ -43,20 +43,21 @@ use Rattle.step_replay.specs.declared.seats.Then.TheVariants.{Goes, Ends}
 use Rattle.step_replay.specs.FitPlans.{IsFitCallOf}
 use Rattle.step_replay.specs.SeatNotes.{edited_from, version_at, first_from}
 use Rattle.step_replay.specs.Tasks.{slot_at as slot_for, stamp_from, commit_clock}
+use Rattle.step_replay.specs.Kinds.{no_tag}
 use Rattle.step_replay.specs.GoesOn.{is_last, helped_in, help, store_super as then_super, after_name, after_now}
 use Rattle.step_replay.specs.States.{any_commit, any_start, zeros, Made, state_of}
-use Rattle.step_replay.specs.Runs.{TapeOf, step_made}
+use Rattle.step_replay.specs.Runs.{TapeOf}
 use Rattle.step_replay.specs.Behind.{IsTapeBehind}
 use Rattle.step_replay.proofs.runs.Notes.{note_of, notes_from, notes_committed, edited_long, edited_behind}
 use Rattle.step_replay.proofs.runs.Sections.{seat_with, Logs, InSection}
-use Rattle.step_replay.proofs.runs.Standing.{HasNamed, Finishes, IsStepped, GoesSo, by_step, by_end}
+use Rattle.step_replay.proofs.runs.Standing.{HasNamed, Finishes, StepsSo, GoesSo, by_step, by_end}
 use Rattle.step_replay.proofs.runs.Stepping.{IsOfKind, view_by, next_is}
 use Rattle.step_replay.proofs.runs.Known.{if_so, eqb_ne, ltb_lt, ltb_ge, facts, number_is, view_there, starts, knows, logs_left}
 use Rattle.step_replay.proofs.runs.LogFacts.{noted_long, noted_from, noted_at, held_are, first_held}
 use Rattle.step_replay.proofs.runs.Searches.{first_within, first_after, one_of, unlinked}
 use Rattle.step_replay.proofs.runs.Fields.{stamp_is}
 use Rattle.step_replay.proofs.runs.Helping.{rests_in, named_so, section_kept}
-use Rattle.step_replay.proofs.runs.CommitFacts.{no_tag, next_word_is, told_on}
+use Rattle.step_replay.proofs.runs.CommitFacts.{next_word_is, told_on}
 
 module _ (c : Config) (k : Checked c) (n : ℕ) (lt : n < c.seats) (made : List Made) (t : TapeOf) (b : IsTapeBehind c t made)
     (log : List Version) (freed from : ℕ) (time : Option ℕ) (call : Call) (sweep : Sweep) (own : Option Task) (left : List CallOf)
@@ -68,7 +69,7 @@ module _ (c : Config) (k : Checked c) (n : ℕ) (lt : n < c.seats) (made : List 
   v = s.seats n
 
   abbrev Made_so : Ending → Type 0
-  Made_so step = IsStepped c n made t (step_made c (EndsSection step) (record { seat = seat_with n log freed from time call sweep own left; tape = t }))
+  Made_so step = StepsSo c n made t (EndsSection step) (seat_with n log freed from time call sweep own left)
 
   few_seats : n < 64
   few_seats = let seats = k.seats.1 in omega (arith, lt, seats)
@@ -103,6 +104,7 @@ module _ (c : Config) (k : Checked c) (n : ℕ) (lt : n < c.seats) (made : List 
   loading_made inside some commits =
       let task = EndsSection LoadNow in
       let of : IsOfKind c s n load_check task = record {
+        is = refl;
         may = subst MayLoadCheck (sym inside.walking.phase) tt;
         range = tt;
         place = refl;
@@ -160,6 +162,7 @@ module _ (c : Config) (k : Checked c) (n : ℕ) (lt : n < c.seats) (made : List 
       ∙ sym new_is in
       let packed = new_is ∙ next_word_is c word n from (slot_for c from) room few_seats low.1 refl in
       let of : IsOfKind c s n kind task = record {
+        is = (i, refl);
         may = may;
         range = tt;
         place = refl;
@@ -258,6 +261,7 @@ module _ (c : Config) (k : Checked c) (n : ℕ) (lt : n < c.seats) (made : List 
       let slot_is : clock_slot_of word ≡ index_of c from = slot_back t2 v.number (index_of c from) seat_low low.1 in
       let place : Stamp (clock_seat_of word) (clock_slot_of word) ≡ Stamp n at = (λ j. Stamp ((seat_is ∙ own_seat) j) (slot_is j)) in
       let of : IsOfKind c s n kind task = record {
+        is = (word, ap (stamp word) (sym (stamp_is from small)));
         may = inr may;
         range = (lt, low.0);
         place = place;
@@ -313,6 +317,7 @@ module _ (c : Config) (k : Checked c) (n : ℕ) (lt : n < c.seats) (made : List 
       let task = EndsSection (StoreSuper at m.previous t2) in
       let slots = k.slots.0 in
       let of : IsOfKind c s n kind task = record {
+        is = (above.slot, above.version, above.note, refl);
         may = may.1;
         range = (may.0.1, mod-lt (link_position_of m.previous) (omega (arith, slots)));
         place = refl;
@@ -346,6 +351,7 @@ module _ (c : Config) (k : Checked c) (n : ℕ) (lt : n < c.seats) (made : List 
       let finishing = subst (IsFinishing c fin.before v l t2) told_is fin.finishing in
       let task = EndsSection (Leave (WithCommit t2)) in
       let of : IsOfKind c s n clear_mark task = record {
+        is = refl;
         may = parts.end_may c fin.before v l t2 finishing;
         range = lt;
         place = ap Mark (number_is c k n made b.each);

@@ -23,10 +23,10 @@ use Rattle.step_replay.specs.declared.seats.Task.TheVariants.{Enters, Helps}
 use Rattle.step_replay.specs.declared.seats.Then.TheVariants.{Goes}
 use Rattle.step_replay.specs.FitPlans.{IsFitCallOf}
 use Rattle.step_replay.specs.States.{Made, state_of}
-use Rattle.step_replay.specs.Runs.{TapeOf, step_made}
+use Rattle.step_replay.specs.Runs.{TapeOf}
 use Rattle.step_replay.specs.Behind.{IsTapeBehind}
 use Rattle.step_replay.proofs.runs.Sections.{seat_with, Logs, EntersAt, EntersFor, BeforeHelp, HelpsFor, later}
-use Rattle.step_replay.proofs.runs.Standing.{IsStepped, GoesSo, by_step}
+use Rattle.step_replay.proofs.runs.Standing.{StepsSo, GoesSo, by_step}
 use Rattle.step_replay.proofs.runs.Helping.{helped_so}
 use Rattle.step_replay.specs.GoesOn.{helped_in}
 use Rattle.step_replay.proofs.runs.Stepping.{IsOfKind, view_by, next_is}
@@ -56,12 +56,12 @@ module _ (c : Config) (k : Checked c) (n : ℕ) (lt : n < c.seats) (made : List 
   v = s.seats n
 
   abbrev Made_so : Entering → Type 0
-  Made_so step = IsStepped c n made t (step_made c (Enters step) (record { seat = seat_with n log freed from None call sweep own left; tape = t }))
+  Made_so step = StepsSo c n made t (Enters step) (seat_with n log freed from None call sweep own left)
 
   low_made : v.phase ≡ Outside → Made_so LoadLow
   low_made phase =
       let of : IsOfKind c s n load_low (Enters LoadLow) =
-      record { may = record { outside = phase; no_scan = no_scan }; range = tt; place = refl; writes = λ f. refl; fits = λ f _. tt } in
+      record { is = refl; may = record { outside = phase; no_scan = no_scan }; range = tt; place = refl; writes = λ f. refl; fits = λ f _. tt } in
       let w = view_by c s n load_low in
       next_is c k n lt made t b load_low (Enters LoadLow) of (seat_with n log freed from None call sweep own left) refl log freed from None call sweep
       own left refl
@@ -73,6 +73,7 @@ module _ (c : Config) (k : Checked c) (n : ℕ) (lt : n < c.seats) (made : List 
   mark_made mark low phase is =
       let bound = (knows c k n made b.each).lowered low phase in
       let of : IsOfKind c s n (store_mark low) (Enters (StoreMark mark)) = record {
+        is = (low, refl);
         may = phase;
         range = lt;
         place = ap Mark (number_is c k n made b.each);
@@ -89,7 +90,7 @@ module _ (c : Config) (k : Checked c) (n : ℕ) (lt : n < c.seats) (made : List 
   time_made : (low : ℕ) → v.phase ≡ Marked low → Made_so LoadTime
   time_made low phase =
       let of : IsOfKind c s n load_time (Enters LoadTime) =
-      record { may = (low, phase); range = tt; place = refl; writes = λ f. refl; fits = λ f _. tt } in
+      record { is = refl; may = (low, phase); range = tt; place = refl; writes = λ f. refl; fits = λ f _. tt } in
       let w = view_by c s n load_time in
       let word = s.memory Clock in
       let held = logs_left c v w log freed from refl refl refl refl _ refl (refl, refl) logs in

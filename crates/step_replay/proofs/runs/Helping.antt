@@ -33,10 +33,10 @@ use Rattle.step_replay.specs.SeatNotes.{version_at}
 use Rattle.step_replay.specs.declared.seats.Sweeping.TheVariants.{LoadGrace, LoadTop, NameRest}
 use Rattle.step_replay.specs.GoesOn.{is_last, is_unset, helped_in}
 use Rattle.step_replay.specs.States.{Made, state_of}
-use Rattle.step_replay.specs.Runs.{TapeOf, step_made}
+use Rattle.step_replay.specs.Runs.{TapeOf}
 use Rattle.step_replay.specs.Behind.{IsTapeBehind}
 use Rattle.step_replay.proofs.runs.Sections.{seat_with, Logs, InSection, RestsAt, HelpsAt, HelpsFor, helped_word}
-use Rattle.step_replay.proofs.runs.Standing.{IsStepped, GoesSo}
+use Rattle.step_replay.proofs.runs.Standing.{StepsSo, GoesSo}
 use Rattle.step_replay.proofs.runs.Sections.{BeforeHelp, BacksUp, later}
 use Rattle.step_replay.proofs.runs.Standing.{by_step, by_end}
 use Rattle.step_replay.proofs.runs.Stepping.{IsOfKind, view_by, next_is}
@@ -210,7 +210,7 @@ module _ (c : Config) (k : Checked c) (n : ℕ) (lt : n < c.seats) (made : List 
   v = s.seats n
 
   abbrev Made_so : Helping → Type 0
-  Made_so step = IsStepped c n made t (step_made c (Helps step) (record { seat = seat_with n log freed from time call sweep own left; tape = t }))
+  Made_so step = StepsSo c n made t (Helps step) (seat_with n log freed from time call sweep own left)
 
   -- a clock word that was loaded is of a time that isn't above the last one
   bounded : (word : ℕ) → Contains v.clocks.loaded word → clock_time_of word ≤ 35184372088831
@@ -226,6 +226,7 @@ module _ (c : Config) (k : Checked c) (n : ℕ) (lt : n < c.seats) (made : List 
   named_made word loaded some helps =
       let f = facts c k n made b.each in
       let of : IsOfKind c s n (load_named word) (Helps (LoadNamed word)) = record {
+        is = refl;
         may = record { loaded = loaded; names = some };
         range = (f.loaded_words.loaded n word loaded).is_word some;
         place = refl;
@@ -261,6 +262,7 @@ module _ (c : Config) (k : Checked c) (n : ℕ) (lt : n < c.seats) (made : List 
       → HelpsFor c v log freed from time sweep word call → Made_so (LoadCheck word unset)
   check_made word unset loaded kept helps =
       let of : IsOfKind c s n load_check (Helps (LoadCheck word unset)) = record {
+        is = refl;
         may = helps_check c v log freed from time sweep word call helps;
         range = tt;
         place = refl;
@@ -301,6 +303,7 @@ module _ (c : Config) (k : Checked c) (n : ℕ) (lt : n < c.seats) (made : List 
       let old = f.loaded_words.found n (record { word = word; unset = unset; checked = true }) kept in
       let bound = bounded word loaded in
       let of : IsOfKind c s n (stamp word unset) (Helps (SwapStamp word unset)) = record {
+        is = refl;
         may = inl kept;
         range = old.0.is_word old.1;
         place = refl;

@@ -24,13 +24,14 @@ use Rattle.step_replay.specs.declared.seats.Task.TheVariants.{Tidies}
 use Rattle.step_replay.specs.FitPlans.{IsFitCallOf}
 use Rattle.step_replay.specs.SeatNotes.{version_at, edited_from}
 use Rattle.step_replay.specs.Tasks.{place_in_task, access_in_task, written_by}
+use Rattle.step_replay.specs.Kinds.{IsKindOf}
 use Rattle.step_replay.specs.States.{Made, state_of}
-use Rattle.step_replay.specs.Runs.{SeatOf, TapeOf, step_made}
+use Rattle.step_replay.specs.Runs.{SeatOf, TapeOf}
 use Rattle.step_replay.specs.Behind.{IsTapeBehind}
 use Rattle.step_replay.proofs.runs.Notes.{note_of, edited_long}
 use Rattle.step_replay.proofs.runs.Sections.{seat_with, Logs, RestsAt, IsSwept, later}
 use Rattle.step_replay.proofs.runs.Standing.{IsUncut, HasCut}
-use Rattle.step_replay.proofs.runs.Standing.{IsStepped, by_step}
+use Rattle.step_replay.proofs.runs.Standing.{StepsSo, by_step}
 use Rattle.step_replay.proofs.runs.Stepping.{IsOfKind, view_by, next_is}
 use Rattle.step_replay.proofs.runs.Known.{facts, number_is, logs_left}
 use Rattle.step_replay.proofs.runs.Aborting.{holds_nothing}
@@ -53,7 +54,7 @@ module _ (c : Config) (k : Checked c) (n : ℕ) (lt : n < c.seats) (made : List 
   seat_so = seat_with n log freed from time Tidy sweep own left
 
   abbrev Made_so : Sweeping → Type 0
-  Made_so step = IsStepped c n made t (step_made c (Tidies step) (record { seat = seat_so; tape = t }))
+  Made_so step = StepsSo c n made t (Tidies step) seat_so
 
   -- the time of death is loaded
   death_made : (at : ℕ) → HasCut c v log freed from sweep at None → Made_so (LoadCutDeath at)
@@ -63,7 +64,7 @@ module _ (c : Config) (k : Checked c) (n : ℕ) (lt : n < c.seats) (made : List 
       let note = is_note c f.before log freed from f.logs f.nothing at f.back.unfreed f.back.live f.back.no_death in
       let waits = waits_for_death c f.before f.logs.noted (at - freed) m2 f.note f.logs.stands note f.lives f.back.no_death in
       let of : IsOfKind c s n load_death task =
-      record { may = subst MayLoadDeath (sym f.view_is) waits; range = tt; place = refl; writes = λ x. refl; fits = λ x _. tt } in
+      record { is = refl; may = subst MayLoadDeath (sym f.view_is) waits; range = tt; place = refl; writes = λ x. refl; fits = λ x _. tt } in
       let w = view_by c s n load_death in
       let word = s.memory Clock in
       next_is c k n lt made t b load_death task of seat_so refl log freed from time Tidy (later sweep word) own left refl no_scan before
@@ -105,6 +106,7 @@ module _ (c : Config) (k : Checked c) (n : ℕ) (lt : n < c.seats) (made : List 
         finished = subst (IsFinished v) (sym f.open_is) tt;
       } in
       let of : IsOfKind c s n clear_mark task = record {
+        is = refl;
         may = may;
         range = lt;
         place = ap Mark (number_is c k n made b.each);
@@ -132,8 +134,10 @@ module _ (c : Config) (k : Checked c) (n : ℕ) (lt : n < c.seats) (made : List 
 
   -- a section that has cut nothing ends
   module _ (at : ℕ) (f : IsUncut c v log freed from sweep at) where
-    of_leave : (task : Task) → place_in_task c n task ≡ Mark n → ((x : ℕ) → Some 0 ≡ written_by (access_in_task n task) x) → IsOfKind c s n clear_mark task
-    of_leave task there writes = record {
+    of_leave : (task : Task) → place_in_task c n task ≡ Mark n → ((x : ℕ) → Some 0 ≡ written_by (access_in_task n task) x)
+        → IsKindOf task clear_mark → IsOfKind c s n clear_mark task
+    of_leave task there writes is = record {
+      is = is;
       may = record {
         inside = f.section;
         phase = f.phase;
@@ -156,7 +160,7 @@ module _ (c : Config) (k : Checked c) (n : ℕ) (lt : n < c.seats) (made : List 
     gone_left =
         let task = Tidies (LeaveBack at WasGone) in
         let still : RestsAt c w log freed from None = (refl, f.nothing, logs2) in
-        next_is c k n lt made t b clear_mark task (of_leave task refl (λ x. refl)) seat_so refl log freed from None Tidy sweep own left refl no_scan before
+        next_is c k n lt made t b clear_mark task (of_leave task refl (λ x. refl) refl) seat_so refl log freed from None Tidy sweep own left refl no_scan before
         (by_step (Tidies (LoadSuperAgain at)) refl ((still, refl, f.swept, f.back.unfreed, f.back.live, f.back.no_death), refl))
 
     above_left : (seat : Option ℕ) → Made_so (LeaveBack at (WasAbove seat))
@@ -169,7 +173,7 @@ module _ (c : Config) (k : Checked c) (n : ℕ) (lt : n < c.seats) (made : List 
         let noted2 : Logs c w log2 freed from =
         record { noted = logs2.noted; stands = logs2.stands; is = noted_above c logs2.noted log freed from at seat logs2.is } in
         let nothing2 : from ≡ length log2 = omega (arith, none, long) in
-        next_is c k n lt made t b clear_mark task (of_leave task refl (λ x. refl)) seat_so refl log2 freed from None Tidy sweep own left refl no_scan before
+        next_is c k n lt made t b clear_mark task (of_leave task refl (λ x. refl) refl) seat_so refl log2 freed from None Tidy sweep own left refl no_scan before
         (behind_so c k n lt made t b log freed from sweep own left no_scan before w log2 sweep at no_scan (refl, nothing2, noted2) f.swept f.back.unfreed
         (omega (arith, live, long)))
 

@@ -19,10 +19,10 @@ use Rattle.step_replay.specs.declared.seats.Task.TheVariants.{Locks}
 use Rattle.step_replay.specs.FitPlans.{IsFitCallOf}
 use Rattle.step_replay.specs.GoesOn.{is_lock}
 use Rattle.step_replay.specs.States.{Made, state_of}
-use Rattle.step_replay.specs.Runs.{SeatOf, TapeOf, step_made}
+use Rattle.step_replay.specs.Runs.{SeatOf, TapeOf}
 use Rattle.step_replay.specs.Behind.{IsTapeBehind}
 use Rattle.step_replay.proofs.runs.Sections.{seat_with, InSection, MayHold, StandsAt}
-use Rattle.step_replay.proofs.runs.Standing.{Builds, IsStepped}
+use Rattle.step_replay.proofs.runs.Standing.{Builds, StepsSo}
 use Rattle.step_replay.proofs.runs.Standing.{by_step}
 use Rattle.step_replay.proofs.runs.Stepping.{IsOfKind, view_by, next_is}
 use Rattle.step_replay.proofs.runs.Known.{logs_left}
@@ -48,7 +48,7 @@ module _ (c : Config) (k : Checked c) (n : ℕ) (lt : n < c.seats) (made : List 
   seat = seat_with n log freed from time call sweep own left
 
   abbrev Made_so : Version → ℕ → Locking → Type 0
-  Made_so version at step = IsStepped c n made t (step_made c (Locks version at step) (record { seat = seat; tape = t }))
+  Made_so version at step = StepsSo c n made t (Locks version at step) seat
 
   module _ (version : Version) (at : ℕ) (builds : Builds c v i log from o version at) where
     -- the write set of the version that was met
@@ -57,6 +57,7 @@ module _ (c : Config) (k : Checked c) (n : ℕ) (lt : n < c.seats) (made : List 
         let task = Locks version at (FoundFirst link) in
         let in_range = stands_in c k n lt made t b log freed from time call sweep own left no_scan before inside o link stands in
         let of : IsOfKind c s n (load_first link stands.stand) task = record {
+          is = (stands.stand, refl);
           may = record { stands = stands.at; link_is = stands.link_is };
           range = (in_range.0, in_range.1);
           place = refl;
@@ -87,6 +88,7 @@ module _ (c : Config) (k : Checked c) (n : ℕ) (lt : n < c.seats) (made : List 
         let slots = k.slots.0 in
         let kind = load_stamp link first stands.stand in
         let of : IsOfKind c s n kind task = record {
+          is = (stands.stand, refl);
           may = record { stands = stands.at; link_is = stands.link_is; first_is = first_is };
           range = (in_range.0, mod-lt first (omega (arith, slots)));
           place = refl;

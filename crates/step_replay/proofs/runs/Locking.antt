@@ -39,11 +39,11 @@ use Rattle.step_replay.specs.SeatNotes.{applied}
 use Rattle.step_replay.specs.Tasks.{slot_at as slot_for, link_to, field_word}
 use Rattle.step_replay.specs.GoesOn.{is_lock, after_lock_head}
 use Rattle.step_replay.specs.States.{Made, state_of}
-use Rattle.step_replay.specs.Runs.{SeatOf, TapeOf, learned, step_made}
+use Rattle.step_replay.specs.Runs.{SeatOf, TapeOf, learned}
 use Rattle.step_replay.specs.Behind.{IsTapeBehind}
 use Rattle.step_replay.proofs.runs.Notes.{note_of, notes_from, notes_more, drop_more}
 use Rattle.step_replay.proofs.runs.Sections.{seat_with, Logs, InSection, MayHold}
-use Rattle.step_replay.proofs.runs.Standing.{HasFields, Builds, LocksAt, IsStepped}
+use Rattle.step_replay.proofs.runs.Standing.{HasFields, Builds, LocksAt, StepsSo}
 use Rattle.step_replay.proofs.runs.Standing.{GoesSo, by_step, by_end}
 use Rattle.step_replay.proofs.runs.Stepping.{IsOfKind, view_by, next_is}
 use Rattle.step_replay.proofs.runs.Known.{if_so, eqb_ne, ltb_lt, ltb_ge, and_left, number_is, knows, next_low, logs_left}
@@ -72,7 +72,7 @@ module _ (c : Config) (k : Checked c) (n : ℕ) (lt : n < c.seats) (made : List 
   seat = seat_with n log freed from time call sweep own left
 
   abbrev Made_so : Version → ℕ → Locking → Type 0
-  Made_so version at step = IsStepped c n made t (step_made c (Locks version at step) (record { seat = seat; tape = t }))
+  Made_so version at step = StepsSo c n made t (Locks version at step) seat
 
   module _ (version : Version) (at : ℕ) (builds : Builds c v i log from o version at) where
     -- once a word was stored there the position fits a link
@@ -106,6 +106,7 @@ module _ (c : Config) (k : Checked c) (n : ℕ) (lt : n < c.seats) (made : List 
         let place : field_place v.number (slot_for c at) field ≡ field_place n (slot_for c at) field =
         ap (λ (m : ℕ). field_place m (slot_for c at) field) (number_is c k n made b.each) in
         let of : IsOfKind c s n kind (Locks version at (Build field)) = record {
+          is = (build_at c v at, refl);
           may = may_store c v at (may_build_here c k v log freed from time at inside may.room builds.at_is) field x
               (field_fits version at field (set_first v.ring) less (builds.first_is ∙ sym first) one (low_at field has));
           range = field_range c n (slot_for c at) field lt (mod-lt at (omega (arith, slots))) less;
@@ -247,6 +248,7 @@ module _ (c : Config) (k : Checked c) (n : ℕ) (lt : n < c.seats) (made : List 
         let link : link_of v.number at ≡ link_to n at = ap (λ m. link_of m at) (number_is c k n made b.each) ∙ sym (link_is n at few_seats low) in
         let place : Head o ≡ Head version.object = ap Head (sym builds.object_is) in
         let of : IsOfKind c s n kind task = record {
+          is = (build_at c v at, i, ap (λ x. lock_head x version.previous at (build_at c v at) i) (sym builds.object_is));
           may = may_lock stands has;
           range = subst (λ (x : ℕ). x < c.objects) (sym builds.object_is) range;
           place = place;
@@ -351,6 +353,7 @@ module _ (c : Config) (k : Checked c) (n : ℕ) (lt : n < c.seats) (made : List 
         let task = Locks version at ClearPrevious in
         let slots = k.slots.0 in
         let of : IsOfKind c s n kind task = record {
+          is = (build_at c v at, refl);
           may = may_store c v at (may_build_here c k v log freed from time at inside may.room builds.at_is) 2 0 tt;
           range = (lt, mod-lt at (omega (arith, slots)));
           place = ap (λ m. field_place m (slot_for c at) 2) (number_is c k n made b.each);

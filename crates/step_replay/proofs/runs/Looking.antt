@@ -1,6 +1,6 @@
 -- A seat looks at its calls: it makes no step, and stands at the first step of the next one, or has none left.
-use Rattle.std.proofs.Common.{◌≡◌, ◌⊎◌, ℕ, ◌-◌, ◌<◌, ◌≤◌, ◌^◌, ◌==◌, List, [], ◌∷◌, length, true, false, Option, Some, None}
-use Rattle.std.proofs.Common.{All, refl, sym, subst, arith, inl, inr, eqb-true, if◌then◌else◌, slice_index}
+use Rattle.std.proofs.Common.{◌≡◌, ◌⊎◌, ℕ, ◌-◌, ◌<◌, ◌≤◌, ◌^◌, ◌==◌, List, [], ◌∷◌, ◌++◌, length, true, false, Option, Some, None}
+use Rattle.std.proofs.Common.{All, refl, sym, ◌∙◌, subst, arith, inl, inr, eqb-true, if◌then◌else◌, slice_index}
 use Rattle.std.proofs.lemmas.Bool.{cases_lt}
 use Rattle.std.proofs.lemmas.List.{get_or_past}
 use Rattle.std.proofs.lemmas.List.Elements.{All-head, All-tail, All-get_or}
@@ -28,26 +28,42 @@ use Rattle.step_replay.specs.declared.notes.Test.TheVariants.{IsOf}
 use Rattle.step_replay.specs.FitPlans.{AreSixWords, IsFitCall, IsFitCallOf}
 use Rattle.step_replay.specs.SeatNotes.{held, holds, live, place_held}
 use Rattle.step_replay.specs.Begins.{unlock, begin_abort, begin_call, may_begin, new_sweep}
-use Rattle.step_replay.specs.States.{Made}
+use Rattle.step_replay.specs.States.{Made, AreMade}
 use Rattle.step_replay.specs.Lines.{skip_line, answer_line}
 use Rattle.step_replay.specs.Runs.{TapeOf, Scene, Looked, with_line, begun_so, call_looked, looked_on, looked}
 use Rattle.step_replay.specs.Behind.{IsTapeBehind}
+use Rattle.step_replay.specs.RuledRuns.{view_behind, AreStepless, no_line, skips, answers}
+use Rattle.step_replay.specs.Answers.{AnswersSo}
+use Rattle.step_replay.proofs.OneStep.{no_lines, more_lines}
 use Rattle.step_replay.proofs.NextSteps.{lined}
 use Rattle.step_replay.proofs.runs.Sections.{seat_with, InSection, RestsAt}
 use Rattle.step_replay.proofs.runs.Standing.{StandsFor, GoesSo, by_step, by_end}
 use Rattle.step_replay.proofs.runs.Known.{if_so, eqb_ne, ltb_lt, ltb_ge}
 use Rattle.step_replay.proofs.runs.LogFacts.{held_are, log_short}
 use Rattle.step_replay.proofs.runs.Searches.{first_after, none_of}
+use Rattle.step_replay.proofs.answers.Progress.{Comes, state_with}
+use Rattle.step_replay.proofs.answers.Far.{FarIn, call_begins}
 
--- what a seat comes to that looks at its calls: the tape is behind the same steps
-pub record IsLooked (c : Config) (n : ℕ) (made : List Made) (v : View) (log : List Version) (freed from : ℕ) (time : Option ℕ) (l : Looked) : Type 0 where
+-- how far a call has come that begins here
+abbrev pub HasBegun : Config → ℕ → View → List Version → State → Option Task → Type 0
+HasBegun c n v log state None = Unit {0}
+HasBegun c n v log state (Some task) = FarIn state.call c n v v log state task
+
+-- What a seat comes to that looks at its calls, from this tape: the tape is behind the same steps, with the lines of calls that need none, and the
+-- next call begins, if there is one.
+pub record IsLooked (c : Config) (n : ℕ) (made : List Made) (log : List Version) (freed from : ℕ) (time : Option ℕ) (t : TapeOf) (l : Looked) :
+    Type 0 where
   pub call : Call
   pub sweep : Sweep
   pub left : List CallOf
   pub is : l.scene.seat ≡ seat_with n log freed from time call sweep None left
   pub before : All (IsFitCallOf c) left
   pub behind : IsTapeBehind c l.scene.tape made
-  pub stands : StandsFor c n v log freed from time call sweep l.task
+  pub stands : StandsFor c n (view_behind c made n) log freed from time call sweep l.task
+  pub lines : List ℕ
+  pub printed : l.scene.tape ≡ with_line t lines
+  pub stepless : AreStepless c n (view_behind c made n) lines
+  pub far : HasBegun c n (view_behind c made n) log (state_with n time from freed call sweep) l.task
 
 -- the words of a write are of 64 bits
 words_small : (words : List ℕ) → AreSixWords words → (i : ℕ) → slice_index words i < 2 ^ 64
@@ -57,9 +73,25 @@ words_small words fit i = go (cases_lt i (length words))
     go (inl lt) = All-get_or (λ (w : ℕ). w < 2 ^ 64) words i 0 lt fit.1
     go (inr ge) = let e = get_or_past words i 0 ge in omega (arith, e)
 
-module _ (c : Config) (k : Checked c) (n : ℕ) (made : List Made) (v : View) (log : List Version) (freed from : ℕ) where
+-- the condition of a call reads neither the last call nor its tidy
+may_same : (log : List Version) (n : ℕ) (time : Option ℕ) (from freed : ℕ) (a b : Call) (x y : Sweep) (what : Call)
+    → may_begin log (state_with n time from freed a x) what ≡ may_begin log (state_with n time from freed b y) what
+may_same log n time from freed a b x y Enter = refl
+may_same log n time from freed a b x y (Read o) = refl
+may_same log n time from freed a b x y (Lock o) = refl
+may_same log n time from freed a b x y (Write o words) = refl
+may_same log n time from freed a b x y Commit = refl
+may_same log n time from freed a b x y Abort = refl
+may_same log n time from freed a b x y Leave = refl
+may_same log n time from freed a b x y Tidy = refl
+
+module _ (c : Config) (k : Checked c) (n : ℕ) (lt : n < c.seats) (made : List Made) (each : AreMade c made)
+    (log : List Version) (freed from : ℕ) where
+  abbrev v : View
+  v = view_behind c made n
+
   abbrev state : Option ℕ → Call → State
-  state time call = record { seat = n; time = time; from = from; freed = freed; call = call; sweep = new_sweep freed }
+  state time call = state_with n time from freed call (new_sweep freed)
 
   -- how a call begins in a section
   module _ (t : ℕ) (inside : InSection c v log freed from (Some t)) where
@@ -132,46 +164,85 @@ module _ (c : Config) (k : Checked c) (n : ℕ) (made : List Made) (v : View) (l
   abbrev scene : Option ℕ → Call → Sweep → List CallOf → TapeOf → Scene
   scene time call sweep left t = record { seat = seat_with n log freed from time call sweep None left; tape = t }
 
-  abbrev So : Option ℕ → Looked → Type 0
-  So time l = IsLooked c n made v log freed from time l
+  abbrev So : Option ℕ → TapeOf → Looked → Type 0
+  So time t l = IsLooked c n made log freed from time t l
 
   -- what comes of the calls behind
   abbrev Next : List CallOf → Option ℕ → Type 0
   Next calls time = (call : Call) (sweep : Sweep) (t : TapeOf) → IsTapeBehind c t made
-      → So time (looked c calls (scene time call sweep calls t))
+      → So time t (looked c calls (scene time call sweep calls t))
 
   -- a call that is looked at, and then those behind it
-  abbrev Goes_on : List CallOf → Option ℕ → Looked → Type 0
-  Goes_on calls time this = So time (looked_on this.task this (looked c calls this.scene))
+  abbrev Goes_on : List CallOf → Option ℕ → TapeOf → Looked → Type 0
+  Goes_on calls time t this = So time t (looked_on this.task this (looked c calls this.scene))
+
+  -- what a call says that begins
+  abbrev Comes_so : Option ℕ → Call → Then → Type 0
+  Comes_so time what x = Comes (FarIn what c n v v log (state time what)) (AnswersSo c what v v) x
+
+  -- the line of a call that needs no step, and then those of the calls behind it
+  behind_line : (time : Option ℕ) (t : TapeOf) (line : List ℕ) (l : Looked)
+      → ((more : List ℕ) → AreStepless c n v more → AreStepless c n v (line ++ more)) → So time (with_line t line) l → So time t l
+  behind_line time t line l first is = record {
+    call = is.call;
+    sweep = is.sweep;
+    left = is.left;
+    is = is.is;
+    before = is.before;
+    behind = is.behind;
+    stands = is.stands;
+    lines = line ++ is.lines;
+    printed = is.printed ∙ more_lines t line is.lines;
+    stepless = first is.lines is.stepless;
+    far = is.far;
+  }
 
   module _ (calls : List CallOf) (before : All (IsFitCallOf c) calls) (call : Call) (sweep : Sweep) (t : TapeOf) (b : IsTapeBehind c t made) (time : Option ℕ)
       (next : Next calls time) where
-    -- a call is begun
-    begun : (what : Call) → (x : Then) → GoesSo c n v log freed from time what (new_sweep freed) x
-        → Goes_on calls time (begun_so x what (scene time what (new_sweep freed) calls t))
-    begun what x (by_step task e stands) =
-        subst (λ y. Goes_on calls time (begun_so y what (scene time what (new_sweep freed) calls t))) (sym e)
-        (record { call = what; sweep = new_sweep freed; left = calls; is = refl; before = before; behind = b; stands = stands })
-    begun what x (by_end answer e rests) =
-        subst (λ y. Goes_on calls time (begun_so y what (scene time what (new_sweep freed) calls t))) (sym e)
-        (next what (new_sweep freed) (with_line t (answer_line n what answer)) (lined c t made (answer_line n what answer) b))
+    -- a call is begun, or is answered by what the seat knows
+    begun : (what : Call) → (x : Then) → GoesSo c n v log freed from time what (new_sweep freed) x → Comes_so time what x
+        → Goes_on calls time t (begun_so x what (scene time what (new_sweep freed) calls t))
+    begun what x (by_step task e stands) comes =
+        subst (λ y. Goes_on calls time t (begun_so y what (scene time what (new_sweep freed) calls t))) (sym e)
+        (record {
+          call = what;
+          sweep = new_sweep freed;
+          left = calls;
+          is = refl;
+          before = before;
+          behind = b;
+          stands = stands;
+          lines = [];
+          printed = no_lines t;
+          stepless = no_line;
+          far = subst (Comes_so time what) e comes;
+        })
+    begun what x (by_end answer e rests) comes =
+        let line = answer_line n what answer in
+        let known : AnswersSo c what v v answer = subst (Comes_so time what) e comes in
+        subst (λ y. Goes_on calls time t (begun_so y what (scene time what (new_sweep freed) calls t))) (sym e)
+        (behind_line time t line _ (λ more. answers what answer more known)
+        (next what (new_sweep freed) (with_line t line) (lined c t made line b)))
 
     -- or skipped, where its condition is false
     call_is : (what : Call)
-        → (may_begin log (record { seat = n; time = time; from = from; freed = freed; call = call; sweep = sweep }) what ≡ true
+        → (may_begin log (state_with n time from freed call sweep) what ≡ true
         → GoesSo c n v log freed from time what (new_sweep freed) (begin_call what c log (state time what)))
-        → Goes_on calls time (call_looked c what (scene time call sweep calls t))
-    call_is what goes =
-        let may = may_begin log (record { seat = n; time = time; from = from; freed = freed; call = call; sweep = sweep }) what in
-        if_so (Goes_on calls time) may
+        → (may_begin log (state time what) what ≡ true → Comes_so time what (begin_call what c log (state time what)))
+        → Goes_on calls time t (call_looked c what (scene time call sweep calls t))
+    call_is what goes comes =
+        let may = may_begin log (state_with n time from freed call sweep) what in
+        let line = skip_line n what in
+        if_so (Goes_on calls time t) may
         (begun_so (begin_call what c log (state time what)) what (scene time what (new_sweep freed) calls t))
-        (record { scene = scene time call sweep calls (with_line t (skip_line n what)); task = None })
-        (λ e. begun what (begin_call what c log (state time what)) (goes e))
-        (λ e. next call sweep (with_line t (skip_line n what)) (lined c t made (skip_line n what) b))
+        (record { scene = scene time call sweep calls (with_line t line); task = None })
+        (λ e. begun what (begin_call what c log (state time what)) (goes e)
+        (comes (may_same log n time from freed what call (new_sweep freed) sweep what ∙ e)))
+        (λ e. behind_line time t line _ (λ more. skips what more) (next call sweep (with_line t line) (lined c t made line b)))
 
   -- how each call begins
   begins_outside : (what : Call) (call : Call) (sweep : Sweep) → RestsAt c v log freed from None
-      → may_begin log (record { seat = n; time = None; from = from; freed = freed; call = call; sweep = sweep }) what ≡ true
+      → may_begin log (state_with n None from freed call sweep) what ≡ true
       → GoesSo c n v log freed from None what (new_sweep freed) (begin_call what c log (state None what))
   begins_outside Enter call sweep rests e = by_step (Enters enter.LoadLow) refl (rests.0, tt, refl, rests.1, rests.2)
   begins_outside Tidy call sweep rests e = by_step (Tidies (sweeping.LoadGrace false)) refl ((rests, refl), refl)
@@ -183,7 +254,7 @@ module _ (c : Config) (k : Checked c) (n : ℕ) (made : List Made) (v : View) (l
   begins_outside Leave call sweep rests e = absurd (cc)
 
   begins_inside : (what : Call) (call : Call) (sweep : Sweep) (t : ℕ) → IsFitCall c what → InSection c v log freed from (Some t)
-      → may_begin log (record { seat = n; time = Some t; from = from; freed = freed; call = call; sweep = sweep }) what ≡ true
+      → may_begin log (state_with n (Some t) from freed call sweep) what ≡ true
       → GoesSo c n v log freed from (Some t) what (new_sweep freed) (begin_call what c log (state (Some t) what))
   begins_inside Enter call sweep t fit inside e = absurd (cc)
   begins_inside Tidy call sweep t fit inside e = absurd (cc)
@@ -199,22 +270,35 @@ module _ (c : Config) (k : Checked c) (n : ℕ) (made : List Made) (v : View) (l
       by_step (EndsSection (finish.Leave Plainly)) refl (inside, (let none = eqb-true (length log - from) 0 e in omega (arith, none, low)))
 
   begins : (what : Call) (call : Call) (sweep : Sweep) (time : Option ℕ) → IsFitCall c what → RestsAt c v log freed from time
-      → may_begin log (record { seat = n; time = time; from = from; freed = freed; call = call; sweep = sweep }) what ≡ true
+      → may_begin log (state_with n time from freed call sweep) what ≡ true
       → GoesSo c n v log freed from time what (new_sweep freed) (begin_call what c log (state time what))
   begins what call sweep None fit rests = begins_outside what call sweep rests
   begins what call sweep (Some t) fit rests = begins_inside what call sweep t fit rests
 
   pub looks : (calls left : List CallOf) → All (IsFitCallOf c) calls → All (IsFitCallOf c) left → (time : Option ℕ) → RestsAt c v log freed from time
       → (call : Call) (sweep : Sweep) (t : TapeOf) → IsTapeBehind c t made
-      → So time (looked c calls (scene time call sweep left t))
+      → So time t (looked c calls (scene time call sweep left t))
   looks [] left before all time rests call sweep t b =
-      record { call = call; sweep = sweep; left = left; is = refl; before = all; behind = b; stands = rests }
+      record {
+        call = call;
+        sweep = sweep;
+        left = left;
+        is = refl;
+        before = all;
+        behind = b;
+        stands = rests;
+        lines = [];
+        printed = no_lines t;
+        stepless = no_line;
+        far = tt;
+      }
   looks (one ∷ calls) left before all time rests call sweep t b =
       let behind = All-tail (IsFitCallOf c) one calls before in
       let next : Next calls time = λ other swept u a. looks calls calls behind behind time rests other swept u a in
-      if_so (Goes_on calls time) (one.seat == n) (call_looked c one.call (scene time call sweep calls t))
+      let fit = (All-head (IsFitCallOf c) one calls before).1 in
+      if_so (Goes_on calls time t) (one.seat == n) (call_looked c one.call (scene time call sweep calls t))
       (record { scene = scene time call sweep calls t; task = None })
       (λ e.
-      call_is calls behind call sweep t b time next one.call
-      (begins one.call call sweep time (All-head (IsFitCallOf c) one calls before).1 rests))
+      call_is calls behind call sweep t b time next one.call (begins one.call call sweep time fit rests)
+      (call_begins one.call c k fit n lt made each log freed from time rests))
       (λ e. next call sweep t b)

@@ -36,11 +36,11 @@ use Rattle.step_replay.specs.Learns.{lowered, scan_begun, scanned}
 use Rattle.step_replay.specs.GoesOn.{helped_in}
 use Rattle.step_replay.specs.Sweeps.{free, look_at, then_after}
 use Rattle.step_replay.specs.States.{any_commit, any_start, Made, state_of}
-use Rattle.step_replay.specs.Runs.{SeatOf, TapeOf, learned, step_made}
+use Rattle.step_replay.specs.Runs.{SeatOf, TapeOf, learned}
 use Rattle.step_replay.specs.Behind.{IsTapeBehind}
 use Rattle.step_replay.proofs.runs.Notes.{notes_from, notes_drop, drop_on}
 use Rattle.step_replay.proofs.runs.Sections.{seat_with, Logs, RestsAt, HelpsFor, later}
-use Rattle.step_replay.proofs.runs.Standing.{IsFreeing, IsStepped, GoesSo, by_step}
+use Rattle.step_replay.proofs.runs.Standing.{IsFreeing, StepsSo, GoesSo, by_step}
 use Rattle.step_replay.proofs.runs.Stepping.{IsOfKind, view_by, next_is, scan_on}
 use Rattle.step_replay.proofs.runs.Known.{if_so, eqb_ne, leb_le, leb_gt, facts, number_is, knows, logs_left}
 use Rattle.step_replay.proofs.runs.LogFacts.{noted_long}
@@ -60,7 +60,7 @@ module _ (c : Config) (k : Checked c) (n : ℕ) (lt : n < c.seats) (made : List 
   seat_so = seat_with n log freed from None Tidy sweep own left
 
   abbrev Made_so : Task → Type 0
-  Made_so task = IsStepped c n made t (step_made c task (record { seat = seat_so; tape = t }))
+  Made_so task = StepsSo c n made t task seat_so
 
   module _ (rests : RestsAt c v log freed from None) where
     -- a step that leaves the log alone leaves the seat at rest
@@ -70,7 +70,7 @@ module _ (c : Config) (k : Checked c) (n : ℕ) (lt : n < c.seats) (made : List 
     grace_made : v.scan ≡ None → (again : Bool) → Made_so (Tidies (LoadGrace again))
     grace_made no_scan again =
         let of : IsOfKind c s n load_grace (Tidies (LoadGrace again)) =
-        record { may = tt; range = tt; place = refl; writes = λ f. refl; fits = λ f _. tt } in
+        record { is = refl; may = tt; range = tt; place = refl; writes = λ f. refl; fits = λ f _. tt } in
         let w = view_by c s n load_grace in
         let found = s.memory Grace in
         let still = rests_on w refl (logs_left c v w log freed from refl refl refl refl _ refl (refl, refl) rests.2) in
@@ -164,7 +164,7 @@ module _ (c : Config) (k : Checked c) (n : ℕ) (lt : n < c.seats) (made : List 
     scan_made : v.scan ≡ None → Made_so (Tidies LoadScan)
     scan_made no_scan =
         let of : IsOfKind c s n load_scan (Tidies LoadScan) =
-        record { may = record { outside = rests.0; no_scan = no_scan }; range = tt; place = refl; writes = λ f. refl; fits = λ f _. tt } in
+        record { is = refl; may = record { outside = rests.0; no_scan = no_scan }; range = tt; place = refl; writes = λ f. refl; fits = λ f _. tt } in
         let w = view_by c s n load_scan in
         let word = s.memory Clock in
         let time = clock_time_of word in
@@ -177,6 +177,7 @@ module _ (c : Config) (k : Checked c) (n : ℕ) (lt : n < c.seats) (made : List 
         → Made_so (Tidies (LoadMark seat))
     mark_made seat scan running next low inside =
         let of : IsOfKind c s n (load_mark seat scan) (Tidies (LoadMark seat)) = record {
+          is = (scan, refl);
           may = record { running = running; next = next; in_range = inside };
           range = inside;
           place = refl;
@@ -200,6 +201,7 @@ module _ (c : Config) (k : Checked c) (n : ℕ) (lt : n < c.seats) (made : List 
         let top : v.grace < 2 ^ 64 =
         (let g = (f.grace.views n).0 in let long = f.history.long in let most = f.history.in_time in omega (arith, g, long, most)) in
         let of : IsOfKind c s n (raise_grace low) (Tidies (RaiseGrace low)) = record {
+          is = refl;
           may = low_small;
           range = tt;
           place = refl;
@@ -221,6 +223,7 @@ module _ (c : Config) (k : Checked c) (n : ℕ) (lt : n < c.seats) (made : List 
     now_made no_scan =
         let task = EndsSection LoadNow in
         let of : IsOfKind c s n load_check task = record {
+          is = refl;
           may = subst MayLoadCheck (sym rests.0) tt;
           range = tt;
           place = refl;
@@ -256,6 +259,7 @@ module _ (c : Config) (k : Checked c) (n : ℕ) (lt : n < c.seats) (made : List 
         let word_is : rest_word v word ≡ new = ap (λ m. clock_of (clock_time_of word + 1) m 8191) number ∙ sym new_word ∙ sym new_is in
         let packed = new_is ∙ new_word in
         let of : IsOfKind c s n kind task = record {
+          is = refl;
           may = record { outside = rests.0; loaded = loaded; helped = helped; room = room };
           range = tt;
           place = refl;
@@ -304,6 +308,7 @@ module _ (c : Config) (k : Checked c) (n : ℕ) (lt : n < c.seats) (made : List 
       (each_may_free c f.before l sweep.bound f.all f.stands f.outside f.bounded frees f.done (omega (arith, left_is, some)))) in
       let slots = k.slots.0 in
       let of : IsOfKind c s n kind task = record {
+        is = refl;
         may = may;
         range = (lt, mod-lt at (omega (arith, slots)));
         place = ap (λ m. Stamp m (slot_for c at)) (number_is c k n made b.each);

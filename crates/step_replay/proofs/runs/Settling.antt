@@ -28,12 +28,13 @@ use Rattle.step_replay.specs.FitPlans.{IsFitCallOf}
 use Rattle.step_replay.specs.SeatNotes.{version_at, no_version, edited_from, applied}
 use Rattle.step_replay.specs.Tasks.{slot_at as slot_for, place_in_task, access_in_task, written_by}
 use Rattle.step_replay.specs.Sweeps.{settle_behind}
+use Rattle.step_replay.specs.Kinds.{IsKindOf}
 use Rattle.step_replay.specs.States.{Made, state_of}
-use Rattle.step_replay.specs.Runs.{SeatOf, TapeOf, learned, step_made}
+use Rattle.step_replay.specs.Runs.{SeatOf, TapeOf, learned}
 use Rattle.step_replay.specs.Behind.{IsTapeBehind}
 use Rattle.step_replay.proofs.runs.Notes.{note_of, notes_from, notes_retired, notes_above, edited_long, edited_behind, edited_at}
 use Rattle.step_replay.proofs.runs.Sections.{seat_with, IsNoted, Logs, RestsAt, IsSwept}
-use Rattle.step_replay.proofs.runs.Standing.{IsStepped}
+use Rattle.step_replay.proofs.runs.Standing.{StepsSo}
 use Rattle.step_replay.proofs.runs.Standing.{GoesSo, by_step}
 use Rattle.step_replay.proofs.runs.Stepping.{IsOfKind, view_by, next_is}
 use Rattle.step_replay.proofs.runs.Known.{if_so, ltb_ge, number_is}
@@ -159,8 +160,9 @@ module _ (c : Config) (k : Checked c) (n : ℕ) (lt : n < c.seats) (made : List 
     rests_so log2 long logs = (rests.0, (let none = rests.1 in omega (arith, none, long)), logs)
 
     of_super : (task : Task) → place_in_task c n task ≡ Super n (slot_for c at)
-        → ((x : ℕ) → None ≡ written_by (access_in_task n task) x) → IsOfKind c s n kind task
-    of_super task there writes = record {
+        → ((x : ℕ) → None ≡ written_by (access_in_task n task) x) → IsKindOf task kind → IsOfKind c s n kind task
+    of_super task there writes is = record {
+      is = is;
       may = may;
       range = subst (IsPlace c) (sym there) (lt, (let slots = k.slots.0 in mod-lt at (omega (arith, slots))));
       place = place_is ∙ sym there;
@@ -178,7 +180,7 @@ module _ (c : Config) (k : Checked c) (n : ℕ) (lt : n < c.seats) (made : List 
     state_at = record { seat = n; time = None; from = from; freed = freed; call = Tidy; sweep = record sweep { at = at } }
 
     -- a load of SUPER whose version has a time of death then
-    super_found : found ≢ 0 → IsStepped c n made t (step_made c (Tidies (LoadSuper at)) (record { seat = seat_so; tape = t }))
+    super_found : found ≢ 0 → StepsSo c n made t (Tidies (LoadSuper at)) seat_so
     super_found some =
         let task = Tidies (LoadSuper at) in
         let pos : 0 < found = omega (arith, some) in
@@ -190,14 +192,14 @@ module _ (c : Config) (k : Checked c) (n : ℕ) (lt : n < c.seats) (made : List 
         ap (λ x. record (seat_with n log freed from None Tidy sweep_at own left) {
           log = applied (if x && not sweep.again then AboveNoted at None else (if x then Kept else Retired at found)) log;
         }) no_one in
-        next_is c k n lt made t b kind task (of_super task refl (λ x. refl)) seat_so refl log2 freed from None Tidy sweep_at own left is no_scan before
+        next_is c k n lt made t b kind task (of_super task refl (λ x. refl) (_, _, refl)) seat_so refl log2 freed from None Tidy sweep_at own left is no_scan before
         (subst (λ x. GoesSo c n w log2 freed from None Tidy sweep_at
         (if not x || (sweep.again || ltb sweep.last.time (version_at log2 at).time) then settle_behind log2 state_at at else Goes (Enters LoadLow)))
         (sym no_one)
         (behind_so w log2 sweep_at at no_scan rested swept low (omega (arith, inside, long))))
 
     -- and one of a version that has none, in the second round
-    super_again : found ≡ 0 → sweep.again ≡ true → IsStepped c n made t (step_made c (Tidies (LoadSuper at)) (record { seat = seat_so; tape = t }))
+    super_again : found ≡ 0 → sweep.again ≡ true → StepsSo c n made t (Tidies (LoadSuper at)) seat_so
     super_again none again =
         let task = Tidies (LoadSuper at) in
         let zero_is : (found == 0) ≡ true = eq-eqb found 0 none in
@@ -207,7 +209,7 @@ module _ (c : Config) (k : Checked c) (n : ℕ) (lt : n < c.seats) (made : List 
         (λ i. record (seat_with n log freed from None Tidy sweep_at own left) {
           log = applied (if zero_is i && not (again i) then AboveNoted at None else (if zero_is i then Kept else Retired at found)) log;
         }) in
-        next_is c k n lt made t b kind task (of_super task refl (λ x. refl)) seat_so refl log freed from None Tidy sweep_at own left is no_scan before
+        next_is c k n lt made t b kind task (of_super task refl (λ x. refl) (_, _, refl)) seat_so refl log freed from None Tidy sweep_at own left is no_scan before
         (subst (λ x. GoesSo c n w log freed from None Tidy sweep_at
         (if not x || (sweep.again || ltb sweep.last.time (version_at log at).time) then settle_behind log state_at at else Goes (Enters LoadLow)))
         (sym zero_is)
@@ -216,7 +218,7 @@ module _ (c : Config) (k : Checked c) (n : ℕ) (lt : n < c.seats) (made : List 
         (behind_so w log sweep_at at no_scan rested swept low inside)))
 
     -- in the first round such a version is written back, if it is old enough
-    super_first : found ≡ 0 → sweep.again ≡ false → IsStepped c n made t (step_made c (Tidies (LoadSuper at)) (record { seat = seat_so; tape = t }))
+    super_first : found ≡ 0 → sweep.again ≡ false → StepsSo c n made t (Tidies (LoadSuper at)) seat_so
     super_first none first =
         let task = Tidies (LoadSuper at) in
         let zero_is : (found == 0) ≡ true = eq-eqb found 0 none in
@@ -230,7 +232,7 @@ module _ (c : Config) (k : Checked c) (n : ℕ) (lt : n < c.seats) (made : List 
         (λ i. record (seat_with n log freed from None Tidy sweep_at own left) {
           log = applied (if zero_is i && not (first i) then AboveNoted at None else (if zero_is i then Kept else Retired at found)) log;
         }) in
-        next_is c k n lt made t b kind task (of_super task refl (λ x. refl)) seat_so refl log2 freed from None Tidy sweep_at own left is no_scan before
+        next_is c k n lt made t b kind task (of_super task refl (λ x. refl) (_, _, refl)) seat_so refl log2 freed from None Tidy sweep_at own left is no_scan before
         (subst (λ x. GoesSo c n w log2 freed from None Tidy sweep_at
         (if not x || (sweep.again || ltb sweep.last.time (version_at log2 at).time) then settle_behind log2 state_at at else Goes (Enters LoadLow)))
         (sym zero_is)
@@ -256,15 +258,15 @@ module _ (c : Config) (k : Checked c) (n : ℕ) (lt : n < c.seats) (made : List 
           logs2,
         )))))
 
-    super_made : IsStepped c n made t (step_made c (Tidies (LoadSuper at)) (record { seat = seat_so; tape = t }))
+    super_made : StepsSo c n made t (Tidies (LoadSuper at)) seat_so
     super_made = dite (ℕ_discrete found 0) (λ none. round sweep.again refl none) (λ some. super_found some)
       where
-        round : (x : Bool) → sweep.again ≡ x → found ≡ 0 → IsStepped c n made t (step_made c (Tidies (LoadSuper at)) (record { seat = seat_so; tape = t }))
+        round : (x : Bool) → sweep.again ≡ x → found ≡ 0 → StepsSo c n made t (Tidies (LoadSuper at)) seat_so
         round true again none = super_again none again
         round false first none = super_first none first
 
     -- SUPER is loaded once more, where HEAD was found to be 0
-    again_made : IsStepped c n made t (step_made c (Tidies (LoadSuperAgain at)) (record { seat = seat_so; tape = t }))
+    again_made : StepsSo c n made t (Tidies (LoadSuperAgain at)) seat_so
     again_made =
         let task = Tidies (LoadSuperAgain at) in
         dite (ℕ_discrete found 0)
@@ -273,7 +275,7 @@ module _ (c : Config) (k : Checked c) (n : ℕ) (lt : n < c.seats) (made : List 
         let logs2 : Logs c w log freed from = record { noted = rests.2.noted; stands = unfound_stands none; is = rests.2.is } in
         let is : learned task found seat_so ≡ seat_so =
         (λ i. record seat_so { log = applied (if zero_is i then Kept else Retired at found) log }) in
-        next_is c k n lt made t b kind task (of_super task refl (λ x. refl)) seat_so refl log freed from None Tidy sweep own left is no_scan before
+        next_is c k n lt made t b kind task (of_super task refl (λ x. refl) (_, _, refl)) seat_so refl log freed from None Tidy sweep own left is no_scan before
         (behind_so w log sweep at no_scan (rests_so log refl logs2) swept low inside))
         (λ some.
         let pos : 0 < found = omega (arith, some) in
@@ -282,13 +284,13 @@ module _ (c : Config) (k : Checked c) (n : ℕ) (lt : n < c.seats) (made : List 
         let long = edited_long (Retired at found) 0 log in
         let is : learned task found seat_so ≡ seat_with n log2 freed from None Tidy sweep own left =
         (λ i. record seat_so { log = applied (if no_one i then Kept else Retired at found) log }) in
-        next_is c k n lt made t b kind task (of_super task refl (λ x. refl)) seat_so refl log2 freed from None Tidy sweep own left is no_scan before
+        next_is c k n lt made t b kind task (of_super task refl (λ x. refl) (_, _, refl)) seat_so refl log2 freed from None Tidy sweep own left is no_scan before
         (behind_so w log2 sweep at no_scan (rests_so log2 long (found_logs pos)) swept low (omega (arith, inside, long))))
 
   pub super_is : RestsAt c v log freed from None → IsSwept v.grace sweep → (at : ℕ) → freed ≤ at → at < length log → (version_at log at).dead ≡ 0
-      → IsStepped c n made t (step_made c (Tidies (LoadSuper at)) (record { seat = seat_with n log freed from None Tidy sweep own left; tape = t }))
+      → StepsSo c n made t (Tidies (LoadSuper at)) (seat_with n log freed from None Tidy sweep own left)
   super_is = super_made
 
   pub again_is : RestsAt c v log freed from None → IsSwept v.grace sweep → (at : ℕ) → freed ≤ at → at < length log → (version_at log at).dead ≡ 0
-      → IsStepped c n made t (step_made c (Tidies (LoadSuperAgain at)) (record { seat = seat_with n log freed from None Tidy sweep own left; tape = t }))
+      → StepsSo c n made t (Tidies (LoadSuperAgain at)) (seat_with n log freed from None Tidy sweep own left)
   again_is = again_made

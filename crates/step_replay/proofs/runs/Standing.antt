@@ -56,8 +56,9 @@ use Rattle.step_replay.specs.declared.seats.Task.{Task}
 use Rattle.step_replay.specs.declared.seats.Task.TheVariants.{Enters, Helps, Walks, Locks, Writes, EndsSection, Tidies}
 use Rattle.step_replay.specs.FitPlans.{IsFitCallOf}
 use Rattle.step_replay.specs.SeatNotes.{version_at}
-use Rattle.step_replay.specs.Tasks.{commit_clock, place_in_task}
-use Rattle.step_replay.specs.Runs.{SeatOf, TapeOf, Scene, with_line, tape_stepped}
+use Rattle.step_replay.specs.Kinds.{IsKindOf}
+use Rattle.step_replay.specs.Tasks.{commit_clock}
+use Rattle.step_replay.specs.Runs.{SeatOf, TapeOf, Scene, step_made}
 use Rattle.step_replay.specs.Behind.{IsTapeBehind}
 use Rattle.step_replay.specs.NextSteps.{IsStepOf}
 use Rattle.step_replay.specs.GoesOn.{is_lock}
@@ -302,15 +303,17 @@ pub record IsSeat (c : Config) (n : ℕ) (s : SeatOf) (v : View) : Type 0 where
 abbrev pub step_of : ℕ → Kind → Made
 step_of n kind = record { seat = n; kind = kind }
 
--- a seat and the tape behind one step more, which is that of a task, with a line behind it
-pub record IsStepped (c : Config) (n : ℕ) (made : List Made) (t : TapeOf) (y : Scene) : Type 0 where
+-- a seat and the tape behind one step more, which is that of this task
+pub record IsStepped (c : Config) (n : ℕ) (made : List Made) (task : Task) (y : Scene) : Type 0 where
   pub kind : Kind
-  pub task : Task
-  pub line : List ℕ
+  pub is : IsKindOf task kind
   pub next : IsStepOf c made (step_of n kind) n task
-  pub new_is : y.tape ≡ with_line (tape_stepped c n task (place_in_task c n task) t) line
   pub behind : IsTapeBehind c y.tape (step_of n kind ∷ made)
   pub seat_is : IsSeat c n y.seat ((state_of c (step_of n kind ∷ made)).seats n)
+
+-- so it is of a seat at this tape whose next step is that of the task
+abbrev pub StepsSo : Config → ℕ → List Made → TapeOf → Task → SeatOf → Type 0
+StepsSo c n made t task seat = IsStepped c n made task (step_made c task (record { seat = seat; tape = t }))
 
 -- how a call goes on, and what its seat is at then
 pub data GoesSo (c : Config) (n : ℕ) (v : View) (log : List Version) (freed from : ℕ) (time : Option ℕ) (call : Call) (sweep : Sweep) (then : Then) :

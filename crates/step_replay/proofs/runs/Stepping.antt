@@ -14,12 +14,11 @@ use Rattle.step_replay.specs.States.{any_commit, Made, may_in, place_in, writes_
 use Rattle.step_replay.specs.Words.{word_at}
 use Rattle.step_replay.specs.Tasks.{place_in_task, access_in_task, written_by}
 use Rattle.step_replay.specs.Sweeps.{then_after}
-use Rattle.step_replay.specs.Lines.{answer_line}
-use Rattle.step_replay.specs.Runs.{SeatOf, TapeOf, Scene, is_place, with_line, tape_stepped, tape_after, found_in, went, learned, step_made}
+use Rattle.step_replay.specs.Kinds.{IsKindOf}
+use Rattle.step_replay.specs.Runs.{SeatOf, TapeOf, Scene, is_place, tape_stepped, tape_after, found_in, went, learned, step_made}
 use Rattle.step_replay.specs.Behind.{IsTapeBehind}
 use Rattle.step_replay.specs.NextSteps.{IsStepOf}
 use Rattle.step_replay.proofs.Machines.{made_next}
-use Rattle.step_replay.proofs.OneStep.{no_lines}
 use Rattle.step_replay.proofs.NextSteps.{lined, step_behind}
 use Rattle.step_replay.specs.declared.plan.Call.{Call}
 use Rattle.step_replay.specs.declared.plan.CallOf.{CallOf}
@@ -28,7 +27,7 @@ use Rattle.step_replay.specs.declared.seats.Sweep.{Sweep}
 use Rattle.step_replay.specs.FitPlans.{IsFitCallOf}
 use Rattle.step_replay.proofs.runs.Known.{word_small}
 use Rattle.step_replay.proofs.runs.Sections.{seat_with}
-use Rattle.step_replay.proofs.runs.Standing.{IsSeat, IsStepped, step_of, StandsFor, GoesSo, by_step, by_end, seat_by}
+use Rattle.step_replay.proofs.runs.Standing.{IsSeat, IsStepped, StepsSo, step_of, StandsFor, GoesSo, by_step, by_end, seat_by}
 
 both_true : (a b : Bool) → a ≡ true → b ≡ true → (a && b) ≡ true
 both_true a b p q = ap (λ x. x && b) p ∙ q
@@ -54,6 +53,7 @@ view_by c s n kind = (act any_commit c (s.seats n) kind).view (s.memory (act any
 
 -- the next step of a seat is the core's step of this kind
 pub record IsOfKind (c : Config) (s : Moment) (n : ℕ) (kind : Kind) (task : Task) : Type 0 where
+  pub is : IsKindOf task kind
   pub may : may_in c s (step_of n kind)
   pub range : IsPlace c (place_in_task c n task)
   pub place : place_in c s (step_of n kind) ≡ place_in_task c n task
@@ -64,44 +64,23 @@ module _ (c : Config) (k : Checked c) (n : ℕ) (lt : n < c.seats) (made : List 
   abbrev s : Moment
   s = state_of c made
 
-  module _ (kind : Kind) (task : Task) (of : IsOfKind c s n kind task) where
-    abbrev at : Place
-    at = place_in_task c n task
+  -- a step at a task whose word is one of the domain
+  module _ (task : Task) (range : IsPlace c (place_in_task c n task)) where
+    abbrev place : Place
+    place = place_in_task c n task
 
-    word : word_at c t.words at ≡ s.memory at
-    word = b.shows.each at of.range
+    word : word_at c t.words place ≡ s.memory place
+    word = b.shows.each place range
 
-    there : is_place c at ≡ true
-    there = place_true c at of.range
-
-    abbrev o : Option ℕ
-    o = written_by (access_in_task n task) (word_at c t.words at)
-
-    same : written_by (access_in_task n task) (s.memory at) ≡ o
-    same = ap (written_by (access_in_task n task)) (sym word)
-
-    next : IsStepOf c made (step_of n kind) n task
-    next = record {
-      seat_is = refl;
-      may = (made_next c k t.words made (step_of n kind) at (written_by (access_in_task n task)) b.shows of.place of.range of.writes o same b.each lt of.may
-          (of.fits (word_at c t.words at) (let small = word_small c k n made b.each at in omega (arith, word, small)))).0;
-      place_is = of.place;
-      range = of.range;
-      writes_are = of.writes;
-    }
-
-    stepped : IsTapeBehind c (tape_stepped c n task at t) (step_of n kind ∷ made)
-    stepped = step_behind c k made t b (step_of n kind) n task next
+    there : is_place c place ≡ true
+    there = place_true c place range
 
     -- the tape behind the step, which is made
-    after_is : tape_after c n task t ≡ tape_stepped c n task at t
-    after_is = ap (λ x. if x then tape_stepped c n task at t else t) there
+    pub after_is : tape_after c n task t ≡ tape_stepped c n task (place_in_task c n task) t
+    after_is = ap (λ x. if x then tape_stepped c n task place t else t) there
 
-    tape_is : IsTapeBehind c (tape_after c n task t) (step_of n kind ∷ made)
-    tape_is = subst (λ u. IsTapeBehind c u (step_of n kind ∷ made)) (sym after_is) stepped
-
-    found_is : found_in c n task t ≡ s.memory at
-    found_is = ap (λ x. if x then word_at c t.words at else 0) there ∙ word
+    found_is : found_in c n task t ≡ s.memory place
+    found_is = ap (λ x. if x then word_at c t.words place else 0) there ∙ word
 
     module _ (seat : SeatOf) (number : seat.state.seat ≡ n) where
       -- a step that found this, with the tape behind it
@@ -109,11 +88,38 @@ module _ (c : Config) (k : Checked c) (n : ℕ) (lt : n < c.seats) (made : List 
       stepped_with found u =
           went (then_after task c (learned task found seat).log (learned task found seat).state found) (record { seat = learned task found seat; tape = u })
 
-      scene_is : step_made c task (record { seat = seat; tape = t }) ≡ stepped_with (s.memory at) (tape_after c n task t)
+      pub scene_is : step_made c task (record { seat = seat; tape = t }) ≡ stepped_with (s.memory place) (tape_after c n task t)
       scene_is =
           (λ i. stepped_with (found_in c (number i) task t) (tape_after c (number i) task t))
           ∙ ap (λ f. stepped_with f (tape_after c n task t)) found_is
 
+  module _ (kind : Kind) (task : Task) (of : IsOfKind c s n kind task) where
+    abbrev at : Place
+    at = place_in_task c n task
+
+    abbrev o : Option ℕ
+    o = written_by (access_in_task n task) (word_at c t.words at)
+
+    same : written_by (access_in_task n task) (s.memory at) ≡ o
+    same = ap (written_by (access_in_task n task)) (sym (word task of.range))
+
+    next : IsStepOf c made (step_of n kind) n task
+    next = record {
+      seat_is = refl;
+      may = (made_next c k t.words made (step_of n kind) at (written_by (access_in_task n task)) b.shows of.place of.range of.writes o same b.each lt of.may
+          (of.fits (word_at c t.words at)
+          (let small = word_small c k n made b.each at in let found = word task of.range in omega (arith, found, small)))).0;
+      place_is = of.place;
+      range = of.range;
+      writes_are = of.writes;
+    }
+
+    -- the tape behind the step
+    tape_is : IsTapeBehind c (tape_after c n task t) (step_of n kind ∷ made)
+    tape_is =
+        subst (λ u. IsTapeBehind c u (step_of n kind ∷ made)) (sym (after_is task of.range)) (step_behind c k made t b (step_of n kind) n task next)
+
+    module _ (seat : SeatOf) (number : seat.state.seat ≡ n) where
       -- the seat and its view
       seat_there : (x : SeatOf) → IsSeat c n x (view_by c s n kind) → IsSeat c n x ((state_of c (step_of n kind ∷ made)).seats n)
       seat_there x is = subst (IsSeat c n x) (sym (set_at_here s.seats n (view_by c s n kind))) is
@@ -124,40 +130,36 @@ module _ (c : Config) (k : Checked c) (n : ℕ) (lt : n < c.seats) (made : List 
           → All (IsFitCallOf c) left
           → GoesSo c n (view_by c s n kind) log freed from time call sweep
           (then_after task c log (record { seat = n; time = time; from = from; freed = freed; call = call; sweep = sweep }) (s.memory at))
-          → IsStepped c n made t (step_made c task (record { seat = seat; tape = t }))
+          → StepsSo c n made t task seat
       next_is log freed from time call sweep own left is no_scan before goes =
           let u = tape_after c n task t in
-          subst (IsStepped c n made t) (sym (scene_is ∙ ap (λ (x : SeatOf). went (then_after task c x.log x.state (s.memory at))
+          subst (IsStepped c n made task) (sym (scene_is task of.range seat number ∙ ap (λ (x : SeatOf). went (then_after task c x.log x.state (s.memory at))
           (record { seat = x; tape = u })) is))
           (go _ goes)
         where
           go : (x : Then) → GoesSo c n (view_by c s n kind) log freed from time call sweep x
-              → IsStepped c n made t (went x (record { seat = seat_with n log freed from time call sweep own left; tape = tape_after c n task t }))
+              → IsStepped c n made task (went x (record { seat = seat_with n log freed from time call sweep own left; tape = tape_after c n task t }))
           go x (by_step more e stands) =
-              subst (λ y. IsStepped c n made t (went y (record {
+              subst (λ y. IsStepped c n made task (went y (record {
                 seat = seat_with n log freed from time call sweep own left;
                 tape = tape_after c n task t;
               }))) (sym e)
               (record {
                 kind = kind;
-                task = task;
-                line = [];
+                is = of.is;
                 next = next;
-                new_is = after_is ∙ no_lines (tape_stepped c n task at t);
                 behind = tape_is;
                 seat_is = seat_there _ (seat_by c n (view_by c s n kind) log freed from time call sweep (Some more) left (inl no_scan) before stands);
               })
           go x (by_end answer e stands) =
-              subst (λ y. IsStepped c n made t (went y (record {
+              subst (λ y. IsStepped c n made task (went y (record {
                 seat = seat_with n log freed from time call sweep own left;
                 tape = tape_after c n task t;
               }))) (sym e)
               (record {
                 kind = kind;
-                task = task;
-                line = answer_line n call answer;
+                is = of.is;
                 next = next;
-                new_is = ap (λ u. with_line u (answer_line n call answer)) after_is;
                 behind = lined c (tape_after c n task t) (step_of n kind ∷ made) _ tape_is;
                 seat_is = seat_there _ (seat_by c n (view_by c s n kind) log freed from time call sweep None left (inl no_scan) before stands);
               })
@@ -168,18 +170,16 @@ module _ (c : Config) (k : Checked c) (n : ℕ) (lt : n < c.seats) (made : List 
           → then_after task c log (record { seat = n; time = time; from = from; freed = freed; call = call; sweep = sweep }) (s.memory at)
           ≡ Goes (Tidies (LoadMark mark))
           → StandsFor c n (view_by c s n kind) log freed from time call sweep (Some (Tidies (LoadMark mark)))
-          → IsStepped c n made t (step_made c task (record { seat = seat; tape = t }))
+          → StepsSo c n made t task seat
       scan_on log freed from time call sweep own left is before mark e stands =
           let u = tape_after c n task t in
-          subst (IsStepped c n made t)
-          (sym (scene_is ∙ ap (λ (x : SeatOf). went (then_after task c x.log x.state (s.memory at)) (record { seat = x; tape = u })) is
+          subst (IsStepped c n made task)
+          (sym (scene_is task of.range seat number ∙ ap (λ (x : SeatOf). went (then_after task c x.log x.state (s.memory at)) (record { seat = x; tape = u })) is
           ∙ ap (λ y. went y (record { seat = seat_with n log freed from time call sweep own left; tape = u })) e))
           (record {
             kind = kind;
-            task = task;
-            line = [];
+            is = of.is;
             next = next;
-            new_is = after_is ∙ no_lines (tape_stepped c n task at t);
             behind = tape_is;
             seat_is = seat_there _
                 (seat_by c n (view_by c s n kind) log freed from time call sweep (Some (Tidies (LoadMark mark))) left (inr (mark, refl)) before stands);

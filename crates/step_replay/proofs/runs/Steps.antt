@@ -18,10 +18,10 @@ use Rattle.step_replay.specs.declared.seats.Task.{Task}
 use Rattle.step_replay.specs.declared.seats.Task.TheVariants.{Enters, Helps, Walks, Locks, Writes, EndsSection, Tidies}
 use Rattle.step_replay.specs.FitPlans.{IsFitCallOf}
 use Rattle.step_replay.specs.States.{Made, state_of}
-use Rattle.step_replay.specs.Runs.{TapeOf, step_made}
+use Rattle.step_replay.specs.Runs.{TapeOf}
 use Rattle.step_replay.specs.Behind.{IsTapeBehind}
 use Rattle.step_replay.proofs.runs.Sections.{seat_with}
-use Rattle.step_replay.proofs.runs.Standing.{IsStepped, EndsAt, TidiesAt, StandsFor, ScanAt}
+use Rattle.step_replay.proofs.runs.Standing.{StepsSo, EndsAt, TidiesAt, StandsFor, ScanAt}
 use Rattle.step_replay.proofs.runs.Entering.{entering_made}
 use Rattle.step_replay.proofs.runs.Helping.{helping_made}
 use Rattle.step_replay.proofs.runs.Walking.{walking_made}
@@ -41,14 +41,13 @@ module _ (c : Config) (k : Checked c) (n : ℕ) (lt : n < c.seats) (made : List 
   view = (state_of c made).seats n
 
   abbrev Step_made : Task → Type 0
-  Step_made task = IsStepped c n made t (step_made c task (record { seat = seat_with n log freed from time call sweep own left; tape = t }))
+  Step_made task = StepsSo c n made t task (seat_with n log freed from time call sweep own left)
 
   module _ (no_scan : ((state_of c made).seats n).scan ≡ None) where
     now_is : EndsAt c n view log freed from time call LoadNow → Step_made (EndsSection LoadNow)
     now_is (inl at) = loading_made c k n lt made t b log freed from time call sweep own left no_scan before at.0 at.1 at.2
     now_is (inr at) =
-        let P = λ (x : Option ℕ) (y : Call). IsStepped c n made t
-        (step_made c (EndsSection LoadNow) (record { seat = seat_with n log freed from x y sweep own left; tape = t })) in
+        let P = λ (x : Option ℕ) (y : Call). StepsSo c n made t (EndsSection LoadNow) (seat_with n log freed from x y sweep own left) in
         subst (λ x. P x call) (sym at.1)
         (subst (P None) (sym at.2) (now_rests c k n lt made t b log freed from sweep own left before at.0 no_scan))
 
@@ -69,19 +68,17 @@ module _ (c : Config) (k : Checked c) (n : ℕ) (lt : n < c.seats) (made : List 
   -- a step outside a section, of a tidy
   module _ (tidies : call ≡ Tidy) where
     at_rest : (step : Sweeping) → time ≡ None
-        → IsStepped c n made t (step_made c (Tidies step) (record { seat = seat_with n log freed from None Tidy sweep own left; tape = t }))
+        → StepsSo c n made t (Tidies step) (seat_with n log freed from None Tidy sweep own left)
         → Step_made (Tidies step)
     at_rest step none made_so =
-        let P = λ (x : Option ℕ) (y : Call). IsStepped c n made t
-        (step_made c (Tidies step) (record { seat = seat_with n log freed from x y sweep own left; tape = t })) in
+        let P = λ (x : Option ℕ) (y : Call). StepsSo c n made t (Tidies step) (seat_with n log freed from x y sweep own left) in
         subst (λ x. P x call) (sym none) (subst (P None) (sym tidies) made_so)
 
     in_section : (step : Sweeping)
-        → IsStepped c n made t (step_made c (Tidies step) (record { seat = seat_with n log freed from time Tidy sweep own left; tape = t }))
+        → StepsSo c n made t (Tidies step) (seat_with n log freed from time Tidy sweep own left)
         → Step_made (Tidies step)
     in_section step made_so =
-        let P = λ (y : Call). IsStepped c n made t
-        (step_made c (Tidies step) (record { seat = seat_with n log freed from time y sweep own left; tape = t })) in
+        let P = λ (y : Call). StepsSo c n made t (Tidies step) (seat_with n log freed from time y sweep own left) in
         subst P (sym tidies) made_so
 
     marks_made : (seat : ℕ) → TidiesAt c n view log freed from time sweep (LoadMark seat) → Step_made (Tidies (LoadMark seat))
@@ -124,8 +121,7 @@ module _ (c : Config) (k : Checked c) (n : ℕ) (lt : n < c.seats) (made : List 
   -- each step that a seat stands at, where no scan runs
   quiet_is : view.scan ≡ None → (task : Task) → StandsFor c n view log freed from time call sweep (Some task) → Step_made task
   quiet_is no_scan (Enters step) at =
-      let P = λ (x : Option ℕ). IsStepped c n made t
-      (step_made c (Enters step) (record { seat = seat_with n log freed from x call sweep own left; tape = t })) in
+      let P = λ (x : Option ℕ). StepsSo c n made t (Enters step) (seat_with n log freed from x call sweep own left) in
       subst P (sym at.2) (entering_made c k n lt made t b log freed from call sweep own left no_scan before at.1 at.3 at.4 step at.0)
   quiet_is no_scan (Helps step) at = helping_made c k n lt made t b log freed from time call sweep own left no_scan before step at.0 at.1
   quiet_is no_scan (Walks o next) at = walking_made c k n lt made t b log freed from time call sweep own left no_scan before at.0 o at.1 at.2 next at.3

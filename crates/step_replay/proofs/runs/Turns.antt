@@ -1,6 +1,6 @@
 -- Behind the turns of a plan the domain is behind steps of the core.
 use Rattle.std.proofs.Common.{◌≡◌, ◌≢◌, ℕ, zero, suc, ◌+◌, ◌-◌, ◌<◌, List, [], ◌∷◌, Option, Some, None, All, length, get_or, refl, sym, ap, ◌∙◌}
-use Rattle.std.proofs.Common.{subst, arith, length-set, inl, inr, count_by}
+use Rattle.std.proofs.Common.{subst, arith, length-set, inl, inr, count_by, if◌then◌else◌, eq-eqb, ne_eqb}
 use Rattle.std.proofs.lemmas.List.{get_or-set_same, get_or-set_other}
 use Rattle.std.proofs.lemmas.List.Elements.{All-head, All-tail}
 use Rattle.mv_core.proofs.Terms.{dite, ℕ_discrete, Config, Checked, set_at, empty_ring}
@@ -9,7 +9,7 @@ use Rattle.mv_core.specs.declared.view.Phase.TheVariants.{Outside}
 use Rattle.mv_core.specs.SeatSteps.{made_one, newly_made}
 use Rattle.mv_core.specs.Start.{starting_view}
 use Rattle.mv_core.specs.Moves.{opening_of}
-use Rattle.mv_core.proofs.frames.FrameLaw.{set_at_all, set_at_else}
+use Rattle.mv_core.proofs.frames.FrameLaw.{set_at_all, set_at_here, set_at_else}
 use Rattle.mv_layout.specs.Cells.{Shows}
 use Rattle.seat_log.specs.Notes.{nothing_noted}
 use Rattle.seat_log.specs.Stands.{is_free, is_won_cut}
@@ -19,6 +19,7 @@ use Rattle.seat_log.proofs.Stays.{stands_same}
 use Rattle.step_replay.specs.declared.plan.Call.TheVariants.{Enter}
 use Rattle.step_replay.specs.declared.plan.CallOf.{CallOf}
 use Rattle.step_replay.specs.declared.seats.Version.{Version}
+use Rattle.step_replay.specs.declared.seats.Sweep.{Sweep}
 use Rattle.step_replay.specs.declared.seats.Task.{Task}
 use Rattle.step_replay.specs.declared.seats.Task.TheVariants.{Tidies}
 use Rattle.step_replay.specs.declared.seats.Sweeping.TheVariants.{LoadMark}
@@ -33,107 +34,161 @@ use Rattle.step_replay.specs.Runs.{SeatOf, TapeOf, Scene, Looked, Replay, looked
 use Rattle.step_replay.specs.Runs.{seat_in, turn_taken, replay_begun, with_line, tape_stepped}
 use Rattle.step_replay.specs.ReplayLaws.{IsRuled}
 use Rattle.step_replay.specs.Behind.{IsTapeBehind, IsRuledTape}
-use Rattle.step_replay.specs.RuledRuns.{IsTurnOf, prints_only, makes_one, AreTurns, RunsAreRuled, IsRuledPlan}
+use Rattle.step_replay.specs.RuledRuns.{Running, Calls, no_calls, with_call, view_behind, IsCallOf, GoesOrEnds, IsTurnOf, prints_only, makes_one, AreTurns}
+use Rattle.step_replay.specs.RuledRuns.{RunsAreRuled, IsRuledPlan}
 use Rattle.step_replay.specs.FitPlans.{IsFitPlan}
 use Rattle.step_replay.proofs.Machines.{shows_opened}
 use Rattle.step_replay.proofs.Ruled.{is_ruled}
-use Rattle.step_replay.proofs.OneStep.{Prints, no_lines, prints_more, looked_prints}
+use Rattle.step_replay.proofs.OneStep.{no_lines, more_lines}
 use Rattle.step_replay.proofs.TurnLaws.{seats_long}
 use Rattle.step_replay.proofs.NextSteps.{lined}
 use Rattle.step_replay.proofs.runs.Sections.{seat_with, Logs}
-use Rattle.step_replay.proofs.runs.Standing.{IsSeat, IsStepped, StandsFor, ScanAt, step_of, seat_by}
+use Rattle.step_replay.proofs.runs.Standing.{IsSeat, StandsFor, ScanAt, step_of, seat_by}
+use Rattle.step_replay.proofs.runs.Stepping.{view_by}
 use Rattle.step_replay.proofs.runs.Steps.{step_is}
-use Rattle.step_replay.proofs.runs.Looking.{IsLooked, looks}
+use Rattle.step_replay.proofs.runs.Looking.{HasBegun, IsLooked, looks}
+use Rattle.step_replay.proofs.runs.InCalls.{InCall, IsIn, call_steps}
+use Rattle.step_replay.proofs.answers.Progress.{state_with}
+use Rattle.step_replay.proofs.answers.Far.{FarIn}
 
--- behind a turn the domain is behind the same steps, and lines were printed; or it is behind one more of the seat, with lines before it
-data IsTurned (c : Config) (n : ℕ) (made : List Made) (old : TapeOf) (y : Scene) : Type 0 where
-  idles : Prints old y.tape → IsTapeBehind c y.tape made → IsSeat c n y.seat ((state_of c made).seats n) → IsTurned c n made old y
-  steps : (t : TapeOf) → Prints old t → IsStepped c n made t y → IsTurned c n made old y
+-- a seat, and the call that it is in
+abbrev IsSeatIn : Config → ℕ → SeatOf → View → Option Running → Type 0
+IsSeatIn c n s v run = IsSeat c n s v × IsIn c n v s run
 
-module _ (c : Config) (k : Checked c) (n : ℕ) (lt : n < c.seats) (made : List Made) (old : TapeOf) where
+-- What a turn of a seat leads to, from a tape and the calls that the seats are in: the steps behind it, the calls then, and the seat; the others stay.
+record IsTurned (c : Config) (n : ℕ) (made : List Made) (old : TapeOf) (calls : Calls) (y : Scene) : Type 0 where
+  next : List Made
+  after : Calls
+  behind : IsTapeBehind c y.tape next
+  seat_is : IsSeatIn c n y.seat (view_behind c next n) (after n)
+  others : (m : ℕ) → m ≢ n → (view_behind c next m ≡ view_behind c made m) × (after m ≡ calls m)
+  turn : IsTurnOf c n made next calls after old y.tape
+
+module _ (c : Config) (k : Checked c) (n : ℕ) (lt : n < c.seats) (made : List Made) (old : TapeOf) (calls : Calls) where
   abbrev v : View
-  v = (state_of c made).seats n
+  v = view_behind c made n
 
-  module _ (no_scan : ((state_of c made).seats n).scan ≡ None) where
-    -- the step that comes next is made, or the seat is idle
-    looked_is : (l : Looked) (log : List Version) (freed from : ℕ) (time : Option ℕ) → IsLooked c n made v log freed from time l
-        → Prints old l.scene.tape → IsTurned c n made old (turn_begun c l.task l.scene)
-    looked_is l log freed from time is printed = go l.task l.scene.seat l.scene.tape is.is printed is.behind is.stands
+  abbrev So : Scene → Type 0
+  So y = IsTurned c n made old calls y
+
+  -- a step is made of the call that the seat is in, or that it begins
+  by_step : (t : TapeOf) (lines : List ℕ) → t ≡ with_line old lines → IsTapeBehind c t made → (run : Running) → IsCallOf c n made (calls n) run lines
+      → (log : List Version) (freed from : ℕ) (time : Option ℕ) (sweep : Sweep) (own : Option Task) (left : List CallOf) → All (IsFitCallOf c) left
+      → (task : Task) → ScanAt v (Some task) → StandsFor c n v log freed from time run.call sweep (Some task)
+      → FarIn run.call c n (view_behind c run.before n) v log (state_with n time from freed run.call sweep) task
+      → So (step_made c task (record { seat = seat_with n log freed from time run.call sweep own left; tape = t }))
+  by_step t lines printed b run called log freed from time sweep own left before task scans stands far =
+      let s = step_is c k n lt made t b log freed from time run.call sweep own left before task scans stands in
+      let seats = (state_of c made).seats in
+      let w = view_by c (state_of c made) n s.kind in
+      let view : view_behind c (step_of n s.kind ∷ made) n ≡ w = set_at_here seats n w in
+      let y : Scene = step_made c task (record { seat = seat_with n log freed from time run.call sweep own left; tape = t }) in
+      let seat_is : IsSeat c n y.seat w = subst (IsSeat c n y.seat) view s.seat_is in
+      let x = call_steps c k n lt made t b log freed from time run sweep own left task s.kind s.next s.is scans stands far seat_is in
+      let here : with_call calls n x.left n ≡ x.left = ap (λ e. if e then x.left else calls n) (eq-eqb n n refl) in
+      record {
+        next = step_of n s.kind ∷ made;
+        after = with_call calls n x.left;
+        behind = s.behind;
+        seat_is = (s.seat_is, (let there = subst (λ u. IsIn c n u y.seat x.left) (sym view) x.in_call in subst (IsIn c n _ y.seat) (sym here) there));
+        others = λ m other. (set_at_else seats n w m other, ap (λ e. if e then x.left else calls m) (ne_eqb m n other));
+        turn = makes_one (step_of n s.kind) task run x.left lines x.lines called s.next s.is refl
+            (subst (λ u. GoesOrEnds c n run u x.left x.lines) (sym view) x.goes) refl
+            (x.tape_is ∙ ap (λ u. with_line (tape_stepped c n task (place_in_task c n task) u) x.lines) printed);
+      }
+
+  module _ (no_scan : ((state_of c made).seats n).scan ≡ None) (no_call : calls n ≡ None) where
+    -- the first step of a call that begins is made, or the seat is idle
+    looked_is : (l : Looked) (log : List Version) (freed from : ℕ) (time : Option ℕ) → IsLooked c n made log freed from time old l
+        → So (turn_begun c l.task l.scene)
+    looked_is l log freed from time is = go l.task l.scene.seat l.scene.tape is.is is.printed is.behind is.stands is.far
       where
-        go : (task : Option Task) (seat : SeatOf) (t : TapeOf) → seat ≡ seat_with n log freed from time is.call is.sweep None is.left → Prints old t
-            → IsTapeBehind c t made → StandsFor c n v log freed from time is.call is.sweep task
-            → IsTurned c n made old (turn_begun c task (record { seat = seat; tape = t }))
-        go None seat t e printed b stands =
-            idles (prints_more old t (with_line t (idle_line seat.state.seat)) printed (idle_line seat.state.seat, refl))
-            (lined c t made (idle_line seat.state.seat) b)
-            (subst (λ x. IsSeat c n x v) (sym e) (seat_by c n v log freed from time is.call is.sweep None is.left (inl no_scan) is.before stands))
-        go (Some task) seat t e printed b stands =
-            subst (λ x. IsTurned c n made old (step_made c task (record { seat = x; tape = t }))) (sym e)
-            (steps t printed (step_is c k n lt made t b log freed from time is.call is.sweep None is.left is.before task (inl no_scan) stands))
+        go : (task : Option Task) (seat : SeatOf) (t : TapeOf) → seat ≡ seat_with n log freed from time is.call is.sweep None is.left
+            → t ≡ with_line old is.lines → IsTapeBehind c t made → StandsFor c n v log freed from time is.call is.sweep task
+            → HasBegun c n v log (state_with n time from freed is.call is.sweep) task → So (turn_begun c task (record { seat = seat; tape = t }))
+        go None seat t e printed b stands far =
+            subst (λ x. So (turn_begun c None (record { seat = x; tape = t }))) (sym e)
+            (record {
+              next = made;
+              after = calls;
+              behind = lined c t made (idle_line n) b;
+              seat_is = (
+                seat_by c n v log freed from time is.call is.sweep None is.left (inl no_scan) is.before stands,
+                subst (IsIn c n v (seat_with n log freed from time is.call is.sweep None is.left)) (sym no_call) tt,
+              );
+              others = λ m other. (refl, refl);
+              turn = prints_only is.lines no_call is.stepless
+                  (ap (λ u. with_line u (idle_line n)) printed ∙ more_lines old is.lines (idle_line n)) refl refl;
+            })
+        go (Some task) seat t e printed b stands far =
+            let run : Running = record { call = is.call; before = made } in
+            subst (λ x. So (step_made c task (record { seat = x; tape = t }))) (sym e)
+            (by_step t is.lines printed b run (subst (λ o. IsCallOf c n made o run is.lines) (sym no_call) (refl, is.stepless)) log freed from time is.sweep
+            None is.left is.before task (inl no_scan) stands far)
 
   -- a turn of the seat
-  turned_is : (seat : SeatOf) → IsTapeBehind c old made → IsSeat c n seat v → IsTurned c n made old (turned c (record { seat = seat; tape = old }))
-  turned_is seat b s =
-      subst (λ x. IsTurned c n made old (turned c (record { seat = x; tape = old }))) (sym s.is) (go s.task s.scans s.stands)
+  turned_is : (seat : SeatOf) → IsTapeBehind c old made → IsSeatIn c n seat v (calls n) → So (turned c (record { seat = seat; tape = old }))
+  turned_is seat b (s, in_call) =
+      subst (λ x. IsIn c n v x (calls n) → So (turned c (record { seat = x; tape = old }))) (sym s.is) (go s.task s.scans s.stands (calls n) refl) in_call
     where
       go : (task : Option Task) → ScanAt v task → StandsFor c n v s.log s.freed s.from s.time s.call s.sweep task
-          → IsTurned c n made old (turned c (record { seat = seat_with n s.log s.freed s.from s.time s.call s.sweep task s.left; tape = old }))
-      go (Some task) scans stands =
-          steps old ([], no_lines old) (step_is c k n lt made old b s.log s.freed s.from s.time s.call s.sweep (Some task) s.left s.before task scans stands)
-      go None (inl no_scan) stands =
-          let x : Scene = record { seat = seat_with n s.log s.freed s.from s.time s.call s.sweep None s.left; tape = old } in
-          looked_is no_scan (looked c s.left x) s.log s.freed s.from s.time
-          (looks c k n made v s.log s.freed s.from s.left s.left s.before s.before s.time stands s.call s.sweep old b) (looked_prints c s.left x)
-      go None (inr scan) stands = let e : None ≡ Some (Tidies (LoadMark scan.0)) = scan.1 in absurd (cc)
+          → (run : Option Running) → calls n ≡ run → InCall c n v s.log (state_with n s.time s.from s.freed s.call s.sweep) task run
+          → So (turned c (record { seat = seat_with n s.log s.freed s.from s.time s.call s.sweep task s.left; tape = old }))
+      go (Some task) scans stands None e far = absurd far
+      go (Some task) scans stands (Some run) e far =
+          let same : run.call ≡ s.call = far.0 in
+          subst (λ x. So (step_made c task (record { seat = seat_with n s.log s.freed s.from s.time x s.sweep (Some task) s.left; tape = old }))) same
+          (by_step old [] (no_lines old) b run (subst (λ o. IsCallOf c n made o run []) (sym e) (refl, refl)) s.log s.freed s.from s.time s.sweep (Some task)
+          s.left s.before task scans
+          (subst (λ x. StandsFor c n v s.log s.freed s.from s.time x s.sweep (Some task)) (sym same) stands)
+          (subst (λ x. FarIn run.call c n (view_behind c run.before n) v s.log (state_with n s.time s.from s.freed x s.sweep) task) (sym same) far.1))
+      go None scans stands (Some run) e far = absurd far
+      go None (inl no_scan) stands None e far =
+          looked_is no_scan e (looked c s.left (record { seat = seat_with n s.log s.freed s.from s.time s.call s.sweep None s.left; tape = old })) s.log
+          s.freed s.from s.time
+          (looks c k n lt made b.each s.log s.freed s.from s.left s.left s.before s.before s.time stands s.call s.sweep old b)
+      go None (inr scan) stands None e far = let one : None ≡ Some (Tidies (LoadMark scan.0)) = scan.1 in absurd (cc)
 
--- a replay behind steps of the core, with each of its seats
-record AreSeats (c : Config) (r : Replay) (made : List Made) : Type 0 where
+-- a replay behind steps of the core, with each of its seats, and the calls that they are in
+record AreSeats (c : Config) (r : Replay) (made : List Made) (calls : Calls) : Type 0 where
   behind : IsTapeBehind c r.tape made
   long : length r.seats ≡ c.seats
-  each : (m : ℕ) → m < c.seats → IsSeat c m (seat_in r m) ((state_of c made).seats m)
+  each : (m : ℕ) → m < c.seats → IsSeatIn c m (seat_in r m) (view_behind c made m) (calls m)
 
 -- a turn more
-module _ (c : Config) (k : Checked c) (r : Replay) (n : ℕ) (lt : n < c.seats) (made : List Made) (are : AreSeats c r made) where
+module _ (c : Config) (k : Checked c) (r : Replay) (n : ℕ) (lt : n < c.seats) (made : List Made) (calls : Calls) (are : AreSeats c r made calls) where
   abbrev y : Scene
   y = turned c (record { seat = seat_in r n; tape = r.tape })
 
+  turn_is : IsTurned c n made r.tape calls y
+  turn_is = turned_is c k n lt made r.tape calls (seat_in r n) are.behind (are.each n lt)
+
   -- the seats behind the turn: that of the turn, and the others as before
-  seats_behind : (views : ℕ → View) → IsSeat c n y.seat (views n) → ((m : ℕ) → m ≢ n → views m ≡ (state_of c made).seats m)
-      → (m : ℕ) → m < c.seats → IsSeat c m (seat_in (turn_taken c r n) m) (views m)
-  seats_behind views own others m in_range =
+  seats_behind : (x : IsTurned c n made r.tape calls y) (m : ℕ) → m < c.seats
+      → IsSeatIn c m (seat_in (turn_taken c r n) m) (view_behind c x.next m) (x.after m)
+  seats_behind x m in_range =
       dite (ℕ_discrete m n)
-      (λ same. subst (λ (x : ℕ). IsSeat c x (seat_in (turn_taken c r n) x) (views x)) (sym same)
-      (subst (λ s. IsSeat c n s (views n)) (sym (get_or-set_same r.seats n y.seat (new_seat [] 0) (let long = are.long in omega (arith, lt, long)))) own))
-      (λ other. subst (λ s. IsSeat c m s (views m)) (sym (get_or-set_other r.seats n m y.seat (new_seat [] 0) other))
-      (subst (IsSeat c m (seat_in r m)) (sym (others m other)) (are.each m in_range)))
+      (λ same. subst (λ (i : ℕ). IsSeatIn c i (seat_in (turn_taken c r n) i) (view_behind c x.next i) (x.after i)) (sym same)
+      (subst (λ s. IsSeatIn c n s (view_behind c x.next n) (x.after n))
+      (sym (get_or-set_same r.seats n y.seat (new_seat [] 0) (let long = are.long in omega (arith, lt, long)))) x.seat_is))
+      (λ other. subst (λ s. IsSeatIn c m s (view_behind c x.next m) (x.after m)) (sym (get_or-set_other r.seats n m y.seat (new_seat [] 0) other))
+      (subst (λ u. IsSeatIn c m (seat_in r m) u (x.after m)) (sym (x.others m other).0)
+      (subst (IsSeatIn c m (seat_in r m) (view_behind c made m)) (sym (x.others m other).1) (are.each m in_range))))
 
-  -- the steps behind the turn, with the seats there
+  -- the steps behind the turn, with the seats and the calls there
   abbrev Goes_on : Type 0
-  Goes_on = (after : List Made) × AreSeats c (turn_taken c r n) after × IsTurnOf c n made after r.tape (turn_taken c r n).tape
-
-  behind_turn : IsTurned c n made r.tape y → Goes_on
-  behind_turn (idles printed b own) = (
-    made,
-    record {
-      behind = b;
-      long = length-set r.seats n y.seat ∙ are.long;
-      each = seats_behind (state_of c made).seats own (λ m other. refl);
-    },
-    prints_only printed.0 printed.1 refl,
-  )
-  behind_turn (steps t printed s) = (
-    step_of n s.kind ∷ made,
-    record {
-      behind = s.behind;
-      long = length-set r.seats n y.seat ∙ are.long;
-      each = seats_behind (state_of c (step_of n s.kind ∷ made)).seats s.seat_is (λ m other. set_at_else (state_of c made).seats n _ m other);
-    },
-    makes_one (step_of n s.kind) s.task printed.0 s.line s.next refl
-        (s.new_is ∙ ap (λ u. with_line (tape_stepped c n s.task (place_in_task c n s.task) u) s.line) printed.1),
-  )
+  Goes_on =
+      (next : List Made) × (after : Calls) × AreSeats c (turn_taken c r n) next after
+      × IsTurnOf c n made next calls after r.tape (turn_taken c r n).tape
 
   one_turn : Goes_on
-  one_turn = behind_turn (turned_is c k n lt made r.tape (seat_in r n) are.behind (are.each n lt))
+  one_turn =
+      let x = turn_is in (
+        x.next,
+        x.after,
+        record { behind = x.behind; long = length-set r.seats n y.seat ∙ are.long; each = seats_behind x },
+        x.turn,
+      )
 
 -- behind these steps the tape is at a state of the rule
 tape_ruled : (c : Config) → Checked c → (tape : TapeOf) (made : List Made) → IsTapeBehind c tape made → IsRuledTape c tape made
@@ -147,16 +202,17 @@ tape_ruled c k tape made b = record {
 }
 
 -- all turns of a schedule
-all_turns : (c : Config) → Checked c → (turns : List ℕ) → All (λ seat. seat < c.seats) turns → (r : Replay) (made : List Made)
-    → AreSeats c r made → AreTurns c r made turns
-all_turns c k [] within_range r made are = tape_ruled c k r.tape made are.behind
-all_turns c k (n ∷ turns) within_range r made are =
-    let next = one_turn c k r n (All-head (λ (seat : ℕ). seat < c.seats) n turns within_range) made are in (
+all_turns : (c : Config) → Checked c → (turns : List ℕ) → All (λ seat. seat < c.seats) turns → (r : Replay) (made : List Made) (calls : Calls)
+    → AreSeats c r made calls → AreTurns c r made calls turns
+all_turns c k [] within_range r made calls are = tape_ruled c k r.tape made are.behind
+all_turns c k (n ∷ turns) within_range r made calls are =
+    let next = one_turn c k r n (All-head (λ (seat : ℕ). seat < c.seats) n turns within_range) made calls are in (
       tape_ruled c k r.tape made are.behind,
       (
         next.0,
-        next.2,
-        all_turns c k turns (All-tail (λ (seat : ℕ). seat < c.seats) n turns within_range) (turn_taken c r n) next.0 next.1,
+        next.1,
+        next.3,
+        all_turns c k turns (All-tail (λ (seat : ℕ). seat < c.seats) n turns within_range) (turn_taken c r n) next.0 next.1 next.2,
       ),
     )
 
@@ -214,33 +270,37 @@ new_logs c k n lt v new =
     begins (suc m) = (refl, refl, refl)
 
 -- a new replay
-begun_seats : (p : PlanOf) → Checked p.config → All (IsFitCallOf p.config) p.calls → AreSeats p.config (replay_begun p) []
+begun_seats : (p : PlanOf) → Checked p.config → All (IsFitCallOf p.config) p.calls → AreSeats p.config (replay_begun p) [] no_calls
 begun_seats p k fit =
     let c = p.config in
     record {
       behind = record { each = tt; shows = shows_opened c k (new_words c) refl; count = refl };
       long = seats_long p.calls 0 c.seats;
       each = λ n lt.
-          let new = new_made c (c.seats - 1) n in record {
-            log = [];
-            freed = 0;
-            from = 0;
-            time = None;
-            call = Enter;
-            sweep = new_sweep 0;
-            task = None;
-            left = p.calls;
-            is = new_seat_in p.calls 0 c.seats n lt ∙ ap (new_seat p.calls) (omega arith);
-            scans = inl new.scan;
-            before = fit;
-            stands = (new.phase, refl, new_logs c k n lt ((opened c).seats n) new);
-          };
+          let new = new_made c (c.seats - 1) n in
+          let is : seat_in (replay_begun p) n ≡ new_seat p.calls n = new_seat_in p.calls 0 c.seats n lt ∙ ap (new_seat p.calls) (omega arith) in (
+            record {
+              log = [];
+              freed = 0;
+              from = 0;
+              time = None;
+              call = Enter;
+              sweep = new_sweep 0;
+              task = None;
+              left = p.calls;
+              is = is;
+              scans = inl new.scan;
+              before = fit;
+              stands = (new.phase, refl, new_logs c k n lt ((opened c).seats n) new);
+            },
+            subst (λ s. IsIn c n (view_behind c [] n) s None) (sym is) tt,
+          );
     }
 
 pub runs_ruled : RunsAreRuled
 runs_ruled p fit turns in_range =
     let k = fit.config.checked in
-    all_turns p.config k turns in_range (replay_begun p) [] (begun_seats p k fit.calls)
+    all_turns p.config k turns in_range (replay_begun p) [] no_calls (begun_seats p k fit.calls)
 
 -- and of its own schedule
 pub plan_ruled : (p : PlanOf) → IsFitPlan p → IsRuledPlan p

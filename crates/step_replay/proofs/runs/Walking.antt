@@ -34,10 +34,10 @@ use Rattle.step_replay.specs.declared.seats.Then.TheVariants.{Goes, Ends}
 use Rattle.step_replay.specs.FitPlans.{IsFitCallOf}
 use Rattle.step_replay.specs.GoesOn.{is_lock, is_unset, refusal, new_version, after_words}
 use Rattle.step_replay.specs.States.{any_commit, any_start, zeros, Made, state_of}
-use Rattle.step_replay.specs.Runs.{TapeOf, step_made}
+use Rattle.step_replay.specs.Runs.{TapeOf}
 use Rattle.step_replay.specs.Behind.{IsTapeBehind}
 use Rattle.step_replay.proofs.runs.Sections.{seat_with, InSection, WalksFor, StandsAt, WordsSoFar, WalksAt}
-use Rattle.step_replay.proofs.runs.Standing.{IsStepped}
+use Rattle.step_replay.proofs.runs.Standing.{StepsSo}
 use Rattle.step_replay.proofs.runs.Standing.{GoesSo, by_step, by_end}
 use Rattle.step_replay.proofs.runs.Stepping.{IsOfKind, view_by, next_is}
 use Rattle.step_replay.proofs.runs.Known.{if_so, ltb_lt, ltb_ge, leb_le, leb_gt, and_right, same_list, facts, view_there, starts, seated, word_small}
@@ -79,12 +79,12 @@ module _ (c : Config) (k : Checked c) (n : ℕ) (lt : n < c.seats) (made : List 
     i = inside.section
 
     abbrev Made_so : Walking → Type 0
-    Made_so step = IsStepped c n made t (step_made c (Walks o step) (record { seat = seat_with n log freed from time call sweep own left; tape = t }))
+    Made_so step = StepsSo c n made t (Walks o step) (seat_with n log freed from time call sweep own left)
 
     head_made : Made_so LoadHead
     head_made =
         let of : IsOfKind c s n (load_head o i) (Walks o LoadHead) =
-        record { may = inside.walking; range = range; place = refl; writes = λ x. refl; fits = λ x _. tt } in
+        record { is = (i, refl); may = inside.walking; range = range; place = refl; writes = λ x. refl; fits = λ x _. tt } in
         let w = view_by c s n (load_head o i) in
         let link = s.memory (Head o) in
         let still = section_stays c v w log freed from time inside refl refl refl
@@ -98,6 +98,7 @@ module _ (c : Config) (k : Checked c) (n : ℕ) (lt : n < c.seats) (made : List 
     first_made link at =
         let in_range = stands_in inside o link at in
         let of : IsOfKind c s n (load_first link at.stand) (Walks o (LoadFirst link)) = record {
+          is = (at.stand, refl);
           may = record { stands = at.at; link_is = at.link_is };
           range = (in_range.0, in_range.1);
           place = refl;
@@ -119,6 +120,7 @@ module _ (c : Config) (k : Checked c) (n : ℕ) (lt : n < c.seats) (made : List 
         let in_range = stands_in inside o link at in
         let slots = k.slots.0 in
         let of : IsOfKind c s n (load_stamp link first at.stand) (Walks o (LoadStamp link first)) = record {
+          is = (at.stand, refl);
           may = record { stands = at.at; link_is = at.link_is; first_is = first_is };
           range = (in_range.0, mod-lt first (omega (arith, slots)));
           place = refl;
@@ -167,6 +169,7 @@ module _ (c : Config) (k : Checked c) (n : ℕ) (lt : n < c.seats) (made : List 
     prev_made link at found stamp_is on =
         let in_range = stands_in inside o link at in
         let of : IsOfKind c s n (load_prev link at.stand) (Walks o (LoadPrev link)) = record {
+          is = (at.stand, refl);
           may = record {
             inside = i;
             phase = inside.walking.phase;
@@ -260,7 +263,7 @@ module _ (c : Config) (k : Checked c) (n : ℕ) (lt : n < c.seats) (made : List 
     master_made words w less stands so =
         let may : (o < c.objects) × MayLoadMaster v o w i = (range, record { phase = inside.walking.phase; stands = stands; in_range = less }) in
         let of : IsOfKind c s n (load_master o w i) (Walks o (LoadWord 0 words w)) =
-        record { may = may; range = (range, less); place = refl; writes = λ x. refl; fits = λ x _. tt } in
+        record { is = inl (refl, (i, refl)); may = may; range = (range, less); place = refl; writes = λ x. refl; fits = λ x _. tt } in
         let v2 = view_by c s n (load_master o w i) in
         let found = s.memory (Master o w) in
         let small = word_small c k n made b.each (Master o w) in
@@ -291,6 +294,7 @@ module _ (c : Config) (k : Checked c) (n : ℕ) (lt : n < c.seats) (made : List 
         let there : (if link == 0 then Master o w else Data (link_seat_of link) (slot_named c link) w) ≡ Data (link_seat_of link) (slot_named c link) w =
         ap (λ x. if x then Master o w else Data (link_seat_of link) (slot_named c link) w) (ne_eqb link 0 in_range.2) in
         let of : IsOfKind c s n (load_data link w at.0 i) (Walks o (LoadWord link words w)) = record {
+          is = inr (at.0, i, refl);
           may = may;
           range = subst (IsPlace c) (sym there) (in_range.0, in_range.1, less);
           place = sym there;

@@ -20,11 +20,11 @@ use Rattle.step_replay.specs.FitPlans.{IsFitCallOf}
 use Rattle.step_replay.specs.SeatNotes.{edited_from}
 use Rattle.step_replay.specs.Tasks.{slot_at as slot_for}
 use Rattle.step_replay.specs.States.{Made, state_of}
-use Rattle.step_replay.specs.Runs.{TapeOf, step_made}
+use Rattle.step_replay.specs.Runs.{TapeOf}
 use Rattle.step_replay.specs.Behind.{IsTapeBehind}
 use Rattle.step_replay.proofs.runs.Notes.{notes_from, notes_put, edited_long, edited_behind}
 use Rattle.step_replay.proofs.runs.Sections.{seat_with, Logs, InSection}
-use Rattle.step_replay.proofs.runs.Standing.{IsWriting, IsStepped, GoesSo, by_step, by_end}
+use Rattle.step_replay.proofs.runs.Standing.{IsWriting, StepsSo, GoesSo, by_step, by_end}
 use Rattle.step_replay.proofs.runs.Stepping.{IsOfKind, view_by, next_is}
 use Rattle.step_replay.proofs.runs.Known.{if_so, ltb_lt, number_is}
 use Rattle.step_replay.proofs.runs.LogFacts.{noted_long, from_there}
@@ -40,7 +40,7 @@ module _ (c : Config) (k : Checked c) (n : ℕ) (lt : n < c.seats) (made : List 
   v = s.seats n
 
   pub writing_made : (at : ℕ) (words : List ℕ) (word : ℕ) → IsWriting c v log freed from time at words word
-      → IsStepped c n made t (step_made c (Writes at words word) (record { seat = seat_with n log freed from time call sweep own left; tape = t }))
+      → StepsSo c n made t (Writes at words word) (seat_with n log freed from time call sweep own left)
   writing_made at words word writes =
       let inside = writes.inside in
       let l = inside.logs.noted in
@@ -60,6 +60,7 @@ module _ (c : Config) (k : Checked c) (n : ℕ) (lt : n < c.seats) (made : List 
       let task = Writes at words word in
       let slots = k.slots.0 in
       let of : IsOfKind c s n kind task = record {
+        is = (version_in_view c v at, refl);
         may = may_word c v l at word value k2 held (inside.section, inside.walking.phase, inside.walking.open_is) writes.in_range;
         range = (lt, mod-lt at (omega (arith, slots)), writes.in_range);
         place = ap (λ (m : ℕ). Data m (slot_for c at) word) (number_is c k n made b.each);

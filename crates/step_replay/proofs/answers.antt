@@ -12,4 +12,5 @@ pub mod Leaves
 pub mod Aborts
 pub mod CommitFar
 pub mod Commits
+pub mod Tidying
 pub mod Far

@@ -18,6 +18,7 @@ use Rattle.object_lock.specs.Locks.{LockAnswers, TriesFew, KeepsOwn}
 use Rattle.object_lock.specs.Writes.{Stores}
 use Rattle.commit_abort.specs.Commits.{EndsSo}
 use Rattle.commit_abort.specs.Aborts.{Aborts, abort_cost}
+use Rattle.step_replay.specs.Tidied.{TidiesSo}
 use Rattle.step_replay.specs.declared.plan.Call.{Call}
 use Rattle.step_replay.specs.declared.plan.Call.TheVariants as calls
 use Rattle.step_replay.specs.declared.seats.Answer.{Answer}
@@ -68,5 +69,5 @@ AnswersSo c (calls.Write object words) v w Silent = WritesSo c v w object words
 AnswersSo c calls.Commit v w (Committed ended) = EndsSo c v w (section_in v) no_tag ended
 AnswersSo c calls.Abort v w Silent = Aborts v w (abort_cost (held_count v.ring))
 AnswersSo c calls.Leave v w Silent = IsOpen v × (w ≡ mark_cleared c v)
-AnswersSo c calls.Tidy v w (Tidied reclaimed) = Unit {0}
+AnswersSo c calls.Tidy v w (Tidied reclaimed) = TidiesSo c v w reclaimed
 AnswersSo c call v w answer = ⊥

@@ -19,3 +19,4 @@ pub mod RuledRuns
 pub mod NextSteps
 pub mod Kinds
 pub mod Answers
+pub mod Tidied

@@ -33,9 +33,9 @@ pub fn turns_go_on()
 ///
 /// A call that ends has its line, and its answer is what the contract of the same call of the runtime says of the seat's view
 /// before the call's first step and behind its last (`AnswersSo`): the contracts of `enter` and `leave` of `reader_marks`, of
-/// `lock` and `write` of `object_lock`, of `commit` and `abort` of `commit_abort`, and of `tidy` of `log_reclaim`; a read answers
-/// the words of its object in the section's state. A refusal, a rival and who holds a log back have their causes in the call's
-/// own steps.
+/// `lock` and `write` of `object_lock`, of `commit` and `abort` of `commit_abort`, and what that of `tidy` of `log_reclaim` says
+/// of its answer (`TidiesSo`). A read answers the words of its object in the section's state. A refusal, a rival and who holds a
+/// log back have their causes in the call's own steps.
 ///
 /// Behind each turn the words are those of the state that these steps make, one after another, of a new domain, and as many
 /// lines of steps were printed. With the views of the seats there they are a state of the core's rule.

@@ -1,16 +1,15 @@
 -- An enter answers the time of the section that it begins.
-use Rattle.std.proofs.Common.{◌≡◌, ℕ, ◌+◌, ◌<◌, ◌==◌, List, ◌∷◌, [], length, true, Option, Some, None, refl, sym, ap, ◌∙◌, subst, Contains}
-use Rattle.std.proofs.Common.{if◌then◌else◌, eqb-true, arith}
+use Rattle.std.proofs.Common.{◌≡◌, ℕ, ◌+◌, ◌==◌, List, ◌∷◌, [], Option, None, refl, sym, ap, ◌∙◌, subst, Contains}
+use Rattle.std.proofs.Common.{if◌then◌else◌, eqb-true}
 use Rattle.std.proofs.lemmas.List.Elements.{Contains-push}
 use Rattle.mv_history.specs.declared.Entry.{Entry}
 use Rattle.mv_layout.specs.Words.{clock_time_of, clock_slot_of}
 use Rattle.mv_core.proofs.Terms.{Config, Checked, Clock}
 use Rattle.mv_core.specs.declared.view.View.{View}
-use Rattle.mv_core.specs.declared.view.Phase.{Phase}
 use Rattle.mv_core.specs.declared.view.Phase.TheVariants.{Lowered}
 use Rattle.mv_core.specs.Rings.{HoldsNothing}
 use Rattle.mv_core.specs.EnterSteps.{IsWhole, low_loaded, mark_stored, time_loaded}
-use Rattle.mv_core.specs.Moves.{Moment, Kind, load_low, store_mark, load_time}
+use Rattle.mv_core.specs.Moves.{Moment, Kind, load_time}
 use Rattle.reader_marks.specs.Sections.{Begins}
 use Rattle.reader_marks.proofs.Entered.{begins}
 use Rattle.step_replay.specs.declared.plan.Call.TheVariants.{Enter}
@@ -20,12 +19,9 @@ use Rattle.step_replay.specs.declared.seats.Entering.{Entering}
 use Rattle.step_replay.specs.declared.seats.Entering.TheVariants.{LoadLow, StoreMark, LoadTime}
 use Rattle.step_replay.specs.declared.seats.Helping.{Helping}
 use Rattle.step_replay.specs.declared.seats.Helping.TheVariants.{LoadNamed}
-use Rattle.step_replay.specs.declared.seats.Answer.{Answer}
-use Rattle.step_replay.specs.declared.seats.Answer.TheVariants.{AtTime}
-use Rattle.step_replay.specs.declared.seats.Task.{Task}
 use Rattle.step_replay.specs.declared.seats.Task.TheVariants.{Enters, Helps, Walks, Locks, Writes, EndsSection, Tidies}
 use Rattle.step_replay.specs.declared.seats.Then.{Then}
-use Rattle.step_replay.specs.declared.seats.Then.TheVariants.{Goes, Ends}
+use Rattle.step_replay.specs.declared.seats.Then.TheVariants.{Goes}
 use Rattle.step_replay.specs.Tasks.{entering_place, helping_place}
 use Rattle.step_replay.specs.Learns.{state_after}
 use Rattle.step_replay.specs.Answers.{AnswersSo}

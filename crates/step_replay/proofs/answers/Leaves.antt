@@ -1,6 +1,5 @@
 -- A leave ends its section by one step.
-use Rattle.std.proofs.Common.{◌≡◌, ℕ, ◌<◌, List, Option, refl, ap, ◌∙◌, subst, sym}
-use Rattle.mv_core.proofs.Terms.{Config, Checked}
+use Rattle.std.proofs.Common.{◌≡◌, refl, ap, ◌∙◌, subst}
 use Rattle.mv_core.specs.declared.view.View.{View}
 use Rattle.mv_core.specs.EnterSteps.{mark_cleared}
 use Rattle.reader_marks.specs.Sections.{IsOpen}
@@ -8,9 +7,8 @@ use Rattle.step_replay.specs.declared.plan.Call.TheVariants.{Leave}
 use Rattle.step_replay.specs.declared.seats.Ending.TheVariants as finish
 use Rattle.step_replay.specs.declared.seats.Ending.{Ending}
 use Rattle.step_replay.specs.declared.seats.Leaving.TheVariants.{Plainly, WithCommit, WithAbort}
-use Rattle.step_replay.specs.declared.seats.Task.{Task}
 use Rattle.step_replay.specs.declared.seats.Task.TheVariants.{Enters, Helps, Walks, Locks, Writes, EndsSection, Tidies}
-use Rattle.step_replay.specs.States.{Made, state_of}
+use Rattle.step_replay.specs.States.{state_of}
 use Rattle.step_replay.proofs.runs.Stepping.{view_by}
 use Rattle.step_replay.proofs.runs.Aborting.{holds_nothing}
 use Rattle.step_replay.proofs.answers.Progress.{FarOf, BeginsSo, GoesOnSo}

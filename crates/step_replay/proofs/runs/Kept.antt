@@ -1,5 +1,5 @@
 -- The seat and its call are the same behind each step.
-use Rattle.std.proofs.Common.{◌≡◌, ℕ, ◌+◌, ltb, List, length, refl, if◌then◌else◌}
+use Rattle.std.proofs.Common.{◌≡◌, ℕ, ◌+◌, ltb, List, length, refl}
 use Rattle.step_replay.specs.declared.seats.Version.{Version}
 use Rattle.step_replay.specs.declared.seats.State.{State}
 use Rattle.step_replay.specs.declared.seats.Entering.{Entering}

@@ -1,5 +1,5 @@
 -- A step of a seat that is one of the core's: what is found, the tape behind it, and how the call goes on.
-use Rattle.std.proofs.Common.{◌≡◌, ℕ, ◌<◌, ◌^◌, arith, ◌&&◌, ltb, List, [], ◌∷◌, Bool, true, All, Option, Some, None, refl, sym, ap, ◌∙◌, subst, inl, inr}
+use Rattle.std.proofs.Common.{◌≡◌, ℕ, ◌<◌, ◌^◌, arith, ◌&&◌, ltb, List, ◌∷◌, Bool, true, All, Option, Some, None, refl, sym, ap, ◌∙◌, subst, inl, inr}
 use Rattle.std.proofs.Common.{lt-ltb, if◌then◌else◌}
 use Rattle.mv_core.proofs.Terms.{Config, Checked, Place, Clock, Grace, Mark, Head, Master, First, Stamp, Prev, Super, Data, IsPlace}
 use Rattle.mv_core.specs.declared.view.View.{View}

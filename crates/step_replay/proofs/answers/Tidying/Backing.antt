@@ -1,10 +1,10 @@
 -- The steps of a tidy's write-back in which nothing is decided: the section is entered, its clock word helped, and words are stored.
-use Rattle.std.proofs.Common.{◌≡◌, ℕ, ◌+◌, ◌<◌, ◌≤◌, ◌==◌, ltb, max, List, [], ◌∷◌, ◌++◌, length, All, Bool, true, false, Option, Some, None}
-use Rattle.std.proofs.Common.{if◌then◌else◌, refl, sym, ap, ◌∙◌, subst, arith, slice_index, eqb-true}
+use Rattle.std.proofs.Common.{◌≡◌, ℕ, ◌+◌, ◌≤◌, ◌==◌, ltb, List, [], ◌∷◌, ◌++◌, length, true, Option, Some, None}
+use Rattle.std.proofs.Common.{refl, arith, slice_index, eqb-true}
 use Rattle.mv_history.specs.declared.Step.{Step}
 use Rattle.mv_history.specs.declared.StepKind.TheVariants as steps
 use Rattle.mv_history.specs.Trail.{clock_exchanges}
-use Rattle.mv_layout.specs.declared.Place.TheVariants.{Clock, Mark, Head, Master}
+use Rattle.mv_layout.specs.declared.Place.TheVariants.{Clock, Mark, Master}
 use Rattle.mv_layout.specs.Places.{place_of}
 use Rattle.mv_layout.specs.Words.{clock_time_of, clock_slot_of}
 use Rattle.mv_core.proofs.Terms.{Config, Checked}
@@ -13,25 +13,21 @@ use Rattle.mv_core.specs.declared.ring.Version as core
 use Rattle.mv_core.specs.declared.view.View.{View}
 use Rattle.mv_core.specs.declared.view.Section.{Section}
 use Rattle.mv_core.specs.Moves.{Moment, load_low, store_mark, load_time, store_master}
-use Rattle.step_replay.specs.declared.plan.Call.TheVariants.{Tidy}
 use Rattle.step_replay.specs.declared.seats.Version.{Version}
 use Rattle.step_replay.specs.declared.seats.Sweep.{Sweep}
 use Rattle.step_replay.specs.declared.seats.Entering.TheVariants.{LoadLow, StoreMark, LoadTime}
 use Rattle.step_replay.specs.declared.seats.Helping.TheVariants.{LoadNamed}
-use Rattle.step_replay.specs.declared.seats.Sweeping.TheVariants.{LoadGrace, LoadTop, StoreMaster, CutHead, NameRest}
+use Rattle.step_replay.specs.declared.seats.Sweeping.TheVariants.{LoadGrace, StoreMaster, CutHead, NameRest}
 use Rattle.step_replay.specs.declared.seats.Task.TheVariants.{Enters, Helps, Tidies}
 use Rattle.step_replay.specs.declared.seats.Then.TheVariants.{Goes}
-use Rattle.step_replay.specs.SeatNotes.{version_at}
 use Rattle.step_replay.specs.Tasks.{next_clock}
 use Rattle.step_replay.specs.GoesOn.{is_last, helped_in_tidy}
-use Rattle.step_replay.specs.NextSteps.{IsStepOf}
 use Rattle.step_replay.specs.States.{Made, state_of, AreMade}
 use Rattle.step_replay.proofs.runs.Sections.{later}
-use Rattle.step_replay.proofs.runs.Standing.{step_of}
 use Rattle.step_replay.proofs.runs.Stepping.{view_by}
-use Rattle.step_replay.proofs.runs.Known.{if_so, eqb_ne}
+use Rattle.step_replay.proofs.runs.Known.{if_so}
 use Rattle.step_replay.proofs.answers.Tidying.Further.{Further, further_one, begins_same}
-use Rattle.step_replay.proofs.answers.Tidying.Far.{HasCome, HasLooked, IsFirst, IsSecond, Backs, Rests, HelpsIn, TidyFar}
+use Rattle.step_replay.proofs.answers.Tidying.Far.{HasCome, IsFirst, Backs, HelpsIn, TidyFar}
 use Rattle.step_replay.proofs.answers.Tidying.Grown.{come_on, tries_on, unrested_on, within_on, looked_on}
 use Rattle.step_replay.proofs.answers.Tidying.Rounds.{rested_of}
 use Rattle.step_replay.proofs.answers.Tidying.Stepping.{tidying, ComesSo, front, clock_long, GoesBy}
@@ -96,63 +92,63 @@ helped_far c n v0 w log freed from None sweep k word x =
     (λ more. λ stands. (k, x))
 
 module _ (c : Config) (k : Checked c) (n : ℕ) (made : List Made) (each : AreMade c made) (log : List Version) (freed from : ℕ) (sweep : Sweep) (v0 : View)
-    where
-  abbrev s : Moment
-  s = state_of c made
+  where
+    abbrev s : Moment
+    s = state_of c made
 
-  abbrev v : View
-  v = s.seats n
+    abbrev v : View
+    v = s.seats n
 
-  pub low_goes : TidyFar c n v0 v log (tidying n None from freed sweep) (Enters LoadLow)
-      → GoesBy c k n made each v0 log (tidying n None from freed sweep) (Enters LoadLow) load_low
-  low_goes far stands =
-      let w = view_by c s n load_low in
-      let word = s.memory Clock in
-      let step : Step = record { kind = steps.LoadLow; word = place_of c Clock; found = Some word; stored = None } in
-      let f : Further v w (step ∷ []) = further_one v w step (begins_same v) refl (omega arith) refl tt refl in (
-        come_on c v w far.0.made (step ∷ []) f v0 log freed from sweep.began far.0 refl,
-        backs_goes c v w step f refl refl v0 far.0.made far.0.old log freed sweep sweep.at far.1,
-      )
+    pub low_goes : TidyFar c n v0 v log (tidying n None from freed sweep) (Enters LoadLow)
+        → GoesBy c k n made each v0 log (tidying n None from freed sweep) (Enters LoadLow) load_low
+    low_goes far stands =
+        let w = view_by c s n load_low in
+        let word = s.memory Clock in
+        let step : Step = record { kind = steps.LoadLow; word = place_of c Clock; found = Some word; stored = None } in
+        let f : Further v w (step ∷ []) = further_one v w step (begins_same v) refl (omega arith) refl tt refl in (
+          come_on c v w far.0.made (step ∷ []) f v0 log freed from sweep.began far.0 refl,
+          backs_goes c v w step f refl refl v0 far.0.made far.0.old log freed sweep sweep.at far.1,
+        )
 
-  pub mark_goes : (mark low : ℕ) → TidyFar c n v0 v log (tidying n None from freed sweep) (Enters (StoreMark mark))
-      → GoesBy c k n made each v0 log (tidying n None from freed sweep) (Enters (StoreMark mark)) (store_mark low)
-  mark_goes mark low far stands =
-      let w = view_by c s n (store_mark low) in
-      let step : Step = record { kind = steps.StoreMark; word = place_of c (Mark v.number); found = None; stored = Some (1 + low) } in
-      let f : Further v w (step ∷ []) = further_one v w step (begins_same v) refl (omega arith) refl tt refl in (
-        come_on c v w far.0.made (step ∷ []) f v0 log freed from sweep.began far.0 refl,
-        backs_goes c v w step f refl refl v0 far.0.made far.0.old log freed sweep sweep.at far.1,
-      )
+    pub mark_goes : (mark low : ℕ) → TidyFar c n v0 v log (tidying n None from freed sweep) (Enters (StoreMark mark))
+        → GoesBy c k n made each v0 log (tidying n None from freed sweep) (Enters (StoreMark mark)) (store_mark low)
+    mark_goes mark low far stands =
+        let w = view_by c s n (store_mark low) in
+        let step : Step = record { kind = steps.StoreMark; word = place_of c (Mark v.number); found = None; stored = Some (1 + low) } in
+        let f : Further v w (step ∷ []) = further_one v w step (begins_same v) refl (omega arith) refl tt refl in (
+          come_on c v w far.0.made (step ∷ []) f v0 log freed from sweep.began far.0 refl,
+          backs_goes c v w step f refl refl v0 far.0.made far.0.old log freed sweep sweep.at far.1,
+        )
 
-  -- the section begins
-  pub time_goes : TidyFar c n v0 v log (tidying n None from freed sweep) (Enters LoadTime)
-      → GoesBy c k n made each v0 log (tidying n None from freed sweep) (Enters LoadTime) load_time
-  time_goes far =
-      let w = view_by c s n load_time in
-      let word = s.memory Clock in
-      let step : Step = record { kind = steps.LoadTime; word = place_of c Clock; found = Some word; stored = None } in
-      let f : Further v w (step ∷ []) = further_one v w step (front c k n made each) refl (omega arith) refl tt refl in
-      let long : clock_time_of word ≡ w.base + length w.past.seen = clock_long c k n made each in
-      let heard : clock_time_of word ≤ w.base + length w.past.seen = omega (arith, long) in
-      let come = come_on c v w far.0.made (step ∷ []) f v0 log freed from sweep.began far.0 refl in
-      let was = within_on c v0 w [] come.made come.further (v0.base + length v0.past.seen) (omega arith) in
-      let x : HelpsIn c v0 w (far.0.made ++ step ∷ []) far.0.old log freed (later sweep word) (Some (clock_time_of word)) word =
-      (backs_later c v w step f refl refl v0 far.0.made far.0.old log freed sweep word heard sweep.at far.1, omega (arith, was, long)) in
-      if_so (ComesSo c n v0 w log (tidying n (Some (clock_time_of word)) from freed (later sweep word))) (clock_slot_of word == 8191)
-      (helped_in_tidy log (tidying n (Some (clock_time_of word)) from freed (later sweep word)) word) (Goes (Helps (LoadNamed word)))
-      (λ nobody. helped_far c n v0 w log freed from (Some (clock_time_of word)) (later sweep word) come word x)
-      (λ some. λ stands. (come, x))
+    -- the section begins
+    pub time_goes : TidyFar c n v0 v log (tidying n None from freed sweep) (Enters LoadTime)
+        → GoesBy c k n made each v0 log (tidying n None from freed sweep) (Enters LoadTime) load_time
+    time_goes far =
+        let w = view_by c s n load_time in
+        let word = s.memory Clock in
+        let step : Step = record { kind = steps.LoadTime; word = place_of c Clock; found = Some word; stored = None } in
+        let f : Further v w (step ∷ []) = further_one v w step (front c k n made each) refl (omega arith) refl tt refl in
+        let long : clock_time_of word ≡ w.base + length w.past.seen = clock_long c k n made each in
+        let heard : clock_time_of word ≤ w.base + length w.past.seen = omega (arith, long) in
+        let come = come_on c v w far.0.made (step ∷ []) f v0 log freed from sweep.began far.0 refl in
+        let was = within_on c v0 w [] come.made come.further (v0.base + length v0.past.seen) (omega arith) in
+        let x : HelpsIn c v0 w (far.0.made ++ step ∷ []) far.0.old log freed (later sweep word) (Some (clock_time_of word)) word =
+        (backs_later c v w step f refl refl v0 far.0.made far.0.old log freed sweep word heard sweep.at far.1, omega (arith, was, long)) in
+        if_so (ComesSo c n v0 w log (tidying n (Some (clock_time_of word)) from freed (later sweep word))) (clock_slot_of word == 8191)
+        (helped_in_tidy log (tidying n (Some (clock_time_of word)) from freed (later sweep word)) word) (Goes (Helps (LoadNamed word)))
+        (λ nobody. helped_far c n v0 w log freed from (Some (clock_time_of word)) (later sweep word) come word x)
+        (λ some. λ stands. (come, x))
 
-  -- a word is stored into the master
-  pub store_goes : (at o word : ℕ) (words : List ℕ) (version : core.Version) (note : CommitNote) (inside : Section) (time : Option ℕ)
-      → TidyFar c n v0 v log (tidying n time from freed sweep) (Tidies (StoreMaster at o words word))
-      → GoesBy c k n made each v0 log (tidying n time from freed sweep) (Tidies (StoreMaster at o words word))
-      (store_master o word (slice_index words word) at version note inside)
-  store_goes at o word words version note inside time far =
-      let w = view_by c s n (store_master o word (slice_index words word) at version note inside) in
-      let step : Step = record { kind = steps.StoreMaster; word = place_of c (Master o word); found = None; stored = Some (slice_index words word) } in
-      let f : Further v w (step ∷ []) = further_one v w step (begins_same v) refl (omega arith) refl tt refl in
-      let come = come_on c v w far.0.made (step ∷ []) f v0 log freed from sweep.began far.0 refl in
-      let x = backs_goes c v w step f refl refl v0 far.0.made far.0.old log freed sweep at far.1 in
-      if_so (ComesSo c n v0 w log (tidying n time from freed sweep)) (ltb word 5) (Goes (Tidies (StoreMaster at o words (word + 1))))
-      (Goes (Tidies (CutHead at o))) (λ e. λ stands. (come, x)) (λ e. λ stands. (come, x))
+    -- a word is stored into the master
+    pub store_goes : (at o word : ℕ) (words : List ℕ) (version : core.Version) (note : CommitNote) (inside : Section) (time : Option ℕ)
+        → TidyFar c n v0 v log (tidying n time from freed sweep) (Tidies (StoreMaster at o words word))
+        → GoesBy c k n made each v0 log (tidying n time from freed sweep) (Tidies (StoreMaster at o words word))
+        (store_master o word (slice_index words word) at version note inside)
+    store_goes at o word words version note inside time far =
+        let w = view_by c s n (store_master o word (slice_index words word) at version note inside) in
+        let step : Step = record { kind = steps.StoreMaster; word = place_of c (Master o word); found = None; stored = Some (slice_index words word) } in
+        let f : Further v w (step ∷ []) = further_one v w step (begins_same v) refl (omega arith) refl tt refl in
+        let come = come_on c v w far.0.made (step ∷ []) f v0 log freed from sweep.began far.0 refl in
+        let x = backs_goes c v w step f refl refl v0 far.0.made far.0.old log freed sweep at far.1 in
+        if_so (ComesSo c n v0 w log (tidying n time from freed sweep)) (ltb word 5) (Goes (Tidies (StoreMaster at o words (word + 1))))
+        (Goes (Tidies (CutHead at o))) (λ e. λ stands. (come, x)) (λ e. λ stands. (come, x))

@@ -1,6 +1,6 @@
 -- The steps of a tidy's write-back that decide what comes of it: HEAD is loaded, and its chain is cut.
-use Rattle.std.proofs.Common.{◌≡◌, ◌≢◌, ◌⊎◌, ℕ, ◌+◌, ◌-◌, ◌<◌, ◌≤◌, ◌^◌, ◌==◌, List, [], ◌∷◌, ◌++◌, length, All, Bool, true, false, Option, Some, None}
-use Rattle.std.proofs.Common.{if◌then◌else◌, refl, sym, ap, ◌∙◌, subst, arith, inl, inr, Contains, eqb-true, eq-eqb}
+use Rattle.std.proofs.Common.{◌≡◌, ◌≢◌, ℕ, ◌+◌, ◌<◌, ◌≤◌, ◌==◌, List, [], ◌∷◌, ◌++◌, length, Bool, true, false, Option, Some, None}
+use Rattle.std.proofs.Common.{if◌then◌else◌, refl, sym, ap, ◌∙◌, subst, arith, inr, Contains, eqb-true, eq-eqb}
 use Rattle.std.proofs.lemmas.List.Elements.{Contains-push}
 use Rattle.mv_history.specs.declared.Step.{Step}
 use Rattle.mv_history.specs.declared.StepKind.TheVariants as steps
@@ -28,7 +28,6 @@ use Rattle.mv_core.proofs.logs.Links.{position_small}
 use Rattle.log_reclaim.specs.Untimed.{TriedSo}
 use Rattle.step_replay.specs.declared.seats.Version.{Version}
 use Rattle.step_replay.specs.declared.seats.Sweep.{Sweep}
-use Rattle.step_replay.specs.declared.seats.Back.{Back}
 use Rattle.step_replay.specs.declared.seats.Back.TheVariants.{WasGone, WasAbove}
 use Rattle.step_replay.specs.declared.seats.Sweeping.TheVariants.{LoadTop, StoreMaster, CutHead, LoadCutDeath, LeaveBack}
 use Rattle.step_replay.specs.declared.seats.Task.TheVariants.{Tidies}
@@ -39,14 +38,14 @@ use Rattle.step_replay.specs.Learns.{other_seat}
 use Rattle.step_replay.specs.Sweeps.{back_by}
 use Rattle.step_replay.specs.NextSteps.{IsStepOf}
 use Rattle.step_replay.specs.States.{any_commit, any_start, zeros, Made, state_of, AreMade}
-use Rattle.step_replay.proofs.runs.Sections.{Logs, InSection}
+use Rattle.step_replay.proofs.runs.Sections.{Logs}
 use Rattle.step_replay.proofs.runs.Standing.{step_of}
 use Rattle.step_replay.proofs.runs.Stepping.{view_by}
 use Rattle.step_replay.proofs.runs.Building.{link_is}
 use Rattle.step_replay.proofs.runs.Known.{if_so, eqb_ne, facts, number_is, view_there, seated, starts, knows, word_small}
 use Rattle.step_replay.proofs.runs.Rounds.{untimed}
 use Rattle.step_replay.proofs.answers.Tidying.Further.{Further, further_one, begins_same}
-use Rattle.step_replay.proofs.answers.Tidying.Far.{HasCome, HasLooked, Backs, Leaves, IsLate, TidyFar, mark_of, note_in}
+use Rattle.step_replay.proofs.answers.Tidying.Far.{Leaves, IsLate, TidyFar, mark_of, note_in}
 use Rattle.step_replay.proofs.answers.Tidying.Grown.{come_on}
 use Rattle.step_replay.proofs.answers.Tidying.Backing.{backs_goes}
 use Rattle.step_replay.proofs.answers.Tidying.Supers.{old_time}

@@ -1,19 +1,14 @@
 -- The log behind a tidy, by that before it.
-use Rattle.std.proofs.Common.{◌≡◌, ℕ, ◌+◌, ◌-◌, ◌<◌, ◌≤◌, List, length, Some, None, refl, sym, ap, ◌∙◌, subst, arith, slice_get}
+use Rattle.std.proofs.Common.{◌≡◌, ℕ, ◌+◌, ◌-◌, ◌≤◌, List, length, None, sym, ap, ◌∙◌, subst, arith, slice_get}
 use Rattle.mv_core.proofs.Terms.{Config}
 use Rattle.mv_core.specs.declared.view.View.{View}
-use Rattle.mv_core.specs.declared.view.Phase.TheVariants.{Outside}
-use Rattle.mv_core.specs.declared.view.Walk.TheVariants.{Nowhere}
 use Rattle.mv_core.specs.Known.{Known}
-use Rattle.seat_log.specs.declared.version.Note.{Note}
-use Rattle.seat_log.specs.Notes.{Noted, IsLog, IsNoteAt}
+use Rattle.seat_log.specs.Notes.{Noted, IsLog}
 use Rattle.seat_log.specs.Stands.{Stands, writes_in}
 use Rattle.log_reclaim.specs.Parts.{Reclaims, Shrinks, DiesFrom}
 use Rattle.log_reclaim.proofs.Idle.{still_of}
 use Rattle.step_replay.specs.declared.seats.Version.{Version}
-use Rattle.step_replay.specs.SeatNotes.{version_at}
 use Rattle.step_replay.specs.States.{any_commit, any_start}
-use Rattle.step_replay.proofs.runs.Notes.{note_of}
 use Rattle.step_replay.proofs.runs.Sections.{RestsAt}
 use Rattle.step_replay.proofs.runs.LogFacts.{noted_long, noted_at}
 use Rattle.step_replay.proofs.runs.Rounds.{note_is}

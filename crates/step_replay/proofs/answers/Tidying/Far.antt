@@ -1,5 +1,5 @@
 -- How far a tidy has come: what is known of its steps, of its scans, and of each version of the log.
-use Rattle.std.proofs.Common.{◌≡◌, ◌⊎◌, ℕ, ◌+◌, ◌<◌, ◌≤◌, Bool, true, false, List, [], ◌∷◌, ◌++◌, length, All, Option, Some, None}
+use Rattle.std.proofs.Common.{◌≡◌, ℕ, ◌+◌, ◌<◌, ◌≤◌, Bool, true, false, List, [], ◌∷◌, ◌++◌, length, All, Option, Some, None}
 use Rattle.mv_history.specs.declared.Step.{Step}
 use Rattle.mv_history.specs.Trail.{clock_exchanges}
 use Rattle.mv_layout.specs.Words.{clock_time_of}
@@ -19,7 +19,6 @@ use Rattle.step_replay.specs.declared.seats.Version.{Version}
 use Rattle.step_replay.specs.declared.seats.Scanned.{Scanned}
 use Rattle.step_replay.specs.declared.seats.Sweep.{Sweep}
 use Rattle.step_replay.specs.declared.seats.State.{State}
-use Rattle.step_replay.specs.declared.seats.Helping.{Helping}
 use Rattle.step_replay.specs.declared.seats.Ending.{Ending}
 use Rattle.step_replay.specs.declared.seats.Ending.TheVariants.{LoadNow}
 use Rattle.step_replay.specs.declared.seats.Back.{Back}
@@ -27,7 +26,6 @@ use Rattle.step_replay.specs.declared.seats.Back.TheVariants.{WasCut, WasGone, W
 use Rattle.step_replay.specs.declared.seats.Sweeping.{Sweeping}
 use Rattle.step_replay.specs.declared.seats.Sweeping.TheVariants.{LoadGrace, Free, LoadScan, LoadMark, RaiseGrace, LoadSuper, LoadTop, StoreMaster}
 use Rattle.step_replay.specs.declared.seats.Sweeping.TheVariants.{CutHead, LoadCutDeath, LeaveBack, LoadSuperAgain, NameRest}
-use Rattle.step_replay.specs.declared.seats.Task.{Task}
 use Rattle.step_replay.specs.declared.seats.Task.TheVariants.{Enters, Helps, Walks, Locks, Writes, EndsSection, Tidies}
 use Rattle.step_replay.specs.SeatNotes.{version_at}
 use Rattle.step_replay.specs.States.{any_commit, any_start}

@@ -1,5 +1,5 @@
 -- What is known of a tidy's steps is known when more steps were made.
-use Rattle.std.proofs.Common.{◌≡◌, ◌⊎◌, ℕ, ◌+◌, ◌<◌, ◌≤◌, Bool, true, false, List, [], ◌∷◌, ◌++◌, length, All, Contains, Option, Some, None, refl, sym, ap, ◌∙◌}
+use Rattle.std.proofs.Common.{◌≡◌, ℕ, ◌+◌, ◌<◌, ◌≤◌, Bool, true, false, List, [], ◌∷◌, ◌++◌, length, All, Contains, Option, Some, None, refl, sym, ap, ◌∙◌}
 use Rattle.std.proofs.Common.{subst, inl, inr, ⊎_elim, arith, append_assoc}
 use Rattle.std.proofs.lemmas.List.Elements.{All-append, Contains-append_left}
 use Rattle.mv_history.specs.declared.Step.{Step}
@@ -20,7 +20,7 @@ use Rattle.step_replay.specs.declared.seats.Scanned.{Scanned}
 use Rattle.step_replay.specs.SeatNotes.{version_at}
 use Rattle.step_replay.proofs.answers.Tidying.Further.{Further, further_on, further_number, further_base, further_long}
 use Rattle.step_replay.proofs.answers.Tidying.Far.{HasCome, HasRead, HasBegun, HasTried, HasScan, HasScanned, HasLooked, mark_of, note_in}
-use Rattle.step_replay.proofs.answers.Tidying.Far.{EndIsFound, DeathsAreSeen, AreUnrested, AreRested, IsOpening, IsSecond}
+use Rattle.step_replay.proofs.answers.Tidying.Far.{DeathsAreSeen, AreUnrested, AreRested, IsOpening, IsSecond}
 
 -- the last time is found among more steps
 pub last_found_on : (made more : List Step) → FindsLast made → FindsLast (made ++ more)

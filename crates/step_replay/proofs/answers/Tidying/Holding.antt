@@ -1,27 +1,25 @@
 -- Who holds the oldest write set behind a tidy, with the cause in its steps.
-use Rattle.std.proofs.Common.{◌≡◌, ◌≢◌, ◌⊎◌, ℕ, ◌+◌, ◌-◌, ◌<◌, ◌≤◌, ◌==◌, ◌&&◌, ◌||◌, ltb, not, List, length, Bool, true, false, Option, Some, None}
-use Rattle.std.proofs.Common.{if◌then◌else◌, refl, sym, ap, ◌∙◌, subst, arith, inl, inr, ⊎_elim, eqb-true, eq-eqb, lt-ltb}
+use Rattle.std.proofs.Common.{◌≡◌, ◌≢◌, ◌⊎◌, ℕ, ◌-◌, ◌<◌, ◌≤◌, ◌==◌, ◌&&◌, ◌||◌, ltb, not, List, length, Bool, true, false, Option, Some, None}
+use Rattle.std.proofs.Common.{if◌then◌else◌, refl, sym, ap, ◌∙◌, arith, inl, inr, ⊎_elim, eqb-true, eq-eqb}
 use Rattle.mv_history.specs.declared.answers.Holder.{Holder}
 use Rattle.mv_history.specs.declared.answers.Holder.TheVariants as holders
 use Rattle.mv_core.proofs.Terms.{Config}
 use Rattle.mv_core.specs.declared.view.View.{View}
 use Rattle.mv_core.specs.Known.{Known}
-use Rattle.seat_log.specs.declared.version.Note.{Note}
 use Rattle.seat_log.specs.Notes.{IsNoteAt}
 use Rattle.log_reclaim.specs.Untimed.{StaysUntimed}
-use Rattle.log_reclaim.specs.Holders.{TidyHolds, HeldSo}
+use Rattle.log_reclaim.specs.Holders.{TidyHolds}
 use Rattle.log_reclaim.proofs.Needed.{needs_of_note, needs_more_timed, needs_more_untimed}
 use Rattle.log_reclaim.proofs.Others.{others_meanwhile}
 use Rattle.step_replay.specs.declared.seats.Version.{Version}
 use Rattle.step_replay.specs.declared.seats.Sweep.{Sweep}
-use Rattle.step_replay.specs.declared.seats.State.{State}
 use Rattle.step_replay.specs.declared.notes.Test.TheVariants.{EndsSet}
-use Rattle.step_replay.specs.SeatNotes.{version_at, first_from, dead_count}
+use Rattle.step_replay.specs.SeatNotes.{version_at, first_from}
 use Rattle.step_replay.specs.Sweeps.{by_mark, by_back, holder_of}
 use Rattle.step_replay.specs.States.{any_commit, any_start}
 use Rattle.step_replay.proofs.runs.Sections.{RestsAt}
 use Rattle.step_replay.proofs.runs.Known.{if_so, eqb_ne, ltb_lt, ltb_ge, and_left, and_right}
-use Rattle.step_replay.proofs.runs.LogFacts.{noted_long, noted_at}
+use Rattle.step_replay.proofs.runs.LogFacts.{noted_at}
 use Rattle.step_replay.proofs.runs.Searches.{first_after, first_there}
 use Rattle.step_replay.proofs.answers.Tidying.Far.{HasCome, HasScanned, IsSecond, note_in, mark_of}
 use Rattle.step_replay.proofs.answers.Tidying.Ended.{after_noted, after_stands}

@@ -1,6 +1,6 @@
 -- The end of a tidy's write-back: the time of death is loaded, the section is left, and SUPER is loaded once more.
-use Rattle.std.proofs.Common.{◌≡◌, ◌≢◌, ◌⊎◌, ℕ, ◌+◌, ◌-◌, ◌<◌, ◌≤◌, ◌==◌, List, [], ◌∷◌, ◌++◌, length, All, Bool, true, false, Option, Some, None}
-use Rattle.std.proofs.Common.{if◌then◌else◌, refl, sym, ap, ◌∙◌, subst, arith, inl, inr, Contains, ne_eqb}
+use Rattle.std.proofs.Common.{◌≡◌, ◌≢◌, ℕ, ◌+◌, ◌<◌, ◌≤◌, List, [], ◌∷◌, ◌++◌, length, true, Option, Some, None}
+use Rattle.std.proofs.Common.{if◌then◌else◌, refl, sym, ap, ◌∙◌, subst, arith, ne_eqb}
 use Rattle.std.proofs.lemmas.List.Elements.{Contains-push}
 use Rattle.mv_history.specs.declared.Step.{Step}
 use Rattle.mv_history.specs.declared.StepKind.TheVariants as steps
@@ -19,7 +19,6 @@ use Rattle.step_replay.specs.declared.seats.Version.{Version}
 use Rattle.step_replay.specs.declared.seats.Sweep.{Sweep}
 use Rattle.step_replay.specs.declared.seats.Edit.TheVariants.{Kept, Retired, AboveNoted}
 use Rattle.step_replay.specs.declared.seats.Back.{Back}
-use Rattle.step_replay.specs.declared.seats.Back.TheVariants.{WasCut, WasGone, WasAbove}
 use Rattle.step_replay.specs.declared.seats.Sweeping.TheVariants.{LoadCutDeath, LeaveBack, LoadSuperAgain}
 use Rattle.step_replay.specs.declared.seats.Task.TheVariants.{Tidies}
 use Rattle.step_replay.specs.SeatNotes.{version_at, edited_from, applied}
@@ -27,12 +26,12 @@ use Rattle.step_replay.specs.Sweeps.{settle_behind}
 use Rattle.step_replay.specs.NextSteps.{IsStepOf}
 use Rattle.step_replay.specs.States.{any_commit, any_start, Made, state_of, AreMade}
 use Rattle.step_replay.proofs.runs.Notes.{edited_long}
-use Rattle.step_replay.proofs.runs.Sections.{RestsAt, IsSwept, later}
+use Rattle.step_replay.proofs.runs.Sections.{RestsAt}
 use Rattle.step_replay.proofs.runs.Standing.{step_of}
 use Rattle.step_replay.proofs.runs.Stepping.{view_by}
 use Rattle.step_replay.proofs.runs.Known.{facts, number_is}
 use Rattle.step_replay.proofs.answers.Tidying.Further.{Further, further_one, begins_same}
-use Rattle.step_replay.proofs.answers.Tidying.Far.{HasCome, HasTried, HasLooked, IsFirst, Looks, TidyFar, mark_of, note_in}
+use Rattle.step_replay.proofs.answers.Tidying.Far.{HasCome, HasLooked, IsFirst, Looks, TidyFar, mark_of, note_in}
 use Rattle.step_replay.proofs.answers.Tidying.Grown.{come_on, last_found_on, tried_on}
 use Rattle.step_replay.proofs.answers.Tidying.Edits.{come_retired, come_above, tried_retired, tried_above}
 use Rattle.step_replay.proofs.answers.Tidying.Backing.{first_goes, backs_goes, backs_later}

@@ -1,44 +1,38 @@
 -- SUPER of a version is loaded in a tidy.
-use Rattle.std.proofs.Common.{◌≡◌, ◌≢◌, ◌⊎◌, ℕ, ◌+◌, ◌-◌, ◌<◌, ◌≤◌, ◌==◌, ◌&&◌, ◌||◌, ltb, not, List, [], ◌∷◌, ◌++◌, length, All, Bool, true, false}
-use Rattle.std.proofs.Common.{Option, Some, None, if◌then◌else◌, refl, sym, ap, ◌∙◌, subst, arith, inl, inr, Contains, eqb-true}
-use Rattle.std.proofs.lemmas.List.Elements.{Contains-push}
+use Rattle.std.proofs.Common.{◌≡◌, ◌≢◌, ℕ, ◌+◌, ◌-◌, ◌<◌, ◌≤◌, List, [], ◌∷◌, length}
+use Rattle.std.proofs.Common.{None, refl, sym, ap, ◌∙◌, subst, arith}
 use Rattle.mv_history.specs.declared.Step.{Step}
 use Rattle.mv_core.proofs.Terms.{Config, Checked, Super}
 use Rattle.mv_core.specs.declared.ring.CommitNote.{CommitNote}
 use Rattle.mv_core.specs.declared.ring.Version as core
-use Rattle.mv_core.specs.declared.ring.Slot.TheVariants.{Live}
 use Rattle.mv_core.specs.declared.ring.Status.TheVariants.{Committed}
 use Rattle.mv_core.specs.declared.view.View.{View}
-use Rattle.mv_core.specs.declared.view.Phase.TheVariants.{Outside}
 use Rattle.mv_core.specs.Rings.{slot_at, index_of}
-use Rattle.mv_core.specs.EnterSteps.{MayLoadLow}
-use Rattle.mv_core.specs.ReclaimSteps.{MayLoadSuper, SeesSuper, FoundEmpty, super_loaded}
+use Rattle.mv_core.specs.ReclaimSteps.{MayLoadSuper, SeesSuper, FoundEmpty}
 use Rattle.mv_core.specs.Times.{latest_at}
 use Rattle.mv_core.specs.Moves.{Moment, Kind, load_super, seen_to}
 use Rattle.mv_core.proofs.kinds.reclaiming.LoadSuper.{super_loads}
 use Rattle.mv_core.proofs.moves.Grown.{sees_now, seen_to_is}
-use Rattle.mv_core.proofs.logs.Links.{live_once, note_once}
+use Rattle.mv_core.proofs.logs.Links.{live_once}
 use Rattle.seat_log.specs.declared.version.Note.{Note}
 use Rattle.seat_log.specs.Notes.{Noted, IsNoteAt}
 use Rattle.seat_log.specs.Stands.{version_of}
 use Rattle.seat_log.specs.Builds as builds
-use Rattle.log_reclaim.specs.Parts.{BeginsNoScan, super_load, super_step}
-use Rattle.log_reclaim.specs.Tries.{IsUntimed, LoadsSuper}
-use Rattle.log_reclaim.specs.Untimed.{StaysUntimed}
+use Rattle.log_reclaim.specs.Parts.{super_load}
+use Rattle.log_reclaim.specs.Tries.{IsUntimed}
 use Rattle.log_reclaim.proofs.OneNote.{committed}
 use Rattle.log_reclaim.proofs.Supers.{loads_none}
 use Rattle.step_replay.specs.declared.seats.Version.{Version}
-use Rattle.step_replay.specs.declared.seats.Sweep.{Sweep}
 use Rattle.step_replay.specs.States.{any_commit, any_start, zeros, Made, state_of, AreMade}
 use Rattle.step_replay.specs.SeatNotes.{version_at}
 use Rattle.step_replay.proofs.runs.Sections.{RestsAt}
 use Rattle.step_replay.proofs.runs.Stepping.{view_by}
-use Rattle.step_replay.proofs.runs.Known.{facts, number_is, view_there, seated, starts, knows, word_small}
+use Rattle.step_replay.proofs.runs.Known.{facts, view_there, seated, starts, knows, word_small}
 use Rattle.step_replay.proofs.runs.LogFacts.{noted_at}
 use Rattle.step_replay.proofs.runs.Rounds.{untimed}
 use Rattle.step_replay.proofs.answers.Tidying.Further.{Further, further_one}
 use Rattle.step_replay.proofs.answers.Tidying.Far.{note_in}
-use Rattle.step_replay.proofs.answers.Tidying.Stepping.{base_is, front}
+use Rattle.step_replay.proofs.answers.Tidying.Stepping.{base_is}
 
 module _ (c : Config) (k : Checked c) (n : ℕ) (lt : n < c.seats) (made : List Made) (each : AreMade c made) (log : List Version) (freed from : ℕ)
     (rests : RestsAt c ((state_of c made).seats n) log freed from None) (no_scan : ((state_of c made).seats n).scan ≡ None) (at : ℕ) (low : freed ≤ at)

@@ -1,6 +1,6 @@
 -- The steps of a tidy outside its sections: GRACE is loaded, and slots are freed.
-use Rattle.std.proofs.Common.{◌≡◌, ◌≢◌, ℕ, ◌+◌, ◌-◌, ◌<◌, ◌≤◌, ltb, leb, max, List, [], ◌∷◌, ◌++◌, length, All, Bool, true, false, Option, Some, None}
-use Rattle.std.proofs.Common.{if◌then◌else◌, refl, sym, ap, ◌∙◌, subst, arith, lt-ltb}
+use Rattle.std.proofs.Common.{◌≡◌, ℕ, ◌+◌, ◌-◌, ◌<◌, leb, List, [], ◌∷◌, ◌++◌, length, All, Bool, true, false, Some, None}
+use Rattle.std.proofs.Common.{if◌then◌else◌, refl, sym, subst, arith, lt-ltb}
 use Rattle.mv_history.specs.declared.Step.{Step}
 use Rattle.mv_history.specs.declared.StepKind.TheVariants as steps
 use Rattle.mv_layout.specs.declared.Place.TheVariants.{Grace, Stamp}
@@ -28,7 +28,7 @@ use Rattle.step_replay.proofs.runs.Stepping.{view_by}
 use Rattle.step_replay.proofs.runs.Known.{if_so}
 use Rattle.step_replay.proofs.runs.LogFacts.{noted_long}
 use Rattle.step_replay.proofs.answers.Tidying.Further.{Further, further_one, begins_same, one_all}
-use Rattle.step_replay.proofs.answers.Tidying.Far.{HasCome, HasTried, HasScanned, IsOpening, IsFirst, IsSecond, Frees, TidyFar}
+use Rattle.step_replay.proofs.answers.Tidying.Far.{HasCome, HasTried, Frees, TidyFar}
 use Rattle.step_replay.proofs.answers.Tidying.Grown.{come_on, opens_on, rested_on, second_on, tries_on, unrested_on, within_on, scanned_on}
 use Rattle.step_replay.proofs.answers.Tidying.Rounds.{free_so}
 use Rattle.step_replay.proofs.answers.Tidying.Stepping.{tidying, ComesSo, known_by, GoesBy}

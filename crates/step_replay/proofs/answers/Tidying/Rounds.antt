@@ -1,6 +1,6 @@
 -- How a tidy goes on outside its sections: it frees, scans, looks at versions, tries a rest, or answers.
-use Rattle.std.proofs.Common.{◌≡◌, ◌≢◌, ◌⊎◌, ℕ, ◌+◌, ◌-◌, ◌<◌, ◌≤◌, ◌==◌, ◌&&◌, ltb, not, List, [], length, Bool, true, false, Option, Some, None}
-use Rattle.std.proofs.Common.{if◌then◌else◌, refl, sym, ap, ◌∙◌, subst, arith, inl, inr, ⊎_elim, eqb-true}
+use Rattle.std.proofs.Common.{◌≡◌, ℕ, ◌+◌, ◌-◌, ◌<◌, ◌≤◌, ◌==◌, ◌&&◌, ltb, not, List, length, Bool, true, false, Some, None}
+use Rattle.std.proofs.Common.{if◌then◌else◌, refl, sym, ap, ◌∙◌, subst, arith, inl, ⊎_elim, eqb-true}
 use Rattle.std.proofs.lemmas.Bool.{cases_lt}
 use Rattle.mv_history.specs.Trail.{clock_exchanges}
 use Rattle.mv_core.proofs.Terms.{Config}
@@ -26,9 +26,9 @@ use Rattle.step_replay.specs.Tidied.{TidiesSo}
 use Rattle.step_replay.proofs.runs.Sections.{RestsAt}
 use Rattle.step_replay.proofs.runs.Known.{if_so, eqb_ne, ltb_lt, ltb_ge, and_left, and_right}
 use Rattle.step_replay.proofs.runs.LogFacts.{noted_long}
-use Rattle.step_replay.proofs.runs.Searches.{first_within, first_after, first_before, first_there}
+use Rattle.step_replay.proofs.runs.Searches.{first_within, first_after, first_before}
 use Rattle.step_replay.proofs.answers.Progress.{Comes, StandsThen}
-use Rattle.step_replay.proofs.answers.Tidying.Far.{HasCome, HasTried, HasScanned, IsOpening, IsFirst, IsSecond, AreRested, AreUnrested, DeathsAreSeen}
+use Rattle.step_replay.proofs.answers.Tidying.Far.{HasCome, HasScanned, IsFirst, IsSecond, AreRested, AreUnrested, DeathsAreSeen}
 use Rattle.step_replay.proofs.answers.Tidying.Far.{Frees, Looks, TidyFar}
 use Rattle.step_replay.proofs.answers.Tidying.Ended.{before_noted, after_noted, after_stands, after_shrinks, after_reclaims}
 use Rattle.step_replay.proofs.answers.Tidying.Holding.{is_due, holds_so}
@@ -109,8 +109,11 @@ module _ (c : Config) (n : ℕ) (v0 v : View) (log : List Version) (freed from :
       let unswept = not_true sweep.swept (and_left (not sweep.swept) (ltb 0 (live log state)) e) in (
         omega (arith, more),
         unswept,
-        (k, subst (λ (x : Bool). Frees c v0 v k.made k.old log freed sweep x false) (sym again_is)
-            (subst (Frees c v0 v k.made k.old log freed sweep again) (sym swept_is ∙ unswept) frees)),
+        (
+          k,
+          subst (λ (x : Bool). Frees c v0 v k.made k.old log freed sweep x false) (sym again_is)
+              (subst (Frees c v0 v k.made k.old log freed sweep again) (sym swept_is ∙ unswept) frees),
+        ),
       ))
       (λ e.
       let done = scanned (not sweep.swept) (ltb 0 (live log state)) refl refl e in

@@ -1,44 +1,36 @@
 -- The steps of a scan of a tidy.
-use Rattle.std.proofs.Common.{◌≡◌, ◌≢◌, ◌⊎◌, ℕ, ◌+◌, ◌-◌, ◌<◌, ◌≤◌, ◌==◌, ◌&&◌, nat_lt, ltb, leb, max, not, List, [], ◌∷◌, ◌++◌, length, All, Bool, true, false}
-use Rattle.std.proofs.Common.{Option, Some, None, if◌then◌else◌, refl, sym, ap, ◌∙◌, subst, arith, inl, inr, ⊎_elim, Contains}
-use Rattle.std.proofs.lemmas.Bool.{cases_lt}
-use Rattle.std.proofs.lemmas.List.Elements.{All-nil, Contains-append_left, Contains-push}
+use Rattle.std.proofs.Common.{◌≡◌, ℕ, ◌+◌, ◌-◌, ◌<◌, ◌≤◌, ◌==◌, ◌&&◌, nat_lt, ltb, max, not, List, [], ◌∷◌, ◌++◌, length, Bool, true, false}
+use Rattle.std.proofs.Common.{None, if◌then◌else◌, refl, sym, ap, subst, arith}
+use Rattle.std.proofs.lemmas.List.Elements.{All-nil, Contains-push}
 use Rattle.mv_history.specs.declared.Step.{Step}
 use Rattle.mv_layout.specs.Words.{clock_time_of}
-use Rattle.mv_core.proofs.Terms.{Config, Checked, Clock, Grace, Mark, dite, ℕ_discrete}
+use Rattle.mv_core.proofs.Terms.{Config, Checked, Clock}
 use Rattle.mv_core.specs.declared.view.View.{View}
-use Rattle.mv_core.specs.declared.view.Scan.{Scan}
-use Rattle.mv_core.specs.declared.view.Phase.TheVariants.{Outside}
-use Rattle.mv_core.specs.SectionFacts.{MarkedAs}
-use Rattle.mv_core.specs.ReclaimSteps.{other_from, least_with}
-use Rattle.mv_core.specs.Moves.{Moment, Kind, load_scan, load_mark, raise_grace}
-use Rattle.reader_marks.specs.Scans.{scan_step, mark_step, grace_step}
+use Rattle.mv_core.specs.ReclaimSteps.{other_from}
+use Rattle.mv_core.specs.Moves.{Moment, load_scan}
+use Rattle.reader_marks.specs.Scans.{scan_step}
 use Rattle.log_reclaim.specs.Parts.{BeginsNoScan}
-use Rattle.log_reclaim.specs.Holders.{ReadsMark, FindsLast}
 use Rattle.log_reclaim.proofs.Needed.{death_known}
 use Rattle.step_replay.specs.declared.seats.Version.{Version}
-use Rattle.step_replay.specs.declared.seats.Scanned.{Scanned}
 use Rattle.step_replay.specs.declared.seats.Sweep.{Sweep}
-use Rattle.step_replay.specs.declared.seats.State.{State}
 use Rattle.step_replay.specs.declared.seats.Sweeping.TheVariants.{LoadScan, LoadMark, RaiseGrace}
 use Rattle.step_replay.specs.declared.seats.Task.TheVariants.{Tidies}
 use Rattle.step_replay.specs.declared.seats.Then.TheVariants.{Goes}
-use Rattle.step_replay.specs.Learns.{lowered, scan_begun, scanned_to, scanned}
+use Rattle.step_replay.specs.Learns.{scan_begun}
 use Rattle.step_replay.specs.Sweeps.{look_at}
 use Rattle.step_replay.specs.SeatNotes.{version_at}
 use Rattle.step_replay.specs.NextSteps.{IsStepOf}
 use Rattle.step_replay.specs.States.{any_commit, any_start, Made, state_of, AreMade}
-use Rattle.step_replay.proofs.runs.Sections.{RestsAt, later}
+use Rattle.step_replay.proofs.runs.Sections.{later}
 use Rattle.step_replay.proofs.runs.Standing.{step_of}
 use Rattle.step_replay.proofs.runs.Stepping.{view_by}
-use Rattle.step_replay.proofs.runs.Known.{if_so, eqb_ne, leb_le, leb_gt, facts, number_is, knows}
+use Rattle.step_replay.proofs.runs.Known.{if_so, facts, knows}
 use Rattle.step_replay.proofs.runs.LogFacts.{noted_at}
-use Rattle.step_replay.proofs.answers.Tidying.Further.{Further, further_one, begins_same, one_all}
-use Rattle.step_replay.proofs.answers.Tidying.Far.{HasCome, HasRead, HasBegun, HasTried, HasScan, HasScanned, IsOpening, IsFirst, IsSecond, EndIsFound}
-use Rattle.step_replay.proofs.answers.Tidying.Far.{AreRested, Frees, Scans, Looks, TidyFar, note_in}
-use Rattle.step_replay.proofs.answers.Tidying.Grown.{last_found_on, come_on, opens_on, rested_on, second_on, tries_on, unrested_on, within_on, read_on, scan_on}
-use Rattle.step_replay.proofs.answers.Tidying.Rounds.{settle_so}
-use Rattle.step_replay.proofs.answers.Tidying.Stepping.{tidying, ComesSo, base_is, front, clock_long, known_by, GoesBy}
+use Rattle.step_replay.proofs.answers.Tidying.Further.{Further, further_one}
+use Rattle.step_replay.proofs.answers.Tidying.Far.{HasCome, HasRead, IsOpening}
+use Rattle.step_replay.proofs.answers.Tidying.Far.{Frees, Scans, TidyFar, note_in}
+use Rattle.step_replay.proofs.answers.Tidying.Grown.{come_on, opens_on, rested_on, second_on, within_on}
+use Rattle.step_replay.proofs.answers.Tidying.Stepping.{tidying, ComesSo, front, clock_long, GoesBy}
 
 -- the watermark isn't lowered where a scan goes on or is finished
 pub risen : (b : Bool) (g least : ℕ) → g ≤ (if b then g else max g least)
@@ -70,99 +62,99 @@ late_before c v0 v log freed from began k same i low lt late =
     omega (arith, most, late, is)
 
 module _ (c : Config) (k : Checked c) (n : ℕ) (made : List Made) (each : AreMade c made) (log : List Version) (freed from : ℕ) (sweep : Sweep) (v0 : View)
-    where
-  abbrev s : Moment
-  s = state_of c made
+  where
+    abbrev s : Moment
+    s = state_of c made
 
-  abbrev v : View
-  v = s.seats n
+    abbrev v : View
+    v = s.seats n
 
-  -- CLOCK is loaded
-  module _ (next : IsStepOf c made (step_of n load_scan) n (Tidies LoadScan)) where
-    abbrev word : ℕ
-    word = (state_of c made).memory Clock
+    -- CLOCK is loaded
+    module _ (next : IsStepOf c made (step_of n load_scan) n (Tidies LoadScan)) where
+      abbrev word : ℕ
+      word = (state_of c made).memory Clock
 
-    abbrev w : View
-    w = view_by c (state_of c made) n load_scan
+      abbrev w : View
+      w = view_by c (state_of c made) n load_scan
 
-    abbrev step : Step
-    step = scan_step c word
+      abbrev step : Step
+      step = scan_step c word
 
-    f : Further v w (step ∷ [])
-    f = further_one v w step (front c k n made each) refl (risen (nat_lt (other_from v.number 0) c.seats) v.grace (clock_time_of word)) refl tt refl
+      f : Further v w (step ∷ [])
+      f = further_one v w step (front c k n made each) refl (risen (nat_lt (other_from v.number 0) c.seats) v.grace (clock_time_of word)) refl tt refl
 
-    abbrev sweep2 : Sweep
-    sweep2 = later (record sweep { last = scan_begun word }) word
+      abbrev sweep2 : Sweep
+      sweep2 = later (record sweep { last = scan_begun word }) word
 
-    clock : clock_time_of word ≡ w.base + length w.past.seen
-    clock = clock_long c k n made each
+      clock : clock_time_of word ≡ w.base + length w.past.seen
+      clock = clock_long c k n made each
 
-    reads : (steps : List Step) → HasRead c w steps (scan_begun word)
-    reads steps = record { low = omega arith; marked = λ lt. absurd (omega (arith, lt)); within = (let e = clock in omega (arith, e)) }
+      reads : (steps : List Step) → HasRead c w steps (scan_begun word)
+      reads steps = record { low = omega arith; marked = λ lt. absurd (omega (arith, lt)); within = (let e = clock in omega (arith, e)) }
 
-    scan_first : (k0 : HasCome c v0 v log freed from sweep.began) → IsOpening v0 v k0.made k0.old log sweep.latest
-        → Scans c v0 w (k0.made ++ step ∷ []) k0.old log freed sweep2 false
-    scan_first k0 opens =
-        let more = opens_on c v w k0.made (step ∷ []) f v0 k0.old log sweep.latest refl refl opens in
-        let e = clock in
-        let old = within_on c v w k0.made (step ∷ []) f (v0.base + length v0.past.seen) (was k0) in (
-          record { log_is = more.log_is; unrested = more.unrested; within = (let in_time = more.within in omega (arith, in_time, e)) },
-          reads (k0.made ++ step ∷ []),
-          omega (arith, old, e),
-          λ i low lt late. record {
-            step = step;
-            there = Contains-push k0.made step;
-            clock = refl;
-            word = word;
-            found = refl;
-            last = (let reached = late_before c v0 v log freed from sweep.began k0 opens.log_is i low lt late in
-                let top = (facts c k n made each).history.in_time in
-                let long = (facts c k n made each).history.long in
-                omega (arith, reached, old, e, top, long));
-          },
-        )
-      where
-        was : (k0 : HasCome c v0 v log freed from sweep.began) → v0.base + length v0.past.seen ≤ v.base + length v.past.seen
-        was k0 = within_on c v0 v [] k0.made k0.further (v0.base + length v0.past.seen) (omega arith)
-
-    scan_second : (k0 : HasCome c v0 v log freed from sweep.began) → freed < length log → Frees c v0 v k0.made k0.old log freed sweep true false
-        → Scans c v0 w (k0.made ++ step ∷ []) k0.old log freed sweep2 true
-    scan_second k0 some frees =
-        let e = clock in (
-          rested_on c v w k0.made (step ∷ []) f v0 refl refl frees.0,
-          second_on c v w k0.made (step ∷ []) f v0 log freed sweep.first (frees.1 some),
-          record {
-            before = v;
-            known = knows c k n made each;
-            number = refl;
-            base = refl;
-            seen = f.seen;
-            mine = refl;
-            rests = refl;
-            from = (let old = within_on c v w k0.made (step ∷ []) f (v.base + length v.past.seen) (omega arith) in omega (arith, old, e));
-            read = reads (k0.made ++ step ∷ []);
-            begun = record {
+      scan_first : (k0 : HasCome c v0 v log freed from sweep.began) → IsOpening v0 v k0.made k0.old log sweep.latest
+          → Scans c v0 w (k0.made ++ step ∷ []) k0.old log freed sweep2 false
+      scan_first k0 opens =
+          let more = opens_on c v w k0.made (step ∷ []) f v0 k0.old log sweep.latest refl refl opens in
+          let e = clock in
+          let old = within_on c v w k0.made (step ∷ []) f (v0.base + length v0.past.seen) (was k0) in (
+            record { log_is = more.log_is; unrested = more.unrested; within = (let in_time = more.within in omega (arith, in_time, e)) },
+            reads (k0.made ++ step ∷ []),
+            omega (arith, old, e),
+            λ i low lt late. record {
+              step = step;
+              there = Contains-push k0.made step;
+              clock = refl;
               word = word;
-              before = k0.made;
-              after = [];
-              made_is = refl;
-              last = All-nil (λ s. BeginsNoScan s.kind);
-              clock_is = refl;
-            };
-          },
-        )
+              found = refl;
+              last = (let reached = late_before c v0 v log freed from sweep.began k0 opens.log_is i low lt late in
+                  let top = (facts c k n made each).history.in_time in
+                  let long = (facts c k n made each).history.long in
+                  omega (arith, reached, old, e, top, long));
+            },
+          )
+        where
+          was : (k0 : HasCome c v0 v log freed from sweep.began) → v0.base + length v0.past.seen ≤ v.base + length v.past.seen
+          was k0 = within_on c v0 v [] k0.made k0.further (v0.base + length v0.past.seen) (omega arith)
 
-    pub scan_goes : TidyFar c n v0 v log (tidying n None from freed sweep) (Tidies LoadScan)
-        → GoesBy c k n made each v0 log (tidying n None from freed sweep) (Tidies LoadScan) load_scan
-    scan_goes far =
-        let come = come_on c v w far.2.0.made (step ∷ []) f v0 log freed from sweep.began far.2.0 refl in
-        look_far c n v0 w log freed from sweep2 come (by sweep.again refl far.2.1) 0
-      where
-        by : (again : Bool) → sweep.again ≡ again → Frees c v0 v far.2.0.made far.2.0.old log freed sweep sweep.again false
-            → Scans c v0 w (far.2.0.made ++ step ∷ []) far.2.0.old log freed sweep2 sweep.again
-        by false is frees =
-            subst (Scans c v0 w (far.2.0.made ++ step ∷ []) far.2.0.old log freed sweep2) (sym is)
-            (scan_first far.2.0 (subst (λ b. Frees c v0 v far.2.0.made far.2.0.old log freed sweep b false) is frees))
-        by true is frees =
-            subst (Scans c v0 w (far.2.0.made ++ step ∷ []) far.2.0.old log freed sweep2) (sym is)
-            (scan_second far.2.0 far.0 (subst (λ b. Frees c v0 v far.2.0.made far.2.0.old log freed sweep b false) is frees))
+      scan_second : (k0 : HasCome c v0 v log freed from sweep.began) → freed < length log → Frees c v0 v k0.made k0.old log freed sweep true false
+          → Scans c v0 w (k0.made ++ step ∷ []) k0.old log freed sweep2 true
+      scan_second k0 some frees =
+          let e = clock in (
+            rested_on c v w k0.made (step ∷ []) f v0 refl refl frees.0,
+            second_on c v w k0.made (step ∷ []) f v0 log freed sweep.first (frees.1 some),
+            record {
+              before = v;
+              known = knows c k n made each;
+              number = refl;
+              base = refl;
+              seen = f.seen;
+              mine = refl;
+              rests = refl;
+              from = (let old = within_on c v w k0.made (step ∷ []) f (v.base + length v.past.seen) (omega arith) in omega (arith, old, e));
+              read = reads (k0.made ++ step ∷ []);
+              begun = record {
+                word = word;
+                before = k0.made;
+                after = [];
+                made_is = refl;
+                last = All-nil (λ s. BeginsNoScan s.kind);
+                clock_is = refl;
+              };
+            },
+          )
+
+      pub scan_goes : TidyFar c n v0 v log (tidying n None from freed sweep) (Tidies LoadScan)
+          → GoesBy c k n made each v0 log (tidying n None from freed sweep) (Tidies LoadScan) load_scan
+      scan_goes far =
+          let come = come_on c v w far.2.0.made (step ∷ []) f v0 log freed from sweep.began far.2.0 refl in
+          look_far c n v0 w log freed from sweep2 come (by sweep.again refl far.2.1) 0
+        where
+          by : (again : Bool) → sweep.again ≡ again → Frees c v0 v far.2.0.made far.2.0.old log freed sweep sweep.again false
+              → Scans c v0 w (far.2.0.made ++ step ∷ []) far.2.0.old log freed sweep2 sweep.again
+          by false is frees =
+              subst (Scans c v0 w (far.2.0.made ++ step ∷ []) far.2.0.old log freed sweep2) (sym is)
+              (scan_first far.2.0 (subst (λ b. Frees c v0 v far.2.0.made far.2.0.old log freed sweep b false) is frees))
+          by true is frees =
+              subst (Scans c v0 w (far.2.0.made ++ step ∷ []) far.2.0.old log freed sweep2) (sym is)
+              (scan_second far.2.0 far.0 (subst (λ b. Frees c v0 v far.2.0.made far.2.0.old log freed sweep b false) is frees))

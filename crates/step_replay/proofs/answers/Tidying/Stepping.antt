@@ -1,5 +1,5 @@
 -- A step of a tidy: what the seat knows behind it, and what it goes on with.
-use Rattle.std.proofs.Common.{◌≡◌, ℕ, ◌+◌, ◌<◌, List, ◌∷◌, length, Option, subst, ap, ◌∙◌, sym, arith}
+use Rattle.std.proofs.Common.{◌≡◌, ℕ, ◌+◌, List, ◌∷◌, length, Option, subst, arith}
 use Rattle.mv_layout.specs.Words.{clock_time_of}
 use Rattle.mv_core.proofs.Terms.{Config, Checked, Clock}
 use Rattle.mv_core.specs.declared.view.View.{View}

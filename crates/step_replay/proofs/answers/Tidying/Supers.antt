@@ -1,29 +1,21 @@
 -- How a tidy goes on behind a load of SUPER.
-use Rattle.std.proofs.Common.{◌≡◌, ◌≢◌, ◌⊎◌, ℕ, ◌+◌, ◌-◌, ◌<◌, ◌≤◌, ◌==◌, ◌&&◌, ◌||◌, ltb, not, List, [], ◌∷◌, ◌++◌, length, All, Bool, true, false}
-use Rattle.std.proofs.Common.{Option, Some, None, if◌then◌else◌, refl, sym, ap, ◌∙◌, subst, arith, inl, inr, Contains, eqb-true, ne_eqb}
+use Rattle.std.proofs.Common.{◌≡◌, ◌≢◌, ℕ, ◌+◌, ◌-◌, ◌<◌, ◌≤◌, ◌==◌, ◌&&◌, ◌||◌, ltb, not, List, [], ◌∷◌, ◌++◌, length, Bool, true, false}
+use Rattle.std.proofs.Common.{None, if◌then◌else◌, refl, sym, ap, ◌∙◌, subst, arith, inl, Contains, eqb-true}
 use Rattle.std.proofs.lemmas.List.Elements.{Contains-push}
 use Rattle.mv_history.specs.declared.Step.{Step}
 use Rattle.mv_core.proofs.Terms.{Config, Checked, Super}
-use Rattle.mv_core.specs.declared.ring.CommitNote.{CommitNote}
-use Rattle.mv_core.specs.declared.ring.Version as core
 use Rattle.mv_core.specs.declared.view.View.{View}
 use Rattle.mv_core.specs.Rings.{index_of}
-use Rattle.mv_core.specs.Times.{latest_at}
-use Rattle.mv_core.specs.Moves.{Moment, load_super}
 use Rattle.mv_core.proofs.history.Latest.{latest_at-mono}
 use Rattle.log_reclaim.specs.Parts.{BeginsNoScan, super_step, super_load}
 use Rattle.log_reclaim.specs.Untimed.{TriedSo, StaysUntimed}
-use Rattle.log_reclaim.specs.Holders.{FindsLast}
-use Rattle.seat_log.specs.Stands.{version_of}
-use Rattle.step_replay.specs.declared.plan.Call.TheVariants.{Tidy}
 use Rattle.step_replay.specs.declared.seats.Version.{Version}
 use Rattle.step_replay.specs.declared.seats.Edit.TheVariants.{Kept, Retired, AboveNoted}
 use Rattle.mv_core.specs.Known.{Known}
 use Rattle.step_replay.specs.declared.seats.Scanned.{Scanned}
 use Rattle.step_replay.specs.declared.seats.Sweep.{Sweep}
-use Rattle.step_replay.specs.declared.seats.State.{State}
 use Rattle.step_replay.specs.declared.seats.Entering.TheVariants.{LoadLow}
-use Rattle.step_replay.specs.declared.seats.Sweeping.TheVariants.{LoadSuper, LoadSuperAgain}
+use Rattle.step_replay.specs.declared.seats.Sweeping.TheVariants.{LoadSuper}
 use Rattle.step_replay.specs.declared.seats.Task.TheVariants.{Enters, Tidies}
 use Rattle.step_replay.specs.declared.seats.Then.TheVariants.{Goes}
 use Rattle.step_replay.specs.SeatNotes.{version_at, edited_from, applied}
@@ -33,15 +25,15 @@ use Rattle.step_replay.specs.States.{any_commit, any_start, Made, state_of, AreM
 use Rattle.step_replay.proofs.runs.Notes.{note_of, edited_long}
 use Rattle.step_replay.proofs.runs.Sections.{RestsAt, IsSwept}
 use Rattle.step_replay.proofs.runs.Standing.{step_of}
-use Rattle.step_replay.proofs.runs.Known.{if_so, eqb_ne, ltb_lt, ltb_ge, facts, number_is}
+use Rattle.step_replay.proofs.runs.Known.{if_so, eqb_ne, ltb_lt, number_is}
 use Rattle.step_replay.proofs.runs.LogFacts.{noted_at}
 use Rattle.log_reclaim.proofs.Needed.{time_seen}
-use Rattle.step_replay.proofs.answers.Tidying.Far.{HasCome, HasTried, HasScanned, HasLooked, IsFirst, IsSecond, AreRested, DeathsAreSeen, Looks, Leaves}
+use Rattle.step_replay.proofs.answers.Tidying.Far.{HasCome, HasTried, IsFirst, Looks}
 use Rattle.step_replay.proofs.answers.Tidying.Far.{TidyFar, note_in, mark_of}
 use Rattle.step_replay.proofs.answers.Tidying.Further.{Further, one_all}
-use Rattle.step_replay.proofs.answers.Tidying.Grown.{come_on, rested_on, second_on, tries_on, unrested_on, within_on, scanned_on, looked_on}
+use Rattle.step_replay.proofs.answers.Tidying.Grown.{come_on, rested_on, second_on, tries_on, unrested_on, within_on, scanned_on}
 use Rattle.step_replay.proofs.answers.Tidying.Edits.{come_retired, come_above, tried_retired, tried_above, tried_noted, deaths_retired, above_here}
-use Rattle.step_replay.proofs.answers.Tidying.Looking.{own, kind, found, w, step, not_dead, super_further, found_seen, some_found, none_written}
+use Rattle.step_replay.proofs.answers.Tidying.Looking.{kind, found, w, step, not_dead, super_further, found_seen, none_written}
 use Rattle.step_replay.proofs.answers.Tidying.Rounds.{settle_so}
 use Rattle.step_replay.proofs.answers.Tidying.Stepping.{tidying, ComesSo, known_by, GoesBy}
 
@@ -218,24 +210,26 @@ module _ (c : Config) (k : Checked c) (n : ℕ) (lt : n < c.seats) (made : List 
         let is = above_here log at None live in
         let still = stays k0 x false (λ b. let f : false ≡ true = b in absurd (cc)) in (
           come_above c v0 u log freed from sweep.began (come k0) at live None,
-          (record {
-            again = y.again;
-            swept = y.swept;
-            tried = still_tried y.tried;
-            unrested = y.unrested;
-            latest = y.latest;
-            same = y.same;
-          },
-          record {
-            low = low;
-            live = omega (arith, live, long);
-            still = subst (λ (x : Version). StaysUntimed c u (k0.made ++ one ∷ []) (mark_of sweep.first) sweep.first.clock false (note_of at x) None)
-                (sym is) still;
-            before = k0.made;
-            later = [];
-            made_is = ap (λ s. k0.made ++ s ∷ [])
-                (zero_step ∙ ap (λ (x : Version). super_step c u.number (note_of at x)) (sym is));
-          }),
+          (
+            record {
+              again = y.again;
+              swept = y.swept;
+              tried = still_tried y.tried;
+              unrested = y.unrested;
+              latest = y.latest;
+              same = y.same;
+            },
+            record {
+              low = low;
+              live = omega (arith, live, long);
+              still = subst (λ (x : Version). StaysUntimed c u (k0.made ++ one ∷ []) (mark_of sweep.first) sweep.first.clock false (note_of at x) None)
+                  (sym is) still;
+              before = k0.made;
+              later = [];
+              made_is = ap (λ s. k0.made ++ s ∷ [])
+                  (zero_step ∙ ap (λ (x : Version). super_step c u.number (note_of at x)) (sym is));
+            },
+          ),
         )
       where
         still_tried : HasTried c v0 u (k0.made ++ one ∷ []) log freed at sweep.first → HasTried c v0 u (k0.made ++ one ∷ []) log3 freed at sweep.first

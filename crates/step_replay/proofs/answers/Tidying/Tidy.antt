@@ -1,13 +1,10 @@
 -- A tidy comes to its answer: it begins so, and goes on so behind each of its steps.
-use Rattle.std.proofs.Common.{◌≡◌, ◌≢◌, ◌⊎◌, ℕ, ◌+◌, ◌<◌, ◌≤◌, List, [], length, Bool, true, false, not, Option, Some, None, refl, sym, ap, ◌∙◌, subst, arith}
+use Rattle.std.proofs.Common.{◌≡◌, ℕ, ◌<◌, ◌≤◌, List, [], length, true, false, not, Option, Some, None, refl, sym, ◌∙◌, subst, arith}
 use Rattle.std.proofs.Common.{inl, inr, is_some}
-use Rattle.mv_layout.specs.Words.{clock_time_of}
 use Rattle.mv_core.proofs.Terms.{Config, Checked}
 use Rattle.mv_core.specs.declared.view.View.{View}
-use Rattle.mv_core.specs.declared.view.Scan.{Scan}
 use Rattle.mv_core.specs.Moves.{Moment, Kind, load_low, store_mark, load_time, clear_mark, load_named, load_check, stamp, load_head, load_death, name_rest}
-use Rattle.mv_core.specs.Moves.{load_scan, load_mark, load_grace, raise_grace, load_super, store_master, cut_head, store_free}
-use Rattle.log_reclaim.specs.Parts.{DiesFrom}
+use Rattle.mv_core.specs.Moves.{load_scan, load_mark, load_grace, raise_grace, load_super, cut_head, store_free}
 use Rattle.step_replay.specs.declared.plan.Call.TheVariants.{Tidy}
 use Rattle.step_replay.specs.declared.seats.Version.{Version}
 use Rattle.step_replay.specs.declared.seats.Sweep.{Sweep}
@@ -27,19 +24,19 @@ use Rattle.step_replay.specs.Begins.{new_sweep}
 use Rattle.step_replay.specs.SeatNotes.{version_at}
 use Rattle.step_replay.specs.NextSteps.{IsStepOf}
 use Rattle.step_replay.specs.Kinds.{IsKindOf}
-use Rattle.step_replay.specs.States.{any_commit, any_start, Made, state_of, AreMade}
+use Rattle.step_replay.specs.States.{Made, state_of, AreMade}
 use Rattle.step_replay.proofs.runs.Sections.{RestsAt, IsBack}
 use Rattle.step_replay.proofs.runs.Standing.{StandsFor, ScanAt, TidiesAt, EndsAt, step_of}
 use Rattle.step_replay.proofs.runs.Known.{knows}
 use Rattle.step_replay.proofs.answers.Progress.{BeginsSo, GoesOnSo}
 use Rattle.step_replay.proofs.answers.Tidying.Further.{further_none}
-use Rattle.step_replay.proofs.answers.Tidying.Far.{HasCome, IsOpening, TidyFar}
+use Rattle.step_replay.proofs.answers.Tidying.Far.{TidyFar}
 use Rattle.step_replay.proofs.answers.Tidying.Stepping.{tidying, GoesBy}
 use Rattle.step_replay.proofs.answers.Tidying.Outside.{grace_goes, free_goes}
 use Rattle.step_replay.proofs.answers.Tidying.Scanning.{scan_goes}
 use Rattle.step_replay.proofs.answers.Tidying.Marking as marking
 use Rattle.step_replay.proofs.answers.Tidying.Raising.{raise_goes}
-use Rattle.step_replay.proofs.answers.Tidying.Looking.{own, kind, same_kind}
+use Rattle.step_replay.proofs.answers.Tidying.Looking.{kind, same_kind}
 use Rattle.step_replay.proofs.answers.Tidying.Supers.{super_goes}
 use Rattle.step_replay.proofs.answers.Tidying.Backing as backing
 use Rattle.step_replay.proofs.answers.Tidying.Deciding.{top_goes, cut_goes}

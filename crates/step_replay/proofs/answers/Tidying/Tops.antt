@@ -1,7 +1,6 @@
 -- What a link in HEAD that isn't that of the version which a tidy writes back tells of it.
-use Rattle.std.proofs.Common.{◌≡◌, ◌≢◌, ◌⊎◌, ℕ, ◌+◌, ◌-◌, ◌<◌, ◌≤◌, ◌==◌, List, [], ◌∷◌, ◌++◌, length, Bool, true, false, Option, Some, None}
-use Rattle.std.proofs.Common.{if◌then◌else◌, refl, sym, ap, ◌∙◌, subst, arith, inl, inr, ⊎_elim, Contains, append_assoc, eqb-true}
-use Rattle.std.proofs.lemmas.Bool.{cases_lt}
+use Rattle.std.proofs.Common.{◌≡◌, ◌≢◌, ℕ, ◌+◌, ◌<◌, List, [], ◌∷◌, ◌++◌, length, false, Some, None}
+use Rattle.std.proofs.Common.{refl, sym, ap, ◌∙◌, subst, arith, ⊎_elim, append_assoc}
 use Rattle.std.proofs.lemmas.List.Elements.{Contains-push}
 use mathlib.Core.Logic.{dite}
 use native.Mathlib.Decide.{dec_lt}
@@ -11,8 +10,7 @@ use Rattle.mv_core.proofs.Terms.{Config}
 use Rattle.mv_core.specs.declared.ring.CommitNote.{CommitNote}
 use Rattle.mv_core.specs.declared.ring.Version as core
 use Rattle.mv_core.specs.declared.ring.Slot.TheVariants.{Live}
-use Rattle.mv_core.specs.declared.ring.Status.{Status}
-use Rattle.mv_core.specs.declared.ring.Status.TheVariants.{Held, Committed}
+use Rattle.mv_core.specs.declared.ring.Status.TheVariants.{Committed}
 use Rattle.mv_core.specs.declared.view.View.{View}
 use Rattle.mv_core.specs.Rings.{slot_at, index_of}
 use Rattle.mv_core.specs.Times.{latest, latest_at}
@@ -24,13 +22,12 @@ use Rattle.mv_core.proofs.history.Latest.{latest_at-latest, latest_at-mono}
 use Rattle.seat_log.specs.declared.version.Note.{Note}
 use Rattle.seat_log.specs.Stands.{version_of}
 use Rattle.seat_log.proofs.NotedSlots.{noted_in}
-use Rattle.log_reclaim.specs.Parts.{IsHeadKind, FindsSeat, super_step}
+use Rattle.log_reclaim.specs.Parts.{FindsSeat, super_step}
 use Rattle.log_reclaim.specs.Untimed.{TriedSo}
 use Rattle.step_replay.specs.declared.seats.Version.{Version}
 use Rattle.step_replay.specs.declared.seats.Scanned.{Scanned}
 use Rattle.step_replay.specs.SeatNotes.{version_at}
 use Rattle.step_replay.specs.States.{any_commit, any_start}
-use Rattle.step_replay.proofs.runs.Notes.{note_of}
 use Rattle.step_replay.proofs.runs.Sections.{Logs}
 use Rattle.step_replay.proofs.runs.Aborting.{holds_nothing}
 use Rattle.step_replay.proofs.runs.Rounds.{note_is, untimed}

@@ -170,7 +170,8 @@ module _ (c : Config) (k : Checked c) (n : ℕ) (made : List Made) (each : AreMa
         let u = rest_named c v word s.history in
         let step : Step = record { kind = steps.NameRest; word = place_of c Clock; found = Some word; stored = Some (rest_word v word) } in
         let f : Further v u (step ∷ []) =
-        further_one v u step (begins_by u.past.seen s.history v.past.seen (Rest v.number ∷ [], refl) (front c k n made each)) refl (omega arith) refl tt refl in
+        further_one v u step (begins_by u.past.seen s.history v.past.seen (Rest v.number ∷ [], refl) (front c k n made each)) refl
+        (omega arith) refl tt refl in
         let long = clock_long c k n made each in
         let same = ap clock_time_of is in
         let more = length-append s.history (Rest v.number ∷ []) in

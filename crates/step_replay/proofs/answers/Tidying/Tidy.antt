@@ -162,8 +162,9 @@ module _ (c : Config) (k : Checked c) (n : ℕ) (lt : n < c.seats) (made : List 
         of_kind time _ load_death this is (λ next far. death_goes c k n lt made each log freed from sweep no_scan v0 place time far)
     tidies_go (LeaveBack place (WasCut dead)) this at is =
         of_kind time _ clear_mark this is
-        (λ next far. leave_cut c k n lt made each log freed from sweep no_scan v0 place time at.back.unfreed at.back.live at.back.no_death (WasCut dead) next far
-        dead (let d = at.view_is.3 in omega (arith, d)) far.1.1)
+        (λ next far.
+        leave_cut c k n lt made each log freed from sweep no_scan v0 place time at.back.unfreed at.back.live at.back.no_death (WasCut dead) next far dead
+        (let d = at.view_is.3 in omega (arith, d)) far.1.1)
     tidies_go (LeaveBack place WasGone) this at is =
         of_kind time _ clear_mark this is
         (λ next far stands.

@@ -88,7 +88,8 @@ frees_more c v0 v made old log freed sweep true true k = (
 
 module _ (c : Config) (v w : View) (step : Step) (f : Further v w (step ∷ [])) (rests : w.past.rests ≡ v.past.rests) where
   -- and behind a step that makes no rest and begins no scan
-  pub frees_on : All (λ s. BeginsNoScan s.kind) (step ∷ []) → clock_exchanges (step ∷ []) ≡ [] → (v0 : View) (made : List Step) (old log : List Version) (freed : ℕ) (sweep : Sweep) (again swept : Bool)
+  pub frees_on : All (λ s. BeginsNoScan s.kind) (step ∷ []) → clock_exchanges (step ∷ []) ≡ [] → (v0 : View) (made : List Step)
+      → (old log : List Version) (freed : ℕ) (sweep : Sweep) (again swept : Bool)
       → Frees c v0 v made old log freed sweep again swept → Frees c v0 w (made ++ step ∷ []) old log freed sweep again swept
   frees_on none exchanges v0 made old log freed sweep false false k = opens_on c v w made (step ∷ []) f v0 old log sweep.latest rests exchanges k
   frees_on none exchanges v0 made old log freed sweep false true k = record {

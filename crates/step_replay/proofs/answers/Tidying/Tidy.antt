@@ -79,8 +79,8 @@ module _ (c : Config) (k : Checked c) (n : ℕ) (lt : n < c.seats) (made : List 
   Goes t task kind = IsStepOf c made (step_of n kind) n task → TidyFar c n v0 v log (tidying n t from freed sweep) task
       → GoesBy c k n made each v0 log (tidying n t from freed sweep) task kind
 
-  of_kind : (t : Option ℕ) (task : Task) (this kind : Kind) → kind ≡ this → Goes t task this → Goes t task kind
-  of_kind t task this kind is goes = subst (Goes t task) (sym is) goes
+  of_kind : (t : Option ℕ) (task : Task) (this other : Kind) → other ≡ this → Goes t task this → Goes t task other
+  of_kind t task this other is goes = subst (Goes t task) (sym is) goes
 
   at_rest : (task : Task) (kind : Kind) → time ≡ None → Goes None task kind → Goes time task kind
   at_rest task kind none goes = subst (λ t. Goes t task kind) (sym none) goes
@@ -159,12 +159,13 @@ module _ (c : Config) (k : Checked c) (n : ℕ) (lt : n < c.seats) (made : List 
         of_kind time _ load_death this is (λ next far. death_goes c k n lt made each log freed from sweep no_scan v0 place time far)
     tidies_go (LeaveBack place (WasCut dead)) this at is =
         of_kind time _ clear_mark this is
-        (λ next far. leave_cut c k n lt made each log freed from sweep no_scan v0 place time at.back.unfreed at.back.live at.back.no_death (WasCut dead) next far
-        dead (let d = at.view_is.3 in omega (arith, d)) far.1.1)
+        (λ next far.
+        leave_cut c k n lt made each log freed from sweep no_scan v0 place time at.back.unfreed at.back.live at.back.no_death (WasCut dead) next far dead
+        (let d = at.view_is.3 in omega (arith, d)) far.1.1)
     tidies_go (LeaveBack place WasGone) this at is =
         of_kind time _ clear_mark this is
-        (λ next far stands. leave_gone c k n lt made each log freed from sweep no_scan v0 place time at.back.unfreed at.back.live at.back.no_death WasGone next
-        far far.1.1)
+        (λ next far stands.
+        leave_gone c k n lt made each log freed from sweep no_scan v0 place time at.back.unfreed at.back.live at.back.no_death WasGone next far far.1.1)
     tidies_go (LeaveBack place (WasAbove seat)) this at is =
         of_kind time _ clear_mark this is
         (λ next far. leave_above c k n lt made each log freed from sweep no_scan v0 place time at.back.unfreed at.back.live at.back.no_death (WasAbove seat)

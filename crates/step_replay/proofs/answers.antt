@@ -14,3 +14,4 @@ pub mod CommitFar
 pub mod Commits
 pub mod Tidying
 pub mod Far
+pub mod TasksOf

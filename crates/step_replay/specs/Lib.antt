@@ -18,5 +18,6 @@ pub mod Behind
 pub mod RuledRuns
 pub mod NextSteps
 pub mod Kinds
+pub mod CallTasks
 pub mod Answers
 pub mod Tidied

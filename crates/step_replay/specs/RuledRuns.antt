@@ -16,6 +16,7 @@ use Rattle.step_replay.specs.Runs.{TapeOf, Replay, with_line, tape_stepped, repl
 use Rattle.step_replay.specs.Behind.{IsRuledTape}
 use Rattle.step_replay.specs.NextSteps.{IsStepOf}
 use Rattle.step_replay.specs.Kinds.{IsKindOf}
+use Rattle.step_replay.specs.CallTasks.{IsTaskOf}
 use Rattle.step_replay.specs.Answers.{AnswersSo}
 
 -- the calls of a plan that are this seat's, in their order
@@ -71,7 +72,7 @@ pub data GoesOrEnds (c : Config) (seat : ℕ) (call : Running) (w : View) (now :
       → AnswersSo c call.call (view_behind c call.before seat) w answer → GoesOrEnds c seat call w now lines
 
 -- A turn of this seat leads from the steps made before it to those behind it. Either they are the same ones: the seat was in no call, none of those
--- left needs a step, and it is idle. Or they are one more, a step of the core by this seat, of the kind that its call's next step is: the turn makes
+-- left needs a step, and it is idle. Or they are one more, a step of the core by this seat, of the kind that a step of its call is: the turn makes
 -- just this step, with lines of calls that need none before its own, and behind it the answer, where the call has ended.
 pub data IsTurnOf (c : Config) (seat : ℕ) (made next : List Made) (calls after : Calls) (old new : TapeOf) : Type 0 where
   prints_only : (lines : List ℕ) → (calls seat).now ≡ None → AreStepless c seat (view_behind c made seat) (calls seat).left lines
@@ -79,7 +80,7 @@ pub data IsTurnOf (c : Config) (seat : ℕ) (made next : List Made) (calls after
       → IsTurnOf c seat made next calls after old new
   makes_one : (step : Made) (task : Task) (call : Running) (left : List Call) (now : Option Running) (before behind : List ℕ)
       → IsCallOf c seat made (calls seat).now (calls seat).left call left before
-      → IsStepOf c made step seat task → IsKindOf task step.kind → next ≡ step ∷ made
+      → IsTaskOf call.call task → IsStepOf c made step seat task → IsKindOf task step.kind → next ≡ step ∷ made
       → GoesOrEnds c seat call (view_behind c next seat) now behind → after ≡ with_call calls seat (record { now = now; left = left })
       → new ≡ with_line (tape_stepped c seat task (place_in_task c seat task) (with_line old before)) behind
       → IsTurnOf c seat made next calls after old new

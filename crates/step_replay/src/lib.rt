@@ -27,8 +27,9 @@
 //! says the same of one turn, from whatever steps its words come.
 //!
 //! By the same two each call that ends answers what the contract of the same call of the runtime says of the seat's view before
-//! the call's first step and behind its last (`specs/Answers.antt`), and each step is of the kind that a call's next step is
-//! (`specs/Kinds.antt`).
+//! the call's first step and behind its last (`specs/Answers.antt`), and each step is one of a call of its seat
+//! (`specs/CallTasks.antt`), of the core's kind of such a step (`specs/Kinds.antt`). The calls are those of the plan, in their
+//! order for each seat.
 //!
 //! `write_step` is the line of a step, also for who makes steps on a `Machine` without a plan.
 //!

@@ -50,6 +50,7 @@ use Rattle.step_replay.proofs.runs.Looking.{HasBegun, LooksAt, IsLooked, looks}
 use Rattle.step_replay.proofs.runs.InCalls.{InCall, IsIn, call_steps}
 use Rattle.step_replay.proofs.answers.Progress.{state_with}
 use Rattle.step_replay.proofs.answers.Far.{FarIn}
+use Rattle.step_replay.proofs.answers.TasksOf.{task_of}
 
 -- a seat, and where it is in its plan
 abbrev IsSeatIn : Config → ℕ → SeatOf → View → InPlan → Type 0
@@ -103,7 +104,8 @@ module _ (c : Config) (k : Checked c) (n : ℕ) (lt : n < c.seats) (made : List 
           (let there = subst (λ u. IsIn c n u y.seat here) (sym view) x.is_in in subst (IsIn c n _ y.seat) (sym (here_now calls n here)) there),
         );
         others = λ m other. (set_at_else seats n w m other, others_there calls n here m other);
-        turn = makes_one (step_of n s.kind) task run (calls_of left n) x.now lines x.lines called s.next s.is refl
+        turn = makes_one (step_of n s.kind) task run (calls_of left n) x.now lines x.lines called
+            (task_of c n (view_behind c run.before n) v log freed from time sweep run.call task stands far) s.next s.is refl
             (subst (λ u. GoesOrEnds c n run u x.now x.lines) (sym view) x.goes) refl
             (x.tape_is ∙ ap (λ u. with_line (tape_stepped c n task (place_in_task c n task) u) x.lines) printed);
       }

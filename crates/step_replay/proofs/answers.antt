@@ -3,6 +3,7 @@ pub mod Progress
 pub mod Trails
 pub mod Seen
 pub mod HeldObjects
+pub mod Skips
 pub mod Reads
 pub mod Writes
 pub mod Locks

@@ -19,5 +19,6 @@ pub mod RuledRuns
 pub mod NextSteps
 pub mod Kinds
 pub mod CallTasks
+pub mod Skips
 pub mod Answers
 pub mod Tidied

@@ -15,6 +15,7 @@ use Rattle.step_replay.specs.Lines.{idle_line, skip_line, answer_line}
 use Rattle.step_replay.specs.Runs.{TapeOf, Replay, with_line, tape_stepped, replay_begun, turn_taken}
 use Rattle.step_replay.specs.Behind.{IsRuledTape}
 use Rattle.step_replay.specs.NextSteps.{IsStepOf}
+use Rattle.step_replay.specs.Skips.{MayNotBegin}
 use Rattle.step_replay.specs.Kinds.{IsKindOf}
 use Rattle.step_replay.specs.CallTasks.{IsTaskOf}
 use Rattle.step_replay.specs.Answers.{AnswersSo}
@@ -50,10 +51,10 @@ with_call calls seat here = λ other. if other == seat then here else calls othe
 abbrev pub view_behind : Config → List Made → ℕ → View
 view_behind c made seat = (state_of c made).seats seat
 
--- calls that a seat looks at and that need no step, and their lines: each was skipped, or is answered by what the seat knows
+-- calls that a seat looks at and that need no step, and their lines: each may not begin, or is answered by what the seat knows
 pub data AreStepless (c : Config) (seat : ℕ) (v : View) : List Call → List ℕ → Type 0 where
   no_call : AreStepless c seat v [] []
-  skips : (call : Call) (calls : List Call) (lines : List ℕ) → AreStepless c seat v calls lines
+  skips : (call : Call) (calls : List Call) (lines : List ℕ) → MayNotBegin c v call → AreStepless c seat v calls lines
       → AreStepless c seat v (call ∷ calls) (skip_line seat call ++ lines)
   answers : (call : Call) (answer : Answer) (calls : List Call) (lines : List ℕ) → AnswersSo c call v v answer → AreStepless c seat v calls lines
       → AreStepless c seat v (call ∷ calls) (answer_line seat call answer ++ lines)

@@ -128,7 +128,14 @@ module _ (c : Config) (k : Checked c) (n : ℕ) (lt : n < c.seats) (made : List 
       let task = Tidies (LoadTop at o) in
       let range = in_domain inside.logs backs.2 at back in
       let of : IsOfKind c s n kind task =
-      record { is = (i, refl); may = inside.walking; range = subst (λ x. x < c.objects) (sym o_is) range; place = refl; writes = λ x. refl; fits = λ x _. tt } in
+      record {
+        is = (i, refl);
+        may = inside.walking;
+        range = subst (λ x. x < c.objects) (sym o_is) range;
+        place = refl;
+        writes = λ x. refl;
+        fits = λ x _. tt;
+      } in
       let w = view_by c s n kind in
       let found = s.memory (Head o) in
       let logs2 = logs_left c v w log freed from refl refl refl refl _ refl (refl, refl) inside.logs in

@@ -173,7 +173,8 @@ module _ (c : Config) (k : Checked c) (n : ℕ) (lt : n < c.seats) (made : List 
         let noted2 : Logs c w log2 freed from =
         record { noted = logs2.noted; stands = logs2.stands; is = noted_above c logs2.noted log freed from at seat logs2.is } in
         let nothing2 : from ≡ length log2 = omega (arith, none, long) in
-        next_is c k n lt made t b clear_mark task (of_leave task refl (λ x. refl) refl) seat_so refl log2 freed from None Tidy sweep own left refl no_scan before
+        next_is c k n lt made t b clear_mark task (of_leave task refl (λ x. refl) refl) seat_so refl log2 freed from None Tidy sweep own left refl
+        no_scan before
         (behind_so c k n lt made t b log freed from sweep own left no_scan before w log2 sweep at no_scan (refl, nothing2, noted2) f.swept f.back.unfreed
         (omega (arith, live, long)))
 

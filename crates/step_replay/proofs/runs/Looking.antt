@@ -34,6 +34,7 @@ use Rattle.step_replay.specs.Runs.{TapeOf, Scene, Looked, with_line, begun_so, c
 use Rattle.step_replay.specs.Behind.{IsTapeBehind}
 use Rattle.step_replay.specs.RuledRuns.{calls_of, view_behind, AreStepless, no_call, skips, answers}
 use Rattle.step_replay.specs.Answers.{AnswersSo}
+use Rattle.step_replay.specs.Skips.{MayNotBegin}
 use Rattle.step_replay.proofs.OneStep.{no_lines, more_lines}
 use Rattle.step_replay.proofs.NextSteps.{lined}
 use Rattle.step_replay.proofs.runs.Sections.{seat_with, InSection, RestsAt}
@@ -43,6 +44,7 @@ use Rattle.step_replay.proofs.runs.LogFacts.{held_are, log_short}
 use Rattle.step_replay.proofs.runs.Searches.{first_after, none_of}
 use Rattle.step_replay.proofs.answers.Progress.{Comes, state_with}
 use Rattle.step_replay.proofs.answers.Far.{FarIn, call_begins}
+use Rattle.step_replay.proofs.answers.Skips.{may_not}
 
 -- how far a call has come that begins here
 abbrev pub HasBegun : Config → ℕ → View → List Version → State → Option Task → Type 0
@@ -250,8 +252,9 @@ module _ (c : Config) (k : Checked c) (n : ℕ) (lt : n < c.seats) (made : List 
         → (may_begin log (state_with n time from freed call sweep) what ≡ true
         → GoesSo c n v log freed from time what (new_sweep freed) (begin_call what c log (state time what)))
         → (may_begin log (state time what) what ≡ true → Comes_so time what (begin_call what c log (state time what)))
+        → (may_begin log (state_with n time from freed call sweep) what ≡ false → MayNotBegin c v what)
         → Goes_on calls (from_here what) time t (call_looked c what (scene time call sweep calls t))
-    call_is what goes comes =
+    call_is what goes comes skip =
         let may = may_begin log (state_with n time from freed call sweep) what in
         let line = skip_line n what in
         if_so (Goes_on calls (from_here what) time t) may
@@ -259,7 +262,7 @@ module _ (c : Config) (k : Checked c) (n : ℕ) (lt : n < c.seats) (made : List 
         (record { scene = scene time call sweep calls (with_line t line); task = None })
         (λ e. begun what (begin_call what c log (state time what)) (goes e)
         (comes (may_same log n time from freed what call (new_sweep freed) sweep what ∙ e)))
-        (λ e. behind_line (calls_of calls n) time t what line _ (λ others lines. skips what others lines)
+        (λ e. behind_line (calls_of calls n) time t what line _ (λ others lines. skips what others lines (skip e))
         (next call sweep (with_line t line) (lined c t made line b)))
 
   -- how each call begins
@@ -327,5 +330,6 @@ module _ (c : Config) (k : Checked c) (n : ℕ) (lt : n < c.seats) (made : List 
       if_so P (one.seat == n) this other
       (λ e. subst (λ all. Goes_on calls all time t this) (sym (ap of e))
       (call_is calls behind call sweep t b time next one.call (begins one.call call sweep time fit rests)
-      (call_begins one.call c k fit n lt made each log freed from time rests)))
+      (call_begins one.call c k fit n lt made each log freed from time rests)
+      (may_not c k n v log freed from call sweep time rests one.call)))
       (λ e. subst (λ all. Goes_on calls all time t other) (sym (ap of e)) (next call sweep t b))

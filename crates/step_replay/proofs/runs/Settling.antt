@@ -192,7 +192,8 @@ module _ (c : Config) (k : Checked c) (n : ℕ) (lt : n < c.seats) (made : List 
         ap (λ x. record (seat_with n log freed from None Tidy sweep_at own left) {
           log = applied (if x && not sweep.again then AboveNoted at None else (if x then Kept else Retired at found)) log;
         }) no_one in
-        next_is c k n lt made t b kind task (of_super task refl (λ x. refl) (_, _, refl)) seat_so refl log2 freed from None Tidy sweep_at own left is no_scan before
+        next_is c k n lt made t b kind task (of_super task refl (λ x. refl) (_, _, refl)) seat_so refl log2 freed from None Tidy sweep_at own left is
+        no_scan before
         (subst (λ x. GoesSo c n w log2 freed from None Tidy sweep_at
         (if not x || (sweep.again || ltb sweep.last.time (version_at log2 at).time) then settle_behind log2 state_at at else Goes (Enters LoadLow)))
         (sym no_one)
@@ -209,7 +210,8 @@ module _ (c : Config) (k : Checked c) (n : ℕ) (lt : n < c.seats) (made : List 
         (λ i. record (seat_with n log freed from None Tidy sweep_at own left) {
           log = applied (if zero_is i && not (again i) then AboveNoted at None else (if zero_is i then Kept else Retired at found)) log;
         }) in
-        next_is c k n lt made t b kind task (of_super task refl (λ x. refl) (_, _, refl)) seat_so refl log freed from None Tidy sweep_at own left is no_scan before
+        next_is c k n lt made t b kind task (of_super task refl (λ x. refl) (_, _, refl)) seat_so refl log freed from None Tidy sweep_at own left is
+        no_scan before
         (subst (λ x. GoesSo c n w log freed from None Tidy sweep_at
         (if not x || (sweep.again || ltb sweep.last.time (version_at log at).time) then settle_behind log state_at at else Goes (Enters LoadLow)))
         (sym zero_is)
@@ -232,7 +234,8 @@ module _ (c : Config) (k : Checked c) (n : ℕ) (lt : n < c.seats) (made : List 
         (λ i. record (seat_with n log freed from None Tidy sweep_at own left) {
           log = applied (if zero_is i && not (first i) then AboveNoted at None else (if zero_is i then Kept else Retired at found)) log;
         }) in
-        next_is c k n lt made t b kind task (of_super task refl (λ x. refl) (_, _, refl)) seat_so refl log2 freed from None Tidy sweep_at own left is no_scan before
+        next_is c k n lt made t b kind task (of_super task refl (λ x. refl) (_, _, refl)) seat_so refl log2 freed from None Tidy sweep_at own left is
+        no_scan before
         (subst (λ x. GoesSo c n w log2 freed from None Tidy sweep_at
         (if not x || (sweep.again || ltb sweep.last.time (version_at log2 at).time) then settle_behind log2 state_at at else Goes (Enters LoadLow)))
         (sym zero_is)
@@ -275,7 +278,8 @@ module _ (c : Config) (k : Checked c) (n : ℕ) (lt : n < c.seats) (made : List 
         let logs2 : Logs c w log freed from = record { noted = rests.2.noted; stands = unfound_stands none; is = rests.2.is } in
         let is : learned task found seat_so ≡ seat_so =
         (λ i. record seat_so { log = applied (if zero_is i then Kept else Retired at found) log }) in
-        next_is c k n lt made t b kind task (of_super task refl (λ x. refl) (_, _, refl)) seat_so refl log freed from None Tidy sweep own left is no_scan before
+        next_is c k n lt made t b kind task (of_super task refl (λ x. refl) (_, _, refl)) seat_so refl log freed from None Tidy sweep own left is
+        no_scan before
         (behind_so w log sweep at no_scan (rests_so log refl logs2) swept low inside))
         (λ some.
         let pos : 0 < found = omega (arith, some) in
@@ -284,7 +288,8 @@ module _ (c : Config) (k : Checked c) (n : ℕ) (lt : n < c.seats) (made : List 
         let long = edited_long (Retired at found) 0 log in
         let is : learned task found seat_so ≡ seat_with n log2 freed from None Tidy sweep own left =
         (λ i. record seat_so { log = applied (if no_one i then Kept else Retired at found) log }) in
-        next_is c k n lt made t b kind task (of_super task refl (λ x. refl) (_, _, refl)) seat_so refl log2 freed from None Tidy sweep own left is no_scan before
+        next_is c k n lt made t b kind task (of_super task refl (λ x. refl) (_, _, refl)) seat_so refl log2 freed from None Tidy sweep own left is
+        no_scan before
         (behind_so w log2 sweep at no_scan (rests_so log2 long (found_logs pos)) swept low (omega (arith, inside, long))))
 
   pub super_is : RestsAt c v log freed from None → IsSwept v.grace sweep → (at : ℕ) → freed ≤ at → at < length log → (version_at log at).dead ≡ 0

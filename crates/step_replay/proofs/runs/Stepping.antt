@@ -174,7 +174,8 @@ module _ (c : Config) (k : Checked c) (n : ℕ) (lt : n < c.seats) (made : List 
       scan_on log freed from time call sweep own left is before mark e stands =
           let u = tape_after c n task t in
           subst (IsStepped c n made task)
-          (sym (scene_is task of.range seat number ∙ ap (λ (x : SeatOf). went (then_after task c x.log x.state (s.memory at)) (record { seat = x; tape = u })) is
+          (sym (scene_is task of.range seat number
+          ∙ ap (λ (x : SeatOf). went (then_after task c x.log x.state (s.memory at)) (record { seat = x; tape = u })) is
           ∙ ap (λ y. went y (record { seat = seat_with n log freed from time call sweep own left; tape = u })) e))
           (record {
             kind = kind;

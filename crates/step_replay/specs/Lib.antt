@@ -15,10 +15,13 @@ pub mod Lines
 pub mod Runs
 pub mod Shown
 pub mod Behind
+pub mod InPlans
 pub mod RuledRuns
 pub mod NextSteps
 pub mod Kinds
 pub mod CallTasks
 pub mod Skips
+pub mod ReadAnswers
+pub mod LockAnswers
 pub mod Answers
 pub mod Tidied

@@ -1,10 +1,9 @@
 -- The runs of plans: each of their steps is one of the core's, they are made in the order of the schedule, and each call that ends answers as the
 -- contract of the same call of the runtime says.
-use Rattle.std.specs.Prelude.{◌≡◌, ◌<◌, ◌==◌, ℕ, List, [], ◌∷◌, ◌++◌, All, Option, Some, None, if◌then◌else◌}
+use Rattle.std.specs.Prelude.{◌≡◌, ◌<◌, ℕ, List, [], ◌∷◌, ◌++◌, All, Option, Some, None}
 use Rattle.mv_layout.specs.declared.config.Config.{Config}
 use Rattle.mv_core.specs.declared.view.View.{View}
 use Rattle.step_replay.specs.declared.plan.Call.{Call}
-use Rattle.step_replay.specs.declared.plan.CallOf.{CallOf}
 use Rattle.step_replay.specs.declared.seats.Answer.{Answer}
 use Rattle.step_replay.specs.declared.seats.Task.{Task}
 use Rattle.step_replay.specs.Plans.{PlanOf}
@@ -15,37 +14,11 @@ use Rattle.step_replay.specs.Lines.{idle_line, skip_line, answer_line}
 use Rattle.step_replay.specs.Runs.{TapeOf, Replay, with_line, tape_stepped, replay_begun, turn_taken}
 use Rattle.step_replay.specs.Behind.{IsRuledTape}
 use Rattle.step_replay.specs.NextSteps.{IsStepOf}
+use Rattle.step_replay.specs.InPlans.{Running, Calls, calls_before, with_call}
 use Rattle.step_replay.specs.Skips.{MayNotBegin}
 use Rattle.step_replay.specs.Kinds.{IsKindOf}
 use Rattle.step_replay.specs.CallTasks.{IsTaskOf}
 use Rattle.step_replay.specs.Answers.{AnswersSo}
-
--- the calls of a plan that are this seat's, in their order
-abbrev pub calls_of : List CallOf → ℕ → List Call
-calls_of [] seat = []
-calls_of (one ∷ calls) seat = if one.seat == seat then one.call ∷ calls_of calls seat else calls_of calls seat
-
--- a call that a seat is in, and the steps that had been made when it began
-pub record Running : Type 0 where
-  pub call : Call
-  pub before : List Made
-
--- where a seat is in its plan: the call that it is in, if it is in one, and the calls behind that
-pub record InPlan : Type 0 where
-  pub now : Option Running
-  pub left : List Call
-
--- where each seat is
-abbrev pub Calls : Type 0
-Calls = ℕ → InPlan
-
--- before the first turn no seat is in a call
-abbrev pub calls_before : PlanOf → Calls
-calls_before p seat = record { now = None; left = calls_of p.calls seat }
-
--- one seat is here now
-abbrev pub with_call : Calls → ℕ → InPlan → Calls
-with_call calls seat here = λ other. if other == seat then here else calls other
 
 -- what a seat knows behind these steps
 abbrev pub view_behind : Config → List Made → ℕ → View

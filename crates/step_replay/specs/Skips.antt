@@ -1,5 +1,5 @@
 -- When a call is skipped: what the same call of the runtime asks for doesn't hold of the seat's view.
-use Rattle.std.specs.Prelude.{◌≡◌, ◌⊎◌, ℕ, ◌<◌, true, false}
+use Rattle.std.specs.Prelude.{◌≡◌, ◌⊎◌, ◌<◌, true, false}
 use Rattle.mv_history.specs.State.{touches}
 use Rattle.mv_layout.specs.declared.config.Config.{Config}
 use Rattle.mv_core.specs.declared.view.View.{View}

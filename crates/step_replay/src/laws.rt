@@ -29,7 +29,8 @@ pub fn turns_go_on()
 /// one, by the seat whose turn it is, which that seat may make where it is, of the place and with the write that its line prints;
 /// the steps behind the turn are those before it, and this one. It is a step of the call that the seat is in (`IsTaskOf`), and of
 /// the core's kind of such a step (`IsKindOf`). Where the seat is in no call, it is of the next one that needs a step: each call
-/// before that is skipped, or answered by what the seat knows. The calls of a seat are those of the plan, in their order.
+/// before that is skipped, since by the seat's view it may not begin (`MayNotBegin`), or answered by what the seat knows. The
+/// calls of a seat are those of the plan, in their order.
 ///
 /// A call that ends has its line, and its answer is what the contract of the same call of the runtime says of the seat's view
 /// before the call's first step and behind its last (`AnswersSo`): the contracts of `enter` and `leave` of `reader_marks`, of

@@ -27,9 +27,10 @@
 //! says the same of one turn, from whatever steps its words come.
 //!
 //! By the same two each call that ends answers what the contract of the same call of the runtime says of the seat's view before
-//! the call's first step and behind its last (`specs/Answers.antt`), and each step is one of a call of its seat
-//! (`specs/CallTasks.antt`), of the core's kind of such a step (`specs/Kinds.antt`). The calls are those of the plan, in their
-//! order for each seat.
+//! the call's first step and behind its last; `specs/Answers.antt` says what that is for each call. A call is skipped only where
+//! by its seat's view it may not begin (`specs/Skips.antt`), and each step is one of a call of its seat
+//! (`specs/CallTasks.antt`), of the core's kind of such a step (`specs/Kinds.antt`). The calls of a seat are those of the plan,
+//! in their order (`specs/InPlans.antt`).
 //!
 //! `write_step` is the line of a step, also for who makes steps on a `Machine` without a plan.
 //!

@@ -36,7 +36,8 @@ use Rattle.step_replay.specs.Tasks.{walking_place}
 use Rattle.step_replay.specs.GoesOn.{is_unset, after_walking}
 use Rattle.step_replay.specs.NextSteps.{IsStepOf}
 use Rattle.step_replay.specs.Kinds.{IsKindOfWalking}
-use Rattle.step_replay.specs.Answers.{IsReadStep, AnswersSo}
+use Rattle.step_replay.specs.ReadAnswers.{IsReadStep}
+use Rattle.step_replay.specs.Answers.{AnswersSo}
 use Rattle.step_replay.proofs.runs.Sections.{InSection, WordsSoFar, WalksAt}
 use Rattle.step_replay.proofs.runs.Standing.{step_of}
 use Rattle.step_replay.proofs.runs.Stepping.{view_by}

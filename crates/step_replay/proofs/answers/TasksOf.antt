@@ -1,5 +1,5 @@
 -- The step that a call comes to is one of the call.
-use Rattle.std.proofs.Common.{◌≡◌, ℕ, List, Option, Some}
+use Rattle.std.proofs.Common.{ℕ, List, Option, Some}
 use Rattle.mv_core.proofs.Terms.{Config}
 use Rattle.mv_core.specs.declared.view.View.{View}
 use Rattle.step_replay.specs.declared.plan.Call.{Call}

@@ -22,7 +22,8 @@ use Rattle.step_replay.specs.Sweeps.{then_after}
 use Rattle.step_replay.specs.Runs.{SeatOf, TapeOf, Scene, with_line, tape_stepped, tape_after, learned, went, step_made}
 use Rattle.step_replay.specs.Behind.{IsTapeBehind}
 use Rattle.step_replay.specs.NextSteps.{IsStepOf}
-use Rattle.step_replay.specs.RuledRuns.{Running, InPlan, calls_of, view_behind, GoesOrEnds, goes_on, has_ended}
+use Rattle.step_replay.specs.InPlans.{Running, InPlan, calls_of}
+use Rattle.step_replay.specs.RuledRuns.{view_behind, GoesOrEnds, goes_on, has_ended}
 use Rattle.step_replay.proofs.OneStep.{no_lines}
 use Rattle.step_replay.proofs.runs.Sections.{seat_with}
 use Rattle.step_replay.proofs.runs.Kept.{state_keeps}

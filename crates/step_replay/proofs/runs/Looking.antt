@@ -32,7 +32,8 @@ use Rattle.step_replay.specs.States.{Made, AreMade}
 use Rattle.step_replay.specs.Lines.{skip_line, answer_line}
 use Rattle.step_replay.specs.Runs.{TapeOf, Scene, Looked, with_line, begun_so, call_looked, looked_on, looked}
 use Rattle.step_replay.specs.Behind.{IsTapeBehind}
-use Rattle.step_replay.specs.RuledRuns.{calls_of, view_behind, AreStepless, no_call, skips, answers}
+use Rattle.step_replay.specs.InPlans.{calls_of}
+use Rattle.step_replay.specs.RuledRuns.{view_behind, AreStepless, no_call, skips, answers}
 use Rattle.step_replay.specs.Answers.{AnswersSo}
 use Rattle.step_replay.specs.Skips.{MayNotBegin}
 use Rattle.step_replay.proofs.OneStep.{no_lines, more_lines}
@@ -47,9 +48,9 @@ use Rattle.step_replay.proofs.answers.Far.{FarIn, call_begins}
 use Rattle.step_replay.proofs.answers.Skips.{may_not}
 
 -- how far a call has come that begins here
-abbrev pub HasBegun : Config → ℕ → View → List Version → State → Option Task → Type 0
-HasBegun c n v log state None = Unit {0}
-HasBegun c n v log state (Some task) = FarIn state.call c n v v log state task
+abbrev pub BeginsFar : Config → ℕ → View → List Version → State → Option Task → Type 0
+BeginsFar c n v log state None = Unit {0}
+BeginsFar c n v log state (Some task) = FarIn state.call c n v v log state task
 
 -- Which calls of a seat were looked at: all of them, and none is left; or those before one that begins.
 abbrev pub LooksAt : Option Task → Call → List Call → List Call → List Call → Type 0
@@ -72,7 +73,7 @@ pub record IsLooked (c : Config) (n : ℕ) (made : List Made) (log : List Versio
   pub looked : List Call
   pub stepless : AreStepless c n (view_behind c made n) looked lines
   pub calls_are : LooksAt l.task call all looked (calls_of left n)
-  pub far : HasBegun c n (view_behind c made n) log (state_with n time from freed call sweep) l.task
+  pub far : BeginsFar c n (view_behind c made n) log (state_with n time from freed call sweep) l.task
 
 -- the words of a write are of 64 bits
 words_small : (words : List ℕ) → AreSixWords words → (i : ℕ) → slice_index words i < 2 ^ 64

@@ -34,7 +34,8 @@ use Rattle.step_replay.specs.Runs.{SeatOf, TapeOf, Scene, Looked, Replay, looked
 use Rattle.step_replay.specs.Runs.{seat_in, turn_taken, replay_begun, with_line, tape_stepped}
 use Rattle.step_replay.specs.ReplayLaws.{IsRuled}
 use Rattle.step_replay.specs.Behind.{IsTapeBehind, IsRuledTape}
-use Rattle.step_replay.specs.RuledRuns.{Running, InPlan, Calls, calls_of, calls_before, with_call, view_behind, AreStepless, IsCallOf, GoesOrEnds}
+use Rattle.step_replay.specs.InPlans.{Running, InPlan, Calls, calls_of, calls_before, with_call}
+use Rattle.step_replay.specs.RuledRuns.{view_behind, AreStepless, IsCallOf, GoesOrEnds}
 use Rattle.step_replay.specs.RuledRuns.{IsTurnOf, prints_only, makes_one, AreTurns, RunsAreRuled, IsRuledPlan}
 use Rattle.step_replay.specs.FitPlans.{IsFitPlan}
 use Rattle.step_replay.proofs.Machines.{shows_opened}
@@ -46,7 +47,7 @@ use Rattle.step_replay.proofs.runs.Sections.{seat_with, Logs}
 use Rattle.step_replay.proofs.runs.Standing.{IsSeat, StandsFor, ScanAt, step_of, seat_by}
 use Rattle.step_replay.proofs.runs.Stepping.{view_by}
 use Rattle.step_replay.proofs.runs.Steps.{step_is}
-use Rattle.step_replay.proofs.runs.Looking.{HasBegun, LooksAt, IsLooked, looks}
+use Rattle.step_replay.proofs.runs.Looking.{BeginsFar, LooksAt, IsLooked, looks}
 use Rattle.step_replay.proofs.runs.InCalls.{InCall, IsIn, call_steps}
 use Rattle.step_replay.proofs.answers.Progress.{state_with}
 use Rattle.step_replay.proofs.answers.Far.{FarIn}
@@ -119,7 +120,7 @@ module _ (c : Config) (k : Checked c) (n : ℕ) (lt : n < c.seats) (made : List 
         go : (task : Option Task) (seat : SeatOf) (t : TapeOf) → seat ≡ seat_with n log freed from time is.call is.sweep None is.left
             → t ≡ with_line old is.lines → IsTapeBehind c t made → StandsFor c n v log freed from time is.call is.sweep task
             → LooksAt task is.call (calls n).left is.looked (calls_of is.left n)
-            → HasBegun c n v log (state_with n time from freed is.call is.sweep) task → So (turn_begun c task (record { seat = seat; tape = t }))
+            → BeginsFar c n v log (state_with n time from freed is.call is.sweep) task → So (turn_begun c task (record { seat = seat; tape = t }))
         go None seat t e printed b stands all far =
             let here : InPlan = record { now = None; left = [] } in
             subst (λ x. So (turn_begun c None (record { seat = x; tape = t }))) (sym e)

@@ -18,7 +18,8 @@ use Rattle.step_replay.specs.declared.seats.Then.TheVariants.{Goes, Ends}
 use Rattle.step_replay.specs.SeatNotes.{place_held, holds, held, live}
 use Rattle.step_replay.specs.Begins.{begin_lock, new_sweep}
 use Rattle.step_replay.specs.States.{state_of}
-use Rattle.step_replay.specs.Answers.{LocksSo, AnswersSo}
+use Rattle.step_replay.specs.LockAnswers.{LocksSo}
+use Rattle.step_replay.specs.Answers.{AnswersSo}
 use Rattle.step_replay.proofs.runs.Sections.{InSection}
 use Rattle.step_replay.proofs.runs.Known.{if_so, eqb_ne, ltb_lt, ltb_ge}
 use Rattle.step_replay.proofs.runs.LogFacts.{noted_long}

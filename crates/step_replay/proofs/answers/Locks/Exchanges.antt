@@ -33,7 +33,8 @@ use Rattle.step_replay.specs.declared.seats.Answer.TheVariants.{Locked}
 use Rattle.step_replay.specs.declared.seats.Then.TheVariants.{Goes, Ends}
 use Rattle.step_replay.specs.GoesOn.{after_lock_head}
 use Rattle.step_replay.specs.States.{any_commit, any_start, zeros, Made, state_of, AreMade}
-use Rattle.step_replay.specs.Answers.{LocksSo, AnswersSo}
+use Rattle.step_replay.specs.LockAnswers.{LocksSo}
+use Rattle.step_replay.specs.Answers.{AnswersSo}
 use Rattle.step_replay.proofs.runs.Stepping.{view_by}
 use Rattle.step_replay.proofs.runs.Known.{if_so, eqb_ne, facts, view_there, starts, seated, word_small}
 use Rattle.step_replay.proofs.answers.Progress.{Comes}

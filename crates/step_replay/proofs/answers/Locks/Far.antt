@@ -29,7 +29,7 @@ use Rattle.step_replay.specs.declared.seats.Task.TheVariants.{Walks, Locks}
 
 -- What a lock has left of a view so far, of an object that its section may hold and doesn't: it holds as before, and made so many steps, of which
 -- these are the exchanges of HEAD.
-pub record HasTried (c : Config) (v w : View) (o made : ℕ) (tried : List Step) : Type 0 where
+pub record LockDone (c : Config) (v w : View) (o made : ℕ) (tried : List Step) : Type 0 where
   pub lacks : touches (own_of c v.ring) o ≡ false
   pub room : HasRoom c v
   pub keeps : KeepsOwn c v w
@@ -37,7 +37,7 @@ pub record HasTried (c : Config) (v w : View) (o made : ℕ) (tried : List Step)
 
 -- in so many steps at most
 abbrev pub HasDone : Config → View → View → ℕ → ℕ → List Step → Type 0
-HasDone c v w o most tried = (made : ℕ) × (made ≤ most) × HasTried c v w o made tried
+HasDone c v w o most tried = (made : ℕ) × (made ≤ most) × LockDone c v w o made tried
 
 -- the last steps are one that found HEAD to be this link, and these
 pub record HasFound (c : Config) (v w : View) (o link : ℕ) (behind : List Step) : Type 0 where
@@ -56,14 +56,14 @@ stamp_step c link first stamp =
     record { kind = kinds.LoadStamp; word = place_of c (Stamp (link_seat_of link) (index_of c first)); found = Some stamp; stored = None }
 
 -- what was found on top, by the steps so far
-abbrev pub FindsTop : Config → View → View → ℕ → ℕ → ℕ → List Step → Type 0
-FindsTop c v w o link most behind = HasDone c v w o most [] × HasFound c v w o link behind × IsOwnTop c w o link
+abbrev pub StandsAtTop : Config → View → View → ℕ → ℕ → ℕ → List Step → Type 0
+StandsAtTop c v w o link most behind = HasDone c v w o most [] × HasFound c v w o link behind × IsOwnTop c w o link
 
 -- how far the walk of a lock has come
 abbrev pub WalkFar : Config → View → View → ℕ → Walking → Type 0
 WalkFar c v w o LoadHead = HasDone c v w o 0 []
-WalkFar c v w o (LoadFirst link) = FindsTop c v w o link 1 []
-WalkFar c v w o (LoadStamp link first) = FindsTop c v w o link 2 (first_step c link first ∷ [])
+WalkFar c v w o (LoadFirst link) = StandsAtTop c v w o link 1 []
+WalkFar c v w o (LoadStamp link first) = StandsAtTop c v w o link 2 (first_step c link first ∷ [])
 WalkFar c v w o (LoadPrev link) = ⊥
 WalkFar c v w o (LoadWord link words word) = HasDone c v w o (3 + word) []
 

@@ -20,7 +20,8 @@ use Rattle.step_replay.specs.declared.seats.Task.{Task}
 use Rattle.step_replay.specs.declared.seats.Answer.TheVariants.{Locked}
 use Rattle.step_replay.specs.declared.seats.Then.TheVariants.{Ends}
 use Rattle.step_replay.specs.GoesOn.{is_unset, refusal}
-use Rattle.step_replay.specs.Answers.{LocksSo, AnswersSo}
+use Rattle.step_replay.specs.LockAnswers.{LocksSo}
+use Rattle.step_replay.specs.Answers.{AnswersSo}
 use Rattle.step_replay.proofs.runs.Known.{if_so, leb_le, leb_gt}
 use Rattle.step_replay.proofs.answers.Progress.{Comes}
 use Rattle.step_replay.proofs.answers.Locks.Far.{HasDone, HasFound, first_step, stamp_step}

@@ -13,7 +13,7 @@ use Rattle.step_replay.specs.declared.seats.Scanned.{Scanned}
 use Rattle.step_replay.specs.declared.seats.Edit.TheVariants.{Retired, AboveNoted}
 use Rattle.step_replay.specs.SeatNotes.{version_at, no_version, edited_from}
 use Rattle.step_replay.proofs.runs.Notes.{note_of, edited_long, edited_at}
-use Rattle.step_replay.proofs.answers.Tidying.Far.{HasCome, HasTried, AreSame, DeathsAreSeen, note_in, mark_of}
+use Rattle.step_replay.proofs.answers.Tidying.Far.{HasCome, KnowsUntimed, AreSame, DeathsAreSeen, note_in, mark_of}
 
 -- a version that has no time of death has one now
 dies_now : (old m : Note) (dead : ℕ) → DiesFrom old m → m.dead ≡ 0 → DiesFrom old (record m { dead = dead })
@@ -108,8 +108,8 @@ module _ (c : Config) (v0 v : View) (log : List Version) (freed from began : ℕ
 module _ (c : Config) (v0 v : View) (made : List Step) (log : List Version) (freed : ℕ) (first : Scanned) (at : ℕ) (live : at < length log) where
   -- a version has a time of death now, after the last time only where that was found
   pub tried_retired : (dead up then_up : ℕ) → 0 < dead → (35184372088831 < dead → FindsLast made)
-      → ((i : ℕ) → i < then_up → i < length log → i ≢ at → i < up) → HasTried c v0 v made log freed up first
-      → HasTried c v0 v made (edited_from (Retired at dead) 0 log) freed then_up first
+      → ((i : ℕ) → i < then_up → i < length log → i ≢ at → i < up) → KnowsUntimed c v0 v made log freed up first
+      → KnowsUntimed c v0 v made (edited_from (Retired at dead) 0 log) freed then_up first
   tried_retired dead up then_up some late_found further k =
       let long = edited_long (Retired at dead) 0 log in
       record {
@@ -138,7 +138,7 @@ module _ (c : Config) (v0 v : View) (made : List Step) (log : List Version) (fre
 
   -- of a version it is known now why it has no time of death
   pub tried_above : (seat : Option ℕ) → StaysUntimed c v made (mark_of first) first.clock true (note_in log at) seat
-      → HasTried c v0 v made log freed at first → HasTried c v0 v made (edited_from (AboveNoted at seat) 0 log) freed (at + 1) first
+      → KnowsUntimed c v0 v made log freed at first → KnowsUntimed c v0 v made (edited_from (AboveNoted at seat) 0 log) freed (at + 1) first
   tried_above seat stays k =
       let long = edited_long (AboveNoted at seat) 0 log in
       record {
@@ -168,7 +168,7 @@ module _ (c : Config) (v0 v : View) (made : List Step) (log : List Version) (fre
       }
 
   -- of those before it nothing changes where something is noted of it
-  pub tried_noted : (seat : Option ℕ) → HasTried c v0 v made log freed at first → HasTried c v0 v made (edited_from (AboveNoted at seat) 0 log) freed at first
+  pub tried_noted : (seat : Option ℕ) → KnowsUntimed c v0 v made log freed at first → KnowsUntimed c v0 v made (edited_from (AboveNoted at seat) 0 log) freed at first
   tried_noted seat k =
       let long = edited_long (AboveNoted at seat) 0 log in
       record {

@@ -58,7 +58,7 @@ pub record HasCome (c : Config) (v0 v : View) (log : List Version) (freed from b
   pub same : AreSame old log began freed
 
 -- a scan among the steps found this low time, not above its time of CLOCK; one below is that of a mark that it read
-pub record HasRead (c : Config) (v : View) (made : List Step) (scan : Scanned) : Type 0 where
+pub record HasMarks (c : Config) (v : View) (made : List Step) (scan : Scanned) : Type 0 where
   pub low : scan.low ≤ scan.clock
   pub marked : scan.low < scan.clock → ReadsMark c v.number made scan.seat scan.low
   pub within : scan.clock ≤ v.base + length v.past.seen
@@ -82,8 +82,8 @@ DeathsAreSeen v log freed =
     (i : ℕ) → freed ≤ i → i < length log → (version_at log i).dead ≤ 35184372088831 → (version_at log i).dead ≤ v.base + length v.past.seen
 
 -- The first scan was made; and of each version before a position that has no time of death it is known why its write-back left it so.
-pub record HasTried (c : Config) (v0 v : View) (made : List Step) (log : List Version) (freed up : ℕ) (first : Scanned) : Type 0 where
-  pub read : HasRead c v made first
+pub record KnowsUntimed (c : Config) (v0 v : View) (made : List Step) (log : List Version) (freed up : ℕ) (first : Scanned) : Type 0 where
+  pub read : HasMarks c v made first
   pub known : first.low ≤ first.time
   pub after : v0.base + length v0.past.seen ≤ first.clock
   pub ends : EndIsFound made log freed
@@ -108,18 +108,18 @@ pub record IsOpening (v0 v : View) (made : List Step) (old log : List Version) (
 pub record IsFirst (c : Config) (v0 v : View) (made : List Step) (log : List Version) (freed up : ℕ) (sweep : Sweep) : Type 0 where
   pub again : sweep.again ≡ false
   pub swept : sweep.swept ≡ true
-  pub tried : HasTried c v0 v made log freed up sweep.first
+  pub tried : KnowsUntimed c v0 v made log freed up sweep.first
   pub unrested : AreUnrested v0 v made
   pub latest : sweep.latest ≤ v.base + length v.past.seen
   pub same : sweep.last ≡ sweep.first
 
 -- the second round has versions left
 pub record IsSecond (c : Config) (v0 v : View) (made : List Step) (log : List Version) (freed : ℕ) (first : Scanned) : Type 0 where
-  pub tried : HasTried c v0 v made log freed (length log) first
+  pub tried : KnowsUntimed c v0 v made log freed (length log) first
   pub deaths : DeathsAreSeen v log freed
 
 -- its scan has begun, before which the seat had this view; it has made no entry since
-pub record HasScan (c : Config) (v : View) (made : List Step) (scan : Scanned) : Type 0 where
+pub record IsScanning (c : Config) (v : View) (made : List Step) (scan : Scanned) : Type 0 where
   pub before : View
   pub known : Known any_start any_commit before
   pub number : v.number ≡ before.number
@@ -128,17 +128,17 @@ pub record HasScan (c : Config) (v : View) (made : List Step) (scan : Scanned) :
   pub mine : v.past.mine ≡ before.past.mine
   pub rests : v.past.rests ≡ before.past.rests
   pub from : before.base + length before.past.seen ≤ scan.clock
-  pub read : HasRead c v made scan
+  pub read : HasMarks c v made scan
   pub begun : HasBegun c made scan.clock
 
 -- and is whole
-pub record HasScanned (c : Config) (v : View) (made : List Step) (last : Scanned) (bound : ℕ) : Type 0 where
-  pub scan : HasScan c v made last
+pub record ScanIsWhole (c : Config) (v : View) (made : List Step) (last : Scanned) (bound : ℕ) : Type 0 where
+  pub scan : IsScanning c v made last
   pub known : last.low ≤ last.time
   pub bound_is : bound ≡ last.time
 
 -- SUPER was found 0 in the version at a position, which is old enough to be written back
-pub record HasLooked (c : Config) (v : View) (made : List Step) (log : List Version) (freed : ℕ) (first : Scanned) (at : ℕ) : Type 0 where
+pub record LookedAt (c : Config) (v : View) (made : List Step) (log : List Version) (freed : ℕ) (first : Scanned) (at : ℕ) : Type 0 where
   pub low : freed ≤ at
   pub live : at < length log
   pub still : StaysUntimed c v made (mark_of first) first.clock false (note_in log at) None
@@ -152,22 +152,22 @@ module _ (c : Config) (v0 v : View) (made : List Step) (old log : List Version) 
   Frees false false = IsOpening v0 v made old log sweep.latest
   Frees false true = IsFirst c v0 v made log freed (length log) sweep
   Frees true false = AreRested v0 v made × (freed < length log → IsSecond c v0 v made log freed sweep.first)
-  Frees true true = AreRested v0 v made × (freed < length log → IsSecond c v0 v made log freed sweep.first × HasScanned c v made sweep.last sweep.bound)
+  Frees true true = AreRested v0 v made × (freed < length log → IsSecond c v0 v made log freed sweep.first × ScanIsWhole c v made sweep.last sweep.bound)
 
   -- a round that scans
   abbrev pub Scans : Bool → Type 0
-  Scans false = IsOpening v0 v made old log sweep.latest × HasRead c v made sweep.last × (v0.base + length v0.past.seen ≤ sweep.last.clock)
+  Scans false = IsOpening v0 v made old log sweep.latest × HasMarks c v made sweep.last × (v0.base + length v0.past.seen ≤ sweep.last.clock)
       × EndIsFound made log freed
-  Scans true = AreRested v0 v made × IsSecond c v0 v made log freed sweep.first × HasScan c v made sweep.last
+  Scans true = AreRested v0 v made × IsSecond c v0 v made log freed sweep.first × IsScanning c v made sweep.last
 
   -- a round that looks at the version at a position
   abbrev pub Looks : Bool → ℕ → Type 0
   Looks false at = IsFirst c v0 v made log freed at sweep
-  Looks true at = (sweep.swept ≡ true) × AreRested v0 v made × IsSecond c v0 v made log freed sweep.first × HasScanned c v made sweep.last sweep.bound
+  Looks true at = (sweep.swept ≡ true) × AreRested v0 v made × IsSecond c v0 v made log freed sweep.first × ScanIsWhole c v made sweep.last sweep.bound
 
   -- a write-back of it is under way
   abbrev pub Backs : ℕ → Type 0
-  Backs at = IsFirst c v0 v made log freed at sweep × HasLooked c v made log freed sweep.first at
+  Backs at = IsFirst c v0 v made log freed at sweep × LookedAt c v made log freed sweep.first at
 
   -- what it has come to when its section is left
   abbrev pub Leaves : ℕ → Back → Type 0

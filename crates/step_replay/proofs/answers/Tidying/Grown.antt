@@ -19,7 +19,7 @@ use Rattle.step_replay.specs.declared.seats.Version.{Version}
 use Rattle.step_replay.specs.declared.seats.Scanned.{Scanned}
 use Rattle.step_replay.specs.SeatNotes.{version_at}
 use Rattle.step_replay.proofs.answers.Tidying.Further.{Further, further_on, further_number, further_base, further_long}
-use Rattle.step_replay.proofs.answers.Tidying.Far.{HasCome, HasRead, HasBegun, HasTried, HasScan, HasScanned, HasLooked, mark_of, note_in}
+use Rattle.step_replay.proofs.answers.Tidying.Far.{HasCome, HasMarks, HasBegun, KnowsUntimed, IsScanning, ScanIsWhole, LookedAt, mark_of, note_in}
 use Rattle.step_replay.proofs.answers.Tidying.Far.{DeathsAreSeen, AreUnrested, AreRested, IsOpening, IsSecond}
 
 -- the last time is found among more steps
@@ -90,7 +90,7 @@ module _ (c : Config) (v w : View) (made more : List Step) (f : Further v w more
   within_on t le =
       let base = further_base v w more f in let long = further_long v w more f in omega (arith, le, base, long)
 
-  pub read_on : (scan : Scanned) → HasRead c v made scan → HasRead c w (made ++ more) scan
+  pub read_on : (scan : Scanned) → HasMarks c v made scan → HasMarks c w (made ++ more) scan
   read_on scan k = record {
     low = k.low;
     marked = λ lt.
@@ -110,8 +110,8 @@ module _ (c : Config) (v w : View) (made more : List Step) (f : Further v w more
     clock_is = k.clock_is;
   }
 
-  pub tries_on : (v0 : View) (log : List Version) (freed up : ℕ) (first : Scanned) → HasTried c v0 v made log freed up first
-      → HasTried c v0 w (made ++ more) log freed up first
+  pub tries_on : (v0 : View) (log : List Version) (freed up : ℕ) (first : Scanned) → KnowsUntimed c v0 v made log freed up first
+      → KnowsUntimed c v0 w (made ++ more) log freed up first
   tries_on v0 log freed up first k = record {
     read = read_on first k.read;
     known = k.known;
@@ -129,8 +129,8 @@ module _ (c : Config) (v w : View) (made more : List Step) (f : Further v w more
       → IsSecond c v0 w (made ++ more) log freed first
   second_on v0 log freed first k = record { tried = tries_on v0 log freed (length log) first k.tried; deaths = deaths_on log freed k.deaths }
 
-  pub scan_on : (scan : Scanned) → w.past.rests ≡ v.past.rests → All (λ s. BeginsNoScan s.kind) more → HasScan c v made scan
-      → HasScan c w (made ++ more) scan
+  pub scan_on : (scan : Scanned) → w.past.rests ≡ v.past.rests → All (λ s. BeginsNoScan s.kind) more → IsScanning c v made scan
+      → IsScanning c w (made ++ more) scan
   scan_on scan rests none k = record {
     before = k.before;
     known = k.known;
@@ -145,11 +145,11 @@ module _ (c : Config) (v w : View) (made more : List Step) (f : Further v w more
   }
 
   pub scanned_on : (scan : Scanned) (bound : ℕ) → w.past.rests ≡ v.past.rests → All (λ s. BeginsNoScan s.kind) more
-      → HasScanned c v made scan bound → HasScanned c w (made ++ more) scan bound
+      → ScanIsWhole c v made scan bound → ScanIsWhole c w (made ++ more) scan bound
   scanned_on scan bound rests none k = record { scan = scan_on scan rests none k.scan; known = k.known; bound_is = k.bound_is }
 
   pub looked_on : (log : List Version) (freed : ℕ) (first : Scanned) (at : ℕ) → first.low ≤ v.base + length v.past.seen
-      → HasLooked c v made log freed first at → HasLooked c w (made ++ more) log freed first at
+      → LookedAt c v made log freed first at → LookedAt c w (made ++ more) log freed first at
   looked_on log freed first at seen k = record {
     low = k.low;
     live = k.live;

@@ -21,7 +21,7 @@ use Rattle.step_replay.proofs.runs.Sections.{RestsAt}
 use Rattle.step_replay.proofs.runs.Known.{if_so, eqb_ne, ltb_lt, ltb_ge, and_left, and_right}
 use Rattle.step_replay.proofs.runs.LogFacts.{noted_at}
 use Rattle.step_replay.proofs.runs.Searches.{first_after, first_there}
-use Rattle.step_replay.proofs.answers.Tidying.Far.{HasCome, HasScanned, IsSecond, note_in, mark_of}
+use Rattle.step_replay.proofs.answers.Tidying.Far.{HasCome, ScanIsWhole, IsSecond, note_in, mark_of}
 use Rattle.step_replay.proofs.answers.Tidying.Ended.{after_noted, after_stands}
 
 -- the version at a place is of the oldest write set, and isn't dead by a time
@@ -85,7 +85,7 @@ module _ (c : Config) (w : View) (log : List Version) (freed from : ℕ) (rests 
 
 module _ (c : Config) (v0 w : View) (log : List Version) (freed from began : ℕ) (sweep : Sweep) (k : HasCome c v0 w log freed from began)
     (rests : RestsAt c w log freed from None) (known : Known any_start any_commit w)
-    (second : IsSecond c v0 w k.made log freed sweep.first) (again : HasScanned c w k.made sweep.last sweep.bound) where
+    (second : IsSecond c v0 w k.made log freed sweep.first) (again : ScanIsWhole c w k.made sweep.last sweep.bound) where
   abbrev Holds : Holder → Type 0
   Holds h = TidyHolds c w (after_noted c v0 w log freed from began k rests) k.made h
 

@@ -31,7 +31,7 @@ use Rattle.step_replay.proofs.runs.Standing.{step_of}
 use Rattle.step_replay.proofs.runs.Stepping.{view_by}
 use Rattle.step_replay.proofs.runs.Known.{facts, number_is}
 use Rattle.step_replay.proofs.answers.Tidying.Further.{Further, further_one, begins_same}
-use Rattle.step_replay.proofs.answers.Tidying.Far.{HasCome, HasLooked, IsFirst, Looks, TidyFar, mark_of, note_in}
+use Rattle.step_replay.proofs.answers.Tidying.Far.{HasCome, LookedAt, IsFirst, Looks, TidyFar, mark_of, note_in}
 use Rattle.step_replay.proofs.answers.Tidying.Grown.{come_on, last_found_on, tried_on}
 use Rattle.step_replay.proofs.answers.Tidying.Edits.{come_retired, come_above, tried_retired, tried_above}
 use Rattle.step_replay.proofs.answers.Tidying.Backing.{first_goes, backs_goes, backs_later}
@@ -105,7 +105,7 @@ module _ (c : Config) (k : Checked c) (n : ℕ) (lt : n < c.seats) (made : List 
     first : IsFirst c v0 u (far.0.made ++ one ∷ []) log freed at sweep
     first = (backs_goes c v u one f refl refl v0 far.0.made far.0.old log freed sweep at far.1.0).0
 
-    still : HasLooked c u (far.0.made ++ one ∷ []) log freed sweep.first at
+    still : LookedAt c u (far.0.made ++ one ∷ []) log freed sweep.first at
     still = (backs_goes c v u one f refl refl v0 far.0.made far.0.old log freed sweep at far.1.0).1
 
     known : Known any_start any_commit u

@@ -24,7 +24,7 @@ use Rattle.step_replay.proofs.runs.Standing.{step_of}
 use Rattle.step_replay.proofs.runs.Stepping.{view_by}
 use Rattle.step_replay.proofs.runs.Known.{if_so, eqb_ne, leb_gt, facts, number_is}
 use Rattle.step_replay.proofs.answers.Tidying.Further.{Further, further_one, begins_same, one_all}
-use Rattle.step_replay.proofs.answers.Tidying.Far.{HasCome, HasRead, HasBegun}
+use Rattle.step_replay.proofs.answers.Tidying.Far.{HasCome, HasMarks, HasBegun}
 use Rattle.step_replay.proofs.answers.Tidying.Far.{Scans, TidyFar}
 use Rattle.step_replay.proofs.answers.Tidying.Grown.{last_found_on, come_on, opens_on, rested_on, second_on, scan_on}
 use Rattle.step_replay.proofs.answers.Tidying.Scanning.{risen, look_far}
@@ -60,15 +60,15 @@ module _ (c : Config) (k : Checked c) (n : ℕ) (made : List Made) (each : AreMa
           ap (λ (i : ℕ). s.memory (Mark i)) own ∙ subst (MarkedAs (s.memory Clock) (s.memory (Mark n))) outside marks
 
       -- the views before and behind it have the same number, and have seen the same
-      moved : (before : List Step) → HasRead c v before sweep.last → HasRead c w before sweep.last
+      moved : (before : List Step) → HasMarks c v before sweep.last → HasMarks c w before sweep.last
       moved before r = record { low = r.low; marked = r.marked; within = r.within }
 
-      reads : (before : List Step) → HasRead c w before sweep.last → HasRead c w (before ++ step ∷ []) (lowered sweep.last seat mark)
+      reads : (before : List Step) → HasMarks c w before sweep.last → HasMarks c w (before ++ step ∷ []) (lowered sweep.last seat mark)
       reads before r =
-          if_so (HasRead c w (before ++ step ∷ [])) (mark == 0) sweep.last
+          if_so (HasMarks c w (before ++ step ∷ [])) (mark == 0) sweep.last
           (if leb sweep.last.low (mark - 1) then sweep.last else record sweep.last { low = mark - 1; seat = seat })
           (λ e. kept)
-          (λ some. if_so (HasRead c w (before ++ step ∷ [])) (leb sweep.last.low (mark - 1)) sweep.last (record sweep.last { low = mark - 1; seat = seat })
+          (λ some. if_so (HasMarks c w (before ++ step ∷ [])) (leb sweep.last.low (mark - 1)) sweep.last (record sweep.last { low = mark - 1; seat = seat })
           (λ e. kept)
           (λ less.
           let ne = eqb_ne mark 0 some in
@@ -85,7 +85,7 @@ module _ (c : Config) (k : Checked c) (n : ℕ) (made : List Made) (each : AreMa
             within = r.within;
           }))
         where
-          kept : HasRead c w (before ++ step ∷ []) sweep.last
+          kept : HasMarks c w (before ++ step ∷ []) sweep.last
           kept = record {
             low = r.low;
             marked = λ lt.

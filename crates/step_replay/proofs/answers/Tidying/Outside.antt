@@ -28,7 +28,7 @@ use Rattle.step_replay.proofs.runs.Stepping.{view_by}
 use Rattle.step_replay.proofs.runs.Known.{if_so}
 use Rattle.step_replay.proofs.runs.LogFacts.{noted_long}
 use Rattle.step_replay.proofs.answers.Tidying.Further.{Further, further_one, begins_same, one_all}
-use Rattle.step_replay.proofs.answers.Tidying.Far.{HasCome, HasTried, Frees, TidyFar}
+use Rattle.step_replay.proofs.answers.Tidying.Far.{HasCome, KnowsUntimed, Frees, TidyFar}
 use Rattle.step_replay.proofs.answers.Tidying.Grown.{come_on, opens_on, rested_on, second_on, tries_on, unrested_on, within_on, scanned_on}
 use Rattle.step_replay.proofs.answers.Tidying.Rounds.{free_so}
 use Rattle.step_replay.proofs.answers.Tidying.Stepping.{tidying, ComesSo, known_by, GoesBy}
@@ -49,8 +49,8 @@ freed_more c v0 v log freed from began k = record {
   };
 }
 
-tried_more : (c : Config) (v0 v : View) (made : List Step) (log : List Version) (freed up : ℕ) (first : Scanned) → HasTried c v0 v made log freed up first
-    → HasTried c v0 v made log (freed + 1) up first
+tried_more : (c : Config) (v0 v : View) (made : List Step) (log : List Version) (freed up : ℕ) (first : Scanned) → KnowsUntimed c v0 v made log freed up first
+    → KnowsUntimed c v0 v made log (freed + 1) up first
 tried_more c v0 v made log freed up first k = record {
   read = k.read;
   known = k.known;

@@ -18,7 +18,7 @@ use Rattle.step_replay.proofs.runs.Sections.{RestsAt}
 use Rattle.step_replay.proofs.runs.Standing.{step_of}
 use Rattle.step_replay.proofs.runs.Stepping.{view_by}
 use Rattle.step_replay.proofs.answers.Tidying.Further.{Further, further_one, begins_same, one_all}
-use Rattle.step_replay.proofs.answers.Tidying.Far.{HasCome, HasRead, HasTried, IsSecond}
+use Rattle.step_replay.proofs.answers.Tidying.Far.{HasCome, HasMarks, KnowsUntimed, IsSecond}
 use Rattle.step_replay.proofs.answers.Tidying.Far.{Scans, Looks, TidyFar}
 use Rattle.step_replay.proofs.answers.Tidying.Grown.{last_found_on, come_on, opens_on, rested_on, second_on, read_on, scan_on}
 use Rattle.step_replay.proofs.answers.Tidying.Rounds.{settle_so}
@@ -50,7 +50,7 @@ module _ (c : Config) (k : Checked c) (n : ℕ) (made : List Made) (each : AreMa
       abbrev sweep2 : Sweep
       sweep2 = scanned sweep found
 
-      reads : (before : List Step) → HasRead c v before sweep.last → HasRead c w (before ++ step ∷ []) (scanned_to sweep.last found)
+      reads : (before : List Step) → HasMarks c v before sweep.last → HasMarks c w (before ++ step ∷ []) (scanned_to sweep.last found)
       reads before r =
           let more = read_on c v w before (step ∷ []) f sweep.last r in
           record { low = more.low; marked = more.marked; within = more.within }
@@ -60,7 +60,7 @@ module _ (c : Config) (k : Checked c) (n : ℕ) (made : List Made) (each : AreMa
       by false is k0 scans =
           let opens = opens_on c v w k0.made (step ∷ []) f v0 k0.old log sweep.latest refl refl scans.0 in
           let first_is : sweep2.first ≡ scanned_to sweep.last found = ap (λ x. if x then sweep.first else scanned_to sweep.last found) is in
-          let tried : HasTried c v0 w (k0.made ++ step ∷ []) log freed freed (scanned_to sweep.last found) = record {
+          let tried : KnowsUntimed c v0 w (k0.made ++ step ∷ []) log freed freed (scanned_to sweep.last found) = record {
             read = reads k0.made scans.1;
             known = omega arith;
             after = scans.2;
@@ -70,7 +70,7 @@ module _ (c : Config) (k : Checked c) (n : ℕ) (made : List Made) (each : AreMa
           record {
             again = is;
             swept = refl;
-            tried = subst (HasTried c v0 w (k0.made ++ step ∷ []) log freed freed) (sym first_is) tried;
+            tried = subst (KnowsUntimed c v0 w (k0.made ++ step ∷ []) log freed freed) (sym first_is) tried;
             unrested = opens.unrested;
             latest = opens.within;
             same = sym first_is;

@@ -28,7 +28,7 @@ use Rattle.step_replay.proofs.runs.Known.{if_so, eqb_ne, ltb_lt, ltb_ge, and_lef
 use Rattle.step_replay.proofs.runs.LogFacts.{noted_long}
 use Rattle.step_replay.proofs.runs.Searches.{first_within, first_after, first_before}
 use Rattle.step_replay.proofs.answers.Progress.{Comes, StandsThen}
-use Rattle.step_replay.proofs.answers.Tidying.Far.{HasCome, HasScanned, IsFirst, IsSecond, AreRested, AreUnrested, DeathsAreSeen}
+use Rattle.step_replay.proofs.answers.Tidying.Far.{HasCome, ScanIsWhole, IsFirst, IsSecond, AreRested, AreUnrested, DeathsAreSeen}
 use Rattle.step_replay.proofs.answers.Tidying.Far.{Frees, Looks, TidyFar}
 use Rattle.step_replay.proofs.answers.Tidying.Ended.{before_noted, after_noted, after_stands, after_shrinks, after_reclaims}
 use Rattle.step_replay.proofs.answers.Tidying.Holding.{is_due, holds_so}
@@ -49,7 +49,7 @@ module _ (c : Config) (n : ℕ) (v0 v : View) (log : List Version) (freed from :
 
   -- what it answers
   answers : RestsAt c v log freed from None → AreRested v0 v k.made
-      → (freed < length log → IsSecond c v0 v k.made log freed sweep.first × HasScanned c v k.made sweep.last sweep.bound)
+      → (freed < length log → IsSecond c v0 v k.made log freed sweep.first × ScanIsWhole c v k.made sweep.last sweep.bound)
       → dead_count log state sweep.bound ≡ 0
       → TidiesSo c v0 v (record { freed = freed - sweep.began; live = live log state; held = holder log state })
   answers rests rested left none =
@@ -145,7 +145,7 @@ module _ (c : Config) (n : ℕ) (v0 v : View) (log : List Version) (freed from :
       rested false f = f.0
 
       left : (s : Bool) → sweep.swept ≡ s → Frees c v0 v k.made k.old log freed sweep true s → (freed < length log → sweep.swept ≡ true)
-          → freed < length log → IsSecond c v0 v k.made log freed sweep.first × HasScanned c v k.made sweep.last sweep.bound
+          → freed < length log → IsSecond c v0 v k.made log freed sweep.first × ScanIsWhole c v k.made sweep.last sweep.bound
       left true is f done some = f.1 some
       left false is f done some = let t : false ≡ true = sym is ∙ done some in absurd (cc)
 

@@ -27,7 +27,7 @@ use Rattle.step_replay.proofs.runs.Stepping.{view_by}
 use Rattle.step_replay.proofs.runs.Known.{if_so, facts, knows}
 use Rattle.step_replay.proofs.runs.LogFacts.{noted_at}
 use Rattle.step_replay.proofs.answers.Tidying.Further.{Further, further_one}
-use Rattle.step_replay.proofs.answers.Tidying.Far.{HasCome, HasRead, IsOpening}
+use Rattle.step_replay.proofs.answers.Tidying.Far.{HasCome, HasMarks, IsOpening}
 use Rattle.step_replay.proofs.answers.Tidying.Far.{Frees, Scans, TidyFar, note_in}
 use Rattle.step_replay.proofs.answers.Tidying.Grown.{come_on, opens_on, rested_on, second_on, within_on}
 use Rattle.step_replay.proofs.answers.Tidying.Stepping.{tidying, ComesSo, front, clock_long, GoesBy}
@@ -89,7 +89,7 @@ module _ (c : Config) (k : Checked c) (n : ℕ) (made : List Made) (each : AreMa
       clock : clock_time_of word ≡ w.base + length w.past.seen
       clock = clock_long c k n made each
 
-      reads : (steps : List Step) → HasRead c w steps (scan_begun word)
+      reads : (steps : List Step) → HasMarks c w steps (scan_begun word)
       reads steps = record { low = omega arith; marked = λ lt. absurd (omega (arith, lt)); within = (let e = clock in omega (arith, e)) }
 
       scan_first : (k0 : HasCome c v0 v log freed from sweep.began) → IsOpening v0 v k0.made k0.old log sweep.latest

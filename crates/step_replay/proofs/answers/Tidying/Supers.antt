@@ -28,7 +28,7 @@ use Rattle.step_replay.proofs.runs.Standing.{step_of}
 use Rattle.step_replay.proofs.runs.Known.{if_so, eqb_ne, ltb_lt, number_is}
 use Rattle.step_replay.proofs.runs.LogFacts.{noted_at}
 use Rattle.log_reclaim.proofs.Needed.{time_seen}
-use Rattle.step_replay.proofs.answers.Tidying.Far.{HasCome, HasTried, IsFirst, Looks}
+use Rattle.step_replay.proofs.answers.Tidying.Far.{HasCome, KnowsUntimed, IsFirst, Looks}
 use Rattle.step_replay.proofs.answers.Tidying.Far.{TidyFar, note_in, mark_of}
 use Rattle.step_replay.proofs.answers.Tidying.Further.{Further, one_all}
 use Rattle.step_replay.proofs.answers.Tidying.Grown.{come_on, rested_on, second_on, tries_on, unrested_on, within_on, scanned_on}
@@ -232,7 +232,7 @@ module _ (c : Config) (k : Checked c) (n : ℕ) (lt : n < c.seats) (made : List 
           ),
         )
       where
-        still_tried : HasTried c v0 u (k0.made ++ one ∷ []) log freed at sweep.first → HasTried c v0 u (k0.made ++ one ∷ []) log3 freed at sweep.first
+        still_tried : KnowsUntimed c v0 u (k0.made ++ one ∷ []) log freed at sweep.first → KnowsUntimed c v0 u (k0.made ++ one ∷ []) log3 freed at sweep.first
         still_tried t = tried_noted c v0 u (k0.made ++ one ∷ []) log freed sweep.first at live None t
 
   -- how the tidy goes on, by what was found, and by the round

@@ -32,12 +32,12 @@ use Rattle.step_replay.proofs.runs.Sections.{Logs}
 use Rattle.step_replay.proofs.runs.Aborting.{holds_nothing}
 use Rattle.step_replay.proofs.runs.Rounds.{note_is, untimed}
 use Rattle.step_replay.proofs.answers.Tidying.Further.{Further, further_number}
-use Rattle.step_replay.proofs.answers.Tidying.Far.{HasCome, HasTried, HasLooked, note_in, mark_of}
+use Rattle.step_replay.proofs.answers.Tidying.Far.{HasCome, KnowsUntimed, LookedAt, note_in, mark_of}
 use Rattle.step_replay.proofs.answers.Tidying.Supers.{old_time}
 
 module _ (c : Config) (v0 v : View) (log : List Version) (freed from began : ℕ) (k : HasCome c v0 v log freed from began) (logs : Logs c v log freed from)
-    (nothing : from ≡ length log) (first : Scanned) (up : ℕ) (tried : HasTried c v0 v k.made log freed up first) (at : ℕ)
-    (looked : HasLooked c v k.made log freed first at) (alive : (version_at log at).dead ≡ 0) where
+    (nothing : from ≡ length log) (first : Scanned) (up : ℕ) (tried : KnowsUntimed c v0 v k.made log freed up first) (at : ℕ)
+    (looked : LookedAt c v k.made log freed first at) (alive : (version_at log at).dead ≡ 0) where
   abbrev note_own : (note : CommitNote) × (slot_at v.ring (index_of c at) ≡ Live (version_of (note_in log at)) (Committed note))
       × (note.time ≡ (version_at log at).time) × (note.dead ≡ None) × (note.cut ≡ false)
   note_own = untimed c v log freed from logs nothing at looked.low looked.live alive

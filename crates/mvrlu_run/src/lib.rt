@@ -49,6 +49,7 @@ mod finish;
 mod generated;
 mod growing;
 mod line;
+mod parsing;
 mod pooling;
 mod program;
 mod reading;

@@ -115,7 +115,8 @@ module _ {A K : Type 0} (grammar : List ℕ → Result A (ℕ × K)) where
     answers_from_each (x ∷ texts) (r ∷ results) len h =
         (h 0 x r (omega arith), answers_from_each texts results (omega (arith, len)) (λ i d e lt. h (suc i) d e (omega (arith, lt))))
 
-    parse_each : (texts : List (Vec ℕ Global)) (values : List S) → AreAnswers texts (map Ok values) → AllZip (Parses grammar) (map text_of texts) (map of values)
+    parse_each : (texts : List (Vec ℕ Global)) (values : List S) → AreAnswers texts (map Ok values)
+        → AllZip (Parses grammar) (map text_of texts) (map of values)
     parse_each [] [] h = tt
     parse_each [] (v ∷ values) h = absurd h
     parse_each (x ∷ texts) [] h = absurd h

@@ -1,7 +1,8 @@
 -- A script of blocks has no more commands than a script may have.
 use Rattle.std.proofs.Common.{◌≡◌, ℕ, ◌+◌, ◌<◌, ◌≤◌, nat_lt, Bool, true, false, if◌then◌else◌, List, [], ◌∷◌}
 use Rattle.std.proofs.Common.{◌++◌, length, sum_by}
-use Rattle.std.proofs.Common.{Option, None, Some, Result, Ok, Err, refl, arith, subst, length-append}
+use Rattle.std.proofs.Common.{Option, None, Some, Result, Ok, Err, MatchResult, IfOk, Vec, refl, arith, subst, length-append}
+use Rattle.std.specs.declared.alloc.Global.{Global}
 use Rattle.std.specs.Bool.{⊤}
 use Rattle.std.proofs.lemmas.Bool.Decides.{nat_tests}
 use Rattle.std.proofs.lemmas.List.Sums.{sum_by_push}
@@ -10,7 +11,9 @@ use Rattle.set_script.specs.declared.commands.FaultKind.{FaultKind}
 use Rattle.set_script.specs.declared.commands.FaultKind.TheVariants.{Many}
 use Rattle.set_script.specs.declared.script.TheConstants.{MOST_COMMANDS}
 use Rattle.set_script.specs.Grammar.{◌>>=◌, lines_of}
+use Rattle.set_blocks.specs.declared.faults.BlockFault.{BlockFault}
 use Rattle.set_blocks.specs.BlockGrammar.{
+  Refuses,
   ReadSoFar,
   OrFault,
   begin_where,
@@ -113,3 +116,10 @@ few_blocks text blocks is =
     let nothing : ReadSoFar = record { blocks = []; begun = None } in
     let read = few_readings nothing 1 (lines_said None (lines_of text)) (omega arith) in
     subst AreFew is (few_at_end (with_readings nothing 1 (lines_said None (lines_of text))) (last_line text) read)
+
+-- and so have those that a call which parses it gives
+pub few_parsed : (text : List ℕ) (result : Result (Vec (List Command) Global) BlockFault)
+    → MatchResult result (λ blocks. parsed_blocks text ≡ Ok blocks.items) (Refuses (parsed_blocks text))
+    → IfOk result (λ blocks. sum_by length blocks.items ≤ MOST_COMMANDS)
+few_parsed text (Ok blocks) is = few_blocks text blocks.items is
+few_parsed text (Err fault) is = tt

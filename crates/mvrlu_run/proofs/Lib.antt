@@ -1,5 +1,6 @@
 pub mod Parts
 pub mod Many
+pub mod FileTexts
 pub mod Opened
 pub mod Still
 pub mod WorkTexts

@@ -1,26 +1,15 @@
--- One more file, or the one at which reading stops.
-use Rattle.std.proofs.Common.{◌≡◌, ◌≤◌, ◌<◌, ◌+◌, ℕ, List, [], ◌∷◌, ◌++◌, length, take, map, get_or, slice_get, string_bytes, String}
-use Rattle.std.proofs.Common.{All, Bool, Option, Some, Result, refl, sym, ap, ◌∙◌, subst, arith}
+-- The file at which reading stops.
+use Rattle.std.proofs.Common.{◌≡◌, ◌≤◌, ◌<◌, ℕ, List, [], ◌∷◌, length, take, map, get_or, slice_get, string_bytes, String}
+use Rattle.std.proofs.Common.{All, Bool, Option, Some, refl, sym, ap, ◌∙◌, subst, arith}
 use Rattle.std.specs.declared.alloc.Global.{Global}
-use Rattle.std.proofs.lemmas.List.{take_more, length-map, map-append}
 use Rattle.std.proofs.lemmas.List.Elements.{All-get_or}
 use Rattle.std.proofs.lemmas.Option.{slice_get-map, slice_get_read, slice_get_within, get_or_from_slice_get}
 use Rattle.std.specs.Option.{option_map}
 use Rattle.run_outside.specs.Outside.{Texts, HasText}
 use Rattle.mvrlu_run.specs.declared.finish.Finish.{Finish}
 use Rattle.mvrlu_run.specs.declared.finish.Finish.TheVariants.{Done, Usage, Limit, Script, BlockScript, Plan, Bytes, Read, Write, Memory}
-use Rattle.mvrlu_run.specs.Reading.{Says}
-use Rattle.mvrlu_run.specs.Scripts.{AllScripts, AnyStop, IsScript, NoneFails, NotRead, OneStop, Reading, ScriptOf}
+use Rattle.mvrlu_run.specs.Scripts.{AllScripts, AnyStop, NoneFails, NotRead, OneStop, Reading, ScriptOf}
 use Rattle.mvrlu_run.specs.Scripts.{commands, blocks, plans, grammar_of}
-
--- one more script, of any grammar
-pub scripts_snoc : {A K : Type 0} (grammar : List ℕ → Result A (ℕ × K)) (t : Option Texts) (names : List (List ℕ)) (scripts : List A) (name : List ℕ)
-    (script : A) → AllScripts grammar t names scripts → Says t name (λ text. IsScript grammar text script)
-    → AllScripts grammar t (names ++ name ∷ []) (scripts ++ script ∷ [])
-scripts_snoc grammar t [] [] name script h s = (s, tt)
-scripts_snoc grammar t [] (x ∷ scripts) name script h s = absurd h
-scripts_snoc grammar t (n ∷ names) [] name script h s = absurd h
-scripts_snoc grammar t (n ∷ names) (x ∷ scripts) name script h s = (h.0, scripts_snoc grammar t names scripts name script h.1 s)
 
 abbrev pub bytes_of : List (String Global) → List (List ℕ)
 bytes_of names = map string_bytes names
@@ -28,21 +17,6 @@ bytes_of names = map string_bytes names
 pub named_at : (names : List (String Global)) (i : ℕ) (x : String Global) → i < length names → x ≡ get_or names i x
     → slice_get (bytes_of names) i ≡ Some (string_bytes x)
 named_at names i x lt at = slice_get-map string_bytes names i ∙ ap (option_map string_bytes) (slice_get_read names _ i x refl lt at)
-
-take_name : (names : List (String Global)) (i : ℕ) (x : String Global) → i < length names → x ≡ get_or names i x
-    → take (i + 1) (bytes_of names) ≡ take i (bytes_of names) ++ string_bytes x ∷ []
-take_name names i x lt at =
-    take_more (bytes_of names) i [] (rw length-map lt)
-    ∙ ap (λ y. take i (bytes_of names) ++ y ∷ []) (get_or_from_slice_get (bytes_of names) i (string_bytes x) [] (named_at names i x lt at))
-
--- one more file has its script, where each script in memory is one
-pub more_scripts : {A K S : Type 0} (grammar : List ℕ → Result A (ℕ × K)) (of : S → A) (t : Option Texts) (names : List (String Global)) (i : ℕ)
-    (x : String Global) (scripts : List S) (s : S) → i < length names → x ≡ get_or names i x
-    → AllScripts grammar t (take i (bytes_of names)) (map of scripts) → Says t (string_bytes x) (λ text. IsScript grammar text (of s))
-    → AllScripts grammar t (take (i + 1) (bytes_of names)) (map of (scripts ++ s ∷ []))
-more_scripts grammar of t names i x scripts s lt at h says =
-    rw (take_name names i x lt at, map-append of scripts (s ∷ []))
-    (scripts_snoc grammar t (take i (bytes_of names)) (map of scripts) (string_bytes x) (of s) h says)
 
 -- where one file is refused and those before it are scripts, reading stops there
 pub any_from_one : (f : Finish) (reading : Reading) (t : Option Texts) (names : List (List ℕ)) (place : ℕ) (name : List ℕ)

@@ -1,6 +1,8 @@
 -- What was read of a text.
-use Rattle.std.specs.Prelude.{◌≡◌, ◌<◌, ℕ, List, length, take, Option, None, Some, ⊤}
+use Rattle.std.specs.Prelude.{◌≡◌, ◌<◌, ◌≤◌, ℕ, List, [], ◌∷◌, length, take, Option, None, Some, Vec, ⊤}
+use Rattle.std.specs.declared.alloc.Global.{Global}
 use Rattle.run_outside.specs.Outside.{Texts}
+use Rattle.mvrlu_run.specs.declared.finish.TheConstants.{MOST_BYTES}
 
 -- the texts are told
 abbrev pub AreTold : Option Texts → Type 0
@@ -16,3 +18,18 @@ Says (Some texts) name P = (text : List ℕ) × (texts name ≡ Some text) × P 
 pub record IsReadInto (buffer : List ℕ) (n : ℕ) (text : List ℕ) : Type 0 where
   pub front : take n buffer ≡ take n text
   pub whole : n < length buffer → take n buffer ≡ text
+
+-- the bytes of a text in memory
+abbrev pub text_of : Vec ℕ Global → List ℕ
+text_of v = v.items
+
+-- these bytes are within their limit, and, where the texts are told, the text of this name
+pub record IsTextOf (texts : Option Texts) (name bytes : List ℕ) : Type 0 where
+  pub short : length bytes ≤ MOST_BYTES
+  pub says : Says texts name (λ text. text ≡ bytes)
+
+-- the first of these names have these texts
+abbrev pub AreFirstTexts : Option Texts → List (List ℕ) → List (List ℕ) → Type 0
+AreFirstTexts texts names [] = ⊤
+AreFirstTexts texts [] (bytes ∷ more) = ⊥
+AreFirstTexts texts (name ∷ names) (bytes ∷ more) = IsTextOf texts name bytes × AreFirstTexts texts names more

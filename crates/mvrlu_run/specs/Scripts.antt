@@ -1,6 +1,7 @@
 -- The scripts of several files, and where reading them stops.
 use Rattle.std.specs.Prelude.{◌≡◌, ◌≤◌, ◌<◌, ℕ, List, [], ◌∷◌, length, take, slice_get, Option, Some, Result, Ok, Err, Bool}
 use Rattle.std.specs.Prelude.{IsTrue, All, ⊤}
+use Rattle.std.specs.List.{AllZip}
 use Rattle.grow_hash.specs.GrowPlans.{IsOfGrown}
 use Rattle.grow_script.specs.GrowGrammar.{parsed_grow}
 use Rattle.run_outside.specs.Outside.{Texts, Rose, HasText}
@@ -24,6 +25,15 @@ IsLong text = MOST_BYTES < length text
 
 -- A grammar says what each text is: a script, or one with a first faulty line and what is wrong with it.
 module _ {A K : Type 0} (grammar : List ℕ → Result A (ℕ × K)) where
+  -- the text is this script
+  abbrev pub Parses : List ℕ → A → Type 0
+  Parses text script = grammar text ≡ Ok script
+
+  -- what a call that parses the text may answer: its script, or why it has none
+  abbrev pub Answers : {S E : Type 0} → (S → A) → (Result A (ℕ × K) → E → Type 0) → List ℕ → Result S E → Type 0
+  Answers of refuses text (Ok script) = Parses text (of script)
+  Answers of refuses text (Err fault) = refuses (grammar text) fault
+
   -- The text is this script, within the limits.
   pub record IsScript (text : List ℕ) (script : A) : Type 0 where
     pub short : length text ≤ MOST_BYTES
@@ -51,6 +61,14 @@ module _ {A K : Type 0} (grammar : List ℕ → Result A (ℕ × K)) where
   pub record StopsAt (texts : Option Texts) (names : List (List ℕ)) (place : ℕ) (P : List ℕ → Type 0) : Type 0 where
     pub reaches : Reaches texts names place
     pub says : Says texts reaches.name P
+
+  -- Of these texts, the one of this place has this first faulty line, and those before it are scripts.
+  pub record IsFirstRefused (texts : List (List ℕ)) (place line : ℕ) (kind : K) : Type 0 where
+    pub text : List ℕ
+    pub placed : slice_get texts place ≡ Some text
+    pub fault : grammar text ≡ Err (line, kind)
+    pub before : List A
+    pub scripts : AllZip Parses (take place texts) before
 
 -- what a script of commands is in this grammar
 abbrev pub parsed_by : Grammar → List ℕ → Result (List Command) (ℕ × FaultKind)
@@ -88,16 +106,32 @@ grammar_of (commands grammar) = parsed_by grammar
 grammar_of blocks = parsed_blocks
 grammar_of plans = planned
 
+-- why the file of this place has no text within the limit, where its name is given and it is read from some count of faults on
+abbrev pub NoText : Finish → ℕ → Option Texts → List ℕ → ℕ → ℕ → Type 0
+NoText (Bytes script) place texts name faults now = (script ≡ place) × Says texts name IsLong
+NoText (Read script) place texts name faults now = (script ≡ place) × Rose faults now
+NoText Memory place texts name faults now = ⊤
+NoText _ place texts name faults now = ⊥
+
+-- why there is no text of the file of this place among these names
+abbrev pub HasNoText : Finish → ℕ → Option Texts → List (List ℕ) → ℕ → ℕ → Type 0
+HasNoText Memory place texts names faults now = ⊤
+HasNoText finish place texts names faults now = (name : List ℕ) × (slice_get names place ≡ Some name) × NoText finish place texts name faults now
+
 -- why the file of this place is refused, where its name is given and its text is read from some count of faults on
 abbrev pub OneStop : Finish → Reading → ℕ → Option Texts → List ℕ → ℕ → ℕ → Type 0
 OneStop (Script script line kind) (commands grammar) place texts name faults now =
     (script ≡ place) × Says texts name (IsRefused (parsed_by grammar) line kind)
 OneStop (BlockScript script line kind) blocks place texts name faults now = (script ≡ place) × Says texts name (IsRefused parsed_blocks line kind)
 OneStop (Plan script line kind) plans place texts name faults now = (script ≡ place) × Says texts name (IsRefused planned line kind)
-OneStop (Bytes script) reading place texts name faults now = (script ≡ place) × Says texts name IsLong
-OneStop (Read script) reading place texts name faults now = (script ≡ place) × Rose faults now
-OneStop Memory reading place texts name faults now = ⊤
-OneStop _ _ place texts name faults now = ⊥
+OneStop finish reading place texts name faults now = NoText finish place texts name faults now
+
+-- why these texts are refused, which are read so: the first that is no script
+abbrev pub NoScripts : Finish → Reading → List (List ℕ) → Type 0
+NoScripts (Script script line kind) (commands grammar) texts = IsFirstRefused (parsed_by grammar) texts script line kind
+NoScripts (BlockScript script line kind) blocks texts = IsFirstRefused parsed_blocks texts script line kind
+NoScripts Memory reading texts = ⊤
+NoScripts _ _ texts = ⊥
 
 -- Why reading the files of these names stops, from some count of faults on: at the first that has no script within the limits.
 abbrev pub AnyStop : Finish → Reading → Option Texts → List (List ℕ) → ℕ → ℕ → Type 0

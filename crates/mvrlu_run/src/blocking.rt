@@ -60,7 +60,7 @@ pub fn make_blocks<R: Threads + Wait + Sync, F: Files, G: Gate>(
         (λ finish. AnyStop finish by_block (F.texts files.old) (map string_bytes names.now) (F.faults files.old) (F.faults files.new)) }
     ensures steady { IfErr result (λ finish. NoneFails finish (F.steady files.old) (F.texts files.old) (map string_bytes names.now)) }
 {
-    let scripts = match read_block_scripts(alloc, files, names) {
+    let scripts = match read_block_scripts(rt, alloc, files, names) {
         Ok(scripts) => scripts,
         Err(finish) => return Err(finish),
     };

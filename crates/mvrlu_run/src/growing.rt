@@ -68,7 +68,7 @@ pub fn make_grown<R: Threads + Wait + Sync, F: Files, G: Gate>(
         (λ finish. AnyStop finish (by_command grammars.Growing) (F.texts files.old) (map string_bytes names.now) (F.faults files.old) (F.faults files.new)) }
     ensures steady { IfErr result (λ finish. NoneFails finish (F.steady files.old) (F.texts files.old) (map string_bytes names.now)) }
 {
-    let scripts = match read_scripts(alloc, files, names, Grammar::Growing) {
+    let scripts = match read_scripts(rt, alloc, files, names, Grammar::Growing) {
         Ok(scripts) => scripts,
         Err(finish) => return Err(finish),
     };

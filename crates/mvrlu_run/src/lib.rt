@@ -28,6 +28,9 @@
 //! each second add of its script that replied yes, ahead of its next line. The text has a line on the buckets and the
 //! splits ahead of the tables (`IsGrownText` in `specs/GrownRuns.antt`, and `GrowRunOf` of `grow_report`).
 //!
+//! The bytes of the files are read one after another, and then each file's are parsed in a thread of its own where one can
+//! be made. The answer is decided by the results in the order of the files, so it is that of the first faulty file.
+//!
 //! A replay runs no domain: with status 0 the output grew by exactly `text_of_plan`, a function of the plan that the file's
 //! bytes are.
 //!
@@ -49,6 +52,7 @@ mod finish;
 mod generated;
 mod growing;
 mod line;
+mod parsing;
 mod pooling;
 mod program;
 mod reading;

@@ -1,9 +1,98 @@
-// Reading a file into a buffer.
-ghost use Rattle.std.specs.Prelude.{◌≡◌, ◌≤◌, ◌<◌, length, IfOk, IsOk, IsTrue};
+// Reading the texts of files.
+ghost use Rattle.std.specs.Prelude.{◌≡◌, ◌≤◌, ◌<◌, ◌+◌, [], length, map, string_bytes, All, IfErr, IfOk, IsOk, IsTrue, MatchResult};
 ghost use Rattle.run_outside.specs.Outside.{HasCause, HasText};
-ghost use Rattle.mvrlu_run.specs.Reading.{Says, IsReadInto};
+ghost use Rattle.mvrlu_run.specs.Reading.{AreFirstTexts, IsReadInto, IsTextOf, Says, text_of};
+ghost use Rattle.mvrlu_run.specs.Scripts.{HasNoText, NoText, NoneFails, NotRead};
 
+use crate::finish::{Finish, MOST_BYTES};
 use run_outside::{Failed, Files};
+use std::alloc::{AllocError, Global};
+
+/// Reads the texts of the files of these names, one after another. An error is the first reason why one has none within
+/// the limit: it can't be opened or read, has too many bytes, or there is no memory. Then the texts are those of the files
+/// before it.
+pub fn read_texts<F: Files>(
+    alloc: Global,
+    files: &mut F,
+    names: &[String],
+    texts: &mut Vec<Vec<u8>>,
+) -> Result<(), Finish>
+    requires none { texts.old.items ≡ [] }
+    requires few { length names.now ≤ 64 }
+    ensures texts { AreFirstTexts (F.texts files.old) (map string_bytes names.now) (map text_of texts.new.items) }
+    ensures all { IfOk result (λ _. length texts.new.items ≡ length names.now) }
+    ensures few { length texts.new.items ≤ length names.now }
+    ensures stop { IfErr result (λ finish.
+        HasNoText finish (length texts.new.items) (F.texts files.old) (map string_bytes names.now) (F.faults files.old) (F.faults files.new)) }
+    ensures steady { IfErr result (λ finish. NoneFails finish (F.steady files.old) (F.texts files.old) (map string_bytes names.now)) }
+    ensures short { All (λ text. length text.items ≤ MOST_BYTES) texts.new.items }
+    ensures later { F.faults files.old ≤ F.faults files.new }
+{
+    let Ok(mut buffer) = zeros(alloc, MOST_BYTES + 1) else {
+        return Err(Finish::Memory);
+    };
+    read_each(alloc, files, names, &mut buffer, texts)
+}
+
+// The same, with a buffer in which each text is read.
+fn read_each<F: Files>(
+    alloc: Global,
+    files: &mut F,
+    names: &[String],
+    buffer: &mut [u8],
+    texts: &mut Vec<Vec<u8>>,
+) -> Result<(), Finish>
+    requires room { length buffer.old ≡ MOST_BYTES + 1 }
+    requires none { texts.old.items ≡ [] }
+    requires few { length names.now ≤ 64 }
+    ensures texts { AreFirstTexts (F.texts files.old) (map string_bytes names.now) (map text_of texts.new.items) }
+    ensures all { IfOk result (λ _. length texts.new.items ≡ length names.now) }
+    ensures few { length texts.new.items ≤ length names.now }
+    ensures stop { IfErr result (λ finish.
+        HasNoText finish (length texts.new.items) (F.texts files.old) (map string_bytes names.now) (F.faults files.old) (F.faults files.new)) }
+    ensures steady { IfErr result (λ finish. NoneFails finish (F.steady files.old) (F.texts files.old) (map string_bytes names.now)) }
+    ensures short { All (λ text. length text.items ≤ MOST_BYTES) texts.new.items }
+    ensures later { F.faults files.old ≤ F.faults files.new }
+{
+    for name in names {
+        match copy_text(alloc, files, name.as_str(), texts.len() as u32, buffer) {
+            Ok(text) => match texts.push(text) {
+                Ok(()) => {}
+                Err(_) => return Err(Finish::Memory),
+            },
+            Err(finish) => return Err(finish),
+        }
+    }
+    Ok(())
+}
+
+// The text of one file, whose number is given, in memory of its own.
+fn copy_text<F: Files>(
+    alloc: Global,
+    files: &mut F,
+    name: &str,
+    script: u32,
+    buffer: &mut [u8],
+) -> Result<Vec<u8>, Finish>
+    requires { length buffer.old ≡ MOST_BYTES + 1 }
+    ensures stop { MatchResult result (λ text. IsTextOf (F.texts files.old) name.now text.items)
+        (λ finish. NoText finish script (F.texts files.old) name.now (F.faults files.old) (F.faults files.new)) }
+    ensures steady { IfErr result (λ finish. NotRead finish (F.steady files.old) (F.texts files.old) name.now) }
+    ensures texts { F.texts files.new ≡ F.texts files.old }
+    ensures still { F.steady files.new ≡ F.steady files.old }
+    ensures later { F.faults files.old ≤ F.faults files.new }
+{
+    let Ok(count) = read_text(files, name, buffer) else {
+        return Err(Finish::Read { script });
+    };
+    if count > MOST_BYTES {
+        return Err(Finish::Bytes { script });
+    }
+    match Vec::from_slice(alloc, &buffer[..count]) {
+        Ok(text) => Ok(text),
+        Err(AllocError) => Err(Finish::Memory),
+    }
+}
 
 /// Reads the text of this name, as far as the buffer goes.
 pub fn read_text<F: Files>(files: &mut F, name: &str, buffer: &mut [u8]) -> Result<usize, Failed>
@@ -24,4 +113,11 @@ pub fn read_text<F: Files>(files: &mut F, name: &str, buffer: &mut [u8]) -> Resu
         count += got;
     }
     Ok(count)
+}
+
+/// A buffer of zeros. The length is a variable here, since a proof would compute a list of a literal length.
+pub fn zeros(alloc: Global, count: usize) -> Result<Vec<u8>, AllocError>
+    ensures { IfOk result (λ buffer. length buffer.items ≡ count) }
+{
+    vec![in alloc; 0u8; count]
 }

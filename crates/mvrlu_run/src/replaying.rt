@@ -8,8 +8,7 @@ ghost use Rattle.mvrlu_run.specs.Scripts.{AnyStop, IsScript, NoneFails, NotRead,
 ghost use Rattle.mvrlu_run.specs.Told.{IsTextFor};
 
 use crate::finish::{Closed, Finish, MOST_BYTES};
-use crate::reading::read_text;
-use crate::scripts::zeros;
+use crate::reading::{read_text, zeros};
 use crate::texts::Made;
 use run_outside::Files;
 use std::alloc::{AllocError, Global};

@@ -94,7 +94,7 @@ fn make_run<R: Threads + Wait + Sync, F: Files, G: Gate>(
         (λ finish. AnyStop finish (by_command Sets) (F.texts files.old) (map string_bytes names.now) (F.faults files.old) (F.faults files.new)) }
     ensures steady { IfErr result (λ finish. NoneFails finish (F.steady files.old) (F.texts files.old) (map string_bytes names.now)) }
 {
-    let scripts = match read_scripts(alloc, files, names, Grammar::Sets) {
+    let scripts = match read_scripts(rt, alloc, files, names, Grammar::Sets) {
         Ok(scripts) => scripts,
         Err(finish) => return Err(finish),
     };

@@ -74,7 +74,7 @@ module _ (words : List (List ℕ)) (old new : Outside) where
   })
 
   printed : (f : Finish) (names : List (List ℕ)) → AskedCause f (replay names) old new → status_of f ≡ 0 → IsReplayPrinted names old new (closed_of f)
-  printed (Done closed) names d nought = (d.1.0, d.1.1, d.1.2, subst (Appends old.out new.out) d.1.3 d.2)
+  printed (Done closed) names d nought = (d.1.0, d.1.1, d.1.2, subst (Appends old.out new.out) d.1.3 d.2, d.1.4)
   printed Usage names d nought = absurd d.1
   printed (Limit limit) names d nought = absurd d.1
   printed (Script script line kind) names d nought = absurd d.1

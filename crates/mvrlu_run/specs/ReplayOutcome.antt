@@ -4,6 +4,7 @@ use Rattle.std.specs.Io.KnownBytes.{Appends}
 use Rattle.run_outside.specs.Outside.{Rose}
 use Rattle.run_words.specs.Words.{asked, replay}
 use Rattle.step_replay.specs.Plans.{PlanOf, planned}
+use Rattle.step_replay.specs.RuledRuns.{IsRuledPlan}
 use Rattle.step_replay.specs.Runs.{text_of_plan}
 use Rattle.step_replay.specs.declared.plan.PlanKind.{PlanKind}
 use Rattle.mvrlu_run.specs.declared.finish.Closed.{Closed}
@@ -13,10 +14,12 @@ use Rattle.mvrlu_run.specs.Reading.{AreTold}
 use Rattle.mvrlu_run.specs.Scripts.{AllScripts, StopsAt, IsRefused, IsLong}
 use Rattle.mvrlu_run.specs.Status.{plan_fault_status}
 
--- What a replay with status 0 prints: the text of the plan of its file, which is a function of the plan alone. No domain is left.
+-- What a replay with status 0 prints: the text of the plan of its file, which is a function of the plan alone. The plan's turns make the steps of
+-- the core alone, in the order of its schedule, at states of the core's rule. No domain is left.
 abbrev pub IsReplayPrinted : List (List ℕ) → Outside → Outside → Closed → Type 0
 IsReplayPrinted names old new closed =
     (closed ≡ No) × (plan : PlanOf) × AllScripts planned old.texts names (plan ∷ []) × Appends old.out new.out (text_of_plan plan)
+    × IsRuledPlan plan
 
 -- What a replay is sure to answer where the text of its file is told and no call of the files failed, but for want of memory.
 pub record IsReplayComplete (words : List (List ℕ)) (old new : Outside) (status : ℕ) : Type 0 where

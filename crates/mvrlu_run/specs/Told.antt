@@ -32,6 +32,7 @@ use Rattle.mvrlu_run.specs.GrownRuns.{IsGrownText}
 use Rattle.mvrlu_run.specs.Pooled.{IsPoolText}
 use Rattle.mvrlu_run.specs.Scripts.{AllScripts, Reading, commands, blocks, plans}
 use Rattle.step_replay.specs.Plans.{PlanOf, planned}
+use Rattle.step_replay.specs.RuledRuns.{IsRuledPlan}
 use Rattle.step_replay.specs.Runs.{text_of_plan}
 
 -- The scripts were run over the domain that is left, which was opened with so many objects, all zero, and this time of the
@@ -85,7 +86,8 @@ IsTextFor (pool seats names) texts closed text =
 IsTextFor (grow names) texts closed text =
     (scripts : List (List Command)) × AllScripts parsed_grow texts names scripts × (closing : Closing GrowRules) × (closed ≡ Grown closing)
     × IsGrownText scripts closing text
-IsTextFor (replay names) texts closed text = (closed ≡ No) × (plan : PlanOf) × AllScripts planned texts names (plan ∷ []) × (text ≡ text_of_plan plan)
+IsTextFor (replay names) texts closed text =
+    (closed ≡ No) × (plan : PlanOf) × AllScripts planned texts names (plan ∷ []) × (text ≡ text_of_plan plan) × IsRuledPlan plan
 
 -- the files that are to be read
 abbrev pub files_of : Asks → List (List ℕ)

@@ -17,4 +17,4 @@ returns-clause-made g c =
     let plan = plan_of c.in-Ok.plan in
     let only = only_one string_bytes c.args.names.now c.index-names-0.result c.requires.one c.index-names-0.is in
     let all = subst (λ names. AllScripts planned (g.F.Files.texts c.args.files.now) names (plan ∷ [])) (sym only) (says, tt) in
-    (refl, plan, all, c.in-Ok-replay.ensures.exact)
+    (refl, plan, all, c.in-Ok-replay.ensures.exact, c.in-Ok-replay.ensures.ruled)

@@ -168,7 +168,8 @@ module _ (c : Config) (v0 v : View) (made : List Step) (log : List Version) (fre
       }
 
   -- of those before it nothing changes where something is noted of it
-  pub tried_noted : (seat : Option ℕ) → KnowsUntimed c v0 v made log freed at first → KnowsUntimed c v0 v made (edited_from (AboveNoted at seat) 0 log) freed at first
+  pub tried_noted : (seat : Option ℕ) → KnowsUntimed c v0 v made log freed at first
+      → KnowsUntimed c v0 v made (edited_from (AboveNoted at seat) 0 log) freed at first
   tried_noted seat k =
       let long = edited_long (AboveNoted at seat) 0 log in
       record {

@@ -1,46 +1,55 @@
 // What fails outside, and what is wrong with a script.
-use crate::row::{PLAIN, REFUSED, Row, run_row};
+use crate::row::{PLAIN, REFUSED, Row, run_row, run_rows};
 use std::test::Fail;
+
+// A run of a file that isn't there.
+const NO_TEXT: Row<'static> = Row {
+    name: "no text of the name",
+    words: &["run", "b"],
+    status: 5,
+    out: b"",
+    err: b"read fault: script 0\n",
+    ..PLAIN
+};
+
+// Calls of the outside that fail.
+const FAILING: [Row<'static>; 4] = [
+    NO_TEXT,
+    Row {
+        name: "no text of the second name",
+        words: &["run", "a", "b"],
+        err: b"read fault: script 1\n",
+        ..NO_TEXT
+    },
+    Row {
+        name: "the second write of four bytes fails",
+        out_fails: &[2],
+        most: 4,
+        status: 6,
+        out: b"0.1 ",
+        err: b"write fault\n",
+        ..PLAIN
+    },
+    Row {
+        name: "standard error fails",
+        script: b"add l0 4294967296\n",
+        err_fails: &[1],
+        ..REFUSED
+    },
+];
 
 #[test]
 fn each_failing_call_has_its_status(rt: HostRuntime) -> Result<(), Fail> {
-    let read = Row {
-        name: "no text of the name",
-        words: &["run", "b"],
-        status: 5,
-        out: b"",
-        err: b"read fault: script 0\n",
-        ..PLAIN
-    };
-    let rows = [
-        read,
-        Row {
-            name: "no text of the second name",
-            words: &["run", "a", "b"],
-            err: b"read fault: script 1\n",
-            ..read
-        },
-        Row {
-            name: "the second write of four bytes fails",
-            out_fails: &[2],
-            most: 4,
-            status: 6,
-            out: b"0.1 ",
-            err: b"write fault\n",
-            ..PLAIN
-        },
-        Row {
-            name: "standard error fails",
-            script: b"add l0 4294967296\n",
-            err_fails: &[1],
-            ..REFUSED
-        },
-    ];
-    for row in &rows {
-        run_row(&rt, rt.alloc(), row)?;
-    }
-    Ok(())
+    run_rows(&rt, rt.alloc(), &FAILING)
 }
+
+// A read that would fail, and isn't made.
+const ALL_READ: Row<'static> = Row {
+    name: "a read that isn't made",
+    file_fails: &[21],
+    most: 1,
+    ..PLAIN
+};
 
 #[test]
 fn a_failing_read_is_status_5(rt: HostRuntime) -> Result<(), Fail> {
@@ -57,14 +66,16 @@ fn a_failing_read_is_status_5(rt: HostRuntime) -> Result<(), Fail> {
         };
         run_row(&rt, rt.alloc(), &row)?;
     }
-    let row = Row {
-        name: "a read that isn't made",
-        file_fails: &[21],
-        most: 1,
-        ..PLAIN
-    };
-    run_row(&rt, rt.alloc(), &row)
+    run_row(&rt, rt.alloc(), &ALL_READ)
 }
+
+// A write that would fail, and isn't made.
+const ALL_WRITTEN: Row<'static> = Row {
+    name: "a write that isn't made",
+    out_fails: &[83],
+    most: 1,
+    ..PLAIN
+};
 
 #[test]
 fn a_failing_write_is_status_6(rt: HostRuntime) -> Result<(), Fail> {
@@ -80,13 +91,7 @@ fn a_failing_write_is_status_6(rt: HostRuntime) -> Result<(), Fail> {
         };
         run_row(&rt, rt.alloc(), &row)?;
     }
-    let row = Row {
-        name: "a write that isn't made",
-        out_fails: &[83],
-        most: 1,
-        ..PLAIN
-    };
-    run_row(&rt, rt.alloc(), &row)
+    run_row(&rt, rt.alloc(), &ALL_WRITTEN)
 }
 
 // What is wrong with a script, the script, and the line on standard error.

@@ -273,7 +273,7 @@ const ROWS: [Row; 13] = [
 
 #[test]
 fn commands_and_splits_by_one_seat(rt: HostRuntime) -> Result<(), Fail> {
-    for row in ROWS {
+    for row in &ROWS {
         assert!(rt; 1025 < row.objects && row.objects < 65536);
         let time = play_alone(&rt, rt.alloc(), row.objects, row.base, row.steps, row.lists)?;
         assert_eq!(rt; time, row.time.unwrap_or(time), "{}", row.name);

@@ -41,7 +41,7 @@ const OUT_OF_FORM: [&[&str]; 27] = [
 
 #[test]
 fn words_out_of_form_show_the_usage(rt: HostRuntime) -> Result<(), Fail> {
-    for words in OUT_OF_FORM {
+    for words in &OUT_OF_FORM {
         let row = Row {
             name: "out of form",
             words,

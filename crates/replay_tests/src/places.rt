@@ -165,8 +165,8 @@ const CONFIGS: [(Config, Result<(), ConfigFault>); 22] = [
 
 #[test]
 fn set_full_and_config(rt: HostRuntime) -> Result<(), Fail> {
-    for (row, (config, answer)) in CONFIGS.into_iter().enumerate() {
-        assert_eq!(rt; config.check(), answer, "row {row}");
+    for (row, (config, answer)) in CONFIGS.iter().enumerate() {
+        assert_eq!(rt; config.check(), *answer, "row {row}");
     }
     Ok(())
 }

@@ -30,4 +30,4 @@ mod sends;
 #[cfg(test)]
 pub use moves::{Answer, Move};
 #[cfg(test)]
-pub use playing::{Otherwise, SMALL, Schedule, Turn, played};
+pub use playing::{Otherwise, SMALL, Schedule, Turn, play_schedules, played};

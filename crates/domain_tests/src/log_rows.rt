@@ -2,7 +2,7 @@
 use crate::moves::Answer::{Aborted, Counts, Done, Entered, Left, Room, Tidied, Tried};
 use crate::moves::Move::{Abort, Commit, Enter, Leave, Lock, Prepare, Table, Tidy};
 use crate::playing::Turn;
-use crate::{SMALL, Schedule, played};
+use crate::{SMALL, Schedule, play_schedules};
 use mv_history::Holder::{Above, Mark};
 use mv_history::LockAnswer::{Held, LogFull};
 use mv_history::LogTable;
@@ -131,9 +131,5 @@ const SCHEDULES: [Schedule; 3] = [
 
 #[test]
 fn logs_are_reclaimed(rt: HostRuntime) -> Result<(), Fail> {
-    for schedule in SCHEDULES {
-        let name = schedule.name;
-        assert_eq!(rt; played(rt.alloc(), &schedule)?, None, "{name}");
-    }
-    Ok(())
+    play_schedules(&rt, rt.alloc(), &SCHEDULES)
 }

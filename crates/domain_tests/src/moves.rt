@@ -12,7 +12,7 @@ use mv_history::{
 use mvrlu::{Handle, Session};
 
 /// A call of a handle or of a session.
-#[derive(Clone, Copy, Debug, PartialEq, Eq)]
+#[derive(Clone, Copy)]
 pub enum Move {
     /// Of a handle: they are made outside a section.
     Enter,

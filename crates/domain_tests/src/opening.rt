@@ -57,48 +57,50 @@ fn new_seats_meet(rt: HostRuntime) -> Result<(), Fail> {
     Ok(())
 }
 
+// Numbers, and what is wrong with them.
+const NUMBERS: [(Config, Option<ConfigFault>); 9] = [
+    (GOOD, None),
+    (Config { seats: 1, ..GOOD }, None),
+    (Config { seats: 0, ..GOOD }, Some(ConfigFault::Seats)),
+    (
+        Config {
+            seats: 65,
+            slots: 1,
+            ..GOOD
+        },
+        Some(ConfigFault::Seats),
+    ),
+    (Config { slots: 63, ..GOOD }, Some(ConfigFault::Slots)),
+    (
+        Config {
+            write_max: 0,
+            low: 0,
+            ..GOOD
+        },
+        Some(ConfigFault::WriteMax),
+    ),
+    (Config { low: 0, ..GOOD }, Some(ConfigFault::Marks)),
+    (Config { high: 49, ..GOOD }, Some(ConfigFault::Marks)),
+    (
+        Config {
+            base: mv_layout::LAST + 1,
+            ..GOOD
+        },
+        Some(ConfigFault::Base),
+    ),
+];
+
 #[test]
 fn first_fault_of_the_numbers(rt: HostRuntime) -> Result<(), Fail> {
     let start = [[0; 6]; 2];
-    let rows = [
-        (GOOD, None),
-        (Config { seats: 1, ..GOOD }, None),
-        (Config { seats: 0, ..GOOD }, Some(ConfigFault::Seats)),
-        (
-            Config {
-                seats: 65,
-                slots: 1,
-                ..GOOD
-            },
-            Some(ConfigFault::Seats),
-        ),
-        (Config { slots: 63, ..GOOD }, Some(ConfigFault::Slots)),
-        (
-            Config {
-                write_max: 0,
-                low: 0,
-                ..GOOD
-            },
-            Some(ConfigFault::WriteMax),
-        ),
-        (Config { low: 0, ..GOOD }, Some(ConfigFault::Marks)),
-        (Config { high: 49, ..GOOD }, Some(ConfigFault::Marks)),
-        (
-            Config {
-                base: mv_layout::LAST + 1,
-                ..GOOD
-            },
-            Some(ConfigFault::Base),
-        ),
-    ];
     // Each row has as many objects as the opening state.
-    for (config, fault) in rows {
+    for (config, fault) in &NUMBERS {
         assert_eq!(rt;
             fault_of(
                 rt.alloc(),
                 Config {
                     objects: 2,
-                    ..config
+                    ..*config
                 },
                 &start
             ),

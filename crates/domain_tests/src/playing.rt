@@ -10,13 +10,15 @@ use mv_history::{AnyRules, View, Words};
 use mv_layout::Config;
 use mvrlu::{Closing, Domain, OpenFault, Seat, open};
 use std::alloc::{AllocError, Global};
+use std::process::Abort;
+use std::test::Fail;
 
 /// A turn of a schedule: the number of a seat, its move, and the answer that is wanted.
 pub type Turn = (usize, Move, Answer);
 
 /// A schedule of one thread in a new domain whose objects are all zeros: its turns, and the closing that is
 /// wanted then.
-#[derive(Clone, Copy, Debug, PartialEq, Eq)]
+#[derive(Clone, Copy)]
 pub struct Schedule<'a> {
     /// What it shows.
     pub name: &'a str,
@@ -179,4 +181,16 @@ pub fn played(alloc: Global, schedule: &Schedule) -> Result<Option<Otherwise>, O
     let (seats, otherwise) = play_all(&domain, seats, clients, schedule);
     let closed = closed_otherwise(domain.meet(seats), schedule.closing);
     Ok(otherwise.or(closed))
+}
+
+/// Plays schedules. Every turn of each is to be answered as wanted.
+pub fn play_schedules(
+    rt: &impl Abort,
+    alloc: Global,
+    schedules: &[Schedule<'_>],
+) -> Result<(), Fail> {
+    for schedule in schedules {
+        assert_eq!(rt; played(alloc, schedule)?, None, "{}", schedule.name);
+    }
+    Ok(())
 }

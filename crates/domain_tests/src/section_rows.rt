@@ -3,7 +3,7 @@ use crate::moves::Answer::{
     Aborted, Counts, Done, End, Entered, Left, Tidied, Tried, Words, Written,
 };
 use crate::moves::Move::{Abort, Commit, Enter, Leave, Lock, Read, Table, Tidy, Write};
-use crate::{SMALL, Schedule, played};
+use crate::{SMALL, Schedule, play_schedules};
 use mv_history::LockAnswer::{Busy, Held, SetFull, Stale};
 use mv_history::{Holder, LogTable};
 use mv_layout::{Config, LAST};
@@ -192,9 +192,5 @@ const SCHEDULES: [Schedule; 7] = [
 
 #[test]
 fn sections_meet(rt: HostRuntime) -> Result<(), Fail> {
-    for schedule in SCHEDULES {
-        let name = schedule.name;
-        assert_eq!(rt; played(rt.alloc(), &schedule)?, None, "{name}");
-    }
-    Ok(())
+    play_schedules(&rt, rt.alloc(), &SCHEDULES)
 }

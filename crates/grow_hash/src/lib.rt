@@ -71,11 +71,7 @@ mod laws;
 mod reading;
 mod rules;
 mod search;
-#[cfg(test)]
-mod split_tests;
 mod table;
-#[cfg(test)]
-mod tests;
 
 pub use answer::Split;
 pub use attempt::GrowStep;

@@ -6,10 +6,27 @@ ghost use Rattle.mvrlu.specs.Orders.{AreRising};
 use crate::opening::{numbers, open_grown};
 use crate::steps::{Step, play};
 use grow_hash::GrowRules;
+use mv_history::View;
 use mvrlu::{Domain, Seat};
 use std::alloc::{AllocError, Global};
 use std::process::Abort;
 use std::test::*;
+
+// The head of a bucket, and the keys of its list, in their order.
+pub(crate) type List = (u32, &'static [u64]);
+
+// Looks that the list has exactly nodes with its keys.
+fn expect_list<V: View>(rt: &impl Abort, view: &mut V, head: u32, keys: &[u64]) {
+    assert!(rt; head < view.objects());
+    let mut words = view.read(head);
+    for key in keys {
+        let node = words[3];
+        assert!(rt; node < view.objects() as u64);
+        words = view.read(node as u32);
+        assert_eq!(rt; words, [head as u64 + 1, 0, *key, words[3], 0, 0]);
+    }
+    assert_eq!(rt; words[3], 0);
+}
 
 // Lets the one seat of a domain make the steps.
 fn play_seat(
@@ -33,20 +50,25 @@ fn play_seat(
     (seats, played)
 }
 
-// Makes the steps in a new domain of one seat and so many objects, whose times begin at this one. The time is that of its closing.
+// Makes the steps in a new domain of one seat and so many objects, whose times begin at this one, and looks at
+// these lists of its closing. The time is that of the closing.
 pub(crate) fn play_alone(
     rt: &impl Abort,
     alloc: Global,
     objects: u32,
     base: u64,
     steps: &[Step],
+    lists: &[List],
 ) -> Result<u64, Fail>
     requires some { 1025 < objects }
     requires few { objects < 65536 }
 {
     let (domain, seats) = open_grown(alloc, numbers(objects, base))?;
     let (seats, played) = play_seat(rt, alloc, &domain, seats, steps);
-    let closing = domain.meet(seats);
+    let mut closing = domain.meet(seats);
     played?;
+    for (head, keys) in lists {
+        expect_list(rt, &mut closing, *head, keys);
+    }
     Ok(closing.time())
 }

@@ -1,5 +1,5 @@
-// Rows of one seat: splits by their answers, and the commands around them.
-use crate::alone::play_alone;
+// Rows of one seat: commands, splits by their answers, and the commands around them.
+use crate::alone::{List, play_alone};
 use crate::steps::Ask::{Add, Del, Has, Next, Size};
 use crate::steps::Step::{Adds, Does, Finds, Holds, Splits, Tries};
 use crate::steps::{Keys, Step};
@@ -9,7 +9,7 @@ use set_script::Place::{Commit, Read};
 use set_script::Reply;
 use std::test::*;
 
-// What is played, and the time of the closing that is wanted, where the rests that make room are known.
+// What is played, and what is wanted of the closing: its time, where the rests that make room are known, and some of its lists.
 #[derive(Clone, Copy)]
 struct Row {
     name: &'static str,
@@ -17,6 +17,7 @@ struct Row {
     base: u64,
     steps: &'static [Step],
     time: Option<u64>,
+    lists: &'static [List],
 }
 
 // All of one bucket at each level.
@@ -35,7 +36,104 @@ const SPREAD: Keys = Keys {
     count: 64,
 };
 
-const ROWS: [Row; 7] = [
+const ROWS: [Row; 13] = [
+    Row {
+        name: "next and size go over the buckets",
+        objects: 4096,
+        base: 0,
+        steps: &[
+            Does(Add(17), Reply::Yes, Commit(1)),
+            Does(Add(2), Reply::Yes, Commit(2)),
+            Does(Next(3), Reply::Key { key: 17 }, Read(2)),
+            Does(Next(18), Reply::NoKey, Read(2)),
+            Does(Size, Reply::Count { count: 2 }, Read(2)),
+        ],
+        time: Some(2),
+        lists: &[],
+    },
+    Row {
+        name: "keys of one bucket, and the greatest key",
+        objects: 4096,
+        base: 0,
+        steps: &[
+            Does(Del(1), Reply::No, Read(0)),
+            Does(Add(17), Reply::Yes, Commit(1)),
+            Does(Add(1), Reply::Yes, Commit(2)),
+            Does(Add(17), Reply::No, Read(2)),
+            Does(Has(33), Reply::No, Read(2)),
+            Does(Add(4294967295), Reply::Yes, Commit(3)),
+            Does(Next(18), Reply::Key { key: 4294967295 }, Read(3)),
+            Does(Del(1), Reply::Yes, Commit(4)),
+            Does(Has(1), Reply::No, Read(4)),
+            Does(Has(17), Reply::Yes, Read(4)),
+            Does(Size, Reply::Count { count: 2 }, Read(4)),
+            Holds(Keys {
+                first: 17,
+                by: 4294967278,
+                count: 2,
+            }),
+        ],
+        time: Some(4),
+        lists: &[],
+    },
+    Row {
+        name: "full where no node is vacant",
+        objects: 1027,
+        base: 0,
+        steps: &[
+            Does(Add(1), Reply::Yes, Commit(1)),
+            Does(Add(2), Reply::Yes, Commit(2)),
+            Does(Add(3), Reply::Full, Read(2)),
+            Does(Add(2), Reply::No, Read(2)),
+            Does(Del(1), Reply::Yes, Commit(3)),
+            Does(Add(3), Reply::Yes, Commit(4)),
+        ],
+        time: Some(4),
+        lists: &[],
+    },
+    Row {
+        name: "replies at the last time",
+        objects: 1027,
+        base: LAST - 1,
+        steps: &[
+            Does(Add(1), Reply::Yes, Commit(LAST)),
+            Does(Add(2), Reply::Worn, Read(LAST)),
+            Does(Del(1), Reply::Worn, Read(LAST)),
+            Does(Add(1), Reply::No, Read(LAST)),
+            Does(Has(1), Reply::Yes, Read(LAST)),
+        ],
+        time: Some(LAST),
+        lists: &[],
+    },
+    Row {
+        name: "full at the last time",
+        objects: 1026,
+        base: LAST - 1,
+        steps: &[
+            Does(Add(1), Reply::Yes, Commit(LAST)),
+            Does(Add(2), Reply::Full, Read(LAST)),
+        ],
+        time: Some(LAST),
+        lists: &[],
+    },
+    Row {
+        name: "a split parts the keys of its bucket",
+        objects: 1100,
+        base: 0,
+        steps: &[
+            Does(Add(48), Reply::Yes, Commit(1)),
+            Does(Add(0), Reply::Yes, Commit(2)),
+            Does(Add(1), Reply::Yes, Commit(3)),
+            Does(Add(32), Reply::Yes, Commit(4)),
+            Does(Add(16), Reply::Yes, Commit(5)),
+            Does(Add(64), Reply::Yes, Commit(6)),
+            Tries(Done { time: 7 }),
+            Finds(0, 1),
+            Does(Size, Reply::Count { count: 6 }, Read(7)),
+        ],
+        time: Some(7),
+        lists: &[(1, &[0, 32, 64]), (2, &[1]), (17, &[16, 48])],
+    },
     Row {
         name: "a bucket of 62 keys is too long, until one is gone",
         objects: 2048,
@@ -54,6 +152,7 @@ const ROWS: [Row; 7] = [
             }),
         ],
         time: Some(64),
+        lists: &[],
     },
     Row {
         name: "a bucket of 61 keys is split, and another add makes it too long",
@@ -71,6 +170,7 @@ const ROWS: [Row; 7] = [
             Holds(LONG),
         ],
         time: Some(78),
+        lists: &[],
     },
     Row {
         name: "16 splits of an empty set make its level 1, and one more its place 1",
@@ -88,6 +188,7 @@ const ROWS: [Row; 7] = [
             Finds(1, 1),
         ],
         time: Some(17),
+        lists: &[],
     },
     Row {
         name: "keys and replies stay where each bucket is split",
@@ -115,6 +216,7 @@ const ROWS: [Row; 7] = [
             }),
         ],
         time: Some(121),
+        lists: &[],
     },
     Row {
         name: "after 1,008 splits all buckets are",
@@ -122,7 +224,15 @@ const ROWS: [Row; 7] = [
         base: 0,
         steps: &[
             Adds(SPREAD, 1),
-            Splits(1007),
+            Splits(48),
+            Finds(2, 0),
+            Splits(64),
+            Finds(3, 0),
+            Splits(128),
+            Finds(4, 0),
+            Splits(256),
+            Finds(5, 0),
+            Splits(511),
             Finds(5, 511),
             Splits(1),
             Finds(6, 0),
@@ -130,6 +240,7 @@ const ROWS: [Row; 7] = [
             Holds(SPREAD),
         ],
         time: None,
+        lists: &[],
     },
     Row {
         name: "none is split at the last time",
@@ -144,6 +255,7 @@ const ROWS: [Row; 7] = [
             Does(Del(7), Reply::Worn, Read(LAST)),
         ],
         time: Some(LAST),
+        lists: &[],
     },
     Row {
         name: "a bucket that is too long is so at the last time too",
@@ -155,14 +267,15 @@ const ROWS: [Row; 7] = [
             Does(Del(0), Reply::Worn, Read(LAST)),
         ],
         time: Some(LAST),
+        lists: &[],
     },
 ];
 
 #[test]
-fn splits_by_one_seat(rt: HostRuntime) -> Result<(), Fail> {
-    for row in ROWS {
+fn commands_and_splits_by_one_seat(rt: HostRuntime) -> Result<(), Fail> {
+    for row in &ROWS {
         assert!(rt; 1025 < row.objects && row.objects < 65536);
-        let time = play_alone(&rt, rt.alloc(), row.objects, row.base, row.steps)?;
+        let time = play_alone(&rt, rt.alloc(), row.objects, row.base, row.steps, row.lists)?;
         assert_eq!(rt; time, row.time.unwrap_or(time), "{}", row.name);
     }
     Ok(())

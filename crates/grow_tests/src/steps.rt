@@ -149,12 +149,13 @@ fn read_all<S: Store<Rules = GrowRules>>(
     (section.leave(), all)
 }
 
-// Looks that the catalogue has exactly these keys in `h0`, and nothing else.
+// Looks that the catalogue has exactly these keys in `h0`, each with the value 0, and nothing else.
 fn expect_keys(rt: &impl Abort, all: &Catalogue, keys: Keys) {
     let found = all.keys(10);
     assert_eq!(rt; found.len(), keys.count as usize);
     for index in 0..keys.count {
         assert_eq!(rt; found.get(index as usize).copied(), Some(keys.at(index)));
+        assert_eq!(rt; all.values(10).get(index as usize).copied(), Some(0));
     }
     for name in 0..30 {
         assert!(rt; name == 10 || all.keys(name).is_empty(), "name {name}");

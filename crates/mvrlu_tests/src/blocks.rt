@@ -1,56 +1,57 @@
 // Scripts of blocks: the text that they give, and what is no script of blocks.
-use crate::row::{PLAIN, Printed, REFUSED, Row, named, owned, print, run_row};
+use crate::row::{PLAIN, Printed, REFUSED, Row, named, owned, print, run_row, run_rows};
 use mvrlu_run::Closed;
 use run_outside::OpenGate;
 use std::test::Fail;
 
+// A run of a script of blocks.
+const BLOCK: Row<'static> = Row {
+    words: &["block", "a"],
+    ..PLAIN
+};
+
+// Blocks that are run.
+const BLOCKS: [Row<'static>; 6] = [
+    Row {
+        name: "a block as one entry",
+        script: b"begin\nadd l0 5\nmove l0 t0 5\npair l0 t0 5\nend\nhas t0 5\n",
+        out: b"0.1 c1 yes\n0.2 c1 yes\n0.3 c1 no yes\n0.4 r1 yes\nt0 5\nlog 0 live 3 freed 0 back 0 commits 1 aborts 0 rests 0\n",
+        ..BLOCK
+    },
+    Row {
+        name: "commands outside blocks",
+        out: b"0.1 c1 yes\n0.2 r1 yes\nl0 5\nlog 0 live 2 freed 0 back 0 commits 1 aborts 0 rests 0\n",
+        ..BLOCK
+    },
+    Row {
+        name: "a block that changes nothing",
+        script: b"begin # two questions\n\nhas l0 1\r\n\tdel l0 1\nend\n",
+        out: b"0.1 r0 no\n0.2 r0 no\nlog 0 live 0 freed 0 back 0 commits 0 aborts 0 rests 0\n",
+        ..BLOCK
+    },
+    Row {
+        name: "a change that is undone",
+        script: b"begin\nadd l0 1\ndel l0 1\nend\n",
+        out: b"0.1 c1 yes\n0.2 c1 yes\nlog 0 live 2 freed 0 back 0 commits 1 aborts 0 rests 0\n",
+        ..BLOCK
+    },
+    Row {
+        name: "a question that holds the head beside an add",
+        script: b"begin\nhas l0 5\nadd l1 1\nend\n",
+        out: b"0.1 c1 no\n0.2 c1 yes\nl1 1\nlog 0 live 3 freed 0 back 0 commits 1 aborts 0 rests 0\n",
+        ..BLOCK
+    },
+    Row {
+        name: "values in a block",
+        script: b"format 2\nbegin\nput l0 5 7\nget l0 5\nend\nsize l0\n",
+        out: b"0.1 c1 yes\n0.2 c1 7\n0.3 r1 1\nl0 5=7\nlog 0 live 2 freed 0 back 0 commits 1 aborts 0 rests 0\n",
+        ..BLOCK
+    },
+];
+
 #[test]
 fn a_block_is_one_entry_or_one_read(rt: HostRuntime) -> Result<(), Fail> {
-    let block = Row {
-        words: &["block", "a"],
-        ..PLAIN
-    };
-    let rows = [
-        Row {
-            name: "a block as one entry",
-            script: b"begin\nadd l0 5\nmove l0 t0 5\npair l0 t0 5\nend\nhas t0 5\n",
-            out: b"0.1 c1 yes\n0.2 c1 yes\n0.3 c1 no yes\n0.4 r1 yes\nt0 5\nlog 0 live 3 freed 0 back 0 commits 1 aborts 0 rests 0\n",
-            ..block
-        },
-        Row {
-            name: "commands outside blocks",
-            out: b"0.1 c1 yes\n0.2 r1 yes\nl0 5\nlog 0 live 2 freed 0 back 0 commits 1 aborts 0 rests 0\n",
-            ..block
-        },
-        Row {
-            name: "a block that changes nothing",
-            script: b"begin # two questions\n\nhas l0 1\r\n\tdel l0 1\nend\n",
-            out: b"0.1 r0 no\n0.2 r0 no\nlog 0 live 0 freed 0 back 0 commits 0 aborts 0 rests 0\n",
-            ..block
-        },
-        Row {
-            name: "a change that is undone",
-            script: b"begin\nadd l0 1\ndel l0 1\nend\n",
-            out: b"0.1 c1 yes\n0.2 c1 yes\nlog 0 live 2 freed 0 back 0 commits 1 aborts 0 rests 0\n",
-            ..block
-        },
-        Row {
-            name: "a question that holds the head beside an add",
-            script: b"begin\nhas l0 5\nadd l1 1\nend\n",
-            out: b"0.1 c1 no\n0.2 c1 yes\nl1 1\nlog 0 live 3 freed 0 back 0 commits 1 aborts 0 rests 0\n",
-            ..block
-        },
-        Row {
-            name: "values in a block",
-            script: b"format 2\nbegin\nput l0 5 7\nget l0 5\nend\nsize l0\n",
-            out: b"0.1 c1 yes\n0.2 c1 7\n0.3 r1 1\nl0 5=7\nlog 0 live 2 freed 0 back 0 commits 1 aborts 0 rests 0\n",
-            ..block
-        },
-    ];
-    for row in &rows {
-        run_row(&rt, rt.alloc(), row)?;
-    }
-    Ok(())
+    run_rows(&rt, rt.alloc(), &BLOCKS)
 }
 
 // A script that is refused, and the line on standard error.
@@ -110,6 +111,14 @@ const BROKEN: [Refused; 15] = [
     ),
 ];
 
+// A block where none may be.
+const OUTSIDE: Row<'static> = Row {
+    name: "a block outside of blocks",
+    script: b"begin\nadd l0 1\nend\n",
+    err: b"script 0 line 1: unknown command\n",
+    ..REFUSED
+};
+
 #[test]
 fn what_is_no_script_of_blocks_is_refused(rt: HostRuntime) -> Result<(), Fail> {
     for (script, err) in &BROKEN {
@@ -122,13 +131,7 @@ fn what_is_no_script_of_blocks_is_refused(rt: HostRuntime) -> Result<(), Fail> {
         };
         run_row(&rt, rt.alloc(), &row)?;
     }
-    let row = Row {
-        name: "a block outside of blocks",
-        script: b"begin\nadd l0 1\nend\n",
-        err: b"script 0 line 1: unknown command\n",
-        ..REFUSED
-    };
-    run_row(&rt, rt.alloc(), &row)
+    run_row(&rt, rt.alloc(), &OUTSIDE)
 }
 
 #[test]

@@ -1,46 +1,47 @@
 // What fails outside, and what is wrong with a script.
-use crate::row::{PLAIN, Printed, REFUSED, Row, named, owned, print, run_row};
+use crate::row::{PLAIN, Printed, REFUSED, Row, named, owned, print, run_row, run_rows};
 use run_outside::OpenGate;
 use std::test::Fail;
 
+// A run of a file that isn't there.
+const NO_TEXT: Row<'static> = Row {
+    name: "no text of the name",
+    words: &["run", "b"],
+    status: 5,
+    out: b"",
+    err: b"read fault: script 0\n",
+    ..PLAIN
+};
+
+// Calls of the outside that fail.
+const FAILING: [Row<'static>; 4] = [
+    NO_TEXT,
+    Row {
+        name: "no text of the second name",
+        words: &["run", "a", "b"],
+        err: b"read fault: script 1\n",
+        ..NO_TEXT
+    },
+    Row {
+        name: "the second write of four bytes fails",
+        out_fails: &[2],
+        most: 4,
+        status: 6,
+        out: b"0.1 ",
+        err: b"write fault\n",
+        ..PLAIN
+    },
+    Row {
+        name: "standard error fails",
+        script: b"add l0 4294967296\n",
+        err_fails: &[1],
+        ..REFUSED
+    },
+];
+
 #[test]
 fn each_failing_call_has_its_status(rt: HostRuntime) -> Result<(), Fail> {
-    let read = Row {
-        name: "no text of the name",
-        words: &["run", "b"],
-        status: 5,
-        out: b"",
-        err: b"read fault: script 0\n",
-        ..PLAIN
-    };
-    let rows = [
-        read,
-        Row {
-            name: "no text of the second name",
-            words: &["run", "a", "b"],
-            err: b"read fault: script 1\n",
-            ..read
-        },
-        Row {
-            name: "the second write of four bytes fails",
-            out_fails: &[2],
-            most: 4,
-            status: 6,
-            out: b"0.1 ",
-            err: b"write fault\n",
-            ..PLAIN
-        },
-        Row {
-            name: "standard error fails",
-            script: b"add l0 4294967296\n",
-            err_fails: &[1],
-            ..REFUSED
-        },
-    ];
-    for row in &rows {
-        run_row(&rt, rt.alloc(), row)?;
-    }
-    Ok(())
+    run_rows(&rt, rt.alloc(), &FAILING)
 }
 
 const FIRST_FAULT: &[u8] = b"script 1 line 2: bad key\n";
@@ -68,6 +69,14 @@ fn the_first_faulty_file_is_told(rt: HostRuntime) -> Result<(), Fail> {
     Ok(())
 }
 
+// A read that would fail, and isn't made.
+const ALL_READ: Row<'static> = Row {
+    name: "a read that isn't made",
+    file_fails: &[21],
+    most: 1,
+    ..PLAIN
+};
+
 #[test]
 fn a_failing_read_is_status_5(rt: HostRuntime) -> Result<(), Fail> {
     // One call opens the file of 18 bytes, 18 read a byte each, and the last finds its end.
@@ -83,14 +92,16 @@ fn a_failing_read_is_status_5(rt: HostRuntime) -> Result<(), Fail> {
         };
         run_row(&rt, rt.alloc(), &row)?;
     }
-    let row = Row {
-        name: "a read that isn't made",
-        file_fails: &[21],
-        most: 1,
-        ..PLAIN
-    };
-    run_row(&rt, rt.alloc(), &row)
+    run_row(&rt, rt.alloc(), &ALL_READ)
 }
+
+// A write that would fail, and isn't made.
+const ALL_WRITTEN: Row<'static> = Row {
+    name: "a write that isn't made",
+    out_fails: &[83],
+    most: 1,
+    ..PLAIN
+};
 
 #[test]
 fn a_failing_write_is_status_6(rt: HostRuntime) -> Result<(), Fail> {
@@ -106,13 +117,7 @@ fn a_failing_write_is_status_6(rt: HostRuntime) -> Result<(), Fail> {
         };
         run_row(&rt, rt.alloc(), &row)?;
     }
-    let row = Row {
-        name: "a write that isn't made",
-        out_fails: &[83],
-        most: 1,
-        ..PLAIN
-    };
-    run_row(&rt, rt.alloc(), &row)
+    run_row(&rt, rt.alloc(), &ALL_WRITTEN)
 }
 
 // What is wrong with a script, the script, and the line on standard error.

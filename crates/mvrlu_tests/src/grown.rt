@@ -1,5 +1,5 @@
 // Scripts on a growing set: the text that they give, and what is no such script.
-use crate::row::{PLAIN, Printed, REFUSED, Row, named, owned, print, run_row};
+use crate::row::{PLAIN, Printed, REFUSED, Row, named, owned, print, run_row, run_rows};
 use mvrlu_run::Closed;
 use run_outside::OpenGate;
 use std::test::Fail;
@@ -10,34 +10,33 @@ const GROW: Row<'static> = Row {
     ..PLAIN
 };
 
+// Growing sets.
+const SPLITS: [Row<'static>; 3] = [
+    Row {
+        name: "a split behind each second add",
+        script: b"add h0 1\nadd h0 17\nadd h0 2\nadd h0 3\nhas h0 17\nnext h0 4\n",
+        out: b"0.1 c1 yes\n0.2 c2 yes\n0.3 c4 yes\n0.4 c5 yes\n0.5 r6 yes\n0.6 r6 17\nh0 1 2 3 17\nbuckets 18 splits 2\n\
+            log 0 live 16 freed 0 back 0 commits 6 aborts 0 rests 0\n",
+        ..GROW
+    },
+    Row {
+        name: "no set line, and no split",
+        script: b"format 1\nadd h0 5\nadd h0 5\ndel h0 5\nsize h0\n",
+        out: b"0.1 c1 yes\n0.2 r1 no\n0.3 c2 yes\n0.4 r2 0\nbuckets 16 splits 0\n\
+            log 0 live 4 freed 0 back 0 commits 2 aborts 0 rests 0\n",
+        ..GROW
+    },
+    Row {
+        name: "an empty script of a growing set",
+        script: b"",
+        out: b"buckets 16 splits 0\nlog 0 live 0 freed 0 back 0 commits 0 aborts 0 rests 0\n",
+        ..GROW
+    },
+];
+
 #[test]
 fn two_splits(rt: HostRuntime) -> Result<(), Fail> {
-    let rows = [
-        Row {
-            name: "a split behind each second add",
-            script: b"add h0 1\nadd h0 17\nadd h0 2\nadd h0 3\nhas h0 17\nnext h0 4\n",
-            out: b"0.1 c1 yes\n0.2 c2 yes\n0.3 c4 yes\n0.4 c5 yes\n0.5 r6 yes\n0.6 r6 17\nh0 1 2 3 17\nbuckets 18 splits 2\n\
-                log 0 live 16 freed 0 back 0 commits 6 aborts 0 rests 0\n",
-            ..GROW
-        },
-        Row {
-            name: "no set line, and no split",
-            script: b"format 1\nadd h0 5\nadd h0 5\ndel h0 5\nsize h0\n",
-            out: b"0.1 c1 yes\n0.2 r1 no\n0.3 c2 yes\n0.4 r2 0\nbuckets 16 splits 0\n\
-                log 0 live 4 freed 0 back 0 commits 2 aborts 0 rests 0\n",
-            ..GROW
-        },
-        Row {
-            name: "an empty script of a growing set",
-            script: b"",
-            out: b"buckets 16 splits 0\nlog 0 live 0 freed 0 back 0 commits 0 aborts 0 rests 0\n",
-            ..GROW
-        },
-    ];
-    for row in &rows {
-        run_row(&rt, rt.alloc(), row)?;
-    }
-    Ok(())
+    run_rows(&rt, rt.alloc(), &SPLITS)
 }
 
 // A script that is refused, and the line on standard error.

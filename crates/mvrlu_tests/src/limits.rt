@@ -41,7 +41,7 @@ const OUT_OF_FORM: [&[&str]; 27] = [
 
 #[test]
 fn words_out_of_form_show_the_usage(rt: HostRuntime) -> Result<(), Fail> {
-    for words in OUT_OF_FORM {
+    for words in &OUT_OF_FORM {
         let row = Row {
             name: "out of form",
             words,
@@ -113,24 +113,40 @@ pub fn line_ends(alloc: Global, count: usize) -> Result<Vec<u8>, AllocError> {
     vec![in alloc; b'\n'; count]
 }
 
+// As many bytes as a script may have.
+const MOST_BYTES: Row<'static> = Row {
+    name: "1,048,576 bytes",
+    most: 1 << 16,
+    out: ZERO,
+    ..PLAIN
+};
+
+// One byte more.
+const MORE_BYTES: Row<'static> = Row {
+    name: "1,048,577 bytes",
+    status: 4,
+    out: b"",
+    err: b"limit: script 0 bytes\n",
+    ..MOST_BYTES
+};
+
 #[test]
 fn the_bytes_of_a_script_are_limited(rt: HostRuntime) -> Result<(), Fail> {
     let alloc = rt.alloc();
-    let most = Row {
-        name: "1,048,576 bytes",
-        most: 1 << 16,
-        out: ZERO,
-        ..PLAIN
-    };
-    run_text(&rt, alloc, &most, &line_ends(alloc, 1_048_576)?, &OpenGate)?;
-    let more = Row {
-        name: "1,048,577 bytes",
-        status: 4,
-        out: b"",
-        err: b"limit: script 0 bytes\n",
-        ..most
-    };
-    run_text(&rt, alloc, &more, &line_ends(alloc, 1_048_577)?, &OpenGate)
+    run_text(
+        &rt,
+        alloc,
+        &MOST_BYTES,
+        &line_ends(alloc, 1_048_576)?,
+        &OpenGate,
+    )?;
+    run_text(
+        &rt,
+        alloc,
+        &MORE_BYTES,
+        &line_ends(alloc, 1_048_577)?,
+        &OpenGate,
+    )
 }
 
 // So many lines that ask for a key.
@@ -144,23 +160,27 @@ fn questions(alloc: Global, count: u32) -> Result<Vec<u8>, AllocError> {
     Ok(script)
 }
 
+// One command more than a script may have.
+const MORE_COMMANDS: Row<'static> = Row {
+    name: "65,537 commands",
+    most: 1 << 16,
+    status: 4,
+    out: b"",
+    err: b"limit: script 0 line 65537 commands\n",
+    ..PLAIN
+};
+
+// The same in blocks.
+const MORE_BLOCKS: Row<'static> = Row {
+    name: "65,537 blocks of one",
+    words: &["block", "a"],
+    ..MORE_COMMANDS
+};
+
 #[test]
 fn the_commands_of_a_script_are_limited(rt: HostRuntime) -> Result<(), Fail> {
     let alloc = rt.alloc();
-    let more = Row {
-        name: "65,537 commands",
-        most: 1 << 16,
-        status: 4,
-        out: b"",
-        err: b"limit: script 0 line 65537 commands\n",
-        ..PLAIN
-    };
     let questions = questions(alloc, 65_537)?;
-    run_text(&rt, alloc, &more, &questions, &OpenGate)?;
-    let blocks = Row {
-        name: "65,537 blocks of one",
-        words: &["block", "a"],
-        ..more
-    };
-    run_text(&rt, alloc, &blocks, &questions, &OpenGate)
+    run_text(&rt, alloc, &MORE_COMMANDS, &questions, &OpenGate)?;
+    run_text(&rt, alloc, &MORE_BLOCKS, &questions, &OpenGate)
 }

@@ -11,16 +11,18 @@ use std::sync::{Mutex, Wait};
 use std::test::Fail;
 use std::thread::Threads;
 
+// A pool of one seat.
+const ONE_SEAT: Row<'static> = Row {
+    name: "a pool of one seat",
+    words: &["pool", "1", "a"],
+    script: b"add l1 1\nadd l1 3\nadd l1 2\ndel l1 3\n",
+    out: b"0.1 c1 yes\n0.2 c2 yes\n0.3 c3 yes\n0.4 c4 yes\nl1 1 2\nlog 0 live 8 freed 0 back 0 commits 4 aborts 0 rests 0\n",
+    ..PLAIN
+};
+
 #[test]
 fn a_pool_of_one_seat_does_all_in_order(rt: HostRuntime) -> Result<(), Fail> {
-    let row = Row {
-        name: "a pool of one seat",
-        words: &["pool", "1", "a"],
-        script: b"add l1 1\nadd l1 3\nadd l1 2\ndel l1 3\n",
-        out: b"0.1 c1 yes\n0.2 c2 yes\n0.3 c3 yes\n0.4 c4 yes\nl1 1 2\nlog 0 live 8 freed 0 back 0 commits 4 aborts 0 rests 0\n",
-        ..PLAIN
-    };
-    run_row(&rt, rt.alloc(), &row)
+    run_row(&rt, rt.alloc(), &ONE_SEAT)
 }
 
 // Words of a pool that are refused, with the status and the line.
@@ -38,6 +40,15 @@ const POOLS: [Refused; 9] = [
     (&["pool", "1", "b"], 5, b"read fault: script 0\n"),
 ];
 
+// A pool over a broken script.
+const BROKEN: Row<'static> = Row {
+    name: "a pool over a broken script",
+    words: &["pool", "2", "a"],
+    script: b"has l0 1\nhas l0\n",
+    err: b"script 0 line 2: wrong number of words\n",
+    ..REFUSED
+};
+
 #[test]
 fn bad_words_of_a_pool_are_refused(rt: HostRuntime) -> Result<(), Fail> {
     for (words, status, err) in &POOLS {
@@ -50,14 +61,7 @@ fn bad_words_of_a_pool_are_refused(rt: HostRuntime) -> Result<(), Fail> {
         };
         run_row(&rt, rt.alloc(), &row)?;
     }
-    let row = Row {
-        name: "a pool over a broken script",
-        words: &["pool", "2", "a"],
-        script: b"has l0 1\nhas l0\n",
-        err: b"script 0 line 2: wrong number of words\n",
-        ..REFUSED
-    };
-    run_row(&rt, rt.alloc(), &row)
+    run_row(&rt, rt.alloc(), &BROKEN)
 }
 
 // Lines that add the keys from 0 on to `l0`, and the line of the set that has them all.

@@ -1,6 +1,6 @@
 // Replays: the text of a given schedule, and what is no plan.
 use crate::limits::{USAGE, line_ends};
-use crate::row::{PLAIN, Printed, REFUSED, Row, named, owned, print, run_row, run_text};
+use crate::row::{PLAIN, Printed, REFUSED, Row, named, owned, print, run_row, run_rows, run_text};
 use mvrlu_run::Closed;
 use run_outside::OpenGate;
 use std::alloc::{AllocError, Global};
@@ -18,33 +18,32 @@ const REPLAY: Row<'static> = Row {
     ..PLAIN
 };
 
+// Schedules that are replayed.
+const SCHEDULES: [Row<'static>; 4] = [
+    REPLAY,
+    Row {
+        name: "a call that is skipped, a section, and a read of the master",
+        script: b"seats 2\nobjects 1\nslots 64\nbase 3\nseat 1 leave\nseat 1 enter\nseat 1 read 0\nseat 1 leave\nstep 1 1 1 1 1 1 1 1 1 1 1\n",
+        out: b"1 skip leave\n1 1 load 0 1581055\n2 1 store 3 4\n3 1 load 0 1581055\n1 enter 3\n4 1 load 4 0\n5 1 load 5 0\n\
+            6 1 load 6 0\n7 1 load 7 0\n8 1 load 8 0\n9 1 load 9 0\n10 1 load 10 0\n1 read 0 0 0 0 0 0\n11 1 store 3 0\n1 leave\nend 3\n",
+        ..REPLAY
+    },
+    Row {
+        name: "comments, blanks, CR, and a last line without end",
+        script: b"# a plan\r\n\tseats  01 # one\r\n\r\nobjects 1\nslots 64\nbase 0\nseat 0 enter\nstep 0 0\nseat 0 leave\nstep 0 0 0",
+        ..REPLAY
+    },
+    Row {
+        name: "no turn",
+        script: b"seats 64\nobjects 1024\nslots 256\nbase 35184372088831",
+        out: b"end 35184372088831\n",
+        ..REPLAY
+    },
+];
+
 #[test]
 fn schedules_have_their_text(rt: HostRuntime) -> Result<(), Fail> {
-    let rows = [
-        REPLAY,
-        Row {
-            name: "a call that is skipped, a section, and a read of the master",
-            script: b"seats 2\nobjects 1\nslots 64\nbase 3\nseat 1 leave\nseat 1 enter\nseat 1 read 0\nseat 1 leave\nstep 1 1 1 1 1 1 1 1 1 1 1\n",
-            out: b"1 skip leave\n1 1 load 0 1581055\n2 1 store 3 4\n3 1 load 0 1581055\n1 enter 3\n4 1 load 4 0\n5 1 load 5 0\n\
-                6 1 load 6 0\n7 1 load 7 0\n8 1 load 8 0\n9 1 load 9 0\n10 1 load 10 0\n1 read 0 0 0 0 0 0\n11 1 store 3 0\n1 leave\nend 3\n",
-            ..REPLAY
-        },
-        Row {
-            name: "comments, blanks, CR, and a last line without end",
-            script: b"# a plan\r\n\tseats  01 # one\r\n\r\nobjects 1\nslots 64\nbase 0\nseat 0 enter\nstep 0 0\nseat 0 leave\nstep 0 0 0",
-            ..REPLAY
-        },
-        Row {
-            name: "no turn",
-            script: b"seats 64\nobjects 1024\nslots 256\nbase 35184372088831",
-            out: b"end 35184372088831\n",
-            ..REPLAY
-        },
-    ];
-    for row in &rows {
-        run_row(&rt, rt.alloc(), row)?;
-    }
-    Ok(())
+    run_rows(&rt, rt.alloc(), &SCHEDULES)
 }
 
 // A plan that is refused, and the line on standard error.
@@ -190,39 +189,38 @@ fn bad_words_of_a_replay_are_refused(rt: HostRuntime) -> Result<(), Fail> {
     Ok(())
 }
 
+// Calls of the outside that fail.
+const FAILING: [Row<'static>; 3] = [
+    Row {
+        name: "a read that fails",
+        file_fails: &[2],
+        status: 5,
+        out: b"",
+        err: b"read fault: script 0\n",
+        ..REPLAY
+    },
+    Row {
+        name: "the first write fails",
+        out_fails: &[1],
+        status: 6,
+        out: b"",
+        err: b"write fault\n",
+        ..REPLAY
+    },
+    Row {
+        name: "the second write fails",
+        out_fails: &[2],
+        most: 4,
+        status: 6,
+        out: b"1 0 ",
+        err: b"write fault\n",
+        ..REPLAY
+    },
+];
+
 #[test]
 fn calls_of_the_outside_fail_in_a_replay(rt: HostRuntime) -> Result<(), Fail> {
-    let rows = [
-        Row {
-            name: "a read that fails",
-            file_fails: &[2],
-            status: 5,
-            out: b"",
-            err: b"read fault: script 0\n",
-            ..REPLAY
-        },
-        Row {
-            name: "the first write fails",
-            out_fails: &[1],
-            status: 6,
-            out: b"",
-            err: b"write fault\n",
-            ..REPLAY
-        },
-        Row {
-            name: "the second write fails",
-            out_fails: &[2],
-            most: 4,
-            status: 6,
-            out: b"1 0 ",
-            err: b"write fault\n",
-            ..REPLAY
-        },
-    ];
-    for row in &rows {
-        run_row(&rt, rt.alloc(), row)?;
-    }
-    Ok(())
+    run_rows(&rt, rt.alloc(), &FAILING)
 }
 
 // A plan of one seat with so many turns and no call, all on one line.
@@ -235,49 +233,63 @@ fn turns(alloc: Global, count: u32) -> Result<Vec<u8>, AllocError> {
     Ok(plan)
 }
 
+// One step more than a plan may have.
+const MORE_STEPS: Row<'static> = Row {
+    name: "65,537 steps",
+    words: &["replay", "a"],
+    most: 1 << 16,
+    status: 4,
+    err: b"limit: script 0 line 5 commands\n",
+    ..REFUSED
+};
+
+// Two steps more, and a bad number behind them.
+const LATER_NUMBER: Row<'static> = Row {
+    name: "65,538 steps, and a bad number behind them",
+    err: b"limit: script 0 line 7 commands\n",
+    ..MORE_STEPS
+};
+
+// A bad number on the line with that step.
+const NUMBER: Row<'static> = Row {
+    name: "a bad number on the line with the 65,537th step",
+    status: 3,
+    err: b"script 0 line 6: bad number\n",
+    ..MORE_STEPS
+};
+
 #[test]
 fn the_steps_of_a_plan_are_limited(rt: HostRuntime) -> Result<(), Fail> {
     let alloc = rt.alloc();
-    let more = Row {
-        name: "65,537 steps",
-        words: &["replay", "a"],
-        most: 1 << 16,
-        status: 4,
-        err: b"limit: script 0 line 5 commands\n",
-        ..REFUSED
-    };
-    run_text(&rt, alloc, &more, &turns(alloc, 65_537)?, &OpenGate)?;
+    run_text(&rt, alloc, &MORE_STEPS, &turns(alloc, 65_537)?, &OpenGate)?;
     let mut plan = turns(alloc, 65_536)?;
     plan.extend_from_slice(b"\nstep 0 0\nstep 1\n")?;
-    let later = Row {
-        name: "65,538 steps, and a bad number behind them",
-        err: b"limit: script 0 line 7 commands\n",
-        ..more
-    };
-    run_text(&rt, alloc, &later, &plan, &OpenGate)?;
+    run_text(&rt, alloc, &LATER_NUMBER, &plan, &OpenGate)?;
     let mut plan = turns(alloc, 65_536)?;
     plan.extend_from_slice(b"step 0 1\n")?;
-    let number = Row {
-        name: "a bad number on the line with the 65,537th step",
-        status: 3,
-        err: b"script 0 line 6: bad number\n",
-        ..more
-    };
-    run_text(&rt, alloc, &number, &plan, &OpenGate)
+    run_text(&rt, alloc, &NUMBER, &plan, &OpenGate)
 }
+
+// One byte more than a plan may have.
+const MORE_BYTES: Row<'static> = Row {
+    name: "1,048,577 bytes",
+    words: &["replay", "a"],
+    most: 1 << 16,
+    status: 4,
+    err: b"limit: script 0 bytes\n",
+    ..REFUSED
+};
 
 #[test]
 fn the_bytes_of_a_plan_are_limited(rt: HostRuntime) -> Result<(), Fail> {
     let alloc = rt.alloc();
-    let more = Row {
-        name: "1,048,577 bytes",
-        words: &["replay", "a"],
-        most: 1 << 16,
-        status: 4,
-        err: b"limit: script 0 bytes\n",
-        ..REFUSED
-    };
-    run_text(&rt, alloc, &more, &line_ends(alloc, 1_048_577)?, &OpenGate)
+    run_text(
+        &rt,
+        alloc,
+        &MORE_BYTES,
+        &line_ends(alloc, 1_048_577)?,
+        &OpenGate,
+    )
 }
 
 #[test]

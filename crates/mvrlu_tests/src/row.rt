@@ -63,7 +63,19 @@ pub fn run_row<R: Abort + Threads + Wait + Sync>(
     run_text(rt, alloc, row, row.script, &OpenGate)
 }
 
-/// The same over this text in place of the row's, with this gate.
+/// Runs the rows, one after another, and compares.
+pub fn run_rows<R: Abort + Threads + Wait + Sync>(
+    rt: &R,
+    alloc: Global,
+    rows: &[Row<'_>],
+) -> Result<(), Fail> {
+    for row in rows {
+        run_row(rt, alloc, row)?;
+    }
+    Ok(())
+}
+
+/// Runs a row over this text in place of the row's, with this gate.
 pub fn run_text<R: Abort + Threads + Wait + Sync, G: Gate>(
     rt: &R,
     alloc: Global,

@@ -25,30 +25,39 @@ fn small() -> Config
 #[test]
 fn the_numbers_and_the_cells_of_words(rt: HostRuntime) {
     let config = small();
-    assert_eq!(rt; place_number(&config, Place::Clock), 0);
-    assert_eq!(rt; place_number(&config, Place::Grace), 1);
-    assert_eq!(rt; place_number(&config, Place::Mark(0)), 2);
-    assert_eq!(rt; place_number(&config, Place::Mark(1)), 3);
-    assert_eq!(rt; place_number(&config, Place::Head(0)), 4);
-    assert_eq!(rt; place_number(&config, Place::Master(0, 0)), 5);
-    assert_eq!(rt; place_number(&config, Place::Master(0, 5)), 10);
-    assert_eq!(rt; place_number(&config, Place::First(0, 0)), 11);
-    assert_eq!(rt; place_number(&config, Place::Stamp(0, 1)), 22);
-    assert_eq!(rt; place_number(&config, Place::Prev(0, 63)), 643);
-    assert_eq!(rt; place_number(&config, Place::Super(1, 0)), 654);
-    assert_eq!(rt; place_number(&config, Place::Data(1, 63, 5)), 1_290);
-    assert_eq!(rt; place_cell(&config, Place::Clock), 6);
-    assert_eq!(rt; place_cell(&config, Place::Grace), 22);
-    assert_eq!(rt; place_cell(&config, Place::Mark(0)), 38);
-    assert_eq!(rt; place_cell(&config, Place::Mark(1)), 54);
-    assert_eq!(rt; place_cell(&config, Place::Head(0)), 70);
-    assert_eq!(rt; place_cell(&config, Place::Master(0, 0)), 71);
-    assert_eq!(rt; place_cell(&config, Place::Master(0, 5)), 76);
-    assert_eq!(rt; place_cell(&config, Place::First(0, 0)), 78);
-    assert_eq!(rt; place_cell(&config, Place::Stamp(0, 1)), 95);
-    assert_eq!(rt; place_cell(&config, Place::Prev(0, 63)), 1_088);
-    assert_eq!(rt; place_cell(&config, Place::Super(1, 0)), 1_105);
-    assert_eq!(rt; place_cell(&config, Place::Data(1, 63, 5)), 2_119);
+    let numbers = [
+        place_number(&config, Place::Clock),
+        place_number(&config, Place::Grace),
+        place_number(&config, Place::Mark(0)),
+        place_number(&config, Place::Mark(1)),
+        place_number(&config, Place::Head(0)),
+        place_number(&config, Place::Master(0, 0)),
+        place_number(&config, Place::Master(0, 5)),
+        place_number(&config, Place::First(0, 0)),
+        place_number(&config, Place::Stamp(0, 1)),
+        place_number(&config, Place::Prev(0, 63)),
+        place_number(&config, Place::Super(1, 0)),
+        place_number(&config, Place::Data(1, 63, 5)),
+    ];
+    assert_eq!(rt; numbers, [0, 1, 2, 3, 4, 5, 10, 11, 22, 643, 654, 1_290]);
+    let cells = [
+        place_cell(&config, Place::Clock),
+        place_cell(&config, Place::Grace),
+        place_cell(&config, Place::Mark(0)),
+        place_cell(&config, Place::Mark(1)),
+        place_cell(&config, Place::Head(0)),
+        place_cell(&config, Place::Master(0, 0)),
+        place_cell(&config, Place::Master(0, 5)),
+        place_cell(&config, Place::First(0, 0)),
+        place_cell(&config, Place::Stamp(0, 1)),
+        place_cell(&config, Place::Prev(0, 63)),
+        place_cell(&config, Place::Super(1, 0)),
+        place_cell(&config, Place::Data(1, 63, 5)),
+    ];
+    assert_eq!(rt;
+        cells,
+        [6, 22, 38, 54, 70, 71, 76, 78, 95, 1_088, 1_105, 2_119]
+    );
 }
 
 #[test]

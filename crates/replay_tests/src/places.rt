@@ -24,11 +24,9 @@ fn packed_clock_words(rt: HostRuntime) -> Result<(), Fail> {
     ];
     for (time, seat, slot, hexadecimal, decimal) in rows {
         let word = clock_word(time, seat, slot);
-        assert_eq!(rt; word, hexadecimal, "time {time}");
-        assert_eq!(rt; word, decimal, "time {time}");
-        assert_eq!(rt; clock_time(word), time, "time {time}");
-        assert_eq!(rt; clock_seat(word), seat, "time {time}");
-        assert_eq!(rt; clock_slot(word), slot, "time {time}");
+        assert_eq!(rt; (word, word), (hexadecimal, decimal));
+        let parts = (clock_time(word), clock_seat(word), clock_slot(word));
+        assert_eq!(rt; parts, (time, seat, slot));
     }
     Ok(())
 }
@@ -47,10 +45,8 @@ fn packed_links_and_stamps(rt: HostRuntime) -> Result<(), Fail> {
     ];
     for (seat, position, hexadecimal, decimal) in rows {
         let word = link_word(seat, position);
-        assert_eq!(rt; word, hexadecimal, "seat {seat}");
-        assert_eq!(rt; word, decimal, "seat {seat}");
-        assert_eq!(rt; link_seat(word), seat, "seat {seat}");
-        assert_eq!(rt; link_position(word), position, "seat {seat}");
+        assert_eq!(rt; (word, word), (hexadecimal, decimal));
+        assert_eq!(rt; (link_seat(word), link_position(word)), (seat, position));
     }
     let unset = unset_stamp(7);
     assert_eq!(rt; unset, 0x8000_0000_0000_0007);
@@ -72,166 +68,171 @@ const FIT: Config = Config {
     base: 0,
 };
 
+// Numbers, and what is wrong with them.
+const CONFIGS: [(Config, Result<(), ConfigFault>); 22] = [
+    (Config { seats: 0, ..FIT }, Err(ConfigFault::Seats)),
+    (Config { seats: 1, ..FIT }, Ok(())),
+    (Config { seats: 64, ..FIT }, Ok(())),
+    (Config { seats: 65, ..FIT }, Err(ConfigFault::Seats)),
+    (
+        Config {
+            seats: 65,
+            slots: 1,
+            ..FIT
+        },
+        Err(ConfigFault::Seats),
+    ),
+    (Config { objects: 0, ..FIT }, Err(ConfigFault::Objects)),
+    (Config { objects: 1, ..FIT }, Ok(())),
+    (
+        Config {
+            objects: 65_535,
+            ..FIT
+        },
+        Ok(()),
+    ),
+    (
+        Config {
+            objects: 65_536,
+            ..FIT
+        },
+        Err(ConfigFault::Objects),
+    ),
+    (Config { slots: 63, ..FIT }, Err(ConfigFault::Slots)),
+    (
+        Config {
+            slots: 4_096,
+            ..FIT
+        },
+        Ok(()),
+    ),
+    (
+        Config {
+            slots: 4_097,
+            ..FIT
+        },
+        Err(ConfigFault::Slots),
+    ),
+    (
+        Config {
+            write_max: 0,
+            ..FIT
+        },
+        Err(ConfigFault::WriteMax),
+    ),
+    (
+        Config {
+            write_max: 1,
+            ..FIT
+        },
+        Ok(()),
+    ),
+    (
+        Config {
+            write_max: 64,
+            slots: 128,
+            ..FIT
+        },
+        Ok(()),
+    ),
+    (
+        Config {
+            write_max: 65,
+            slots: 128,
+            ..FIT
+        },
+        Err(ConfigFault::WriteMax),
+    ),
+    (Config { low: 0, ..FIT }, Err(ConfigFault::Marks)),
+    (Config { low: 48, ..FIT }, Ok(())),
+    (Config { low: 49, ..FIT }, Err(ConfigFault::Marks)),
+    (Config { high: 49, ..FIT }, Err(ConfigFault::Marks)),
+    (
+        Config {
+            base: 35_184_372_088_831,
+            ..FIT
+        },
+        Ok(()),
+    ),
+    (
+        Config {
+            base: 35_184_372_088_832,
+            ..FIT
+        },
+        Err(ConfigFault::Base),
+    ),
+];
+
 #[test]
 fn set_full_and_config(rt: HostRuntime) -> Result<(), Fail> {
-    let rows = [
-        (Config { seats: 0, ..FIT }, Err(ConfigFault::Seats)),
-        (Config { seats: 1, ..FIT }, Ok(())),
-        (Config { seats: 64, ..FIT }, Ok(())),
-        (Config { seats: 65, ..FIT }, Err(ConfigFault::Seats)),
-        (
-            Config {
-                seats: 65,
-                slots: 1,
-                ..FIT
-            },
-            Err(ConfigFault::Seats),
-        ),
-        (Config { objects: 0, ..FIT }, Err(ConfigFault::Objects)),
-        (Config { objects: 1, ..FIT }, Ok(())),
-        (
-            Config {
-                objects: 65_535,
-                ..FIT
-            },
-            Ok(()),
-        ),
-        (
-            Config {
-                objects: 65_536,
-                ..FIT
-            },
-            Err(ConfigFault::Objects),
-        ),
-        (Config { slots: 63, ..FIT }, Err(ConfigFault::Slots)),
-        (
-            Config {
-                slots: 4_096,
-                ..FIT
-            },
-            Ok(()),
-        ),
-        (
-            Config {
-                slots: 4_097,
-                ..FIT
-            },
-            Err(ConfigFault::Slots),
-        ),
-        (
-            Config {
-                write_max: 0,
-                ..FIT
-            },
-            Err(ConfigFault::WriteMax),
-        ),
-        (
-            Config {
-                write_max: 1,
-                ..FIT
-            },
-            Ok(()),
-        ),
-        (
-            Config {
-                write_max: 64,
-                slots: 128,
-                ..FIT
-            },
-            Ok(()),
-        ),
-        (
-            Config {
-                write_max: 65,
-                slots: 128,
-                ..FIT
-            },
-            Err(ConfigFault::WriteMax),
-        ),
-        (Config { low: 0, ..FIT }, Err(ConfigFault::Marks)),
-        (Config { low: 48, ..FIT }, Ok(())),
-        (Config { low: 49, ..FIT }, Err(ConfigFault::Marks)),
-        (Config { high: 49, ..FIT }, Err(ConfigFault::Marks)),
-        (
-            Config {
-                base: 35_184_372_088_831,
-                ..FIT
-            },
-            Ok(()),
-        ),
-        (
-            Config {
-                base: 35_184_372_088_832,
-                ..FIT
-            },
-            Err(ConfigFault::Base),
-        ),
-    ];
-    for (row, (config, answer)) in rows.into_iter().enumerate() {
-        assert_eq!(rt; config.check(), answer, "row {row}");
+    for (row, (config, answer)) in CONFIGS.iter().enumerate() {
+        assert_eq!(rt; config.check(), *answer, "row {row}");
     }
     Ok(())
 }
 
+const WIDEST: Config = Config {
+    seats: 64,
+    objects: 65_535,
+    slots: 4_096,
+    ..FIT
+};
+
+const WIDE: Config = Config { seats: 8, ..WIDEST };
+
 #[test]
 fn places_of_a_domain(rt: HostRuntime) -> Result<(), Fail> {
     assert_eq!(rt; total_words(&FIT), 2 + 2 + 21 + 1_280);
-    assert_eq!(rt; mark_place(&FIT, 1), 3);
-    assert_eq!(rt; head_place(&FIT, 2), 18);
-    assert_eq!(rt; master_place(&FIT, 2, 5), 24);
-    assert_eq!(rt; slot_place(&FIT, 0, 0), 25);
-    assert_eq!(rt; slot_place(&FIT, 1, 63), 25 + 1_270);
-    let widest = Config {
-        seats: 64,
-        objects: 65_535,
-        slots: 4_096,
-        ..FIT
-    };
-    assert_eq!(rt; total_words(&widest), 3_080_251);
-    let wide = Config {
-        seats: 8,
-        objects: 65_535,
-        slots: 4_096,
-        ..FIT
-    };
-    assert_eq!(rt; total_words(&wide), 786_435);
+    let places = [
+        mark_place(&FIT, 1),
+        head_place(&FIT, 2),
+        master_place(&FIT, 2, 5),
+        slot_place(&FIT, 0, 0),
+        slot_place(&FIT, 1, 63),
+    ];
+    assert_eq!(rt; places, [3, 18, 24, 25, 25 + 1_270]);
+    let totals = [total_words(&WIDEST), total_words(&WIDE)];
+    assert_eq!(rt; totals, [3_080_251, 786_435]);
     Ok(())
 }
 
 #[test]
 fn cells_of_a_domain(rt: HostRuntime) -> Result<(), Fail> {
-    assert_eq!(rt; CLOCK_CELL, 6);
-    assert_eq!(rt; GRACE_CELL, 22);
-    assert_eq!(rt; mark_cell(&FIT, 0), 38);
-    assert_eq!(rt; mark_cell(&FIT, 1), 54);
-    assert_eq!(rt; head_cell(&FIT, 0), 70);
-    assert_eq!(rt; head_cell(&FIT, 2), 86);
-    assert_eq!(rt; master_cell(&FIT, 2, 5), 92);
-    assert_eq!(rt; slot_cell(&FIT, 0, 0), 94);
-    assert_eq!(rt; slot_cell(&FIT, 1, 63), 94 + 16 * 127);
-    assert_eq!(rt; total_cells(&FIT), 94 + 16 * 128);
-    let widest = Config {
-        seats: 64,
-        objects: 65_535,
-        slots: 4_096,
-        ..FIT
-    };
-    assert_eq!(rt; total_cells(&widest), 4_719_646);
+    let cells = [
+        CLOCK_CELL,
+        GRACE_CELL,
+        mark_cell(&FIT, 0),
+        mark_cell(&FIT, 1),
+        head_cell(&FIT, 0),
+        head_cell(&FIT, 2),
+        master_cell(&FIT, 2, 5),
+        slot_cell(&FIT, 0, 0),
+        slot_cell(&FIT, 1, 63),
+    ];
+    assert_eq!(rt; cells, [6, 22, 38, 54, 70, 86, 92, 94, 94 + 16 * 127]);
+    let totals = [total_cells(&FIT), total_cells(&WIDEST)];
+    assert_eq!(rt; totals, [94 + 16 * 128, 4_719_646]);
     Ok(())
 }
 
+const UNEVEN: Config = Config { slots: 100, ..FIT };
+
+const SMALL: Config = Config { slots: 128, ..FIT };
+
+const LARGE: Config = Config {
+    slots: 4_096,
+    ..FIT
+};
+
 #[test]
 fn slots_of_positions(rt: HostRuntime) -> Result<(), Fail> {
-    let uneven = Config { slots: 100, ..FIT };
-    let small = Config { slots: 128, ..FIT };
-    let large = Config {
-        slots: 4_096,
-        ..FIT
-    };
-    assert_eq!(rt; slot_of_position(&FIT, 0), 0);
-    assert_eq!(rt; slot_of_position(&FIT, 70), 6);
-    assert_eq!(rt; slot_of_position(&uneven, 1_000_007), 7);
-    assert_eq!(rt; slot_of_position(&small, 300), 44);
-    assert_eq!(rt; slot_of_position(&large, 144_115_188_075_855_871), 4_095);
+    let slots = [
+        slot_of_position(&FIT, 0),
+        slot_of_position(&FIT, 70),
+        slot_of_position(&UNEVEN, 1_000_007),
+        slot_of_position(&SMALL, 300),
+        slot_of_position(&LARGE, 144_115_188_075_855_871),
+    ];
+    assert_eq!(rt; slots, [0, 6, 7, 44, 4_095]);
     Ok(())
 }

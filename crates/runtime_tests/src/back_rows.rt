@@ -7,7 +7,7 @@ use crate::moves::Move::{
     Abort, BackFinish, BackStart, BackWord, Commit, Enter, Leave, Lock, LockEnd, LockStart, Read,
     ReadFound, Round, Table, Tidy, WalkStart, WalkStep, Write,
 };
-use crate::{SMALL, Schedule, played};
+use crate::{SMALL, Schedule, play_schedules};
 use log_reclaim::BackEnd::Cut;
 use log_reclaim::NoBack::{Above, Gone, Young};
 use mv_history::Holder::{Fresh, Mark};
@@ -181,9 +181,5 @@ const SCHEDULES: [Schedule; 8] = [
 
 #[test]
 fn write_backs_by_their_parts(rt: HostRuntime) -> Result<(), Fail> {
-    for schedule in SCHEDULES {
-        let name = schedule.name;
-        assert_eq!(rt; played(rt.alloc(), &schedule)?, None, "{name}");
-    }
-    Ok(())
+    play_schedules(&rt, rt.alloc(), &SCHEDULES)
 }

@@ -6,7 +6,7 @@ use crate::moves::Answer::{
 use crate::moves::Move::{
     Abort, BackFinish, BackStart, BackWord, Commit, Enter, FirstOf, Leave, Lock, Read, Tidy, Write,
 };
-use crate::{Answer, Call, SMALL, Schedule, Turn, played};
+use crate::{Answer, Call, SMALL, Schedule, Turn, play_schedules};
 use log_reclaim::BackEnd::{Above, Cut};
 use mv_history::Holder::{End, Mark};
 use mv_layout::{Config, LAST};
@@ -243,9 +243,5 @@ const SCHEDULES: [Schedule; 14] = [
 
 #[test]
 fn stops_within_and_after_a_write_back(rt: HostRuntime) -> Result<(), Fail> {
-    for schedule in SCHEDULES {
-        let name = schedule.name;
-        assert_eq!(rt; played(rt.alloc(), &schedule)?, None, "{name}");
-    }
-    Ok(())
+    play_schedules(&rt, rt.alloc(), &SCHEDULES)
 }

@@ -2,7 +2,7 @@
 use crate::moves::Answer::{Done, Entered, Held, Left, Tidied, Written};
 use crate::moves::Move::{Commit, Enter, Leave, Lock, Tidy, Write};
 use crate::{SMALL, Schedule, Turn, closed_after};
-use mv_layout::{Config, NO_SLOT, clock_word, link_word, mark_word};
+use mv_layout::Config;
 use std::test::Fail;
 
 // Seat 0 commits object 0 at time 1, and seat 1 both objects at time 2.
@@ -34,82 +34,80 @@ const DOMAIN: Config = Config {
     ..SMALL
 };
 
+// A clock word is a time times 2^19, a seat times 2^13 and a slot, 8191 where it names no commit; a link word is a position
+// and the next seat times 2^57; and a mark is the next time.
+const CLOSINGS: [Closing; 4] = [
+    Closing {
+        schedule: Schedule {
+            name: "nobody makes an entry",
+            domain: Config { base: 7, ..DOMAIN },
+            turns: &[&[(0, Enter, Entered(7)), (0, Leave, Left)]],
+        },
+        clock: (7 << 19) + 8191,
+        marks: [0, 0],
+        heads: [0, 0],
+        masters: [0, 0],
+    },
+    Closing {
+        schedule: Schedule {
+            name: "commits",
+            domain: DOMAIN,
+            turns: &[&COMMITS],
+        },
+        clock: (2 << 19) + (1 << 13),
+        marks: [0, 0],
+        heads: [(2 << 57) + 1, 2 << 57],
+        masters: [0, 0],
+    },
+    Closing {
+        schedule: Schedule {
+            name: "commits, and a lock in a section of time 2",
+            domain: DOMAIN,
+            turns: &[&COMMITS, &[(0, Enter, Entered(2)), (0, Lock(1), Held)]],
+        },
+        clock: (2 << 19) + (1 << 13),
+        marks: [3, 0],
+        heads: [(2 << 57) + 1, (1 << 57) + 1],
+        masters: [0, 0],
+    },
+    Closing {
+        schedule: Schedule {
+            name: "a write-back by a tidy, which makes a rest at time 2",
+            domain: DOMAIN,
+            turns: &[&[
+                (1, Enter, Entered(0)),
+                (1, Lock(1), Held),
+                (1, Write(1, [5; 6]), Written),
+                (1, Commit, Done(1)),
+                (1, Tidy, Tidied(1, 0, None)),
+            ]],
+        },
+        clock: (2 << 19) + (1 << 13) + 8191,
+        marks: [0, 0],
+        heads: [0, 0],
+        masters: [0, 5],
+    },
+];
+
 #[test]
 fn the_last_words_are_what_the_moves_left(rt: HostRuntime) -> Result<(), Fail> {
-    let closings = [
-        Closing {
-            schedule: Schedule {
-                name: "nobody makes an entry",
-                domain: Config { base: 7, ..DOMAIN },
-                turns: &[&[(0, Enter, Entered(7)), (0, Leave, Left)]],
-            },
-            clock: clock_word(7, 0, NO_SLOT),
-            marks: [0, 0],
-            heads: [0, 0],
-            masters: [0, 0],
-        },
-        Closing {
-            schedule: Schedule {
-                name: "commits",
-                domain: DOMAIN,
-                turns: &[&COMMITS],
-            },
-            clock: clock_word(2, 1, 0),
-            marks: [0, 0],
-            heads: [link_word(1, 1), link_word(1, 0)],
-            masters: [0, 0],
-        },
-        Closing {
-            schedule: Schedule {
-                name: "commits, and a lock in a section of time 2",
-                domain: DOMAIN,
-                turns: &[&COMMITS, &[(0, Enter, Entered(2)), (0, Lock(1), Held)]],
-            },
-            clock: clock_word(2, 1, 0),
-            marks: [mark_word(2), 0],
-            heads: [link_word(1, 1), link_word(0, 1)],
-            masters: [0, 0],
-        },
-        Closing {
-            schedule: Schedule {
-                name: "a write-back by a tidy, which makes a rest at time 2",
-                domain: DOMAIN,
-                turns: &[&[
-                    (1, Enter, Entered(0)),
-                    (1, Lock(1), Held),
-                    (1, Write(1, [5; 6]), Written),
-                    (1, Commit, Done(1)),
-                    (1, Tidy, Tidied(1, 0, None)),
-                ]],
-            },
-            clock: clock_word(2, 1, NO_SLOT),
-            marks: [0, 0],
-            heads: [0, 0],
-            masters: [0, 5],
-        },
-    ];
-    for closing in closings {
+    for closing in &CLOSINGS {
         let name = closing.schedule.name;
-        let last = closed_after(rt.alloc(), &closing.schedule)?;
-        assert!(rt; last.is_some(), "{name}: its turns");
-        if let Some(words) = last {
-            assert_eq!(rt; words.clock, closing.clock, "{name}: CLOCK");
-            assert_eq!(rt;
-                words.marks.as_slice(),
-                closing.marks.as_slice(),
-                "{name}: MARK"
-            );
-            assert_eq!(rt;
-                words.heads.as_slice(),
-                closing.heads.as_slice(),
-                "{name}: HEAD"
-            );
-            assert_eq!(rt;
-                words.masters.as_slice(),
-                closing.masters.as_slice(),
-                "{name}: MASTER"
-            );
-        }
+        let Some(words) = closed_after(rt.alloc(), &closing.schedule)? else {
+            panic!(rt; "the turns of {name}");
+        };
+        assert_eq!(rt; words.clock, closing.clock, "CLOCK of {name}");
+        let found = (
+            words.marks.as_slice(),
+            words.heads.as_slice(),
+            words.masters.as_slice(),
+        );
+        let wanted = (
+            closing.marks.as_slice(),
+            closing.heads.as_slice(),
+            closing.masters.as_slice(),
+        );
+        assert_eq!(rt; found, wanted, "MARK, HEAD and MASTER of {name}");
     }
     Ok(())
 }

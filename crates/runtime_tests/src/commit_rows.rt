@@ -6,7 +6,7 @@ use crate::moves::Answer::{
 use crate::moves::Move::{
     Abort, Commit, Enter, Finish, FirstOf, Lock, Name, Now, Read, Table, Write,
 };
-use crate::{Call, SMALL, Schedule, played};
+use crate::{Call, SMALL, Schedule, play_schedules};
 use mv_history::LogTable;
 use mv_layout::{Config, LAST};
 use std::test::Fail;
@@ -234,9 +234,5 @@ const SCHEDULES: [Schedule; 11] = [
 
 #[test]
 fn commits_meet(rt: HostRuntime) -> Result<(), Fail> {
-    for schedule in SCHEDULES {
-        let name = schedule.name;
-        assert_eq!(rt; played(rt.alloc(), &schedule)?, None, "{name}");
-    }
-    Ok(())
+    play_schedules(&rt, rt.alloc(), &SCHEDULES)
 }

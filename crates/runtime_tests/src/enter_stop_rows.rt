@@ -5,7 +5,7 @@ use crate::moves::Move::{
     Enter, FirstOf, LoadLow, LoadTime, Lock, Name, Now, StoreMark, Tidy, Write,
 };
 use crate::stop_rows::{COMMITTED, FREE, FREE_LATE, FREED, MARKED, MARKED_LATE};
-use crate::{Call, SMALL, Schedule, Turn, played};
+use crate::{Call, SMALL, Schedule, Turn, play_schedules};
 use mv_history::Holder::{End, Mark};
 use mv_layout::{Config, LAST};
 use std::test::Fail;
@@ -138,9 +138,5 @@ const SCHEDULES: [Schedule; 10] = [
 
 #[test]
 fn stops_within_an_enter(rt: HostRuntime) -> Result<(), Fail> {
-    for schedule in SCHEDULES {
-        let name = schedule.name;
-        assert_eq!(rt; played(rt.alloc(), &schedule)?, None, "{name}");
-    }
-    Ok(())
+    play_schedules(&rt, rt.alloc(), &SCHEDULES)
 }

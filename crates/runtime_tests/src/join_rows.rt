@@ -1,7 +1,7 @@
 // The passes of a domain are joined after a schedule: CLOCK then has the word of the last entry.
 use crate::moves::Answer::{Clock, Done, Entered, Held, Helped, Left, Rested, Skipped};
 use crate::moves::Move::{Commit, Enter, Help, Join, Leave, Lock, Now, Rest};
-use crate::{SMALL, Schedule, Turn, played};
+use crate::{SMALL, Schedule, Turn, play_schedules};
 use mv_layout::Config;
 use std::test::Fail;
 
@@ -69,9 +69,5 @@ const SCHEDULES: [Schedule; 5] = [
 
 #[test]
 fn joined_passes_find_the_last_entry(rt: HostRuntime) -> Result<(), Fail> {
-    for schedule in SCHEDULES {
-        let name = schedule.name;
-        assert_eq!(rt; played(rt.alloc(), &schedule)?, None, "{name}");
-    }
-    Ok(())
+    play_schedules(&rt, rt.alloc(), &SCHEDULES)
 }

@@ -113,4 +113,4 @@ pub use closing::{LastWords, closed_after};
 #[cfg(test)]
 pub use moves::{Answer, Call, Move};
 #[cfg(test)]
-pub use playing::{Otherwise, SMALL, Schedule, Turn, played};
+pub use playing::{Otherwise, SMALL, Schedule, Turn, play_schedules, played};

@@ -4,7 +4,7 @@ use crate::moves::Answer::{
     Written,
 };
 use crate::moves::Move::{Abort, Commit, Enter, Finish, Leave, Lock, Name, Now, Read, Write};
-use crate::{SMALL, Schedule, played};
+use crate::{SMALL, Schedule, play_schedules};
 use mv_layout::Config;
 use std::test::Fail;
 
@@ -192,9 +192,5 @@ const SCHEDULES: [Schedule; 10] = [
 
 #[test]
 fn locks_meet(rt: HostRuntime) -> Result<(), Fail> {
-    for schedule in SCHEDULES {
-        let name = schedule.name;
-        assert_eq!(rt; played(rt.alloc(), &schedule)?, None, "{name}");
-    }
-    Ok(())
+    play_schedules(&rt, rt.alloc(), &SCHEDULES)
 }

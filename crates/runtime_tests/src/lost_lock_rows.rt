@@ -8,7 +8,7 @@ use crate::moves::Move::{
     Abort, Commit, Enter, Finish, FirstOf, Leave, Lock, LockEnd, LockStart, Name, Now, Read, Tidy,
     Write,
 };
-use crate::{Call, SMALL, Schedule, Turn, played};
+use crate::{Call, SMALL, Schedule, Turn, play_schedules};
 use mv_history::Holder::Mark;
 use mv_layout::Config;
 use std::test::Fail;
@@ -343,9 +343,5 @@ const SCHEDULES: [Schedule; 15] = [
 
 #[test]
 fn others_move_before_the_exchange(rt: HostRuntime) -> Result<(), Fail> {
-    for schedule in SCHEDULES {
-        let name = schedule.name;
-        assert_eq!(rt; played(rt.alloc(), &schedule)?, None, "{name}");
-    }
-    Ok(())
+    play_schedules(&rt, rt.alloc(), &SCHEDULES)
 }

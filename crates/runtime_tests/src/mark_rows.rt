@@ -6,7 +6,7 @@ use crate::moves::Move::{
     Commit, Enter, Help, Known, Leave, LoadLow, LoadTime, Lock, Name, Now, Read, Scan, StoreMark,
     Write,
 };
-use crate::{SMALL, Schedule, played};
+use crate::{SMALL, Schedule, play_schedules};
 use mv_layout::Config;
 use reader_marks::Watermark;
 use std::test::Fail;
@@ -120,9 +120,5 @@ const SCHEDULES: [Schedule; 3] = [
 
 #[test]
 fn marks_and_watermarks(rt: HostRuntime) -> Result<(), Fail> {
-    for schedule in SCHEDULES {
-        let name = schedule.name;
-        assert_eq!(rt; played(rt.alloc(), &schedule)?, None, "{name}");
-    }
-    Ok(())
+    play_schedules(&rt, rt.alloc(), &SCHEDULES)
 }

@@ -22,7 +22,7 @@ use std::sync::ledger::Ledger;
 use version_chain::Found;
 
 /// A call of a client.
-#[derive(Clone, Copy, Debug, PartialEq, Eq)]
+#[derive(Clone, Copy)]
 pub enum Move {
     Enter,
     Leave,
@@ -80,7 +80,7 @@ pub enum Move {
 }
 
 /// A call of which the first steps alone are made.
-#[derive(Clone, Copy, Debug, PartialEq, Eq)]
+#[derive(Clone, Copy)]
 pub enum Call {
     /// The help by which an `enter` ends.
     Help,

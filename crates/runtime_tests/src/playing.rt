@@ -12,13 +12,15 @@ use mv_history::AnyRules;
 use mv_layout::Config;
 use std::alloc::{AllocError, Global};
 use std::marker::Brand;
+use std::process::Abort;
 use std::sync::ledger::{Blank, Ledger};
+use std::test::Fail;
 
 /// A turn of a schedule: the number of a seat, its move, and the answer that is wanted.
 pub type Turn = (usize, Move, Answer);
 
 /// A schedule: the turns of its parts, one after another, in a new domain.
-#[derive(Clone, Copy, Debug, PartialEq, Eq)]
+#[derive(Clone, Copy)]
 pub struct Schedule<'a> {
     /// What it shows.
     pub name: &'a str,
@@ -221,4 +223,16 @@ pub fn played(alloc: Global, schedule: &Schedule) -> Result<Option<Otherwise>, A
         }
     }
     Ok(None)
+}
+
+/// Plays schedules. Every turn of each is to be answered as wanted.
+pub fn play_schedules(
+    rt: &impl Abort,
+    alloc: Global,
+    schedules: &[Schedule<'_>],
+) -> Result<(), Fail> {
+    for schedule in schedules {
+        assert_eq!(rt; played(alloc, schedule)?, None, "{}", schedule.name);
+    }
+    Ok(())
 }

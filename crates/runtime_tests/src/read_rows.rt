@@ -7,7 +7,7 @@ use crate::moves::Move::{
     Abort, Commit, Enter, Finish, Leave, Lock, Name, Now, Read, ReadFound, WalkStart, WalkStep,
     Write,
 };
-use crate::{SMALL, Schedule, played};
+use crate::{SMALL, Schedule, play_schedules};
 use mv_layout::Config;
 use std::test::Fail;
 use version_chain::Found;
@@ -163,9 +163,5 @@ const SCHEDULES: [Schedule; 7] = [
 
 #[test]
 fn sections_read_their_snapshots(rt: HostRuntime) -> Result<(), Fail> {
-    for schedule in SCHEDULES {
-        let name = schedule.name;
-        assert_eq!(rt; played(rt.alloc(), &schedule)?, None, "{name}");
-    }
-    Ok(())
+    play_schedules(&rt, rt.alloc(), &SCHEDULES)
 }

@@ -8,7 +8,7 @@ use crate::moves::Move::{
     Abort, BackFinish, BackStart, BackWord, Commit, Enter, Finish, Leave, Lock, Name, Now, Read,
     ReadFound, Round, Table, Tidy, WalkStart, WalkStep, Write,
 };
-use crate::{SMALL, Schedule, played};
+use crate::{SMALL, Schedule, play_schedules};
 use log_reclaim::BackEnd;
 use mv_history::Holder::{self, Above, Fresh, Mark};
 use mv_history::LogTable;
@@ -187,9 +187,5 @@ const SCHEDULES: [Schedule; 7] = [
 
 #[test]
 fn logs_are_reclaimed(rt: HostRuntime) -> Result<(), Fail> {
-    for schedule in SCHEDULES {
-        let name = schedule.name;
-        assert_eq!(rt; played(rt.alloc(), &schedule)?, None, "{name}");
-    }
-    Ok(())
+    play_schedules(&rt, rt.alloc(), &SCHEDULES)
 }

@@ -8,7 +8,7 @@ use crate::moves::Move::{
     Abort, Commit, Enter, Finish, Help, Leave, Lock, LockEnd, LockStart, Name, Now, Read, Rest,
     Round, Table, Tidy, Write,
 };
-use crate::{Answer, SMALL, Schedule, Turn, played};
+use crate::{Answer, SMALL, Schedule, Turn, play_schedules};
 use mv_history::Holder::{Fresh, Mark};
 use mv_history::LogTable;
 use mv_layout::{Config, LAST};
@@ -233,9 +233,5 @@ const SCHEDULES: [Schedule; 9] = [
 
 #[test]
 fn rests_and_helps_by_their_parts(rt: HostRuntime) -> Result<(), Fail> {
-    for schedule in SCHEDULES {
-        let name = schedule.name;
-        assert_eq!(rt; played(rt.alloc(), &schedule)?, None, "{name}");
-    }
-    Ok(())
+    play_schedules(&rt, rt.alloc(), &SCHEDULES)
 }

@@ -7,7 +7,7 @@ use crate::moves::Answer::{
 use crate::moves::Move::{
     Abort, Commit, Enter, Finish, FirstOf, Lock, Name, Now, Read, Tidy, Write,
 };
-use crate::{Call, SMALL, Schedule, Turn, played};
+use crate::{Call, SMALL, Schedule, Turn, play_schedules};
 use mv_history::Holder::Mark;
 use mv_layout::{Config, LAST};
 use std::test::Fail;
@@ -314,9 +314,5 @@ const SCHEDULES: [Schedule; 14] = [
 
 #[test]
 fn stops_within_and_after_calls(rt: HostRuntime) -> Result<(), Fail> {
-    for schedule in SCHEDULES {
-        let name = schedule.name;
-        assert_eq!(rt; played(rt.alloc(), &schedule)?, None, "{name}");
-    }
-    Ok(())
+    play_schedules(&rt, rt.alloc(), &SCHEDULES)
 }

@@ -7,7 +7,7 @@ use crate::moves::Answer::{
 use crate::moves::Move::{
     Commit, Enter, Finish, FirstOf, Leave, Lock, LockStart, Name, Now, Read, Tidy, Write,
 };
-use crate::{Call, SMALL, Schedule, Turn, played};
+use crate::{Call, SMALL, Schedule, Turn, play_schedules};
 use mv_history::Holder::{Above, Mark};
 use mv_layout::Config;
 use std::test::Fail;
@@ -295,9 +295,5 @@ const SCHEDULES: [Schedule; 11] = [
 
 #[test]
 fn stops_over_versions(rt: HostRuntime) -> Result<(), Fail> {
-    for schedule in SCHEDULES {
-        let name = schedule.name;
-        assert_eq!(rt; played(rt.alloc(), &schedule)?, None, "{name}");
-    }
-    Ok(())
+    play_schedules(&rt, rt.alloc(), &SCHEDULES)
 }

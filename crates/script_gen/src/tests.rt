@@ -13,60 +13,63 @@ fn name(rt: &impl Abort, index: u32) -> Name {
     Name::new(index).expect(rt, "an index below 30")
 }
 
+const SCRIPTS: [Row; 6] = [
+    (
+        0,
+        0,
+        b"add l4 128\ndel t2 184\nadd l5 236\ndel l4 80\nadd l5 8\nmove h4 t3 164\n",
+        b"\ndel l7 156\nhas l4 212\n",
+        22176,
+    ),
+    (
+        1,
+        0,
+        b"add h3 40\nhas t4 64\nadd t6 0\ndel h4 160\nadd h1 88\nadd h5 80\n",
+        b"\nadd l6 224\nadd l4 236\n",
+        22211,
+    ),
+    (
+        1,
+        1,
+        b"add h4 77\nhas t7 205\nadd l3 173\ndel t5 161\ndel h9 145\nmove h4 h6 65\n",
+        b"\nadd t6 61\nadd l3 5\n",
+        22077,
+    ),
+    (
+        1,
+        2,
+        b"add t9 230\nadd t1 6\nmove l0 l6 2\nmove h7 l1 246\ndel l2 186\nadd h7 6\n",
+        b"\nadd l0 46\nadd t8 86\n",
+        22159,
+    ),
+    (
+        1,
+        3,
+        b"add t4 35\nmove h3 l8 119\nadd l6 15\ndel t0 171\nadd h2 3\ndel h7 15\n",
+        b"\nmove l8 l4 19\nhas h8 71\n",
+        22184,
+    ),
+    (
+        18446744073709551615,
+        3,
+        b"add l7 3\nadd l9 135\nadd t5 207\ndel l4 167\nadd l4 43\nadd h5 87\n",
+        b"\nadd h2 135\nadd t3 127\n",
+        22218,
+    ),
+];
+
 #[test]
 fn the_texts_of_scripts(rt: HostRuntime) -> Result<(), Fail> {
-    let rows: [Row; 6] = [
-        (
-            0,
-            0,
-            b"add l4 128\ndel t2 184\nadd l5 236\ndel l4 80\nadd l5 8\nmove h4 t3 164\n",
-            b"\ndel l7 156\nhas l4 212\n",
-            22176,
-        ),
-        (
-            1,
-            0,
-            b"add h3 40\nhas t4 64\nadd t6 0\ndel h4 160\nadd h1 88\nadd h5 80\n",
-            b"\nadd l6 224\nadd l4 236\n",
-            22211,
-        ),
-        (
-            1,
-            1,
-            b"add h4 77\nhas t7 205\nadd l3 173\ndel t5 161\ndel h9 145\nmove h4 h6 65\n",
-            b"\nadd t6 61\nadd l3 5\n",
-            22077,
-        ),
-        (
-            1,
-            2,
-            b"add t9 230\nadd t1 6\nmove l0 l6 2\nmove h7 l1 246\ndel l2 186\nadd h7 6\n",
-            b"\nadd l0 46\nadd t8 86\n",
-            22159,
-        ),
-        (
-            1,
-            3,
-            b"add t4 35\nmove h3 l8 119\nadd l6 15\ndel t0 171\nadd h2 3\ndel h7 15\n",
-            b"\nmove l8 l4 19\nhas h8 71\n",
-            22184,
-        ),
-        (
-            18446744073709551615,
-            3,
-            b"add l7 3\nadd l9 135\nadd t5 207\ndel l4 167\nadd l4 43\nadd h5 87\n",
-            b"\nadd h2 135\nadd t3 127\n",
-            22218,
-        ),
-    ];
-    for (number, seat, first, last, length) in &rows {
+    for (number, seat, first, last, length) in &SCRIPTS {
         assert!(rt; *seat < 4);
         let script = text(rt.alloc(), *number, *seat)?;
-        assert!(rt; script.starts_with(first), "of {number} {seat}");
-        assert!(rt; script.ends_with(last), "of {number} {seat}");
-        assert_eq!(rt; script.len(), *length, "of {number} {seat}");
         let lines = script.iter().filter(|byte| **byte == b'\n').count();
-        assert_eq!(rt; lines, 2000, "of {number} {seat}");
+        let ends = (script.starts_with(first), script.ends_with(last));
+        assert_eq!(rt;
+            (ends, script.len(), lines),
+            ((true, true), *length, 2000),
+            "of {number} {seat}"
+        );
     }
     Ok(())
 }

@@ -77,19 +77,21 @@ fn list_order_put_and_del(rt: HostRuntime) -> Result<(), Fail> {
     if !change_some(&mut section, 1) {
         panic!(rt; "another answer");
     }
-    assert_eq!(rt; section.read(1), [0, 0, 0, 180, 0, 0]);
-    assert_eq!(rt; section.read(180), [2, 0, 1, 182, 0, 10]);
-    assert_eq!(rt; section.read(182), [2, 0, 2, 0, 0, 7]);
-    assert_eq!(rt; section.read(181), [0; 6]);
-    assert!(rt; has_in(&mut section, 1, 2));
-    assert!(rt; !has_in(&mut section, 1, 3));
-    assert_eq!(rt; get_in(&mut section, 1, 2), Some(7));
-    assert_eq!(rt; get_in(&mut section, 1, 3), None);
-    assert_eq!(rt; next_in(&mut section, 1, 0), Some(1));
-    assert_eq!(rt; next_in(&mut section, 1, 2), Some(2));
-    assert_eq!(rt; next_in(&mut section, 1, 3), None);
-    assert_eq!(rt; size_in(&mut section, 1), 2);
-    assert_eq!(rt; size_in(&mut section, 169), 0);
+    let head = section.read(1);
+    let nodes = [section.read(180), section.read(182), section.read(181)];
+    assert_eq!(rt; head, [0, 0, 0, 180, 0, 0]);
+    assert_eq!(rt; nodes, [[2, 0, 1, 182, 0, 10], [2, 0, 2, 0, 0, 7], [0; 6]]);
+    let has = (has_in(&mut section, 1, 2), has_in(&mut section, 1, 3));
+    let got = (get_in(&mut section, 1, 2), get_in(&mut section, 1, 3));
+    assert_eq!(rt; (has, got), ((true, false), (Some(7), None)));
+    let next = [
+        next_in(&mut section, 1, 0),
+        next_in(&mut section, 1, 2),
+        next_in(&mut section, 1, 3),
+    ];
+    assert_eq!(rt; next, [Some(1), Some(2), None]);
+    let sizes = (size_in(&mut section, 1), size_in(&mut section, 169));
+    assert_eq!(rt; sizes, (2, 0));
     let _store = section.abort();
     Ok(())
 }

@@ -79,9 +79,12 @@ fn an_abort_leaves_nothing(rt: HostRuntime) -> Result<(), Fail> {
 fn a_pair_is_two_words_next_to_each_other(rt: HostRuntime) -> Result<(), Fail> {
     let start = [[1, 2, 3, 4, 5, 6]];
     let mut section = PlainStore::<AnyRules>::new(rt.alloc(), &start, 0, 1)?.enter();
-    assert_eq!(rt; section.read_pair(0, 0), (1, 2));
-    assert_eq!(rt; section.read_pair(0, 2), (3, 4));
-    assert_eq!(rt; section.read_pair(0, 4), (5, 6));
+    let pairs = [
+        section.read_pair(0, 0),
+        section.read_pair(0, 2),
+        section.read_pair(0, 4),
+    ];
+    assert_eq!(rt; pairs, [(1, 2), (3, 4), (5, 6)]);
     let _store = section.leave();
     Ok(())
 }

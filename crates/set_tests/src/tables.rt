@@ -78,20 +78,24 @@ fn two_buckets(rt: HostRuntime) -> Result<(), Fail> {
     if !change_some(&mut section, 1) {
         panic!(rt; "another answer");
     }
-    assert_eq!(rt; section.read(29), [0, 0, 0, 181, 0, 0]);
-    assert_eq!(rt; section.read(30), [0, 0, 0, 182, 0, 0]);
-    assert_eq!(rt; section.read(181), [30, 0, 3, 0, 0, 7]);
-    assert_eq!(rt; section.read(182), [31, 0, 20, 0, 0, 200]);
-    assert_eq!(rt; section.read(180), [0; 6]);
-    assert!(rt; has_in(&mut section, 1, 20));
-    assert!(rt; !has_in(&mut section, 1, 19));
-    assert_eq!(rt; get_in(&mut section, 1, 3), Some(7));
-    assert_eq!(rt; get_in(&mut section, 1, 19), None);
-    assert_eq!(rt; next_in(&mut section, 1, 0), Some(3));
-    assert_eq!(rt; next_in(&mut section, 1, 4), Some(20));
-    assert_eq!(rt; next_in(&mut section, 1, 21), None);
-    assert_eq!(rt; size_in(&mut section, 1), 2);
-    assert_eq!(rt; size_in(&mut section, 9), 0);
+    let heads = [section.read(29), section.read(30)];
+    let nodes = [section.read(181), section.read(182), section.read(180)];
+    assert_eq!(rt; heads, [[0, 0, 0, 181, 0, 0], [0, 0, 0, 182, 0, 0]]);
+    assert_eq!(rt;
+        nodes,
+        [[30, 0, 3, 0, 0, 7], [31, 0, 20, 0, 0, 200], [0; 6]]
+    );
+    let has = (has_in(&mut section, 1, 20), has_in(&mut section, 1, 19));
+    let got = (get_in(&mut section, 1, 3), get_in(&mut section, 1, 19));
+    assert_eq!(rt; (has, got), ((true, false), (Some(7), None)));
+    let next = [
+        next_in(&mut section, 1, 0),
+        next_in(&mut section, 1, 4),
+        next_in(&mut section, 1, 21),
+    ];
+    assert_eq!(rt; next, [Some(3), Some(20), None]);
+    let sizes = (size_in(&mut section, 1), size_in(&mut section, 9));
+    assert_eq!(rt; sizes, (2, 0));
     let _store = section.abort();
     Ok(())
 }

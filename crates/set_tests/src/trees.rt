@@ -28,8 +28,7 @@ fn add_all<S: Section>(section: &mut S, root: u32, keys: &[u32]) -> bool
     true
 }
 
-// Gives the key another value than the one that it has, and tries to add it. Whether each call
-// answers as it should.
+// Gives the key another value than the one that it has. Whether each call answers as it should.
 fn put_value<S: Section>(section: &mut S, root: u32, key: u32, old: u64, new: u64) -> bool
     requires root_from { 170 ≤ root }
     requires root_in { root < 180 }
@@ -45,6 +44,16 @@ fn put_value<S: Section>(section: &mut S, root: u32, key: u32, old: u64, new: u6
     let SetStep::Yes = put_in(section, root, key, new) else {
         return false;
     };
+    true
+}
+
+// Tries to add a key that is there. Whether it answers as it should.
+fn add_again<S: Section>(section: &mut S, root: u32, key: u32) -> bool
+    requires root_from { 170 ≤ root }
+    requires root_in { root < 180 }
+    requires filled { IsFilled (S.section section.old) root 4 }
+    ensures { result ≡ true → IsFilled (S.section section.new) root 4 }
+{
     let SetStep::No = add_in(section, root, key, 0, 190, 191) else {
         return false;
     };
@@ -78,7 +87,10 @@ fn fill<S: Section>(section: &mut S, root: u32) -> bool
     if !add_all(section, root, &[20, 40, 10, 30]) {
         return false;
     }
-    put_value(section, root, 30, 300, 7)
+    if !put_value(section, root, 30, 300, 7) {
+        return false;
+    }
+    add_again(section, root, 30)
 }
 
 // Adds four keys and takes two of them out. Whether each call answers as it should.
@@ -122,16 +134,25 @@ fn a_tree_of_four_keys(rt: HostRuntime) -> Result<(), Fail> {
     if !fill(&mut section, 171) {
         panic!(rt; "another answer");
     }
-    assert_eq!(rt; section.read(171), [0, 0, 0, 183, 0, 0]);
-    assert_eq!(rt; section.read(183), [172, 2, 40, 185, 182, 0]);
-    assert_eq!(rt; section.read(185), [172, 2, 20, 184, 187, 0]);
-    assert_eq!(rt; section.read(187), [172, 2, 30, 180, 186, 0]);
-    assert_eq!(rt; section.read(186), [172, 1, 30, 0, 0, 7]);
-    assert_eq!(rt; get_in(&mut section, 171, 30), Some(7));
-    assert_eq!(rt; next_in(&mut section, 171, 11), Some(20));
-    assert_eq!(rt; next_in(&mut section, 171, 31), Some(40));
-    assert_eq!(rt; next_in(&mut section, 171, 41), None);
-    assert_eq!(rt; size_in(&mut section, 171), 4);
+    let top = [section.read(171), section.read(183)];
+    let below = [section.read(185), section.read(187), section.read(186)];
+    assert_eq!(rt; top, [[0, 0, 0, 183, 0, 0], [172, 2, 40, 185, 182, 0]]);
+    assert_eq!(rt;
+        below,
+        [
+            [172, 2, 20, 184, 187, 0],
+            [172, 2, 30, 180, 186, 0],
+            [172, 1, 30, 0, 0, 7]
+        ]
+    );
+    let got = get_in(&mut section, 171, 30);
+    let next = [
+        next_in(&mut section, 171, 11),
+        next_in(&mut section, 171, 31),
+        next_in(&mut section, 171, 41),
+    ];
+    let size = size_in(&mut section, 171);
+    assert_eq!(rt; (got, next, size), (Some(7), [Some(20), Some(40), None], 4));
     let _store = section.abort();
     Ok(())
 }
@@ -143,10 +164,10 @@ fn a_sibling_moves_up(rt: HostRuntime) -> Result<(), Fail> {
     if !thin(&mut section, 171) {
         panic!(rt; "another answer");
     }
-    assert_eq!(rt; section.read(171), [0, 0, 0, 185, 0, 0]);
-    assert_eq!(rt; section.read(185), [172, 2, 20, 184, 180, 0]);
-    assert_eq!(rt; section.read(187), [0; 6]);
-    assert_eq!(rt; section.read(186), [0; 6]);
+    let top = [section.read(171), section.read(185)];
+    let gone = [section.read(187), section.read(186)];
+    assert_eq!(rt; top, [[0, 0, 0, 185, 0, 0], [172, 2, 20, 184, 180, 0]]);
+    assert_eq!(rt; gone, [[0; 6]; 2]);
     let _store = section.abort();
     Ok(())
 }
@@ -158,8 +179,7 @@ fn a_tree_is_emptied(rt: HostRuntime) -> Result<(), Fail> {
     if !clear(&mut section, 171) {
         panic!(rt; "another answer");
     }
-    assert_eq!(rt; section.read(171), [0; 6]);
-    assert_eq!(rt; section.read(180), [0; 6]);
+    assert_eq!(rt; [section.read(171), section.read(180)], [[0; 6]; 2]);
     assert!(rt; empty_in(&mut section, 171));
     let _store = section.abort();
     Ok(())

@@ -1,0 +1,83 @@
+// How many reads of objects it takes to attempt a command on a growing hash set.
+ghost use Rattle.std.specs.Prelude.{◌≡◌};
+ghost use Rattle.grow_hash.specs.GrowPlans.{IsOfGrown};
+
+use crate::counted::Counted;
+use grow_hash::{GrowRules, GrowStep, attempt_grow};
+use mv_history::{PlainStore, Store, View, WORDS};
+use set_script::{Command, Name, Place, Reply};
+use std::test::Fail;
+
+// A command on the set.
+#[derive(Clone, Copy)]
+enum Ask {
+    Add(u32),
+    Del(u32),
+    Has(u32),
+    Next(u32),
+    Size,
+}
+
+// The name `h0`.
+fn h0() -> Name
+    ensures { result ≡ 10 }
+{
+    match Name::new(10) {
+        Some(name) => name,
+        None => unreachable!(),
+    }
+}
+
+fn command(ask: Ask) -> Command
+    ensures { IsOfGrown result }
+{
+    let name = h0();
+    match ask {
+        Ask::Add(key) => Command::Add { name, key },
+        Ask::Del(key) => Command::Del { name, key },
+        Ask::Has(key) => Command::Has { name, key },
+        Ask::Next(key) => Command::Next { name, key },
+        Ask::Size => Command::Size { name },
+    }
+}
+
+// What a command is answered, and how many reads it took.
+fn count_reads(store: PlainStore<GrowRules>, ask: Ask) -> (PlainStore<GrowRules>, GrowStep, u32) {
+    let counted = Counted {
+        view: store,
+        reads: 0,
+    };
+    let (Counted { view, reads }, answer) = attempt_grow(counted, &command(ask));
+    (view, answer, reads)
+}
+
+#[test]
+fn one_walk_of_one_bucket(rt: HostRuntime) -> Result<(), Fail> {
+    let zeros = vec![in rt.alloc(); [0; WORDS]; 4096]?;
+    let mut store = PlainStore::new(rt.alloc(), &zeros, 0, 8)?;
+    for (ask, reply, place, most) in [
+        // The table and the head, and a vacant node.
+        (Ask::Add(1), Reply::Yes, Place::Commit(1), 4),
+        // The nodes up to the key or the end, then once more the last object before it.
+        (Ask::Add(17), Reply::Yes, Place::Commit(2), 5),
+        (Ask::Add(33), Reply::Yes, Place::Commit(3), 6),
+        (Ask::Add(49), Reply::Yes, Place::Commit(4), 7),
+        (Ask::Add(2), Reply::Yes, Place::Commit(5), 4),
+        // Where the key is there, once more the node found and the object before it.
+        (Ask::Has(33), Reply::Yes, Place::Read(5), 7),
+        (Ask::Has(34), Reply::No, Place::Read(5), 4),
+        // The table, 16 heads and 5 nodes.
+        (Ask::Size, Reply::Count { count: 5 }, Place::Read(5), 22),
+        // The same, and once more the two objects of one bucket's end and one of each of the 15 others.
+        (Ask::Next(34), Reply::Key { key: 49 }, Place::Read(5), 39),
+        (Ask::Add(65), Reply::Yes, Place::Commit(6), 8),
+        (Ask::Add(18), Reply::Yes, Place::Commit(7), 5),
+        (Ask::Del(17), Reply::Yes, Place::Commit(8), 6),
+    ] {
+        let (next, answer, reads) = count_reads(store, ask);
+        assert_eq!(rt; answer, GrowStep::Done { reply, place });
+        assert_eq!(rt; reads, most);
+        store = next;
+    }
+    Ok(())
+}

@@ -103,3 +103,15 @@ pub returns-clause-rest : goal.returns-clause-rest
 returns-clause-rest g c =
     subst (λ (w : View). ChangesLog (view c.args.pass.now) w) (sym c.store_data.ensures.view)
     (word_changes (config_of c.args.shared.now) (view c.args.pass.now) c.args.position c.args.word c.args.value)
+
+-- no version is built there and none is held: this does not happen
+pub returns-in_default : goal.returns-in_default
+returns-in_default g c =
+    let at = c.if-position-log.true in
+    let long = c.log.inside.live.ok.0 in
+    let e = c.len.ensures in
+    let next : next_of (the_view c.log.inside) ≡ next_of c.args.log.now = ap next_of c.log.view_is in
+    let there : IsBuilt c.args.log.now c.args.position = ⊎_elim (λ b. b) (λ h. let low = h.1 in absurd (omega arith)) c.requires.there in
+    let is = there.1 in
+    let same = ap (λ (m : Noted). m.built) c.log.view_is in
+    absurd (cc)

@@ -18,3 +18,12 @@ returns-clause-found g c =
 
 pub returns-clause-untouched : goal.returns-clause-untouched
 returns-clause-untouched g c z = absurd (takes_some c.args.name (g.V.View.state c.args.view.now) z)
+
+pub find_new-requires-clause-lawful : goal.find_new-requires-clause-lawful
+find_new-requires-clause-lawful g c = rw (g.met.V.View.same_state _ _ c.search-end.ensures.as_before) c.requires.lawful
+
+pub find_new-requires-clause-few : goal.find_new-requires-clause-few
+find_new-requires-clause-few g c = rw (g.met.V.View.same_state _ _ c.search-end.ensures.as_before) c.requires.few
+
+pub returns-clause-few : goal.returns-clause-few
+returns-clause-few g c = rw (g.met.V.View.same_state _ _ c.search-end.ensures.as_before) at c.find_new.ensures.few

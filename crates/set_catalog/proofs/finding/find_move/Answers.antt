@@ -88,3 +88,24 @@ returns-clause-untouched g c z =
     c.search-from.result c.search-from.ensures.ends
     _ _ _ (c.takes.ensures.takes c.args.key _ c.args.target c.requires.lawful c.search-to.ensures.name_in (omega (arith, c.ranges.key.fits)) to)
     c.del-gone.ensures.inner c.still_wanted.ensures ∙ z)
+
+pub search-to-requires : goal.search-to-requires
+search-to-requires g c = record { lawful = rw (g.met.V.View.same_state _ _ c.search-from.ensures.as_before) c.requires.lawful }
+
+pub vacant_for-requires-clause-lawful : goal.vacant_for-requires-clause-lawful
+vacant_for-requires-clause-lawful g c =
+    rw (g.met.V.View.same_state _ _ (g.met.V.View.as_long_before _ _ _ c.search-from.ensures.as_before c.search-to.ensures.as_before)) c.requires.lawful
+
+pub vacant_for-requires-clause-few : goal.vacant_for-requires-clause-few
+vacant_for-requires-clause-few g c =
+    rw (g.met.V.View.same_state _ _ (g.met.V.View.as_long_before _ _ _ c.search-from.ensures.as_before c.search-to.ensures.as_before)) c.requires.few
+
+pub returns-in_default-vacant_for-clause-few : goal.returns-in_default-vacant_for-clause-few
+returns-in_default-vacant_for-clause-few g c =
+    rw (g.met.V.View.same_state _ _ (g.met.V.View.as_long_before _ _ _ c.search-from.ensures.as_before c.search-to.ensures.as_before)) at
+    c.in_default-vacant_for.ensures.few
+
+pub returns-clause-few : goal.returns-clause-few
+returns-clause-few g c =
+    rw (g.met.V.View.same_state _ _ (g.met.V.View.as_long_before _ _ _ c.search-from.ensures.as_before c.search-to.ensures.as_before)) at
+    c.in-Some-vacant_for.ensures.few

@@ -37,3 +37,12 @@ returns-in-Some-2-clause-found g c =
     (c.put.ensures.writes c.args.key _ c.args.name c.requires.lawful c.search-end.ensures.name_in
     (omega (arith, c.ranges.key.fits)) c.search-end.ensures.ends there)
     (c.nothing-gone.ensures.node, c.nothing-gone.ensures.inner)
+
+pub find_new-requires-clause-lawful : goal.find_new-requires-clause-lawful
+find_new-requires-clause-lawful g c = rw (g.met.V.View.same_state _ _ c.search-end.ensures.as_before) c.requires.lawful
+
+pub find_new-requires-clause-few : goal.find_new-requires-clause-few
+find_new-requires-clause-few g c = rw (g.met.V.View.same_state _ _ c.search-end.ensures.as_before) c.requires.few
+
+pub returns-in-None-clause-few : goal.returns-in-None-clause-few
+returns-in-None-clause-few g c = rw (g.met.V.View.same_state _ _ c.search-end.ensures.as_before) at c.find_new.ensures.few

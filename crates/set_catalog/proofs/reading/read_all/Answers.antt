@@ -12,3 +12,15 @@ pub returns-clause-catalogue : goal.returns-clause-catalogue
 returns-clause-catalogue g c =
     let end = c.loop-root.auto.root-end (omega arith) in let out = c.loop-root-test.false in
     heads_all _ _ c.requires.lawful (heads_are _ _ _ _ (omega arith) c.loop-root.invariant.read)
+
+pub read_list-requires-clause-lawful : goal.read_list-requires-clause-lawful
+read_list-requires-clause-lawful g c = rw (g.met.V.View.same_state _ _ c.loop-head.invariant.before) c.requires.lawful
+
+pub read_list-requires-clause-before : goal.read_list-requires-clause-before
+read_list-requires-clause-before g c = rw (g.met.V.View.same_state _ _ c.loop-head.invariant.before) c.loop-head.invariant.read
+
+pub read_tree-requires-clause-lawful : goal.read_tree-requires-clause-lawful
+read_tree-requires-clause-lawful g c = rw (g.met.V.View.same_state _ _ c.loop-root.invariant.before) c.requires.lawful
+
+pub read_tree-requires-clause-before : goal.read_tree-requires-clause-before
+read_tree-requires-clause-before g c = rw (g.met.V.View.same_state _ _ c.loop-root.invariant.before) c.loop-root.invariant.read

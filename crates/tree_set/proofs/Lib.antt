@@ -11,7 +11,7 @@ pub mod Ends
 pub mod Putting
 pub mod TreeWays
 pub mod Walking
-pub mod Nodes
+pub mod NodeWords
 pub mod Forks
 pub mod LeafWalks
 pub mod Found

@@ -19,7 +19,7 @@ pub(crate) struct Node {
 
 /// Reads the four words of an object.
 pub(crate) fn read_node<V: View>(view: &mut V, object: u32) -> Node
-    requires object { object < length (V.state view.old) }
+    requires { object < length (V.state view.old) }
     ensures node { IsNodeAt (V.state view.old) object result }
     ensures as_before { V.as_before view.old view.new }
 {

@@ -97,3 +97,7 @@ module _ (s : State) (root k grand parent object right : ℕ) (node : Node) (d :
   node_found words e z =
       let one : word 1 words ≡ 1 = ap (word 1) e in
       fork_found s root k grand parent object right words d (e ∙ leaf_words_here z) (λ two. absurd (omega arith))
+
+-- The same node by another state.
+pub node_at : (s t : State) (object : ℕ) (node : Node) → IsNodeAt t object node → t ≡ s → IsNodeAt s object node
+node_at s t object node is e = subst (λ (u : State). IsNodeAt u object node) e is

@@ -181,7 +181,12 @@ pub(crate) fn read_four_in<P: Protocol, L: Ledger>(
     match held_words(busy, object) {
         Some(words) => {
             let first = place as usize;
-            [words[first], words[first + 1], words[first + 2], words[first + 3]]
+            [
+                words[first],
+                words[first + 1],
+                words[first + 2],
+                words[first + 3],
+            ]
         }
         None => read_four_below::<P, L>(shared, busy, object, place, blank),
     }

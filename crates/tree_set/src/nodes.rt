@@ -8,7 +8,8 @@ use mv_history::{View, Words};
 /// The place of a node's key among its words. Its links come next, and its value last.
 pub(crate) const KEY: u32 = 2;
 
-/// Four of the six words of a node. The other two, its owner and its kind, are known where its root is: only an inner node has a left child.
+/// Four of the six words of a node. The other two, its owner and its kind, are known where its root
+/// is: only an inner node has a left child.
 #[derive(Clone, Copy)]
 pub(crate) struct Node {
     pub(crate) key: u64,
@@ -18,6 +19,7 @@ pub(crate) struct Node {
 }
 
 /// Reads the four words of an object.
+#[inline(always)]
 pub(crate) fn read_node<V: View>(view: &mut V, object: u32) -> Node
     requires { object < length (V.state view.old) }
     ensures node { IsNodeAt (V.state view.old) object result }

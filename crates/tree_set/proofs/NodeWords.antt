@@ -1,16 +1,16 @@
 -- What a search reads of an object is enough to know all its words.
-use Rattle.std.proofs.Common.{◌≡◌, ◌≢◌, ℕ, suc, ◌^◌, ◌<◌, ◌≤◌, ◌⊎◌, inl, inr, Bool, if◌then◌else◌, List, length}
+use Rattle.std.proofs.Common.{◌≡◌, ◌≢◌, ℕ, ◌^◌, ◌<◌, ◌≤◌, ◌⊎◌, inl, inr, Bool, if◌then◌else◌, List}
 use Rattle.std.proofs.Common.{refl, sym, ap, ◌∙◌, subst, arith, ne_eqb, eq-eqb, Option, Some, None}
 use Rattle.mv_history.specs.State.{State}
 use Rattle.mv_history.specs.Meaning.{words_at}
 use Rattle.set_script.specs.Objects.{kind, key, link, right_link, value, head_words, leaf_words, inner_words}
-use Rattle.set_script.specs.Trees.{Tree, top, Stands, IsGrown, IsTree}
+use Rattle.set_script.specs.Trees.{Tree, top, Stands, IsTree}
 use Rattle.set_script.specs.Trees.Tree.{leaf, inner}
 use Rattle.set_script.specs.Lawful.{IsLawful}
 use Rattle.set_script.proofs.ObjectWords.{word}
 use Rattle.tree_set.specs.declared.nodes.Node.{Node}
 use Rattle.tree_set.specs.Nodes.{IsNodeAt, branch_words}
-use Rattle.tree_set.specs.Walks.{walk_left, IsDescent, IsFork}
+use Rattle.tree_set.specs.Walks.{IsDescent, IsFork}
 use Rattle.tree_set.proofs.Plugging.{stands_part}
 use Rattle.tree_set.proofs.Walking.{IsStep, descent_start, children_fit, find_step, fork_found}
 

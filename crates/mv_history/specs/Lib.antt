@@ -11,3 +11,4 @@ pub mod CallLaws
 pub mod Plain
 pub mod PlainMeaning
 pub mod PlainLaws
+pub mod Fours

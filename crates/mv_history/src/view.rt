@@ -3,6 +3,7 @@ ghost use Rattle.std.specs.Prelude.{◌≡◌, ◌+◌, ◌<◌, length, slice_i
 ghost use Rattle.mv_history.specs.State.{State};
 ghost use Rattle.mv_history.specs.Legal.{AreWords};
 ghost use Rattle.mv_history.specs.Meaning.{words_at};
+ghost use Rattle.mv_history.specs.Fours.{four_from};
 
 use crate::history::Words;
 
@@ -37,6 +38,25 @@ pub trait View {
     {
         let words = self.read(object);
         (words[place as usize], words[place as usize + 1])
+    }
+
+    /// Four words of an object that stand next to each other, from this place on. They are those of `read`;
+    /// a value that loads its words one by one loads these four alone. A value that counts its reads counts
+    /// it as one. It never refuses, and takes no memory.
+    fn read_four(&mut self, object: u32, place: u32) -> [u64; 4]
+        requires object { object < length (state self.old) }
+        requires place { place < 3 }
+        ensures words { result ≡ four_from place (words_at (state self.old) object) }
+        ensures as_before { as_before self.old self.new }
+    {
+        let words = self.read(object);
+        let first = place as usize;
+        [
+            words[first],
+            words[first + 1],
+            words[first + 2],
+            words[first + 3],
+        ]
     }
 
     ghost as_itself: { (v : Self) → as_before v v };

@@ -14,3 +14,7 @@ read_most old new = 12 + 3 * (length new.seat.seen - old.at)
 -- the steps of a read of two words: at most three for each entry after the snapshot that was seen, and 8
 abbrev pub pair_most : InSection → InSection → ℕ
 pair_most old new = 8 + 3 * (length new.seat.seen - old.at)
+
+-- the steps of a read of four words: at most three for each entry after the snapshot that was seen, and 10
+abbrev pub four_most : InSection → InSection → ℕ
+four_most old new = 10 + 3 * (length new.seat.seen - old.at)

@@ -1,10 +1,11 @@
 // Reading an object in a section.
 ghost use Rattle.std.specs.Prelude.{◌≡◌, ◌+◌, ◌<◌, length, slice_index_or};
 ghost use Rattle.mv_history.specs.Meaning.{IsSection, snapshot_of, state_of, words_at};
+ghost use Rattle.mv_history.specs.Fours.{four_from};
 ghost use Rattle.mv_core.specs.Passes.{start_of};
 ghost use Rattle.mvrlu.specs.Placed.{section_from, Fits};
 ghost use Rattle.mvrlu.specs.Standing.{Stays};
-ghost use Rattle.mvrlu.specs.Bounds.{MakesAtMost, read_most, pair_most};
+ghost use Rattle.mvrlu.specs.Bounds.{MakesAtMost, read_most, pair_most, four_most};
 
 use crate::holding::held_words;
 use crate::places::Busy;
@@ -12,7 +13,8 @@ use mv_core::{Shared, Steps};
 use mv_history::{Protocol, Words};
 use std::sync::ledger::{Blank, Ledger};
 use version_chain::{
-    find_at, read_master, read_master_pair, read_version_at, read_version_pair_at,
+    find_at, read_master, read_master_four, read_master_pair, read_version_at,
+    read_version_four_at, read_version_pair_at,
 };
 
 // The words of an object in the section's snapshot.
@@ -123,5 +125,69 @@ pub(crate) fn read_pair_in<P: Protocol, L: Ledger>(
     match held_words(busy, object) {
         Some(words) => (words[place as usize], words[place as usize + 1]),
         None => read_pair_below::<P, L>(shared, busy, object, place, blank),
+    }
+}
+
+// Four words of an object in the section's snapshot, from this place on.
+#[inline(always)]
+fn read_four_below<P: Protocol, L: Ledger>(
+    shared: &Shared<P>,
+    busy: &mut Busy<P>,
+    object: u32,
+    place: u32,
+    blank: Blank,
+) -> [u64; 4]
+    requires name { blank.name ≡ L.name }
+    requires parts { (blank.parts ≡ L.parts) × (0 < L.parts) }
+    requires fits { Fits shared.now busy.old }
+    requires range { object < length (start_of shared.now) }
+    requires place { place < 3 }
+    ensures fits { Fits shared.now busy.new }
+    ensures lawful { IsSection P.start P.allowed (section_from busy.new) }
+    ensures words { result ≡ four_from place (words_at (snapshot_of (section_from busy.old)) object) }
+    ensures stays { Stays (section_from busy.old) (section_from busy.new) }
+    ensures aborts { busy.new.log.aborts ≡ busy.old.log.aborts }
+    ensures bound { MakesAtMost (section_from busy.old).seat (section_from busy.new).seat (four_most (section_from busy.old) (section_from busy.new)) }
+{
+    let mut steps = Steps::<L>::open(blank);
+    let pass = &mut busy.place.pass;
+    match find_at(shared, pass, object, &mut steps) {
+        None => read_master_four(shared, pass, object, place, &mut steps),
+        Some(at) => read_version_four_at(shared, pass, at, place, &mut steps),
+    }
+}
+
+// Four words of an object in a section, from this place on: of its own version, where it holds the object.
+#[inline(always)]
+pub(crate) fn read_four_in<P: Protocol, L: Ledger>(
+    shared: &Shared<P>,
+    busy: &mut Busy<P>,
+    object: u32,
+    place: u32,
+    blank: Blank,
+) -> [u64; 4]
+    requires name { blank.name ≡ L.name }
+    requires parts { (blank.parts ≡ L.parts) × (0 < L.parts) }
+    requires fits { Fits shared.now busy.old }
+    requires range { object < length (start_of shared.now) }
+    requires place { place < 3 }
+    ensures fits { Fits shared.now busy.new }
+    ensures lawful { IsSection P.start P.allowed (section_from busy.new) }
+    ensures words { result ≡ four_from place (words_at (state_of (section_from busy.old)) object) }
+    ensures stays { Stays (section_from busy.old) (section_from busy.new) }
+    ensures aborts { busy.new.log.aborts ≡ busy.old.log.aborts }
+    ensures bound { MakesAtMost (section_from busy.old).seat (section_from busy.new).seat (four_most (section_from busy.old) (section_from busy.new)) }
+{
+    match held_words(busy, object) {
+        Some(words) => {
+            let first = place as usize;
+            [
+                words[first],
+                words[first + 1],
+                words[first + 2],
+                words[first + 3],
+            ]
+        }
+        None => read_four_below::<P, L>(shared, busy, object, place, blank),
     }
 }

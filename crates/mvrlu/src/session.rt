@@ -8,7 +8,7 @@ use crate::ending::{aborted, committed, left};
 use crate::handle::Handle;
 use crate::holding::{held_words, locked, written};
 use crate::places::Busy;
-use crate::reading::{read_in, read_pair_in};
+use crate::reading::{read_four_in, read_in, read_pair_in};
 use mv_history::{CommitAnswer, LockAnswer, Protocol, Section, Tag, View, Words};
 use std::marker::Brand;
 use std::sync::ledger::Blank;
@@ -31,9 +31,10 @@ pub struct Session<'d, P: Protocol> {
 impl<'d, P: Protocol> View for Session<'d, P> {
     ghost use Rattle.std.specs.Prelude.{◌≡◌, ◌+◌, ◌<◌, length, slice_index_or};
     ghost use Rattle.mvrlu.specs.Meant.{aborts_before, section_of};
-    ghost use Rattle.mvrlu.specs.Bounds.{MakesAtMost, read_most, pair_most};
+    ghost use Rattle.mvrlu.specs.Bounds.{MakesAtMost, read_most, pair_most, four_most};
     ghost use Rattle.mvrlu.specs.Standing.{Stays, stays_itself, stays_long, stays_state, words_in_section};
     ghost use Rattle.mv_history.specs.Meaning.{state_of, words_at};
+    ghost use Rattle.mv_history.specs.Fours.{four_from};
 
     ghost state = { λ s. state_of (section_of s) };
 
@@ -77,6 +78,20 @@ impl<'d, P: Protocol> View for Session<'d, P> {
         let domain = self.domain;
         let part = &mut self.part;
         read_pair_in::<P, Brand>(&domain.shared, &mut part.busy, object, place, Blank::new(1))
+    }
+
+    #[inline(always)]
+    fn read_four(&mut self, object: u32, place: u32) -> [u64; 4]
+        requires object { object < length (state_of (section_of self.old)) }
+        requires place { place < 3 }
+        ensures words { result ≡ four_from place (words_at (state_of (section_of self.old)) object) }
+        ensures as_before { Stays (section_of self.old) (section_of self.new) }
+        ensures aborts { aborts_before self.new ≡ aborts_before self.old }
+        ensures bound { MakesAtMost (section_of self.old).seat (section_of self.new).seat (four_most (section_of self.old) (section_of self.new)) }
+    {
+        let domain = self.domain;
+        let part = &mut self.part;
+        read_four_in::<P, Brand>(&domain.shared, &mut part.busy, object, place, Blank::new(1))
     }
 }
 

@@ -13,8 +13,8 @@ use std::marker::Brand;
 use std::sync::ledger::{Blank, Ledger};
 use std::test::Fail;
 use version_chain::{
-    Found, find, read_master, read_master_pair, read_version, read_version_pair, walk_start,
-    walk_step,
+    Found, find, find_at, read_master, read_master_four, read_master_pair, read_version,
+    read_version_four_at, read_version_pair, walk_start, walk_step,
 };
 
 // Enters where the clock names no commit, in three steps.
@@ -99,12 +99,34 @@ fn read_pair<L: Ledger>(
     }
 }
 
-// Enters a section, and reads object 0 by one look, again by `find`, and two words of it.
-fn read_thrice<L: Ledger>(
+// Four words of it, from this place on.
+fn read_four<L: Ledger>(
+    shared: &Shared<AnyRules>,
+    pass: &mut Pass<AnyRules>,
+    object: u32,
+    place: u32,
+    steps: &mut Steps<L>,
+) -> [u64; 4]
+    requires of { IsOf shared.now pass.old }
+    requires may { MayWalk (view pass.old) }
+    requires range { object < (config_of shared.now).objects }
+    requires place { place < 3 }
+{
+    match find_at(shared, pass, object, steps) {
+        None => read_master_four(shared, pass, object, place, steps),
+        Some(at) => read_version_four_at(shared, pass, at, place, steps),
+    }
+}
+
+// Object 0 by one look, again by `find`, and two and four words of it.
+type Reads = (Words, Words, (u64, u64), [u64; 4]);
+
+// Enters a section, and reads object 0.
+fn read_all_ways<L: Ledger>(
     shared: &Shared<AnyRules>,
     pass: &mut Pass<AnyRules>,
     steps: &mut Steps<L>,
-) -> Option<(Words, Words, (u64, u64))>
+) -> Option<Reads>
     requires of { IsOf shared.now pass.old }
     requires may { MayLoadLow (view pass.old) }
     requires range { 0 < (config_of shared.now).objects }
@@ -114,7 +136,8 @@ fn read_thrice<L: Ledger>(
     }
     let first = read_empty(shared, pass, 0, steps)?;
     let second = read(shared, pass, 0, steps);
-    Some((first, second, read_pair(shared, pass, 0, 2, steps)))
+    let pair = read_pair(shared, pass, 0, 2, steps);
+    Some((first, second, pair, read_four(shared, pass, 0, 2, steps)))
 }
 
 // The same of seat 0 of a new domain.
@@ -122,7 +145,7 @@ fn first_reads<L: Ledger>(
     alloc: Global,
     base: u64,
     blank: Blank,
-) -> Result<Option<(Words, Words, (u64, u64))>, AllocError>
+) -> Result<Option<Reads>, AllocError>
     requires base { base ≤ LAST }
     requires name { blank.name ≡ L.name }
     requires parts { (blank.parts ≡ L.parts) × (0 < L.parts) }
@@ -139,7 +162,7 @@ fn first_reads<L: Ledger>(
     let start = [[9, 8, 7, 6, 5, 0]];
     let (shared, mut passes) = Shared::<AnyRules>::new(alloc, &config, &start)?;
     let mut steps = Steps::<L>::open(blank);
-    Ok(read_thrice(&shared, &mut passes[0], &mut steps))
+    Ok(read_all_ways(&shared, &mut passes[0], &mut steps))
 }
 
 #[test]
@@ -147,7 +170,7 @@ fn first_read_steps(rt: HostRuntime) -> Result<(), Fail> {
     let opening = [9, 8, 7, 6, 5, 0];
     for base in [0, LAST] {
         let words = first_reads::<Brand>(rt.alloc(), base, Blank::new(1))?;
-        assert_eq!(rt; words, Some((opening, opening, (7, 6))));
+        assert_eq!(rt; words, Some((opening, opening, (7, 6), [7, 6, 5, 0])));
     }
     Ok(())
 }

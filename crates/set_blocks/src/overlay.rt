@@ -169,4 +169,15 @@ impl<V: View> View for Overlay<V> {
             None => self.view.read_pair(object, place),
         }
     }
+
+    fn read_four(&mut self, object: u32, place: u32) -> [u64; 4] {
+        match find(&self.writes[..self.count], object) {
+            Some(i) => {
+                let words = self.writes[i].1;
+                let first = place as usize;
+                [words[first], words[first + 1], words[first + 2], words[first + 3]]
+            }
+            None => self.view.read_four(object, place),
+        }
+    }
 }

@@ -88,3 +88,13 @@ fn a_pair_is_two_words_next_to_each_other(rt: HostRuntime) -> Result<(), Fail> {
     let _store = section.leave();
     Ok(())
 }
+
+#[test]
+fn four_words_stand_next_to_each_other(rt: HostRuntime) -> Result<(), Fail> {
+    let start = [[1, 2, 3, 4, 5, 6]];
+    let mut section = PlainStore::<AnyRules>::new(rt.alloc(), &start, 0, 1)?.enter();
+    assert_eq!(rt; section.read_four(0, 0), [1, 2, 3, 4]);
+    assert_eq!(rt; section.read_four(0, 2), [3, 4, 5, 6]);
+    let _store = section.leave();
+    Ok(())
+}

@@ -11,6 +11,7 @@ pub mod Ends
 pub mod Putting
 pub mod TreeWays
 pub mod Walking
+pub mod NodeWords
 pub mod Forks
 pub mod LeafWalks
 pub mod Found

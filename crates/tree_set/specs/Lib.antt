@@ -2,6 +2,7 @@ pub mod Places
 pub mod Calls
 pub mod Paths
 pub mod Walks
+pub mod Nodes
 pub mod Leaves
 pub mod Forks
 pub mod Filling

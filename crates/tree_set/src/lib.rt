@@ -20,10 +20,11 @@
 //! others' commits may have led. A refusal carries the one lock that was refused, and leaves the
 //! state as it was.
 //!
-//! Each call of a key makes one walk: `find` reads the objects from the root down to one leaf, and
-//! answers a `Fork`, which says whether the key is there and gives the writes of an add, a del or a
-//! put with no other read; `plant_writes` are those of an add to an empty tree. A changing call
-//! decides by that fork alone, and ends with `list_set::rewrite`.
+//! Each call of a key makes one walk: `find` reads the objects from the root down to one leaf, four
+//! words of each, since the other two are known of a tree's node, and answers a `Fork`, which says
+//! whether the key is there and gives the writes of an add, a del or a put with no other read;
+//! `plant_writes` are those of an add to an empty tree. A changing call decides by that fork alone,
+//! and ends with `list_set::rewrite`.
 //!
 //! The calls never commit and never retry, and take no memory. They don't recurse, so that a tree of
 //! one long branch takes no more stack than any other.
@@ -50,6 +51,7 @@
 
 mod changes;
 mod leaves;
+mod nodes;
 mod reads;
 mod search;
 mod sizes;

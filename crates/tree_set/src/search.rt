@@ -1,12 +1,12 @@
 // The search for a key.
-ghost use Rattle.std.specs.Prelude.{◌≡◌, ◌≢◌, ◌<◌, ◌≤◌, IfNone, IfSome, slice_index_or};
-ghost use Rattle.mv_history.specs.Meaning.{words_at};
+ghost use Rattle.std.specs.Prelude.{◌≡◌, ◌≢◌, ◌<◌, ◌≤◌, IfNone, IfSome};
 ghost use Rattle.set_script.specs.Lawful.{IsLawful};
 ghost use Rattle.set_script.specs.Objects.{link};
 ghost use Rattle.set_script.specs.Trees.{Tree, top, Stands};
 ghost use Rattle.tree_set.specs.Forks.{HasWords};
 ghost use Rattle.tree_set.specs.Walks.{IsFork, IsSubtree, first_key};
 
+use crate::nodes::{KEY, Node, read_node};
 use mv_history::{View, Words};
 
 /// Where a search for a key ended: at this leaf. `parent` leads to it, and `grand` to `parent`, where
@@ -27,7 +27,7 @@ pub struct Fork {
 /// The leaf where the search for the key ends, or `None` where the tree of this root is empty.
 ///
 /// It needs a lawful state and a root, 170 to 179. It reads the objects from the root down to one
-/// leaf, each once, never refuses, and takes no memory.
+/// leaf, each once, four words of a node and two of the root. It never refuses, and takes no memory.
 pub fn find<V: View>(view: &mut V, root: u32, key: u32) -> Option<Fork>
     requires root_from { 170 ≤ root }
     requires root_in { root < 180 }
@@ -37,11 +37,11 @@ pub fn find<V: View>(view: &mut V, root: u32, key: u32) -> Option<Fork>
     ensures words { IfSome result (λ fork. HasWords (V.state view.old) fork) }
     ensures as_before { V.as_before view.old view.new }
 {
-    let root_words = view.read(root);
-    if root_words[3] == 0 {
+    let (_, first) = view.read_pair(root, KEY);
+    if first == 0 {
         return None;
     }
-    Some(descend(view, root, root_words, key))
+    Some(descend(view, root, first, key))
 }
 
 /// The leaf where the search for the key ends, in a tree that is not empty.
@@ -56,48 +56,54 @@ pub fn find_leaf<V: View>(view: &mut V, root: u32, key: u32) -> Fork
     ensures words { HasWords (V.state view.old) result }
     ensures as_before { V.as_before view.old view.new }
 {
-    let root_words = view.read(root);
-    descend(view, root, root_words, key)
+    let (_, first) = view.read_pair(root, KEY);
+    descend(view, root, first, key)
 }
 
-// The leaf where the search for the key ends, down from the root, which has these words.
-fn descend<V: View>(view: &mut V, root: u32, root_words: Words, key: u32) -> Fork
+// The leaf where the search for the key ends, down from the root, which leads to this node.
+fn descend<V: View>(view: &mut V, root: u32, first: u64, key: u32) -> Fork
     requires root_from { 170 ≤ root }
     requires root_in { root < 180 }
     requires lawful { IsLawful (V.state view.old) }
-    requires words { root_words ≡ words_at (V.state view.old) root }
-    requires some { slice_index_or root_words 3 0 ≢ 0 }
+    requires first { first ≡ link (V.state view.old) root }
+    requires some { first ≢ 0 }
     ensures fork { IsFork (V.state view.old) root key result.grand result.parent result.leaf result.right result.words }
     ensures words { HasWords (V.state view.old) result }
     ensures as_before { V.as_before view.old view.new }
 {
+    let top = Node {
+        key: 0,
+        left: first,
+        right: 0,
+        value: 0,
+    };
     let mut grand = root;
-    let mut grand_words = root_words;
+    let mut grand_node = top;
     let mut parent = root;
-    let mut parent_words = root_words;
-    let mut leaf = root_words[3] as u32;
+    let mut parent_node = top;
+    let mut leaf = first as u32;
     let mut right = 0;
-    let mut words = view.read(leaf);
-    while words[1] == 2 {
+    let mut node = read_node(view, leaf);
+    while node.left != 0 {
         grand = parent;
-        grand_words = parent_words;
+        grand_node = parent_node;
         parent = leaf;
-        parent_words = words;
-        if (key as u64) < words[2] {
-            right = words[4] as u32;
-            leaf = words[3] as u32;
+        parent_node = node;
+        if (key as u64) < node.key {
+            right = node.right as u32;
+            leaf = node.left as u32;
         } else {
-            leaf = words[4] as u32;
+            leaf = node.right as u32;
         }
-        words = view.read(leaf);
+        node = read_node(view, leaf);
     }
     Fork {
         grand,
-        grand_words,
+        grand_words: grand_node.branch_words(root, grand),
         parent,
-        parent_words,
+        parent_words: parent_node.branch_words(root, parent),
         leaf,
-        words,
+        words: node.leaf_words(root),
         right,
     }
 }

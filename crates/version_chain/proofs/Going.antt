@@ -1,5 +1,5 @@
 -- One walk after another leaves what a walk leaves.
-use Rattle.std.proofs.Common.{◌≡◌, ℕ, List, ◌++◌, sym, ap, ◌∙◌, subst, append_assoc, length-append, arith}
+use Rattle.std.proofs.Common.{◌≡◌, ℕ, ◌+◌, List, ◌++◌, sym, ap, ◌∙◌, subst, append_assoc, length-append, arith}
 use Rattle.std.proofs.lemmas.List.Elements.{All-append}
 use Rattle.mv_history.specs.declared.Entry.{Entry}
 use Rattle.mv_history.specs.declared.Step.{Step}
@@ -29,6 +29,23 @@ walks_on u v w first second third a b = record {
         All-append (λ x. IsWalkStep x.kind) s.0 t.0 s.3 t.3,
       );
   rest = b.rest ∙ ap (λ (x : View). record x { past = record x.past { seen = w.past.seen }; walk = w.walk; empty = w.empty; trail = w.trail }) a.rest;
+}
+
+-- One reader after another leaves what a reader of as many words leaves.
+pub reads_on : (kind : StepKind) (n m : ℕ) (u v w : View) → ReadsSome kind n u v → ReadsSome kind m v w → ReadsSome kind (n + m) u w
+reads_on kind n m u v w a b = record {
+  trail =
+      let s = a.trail in
+      let t = b.trail in
+      let long = length-append s.0 t.0 in
+      let one = s.2 in
+      let two = t.2 in (
+        s.0 ++ t.0,
+        t.1 ∙ ap (λ (l : List Step). l ++ t.0) s.1 ∙ append_assoc u.trail s.0 t.0,
+        (omega arith),
+        All-append (λ x. x.kind ≡ kind) s.0 t.0 s.3 t.3,
+      );
+  rest = b.rest ∙ ap (λ (x : View). record x { trail = w.trail }) a.rest;
 }
 
 -- a section may walk on where its phase, the clock words it loaded and its write-back stay

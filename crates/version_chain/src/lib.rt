@@ -19,7 +19,7 @@
 //! that is unset or above the section's time. No call waits, refuses or takes memory, and none
 //! loops without bound: each version below one that was passed has a smaller commit time, so that
 //! `find` makes at most `6 + 3 * (length of seen after the call - at)` steps, where `at` is the
-//! length of the section's snapshot. A reader makes six, and one of two words makes two. The trail
+//! length of the section's snapshot. A reader makes six, one of two words two, and one of four words four. The trail
 //! grows by as many records.
 //!
 //! `walk_step_at`, `find_at` and the readers that end in `_at` make the same steps, and carry the cell
@@ -36,7 +36,7 @@ mod reading;
 mod walking;
 
 pub use reading::{
-    read_master, read_master_pair, read_version, read_version_at, read_version_pair,
-    read_version_pair_at,
+    read_master, read_master_four, read_master_pair, read_version, read_version_at,
+    read_version_four_at, read_version_pair, read_version_pair_at,
 };
 pub use walking::{Found, FoundVersion, Walk, find, find_at, walk_start, walk_step, walk_step_at};

@@ -1,6 +1,7 @@
 // Reading the words of what a walk has found.
 ghost use Rattle.std.specs.Prelude.{◌≡◌, ◌+◌, ◌<◌, slice_index};
 ghost use Rattle.mv_history.specs.declared.StepKind.TheVariants.{LoadData, LoadMaster};
+ghost use Rattle.mv_history.specs.Fours.{four_from};
 ghost use Rattle.mv_core.specs.declared.view.Walk.TheVariants as walk;
 ghost use Rattle.mv_core.specs.Passes.{view, IsOf, IsSame, config_of};
 ghost use Rattle.version_chain.specs.Walks.{MayWalk, StandsAtVersion, stand_in};
@@ -165,4 +166,55 @@ pub fn read_master_pair<P: Protocol, L: Ledger>(
 {
     let first = shared.load_master(pass, object, place, steps);
     (first, shared.load_master(pass, object, place + 1, steps))
+}
+
+/// Reads four words of the version that `find_at` has found, from this place on, of the six that
+/// `read_version` reads, on the same condition. It makes four steps; the pass stands there still.
+#[inline(always)]
+pub fn read_version_four_at<P: Protocol, L: Ledger>(
+    shared: &Shared<P>,
+    pass: &mut Pass<P>,
+    at: FoundVersion,
+    place: u32,
+    steps: &mut Steps<L>,
+) -> [u64; 4]
+    requires of { IsOf shared.now pass.old }
+    requires may { MayWalk (view pass.old) }
+    requires stands { StandsAtSlot (config_of shared.now) (view pass.old) at }
+    requires place { place < 3 }
+    ensures same { IsSame pass.old pass.new }
+    ensures may { MayWalk (view pass.new) }
+    ensures words { result ≡ four_from place (words_in (config_of shared.now) (view pass.old) (stand_in (view pass.old)).object) }
+    ensures reads { ReadsSome LoadData 4 (view pass.old) (view pass.new) }
+    ensures cost { steps.new ≡ steps.old + 4 }
+{
+    let (first, second) = read_version_pair_at(shared, pass, at, place, steps);
+    let (third, fourth) = read_version_pair_at(shared, pass, at, place + 2, steps);
+    [first, second, third, fourth]
+}
+
+/// Reads four master words of an object, from this place on, of the six that `read_master` reads, on the
+/// same condition. It makes four steps; the pass stands there still.
+#[inline(always)]
+pub fn read_master_four<P: Protocol, L: Ledger>(
+    shared: &Shared<P>,
+    pass: &mut Pass<P>,
+    object: u32,
+    place: u32,
+    steps: &mut Steps<L>,
+) -> [u64; 4]
+    requires of { IsOf shared.now pass.old }
+    requires may { MayWalk (view pass.old) }
+    requires range { object < (config_of shared.now).objects }
+    requires stands { (view pass.old).walk ≡ walk.Master object }
+    requires place { place < 3 }
+    ensures same { IsSame pass.old pass.new }
+    ensures may { MayWalk (view pass.new) }
+    ensures words { result ≡ four_from place (words_in (config_of shared.now) (view pass.old) object) }
+    ensures reads { ReadsSome LoadMaster 4 (view pass.old) (view pass.new) }
+    ensures cost { steps.new ≡ steps.old + 4 }
+{
+    let (first, second) = read_master_pair(shared, pass, object, place, steps);
+    let (third, fourth) = read_master_pair(shared, pass, object, place + 2, steps);
+    [first, second, third, fourth]
 }

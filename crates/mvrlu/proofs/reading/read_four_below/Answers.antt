@@ -1,0 +1,123 @@
+use Rattle.std.proofs.Common.{◌≡◌, ℕ, refl, ap, ◌∙◌, subst}
+use Rattle.mv_history.specs.declared.StepKind.TheVariants.{LoadData, LoadMaster}
+use Rattle.mv_history.specs.Meaning.{snapshot_of, words_at}
+use Rattle.mv_history.specs.Fours.{four_from}
+use Rattle.mv_layout.specs.declared.Config.{Config}
+use Rattle.mv_core.specs.declared.view.View.{View}
+use Rattle.mv_core.specs.Passes.{view, config_of}
+use Rattle.version_chain.specs.Reads.{words_in}
+use Rattle.mvrlu.specs.Placed.{Placed, placed, section_from}
+use Rattle.mvrlu.specs.Standing.{Stays}
+use Rattle.mvrlu.proofs.Names.{config_inside}
+use Rattle.mvrlu.proofs.Lawful.{section_lawful}
+use Rattle.mvrlu.proofs.LockMeant.{snapshot_words}
+use Rattle.mvrlu.proofs.ReadMeant.{Looks, walked, looked, look_continues, look_stays, look_busy}
+use Rattle.mvrlu.proofs.Behind.{lent_busy, lent_view}
+use Rattle.mvrlu.proofs.reading.read_four_below.Goals as goal
+
+pub invariant_of-busy : goal.invariant_of-busy
+invariant_of-busy g c =
+    let i = c.deref_mut.result.now in
+    let is = lent_busy i c.busy.inside.place.value c.deref_mut.ensures.value g.P.Protocol.start g.P.Protocol.allowed c.busy.invariant in
+    let p = placed i.pass i.log in
+    let q = placed c.read_master_four.new.pass i.log in
+    let t : Looks p.view q.view = looked LoadMaster 4 refl (refl, refl) p.view (view c.find_at.new.pass) q.view (walked p.view
+    (view c.find_at.new.pass) _ _ c.find_at.ensures.walks) c.read_master_four.ensures.reads in
+    look_busy g.P.Protocol.start g.P.Protocol.allowed p q (c.read_master_four.ensures.same.2 ∙ c.find_at.ensures.same.2) is t c.read_master_four.new.pass.known
+    c.read_master_four.ensures.may refl
+
+pub returns-in-None-clause-lawful : goal.returns-in-None-clause-lawful
+returns-in-None-clause-lawful g c =
+    let i = c.deref_mut.result.now in
+    let is = lent_busy i c.busy.inside.place.value c.deref_mut.ensures.value g.P.Protocol.start g.P.Protocol.allowed c.busy.invariant in
+    let p = placed i.pass i.log in
+    let q = placed c.read_master_four.new.pass i.log in
+    let t : Looks p.view q.view = looked LoadMaster 4 refl (refl, refl) p.view (view c.find_at.new.pass) q.view (walked p.view
+    (view c.find_at.new.pass) _ _ c.find_at.ensures.walks) c.read_master_four.ensures.reads in
+    section_lawful g.P.Protocol.start g.P.Protocol.allowed g.P.Protocol.one_start g.P.Protocol.one_allowed q
+    (look_busy g.P.Protocol.start g.P.Protocol.allowed p q (c.read_master_four.ensures.same.2 ∙ c.find_at.ensures.same.2) is t c.read_master_four.new.pass.known
+    c.read_master_four.ensures.may refl)
+
+pub returns-in-None-clause-words : goal.returns-in-None-clause-words
+returns-in-None-clause-words g c =
+    let i = c.deref_mut.result.now in
+    let is = lent_busy i c.busy.inside.place.value c.deref_mut.ensures.value g.P.Protocol.start g.P.Protocol.allowed c.busy.invariant in
+    let view_is = lent_view i c.busy.inside.place.value c.deref_mut.ensures.value _ c.busy.view_is in
+    let o = c.args.object in
+    let p = placed i.pass i.log in
+    let x = placed c.find_at.new.pass i.log in
+    let t : Looks p.view x.view = walked p.view x.view _ _ c.find_at.ensures.walks in
+    let config : config_of c.args.shared.now ≡ i.pass.domain = config_inside c.args.shared.now p _ view_is c.requires.fits in
+    let lawful = section_lawful g.P.Protocol.start g.P.Protocol.allowed g.P.Protocol.one_start g.P.Protocol.one_allowed p is in
+    c.read_master_four.ensures.words
+    ∙ ap (four_from c.args.place)
+    (ap (λ (d : Config). words_in d x.view o) config
+    ∙ snapshot_words p x o c.find_at.ensures.same.2 (ap (λ (u : View). u.phase) t.rest)
+    (look_continues p x c.find_at.ensures.same.2 c.find_at.ensures.same.0 t) lawful.at
+    ∙ ap (λ (y : Placed). words_at (snapshot_of (section_from y)) o) view_is)
+
+pub returns-in-None-clause-stays : goal.returns-in-None-clause-stays
+returns-in-None-clause-stays g c =
+    let i = c.deref_mut.result.now in
+    let view_is = lent_view i c.busy.inside.place.value c.deref_mut.ensures.value _ c.busy.view_is in
+    let p = placed i.pass i.log in
+    let q = placed c.read_master_four.new.pass i.log in
+    let t : Looks p.view q.view = looked LoadMaster 4 refl (refl, refl) p.view (view c.find_at.new.pass) q.view (walked p.view
+    (view c.find_at.new.pass) _ _ c.find_at.ensures.walks) c.read_master_four.ensures.reads in
+    subst (λ (y : Placed). Stays (section_from y) (section_from q)) view_is
+    (look_stays p q (c.read_master_four.ensures.same.2 ∙ c.find_at.ensures.same.2) (c.read_master_four.ensures.same.0
+    ∙ c.find_at.ensures.same.0) t)
+
+pub invariant_of-busy-2 : goal.invariant_of-busy-2
+invariant_of-busy-2 g c =
+    let i = c.deref_mut.result.now in
+    let is = lent_busy i c.busy.inside.place.value c.deref_mut.ensures.value g.P.Protocol.start g.P.Protocol.allowed c.busy.invariant in
+    let p = placed i.pass i.log in
+    let q = placed c.read_version_four_at.new.pass i.log in
+    let t : Looks p.view q.view = looked LoadData 4 refl (refl, refl) p.view (view c.find_at.new.pass) q.view (walked p.view
+    (view c.find_at.new.pass) _ _ c.find_at.ensures.walks) c.read_version_four_at.ensures.reads in
+    look_busy g.P.Protocol.start g.P.Protocol.allowed p q (c.read_version_four_at.ensures.same.2 ∙ c.find_at.ensures.same.2) is t
+    c.read_version_four_at.new.pass.known c.read_version_four_at.ensures.may refl
+
+pub returns-clause-lawful : goal.returns-clause-lawful
+returns-clause-lawful g c =
+    let i = c.deref_mut.result.now in
+    let is = lent_busy i c.busy.inside.place.value c.deref_mut.ensures.value g.P.Protocol.start g.P.Protocol.allowed c.busy.invariant in
+    let p = placed i.pass i.log in
+    let q = placed c.read_version_four_at.new.pass i.log in
+    let t : Looks p.view q.view = looked LoadData 4 refl (refl, refl) p.view (view c.find_at.new.pass) q.view (walked p.view
+    (view c.find_at.new.pass) _ _ c.find_at.ensures.walks) c.read_version_four_at.ensures.reads in
+    section_lawful g.P.Protocol.start g.P.Protocol.allowed g.P.Protocol.one_start g.P.Protocol.one_allowed q
+    (look_busy g.P.Protocol.start g.P.Protocol.allowed p q (c.read_version_four_at.ensures.same.2 ∙ c.find_at.ensures.same.2) is t
+    c.read_version_four_at.new.pass.known c.read_version_four_at.ensures.may refl)
+
+pub returns-clause-words : goal.returns-clause-words
+returns-clause-words g c =
+    let i = c.deref_mut.result.now in
+    let is = lent_busy i c.busy.inside.place.value c.deref_mut.ensures.value g.P.Protocol.start g.P.Protocol.allowed c.busy.invariant in
+    let view_is = lent_view i c.busy.inside.place.value c.deref_mut.ensures.value _ c.busy.view_is in
+    let o = c.args.object in
+    let p = placed i.pass i.log in
+    let x = placed c.find_at.new.pass i.log in
+    let t : Looks p.view x.view = walked p.view x.view _ _ c.find_at.ensures.walks in
+    let config : config_of c.args.shared.now ≡ i.pass.domain = config_inside c.args.shared.now p _ view_is c.requires.fits in
+    let lawful = section_lawful g.P.Protocol.start g.P.Protocol.allowed g.P.Protocol.one_start g.P.Protocol.one_allowed p is in
+    c.read_version_four_at.ensures.words
+    ∙ ap (four_from c.args.place)
+    (ap (λ (n : ℕ). words_in (config_of c.args.shared.now) x.view n) c.in-Some.ensures.found.1
+    ∙ ap (λ (d : Config). words_in d x.view o) config
+    ∙ snapshot_words p x o c.find_at.ensures.same.2 (ap (λ (u : View). u.phase) t.rest)
+    (look_continues p x c.find_at.ensures.same.2 c.find_at.ensures.same.0 t) lawful.at
+    ∙ ap (λ (y : Placed). words_at (snapshot_of (section_from y)) o) view_is)
+
+pub returns-clause-stays : goal.returns-clause-stays
+returns-clause-stays g c =
+    let i = c.deref_mut.result.now in
+    let view_is = lent_view i c.busy.inside.place.value c.deref_mut.ensures.value _ c.busy.view_is in
+    let p = placed i.pass i.log in
+    let q = placed c.read_version_four_at.new.pass i.log in
+    let t : Looks p.view q.view = looked LoadData 4 refl (refl, refl) p.view (view c.find_at.new.pass) q.view (walked p.view
+    (view c.find_at.new.pass) _ _ c.find_at.ensures.walks) c.read_version_four_at.ensures.reads in
+    subst (λ (y : Placed). Stays (section_from y) (section_from q)) view_is
+    (look_stays p q (c.read_version_four_at.ensures.same.2 ∙ c.find_at.ensures.same.2) (c.read_version_four_at.ensures.same.0
+    ∙ c.find_at.ensures.same.0) t)

@@ -1,0 +1,24 @@
+use Rattle.std.proofs.Common.{[], take, arith, refl, sym, ap, ◌∙◌, length-take}
+use Rattle.std.proofs.lemmas.List.{get_or-take}
+use Rattle.mv_history.specs.Fours.{four_from}
+use Rattle.mv_history.proofs.Writing.{words-written_same, words-written_other, length-written}
+use Rattle.set_blocks.proofs.overlay.OverlayView.read_four.Goals as goal
+
+pub returns-in-Some-clause-words : goal.returns-in-Some-clause-words
+returns-in-Some-clause-words g c =
+    let o = c.args.self.now in
+    let found = c.in-Some.ensures.found in
+    let there = words-written_same (g.V.View.state o.view) (take o.count o.writes) c.in-Some.i c.args.object (0, []) o.distinct found.0 found.1
+    (omega (arith, c.requires.object, length-written (g.V.View.state o.view) (take o.count o.writes))) in
+    ap (four_from c.args.place)
+    (sym (there ∙ rw (get_or-take o.count o.writes c.in-Some.i (0, []) (omega (arith, found.0, length-take o.count o.writes))) refl))
+
+pub read_four-requires-clause-object : goal.read_four-requires-clause-object
+read_four-requires-clause-object g c =
+    let o = c.args.self.now in omega (arith, c.requires.object, length-written (g.V.View.state o.view) (take o.count o.writes))
+
+pub returns-in-None : goal.returns-in-None
+returns-in-None g c =
+    let o = c.args.self.now in
+    let there = words-written_other (g.V.View.state o.view) (take o.count o.writes) c.args.object c.in-None.ensures.none in
+    record { words = c.read_four.ensures.words ∙ ap (four_from c.args.place) (sym there); as_before = (c.read_four.ensures.as_before, refl) }

@@ -4,6 +4,7 @@ use Rattle.set_catalog.specs.Picks.{IsVacant}
 use Rattle.set_catalog.proofs.picks.look.Goals as goal
 use Rattle.set_catalog.proofs.picks.look.Goals.{in-Some, in-None}
 
+-- what holds of an object on either side of a place holds of each
 either_side : (from end o but : ℕ) → (from ≤ o → o < end → o ≡ but) → (180 ≤ o → o < from → o ≡ but) → 180 ≤ o → o < end → o ≡ but
 either_side from end o but above below node within = grind arith
 

@@ -175,7 +175,12 @@ impl<V: View> View for Overlay<V> {
             Some(i) => {
                 let words = self.writes[i].1;
                 let first = place as usize;
-                [words[first], words[first + 1], words[first + 2], words[first + 3]]
+                [
+                    words[first],
+                    words[first + 1],
+                    words[first + 2],
+                    words[first + 3],
+                ]
             }
             None => self.view.read_four(object, place),
         }

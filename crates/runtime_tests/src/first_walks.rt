@@ -90,6 +90,8 @@ fn read_pair<L: Ledger>(
     requires may { MayWalk (view pass.old) }
     requires range { object < (config_of shared.now).objects }
     requires place { place < 5 }
+    ensures same { IsSame pass.old pass.new }
+    ensures may { MayWalk (view pass.new) }
 {
     match find(shared, pass, object, steps) {
         Found::Master => read_master_pair(shared, pass, object, place, steps),

@@ -15,8 +15,8 @@ use Rattle.set_script.proofs.Times.{lawful_after}
 use Rattle.set_blocks.proofs.Remaining.{lawful_after as lawful_blocks}
 use Rattle.set_blocks.specs.declared.faults.BlockKind.{BlockKind}
 use Rattle.set_blocks.specs.declared.faults.BlockKind.TheVariants.{Line, Nested, Stray, Empty, Long, Apart, Unended}
-use Rattle.step_replay.specs.declared.plan.PlanKind.{PlanKind}
-use Rattle.step_replay.specs.declared.plan.PlanKind.TheVariants.{Many as PlanMany}
+use Rattle.replay_rules.specs.declared.plan.PlanKind.{PlanKind}
+use Rattle.replay_rules.specs.declared.plan.PlanKind.TheVariants.{Many as PlanMany}
 use Rattle.mvrlu_run.specs.declared.finish.Closed.{Closed}
 use Rattle.mvrlu_run.specs.declared.finish.Finish.{Finish}
 use Rattle.mvrlu_run.specs.declared.finish.Finish.TheVariants.{Done, Usage, Limit, Script, BlockScript, Plan, Bytes, Read, Write, Memory}

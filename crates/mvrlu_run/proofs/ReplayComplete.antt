@@ -3,8 +3,9 @@ use Rattle.std.proofs.Common.{inl, inr, ◌≡◌, ◌⊎◌, ℕ, List, [], ◌
 use Rattle.std.specs.Io.KnownBytes.{Appends}
 use Rattle.run_outside.specs.Outside.{Rose}
 use Rattle.run_words.specs.Words.{asked, replay}
-use Rattle.step_replay.specs.Plans.{PlanOf, planned}
-use Rattle.step_replay.specs.declared.plan.PlanKind.{PlanKind}
+use Rattle.replay_rules.specs.Plans.{PlanOf}
+use Rattle.step_replay.specs.PlanTexts.{planned}
+use Rattle.replay_rules.specs.declared.plan.PlanKind.{PlanKind}
 use Rattle.mvrlu_run.specs.declared.finish.Finish.{Finish}
 use Rattle.mvrlu_run.specs.declared.finish.Finish.TheVariants.{Done, Usage, Limit, Script, BlockScript, Plan, Bytes, Read, Write, Memory}
 use Rattle.mvrlu_run.specs.declared.finish.Ran.{Ran}

@@ -3,10 +3,11 @@ use Rattle.std.specs.Prelude.{◌≡◌, ◌⊎◌, ℕ, List, [], ◌∷◌, Ok
 use Rattle.std.specs.Io.KnownBytes.{Appends}
 use Rattle.run_outside.specs.Outside.{Rose}
 use Rattle.run_words.specs.Words.{asked, replay}
-use Rattle.step_replay.specs.Plans.{PlanOf, planned}
-use Rattle.step_replay.specs.RuledRuns.{IsRuledPlan}
-use Rattle.step_replay.specs.Runs.{text_of_plan}
-use Rattle.step_replay.specs.declared.plan.PlanKind.{PlanKind}
+use Rattle.replay_rules.specs.Plans.{PlanOf}
+use Rattle.step_replay.specs.PlanTexts.{planned}
+use Rattle.replay_rules.specs.RuledRuns.{IsRuledPlan}
+use Rattle.replay_rules.specs.Runs.{text_of_plan}
+use Rattle.replay_rules.specs.declared.plan.PlanKind.{PlanKind}
 use Rattle.mvrlu_run.specs.declared.finish.Closed.{Closed}
 use Rattle.mvrlu_run.specs.declared.finish.Closed.TheVariants.{No}
 use Rattle.mvrlu_run.specs.Outcome.{Outside}

@@ -16,8 +16,9 @@ use Rattle.mvrlu_run.specs.declared.finish.TheConstants.{MOST_BYTES}
 use Rattle.mvrlu_run.specs.declared.scripts.Grammar.{Grammar}
 use Rattle.mvrlu_run.specs.declared.scripts.Grammar.TheVariants.{Sets, Growing}
 use Rattle.mvrlu_run.specs.Reading.{Says}
-use Rattle.step_replay.specs.Plans.{PlanOf, planned}
-use Rattle.step_replay.specs.declared.plan.PlanKind.{PlanKind}
+use Rattle.replay_rules.specs.Plans.{PlanOf}
+use Rattle.step_replay.specs.PlanTexts.{planned}
+use Rattle.replay_rules.specs.declared.plan.PlanKind.{PlanKind}
 
 -- the text has too many bytes
 abbrev pub IsLong : List ℕ → Type 0

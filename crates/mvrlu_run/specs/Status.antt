@@ -10,8 +10,8 @@ use Rattle.mvrlu_run.specs.declared.finish.Closed.{Closed}
 use Rattle.mvrlu_run.specs.declared.finish.Closed.TheVariants.{No}
 use Rattle.mvrlu_run.specs.declared.finish.Finish.{Finish}
 use Rattle.mvrlu_run.specs.declared.finish.Finish.TheVariants.{Done, Usage, Limit, Script, BlockScript, Plan, Bytes, Read, Write, Memory}
-use Rattle.step_replay.specs.declared.plan.PlanKind.{PlanKind}
-use Rattle.step_replay.specs.declared.plan.PlanKind.TheVariants.{Word as PlanWord, Count as PlanCount, Number as PlanNumber, Many as PlanMany}
+use Rattle.replay_rules.specs.declared.plan.PlanKind.{PlanKind}
+use Rattle.replay_rules.specs.declared.plan.PlanKind.TheVariants.{Word as PlanWord, Count as PlanCount, Number as PlanNumber, Many as PlanMany}
 
 -- the status of a faulty script
 abbrev pub fault_status : FaultKind → ℕ

@@ -31,9 +31,10 @@ use Rattle.mvrlu_run.specs.Blocked.{IsBlocksText}
 use Rattle.mvrlu_run.specs.GrownRuns.{IsGrownText}
 use Rattle.mvrlu_run.specs.Pooled.{IsPoolText}
 use Rattle.mvrlu_run.specs.Scripts.{AllScripts, Reading, commands, blocks, plans}
-use Rattle.step_replay.specs.Plans.{PlanOf, planned}
-use Rattle.step_replay.specs.RuledRuns.{IsRuledPlan}
-use Rattle.step_replay.specs.Runs.{text_of_plan}
+use Rattle.replay_rules.specs.Plans.{PlanOf}
+use Rattle.step_replay.specs.PlanTexts.{planned}
+use Rattle.replay_rules.specs.RuledRuns.{IsRuledPlan}
+use Rattle.replay_rules.specs.Runs.{text_of_plan}
 
 -- The scripts were run over the domain that is left, which was opened with so many objects, all zero, and this time of the
 -- opening state: its one history is that of these lines, maps and tables.

@@ -1,8 +1,9 @@
 // The replay of a file's plan.
 ghost use Rattle.std.specs.Prelude.{◌≡◌, ◌+◌, ◌≤◌, length, map, string_bytes, IfErr, IfOk, MatchResult};
 ghost use Rattle.run_words.specs.Words.{replay as replay_of};
-ghost use Rattle.step_replay.specs.FitPlans.{IsFitPlan};
-ghost use Rattle.step_replay.specs.Plans.{plan_of, planned};
+ghost use Rattle.replay_rules.specs.FitPlans.{IsFitPlan};
+ghost use Rattle.replay_rules.specs.Plans.{plan_of};
+ghost use Rattle.step_replay.specs.PlanTexts.{planned};
 ghost use Rattle.mvrlu_run.specs.Reading.{Says};
 ghost use Rattle.mvrlu_run.specs.Scripts.{AnyStop, IsScript, NoneFails, NotRead, OneStop, plans as by_plan};
 ghost use Rattle.mvrlu_run.specs.Told.{IsTextFor};

@@ -1,11 +1,4 @@
 pub mod PlanLines
-pub mod Replays
-pub mod Machines
-pub mod Ruled
 pub mod FirstSteps
-pub mod SeatNotes
 pub mod TurnLaws
-pub mod OneStep
-pub mod runs
-pub mod answers
-pub mod NextSteps
+pub mod MachineLaws

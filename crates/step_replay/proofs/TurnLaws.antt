@@ -2,13 +2,13 @@
 use Rattle.std.proofs.Common.{◌≡◌, ℕ, zero, suc, ◌+◌, ◌-◌, ◌<◌, ◌≤◌, List, [], ◌∷◌, ◌++◌, length, get_or, drop}
 use Rattle.std.proofs.Common.{set, append_assoc, refl, sym, ap, ◌∙◌, arith, drop-cons}
 use Rattle.mv_layout.specs.declared.config.Config.{Config}
-use Rattle.step_replay.specs.declared.plan.CallOf.{CallOf}
+use Rattle.replay_rules.specs.declared.plan.CallOf.{CallOf}
 use Rattle.std.proofs.lemmas.List.{map-append}
 use Rattle.step_replay.specs.declared.turns.Seat.{Seat}
-use Rattle.step_replay.specs.Runs.{SeatOf, TapeOf, Scene, Looked, Replay, no_call, one_looked, looked, looked_on, turned, turn_taken, turns_taken}
-use Rattle.step_replay.specs.Runs.{new_seat, new_seats, replay_of}
-use Rattle.step_replay.specs.Plans.{PlanOf}
-use Rattle.step_replay.specs.Words.{new_words}
+use Rattle.replay_rules.specs.Runs.{SeatOf, TapeOf, Scene, Looked, Replay, no_call, one_looked, looked, looked_on, turned, turn_taken, turns_taken}
+use Rattle.replay_rules.specs.Runs.{new_seat, new_seats, replay_of}
+use Rattle.replay_rules.specs.Plans.{PlanOf}
+use Rattle.replay_rules.specs.Words.{new_words}
 use Rattle.step_replay.specs.Shown.{seat_of, seats_of}
 
 -- the list from a place on is what stands there and what is behind
@@ -49,11 +49,6 @@ seats_next calls seats first count seat more is lt pushed before =
     ∙ ap (λ x. seats_of calls seats ++ x ∷ new_seats calls (first + 1) (count - (first + 1))) is
     ∙ ap (λ n. seats_of calls seats ++ new_seats calls first n) (sym left)
     ∙ before
-
--- the seats of a replay have the numbers below so many
-pub seats_long : (calls : List CallOf) (first count : ℕ) → length (new_seats calls first count) ≡ count
-seats_long calls first zero = refl
-seats_long calls first (suc count) = ap suc (seats_long calls (first + 1) count)
 
 -- what a list of seats shows at a place
 pub seat_shown : (calls : List CallOf) (seats : List Seat) (i : ℕ) (seat : Seat) (d : SeatOf) → i < length seats → seat ≡ get_or seats i seat

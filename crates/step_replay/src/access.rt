@@ -3,16 +3,16 @@ ghost use Rattle.std.specs.Prelude.{◌≡◌};
 ghost use Rattle.mv_layout.specs.Limits.{Checked};
 ghost use Rattle.mv_layout.specs.Words.{link_seat_of};
 ghost use Rattle.mv_core.specs.LockSteps.{field_place};
-ghost use Rattle.step_replay.specs.Tasks.{link_slot, slot_at, link_to, stamp_from, next_clock, commit_clock, named_place, entering_place, helping_place};
-ghost use Rattle.step_replay.specs.Tasks.{walking_place, locking_place, ending_place, sweeping_place, place_in_task, entering_access, helping_access};
-ghost use Rattle.step_replay.specs.Tasks.{field_word, locking_access, ending_access, sweeping_access, access_in_task};
+ghost use Rattle.replay_rules.specs.Tasks.{link_slot, slot_at, link_to, stamp_from, next_clock, commit_clock, named_place, entering_place, helping_place};
+ghost use Rattle.replay_rules.specs.Tasks.{walking_place, locking_place, ending_place, sweeping_place, place_in_task, entering_access, helping_access};
+ghost use Rattle.replay_rules.specs.Tasks.{field_word, locking_access, ending_access, sweeping_access, access_in_task};
 
 use crate::notes::word_of;
-use crate::seats::{Access, Ending, Entering, Helping, Locking, Sweeping, Task, Version, Walking};
 use mv_layout::{
     Config, LAST, Place, clock_seat, clock_slot, clock_time, clock_word, link_word,
     slot_of_position, unset_stamp,
 };
+use replay_rules::{Access, Ending, Entering, Helping, Locking, Sweeping, Task, Version, Walking};
 
 /// The seat of a link.
 pub fn seat_of_link(link: u64) -> u32

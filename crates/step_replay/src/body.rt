@@ -2,13 +2,12 @@
 ghost use Rattle.std.specs.Prelude.{◌≡◌, ◌≤◌, ◌<◌, All, IfOk, MatchResult, Ok, codes, length};
 ghost use Rattle.std.specs.Str.{bytes_eq};
 ghost use Rattle.set_script.specs.Grammar.{words_in};
-ghost use Rattle.step_replay.specs.Plans.{verb_of, other_verb_of, words_behind, call_with, call_of, seats_after, steps_taken, at_line, Refuses};
-ghost use Rattle.step_replay.specs.FitPlans.{IsFitConfig, IsFitCall, IsFitCallOf, AreFitSteps};
+ghost use Rattle.step_replay.specs.PlanTexts.{verb_of, other_verb_of, words_behind, call_with, call_of, seats_after, steps_taken, at_line, Refuses};
+ghost use Rattle.replay_rules.specs.FitPlans.{IsFitConfig, IsFitCall, IsFitCallOf, AreFitSteps};
 
-use crate::drafts::MOST_STEPS;
 use crate::numbers::{need_words, next_number, read_number, read_six};
-use crate::plan::{Call, CallOf, PlanFault, PlanKind};
 use mv_layout::Config;
+use replay_rules::{Call, CallOf, MOST_STEPS, PlanFault, PlanKind};
 use set_script::first_word;
 
 /// What a call does.

@@ -1,15 +1,14 @@
 // How calls begin: their conditions, and their first step.
 ghost use Rattle.std.specs.Prelude.{◌≡◌};
-ghost use Rattle.step_replay.specs.Begins.{may_begin, new_sweep, begun, begin_lock, unlock, begin_abort, begin_call};
+ghost use Rattle.replay_rules.specs.Begins.{may_begin, new_sweep, begun, begin_lock, unlock, begin_abort, begin_call};
 
 use crate::notes::{held, holds, live, place_held, version_at};
-use crate::plan::Call;
-use crate::seats::{
-    Answer, Ending, Entering, Leaving, Scanned, State, Sweep, Sweeping, Task, Then, Version,
-    Walking,
-};
 use mv_history::LockAnswer;
 use mv_layout::Config;
+use replay_rules::{
+    Answer, Call, Ending, Entering, Leaving, Scanned, State, Sweep, Sweeping, Task, Then, Version,
+    Walking,
+};
 
 /// Whether a seat that has no call under way may make this one: `enter` and `tidy` outside a section, all others in one;
 /// `read` needs an object that is not held, `write` one that is; `commit` needs something held, and `leave` nothing.

@@ -10,17 +10,16 @@
 // decimal digits.
 ghost use Rattle.std.specs.Prelude.{◌≡◌, ◌-◌, ◌<◌, ◌^◌, ◌∷◌, IfOk, MatchResult, Ok, length};
 ghost use Rattle.set_script.specs.Grammar.{lines_of, words_of, words_in};
-ghost use Rattle.step_replay.specs.Plans.{line_taken, last_line, said_of, at_line, planned, plan_of, Refuses};
-ghost use Rattle.step_replay.specs.FitPlans.{IsFitSaid, IsFitPlan};
+ghost use Rattle.step_replay.specs.PlanTexts.{line_taken, last_line, said_of, at_line, planned, Refuses};
+ghost use Rattle.replay_rules.specs.Plans.{plan_of};
+ghost use Rattle.step_replay.specs.FitDrafts.{IsFitSaid};
+ghost use Rattle.replay_rules.specs.FitPlans.{IsFitPlan};
 
 use crate::body::{read_call, take_steps};
 use crate::heads::{Heads, next_heads};
-use crate::plan::{CallOf, Plan, PlanFault, PlanKind};
+use replay_rules::{CallOf, Plan, PlanFault, PlanKind};
 use set_script::{first_word, strip_carriage_return};
 use std::alloc::Global;
-
-/// How many steps a plan may have.
-pub const MOST_STEPS: usize = 65_536;
 
 /// What the lines so far say.
 #[derive(Drop)]

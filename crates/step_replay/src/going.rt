@@ -1,28 +1,27 @@
 // How a call goes on behind a step.
 ghost use Rattle.std.specs.Prelude.{◌≡◌, ◌+◌};
 ghost use Rattle.mv_layout.specs.Limits.{Checked};
-ghost use Rattle.step_replay.specs.declared.seats.Then.TheVariants.{Goes};
-ghost use Rattle.step_replay.specs.declared.seats.Task.TheVariants.{EndsSection, Tidies, Walks, Locks};
-ghost use Rattle.step_replay.specs.GoesOn.{name, helped_in_tidy, helped_in, help, after_entering, after_helping, stand, refusal, is_lock};
-ghost use Rattle.step_replay.specs.GoesOn.{after_stamp, after_words};
-ghost use Rattle.step_replay.specs.GoesOn.{after_walking, after_field, after_lock_head, after_locking, after_writing, store_super, after_name};
-ghost use Rattle.step_replay.specs.GoesOn.{after_unlock};
-ghost use Rattle.step_replay.specs.GoesOn.{after_leaving, after_now, after_ending};
-ghost use Rattle.step_replay.specs.Sweeps.{rest_is_due, by_mark, holder_of, holder, tidied, after_frees, free, after_free, look_at, settle, settle_behind};
-ghost use Rattle.step_replay.specs.Sweeps.{after_super, back_by, after_top, after_master, after_cut, after_back, after_sweeping, then_after};
+ghost use Rattle.replay_rules.specs.declared.seats.Then.TheVariants.{Goes};
+ghost use Rattle.replay_rules.specs.declared.seats.Task.TheVariants.{EndsSection, Tidies, Walks, Locks};
+ghost use Rattle.replay_rules.specs.GoesOn.{name, helped_in_tidy, helped_in, help, after_entering, after_helping, stand, refusal, is_lock};
+ghost use Rattle.replay_rules.specs.GoesOn.{after_stamp, after_words};
+ghost use Rattle.replay_rules.specs.GoesOn.{after_walking, after_field, after_lock_head, after_locking, after_writing, store_super, after_name};
+ghost use Rattle.replay_rules.specs.GoesOn.{after_unlock};
+ghost use Rattle.replay_rules.specs.GoesOn.{after_leaving, after_now, after_ending};
+ghost use Rattle.replay_rules.specs.Sweeps.{rest_is_due, by_mark, holder_of, holder, tidied, after_frees, free, after_free, look_at, settle, settle_behind};
+ghost use Rattle.replay_rules.specs.Sweeps.{after_super, back_by, after_top, after_master, after_cut, after_back, after_sweeping, then_after};
 
 use crate::access::{commit_clock, link_to, next_clock, seat_of_link};
 use crate::calls::unlock;
 use crate::learning::other_seat;
-use crate::notes::{Test, dead_count, first_behind, first_from, live, version_at, with_word};
-use crate::plan::Call;
-use crate::seats::{
-    Answer, Back, Ending, Entering, Helping, Leaving, Locking, Reclaimed, Scanned, State, Sweep,
-    Sweeping, Task, Then, Version, Walking,
-};
+use crate::notes::{dead_count, first_behind, first_from, live, version_at, with_word};
 use commit_abort::Ended;
 use mv_history::{Holder, LockAnswer, Rival, WORDS, Words};
 use mv_layout::{Config, LAST, NO_SLOT, clock_seat, clock_slot, clock_time, is_unset, mark_word};
+use replay_rules::{
+    Answer, Back, Call, Ending, Entering, Helping, Leaving, Locking, Reclaimed, Scanned, State,
+    Sweep, Sweeping, Task, Test, Then, Version, Walking,
+};
 
 fn end(step: Ending) -> Then
     ensures { result ≡ Goes (EndsSection step) }

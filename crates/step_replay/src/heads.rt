@@ -1,12 +1,14 @@
 // The first four lines of a plan: the numbers of its domain.
 ghost use Rattle.std.specs.Prelude.{◌≡◌, ◌≤◌, IfOk};
 ghost use Rattle.set_script.specs.Grammar.{words_in};
-ghost use Rattle.step_replay.specs.Plans.{config_of, head_taken};
-ghost use Rattle.step_replay.specs.FitPlans.{AreFitHeads, IsFitConfig};
+ghost use Rattle.replay_rules.specs.Plans.{config_of};
+ghost use Rattle.step_replay.specs.PlanTexts.{head_taken};
+ghost use Rattle.step_replay.specs.FitDrafts.{AreFitHeads};
+ghost use Rattle.replay_rules.specs.FitPlans.{IsFitConfig};
 
 use crate::numbers::read_single;
-use crate::plan::PlanKind;
 use mv_layout::{Config, LAST};
+use replay_rules::PlanKind;
 
 // How many objects a section may hold.
 const WRITE_MAX: u32 = 16;

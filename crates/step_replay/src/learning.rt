@@ -1,16 +1,16 @@
 // What a step changes of what its seat is at, and of the notes of its log.
 ghost use Rattle.std.specs.Prelude.{◌≡◌};
-ghost use Rattle.step_replay.specs.Learns.{with_clock, entered, helped, ended, scanning, lowered, scanned, freed_one, swept, state_after};
-ghost use Rattle.step_replay.specs.Learns.{edit_of_end, edit_of_super};
-ghost use Rattle.step_replay.specs.Learns.{edit_of_sweep, edit_of, other_seat};
+ghost use Rattle.replay_rules.specs.Learns.{with_clock, entered, helped, ended, scanning, lowered, scanned, freed_one, swept, state_after};
+ghost use Rattle.replay_rules.specs.Learns.{edit_of_end, edit_of_super};
+ghost use Rattle.replay_rules.specs.Learns.{edit_of_sweep, edit_of, other_seat};
 
 use crate::access::seat_of_link;
 use crate::notes::word_of;
-use crate::seats::{
+use mv_layout::{clock_time, mark_low};
+use replay_rules::{
     Back, Edit, Ending, Entering, Helping, Leaving, Locking, Scanned, State, Sweep, Sweeping, Task,
     Version,
 };
-use mv_layout::{clock_time, mark_low};
 
 // With a time that was found in CLOCK.
 fn with_clock(state: State, word: u64) -> State

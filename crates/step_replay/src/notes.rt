@@ -1,26 +1,11 @@
 // The notes of a seat's log.
 ghost use Rattle.std.specs.Prelude.{◌≡◌, ◌+◌, ◌<◌, length, slice_index, slice_set, OnOk, IfOk};
-ghost use Rattle.step_replay.specs.SeatNotes.{passes, first_from, first_behind, version_at, held, place_held, holds, live, dead_count, edited};
-ghost use Rattle.step_replay.specs.SeatNotes.{edited_from, applied};
+ghost use Rattle.replay_rules.specs.SeatNotes.{passes, first_from, first_behind, version_at, held, place_held, holds, live, dead_count, edited};
+ghost use Rattle.replay_rules.specs.SeatNotes.{edited_from, applied};
 
-use crate::seats::{Edit, State, Version};
 use mv_history::{WORDS, Words};
+use replay_rules::{Edit, State, Test, Version};
 use std::alloc::AllocError;
-
-/// What a version is looked for by.
-#[derive(Clone, Copy)]
-pub enum Test {
-    /// It is of this object.
-    IsOf { object: u32 },
-    /// It has no time of death.
-    IsUntimed,
-    /// A version is below it.
-    IsLinked,
-    /// It is dead only from a time above this.
-    IsDeadAbove { time: u64 },
-    /// It isn't of the write set that begins at this position, or isn't dead at this time.
-    EndsSet { first: usize, time: u64 },
-}
 
 // Whether a version is what is looked for.
 fn passes(test: Test, version: &Version) -> bool

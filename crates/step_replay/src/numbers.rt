@@ -1,11 +1,11 @@
 // The numbers of a line.
 ghost use Rattle.std.specs.Prelude.{◌≡◌, ◌≤◌, ◌==◌, IfOk, MatchResult, Ok, Err, length};
 ghost use Rattle.set_script.specs.Grammar.{words_in};
-ghost use Rattle.step_replay.specs.FitPlans.{AreSixWords};
-ghost use Rattle.step_replay.specs.Plans.{number_in, next_number, single, has_count, numbers_of_six};
+ghost use Rattle.replay_rules.specs.FitPlans.{AreSixWords};
+ghost use Rattle.step_replay.specs.PlanTexts.{number_in, next_number, single, has_count, numbers_of_six};
 
-use crate::plan::PlanKind;
 use mv_history::Words;
+use replay_rules::PlanKind;
 use set_script::{first_word, read_value};
 
 /// The number of a word, within these bounds. `Err` is `Number`.

@@ -1,17 +1,17 @@
 // The replay of a plan.
 ghost use Rattle.std.specs.Prelude.{◌≡◌, ◌+◌, ◌≤◌, ◌<◌, ◌^◌, OnOk, IfOk, length, map};
 ghost use Rattle.mv_layout.specs.Limits.{Checked};
-ghost use Rattle.step_replay.specs.Plans.{plan_of};
-ghost use Rattle.step_replay.specs.FitPlans.{IsFitPlan};
-ghost use Rattle.step_replay.specs.Runs.{new_seats, text_of_plan};
+ghost use Rattle.replay_rules.specs.Plans.{plan_of};
+ghost use Rattle.replay_rules.specs.FitPlans.{IsFitPlan};
+ghost use Rattle.replay_rules.specs.Runs.{new_seats, text_of_plan};
 ghost use Rattle.step_replay.specs.Shown.{seats_of};
-ghost use Rattle.step_replay.specs.RuledRuns.{IsRuledPlan};
+ghost use Rattle.replay_rules.specs.RuledRuns.{IsRuledPlan};
 
 use crate::machine::Machine;
-use crate::plan::{CallOf, Plan};
 use crate::text::write_end;
 use crate::turns::{Seat, Tape, new_seat};
 use mv_layout::{Place, clock_time};
+use replay_rules::{CallOf, Plan};
 use std::alloc::{AllocError, Global};
 
 // So many seats that have made no call.

@@ -1,13 +1,12 @@
 // The lines of a replay.
 ghost use Rattle.std.specs.Prelude.{◌≡◌, ◌++◌, codes, OnOk, string_bytes};
-ghost use Rattle.step_replay.specs.Lines.{name_of, spaced, idle_line, skip_line, end_line, text_of_access, step_line, text_of_words, text_of_lock};
-ghost use Rattle.step_replay.specs.Lines.{text_of_commit, text_of_holder};
-ghost use Rattle.step_replay.specs.Lines.{text_of_held, text_of_answer, answer_line};
+ghost use Rattle.replay_rules.specs.Lines.{name_of, spaced, idle_line, skip_line, end_line, text_of_access, step_line, text_of_words, text_of_lock};
+ghost use Rattle.replay_rules.specs.Lines.{text_of_commit, text_of_holder};
+ghost use Rattle.replay_rules.specs.Lines.{text_of_held, text_of_answer, answer_line};
 
-use crate::plan::Call;
-use crate::seats::{Access, Answer, Reclaimed};
 use commit_abort::Ended;
 use mv_history::{Holder, LockAnswer, Words};
+use replay_rules::{Access, Answer, Call, Reclaimed};
 use std::alloc::AllocError;
 use std::fmt::Write;
 

@@ -1,5 +1,6 @@
 use Rattle.std.proofs.Common.{[], ◌∷◌, arith, refl, string_bytes, subst, sym}
-use Rattle.step_replay.specs.Plans.{plan_of, planned}
+use Rattle.replay_rules.specs.Plans.{plan_of}
+use Rattle.step_replay.specs.PlanTexts.{planned}
 use Rattle.mvrlu_run.specs.Scripts.{AllScripts, plans}
 use Rattle.mvrlu_run.proofs.Many.{any_from_one, named_at, only_one}
 use Rattle.mvrlu_run.proofs.replaying.make_replay.Goals as goal

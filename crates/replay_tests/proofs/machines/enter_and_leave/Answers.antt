@@ -2,7 +2,7 @@ use Rattle.std.proofs.Common.{◌≡◌, ◌<◌, sym, ap, ◌∙◌, subst}
 use Rattle.mv_layout.specs.declared.Place.TheVariants.{Clock}
 use Rattle.mv_layout.specs.declared.Config.{Config}
 use Rattle.mv_layout.specs.Words.{clock_time_of}
-use Rattle.step_replay.specs.States.{opened}
+use Rattle.replay_rules.specs.States.{opened}
 use Rattle.step_replay.proofs.FirstSteps.{low_turn, mark_turn, time_turn, leave_turn, low_next, mark_next, time_next, leave_next}
 use Rattle.replay_tests.proofs.machines.enter_and_leave.Goals as goal
 

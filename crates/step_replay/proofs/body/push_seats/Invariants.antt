@@ -1,6 +1,6 @@
 use Rattle.std.proofs.Common.{◌≡◌, ◌<◌, All, length}
 use Rattle.set_script.specs.Grammar.{words_in}
-use Rattle.step_replay.specs.Plans.{seats_after}
+use Rattle.step_replay.specs.PlanTexts.{seats_after}
 use Rattle.step_replay.proofs.body.push_seats.Given as goal
 
 -- the steps so far and the words left give what the words give

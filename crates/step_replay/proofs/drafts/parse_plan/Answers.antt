@@ -5,7 +5,7 @@ use Rattle.std.proofs.lemmas.Result.{err_from_is_err_and}
 use Rattle.std.specs.Slice.Iter.{split_rest, split_done, split_callee}
 use Rattle.set_script.specs.Grammar.{is_line_end}
 use Rattle.set_script.proofs.Lines.{item, no_item}
-use Rattle.step_replay.specs.Plans.{said_of, last_line, finished, at_line}
+use Rattle.step_replay.specs.PlanTexts.{said_of, last_line, finished, at_line}
 use Rattle.step_replay.proofs.PlanLines.{taken, refused, done, unfinished}
 use Rattle.step_replay.proofs.drafts.parse_plan.Goals as goal
 use borrow.Author.Tests.{tests}

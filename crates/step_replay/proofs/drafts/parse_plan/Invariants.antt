@@ -1,7 +1,7 @@
 use Rattle.std.proofs.Common.{◌≡◌, ◌+◌, drop, length}
 use Rattle.set_script.specs.Grammar.{lines_of}
-use Rattle.step_replay.specs.Plans.{said_of, said_after, nothing_said}
-use Rattle.step_replay.specs.FitPlans.{IsFitSaid}
+use Rattle.step_replay.specs.PlanTexts.{said_of, said_after, nothing_said}
+use Rattle.step_replay.specs.FitDrafts.{IsFitSaid}
 use Rattle.step_replay.proofs.drafts.parse_plan.Given as goal
 
 -- what the lines so far say, and the lines left, give what all lines say

@@ -1,4 +1,4 @@
-use Rattle.step_replay.proofs.Ruled.{replays_ruled}
+use Rattle.step_replay.proofs.MachineLaws.{replays_ruled}
 use Rattle.step_replay.proofs.laws.replays_are_ruled.Goals as goal
 
 pub returns : goal.returns

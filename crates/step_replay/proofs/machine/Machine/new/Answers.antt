@@ -1,4 +1,4 @@
-use Rattle.step_replay.proofs.Machines.{shows_opened}
+use Rattle.replay_rules.proofs.Machines.{shows_opened}
 use Rattle.step_replay.proofs.machine.Machine.new.Goals as goal
 
 pub returns-clause-behind : goal.returns-clause-behind

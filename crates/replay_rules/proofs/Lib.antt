@@ -1,0 +1,9 @@
+pub mod Replays
+pub mod Machines
+pub mod Ruled
+pub mod SeatNotes
+pub mod NewSeats
+pub mod OneStep
+pub mod NextSteps
+pub mod runs
+pub mod answers

@@ -1,0 +1,159 @@
+-- The log behind a tidy, by that before it.
+use Rattle.std.proofs.Common.{◌≡◌, ℕ, ◌+◌, ◌-◌, ◌≤◌, List, length, None, sym, ap, ◌∙◌, subst, arith, slice_get}
+use Rattle.mv_core.proofs.Terms.{Config}
+use Rattle.mv_core.specs.declared.view.View.{View}
+use Rattle.mv_core.specs.Known.{Known}
+use Rattle.seat_log.specs.Notes.{Noted, IsLog}
+use Rattle.seat_log.specs.Stands.{Stands, writes_in}
+use Rattle.log_reclaim.specs.Parts.{Reclaims, Shrinks, DiesFrom}
+use Rattle.log_reclaim.proofs.Idle.{still_of}
+use Rattle.replay_rules.specs.declared.seats.Version.{Version}
+use Rattle.replay_rules.specs.States.{any_commit, any_start}
+use Rattle.replay_rules.proofs.runs.Sections.{RestsAt}
+use Rattle.replay_rules.proofs.runs.LogFacts.{noted_long, noted_at}
+use Rattle.replay_rules.proofs.runs.Rounds.{note_is}
+use Rattle.replay_rules.proofs.answers.Tidying.Further.{further_number}
+use Rattle.replay_rules.proofs.answers.Tidying.Far.{HasCome, note_in}
+
+-- the log with another count of aborts stands for the view, where that is in range
+stands_counted : (c : Config) (w : View) (m : Noted) (aborts : ℕ) → Stands c w m → m.commits + aborts + m.held ≤ m.freed + length m.live
+    → (aborts ≡ 0 → m.freed + length m.live ≡ writes_in w.past.mine + m.held) → Stands c w (record m { aborts = aborts })
+stands_counted c w m aborts k sets used =
+    let g = k.log in
+    let log : IsLog (record m { aborts = aborts }) = record {
+      seat = g.seat;
+      slots = g.slots;
+      room = g.room;
+      held = g.held;
+      notes = record { position = g.notes.position; first = g.notes.first; run = g.notes.run; held = g.notes.held };
+      built = g.built;
+      positions = g.positions;
+      sets = sets;
+      backs = g.backs;
+      rests = g.rests;
+    } in
+    record {
+      seat = k.seat;
+      slots = k.slots;
+      wide = k.wide;
+      log = log;
+      next = k.next;
+      held = k.held;
+      live = k.live;
+      all = k.all;
+      none_freeing = k.none_freeing;
+      builds = k.builds;
+      built = k.built;
+      spare = k.spare;
+      commits = k.commits;
+      rests = k.rests;
+      frees = k.frees;
+      backs = k.backs;
+      cuts = k.cuts;
+      used = k.used;
+      all_used = used;
+    }
+
+module _ (c : Config) (v0 w : View) (log : List Version) (freed from began : ℕ) (k : HasCome c v0 w log freed from began)
+    (rests : RestsAt c w log freed from None) where
+  abbrev pub before_noted : Noted
+  before_noted = k.rests.2.noted
+
+  abbrev pub after_noted : Noted
+  after_noted = record rests.2.noted { aborts = k.rests.2.noted.aborts }
+
+  same_next : rests.2.noted.freed + length rests.2.noted.live ≡ k.rests.2.noted.freed + length k.rests.2.noted.live
+  same_next =
+      let long = noted_long c rests.2.noted log freed from rests.2.is in
+      let was = noted_long c k.rests.2.noted k.old began from k.rests.2.is in
+      let gone = rests.2.is.gone in
+      let left = k.rests.2.is.gone in
+      let same = k.same.long in
+      omega (arith, long, was, gone, left, same)
+
+  same_held : rests.2.noted.held ≡ k.rests.2.noted.held
+  same_held =
+      let now = rests.2.is.held in
+      let was = k.rests.2.is.held in
+      let same = k.same.long in
+      omega (arith, now, was, same)
+
+  same_commits : rests.2.noted.commits ≡ k.rests.2.noted.commits
+  same_commits = rests.2.stands.commits ∙ ap length k.further.mine ∙ sym k.rests.2.stands.commits
+
+  pub after_stands : Stands c w after_noted
+  after_stands =
+      let sets = k.rests.2.stands.log.sets in
+      let next = same_next in
+      let held = same_held in
+      let commits = same_commits in
+      stands_counted c w rests.2.noted k.rests.2.noted.aborts rests.2.stands (omega (arith, sets, next, held, commits))
+      (λ none.
+      next ∙ k.rests.2.stands.all_used none
+      ∙ (λ i. writes_in (sym k.further.mine i) + sym held i))
+
+  pub after_shrinks : Shrinks before_noted after_noted (freed - began)
+  after_shrinks =
+      let l = k.rests.2.noted in
+      let m = rests.2.noted in
+      let long = noted_long c m log freed from rests.2.is in
+      let was = noted_long c l k.old began from k.rests.2.is in
+      let gone = rests.2.is.gone in
+      let left = k.rests.2.is.gone in
+      let same = k.same.long in
+      let low = k.same.low in
+      let seat : m.seat ≡ l.seat = rests.2.stands.seat ∙ further_number v0 w k.made k.further ∙ sym k.rests.2.stands.seat in
+      let slots : m.slots ≡ l.slots = rests.2.stands.slots ∙ sym k.rests.2.stands.slots in
+      let built : m.built ≡ l.built = rests.2.is.unbuilt ∙ sym k.rests.2.is.unbuilt in
+      let far : m.freed ≡ l.freed + (freed - began) = omega (arith, gone, left, low) in
+      record {
+        few = omega (arith, long, was, same, low);
+        notes = λ i n at.
+            let is = note_is c m log freed from i n rests.2.is at in
+            let within = is.0 in
+            let place : i + freed - began ≡ i + (freed - began) = omega (arith, low) in (
+              note_in k.old (i + freed),
+              ap (λ p. slice_get l.live p) (sym place)
+                  ∙ noted_at c l k.old began from (i + freed) k.rests.2.is (omega (arith, low)) (omega (arith, within, same)),
+              subst (DiesFrom (note_in k.old (i + freed))) (sym is.1) (k.same.each (i + freed) (omega arith) within),
+            );
+        rest = λ i. record {
+          seat = seat i;
+          slots = slots i;
+          live = m.live;
+          built = built i;
+          held = same_held i;
+          freed = far i;
+          back = m.back;
+          commits = same_commits i;
+          aborts = l.aborts;
+          rests = m.rests;
+        };
+      }
+
+  pub after_reclaims : Known any_start any_commit w → w.scan ≡ None → Reclaims v0 w k.made
+  after_reclaims known no_scan =
+      let f = k.further in
+      let still = still_of any_start any_commit w ∣ known ∣₁ rests.0 in
+      record {
+        outside = rests.0;
+        no_scan = no_scan;
+        seen = f.seen;
+        mine = f.mine;
+        grace = f.grace;
+        trail = f.trail;
+        kinds = f.kinds;
+        rest = f.rest
+            ∙ (λ i. record v0 {
+              past = w.past;
+              phase = rests.0 i;
+              clocks = w.clocks;
+              walk = still.0 i;
+              empty = w.empty;
+              ring = w.ring;
+              back = still.1 i;
+              scan = no_scan i;
+              grace = w.grace;
+              trail = w.trail;
+            });
+      }

@@ -8,68 +8,74 @@ use Rattle.set_script.specs.declared.commands.Command.{Command}
 use Rattle.mvrlu_run.specs.declared.finish.Finish.{Finish}
 use Rattle.mvrlu_run.specs.declared.finish.Finish.TheVariants.{Done, Usage, Limit, Script, BlockScript, Plan, Bytes, Read, Write, Memory}
 use Rattle.mvrlu_run.specs.declared.finish.Ran.{Ran}
-use Rattle.mvrlu_run.specs.Outcome.{AskedCause, Cause, Outside}
+use Rattle.mvrlu_run.specs.Outcome.{AskedCause, Cause, NeverRead, Outside, ReadsAll}
 use Rattle.mvrlu_run.specs.BlockOutcome.{IsBlocksComplete, IsBlocksPrinted}
 use Rattle.mvrlu_run.specs.Reading.{AreTold}
-use Rattle.mvrlu_run.specs.Scripts.{AllScripts, IsLong, IsRefused, StopsAt}
+use Rattle.mvrlu_run.specs.Scripts.{AllScripts, IsLong, IsRefused, StopsAt, NoneFails}
 use Rattle.mvrlu_run.specs.Status.{block_fault_status, closed_of, status_of}
 use Rattle.mvrlu_run.proofs.Complete.{ends, err_inj, no_block_zero}
-use Rattle.mvrlu_run.proofs.Refused.{Spoils, fault_spoils, length_spoils, no_stop, one_stop}
+use Rattle.mvrlu_run.proofs.Refused.{Spoils, fault_spoils, length_spoils, no_stop, one_stop, scripts_are_read, stops_are_read}
 
 module _ (words : List (List ℕ)) (old new : Outside) where
   module _ (names : List (List ℕ)) (is : AreTold old.texts) where
     -- the scripts are run
-    does : (f : Finish) (scripts : List (List (List Command))) → AskedCause f (block names) old new → AllScripts parsed_blocks old.texts names scripts
-        → ¬ Rose old.file_faults new.file_faults → ¬ Rose old.out_faults new.out_faults → (status_of f ≡ 0) ⊎ (status_of f ≡ 7)
-    does (Done closed) scripts c all files out = inl refl
-    does Usage scripts c all files out = absurd c.1
-    does (Limit limit) scripts c all files out = absurd c.1
-    does (Script script line kind) scripts c all files out = absurd c.1
-    does (BlockScript script line kind) scripts c all files out =
+    does : (f : Finish) (scripts : List (List (List Command))) → AskedCause f (block names) old new → NoneFails f old.steady old.texts names
+        → AllScripts parsed_blocks old.texts names scripts
+        → ReadsAll old new → ¬ Rose old.out_faults new.out_faults → (status_of f ≡ 0) ⊎ (status_of f ≡ 7)
+    does (Done closed) scripts c fails all files out = inl refl
+    does Usage scripts c fails all files out = absurd c.1
+    does (Limit limit) scripts c fails all files out = absurd c.1
+    does (Script script line kind) scripts c fails all files out = absurd c.1
+    does (BlockScript script line kind) scripts c fails all files out =
         let refused = IsRefused parsed_blocks line kind in
         absurd (no_stop parsed_blocks old.texts names scripts script c.1.reaches.name refused is all c.1.reaches.named c.1.says
         (fault_spoils parsed_blocks line kind))
-    does (Plan script line kind) scripts c all files out = absurd c.1
-    does (Bytes script) scripts c all files out =
+    does (Plan script line kind) scripts c fails all files out = absurd c.1
+    does (Bytes script) scripts c fails all files out =
         absurd (no_stop parsed_blocks old.texts names scripts script c.1.reaches.name IsLong is all c.1.reaches.named c.1.says
         (length_spoils parsed_blocks))
-    does (Read script) scripts c all files out = absurd (files c.1.1)
-    does Write scripts c all files out = absurd (out c.0)
-    does Memory scripts c all files out = inr refl
+    does (Read script) scripts c fails all files out =
+        absurd (scripts_are_read parsed_blocks old.texts names scripts script old.file_faults new.file_faults old.steady is all files fails c.1.1)
+    does Write scripts c fails all files out = absurd (out c.0)
+    does Memory scripts c fails all files out = inr refl
 
     -- the first file that is no script of blocks is answered
     stops : (f : Finish) (place : ℕ) (P : List ℕ → Type 0) (status : ℕ) → AskedCause f (block names) old new
+        → NoneFails f old.steady old.texts names
         → StopsAt parsed_blocks old.texts names place P → Spoils parsed_blocks P
         → ((text : List ℕ) (line : ℕ) (kind : BlockKind) → IsRefused parsed_blocks line kind text → P text → block_fault_status kind ≡ status)
-        → ((text : List ℕ) → IsLong text → P text → 4 ≡ status) → ¬ Rose old.file_faults new.file_faults
+        → ((text : List ℕ) → IsLong text → P text → 4 ≡ status) → ReadsAll old new
         → (status_of f ≡ status) ⊎ (status_of f ≡ 7)
-    stops (Done closed) place P status c stop spoils fault long files =
+    stops (Done closed) place P status c fails stop spoils fault long files =
         absurd (no_stop parsed_blocks old.texts names c.1.0 place stop.reaches.name P is c.1.1 stop.reaches.named stop.says spoils)
-    stops Usage place P status c stop spoils fault long files = absurd c.1
-    stops (Limit limit) place P status c stop spoils fault long files = absurd c.1
-    stops (Script script line kind) place P status c stop spoils fault long files = absurd c.1
-    stops (BlockScript script line kind) place P status c stop spoils fault long files =
+    stops Usage place P status c fails stop spoils fault long files = absurd c.1
+    stops (Limit limit) place P status c fails stop spoils fault long files = absurd c.1
+    stops (Script script line kind) place P status c fails stop spoils fault long files = absurd c.1
+    stops (BlockScript script line kind) place P status c fails stop spoils fault long files =
         let refused = IsRefused parsed_blocks line kind in
         let both = one_stop parsed_blocks old.texts names script place refused P is c.1 stop (fault_spoils parsed_blocks line kind) spoils in
         inl (fault both.0 line kind both.1 both.2)
-    stops (Plan script line kind) place P status c stop spoils fault long files = absurd c.1
-    stops (Bytes script) place P status c stop spoils fault long files =
+    stops (Plan script line kind) place P status c fails stop spoils fault long files = absurd c.1
+    stops (Bytes script) place P status c fails stop spoils fault long files =
         let both = one_stop parsed_blocks old.texts names script place IsLong P is c.1 stop (length_spoils parsed_blocks) spoils in
         inl (long both.0 both.1 both.2)
-    stops (Read script) place P status c stop spoils fault long files = absurd (files c.1.1)
-    stops Write place P status c stop spoils fault long files =
+    stops (Read script) place P status c fails stop spoils fault long files =
+        absurd (stops_are_read parsed_blocks old.texts names place script P old.file_faults new.file_faults old.steady is stop spoils c.1.0 files fails c.1.1)
+    stops Write place P status c fails stop spoils fault long files =
         absurd (no_stop parsed_blocks old.texts names c.3.0 place stop.reaches.name P is c.3.1 stop.reaches.named stop.says spoils)
-    stops Memory place P status c stop spoils fault long files = inr refl
+    stops Memory place P status c fails stop spoils fault long files = inr refl
 
-  pub is_blocks_complete : (f : Finish) (status : ℕ) → status ≡ status_of f → Cause f words old new → IsBlocksComplete words old new status
-  is_blocks_complete f status e c = rw e (record {
-    scripts = λ names scripts a is all. does names is f scripts (ends words old new f (block names) c a) all;
+  pub is_blocks_complete : (f : Finish) (status : ℕ) → status ≡ status_of f → Cause f words old new
+      → NeverRead f words old → IsBlocksComplete words old new status
+  is_blocks_complete f status e c never = rw e (record {
+    scripts = λ names scripts a is all. does names is f scripts (ends words old new f (block names) c a) (never (block names) a) all;
     fault = λ names place line kind a is stop. stops names is f place (IsRefused parsed_blocks line kind) (block_fault_status kind)
-        (ends words old new f (block names) c a) stop (fault_spoils parsed_blocks line kind)
+        (ends words old new f (block names) c a) (never (block names) a) stop (fault_spoils parsed_blocks line kind)
         (λ text l k r s. ap block_fault_status
         (ap (λ (x : ℕ × BlockKind). x.1) (err_inj {A = List (List Command)} (l, k) (line, kind) (sym r.fault ∙ s.fault))))
         (λ text long s. absurd (omega (arith, s.short, long)));
-    bytes = λ names place a is stop. stops names is f place IsLong 4 (ends words old new f (block names) c a) stop (length_spoils parsed_blocks)
+    bytes = λ names place a is stop. stops names is f place IsLong 4 (ends words old new f (block names) c a)
+        (never (block names) a) stop (length_spoils parsed_blocks)
         (λ text l k r long. absurd (omega (arith, r.short, long))) (λ text long s. refl);
   })
 

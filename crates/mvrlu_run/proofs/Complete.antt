@@ -22,12 +22,12 @@ use Rattle.mvrlu_run.specs.declared.finish.Finish.{Finish}
 use Rattle.mvrlu_run.specs.declared.finish.Finish.TheVariants.{Done, Usage, Limit, Script, BlockScript, Plan, Bytes, Read, Write, Memory}
 use Rattle.mvrlu_run.specs.declared.finish.Ran.{Ran}
 use Rattle.mvrlu_run.specs.declared.scripts.Grammar.TheVariants.{Sets}
-use Rattle.mvrlu_run.specs.Outcome.{AskedCause, Cause, IsComplete, IsPrinted, Outside, ReadsSets}
+use Rattle.mvrlu_run.specs.Outcome.{AskedCause, Cause, IsComplete, IsPrinted, NeverRead, Outside, ReadsAll, ReadsSets}
 use Rattle.mvrlu_run.specs.Reading.{AreTold}
-use Rattle.mvrlu_run.specs.Scripts.{AllScripts, AnyStop, IsLong, IsRefused, Reaches, StopsAt, commands}
+use Rattle.mvrlu_run.specs.Scripts.{AllScripts, AnyStop, IsLong, IsRefused, Reaches, StopsAt, commands, NoneFails}
 use Rattle.mvrlu_run.specs.Status.{block_fault_status, closed_of, fault_status, plan_fault_status, status_of}
 use Rattle.mvrlu_run.specs.Told.{IsTextFor, files_of, reading_of}
-use Rattle.mvrlu_run.proofs.Refused.{Spoils, ok_is_no_err, fault_spoils, length_spoils, no_stop, one_stop}
+use Rattle.mvrlu_run.proofs.Refused.{Spoils, ok_is_no_err, fault_spoils, length_spoils, no_stop, one_stop, scripts_are_read, stops_are_read}
 
 -- an answer, or some default
 value : {A E : Type 0} → A → Result A E → A
@@ -126,44 +126,48 @@ module _ (words : List (List ℕ)) (old new : Outside) where
 
   module _ (options : Options) (names : List (List ℕ)) (is : AreTold old.texts) where
     -- scripts are run
-    runs : (f : Finish) (scripts : List (List Command)) → AskedCause f (run options names) old new → AllScripts parsed old.texts names scripts
-        → ¬ Rose old.file_faults new.file_faults → ¬ Rose old.out_faults new.out_faults → (status_of f ≡ 0) ⊎ (status_of f ≡ 7)
-    runs (Done closed) scripts c all files out = inl refl
-    runs Usage scripts c all files out = absurd c.1
-    runs (Limit limit) scripts c all files out = absurd c.1
-    runs (Script script line kind) scripts c all files out =
+    runs : (f : Finish) (scripts : List (List Command)) → AskedCause f (run options names) old new → NoneFails f old.steady old.texts names
+        → AllScripts parsed old.texts names scripts
+        → ReadsAll old new → ¬ Rose old.out_faults new.out_faults → (status_of f ≡ 0) ⊎ (status_of f ≡ 7)
+    runs (Done closed) scripts c fails all files out = inl refl
+    runs Usage scripts c fails all files out = absurd c.1
+    runs (Limit limit) scripts c fails all files out = absurd c.1
+    runs (Script script line kind) scripts c fails all files out =
         let refused = IsRefused parsed line kind in
         absurd (no_stop parsed old.texts names scripts script c.1.reaches.name refused is all c.1.reaches.named c.1.says (fault_spoils parsed line kind))
-    runs (BlockScript script line kind) scripts c all files out = absurd c.1
-    runs (Plan script line kind) scripts c all files out = absurd c.1
-    runs (Bytes script) scripts c all files out =
+    runs (BlockScript script line kind) scripts c fails all files out = absurd c.1
+    runs (Plan script line kind) scripts c fails all files out = absurd c.1
+    runs (Bytes script) scripts c fails all files out =
         absurd (no_stop parsed old.texts names scripts script c.1.reaches.name IsLong is all c.1.reaches.named c.1.says (length_spoils parsed))
-    runs (Read script) scripts c all files out = absurd (files c.1.1)
-    runs Write scripts c all files out = absurd (out c.0)
-    runs Memory scripts c all files out = inr refl
+    runs (Read script) scripts c fails all files out =
+        absurd (scripts_are_read parsed old.texts names scripts script old.file_faults new.file_faults old.steady is all files fails c.1.1)
+    runs Write scripts c fails all files out = absurd (out c.0)
+    runs Memory scripts c fails all files out = inr refl
 
     -- the first file that is no script is answered
     stops : (f : Finish) (place : ℕ) (P : List ℕ → Type 0) (status : ℕ) → AskedCause f (run options names) old new
+        → NoneFails f old.steady old.texts names
         → StopsAt parsed old.texts names place P → Spoils parsed P
         → ((text : List ℕ) (line : ℕ) (kind : FaultKind) → IsRefused parsed line kind text → P text → fault_status kind ≡ status)
-        → ((text : List ℕ) → IsLong text → P text → 4 ≡ status) → ¬ Rose old.file_faults new.file_faults
+        → ((text : List ℕ) → IsLong text → P text → 4 ≡ status) → ReadsAll old new
         → (status_of f ≡ status) ⊎ (status_of f ≡ 7)
-    stops (Done closed) place P status c stop spoils fault long files =
+    stops (Done closed) place P status c fails stop spoils fault long files =
         absurd (no_stop parsed old.texts names c.1.0 place stop.reaches.name P is c.1.1 stop.reaches.named stop.says spoils)
-    stops Usage place P status c stop spoils fault long files = absurd c.1
-    stops (Limit limit) place P status c stop spoils fault long files = absurd c.1
-    stops (Script script line kind) place P status c stop spoils fault long files =
+    stops Usage place P status c fails stop spoils fault long files = absurd c.1
+    stops (Limit limit) place P status c fails stop spoils fault long files = absurd c.1
+    stops (Script script line kind) place P status c fails stop spoils fault long files =
         let both = one_stop parsed old.texts names script place (IsRefused parsed line kind) P is c.1 stop (fault_spoils parsed line kind) spoils in
         inl (fault both.0 line kind both.1 both.2)
-    stops (BlockScript script line kind) place P status c stop spoils fault long files = absurd c.1
-    stops (Plan script line kind) place P status c stop spoils fault long files = absurd c.1
-    stops (Bytes script) place P status c stop spoils fault long files =
+    stops (BlockScript script line kind) place P status c fails stop spoils fault long files = absurd c.1
+    stops (Plan script line kind) place P status c fails stop spoils fault long files = absurd c.1
+    stops (Bytes script) place P status c fails stop spoils fault long files =
         let both = one_stop parsed old.texts names script place IsLong P is c.1 stop (length_spoils parsed) spoils in
         inl (long both.0 both.1 both.2)
-    stops (Read script) place P status c stop spoils fault long files = absurd (files c.1.1)
-    stops Write place P status c stop spoils fault long files =
+    stops (Read script) place P status c fails stop spoils fault long files =
+        absurd (stops_are_read parsed old.texts names place script P old.file_faults new.file_faults old.steady is stop spoils c.1.0 files fails c.1.1)
+    stops Write place P status c fails stop spoils fault long files =
         absurd (no_stop parsed old.texts names c.3.0 place stop.reaches.name P is c.3.1 stop.reaches.named stop.says spoils)
-    stops Memory place P status c stop spoils fault long files = inr refl
+    stops Memory place P status c fails stop spoils fault long files = inr refl
 
   -- what reads no files stops at none
   stops_at_none : (f : Finish) (asks : Asks) → files_of asks ≡ [] → reading_of asks ≡ commands Sets
@@ -200,14 +204,16 @@ module _ (words : List (List ℕ)) (old new : Outside) where
   limits Write limit c a = absurd (not_both words c.0 (Beyond limit) c.1 a)
   limits Memory limit c a = absurd (not_both words c.0 (Beyond limit) c.1 a)
 
-  pub is_complete : (f : Finish) (status : ℕ) → status ≡ status_of f → Cause f words old new → IsComplete words old new status
-  is_complete f status e c = rw e (record {
-    scripts = λ options names scripts a is all. runs options names is f scripts (ends f (run options names) c a) all;
+  pub is_complete : (f : Finish) (status : ℕ) → status ≡ status_of f → Cause f words old new
+      → NeverRead f words old → IsComplete words old new status
+  is_complete f status e c never = rw e (record {
+    scripts = λ options names scripts a is all. runs options names is f scripts (ends f (run options names) c a) (never (run options names) a) all;
     fault = λ options names place line kind a is stop. stops options names is f place (IsRefused parsed line kind) (fault_status kind)
-        (ends f (run options names) c a) stop (fault_spoils parsed line kind)
+        (ends f (run options names) c a) (never (run options names) a) stop (fault_spoils parsed line kind)
         (λ text l k r s. ap fault_status (ap (λ (x : ℕ × FaultKind). x.1) (err_inj {A = List Command} (l, k) (line, kind) (sym r.fault ∙ s.fault))))
         (λ text long s. absurd (omega (arith, s.short, long)));
-    bytes = λ options names place a is stop. stops options names is f place IsLong 4 (ends f (run options names) c a) stop (length_spoils parsed)
+    bytes = λ options names place a is stop. stops options names is f place IsLong 4 (ends f (run options names) c a)
+        (never (run options names) a) stop (length_spoils parsed)
         (λ text l k r long. absurd (omega (arith, r.short, long))) (λ text long s. refl);
     limit = λ limit a. limits f limit c a;
     gen = λ number seat a. writes f (gen number seat) refl refl (ends f (gen number seat) c a);

@@ -1,14 +1,14 @@
 -- The file at which reading stops.
 use Rattle.std.proofs.Common.{◌≡◌, ◌≤◌, ◌<◌, ℕ, List, [], ◌∷◌, length, take, map, get_or, slice_get, string_bytes, String}
-use Rattle.std.proofs.Common.{All, Bool, Option, Some, refl, sym, ap, ◌∙◌, subst, arith}
+use Rattle.std.proofs.Common.{Bool, Option, Some, refl, sym, ap, ◌∙◌, arith}
+use Rattle.std.specs.Prelude.{⊤}
 use Rattle.std.specs.declared.alloc.Global.{Global}
-use Rattle.std.proofs.lemmas.List.Elements.{All-get_or}
-use Rattle.std.proofs.lemmas.Option.{slice_get-map, slice_get_read, slice_get_within, get_or_from_slice_get}
+use Rattle.std.proofs.lemmas.Option.{slice_get-map, slice_get_read}
 use Rattle.std.specs.Option.{option_map}
-use Rattle.run_outside.specs.Outside.{Texts, HasText}
+use Rattle.run_outside.specs.Outside.{Texts}
 use Rattle.mvrlu_run.specs.declared.finish.Finish.{Finish}
 use Rattle.mvrlu_run.specs.declared.finish.Finish.TheVariants.{Done, Usage, Limit, Script, BlockScript, Plan, Bytes, Read, Write, Memory}
-use Rattle.mvrlu_run.specs.Scripts.{AllScripts, AnyStop, NoneFails, NotRead, OneStop, Reading, ScriptOf}
+use Rattle.mvrlu_run.specs.Scripts.{AllScripts, AnyStop, NoText, NoneFails, NotRead, OneStop, Reading, ScriptOf}
 use Rattle.mvrlu_run.specs.Scripts.{commands, blocks, plans, grammar_of}
 
 abbrev pub bytes_of : List (String Global) → List (List ℕ)
@@ -45,24 +45,33 @@ any_from_one Usage reading t names place name before faults mid now at h le o = 
 any_from_one (Limit limit) reading t names place name before faults mid now at h le o = absurd o
 any_from_one Write reading t names place name before faults mid now at h le o = absurd o
 
-has_at : (t : Option Texts) (names : List (List ℕ)) (place : ℕ) (name : List ℕ) → slice_get names place ≡ Some name → All (HasText t) names → HasText t name
-has_at t names place name at h =
-    subst (HasText t) (get_or_from_slice_get names place name [] at)
-    (All-get_or {X = List ℕ} (HasText t) names place [] (slice_get_within names place name at) h)
+-- the number that a read fault names is this place
+abbrev pub IsReadAt : Finish → ℕ → Type 0
+IsReadAt (Read script) place = script ≡ place
+IsReadAt f place = ⊤
 
--- where one file's refusal is no read fault, that of all isn't either
+pub read_at : (f : Finish) (place : ℕ) (t : Option Texts) (name : List ℕ) (faults now : ℕ) → NoText f place t name faults now → IsReadAt f place
+read_at (Read script) place t name faults now stop = stop.0
+read_at f place t name faults now stop = tt
+
+pub plan_read_at : (f : Finish) (place : ℕ) (t : Option Texts) (name : List ℕ) (faults now : ℕ) → OneStop f plans place t name faults now
+    → IsReadAt f place
+plan_read_at (Read script) place t name faults now stop = stop.0
+plan_read_at f place t name faults now stop = tt
+
+-- where one file's refusal is no read fault at a text, that of all isn't either
 pub none_fails : (f : Finish) (steady : Bool) (t : Option Texts) (names : List (List ℕ)) (place : ℕ) (name : List ℕ) → slice_get names place ≡ Some name
-    → NotRead f steady t name → NoneFails f steady t names
-none_fails (Read script) steady t names place name at n = λ s h. n s (has_at t names place name at h)
-none_fails (Script script line kind) steady t names place name at n = tt
-none_fails (BlockScript script line kind) steady t names place name at n = tt
-none_fails (Plan script line kind) steady t names place name at n = tt
-none_fails (Bytes script) steady t names place name at n = tt
-none_fails Memory steady t names place name at n = tt
-none_fails (Done c) steady t names place name at n = tt
-none_fails Usage steady t names place name at n = tt
-none_fails (Limit limit) steady t names place name at n = tt
-none_fails Write steady t names place name at n = tt
+    → IsReadAt f place → NotRead f steady t name → NoneFails f steady t names
+none_fails (Read script) steady t names place name at is n = λ s. (name, ap (slice_get names) is ∙ at, n s)
+none_fails (Script script line kind) steady t names place name at is n = tt
+none_fails (BlockScript script line kind) steady t names place name at is n = tt
+none_fails (Plan script line kind) steady t names place name at is n = tt
+none_fails (Bytes script) steady t names place name at is n = tt
+none_fails Memory steady t names place name at is n = tt
+none_fails (Done c) steady t names place name at is n = tt
+none_fails Usage steady t names place name at is n = tt
+none_fails (Limit limit) steady t names place name at is n = tt
+none_fails Write steady t names place name at is n = tt
 
 -- a list of one has its first alone
 pub only_one : {S A : Type 0} (of : S → A) (xs : List S) (x : S) → length xs ≡ 1 → x ≡ get_or xs 0 x → map of xs ≡ of x ∷ []

@@ -1,11 +1,12 @@
 -- Where all files are scripts, reading stops at none of them; and it stops at one place alone.
-use Rattle.std.proofs.Common.{inl, inr, ◌≡◌, ◌≤◌, ◌<◌, ℕ, zero, suc, List, [], ◌∷◌, length, take, get_or}
-use Rattle.std.proofs.Common.{slice_get, Option, None, Some, Result, Ok, Err, sym, ap, ◌∙◌, arith, subst, get_or-take, length-take}
+use Rattle.std.proofs.Common.{inl, inr, ◌⊎◌, ◌≡◌, ◌≤◌, ◌<◌, ℕ, zero, suc, List, [], ◌∷◌, length, take, get_or}
+use Rattle.std.proofs.Common.{slice_get, Bool, IsTrue, IsSome, Option, None, Some, Result, Ok, Err, refl, sym, ap, ◌∙◌, arith, subst, get_or-take, length-take}
 use Rattle.std.proofs.lemmas.Bool.{cases_lt}
 use Rattle.std.proofs.lemmas.Option.{slice_get-get_or, slice_get_within, get_or_from_slice_get}
-use Rattle.run_outside.specs.Outside.{Texts}
+use Rattle.run_outside.specs.Outside.{Texts, HasText, Rose}
 use Rattle.mvrlu_run.specs.Reading.{AreTold, Says}
-use Rattle.mvrlu_run.specs.Scripts.{AllScripts, IsLong, IsRefused, IsScript, Reaches, StopsAt}
+use Rattle.mvrlu_run.specs.declared.finish.Finish.TheVariants.{Read}
+use Rattle.mvrlu_run.specs.Scripts.{AllScripts, IsLong, IsRefused, IsScript, NoneFails, Reaches, StopsAt}
 
 IsGood : {A E : Type 0} → Result A E → Type 0
 IsGood (Ok a) = Unit {0}
@@ -69,6 +70,46 @@ module _ {A K : Type 0} (grammar : List ℕ → Result A (ℕ × K)) where
         | inl lt ↦ absurd (no_stop t (take j names) reaches.before i stop.reaches.name P is reaches.scripts
             (front_at names i j stop.reaches.name lt stop.reaches.named) stop.says spoils)
         | inr le ↦ le
+      ]
+
+  -- a file among scripts has a text
+  has_text : (t : Option Texts) (names : List (List ℕ)) (scripts : List A) (place : ℕ) (name : List ℕ) → AreTold t → AllScripts grammar t names scripts
+      → slice_get names place ≡ Some name → HasText t name
+  has_text None names scripts place name is h at = absurd is
+  has_text (Some texts) names scripts place name is h at = subst IsSome (sym (script_at texts names scripts place name h at).2) refl
+
+  -- and so has the one at which reading stops, and each before it
+  stop_has_text : (t : Option Texts) (names : List (List ℕ)) (i j : ℕ) (P : List ℕ → Type 0) (name : List ℕ) → AreTold t → StopsAt grammar t names i P
+      → j ≤ i → slice_get names j ≡ Some name → HasText t name
+  stop_has_text None names i j P name is stop le at = absurd is
+  stop_has_text (Some texts) names i j P name is stop le at =
+      elim (cases_lt j i) as (λ _. HasText (Some texts) name) [
+        | inl lt ↦ has_text (Some texts) (take i names) stop.reaches.before j name is stop.reaches.scripts (front_at names j i name lt at)
+        | inr ge ↦
+            let place : i ≡ j = omega (arith, le, ge) in
+            let same = some_inj stop.reaches.name name (sym stop.reaches.named ∙ ap (slice_get names) place ∙ at) in
+            subst (λ n. IsSome (texts n)) same (subst IsSome (sym stop.says.1) refl)
+      ]
+
+  -- where no call failed or the files are steady, scripts are read
+  pub scripts_are_read : (t : Option Texts) (names : List (List ℕ)) (scripts : List A) (place faults now : ℕ) (steady : Bool) → AreTold t
+      → AllScripts grammar t names scripts → ¬ Rose faults now ⊎ IsTrue steady → NoneFails (Read place) steady t names → Rose faults now → ⊥
+  scripts_are_read t names scripts place faults now steady is all files fails rose =
+      elim files as (λ _. ⊥) [
+        | inl none ↦ none rose
+        | inr still ↦ let lacks = fails still in lacks.2 (has_text t names scripts place lacks.0 is all lacks.1)
+      ]
+
+  -- and so is the first file that is none, with those before it
+  pub stops_are_read : (t : Option Texts) (names : List (List ℕ)) (i j : ℕ) (P : List ℕ → Type 0) (faults now : ℕ) (steady : Bool) → AreTold t
+      → StopsAt grammar t names i P → Spoils P → Reaches grammar t names j → ¬ Rose faults now ⊎ IsTrue steady
+      → NoneFails (Read j) steady t names → Rose faults now → ⊥
+  stops_are_read t names i j P faults now steady is stop spoils reaches files fails rose =
+      elim files as (λ _. ⊥) [
+        | inl none ↦ none rose
+        | inr still ↦
+            let lacks = fails still in
+            lacks.2 (stop_has_text t names i j P lacks.0 is stop (not_before t names i j P is stop reaches spoils) lacks.1)
       ]
 
   -- two stops are one, and one text has both faults

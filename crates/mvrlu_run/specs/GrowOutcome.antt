@@ -11,7 +11,7 @@ use Rattle.mvrlu.specs.declared.closing.Closing.{Closing}
 use Rattle.mvrlu_run.specs.declared.finish.Closed.{Closed}
 use Rattle.mvrlu_run.specs.declared.finish.Closed.TheVariants.{Grown}
 use Rattle.mvrlu_run.specs.GrownRuns.{IsGrownText}
-use Rattle.mvrlu_run.specs.Outcome.{Outside}
+use Rattle.mvrlu_run.specs.Outcome.{Outside, ReadsAll}
 use Rattle.mvrlu_run.specs.Reading.{AreTold}
 use Rattle.mvrlu_run.specs.Scripts.{AllScripts, StopsAt, IsRefused, IsLong}
 use Rattle.mvrlu_run.specs.Status.{fault_status}
@@ -23,18 +23,18 @@ IsGrownPrinted names old new closed =
     (closing : Closing GrowRules) × (closed ≡ Grown closing) × (scripts : List (List Command)) × AllScripts parsed_grow old.texts names scripts
     × (text : List ℕ) × IsGrownText scripts closing text × Appends old.out new.out text
 
--- What a call for a growing set is sure to answer where the texts of the files are told and no call of the files failed, but for want of
--- memory.
+-- What a call for a growing set is sure to answer where the texts of the files are told, and no call of the files failed or they are steady,
+-- but for want of memory.
 pub record IsGrowComplete (words : List (List ℕ)) (old new : Outside) (status : ℕ) : Type 0 where
   -- the scripts are run, and the text is written where no write failed
   pub scripts : (names : List (List ℕ)) (scripts : List (List Command)) → asked words ≡ Ok (grow names)
-      → AreTold old.texts → AllScripts parsed_grow old.texts names scripts → ¬ Rose old.file_faults new.file_faults
+      → AreTold old.texts → AllScripts parsed_grow old.texts names scripts → ReadsAll old new
       → ¬ Rose old.out_faults new.out_faults → (status ≡ 0) ⊎ (status ≡ 7)
   -- the first faulty line of the first file that is no script of a growing set is answered
   pub fault : (names : List (List ℕ)) (place line : ℕ) (kind : FaultKind) → asked words ≡ Ok (grow names)
-      → AreTold old.texts → StopsAt parsed_grow old.texts names place (IsRefused parsed_grow line kind) → ¬ Rose old.file_faults new.file_faults
+      → AreTold old.texts → StopsAt parsed_grow old.texts names place (IsRefused parsed_grow line kind) → ReadsAll old new
       → (status ≡ fault_status kind) ⊎ (status ≡ 7)
   -- one byte too many is answered
   pub bytes : (names : List (List ℕ)) (place : ℕ) → asked words ≡ Ok (grow names)
-      → AreTold old.texts → StopsAt parsed_grow old.texts names place IsLong → ¬ Rose old.file_faults new.file_faults
+      → AreTold old.texts → StopsAt parsed_grow old.texts names place IsLong → ReadsAll old new
       → (status ≡ 4) ⊎ (status ≡ 7)

@@ -1,5 +1,5 @@
 -- What a call of the program does: the cause of each way to end, and what a reader may count on.
-use Rattle.std.specs.Prelude.{◌≡◌, ◌⊎◌, ℕ, List, Option, Ok, Err, Bool, ⊤}
+use Rattle.std.specs.Prelude.{◌≡◌, ◌⊎◌, ℕ, List, Option, Ok, Err, Bool, IsTrue, ⊤}
 use Rattle.std.specs.Io.KnownBytes.{Appends}
 use Rattle.grow_hash.specs.Grown.{IsGrown}
 use Rattle.run_outside.specs.Outside.{Texts, Rose}
@@ -54,7 +54,7 @@ Cause Usage words old new = (asked words ≡ Err Form) × (new.out ≡ old.out)
 Cause (Limit limit) words old new = (asked words ≡ Err (Beyond limit)) × (new.out ≡ old.out)
 Cause finish words old new = (asks : Asks) × (asked words ≡ Ok asks) × AskedCause finish asks old new
 
--- where the files are steady and have a text of each name, no read fault comes
+-- where the files are steady, a read fault comes only at a name without a text
 abbrev pub NeverRead : Finish → List (List ℕ) → Outside → Type 0
 NeverRead finish words old = (asks : Asks) → asked words ≡ Ok asks → NoneFails finish old.steady old.texts (files_of asks)
 
@@ -82,19 +82,24 @@ ReadsSets (Sets closing) = IsLawful (last_state (whole_of closing))
 ReadsSets (Blocks closing) = IsLawful (last_state (whole_of closing))
 ReadsSets (Grown closing) = IsGrown (last_state (whole_of closing))
 
--- What a call is sure to answer where the texts of the files are told and no call of the files failed, but for want of memory.
+-- no call of the files failed, or they are steady
+abbrev pub ReadsAll : Outside → Outside → Type 0
+ReadsAll old new = ¬ Rose old.file_faults new.file_faults ⊎ IsTrue old.steady
+
+-- What a call is sure to answer where the texts of the files are told, and no call of the files failed or they are steady, but for
+-- want of memory.
 pub record IsComplete (words : List (List ℕ)) (old new : Outside) (status : ℕ) : Type 0 where
   -- scripts are run, and their text is written where no write failed
   pub scripts : (options : Options) (names : List (List ℕ)) (scripts : List (List Command)) → asked words ≡ Ok (run options names)
-      → AreTold old.texts → AllScripts parsed old.texts names scripts → ¬ Rose old.file_faults new.file_faults → ¬ Rose old.out_faults new.out_faults
+      → AreTold old.texts → AllScripts parsed old.texts names scripts → ReadsAll old new → ¬ Rose old.out_faults new.out_faults
       → (status ≡ 0) ⊎ (status ≡ 7)
   -- the first faulty line of the first file that is no script is answered
   pub fault : (options : Options) (names : List (List ℕ)) (place line : ℕ) (kind : FaultKind) → asked words ≡ Ok (run options names)
-      → AreTold old.texts → StopsAt parsed old.texts names place (IsRefused parsed line kind) → ¬ Rose old.file_faults new.file_faults
+      → AreTold old.texts → StopsAt parsed old.texts names place (IsRefused parsed line kind) → ReadsAll old new
       → (status ≡ fault_status kind) ⊎ (status ≡ 7)
   -- one byte too many is answered
   pub bytes : (options : Options) (names : List (List ℕ)) (place : ℕ) → asked words ≡ Ok (run options names)
-      → AreTold old.texts → StopsAt parsed old.texts names place IsLong → ¬ Rose old.file_faults new.file_faults → (status ≡ 4) ⊎ (status ≡ 7)
+      → AreTold old.texts → StopsAt parsed old.texts names place IsLong → ReadsAll old new → (status ≡ 4) ⊎ (status ≡ 7)
   -- a number that is out of its range is answered
   pub limit : (limit : LimitOf) → asked words ≡ Err (Beyond limit) → status ≡ 4
   -- a generated script is written, and the four of a number are run, where no write failed

@@ -10,7 +10,7 @@ use Rattle.set_script.specs.declared.rules.SetRules.{SetRules}
 use Rattle.mvrlu.specs.declared.closing.Closing.{Closing}
 use Rattle.mvrlu_run.specs.declared.finish.Closed.{Closed}
 use Rattle.mvrlu_run.specs.declared.finish.Closed.TheVariants.{Sets}
-use Rattle.mvrlu_run.specs.Outcome.{Outside}
+use Rattle.mvrlu_run.specs.Outcome.{Outside, ReadsAll}
 use Rattle.mvrlu_run.specs.Pooled.{IsPoolText}
 use Rattle.mvrlu_run.specs.Reading.{AreTold}
 use Rattle.mvrlu_run.specs.Scripts.{AllScripts, StopsAt, IsRefused, IsLong}
@@ -27,12 +27,12 @@ IsPoolPrinted seats names old new closed =
 pub record IsPoolComplete (words : List (List ℕ)) (old new : Outside) (status : ℕ) : Type 0 where
   -- the commands are done, and the text is written where no write failed
   pub commands : (seats : ℕ) (names : List (List ℕ)) (scripts : List (List Command)) → asked words ≡ Ok (pool seats names)
-      → AreTold old.texts → AllScripts parsed old.texts names scripts → ¬ Rose old.file_faults new.file_faults → ¬ Rose old.out_faults new.out_faults
+      → AreTold old.texts → AllScripts parsed old.texts names scripts → ReadsAll old new → ¬ Rose old.out_faults new.out_faults
       → (status ≡ 0) ⊎ (status ≡ 7)
   -- the first faulty line of the file is answered
   pub fault : (seats : ℕ) (names : List (List ℕ)) (place line : ℕ) (kind : FaultKind) → asked words ≡ Ok (pool seats names)
-      → AreTold old.texts → StopsAt parsed old.texts names place (IsRefused parsed line kind) → ¬ Rose old.file_faults new.file_faults
+      → AreTold old.texts → StopsAt parsed old.texts names place (IsRefused parsed line kind) → ReadsAll old new
       → (status ≡ fault_status kind) ⊎ (status ≡ 7)
   -- one byte too many is answered
   pub bytes : (seats : ℕ) (names : List (List ℕ)) (place : ℕ) → asked words ≡ Ok (pool seats names)
-      → AreTold old.texts → StopsAt parsed old.texts names place IsLong → ¬ Rose old.file_faults new.file_faults → (status ≡ 4) ⊎ (status ≡ 7)
+      → AreTold old.texts → StopsAt parsed old.texts names place IsLong → ReadsAll old new → (status ≡ 4) ⊎ (status ≡ 7)

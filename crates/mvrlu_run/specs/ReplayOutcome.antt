@@ -10,7 +10,7 @@ use Rattle.replay_rules.specs.Runs.{text_of_plan}
 use Rattle.replay_rules.specs.declared.plan.PlanKind.{PlanKind}
 use Rattle.mvrlu_run.specs.declared.finish.Closed.{Closed}
 use Rattle.mvrlu_run.specs.declared.finish.Closed.TheVariants.{No}
-use Rattle.mvrlu_run.specs.Outcome.{Outside}
+use Rattle.mvrlu_run.specs.Outcome.{Outside, ReadsAll}
 use Rattle.mvrlu_run.specs.Reading.{AreTold}
 use Rattle.mvrlu_run.specs.Scripts.{AllScripts, StopsAt, IsRefused, IsLong}
 use Rattle.mvrlu_run.specs.Status.{plan_fault_status}
@@ -26,12 +26,12 @@ IsReplayPrinted names old new closed =
 pub record IsReplayComplete (words : List (List ℕ)) (old new : Outside) (status : ℕ) : Type 0 where
   -- the plan is replayed, and the text is written where no write failed
   pub plan : (names : List (List ℕ)) (plans : List PlanOf) → asked words ≡ Ok (replay names)
-      → AreTold old.texts → AllScripts planned old.texts names plans → ¬ Rose old.file_faults new.file_faults → ¬ Rose old.out_faults new.out_faults
+      → AreTold old.texts → AllScripts planned old.texts names plans → ReadsAll old new → ¬ Rose old.out_faults new.out_faults
       → (status ≡ 0) ⊎ (status ≡ 7)
   -- the first faulty line of the file is answered
   pub fault : (names : List (List ℕ)) (place line : ℕ) (kind : PlanKind) → asked words ≡ Ok (replay names)
-      → AreTold old.texts → StopsAt planned old.texts names place (IsRefused planned line kind) → ¬ Rose old.file_faults new.file_faults
+      → AreTold old.texts → StopsAt planned old.texts names place (IsRefused planned line kind) → ReadsAll old new
       → (status ≡ plan_fault_status kind) ⊎ (status ≡ 7)
   -- one byte too many is answered
   pub bytes : (names : List (List ℕ)) (place : ℕ) → asked words ≡ Ok (replay names)
-      → AreTold old.texts → StopsAt planned old.texts names place IsLong → ¬ Rose old.file_faults new.file_faults → (status ≡ 4) ⊎ (status ≡ 7)
+      → AreTold old.texts → StopsAt planned old.texts names place IsLong → ReadsAll old new → (status ≡ 4) ⊎ (status ≡ 7)

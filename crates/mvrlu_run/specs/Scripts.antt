@@ -150,7 +150,8 @@ abbrev pub NotRead : Finish → Bool → Option Texts → List ℕ → Type 0
 NotRead (Read script) steady texts name = IsTrue steady → HasText texts name → ⊥
 NotRead _ steady texts name = ⊤
 
--- where the files are steady and have a text of each name, it is no read fault
+-- where the files are steady, a read fault comes only at a name without a text
 abbrev pub NoneFails : Finish → Bool → Option Texts → List (List ℕ) → Type 0
-NoneFails (Read script) steady texts names = IsTrue steady → All (HasText texts) names → ⊥
+NoneFails (Read script) steady texts names =
+    IsTrue steady → (name : List ℕ) × (slice_get names script ≡ Some name) × (HasText texts name → ⊥)
 NoneFails _ steady texts names = ⊤

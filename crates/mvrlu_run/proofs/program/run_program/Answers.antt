@@ -16,6 +16,7 @@ returns-clause-blocked g c =
 pub returns-clause-block_complete : goal.returns-clause-block_complete
 returns-clause-block_complete g c =
     is_blocks_complete _ _ _ c.carry_out-finish.result c.status-status.result c.status-status.ensures c.carry_out-finish.ensures.cause
+    c.carry_out-finish.ensures.never_read
 
 pub returns-clause-grown : goal.returns-clause-grown
 returns-clause-grown g c =
@@ -27,6 +28,7 @@ returns-clause-grown g c =
 pub returns-clause-grow_complete : goal.returns-clause-grow_complete
 returns-clause-grow_complete g c =
     is_grow_complete _ _ _ c.carry_out-finish.result c.status-status.result c.status-status.ensures c.carry_out-finish.ensures.cause
+    c.carry_out-finish.ensures.never_read
 
 pub returns-clause-pooled : goal.returns-clause-pooled
 returns-clause-pooled g c =
@@ -38,6 +40,7 @@ returns-clause-pooled g c =
 pub returns-clause-pool_complete : goal.returns-clause-pool_complete
 returns-clause-pool_complete g c =
     is_pool_complete _ _ _ c.carry_out-finish.result c.status-status.result c.status-status.ensures c.carry_out-finish.ensures.cause
+    c.carry_out-finish.ensures.never_read
 
 pub returns-clause-replayed : goal.returns-clause-replayed
 returns-clause-replayed g c =
@@ -49,6 +52,7 @@ returns-clause-replayed g c =
 pub returns-clause-replay_complete : goal.returns-clause-replay_complete
 returns-clause-replay_complete g c =
     is_replay_complete _ _ _ c.carry_out-finish.result c.status-status.result c.status-status.ensures c.carry_out-finish.ensures.cause
+    c.carry_out-finish.ensures.never_read
 
 pub returns-clause-printed : goal.returns-clause-printed
 returns-clause-printed g c =
@@ -58,7 +62,9 @@ returns-clause-printed g c =
     λ options names a nought. is_printed _ _ _ c.carry_out-finish.result ran options names c.status-status.ensures closed cause a nought
 
 pub returns-clause-complete : goal.returns-clause-complete
-returns-clause-complete g c = is_complete _ _ _ c.carry_out-finish.result c.status-status.result c.status-status.ensures c.carry_out-finish.ensures.cause
+returns-clause-complete g c =
+    is_complete _ _ _ c.carry_out-finish.result c.status-status.result c.status-status.ensures c.carry_out-finish.ensures.cause
+    c.carry_out-finish.ensures.never_read
 
 pub returns-clause-lawful : goal.returns-clause-lawful
 returns-clause-lawful g c = rw c.into_closed.ensures (reads_sets _ _ _ c.carry_out-finish.result c.carry_out-finish.ensures.cause)

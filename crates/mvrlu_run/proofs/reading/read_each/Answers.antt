@@ -5,7 +5,7 @@ use Rattle.std.proofs.lemmas.List.{length-map, map-append}
 use Rattle.std.proofs.lemmas.List.Elements.{All-push}
 use Rattle.mvrlu_run.specs.declared.finish.TheConstants.{MOST_BYTES}
 use Rattle.mvrlu_run.specs.Reading.{text_of}
-use Rattle.mvrlu_run.proofs.Many.{named_at, none_fails}
+use Rattle.mvrlu_run.proofs.Many.{named_at, none_fails, read_at}
 use Rattle.mvrlu_run.proofs.FileTexts.{has_no_text, texts_push}
 use Rattle.mvrlu_run.proofs.reading.read_each.Goals as goal
 
@@ -49,5 +49,9 @@ pub returns-in-Err-clause-steady : goal.returns-in-Err-clause-steady
 returns-in-Err-clause-steady g c =
     let i = c.loop-name.invariant in
     let steady = rw (i.texts, i.steady, c.as_str.ensures.value) at c.in-Err.ensures.steady in
+    let long = c.loop-name.texts.ok.0 in
+    let place : c.len.result ≡ c.loop-name.name-index = omega (arith, long, c.len.ensures, i.len) in
+    let stop = rw place at c.in-Err.ensures.stop in
     none_fails c.in-Err.finish _ _ _ c.loop-name.name-index _
-    (named_at c.args.names.now c.loop-name.name-index c.name-item.result c.loop-name-test.true c.name-item.is) steady
+    (named_at c.args.names.now c.loop-name.name-index c.name-item.result c.loop-name-test.true c.name-item.is)
+    (read_at c.in-Err.finish c.loop-name.name-index _ _ _ _ stop) steady

@@ -80,14 +80,14 @@ pub fn help_clock<P: Protocol, L: Ledger>(
 }
 
 /// A help that has begun: the commit that the word names was found unstamped, by one load.
-#[derive(Clone, Copy, Debug, PartialEq, Eq)]
+#[derive(Clone, Copy)]
 pub struct StartedHelp {
     word: u64,
     unset: u64,
 }
 
 /// A help that has loaded CLOCK, which decides whether the stamp may be exchanged.
-#[derive(Clone, Copy, Debug, PartialEq, Eq)]
+#[derive(Clone, Copy)]
 pub struct CheckedHelp {
     word: u64,
     unset: u64,

@@ -11,7 +11,7 @@ use replay_rules::{Call, CallOf, MOST_STEPS, PlanFault, PlanKind};
 use set_script::first_word;
 
 /// What a call does.
-#[derive(Clone, Copy, Debug, Drop, PartialEq, Eq)]
+#[derive(Clone, Copy)]
 pub enum Verb {
     Enter,
     Read,

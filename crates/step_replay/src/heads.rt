@@ -14,7 +14,7 @@ use replay_rules::PlanKind;
 const WRITE_MAX: u32 = 16;
 
 /// Which of the four lines comes next, and what those before it say.
-#[derive(Clone, Copy, Debug, PartialEq, Eq)]
+#[derive(Clone, Copy)]
 pub enum Heads {
     Seats,
     Objects {

@@ -8,7 +8,7 @@ use crate::script::plain::read_plain;
 use crate::script::words::{first_word, read_one, read_three, read_two, strip_carriage_return};
 
 /// What a command does.
-#[derive(Clone, Copy, Debug, Drop, PartialEq, Eq)]
+#[derive(Clone, Copy, Drop)]
 pub enum Verb {
     Add,
     Put,

@@ -29,7 +29,7 @@ const FILLED: [Turn; 192] = commits!(
     32 33 34 35 36 37 38 39 40 41 42 43 44 45 46 47 48 49 50 51 52 53 54 55 56 57 58 59 60 61 62 63
 );
 
-const SCHEDULES: [Schedule; 3] = [
+static SCHEDULES: [Schedule; 3] = [
     Schedule {
         name: "a log is full behind a mark",
         domain: TWO_SEATS,

@@ -49,16 +49,20 @@ pub enum Answer {
     Skipped,
 }
 
-// A move outside a section.
-fn outside<'d>(mut handle: Handle<'d, AnyRules>, next: Move) -> (Client<'d>, Answer)
+// Begins a section.
+fn enter<'d>(handle: Handle<'d, AnyRules>) -> (Client<'d>, Answer)
     ensures { IsSameSeat (handled handle.entry) (seat_in result.0) }
 {
-    let answer = match next {
-        Move::Enter => {
-            let session = handle.enter();
-            let time = session.at();
-            return (Client::Inside(session), Answer::Entered(time));
-        }
+    let session = handle.enter();
+    let time = session.at();
+    (Client::Inside(session), Answer::Entered(time))
+}
+
+// A move outside a section that begins none.
+fn between(handle: &mut Handle<'_, AnyRules>, next: Move) -> Answer
+    ensures { IsSameSeat (handled handle.old) (handled handle.new) }
+{
+    match next {
         Move::Prepare => Answer::Room(handle.prepare()),
         Move::Tidy => {
             let tidied = handle.tidy();
@@ -66,8 +70,20 @@ fn outside<'d>(mut handle: Handle<'d, AnyRules>, next: Move) -> (Client<'d>, Ans
         }
         Move::Table => Answer::Counts(handle.table()),
         _ => Answer::Skipped,
-    };
-    (Client::Outside(handle), answer)
+    }
+}
+
+// A move outside a section.
+fn outside<'d>(mut handle: Handle<'d, AnyRules>, next: Move) -> (Client<'d>, Answer)
+    ensures { IsSameSeat (handled handle.entry) (seat_in result.0) }
+{
+    match next {
+        Move::Enter => enter(handle),
+        _ => {
+            let answer = between(&mut handle, next);
+            (Client::Outside(handle), answer)
+        }
+    }
 }
 
 // Commits what a section holds.

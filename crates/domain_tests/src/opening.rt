@@ -58,7 +58,7 @@ fn new_seats_meet(rt: HostRuntime) -> Result<(), Fail> {
 }
 
 // Numbers, and what is wrong with them.
-const NUMBERS: [(Config, Option<ConfigFault>); 9] = [
+static NUMBERS: [(Config, Option<ConfigFault>); 9] = [
     (GOOD, None),
     (Config { seats: 1, ..GOOD }, None),
     (Config { seats: 0, ..GOOD }, Some(ConfigFault::Seats)),

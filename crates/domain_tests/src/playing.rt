@@ -137,6 +137,28 @@ fn closed_otherwise(mut closing: Closing<AnyRules>, wanted: (u64, &[Words])) -> 
     None
 }
 
+// Lends the domain to the seats, plays parts of a schedule, and gives the domain back.
+fn play_lent<'d>(
+    domain: &'d Domain<AnyRules>,
+    seats: &mut Vec<Seat<AnyRules>>,
+    clients: &mut Vec<Client<'d>>,
+    parts: &[&[Turn]],
+) -> Option<Otherwise>
+    requires many { vec_len seats.old ≡ (numbers_of domain.now).seats }
+    requires rising { AreRising seat_of domain.now seats.old.items }
+    requires empty { clients.old.items ≡ [] }
+    requires room { vec_len seats.old ≤ vec_capacity clients.old }
+    ensures many { vec_len seats.new ≡ (numbers_of domain.now).seats }
+    ensures rising { AreRising seat_of domain.now seats.new.items }
+    ensures empty { clients.new.items ≡ [] }
+    ensures room { vec_capacity clients.new ≡ vec_capacity clients.old }
+{
+    lend(domain, seats, clients);
+    let otherwise = play_parts(domain, clients, parts);
+    give_back(domain, clients, seats);
+    otherwise
+}
+
 // Plays a schedule, and gives the domain back. It answers the first turn that was answered otherwise.
 fn play_all<'d>(
     domain: &'d Domain<AnyRules>,
@@ -151,12 +173,8 @@ fn play_all<'d>(
     ensures many { vec_len result.0 ≡ (numbers_of domain.now).seats }
     ensures rising { AreRising seat_of domain.now result.0.items }
 {
-    lend(domain, &mut seats, &mut clients);
-    let first = play_parts(domain, &mut clients, schedule.turns);
-    give_back(domain, &mut clients, &mut seats);
-    lend(domain, &mut seats, &mut clients);
-    let then = play_parts(domain, &mut clients, &[schedule.again]);
-    give_back(domain, &mut clients, &mut seats);
+    let first = play_lent(domain, &mut seats, &mut clients, schedule.turns);
+    let then = play_lent(domain, &mut seats, &mut clients, &[schedule.again]);
     clients.destroy_empty();
     (seats, first.or(then))
 }

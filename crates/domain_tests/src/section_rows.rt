@@ -11,7 +11,7 @@ use std::test::Fail;
 
 const TWO_SEATS: Config = Config { seats: 2, ..SMALL };
 
-const SCHEDULES: [Schedule; 7] = [
+static SCHEDULES: [Schedule; 7] = [
     Schedule {
         name: "the closing has the time and the state after the commits of all seats",
         domain: Config {

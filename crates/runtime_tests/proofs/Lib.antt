@@ -4,6 +4,8 @@ pub mod Marked
 pub mod NamedOnes
 pub mod Stages
 pub mod Building
+pub mod TopLooks
 pub mod Opened
+pub mod ReadSections
 pub mod Rested
 pub mod Reclaimed

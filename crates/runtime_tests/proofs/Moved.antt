@@ -42,7 +42,12 @@ entered c v w l time o b = record {
 
 -- a section that holds nothing may be left
 pub may_leave : (c : Config) (v : View) (l : Noted) (word : Option ℕ) → IsInside c v l word → l.held ≡ 0 → IsOpen v
-may_leave c v l word i none = record { inside = section_in v; phase = i.may.phase; open_is = i.may.open_is; nothing = none_held v.ring (i.stands.held ∙ none) }
+may_leave c v l word i none = record {
+  inside = section_in v;
+  phase = i.may.phase;
+  open_is = i.may.open_is;
+  nothing = none_held v.ring (i.stands.held ∙ none);
+}
 
 pub left : (c : Config) (v w : View) (l : Noted) (word : Option ℕ) → IsInside c v l word → w ≡ mark_cleared c v → IsOutside c w l
 left c v w l word i is = record {

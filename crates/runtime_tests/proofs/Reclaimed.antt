@@ -73,7 +73,8 @@ back_not_started c v w l n mark before after Gone o s = back_refused c v w l n 0
 back_not_started c v w l n mark before after (Above seat) o s = back_refused c v w l n s.1 o s.2
 
 -- a word of it was stored
-pub back_stored : (c : Config) (v w : View) (l : Noted) (b d : Back) → IsWritingBack c v l → IsWriting c w d → StoresWord c v w b d → IsWritingBack c w l
+pub back_stored : (c : Config) (v w : View) (l : Noted) (b d : Back) → IsWritingBack c v l → IsWriting c w d → StoresWord c v w b d
+    → IsWritingBack c w l
 back_stored c v w l b d k is stores =
     let s : Step = record { kind = StoreMaster; word = place_of c (Master b.object b.stored); found = None; stored = Some (slice_index b.words b.stored) } in
     let view = stores.view in

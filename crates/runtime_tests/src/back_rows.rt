@@ -18,7 +18,7 @@ use version_chain::Found;
 
 const DOMAIN: Config = Config { seats: 2, ..SMALL };
 
-const SCHEDULES: [Schedule; 8] = [
+static SCHEDULES: [Schedule; 8] = [
     Schedule {
         name: "too young: a section may not read the version yet",
         domain: DOMAIN,

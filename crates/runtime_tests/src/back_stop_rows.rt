@@ -124,7 +124,7 @@ const FREED: Turn = (1, Tidy, Tidied(1, 0, None));
 
 const BOTH_FREED: Turn = (1, Tidy, Tidied(2, 0, None));
 
-const SCHEDULES: [Schedule; 14] = [
+static SCHEDULES: [Schedule; 14] = [
     Schedule {
         name: "after the store of no word",
         domain: TWO_SEATS,

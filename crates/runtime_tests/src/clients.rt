@@ -14,7 +14,7 @@ use std::alloc::{AllocError, Global};
 use version_chain::{Found, Walk};
 
 /// How far a client has come, as it knows it at run time.
-#[derive(Clone, Copy, Debug, PartialEq, Eq)]
+#[derive(Clone, Copy)]
 pub enum Stage {
     /// It is outside a section.
     Outside,

@@ -3,6 +3,8 @@ use crate::moves::Answer::{Done, Entered, Held, Left, Tidied, Written};
 use crate::moves::Move::{Commit, Enter, Leave, Lock, Tidy, Write};
 use crate::{SMALL, Schedule, Turn, closed_after};
 use mv_layout::Config;
+use std::alloc::Global;
+use std::process::Abort;
 use std::test::Fail;
 
 // Seat 0 commits object 0 at time 1, and seat 1 both objects at time 2.
@@ -36,7 +38,7 @@ const DOMAIN: Config = Config {
 
 // A clock word is a time times 2^19, a seat times 2^13 and a slot, 8191 where it names no commit; a link word is a position
 // and the next seat times 2^57; and a mark is the next time.
-const CLOSINGS: [Closing; 4] = [
+static CLOSINGS: [Closing; 4] = [
     Closing {
         schedule: Schedule {
             name: "nobody makes an entry",
@@ -89,11 +91,11 @@ const CLOSINGS: [Closing; 4] = [
     },
 ];
 
-#[test]
-fn the_last_words_are_what_the_moves_left(rt: HostRuntime) -> Result<(), Fail> {
-    for closing in &CLOSINGS {
+// Closes a new domain after each of these schedules.
+fn close_after_each(rt: &impl Abort, alloc: Global, closings: &[Closing<'_>]) -> Result<(), Fail> {
+    for closing in closings {
         let name = closing.schedule.name;
-        let Some(words) = closed_after(rt.alloc(), &closing.schedule)? else {
+        let Some(words) = closed_after(alloc, &closing.schedule)? else {
             panic!(rt; "the turns of {name}");
         };
         assert_eq!(rt; words.clock, closing.clock, "CLOCK of {name}");
@@ -110,4 +112,9 @@ fn the_last_words_are_what_the_moves_left(rt: HostRuntime) -> Result<(), Fail> {
         assert_eq!(rt; found, wanted, "MARK, HEAD and MASTER of {name}");
     }
     Ok(())
+}
+
+#[test]
+fn the_last_words_are_what_the_moves_left(rt: HostRuntime) -> Result<(), Fail> {
+    close_after_each(&rt, rt.alloc(), &CLOSINGS)
 }

@@ -17,7 +17,7 @@ const THREE_OBJECTS: Config = Config {
     ..SMALL
 };
 
-const SCHEDULES: [Schedule; 11] = [
+static SCHEDULES: [Schedule; 11] = [
     Schedule {
         name: "a name is lost, and at the end the clock names the last commit",
         domain: Config {

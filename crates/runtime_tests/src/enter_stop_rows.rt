@@ -59,7 +59,7 @@ const MARKED_BY_ANOTHER: Turn = (1, Tidy, Tidied(0, 1, Some(Mark { seat: 2, low:
 // After the last time nothing becomes dead any more.
 const KEPT: Turn = (1, Tidy, Tidied(0, 1, Some(End)));
 
-const SCHEDULES: [Schedule; 10] = [
+static SCHEDULES: [Schedule; 10] = [
     Schedule {
         name: "after the load of the low time, which holds nothing",
         domain: THREE_SEATS,

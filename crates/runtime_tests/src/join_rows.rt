@@ -21,7 +21,7 @@ const COMMITS: [Turn; 7] = [
     (1, Enter, Entered(2)),
 ];
 
-const SCHEDULES: [Schedule; 5] = [
+static SCHEDULES: [Schedule; 5] = [
     Schedule {
         name: "one seat, and no entry",
         domain: Config { base: 7, ..SMALL },

@@ -14,7 +14,7 @@ const THREE_OBJECTS: Config = Config {
     ..SMALL
 };
 
-const SCHEDULES: [Schedule; 10] = [
+static SCHEDULES: [Schedule; 10] = [
     Schedule {
         name: "busy until the holder has committed, and then stale",
         domain: Config {

@@ -104,7 +104,7 @@ const MARKED_LATER: Turn = (1, Tidy, Tidied(0, 2, Some(Mark { seat: 0, low: 1 })
 
 // After a lost exchange FIRST and STAMP are loaded of the version that it found; or PREV is cleared where
 // it found 0, and the exchange is tried again, which is the last step.
-const SCHEDULES: [Schedule; 15] = [
+static SCHEDULES: [Schedule; 15] = [
     Schedule {
         name: "the other seat holds the object, and the slot of what was built serves for another lock",
         domain: DOMAIN,

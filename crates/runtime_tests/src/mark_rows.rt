@@ -27,7 +27,7 @@ const LOW_BELOW_GRACE: Watermark = Watermark {
     seat: 1,
 };
 
-const SCHEDULES: [Schedule; 3] = [
+static SCHEDULES: [Schedule; 3] = [
     Schedule {
         name: "a mark below GRACE holds the low time of a scan down, but not GRACE",
         domain: DOMAIN,

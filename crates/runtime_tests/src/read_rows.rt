@@ -25,7 +25,7 @@ const FIRST_OF_SEAT_0: Found = Found::Version {
     position: 0,
 };
 
-const SCHEDULES: [Schedule; 7] = [
+static SCHEDULES: [Schedule; 7] = [
     Schedule {
         name: "an old section reads its snapshot under two later commits",
         domain: THREE_OBJECTS,

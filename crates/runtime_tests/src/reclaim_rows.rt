@@ -18,7 +18,7 @@ use version_chain::Found;
 
 const TWO_SEATS: Config = Config { seats: 2, ..SMALL };
 
-const SCHEDULES: [Schedule; 7] = [
+static SCHEDULES: [Schedule; 7] = [
     Schedule {
         name: "a round leaves fresh what a tidy frees",
         domain: SMALL,

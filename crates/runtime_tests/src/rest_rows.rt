@@ -50,7 +50,7 @@ const MARKED_BY_SEAT_0: Answer = Tidied(0, 1, Some(Mark { seat: 0, low: 65 }));
 
 const MARKED_BY_SEAT_2: Answer = Tidied(0, 1, Some(Mark { seat: 2, low: 65 }));
 
-const SCHEDULES: [Schedule; 9] = [
+static SCHEDULES: [Schedule; 9] = [
     Schedule {
         name: "a rest moves the clock on, and is counted",
         domain: ONE_OBJECT,

@@ -169,7 +169,7 @@ pub(crate) const MARKED_LATE: Turn = (
 
 const TWO_MARKED: Turn = (1, Tidy, Tidied(0, 2, Some(Mark { seat: 0, low: 0 })));
 
-const SCHEDULES: [Schedule; 14] = [
+static SCHEDULES: [Schedule; 14] = [
     Schedule {
         name: "within a lock",
         domain: THREE_SEATS,

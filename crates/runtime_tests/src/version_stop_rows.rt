@@ -180,7 +180,7 @@ const THREE_UNDER_A_LOCK: Turn = (1, Tidy, Tidied(0, 3, Some(Above { object: 0, 
 // A lock builds ten words for the first version of a write set, and nine for a later one. After the
 // exchange of the stamp a finish stores SUPER of each version: after three of them only the store of
 // MARK is left.
-const SCHEDULES: [Schedule; 11] = [
+static SCHEDULES: [Schedule; 11] = [
     Schedule {
         name: "within a lock over an own version",
         domain: DOMAIN,

@@ -1,5 +1,5 @@
-use Rattle.std.proofs.Common.{rules}
 use Rattle.mv_core.specs.Passes.{view, config_of}
+use Rattle.seat_log.proofs.OwnSlots.{of_still}
 use Rattle.runtime_tests.proofs.Marked.{scanned}
 use Rattle.runtime_tests.proofs.Stages.{at_outside, still_outside}
 use Rattle.runtime_tests.proofs.marking.scanning.Goals as goal
@@ -13,7 +13,7 @@ returns g c =
     let o = at_outside config v l c.args.client.now.stage c.requires.ready.1 c.in-Outside.is in
     record {
       ready = (
-        search rules,
+        of_still c.args.shared.now c.args.client.now.pass c.scan.new.pass c.scan.ensures.same c.requires.ready.0,
         still_outside config w l c.args.client.now.stage c.in-Outside.is
             (scanned config v w l c.scan.result c.scan.ensures.scans.0 _ _ o c.scan.ensures.scans.1),
       );

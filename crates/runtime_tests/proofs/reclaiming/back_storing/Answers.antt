@@ -1,5 +1,6 @@
-use Rattle.std.proofs.Common.{rules, ◌+◌, sym, ap, ◌∙◌, subst}
+use Rattle.std.proofs.Common.{◌+◌, sym, ap, ◌∙◌, subst}
 use Rattle.mv_core.specs.Passes.{view, config_of}
+use Rattle.seat_log.proofs.OwnSlots.{of_still}
 use Rattle.log_reclaim.specs.declared.writing_back.Back.{Back}
 use Rattle.runtime_tests.specs.Clients.{IsUnderWay}
 use Rattle.runtime_tests.proofs.Reclaimed.{back_stored}
@@ -18,7 +19,10 @@ returns g c =
     let is = e.stores.back in
     record {
       ready = (
-        (search rules, still_writing_back config w l c.args.client.now.stage c.in-WritingBack.is (back_stored config v w l _ _ k e.writing e.stores)),
+        (
+          of_still c.args.shared.now c.args.client.now.pass c.back_word.new.pass e.same c.requires.ready.0.0,
+          still_writing_back config w l c.args.client.now.stage c.in-WritingBack.is (back_stored config v w l _ _ k e.writing e.stores),
+        ),
         (e.writing, ap (λ (b : Back). b.stored) is ∙ ap (λ n. n + 1) u.1),
       );
     }

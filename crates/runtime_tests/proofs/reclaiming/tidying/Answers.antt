@@ -1,8 +1,22 @@
-use Rattle.std.proofs.Common.{rules}
 use Rattle.mv_core.specs.Passes.{view, config_of}
+use Rattle.seat_log.proofs.OwnSlots.{of_still}
 use Rattle.runtime_tests.proofs.Reclaimed.{reclaimed}
 use Rattle.runtime_tests.proofs.Stages.{at_outside, still_outside}
 use Rattle.runtime_tests.proofs.reclaiming.tidying.Goals as goal
+
+pub tidy-requires-clause-may : goal.tidy-requires-clause-may
+tidy-requires-clause-may g c =
+    let v = view c.args.client.now.pass in
+    let l = c.args.client.now.log in
+    let o = at_outside (config_of c.args.shared.now) v l c.args.client.now.stage c.requires.ready.1 c.in-Outside.is in
+    o.may
+
+pub tidy-requires-clause-stands : goal.tidy-requires-clause-stands
+tidy-requires-clause-stands g c =
+    let v = view c.args.client.now.pass in
+    let l = c.args.client.now.log in
+    let o = at_outside (config_of c.args.shared.now) v l c.args.client.now.stage c.requires.ready.1 c.in-Outside.is in
+    o.stands
 
 pub returns : goal.returns
 returns g c =
@@ -15,7 +29,7 @@ returns g c =
     let o = at_outside config v l c.args.client.now.stage c.requires.ready.1 c.in-Outside.is in
     record {
       ready = (
-        search rules,
+        of_still c.args.shared.now c.args.client.now.pass c.tidy.new.pass e.same c.requires.ready.0,
         still_outside config w m c.args.client.now.stage c.in-Outside.is (reclaimed config v w l m e.reclaims.0 _ o e.reclaims.1 e.shrinks e.stands),
       );
     }

@@ -6,7 +6,7 @@ use Rattle.log_reclaim.proofs.Idle.{still_of}
 use Rattle.log_reclaim.proofs.Reclaiming.{reclaims_may, reclaims_still}
 use Rattle.log_reclaim.proofs.ScanParts.{grace_makes, grace_stands, grace_may}
 use Rattle.log_reclaim.proofs.FirstFrees.{frees_shrinks, frees_again, grace_plain, sweeps_all, sweeps_on}
-use Rattle.log_reclaim.proofs.Tidied.{left_from, left_begins, left_rests, left_shrinks, left_reclaims, left_alone, emptied}
+use Rattle.log_reclaim.proofs.Tidied.{left_from, left_begins, left_rests, left_shrinks, left_reclaims, left_alone, emptied, no_notes, none_held}
 use Rattle.log_reclaim.proofs.FreshTimes.{left_fresh}
 use Rattle.log_reclaim.proofs.tidying.tidy.Given.{Over}
 use Rattle.mv_core.specs.declared.view.View.{View}
@@ -151,3 +151,12 @@ returns-clause-trail g c =
     (freed_longer (view k.new.pass) (view f.new.pass) c.args.log.now f.new.log f.ensures.frees.0 _ f.result f.ensures.frees.1)
     c.tidy_left-left.ensures.trail (frees_shrinks _ _ _ _ _ _ _ f.ensures.frees.1).few
     (live_few (config_of c.args.shared.now) (view c.args.pass.now) c.args.log.now c.requires.stands)
+
+pub returns-then-live-eq0-clause-shrinks : goal.returns-then-live-eq0-clause-shrinks
+returns-then-live-eq0-clause-shrinks g c = frees_shrinks _ _ _ _ _ _ _ c.free_all-freed.ensures.frees.1
+
+pub returns-then-live-eq0-clause-fresh : goal.returns-then-live-eq0-clause-fresh
+returns-then-live-eq0-clause-fresh g c = λ time e. none_held _ e
+
+pub returns-then-live-eq0-clause-alone : goal.returns-then-live-eq0-clause-alone
+returns-then-live-eq0-clause-alone g c = λ one early. no_notes c.free_all-freed.new.log.live (sym c.live.ensures ∙ c.if-live-eq0.true)

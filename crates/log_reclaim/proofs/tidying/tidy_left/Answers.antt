@@ -1,7 +1,7 @@
-use Rattle.std.proofs.Common.{refl, ap, length}
-use Rattle.mv_core.specs.Passes.{view}
+use Rattle.std.proofs.Common.{false, refl, ap, length}
+use Rattle.mv_core.specs.Passes.{view, config_of}
 use Rattle.log_reclaim.specs.Tidies.{HeldBy}
-use Rattle.log_reclaim.proofs.Tidied.{held_by_none, held_by_some}
+use Rattle.log_reclaim.proofs.Tidied.{held_by_none, held_by_some, table_left}
 use Rattle.log_reclaim.proofs.tidying.tidy_left.Given.{Over}
 use Rattle.seat_log.specs.Notes.{Noted}
 use Rattle.seat_log.proofs.OwnSlots.{same_on, of_still}
@@ -89,3 +89,13 @@ returns-clause-trail g c =
     (length c.rest_if_due.new.log.live) c.scan_and_free-first_freed.result.0 c.scan_and_free-first_freed.ensures.trail c.rest_if_due.ensures.trail
     c.sweep-freed.ensures.trail
     (ap (λ (l : Noted). length l.live) c.rest_if_due.ensures.rests.1.log) c.scan_and_free-first_freed.ensures.sweeps.1.shrinks.few
+
+pub holder-held-requires-clause-noted : goal.holder-held-requires-clause-noted
+holder-held-requires-clause-noted g c = c.sweep-freed.ensures.stands.log
+
+pub holder-held-requires-clause-table : goal.holder-held-requires-clause-table
+holder-held-requires-clause-table g c =
+    λ back. table_left (config_of c.args.shared.now) (view c.rest_if_due.new.pass) (view c.sweep-freed.new.pass) c.scan_and_free-first_freed.new.log
+    c.rest_if_due.new.log c.sweep-freed.new.log
+    c.sweep-freed.ensures.sweeps.0 false c.scan_and_free-first_freed.new.found c.sweep-freed.new.found c.sweep-freed.result.0 c.sweep-freed.result.1
+    c.scan_and_free-first_freed.ensures.sweeps.1.table c.rest_if_due.ensures.rests.1.log c.sweep-freed.ensures.sweeps.1

@@ -133,8 +133,8 @@ head_tries c v w object link inside head before =
     }
 
 -- the walk stands at the version that HEAD named
-pub stands_top : (c : Config) (v w : View) (object link : ℕ) (inside : Section) → link ≢ 0 → w ≡ head_loaded c v inside object link → IsLinkOf c link
-    → StandsOn c w link
+pub stands_top : (c : Config) (v w : View) (object link : ℕ) (inside : Section) → link ≢ 0 → w ≡ head_loaded c v inside object link
+    → IsLinkOf c link → StandsOn c w link
 stands_top c v w object link inside some head packed =
     let at = stands_here w object link Nothing some (ap (λ (u : View). u.walk) head) in
     let stand = ap stand_of at in

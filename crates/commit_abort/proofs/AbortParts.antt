@@ -1,5 +1,5 @@
 -- An abort goes on from one of its parts to the next.
-use Rattle.std.proofs.Common.{◌≡◌, ℕ, ◌+◌, List, length, subst, sym, arith, None}
+use Rattle.std.proofs.Common.{◌≡◌, ℕ, ◌+◌, ◌≤◌, List, length, subst, sym, arith, None}
 use Rattle.mv_history.specs.State.{State, Writes}
 use Rattle.mv_layout.specs.declared.Config.{Config}
 use Rattle.mv_core.specs.declared.view.View.{View}
@@ -72,3 +72,7 @@ module _ (c : Config) (from v : View) (l : Noted) (dead : ℕ) (k : HasGivenUp c
       (λ some.
       let t = k.death.some some in
       ended_timed c from l a.inside a.stands a.unbuilt k.before all v w m t.word dead some (t.history, t.whole, t.view) t.dead_is is noted)
+
+-- how many steps an abort has made, after one version more
+pub given_cost : (a b d which : ℕ) → b ≤ a + which → d ≡ b + 1 → d ≤ a + (which + 1)
+given_cost a b d which before one = omega arith

@@ -73,3 +73,13 @@ module _ (c : Config) (from v : View) (l : Noted) (time : ℕ) (k : IsFinishing 
 
   pub finish_ends : (w : View) (m : Noted) → w ≡ mark_cleared c v → m ≡ committed_noted l time → Finishes from w (l.held + 2) × Stands c w m
   finish_ends = ended c from l k.won k.named time k.first k.time_is k.first_is k.stamped k.stamps v told_all
+
+-- how many steps a finish has made, at its start, after one version more, and at its end
+pub first_cost : (a b : ℕ) → b ≡ a + 1 → b ≤ a + 1 + 0
+first_cost a b one = omega arith
+
+pub next_cost : (a b d which : ℕ) → b ≤ a + 1 + which → d ≤ b + 1 → d ≤ a + 1 + (which + 1)
+next_cost a b d which before one = omega arith
+
+pub last_cost : (a b d which held : ℕ) → b ≤ a + 1 + which → d ≡ b + 1 → which ≡ held → d ≤ a + held + 2
+last_cost a b d which held before one all = omega arith

@@ -37,3 +37,4 @@ pub mod OneLook
 pub mod EachLook
 pub mod FreshTimes
 pub mod Heard
+pub mod Lengths

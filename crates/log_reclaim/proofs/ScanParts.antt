@@ -1,5 +1,6 @@
 -- What a scan, and a load of GRACE, leave of a pass that reclaims.
-use Rattle.std.proofs.Common.{◌≡◌, ℕ, ◌+◌, ◌≤◌, max, List, [], ◌∷◌, ◌++◌, length, All, refl, sym, ap, ◌∙◌, subst, arith, append-nil, None}
+use Rattle.std.proofs.Common.{◌≡◌, ℕ, ◌+◌, ◌≤◌, max, List, [], ◌∷◌, ◌++◌, length, All, refl, sym, ap, ◌∙◌, subst}
+use Rattle.std.proofs.Common.{arith, append-nil, None}
 use Rattle.std.proofs.lemmas.List.Elements.{All-nil, All-cons}
 use Rattle.mv_history.specs.declared.Entry.{Entry}
 use Rattle.mv_history.specs.declared.Step.{Step}
@@ -38,6 +39,9 @@ module _ (c : Config) (v w : View) (found : ℕ) (is : w ≡ grace_loaded c v fo
     rests = ap (λ (x : View). x.past.rests) is;
     kinds = one_kind IsOtherKind (grace_load c found) tt;
   }
+
+  pub grace_may : MayLoadLow v → MayLoadLow w
+  grace_may may = record { outside = ap (λ (x : View). x.phase) is ∙ may.outside; no_scan = ap (λ (x : View). x.scan) is ∙ may.no_scan }
 
   pub grace_stands : (l : Noted) → Stands c v l → Stands c w l
   grace_stands l k =

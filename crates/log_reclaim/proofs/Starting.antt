@@ -1,6 +1,6 @@
 -- A write-back starts: what its steps ask is so, and what they leave where HEAD names the version, and where it doesn't.
 use Rattle.std.proofs.Common.{◌≡◌, ◌≢◌, ℕ, ◌-◌, ◌<◌, ◌≤◌, ◌^◌, Bool, false, cond, List, length, refl, sym, ap}
-use Rattle.std.proofs.Common.{◌∙◌, subst, ⊎_elim, inl, arith, Option, Some, None, Err, Ok, slice_get}
+use Rattle.std.proofs.Common.{◌∙◌, subst, ⊎_elim, inl, arith, Option, Some, None, Result, Err, Ok, slice_get}
 use Rattle.std.proofs.Math.Logic.{∥∥₁_elim}
 use Rattle.std.proofs.Math.Bridge.{le_prop}
 use Rattle.std.proofs.lemmas.Bool.{ne_eqb}
@@ -15,6 +15,7 @@ use Rattle.mv_core.specs.declared.ring.Status.TheVariants.{Held, Committed}
 use Rattle.mv_core.specs.declared.ring.CommitNote.{CommitNote}
 use Rattle.mv_core.specs.declared.ring.Version.{Version}
 use Rattle.mv_core.specs.declared.view.View.{View}
+use Rattle.mv_core.specs.declared.view.Section.{Section}
 use Rattle.mv_core.specs.declared.view.Walk.TheVariants.{At, Master}
 use Rattle.mv_core.specs.declared.view.Stand.{Stand}
 use Rattle.mv_core.specs.declared.view.Passed.TheVariants.{Nothing}
@@ -37,7 +38,7 @@ use Rattle.seat_log.proofs.Retired.{committed_at}
 use Rattle.seat_log.proofs.NotedSlots.{noted_in}
 use Rattle.log_reclaim.specs.declared.writing_back.Back.{Back}
 use Rattle.log_reclaim.specs.declared.writing_back.NoBack.{NoBack}
-use Rattle.log_reclaim.specs.declared.writing_back.NoBack.TheVariants.{Gone, Above}
+use Rattle.log_reclaim.specs.declared.writing_back.NoBack.TheVariants.{Young, Gone, Above}
 use Rattle.log_reclaim.specs.Backs.{IsCommitted, IsWriting, HasLooked, LeavesAt, HasLater, StartsSo}
 
 -- the note of a place is one
@@ -60,6 +61,33 @@ place_is l position n log live =
     let within = get_within l.live (position - l.freed) n live.at in
     let small = log.positions in
     (omega arith, omega arith)
+
+-- the place of a version is as far from the oldest as its position
+pub some_live : (l : Noted) (position : ℕ) (n : Note) → IsCommitted l position n → 0 < length l.live
+some_live l position n live = let within = get_within l.live (position - l.freed) n live.at in omega arith
+
+pub place_from : (l : Noted) (position : ℕ) (n : Note) → IsLog l → IsCommitted l position n → (oldest : Note) → IsNoteAt l 0 oldest
+    → (oldest.position ≤ position) × (position - oldest.position < length l.live) × (length l.live ≤ 4096)
+place_from l position n log live oldest first =
+    let low = live.from in
+    let within = get_within l.live (position - l.freed) n live.at in
+    let base = log.notes.position 0 oldest first in
+    let room = log.room in
+    let slots = log.slots in
+    (omega arith, omega arith, omega arith)
+
+pub place_small : (place live : ℕ) → place < live → live ≤ 4096 → place < 4294967296
+place_small place live within few = omega arith
+
+-- the seat's number is small
+pub seat_small : (c : Config) (v e w : View) (l : Noted) (time object link seat : ℕ) (inside : Section) → Stands c v l → Begins c v e time
+    → w ≡ head_loaded c e inside object link → seat ≡ w.number → seat < 64
+seat_small c v e w l time object link seat inside k b head is =
+    let first = ap (λ (u : View). u.number) b.rest in
+    let then : w.number ≡ e.number = ap (λ (u : View). u.number) head in
+    let own = k.seat in
+    let small = k.log.seat in
+    omega arith
 
 -- a walk at a link that isn't 0
 abbrev stands_on : ℕ → ℕ → Stand
@@ -94,7 +122,8 @@ module _ (c : Config) (v e : View) (l : Noted) (position : ℕ) (x n : Note) (ti
   pub may_look : MayLoadHead e (section_in e)
   may_look = subst (IsWalking e) (sym section_is) (record { phase = b.phase; open_is = b.open_is; helped = b.past_help; no_back = b.no_back })
 
-  pub object_within : (starts : State → Type 0) (allows : List ℕ → State → Writes → Type 0) → ∥ Known starts allows v ∥₁ → length v.start ≡ c.objects
+  pub object_within : (starts : State → Type 0) (allows : List ℕ → State → Writes → Type 0) → ∥ Known starts allows v ∥₁
+      → length v.start ≡ c.objects
       → x.object < c.objects
   object_within starts allows known objects =
       let a = committed_at c v l (position - l.freed) n k live.at live.committed in
@@ -239,7 +268,8 @@ module _ (c : Config) (v e : View) (l : Noted) (position : ℕ) (x n : Note) (ti
           let object_is : n.object ≡ x.object = ap (λ (z : Note). z.object) (sym same) in
           let apart : index_of c n.position ≢ slot_named c link =
           λ z.
-          not_this (own_link some mine (version_of n) (Committed a.0) (ap (slot_at e.ring) (sym z) ∙ a.1) ∙ ap (λ (s : ℕ). link_of s n.position) number_is) in
+          not_this (own_link some mine (version_of n) (Committed a.0) (ap (slot_at e.ring) (sym z) ∙ a.1) ∙ ap (λ (s : ℕ). link_of s n.position)
+          number_is) in
           let less = last some mine there.0 made.0 top (index_of c n.position) (version_of n) a.0 a.1 object_is apart in
           let time_is = r.as_noted.2 in
           let own_time = a.2 in
@@ -262,3 +292,14 @@ module _ (c : Config) (v e : View) (l : Noted) (position : ℕ) (x n : Note) (ti
           (λ some.
           subst (λ (s : NoBack). StartsSo c v y l n mark before after (Err s)) (sym (above some))
           (low, link, leaves, record { some = some; seat_is = refl; in_range = (link_is some).1; own = has_later some }))
+
+-- a write-back that started, or found another link, isn't too young
+pub ok_young : {A : Type 0} (back : Back) → ◌≡◌ {A = Result Back NoBack} (Ok back) (Err Young) → A
+ok_young back e = absurd (cc)
+
+pub top_young : {A : Type 0} (link : ℕ) (r : NoBack) → (link ≡ 0 → r ≡ Gone) → (link ≢ 0 → r ≡ Above (link_seat_of link))
+    → ◌≡◌ {A = Result Back NoBack} (Err r) (Err Young) → A
+top_young link r gone above e =
+    let young : r ≡ Young = cc in
+    dite (ℕ_discrete link 0) (λ z. let clash : Gone ≡ Young = sym (gone z) ∙ young in absurd (cc))
+    (λ some. let clash : Above (link_seat_of link) ≡ Young = sym (above some) ∙ young in absurd (cc))

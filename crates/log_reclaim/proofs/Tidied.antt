@@ -16,7 +16,7 @@ use Rattle.log_reclaim.specs.declared.settling.Found.{Found}
 use Rattle.log_reclaim.specs.declared.rounds.Scanned.{Scanned}
 use Rattle.log_reclaim.specs.Parts.{Reclaims, Shrinks, grace_load}
 use Rattle.log_reclaim.specs.Tries.{Makes}
-use Rattle.log_reclaim.specs.Sweeps.{Sweeps, SweepsAll, SweepsSo}
+use Rattle.log_reclaim.specs.Sweeps.{HasEntries, Sweeps, SweepsAll, SweepsSo}
 use Rattle.log_reclaim.specs.Holders.{TidyHolds, HeldSo}
 use Rattle.log_reclaim.specs.Rounds.{FreesAll, FreesFirst, FreesBeforeScan, IsHolder, SweptSo}
 use Rattle.log_reclaim.specs.Tidies.{RestsOnce, RestsWhereDue, RestsSo, WritesBackSo, HeldBy, TidiesLeft}
@@ -31,6 +31,9 @@ use Rattle.log_reclaim.proofs.RestsDue.{tidy_due}
 use Rattle.log_reclaim.proofs.Alone.{none_alive}
 use Rattle.log_reclaim.proofs.Heard.{heard_freed}
 
+pub none_held : {A : Type 0} (holder : Holder) → ◌≡◌ {A = Option Holder} None (Some holder) → A
+none_held holder e = absurd (cc)
+
 pub held_by_none : (o : Noted) (first : Scanned) (last : Option Scanned) (found : Found) (held : Option Holder) → last ≡ None → held ≡ None
     → HeldBy o first last found held
 held_by_none o first None found held none is = is
@@ -41,7 +44,7 @@ pub held_by_some : (o : Noted) (first : Scanned) (last : Option Scanned) (found 
 held_by_some o first last found held answer two also is_held h =
     subst (λ (p : Option Scanned). HeldBy o first p found held) (sym also) (subst (IsHolder o first two true found) (sym is_held) h)
 
-no_notes : {X : Type 0} (xs : List X) → length xs ≡ 0 → xs ≡ []
+pub no_notes : {X : Type 0} (xs : List X) → length xs ≡ 0 → xs ≡ []
 no_notes [] e = refl
 no_notes (x ∷ xs) e = absurd (omega arith)
 
@@ -59,6 +62,19 @@ shrinks_rested l m o more is k =
       notes = λ i n at. let r = k.notes i n at in (r.0, ap (λ xs. slice_get xs (i + more)) (sym same) ∙ r.1, r.2);
       rest = k.rest ∙ ap (λ (q : Noted). record q { live = o.live; freed = q.freed + more; back = o.back; rests = o.rests }) is;
     }
+
+-- and the table of what the first scan found has an entry for each version that is left
+pub table_left : (c : Config) (v w : View) (l m o : Noted) (made : List Step) (back : Bool) (found other : Found) (freed : ℕ) (scanned : Option Scanned)
+    → HasEntries l found → m ≡ record l { rests = m.rests } → SweepsSo c v w m o made back other freed scanned → HasEntries o found
+table_left c v w l m o made back found other freed scanned table rested sweeps =
+    let k = shrinks_of c v w m o made back other freed scanned sweeps in
+    let live : length m.live ≡ length l.live = ap (λ (q : Noted). length q.live) rested in
+    let same : m.freed ≡ l.freed = ap (λ (q : Noted). q.freed) rested in
+    let from : o.freed ≡ m.freed + freed = ap (λ (q : Noted). q.freed) k.rest in
+    let few = k.few in
+    let low = table.0 in
+    let high = table.1 in
+    (omega arith, omega arith, table.2)
 
 -- each of the two rounds leaves the rests as they were, and between them is at most one
 rests_of : (c : Config) (v w : View) (l m : Noted) (made : List Step) (back : Bool) (found : Found) (freed : ℕ) (scanned : Option Scanned)

@@ -1,11 +1,11 @@
 -- The name of a domain tells its numbers and its table, so a pass that fits a domain is of it.
-use Rattle.std.proofs.Common.{◌≡◌, ◌<◌, ℕ, List, sym, ap, ◌∙◌, subst}
+use Rattle.std.proofs.Common.{◌≡◌, ◌<◌, ℕ, List, length, arith, sym, ap, ◌∙◌, subst}
 use Rattle.mv_history.specs.declared.Protocol.{Ghosts}
 use Rattle.mv_history.specs.State.{State, Writes}
 use Rattle.mv_layout.specs.declared.Config.{Config}
 use Rattle.mv_core.specs.declared.shared.Shared.{Shared}
 use Rattle.mv_core.specs.declared.shared.Pass.{Pass}
-use Rattle.mv_core.specs.Passes.{IsOf, config_of, table_of}
+use Rattle.mv_core.specs.Passes.{IsOf, IsSame, config_of, home_of, start_of, table_of}
 use Rattle.mv_core.proofs.Homes.{homes_apart}
 use Rattle.seat_log.specs.Notes.{Noted}
 use Rattle.mvrlu.specs.Placed.{Placed, placed, IsPlaced, Fits}
@@ -32,3 +32,11 @@ fits_pass starts allows s pass log fits is =
       fits.1,
       config,
     )
+
+-- and it fits it still
+pub fits_on : {P : Type 0} {g : Ghosts P} (s : Shared P) (p q : Pass P g) (l m : Noted) → IsSame p q → Fits s (placed p l) → Fits s (placed q m)
+fits_on s p q l m same fits = ((λ i. home_of (same.2 i) (same.0 i)) ∙ fits.0, same.4 ∙ fits.1)
+
+-- an object of its opening state is one of the domain
+pub range_of : {P : Type 0} (s : Shared P) (object : ℕ) → object < length (start_of s) → object < (config_of s).objects
+range_of s object lt = let long = s.opening in let same = ap (λ (c : Config). c.objects) s.about in omega arith

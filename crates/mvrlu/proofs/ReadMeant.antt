@@ -1,5 +1,6 @@
 -- What reading means.
-use Rattle.std.proofs.Common.{◌≡◌, ℕ, ◌-◌, ◌≤◌, false, List, [], ◌++◌, All, refl, sym, ap, ◌∙◌, subst, append_assoc}
+use Rattle.std.proofs.Common.{◌≡◌, ℕ, ◌+◌, ◌-◌, ◌*◌, ◌≤◌, false, List, [], ◌++◌, length, length-append, arith, All}
+use Rattle.std.proofs.Common.{refl, sym, ap, ◌∙◌, subst, append_assoc}
 use Rattle.std.proofs.lemmas.List.Elements.{filter-append, All-append, All-weaker}
 use Rattle.mv_history.specs.declared.Step.{Step}
 use Rattle.mv_history.specs.declared.StepKind.{StepKind}
@@ -17,11 +18,12 @@ use Rattle.seat_log.specs.Stands.{Stands}
 use Rattle.seat_log.specs.Notes.{Noted}
 use Rattle.seat_log.proofs.PlainSteps.{LeavesLog, stands_left}
 use Rattle.mvrlu.proofs.Continuing.{continues, busy_on}
-use Rattle.version_chain.specs.Walks.{Walks, IsWalkStep, inside_of, time_at, MayWalk}
+use Rattle.version_chain.specs.Walks.{Walks, IsWalkStep, inside_of, time_at, snapshot_length, MayWalk}
 use Rattle.version_chain.specs.Reads.{ReadsSome}
 use Rattle.mvrlu.specs.Placed.{Placed, seat_from, section_from, IsBusy}
+use Rattle.mvrlu.specs.Bounds.{MakesAtMost}
 use Rattle.mvrlu.specs.Standing.{Stays}
-use Rattle.mvrlu.proofs.Trails.{made, none_named}
+use Rattle.mvrlu.proofs.Trails.{made, few_made, none_named}
 
 no_name : (k : StepKind) → IsWalkStep k → is_commit_exchange k ≡ false
 no_name LoadHead h = refl
@@ -117,3 +119,16 @@ look_busy starts allows p q config is t known may log =
     (subst (λ (d : Config). Stands d q.view q.log) (sym config) (subst (λ (m : Noted). Stands p.config q.view m) (sym log) stands))
     (ap (λ (m : Noted). m.built) log ∙ is.placed.unbuilt)
     (subst (λ (m : Noted). m.held ≤ q.config.write_max) (sym log) (subst (λ (d : Config). p.log.held ≤ d.write_max) (sym config) is.few))
+
+-- it makes as few steps as the walk may, and one for each word
+pub look_bound : (c : Config) (p q : Placed) (x : View) (kind : StepKind) (n most before after : ℕ) → c ≡ p.config → (k : Walks p.view x before after)
+    → after ≤ before + (6 + 3 * (length x.past.seen - snapshot_length c p.view)) → ReadsSome kind n x q.view → most ≡ 6 + n
+    → MakesAtMost (seat_from p) (seat_from q) (most + 3 * (length q.view.past.seen - (section_from p).at))
+look_bound c p q x kind n most before after config k few r is =
+    let all = k.trail.2 in
+    let words = r.trail.2 in
+    let long = length-append k.trail.0 r.trail.0 in
+    let seen : length q.view.past.seen ≡ length x.past.seen = ap (λ (u : View). length u.past.seen) r.rest in
+    let at : snapshot_length c p.view ≡ (section_from p).at = ap (λ (d : Config). snapshot_length d p.view) config in
+    few_made p.view.trail q.view.trail (k.trail.0 ++ r.trail.0) _
+    (r.trail.1 ∙ ap (λ (t : List Step). t ++ r.trail.0) k.trail.1 ∙ append_assoc p.view.trail k.trail.0 r.trail.0) (omega arith)

@@ -1,5 +1,6 @@
 -- A version was built, or HEAD exchanged: what the next part of a lock asks, and how its outcome is that of both.
-use Rattle.std.proofs.Common.{◌≡◌, ℕ, ◌+◌, ◌<◌, true, List, [], ◌∷◌, refl, sym, ap, ◌∙◌, subst, ⊎_elim, inl, inr, arith}
+use Rattle.std.proofs.Common.{◌≡◌, ℕ, ◌+◌, ◌<◌, ◌≤◌, ◌==◌, if◌then◌else◌, true, false, List, [], ◌∷◌, refl, sym}
+use Rattle.std.proofs.Common.{ap, ◌∙◌, subst, ⊎_elim, inl, inr, arith}
 use Rattle.mv_history.specs.declared.answers.LockAnswer.{LockAnswer}
 use Rattle.mv_layout.specs.declared.Config.{Config}
 use Rattle.mv_core.specs.declared.view.View.{View}
@@ -94,3 +95,13 @@ module _ (c : Config) (v w : View) (l : Noted) (object previous position : ℕ) 
 pub one_few : (c : Config) (v w : View) (l : Noted) (object : ℕ) (answer : LockAnswer) (before after : ℕ) → OneOutcome c v w l object answer before after
     → FewOutcome c v w l object answer before after
 one_few c v w l object answer before after o = (o.0 ∷ [], o.1, o.2)
+
+-- how many steps a lock makes until its exchange
+build_few : (position first : ℕ) → build_cost position first ≤ 10
+build_few position first = elim (first == position) as (λ b. (if b then 10 else 9) ≤ 10) [
+  | true ↦ omega arith
+  | false ↦ omega arith
+]
+
+pub start_bound : (a b d position first : ℕ) → b ≤ a + 9 → d ≡ b + build_cost position first → d ≤ a + 19
+start_bound a b d position first looks builds = let few = build_few position first in omega arith

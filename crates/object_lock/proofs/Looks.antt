@@ -132,6 +132,24 @@ head_tries c v w object link inside head before =
       rest = ap (rest_of w) head;
     }
 
+-- the walk stands at the version that HEAD named
+pub stands_top : (c : Config) (v w : View) (object link : ℕ) (inside : Section) → link ≢ 0 → w ≡ head_loaded c v inside object link
+    → IsLinkOf c link → StandsOn c w link
+stands_top c v w object link inside some head packed =
+    let at = stands_here w object link Nothing some (ap (λ (u : View). u.walk) head) in
+    let stand = ap stand_of at in
+    record { stands = at ∙ ap place.At (sym stand); link_is = ap (λ (s : Stand). s.link) stand; packed = packed some }
+
+-- how many steps were made, at the master and at a version
+pub master_bound : (a b d : ℕ) → b ≡ a + 1 → d ≡ b + 6 → d ≤ a + 9
+master_bound a b d one six = omega arith
+
+pub looked_bound : (a b d : ℕ) → b ≡ a + 1 → d ≡ b + 2 → d ≤ a + 9
+looked_bound a b d one two = omega arith
+
+pub version_bound : (a b d e : ℕ) → b ≡ a + 1 → d ≡ b + 2 → e ≡ d + 6 → e ≤ a + 9
+version_bound a b d e one two six = omega arith
+
 -- HEAD was loaded
 module _ (c : Config) (v w x : View) (object link found : ℕ) (inside : Section) (some : link ≢ 0) (head : w ≡ head_loaded c v inside object link)
     (looked : Looked c w x found) where

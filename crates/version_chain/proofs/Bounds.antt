@@ -1,6 +1,6 @@
 -- How many steps a walk has made, and that it ends: below a version that it has passed the times fall.
 use Rattle.std.proofs.Common.{◌≡◌, ◌⊎◌, ℕ, ◌+◌, ◌-◌, ◌*◌, ◌<◌, ◌≤◌, ◌^◌, ◌==◌, Bool, true, false}
-use Rattle.std.proofs.Common.{if◌then◌else◌, length, sym, ap, ◌∙◌, subst, inl, inr, ⊎_elim, le-leb, length-append, arith, Some, None}
+use Rattle.std.proofs.Common.{if◌then◌else◌, length, sym, ap, ◌∙◌, subst, inl, inr, ⊎_elim, le-leb, length-append, arith, Option, Some, None, Ok}
 use Rattle.std.proofs.lemmas.Bool.{lt-leb, cases_lt}
 use Rattle.mv_layout.specs.declared.Config.{Config}
 use Rattle.mv_layout.specs.Words.{IsUnset}
@@ -11,8 +11,12 @@ use Rattle.mv_core.specs.declared.view.Passed.{Passed}
 use Rattle.mv_core.specs.declared.view.Passed.TheVariants.{Nothing, Unset, Time}
 use Rattle.mv_core.specs.WalkFacts.{HasPassed, IsBelowPassed}
 use Rattle.mv_core.specs.WalkSteps.{stand_at, passed_unset, passed_too}
+use Rattle.mv_core.specs.declared.view.Section.{Section}
+use Rattle.mv_core.specs.WalkSteps.{head_loaded}
 use Rattle.version_chain.specs.declared.walking.Walk.{Walk}
-use Rattle.version_chain.specs.Walks.{time_at, stand_in, StandsAt, GoesOn, snapshot_length}
+use Rattle.version_chain.specs.declared.walking.FoundVersion.{FoundVersion}
+use Rattle.version_chain.specs.Slots.{found_of}
+use Rattle.version_chain.specs.Walks.{time_at, stand_in, StandsAt, GoesOn, Walks, Answers, snapshot_length}
 use Rattle.version_chain.proofs.Standing.{stands_here, stand_is}
 
 -- how many steps at most, by what the walk has passed: the snapshot has length `at`, and what was seen has length `long`
@@ -37,13 +41,15 @@ abbrev pub walk_left : core.Walk → ℕ
 walk_left (place.At stand) = 1 + passed_left stand.passed
 walk_left _ = 0
 
-passed_few : (base at long : ℕ) (passed : Passed) (before after : ℕ) → PassedWithin base at long passed before after → after ≤ before + (4 + 3 * (long - at))
+passed_few : (base at long : ℕ) (passed : Passed) (before after : ℕ) → PassedWithin base at long passed before after → after ≤ before +
+    (4 + 3 * (long - at))
 passed_few base at long Nothing before after few = omega arith
 passed_few base at long Unset before after few = omega arith
 passed_few base at long (Time least) before after few = let a = few.0 in let b = few.1 in let d = few.2 in omega arith
 
 -- wherever it stands, a walk may look at one version more
-pub few_steps : (base at long : ℕ) (walk : core.Walk) (before after : ℕ) → WalkedWithin base at long walk before after → after ≤ before + (4 + 3 * (long - at))
+pub few_steps : (base at long : ℕ) (walk : core.Walk) (before after : ℕ) → WalkedWithin base at long walk before after → after ≤ before +
+    (4 + 3 * (long - at))
 few_steps base at long (place.At stand) before after few = passed_few base at long stand.passed before after few
 few_steps base at long (place.Master o) before after few = few
 few_steps base at long place.Nowhere before after few = few
@@ -126,3 +132,25 @@ went_on c v w walk on at before here after stands goes steps at_is few =
           (subst (λ (k : core.Walk). walk_left k < 1 + passed_left stand.passed) (sym on_is)
           (left_below stand.object on.link (passed_left stand.passed) (passed_too stand.passed (Some goes.found)) t.1)),
     )
+
+-- HEAD was loaded
+pub started_within : (c : Config) (v w : View) (inside : Section) (object link at before after : ℕ) → w ≡ head_loaded c v inside object link
+    → after ≡ before + 1 → WalkedWithin c.base at (length w.past.seen) w.walk before after
+started_within c v w inside object link at before after is one =
+    subst (λ (k : core.Walk). WalkedWithin c.base at (length w.past.seen) k before after) (sym (ap (λ (u : View). u.walk) is))
+    (stands_within c.base at (length w.past.seen) object link Nothing before after (let le : after ≤ before + 1 = omega arith in le))
+
+-- and where it ends it has made at most two more
+pub ends_within : (c : Config) (v w : View) (walk : Walk) (at before here after : ℕ) (found : Option FoundVersion)
+    → WalkedWithin c.base at (length v.past.seen) v.walk before here → Walks v w here after → Answers c v w walk here after (Ok (found_of found))
+    → after ≤ before + (6 + 3 * (length w.past.seen - at))
+ends_within c v w walk at before here after None few walks answers =
+    let least = few_steps c.base at (length v.past.seen) v.walk before here few in
+    let more = ap length walks.seen.1 ∙ length-append v.past.seen walks.seen.0 in
+    let same = answers.2 in
+    omega arith
+ends_within c v w walk at before here after (Some found) few walks answers =
+    let least = few_steps c.base at (length v.past.seen) v.walk before here few in
+    let more = ap length walks.seen.1 ∙ length-append v.past.seen walks.seen.0 in
+    let two = answers.1 in
+    omega arith

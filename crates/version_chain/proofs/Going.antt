@@ -1,6 +1,8 @@
 -- One walk after another leaves what a walk leaves.
-use Rattle.std.proofs.Common.{◌≡◌, ℕ, ◌+◌, List, ◌++◌, sym, ap, ◌∙◌, subst, append_assoc, length-append, arith}
-use Rattle.std.proofs.lemmas.List.Elements.{All-append}
+use Rattle.std.proofs.Common.{◌≡◌, ℕ, ◌+◌, ◌<◌, List, [], ◌∷◌, ◌++◌, refl, sym, ap, ◌∙◌, subst, append_assoc}
+use Rattle.std.proofs.Common.{length-append, arith}
+use Rattle.std.proofs.lemmas.List.Elements.{All-nil, All-cons, All-append}
+use Rattle.mv_history.specs.declared.Protocol.{Ghosts}
 use Rattle.mv_history.specs.declared.Entry.{Entry}
 use Rattle.mv_history.specs.declared.Step.{Step}
 use Rattle.mv_layout.specs.declared.Config.{Config}
@@ -9,10 +11,21 @@ use Rattle.mv_core.specs.declared.view.View.{View}
 use Rattle.mv_core.specs.declared.view.Phase.TheVariants.{Inside}
 use Rattle.mv_core.specs.declared.view.Section.{Section}
 use Rattle.mv_core.specs.declared.view.LoadedClocks.{LoadedClocks}
+use Rattle.mv_core.specs.declared.shared.Pass.{Pass}
+use Rattle.mv_core.specs.declared.shared.Shared.{Shared}
+use Rattle.mv_core.specs.Passes.{IsOf, IsSame, config_of}
 use Rattle.mv_core.specs.WalkSteps.{head_loaded, first_loaded, stamp_loaded, prev_loaded}
 use Rattle.mv_core.specs.SectionFacts.{IsPastHelp}
 use Rattle.version_chain.specs.Reads.{ReadsSome}
 use Rattle.version_chain.specs.Walks.{inside_of, section_in, stand_in, MayWalk, IsWalkStep, Walks, snapshot_length}
+
+-- a pass that steps stays of its domain
+pub same_on : {P : Type 0} {g : Ghosts P} (p q r : Pass P g) → IsSame p q → IsSame q r → IsSame p r
+same_on p q r a b = (b.0 ∙ a.0, b.1 ∙ a.1, b.2 ∙ a.2, b.3 ∙ a.3, b.4 ∙ a.4, b.5 ∙ a.5)
+
+pub of_still : {P : Type 0} {g : Ghosts P} (s : Shared P) (p q : Pass P g) → IsSame p q → IsOf s p → IsOf s q
+of_still s p q same of =
+    (same.0 ∙ of.0, subst (λ (n : ℕ). n < (config_of s).seats) (sym same.1) of.1, same.3 ∙ of.2, same.4 ∙ of.3, same.2 ∙ of.4)
 
 pub walks_on : (u v w : View) (first second third : ℕ) → Walks u v first second → Walks v w second third → Walks u w first third
 walks_on u v w first second third a b = record {
@@ -48,13 +61,35 @@ reads_on kind n m u v w a b = record {
   rest = b.rest ∙ ap (λ (x : View). record x { trail = w.trail }) a.rest;
 }
 
+-- two loads that only join the trail, each of one word
+pub reads_two : (kind : StepKind) (v w x : View) (s t : Step) → w ≡ record v { trail = v.trail ++ s ∷ [] } → x ≡ record w
+    { trail = w.trail ++ t ∷ [] }
+    → s.kind ≡ kind → t.kind ≡ kind → ReadsSome kind 2 v x
+reads_two kind v w x s t first second one two =
+    reads_on kind 1 1 v w x
+    (record {
+      trail = (s ∷ [], ap (λ (u : View). u.trail) first, refl, All-cons (λ y. y.kind ≡ kind) s [] one (All-nil (λ y. y.kind ≡ kind)));
+      rest = ap (λ (u : View). record u { trail = w.trail }) first;
+    })
+    (record {
+      trail = (t ∷ [], ap (λ (u : View). u.trail) second, refl, All-cons (λ y. y.kind ≡ kind) t [] two (All-nil (λ y. y.kind ≡ kind)));
+      rest = ap (λ (u : View). record u { trail = x.trail }) second;
+    })
+
+-- what is read of a view doesn't change with its trail
+pub read_still : (of : View → ℕ) (v w : View) (steps : List Step) → ((t : List Step) → of (record v { trail = t }) ≡ of v) → w ≡ record v
+    { trail = steps }
+    → of w ≡ of v
+read_still of v w steps still is = ap of is ∙ still steps
+
 -- a section may walk on where its phase, the clock words it loaded and its write-back stay
 may_still : (v w : View) → w.phase ≡ v.phase → w.clocks ≡ v.clocks → w.back ≡ v.back → MayWalk v → MayWalk w
 may_still v w phase clocks back may =
     let inside : section_in w ≡ section_in v = ap inside_of phase in record {
       phase = phase ∙ may.phase ∙ sym (ap Inside inside);
       open_is = ap (λ (s : Section). s.mode) inside ∙ may.open_is;
-      helped = subst (λ (s : Section). IsPastHelp w.clocks s) (sym inside) (subst (λ (h : LoadedClocks). IsPastHelp h (section_in v)) (sym clocks) may.helped);
+      helped = subst (λ (s : Section). IsPastHelp w.clocks s) (sym inside)
+          (subst (λ (h : LoadedClocks). IsPastHelp h (section_in v)) (sym clocks) may.helped);
       no_back = back ∙ may.no_back;
     }
 

@@ -3,3 +3,4 @@ pub mod SoFar
 pub mod Standing
 pub mod Bounds
 pub mod Going
+pub mod Looking

@@ -1,14 +1,24 @@
 -- A read of a domain whose seats have met: what it answers, and what it leaves.
-use Rattle.std.proofs.Common.{◌≡◌, ℕ, ◌+◌, ◌-◌, ◌≤◌, List, ◌++◌, length, take, sym, ap, ◌∙◌, subst, append_assoc, arith}
+use Rattle.std.proofs.Common.{◌≡◌, ℕ, ◌+◌, ◌-◌, ◌<◌, ◌≤◌, List, ◌++◌, length, take, sym, ap, ◌∙◌, subst}
+use Rattle.std.proofs.Common.{append_assoc, length-append, arith}
 use Rattle.std.proofs.lemmas.List.{take-append-le}
 use Rattle.mv_history.specs.declared.Step.{Step}
+use Rattle.mv_history.specs.declared.Protocol.{Ghosts}
+use Rattle.mv_history.specs.State.{state_after, state_at}
+use Rattle.mv_history.specs.Meaning.{words_at}
+use Rattle.mv_layout.specs.declared.Config.{Config}
+use Rattle.mv_core.specs.declared.view.Phase.{Phase}
+use Rattle.mv_core.specs.declared.shared.Pass.{Pass}
+use Rattle.mv_core.specs.declared.shared.Shared.{Shared}
+use Rattle.mv_core.specs.Passes.{view, IsSame, config_of, start_of}
+use Rattle.seat_log.proofs.OwnSlots.{of_still}
 use Rattle.mv_history.specs.declared.StepKind.{StepKind}
 use Rattle.mv_core.specs.declared.view.View.{View}
 use Rattle.mv_core.specs.Views.{time_in}
 use Rattle.mv_core.specs.HistoryFacts.{BeginsWith}
-use Rattle.version_chain.specs.Walks.{Walks, inside_of, time_at}
-use Rattle.version_chain.specs.Reads.{Reads}
-use Rattle.mvrlu.specs.Whole.{IsStill, whole_from}
+use Rattle.version_chain.specs.Walks.{Walks, inside_of, time_at, MayWalk}
+use Rattle.version_chain.specs.Reads.{Reads, words_in}
+use Rattle.mvrlu.specs.Whole.{IsStill, IsReading, whole_from, last_state}
 
 -- what a walk and a read after it leave of a view: only the trail is longer, and more may have been seen
 pub record Looks (v w : View) : Type 0 where
@@ -47,3 +57,26 @@ module _ (v w : View) (k : Looks v w) (seen : time_at v ≤ v.base + length v.pa
 
   pub looks_still : IsStill (whole_from v) (whole_from w)
   looks_still = record { start = k.start; base = k.base; history = history_stays; trail = k.trail }
+
+-- the words that the section reads are those of the last state
+pub reads_last : (c : Config) (v w : View) (object : ℕ) → v.base ≡ c.base → IsStill (whole_from v) (whole_from w)
+    → words_in c w object ≡ words_at (last_state (whole_from v)) object
+reads_last c v w object base k =
+    ap (λ (b : ℕ). words_at (state_at w.start w.past.seen (time_at w - b)) object) (sym (k.base ∙ base))
+    ∙ (λ i. words_at (state_after (k.start i) (k.history i)) object)
+
+-- an object of the opening state is one of the domain
+pub in_range : {P : Type 0} (s : Shared P) (v : View) (object : ℕ) → v.start ≡ start_of s → object < length v.start → object < (config_of s).objects
+in_range s v object start lt =
+    let long : length v.start ≡ (config_of s).objects = ap length start ∙ s.opening ∙ sym (ap (λ (c : Config). c.objects) s.about) in omega arith
+
+-- the pass reads on
+pub reading_on : {P : Type 0} {g : Ghosts P} (s : Shared P) (p q : Pass P g) → IsSame p q → IsReading s p → Looks (view p) (view q) → MayWalk (view q)
+    → IsReading s q
+reading_on s p q same r k may =
+    let time : time_at (view q) ≡ time_at (view p) = ap (λ (f : Phase). time_in (inside_of f)) k.phase in
+    let base = k.base in
+    let long = ap length k.seen.1 ∙ length-append (view p).past.seen k.seen.0 in
+    let after = r.after in
+    let seen = r.seen in
+    record { of = of_still s p q same r.of; may = may; after = omega arith; seen = omega arith }

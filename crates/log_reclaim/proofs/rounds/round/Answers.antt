@@ -6,6 +6,7 @@ use Rattle.log_reclaim.specs.Sweeps.{SweepsSo}
 use Rattle.log_reclaim.specs.Rounds.{FreesFirst, IsHolder}
 use Rattle.log_reclaim.proofs.FirstFrees.{freed_first}
 use Rattle.log_reclaim.proofs.RoundCauses.{round_scanned, round_emptied, round_plain, emptied_plain}
+use Rattle.log_reclaim.proofs.Lengths.{live_few, round_bound}
 use Rattle.log_reclaim.proofs.rounds.round.Goals.{in-Some, in-None}
 use Rattle.log_reclaim.proofs.rounds.round.Goals as goal
 
@@ -50,3 +51,11 @@ returns-clause-reclaims g c =
           s.result.0 (left g c None w.in-None.is) c.match-scanned.held w.held-is in
           (s.ensures.sweeps.0, r.0, r.1, r.2, r.3, frees g c)
     ]
+
+pub returns-clause-cost : goal.returns-clause-cost
+returns-clause-cost g c =
+    round_bound _ _ _ _ _ c.sweep-freed.ensures.cost (live_few (config_of c.args.shared.now) (view c.args.pass.now) c.args.log.now c.requires.stands)
+
+pub returns-clause-trail : goal.returns-clause-trail
+returns-clause-trail g c =
+    round_bound _ _ _ _ _ c.sweep-freed.ensures.trail (live_few (config_of c.args.shared.now) (view c.args.pass.now) c.args.log.now c.requires.stands)

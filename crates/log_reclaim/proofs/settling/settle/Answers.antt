@@ -1,4 +1,4 @@
-use Rattle.std.proofs.Common.{rules, ◌≡◌, false, List, [], refl, sym, subst, ⊎_elim, arith}
+use Rattle.std.proofs.Common.{◌≡◌, false, List, [], refl, sym, subst, ⊎_elim, arith, length}
 use Rattle.mv_history.specs.declared.Step.{Step}
 use Rattle.mv_core.specs.declared.view.View.{View}
 use Rattle.mv_core.specs.Passes.{view, config_of}
@@ -10,6 +10,8 @@ use Rattle.commit_clock.proofs.Hearing.{hears_none, hears_on}
 use Rattle.log_reclaim.proofs.Heard.{heard_super}
 use Rattle.log_reclaim.proofs.OneNote.{untimed_same, loads_is, log_same, tries_is, may_try, knows_still}
 use Rattle.log_reclaim.proofs.OneLook.{settles_timed, settles_found, settles_unbacked, settles_tried}
+use Rattle.seat_log.proofs.OwnSlots.{same_none, same_on, of_still}
+use Rattle.log_reclaim.proofs.Lengths.{none_more, one_longer, super_bound, looks_bound}
 use Rattle.log_reclaim.proofs.settling.settle.Goals as goal
 
 pub returns-then-version-ne0-clause-settles : goal.returns-then-version-ne0-clause-settles
@@ -77,7 +79,7 @@ write_back-tried-requires g c κs within =
       (
         within.1,
         (
-          search rules,
+          of_still c.args.shared.now c.args.pass.now c.load_super.new.pass c.load_super.ensures.same r.of,
           (
             may_try (config_of c.args.shared.now) (view c.args.pass.now) c.args.log.now r.stands c.args.index c.note-version.result c.note-version.ensures
                 (view c.load_super.new.pass) c.load_super.new.log false loads,
@@ -131,3 +133,41 @@ returns-clause-hears g c =
     hears_on (view c.args.pass.now) (view c.load_super.new.pass) (view c.write_back-tried.new.pass) c.write_back-tried.result.clock
     (heard_super (config_of c.args.shared.now) (view c.args.pass.now) (view c.load_super.new.pass) _ _ _ _ c.write_back-tried.result.clock
     c.load_super.ensures.loads) c.write_back-tried.ensures.hears
+
+pub returns-then-version-ne0-clause-same : goal.returns-then-version-ne0-clause-same
+returns-then-version-ne0-clause-same g c = same_none c.args.pass.now
+
+pub returns-then-version-ne0-clause-stands : goal.returns-then-version-ne0-clause-stands
+returns-then-version-ne0-clause-stands g c = c.requires.stands
+
+pub returns-then-version-ne0-clause-cost : goal.returns-then-version-ne0-clause-cost
+returns-then-version-ne0-clause-cost g c = none_more c.args.steps.now 18
+
+pub returns-then-version-ne0-clause-trail : goal.returns-then-version-ne0-clause-trail
+returns-then-version-ne0-clause-trail g c = none_more (length (view c.args.pass.now).trail) 18
+
+pub returns-then-load_super-clause-same : goal.returns-then-load_super-clause-same
+returns-then-load_super-clause-same g c = c.load_super.ensures.same
+
+pub returns-then-load_super-clause-stands : goal.returns-then-load_super-clause-stands
+returns-then-load_super-clause-stands g c = c.load_super.ensures.stands
+
+pub returns-then-load_super-clause-cost : goal.returns-then-load_super-clause-cost
+returns-then-load_super-clause-cost g c = super_bound _ _ c.load_super.ensures.step
+
+pub returns-then-load_super-clause-trail : goal.returns-then-load_super-clause-trail
+returns-then-load_super-clause-trail g c = super_bound _ _ (one_longer _ _ _ c.load_super.ensures.loads.makes.reclaims.trail)
+
+pub returns-clause-same : goal.returns-clause-same
+returns-clause-same g c = same_on c.args.pass.now c.load_super.new.pass c.write_back-tried.new.pass c.load_super.ensures.same c.write_back-tried.ensures.same
+
+pub returns-clause-stands : goal.returns-clause-stands
+returns-clause-stands g c = c.write_back-tried.ensures.stands
+
+pub returns-clause-cost : goal.returns-clause-cost
+returns-clause-cost g c = looks_bound _ c.load_super.new.steps _ c.load_super.ensures.step c.write_back-tried.ensures.cost
+
+pub returns-clause-trail : goal.returns-clause-trail
+returns-clause-trail g c =
+    looks_bound _ (length (view c.load_super.new.pass).trail) _ (one_longer _ _ _ c.load_super.ensures.loads.makes.reclaims.trail)
+    c.write_back-tried.ensures.trail

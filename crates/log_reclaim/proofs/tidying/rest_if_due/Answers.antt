@@ -1,8 +1,11 @@
-use Rattle.std.proofs.Common.{rules, ◌≡◌, false, subst, sym, ◌∙◌, inl, inr}
+use Rattle.std.proofs.Common.{rules, ◌≡◌, false, subst, sym, ◌∙◌, inl, inr, ap, length}
 use Rattle.mv_core.specs.Passes.{view, config_of}
 use Rattle.log_reclaim.specs.Tidies.{IsAnyAbove}
 use Rattle.log_reclaim.proofs.Idle.{still_of}
 use Rattle.log_reclaim.proofs.Resting.{rests_none, stands_helped, rests_at_end, room, stands_done, stands_lost, rests_done, rests_lost}
+use Rattle.mv_core.specs.declared.view.View.{View}
+use Rattle.seat_log.proofs.OwnSlots.{same_none, same_on, of_still}
+use Rattle.log_reclaim.proofs.Lengths.{one_longer, helped_longer, none_more, helped_bound, rested_bound}
 use Rattle.log_reclaim.proofs.tidying.rest_if_due.Goals as goal
 use Rattle.log_reclaim.proofs.tidying.rest_if_due.Goals.{then-latest-eq-LAST-via-then-latest-eq-LAST}
 use Rattle.log_reclaim.proofs.tidying.rest_if_due.Goals.{then-latest-eq-LAST-via-else-latest-eq-LAST+then-not-any_above}
@@ -75,3 +78,61 @@ returns-in_default-clause-rests g c =
     (view c.help.new.pass) c.help.ensures.helps (view c.rest.new.pass) c.args.latest c.requires.within c.requires.of.2
     (λ e. c.if-clock_time-eq-LAST.false (c.clock_time.ensures ∙ e)) c.args.log.now n.0 n.1
     c.in_default.field-0 c.if-not-any_above.ensures n.2 n.3
+
+pub help-requires-clause-of : goal.help-requires-clause-of
+help-requires-clause-of g c = of_still c.args.shared.now c.args.pass.now c.now-word.new.pass c.now-word.ensures.same c.requires.of
+
+pub rest-requires-clause-of : goal.rest-requires-clause-of
+rest-requires-clause-of g c =
+    of_still c.args.shared.now c.args.pass.now c.help.new.pass
+    (same_on c.args.pass.now c.now-word.new.pass c.help.new.pass c.now-word.ensures.same c.help.ensures.same) c.requires.of
+
+pub returns-then-latest-eq-LAST-clause-same : goal.returns-then-latest-eq-LAST-clause-same
+returns-then-latest-eq-LAST-clause-same g c = same_none c.args.pass.now
+
+pub returns-then-latest-eq-LAST-clause-cost : goal.returns-then-latest-eq-LAST-clause-cost
+returns-then-latest-eq-LAST-clause-cost g c = none_more c.args.steps.now 5
+
+pub returns-then-latest-eq-LAST-clause-trail : goal.returns-then-latest-eq-LAST-clause-trail
+returns-then-latest-eq-LAST-clause-trail g c = none_more (length (view c.args.pass.now).trail) 5
+
+pub returns-then-clock_time-eq-LAST-clause-same : goal.returns-then-clock_time-eq-LAST-clause-same
+returns-then-clock_time-eq-LAST-clause-same g c = same_on c.args.pass.now c.now-word.new.pass c.help.new.pass c.now-word.ensures.same c.help.ensures.same
+
+pub returns-then-clock_time-eq-LAST-clause-cost : goal.returns-then-clock_time-eq-LAST-clause-cost
+returns-then-clock_time-eq-LAST-clause-cost g c = helped_bound _ c.now-word.new.steps _ c.now-word.ensures.step c.help.ensures.cost
+
+pub returns-then-clock_time-eq-LAST-clause-trail : goal.returns-then-clock_time-eq-LAST-clause-trail
+returns-then-clock_time-eq-LAST-clause-trail g c =
+    helped_bound _ (length (view c.now-word.new.pass).trail) _ (one_longer _ _ _ (ap (λ (u : View). u.trail) c.now-word.ensures.view.2))
+    (helped_longer (config_of c.args.shared.now) (view c.now-word.new.pass) (view c.help.new.pass) c.now-word.result c.help.ensures.helps)
+
+pub returns-in-Done-clause-same : goal.returns-in-Done-clause-same
+returns-in-Done-clause-same g c =
+    same_on c.args.pass.now c.help.new.pass c.rest.new.pass (same_on c.args.pass.now c.now-word.new.pass c.help.new.pass c.now-word.ensures.same
+    c.help.ensures.same) c.rest.ensures.same
+
+pub returns-in-Done-clause-cost : goal.returns-in-Done-clause-cost
+returns-in-Done-clause-cost g c = rested_bound _ c.now-word.new.steps c.help.new.steps _ c.now-word.ensures.step c.help.ensures.cost c.rest.ensures.step
+
+pub returns-in-Done-clause-trail : goal.returns-in-Done-clause-trail
+returns-in-Done-clause-trail g c =
+    rested_bound _ (length (view c.now-word.new.pass).trail) (length (view c.help.new.pass).trail) _
+    (one_longer _ _ _ (ap (λ (u : View). u.trail) c.now-word.ensures.view.2))
+    (helped_longer (config_of c.args.shared.now) (view c.now-word.new.pass) (view c.help.new.pass) c.now-word.result c.help.ensures.helps)
+    (one_longer _ _ _ (ap (λ (u : View). u.trail) c.in-Done.ensures.names.1.2))
+
+pub returns-in_default-clause-same : goal.returns-in_default-clause-same
+returns-in_default-clause-same g c =
+    same_on c.args.pass.now c.help.new.pass c.rest.new.pass (same_on c.args.pass.now c.now-word.new.pass c.help.new.pass c.now-word.ensures.same
+    c.help.ensures.same) c.rest.ensures.same
+
+pub returns-in_default-clause-cost : goal.returns-in_default-clause-cost
+returns-in_default-clause-cost g c = rested_bound _ c.now-word.new.steps c.help.new.steps _ c.now-word.ensures.step c.help.ensures.cost c.rest.ensures.step
+
+pub returns-in_default-clause-trail : goal.returns-in_default-clause-trail
+returns-in_default-clause-trail g c =
+    rested_bound _ (length (view c.now-word.new.pass).trail) (length (view c.help.new.pass).trail) _
+    (one_longer _ _ _ (ap (λ (u : View). u.trail) c.now-word.ensures.view.2))
+    (helped_longer (config_of c.args.shared.now) (view c.now-word.new.pass) (view c.help.new.pass) c.now-word.result c.help.ensures.helps)
+    (one_longer _ _ _ (ap (λ (u : View). u.trail) c.in_default.ensures.names.3))

@@ -4,11 +4,14 @@ use Rattle.log_reclaim.specs.Parts.{grace_load}
 use Rattle.log_reclaim.specs.Tidies.{TidiesLeft}
 use Rattle.log_reclaim.proofs.Idle.{still_of}
 use Rattle.log_reclaim.proofs.Reclaiming.{reclaims_may, reclaims_still}
-use Rattle.log_reclaim.proofs.ScanParts.{grace_makes, grace_stands}
+use Rattle.log_reclaim.proofs.ScanParts.{grace_makes, grace_stands, grace_may}
 use Rattle.log_reclaim.proofs.FirstFrees.{frees_shrinks, frees_again, grace_plain, sweeps_all, sweeps_on}
-use Rattle.log_reclaim.proofs.Tidied.{left_from, left_begins, left_rests, left_shrinks, left_reclaims, left_alone, emptied}
+use Rattle.log_reclaim.proofs.Tidied.{left_from, left_begins, left_rests, left_shrinks, left_reclaims, left_alone, emptied, no_notes, none_held}
 use Rattle.log_reclaim.proofs.FreshTimes.{left_fresh}
 use Rattle.log_reclaim.proofs.tidying.tidy.Given.{Over}
+use Rattle.mv_core.specs.declared.view.View.{View}
+use Rattle.seat_log.proofs.OwnSlots.{same_on, of_still}
+use Rattle.log_reclaim.proofs.Lengths.{one_longer, freed_longer, live_few, whole_bound}
 use Rattle.log_reclaim.proofs.tidying.tidy.Goals as goal
 
 pub free_all-freed-requires-clause-stands : goal.free_all-freed-requires-clause-stands
@@ -107,3 +110,53 @@ returns-clause-idle g c none =
     let is = c.live.ensures in
     let some = c.if-live-eq0.false in
     absurd (omega arith)
+
+pub free_all-freed-requires-clause-of : goal.free_all-freed-requires-clause-of
+free_all-freed-requires-clause-of g c = of_still c.args.shared.now c.args.pass.now c.known-mark.new.pass c.known-mark.ensures.same c.requires.of
+
+pub free_all-freed-requires-clause-may : goal.free_all-freed-requires-clause-may
+free_all-freed-requires-clause-may g c =
+    let k = c.known-mark in
+    grace_may (config_of c.args.shared.now) (view c.args.pass.now) (view k.new.pass) k.result.time k.ensures.view c.requires.may
+
+pub tidy_left-left-requires-clause-of : goal.tidy_left-left-requires-clause-of
+tidy_left-left-requires-clause-of g c =
+    of_still c.args.shared.now c.args.pass.now c.free_all-freed.new.pass
+    (same_on c.args.pass.now c.known-mark.new.pass c.free_all-freed.new.pass c.known-mark.ensures.same c.free_all-freed.ensures.same) c.requires.of
+
+pub tidy_left-left-requires-clause-may : goal.tidy_left-left-requires-clause-may
+tidy_left-left-requires-clause-may g c =
+    reclaims_may (view c.known-mark.new.pass) (view c.free_all-freed.new.pass) c.free_all-freed.ensures.frees.0
+    c.free_all-freed.ensures.frees.1.makes.reclaims
+
+pub returns-clause-same : goal.returns-clause-same
+returns-clause-same g c =
+    same_on c.args.pass.now c.free_all-freed.new.pass c.tidy_left-left.new.pass
+    (same_on c.args.pass.now c.known-mark.new.pass c.free_all-freed.new.pass c.known-mark.ensures.same c.free_all-freed.ensures.same)
+    c.tidy_left-left.ensures.same
+
+pub returns-clause-cost : goal.returns-clause-cost
+returns-clause-cost g c =
+    let f = c.free_all-freed in
+    whole_bound _ c.known-mark.new.steps f.new.steps _ _ _ (length f.new.log.live) _ f.result c.known-mark.ensures.step f.ensures.step
+    c.tidy_left-left.ensures.cost (frees_shrinks _ _ _ _ _ _ _ f.ensures.frees.1).few
+    (live_few (config_of c.args.shared.now) (view c.args.pass.now) c.args.log.now c.requires.stands)
+
+pub returns-clause-trail : goal.returns-clause-trail
+returns-clause-trail g c =
+    let k = c.known-mark in
+    let f = c.free_all-freed in
+    whole_bound _ (length (view k.new.pass).trail) (length (view f.new.pass).trail) _ _ _ (length f.new.log.live) _ f.result
+    (one_longer _ _ _ (ap (λ (u : View). u.trail) k.ensures.view))
+    (freed_longer (view k.new.pass) (view f.new.pass) c.args.log.now f.new.log f.ensures.frees.0 _ f.result f.ensures.frees.1)
+    c.tidy_left-left.ensures.trail (frees_shrinks _ _ _ _ _ _ _ f.ensures.frees.1).few
+    (live_few (config_of c.args.shared.now) (view c.args.pass.now) c.args.log.now c.requires.stands)
+
+pub returns-then-live-eq0-clause-shrinks : goal.returns-then-live-eq0-clause-shrinks
+returns-then-live-eq0-clause-shrinks g c = frees_shrinks _ _ _ _ _ _ _ c.free_all-freed.ensures.frees.1
+
+pub returns-then-live-eq0-clause-fresh : goal.returns-then-live-eq0-clause-fresh
+returns-then-live-eq0-clause-fresh g c = λ time e. none_held _ e
+
+pub returns-then-live-eq0-clause-alone : goal.returns-then-live-eq0-clause-alone
+returns-then-live-eq0-clause-alone g c = λ one early. no_notes c.free_all-freed.new.log.live (sym c.live.ensures ∙ c.if-live-eq0.true)

@@ -1,4 +1,4 @@
-use Rattle.std.proofs.Common.{rules, ◌≡◌, ◌<◌, ◌≤◌, ◌+◌, ◌-◌, length, All, arith, sym, ap, ◌∙◌, subst}
+use Rattle.std.proofs.Common.{rules, ◌≡◌, ◌<◌, ◌≤◌, ◌+◌, ◌-◌, length, All, arith, sym, ap, ◌∙◌, subst, drop}
 use Rattle.mv_history.specs.declared.answers.Rival.{Rival}
 use Rattle.mv_history.specs.State.{maker_of}
 use Rattle.mv_history.specs.Drift.{IsFit}
@@ -16,12 +16,13 @@ use Rattle.mvrlu.specs.Placed.{Placed, placed, seat_from, section_from, Fits}
 use Rattle.mvrlu.specs.Causes.{Loaded}
 use Rattle.mvrlu.specs.Bounds.{MakesAtMost}
 use Rattle.mvrlu.proofs.Alone.{within_seats}
-use Rattle.mvrlu.proofs.Trails.{few_made}
+use Rattle.mvrlu.proofs.Trails.{few_made, few_more, one_at_most, none_at_most, one_won_of, one_lost_of}
 use Rattle.mvrlu.proofs.Names.{config_inside, fits_config, fits_pass}
 use Rattle.mvrlu.proofs.Continuing.{busy_on}
 use Rattle.mvrlu.proofs.Lawful.{seat_lawful, section_lawful}
 use Rattle.mvrlu.proofs.Committed.{may_commit, commits, loads_before, done_idle, kept_as_before, kept_may, overtakes, worn, loads_last}
 use Rattle.mvrlu.proofs.Behind.{lent_busy, lent_view}
+use Rattle.mv_history.specs.Trail.{commit_exchanges, IsOneWon, IsOneLost}
 use Rattle.mvrlu.proofs.ending.committed.Goals as goal
 
 pub commit-requires : goal.commit-requires
@@ -232,3 +233,76 @@ returns-clause-end g c =
       worn p q e.same.2 e.same.0 is.placed.base ends,
       loads_last p q e.same.2 e.same.0 is.placed.base ends,
     )
+
+pub returns-in-Done-clause-at_most_one : goal.returns-in-Done-clause-at_most_one
+returns-in-Done-clause-at_most_one g c =
+    let i = c.deref_mut.result.now in
+    let view_is = lent_view i c.busy.inside.place.value c.deref_mut.ensures.value _ c.busy.view_is in
+    subst (λ (x : Placed). length (commit_exchanges (drop (length x.view.trail) (view c.commit.new.pass).trail)) ≤ 1) view_is
+    (one_at_most (view i.pass).trail (view c.commit.new.pass).trail c.in-Done.ensures.ends.steps c.in-Done.ensures.ends.one_won.step
+    c.in-Done.ensures.ends.loads.trail c.in-Done.ensures.ends.one_won.one)
+
+pub returns-in-Done-clause-one_won : goal.returns-in-Done-clause-one_won
+returns-in-Done-clause-one_won g c =
+    let i = c.deref_mut.result.now in
+    let view_is = lent_view i c.busy.inside.place.value c.deref_mut.ensures.value _ c.busy.view_is in
+    subst (λ (x : Placed). IsOneWon (commit_exchanges (drop (length x.view.trail) (view c.commit.new.pass).trail))) view_is
+    (one_won_of (view i.pass).trail (view c.commit.new.pass).trail c.in-Done.ensures.ends.steps c.in-Done.ensures.ends.loads.trail
+    c.in-Done.ensures.ends.one_won)
+
+pub returns-in-Done-clause-aborts : goal.returns-in-Done-clause-aborts
+returns-in-Done-clause-aborts g c =
+    let i = c.deref_mut.result.now in
+    let view_is = lent_view i c.busy.inside.place.value c.deref_mut.ensures.value _ c.busy.view_is in
+    ap (λ (l : Noted). l.aborts) c.in-Done.ensures.log ∙ ap (λ (x : Placed). x.log.aborts) view_is
+
+pub returns-in-Again-clause-at_most_one : goal.returns-in-Again-clause-at_most_one
+returns-in-Again-clause-at_most_one g c =
+    let i = c.deref_mut.result.now in
+    let view_is = lent_view i c.busy.inside.place.value c.deref_mut.ensures.value _ c.busy.view_is in
+    subst (λ (x : Placed). length (commit_exchanges (drop (length x.view.trail) (view c.commit.new.pass).trail)) ≤ 1) view_is
+    (one_at_most (view i.pass).trail (view c.commit.new.pass).trail c.in-Again.ensures.ends.steps _ c.in-Again.ensures.ends.loads.trail
+    c.in-Again.ensures.ends.one_lost)
+
+pub returns-in-Again-clause-one_lost : goal.returns-in-Again-clause-one_lost
+returns-in-Again-clause-one_lost g c =
+    let i = c.deref_mut.result.now in
+    let view_is = lent_view i c.busy.inside.place.value c.deref_mut.ensures.value _ c.busy.view_is in
+    subst (λ (x : Placed). IsOneLost (commit_exchanges (drop (length x.view.trail) (view c.commit.new.pass).trail))) view_is
+    (one_lost_of (view i.pass).trail (view c.commit.new.pass).trail c.in-Again.ensures.ends.steps c.in-Again.ensures.ends.found
+    c.in-Again.ensures.ends.loads.trail c.in-Again.ensures.ends.one_lost)
+
+pub returns-in-Again-clause-bound : goal.returns-in-Again-clause-bound
+returns-in-Again-clause-bound g c =
+    let i = c.deref_mut.result.now in
+    let view_is = lent_view i c.busy.inside.place.value c.deref_mut.ensures.value _ c.busy.view_is in
+    subst (λ (x : Placed). MakesAtMost (seat_from x) (seat_from (placed c.commit.new.pass c.commit.new.log)) (8 + length (section_from x).own)) view_is
+    (few_made (view i.pass).trail (view c.commit.new.pass).trail c.in-Again.ensures.ends.steps _ c.in-Again.ensures.ends.loads.trail
+    (few_more _ 5 3 (length (section_from (placed i.pass i.log)).own) c.in-Again.ensures.ends.loads.few))
+
+pub returns-in-Again-clause-aborts : goal.returns-in-Again-clause-aborts
+returns-in-Again-clause-aborts g c =
+    let i = c.deref_mut.result.now in
+    let view_is = lent_view i c.busy.inside.place.value c.deref_mut.ensures.value _ c.busy.view_is in
+    ap (λ (l : Noted). l.aborts) c.in-Again.ensures.log ∙ ap (λ (x : Placed). x.log.aborts) view_is
+
+pub returns-clause-at_most_one : goal.returns-clause-at_most_one
+returns-clause-at_most_one g c =
+    let i = c.deref_mut.result.now in
+    let view_is = lent_view i c.busy.inside.place.value c.deref_mut.ensures.value _ c.busy.view_is in
+    subst (λ (x : Placed). length (commit_exchanges (drop (length x.view.trail) (view c.commit.new.pass).trail)) ≤ 1) view_is
+    (none_at_most (view i.pass).trail (view c.commit.new.pass).trail c.in-End.ensures.ends.steps c.in-End.ensures.ends.loads.trail c.in-End.ensures.ends.none)
+
+pub returns-clause-bound : goal.returns-clause-bound
+returns-clause-bound g c =
+    let i = c.deref_mut.result.now in
+    let view_is = lent_view i c.busy.inside.place.value c.deref_mut.ensures.value _ c.busy.view_is in
+    subst (λ (x : Placed). MakesAtMost (seat_from x) (seat_from (placed c.commit.new.pass c.commit.new.log)) (8 + length (section_from x).own)) view_is
+    (few_made (view i.pass).trail (view c.commit.new.pass).trail c.in-End.ensures.ends.steps _ c.in-End.ensures.ends.loads.trail
+    (few_more _ 1 7 (length (section_from (placed i.pass i.log)).own) c.in-End.ensures.ends.loads.few))
+
+pub returns-clause-aborts : goal.returns-clause-aborts
+returns-clause-aborts g c =
+    let i = c.deref_mut.result.now in
+    let view_is = lent_view i c.busy.inside.place.value c.deref_mut.ensures.value _ c.busy.view_is in
+    ap (λ (l : Noted). l.aborts) c.in-End.ensures.log ∙ ap (λ (x : Placed). x.log.aborts) view_is

@@ -1,17 +1,19 @@
-use Rattle.std.proofs.Common.{◌≡◌, ℕ, ◌+◌, List, get_or, refl, ap, ◌∙◌, subst}
+use Rattle.std.proofs.Common.{◌≡◌, ℕ, ◌+◌, List, get_or, refl, ap, ◌∙◌, subst, sym}
 use Rattle.mv_history.specs.declared.StepKind.TheVariants.{LoadData, LoadMaster}
 use Rattle.mv_history.specs.Meaning.{snapshot_of, words_at}
 use Rattle.mv_layout.specs.declared.Config.{Config}
 use Rattle.mv_core.specs.declared.view.View.{View}
 use Rattle.mv_core.specs.Passes.{view, config_of}
 use Rattle.version_chain.specs.Reads.{words_in}
-use Rattle.mvrlu.specs.Placed.{Placed, placed, section_from}
+use Rattle.mvrlu.specs.Placed.{Placed, placed, section_from, seat_from, Fits}
 use Rattle.mvrlu.specs.Standing.{Stays}
-use Rattle.mvrlu.proofs.Names.{config_inside}
+use Rattle.mvrlu.proofs.Names.{config_inside, fits_pass, fits_on}
 use Rattle.mvrlu.proofs.Lawful.{section_lawful}
 use Rattle.mvrlu.proofs.LockMeant.{snapshot_words}
-use Rattle.mvrlu.proofs.ReadMeant.{Looks, walked, looked, look_continues, look_stays, look_busy}
+use Rattle.mvrlu.proofs.ReadMeant.{Looks, walked, looked, look_continues, look_stays, look_busy, look_bound}
 use Rattle.mvrlu.proofs.Behind.{lent_busy, lent_view}
+use Rattle.mvrlu.specs.Bounds.{MakesAtMost, pair_most}
+use Rattle.seat_log.proofs.OwnSlots.{same_on, of_still}
 use Rattle.mvrlu.proofs.reading.read_pair_below.Goals as goal
 
 pub invariant_of-busy : goal.invariant_of-busy
@@ -157,3 +159,61 @@ returns-clause-stays g c =
     subst (λ (y : Placed). Stays (section_from y) (section_from q)) view_is
     (look_stays p q (c.read_version_pair_at.ensures.same.2 ∙ c.find_at.ensures.same.2) (c.read_version_pair_at.ensures.same.0
     ∙ c.find_at.ensures.same.0) t)
+
+pub returns-in-None-clause-bound : goal.returns-in-None-clause-bound
+returns-in-None-clause-bound g c =
+    let i = c.deref_mut.result.now in
+    let view_is = lent_view i c.busy.inside.place.value c.deref_mut.ensures.value _ c.busy.view_is in
+    let p = placed i.pass i.log in
+    let q = placed c.read_master_pair.new.pass i.log in
+    subst (λ (y : Placed). MakesAtMost (seat_from y) (seat_from q) (pair_most (section_from y) (section_from q))) view_is
+    (look_bound (config_of c.args.shared.now) p q (view c.find_at.new.pass) LoadMaster 2 8 _ _
+    (config_inside c.args.shared.now p _ view_is c.requires.fits) c.find_at.ensures.walks c.find_at.ensures.bound c.read_master_pair.ensures.reads refl)
+
+pub returns-in-None-clause-fits : goal.returns-in-None-clause-fits
+returns-in-None-clause-fits g c =
+    let i = c.deref_mut.result.now in
+    let view_is = lent_view i c.busy.inside.place.value c.deref_mut.ensures.value _ c.busy.view_is in
+    fits_on c.args.shared.now i.pass c.read_master_pair.new.pass i.log i.log
+    (same_on i.pass c.find_at.new.pass c.read_master_pair.new.pass c.find_at.ensures.same c.read_master_pair.ensures.same)
+    (subst (Fits c.args.shared.now) (sym view_is) c.requires.fits)
+
+pub read_master_pair-requires-clause-of : goal.read_master_pair-requires-clause-of
+read_master_pair-requires-clause-of g c =
+    let i = c.deref_mut.result.now in
+    let is = lent_busy i c.busy.inside.place.value c.deref_mut.ensures.value g.P.Protocol.start g.P.Protocol.allowed c.busy.invariant in
+    let view_is = lent_view i c.busy.inside.place.value c.deref_mut.ensures.value _ c.busy.view_is in
+    of_still c.args.shared.now i.pass c.find_at.new.pass c.find_at.ensures.same
+    (fits_pass g.P.Protocol.start g.P.Protocol.allowed c.args.shared.now i.pass i.log (subst (Fits c.args.shared.now) (sym view_is) c.requires.fits) is.placed)
+
+pub read_master_pair-requires-clause-may : goal.read_master_pair-requires-clause-may
+read_master_pair-requires-clause-may g c = c.find_at.ensures.may
+
+pub returns-clause-bound : goal.returns-clause-bound
+returns-clause-bound g c =
+    let i = c.deref_mut.result.now in
+    let view_is = lent_view i c.busy.inside.place.value c.deref_mut.ensures.value _ c.busy.view_is in
+    let p = placed i.pass i.log in
+    let q = placed c.read_version_pair_at.new.pass i.log in
+    subst (λ (y : Placed). MakesAtMost (seat_from y) (seat_from q) (pair_most (section_from y) (section_from q))) view_is
+    (look_bound (config_of c.args.shared.now) p q (view c.find_at.new.pass) LoadData 2 8 _ _
+    (config_inside c.args.shared.now p _ view_is c.requires.fits) c.find_at.ensures.walks c.find_at.ensures.bound c.read_version_pair_at.ensures.reads refl)
+
+pub returns-clause-fits : goal.returns-clause-fits
+returns-clause-fits g c =
+    let i = c.deref_mut.result.now in
+    let view_is = lent_view i c.busy.inside.place.value c.deref_mut.ensures.value _ c.busy.view_is in
+    fits_on c.args.shared.now i.pass c.read_version_pair_at.new.pass i.log i.log
+    (same_on i.pass c.find_at.new.pass c.read_version_pair_at.new.pass c.find_at.ensures.same c.read_version_pair_at.ensures.same)
+    (subst (Fits c.args.shared.now) (sym view_is) c.requires.fits)
+
+pub read_version_pair_at-requires-clause-of : goal.read_version_pair_at-requires-clause-of
+read_version_pair_at-requires-clause-of g c =
+    let i = c.deref_mut.result.now in
+    let is = lent_busy i c.busy.inside.place.value c.deref_mut.ensures.value g.P.Protocol.start g.P.Protocol.allowed c.busy.invariant in
+    let view_is = lent_view i c.busy.inside.place.value c.deref_mut.ensures.value _ c.busy.view_is in
+    of_still c.args.shared.now i.pass c.find_at.new.pass c.find_at.ensures.same
+    (fits_pass g.P.Protocol.start g.P.Protocol.allowed c.args.shared.now i.pass i.log (subst (Fits c.args.shared.now) (sym view_is) c.requires.fits) is.placed)
+
+pub read_version_pair_at-requires-clause-may : goal.read_version_pair_at-requires-clause-may
+read_version_pair_at-requires-clause-may g c = c.find_at.ensures.may

@@ -4,8 +4,10 @@ use Rattle.mv_core.specs.Passes.{view, config_of}
 use Rattle.object_lock.proofs.OwnNotes.{unheld_is}
 use Rattle.object_lock.proofs.Looks.{none_tried}
 use Rattle.object_lock.proofs.Outcomes.{tries_on}
-use Rattle.object_lock.proofs.Built.{first_may, first_carries, first_tries, first_is, first_lock, first_unheld, first_few}
+use Rattle.object_lock.proofs.Built.{first_may, first_carries, first_tries, first_is, first_lock, first_unheld, first_few, start_bound}
 use Rattle.object_lock.proofs.Locked.{held_none, held_some, lacks_is, full_is, not_full, spare_is, top_stands, top_keeps, kept_too, top_answers}
+use Rattle.version_chain.specs.Walks.{section_in}
+use Rattle.seat_log.proofs.OwnSlots.{same_on, of_still}
 use Rattle.object_lock.proofs.locking.lock_start.Goals as goal
 
 pub returns-then-holds-clause-answers : goal.returns-then-holds-clause-answers
@@ -148,3 +150,28 @@ returns-then-held-config-clause-tries g c = none_tried (view c.args.pass.now) c.
 
 pub returns-then-room-eq0-clause-tries : goal.returns-then-room-eq0-clause-tries
 returns-then-room-eq0-clause-tries g c = none_tried (view c.args.pass.now) c.args.steps.now
+
+pub build-position-requires-clause-of : goal.build-position-requires-clause-of
+build-position-requires-clause-of g c = of_still c.args.shared.now c.args.pass.now c.top_of.new.pass c.in-Ok.ensures.same c.requires.of
+
+pub build-position-requires-clause-open : goal.build-position-requires-clause-open
+build-position-requires-clause-open g c =
+    let may = c.in-Ok.ensures.may in
+    (section_in (view c.top_of.new.pass), may.phase, may.open_is)
+
+pub returns-clause-same : goal.returns-clause-same
+returns-clause-same g c = same_on c.args.pass.now c.top_of.new.pass c.build-position.new.pass c.in-Ok.ensures.same c.build-position.ensures.same
+
+pub returns-clause-bound : goal.returns-clause-bound
+returns-clause-bound g c = start_bound _ c.top_of.new.steps _ _ _ c.in-Ok.ensures.bound c.build-position.ensures.cost
+
+pub returns-clause-may : goal.returns-clause-may
+returns-clause-may g c =
+    let config = config_of c.args.shared.now in
+    let x = view c.top_of.new.pass in
+    let l = c.args.log.now in
+    let t = c.in-Ok.ensures in
+    let d = c.build-position in
+    let s = top_stands config (view c.args.pass.now) x l c.args.object c.args.steps.now c.top_of.new.steps c.requires.stands t.tries t.ring in
+    first_may config x (view d.new.pass) l d.new.log c.args.object c.in-Ok.top.0 d.result c.in-Ok.top.1 t.may s d.ensures.stands d.ensures.log
+    d.ensures.view d.ensures.position t.answers.1

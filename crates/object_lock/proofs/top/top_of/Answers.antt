@@ -1,10 +1,17 @@
-use Rattle.std.proofs.Common.{◌≡◌, ℕ, ◌+◌, ◌<◌, ◌^◌, [], refl, sym, ◌∙◌, subst, arith}
+use Rattle.std.proofs.Common.{◌≡◌, ℕ, ◌+◌, ◌<◌, ◌^◌, [], refl, sym, ◌∙◌, subst, arith, ap, inl}
 use Rattle.mv_history.specs.declared.StepKind.TheVariants.{LoadData, LoadMaster}
 use Rattle.mv_layout.specs.Words.{link_of}
 use Rattle.mv_core.specs.Passes.{view, config_of}
 use Rattle.version_chain.specs.Walks.{section_in}
-use Rattle.object_lock.proofs.Looks.{held_elsewhere, version_there, stands_to_lock, words_there, head_tries, looked_tries, tries_read}
+use Rattle.object_lock.proofs.Looks.{held_elsewhere, version_there, stands_to_lock, words_there, head_tries, looked_tries, tries_read, stands_top}
+use Rattle.object_lock.proofs.Looks.{master_bound, looked_bound, version_bound}
 use Rattle.object_lock.specs.Tops.{Tries, FoundHeld}
+use Rattle.mv_core.specs.declared.view.View.{View}
+use Rattle.mv_core.specs.declared.view.Passed.TheVariants.{Nothing}
+use Rattle.version_chain.specs.Reads.{words_in}
+use Rattle.seat_log.proofs.OwnSlots.{same_on, of_still}
+use Rattle.version_chain.proofs.Going.{may_started}
+use Rattle.version_chain.proofs.Looking.{at_master}
 use Rattle.object_lock.proofs.top.top_of.Goals as goal
 
 pub returns-then-is_unset-clause-answers : goal.returns-then-is_unset-clause-answers
@@ -92,3 +99,100 @@ returns-then-stamp-time-clause-tries g c =
     (let a = c.load_head-link.ensures.step in let b = c.stamp_at-stamp.ensures.step in omega arith)
     (looked_tries config v (view c.load_head-link.new.pass) x c.args.object c.load_head-link.result _ (section_in v) c.if-link-eq0.false
     c.load_head-link.ensures.view c.stamp_at-stamp.ensures.looked c.args.steps.now)
+
+pub load_head-link-requires : goal.load_head-link-requires
+load_head-link-requires g c κs within = (within.0, (within.1, (c.requires.of, (c.requires.range, c.requires.may))))
+
+pub read_master-requires-clause-of : goal.read_master-requires-clause-of
+read_master-requires-clause-of g c = of_still c.args.shared.now c.args.pass.now c.load_head-link.new.pass c.load_head-link.ensures.same c.requires.of
+
+pub read_master-requires-clause-may : goal.read_master-requires-clause-may
+read_master-requires-clause-may g c =
+    may_started (config_of c.args.shared.now) (view c.args.pass.now) (view c.load_head-link.new.pass) c.args.object c.load_head-link.result
+    c.load_head-link.ensures.view c.requires.may
+
+pub read_master-requires-clause-stands : goal.read_master-requires-clause-stands
+read_master-requires-clause-stands g c =
+    at_master (view c.load_head-link.new.pass) c.args.object c.load_head-link.result Nothing c.if-link-eq0.true
+    (ap (λ (u : View). u.walk) c.load_head-link.ensures.view)
+
+pub stamp_at-stamp-requires-clause-of : goal.stamp_at-stamp-requires-clause-of
+stamp_at-stamp-requires-clause-of g c = of_still c.args.shared.now c.args.pass.now c.load_head-link.new.pass c.load_head-link.ensures.same c.requires.of
+
+pub stamp_at-stamp-requires-clause-may : goal.stamp_at-stamp-requires-clause-may
+stamp_at-stamp-requires-clause-may g c =
+    may_started (config_of c.args.shared.now) (view c.args.pass.now) (view c.load_head-link.new.pass) c.args.object c.load_head-link.result
+    c.load_head-link.ensures.view c.requires.may
+
+pub stamp_at-stamp-requires-clause-stands : goal.stamp_at-stamp-requires-clause-stands
+stamp_at-stamp-requires-clause-stands g c =
+    stands_top (config_of c.args.shared.now) (view c.args.pass.now) (view c.load_head-link.new.pass) c.args.object c.load_head-link.result
+    (section_in (view c.args.pass.now)) c.if-link-eq0.false c.load_head-link.ensures.view
+    c.load_head-link.ensures.link
+
+pub read_version-requires-clause-of : goal.read_version-requires-clause-of
+read_version-requires-clause-of g c =
+    of_still c.args.shared.now c.args.pass.now c.stamp_at-stamp.new.pass
+    (same_on c.args.pass.now c.load_head-link.new.pass c.stamp_at-stamp.new.pass c.load_head-link.ensures.same c.stamp_at-stamp.ensures.same) c.requires.of
+
+pub read_version-requires-clause-may : goal.read_version-requires-clause-may
+read_version-requires-clause-may g c = c.stamp_at-stamp.ensures.may
+
+pub returns-then-link-eq0-clause-answers : goal.returns-then-link-eq0-clause-answers
+returns-then-link-eq0-clause-answers g c =
+    let read = c.read_master.ensures.reads.rest in (
+      inl (
+        ap (λ (u : View). u.walk) read ∙ at_master (view c.load_head-link.new.pass) c.args.object c.load_head-link.result Nothing c.if-link-eq0.true
+            (ap (λ (u : View). u.walk) c.load_head-link.ensures.view),
+        refl,
+      ),
+      c.read_master.ensures.words ∙ sym (ap (λ (u : View). words_in (config_of c.args.shared.now) u c.args.object) read),
+      λ some. absurd (some refl),
+    )
+
+pub returns-then-link-eq0-clause-may : goal.returns-then-link-eq0-clause-may
+returns-then-link-eq0-clause-may g c = c.read_master.ensures.may
+
+pub returns-then-link-eq0-clause-ring : goal.returns-then-link-eq0-clause-ring
+returns-then-link-eq0-clause-ring g c =
+    ap (λ (u : View). u.ring) c.read_master.ensures.reads.rest ∙ ap (λ (u : View). u.ring) c.load_head-link.ensures.view
+
+pub returns-then-link-eq0-clause-same : goal.returns-then-link-eq0-clause-same
+returns-then-link-eq0-clause-same g c =
+    same_on c.args.pass.now c.load_head-link.new.pass c.read_master.new.pass c.load_head-link.ensures.same c.read_master.ensures.same
+
+pub returns-then-link-eq0-clause-bound : goal.returns-then-link-eq0-clause-bound
+returns-then-link-eq0-clause-bound g c = master_bound _ c.load_head-link.new.steps _ c.load_head-link.ensures.step c.read_master.ensures.cost
+
+pub returns-then-stamp-time-clause-may : goal.returns-then-stamp-time-clause-may
+returns-then-stamp-time-clause-may g c = c.stamp_at-stamp.ensures.may
+
+pub returns-then-stamp-time-clause-ring : goal.returns-then-stamp-time-clause-ring
+returns-then-stamp-time-clause-ring g c =
+    ap (λ (u : View). u.ring) c.stamp_at-stamp.ensures.looked.view ∙ ap (λ (u : View). u.ring) c.load_head-link.ensures.view
+
+pub returns-then-stamp-time-clause-same : goal.returns-then-stamp-time-clause-same
+returns-then-stamp-time-clause-same g c =
+    same_on c.args.pass.now c.load_head-link.new.pass c.stamp_at-stamp.new.pass c.load_head-link.ensures.same c.stamp_at-stamp.ensures.same
+
+pub returns-then-stamp-time-clause-bound : goal.returns-then-stamp-time-clause-bound
+returns-then-stamp-time-clause-bound g c = looked_bound _ c.load_head-link.new.steps _ c.load_head-link.ensures.step c.stamp_at-stamp.ensures.step
+
+pub returns-clause-may : goal.returns-clause-may
+returns-clause-may g c = c.read_version.ensures.may
+
+pub returns-clause-ring : goal.returns-clause-ring
+returns-clause-ring g c =
+    ap (λ (u : View). u.ring) c.read_version.ensures.reads.rest ∙ ap (λ (u : View). u.ring) c.stamp_at-stamp.ensures.looked.view ∙ ap
+    (λ (u : View). u.ring) c.load_head-link.ensures.view
+
+pub returns-clause-same : goal.returns-clause-same
+returns-clause-same g c =
+    same_on c.args.pass.now c.stamp_at-stamp.new.pass c.read_version.new.pass
+    (same_on c.args.pass.now c.load_head-link.new.pass c.stamp_at-stamp.new.pass c.load_head-link.ensures.same c.stamp_at-stamp.ensures.same)
+    c.read_version.ensures.same
+
+pub returns-clause-bound : goal.returns-clause-bound
+returns-clause-bound g c =
+    version_bound _ c.load_head-link.new.steps c.stamp_at-stamp.new.steps _ c.load_head-link.ensures.step c.stamp_at-stamp.ensures.step
+    c.read_version.ensures.cost

@@ -1,20 +1,22 @@
-use Rattle.std.proofs.Common.{ℕ, ◌+◌, ◌<◌, sym, ◌∙◌, subst, arith}
+use Rattle.std.proofs.Common.{◌+◌, refl, ◌∙◌, arith, slice_index}
+use Rattle.mv_history.specs.declared.StepKind.TheVariants.{LoadData}
+use Rattle.mv_core.specs.declared.view.View.{View}
 use Rattle.mv_core.specs.Passes.{view, config_of}
-use Rattle.version_chain.proofs.Going.{may_loaded}
+use Rattle.version_chain.specs.Reads.{words_in}
+use Rattle.version_chain.specs.Walks.{stand_in}
+use Rattle.version_chain.proofs.Going.{same_on, of_still, may_loaded, reads_two, read_still}
 use Rattle.version_chain.proofs.Standing.{may_data}
 use Rattle.version_chain.proofs.reading.read_version_pair_at.Goals as goal
 
 pub load_data-requires : goal.load_data-requires
 load_data-requires g c lives within =
-    let of = c.requires.of in
-    let same = c.load_data-first.ensures.same in
     let at = c.requires.stands in
     let lt = c.requires.place in (
       within.0,
       (
         within.1,
         (
-          (same.0 ∙ of.0, subst (λ (n : ℕ). n < (config_of c.args.shared.now).seats) (sym same.1) of.1, same.3 ∙ of.2, same.4 ∙ of.3, same.2 ∙ of.4),
+          of_still c.args.shared.now c.args.pass.now c.load_data-first.new.pass c.load_data-first.ensures.same c.requires.of,
           (
             at.packed,
             (
@@ -31,3 +33,39 @@ pub returns-clause-may : goal.returns-clause-may
 returns-clause-may g c =
     may_loaded (view c.args.pass.now) (view c.load_data-first.new.pass) (view c.load_data.new.pass) _ _ c.load_data-first.ensures.view c.load_data.ensures.view
     c.requires.may
+
+pub load_data-first-requires : goal.load_data-first-requires
+load_data-first-requires g c lives within =
+    let at = c.requires.stands in
+    let lt = c.requires.place in (
+      within.0,
+      (
+        within.1,
+        (
+          c.requires.of,
+          (
+            at.packed,
+            (
+              at.slot,
+              may_data (config_of c.args.shared.now) (view c.args.pass.now) (view c.args.pass.now) c.args.at c.args.place
+                  (view c.args.pass.now).trail c.requires.may at refl (omega arith),
+            ),
+          ),
+        ),
+      ),
+    )
+
+pub returns-clause-same : goal.returns-clause-same
+returns-clause-same g c =
+    same_on c.args.pass.now c.load_data-first.new.pass c.load_data.new.pass c.load_data-first.ensures.same c.load_data.ensures.same
+
+pub returns-clause-reads : goal.returns-clause-reads
+returns-clause-reads g c =
+    reads_two LoadData (view c.args.pass.now) (view c.load_data-first.new.pass) (view c.load_data.new.pass) _ _ c.load_data-first.ensures.view
+    c.load_data.ensures.view refl refl
+
+pub returns-clause-second : goal.returns-clause-second
+returns-clause-second g c =
+    c.load_data.ensures.word
+    ∙ read_still (λ (u : View). slice_index (words_in (config_of c.args.shared.now) u (stand_in u).object) (c.args.place + 1)) (view c.args.pass.now)
+    (view c.load_data-first.new.pass) _ (λ t. refl) c.load_data-first.ensures.view

@@ -1,12 +1,12 @@
 -- The steps of a search along a list.
-use Rattle.std.proofs.Common.{◌≡◌, ◌≢◌, ℕ, ◌-◌, ◌^◌, ◌<◌, ◌≤◌, ◌⊎◌, inl, inr, Bool, true, false, cond, not}
+use Rattle.std.proofs.Common.{◌≡◌, ◌≢◌, ℕ, ◌+◌, ◌-◌, ◌^◌, ◌<◌, ◌≤◌, ◌⊎◌, inl, inr, Bool, true, false, cond, not}
 use Rattle.std.proofs.Common.{◌&&◌, eqb, eqb-true, eq-eqb, List, [], ◌∷◌, length, refl, sym, ap, ◌∙◌, subst, arith, ne_eqb, Option, Some, None}
 use Rattle.std.proofs.lemmas.Bool.{cases_eq, cases_lt, false_from_ne_true}
 use Rattle.mv_history.specs.State.{State}
 use Rattle.mv_history.specs.Meaning.{words_at}
 use Rattle.set_script.specs.Catalogue.{has_key, value_of, next_key}
 use Rattle.set_script.specs.CatalogueOf.{is_key_at, map_at}
-use Rattle.set_script.specs.Objects.{kind, key, link, value}
+use Rattle.set_script.specs.Objects.{first_node, owner, kind, key, link, value}
 use Rattle.set_script.proofs.ObjectWords.{word, owned_in_range}
 use Rattle.set_script.proofs.Heads.{is_key_at-from, is_key_at-to}
 use Rattle.set_script.proofs.MapLemmas.{has_key-none, has_key-some}
@@ -15,7 +15,7 @@ use Rattle.set_script.proofs.NextKeys.{next_is, next_none}
 use Rattle.set_script.proofs.ListMaps.{holds-map_at, map_at-holds, map_at-value}
 use Rattle.list_set.specs.Places.{IsInList}
 use Rattle.list_set.specs.Linked.{IsNodeOf, IsLinked}
-use Rattle.list_set.specs.Walks.{walk_left, IsSpot}
+use Rattle.list_set.specs.Walks.{walk_left, IsBehind, IsSpot}
 use Rattle.list_set.proofs.Linking.{head_no_node}
 
 pub left_at : (s : State) (node : ℕ) → node ≢ 0 → walk_left s node ≡ 2 ^ 32 - key s node
@@ -114,12 +114,38 @@ pub record IsSpotLoop (s t : State) (head k previous next : ℕ) : Type 0 where
   pub leads : next ≡ link s previous
   pub below : (previous ≡ head) ⊎ (key s previous < k)
 
-pub spot_start : (s t : State) (head k next : ℕ) → next ≡ link s head → t ≡ s → IsSpotLoop s t head k head next
-spot_start s t head k next e f = record { same = f; within = inl refl; leads = e; below = inl refl }
+pub spot_start : (s : State) (head k previous next : ℕ) → IsBehind s head k previous next → IsSpotLoop s s head k previous next
+spot_start s head k previous next b = record { same = refl; within = b.within; leads = b.leads; below = b.below }
+
+-- a walk may go on from the head, whose link was read
+pub behind_head : (s t : State) (head k first : ℕ) → t ≡ s → first ≡ link t head → IsBehind s head k head first
+behind_head s t head k first same e =
+    record { within = inl refl; leads = e ∙ ap (λ (u : State). link u head) same; below = inl refl }
+
+-- and from a node whose owner, and whose key and link were read, where it is in the list and its key is below k
+pub behind_node : (s t : State) (head k node owned found next : ℕ) → t ≡ s → first_node ≤ node → owned ≡ owner s node → owned ≡ head + 1
+    → found ≡ key t node → found < k → next ≡ link t node → IsBehind s head k node next
+behind_node s t head k node owned found next same from own is ky lt e =
+    let here : found ≡ key s node = ky ∙ ap (λ (u : State). key u node) same in
+    record {
+      within = inr (from, sym own ∙ is ∙ (omega arith));
+      leads = e ∙ ap (λ (u : State). link u node) same;
+      below = inr (omega arith);
+    }
 
 -- the node to which the link leads
 ahead_node : (s t : State) (head k previous next : ℕ) → IsLinked s head → IsSpotLoop s t head k previous next → next ≢ 0 → IsNodeOf s head next
 ahead_node s t head k previous next l i n = subst (IsNodeOf s head) (sym i.leads) (l.leads previous i.within (λ z. n (i.leads ∙ z))).0
+
+-- both objects are in range
+pub next_in_range : (s t : State) (head k previous next : ℕ) → IsLinked s head → IsSpotLoop s t head k previous next → next ≢ 0 → next < length s
+next_in_range s t head k previous next l i n = node_in_range s head next (ahead_node s t head k previous next l i n)
+
+pub previous_in_range : (s t : State) (head k previous next : ℕ) → IsLinked s head → IsSpotLoop s t head k previous next → previous < length s
+previous_in_range s t head k previous next l i = elim i.within [
+  | inl e ↦ subst (λ (u : ℕ). u < length s) (sym e) l.here
+  | inr j ↦ node_in_range s head previous j
+]
 
 -- The key and the link of the node that comes next were read.
 module _ (s t : State) (head k previous node : ℕ) (l : IsLinked s head) (i : IsSpotLoop s t head k previous node) (n : node ≢ 0) where

@@ -12,6 +12,12 @@ use Rattle.list_set.specs.Places.{IsInList}
 unfoldable pub walk_left : State → ℕ → ℕ
 walk_left s node = if node == 0 then 0 else 2 ^ 32 - key s node
 
+-- a walk that looks for key k may go on from this object, the head or a node with a key below k, which leads to `next`
+pub record IsBehind (s : State) (head k previous next : ℕ) : Type 0 where
+  pub within : IsInList s head previous
+  pub leads : next ≡ link s previous
+  pub below : (previous ≡ head) ⊎ (key s previous < k)
+
 -- a node of the list with these words, whose key is not below k
 pub record IsFound (s : State) (head k node : ℕ) (words : List ℕ) : Type 0 where
   pub is_node : first_node ≤ node

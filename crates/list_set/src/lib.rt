@@ -27,6 +27,11 @@
 //! objects in order and then writes them. The sets over trees end with it too. Who decides before
 //! anything is locked takes the spot and its writes, and then calls `rewrite`.
 //!
+//! `find_near` answers as `find` does, and begins its walk at a finger (`Fingers`): a node where an
+//! earlier search of the same seat ended. Whether the node is still in the list it reads in its own
+//! view, where each node with the head's number as its owner is in the head's list, whatever else has
+//! changed. So a finger is never trusted, and takes part in no commit.
+//!
 //! `find_linked` and `size_linked` ask only that the head leads with rising keys through all nodes that
 //! name it (`specs/Linked.antt`), so they serve other states than the sets' too.
 //!
@@ -51,10 +56,12 @@
 
 mod answers;
 mod change;
+mod fingers;
 mod lists;
 mod search;
 
 pub use answers::{Cause, Removed, SetStep};
 pub use change::rewrite;
+pub use fingers::{Fingers, find_near, next_near};
 pub use lists::{add_in, del_in, get_in, has_in, next_in, put_in, size_in, size_linked};
 pub use search::{Spot, find, find_linked};

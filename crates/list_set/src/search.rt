@@ -3,6 +3,7 @@ ghost use Rattle.std.specs.Prelude.{◌≡◌, ◌<◌, ◌≤◌, ◌==◌, ◌
 ghost use Rattle.set_script.specs.Lawful.{IsLawful};
 ghost use Rattle.set_script.specs.OwnWrites.{objects_of};
 ghost use Rattle.list_set.specs.Linked.{IsLinked};
+ghost use Rattle.list_set.specs.Walks.{IsBehind};
 ghost use Rattle.list_set.specs.Spots.{EndsHere, AreAddWrites, AreDelWrites, ArePutWrites};
 
 use mv_history::{View, Words};
@@ -59,8 +60,14 @@ impl Spot {
     }
 }
 
+/// The place of the owner among an object's words.
+pub(crate) const OWNER: u32 = 0;
+
 /// The place of a node's key among its words; its link comes next.
 pub(crate) const KEY: u32 = 2;
+
+/// The first object that is a node; those below are heads.
+pub(crate) const FIRST_NODE: u32 = 180;
 
 /// Where the key is, or belongs, in the list of the head.
 ///
@@ -86,29 +93,53 @@ pub fn find_linked<V: View>(view: &mut V, head: u32, key: u32) -> Spot
     ensures spot { EndsHere (V.state view.old) head key result }
     ensures as_before { V.as_before view.old view.new }
 {
-    let mut previous = head;
-    let (_, mut link) = view.read_pair(head, KEY);
+    let (_, link) = view.read_pair(head, KEY);
+    walk_from(view, head, key, head, link).0
+}
+
+// Where the key is, or belongs, by a walk from this object on, the head or a node with a key below `key`,
+// which leads to `first`; and how many nodes the walk passed.
+#[inline(always)]
+pub(crate) fn walk_from<V: View>(
+    view: &mut V,
+    head: u32,
+    key: u32,
+    from: u32,
+    first: u64,
+) -> (Spot, u32)
+    requires linked { IsLinked (V.state view.old) head }
+    requires few { length (V.state view.old) ≤ 65535 }
+    requires behind { IsBehind (V.state view.old) head key from first }
+    ensures spot { EndsHere (V.state view.old) head key result.0 }
+    ensures as_before { V.as_before view.old view.new }
+{
+    let mut previous = from;
+    let mut link = first;
+    let mut passed: u32 = 0;
     while link != 0 {
         let node = link as u32;
         let (node_key, next) = view.read_pair(node, KEY);
         if node_key >= key as u64 {
             let words = view.read(previous);
             let node_words = view.read(node);
-            return Spot {
+            let spot = Spot {
                 previous,
                 words,
                 node,
                 node_words,
             };
+            return (spot, passed);
         }
         previous = node;
         link = next;
+        passed = passed.wrapping_add(1);
     }
     let words = view.read(previous);
-    Spot {
+    let spot = Spot {
         previous,
         words,
         node: 0,
         node_words: [0; 6],
-    }
+    };
+    (spot, passed)
 }

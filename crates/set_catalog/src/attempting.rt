@@ -15,11 +15,11 @@ ghost use Rattle.set_catalog.specs.Steps.{most_locks, HasSpace};
 ghost use Rattle.set_catalog.specs.Attempts.{Attempted, AttemptedIn, IsReadBy, HintsAfter, TriesOne};
 
 use crate::answer::Attempt;
-use crate::finding::{Finding, find_plan};
+use crate::finding::{Finding, find_plan_near};
 use crate::hints::Hints;
 use crate::plan::{Gone, Plan};
 use crate::shortage::Shortage;
-use list_set::{Cause, rewrite};
+use list_set::{Cause, Fingers, rewrite};
 use mv_history::{CommitAnswer, Room, Section, Store, Tag};
 use set_script::{Command, Place, Reply, SetRules};
 
@@ -66,13 +66,17 @@ pub fn attempt_with<S: Store<Rules = SetRules>>(
     ensures noted { HintsAfter command.now hints.old hints.new (S.seat_of store) (S.seat_of result.0) result.1 }
     ensures at_most_one { TriesOne (S.seat_of store) (S.seat_of result.0) }
 {
-    attempt_knowing(store, hints, &mut Shortage::unknown(), command)
+    let mut fingers = Fingers::none();
+    let mut known = Shortage::unknown();
+    attempt_knowing(store, hints, &mut fingers, &mut known, command)
 }
 
-// Attempts a command, as `attempt_with` does, where this is known of how few nodes are vacant.
+// Attempts a command, as `attempt_with` does, with these fingers, and where this is known of how few nodes
+// are vacant.
 pub(crate) fn attempt_knowing<S: Store<Rules = SetRules>>(
     store: S,
     hints: &mut Hints,
+    fingers: &mut Fingers,
     known: &mut Shortage,
     command: &Command,
 ) -> (S, Attempt)
@@ -89,7 +93,7 @@ pub(crate) fn attempt_knowing<S: Store<Rules = SetRules>>(
     let mut section = store.enter();
     let time = section.at();
     let last = section.last();
-    let found = find_in(&mut section, hints, known, command);
+    let found = find_in(&mut section, hints, fingers, known, command);
     if time == last {
         let place = Place::Read(time);
         let reply = found.at_last();
@@ -112,6 +116,7 @@ pub(crate) fn attempt_knowing<S: Store<Rules = SetRules>>(
 fn find_in<S: Section<Rules = SetRules>>(
     section: &mut S,
     hints: &mut Hints,
+    fingers: &mut Fingers,
     known: &mut Shortage,
     command: &Command,
 ) -> Finding
@@ -125,7 +130,7 @@ fn find_in<S: Section<Rules = SetRules>>(
 {
     let time = section.at();
     let mut few = known.at(time);
-    let found = find_plan(section, hints, &mut few, command);
+    let found = find_plan_near(section, hints, fingers, &mut few, command);
     *known = Shortage { time, few };
     found
 }
@@ -188,7 +193,7 @@ fn answer_at_last<S: Store<Rules = SetRules>>(
 {
     let mut section = store.enter();
     let place = Place::Read(section.at());
-    let found = find_in(&mut section, hints, known, command);
+    let found = find_in(&mut section, hints, &mut Fingers::none(), known, command);
     let reply = found.at_last();
     (section.leave(), Attempt::Done { reply, place })
 }

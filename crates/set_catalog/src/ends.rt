@@ -11,7 +11,7 @@ ghost use Rattle.set_catalog.specs.Needs.{taken};
 use crate::names::{Set, set_of};
 use crate::picks::Picked;
 use crate::plan::{Gone, Plan};
-use list_set::Spot;
+use list_set::{Fingers, Spot};
 use mv_history::View;
 use set_script::Name;
 use tree_set::{Fork, plant_writes};
@@ -35,10 +35,21 @@ pub fn search<V: View>(view: &mut V, name: Name, key: u32) -> End
     ensures head { HasHead result }
     ensures as_before { V.as_before view.old view.new }
 {
+    search_near(view, &mut Fingers::none(), name, key)
+}
+
+// Searches the set of the name for the key, and begins in a list at a finger. It makes one walk.
+pub(crate) fn search_near<V: View>(view: &mut V, fingers: &mut Fingers, name: Name, key: u32) -> End
+    requires lawful { IsLawful (V.state view.old) }
+    ensures name_in { name < 30 }
+    ensures ends { EndsAt (V.state view.old) name key result }
+    ensures head { HasHead result }
+    ensures as_before { V.as_before view.old view.new }
+{
     match set_of(name) {
         Set::List(head) => End::Listed {
             head,
-            spot: list_set::find(view, head, key),
+            spot: list_set::find_near(view, fingers, head, key),
         },
         Set::Table(set) => {
             let head = hash_set::bucket_of(set, key);

@@ -12,11 +12,12 @@ ghost use Rattle.set_catalog.specs.Picks.{vacant_nodes};
 ghost use Rattle.set_catalog.specs.Needs.{AreEnough, wanted};
 ghost use Rattle.set_catalog.specs.Findings.{IsFound, IsNew, reply_at_last};
 
-use crate::ends::{End, search};
+use crate::ends::{End, search_near};
 use crate::hints::Hints;
 use crate::picks::{Picked, pick};
 use crate::plan::{Gone, Plan};
 use crate::sets::{next, size};
+use list_set::Fingers;
 use mv_history::View;
 use set_script::{Command, Name, Reply};
 
@@ -59,33 +60,58 @@ pub fn find_plan<V: View>(
     ensures untouched { wanted command.now (catalogue_of (V.state view.old)) ≡ 0 → hints.new ≡ hints.old }
     ensures as_before { V.as_before view.old view.new }
 {
+    find_plan_near(view, hints, &mut Fingers::none(), few, command)
+}
+
+// Finds what the command comes to, as `find_plan` does, by searches that begin in lists at fingers.
+pub(crate) fn find_plan_near<V: View>(
+    view: &mut V,
+    hints: &mut Hints,
+    fingers: &mut Fingers,
+    few: &mut u32,
+    command: &Command,
+) -> Finding
+    requires lawful { IsLawful (V.state view.old) }
+    requires few { vacant_nodes (V.state view.old) < few.old }
+    ensures found { IsFound command.now (V.state view.old) result }
+    ensures few { vacant_nodes (V.state view.old) < few.new }
+    ensures hints { TakesHints hints.old hints.new }
+    ensures untouched { wanted command.now (catalogue_of (V.state view.old)) ≡ 0 → hints.new ≡ hints.old }
+    ensures as_before { V.as_before view.old view.new }
+{
     match *command {
-        Command::Add { name, key } => find_add(view, hints, few, name, key),
-        Command::Put { name, key, value } => find_put(view, hints, few, name, key, value),
-        Command::Del { name, key } => find_del(view, name, key),
+        Command::Add { name, key } => find_add(view, hints, fingers, few, name, key),
+        Command::Put { name, key, value } => {
+            find_put(view, hints, fingers, few, name, key, value)
+        }
+        Command::Del { name, key } => find_del(view, fingers, name, key),
         Command::Move {
             source,
             target,
             key,
-        } => find_move(view, hints, few, source, target, key),
+        } => find_move(view, hints, fingers, few, source, target, key),
         Command::Has { name, key } => {
-            Finding::Settled(yes_or_no(search(view, name, key).has(key)))
+            Finding::Settled(yes_or_no(search_near(view, fingers, name, key).has(key)))
         }
-        Command::Get { name, key } => Finding::Settled(match search(view, name, key).value(key) {
-            Some(value) => Reply::Value { value },
-            None => Reply::NoKey,
-        }),
+        Command::Get { name, key } => {
+            Finding::Settled(match search_near(view, fingers, name, key).value(key) {
+                Some(value) => Reply::Value { value },
+                None => Reply::NoKey,
+            })
+        }
         Command::Pair { first, second, key } => Finding::Settled(Reply::Both {
-            first: search(view, first, key).has(key),
-            second: search(view, second, key).has(key),
+            first: search_near(view, fingers, first, key).has(key),
+            second: search_near(view, fingers, second, key).has(key),
         }),
         Command::Size { name } => Finding::Settled(Reply::Count {
             count: size(view, name),
         }),
-        Command::Next { name, key } => Finding::Settled(match next(view, name, key) {
-            Some(key) => Reply::Key { key },
-            None => Reply::NoKey,
-        }),
+        Command::Next { name, key } => {
+            Finding::Settled(match next(view, fingers, name, key) {
+                Some(key) => Reply::Key { key },
+                None => Reply::NoKey,
+            })
+        }
     }
 }
 
@@ -98,6 +124,7 @@ fn yes_or_no(holds: bool) -> Reply
 fn find_add<V: View>(
     view: &mut V,
     hints: &mut Hints,
+    fingers: &mut Fingers,
     few: &mut u32,
     name: Name,
     key: u32,
@@ -110,7 +137,7 @@ fn find_add<V: View>(
     ensures untouched { wanted (Add name key) (catalogue_of (V.state view.old)) ≡ 0 → hints.new ≡ hints.old }
     ensures as_before { V.as_before view.old view.new }
 {
-    let end = search(view, name, key);
+    let end = search_near(view, fingers, name, key);
     if end.has(key) {
         return Finding::Settled(Reply::No);
     }
@@ -120,6 +147,7 @@ fn find_add<V: View>(
 fn find_put<V: View>(
     view: &mut V,
     hints: &mut Hints,
+    fingers: &mut Fingers,
     few: &mut u32,
     name: Name,
     key: u32,
@@ -133,7 +161,7 @@ fn find_put<V: View>(
     ensures untouched { wanted (Put name key value) (catalogue_of (V.state view.old)) ≡ 0 → hints.new ≡ hints.old }
     ensures as_before { V.as_before view.old view.new }
 {
-    let end = search(view, name, key);
+    let end = search_near(view, fingers, name, key);
     match end.value(key) {
         None => find_new(view, hints, few, &end, key, value),
         Some(old) if old == value => Finding::Settled(Reply::No),
@@ -174,12 +202,12 @@ fn find_new<V: View>(
     }
 }
 
-fn find_del<V: View>(view: &mut V, name: Name, key: u32) -> Finding
+fn find_del<V: View>(view: &mut V, fingers: &mut Fingers, name: Name, key: u32) -> Finding
     requires lawful { IsLawful (V.state view.old) }
     ensures found { IsFound (Del name key) (V.state view.old) result }
     ensures as_before { V.as_before view.old view.new }
 {
-    let end = search(view, name, key);
+    let end = search_near(view, fingers, name, key);
     if !end.has(key) {
         return Finding::Settled(Reply::No);
     }
@@ -193,6 +221,7 @@ fn find_del<V: View>(view: &mut V, name: Name, key: u32) -> Finding
 fn find_move<V: View>(
     view: &mut V,
     hints: &mut Hints,
+    fingers: &mut Fingers,
     few: &mut u32,
     source: Name,
     target: Name,
@@ -206,11 +235,11 @@ fn find_move<V: View>(
     ensures untouched { wanted (Move source target key) (catalogue_of (V.state view.old)) ≡ 0 → hints.new ≡ hints.old }
     ensures as_before { V.as_before view.old view.new }
 {
-    let from = search(view, source, key);
+    let from = search_near(view, fingers, source, key);
     let Some(value) = from.value(key) else {
         return Finding::Settled(Reply::No);
     };
-    let to = search(view, target, key);
+    let to = search_near(view, fingers, target, key);
     if to.has(key) {
         return Finding::Settled(Reply::No);
     }

@@ -5,6 +5,7 @@ use crate::answer::Attempt;
 use crate::attempting::attempt_knowing;
 use crate::hints::Hints;
 use crate::shortage::Shortage;
+use list_set::Fingers;
 use mv_history::Store;
 use set_script::{Command, SetRules};
 use std::marker::Model;
@@ -16,9 +17,13 @@ use std::marker::Model;
 /// node comes in between, it answers `Full` with no further look; after a rest or an entry of another
 /// seat it looks again. Nothing else can reach the store meanwhile, so what is known is of this very
 /// store's history.
+///
+/// It also keeps fingers into the lists (`list_set::Fingers`), at which its searches begin; no clause
+/// speaks of that either.
 pub struct HintedStore<S: Store<Rules = SetRules>> {
     store: S,
     hints: Hints,
+    fingers: Fingers,
     known: Shortage,
 }
 
@@ -42,9 +47,12 @@ impl<S: Store<Rules = SetRules>> HintedStore<S> {
         ensures store { result.store ≡ store }
         ensures hints { result.hints ≡ hints }
     {
+        let mut hints = hints;
+        let fingers = hints.take_fingers();
         HintedStore {
             store,
             hints,
+            fingers,
             known: Shortage::unknown(),
         }
     }
@@ -64,12 +72,14 @@ impl<S: Store<Rules = SetRules>> HintedStore<S> {
         let HintedStore {
             store,
             mut hints,
+            mut fingers,
             mut known,
         } = self;
-        let (store, answer) = attempt_knowing(store, &mut hints, &mut known, command);
+        let (store, answer) = attempt_knowing(store, &mut hints, &mut fingers, &mut known, command);
         let kept = HintedStore {
             store,
             hints,
+            fingers,
             known,
         };
         (kept, answer)
@@ -89,6 +99,7 @@ impl<S: Store<Rules = SetRules>> HintedStore<S> {
         let HintedStore {
             store,
             hints: _,
+            fingers: _,
             known: _,
         } = self;
         store

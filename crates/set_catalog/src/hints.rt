@@ -2,20 +2,23 @@
 ghost use Rattle.std.specs.Prelude.{◌≡◌, ◌≤◌, ◌+◌, ◌++◌, ◌∷◌, [], length, IfOk, MatchOption, ⊤};
 ghost use Rattle.set_catalog.specs.Hinted.{noted};
 
+use list_set::Fingers;
 use std::alloc::{AllocError, Global};
 use std::marker::Model;
+use std::mem::replace;
 
 /// Objects that are likely to be vacant, so that an add seldom looks through all nodes.
 ///
 /// It is seen as a list of at most `room` object numbers, in the order in which they were noted. A
 /// hint may be wrong, or no object at all. Beside the list it keeps where the last look through the
-/// nodes ended; no clause speaks of that.
+/// nodes ended, and the fingers into lists of the store that gets these hints; no clause speaks of that.
 #[derive(Drop)]
 pub struct Hints {
     // None in the form that takes no memory.
     objects: Option<Vec<u32>>,
     room: usize,
     next: u32,
+    fingers: Fingers,
 }
 
 impl Model for Hints {
@@ -38,6 +41,7 @@ impl Hints {
             objects: Some(Vec::with_capacity(alloc, room)?),
             room,
             next: 0,
+            fingers: Fingers::new(alloc)?,
         })
     }
 
@@ -49,6 +53,7 @@ impl Hints {
             objects: None,
             room: 0,
             next: 0,
+            fingers: Fingers::none(),
         }
     }
 
@@ -102,5 +107,12 @@ impl Hints {
         ensures { self.new ≡ self.old }
     {
         self.next = object;
+    }
+
+    // Takes the fingers out.
+    pub(crate) fn take_fingers(&mut self) -> Fingers
+        ensures { self.new ≡ self.old }
+    {
+        replace(&mut self.fingers, Fingers::none())
     }
 }

@@ -5,17 +5,18 @@ ghost use Rattle.set_script.specs.CatalogueOf.{catalogue_of};
 ghost use Rattle.set_script.specs.Lawful.{IsLawful};
 
 use crate::names::{Set, set_of};
+use list_set::Fingers;
 use mv_history::View;
 use set_script::Name;
 
-// The least key of the set that is not below this one, or none.
-pub fn next<V: View>(view: &mut V, name: Name, key: u32) -> Option<u32>
+// The least key of the set that is not below this one, or none. In a list it begins at a finger.
+pub fn next<V: View>(view: &mut V, fingers: &mut Fingers, name: Name, key: u32) -> Option<u32>
     requires lawful { IsLawful (V.state view.old) }
     ensures next { result ≡ next_key key (map_of name (catalogue_of (V.state view.old))) }
     ensures as_before { V.as_before view.old view.new }
 {
     match set_of(name) {
-        Set::List(head) => list_set::next_in(view, head, key),
+        Set::List(head) => list_set::next_near(view, fingers, head, key),
         Set::Table(set) => hash_set::next_in(view, set, key),
         Set::Tree(root) => tree_set::next_in(view, root, key),
     }

@@ -212,3 +212,59 @@ fn a_full_store_is_looked_through_once(rt: HostRuntime) -> Result<(), Fail> {
     } = store.into_store();
     Ok(())
 }
+
+fn has_of(name: Name, key: u32) -> Command {
+    Command::Has { name, key }
+}
+
+// A store whose list 3 has the keys 1 to 100. Falling keys are added at its head, where no walk is long.
+fn open_long(alloc: Global) -> Result<PlainStore<SetRules>, AllocError>
+    ensures { IfOk result (λ store. (seat_of store).write_max ≡ 16) }
+{
+    let mut hints = Hints::none();
+    let mut store = open(alloc)?;
+    for i in 0..100 {
+        store = add(store, &mut hints, 3, 100 - i);
+    }
+    Ok(store)
+}
+
+// A search reads a finger's owner and its key, and where these are right then the key and the link of each node behind it
+// up to where it ends, else of the head and each node from there; and all words of the two between which the key is.
+#[test]
+fn a_search_begins_at_a_finger(rt: HostRuntime) -> Result<(), Fail> {
+    let hints = Hints::new(rt.alloc(), 1)?;
+    let view = open_long(rt.alloc())?;
+    let mut store = HintedStore::new(Counted { view, reads: 0 }, hints);
+    let name = set(3);
+    let next_key = Command::Next { name, key: 95 };
+    for (command, reply, place, reads) in [
+        // From the head, past 89 nodes; a finger stays at 89.
+        (has_of(name, 90), Reply::Yes, Place::Read(100), 93),
+        (has_of(name, 90), Reply::Yes, Place::Read(100), 5),
+        (next_key, Reply::Key { key: 95 }, Place::Read(100), 10),
+        // No finger is before 80; the walk leaves one at 79.
+        (has_of(name, 80), Reply::Yes, Place::Read(100), 83),
+        (del_of(name, 89), Reply::Yes, Place::Commit(101), 14),
+        // The node of key 89 is vacant, so the search begins at the head, and its finger goes to 88.
+        (has_of(name, 90), Reply::Yes, Place::Read(101), 94),
+        (has_of(name, 90), Reply::Yes, Place::Read(101), 5),
+        // The node of key 88 comes into another list.
+        (del_of(name, 88), Reply::Yes, Place::Commit(102), 13),
+        (add_of(set(4), 88), Reply::Yes, Place::Commit(103), 3),
+        (has_of(name, 90), Reply::Yes, Place::Read(103), 93),
+        // From 87 on to the end.
+        (has_of(name, 101), Reply::No, Place::Read(103), 14),
+    ] {
+        let before = store.store().reads;
+        let (next, answer) = store.attempt(&command);
+        assert_eq!(rt; answer, Attempt::Done { reply, place });
+        assert_eq!(rt; next.store().reads.saturating_sub(before), reads);
+        store = next;
+    }
+    let Counted {
+        view: _plain,
+        reads: _,
+    } = store.into_store();
+    Ok(())
+}

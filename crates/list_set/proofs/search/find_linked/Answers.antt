@@ -1,40 +1,15 @@
-use Rattle.std.proofs.Common.{ap, ◌∙◌}
-use Rattle.mv_history.specs.State.{State}
-use Rattle.mv_history.specs.Meaning.{words_at}
-use Rattle.list_set.proofs.Walking.{next_falls, spot_step, spot_found, spot_end}
+use Rattle.std.proofs.Common.{sym}
+use Rattle.list_set.proofs.Walking.{behind_head}
 use Rattle.list_set.proofs.search.find_linked.Goals as goal
 
-pub returns-then-node_key-key-clause-spot : goal.returns-then-node_key-key-clause-spot
-returns-then-node_key-key-clause-spot g c =
-    let i = c.loop-link.invariant.spot in
-    let pair = g.met.V.View.same_state _ _ c.read_pair-node_key.ensures.as_before ∙ i.same in
-    let words = g.met.V.View.same_state _ _ c.read-words.ensures.as_before ∙ pair in
-    spot_found _ _ _ _ _ _ c.requires.linked i c.loop-link-test.true _ _ _ c.read_pair-node_key.ensures.first c.if-node_key-key.true
-    (c.read-words.ensures.words ∙ ap (λ (s : State). words_at s c.loop-link.previous) pair)
-    (c.read-node_words.ensures.words ∙ ap (λ (s : State). words_at s c.loop-link.link) words)
+pub walk_from-requires-clause-linked : goal.walk_from-requires-clause-linked
+walk_from-requires-clause-linked g c = rw (g.met.V.View.same_state _ _ c.read_pair-link.ensures.as_before) c.requires.linked
 
-pub returns-then-node_key-key-clause-as_before : goal.returns-then-node_key-key-clause-as_before
-returns-then-node_key-key-clause-as_before g c =
-    g.met.V.View.as_long_before _ _ _
-    (g.met.V.View.as_long_before _ _ _
-    (g.met.V.View.as_long_before _ _ _ c.loop-link.invariant.before c.read_pair-node_key.ensures.as_before) c.read-words.ensures.as_before)
-    c.read-node_words.ensures.as_before
+pub walk_from-requires-clause-few : goal.walk_from-requires-clause-few
+walk_from-requires-clause-few g c = rw (g.met.V.View.same_state _ _ c.read_pair-link.ensures.as_before) c.requires.few
 
-pub loop-link-smaller : goal.loop-link-smaller
-loop-link-smaller g c =
-    next_falls _ _ _ _ _ _ c.requires.linked c.loop-link.invariant.spot c.loop-link-test.true _ _
-    (g.met.V.View.same_state _ _ c.read_pair-node_key.ensures.as_before) c.read_pair-node_key.ensures.second
-
-pub loop-link-preserved : goal.loop-link-preserved
-loop-link-preserved g c = record {
-  before = g.met.V.View.as_long_before _ _ _ c.loop-link.invariant.before c.read_pair-node_key.ensures.as_before;
-  spot = spot_step _ _ _ _ _ _ c.requires.linked c.loop-link.invariant.spot c.loop-link-test.true _ _
-      (g.met.V.View.same_state _ _ c.read_pair-node_key.ensures.as_before) c.read_pair-node_key.ensures.second _ c.read_pair-node_key.ensures.first
-      c.if-node_key-key.false;
-}
+pub walk_from-requires-clause-behind : goal.walk_from-requires-clause-behind
+walk_from-requires-clause-behind g c = behind_head _ _ _ _ _ (sym (g.met.V.View.same_state _ _ c.read_pair-link.ensures.as_before)) c.read_pair-link.ensures.second
 
 pub returns-clause-spot : goal.returns-clause-spot
-returns-clause-spot g c =
-    let i = c.loop-link.invariant.spot in
-    spot_end _ _ _ _ _ _ _ c.requires.linked i c.loop-link-test.false
-    (c.read-words-2.ensures.words ∙ ap (λ (s : State). words_at s c.loop-link.previous) i.same)
+returns-clause-spot g c = rw (g.met.V.View.same_state _ _ c.read_pair-link.ensures.as_before) at c.walk_from.ensures.spot

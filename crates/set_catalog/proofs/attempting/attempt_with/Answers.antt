@@ -2,4 +2,4 @@ use Rattle.set_catalog.proofs.Knowing.{known_unknown}
 use Rattle.set_catalog.proofs.attempting.attempt_with.Goals as goal
 
 pub attempt_knowing-requires-clause-known : goal.attempt_knowing-requires-clause-known
-attempt_knowing-requires-clause-known g c = known_unknown _ _ (g.met.S.Store.lawful _) c.unknown.ensures.time c.unknown.ensures.few
+attempt_knowing-requires-clause-known g c = known_unknown _ _ (g.met.S.Store.lawful _) c.unknown-known.ensures.time c.unknown-known.ensures.few

@@ -5,25 +5,25 @@ use Rattle.set_catalog.proofs.finding.find_add.Goals as goal
 
 pub returns-then-has-clause-found : goal.returns-then-has-clause-found
 returns-then-has-clause-found g c =
-    add_no _ c.args.name c.args.key c.requires.lawful c.search-end.ensures.name_in (omega (arith, c.ranges.key.fits))
-    (sym (c.has.ensures _ _ c.requires.lawful c.search-end.ensures.name_in (omega (arith, c.ranges.key.fits)) c.search-end.ensures.ends)
+    add_no _ c.args.name c.args.key c.requires.lawful c.search_near-end.ensures.name_in (omega (arith, c.ranges.key.fits))
+    (sym (c.has.ensures _ _ c.requires.lawful c.search_near-end.ensures.name_in (omega (arith, c.ranges.key.fits)) c.search_near-end.ensures.ends)
     ∙ c.if-has.true)
 
 pub returns-clause-found : goal.returns-clause-found
 returns-clause-found g c =
-    let missed = sym (c.has.ensures _ _ c.requires.lawful c.search-end.ensures.name_in (omega (arith, c.ranges.key.fits)) c.search-end.ensures.ends)
+    let missed = sym (c.has.ensures _ _ c.requires.lawful c.search_near-end.ensures.name_in (omega (arith, c.ranges.key.fits)) c.search_near-end.ensures.ends)
     ∙ c.if-has.false in
-    new_found _ _ _ _ _ _ (g.met.V.View.same_state _ _ c.search-end.ensures.as_before) c.find_new.ensures.found (Add c.args.name c.args.key)
-    (record { name = c.args.name; name_in = c.search-end.ensures.name_in; ends = c.search-end.ensures.ends; absent = missed; adds = inl (refl, refl) })
+    new_found _ _ _ _ _ _ (g.met.V.View.same_state _ _ c.search_near-end.ensures.as_before) c.find_new.ensures.found (Add c.args.name c.args.key)
+    (record { name = c.args.name; name_in = c.search_near-end.ensures.name_in; ends = c.search_near-end.ensures.ends; absent = missed; adds = inl (refl, refl) })
 
 pub returns-clause-untouched : goal.returns-clause-untouched
 returns-clause-untouched g c z = absurd (takes_some c.args.name (g.V.View.state c.args.view.now) z)
 
 pub find_new-requires-clause-lawful : goal.find_new-requires-clause-lawful
-find_new-requires-clause-lawful g c = rw (g.met.V.View.same_state _ _ c.search-end.ensures.as_before) c.requires.lawful
+find_new-requires-clause-lawful g c = rw (g.met.V.View.same_state _ _ c.search_near-end.ensures.as_before) c.requires.lawful
 
 pub find_new-requires-clause-few : goal.find_new-requires-clause-few
-find_new-requires-clause-few g c = rw (g.met.V.View.same_state _ _ c.search-end.ensures.as_before) c.requires.few
+find_new-requires-clause-few g c = rw (g.met.V.View.same_state _ _ c.search_near-end.ensures.as_before) c.requires.few
 
 pub returns-clause-few : goal.returns-clause-few
-returns-clause-few g c = rw (g.met.V.View.same_state _ _ c.search-end.ensures.as_before) at c.find_new.ensures.few
+returns-clause-few g c = rw (g.met.V.View.same_state _ _ c.search_near-end.ensures.as_before) at c.find_new.ensures.few

@@ -9,40 +9,40 @@ use Rattle.set_catalog.proofs.finding.find_put.Goals as goal
 pub returns-in-None-clause-found : goal.returns-in-None-clause-found
 returns-in-None-clause-found g c =
     let missed = has_key-none c.args.key (map_of c.args.name (catalogue_of (g.V.View.state c.args.view.now)))
-    (sym (c.in-None.ensures _ _ c.requires.lawful c.search-end.ensures.name_in (omega (arith, c.ranges.key.fits)) c.search-end.ensures.ends)) in
-    new_found _ _ _ _ _ _ (g.met.V.View.same_state _ _ c.search-end.ensures.as_before) c.find_new.ensures.found
+    (sym (c.in-None.ensures _ _ c.requires.lawful c.search_near-end.ensures.name_in (omega (arith, c.ranges.key.fits)) c.search_near-end.ensures.ends)) in
+    new_found _ _ _ _ _ _ (g.met.V.View.same_state _ _ c.search_near-end.ensures.as_before) c.find_new.ensures.found
     (Put c.args.name c.args.key c.args.value)
-    (record { name = c.args.name; name_in = c.search-end.ensures.name_in; ends = c.search-end.ensures.ends; absent = missed; adds = inr refl })
+    (record { name = c.args.name; name_in = c.search_near-end.ensures.name_in; ends = c.search_near-end.ensures.ends; absent = missed; adds = inr refl })
 
 pub returns-in-None-clause-untouched : goal.returns-in-None-clause-untouched
 returns-in-None-clause-untouched g c z =
     let missed = has_key-none c.args.key (map_of c.args.name (catalogue_of (g.V.View.state c.args.view.now)))
-    (sym (c.in-None.ensures _ _ c.requires.lawful c.search-end.ensures.name_in (omega (arith, c.ranges.key.fits)) c.search-end.ensures.ends)) in
+    (sym (c.in-None.ensures _ _ c.requires.lawful c.search_near-end.ensures.name_in (omega (arith, c.ranges.key.fits)) c.search_near-end.ensures.ends)) in
     absurd (wants_some c.args.name c.args.key c.args.value (g.V.View.state c.args.view.now) missed z)
 
 pub returns-in-Some-clause-found : goal.returns-in-Some-clause-found
 returns-in-Some-clause-found g c =
-    put_no _ c.args.name c.args.key c.requires.lawful c.search-end.ensures.name_in (omega (arith, c.ranges.key.fits)) c.args.value c.in-Some.old
-    (omega (arith, c.ranges.value.fits)) (c.in-Some.ensures _ _ c.requires.lawful c.search-end.ensures.name_in
-    (omega (arith, c.ranges.key.fits)) c.search-end.ensures.ends) c.if-old-value.true
+    put_no _ c.args.name c.args.key c.requires.lawful c.search_near-end.ensures.name_in (omega (arith, c.ranges.key.fits)) c.args.value c.in-Some.old
+    (omega (arith, c.ranges.value.fits)) (c.in-Some.ensures _ _ c.requires.lawful c.search_near-end.ensures.name_in
+    (omega (arith, c.ranges.key.fits)) c.search_near-end.ensures.ends) c.if-old-value.true
 
 pub returns-in-Some-2-clause-found : goal.returns-in-Some-2-clause-found
 returns-in-Some-2-clause-found g c =
-    let has = (c.in-Some.ensures _ _ c.requires.lawful c.search-end.ensures.name_in (omega (arith, c.ranges.key.fits)) c.search-end.ensures.ends) in
+    let has = (c.in-Some.ensures _ _ c.requires.lawful c.search_near-end.ensures.name_in (omega (arith, c.ranges.key.fits)) c.search_near-end.ensures.ends) in
     let there = has_key-some c.args.key c.in-Some.old (map_of c.args.name (catalogue_of (g.V.View.state c.args.view.now))) (sym has) in
-    put_open _ c.args.name c.args.key c.requires.lawful c.search-end.ensures.name_in
+    put_open _ c.args.name c.args.key c.requires.lawful c.search_near-end.ensures.name_in
     (omega (arith, c.ranges.key.fits)) c.args.value c.in-Some.old
-    (omega (arith, c.ranges.value.fits)) has c.search-end.result c.nothing-plan.result c.put.new.plan c.nothing-gone.result
-    c.search-end.ensures.ends c.if-old-value.false c.nothing-plan.ensures.count c.put.ensures.count
-    (c.put.ensures.writes c.args.key _ c.args.name c.requires.lawful c.search-end.ensures.name_in
-    (omega (arith, c.ranges.key.fits)) c.search-end.ensures.ends there)
+    (omega (arith, c.ranges.value.fits)) has c.search_near-end.result c.nothing-plan.result c.put.new.plan c.nothing-gone.result
+    c.search_near-end.ensures.ends c.if-old-value.false c.nothing-plan.ensures.count c.put.ensures.count
+    (c.put.ensures.writes c.args.key _ c.args.name c.requires.lawful c.search_near-end.ensures.name_in
+    (omega (arith, c.ranges.key.fits)) c.search_near-end.ensures.ends there)
     (c.nothing-gone.ensures.node, c.nothing-gone.ensures.inner)
 
 pub find_new-requires-clause-lawful : goal.find_new-requires-clause-lawful
-find_new-requires-clause-lawful g c = rw (g.met.V.View.same_state _ _ c.search-end.ensures.as_before) c.requires.lawful
+find_new-requires-clause-lawful g c = rw (g.met.V.View.same_state _ _ c.search_near-end.ensures.as_before) c.requires.lawful
 
 pub find_new-requires-clause-few : goal.find_new-requires-clause-few
-find_new-requires-clause-few g c = rw (g.met.V.View.same_state _ _ c.search-end.ensures.as_before) c.requires.few
+find_new-requires-clause-few g c = rw (g.met.V.View.same_state _ _ c.search_near-end.ensures.as_before) c.requires.few
 
 pub returns-in-None-clause-few : goal.returns-in-None-clause-few
-returns-in-None-clause-few g c = rw (g.met.V.View.same_state _ _ c.search-end.ensures.as_before) at c.find_new.ensures.few
+returns-in-None-clause-few g c = rw (g.met.V.View.same_state _ _ c.search_near-end.ensures.as_before) at c.find_new.ensures.few

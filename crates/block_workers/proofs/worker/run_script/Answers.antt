@@ -1,4 +1,4 @@
-use Rattle.std.proofs.Common.{refl, arith, ap, length, take, sym, sum_by}
+use Rattle.std.proofs.Common.{refl, arith, ap, length, take, sym}
 use Rattle.std.proofs.lemmas.List.{take_more}
 use Rattle.std.proofs.lemmas.List.Sums.{sum_by_more, sum_by_more_le}
 use Rattle.block_workers.proofs.Done.{ran_count, ran_no_block, ran_one_more}

@@ -1,6 +1,7 @@
-use Rattle.std.proofs.Common.{ℕ, ◌<◌, ap₂, take, arith, subst, sym, ◌∙◌}
+use Rattle.std.proofs.Common.{◌≡◌, ℕ, ◌<◌, ap₂, take, arith, subst, sym, ◌∙◌}
 use Rattle.mv_history.specs.State.{State, Writes, written}
-use Rattle.set_blocks.proofs.Turning.{moved_held, move_held, key_after}
+use Rattle.set_script.specs.Lawful.{IsLawful}
+use Rattle.set_blocks.proofs.Turning.{moved_held, move_held, key_after, count_same}
 use Rattle.set_blocks.proofs.turns.hold_move.Goals as goal
 
 pub returns-then-has-clause-held : goal.returns-then-has-clause-held
@@ -24,3 +25,47 @@ returns-else-has-clause-held g c =
     (key_after _ _ _ _ _ _ _ _ (ap₂ (λ (s : State) (w : Writes). written s w) (g.met.V.View.same_state o.view mid.view c.search-end.ensures.as_before.0)
     c.search-end.ensures.as_before.1) c.search-end.ensures.as_before.1 c.hold_key-else-has.ensures.told)
     (sym (c.has.ensures _ _ c.requires.lawful c.search-end.ensures.name_in (omega (arith, c.ranges.key.fits)) c.search-end.ensures.ends) ∙ c.if-has.false)
+
+pub hold_key-requires : goal.hold_key-requires
+hold_key-requires g c =
+    let o = c.args.overlay.now in
+    let mid = c.search-end.new.view in
+    let same : mid.count ≡ o.count =
+    count_same mid.count o.count mid.writes o.writes mid.whole o.whole mid.few o.few c.search-end.ensures.as_before.1 in
+    let here : written (g.V.View.state mid.view) (take mid.count mid.writes) ≡ written (g.V.View.state o.view) (take o.count o.writes) =
+    ap₂ (λ (s : State) (w : Writes). written s w) (g.met.V.View.same_state o.view mid.view c.search-end.ensures.as_before.0)
+    c.search-end.ensures.as_before.1 in
+    record { lawful = subst IsLawful (sym here) c.requires.lawful; room = omega (arith, same, c.requires.room) }
+
+pub hold_key-requires-else-has : goal.hold_key-requires-else-has
+hold_key-requires-else-has g c =
+    let o = c.args.overlay.now in
+    let mid = c.search-end.new.view in
+    let same : mid.count ≡ o.count =
+    count_same mid.count o.count mid.writes o.writes mid.whole o.whole mid.few o.few c.search-end.ensures.as_before.1 in
+    let here : written (g.V.View.state mid.view) (take mid.count mid.writes) ≡ written (g.V.View.state o.view) (take o.count o.writes) =
+    ap₂ (λ (s : State) (w : Writes). written s w) (g.met.V.View.same_state o.view mid.view c.search-end.ensures.as_before.0)
+    c.search-end.ensures.as_before.1 in
+    record { lawful = subst IsLawful (sym here) c.requires.lawful; room = omega (arith, same, c.requires.room) }
+
+pub returns-then-has-clause-view : goal.returns-then-has-clause-view
+returns-then-has-clause-view g c = g.met.V.View.as_long_before _ _ _ c.search-end.ensures.as_before.0 c.hold_key.ensures.view
+
+pub returns-then-has-clause-count : goal.returns-then-has-clause-count
+returns-then-has-clause-count g c =
+    let o = c.args.overlay.now in
+    let mid = c.search-end.new.view in
+    let same : mid.count ≡ o.count =
+    count_same mid.count o.count mid.writes o.writes mid.whole o.whole mid.few o.few c.search-end.ensures.as_before.1 in
+    omega (arith, same, c.hold_key.ensures.count)
+
+pub returns-else-has-clause-view : goal.returns-else-has-clause-view
+returns-else-has-clause-view g c = g.met.V.View.as_long_before _ _ _ c.search-end.ensures.as_before.0 c.hold_key-else-has.ensures.view
+
+pub returns-else-has-clause-count : goal.returns-else-has-clause-count
+returns-else-has-clause-count g c =
+    let o = c.args.overlay.now in
+    let mid = c.search-end.new.view in
+    let same : mid.count ≡ o.count =
+    count_same mid.count o.count mid.writes o.writes mid.whole o.whole mid.few o.few c.search-end.ensures.as_before.1 in
+    omega (arith, same, c.hold_key-else-has.ensures.count)

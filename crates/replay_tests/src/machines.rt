@@ -8,51 +8,50 @@ use std::test::*;
 use step_replay::{Machine, place_cell, place_number};
 
 // A domain of two seats and one object.
-fn small() -> Config
-    ensures { result ≡ record { seats = 2; objects = 1; slots = 64; write_max = 16; low = 32; high = 48; base = 3 } }
-{
-    Config {
-        seats: 2,
-        objects: 1,
-        slots: 64,
-        write_max: 16,
-        low: 32,
-        high: 48,
-        base: 3,
-    }
+const SMALL: Config = Config {
+    seats: 2,
+    objects: 1,
+    slots: 64,
+    write_max: 16,
+    low: 32,
+    high: 48,
+    base: 3,
+};
+
+#[test]
+fn the_numbers_of_words(rt: HostRuntime) {
+    let numbers = [
+        place_number(&SMALL, Place::Clock),
+        place_number(&SMALL, Place::Grace),
+        place_number(&SMALL, Place::Mark(0)),
+        place_number(&SMALL, Place::Mark(1)),
+        place_number(&SMALL, Place::Head(0)),
+        place_number(&SMALL, Place::Master(0, 0)),
+        place_number(&SMALL, Place::Master(0, 5)),
+        place_number(&SMALL, Place::First(0, 0)),
+        place_number(&SMALL, Place::Stamp(0, 1)),
+        place_number(&SMALL, Place::Prev(0, 63)),
+        place_number(&SMALL, Place::Super(1, 0)),
+        place_number(&SMALL, Place::Data(1, 63, 5)),
+    ];
+    assert_eq!(rt; numbers, [0, 1, 2, 3, 4, 5, 10, 11, 22, 643, 654, 1_290]);
 }
 
 #[test]
-fn the_numbers_and_the_cells_of_words(rt: HostRuntime) {
-    let config = small();
-    let numbers = [
-        place_number(&config, Place::Clock),
-        place_number(&config, Place::Grace),
-        place_number(&config, Place::Mark(0)),
-        place_number(&config, Place::Mark(1)),
-        place_number(&config, Place::Head(0)),
-        place_number(&config, Place::Master(0, 0)),
-        place_number(&config, Place::Master(0, 5)),
-        place_number(&config, Place::First(0, 0)),
-        place_number(&config, Place::Stamp(0, 1)),
-        place_number(&config, Place::Prev(0, 63)),
-        place_number(&config, Place::Super(1, 0)),
-        place_number(&config, Place::Data(1, 63, 5)),
-    ];
-    assert_eq!(rt; numbers, [0, 1, 2, 3, 4, 5, 10, 11, 22, 643, 654, 1_290]);
+fn the_cells_of_words(rt: HostRuntime) {
     let cells = [
-        place_cell(&config, Place::Clock),
-        place_cell(&config, Place::Grace),
-        place_cell(&config, Place::Mark(0)),
-        place_cell(&config, Place::Mark(1)),
-        place_cell(&config, Place::Head(0)),
-        place_cell(&config, Place::Master(0, 0)),
-        place_cell(&config, Place::Master(0, 5)),
-        place_cell(&config, Place::First(0, 0)),
-        place_cell(&config, Place::Stamp(0, 1)),
-        place_cell(&config, Place::Prev(0, 63)),
-        place_cell(&config, Place::Super(1, 0)),
-        place_cell(&config, Place::Data(1, 63, 5)),
+        place_cell(&SMALL, Place::Clock),
+        place_cell(&SMALL, Place::Grace),
+        place_cell(&SMALL, Place::Mark(0)),
+        place_cell(&SMALL, Place::Mark(1)),
+        place_cell(&SMALL, Place::Head(0)),
+        place_cell(&SMALL, Place::Master(0, 0)),
+        place_cell(&SMALL, Place::Master(0, 5)),
+        place_cell(&SMALL, Place::First(0, 0)),
+        place_cell(&SMALL, Place::Stamp(0, 1)),
+        place_cell(&SMALL, Place::Prev(0, 63)),
+        place_cell(&SMALL, Place::Super(1, 0)),
+        place_cell(&SMALL, Place::Data(1, 63, 5)),
     ];
     assert_eq!(rt;
         cells,
@@ -62,9 +61,8 @@ fn the_numbers_and_the_cells_of_words(rt: HostRuntime) {
 
 #[test]
 fn a_machine_has_the_numbers_of_its_domain(rt: HostRuntime) -> Result<(), Fail> {
-    let config = small();
-    let machine = Machine::new(rt.alloc(), &config)?;
-    assert_eq!(rt; *machine.config(), config);
+    let machine = Machine::new(rt.alloc(), &SMALL)?;
+    assert_eq!(rt; *machine.config(), SMALL);
     Ok(())
 }
 
@@ -85,8 +83,7 @@ fn enter_and_leave(machine: &mut Machine, seat: u32) -> [u64; 4]
 
 #[test]
 fn a_seat_enters_and_leaves(rt: HostRuntime) -> Result<(), Fail> {
-    let config = small();
-    let mut machine = Machine::new(rt.alloc(), &config)?;
+    let mut machine = Machine::new(rt.alloc(), &SMALL)?;
     let found = enter_and_leave(&mut machine, 1);
     assert_eq!(rt; found, [1_581_055, 0, 1_581_055, 4]);
     Ok(())

@@ -1,60 +1,76 @@
 // The packed words and the limits, against values worked out by hand.
 use mv_layout::{
-    CLOCK_CELL, Config, ConfigFault, GRACE_CELL, clock_seat, clock_slot, clock_time, clock_word,
-    head_cell, head_place, is_unset, link_position, link_seat, link_word, mark_cell, mark_low,
-    mark_place, mark_word, master_cell, master_place, slot_cell, slot_of_position, slot_place,
-    total_cells, total_words, unset_position, unset_stamp,
+    CLOCK_CELL, Config, ConfigFault, GRACE_CELL, LAST, clock_seat, clock_slot, clock_time,
+    clock_word, head_cell, head_place, is_unset, link_position, link_seat, link_word, mark_cell,
+    mark_low, mark_place, mark_word, master_cell, master_place, slot_cell, slot_of_position,
+    slot_place, total_cells, total_words, unset_position, unset_stamp,
 };
 use std::test::Fail;
 
+// A time, a seat and a slot, and their word, in two writings.
+type Clock = (u64, u32, u32, u64, u64);
+
+const CLOCKS: [Clock; 5] = [
+    (0, 0, 8191, 0x1fff, 8191),
+    (1, 1, 0, 0x8_2000, 532_480),
+    (2, 0, 0, 0x10_0000, 1_048_576),
+    (5, 2, 3, 0x28_4003, 2_637_827),
+    (
+        35_184_372_088_831,
+        0,
+        8191,
+        0xffff_ffff_fff8_1fff,
+        18_446_744_073_709_035_519,
+    ),
+];
+
 #[test]
 fn packed_clock_words(rt: HostRuntime) -> Result<(), Fail> {
-    let rows = [
-        (0, 0, 8191, 0x1fff, 8191),
-        (1, 1, 0, 0x8_2000, 532_480),
-        (2, 0, 0, 0x10_0000, 1_048_576),
-        (5, 2, 3, 0x28_4003, 2_637_827),
-        (
-            35_184_372_088_831,
-            0,
-            8191,
-            0xffff_ffff_fff8_1fff,
-            18_446_744_073_709_035_519,
-        ),
-    ];
-    for (time, seat, slot, hexadecimal, decimal) in rows {
-        let word = clock_word(time, seat, slot);
-        assert_eq!(rt; (word, word), (hexadecimal, decimal));
+    for (time, seat, slot, hexadecimal, decimal) in &CLOCKS {
+        assert!(rt; *time <= LAST && *seat < 64 && *slot <= 8191);
+        let word = clock_word(*time, *seat, *slot);
+        assert_eq!(rt; (word, word), (*hexadecimal, *decimal));
         let parts = (clock_time(word), clock_seat(word), clock_slot(word));
-        assert_eq!(rt; parts, (time, seat, slot));
+        assert_eq!(rt; parts, (*time, *seat, *slot));
+    }
+    Ok(())
+}
+
+// A seat and a position, and their word, in two writings.
+type Link = (u32, u64, u64, u64);
+
+const LINKS: [Link; 3] = [
+    (0, 0, 0x0200_0000_0000_0000, 144_115_188_075_855_872),
+    (1, 70, 0x0400_0000_0000_0046, 288_230_376_151_711_814),
+    (
+        63,
+        144_115_188_075_855_871,
+        0x81ff_ffff_ffff_ffff,
+        9_367_487_224_930_631_679,
+    ),
+];
+
+#[test]
+fn packed_links(rt: HostRuntime) -> Result<(), Fail> {
+    for (seat, position, hexadecimal, decimal) in &LINKS {
+        assert!(rt; *seat < 64 && *position < 1 << 57);
+        let word = link_word(*seat, *position);
+        assert_eq!(rt; (word, word), (*hexadecimal, *decimal));
+        let parts = (link_seat(word), link_position(word));
+        assert_eq!(rt; parts, (*seat, *position));
     }
     Ok(())
 }
 
 #[test]
-fn packed_links_and_stamps(rt: HostRuntime) -> Result<(), Fail> {
-    let rows = [
-        (0, 0, 0x0200_0000_0000_0000, 144_115_188_075_855_872),
-        (1, 70, 0x0400_0000_0000_0046, 288_230_376_151_711_814),
-        (
-            63,
-            144_115_188_075_855_871,
-            0x81ff_ffff_ffff_ffff,
-            9_367_487_224_930_631_679,
-        ),
-    ];
-    for (seat, position, hexadecimal, decimal) in rows {
-        let word = link_word(seat, position);
-        assert_eq!(rt; (word, word), (hexadecimal, decimal));
-        assert_eq!(rt; (link_seat(word), link_position(word)), (seat, position));
-    }
+fn packed_stamps_and_marks(rt: HostRuntime) -> Result<(), Fail> {
     let unset = unset_stamp(7);
-    assert_eq!(rt; unset, 0x8000_0000_0000_0007);
-    assert_eq!(rt; unset_position(unset), 7);
-    assert!(rt; is_unset(unset));
-    assert!(rt; !is_unset(35_184_372_088_831));
-    assert_eq!(rt; mark_word(0), 1);
-    assert_eq!(rt; mark_low(mark_word(5)), 5);
+    assert_eq!(rt; (unset, unset_position(unset)), (0x8000_0000_0000_0007, 7));
+    assert_eq!(rt;
+        (is_unset(unset), is_unset(35_184_372_088_831)),
+        (true, false)
+    );
+    assert_eq!(rt; (mark_word(0), mark_low(mark_word(5))), (1, 5));
     Ok(())
 }
 

@@ -1,21 +1,53 @@
 // Commands over the plain store, row by row.
-ghost use Rattle.std.specs.Prelude.{◌≡◌, ◌+◌, ◌<◌, ◌≤◌, length, replicate, IfOk};
-ghost use Rattle.mv_history.specs.PlainMeaning.{seat_of};
+ghost use Rattle.std.specs.Prelude.{◌≡◌, ◌<◌, ◌≤◌, length, IfOk};
 
+use crate::asked::Ask::{Add, Del, Get, Move, Put};
+use crate::asked::{Ask, command};
 use mv_history::{PlainStore, Section, Store, WORDS};
 use set_catalog::{Attempt, Hints, attempt, attempt_with, read_all};
-use set_script::{Catalogue, Command, Name, Place, Reply, SetRules};
+use set_script::Place::{Commit, Read};
+use set_script::{Catalogue, Place, Reply, SetRules};
 use std::alloc::{AllocError, Global};
-use std::test::Fail;
+use std::process::Abort;
+use std::test::*;
+
+// A command, its reply, and its place.
+type Row = (Ask, Reply, Place);
 
 // A store of so many objects of zeros, whose times begin at 0.
 fn open(alloc: Global, count: u32, room: u32) -> Result<PlainStore<SetRules>, AllocError>
     requires some { 180 < count }
     requires few { count ≤ 65535 }
-    ensures { IfOk result (λ store. (seat_of store).write_max ≡ 16) }
 {
     let zeros = vec![in alloc; [0; WORDS]; count as usize]?;
     PlainStore::new(alloc, &zeros, 0, room)
+}
+
+// Attempts the commands, one after another, and looks at their replies and their places.
+fn play(rt: &impl Abort, mut store: PlainStore<SetRules>, rows: &[Row]) -> PlainStore<SetRules> {
+    for (ask, reply, place) in rows {
+        let (after, answer) = attempt(store, &command(rt, *ask));
+        let want = Attempt::Done {
+            reply: *reply,
+            place: *place,
+        };
+        assert_eq!(rt; answer, want);
+        store = after;
+    }
+    store
+}
+
+// The same, with hints.
+fn play_with(rt: &impl Abort, mut store: PlainStore<SetRules>, hints: &mut Hints, rows: &[Row]) {
+    for (ask, reply, place) in rows {
+        let (after, answer) = attempt_with(store, hints, &command(rt, *ask));
+        let want = Attempt::Done {
+            reply: *reply,
+            place: *place,
+        };
+        assert_eq!(rt; answer, want);
+        store = after;
+    }
 }
 
 // The catalogue that a store has come to.
@@ -28,143 +60,90 @@ fn read_end<S: Store<Rules = SetRules>>(
     (section.leave(), all)
 }
 
-// The set of this index, which is below 30.
-fn name(index: u32) -> Name
-    requires { index < 30 }
-{
-    match Name::new(index) {
-        Some(name) => name,
-        None => unreachable!(),
+// A set, and its keys.
+type Keys = (u32, &'static [u32]);
+
+// The keys of a set in a table of those that have some.
+fn keys_in(rows: &[Keys], index: u32) -> &'static [u32] {
+    for (set, keys) in rows {
+        if *set == index {
+            return *keys;
+        }
+    }
+    &[]
+}
+
+// Looks that these sets have these keys, and that all others are empty.
+fn expect_keys(rt: &impl Abort, all: &Catalogue, rows: &[Keys]) {
+    for index in 0..30 {
+        assert_eq!(rt; all.keys(index), keys_in(rows, index), "set {index}");
     }
 }
 
-fn add(index: u32, key: u32) -> Command
-    requires { index < 30 }
-{
-    Command::Add {
-        name: name(index),
-        key,
-    }
-}
+const ROOM_FOR_TWO: [Row; 6] = [
+    (Add(0, 1), Reply::Yes, Commit(1)),
+    (Add(10, 2), Reply::Yes, Commit(2)),
+    (Add(0, 3), Reply::Full, Read(2)),
+    (Del(0, 1), Reply::Yes, Commit(3)),
+    (Add(0, 3), Reply::Yes, Commit(4)),
+    (Move(10, 1, 2), Reply::Yes, Commit(5)),
+];
 
-fn del(index: u32, key: u32) -> Command
-    requires { index < 30 }
-{
-    Command::Del {
-        name: name(index),
-        key,
-    }
-}
-
-fn put(index: u32, key: u32, value: u64) -> Command
-    requires { index < 30 }
-{
-    Command::Put {
-        name: name(index),
-        key,
-        value,
-    }
-}
-
-fn get(index: u32, key: u32) -> Command
-    requires { index < 30 }
-{
-    Command::Get {
-        name: name(index),
-        key,
-    }
-}
-
-fn shift(source: u32, target: u32, key: u32) -> Command
-    requires source { source < 30 }
-    requires target { target < 30 }
-{
-    Command::Move {
-        source: name(source),
-        target: name(target),
-        key,
-    }
-}
-
-fn done(reply: Reply, place: Place) -> Attempt {
-    Attempt::Done { reply, place }
-}
+const ENDS_OF_TWO: [Keys; 2] = [(0, &[3]), (1, &[2])];
 
 #[test]
 fn a_store_is_full_and_has_room_again_after_a_del(rt: HostRuntime) -> Result<(), Fail> {
-    let mut store = open(rt.alloc(), 182, 8)?;
-    for (command, reply, place) in [
-        (add(0, 1), Reply::Yes, Place::Commit(1)),
-        (add(10, 2), Reply::Yes, Place::Commit(2)),
-        (add(0, 3), Reply::Full, Place::Read(2)),
-        (del(0, 1), Reply::Yes, Place::Commit(3)),
-        (add(0, 3), Reply::Yes, Place::Commit(4)),
-        (shift(10, 1, 2), Reply::Yes, Place::Commit(5)),
-    ] {
-        let (next, answer) = attempt(store, &command);
-        assert_eq!(rt; answer, done(reply, place));
-        store = next;
-    }
+    let store = play(&rt, open(rt.alloc(), 182, 8)?, &ROOM_FOR_TWO);
     let (_store, all) = read_end(rt.alloc(), store);
-    let all = all?;
-    assert_eq!(rt; all.keys(0), [3].as_slice());
-    assert_eq!(rt; all.keys(1), [2].as_slice());
-    for name in 2..30 {
-        assert!(rt; all.keys(name).is_empty());
-    }
+    expect_keys(&rt, &all?, &ENDS_OF_TWO);
     Ok(())
 }
+
+const TREE_AND_LIST: [Row; 6] = [
+    (Add(20, 5), Reply::Yes, Commit(1)),
+    (Add(20, 3), Reply::Yes, Commit(2)),
+    (Add(0, 1), Reply::Full, Read(2)),
+    (Del(20, 5), Reply::Yes, Commit(3)),
+    (Add(0, 1), Reply::Yes, Commit(4)),
+    (Move(20, 0, 3), Reply::Yes, Commit(5)),
+];
+
+const END_OF_LIST: [Keys; 1] = [(0, &[1, 3])];
 
 #[test]
 fn a_tree_takes_two_nodes_for_its_second_key(rt: HostRuntime) -> Result<(), Fail> {
-    let mut store = open(rt.alloc(), 183, 8)?;
-    for (command, reply, place) in [
-        (add(20, 5), Reply::Yes, Place::Commit(1)),
-        (add(20, 3), Reply::Yes, Place::Commit(2)),
-        (add(0, 1), Reply::Full, Place::Read(2)),
-        (del(20, 5), Reply::Yes, Place::Commit(3)),
-        (add(0, 1), Reply::Yes, Place::Commit(4)),
-        (shift(20, 0, 3), Reply::Yes, Place::Commit(5)),
-    ] {
-        let (next, answer) = attempt(store, &command);
-        assert_eq!(rt; answer, done(reply, place));
-        store = next;
-    }
+    let store = play(&rt, open(rt.alloc(), 183, 8)?, &TREE_AND_LIST);
     let (_store, all) = read_end(rt.alloc(), store);
-    let all = all?;
-    assert_eq!(rt; all.keys(0), [1, 3].as_slice());
-    assert!(rt; all.keys(20).is_empty());
+    expect_keys(&rt, &all?, &END_OF_LIST);
     Ok(())
 }
 
+const LAST_TIME: [Row; 2] = [
+    (Add(0, 1), Reply::Yes, Commit(1)),
+    (Add(0, 2), Reply::Worn, Read(1)),
+];
+
 #[test]
 fn no_time_is_left_after_the_last_commit(rt: HostRuntime) -> Result<(), Fail> {
-    let store = open(rt.alloc(), 182, 1)?;
-    let (store, first) = attempt(store, &add(0, 1));
-    assert_eq!(rt; first, done(Reply::Yes, Place::Commit(1)));
-    let (_store, second) = attempt(store, &add(0, 2));
-    assert_eq!(rt; second, done(Reply::Worn, Place::Read(1)));
+    let _store = play(&rt, open(rt.alloc(), 182, 1)?, &LAST_TIME);
     Ok(())
 }
+
+const VALUES: [Row; 8] = [
+    (Get(20, 7), Reply::NoKey, Read(0)),
+    (Put(20, 7, 9), Reply::Yes, Commit(1)),
+    (Put(20, 7, 9), Reply::No, Read(1)),
+    (Put(20, 7, 8), Reply::Yes, Commit(2)),
+    (Get(20, 7), Reply::Value { value: 8 }, Read(2)),
+    (Move(20, 10, 7), Reply::Yes, Commit(3)),
+    (Get(10, 7), Reply::Value { value: 8 }, Read(3)),
+    (Del(10, 7), Reply::Yes, Commit(4)),
+];
 
 #[test]
 fn values_are_put_got_and_moved(rt: HostRuntime) -> Result<(), Fail> {
     let mut hints = Hints::new(rt.alloc(), 4)?;
-    let mut store = open(rt.alloc(), 190, 8)?;
-    for (command, reply, place) in [
-        (get(20, 7), Reply::NoKey, Place::Read(0)),
-        (put(20, 7, 9), Reply::Yes, Place::Commit(1)),
-        (put(20, 7, 9), Reply::No, Place::Read(1)),
-        (put(20, 7, 8), Reply::Yes, Place::Commit(2)),
-        (get(20, 7), Reply::Value { value: 8 }, Place::Read(2)),
-        (shift(20, 10, 7), Reply::Yes, Place::Commit(3)),
-        (get(10, 7), Reply::Value { value: 8 }, Place::Read(3)),
-        (del(10, 7), Reply::Yes, Place::Commit(4)),
-    ] {
-        let (next, answer) = attempt_with(store, &mut hints, &command);
-        assert_eq!(rt; answer, done(reply, place));
-        store = next;
-    }
+    play_with(&rt, open(rt.alloc(), 190, 8)?, &mut hints, &VALUES);
     assert_eq!(rt; hints.len(), 1);
     Ok(())
 }

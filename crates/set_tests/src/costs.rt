@@ -1,69 +1,104 @@
 // How many reads of objects it takes to count the keys of a set, to read the whole catalogue, and to
 // answer that a store is full.
-ghost use Rattle.std.specs.Prelude.{◌≡◌, ◌<◌, ◌≤◌, length, replicate, IfOk};
-ghost use Rattle.mv_history.specs.PlainMeaning.{seat_of};
-ghost use Rattle.set_catalog.specs.Steps.{most_locks};
+ghost use Rattle.std.specs.Prelude.{◌≡◌, ◌<◌, ◌≤◌, length, IfOk};
 
+use crate::asked::Ask::{Add, Del, Move, Put, Size};
+use crate::asked::{Ask, command};
 use crate::counted::Counted;
 use mv_history::{PlainStore, Section, Store, WORDS};
 use set_catalog::{Attempt, HintedStore, Hints, attempt_with, read_all};
-use set_script::{Catalogue, Command, Name, Place, Reply, SetRules};
+use set_script::Place::{Commit, Read};
+use set_script::{Catalogue, Place, Reply, SetRules};
 use std::alloc::{AllocError, Global};
-use std::test::Fail;
+use std::process::Abort;
+use std::test::*;
 
-// A store of 1,000 objects of zeros, with room for 1,000 commits.
-fn open(alloc: Global) -> Result<PlainStore<SetRules>, AllocError>
-    ensures { IfOk result (λ store. (seat_of store).write_max ≡ 16) }
+// A store of so many objects of zeros, with room for so many commits.
+fn open(alloc: Global, count: u32, room: u32) -> Result<PlainStore<SetRules>, AllocError>
+    requires some { 180 < count }
+    requires few { count ≤ 65535 }
 {
-    let zeros = vec![in alloc; [0; WORDS]; 1000]?;
-    PlainStore::new(alloc, &zeros, 0, 1000)
-}
-
-// The set of this index.
-fn set(index: u32) -> Name
-    requires index { index < 30 }
-{
-    match Name::new(index) {
-        Some(name) => name,
-        None => unreachable!(),
-    }
+    let zeros = vec![in alloc; [0; WORDS]; count as usize]?;
+    PlainStore::new(alloc, &zeros, 0, room)
 }
 
 // Adds a key to the set of this index.
-fn add<S: Store<Rules = SetRules>>(store: S, hints: &mut Hints, index: u32, key: u32) -> S
-    requires index { index < 30 }
-    requires most { most_locks ≤ (S.seat_of store).write_max }
-    ensures { (S.seat_of result).write_max ≡ (S.seat_of store).write_max }
-{
-    let name = set(index);
-    attempt_with(store, hints, &Command::Add { name, key }).0
-}
-
-// What `size` of the set of this index answers, and how many reads it took.
-fn counted_size<S: Store<Rules = SetRules>>(
-    store: S,
+fn add(
+    rt: &impl Abort,
+    store: PlainStore<SetRules>,
     hints: &mut Hints,
     index: u32,
-) -> (S, Attempt, u32)
-    requires index { index < 30 }
-    requires most { most_locks ≤ (S.seat_of store).write_max }
-    ensures { (S.seat_of result.0).write_max ≡ (S.seat_of store).write_max }
-{
-    let command = Command::Size { name: set(index) };
+    key: u32,
+) -> PlainStore<SetRules> {
+    attempt_with(store, hints, &command(rt, Add(index, key))).0
+}
+
+// What a command is answered, and how many reads it took.
+fn count_reads(
+    rt: &impl Abort,
+    store: PlainStore<SetRules>,
+    hints: &mut Hints,
+    ask: Ask,
+) -> (PlainStore<SetRules>, Attempt, u32) {
     let counted = Counted {
         view: store,
         reads: 0,
     };
-    let (Counted { view, reads }, answer) = attempt_with(counted, hints, &command);
+    let (Counted { view, reads }, answer) = attempt_with(counted, hints, &command(rt, ask));
     (view, answer, reads)
 }
 
-// A count of so many keys, read at this time.
-fn counted(keys: u64, time: u64) -> Attempt {
-    Attempt::Done {
-        reply: Reply::Count { count: keys },
-        place: Place::Read(time),
+// Looks that `size` of each set, with as many reads, counts so many keys at this time.
+fn expect_sizes(
+    rt: &impl Abort,
+    mut store: PlainStore<SetRules>,
+    hints: &mut Hints,
+    sizes: &[(u32, u32)],
+    count: u64,
+    time: u64,
+) {
+    let want = Attempt::Done {
+        reply: Reply::Count { count },
+        place: Read(time),
+    };
+    for (index, most) in sizes {
+        let (after, answer, reads) = count_reads(rt, store, hints, Size(*index));
+        assert_eq!(rt; answer, want);
+        assert_eq!(rt; reads, *most);
+        store = after;
     }
+}
+
+// The head and 200 nodes; 16 heads and 200 nodes.
+const LIST_AND_TABLE: [(u32, u32); 2] = [(3, 201), (13, 216)];
+
+#[test]
+fn a_list_and_a_table_are_read_once(rt: HostRuntime) -> Result<(), Fail> {
+    let mut hints = Hints::new(rt.alloc(), 1)?;
+    let mut store = open(rt.alloc(), 1000, 1000)?;
+    for i in 0..200 {
+        store = add(&rt, store, &mut hints, 3, 200 - i);
+        store = add(&rt, store, &mut hints, 13, i);
+    }
+    expect_sizes(&rt, store, &mut hints, &LIST_AND_TABLE, 200, 400);
+    Ok(())
+}
+
+// The root and 259 nodes, and one node twice where more than 64 links are pending.
+const TREES: [(u32, u32); 3] = [(20, 260), (21, 261), (22, 260)];
+
+#[test]
+fn a_tree_is_read_once_whatever_its_form(rt: HostRuntime) -> Result<(), Fail> {
+    let mut hints = Hints::new(rt.alloc(), 1)?;
+    let mut store = open(rt.alloc(), 1000, 1000)?;
+    for i in 0..130 {
+        // A chain to the right, a chain to the left, and a tree without long branches.
+        store = add(&rt, store, &mut hints, 20, i);
+        store = add(&rt, store, &mut hints, 21, 130 - i);
+        store = add(&rt, store, &mut hints, 22, i * 81 % 131);
+    }
+    expect_sizes(&rt, store, &mut hints, &TREES, 130, 390);
+    Ok(())
 }
 
 // The whole catalogue, and how many reads it took.
@@ -81,49 +116,11 @@ fn counted_catalogue<S: Store<Rules = SetRules>>(
 }
 
 #[test]
-fn a_list_and_a_table_are_read_once(rt: HostRuntime) -> Result<(), Fail> {
-    let mut hints = Hints::new(rt.alloc(), 1)?;
-    let mut store = open(rt.alloc())?;
-    for i in 0..200 {
-        store = add(store, &mut hints, 3, 200 - i);
-        store = add(store, &mut hints, 13, i);
-    }
-    // The head and 200 nodes; 16 heads and 200 nodes.
-    for (name, most) in [(3, 201), (13, 216)] {
-        let (next, answer, reads) = counted_size(store, &mut hints, name);
-        assert_eq!(rt; answer, counted(200, 400));
-        assert_eq!(rt; reads, most);
-        store = next;
-    }
-    Ok(())
-}
-
-#[test]
-fn a_tree_is_read_once_whatever_its_form(rt: HostRuntime) -> Result<(), Fail> {
-    let mut hints = Hints::new(rt.alloc(), 1)?;
-    let mut store = open(rt.alloc())?;
-    for i in 0..130 {
-        // A chain to the right, a chain to the left, and a tree without long branches.
-        store = add(store, &mut hints, 20, i);
-        store = add(store, &mut hints, 21, 130 - i);
-        store = add(store, &mut hints, 22, i * 81 % 131);
-    }
-    // The root and 259 nodes, and one node twice where more than 64 links are pending.
-    for (name, most) in [(20, 260), (21, 261), (22, 260)] {
-        let (next, answer, reads) = counted_size(store, &mut hints, name);
-        assert_eq!(rt; answer, counted(130, 390));
-        assert_eq!(rt; reads, most);
-        store = next;
-    }
-    Ok(())
-}
-
-#[test]
 fn a_catalogue_is_read_once(rt: HostRuntime) -> Result<(), Fail> {
     let mut hints = Hints::new(rt.alloc(), 1)?;
-    let mut store = open(rt.alloc())?;
+    let mut store = open(rt.alloc(), 1000, 1000)?;
     for i in 0..130 {
-        store = add(store, &mut hints, 20, i);
+        store = add(&rt, store, &mut hints, 20, i);
     }
     let (_store, all, reads) = counted_catalogue(rt.alloc(), store);
     assert_eq!(rt; all?.keys(20).len(), 130);
@@ -132,84 +129,67 @@ fn a_catalogue_is_read_once(rt: HostRuntime) -> Result<(), Fail> {
     Ok(())
 }
 
-// A store of ten nodes, with room for 100 commits.
-fn open_small(alloc: Global) -> Result<PlainStore<SetRules>, AllocError>
-    ensures { IfOk result (λ store. (seat_of store).write_max ≡ 16) }
-{
-    let zeros = vec![in alloc; [0; WORDS]; 190]?;
-    PlainStore::new(alloc, &zeros, 0, 100)
-}
+// A plain store whose reads are counted, with hints.
+type Hinted = HintedStore<Counted<PlainStore<SetRules>>>;
 
-fn add_of(name: Name, key: u32) -> Command {
-    Command::Add { name, key }
-}
+// A command, its reply, its place, and how many reads it takes.
+type Row = (Ask, Reply, Place, u32);
 
-fn del_of(name: Name, key: u32) -> Command {
-    Command::Del { name, key }
+// What a store of ten nodes is asked that has the keys 1 to 10 in `l3`.
+const FULL: [Row; 16] = [
+    // A list's search reads the key and the link of each object up to where it ends, and then all words of
+    // the two between which the key is: the head, the first node, both again, and a look through ten nodes;
+    // then no look.
+    (Add(3, 0), Reply::Full, Read(10), 14),
+    (Add(3, 0), Reply::Full, Read(10), 4),
+    // A put of another value and a move of a list's key free nothing.
+    (Put(3, 10, 7), Reply::Yes, Commit(11), 13),
+    (Add(3, 0), Reply::Full, Read(11), 4),
+    (Move(3, 4, 1), Reply::Yes, Commit(12), 6),
+    (Add(3, 0), Reply::Full, Read(12), 4),
+    // A del does: a look finds the second node.
+    (Del(3, 2), Reply::Yes, Commit(13), 4),
+    (Add(3, 0), Reply::Yes, Commit(14), 6),
+    (Add(3, 1), Reply::Full, Read(14), 15),
+    (Add(3, 1), Reply::Full, Read(14), 5),
+    // A tree's second key takes two nodes: that there is but one is known, and another look finds it.
+    (Del(3, 3), Reply::Yes, Commit(15), 5),
+    (Add(20, 5), Reply::Yes, Commit(16), 2),
+    (Del(3, 4), Reply::Yes, Commit(17), 5),
+    (Add(20, 6), Reply::Full, Read(17), 12),
+    (Add(20, 6), Reply::Full, Read(17), 2),
+    (Add(3, 4), Reply::Yes, Commit(18), 15),
+];
+
+// Attempts the commands, one after another.
+fn play(rt: &impl Abort, mut store: Hinted, rows: &[Row]) -> Hinted {
+    for (ask, reply, place, reads) in rows {
+        let before = store.store().reads;
+        let (after, answer) = store.attempt(&command(rt, *ask));
+        let want = Attempt::Done {
+            reply: *reply,
+            place: *place,
+        };
+        assert_eq!(rt; answer, want);
+        assert_eq!(rt; after.store().reads.saturating_sub(before), *reads);
+        store = after;
+    }
+    store
 }
 
 // A plain store has one seat, so no commit of another one comes between.
 #[test]
 fn a_full_store_is_looked_through_once(rt: HostRuntime) -> Result<(), Fail> {
     let hints = Hints::new(rt.alloc(), 0)?;
-    let view = open_small(rt.alloc())?;
+    let view = open(rt.alloc(), 190, 100)?;
     let mut store = HintedStore::new(Counted { view, reads: 0 }, hints);
-    let (list, other, tree) = (set(3), set(4), set(20));
     for key in 1..11 {
-        store = store.attempt(&add_of(list, key)).0;
-    }
-    for (command, reply, place, reads) in [
-        // A list's search reads the key and the link of each object up to where it ends, and then all words of
-        // the two between which the key is: the head, the first node, both again, and a look through ten nodes;
-        // then no look.
-        (add_of(list, 0), Reply::Full, Place::Read(10), 14),
-        (add_of(list, 0), Reply::Full, Place::Read(10), 4),
-        // A put of another value and a move of a list's key free nothing.
-        (
-            Command::Put {
-                name: list,
-                key: 10,
-                value: 7,
-            },
-            Reply::Yes,
-            Place::Commit(11),
-            13,
-        ),
-        (add_of(list, 0), Reply::Full, Place::Read(11), 4),
-        (
-            Command::Move {
-                source: list,
-                target: other,
-                key: 1,
-            },
-            Reply::Yes,
-            Place::Commit(12),
-            6,
-        ),
-        (add_of(list, 0), Reply::Full, Place::Read(12), 4),
-        // A del does: a look finds the second node.
-        (del_of(list, 2), Reply::Yes, Place::Commit(13), 4),
-        (add_of(list, 0), Reply::Yes, Place::Commit(14), 6),
-        (add_of(list, 1), Reply::Full, Place::Read(14), 15),
-        (add_of(list, 1), Reply::Full, Place::Read(14), 5),
-        // A tree's second key takes two nodes: that there is but one is known, and another look finds it.
-        (del_of(list, 3), Reply::Yes, Place::Commit(15), 5),
-        (add_of(tree, 5), Reply::Yes, Place::Commit(16), 2),
-        (del_of(list, 4), Reply::Yes, Place::Commit(17), 5),
-        (add_of(tree, 6), Reply::Full, Place::Read(17), 12),
-        (add_of(tree, 6), Reply::Full, Place::Read(17), 2),
-        (add_of(list, 4), Reply::Yes, Place::Commit(18), 15),
-    ] {
-        let before = store.store().reads;
-        let (next, answer) = store.attempt(&command);
-        assert_eq!(rt; answer, Attempt::Done { reply, place });
-        assert_eq!(rt; next.store().reads.saturating_sub(before), reads);
-        store = next;
+        store = store.attempt(&command(&rt, Add(3, key))).0;
     }
     let Counted {
         view: _plain,
         reads: _,
-    } = store.into_store();
+    } = play(&rt, store, &FULL).into_store();
     Ok(())
 }
 

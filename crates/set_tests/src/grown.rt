@@ -1,12 +1,14 @@
 // How many reads of objects it takes to attempt a command on a growing hash set.
-ghost use Rattle.std.specs.Prelude.{◌≡◌};
+ghost use Rattle.std.specs.Prelude.{◌≡◌, ◌<◌, ◌≤◌};
 ghost use Rattle.grow_hash.specs.GrowPlans.{IsOfGrown};
 
 use crate::counted::Counted;
 use grow_hash::{GrowRules, GrowStep, attempt_grow};
 use mv_history::{PlainStore, Store, View, WORDS};
 use set_script::{Command, Name, Place, Reply};
-use std::test::Fail;
+use std::alloc::{AllocError, Global};
+use std::process::Abort;
+use std::test::*;
 
 // A command on the set.
 #[derive(Clone, Copy)]
@@ -51,33 +53,54 @@ fn count_reads(store: PlainStore<GrowRules>, ask: Ask) -> (PlainStore<GrowRules>
     (view, answer, reads)
 }
 
+// A command, its reply, its place, and how many reads it takes.
+type Row = (Ask, Reply, Place, u32);
+
+const ROWS: [Row; 12] = [
+    // The table and the head, and a vacant node.
+    (Ask::Add(1), Reply::Yes, Place::Commit(1), 4),
+    // The nodes up to the key or the end, then once more the last object before it.
+    (Ask::Add(17), Reply::Yes, Place::Commit(2), 5),
+    (Ask::Add(33), Reply::Yes, Place::Commit(3), 6),
+    (Ask::Add(49), Reply::Yes, Place::Commit(4), 7),
+    (Ask::Add(2), Reply::Yes, Place::Commit(5), 4),
+    // Where the key is there, once more the node found and the object before it.
+    (Ask::Has(33), Reply::Yes, Place::Read(5), 7),
+    (Ask::Has(34), Reply::No, Place::Read(5), 4),
+    // The table, 16 heads and 5 nodes.
+    (Ask::Size, Reply::Count { count: 5 }, Place::Read(5), 22),
+    // The same, and once more the two objects of one bucket's end and one of each of the 15 others.
+    (Ask::Next(34), Reply::Key { key: 49 }, Place::Read(5), 39),
+    (Ask::Add(65), Reply::Yes, Place::Commit(6), 8),
+    (Ask::Add(18), Reply::Yes, Place::Commit(7), 5),
+    (Ask::Del(17), Reply::Yes, Place::Commit(8), 6),
+];
+
+// Attempts the commands, one after another.
+fn play(rt: &impl Abort, mut store: PlainStore<GrowRules>, rows: &[Row]) {
+    for (ask, reply, place, most) in rows {
+        let (after, answer, reads) = count_reads(store, *ask);
+        let want = GrowStep::Done {
+            reply: *reply,
+            place: *place,
+        };
+        assert_eq!(rt; answer, want);
+        assert_eq!(rt; reads, *most);
+        store = after;
+    }
+}
+
+// A store of so many objects of zeros.
+fn open(alloc: Global, count: u32) -> Result<PlainStore<GrowRules>, AllocError>
+    requires some { 1025 < count }
+    requires few { count ≤ 65535 }
+{
+    let zeros = vec![in alloc; [0; WORDS]; count as usize]?;
+    PlainStore::new(alloc, &zeros, 0, 8)
+}
+
 #[test]
 fn one_walk_of_one_bucket(rt: HostRuntime) -> Result<(), Fail> {
-    let zeros = vec![in rt.alloc(); [0; WORDS]; 4096]?;
-    let mut store = PlainStore::new(rt.alloc(), &zeros, 0, 8)?;
-    for (ask, reply, place, most) in [
-        // The table and the head, and a vacant node.
-        (Ask::Add(1), Reply::Yes, Place::Commit(1), 4),
-        // The nodes up to the key or the end, then once more the last object before it.
-        (Ask::Add(17), Reply::Yes, Place::Commit(2), 5),
-        (Ask::Add(33), Reply::Yes, Place::Commit(3), 6),
-        (Ask::Add(49), Reply::Yes, Place::Commit(4), 7),
-        (Ask::Add(2), Reply::Yes, Place::Commit(5), 4),
-        // Where the key is there, once more the node found and the object before it.
-        (Ask::Has(33), Reply::Yes, Place::Read(5), 7),
-        (Ask::Has(34), Reply::No, Place::Read(5), 4),
-        // The table, 16 heads and 5 nodes.
-        (Ask::Size, Reply::Count { count: 5 }, Place::Read(5), 22),
-        // The same, and once more the two objects of one bucket's end and one of each of the 15 others.
-        (Ask::Next(34), Reply::Key { key: 49 }, Place::Read(5), 39),
-        (Ask::Add(65), Reply::Yes, Place::Commit(6), 8),
-        (Ask::Add(18), Reply::Yes, Place::Commit(7), 5),
-        (Ask::Del(17), Reply::Yes, Place::Commit(8), 6),
-    ] {
-        let (next, answer, reads) = count_reads(store, ask);
-        assert_eq!(rt; answer, GrowStep::Done { reply, place });
-        assert_eq!(rt; reads, most);
-        store = next;
-    }
+    play(&rt, open(rt.alloc(), 4096)?, &ROWS);
     Ok(())
 }

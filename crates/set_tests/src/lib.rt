@@ -12,6 +12,8 @@
 #![tactic(auto)]
 
 #[cfg(test)]
+mod asked;
+#[cfg(test)]
 mod block_scripts;
 #[cfg(test)]
 mod blocks;
@@ -27,6 +29,8 @@ mod counted;
 mod grown;
 #[cfg(test)]
 mod lists;
+#[cfg(test)]
+mod opening;
 #[cfg(test)]
 mod picks;
 #[cfg(test)]

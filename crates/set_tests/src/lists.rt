@@ -3,11 +3,13 @@ ghost use Rattle.std.specs.Prelude.{◌≡◌, ◌<◌, length, true};
 ghost use Rattle.set_script.specs.Lawful.{IsLawful};
 ghost use Rattle.list_set.specs.Filling.{IsFilled};
 
+use crate::asked::Asked::{Get, Has, Next, Size};
+use crate::asked::{Asked, Object, expect_words};
+use crate::opening::open_lists;
 use list_set::{Removed, SetStep, add_in, del_in, get_in, has_in, next_in, put_in, size_in};
-use mv_history::{AnyRules, PlainStore, Section, Store, View, Words};
-use std::test::Fail;
-
-const VACANT: [Words; 186] = [[0; 6]; 186];
+use mv_history::{Section, View};
+use std::process::Abort;
+use std::test::*;
 
 // Adds these keys, with ten times themselves as values, in nodes 180, 181 and so on.
 fn add_all<S: Section>(section: &mut S, head: u32, keys: &[u32]) -> bool
@@ -43,20 +45,24 @@ fn put_value<S: Section>(section: &mut S, head: u32, key: u32, old: u64, new: u6
     true
 }
 
-// Adds 1, 3 and 2, and gives 2 another value; then tries 3 again, and takes out 4 and 3. Whether each
-// call answers as it should.
-fn change_some<S: Section>(section: &mut S, head: u32) -> bool
+// Tries to add a key that is there. Whether it answers as it should.
+fn add_again<S: Section>(section: &mut S, head: u32, key: u32) -> bool
     requires head_in { head < 10 }
-    requires filled { IsFilled (S.section section.old) 0 }
-    ensures lawful { result ≡ true → IsLawful (S.state section.new) }
-    ensures objects { result ≡ true → length (S.state section.new) ≡ 186 }
+    requires filled { IsFilled (S.section section.old) 4 }
+    ensures { result ≡ true → IsFilled (S.section section.new) 4 }
 {
-    if !add_all(section, head, &[1, 3, 2]) || !put_value(section, head, 2, 20, 7) {
-        return false;
-    }
-    let SetStep::No = add_in(section, head, 3, 7, 184) else {
+    let SetStep::No = add_in(section, head, key, 7, 184) else {
         return false;
     };
+    true
+}
+
+// Takes out 4, which is not there, and 3, which is in this node. Whether each call answers as it should.
+fn take_out<S: Section>(section: &mut S, head: u32) -> bool
+    requires head_in { head < 10 }
+    requires filled { IsFilled (S.section section.old) 4 }
+    ensures { result ≡ true → IsLawful (S.state section.new) }
+{
     let Removed::Absent = del_in(section, head, 4) else {
         return false;
     };
@@ -70,28 +76,77 @@ fn change_some<S: Section>(section: &mut S, head: u32) -> bool
     true
 }
 
+// Adds 1, 3 and 2, and gives 2 another value; then tries 3 again, and takes out 4 and 3. Whether each
+// call answers as it should.
+fn change_some<S: Section>(section: &mut S, head: u32) -> bool
+    requires head_in { head < 10 }
+    requires filled { IsFilled (S.section section.old) 0 }
+    ensures { result ≡ true → IsLawful (S.state section.new) }
+{
+    if !add_all(section, head, &[1, 3, 2]) {
+        return false;
+    }
+    if !put_value(section, head, 2, 20, 7) {
+        return false;
+    }
+    if !add_again(section, head, 3) {
+        return false;
+    }
+    take_out(section, head)
+}
+
+// Asks one question. Whether its answer is the one that is wanted.
+fn ask<V: View>(view: &mut V, head: u32, asked: Asked) -> bool
+    requires head_in { head < 170 }
+    requires lawful { IsLawful (V.state view.old) }
+    ensures { V.as_before view.old view.new }
+{
+    match asked {
+        Has(key, found) => has_in(view, head, key) == found,
+        Get(key, value) => get_in(view, head, key) == value,
+        Next(key, next) => next_in(view, head, key) == next,
+        Size(count) => size_in(view, head) == count,
+    }
+}
+
+// Asks the questions, one after another.
+fn ask_all<V: View>(rt: &impl Abort, view: &mut V, rows: &[(u32, Asked)])
+    requires lawful { IsLawful (V.state view.old) }
+{
+    for (row, (head, asked)) in rows.iter().enumerate() {
+        assert!(rt; *head < 170);
+        assert!(rt; ask(view, *head, *asked), "row {row}");
+    }
+}
+
+const ASKED: [(u32, Asked); 9] = [
+    (1, Has(2, true)),
+    (1, Has(3, false)),
+    (1, Get(2, Some(7))),
+    (1, Get(3, None)),
+    (1, Next(0, Some(1))),
+    (1, Next(2, Some(2))),
+    (1, Next(3, None)),
+    (1, Size(2)),
+    (169, Size(0)),
+];
+
+// The head, the nodes of 1 and 2, and the one that was of 3.
+const LEFT: [Object; 4] = [
+    (1, [0, 0, 0, 180, 0, 0]),
+    (180, [2, 0, 1, 182, 0, 10]),
+    (182, [2, 0, 2, 0, 0, 7]),
+    (181, [0; 6]),
+];
+
 #[test]
 fn list_order_put_and_del(rt: HostRuntime) -> Result<(), Fail> {
-    let store = PlainStore::<AnyRules>::new(rt.alloc(), &VACANT, 0, 1)?;
-    let mut section = store.enter();
+    let mut section = open_lists(rt.alloc(), 186)?;
     if !change_some(&mut section, 1) {
         panic!(rt; "another answer");
     }
-    let head = section.read(1);
-    let nodes = [section.read(180), section.read(182), section.read(181)];
-    assert_eq!(rt; head, [0, 0, 0, 180, 0, 0]);
-    assert_eq!(rt; nodes, [[2, 0, 1, 182, 0, 10], [2, 0, 2, 0, 0, 7], [0; 6]]);
-    let has = (has_in(&mut section, 1, 2), has_in(&mut section, 1, 3));
-    let got = (get_in(&mut section, 1, 2), get_in(&mut section, 1, 3));
-    assert_eq!(rt; (has, got), ((true, false), (Some(7), None)));
-    let next = [
-        next_in(&mut section, 1, 0),
-        next_in(&mut section, 1, 2),
-        next_in(&mut section, 1, 3),
-    ];
-    assert_eq!(rt; next, [Some(1), Some(2), None]);
-    let sizes = (size_in(&mut section, 1), size_in(&mut section, 169));
-    assert_eq!(rt; sizes, (2, 0));
+    ask_all(&rt, &mut section, &ASKED);
+    expect_words(&rt, &mut section, &LEFT);
     let _store = section.abort();
     Ok(())
 }

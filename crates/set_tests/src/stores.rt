@@ -1,18 +1,32 @@
 // What the plain store does when it runs.
-ghost use Rattle.std.specs.Prelude.{◌≡◌, ◌<◌, length};
+ghost use Rattle.std.specs.Prelude.{◌≡◌, ◌<◌, ◌≤◌, length, IfOk};
+ghost use Rattle.mv_history.specs.PlainMeaning.{seat_of};
+ghost use Rattle.mv_history.specs.Calls.{GoesOn};
 
 use mv_history::{
-    AnyRules, CommitAnswer, LockAnswer, PlainStore, Room, Section, Store, View, Words,
+    AnyRules, CommitAnswer, LockAnswer, PlainSection, PlainStore, Room, Section, Store, View,
+    WORDS, Words,
 };
-use std::test::Fail;
-
-const VACANT: [Words; 182] = [[0; 6]; 182];
+use std::alloc::{AllocError, Global};
+use std::process::Abort;
+use std::test::*;
 
 #[derive(Clone, Copy, Debug, PartialEq, Eq)]
 enum Outcome {
     Done(u64),
     Refused,
     End,
+}
+
+// A store of so many objects of zeros, with room for so many commits.
+fn open(alloc: Global, count: u32, base: u64, room: u32) -> Result<PlainStore<AnyRules>, AllocError>
+    requires some { 0 < count }
+    requires few { count ≤ 65535 }
+    requires early { base < 100 }
+    ensures { IfOk result (λ store. length (seat_of store).start ≡ count) }
+{
+    let zeros = vec![in alloc; [0; WORDS]; count as usize]?;
+    PlainStore::new(alloc, &zeros, base, room)
 }
 
 // Commits one object, in any store without rules.
@@ -34,40 +48,66 @@ fn commit_one<S: Store<Rules = AnyRules>>(store: S, object: u32, words: Words) -
 
 #[test]
 fn plain_store_end(rt: HostRuntime) -> Result<(), Fail> {
-    let base = 40;
-    let store = PlainStore::<AnyRules>::new(rt.alloc(), &VACANT, base, 1)?;
+    let store = open(rt.alloc(), 182, 40, 1)?;
     let (store, first) = commit_one(store, 181, [1, 2, 3, 4, 5, 6]);
-    assert_eq!(rt; first, Outcome::Done(base + 1));
     let (store, second) = commit_one(store, 180, [7; 6]);
-    assert_eq!(rt; second, Outcome::End);
+    assert_eq!(rt; (first, second), (Outcome::Done(41), Outcome::End));
     assert_eq!(rt; store.state(181), [1, 2, 3, 4, 5, 6]);
     assert_eq!(rt; store.state(180), [0; 6]);
     Ok(())
 }
 
 #[test]
-fn an_abort_leaves_nothing(rt: HostRuntime) -> Result<(), Fail> {
-    let room = 4_294_967_295;
-    let mut store = PlainStore::<AnyRules>::new(rt.alloc(), &VACANT, 0, room)?;
+fn a_new_store_has_room(rt: HostRuntime) -> Result<(), Fail> {
+    let mut store = open(rt.alloc(), 182, 0, 4_294_967_295)?;
     assert_eq!(rt;
         (store.seat(), store.write_max(), store.prepare()),
         (0, 16, Room::Enough)
     );
-    let mut section = store.enter();
+    let section = store.enter();
     assert_eq!(rt;
         (section.at(), section.last(), section.write_max()),
-        (0, room as u64, 16)
+        (0, 4_294_967_295, 16)
     );
     assert_eq!(rt; section.objects(), 182);
+    let _store = section.leave();
+    Ok(())
+}
+
+// The words of an object.
+fn words_of<V: View>(rt: &impl Abort, view: &mut V, object: u32) -> Words
+    ensures { V.as_before view.old view.new }
+{
+    assert!(rt; object < view.objects());
+    view.read(object)
+}
+
+// Locks object 3 in a section that holds nothing, writes it, and looks at it and at the next one.
+fn write_and_look<S: Section>(rt: &impl Abort, section: &mut S)
+    ensures { GoesOn (S.section section.old) (S.section section.new) }
+{
+    assert!(rt; 3 < section.objects());
     assert_eq!(rt; section.try_lock(3), LockAnswer::Held);
-    if section.has_lock(3) {
-        section.write(3, [9; 6]);
-    }
-    assert_eq!(rt;
-        (section.read(3), section.read(4), section.held()),
-        ([9; 6], [0; 6], 1)
-    );
-    let store = section.abort();
+    assert!(rt; section.has_lock(3));
+    section.write(3, [9; 6]);
+    assert_eq!(rt; words_of(rt, section, 3), [9; 6]);
+    assert_eq!(rt; words_of(rt, section, 4), [0; 6]);
+    assert_eq!(rt; section.held(), 1);
+}
+
+// Does so in a new section, and aborts it.
+fn write_and_abort<S: Store>(rt: &impl Abort, store: S) -> S
+    ensures { (S.seat_of result).start ≡ (S.seat_of store).start }
+{
+    let mut section = store.enter();
+    write_and_look(rt, &mut section);
+    section.abort()
+}
+
+#[test]
+fn an_abort_leaves_nothing(rt: HostRuntime) -> Result<(), Fail> {
+    let store = open(rt.alloc(), 182, 0, 4_294_967_295)?;
+    let store = write_and_abort(&rt, store);
     assert_eq!(rt; store.state(3), [0; 6]);
     let section = store.enter();
     assert_eq!(rt; (section.at(), section.held()), (0, 0));
@@ -75,26 +115,41 @@ fn an_abort_leaves_nothing(rt: HostRuntime) -> Result<(), Fail> {
     Ok(())
 }
 
+// A section over one object of these words.
+fn enter_one(alloc: Global, words: Words) -> Result<PlainSection<AnyRules>, AllocError> {
+    Ok(PlainStore::new(alloc, &[words], 0, 1)?.enter())
+}
+
+// The words of object 0 from this place on, two and four.
+fn two_from<V: View>(rt: &impl Abort, view: &mut V, place: u32) -> (u64, u64)
+    requires { place < 5 }
+{
+    assert!(rt; 0 < view.objects());
+    view.read_pair(0, place)
+}
+
+fn four_from<V: View>(rt: &impl Abort, view: &mut V, place: u32) -> [u64; 4]
+    requires { place < 3 }
+{
+    assert!(rt; 0 < view.objects());
+    view.read_four(0, place)
+}
+
 #[test]
 fn a_pair_is_two_words_next_to_each_other(rt: HostRuntime) -> Result<(), Fail> {
-    let start = [[1, 2, 3, 4, 5, 6]];
-    let mut section = PlainStore::<AnyRules>::new(rt.alloc(), &start, 0, 1)?.enter();
-    let pairs = [
-        section.read_pair(0, 0),
-        section.read_pair(0, 2),
-        section.read_pair(0, 4),
-    ];
-    assert_eq!(rt; pairs, [(1, 2), (3, 4), (5, 6)]);
-    let _store = section.leave();
+    let mut section = enter_one(rt.alloc(), [1, 2, 3, 4, 5, 6])?;
+    assert_eq!(rt; two_from(&rt, &mut section, 0), (1, 2));
+    assert_eq!(rt; two_from(&rt, &mut section, 2), (3, 4));
+    assert_eq!(rt; two_from(&rt, &mut section, 4), (5, 6));
+    let _store = section.abort();
     Ok(())
 }
 
 #[test]
 fn four_words_stand_next_to_each_other(rt: HostRuntime) -> Result<(), Fail> {
-    let start = [[1, 2, 3, 4, 5, 6]];
-    let mut section = PlainStore::<AnyRules>::new(rt.alloc(), &start, 0, 1)?.enter();
-    assert_eq!(rt; section.read_four(0, 0), [1, 2, 3, 4]);
-    assert_eq!(rt; section.read_four(0, 2), [3, 4, 5, 6]);
-    let _store = section.leave();
+    let mut section = enter_one(rt.alloc(), [1, 2, 3, 4, 5, 6])?;
+    assert_eq!(rt; four_from(&rt, &mut section, 0), [1, 2, 3, 4]);
+    assert_eq!(rt; four_from(&rt, &mut section, 2), [3, 4, 5, 6]);
+    let _store = section.abort();
     Ok(())
 }

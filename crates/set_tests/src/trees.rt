@@ -3,12 +3,14 @@ ghost use Rattle.std.specs.Prelude.{◌≡◌, ◌<◌, ◌≤◌, length, true}
 ghost use Rattle.set_script.specs.Lawful.{IsLawful};
 ghost use Rattle.tree_set.specs.Filling.{IsFilled};
 
+use crate::asked::Asked::{Get, Has, Next, Size};
+use crate::asked::{Asked, Object, expect_words};
+use crate::opening::open_trees;
 use list_set::{Removed, SetStep};
-use mv_history::{AnyRules, PlainStore, Section, Store, View, Words};
-use std::test::Fail;
+use mv_history::{Section, View};
+use std::process::Abort;
+use std::test::*;
 use tree_set::{add_in, del_in, empty_in, get_in, has_in, next_in, put_in, size_in};
-
-const VACANT: [Words; 200] = [[0; 6]; 200];
 
 // Adds these keys, with ten times themselves as values, in leaves 180, 182 and so on, under inner
 // nodes 183, 185 and so on.
@@ -81,8 +83,7 @@ fn fill<S: Section>(section: &mut S, root: u32) -> bool
     requires root_from { 170 ≤ root }
     requires root_in { root < 180 }
     requires filled { IsFilled (S.section section.old) root 0 }
-    ensures lawful { result ≡ true → IsLawful (S.state section.new) }
-    ensures objects { result ≡ true → length (S.state section.new) ≡ 200 }
+    ensures { result ≡ true → IsLawful (S.state section.new) }
 {
     if !add_all(section, root, &[20, 40, 10, 30]) {
         return false;
@@ -98,8 +99,7 @@ fn thin<S: Section>(section: &mut S, root: u32) -> bool
     requires root_from { 170 ≤ root }
     requires root_in { root < 180 }
     requires filled { IsFilled (S.section section.old) root 0 }
-    ensures filled { result ≡ true → IsFilled (S.section section.new) root 4 }
-    ensures objects { result ≡ true → length (S.state section.new) ≡ 200 }
+    ensures { result ≡ true → IsFilled (S.section section.new) root 4 }
 {
     if !add_all(section, root, &[20, 40, 10, 30]) {
         return false;
@@ -115,8 +115,7 @@ fn clear<S: Section>(section: &mut S, root: u32) -> bool
     requires root_from { 170 ≤ root }
     requires root_in { root < 180 }
     requires filled { IsFilled (S.section section.old) root 0 }
-    ensures lawful { result ≡ true → IsLawful (S.state section.new) }
-    ensures objects { result ≡ true → length (S.state section.new) ≡ 200 }
+    ensures { result ≡ true → IsLawful (S.state section.new) }
 {
     if !thin(section, root) {
         return false;
@@ -127,60 +126,91 @@ fn clear<S: Section>(section: &mut S, root: u32) -> bool
     take_out(section, root, 20, 180, 0)
 }
 
+// Asks one question. Whether its answer is the one that is wanted.
+fn ask<V: View>(view: &mut V, root: u32, asked: Asked) -> bool
+    requires root_from { 170 ≤ root }
+    requires root_in { root < 180 }
+    requires lawful { IsLawful (V.state view.old) }
+    ensures { V.as_before view.old view.new }
+{
+    match asked {
+        Has(key, found) => has_in(view, root, key) == found,
+        Get(key, value) => get_in(view, root, key) == value,
+        Next(key, next) => next_in(view, root, key) == next,
+        Size(count) => size_in(view, root) == count,
+    }
+}
+
+// Asks the questions, one after another.
+fn ask_all<V: View>(rt: &impl Abort, view: &mut V, root: u32, rows: &[Asked])
+    requires root_from { 170 ≤ root }
+    requires root_in { root < 180 }
+    requires lawful { IsLawful (V.state view.old) }
+{
+    for (row, asked) in rows.iter().enumerate() {
+        assert!(rt; ask(view, root, *asked), "row {row}");
+    }
+}
+
+const ASKED: [Asked; 5] = [
+    Get(30, Some(7)),
+    Next(11, Some(20)),
+    Next(31, Some(40)),
+    Next(41, None),
+    Size(4),
+];
+
+// The root, the inner nodes, and the leaf of 30.
+const FILLED: [Object; 5] = [
+    (171, [0, 0, 0, 183, 0, 0]),
+    (183, [172, 2, 40, 185, 182, 0]),
+    (185, [172, 2, 20, 184, 187, 0]),
+    (187, [172, 2, 30, 180, 186, 0]),
+    (186, [172, 1, 30, 0, 0, 7]),
+];
+
 #[test]
 fn a_tree_of_four_keys(rt: HostRuntime) -> Result<(), Fail> {
-    let store = PlainStore::<AnyRules>::new(rt.alloc(), &VACANT, 0, 1)?;
-    let mut section = store.enter();
+    let mut section = open_trees(rt.alloc(), 200)?;
     if !fill(&mut section, 171) {
         panic!(rt; "another answer");
     }
-    let top = [section.read(171), section.read(183)];
-    let below = [section.read(185), section.read(187), section.read(186)];
-    assert_eq!(rt; top, [[0, 0, 0, 183, 0, 0], [172, 2, 40, 185, 182, 0]]);
-    assert_eq!(rt;
-        below,
-        [
-            [172, 2, 20, 184, 187, 0],
-            [172, 2, 30, 180, 186, 0],
-            [172, 1, 30, 0, 0, 7]
-        ]
-    );
-    let got = get_in(&mut section, 171, 30);
-    let next = [
-        next_in(&mut section, 171, 11),
-        next_in(&mut section, 171, 31),
-        next_in(&mut section, 171, 41),
-    ];
-    let size = size_in(&mut section, 171);
-    assert_eq!(rt; (got, next, size), (Some(7), [Some(20), Some(40), None], 4));
+    ask_all(&rt, &mut section, 171, &ASKED);
+    expect_words(&rt, &mut section, &FILLED);
     let _store = section.abort();
     Ok(())
 }
+
+// The root, the inner node that is left, and the nodes of 30.
+const THIN: [Object; 4] = [
+    (171, [0, 0, 0, 185, 0, 0]),
+    (185, [172, 2, 20, 184, 180, 0]),
+    (187, [0; 6]),
+    (186, [0; 6]),
+];
 
 #[test]
 fn a_sibling_moves_up(rt: HostRuntime) -> Result<(), Fail> {
-    let store = PlainStore::<AnyRules>::new(rt.alloc(), &VACANT, 0, 1)?;
-    let mut section = store.enter();
+    let mut section = open_trees(rt.alloc(), 200)?;
     if !thin(&mut section, 171) {
         panic!(rt; "another answer");
     }
-    let top = [section.read(171), section.read(185)];
-    let gone = [section.read(187), section.read(186)];
-    assert_eq!(rt; top, [[0, 0, 0, 185, 0, 0], [172, 2, 20, 184, 180, 0]]);
-    assert_eq!(rt; gone, [[0; 6]; 2]);
+    expect_words(&rt, &mut section, &THIN);
     let _store = section.abort();
     Ok(())
 }
 
+// The root, and the leaf of the last key.
+const EMPTIED: [Object; 2] = [(171, [0; 6]), (180, [0; 6])];
+
 #[test]
 fn a_tree_is_emptied(rt: HostRuntime) -> Result<(), Fail> {
-    let store = PlainStore::<AnyRules>::new(rt.alloc(), &VACANT, 0, 1)?;
-    let mut section = store.enter();
+    let mut section = open_trees(rt.alloc(), 200)?;
     if !clear(&mut section, 171) {
         panic!(rt; "another answer");
     }
-    assert_eq!(rt; [section.read(171), section.read(180)], [[0; 6]; 2]);
     assert!(rt; empty_in(&mut section, 171));
+    expect_words(&rt, &mut section, &EMPTIED);
     let _store = section.abort();
     Ok(())
 }

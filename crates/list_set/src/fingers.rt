@@ -1,5 +1,5 @@
 // Searches that begin at a node where an earlier one ended.
-ghost use Rattle.std.specs.Prelude.{◌≡◌, ◌<◌, ◌≤◌, length, IfSome};
+ghost use Rattle.std.specs.Prelude.{◌≡◌, ◌<◌, IfSome};
 ghost use Rattle.set_script.specs.Catalogue.{next_key};
 ghost use Rattle.set_script.specs.CatalogueOf.{map_at};
 ghost use Rattle.set_script.specs.Lawful.{IsLawful};

@@ -53,12 +53,3 @@ loop-workers-preserved g c =
       place = omega (arith, stores, long, now.place, c.push_reserved.ensures.capacity);
       room = omega (arith, parts, long, now.room, c.push_reserved-in-loop-workers.ensures.capacity);
     }
-
-pub loop-workers-init : goal.loop-workers-init
-loop-workers-init g c = let h = c in ?
-
-pub returns : goal.returns
-returns g c = let h = c in ?
-
-pub push_reserved-requires : goal.push_reserved-requires
-push_reserved-requires g c = let h = c in ?

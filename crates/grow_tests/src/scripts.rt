@@ -1,7 +1,7 @@
 // Scripts of a growing hash set that are accepted, and ones that are refused, with their line and their fault.
 use grow_script::parse_grow;
 use set_script::{Command, FaultKind, MOST_COMMANDS, Name, ScriptFault};
-use std::alloc::Global;
+use std::alloc::{AllocError, Global};
 use std::process::Abort;
 use std::test::*;
 
@@ -14,11 +14,12 @@ fn parsed(rt: &impl Abort, alloc: Global, text: &[u8]) -> Result<Vec<Command>, S
     parse_grow(alloc, text)
 }
 
+const FIVE: &[u8] =
+    b" # a set that grows\n\nformat 1\r\nadd h0 0\n\tdel h0 1 # gone\nhas h0 4294967295\nsize h0\nnext h0 007";
+
 #[test]
-fn the_five_commands_are_read(rt: HostRuntime) {
-    let name = Name::new(10).expect(&rt, "the name h0");
-    let text =
-        b" # a set that grows\n\nformat 1\r\nadd h0 0\n\tdel h0 1 # gone\nhas h0 4294967295\nsize h0\nnext h0 007";
+fn the_five_commands_are_read(rt: HostRuntime) -> Result<(), Fail> {
+    let name = Name::new(10).ok_or("the name h0")?;
     let commands = [
         Command::Add { name, key: 0 },
         Command::Del { name, key: 1 },
@@ -29,65 +30,74 @@ fn the_five_commands_are_read(rt: HostRuntime) {
         Command::Size { name },
         Command::Next { name, key: 7 },
     ];
-    let answer = parsed(&rt, rt.alloc(), text).ok().expect(&rt, "a script");
-    assert_eq!(&rt; answer.as_slice(), commands.as_slice());
+    let answer = parsed(&rt, rt.alloc(), FIVE).ok().ok_or("a script")?;
+    assert_eq!(rt; answer.as_slice(), commands.as_slice());
     let none = parsed(&rt, rt.alloc(), b"# nothing\n")
         .ok()
-        .expect(&rt, "a script");
-    assert!(&rt; none.is_empty());
+        .ok_or("a script")?;
+    assert!(rt; none.is_empty());
+    Ok(())
+}
+
+const BROKEN: [Broken; 24] = [
+    // list-name-in-grow
+    (b"add l0 1", 1, FaultKind::Name),
+    (b"add h0 1\nadd h1 2", 2, FaultKind::Name),
+    (b"size t0", 1, FaultKind::Name),
+    (b"add H0 1", 1, FaultKind::Name),
+    (b"add h00 1", 1, FaultKind::Name),
+    // a name is refused ahead of a key, and behind the number of words
+    (b"add l0 x", 1, FaultKind::Name),
+    (b"add h0 x", 1, FaultKind::Key),
+    (b"del h0 4294967296", 1, FaultKind::Key),
+    (b"add l0", 1, FaultKind::Count),
+    (b"add l0 1 2", 1, FaultKind::Count),
+    (b"size", 1, FaultKind::Count),
+    // commands of other scripts
+    (b"move h0 h0 1", 1, FaultKind::Word),
+    (b"move", 1, FaultKind::Word),
+    (b"pair h0 h0 1", 1, FaultKind::Word),
+    (b"put h0 1 2", 1, FaultKind::Word),
+    (b"get h0 1", 1, FaultKind::Word),
+    (b"begin", 1, FaultKind::Word),
+    (b"ADD h0 1", 1, FaultKind::Word),
+    // formats
+    (b"format 2", 1, FaultKind::Format),
+    (b"\nformat 3\nadd h0 1", 2, FaultKind::Format),
+    (b"format x", 1, FaultKind::Format),
+    (b"format", 1, FaultKind::Count),
+    (b"format 1 1", 1, FaultKind::Count),
+    (b"format 1\nformat 1", 2, FaultKind::Word),
+];
+
+// Looks that the text has its first fault on this line.
+fn refuses(rt: &impl Abort, alloc: Global, text: &[u8], line: u32, kind: FaultKind) {
+    let fault = parsed(rt, alloc, text).err().expect(rt, "a fault");
+    assert_eq!(rt; fault, ScriptFault::At { line, kind }, "of {text:?}");
 }
 
 #[test]
 fn faults_come_in_the_order_of_the_grammar(rt: HostRuntime) {
-    let rows: [Broken; 24] = [
-        // list-name-in-grow
-        (b"add l0 1", 1, FaultKind::Name),
-        (b"add h0 1\nadd h1 2", 2, FaultKind::Name),
-        (b"size t0", 1, FaultKind::Name),
-        (b"add H0 1", 1, FaultKind::Name),
-        (b"add h00 1", 1, FaultKind::Name),
-        // a name is refused ahead of a key, and behind the number of words
-        (b"add l0 x", 1, FaultKind::Name),
-        (b"add h0 x", 1, FaultKind::Key),
-        (b"del h0 4294967296", 1, FaultKind::Key),
-        (b"add l0", 1, FaultKind::Count),
-        (b"add l0 1 2", 1, FaultKind::Count),
-        (b"size", 1, FaultKind::Count),
-        // commands of other scripts
-        (b"move h0 h0 1", 1, FaultKind::Word),
-        (b"move", 1, FaultKind::Word),
-        (b"pair h0 h0 1", 1, FaultKind::Word),
-        (b"put h0 1 2", 1, FaultKind::Word),
-        (b"get h0 1", 1, FaultKind::Word),
-        (b"begin", 1, FaultKind::Word),
-        (b"ADD h0 1", 1, FaultKind::Word),
-        // formats
-        (b"format 2", 1, FaultKind::Format),
-        (b"\nformat 3\nadd h0 1", 2, FaultKind::Format),
-        (b"format x", 1, FaultKind::Format),
-        (b"format", 1, FaultKind::Count),
-        (b"format 1 1", 1, FaultKind::Count),
-        (b"format 1\nformat 1", 2, FaultKind::Word),
-    ];
-    for (text, line, kind) in rows {
-        let fault = parsed(&rt, rt.alloc(), text).err().expect(&rt, "a fault");
-        assert_eq!(&rt; fault, ScriptFault::At { line, kind }, "of {text:?}");
+    for (text, line, kind) in &BROKEN {
+        refuses(&rt, rt.alloc(), text, *line, *kind);
     }
 }
 
-#[test]
-fn as_many_commands_as_in_a_script(rt: HostRuntime) {
-    let mut text = Vec::new(rt.alloc());
+// As many commands as a script may have.
+fn most_commands(alloc: Global) -> Result<Vec<u8>, AllocError> {
+    let mut text = Vec::new(alloc);
     for _ in 0..MOST_COMMANDS {
-        text.extend_from_slice(b"size h0\n").expect(&rt, "memory");
+        text.extend_from_slice(b"size h0\n")?;
     }
-    let most = parsed(&rt, rt.alloc(), &text).ok().expect(&rt, "a script");
-    assert_eq!(&rt; most.len(), MOST_COMMANDS);
-    text.extend_from_slice(b"has h0 1").expect(&rt, "memory");
-    let fault = parsed(&rt, rt.alloc(), &text).err().expect(&rt, "a fault");
-    let want = ScriptFault::At {
-        line: 65_537,
-        kind: FaultKind::Many,
-    };
-    assert_eq!(&rt; fault, want);
+    Ok(text)
+}
+
+#[test]
+fn as_many_commands_as_in_a_script(rt: HostRuntime) -> Result<(), Fail> {
+    let mut text = most_commands(rt.alloc())?;
+    let most = parsed(&rt, rt.alloc(), &text).ok().ok_or("a script")?;
+    assert_eq!(rt; most.len(), MOST_COMMANDS);
+    text.extend_from_slice(b"has h0 1")?;
+    refuses(&rt, rt.alloc(), &text, 65_537, FaultKind::Many);
+    Ok(())
 }

@@ -3,7 +3,7 @@ ghost use Rattle.std.specs.Prelude.{◌≡◌, ◌≢◌, ◌<◌, IfOk, length}
 ghost use Rattle.mv_history.specs.PlainMeaning.{seat_of};
 
 use accounts::{Accounts, Attempt, Moved, Sums, make_transfers, opening, read_sums, sum, transfer};
-use mv_history::{PlainStore, Words};
+use mv_history::PlainStore;
 use std::alloc::{AllocError, Global};
 use std::test::Fail;
 
@@ -34,50 +34,22 @@ fn attempt(
     transfer(store, from, to, amount)
 }
 
-// What four attempts in turn are answered: a transfer, one of more than the account then has, one of all
-// that it has, and one after as many commits as there is room for.
-fn four_attempts(store: PlainStore<Accounts>) -> (PlainStore<Accounts>, [Attempt; 4])
-    requires objects { length (seat_of store).start ≡ 8 }
-    requires write_max { (seat_of store).write_max ≡ 16 }
-    ensures objects { length (seat_of result.0).start ≡ 8 }
-{
-    let (store, done) = attempt(store, 0, 1, 30);
-    let (store, short) = attempt(store, 0, 1, 71);
-    let (store, whole) = attempt(store, 1, 7, 130);
-    let (store, end) = attempt(store, 2, 3, 1);
-    (store, [done, short, whole, end])
-}
-
-// The words of accounts 0, 1, 2 and 7.
-fn states(store: &PlainStore<Accounts>) -> [Words; 4]
-    requires objects { length (seat_of store.now).start ≡ 8 }
-{
-    [
-        store.state(0),
-        store.state(1),
-        store.state(2),
-        store.state(7),
-    ]
-}
-
 #[test]
 fn each_answer_of_an_attempt(rt: HostRuntime) -> Result<(), Fail> {
-    let (store, answers) = four_attempts(open(rt.alloc(), 2)?);
+    let store = open(rt.alloc(), 2)?;
+    let (store, done) = attempt(store, 0, 1, 30);
+    assert_eq!(rt; done, Attempt::Done { time: 41 });
+    let (store, short) = attempt(store, 0, 1, 71);
     let (time, balance) = (41, 70);
-    let wanted = [
-        Attempt::Done { time: 41 },
-        Attempt::Short { time, balance },
-        Attempt::Done { time: 42 },
-        Attempt::End,
-    ];
-    assert_eq!(rt; answers, wanted);
-    let left = [
-        [70, 0, 0, 0, 0, 0],
-        [0; 6],
-        [100, 0, 0, 0, 0, 0],
-        [230, 0, 0, 0, 0, 0],
-    ];
-    assert_eq!(rt; states(&store), left, "accounts 0, 1, 2 and 7");
+    assert_eq!(rt; short, Attempt::Short { time, balance });
+    let (store, whole) = attempt(store, 1, 7, 130);
+    assert_eq!(rt; whole, Attempt::Done { time: 42 });
+    let (store, end) = attempt(store, 2, 3, 1);
+    assert_eq!(rt; end, Attempt::End);
+    assert_eq!(rt; store.state(0), [70, 0, 0, 0, 0, 0]);
+    assert_eq!(rt; store.state(1), [0; 6]);
+    assert_eq!(rt; store.state(2), [100, 0, 0, 0, 0, 0]);
+    assert_eq!(rt; store.state(7), [230, 0, 0, 0, 0, 0]);
     let (_store, sum) = sum(store);
     assert_eq!(rt; sum, 800);
     Ok(())

@@ -3,7 +3,8 @@ use mv_history::LogTable;
 use run_report::{Line, order, render, summary};
 use set_script::{Catalogue, Place, Reply};
 use std::alloc::{AllocError, Global};
-use std::test::Fail;
+use std::process::Abort;
+use std::test::*;
 
 const NO_TABLE: LogTable = LogTable {
     live: 0,
@@ -30,6 +31,34 @@ fn lines_of(alloc: Global, rows: &[Row]) -> Result<Vec<Line>, AllocError> {
     Ok(lines)
 }
 
+// A set, a key, and its value.
+type Key = (u32, u32, u64);
+
+fn end_of(rt: &impl Abort, alloc: Global, keys: &[Key]) -> Result<Catalogue, AllocError> {
+    let mut end = Catalogue::new(alloc)?;
+    for (name, key, value) in keys {
+        assert!(rt; *name < 30);
+        end.insert(*name, *key, *value)?;
+    }
+    Ok(end)
+}
+
+// Looks that a run of these lines, keys at its end and tables has this text.
+fn prints(
+    rt: &impl Abort,
+    alloc: Global,
+    rows: &[Row],
+    keys: &[Key],
+    tables: &[LogTable],
+    text: &[u8],
+) -> Result<(), AllocError> {
+    let lines = lines_of(alloc, rows)?;
+    let end = end_of(rt, alloc, keys)?;
+    let found = render(alloc, &lines, &end, tables)?;
+    assert_eq!(rt; found.as_slice(), text);
+    Ok(())
+}
+
 const TABLE_OF_ONE: LogTable = LogTable {
     live: 2,
     commits: 1,
@@ -41,33 +70,25 @@ const TWO: [Row; 2] = [
     (0, 2, Place::Read(1), Reply::Yes),
 ];
 
+const FIVE: [Key; 1] = [(0, 5, 0)];
+
+const WITHOUT_LOG: &[u8] = b"0.1 c1 yes\n0.2 r1 yes\nl0 5\n";
+
+const WITH_LOG: &[u8] =
+    b"0.1 c1 yes\n0.2 r1 yes\nl0 5\nlog 0 live 2 freed 0 back 0 commits 1 aborts 0 rests 0\n";
+
 #[test]
 fn add_then_has(rt: HostRuntime) -> Result<(), Fail> {
-    let lines = lines_of(rt.alloc(), &TWO)?;
-    let mut end = Catalogue::new(rt.alloc())?;
-    end.insert(0, 5, 0)?;
-    let without_log = render(rt.alloc(), &lines, &end, &[])?;
-    assert_eq!(rt;
-        without_log.as_slice(),
-        b"0.1 c1 yes\n0.2 r1 yes\nl0 5\n".as_slice()
-    );
-    let text = render(rt.alloc(), &lines, &end, &[TABLE_OF_ONE])?;
-    assert_eq!(rt;
-        text.as_slice(),
-        b"0.1 c1 yes\n0.2 r1 yes\nl0 5\nlog 0 live 2 freed 0 back 0 commits 1 aborts 0 rests 0\n".as_slice()
-    );
+    prints(&rt, rt.alloc(), &TWO, &FIVE, &[], WITHOUT_LOG)?;
+    prints(&rt, rt.alloc(), &TWO, &FIVE, &[TABLE_OF_ONE], WITH_LOG)?;
     Ok(())
 }
 
+const EMPTY: &[u8] = b"log 0 live 0 freed 0 back 0 commits 0 aborts 0 rests 0\n";
+
 #[test]
 fn empty_file(rt: HostRuntime) -> Result<(), Fail> {
-    let end = Catalogue::new(rt.alloc())?;
-    let text = render(rt.alloc(), &[], &end, &[NO_TABLE])?;
-    assert_eq!(rt;
-        text.as_slice(),
-        b"log 0 live 0 freed 0 back 0 commits 0 aborts 0 rests 0\n".as_slice()
-    );
-    Ok(())
+    Ok(prints(&rt, rt.alloc(), &[], &[], &[NO_TABLE], EMPTY)?)
 }
 
 const UNCHANGED: [Row; 3] = [
@@ -76,25 +97,20 @@ const UNCHANGED: [Row; 3] = [
     (0, 2, Place::Read(0), Reply::No),
 ];
 
+const OF_EACH_KIND: [Key; 5] = [
+    (29, 4294967295, 18446744073709551615),
+    (20, 7, 0),
+    (19, 1, 1),
+    (9, 3, 0),
+    (9, 2, 10),
+];
+
+const IN_ORDER: &[u8] =
+    b"63.65536 r35184372088831 worn\n0.1 r0 full\n0.2 r0 no\nl9 2=10 3\nh9 1=1\nt0 7\nt9 4294967295=18446744073709551615\n";
+
 #[test]
 fn sets_stand_in_the_order_of_their_names(rt: HostRuntime) -> Result<(), Fail> {
-    let mut end = Catalogue::new(rt.alloc())?;
-    for (name, key, value) in [
-        (29, 4294967295, 18446744073709551615),
-        (20, 7, 0),
-        (19, 1, 1),
-        (9, 3, 0),
-        (9, 2, 10),
-    ] {
-        end.insert(name, key, value)?;
-    }
-    let lines = lines_of(rt.alloc(), &UNCHANGED)?;
-    let text = render(rt.alloc(), &lines, &end, &[])?;
-    assert_eq!(rt;
-        text.as_slice(),
-        b"63.65536 r35184372088831 worn\n0.1 r0 full\n0.2 r0 no\nl9 2=10 3\nh9 1=1\nt0 7\nt9 4294967295=18446744073709551615\n".as_slice()
-    );
-    Ok(())
+    Ok(prints(&rt, rt.alloc(), &UNCHANGED, &OF_EACH_KIND, &[], IN_ORDER)?)
 }
 
 const ORDERED: [Row; 6] = [
@@ -106,17 +122,22 @@ const ORDERED: [Row; 6] = [
     (0, 3, Place::Commit(2), Reply::Yes),
 ];
 
+// The same lines.
+const SHUFFLED: [Row; 6] = [
+    (0, 3, Place::Commit(2), Reply::Yes),
+    (0, 1, Place::Read(1), Reply::Yes),
+    (0, 2, Place::Read(1), Reply::No),
+    (2, 1, Place::Read(1), Reply::No),
+    (1, 2, Place::Commit(1), Reply::Yes),
+    (1, 1, Place::Read(0), Reply::No),
+];
+
 #[test]
 fn lines_stand_by_time_and_commits_before_reads(rt: HostRuntime) -> Result<(), Fail> {
-    let expected = lines_of(rt.alloc(), &ORDERED)?;
-    let mut lines = expected.clone()?;
-    assert!(rt; lines.len() == 6);
-    lines.swap(0, 5);
-    lines.swap(1, 4);
-    lines.swap(2, 3);
-    lines.swap(1, 3);
+    let mut lines = lines_of(rt.alloc(), &SHUFFLED)?;
     order(&mut lines);
-    assert_eq!(rt; lines.as_slice(), expected.as_slice());
+    let ordered = lines_of(rt.alloc(), &ORDERED)?;
+    assert_eq!(rt; lines.as_slice(), ordered.as_slice());
     Ok(())
 }
 
@@ -167,12 +188,10 @@ const REPLIES: [(Reply, &str); 13] = [
 
 #[test]
 fn every_reply_is_printed(rt: HostRuntime) -> Result<(), Fail> {
-    let end = Catalogue::new(rt.alloc())?;
     for (reply, word) in &REPLIES {
-        let lines = lines_of(rt.alloc(), &[(0, 1, Place::Read(2), *reply)])?;
-        let text = render(rt.alloc(), &lines, &end, &[])?;
         let want = format!(in rt.alloc(); "0.1 r2 {word}\n")?;
-        assert_eq!(rt; text.as_slice(), want.as_bytes());
+        let row = (0, 1, Place::Read(2), *reply);
+        prints(&rt, rt.alloc(), &[row], &[], &[], want.as_bytes())?;
     }
     Ok(())
 }
@@ -193,17 +212,22 @@ const VALUES: [Row; 7] = [
     (0, 7, Place::Read(3), Reply::NoKey),
 ];
 
+const WITH_VALUE: [Key; 2] = [(0, 6, 0), (20, 5, 7)];
+
+const VALUES_TEXT: &[u8] =
+    b"0.1 c1 yes\n0.2 r1 no\n0.3 r1 7\n0.4 c2 yes\n0.5 c3 yes\n0.6 r3 7\n0.7 r3 none\n\
+    l0 6\nt0 5=7\nlog 0 live 7 freed 0 back 0 commits 3 aborts 0 rests 0\n";
+
 #[test]
 fn values_follow_their_keys(rt: HostRuntime) -> Result<(), Fail> {
-    let lines = lines_of(rt.alloc(), &VALUES)?;
-    let mut end = Catalogue::new(rt.alloc())?;
-    end.insert(0, 6, 0)?;
-    end.insert(20, 5, 7)?;
-    let text = render(rt.alloc(), &lines, &end, &[TABLE_OF_THREE])?;
-    let lines = b"0.1 c1 yes\n0.2 r1 no\n0.3 r1 7\n0.4 c2 yes\n0.5 c3 yes\n0.6 r3 7\n0.7 r3 none\n";
-    let ends = b"l0 6\nt0 5=7\nlog 0 live 7 freed 0 back 0 commits 3 aborts 0 rests 0\n";
-    assert!(rt; text.starts_with(lines));
-    assert_eq!(rt; &text[lines.len()..], ends.as_slice());
+    prints(
+        &rt,
+        rt.alloc(),
+        &VALUES,
+        &WITH_VALUE,
+        &[TABLE_OF_THREE],
+        VALUES_TEXT,
+    )?;
     Ok(())
 }
 
@@ -230,22 +254,44 @@ const COUNTED: [Row; 12] = [
     (3, 5, Place::Read(2), Reply::NoKey),
 ];
 
+const COUNTED_KEYS: [Key; 5] = [
+    (29, 3, 0),
+    (9, 7, 0),
+    (9, 2, 0),
+    (10, 5, 0),
+    (9, 4294967295, 0),
+];
+
+const COUNTED_TEXT: &[u8] =
+    b"work 18446744073709551615\nyes 3\nno 4\nworn 1\ncommits 2\nl9 3\nh0 1\nt9 1\n";
+
+// Looks that the work of this number, of these lines and keys at its end, has this summary.
+fn sums(
+    rt: &impl Abort,
+    alloc: Global,
+    number: u64,
+    rows: &[Row],
+    keys: &[Key],
+    text: &[u8],
+) -> Result<(), AllocError> {
+    let lines = lines_of(alloc, rows)?;
+    let end = end_of(rt, alloc, keys)?;
+    let found = summary(alloc, number, &lines, &end)?;
+    assert_eq!(rt; found.as_slice(), text);
+    Ok(())
+}
+
 #[test]
 fn replies_and_commits_are_counted(rt: HostRuntime) -> Result<(), Fail> {
-    let lines = lines_of(rt.alloc(), &COUNTED)?;
-    let mut end = Catalogue::new(rt.alloc())?;
-    for (name, key) in [(29, 3), (9, 7), (9, 2), (10, 5), (9, 4294967295)] {
-        end.insert(name, key, 0)?;
-    }
-    let text = summary(rt.alloc(), 18446744073709551615, &lines, &end)?;
-    assert_eq!(rt;
-        text.as_slice(),
-        b"work 18446744073709551615\nyes 3\nno 4\nworn 1\ncommits 2\nl9 3\nh0 1\nt9 1\n".as_slice()
-    );
-    let none = summary(rt.alloc(), 0, &[], &Catalogue::new(rt.alloc())?)?;
-    assert_eq!(rt;
-        none.as_slice(),
-        b"work 0\nyes 0\nno 0\nworn 0\ncommits 0\n".as_slice()
-    );
+    sums(
+        &rt,
+        rt.alloc(),
+        18446744073709551615,
+        &COUNTED,
+        &COUNTED_KEYS,
+        COUNTED_TEXT,
+    )?;
+    let none = b"work 0\nyes 0\nno 0\nworn 0\ncommits 0\n";
+    sums(&rt, rt.alloc(), 0, &[], &[], none)?;
     Ok(())
 }

@@ -86,44 +86,28 @@ fn first_rests<L: Ledger>(
     Ok(two_rests(&shared, &mut one, &mut other, &mut steps))
 }
 
-// The same, where it begins at 0, at 1, before the last time and at the last time.
-fn rests_from_each(alloc: Global) -> Result<[Option<(Named, Named)>; 4], AllocError> {
-    Ok([
-        first_rests::<Brand>(alloc, 0, Blank::new(1))?,
-        first_rests::<Brand>(alloc, 1, Blank::new(1))?,
-        first_rests::<Brand>(alloc, LAST - 1, Blank::new(1))?,
-        first_rests::<Brand>(alloc, LAST, Blank::new(1))?,
-    ])
-}
-
-// The first rest has this time, and the second one is lost to it.
-fn lost_at(time: u64) -> Option<(Named, Named)> {
-    Some((Named::Done(time), Named::Lost(Rival { seat: 1, time })))
-}
-
 #[test]
 fn the_second_rest_is_lost_to_the_first(rt: HostRuntime) -> Result<(), Fail> {
-    let wanted = [lost_at(1), lost_at(2), lost_at(LAST), None];
-    assert_eq!(rt; rests_from_each(rt.alloc())?, wanted);
+    for base in [0, 1, LAST - 1] {
+        let answers = first_rests::<Brand>(rt.alloc(), base, Blank::new(1))?;
+        let rival = Rival {
+            seat: 1,
+            time: base + 1,
+        };
+        let rests = (Named::Done(base + 1), Named::Lost(rival));
+        assert_eq!(rt; answers, Some(rests), "base {base}");
+    }
+    let worn = first_rests::<Brand>(rt.alloc(), LAST, Blank::new(1))?;
+    assert_eq!(rt; worn, None);
     Ok(())
-}
-
-// The first clock of domains that begin at 0, at 1 and at the last time.
-fn clocks_from_each(alloc: Global) -> Result<[(u64, Option<u64>); 3], AllocError> {
-    Ok([
-        first_clock::<Brand>(alloc, 0, Blank::new(1))?,
-        first_clock::<Brand>(alloc, 1, Blank::new(1))?,
-        first_clock::<Brand>(alloc, LAST, Blank::new(1))?,
-    ])
 }
 
 #[test]
 fn a_new_clock_names_no_commit(rt: HostRuntime) -> Result<(), Fail> {
-    let wanted = [
-        (8191, None),
-        (532_479, None),
-        (18_446_744_073_709_035_519, None),
-    ];
-    assert_eq!(rt; clocks_from_each(rt.alloc())?, wanted);
+    let rows = [(0, 8191), (1, 532_479), (LAST, 18_446_744_073_709_035_519)];
+    for (base, word) in rows {
+        let found = first_clock::<Brand>(rt.alloc(), base, Blank::new(1))?;
+        assert_eq!(rt; found, (word, None), "base {base}");
+    }
     Ok(())
 }

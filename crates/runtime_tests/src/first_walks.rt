@@ -167,18 +167,12 @@ fn first_reads<L: Ledger>(
     Ok(read_all_ways(&shared, &mut passes[0], &mut steps))
 }
 
-// The same, where it begins at 0 and at the last time.
-fn reads_from_each(alloc: Global) -> Result<[Option<Reads>; 2], AllocError> {
-    Ok([
-        first_reads::<Brand>(alloc, 0, Blank::new(1))?,
-        first_reads::<Brand>(alloc, LAST, Blank::new(1))?,
-    ])
-}
-
 #[test]
 fn first_read_steps(rt: HostRuntime) -> Result<(), Fail> {
     let opening = [9, 8, 7, 6, 5, 0];
-    let wanted = Some((opening, opening, (7, 6), [7, 6, 5, 0]));
-    assert_eq!(rt; reads_from_each(rt.alloc())?, [wanted, wanted]);
+    for base in [0, LAST] {
+        let words = first_reads::<Brand>(rt.alloc(), base, Blank::new(1))?;
+        assert_eq!(rt; words, Some((opening, opening, (7, 6), [7, 6, 5, 0])));
+    }
     Ok(())
 }

@@ -179,24 +179,12 @@ fn reads<L: Ledger>(
     Ok((turns, overlap))
 }
 
-// The same of domains that begin at 0, at 3 and at the last time.
-fn reads_from_each(alloc: Global) -> Result<[([Reading; 4], [Reading; 2]); 3], AllocError> {
-    Ok([
-        reads::<Brand>(alloc, 0, Blank::new(1))?,
-        reads::<Brand>(alloc, 3, Blank::new(1))?,
-        reads::<Brand>(alloc, LAST, Blank::new(1))?,
-    ])
-}
-
-// All sections have this time, and read the opening words.
-fn all_at(time: u64) -> ([Reading; 4], [Reading; 2]) {
-    let reading = (time, Some(OPENING));
-    ([reading; 4], [reading; 2])
-}
-
 #[test]
 fn sections_read_the_opening_words(rt: HostRuntime) -> Result<(), Fail> {
-    let wanted = [all_at(0), all_at(3), all_at(LAST)];
-    assert_eq!(rt; reads_from_each(rt.alloc())?, wanted);
+    for base in [0, 3, LAST] {
+        let (turns, overlap) = reads::<Brand>(rt.alloc(), base, Blank::new(1))?;
+        assert_eq!(rt; turns, [(base, Some(OPENING)); 4], "base {base}");
+        assert_eq!(rt; overlap, [(base, Some(OPENING)); 2], "base {base}");
+    }
     Ok(())
 }

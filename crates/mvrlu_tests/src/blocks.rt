@@ -1,7 +1,6 @@
 // Scripts of blocks: the text that they give, and what is no script of blocks.
-use crate::row::{PLAIN, Printed, REFUSED, Row, named, owned, print, run_row, run_rows};
+use crate::row::{PLAIN, REFUSED, Row, expect_print, run_row, run_rows};
 use mvrlu_run::Closed;
-use run_outside::OpenGate;
 use std::test::Fail;
 
 // A run of a script of blocks.
@@ -136,40 +135,34 @@ fn what_is_no_script_of_blocks_is_refused(rt: HostRuntime) -> Result<(), Fail> {
 
 #[test]
 fn the_second_file_of_blocks_is_read_too(rt: HostRuntime) -> Result<(), Fail> {
-    let alloc = rt.alloc();
-    let words = owned(alloc, &["block", "a", "b"])?;
-    let mut texts = Vec::new(alloc);
-    texts.push(named(alloc, "a", b"begin\nadd h0 1\nadd t0 1\nend\n")?)?;
-    let Printed {
-        status,
-        closed: _,
-        out,
-        err,
-    } = print(&rt, alloc, &words, texts, &OpenGate)?;
-    assert_eq!(rt; status, 5);
-    assert_eq!(rt; out.bytes(), b"".as_slice());
-    assert_eq!(rt; err.bytes(), b"read fault: script 1\n".as_slice());
+    let _closed = expect_print(
+        &rt,
+        rt.alloc(),
+        &["block", "a", "b"],
+        &[("a", b"begin\nadd h0 1\nadd t0 1\nend\n")],
+        5,
+        b"",
+        b"read fault: script 1\n",
+    )?;
     Ok(())
 }
 
+// What two seats print, of which one has no blocks.
+const TWO_SEATS: &[u8] =
+    b"0.1 c1 yes\n0.2 c1 yes\nh0 1\nt0 1\nlog 0 live 4 freed 0 back 0 commits 1 aborts 0 rests 0\n\
+    log 1 live 0 freed 0 back 0 commits 0 aborts 0 rests 0\n";
+
 #[test]
 fn two_seats_leave_the_domain_of_their_blocks(rt: HostRuntime) -> Result<(), Fail> {
-    let alloc = rt.alloc();
-    let words = owned(alloc, &["block", "a", "b"])?;
-    let mut texts = Vec::new(alloc);
-    texts.push(named(alloc, "a", b"begin\nadd h0 1\nadd t0 1\nend\n")?)?;
-    texts.push(named(alloc, "b", b"")?)?;
-    let Printed {
-        status,
-        closed,
-        out,
-        err: _,
-    } = print(&rt, alloc, &words, texts, &OpenGate)?;
-    assert_eq!(rt; status, 0);
+    let closed = expect_print(
+        &rt,
+        rt.alloc(),
+        &["block", "a", "b"],
+        &[("a", b"begin\nadd h0 1\nadd t0 1\nend\n"), ("b", b"")],
+        0,
+        TWO_SEATS,
+        b"",
+    )?;
     assert!(rt; matches!(&closed, Closed::Blocks(_)));
-    let text =
-        b"0.1 c1 yes\n0.2 c1 yes\nh0 1\nt0 1\nlog 0 live 4 freed 0 back 0 commits 1 aborts 0 rests 0\n\
-        log 1 live 0 freed 0 back 0 commits 0 aborts 0 rests 0\n";
-    assert_eq!(rt; out.bytes(), text.as_slice());
     Ok(())
 }

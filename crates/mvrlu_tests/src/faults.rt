@@ -1,6 +1,5 @@
 // What fails outside, and what is wrong with a script.
-use crate::row::{PLAIN, Printed, REFUSED, Row, named, owned, print, run_row, run_rows};
-use run_outside::OpenGate;
+use crate::row::{PLAIN, REFUSED, Row, Text, expect_print, run_row, run_rows};
 use std::test::Fail;
 
 // A run of a file that isn't there.
@@ -46,25 +45,18 @@ fn each_failing_call_has_its_status(rt: HostRuntime) -> Result<(), Fail> {
 
 const FIRST_FAULT: &[u8] = b"script 1 line 2: bad key\n";
 
+const FAULTY: [Text<'static>; 3] = [
+    ("good", b"add h0 5\n"),
+    ("key", b"has h0 5\nadd h0 x\n"),
+    ("word", b"sub h0 5\n"),
+];
+
 // Of a good script, two faulty ones and a name with no text, the first faulty one is told.
 #[test]
 fn the_first_faulty_file_is_told(rt: HostRuntime) -> Result<(), Fail> {
-    let alloc = rt.alloc();
     for run in ["run", "block", "grow"] {
-        let words = owned(alloc, &[run, "good", "key", "word", "none"])?;
-        let mut texts = Vec::new(alloc);
-        texts.push(named(alloc, "good", b"add h0 5\n")?)?;
-        texts.push(named(alloc, "key", b"has h0 5\nadd h0 x\n")?)?;
-        texts.push(named(alloc, "word", b"sub h0 5\n")?)?;
-        let Printed {
-            status,
-            closed: _,
-            out,
-            err,
-        } = print(&rt, alloc, &words, texts, &OpenGate)?;
-        assert_eq!(&rt; status, 3, "status of {run}");
-        assert_eq!(&rt; err.bytes(), FIRST_FAULT, "error of {run}");
-        assert!(&rt; out.bytes().is_empty());
+        let words = [run, "good", "key", "word", "none"];
+        let _closed = expect_print(&rt, rt.alloc(), &words, &FAULTY, 3, b"", FIRST_FAULT)?;
     }
     Ok(())
 }

@@ -1,8 +1,8 @@
 // Gates: one is called around each command, and others hold one seat for another.
-use crate::row::{PLAIN, named, owned, print, run_text};
+use crate::row::{PLAIN, Text, print_texts, run_text};
 use crate::texts::has_no_worn_of_8000;
-use run_outside::{Gate, MemText};
-use std::alloc::{AllocError, Global};
+use run_outside::Gate;
+use std::alloc::Global;
 use std::process::Abort;
 use std::sync::atomic::{AtomicU64, Ordering};
 use std::sync::{Mutex, Wait};
@@ -89,8 +89,8 @@ fn print_held<R: Threads + Wait + Abort + Sync>(
     rt: &R,
     alloc: Global,
     held: u32,
-    words: &[String],
-    texts: Vec<MemText>,
+    words: &[&str],
+    texts: &[Text<'_>],
 ) -> Result<Vec<u8>, Fail> {
     let gate = HoldGate {
         rt,
@@ -101,7 +101,7 @@ fn print_held<R: Threads + Wait + Abort + Sync>(
             ran_out: false,
         }),
     };
-    let printed = print(rt, alloc, words, texts, &gate)?;
+    let printed = print_texts(rt, alloc, words, texts, &gate)?;
     assert_eq!(rt; printed.status, 0);
     let HoldGate {
         rt: _,
@@ -116,57 +116,59 @@ fn print_held<R: Threads + Wait + Abort + Sync>(
     Ok(printed.out.bytes().to_vec(alloc)?)
 }
 
-fn two_texts(alloc: Global, first: &[u8], second: &[u8]) -> Result<Vec<MemText>, AllocError> {
-    let mut texts = Vec::new(alloc);
-    texts.push(named(alloc, "a", first)?)?;
-    texts.push(named(alloc, "b", second)?)?;
-    Ok(texts)
+// Runs the words over these texts, where either of two seats waits for the other, and compares how the texts begin.
+fn expect_held<R: Threads + Wait + Abort + Sync>(
+    rt: &R,
+    alloc: Global,
+    words: &[&str],
+    texts: &[Text<'_>],
+    starts: &[(u32, &[u8])],
+) -> Result<(), Fail> {
+    for (held, start) in starts {
+        let text = print_held(rt, alloc, *held, words, texts)?;
+        assert!(rt; text.starts_with(start), "seat {held} waits");
+    }
+    Ok(())
 }
+
+const SCRIPTS: [Text<'static>; 2] = [("a", b"add l0 1\n"), ("b", b"add l1 1\n")];
+
+// The seat that waits, and the text.
+const SCRIPTS_HELD: [(u32, &[u8]); 2] = [
+    (1, b"0.1 c1 yes\n1.1 c2 yes\nl0 1\nl1 1\nlog 0 live "),
+    (0, b"1.1 c1 yes\n0.1 c2 yes\nl0 1\nl1 1\nlog 0 live "),
+];
 
 #[test]
 fn either_of_two_files_waits_for_the_other(rt: HostRuntime) -> Result<(), Fail> {
-    let alloc = rt.alloc();
-    let words = owned(alloc, &["run", "a", "b"])?;
-    let texts = two_texts(alloc, b"add l0 1\n", b"add l1 1\n")?;
-    let first = print_held(&rt, alloc, 1, &words, texts)?;
-    assert!(rt; first.starts_with(b"0.1 c1 yes\n1.1 c2 yes\nl0 1\nl1 1\nlog 0 live "));
-    let texts = two_texts(alloc, b"add l0 1\n", b"add l1 1\n")?;
-    let second = print_held(&rt, alloc, 0, &words, texts)?;
-    assert!(rt; second.starts_with(b"1.1 c1 yes\n0.1 c2 yes\nl0 1\nl1 1\nlog 0 live "));
-    Ok(())
+    expect_held(&rt, rt.alloc(), &["run", "a", "b"], &SCRIPTS, &SCRIPTS_HELD)
 }
 
-const FIRST_BLOCK: &[u8] = b"begin\nadd l0 1\nadd t0 1\nend\n";
+const BLOCKS: [Text<'static>; 2] = [
+    ("a", b"begin\nadd l0 1\nadd t0 1\nend\n"),
+    ("b", b"begin\nadd l1 1\nhas t0 1\nend\n"),
+];
 
-const SECOND_BLOCK: &[u8] = b"begin\nadd l1 1\nhas t0 1\nend\n";
+const BLOCKS_HELD: [(u32, &[u8]); 2] = [
+    (
+        1,
+        b"0.1 c1 yes\n0.2 c1 yes\n1.1 c2 yes\n1.2 c2 yes\nl0 1\nl1 1\nt0 1\nlog 0 live ",
+    ),
+    (
+        0,
+        b"1.1 c1 yes\n1.2 c1 no\n0.1 c2 yes\n0.2 c2 yes\nl0 1\nl1 1\nt0 1\nlog 0 live ",
+    ),
+];
 
 #[test]
 fn either_of_two_files_of_blocks_waits_for_the_other(rt: HostRuntime) -> Result<(), Fail> {
-    let alloc = rt.alloc();
-    let words = owned(alloc, &["block", "a", "b"])?;
-    let texts = two_texts(alloc, FIRST_BLOCK, SECOND_BLOCK)?;
-    let first = print_held(&rt, alloc, 1, &words, texts)?;
-    assert!(rt;
-        first.starts_with(
-            b"0.1 c1 yes\n0.2 c1 yes\n1.1 c2 yes\n1.2 c2 yes\nl0 1\nl1 1\nt0 1\nlog 0 live "
-        )
-    );
-    let texts = two_texts(alloc, FIRST_BLOCK, SECOND_BLOCK)?;
-    let second = print_held(&rt, alloc, 0, &words, texts)?;
-    assert!(rt;
-        second.starts_with(
-            b"1.1 c1 yes\n1.2 c1 no\n0.1 c2 yes\n0.2 c2 yes\nl0 1\nl1 1\nt0 1\nlog 0 live "
-        )
-    );
-    Ok(())
+    expect_held(&rt, rt.alloc(), &["block", "a", "b"], &BLOCKS, &BLOCKS_HELD)
 }
 
 #[test]
 fn generated_work_gives_one_text(rt: HostRuntime) -> Result<(), Fail> {
-    let alloc = rt.alloc();
-    let words = owned(alloc, &["work", "1"])?;
-    let first = print_held(&rt, alloc, 0, &words, Vec::new(alloc))?;
-    let second = print_held(&rt, alloc, 1, &words, Vec::new(alloc))?;
+    let first = print_held(&rt, rt.alloc(), 0, &["work", "1"], &[])?;
+    let second = print_held(&rt, rt.alloc(), 1, &["work", "1"], &[])?;
     assert_eq!(rt; first.as_slice(), second.as_slice());
     assert!(rt; has_no_worn_of_8000(&first));
     Ok(())

@@ -1,7 +1,6 @@
 // Scripts on a growing set: the text that they give, and what is no such script.
-use crate::row::{PLAIN, Printed, REFUSED, Row, named, owned, print, run_row, run_rows};
+use crate::row::{PLAIN, REFUSED, Row, expect_print, run_row, run_rows};
 use mvrlu_run::Closed;
-use run_outside::OpenGate;
 use std::test::Fail;
 
 // A run on a growing set of one file.
@@ -70,24 +69,22 @@ fn list_name_in_grow(rt: HostRuntime) -> Result<(), Fail> {
     Ok(())
 }
 
+// What two seats print, of which one has no commands.
+const TWO_SEATS: &[u8] =
+    b"0.1 c1 yes\nh0 1\nbuckets 16 splits 0\nlog 0 live 2 freed 0 back 0 commits 1 aborts 0 rests 0\n\
+    log 1 live 0 freed 0 back 0 commits 0 aborts 0 rests 0\n";
+
 #[test]
 fn two_seats_leave_the_domain_of_their_growing_set(rt: HostRuntime) -> Result<(), Fail> {
-    let alloc = rt.alloc();
-    let words = owned(alloc, &["grow", "a", "b"])?;
-    let mut texts = Vec::new(alloc);
-    texts.push(named(alloc, "a", b"add h0 1\n")?)?;
-    texts.push(named(alloc, "b", b"")?)?;
-    let Printed {
-        status,
-        closed,
-        out,
-        err: _,
-    } = print(&rt, alloc, &words, texts, &OpenGate)?;
-    assert_eq!(rt; status, 0);
+    let closed = expect_print(
+        &rt,
+        rt.alloc(),
+        &["grow", "a", "b"],
+        &[("a", b"add h0 1\n"), ("b", b"")],
+        0,
+        TWO_SEATS,
+        b"",
+    )?;
     assert!(rt; matches!(&closed, Closed::Grown(_)));
-    let text =
-        b"0.1 c1 yes\nh0 1\nbuckets 16 splits 0\nlog 0 live 2 freed 0 back 0 commits 1 aborts 0 rests 0\n\
-        log 1 live 0 freed 0 back 0 commits 0 aborts 0 rests 0\n";
-    assert_eq!(rt; out.bytes(), text.as_slice());
     Ok(())
 }

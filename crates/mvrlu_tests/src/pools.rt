@@ -1,10 +1,10 @@
 // Pools: one file, whose commands any of several seats takes.
 use crate::limits::USAGE;
-use crate::row::{PLAIN, Printed, REFUSED, Row, named, owned, print, run_row};
+use crate::row::{PLAIN, REFUSED, Row, print_texts, run_row};
 use crate::texts::{count_ends, sum_after};
 use mvrlu_run::Closed;
-use run_outside::{Gate, MemText, OpenGate};
-use std::alloc::{AllocError, Global};
+use run_outside::{Gate, OpenGate};
+use std::alloc::Global;
 use std::fmt::Write;
 use std::process::Abort;
 use std::sync::{Mutex, Wait};
@@ -65,7 +65,7 @@ fn bad_words_of_a_pool_are_refused(rt: HostRuntime) -> Result<(), Fail> {
 }
 
 // Lines that add the keys from 0 on to `l0`, and the line of the set that has them all.
-fn adds(alloc: Global, count: u32) -> Result<(Vec<MemText>, String), Fail> {
+fn adds(alloc: Global, count: u32) -> Result<(String, String), Fail> {
     let mut script = String::new(alloc);
     let mut set = String::from_str(alloc, "\nl0")?;
     for key in 0..count {
@@ -73,27 +73,21 @@ fn adds(alloc: Global, count: u32) -> Result<(Vec<MemText>, String), Fail> {
         write!(set, " {key}")?;
     }
     writeln!(set)?;
-    let mut texts = Vec::new(alloc);
-    texts.push(named(alloc, "a", script.as_str().as_bytes())?)?;
-    Ok((texts, set))
+    Ok((script, set))
 }
 
 #[test]
 fn three_seats_do_300_commands_once(rt: HostRuntime) -> Result<(), Fail> {
-    let alloc = rt.alloc();
-    let (texts, set) = adds(alloc, 300)?;
-    let words = owned(alloc, &["pool", "3", "a"])?;
-    let Printed {
-        status,
-        closed,
-        out,
-        err: _,
-    } = print(&rt, alloc, &words, texts, &OpenGate)?;
-    assert_eq!(rt; status, 0);
-    assert!(rt; matches!(&closed, Closed::Sets(_)));
-    let text = out.bytes();
-    assert_eq!(rt; count_ends(text, " yes"), 300);
-    assert_eq!(rt; count_ends(text, ""), 304);
+    let (script, set) = adds(rt.alloc(), 300)?;
+    let texts = [("a", script.as_str().as_bytes())];
+    let printed = print_texts(&rt, rt.alloc(), &["pool", "3", "a"], &texts, &OpenGate)?;
+    assert_eq!(rt; printed.status, 0);
+    assert!(rt; matches!(&printed.closed, Closed::Sets(_)));
+    let text = printed.out.bytes();
+    assert_eq!(rt;
+        (count_ends(text, " yes"), count_ends(text, "")),
+        (300, 304)
+    );
     assert_eq!(rt; sum_after(text, "commits"), 300);
     let text = str::from_utf8(text).ok().unwrap_or("");
     assert!(rt; text.contains(set.as_str()));
@@ -138,6 +132,8 @@ impl<'r, R: Wait + Sync> Gate for HoldGate<'r, R> {
     }
 }
 
+const FIVE: &[u8] = b"add l0 1\nadd l0 2\nadd l0 3\nadd l0 4\nadd l0 5\n";
+
 // Two seats do five commands, of which this one waits for all others.
 fn hold<R: Threads + Wait + Abort + Sync>(rt: &R, alloc: Global, held: u32) -> Result<(), Fail> {
     let gate = HoldGate {
@@ -148,14 +144,7 @@ fn hold<R: Threads + Wait + Abort + Sync>(rt: &R, alloc: Global, held: u32) -> R
             ran_out: false,
         }),
     };
-    let words = owned(alloc, &["pool", "2", "a"])?;
-    let mut texts = Vec::new(alloc);
-    texts.push(named(
-        alloc,
-        "a",
-        b"add l0 1\nadd l0 2\nadd l0 3\nadd l0 4\nadd l0 5\n",
-    )?)?;
-    let printed = print(rt, alloc, &words, texts, &gate)?;
+    let printed = print_texts(rt, alloc, &["pool", "2", "a"], &[("a", FIVE)], &gate)?;
     assert_eq!(rt; printed.status, 0);
     let HoldGate {
         rt: _,

@@ -146,3 +146,39 @@ pub fn print<R: Threads + Wait + Sync, G: Gate>(
         err,
     })
 }
+
+/// The name of a file, and its bytes.
+pub type Text<'a> = (&'a str, &'a [u8]);
+
+/// Runs the words over these texts, as `print` does.
+pub fn print_texts<R: Threads + Wait + Sync, G: Gate>(
+    rt: &R,
+    alloc: Global,
+    words: &[&str],
+    texts: &[Text<'_>],
+    gate: &G,
+) -> Result<Printed, AllocError> {
+    let words = owned(alloc, words)?;
+    let mut files = Vec::new(alloc);
+    for (name, bytes) in texts {
+        files.push(named(alloc, name, bytes)?)?;
+    }
+    print(rt, alloc, &words, files, gate)
+}
+
+/// Runs the words over these texts, and compares. It answers what is left of the domain.
+pub fn expect_print<R: Abort + Threads + Wait + Sync>(
+    rt: &R,
+    alloc: Global,
+    words: &[&str],
+    texts: &[Text<'_>],
+    status: u8,
+    out: &[u8],
+    err: &[u8],
+) -> Result<Closed, AllocError> {
+    let printed = print_texts(rt, alloc, words, texts, &OpenGate)?;
+    assert_eq!(rt; printed.status, status, "status of {words:?}");
+    assert_eq!(rt; printed.out.bytes(), out, "output of {words:?}");
+    assert_eq!(rt; printed.err.bytes(), err, "error of {words:?}");
+    Ok(printed.closed)
+}

@@ -1,5 +1,5 @@
 // Scripts of several seats, long scripts, generated ones, and what is left of the domain.
-use crate::row::{PLAIN, Printed, named, owned, print};
+use crate::row::{PLAIN, Printed, named, owned, print, print_texts};
 use crate::texts::{count_ends, sum_after, time_of};
 use mv_history::View;
 use mvrlu_run::Closed;
@@ -8,18 +8,16 @@ use set_catalog::read_all;
 use std::alloc::{AllocError, Global};
 use std::test::Fail;
 
+const SECOND_TABLE: &[u8] = b"\nlog 1 live 0 freed 0 back 0 commits 0 aborts 0 rests 0\n";
+
 #[test]
 fn an_empty_second_file_has_its_table(rt: HostRuntime) -> Result<(), Fail> {
-    let alloc = rt.alloc();
-    let words = owned(alloc, &["run", "a", "b"])?;
-    let mut texts = Vec::new(alloc);
-    texts.push(named(alloc, "a", PLAIN.script)?)?;
-    texts.push(named(alloc, "b", b"")?)?;
-    let printed = print(&rt, alloc, &words, texts, &OpenGate)?;
+    let texts = [("a", PLAIN.script), ("b", b"")];
+    let printed = print_texts(&rt, rt.alloc(), &["run", "a", "b"], &texts, &OpenGate)?;
     assert_eq!(rt; printed.status, 0);
     let text = printed.out.bytes();
     assert!(rt; text.starts_with(PLAIN.out));
-    assert!(rt; text.ends_with(b"\nlog 1 live 0 freed 0 back 0 commits 0 aborts 0 rests 0\n"));
+    assert!(rt; text.ends_with(SECOND_TABLE));
     assert_eq!(rt; text.len(), PLAIN.out.len().saturating_add(55));
     Ok(())
 }
@@ -118,9 +116,7 @@ fn sixty_four_files_run_at_once(rt: HostRuntime) -> Result<(), Fail> {
 
 #[test]
 fn a_generated_script_has_its_lines(rt: HostRuntime) -> Result<(), Fail> {
-    let alloc = rt.alloc();
-    let words = owned(alloc, &["gen", "1", "0"])?;
-    let printed = print(&rt, alloc, &words, Vec::new(alloc), &OpenGate)?;
+    let printed = print_texts(&rt, rt.alloc(), &["gen", "1", "0"], &[], &OpenGate)?;
     assert_eq!(rt; printed.status, 0);
     assert!(rt; matches!(printed.closed, Closed::No));
     let text = printed.out.bytes();

@@ -12,8 +12,9 @@ use run_report::Line;
 use script_domain::run_domain;
 use set_script::{Command, Name, Place, Reply, SetRules};
 use std::alloc::{AllocError, Global};
+use std::process::Abort;
 use std::sync::Wait;
-use std::test::Fail;
+use std::test::*;
 use std::thread::Threads;
 
 // Two seats, and times from 40 on.
@@ -74,29 +75,33 @@ fn run_each<R: Threads + Wait + Sync>(
     }
 }
 
-#[test]
-fn two_scripts_make_one_history(rt: HostRuntime) -> Result<(), Fail> {
-    let alloc = rt.alloc();
-    let Some(name) = Name::new(0) else {
-        return Err(Fail::new("0 is the index of a name"));
-    };
-    let Some(other) = Name::new(1) else {
-        return Err(Fail::new("1 is the index of a name"));
-    };
-    let short = vec![in alloc; Command::Add { name, key: 5 }]?;
+// A script of an add to the first set, and one of an add and a question for the second.
+fn two_scripts(alloc: Global, first: Name, second: Name) -> Result<[Vec<Command>; 2], AllocError>
+    ensures as_many { IfOk result (λ scripts. length scripts ≡ 2) }
+    ensures short { IfOk result (λ scripts. All (λ script. length script.items ≤ MOST_COMMANDS) scripts) }
+{
+    let short = vec![in alloc;
+        Command::Add {
+            name: first,
+            key: 5
+        },
+    ]?;
     let long = vec![in alloc;
         Command::Add {
-            name: other,
+            name: second,
             key: 7
         },
         Command::Has {
-            name: other,
+            name: second,
             key: 7
         },
     ]?;
-    let (closing, lines, tables) = run_each(&rt, alloc, TWO, &[short, long])?;
-    assert_eq!(rt; closing.time(), 42);
-    let [first, second, third] = lines.as_slice() else {
+    Ok([short, long])
+}
+
+// Looks at the lines. The commits are the two entries, in either order, and the read comes behind its own seat's.
+fn expect_lines(rt: &impl Abort, lines: &[Line]) -> Result<(), Fail> {
+    let [first, second, third] = lines else {
         return Err(Fail::new("there is a line for each command"));
     };
     assert_eq!(rt; (first.seat, first.number, first.reply), (0, 1, Reply::Yes));
@@ -105,7 +110,6 @@ fn two_scripts_make_one_history(rt: HostRuntime) -> Result<(), Fail> {
         (1, 1, Reply::Yes)
     );
     assert_eq!(rt; (third.seat, third.number, third.reply), (1, 2, Reply::Yes));
-    // The commits are the two entries, in either order, and the read comes behind its own seat's.
     let (Place::Commit(one), Place::Commit(two), Place::Read(last)) = (
         first.place,
         second.place,
@@ -115,10 +119,26 @@ fn two_scripts_make_one_history(rt: HostRuntime) -> Result<(), Fail> {
     };
     assert!(rt; (one, two) == (41, 42) || (one, two) == (42, 41));
     assert!(rt; two <= last && last <= 42);
-    for table in &tables {
+    Ok(())
+}
+
+// Looks at the tables of the two logs.
+fn expect_tables(rt: &impl Abort, tables: &[LogTable]) {
+    for table in tables {
         assert_eq!(rt; (table.commits, table.rests, table.aborts), (1, 0, 0));
         assert_eq!(rt; (table.live, table.freed), (2, 0));
     }
     assert_eq!(rt; tables.len(), 2);
+}
+
+#[test]
+fn two_scripts_make_one_history(rt: HostRuntime) -> Result<(), Fail> {
+    let first = Name::new(0).ok_or("0 is the index of a name")?;
+    let second = Name::new(1).ok_or("1 is the index of a name")?;
+    let scripts = two_scripts(rt.alloc(), first, second)?;
+    let (closing, lines, tables) = run_each(&rt, rt.alloc(), TWO, &scripts)?;
+    assert_eq!(rt; closing.time(), 42);
+    expect_lines(&rt, &lines)?;
+    expect_tables(&rt, &tables);
     Ok(())
 }

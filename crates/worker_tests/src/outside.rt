@@ -1,15 +1,32 @@
 // The calls that take memory, and the system's files and streams.
 use run_outside::{Files, MemFiles, MemSink, MemText, RealErr, RealFiles, RealOut, Sink};
 use std::fs;
-use std::test::Fail;
+use std::process::Abort;
+use std::test::*;
+
+// A piece, and how many of its bytes a call takes. None: the call fails.
+type Piece = (&'static [u8], Option<usize>);
+
+// Writes the pieces, one after another.
+fn write_all<S: Sink>(rt: &impl Abort, sink: &mut S, rows: &[Piece]) {
+    for (piece, count) in rows {
+        assert!(rt; 0 < piece.len());
+        assert_eq!(rt; sink.write(piece).ok(), *count, "{piece:?}");
+    }
+}
+
+// Three bytes a call at most, in all five; the second call fails.
+const PIECES: [Piece; 4] = [
+    (b"abcd", Some(3)),
+    (b"d", None),
+    (b"def", Some(2)),
+    (b"f", None),
+];
 
 #[test]
 fn writes_to_memory_until_the_room_is_spent(rt: HostRuntime) -> Result<(), Fail> {
     let mut sink = MemSink::new(rt.alloc(), 5, 3, Vec::from_array(rt.alloc(), [2])?)?;
-    assert_eq!(rt; sink.write(b"abcd").ok(), Some(3));
-    assert!(rt; sink.write(b"d").is_err());
-    assert_eq!(rt; sink.write(b"def").ok(), Some(2));
-    assert!(rt; sink.write(b"f").is_err());
+    write_all(&rt, &mut sink, &PIECES);
     assert_eq!(rt; sink.bytes(), b"abcde".as_slice());
     Ok(())
 }

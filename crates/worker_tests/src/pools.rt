@@ -7,8 +7,10 @@ use mv_history::{PlainStore, WORDS};
 use run_outside::{Gate, OpenGate};
 use set_script::{Command, Name, Place, Reply, SetRules};
 use std::alloc::{AllocError, Global};
+use std::process::Abort;
 use std::sync::{Mutex, Wait};
-use std::test::Fail;
+use std::test::*;
+use std::thread::Threads;
 
 // A store of so many objects of zeros, whose times begin at 0, with room for 300 commits.
 fn open(alloc: Global, count: u32) -> Result<PlainStore<SetRules>, AllocError>
@@ -47,48 +49,70 @@ fn open_three(alloc: Global) -> Result<Vec<PlainStore<SetRules>>, Fail>
     Ok(vec![in alloc; first, second, third]?)
 }
 
-#[test]
-fn one_store_does_all_in_order(rt: HostRuntime) -> Result<(), Fail> {
-    let alloc = rt.alloc();
-    let Some(name) = Name::new(1) else {
-        return Err(Fail::new("1 is the index of a name"));
-    };
-    let commands = [
+// Does the commands in a pool of these stores. It answers how many stores come back, and what is collected.
+fn run<R: Threads + Wait + Sync, G: Gate>(
+    rt: &R,
+    alloc: Global,
+    stores: Vec<PlainStore<SetRules>>,
+    commands: &[Command],
+    gate: &G,
+) -> Result<(usize, Vec<Collected>), AllocError>
+    requires some { 1 ≤ length stores.items }
+    requires few { length stores.items ≤ 3 }
+    requires short { length commands.now ≤ 300 }
+    requires write_max { All (λ store. (seat_of store).write_max ≡ 16) stores.items }
+{
+    match run_pool(rt, alloc, stores, commands, gate) {
+        Ok((stores, collected)) => Ok((stores.len(), collected)),
+        Err((_stores, error)) => Err(error),
+    }
+}
+
+// Four commands on the set.
+fn four(name: Name) -> [Command; 4] {
+    [
         Command::Add { name, key: 1 },
         Command::Add { name, key: 3 },
         Command::Has { name, key: 2 },
         Command::Del { name, key: 3 },
-    ];
-    let (stores, collected) = match run_pool(&rt, alloc, open_one(alloc)?, &commands, &OpenGate) {
-        Ok(ran) => ran,
-        Err((_stores, error)) => return Err(error.into()),
-    };
-    assert_eq!(rt; stores.len(), 1);
-    let one = |number: u32, place: Place, reply: Reply| Collected {
-        seat: 0,
-        number,
-        place,
-        reply,
-    };
-    let expected = [
-        one(1, Place::Commit(1), Reply::Yes),
-        one(2, Place::Commit(2), Reply::Yes),
-        one(3, Place::Read(2), Reply::No),
-        one(4, Place::Commit(3), Reply::Yes),
-    ];
-    assert_eq!(rt; collected.as_slice(), expected.as_slice());
+    ]
+}
+
+// Where each of them takes place, and its reply.
+const DONE: [(Place, Reply); 4] = [
+    (Place::Commit(1), Reply::Yes),
+    (Place::Commit(2), Reply::Yes),
+    (Place::Read(2), Reply::No),
+    (Place::Commit(3), Reply::Yes),
+];
+
+// Looks that seat 0 did all in their order.
+fn expect_in_order(rt: &impl Abort, collected: &[Collected], rows: &[(Place, Reply)]) {
+    assert_eq!(rt; collected.len(), rows.len());
+    for (index, (one, (place, reply))) in collected.iter().zip(rows).enumerate() {
+        assert_eq!(rt;
+            (one.seat, one.number as usize),
+            (0, index.saturating_add(1))
+        );
+        assert_eq!(rt; (one.place, one.reply), (*place, *reply));
+    }
+}
+
+#[test]
+fn one_store_does_all_in_order(rt: HostRuntime) -> Result<(), Fail> {
+    let name = Name::new(1).ok_or("1 is the index of a name")?;
+    let stores = open_one(rt.alloc())?;
+    let (back, collected) = run(&rt, rt.alloc(), stores, &four(name), &OpenGate)?;
+    assert_eq!(rt; back, 1);
+    expect_in_order(&rt, &collected, &DONE);
     Ok(())
 }
 
 #[test]
 fn nothing_is_collected_of_no_commands(rt: HostRuntime) -> Result<(), Fail> {
-    let alloc = rt.alloc();
-    let (stores, collected) = match run_pool(&rt, alloc, open_two(alloc)?, &[], &OpenGate) {
-        Ok(ran) => ran,
-        Err((_stores, error)) => return Err(error.into()),
-    };
-    assert_eq!(rt; stores.len(), 2);
-    assert_eq!(rt; collected.len(), 0);
+    let stores = open_two(rt.alloc())?;
+    let (back, collected) = run(&rt, rt.alloc(), stores, &[], &OpenGate)?;
+    assert_eq!(rt; (back, collected.len()), (2, 0));
     Ok(())
 }
 
@@ -107,22 +131,22 @@ fn adds(alloc: Global, count: u32) -> Result<Vec<Command>, Fail>
     Ok(commands)
 }
 
+// How often a yes to this command is among them.
+fn count_yes(collected: &[Collected], number: u32) -> usize {
+    collected
+        .iter()
+        .filter(|one| one.number == number && one.reply == Reply::Yes)
+        .count()
+}
+
 #[test]
 fn three_stores_do_each_of_300_commands_once(rt: HostRuntime) -> Result<(), Fail> {
-    let alloc = rt.alloc();
-    let commands = adds(alloc, 300)?;
-    let (stores, collected) = match run_pool(&rt, alloc, open_three(alloc)?, &commands, &OpenGate) {
-        Ok(ran) => ran,
-        Err((_stores, error)) => return Err(error.into()),
-    };
-    assert_eq!(rt; stores.len(), 3);
-    assert_eq!(rt; collected.len(), 300);
+    let commands = adds(rt.alloc(), 300)?;
+    let stores = open_three(rt.alloc())?;
+    let (back, collected) = run(&rt, rt.alloc(), stores, &commands, &OpenGate)?;
+    assert_eq!(rt; (back, collected.len()), (3, 300));
     for number in 1..301 {
-        let done = collected
-            .iter()
-            .filter(|one| one.number == number && one.reply == Reply::Yes)
-            .count();
-        assert_eq!(rt; done, 1);
+        assert_eq!(rt; count_yes(&collected, number), 1);
     }
     Ok(())
 }
@@ -165,33 +189,33 @@ impl<'r, R: Wait + Sync> Gate for HoldGate<'r, R> {
     }
 }
 
+// Two stores do five commands, of which this one waits for all others.
+fn hold<R: Threads + Wait + Abort + Sync>(rt: &R, alloc: Global, held: u32) -> Result<(), Fail> {
+    let commands = adds(alloc, 5)?;
+    let gate = HoldGate {
+        rt,
+        held,
+        seen: Mutex::new(Seen {
+            others_done: 0,
+            ran_out: false,
+        }),
+    };
+    let (_back, collected) = run(rt, alloc, open_two(alloc)?, &commands, &gate)?;
+    assert_eq!(rt; collected.len(), 5);
+    let HoldGate {
+        rt: _,
+        held: _,
+        seen,
+    } = gate;
+    assert!(rt;
+        !seen.into_inner().ran_out,
+        "one worker did all, or the commands were shared out"
+    );
+    Ok(())
+}
+
 #[test]
 fn a_held_command_waits_for_all_others(rt: HostRuntime) -> Result<(), Fail> {
-    let alloc = rt.alloc();
-    let commands = adds(alloc, 5)?;
-    for held in 1..3 {
-        let gate = HoldGate {
-            rt: &rt,
-            held,
-            seen: Mutex::new(Seen {
-                others_done: 0,
-                ran_out: false,
-            }),
-        };
-        let (_stores, collected) = match run_pool(&rt, alloc, open_two(alloc)?, &commands, &gate) {
-            Ok(ran) => ran,
-            Err((_stores, error)) => return Err(error.into()),
-        };
-        assert_eq!(rt; collected.len(), 5);
-        let HoldGate {
-            rt: _,
-            held: _,
-            seen,
-        } = gate;
-        assert!(rt;
-            !seen.into_inner().ran_out,
-            "one worker did all, or the commands were shared out"
-        );
-    }
-    Ok(())
+    hold(&rt, rt.alloc(), 1)?;
+    hold(&rt, rt.alloc(), 2)
 }

@@ -32,7 +32,7 @@ fn end_of(alloc: Global, keys: &[u32]) -> Result<Catalogue, AllocError> {
     Ok(end)
 }
 
-const BACKWARDS: [Row; 6] = [
+static BACKWARDS: [Row; 6] = [
     (6, Place::Read(6), Reply::Key { key: 17 }),
     (5, Place::Read(6), Reply::Yes),
     (4, Place::Commit(5), Reply::Yes),

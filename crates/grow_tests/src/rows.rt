@@ -36,7 +36,7 @@ const SPREAD: Keys = Keys {
     count: 64,
 };
 
-const ROWS: [Row; 13] = [
+static ROWS: [Row; 13] = [
     Row {
         name: "next and size go over the buckets",
         objects: 4096,

@@ -39,7 +39,7 @@ fn the_five_commands_are_read(rt: HostRuntime) -> Result<(), Fail> {
     Ok(())
 }
 
-const BROKEN: [Broken; 24] = [
+static BROKEN: [Broken; 24] = [
     // list-name-in-grow
     (b"add l0 1", 1, FaultKind::Name),
     (b"add h0 1\nadd h1 2", 2, FaultKind::Name),

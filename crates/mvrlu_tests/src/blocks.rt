@@ -10,7 +10,7 @@ const BLOCK: Row<'static> = Row {
 };
 
 // Blocks that are run.
-const BLOCKS: [Row<'static>; 6] = [
+static BLOCKS: [Row<'static>; 6] = [
     Row {
         name: "a block as one entry",
         script: b"begin\nadd l0 5\nmove l0 t0 5\npair l0 t0 5\nend\nhas t0 5\n",
@@ -56,7 +56,7 @@ fn a_block_is_one_entry_or_one_read(rt: HostRuntime) -> Result<(), Fail> {
 // A script that is refused, and the line on standard error.
 type Refused = (&'static [u8], &'static [u8]);
 
-const BROKEN: [Refused; 15] = [
+static BROKEN: [Refused; 15] = [
     (
         b"begin\nsize l0\nend\n",
         b"script 0 line 2: not in a block\n",

@@ -13,7 +13,7 @@ const NO_TEXT: Row<'static> = Row {
 };
 
 // Calls of the outside that fail.
-const FAILING: [Row<'static>; 4] = [
+static FAILING: [Row<'static>; 4] = [
     NO_TEXT,
     Row {
         name: "no text of the second name",
@@ -45,7 +45,7 @@ fn each_failing_call_has_its_status(rt: HostRuntime) -> Result<(), Fail> {
 
 const FIRST_FAULT: &[u8] = b"script 1 line 2: bad key\n";
 
-const FAULTY: [Text<'static>; 3] = [
+static FAULTY: [Text<'static>; 3] = [
     ("good", b"add h0 5\n"),
     ("key", b"has h0 5\nadd h0 x\n"),
     ("word", b"sub h0 5\n"),
@@ -123,7 +123,7 @@ const NAME: &[u8] = b"script 0 line 1: unknown name\n";
 
 const KEY: &[u8] = b"script 0 line 1: bad key\n";
 
-const BROKEN: [Broken; 26] = [
+static BROKEN: [Broken; 26] = [
     ("upper case", b"ADD l0 1\n", WORD),
     ("one letter in upper case", b"Has l0 1\n", WORD),
     ("no text", b"\xff", WORD),

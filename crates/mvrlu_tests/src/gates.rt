@@ -131,10 +131,10 @@ fn expect_held<R: Threads + Wait + Abort + Sync>(
     Ok(())
 }
 
-const SCRIPTS: [Text<'static>; 2] = [("a", b"add l0 1\n"), ("b", b"add l1 1\n")];
+static SCRIPTS: [Text<'static>; 2] = [("a", b"add l0 1\n"), ("b", b"add l1 1\n")];
 
 // The seat that waits, and the text.
-const SCRIPTS_HELD: [(u32, &[u8]); 2] = [
+static SCRIPTS_HELD: [(u32, &[u8]); 2] = [
     (1, b"0.1 c1 yes\n1.1 c2 yes\nl0 1\nl1 1\nlog 0 live "),
     (0, b"1.1 c1 yes\n0.1 c2 yes\nl0 1\nl1 1\nlog 0 live "),
 ];
@@ -144,12 +144,12 @@ fn either_of_two_files_waits_for_the_other(rt: HostRuntime) -> Result<(), Fail> 
     expect_held(&rt, rt.alloc(), &["run", "a", "b"], &SCRIPTS, &SCRIPTS_HELD)
 }
 
-const BLOCKS: [Text<'static>; 2] = [
+static BLOCKS: [Text<'static>; 2] = [
     ("a", b"begin\nadd l0 1\nadd t0 1\nend\n"),
     ("b", b"begin\nadd l1 1\nhas t0 1\nend\n"),
 ];
 
-const BLOCKS_HELD: [(u32, &[u8]); 2] = [
+static BLOCKS_HELD: [(u32, &[u8]); 2] = [
     (
         1,
         b"0.1 c1 yes\n0.2 c1 yes\n1.1 c2 yes\n1.2 c2 yes\nl0 1\nl1 1\nt0 1\nlog 0 live ",

@@ -10,7 +10,7 @@ const GROW: Row<'static> = Row {
 };
 
 // Growing sets.
-const SPLITS: [Row<'static>; 3] = [
+static SPLITS: [Row<'static>; 3] = [
     Row {
         name: "a split behind each second add",
         script: b"add h0 1\nadd h0 17\nadd h0 2\nadd h0 3\nhas h0 17\nnext h0 4\n",
@@ -41,7 +41,7 @@ fn two_splits(rt: HostRuntime) -> Result<(), Fail> {
 // A script that is refused, and the line on standard error.
 type Refused = (&'static [u8], &'static [u8]);
 
-const BROKEN: [Refused; 7] = [
+static BROKEN: [Refused; 7] = [
     (b"add l0 1\n", b"script 0 line 1: unknown name\n"),
     (b"has h0 1\nadd h1 1\n", b"script 0 line 2: unknown name\n"),
     (b"add l0 x\n", b"script 0 line 1: unknown name\n"),

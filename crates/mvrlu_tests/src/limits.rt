@@ -9,7 +9,7 @@ pub const USAGE: &[u8] =
     b"usage: run [--objects N] [--slots N] [--base N] FILE... or gen NUMBER SEAT or work NUMBER \
     or block FILE... or pool SEATS FILE or grow FILE... or replay FILE\n";
 
-const OUT_OF_FORM: [&[&str]; 27] = [
+static OUT_OF_FORM: [&[&str]; 27] = [
     &[],
     &["run"],
     &["walk", "a"],
@@ -57,7 +57,7 @@ fn words_out_of_form_show_the_usage(rt: HostRuntime) -> Result<(), Fail> {
 // Words in form with a number out of its range, and the line on standard error.
 type Beyond = (&'static [&'static str], &'static [u8]);
 
-const BEYOND: [Beyond; 10] = [
+static BEYOND: [Beyond; 10] = [
     (&["run", "--objects", "180", "a"], b"limit: objects\n"),
     (
         &[

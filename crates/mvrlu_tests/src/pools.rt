@@ -28,7 +28,7 @@ fn a_pool_of_one_seat_does_all_in_order(rt: HostRuntime) -> Result<(), Fail> {
 // Words of a pool that are refused, with the status and the line.
 type Refused = (&'static [&'static str], u8, &'static [u8]);
 
-const POOLS: [Refused; 9] = [
+static POOLS: [Refused; 9] = [
     (&["pool", "0", "a"], 4, b"limit: seats\n"),
     (&["pool", "9", "b"], 4, b"limit: seats\n"),
     (&["pool", "99999999999999999999", "b"], 4, b"limit: seats\n"),

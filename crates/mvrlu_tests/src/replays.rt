@@ -19,7 +19,7 @@ const REPLAY: Row<'static> = Row {
 };
 
 // Schedules that are replayed.
-const SCHEDULES: [Row<'static>; 4] = [
+static SCHEDULES: [Row<'static>; 4] = [
     REPLAY,
     Row {
         name: "a call that is skipped, a section, and a read of the master",
@@ -49,7 +49,7 @@ fn schedules_have_their_text(rt: HostRuntime) -> Result<(), Fail> {
 // A plan that is refused, and the line on standard error.
 type Refused = (&'static [u8], &'static [u8]);
 
-const BROKEN_HEADS: [Refused; 17] = [
+static BROKEN_HEADS: [Refused; 17] = [
     (b"seats 65", b"script 0 line 1: bad number\n"),
     (b"seats 0\n", b"script 0 line 1: bad number\n"),
     (b"seats -1\n", b"script 0 line 1: bad number\n"),
@@ -90,7 +90,7 @@ const BROKEN_HEADS: [Refused; 17] = [
 // The first four lines of the plans below.
 const HEADS: &[u8] = b"seats 2\nobjects 1\nslots 64\nbase 0\n";
 
-const BROKEN_BODIES: [Refused; 19] = [
+static BROKEN_BODIES: [Refused; 19] = [
     (b"seats 2", b"script 0 line 5: unknown command\n"),
     (b"Step 0\n", b"script 0 line 5: unknown command\n"),
     (b"step\n", b"script 0 line 5: wrong number of words\n"),
@@ -165,7 +165,7 @@ fn what_is_no_plan_is_refused(rt: HostRuntime) -> Result<(), Fail> {
 // Words of a replay that are refused, with the status and the line.
 type Words = (&'static [&'static str], u8, &'static [u8]);
 
-const WORDS: [Words; 6] = [
+static WORDS: [Words; 6] = [
     (&["replay"], 2, USAGE),
     (&["replay", "-a"], 2, USAGE),
     (&["replay", ""], 2, USAGE),
@@ -190,7 +190,7 @@ fn bad_words_of_a_replay_are_refused(rt: HostRuntime) -> Result<(), Fail> {
 }
 
 // Calls of the outside that fail.
-const FAILING: [Row<'static>; 3] = [
+static FAILING: [Row<'static>; 3] = [
     Row {
         name: "a read that fails",
         file_fails: &[2],

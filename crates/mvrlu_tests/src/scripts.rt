@@ -3,7 +3,7 @@ use crate::row::{PLAIN, Row, ZERO, run_rows};
 use std::test::Fail;
 
 // Lists, and the form of a script.
-const LISTS: [Row<'static>; 9] = [
+static LISTS: [Row<'static>; 9] = [
     PLAIN,
     Row {
         name: "one byte a call",
@@ -60,7 +60,7 @@ fn each_script_gives_its_text(rt: HostRuntime) -> Result<(), Fail> {
 }
 
 // All kinds of sets, and all commands.
-const SETS: [Row<'static>; 9] = [
+static SETS: [Row<'static>; 9] = [
     Row {
         name: "the greatest key of a hash set",
         script: b"add h9 4294967295\nnext h9 4294967295\n",
@@ -124,7 +124,7 @@ fn all_kinds_of_sets_answer_all_commands(rt: HostRuntime) -> Result<(), Fail> {
 }
 
 // Runs with options.
-const OPTIONS: [Row<'static>; 3] = [
+static OPTIONS: [Row<'static>; 3] = [
     Row {
         name: "room for two keys",
         words: &["run", "--objects", "182", "a"],

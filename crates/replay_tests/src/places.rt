@@ -10,7 +10,7 @@ use std::test::Fail;
 // A time, a seat and a slot, and their word, in two writings.
 type Clock = (u64, u32, u32, u64, u64);
 
-const CLOCKS: [Clock; 5] = [
+static CLOCKS: [Clock; 5] = [
     (0, 0, 8191, 0x1fff, 8191),
     (1, 1, 0, 0x8_2000, 532_480),
     (2, 0, 0, 0x10_0000, 1_048_576),
@@ -39,7 +39,7 @@ fn packed_clock_words(rt: HostRuntime) -> Result<(), Fail> {
 // A seat and a position, and their word, in two writings.
 type Link = (u32, u64, u64, u64);
 
-const LINKS: [Link; 3] = [
+static LINKS: [Link; 3] = [
     (0, 0, 0x0200_0000_0000_0000, 144_115_188_075_855_872),
     (1, 70, 0x0400_0000_0000_0046, 288_230_376_151_711_814),
     (
@@ -85,7 +85,7 @@ const FIT: Config = Config {
 };
 
 // Numbers, and what is wrong with them.
-const CONFIGS: [(Config, Result<(), ConfigFault>); 22] = [
+static CONFIGS: [(Config, Result<(), ConfigFault>); 22] = [
     (Config { seats: 0, ..FIT }, Err(ConfigFault::Seats)),
     (Config { seats: 1, ..FIT }, Ok(())),
     (Config { seats: 64, ..FIT }, Ok(())),

@@ -54,7 +54,7 @@ const CONFIG: Config = Config {
     base: 7,
 };
 
-const CALLS: [CallOf; 8] = [
+static CALLS: [CallOf; 8] = [
     CallOf {
         seat: 1,
         call: Call::Enter,
@@ -104,7 +104,7 @@ fn every_call_is_read(rt: HostRuntime) -> Result<(), Fail> {
 // The seats, objects, slots and base of a plan.
 type Numbers = (u32, u32, u32, u64);
 
-const ENDS: [(&[u8], Numbers); 2] = [
+static ENDS: [(&[u8], Numbers); 2] = [
     (b"seats 1\nobjects 1\nslots 64\nbase 0", (1, 1, 64, 0)),
     (
         b"seats 64\nobjects 1024\nslots 256\nbase 35184372088831\n",
@@ -134,7 +134,7 @@ fn seats_out_of_range(rt: HostRuntime) {
     refuses(&rt, rt.alloc(), &[(b"seats 65", 1, PlanKind::Number)]);
 }
 
-const FIRST_LINES: [Broken; 19] = [
+static FIRST_LINES: [Broken; 19] = [
     (b"seats 0", 1, PlanKind::Number),
     (b"seats", 1, PlanKind::Count),
     (b"seats 1 x", 1, PlanKind::Count),
@@ -173,7 +173,7 @@ fn the_four_first_lines(rt: HostRuntime) {
     refuses(&rt, rt.alloc(), &FIRST_LINES);
 }
 
-const TOO_EARLY: [Broken; 8] = [
+static TOO_EARLY: [Broken; 8] = [
     (b"", 1, PlanKind::Word),
     (b"\n", 1, PlanKind::Word),
     (b"\n\n", 2, PlanKind::Word),
@@ -189,7 +189,7 @@ fn a_text_that_ends_too_early_is_refused_at_its_last_line(rt: HostRuntime) {
     refuses(&rt, rt.alloc(), &TOO_EARLY);
 }
 
-const WRONG_FIRST: [Broken; 26] = [
+static WRONG_FIRST: [Broken; 26] = [
     (b"enter", 1, PlanKind::Word),
     (b"Seat 0 enter", 1, PlanKind::Word),
     (b"\xff", 1, PlanKind::Word),

@@ -47,7 +47,7 @@ fn refuses_all(rt: &impl Abort, alloc: Global, rows: &[Broken]) {
     }
 }
 
-const GOOD: [Good; 9] = [
+static GOOD: [Good; 9] = [
     (b"", &[]),
     (b"\n# begin\n", &[]),
     (b"add l0 1", &[&[Add(0, 1)]]),
@@ -79,7 +79,7 @@ fn blocks_are_read_in_the_order_of_their_lines(rt: HostRuntime) -> Result<(), Fa
     Ok(())
 }
 
-const BROKEN: [Broken; 16] = [
+static BROKEN: [Broken; 16] = [
     (b"begin\nbegin", 2, BlockKind::Nested),
     (b"begin\nadd l0 1\n\nbegin\nend", 4, BlockKind::Nested),
     (b"end", 1, BlockKind::Stray),
@@ -107,7 +107,7 @@ fn broken_blocks_are_refused(rt: HostRuntime) {
     refuses_all(&rt, rt.alloc(), &BROKEN);
 }
 
-const WRONG_FIRST: [Broken; 16] = [
+static WRONG_FIRST: [Broken; 16] = [
     (b"begin 1", 1, BlockKind::Line(FaultKind::Count)),
     (b"begin begin", 1, BlockKind::Line(FaultKind::Count)),
     (
@@ -158,7 +158,7 @@ fn most_blocks(alloc: Global) -> Result<Vec<u8>, AllocError> {
 }
 
 // What stands behind them.
-const BEHIND_MOST: [Broken; 4] = [
+static BEHIND_MOST: [Broken; 4] = [
     (b"has l0 1", 81_921, BlockKind::Line(FaultKind::Many)),
     (b"begin\nhas l0 1", 81_922, BlockKind::Line(FaultKind::Many)),
     (b"begin\nsize l0", 81_922, BlockKind::Line(FaultKind::Many)),
@@ -218,7 +218,7 @@ fn too_many_comes_before_too_long(rt: HostRuntime) -> Result<(), Fail> {
 }
 
 // Commands, and whether they are a block.
-const MADE: [(&[Ask], bool); 5] = [
+static MADE: [(&[Ask], bool); 5] = [
     (&[], false),
     (
         &[

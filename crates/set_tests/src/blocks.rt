@@ -67,7 +67,7 @@ fn play(
     Ok(())
 }
 
-const ONE_COMMIT: [Row; 2] = [
+static ONE_COMMIT: [Row; 2] = [
     (
         &[Add(0, 5), Move(0, 20, 5), Pair(0, 20, 5)],
         &[
@@ -89,7 +89,7 @@ fn a_block_is_one_commit(rt: HostRuntime) -> Result<(), Fail> {
     Ok(play(&rt, rt.alloc(), store, &ONE_COMMIT)?)
 }
 
-const FULL_IN_PART: [Row; 4] = [
+static FULL_IN_PART: [Row; 4] = [
     (
         &[Add(0, 1), Add(10, 2), Add(0, 3)],
         &[Reply::Full, Reply::Full, Reply::Full],
@@ -114,7 +114,7 @@ fn a_block_that_is_full_in_part_changes_nothing(rt: HostRuntime) -> Result<(), F
     Ok(play(&rt, rt.alloc(), store, &FULL_IN_PART)?)
 }
 
-const UNDONE: [Row; 2] = [
+static UNDONE: [Row; 2] = [
     (
         &[Add(20, 7), Del(20, 7)],
         &[Reply::Yes, Reply::Yes],
@@ -129,7 +129,7 @@ fn what_a_later_command_undoes_is_a_commit(rt: HostRuntime) -> Result<(), Fail> 
     Ok(play(&rt, rt.alloc(), store, &UNDONE)?)
 }
 
-const SEEN: [Row; 2] = [
+static SEEN: [Row; 2] = [
     (
         &[Put(3, 7, 9), Get(3, 7), Put(3, 7, 8)],
         &[Reply::Yes, Reply::Value { value: 9 }, Reply::Yes],
@@ -148,7 +148,7 @@ fn a_command_sees_what_those_before_it_do(rt: HostRuntime) -> Result<(), Fail> {
     Ok(play(&rt, rt.alloc(), store, &SEEN)?)
 }
 
-const WHOLE_SET: [Row; 3] = [
+static WHOLE_SET: [Row; 3] = [
     (
         &[Add(0, 4), Add(0, 2)],
         &[Reply::Yes, Reply::Yes],
@@ -164,7 +164,7 @@ fn a_block_that_reads_a_whole_set_is_a_read(rt: HostRuntime) -> Result<(), Fail>
     Ok(play(&rt, rt.alloc(), store, &WHOLE_SET)?)
 }
 
-const LAST_TIME: [Row; 3] = [
+static LAST_TIME: [Row; 3] = [
     (&[Add(0, 1)], &[Reply::Yes], Commit(1)),
     (
         &[Has(0, 1), Add(0, 2)],

@@ -5,7 +5,7 @@ use std::process::Abort;
 use std::test::*;
 
 // A name, a key, a value, and whether the key is new.
-const INSERTS: [(u32, u32, u64, bool); 6] = [
+static INSERTS: [(u32, u32, u64, bool); 6] = [
     (0, 5, 0, true),
     (29, 5, 7, true),
     (0, 3, 1, true),
@@ -23,7 +23,7 @@ fn insert_all(rt: &impl Abort, catalogue: &mut Catalogue) -> Result<(), AllocErr
 }
 
 // A name, a key, and whether the key was there.
-const REMOVES: [(u32, u32, bool); 3] = [(0, 4, true), (0, 4, false), (1, 5, false)];
+static REMOVES: [(u32, u32, bool); 3] = [(0, 4, true), (0, 4, false), (1, 5, false)];
 
 fn remove_all(rt: &impl Abort, catalogue: &mut Catalogue) {
     for (name, key, taken) in &REMOVES {
@@ -33,7 +33,7 @@ fn remove_all(rt: &impl Abort, catalogue: &mut Catalogue) {
 }
 
 // A name, its keys, and their values.
-const LEFT: [(u32, &[u32], &[u64]); 3] = [
+static LEFT: [(u32, &[u32], &[u64]); 3] = [
     (0, &[3, 5, 4294967295], &[1, 2, 18446744073709551615]),
     (29, &[5], &[7]),
     (1, &[], &[]),

@@ -80,7 +80,7 @@ fn expect_keys(rt: &impl Abort, all: &Catalogue, rows: &[Keys]) {
     }
 }
 
-const ROOM_FOR_TWO: [Row; 6] = [
+static ROOM_FOR_TWO: [Row; 6] = [
     (Add(0, 1), Reply::Yes, Commit(1)),
     (Add(10, 2), Reply::Yes, Commit(2)),
     (Add(0, 3), Reply::Full, Read(2)),
@@ -89,7 +89,7 @@ const ROOM_FOR_TWO: [Row; 6] = [
     (Move(10, 1, 2), Reply::Yes, Commit(5)),
 ];
 
-const ENDS_OF_TWO: [Keys; 2] = [(0, &[3]), (1, &[2])];
+static ENDS_OF_TWO: [Keys; 2] = [(0, &[3]), (1, &[2])];
 
 #[test]
 fn a_store_is_full_and_has_room_again_after_a_del(rt: HostRuntime) -> Result<(), Fail> {
@@ -99,7 +99,7 @@ fn a_store_is_full_and_has_room_again_after_a_del(rt: HostRuntime) -> Result<(),
     Ok(())
 }
 
-const TREE_AND_LIST: [Row; 6] = [
+static TREE_AND_LIST: [Row; 6] = [
     (Add(20, 5), Reply::Yes, Commit(1)),
     (Add(20, 3), Reply::Yes, Commit(2)),
     (Add(0, 1), Reply::Full, Read(2)),
@@ -108,7 +108,7 @@ const TREE_AND_LIST: [Row; 6] = [
     (Move(20, 0, 3), Reply::Yes, Commit(5)),
 ];
 
-const END_OF_LIST: [Keys; 1] = [(0, &[1, 3])];
+static END_OF_LIST: [Keys; 1] = [(0, &[1, 3])];
 
 #[test]
 fn a_tree_takes_two_nodes_for_its_second_key(rt: HostRuntime) -> Result<(), Fail> {
@@ -118,7 +118,7 @@ fn a_tree_takes_two_nodes_for_its_second_key(rt: HostRuntime) -> Result<(), Fail
     Ok(())
 }
 
-const LAST_TIME: [Row; 2] = [
+static LAST_TIME: [Row; 2] = [
     (Add(0, 1), Reply::Yes, Commit(1)),
     (Add(0, 2), Reply::Worn, Read(1)),
 ];
@@ -129,7 +129,7 @@ fn no_time_is_left_after_the_last_commit(rt: HostRuntime) -> Result<(), Fail> {
     Ok(())
 }
 
-const VALUES: [Row; 8] = [
+static VALUES: [Row; 8] = [
     (Get(20, 7), Reply::NoKey, Read(0)),
     (Put(20, 7, 9), Reply::Yes, Commit(1)),
     (Put(20, 7, 9), Reply::No, Read(1)),

@@ -2,7 +2,7 @@
 // answer that a store is full.
 ghost use Rattle.std.specs.Prelude.{◌≡◌, ◌<◌, ◌≤◌, length, IfOk};
 
-use crate::asked::Ask::{Add, Del, Move, Put, Size};
+use crate::asked::Ask::{Add, Del, Has, Move, Next, Put, Size};
 use crate::asked::{Ask, command};
 use crate::counted::Counted;
 use mv_history::{PlainStore, Section, Store, WORDS};
@@ -70,7 +70,7 @@ fn expect_sizes(
 }
 
 // The head and 200 nodes; 16 heads and 200 nodes.
-const LIST_AND_TABLE: [(u32, u32); 2] = [(3, 201), (13, 216)];
+static LIST_AND_TABLE: [(u32, u32); 2] = [(3, 201), (13, 216)];
 
 #[test]
 fn a_list_and_a_table_are_read_once(rt: HostRuntime) -> Result<(), Fail> {
@@ -85,7 +85,7 @@ fn a_list_and_a_table_are_read_once(rt: HostRuntime) -> Result<(), Fail> {
 }
 
 // The root and 259 nodes, and one node twice where more than 64 links are pending.
-const TREES: [(u32, u32); 3] = [(20, 260), (21, 261), (22, 260)];
+static TREES: [(u32, u32); 3] = [(20, 260), (21, 261), (22, 260)];
 
 #[test]
 fn a_tree_is_read_once_whatever_its_form(rt: HostRuntime) -> Result<(), Fail> {
@@ -136,7 +136,7 @@ type Hinted = HintedStore<Counted<PlainStore<SetRules>>>;
 type Row = (Ask, Reply, Place, u32);
 
 // What a store of ten nodes is asked that has the keys 1 to 10 in `l3`.
-const FULL: [Row; 16] = [
+static FULL: [Row; 16] = [
     // A list's search reads the key and the link of each object up to where it ends, and then all words of
     // the two between which the key is: the head, the first node, both again, and a look through ten nodes;
     // then no look.
@@ -193,58 +193,46 @@ fn a_full_store_is_looked_through_once(rt: HostRuntime) -> Result<(), Fail> {
     Ok(())
 }
 
-fn has_of(name: Name, key: u32) -> Command {
-    Command::Has { name, key }
-}
-
 // A store whose list 3 has the keys 1 to 100. Falling keys are added at its head, where no walk is long.
-fn open_long(alloc: Global) -> Result<PlainStore<SetRules>, AllocError>
-    ensures { IfOk result (λ store. (seat_of store).write_max ≡ 16) }
-{
+fn open_long(rt: &impl Abort, alloc: Global) -> Result<PlainStore<SetRules>, AllocError> {
     let mut hints = Hints::none();
-    let mut store = open(alloc)?;
+    let mut store = open(alloc, 1000, 1000)?;
     for i in 0..100 {
-        store = add(store, &mut hints, 3, 100 - i);
+        store = add(rt, store, &mut hints, 3, 100 - i);
     }
     Ok(store)
 }
+
+// What a store is asked that has the keys 1 to 100 in `l3`, and no finger yet.
+static FINGERS: [Row; 11] = [
+    // From the head, past 89 nodes; a finger stays at 89.
+    (Has(3, 90), Reply::Yes, Read(100), 93),
+    (Has(3, 90), Reply::Yes, Read(100), 5),
+    (Next(3, 95), Reply::Key { key: 95 }, Read(100), 10),
+    // No finger is before 80; the walk leaves one at 79.
+    (Has(3, 80), Reply::Yes, Read(100), 83),
+    (Del(3, 89), Reply::Yes, Commit(101), 14),
+    // The node of key 89 is vacant, so the search begins at the head, and its finger goes to 88.
+    (Has(3, 90), Reply::Yes, Read(101), 94),
+    (Has(3, 90), Reply::Yes, Read(101), 5),
+    // The node of key 88 comes into another list.
+    (Del(3, 88), Reply::Yes, Commit(102), 13),
+    (Add(4, 88), Reply::Yes, Commit(103), 3),
+    (Has(3, 90), Reply::Yes, Read(103), 93),
+    // From 87 on to the end.
+    (Has(3, 101), Reply::No, Read(103), 14),
+];
 
 // A search reads a finger's owner and its key, and where these are right then the key and the link of each node behind it
 // up to where it ends, else of the head and each node from there; and all words of the two between which the key is.
 #[test]
 fn a_search_begins_at_a_finger(rt: HostRuntime) -> Result<(), Fail> {
     let hints = Hints::new(rt.alloc(), 1)?;
-    let view = open_long(rt.alloc())?;
-    let mut store = HintedStore::new(Counted { view, reads: 0 }, hints);
-    let name = set(3);
-    let next_key = Command::Next { name, key: 95 };
-    for (command, reply, place, reads) in [
-        // From the head, past 89 nodes; a finger stays at 89.
-        (has_of(name, 90), Reply::Yes, Place::Read(100), 93),
-        (has_of(name, 90), Reply::Yes, Place::Read(100), 5),
-        (next_key, Reply::Key { key: 95 }, Place::Read(100), 10),
-        // No finger is before 80; the walk leaves one at 79.
-        (has_of(name, 80), Reply::Yes, Place::Read(100), 83),
-        (del_of(name, 89), Reply::Yes, Place::Commit(101), 14),
-        // The node of key 89 is vacant, so the search begins at the head, and its finger goes to 88.
-        (has_of(name, 90), Reply::Yes, Place::Read(101), 94),
-        (has_of(name, 90), Reply::Yes, Place::Read(101), 5),
-        // The node of key 88 comes into another list.
-        (del_of(name, 88), Reply::Yes, Place::Commit(102), 13),
-        (add_of(set(4), 88), Reply::Yes, Place::Commit(103), 3),
-        (has_of(name, 90), Reply::Yes, Place::Read(103), 93),
-        // From 87 on to the end.
-        (has_of(name, 101), Reply::No, Place::Read(103), 14),
-    ] {
-        let before = store.store().reads;
-        let (next, answer) = store.attempt(&command);
-        assert_eq!(rt; answer, Attempt::Done { reply, place });
-        assert_eq!(rt; next.store().reads.saturating_sub(before), reads);
-        store = next;
-    }
+    let view = open_long(&rt, rt.alloc())?;
+    let store = HintedStore::new(Counted { view, reads: 0 }, hints);
     let Counted {
         view: _plain,
         reads: _,
-    } = store.into_store();
+    } = play(&rt, store, &FINGERS).into_store();
     Ok(())
 }

@@ -56,7 +56,7 @@ fn count_reads(store: PlainStore<GrowRules>, ask: Ask) -> (PlainStore<GrowRules>
 // A command, its reply, its place, and how many reads it takes.
 type Row = (Ask, Reply, Place, u32);
 
-const ROWS: [Row; 12] = [
+static ROWS: [Row; 12] = [
     // The table and the head, and a vacant node.
     (Ask::Add(1), Reply::Yes, Place::Commit(1), 4),
     // The nodes up to the key or the end, then once more the last object before it.

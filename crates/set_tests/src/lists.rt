@@ -119,7 +119,7 @@ fn ask_all<V: View>(rt: &impl Abort, view: &mut V, rows: &[(u32, Asked)])
     }
 }
 
-const ASKED: [(u32, Asked); 9] = [
+static ASKED: [(u32, Asked); 9] = [
     (1, Has(2, true)),
     (1, Has(3, false)),
     (1, Get(2, Some(7))),
@@ -132,7 +132,7 @@ const ASKED: [(u32, Asked); 9] = [
 ];
 
 // The head, the nodes of 1 and 2, and the one that was of 3.
-const LEFT: [Object; 4] = [
+static LEFT: [Object; 4] = [
     (1, [0, 0, 0, 180, 0, 0]),
     (180, [2, 0, 1, 182, 0, 10]),
     (182, [2, 0, 2, 0, 0, 7]),

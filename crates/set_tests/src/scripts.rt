@@ -69,7 +69,7 @@ fn every_command_is_read(rt: HostRuntime) -> Result<(), Fail> {
     Ok(accepts(&rt, rt.alloc(), EVERY_COMMAND.0, EVERY_COMMAND.1)?)
 }
 
-const ODD: [Good; 10] = [
+static ODD: [Good; 10] = [
     (b"", &[]),
     (b"\n\r\n \t\n#", &[]),
     (
@@ -90,7 +90,7 @@ fn odd_texts_are_accepted(rt: HostRuntime) -> Result<(), Fail> {
     Ok(accepts_all(&rt, rt.alloc(), &ODD)?)
 }
 
-const WRONG_FIRST: [Broken; 10] = [
+static WRONG_FIRST: [Broken; 10] = [
     (b"add l0 4294967296", 1, FaultKind::Key),
     (b"add l0", 1, FaultKind::Count),
     (b"ADD l0 1", 1, FaultKind::Word),
@@ -108,7 +108,7 @@ fn a_line_is_refused_for_what_is_wrong_first(rt: HostRuntime) {
     refuses_all(&rt, rt.alloc(), &WRONG_FIRST);
 }
 
-const BROKEN: [Broken; 15] = [
+static BROKEN: [Broken; 15] = [
     (b"has l0 1\nhas l0", 2, FaultKind::Count),
     (b"\n\nsize", 3, FaultKind::Count),
     (b"pair l0 l0 1 2", 1, FaultKind::Count),
@@ -131,7 +131,7 @@ fn broken_scripts_are_refused(rt: HostRuntime) {
     refuses_all(&rt, rt.alloc(), &BROKEN);
 }
 
-const FORMATS: [Good; 3] = [
+static FORMATS: [Good; 3] = [
     (b"format 2", &[]),
     (b"format 1\nhas l0 1", &[Has(0, 1)]),
     (
@@ -140,7 +140,7 @@ const FORMATS: [Good; 3] = [
     ),
 ];
 
-const BROKEN_FORMATS: [Broken; 10] = [
+static BROKEN_FORMATS: [Broken; 10] = [
     (b"format 3", 1, FaultKind::Format),
     (b"\nformat 02", 2, FaultKind::Format),
     (b"format", 1, FaultKind::Count),
@@ -160,7 +160,7 @@ fn the_first_line_with_words_may_name_a_format(rt: HostRuntime) -> Result<(), Fa
     Ok(())
 }
 
-const VALUES: [Broken; 10] = [
+static VALUES: [Broken; 10] = [
     (b"put l0 5 7", 1, FaultKind::Word),
     (b"get l0 5", 1, FaultKind::Word),
     (b"format 1\nput l0 5 7", 2, FaultKind::Word),
@@ -208,7 +208,7 @@ fn one_command_too_many(rt: HostRuntime) -> Result<(), Fail> {
 // A line, the number of the format that it is read in, and what it is.
 type Line = (&'static [u8], u32, Result<Option<Ask>, FaultKind>);
 
-const LINES: [Line; 6] = [
+static LINES: [Line; 6] = [
     (b"get l3 12\r", 2, Ok(Some(Get(3, 12)))),
     (b"get l3 12\r", 1, Err(FaultKind::Word)),
     (b" # add l3 12", 1, Ok(None)),

@@ -120,7 +120,7 @@ fn ask_all<V: View>(rt: &impl Abort, view: &mut V, rows: &[(u32, Asked)])
     }
 }
 
-const ASKED: [(u32, Asked); 9] = [
+static ASKED: [(u32, Asked); 9] = [
     (1, Has(20, true)),
     (1, Has(19, false)),
     (1, Get(3, Some(7))),
@@ -133,7 +133,7 @@ const ASKED: [(u32, Asked); 9] = [
 ];
 
 // Two heads, the nodes of 3 and 20, and the one that was of 19.
-const LEFT: [Object; 5] = [
+static LEFT: [Object; 5] = [
     (29, [0, 0, 0, 181, 0, 0]),
     (30, [0, 0, 0, 182, 0, 0]),
     (181, [30, 0, 3, 0, 0, 7]),

@@ -152,7 +152,7 @@ fn ask_all<V: View>(rt: &impl Abort, view: &mut V, root: u32, rows: &[Asked])
     }
 }
 
-const ASKED: [Asked; 5] = [
+static ASKED: [Asked; 5] = [
     Get(30, Some(7)),
     Next(11, Some(20)),
     Next(31, Some(40)),
@@ -161,7 +161,7 @@ const ASKED: [Asked; 5] = [
 ];
 
 // The root, the inner nodes, and the leaf of 30.
-const FILLED: [Object; 5] = [
+static FILLED: [Object; 5] = [
     (171, [0, 0, 0, 183, 0, 0]),
     (183, [172, 2, 40, 185, 182, 0]),
     (185, [172, 2, 20, 184, 187, 0]),
@@ -182,7 +182,7 @@ fn a_tree_of_four_keys(rt: HostRuntime) -> Result<(), Fail> {
 }
 
 // The root, the inner node that is left, and the nodes of 30.
-const THIN: [Object; 4] = [
+static THIN: [Object; 4] = [
     (171, [0, 0, 0, 185, 0, 0]),
     (185, [172, 2, 20, 184, 180, 0]),
     (187, [0; 6]),
@@ -201,7 +201,7 @@ fn a_sibling_moves_up(rt: HostRuntime) -> Result<(), Fail> {
 }
 
 // The root, and the leaf of the last key.
-const EMPTIED: [Object; 2] = [(171, [0; 6]), (180, [0; 6])];
+static EMPTIED: [Object; 2] = [(171, [0; 6]), (180, [0; 6])];
 
 #[test]
 fn a_tree_is_emptied(rt: HostRuntime) -> Result<(), Fail> {

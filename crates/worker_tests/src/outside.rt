@@ -16,7 +16,7 @@ fn write_all<S: Sink>(rt: &impl Abort, sink: &mut S, rows: &[Piece]) {
 }
 
 // Three bytes a call at most, in all five; the second call fails.
-const PIECES: [Piece; 4] = [
+static PIECES: [Piece; 4] = [
     (b"abcd", Some(3)),
     (b"d", None),
     (b"def", Some(2)),

@@ -79,7 +79,7 @@ fn four(name: Name) -> [Command; 4] {
 }
 
 // Where each of them takes place, and its reply.
-const DONE: [(Place, Reply); 4] = [
+static DONE: [(Place, Reply); 4] = [
     (Place::Commit(1), Reply::Yes),
     (Place::Commit(2), Reply::Yes),
     (Place::Read(2), Reply::No),

@@ -65,12 +65,12 @@ const TABLE_OF_ONE: LogTable = LogTable {
     ..NO_TABLE
 };
 
-const TWO: [Row; 2] = [
+static TWO: [Row; 2] = [
     (0, 1, Place::Commit(1), Reply::Yes),
     (0, 2, Place::Read(1), Reply::Yes),
 ];
 
-const FIVE: [Key; 1] = [(0, 5, 0)];
+static FIVE: [Key; 1] = [(0, 5, 0)];
 
 const WITHOUT_LOG: &[u8] = b"0.1 c1 yes\n0.2 r1 yes\nl0 5\n";
 
@@ -91,13 +91,13 @@ fn empty_file(rt: HostRuntime) -> Result<(), Fail> {
     Ok(prints(&rt, rt.alloc(), &[], &[], &[NO_TABLE], EMPTY)?)
 }
 
-const UNCHANGED: [Row; 3] = [
+static UNCHANGED: [Row; 3] = [
     (63, 65536, Place::Read(35184372088831), Reply::Worn),
     (0, 1, Place::Read(0), Reply::Full),
     (0, 2, Place::Read(0), Reply::No),
 ];
 
-const OF_EACH_KIND: [Key; 5] = [
+static OF_EACH_KIND: [Key; 5] = [
     (29, 4294967295, 18446744073709551615),
     (20, 7, 0),
     (19, 1, 1),
@@ -113,7 +113,7 @@ fn sets_stand_in_the_order_of_their_names(rt: HostRuntime) -> Result<(), Fail> {
     Ok(prints(&rt, rt.alloc(), &UNCHANGED, &OF_EACH_KIND, &[], IN_ORDER)?)
 }
 
-const ORDERED: [Row; 6] = [
+static ORDERED: [Row; 6] = [
     (1, 1, Place::Read(0), Reply::No),
     (1, 2, Place::Commit(1), Reply::Yes),
     (0, 1, Place::Read(1), Reply::Yes),
@@ -123,7 +123,7 @@ const ORDERED: [Row; 6] = [
 ];
 
 // The same lines.
-const SHUFFLED: [Row; 6] = [
+static SHUFFLED: [Row; 6] = [
     (0, 3, Place::Commit(2), Reply::Yes),
     (0, 1, Place::Read(1), Reply::Yes),
     (0, 2, Place::Read(1), Reply::No),
@@ -141,7 +141,7 @@ fn lines_stand_by_time_and_commits_before_reads(rt: HostRuntime) -> Result<(), F
     Ok(())
 }
 
-const REPLIES: [(Reply, &str); 13] = [
+static REPLIES: [(Reply, &str); 13] = [
     (Reply::Yes, "yes"),
     (Reply::No, "no"),
     (Reply::Full, "full"),
@@ -202,7 +202,7 @@ const TABLE_OF_THREE: LogTable = LogTable {
     ..NO_TABLE
 };
 
-const VALUES: [Row; 7] = [
+static VALUES: [Row; 7] = [
     (0, 1, Place::Commit(1), Reply::Yes),
     (0, 2, Place::Read(1), Reply::No),
     (0, 3, Place::Read(1), Reply::Value { value: 7 }),
@@ -212,7 +212,7 @@ const VALUES: [Row; 7] = [
     (0, 7, Place::Read(3), Reply::NoKey),
 ];
 
-const WITH_VALUE: [Key; 2] = [(0, 6, 0), (20, 5, 7)];
+static WITH_VALUE: [Key; 2] = [(0, 6, 0), (20, 5, 7)];
 
 const VALUES_TEXT: &[u8] =
     b"0.1 c1 yes\n0.2 r1 no\n0.3 r1 7\n0.4 c2 yes\n0.5 c3 yes\n0.6 r3 7\n0.7 r3 none\n\
@@ -231,7 +231,7 @@ fn values_follow_their_keys(rt: HostRuntime) -> Result<(), Fail> {
     Ok(())
 }
 
-const COUNTED: [Row; 12] = [
+static COUNTED: [Row; 12] = [
     (0, 1, Place::Commit(1), Reply::Yes),
     (1, 1, Place::Commit(2), Reply::Yes),
     (0, 2, Place::Read(2), Reply::Yes),
@@ -254,7 +254,7 @@ const COUNTED: [Row; 12] = [
     (3, 5, Place::Read(2), Reply::NoKey),
 ];
 
-const COUNTED_KEYS: [Key; 5] = [
+static COUNTED_KEYS: [Key; 5] = [
     (29, 3, 0),
     (9, 7, 0),
     (9, 2, 0),

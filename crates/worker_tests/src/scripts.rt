@@ -35,7 +35,7 @@ fn five(alloc: Global, name: Name) -> Result<Vec<Command>, AllocError>
 }
 
 // Where each of them takes place, and its reply.
-const DONE: [(Place, Reply); 5] = [
+static DONE: [(Place, Reply); 5] = [
     (Place::Commit(41), Reply::Yes),
     (Place::Read(41), Reply::No),
     (Place::Read(41), Reply::Count { count: 1 }),

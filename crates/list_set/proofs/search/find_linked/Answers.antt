@@ -9,7 +9,8 @@ pub walk_from-requires-clause-few : goal.walk_from-requires-clause-few
 walk_from-requires-clause-few g c = rw (g.met.V.View.same_state _ _ c.read_pair-link.ensures.as_before) c.requires.few
 
 pub walk_from-requires-clause-behind : goal.walk_from-requires-clause-behind
-walk_from-requires-clause-behind g c = behind_head _ _ _ _ _ (sym (g.met.V.View.same_state _ _ c.read_pair-link.ensures.as_before)) c.read_pair-link.ensures.second
+walk_from-requires-clause-behind g c =
+    behind_head _ _ _ _ _ (sym (g.met.V.View.same_state _ _ c.read_pair-link.ensures.as_before)) c.read_pair-link.ensures.second
 
 pub returns-clause-spot : goal.returns-clause-spot
 returns-clause-spot g c = rw (g.met.V.View.same_state _ _ c.read_pair-link.ensures.as_before) at c.walk_from.ensures.spot

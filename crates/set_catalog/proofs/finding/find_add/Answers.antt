@@ -14,7 +14,13 @@ returns-clause-found g c =
     let missed = sym (c.has.ensures _ _ c.requires.lawful c.search_near-end.ensures.name_in (omega (arith, c.ranges.key.fits)) c.search_near-end.ensures.ends)
     ∙ c.if-has.false in
     new_found _ _ _ _ _ _ (g.met.V.View.same_state _ _ c.search_near-end.ensures.as_before) c.find_new.ensures.found (Add c.args.name c.args.key)
-    (record { name = c.args.name; name_in = c.search_near-end.ensures.name_in; ends = c.search_near-end.ensures.ends; absent = missed; adds = inl (refl, refl) })
+    (record {
+      name = c.args.name;
+      name_in = c.search_near-end.ensures.name_in;
+      ends = c.search_near-end.ensures.ends;
+      absent = missed;
+      adds = inl (refl, refl);
+    })
 
 pub returns-clause-untouched : goal.returns-clause-untouched
 returns-clause-untouched g c z = absurd (takes_some c.args.name (g.V.View.state c.args.view.now) z)

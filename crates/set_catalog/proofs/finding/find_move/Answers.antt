@@ -12,7 +12,8 @@ returns-in_default-clause-found g c =
 
 pub returns-then-has-clause-found : goal.returns-then-has-clause-found
 returns-then-has-clause-found g c =
-    let to = ends_same _ _ c.args.target c.args.key c.search_near-to.result (g.met.V.View.same_state _ _ c.search_near-from.ensures.as_before) c.search_near-to.ensures.ends in
+    let same = g.met.V.View.same_state _ _ c.search_near-from.ensures.as_before in
+    let to = ends_same _ _ c.args.target c.args.key c.search_near-to.result same c.search_near-to.ensures.ends in
     let has = c.in-Some.ensures _ _ c.requires.lawful c.search_near-from.ensures.name_in (omega (arith, c.ranges.key.fits)) c.search_near-from.ensures.ends in
     move_no (g.V.View.state c.args.view.now) c.args.source c.args.target c.args.key
     c.requires.lawful c.search_near-from.ensures.name_in c.search_near-to.ensures.name_in (omega (arith, c.ranges.key.fits)) c.in-Some.value has
@@ -20,7 +21,8 @@ returns-then-has-clause-found g c =
 
 pub returns-in_default-vacant_for-clause-found : goal.returns-in_default-vacant_for-clause-found
 returns-in_default-vacant_for-clause-found g c =
-    let to = ends_same _ _ c.args.target c.args.key c.search_near-to.result (g.met.V.View.same_state _ _ c.search_near-from.ensures.as_before) c.search_near-to.ensures.ends in
+    let same = g.met.V.View.same_state _ _ c.search_near-from.ensures.as_before in
+    let to = ends_same _ _ c.args.target c.args.key c.search_near-to.result same c.search_near-to.ensures.ends in
     let missed = sym (c.has.ensures _ _ c.requires.lawful c.search_near-to.ensures.name_in (omega (arith, c.ranges.key.fits)) to) ∙ c.if-has.false in
     let has = c.in-Some.ensures _ _ c.requires.lawful c.search_near-from.ensures.name_in (omega (arith, c.ranges.key.fits)) c.search_near-from.ensures.ends in
     move_short (g.V.View.state c.args.view.now) c.args.source c.args.target c.args.key
@@ -33,7 +35,8 @@ returns-in_default-vacant_for-clause-found g c =
 
 pub returns-in_default-vacant_for-clause-untouched : goal.returns-in_default-vacant_for-clause-untouched
 returns-in_default-vacant_for-clause-untouched g c z =
-    let to = ends_same _ _ c.args.target c.args.key c.search_near-to.result (g.met.V.View.same_state _ _ c.search_near-from.ensures.as_before) c.search_near-to.ensures.ends in
+    let same = g.met.V.View.same_state _ _ c.search_near-from.ensures.as_before in
+    let to = ends_same _ _ c.args.target c.args.key c.search_near-to.result same c.search_near-to.ensures.ends in
     let missed = sym (c.has.ensures _ _ c.requires.lawful c.search_near-to.ensures.name_in (omega (arith, c.ranges.key.fits)) to) ∙ c.if-has.false in
     let has = c.in-Some.ensures _ _ c.requires.lawful c.search_near-from.ensures.name_in (omega (arith, c.ranges.key.fits)) c.search_near-from.ensures.ends in
     c.in_default-vacant_for.ensures.untouched (move_wants (g.V.View.state c.args.view.now) c.args.source c.args.target c.args.key
@@ -44,7 +47,8 @@ returns-in_default-vacant_for-clause-untouched g c z =
 
 pub add-requires-clause-room : goal.add-requires-clause-room
 add-requires-clause-room g c =
-    let to = ends_same _ _ c.args.target c.args.key c.search_near-to.result (g.met.V.View.same_state _ _ c.search_near-from.ensures.as_before) c.search_near-to.ensures.ends in
+    let same = g.met.V.View.same_state _ _ c.search_near-from.ensures.as_before in
+    let to = ends_same _ _ c.args.target c.args.key c.search_near-to.result same c.search_near-to.ensures.ends in
     let missed = sym (c.has.ensures _ _ c.requires.lawful c.search_near-to.ensures.name_in (omega (arith, c.ranges.key.fits)) to) ∙ c.if-has.false in
     let has = c.in-Some.ensures _ _ c.requires.lawful c.search_near-from.ensures.name_in (omega (arith, c.ranges.key.fits)) c.search_near-from.ensures.ends in
     let there = has_key-some c.args.key c.in-Some.value (map_of c.args.source (catalogue_of (g.V.View.state c.args.view.now))) (sym has) in
@@ -58,7 +62,8 @@ add-requires-clause-room g c =
 
 pub returns-clause-found : goal.returns-clause-found
 returns-clause-found g c =
-    let to = ends_same _ _ c.args.target c.args.key c.search_near-to.result (g.met.V.View.same_state _ _ c.search_near-from.ensures.as_before) c.search_near-to.ensures.ends in
+    let same = g.met.V.View.same_state _ _ c.search_near-from.ensures.as_before in
+    let to = ends_same _ _ c.args.target c.args.key c.search_near-to.result same c.search_near-to.ensures.ends in
     let missed = sym (c.has.ensures _ _ c.requires.lawful c.search_near-to.ensures.name_in (omega (arith, c.ranges.key.fits)) to) ∙ c.if-has.false in
     let has = c.in-Some.ensures _ _ c.requires.lawful c.search_near-from.ensures.name_in (omega (arith, c.ranges.key.fits)) c.search_near-from.ensures.ends in
     let there = has_key-some c.args.key c.in-Some.value (map_of c.args.source (catalogue_of (g.V.View.state c.args.view.now))) (sym has) in
@@ -80,7 +85,8 @@ returns-clause-found g c =
 
 pub returns-clause-untouched : goal.returns-clause-untouched
 returns-clause-untouched g c z =
-    let to = ends_same _ _ c.args.target c.args.key c.search_near-to.result (g.met.V.View.same_state _ _ c.search_near-from.ensures.as_before) c.search_near-to.ensures.ends in
+    let same = g.met.V.View.same_state _ _ c.search_near-from.ensures.as_before in
+    let to = ends_same _ _ c.args.target c.args.key c.search_near-to.result same c.search_near-to.ensures.ends in
     let missed = sym (c.has.ensures _ _ c.requires.lawful c.search_near-to.ensures.name_in (omega (arith, c.ranges.key.fits)) to) ∙ c.if-has.false in
     let has = c.in-Some.ensures _ _ c.requires.lawful c.search_near-from.ensures.name_in (omega (arith, c.ranges.key.fits)) c.search_near-from.ensures.ends in
     c.in-Some-vacant_for.ensures.untouched (move_wants (g.V.View.state c.args.view.now) c.args.source c.args.target c.args.key
@@ -94,7 +100,8 @@ search_near-to-requires g c = record { lawful = rw (g.met.V.View.same_state _ _ 
 
 pub vacant_for-requires-clause-lawful : goal.vacant_for-requires-clause-lawful
 vacant_for-requires-clause-lawful g c =
-    rw (g.met.V.View.same_state _ _ (g.met.V.View.as_long_before _ _ _ c.search_near-from.ensures.as_before c.search_near-to.ensures.as_before)) c.requires.lawful
+    let both = g.met.V.View.as_long_before _ _ _ c.search_near-from.ensures.as_before c.search_near-to.ensures.as_before in
+    rw (g.met.V.View.same_state _ _ both) c.requires.lawful
 
 pub vacant_for-requires-clause-few : goal.vacant_for-requires-clause-few
 vacant_for-requires-clause-few g c =

@@ -131,7 +131,11 @@ module _ (c : Config) (v w : View) (link first : ℕ) (may : MayLoadFirst v link
     pub walks_looked : (before here after : ℕ) → here ≡ before + 1 → after ≡ here + 1 → Walks v x before after
     walks_looked before here after one two =
         let at : Stand = stand_in v in
-        let s : Step = record { kind = LoadFirst; word = place_of c (First (link_seat_of at.link) (slot_named c at.link)); found = Some first; stored = None
+        let s : Step = record {
+          kind = LoadFirst;
+          word = place_of c (First (link_seat_of at.link) (slot_named c at.link));
+          found = Some first;
+          stored = None;
         } in
         let t : Step = record { kind = LoadStamp; word = place_of c (Stamp (link_seat_of at.link) (index_of c first)); found = Some found; stored = None } in
         record {

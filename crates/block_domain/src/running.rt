@@ -16,7 +16,7 @@ use mv_history::LogTable;
 use mvrlu::{Closing, Domain, Seat};
 use run_outside::Gate;
 use run_report::Line;
-use script_domain::lending::{Rows, give_back, lend, make_rows, take_tables};
+use script_domain::lending::{lend_all, take_back};
 use set_blocks::{Block, BlockRules};
 use std::alloc::{AllocError, Global};
 use std::sync::Wait;
@@ -76,7 +76,7 @@ fn run_seats<R: Threads + Wait + Sync, G: Gate>(
     rt: &R,
     alloc: Global,
     domain: &Domain<BlockRules>,
-    mut seats: Vec<Seat<BlockRules>>,
+    seats: Vec<Seat<BlockRules>>,
     scripts: &[Vec<Block>],
     gate: &G,
 ) -> FromSeats
@@ -88,23 +88,12 @@ fn run_seats<R: Threads + Wait + Sync, G: Gate>(
     ensures tables { IfOk result (λ done. AreTablesOf (map seat_of done.0.items) done.2.items) }
     ensures err { IfErr result (λ refused. map seat_of refused.0.items ≡ map seat_of seats.items) }
 {
-    let Rows {
-        mut tables,
-        mut handles,
-    } = match make_rows(alloc, seats.len()) {
-        Ok(rows) => rows,
-        Err(error) => return Err((seats, error)),
-    };
-    lend(domain, &mut seats, &mut handles);
+    let (handles, left) = lend_all(alloc, domain, seats)?;
     match run_blocks(rt, alloc, handles, scripts, gate) {
         Ok((handles, lines)) => {
-            take_tables(&handles, &mut tables);
-            give_back(handles, &mut seats);
+            let (seats, tables) = take_back(handles, left);
             Ok((seats, lines, tables))
         }
-        Err((handles, error)) => {
-            give_back(handles, &mut seats);
-            Err((seats, error))
-        }
+        Err((handles, error)) => Err((take_back(handles, left).0, error)),
     }
 }

@@ -2,9 +2,11 @@
 ghost use Rattle.std.specs.Prelude.{◌≡◌, ◌≢◌, ◌<◌, IfOk, length};
 ghost use Rattle.mv_history.specs.PlainMeaning.{seat_of};
 
+use crate::comparing::assert_same;
 use accounts::{Accounts, Attempt, Moved, Sums, make_transfers, opening, read_sums, sum, transfer};
-use mv_history::PlainStore;
+use mv_history::{PlainStore, Words};
 use std::alloc::{AllocError, Global};
+use std::sync::Wait;
 use std::test::Fail;
 
 // Eight accounts with 100 each, at the time 40, with room for so many transfers.
@@ -34,50 +36,87 @@ fn attempt(
     transfer(store, from, to, amount)
 }
 
+// The answers of four transfers: one is done, one is short, one takes all that an account has, and one
+// comes after the last time.
+fn four_attempts(store: PlainStore<Accounts>) -> (PlainStore<Accounts>, [Attempt; 4])
+    requires objects { length (seat_of store).start ≡ 8 }
+    requires write_max { (seat_of store).write_max ≡ 16 }
+    ensures objects { length (seat_of result.0).start ≡ 8 }
+{
+    let (store, done) = attempt(store, 0, 1, 30);
+    let (store, short) = attempt(store, 0, 1, 71);
+    let (store, whole) = attempt(store, 1, 7, 130);
+    let (store, end) = attempt(store, 2, 3, 1);
+    (store, [done, short, whole, end])
+}
+
+// Accounts 0, 1, 2 and 7.
+fn some_accounts(store: &PlainStore<Accounts>) -> [Words; 4]
+    requires objects { length (seat_of store.now).start ≡ 8 }
+{
+    [
+        store.state(0),
+        store.state(1),
+        store.state(2),
+        store.state(7),
+    ]
+}
+
+// What four transfers are answered, some of the accounts after them, and the sum of all.
+fn attempts_alone(alloc: Global) -> Result<([Attempt; 4], [Words; 4], u64), AllocError> {
+    let (store, attempts) = four_attempts(open(alloc, 2)?);
+    let accounts = some_accounts(&store);
+    let (_store, sum) = sum(store);
+    Ok((attempts, accounts, sum))
+}
+
 #[test]
 fn each_answer_of_an_attempt(rt: HostRuntime) -> Result<(), Fail> {
-    let store = open(rt.alloc(), 2)?;
-    let (store, done) = attempt(store, 0, 1, 30);
-    assert_eq!(rt; done, Attempt::Done { time: 41 });
-    let (store, short) = attempt(store, 0, 1, 71);
+    let (attempts, accounts, sum) = attempts_alone(rt.alloc())?;
     let (time, balance) = (41, 70);
-    assert_eq!(rt; short, Attempt::Short { time, balance });
-    let (store, whole) = attempt(store, 1, 7, 130);
-    assert_eq!(rt; whole, Attempt::Done { time: 42 });
-    let (store, end) = attempt(store, 2, 3, 1);
-    assert_eq!(rt; end, Attempt::End);
-    assert_eq!(rt; store.state(0), [70, 0, 0, 0, 0, 0]);
-    assert_eq!(rt; store.state(1), [0; 6]);
-    assert_eq!(rt; store.state(2), [100, 0, 0, 0, 0, 0]);
-    assert_eq!(rt; store.state(7), [230, 0, 0, 0, 0, 0]);
-    let (_store, sum) = sum(store);
-    assert_eq!(rt; sum, 800);
+    let wanted = [
+        Attempt::Done { time },
+        Attempt::Short { time, balance },
+        Attempt::Done { time: 42 },
+        Attempt::End,
+    ];
+    assert_same(&rt, &attempts, &wanted, "attempts");
+    let balances = [
+        [70, 0, 0, 0, 0, 0],
+        [0; 6],
+        [100, 0, 0, 0, 0, 0],
+        [230, 0, 0, 0, 0, 0],
+    ];
+    assert_same(&rt, &accounts, &balances, "accounts");
+    assert_same(&rt, &sum, &800, "sum");
     Ok(())
+}
+
+// What 60 transfers in a store with room for so many come to, and three sums after them.
+fn transfers_alone(rt: &impl Wait, alloc: Global, room: u32) -> Result<(Moved, Sums), AllocError> {
+    let (store, moved) = make_transfers(rt, open(alloc, room)?, 60);
+    let (_store, sums) = read_sums(store, 3);
+    Ok((moved, sums))
 }
 
 #[test]
 fn transfers_and_sums_of_one_seat(rt: HostRuntime) -> Result<(), Fail> {
-    let store = open(rt.alloc(), 60)?;
-    let (store, moved) = make_transfers(&rt, store, 60);
+    let (moved, sums) = transfers_alone(&rt, rt.alloc(), 60)?;
     let (transfers, refused) = (60, 0);
-    assert_eq!(rt; moved, Moved { transfers, refused });
-    let (_store, sums) = read_sums(store, 3);
+    assert_same(&rt, &moved, &Moved { transfers, refused }, "transfers");
     let (read, least, greatest) = (3, 800, 800);
-    assert_eq!(rt;
-        sums,
-        Sums {
-            read,
-            least,
-            greatest
-        }
-    );
+    let wanted = Sums {
+        read,
+        least,
+        greatest,
+    };
+    assert_same(&rt, &sums, &wanted, "sums");
     Ok(())
 }
 
 #[test]
 fn fewer_transfers_where_time_runs_out(rt: HostRuntime) -> Result<(), Fail> {
-    let store = open(rt.alloc(), 30)?;
-    let (_store, moved) = make_transfers(&rt, store, 60);
-    assert_eq!(rt; moved.transfers, 30);
+    let (moved, _) = transfers_alone(&rt, rt.alloc(), 30)?;
+    assert_same(&rt, &moved.transfers, &30, "transfers");
     Ok(())
 }

@@ -15,6 +15,10 @@
 mod accounts_alone;
 mod clients;
 #[cfg(test)]
+mod comparing;
+#[cfg(test)]
+mod lending;
+#[cfg(test)]
 mod log_rows;
 #[cfg(test)]
 mod moves;

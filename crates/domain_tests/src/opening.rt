@@ -1,6 +1,7 @@
 // Opening a domain, and the meeting of seats that did nothing.
 ghost use Rattle.std.specs.Prelude.{◌≡◌, ◌<◌, length};
 
+use crate::comparing::assert_same;
 use mv_history::{AnyRules, View, Words};
 use mv_layout::{Config, ConfigFault};
 use mvrlu::{OpenFault, open};
@@ -53,7 +54,12 @@ fn meet_at_once(
 fn new_seats_meet(rt: HostRuntime) -> Result<(), Fail> {
     let start = [[1, 2, 3, 4, 5, 6], [0; 6]];
     let met = meet_at_once(rt.alloc(), GOOD, &start)?;
-    assert_eq!(rt; met, (7, 2, [1, 2, 3, 4, 5, 6]));
+    assert_same(
+        &rt,
+        &met,
+        &(7, 2, [1, 2, 3, 4, 5, 6]),
+        "seats that meet at once",
+    );
     Ok(())
 }
 
@@ -90,26 +96,27 @@ static NUMBERS: [(Config, Option<ConfigFault>); 9] = [
     ),
 ];
 
+// The fault of opening a domain of these numbers with two objects.
+fn fault_with_two(alloc: Global, numbers: &Config) -> Option<OpenFault> {
+    let config = Config {
+        objects: 2,
+        ..*numbers
+    };
+    fault_of(alloc, config, &[[0; 6]; 2])
+}
+
+// The fault of opening a domain with no objects.
+fn fault_with_none(alloc: Global) -> Option<OpenFault> {
+    fault_of(alloc, Config { objects: 0, ..GOOD }, &[])
+}
+
 #[test]
 fn first_fault_of_the_numbers(rt: HostRuntime) -> Result<(), Fail> {
-    let start = [[0; 6]; 2];
-    // Each row has as many objects as the opening state.
-    for (config, fault) in &NUMBERS {
-        assert_eq!(rt;
-            fault_of(
-                rt.alloc(),
-                Config {
-                    objects: 2,
-                    ..*config
-                },
-                &start
-            ),
-            fault.map(OpenFault::Config)
-        );
+    for (numbers, fault) in &NUMBERS {
+        let found = fault_with_two(rt.alloc(), numbers);
+        assert_same(&rt, &found, &fault.map(OpenFault::Config), "numbers");
     }
-    assert_eq!(rt;
-        fault_of(rt.alloc(), Config { objects: 0, ..GOOD }, &[]),
-        Some(OpenFault::Config(ConfigFault::Objects))
-    );
+    let wanted = Some(OpenFault::Config(ConfigFault::Objects));
+    assert_same(&rt, &fault_with_none(rt.alloc()), &wanted, "no objects");
     Ok(())
 }

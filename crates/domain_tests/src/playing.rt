@@ -4,7 +4,9 @@ ghost use Rattle.mvrlu.specs.Meant.{numbers_of, seat_of};
 ghost use Rattle.mvrlu.specs.Orders.{AreRising, AreFalling};
 ghost use Rattle.domain_tests.specs.Clients.{seat_in};
 
-use crate::clients::{Client, give_back, lend};
+use crate::clients::Client;
+use crate::comparing::assert_same;
+use crate::lending::{give_back, lend};
 use crate::moves::{Answer, Move, make};
 use mv_history::{AnyRules, View, Words};
 use mv_layout::Config;
@@ -208,7 +210,7 @@ pub fn play_schedules(
     schedules: &[Schedule<'_>],
 ) -> Result<(), Fail> {
     for schedule in schedules {
-        assert_eq!(rt; played(alloc, schedule)?, None, "{}", schedule.name);
+        assert_same(rt, &played(alloc, schedule)?, &None, schedule.name);
     }
     Ok(())
 }

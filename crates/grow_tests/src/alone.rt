@@ -6,7 +6,7 @@ ghost use Rattle.mvrlu.specs.Orders.{AreRising};
 use crate::opening::{numbers, open_grown};
 use crate::steps::{Step, play};
 use grow_hash::GrowRules;
-use mv_history::View;
+use mv_history::{View, Words};
 use mvrlu::{Domain, Seat};
 use std::alloc::{AllocError, Global};
 use std::process::Abort;
@@ -15,17 +15,21 @@ use std::test::*;
 // The head of a bucket, and the keys of its list, in their order.
 pub(crate) type List = (u32, &'static [u64]);
 
+// Looks that these are the words of a node of this list, with this key. Its link is the answer.
+fn link_of(rt: &impl Abort, words: Words, head: u32, key: u64) -> u64 {
+    assert_eq!(rt; words, [head as u64 + 1, 0, key, words[3], 0, 0]);
+    words[3]
+}
+
 // Looks that the list has exactly nodes with its keys.
 fn expect_list<V: View>(rt: &impl Abort, view: &mut V, head: u32, keys: &[u64]) {
     assert!(rt; head < view.objects());
-    let mut words = view.read(head);
+    let mut node = view.read(head)[3];
     for key in keys {
-        let node = words[3];
         assert!(rt; node < view.objects() as u64);
-        words = view.read(node as u32);
-        assert_eq!(rt; words, [head as u64 + 1, 0, *key, words[3], 0, 0]);
+        node = link_of(rt, view.read(node as u32), head, *key);
     }
-    assert_eq!(rt; words[3], 0);
+    assert_eq!(rt; node, 0);
 }
 
 // Lets the one seat of a domain make the steps.

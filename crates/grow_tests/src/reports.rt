@@ -41,25 +41,31 @@ static BACKWARDS: [Row; 6] = [
     (1, Place::Commit(1), Reply::Yes),
 ];
 
-const TABLE: LogTable = LogTable {
+static TABLES: [LogTable; 1] = [LogTable {
     live: 16,
     freed: 0,
     back: 0,
     commits: 6,
     aborts: 0,
     rests: 0,
-};
+}];
 
-const TEXT: &[u8] = b"0.1 c1 yes\n0.2 c2 yes\n0.3 c4 yes\n0.4 c5 yes\n0.5 r6 yes\n0.6 r6 17\n\
+static KEYS: [u32; 4] = [17, 3, 1, 2];
+
+// The text of a run of these rows that ends with these keys.
+fn text_of(alloc: Global, rows: &[Row], keys: &[u32]) -> Result<Vec<u8>, AllocError> {
+    let mut lines = lines_of(alloc, rows)?;
+    order_grown(&mut lines);
+    let end = end_of(alloc, keys)?;
+    render_grown(alloc, &lines, &end, 2, &TABLES)
+}
+
+static TEXT: &[u8] = b"0.1 c1 yes\n0.2 c2 yes\n0.3 c4 yes\n0.4 c5 yes\n0.5 r6 yes\n0.6 r6 17\n\
     h0 1 2 3 17\nbuckets 18 splits 2\nlog 0 live 16 freed 0 back 0 commits 6 aborts 0 rests 0\n";
 
 #[test]
 fn the_buckets_stand_ahead_of_the_tables(rt: HostRuntime) -> Result<(), Fail> {
-    let alloc = rt.alloc();
-    let mut lines = lines_of(alloc, &BACKWARDS)?;
-    order_grown(&mut lines);
-    let end = end_of(alloc, &[17, 3, 1, 2])?;
-    let text = render_grown(alloc, &lines, &end, 2, &[TABLE])?;
+    let text = text_of(rt.alloc(), &BACKWARDS, &KEYS)?;
     assert_eq!(rt; text.as_slice(), TEXT);
     Ok(())
 }

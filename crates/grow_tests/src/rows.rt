@@ -7,6 +7,8 @@ use grow_hash::Split::{Done, Long, Whole, Worn};
 use mv_history::LAST;
 use set_script::Place::{Commit, Read};
 use set_script::Reply;
+use std::alloc::Global;
+use std::process::Abort;
 use std::test::*;
 
 // What is played, and what is wanted of the closing: its time, where the rests that make room are known, and some of its lists.
@@ -271,12 +273,18 @@ static ROWS: [Row; 13] = [
     },
 ];
 
+// Plays a row in a new domain.
+fn play_row(rt: &impl Abort, alloc: Global, row: &Row) -> Result<(), Fail> {
+    assert!(rt; 1025 < row.objects && row.objects < 65536);
+    let time = play_alone(rt, alloc, row.objects, row.base, row.steps, row.lists)?;
+    assert_eq!(rt; time, row.time.unwrap_or(time), "{}", row.name);
+    Ok(())
+}
+
 #[test]
 fn commands_and_splits_by_one_seat(rt: HostRuntime) -> Result<(), Fail> {
     for row in &ROWS {
-        assert!(rt; 1025 < row.objects && row.objects < 65536);
-        let time = play_alone(&rt, rt.alloc(), row.objects, row.base, row.steps, row.lists)?;
-        assert_eq!(rt; time, row.time.unwrap_or(time), "{}", row.name);
+        play_row(&rt, rt.alloc(), row)?;
     }
     Ok(())
 }

@@ -1,6 +1,7 @@
 // Scripts of a growing hash set that are accepted, and ones that are refused, with their line and their fault.
+use crate::steps::{Ask, command};
 use grow_script::parse_grow;
-use set_script::{Command, FaultKind, MOST_COMMANDS, Name, ScriptFault};
+use set_script::{Command, FaultKind, MOST_COMMANDS, ScriptFault};
 use std::alloc::{AllocError, Global};
 use std::process::Abort;
 use std::test::*;
@@ -14,29 +15,35 @@ fn parsed(rt: &impl Abort, alloc: Global, text: &[u8]) -> Result<Vec<Command>, S
     parse_grow(alloc, text)
 }
 
-const FIVE: &[u8] =
+static FIVE: &[u8] =
     b" # a set that grows\n\nformat 1\r\nadd h0 0\n\tdel h0 1 # gone\nhas h0 4294967295\nsize h0\nnext h0 007";
 
+static ASKED: [Ask; 5] = [
+    Ask::Add(0),
+    Ask::Del(1),
+    Ask::Has(4_294_967_295),
+    Ask::Size,
+    Ask::Next(7),
+];
+
+// Looks that these are the commands.
+fn expect_commands(rt: &impl Abort, found: &[Command], asks: &[Ask]) {
+    assert_eq!(rt; found.len(), asks.len());
+    for (index, ask) in asks.iter().enumerate() {
+        assert!(rt; index < found.len());
+        assert_eq!(rt; found[index], command(*ask));
+    }
+}
+
+// The commands of a text that has no fault.
+fn accepted(rt: &impl Abort, alloc: Global, text: &[u8]) -> Vec<Command> {
+    parsed(rt, alloc, text).ok().expect(rt, "a script")
+}
+
 #[test]
-fn the_five_commands_are_read(rt: HostRuntime) -> Result<(), Fail> {
-    let name = Name::new(10).ok_or("the name h0")?;
-    let commands = [
-        Command::Add { name, key: 0 },
-        Command::Del { name, key: 1 },
-        Command::Has {
-            name,
-            key: 4_294_967_295,
-        },
-        Command::Size { name },
-        Command::Next { name, key: 7 },
-    ];
-    let answer = parsed(&rt, rt.alloc(), FIVE).ok().ok_or("a script")?;
-    assert_eq!(rt; answer.as_slice(), commands.as_slice());
-    let none = parsed(&rt, rt.alloc(), b"# nothing\n")
-        .ok()
-        .ok_or("a script")?;
-    assert!(rt; none.is_empty());
-    Ok(())
+fn the_five_commands_are_read(rt: HostRuntime) {
+    expect_commands(&rt, &accepted(&rt, rt.alloc(), FIVE), &ASKED);
+    expect_commands(&rt, &accepted(&rt, rt.alloc(), b"# nothing\n"), &[]);
 }
 
 static BROKEN: [Broken; 24] = [
@@ -95,8 +102,8 @@ fn most_commands(alloc: Global) -> Result<Vec<u8>, AllocError> {
 #[test]
 fn as_many_commands_as_in_a_script(rt: HostRuntime) -> Result<(), Fail> {
     let mut text = most_commands(rt.alloc())?;
-    let most = parsed(&rt, rt.alloc(), &text).ok().ok_or("a script")?;
-    assert_eq!(rt; most.len(), MOST_COMMANDS);
+    let most = accepted(&rt, rt.alloc(), &text).len();
+    assert_eq!(rt; most, MOST_COMMANDS);
     text.extend_from_slice(b"has h0 1")?;
     refuses(&rt, rt.alloc(), &text, 65_537, FaultKind::Many);
     Ok(())

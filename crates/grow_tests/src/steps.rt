@@ -77,7 +77,15 @@ pub(crate) fn command(ask: Ask) -> Command
     }
 }
 
-// Attempts a command once.
+// Attempts a command once. Of what it ensures, its callers need only that the seat goes on.
+fn answer_of<S: Store<Rules = GrowRules>>(store: S, ask: Ask) -> (S, GrowStep)
+    requires most { most_writes ≤ (S.seat_of store).write_max }
+    ensures { Continues (S.seat_of store) (S.seat_of result.0) }
+{
+    attempt_grow(store, &command(ask))
+}
+
+// Attempts a command once, and looks at its reply and its place.
 fn attempt<S: Store<Rules = GrowRules>>(
     rt: &impl Abort,
     store: S,
@@ -88,7 +96,7 @@ fn attempt<S: Store<Rules = GrowRules>>(
     requires most { most_writes ≤ (S.seat_of store).write_max }
     ensures { Continues (S.seat_of store) (S.seat_of result) }
 {
-    let (after, step) = attempt_grow(store, &command(ask));
+    let (after, step) = answer_of(store, ask);
     assert_eq!(rt; step, GrowStep::Done { reply, place });
     after
 }
@@ -105,12 +113,20 @@ fn add_all<S: Store<Rules = GrowRules>>(rt: &impl Abort, mut store: S, keys: Key
     store
 }
 
-// Tries a split once.
+// Tries a split once. Of what it ensures, its callers need only that the seat goes on.
+fn split_of<S: Store<Rules = GrowRules>>(store: S) -> (S, Split)
+    requires most { most_writes ≤ (S.seat_of store).write_max }
+    ensures { Continues (S.seat_of store) (S.seat_of result.0) }
+{
+    try_split(store)
+}
+
+// Tries a split once, and looks at its answer.
 fn split_once<S: Store<Rules = GrowRules>>(rt: &impl Abort, store: S, split: Split) -> S
     requires most { most_writes ≤ (S.seat_of store).write_max }
     ensures { Continues (S.seat_of store) (S.seat_of result) }
 {
-    let (after, found) = try_split(store);
+    let (after, found) = split_of(store);
     assert_eq!(rt; found, split);
     after
 }
@@ -121,7 +137,7 @@ fn split_all<S: Store<Rules = GrowRules>>(rt: &impl Abort, mut store: S, count: 
     ensures { Continues (S.seat_of store) (S.seat_of result) }
 {
     for number in 0..count {
-        let (after, split) = try_split(store);
+        let (after, split) = split_of(store);
         assert!(rt; matches!(split, Split::Done { .. }), "split {number}");
         store = after;
     }
@@ -162,6 +178,28 @@ fn expect_keys(rt: &impl Abort, all: &Catalogue, keys: Keys) {
     }
 }
 
+// Looks that the table has this level and this split place.
+fn expect_table<S: Store<Rules = GrowRules>>(rt: &impl Abort, store: S, level: u32, place: u32) -> S
+    ensures { Continues (S.seat_of store) (S.seat_of result) }
+{
+    let (after, table) = read_table(store);
+    assert_eq!(rt; table, (level, place));
+    after
+}
+
+// Looks that the set has exactly these keys. The error is want of memory for them.
+fn expect_held<S: Store<Rules = GrowRules>>(
+    rt: &impl Abort,
+    alloc: Global,
+    store: S,
+    keys: Keys,
+) -> (S, Result<(), AllocError>)
+    ensures { Continues (S.seat_of store) (S.seat_of result.0) }
+{
+    let (after, all) = read_all(alloc, store);
+    (after, all.map(|all| expect_keys(rt, &all, keys)))
+}
+
 // Makes one step. The error is want of memory for the keys.
 fn make<S: Store<Rules = GrowRules>>(
     rt: &impl Abort,
@@ -177,15 +215,8 @@ fn make<S: Store<Rules = GrowRules>>(
         Step::Adds(keys, from) => (add_all(rt, store, keys, from), Ok(())),
         Step::Tries(split) => (split_once(rt, store, split), Ok(())),
         Step::Splits(count) => (split_all(rt, store, count), Ok(())),
-        Step::Finds(level, place) => {
-            let (after, table) = read_table(store);
-            assert_eq!(rt; table, (level, place));
-            (after, Ok(()))
-        }
-        Step::Holds(keys) => {
-            let (after, all) = read_all(alloc, store);
-            (after, all.map(|all| expect_keys(rt, &all, keys)))
-        }
+        Step::Finds(level, place) => (expect_table(rt, store, level, place), Ok(())),
+        Step::Holds(keys) => expect_held(rt, alloc, store, keys),
     }
 }
 

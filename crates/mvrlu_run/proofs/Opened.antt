@@ -1,7 +1,8 @@
 -- The seats of a new domain, and seats that mean the same.
-use Rattle.std.proofs.Common.{◌≡◌, ◌+◌, ℕ, zero, suc, List, [], ◌∷◌, length, map, refl, sym, ap, ◌∙◌, arith, subst}
+use Rattle.std.proofs.Common.{◌≡◌, ◌+◌, ℕ, zero, suc, List, [], ◌∷◌, length, map, Result, Ok, Err, refl, sym, ap, ◌∙◌, arith, subst}
 use mathlib.Core.Option.{some}
 use lib.ListN.{get_elem?}
+use Rattle.std.specs.Result.{IfErr}
 use Rattle.std.proofs.lemmas.List.{length-map}
 use Rattle.std.proofs.Math.Option.{some-injective}
 use Rattle.mv_history.specs.State.{State}
@@ -60,3 +61,10 @@ all_back d e seats back c start o same means =
     (all_new d back
     (sym (length-map back seat_of) ∙ ap length means ∙ length-map seats seat_of ∙ o.many ∙ ap (λ (n : Config). n.seats) (sym o.numbers))
     (subst (λ ss. AreNewFrom d 0 ss) (sym means) (new_seats d seats c start o)))
+
+-- what a run hands back can meet, where it hands back the domain and its seats
+pub back_meets : {P T E : Type 0} {rules : _} (d : Domain P) (seats : List (Seat P rules)) (c : Config) (start : State) → IsOpened c start d seats
+    → (r : Result T E) (domain : E → Domain P) (back : E → List (Seat P rules))
+    → IfErr r (λ e. (domain e ≡ d) × (map seat_of (back e) ≡ map seat_of seats)) → IfErr r (λ e. AreAll (domain e) (back e))
+back_meets d seats c start o (Ok t) domain back is = tt
+back_meets d seats c start o (Err e) domain back is = all_back d (domain e) seats (back e) c start o is.0 is.1

@@ -11,7 +11,7 @@ ghost use Rattle.mvrlu_run.specs.Told.{IsTextFor, config_of};
 
 use crate::block_scripts::read_block_scripts;
 use crate::finish::{Closed, Finish};
-use crate::running::{config, zeros};
+use crate::running::{config, ran_or_met, zeros};
 use crate::texts::Made;
 use block_domain::run_block_domain;
 use mv_history::LogTable;
@@ -113,16 +113,9 @@ fn run_block_sets<R: Threads + Wait + Sync, G: Gate>(
     ensures ordered { IfOk result (λ told. IsOrdered told.lines.items) }
 {
     let (domain, seats) = open_blocks(alloc, options, scripts.len() as u32)?;
-    let (mut closing, mut lines, tables) = match run_block_domain(
+    let (mut closing, mut lines, tables) = ran_or_met(run_block_domain(
         rt, alloc, domain, seats, scripts, gate,
-    ) {
-        Ok(ran) => ran,
-        Err((domain, seats, error)) => {
-            // Seats can't be let go, so they meet.
-            let _ = domain.meet(seats);
-            return Err(error);
-        }
-    };
+    ))?;
     order(&mut lines);
     let end = read_all(alloc, &mut closing)?;
     Ok(ToldBlocks {

@@ -14,7 +14,7 @@ ghost use Rattle.mvrlu_run.specs.Scripts.{AnyStop, NoneFails, commands as by_com
 ghost use Rattle.mvrlu_run.specs.Told.{IsTextFor, config_of};
 
 use crate::finish::{Closed, Finish};
-use crate::running::{config, zeros};
+use crate::running::{config, ran_or_met, zeros};
 use crate::scripts::{Grammar, read_scripts};
 use crate::texts::Made;
 use grow_domain::run_grow_domain;
@@ -127,16 +127,9 @@ fn run_grown_set<R: Threads + Wait + Sync, G: Gate>(
     ensures few { IfOk result (λ told. told.splits ≤ 1008) }
 {
     let (domain, seats) = open_grown(alloc, options, scripts.len() as u32)?;
-    let (mut closing, mut lines, tables) = match run_grow_domain(
+    let (mut closing, mut lines, tables) = ran_or_met(run_grow_domain(
         rt, alloc, domain, seats, scripts, gate,
-    ) {
-        Ok(ran) => ran,
-        Err((domain, seats, error)) => {
-            // Seats can't be let go, so they meet.
-            let _ = domain.meet(seats);
-            return Err(error);
-        }
-    };
+    ))?;
     order_grown(&mut lines);
     let splits = count_splits(&mut closing);
     let end = read_grown(alloc, &mut closing)?;

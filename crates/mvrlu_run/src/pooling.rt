@@ -8,7 +8,7 @@ ghost use Rattle.mvrlu_run.specs.Scripts.{AnyStop, NoneFails, commands as by_com
 ghost use Rattle.mvrlu_run.specs.Told.{IsTextFor};
 
 use crate::finish::{Closed, Finish};
-use crate::running::{Told, open_sets};
+use crate::running::{Told, open_sets, ran_or_met};
 use crate::scripts::{Grammar, read_scripts};
 use crate::texts::Made;
 use mvrlu::Closing;
@@ -100,16 +100,9 @@ fn pool_sets<R: Threads + Wait + Sync, G: Gate>(
     ensures ordered { IfOk result (λ told. IsOrdered told.lines.items) }
 {
     let (domain, seats) = open_sets(alloc, options, seats)?;
-    let (mut closing, mut lines, tables) = match run_pool_domain(
+    let (mut closing, mut lines, tables) = ran_or_met(run_pool_domain(
         rt, alloc, domain, seats, commands, gate,
-    ) {
-        Ok(ran) => ran,
-        Err((domain, seats, error)) => {
-            // Seats can't be let go, so they meet.
-            let _ = domain.meet(seats);
-            return Err(error);
-        }
-    };
+    ))?;
     order(&mut lines);
     let end = read_all(alloc, &mut closing)?;
     Ok(Told {

@@ -1,16 +1,17 @@
 // The run of scripts over a domain of the sets.
-ghost use Rattle.std.specs.Prelude.{◌≡◌, ◌≤◌, All, IfErr, IfOk, length, map, replicate};
+ghost use Rattle.std.specs.Prelude.{◌≡◌, ◌≤◌, All, IfErr, IfOk, Ok, length, map, replicate};
 ghost use Rattle.mv_history.specs.Meaning.{words_at};
 ghost use Rattle.set_script.specs.Objects.{no_words};
 ghost use Rattle.set_script.specs.Lawful.{IsOpening};
 ghost use Rattle.mvrlu.specs.Opened.{IsOpened};
+ghost use Rattle.mvrlu.specs.Meeting.{AreAll};
 ghost use Rattle.mvrlu.specs.Meant.{numbers_of, opening_of};
 ghost use Rattle.run_report.specs.Order.{IsOrdered};
 ghost use Rattle.run_words.specs.Words.{FitOptions};
 ghost use Rattle.script_workers.specs.Workers.{items_of};
 ghost use Rattle.mvrlu_run.specs.Told.{IsRunOf, config_of};
 
-use mv_history::{LogTable, WORDS, Words};
+use mv_history::{LogTable, Protocol, WORDS, Words};
 use mv_layout::Config;
 use mvrlu::{Closing, Domain, OpenFault, Seat, open};
 use run_outside::Gate;
@@ -53,16 +54,9 @@ pub fn run_sets<R: Threads + Wait + Sync, G: Gate>(
     ensures ordered { IfOk result (λ told. IsOrdered told.lines.items) }
 {
     let (domain, seats) = open_sets(alloc, options, scripts.len() as u32)?;
-    let (mut closing, mut lines, tables) = match run_domain(
+    let (mut closing, mut lines, tables) = ran_or_met(run_domain(
         rt, alloc, domain, seats, scripts, gate,
-    ) {
-        Ok(ran) => ran,
-        Err((domain, seats, error)) => {
-            // Seats can't be let go, so they meet.
-            let _ = domain.meet(seats);
-            return Err(error);
-        }
-    };
+    ))?;
     order(&mut lines);
     let end = read_all(alloc, &mut closing)?;
     Ok(Told {
@@ -71,6 +65,23 @@ pub fn run_sets<R: Threads + Wait + Sync, G: Gate>(
         end,
         tables,
     })
+}
+
+/// What a run over a domain gave. Where memory was wanting, the domain and its seats come back; seats can't be let go, so
+/// they meet.
+pub fn ran_or_met<P: Protocol, T>(
+    ran: Result<T, (Domain<P>, Vec<Seat<P>>, AllocError)>,
+) -> Result<T, AllocError>
+    requires all { IfErr ran (λ refused. AreAll refused.0 refused.1.items) }
+    ensures { IfOk result (λ done. ran ≡ Ok done) }
+{
+    match ran {
+        Ok(done) => Ok(done),
+        Err((domain, seats, error)) => {
+            let _ = domain.meet(seats);
+            Err(error)
+        }
+    }
 }
 
 /// The numbers of a domain with so many seats, each of which may hold so many objects, at most 64.

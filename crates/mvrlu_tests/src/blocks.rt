@@ -1,5 +1,5 @@
 // Scripts of blocks: the text that they give, and what is no script of blocks.
-use crate::row::{PLAIN, REFUSED, Row, expect_print, run_row, run_rows};
+use crate::row::{PLAIN, REFUSED, Row, expect_print, run_refused, run_row, run_rows};
 use mvrlu_run::Closed;
 use std::test::Fail;
 
@@ -121,14 +121,15 @@ const OUTSIDE: Row<'static> = Row {
 #[test]
 fn what_is_no_script_of_blocks_is_refused(rt: HostRuntime) -> Result<(), Fail> {
     for (script, err) in &BROKEN {
-        let row = Row {
-            name: "a broken block",
-            words: &["block", "a"],
+        run_refused(
+            &rt,
+            rt.alloc(),
+            "a broken block",
+            &["block", "a"],
             script,
+            3,
             err,
-            ..REFUSED
-        };
-        run_row(&rt, rt.alloc(), &row)?;
+        )?;
     }
     run_row(&rt, rt.alloc(), &OUTSIDE)
 }

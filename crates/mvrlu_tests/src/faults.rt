@@ -1,6 +1,10 @@
 // What fails outside, and what is wrong with a script.
-use crate::row::{PLAIN, REFUSED, Row, Text, expect_print, run_row, run_rows};
+use crate::row::{PLAIN, REFUSED, Row, Text, expect_print, run_refused, run_row, run_rows};
+use std::alloc::Global;
+use std::process::Abort;
+use std::sync::Wait;
 use std::test::Fail;
+use std::thread::Threads;
 
 // A run of a file that isn't there.
 const NO_TEXT: Row<'static> = Row {
@@ -69,20 +73,28 @@ const ALL_READ: Row<'static> = Row {
     ..PLAIN
 };
 
+// A run over a file of which this call fails.
+fn run_failing_read<R: Abort + Threads + Wait + Sync>(
+    rt: &R,
+    alloc: Global,
+    call: u64,
+) -> Result<(), Fail> {
+    let row = Row {
+        name: "a failing read",
+        file_fails: &[call],
+        most: 1,
+        status: 5,
+        err: b"read fault: script 0\n",
+        ..REFUSED
+    };
+    run_row(rt, alloc, &row)
+}
+
 #[test]
 fn a_failing_read_is_status_5(rt: HostRuntime) -> Result<(), Fail> {
     // One call opens the file of 18 bytes, 18 read a byte each, and the last finds its end.
     for call in 1..=20 {
-        let row = Row {
-            name: "a failing read",
-            file_fails: &[call],
-            most: 1,
-            status: 5,
-            out: b"",
-            err: b"read fault: script 0\n",
-            ..PLAIN
-        };
-        run_row(&rt, rt.alloc(), &row)?;
+        run_failing_read(&rt, rt.alloc(), call)?;
     }
     run_row(&rt, rt.alloc(), &ALL_READ)
 }
@@ -95,19 +107,29 @@ const ALL_WRITTEN: Row<'static> = Row {
     ..PLAIN
 };
 
+// A run whose output fails behind so many bytes.
+fn run_failing_write<R: Abort + Threads + Wait + Sync>(
+    rt: &R,
+    alloc: Global,
+    written: usize,
+) -> Result<(), Fail> {
+    assert!(rt; written < PLAIN.out.len());
+    let row = Row {
+        name: "a failing write",
+        out_fails: &[written as u64 + 1],
+        most: 1,
+        status: 6,
+        out: &PLAIN.out[..written],
+        err: b"write fault\n",
+        ..PLAIN
+    };
+    run_row(rt, alloc, &row)
+}
+
 #[test]
 fn a_failing_write_is_status_6(rt: HostRuntime) -> Result<(), Fail> {
     for written in 0..PLAIN.out.len() {
-        let row = Row {
-            name: "a failing write",
-            out_fails: &[written as u64 + 1],
-            most: 1,
-            status: 6,
-            out: &PLAIN.out[..written],
-            err: b"write fault\n",
-            ..PLAIN
-        };
-        run_row(&rt, rt.alloc(), &row)?;
+        run_failing_write(&rt, rt.alloc(), written)?;
     }
     run_row(&rt, rt.alloc(), &ALL_WRITTEN)
 }
@@ -183,13 +205,7 @@ static BROKEN: [Broken; 26] = [
 #[test]
 fn each_broken_script_has_its_line(rt: HostRuntime) -> Result<(), Fail> {
     for (name, script, err) in &BROKEN {
-        let row = Row {
-            name,
-            script,
-            err,
-            ..REFUSED
-        };
-        run_row(&rt, rt.alloc(), &row)?;
+        run_refused(&rt, rt.alloc(), name, PLAIN.words, script, 3, err)?;
     }
     Ok(())
 }

@@ -1,5 +1,5 @@
 // Scripts on a growing set: the text that they give, and what is no such script.
-use crate::row::{PLAIN, REFUSED, Row, expect_print, run_row, run_rows};
+use crate::row::{PLAIN, Row, expect_print, run_refused, run_rows};
 use mvrlu_run::Closed;
 use std::test::Fail;
 
@@ -57,14 +57,15 @@ static BROKEN: [Refused; 7] = [
 #[test]
 fn list_name_in_grow(rt: HostRuntime) -> Result<(), Fail> {
     for (script, err) in &BROKEN {
-        let row = Row {
-            name: "no script of a growing set",
-            words: &["grow", "a"],
+        run_refused(
+            &rt,
+            rt.alloc(),
+            "no script of a growing set",
+            &["grow", "a"],
             script,
+            3,
             err,
-            ..REFUSED
-        };
-        run_row(&rt, rt.alloc(), &row)?;
+        )?;
     }
     Ok(())
 }

@@ -1,5 +1,5 @@
 // The limits of words, bytes and commands.
-use crate::row::{PLAIN, REFUSED, Row, ZERO, owned, print, run_row, run_text};
+use crate::row::{PLAIN, Row, ZERO, owned, print, run_refused, run_text};
 use run_outside::OpenGate;
 use std::alloc::{AllocError, Global};
 use std::test::Fail;
@@ -42,14 +42,15 @@ static OUT_OF_FORM: [&[&str]; 27] = [
 #[test]
 fn words_out_of_form_show_the_usage(rt: HostRuntime) -> Result<(), Fail> {
     for words in &OUT_OF_FORM {
-        let row = Row {
-            name: "out of form",
+        run_refused(
+            &rt,
+            rt.alloc(),
+            "out of form",
             words,
-            status: 2,
-            err: USAGE,
-            ..REFUSED
-        };
-        run_row(&rt, rt.alloc(), &row)?;
+            PLAIN.script,
+            2,
+            USAGE,
+        )?;
     }
     Ok(())
 }
@@ -83,14 +84,15 @@ static BEYOND: [Beyond; 10] = [
 #[test]
 fn numbers_of_the_words_are_limited(rt: HostRuntime) -> Result<(), Fail> {
     for (words, err) in &BEYOND {
-        let row = Row {
-            name: "beyond a limit",
+        run_refused(
+            &rt,
+            rt.alloc(),
+            "beyond a limit",
             words,
-            status: 4,
+            PLAIN.script,
+            4,
             err,
-            ..REFUSED
-        };
-        run_row(&rt, rt.alloc(), &row)?;
+        )?;
     }
     Ok(())
 }

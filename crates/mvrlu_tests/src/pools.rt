@@ -1,6 +1,6 @@
 // Pools: one file, whose commands any of several seats takes.
 use crate::limits::USAGE;
-use crate::row::{PLAIN, REFUSED, Row, print_texts, run_row};
+use crate::row::{PLAIN, REFUSED, Row, print_texts, run_refused, run_row};
 use crate::texts::{count_ends, sum_after};
 use mvrlu_run::Closed;
 use run_outside::{Gate, OpenGate};
@@ -52,14 +52,15 @@ const BROKEN: Row<'static> = Row {
 #[test]
 fn bad_words_of_a_pool_are_refused(rt: HostRuntime) -> Result<(), Fail> {
     for (words, status, err) in &POOLS {
-        let row = Row {
-            name: "a refused pool",
+        run_refused(
+            &rt,
+            rt.alloc(),
+            "a refused pool",
             words,
-            status: *status,
+            PLAIN.script,
+            *status,
             err,
-            ..REFUSED
-        };
-        run_row(&rt, rt.alloc(), &row)?;
+        )?;
     }
     run_row(&rt, rt.alloc(), &BROKEN)
 }
@@ -83,15 +84,17 @@ fn three_seats_do_300_commands_once(rt: HostRuntime) -> Result<(), Fail> {
     let printed = print_texts(&rt, rt.alloc(), &["pool", "3", "a"], &texts, &OpenGate)?;
     assert_eq!(rt; printed.status, 0);
     assert!(rt; matches!(&printed.closed, Closed::Sets(_)));
-    let text = printed.out.bytes();
-    assert_eq!(rt;
-        (count_ends(text, " yes"), count_ends(text, "")),
-        (300, 304)
-    );
+    expect_300(&rt, printed.out.bytes(), &set);
+    Ok(())
+}
+
+// Looks that each command was done once, and at the line of the set.
+fn expect_300(rt: &impl Abort, text: &[u8], set: &str) {
+    assert_eq!(rt; count_ends(text, " yes"), 300);
+    assert_eq!(rt; count_ends(text, ""), 304);
     assert_eq!(rt; sum_after(text, "commits"), 300);
     let text = str::from_utf8(text).ok().unwrap_or("");
-    assert!(rt; text.contains(set.as_str()));
-    Ok(())
+    assert!(rt; text.contains(set));
 }
 
 // How often a held worker looks whether the others are done.

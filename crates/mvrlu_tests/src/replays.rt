@@ -1,6 +1,8 @@
 // Replays: the text of a given schedule, and what is no plan.
 use crate::limits::{USAGE, line_ends};
-use crate::row::{PLAIN, Printed, REFUSED, Row, named, owned, print, run_row, run_rows, run_text};
+use crate::row::{
+    PLAIN, Printed, REFUSED, Row, named, owned, print, run_refused, run_rows, run_text,
+};
 use mvrlu_run::Closed;
 use run_outside::OpenGate;
 use std::alloc::{AllocError, Global};
@@ -142,13 +144,15 @@ fn refuses<R: Abort + Threads + Wait + Sync>(
 ) -> Result<(), Fail> {
     let mut plan = front.to_vec(alloc)?;
     plan.extend_from_slice(refused.0)?;
-    let row = Row {
-        name: "a broken plan",
-        words: &["replay", "a"],
-        err: refused.1,
-        ..REFUSED
-    };
-    run_text(rt, alloc, &row, &plan, &OpenGate)
+    run_refused(
+        rt,
+        alloc,
+        "a broken plan",
+        &["replay", "a"],
+        &plan,
+        3,
+        refused.1,
+    )
 }
 
 #[test]
@@ -177,14 +181,15 @@ static WORDS: [Words; 6] = [
 #[test]
 fn bad_words_of_a_replay_are_refused(rt: HostRuntime) -> Result<(), Fail> {
     for (words, status, err) in &WORDS {
-        let row = Row {
-            name: "a refused replay",
+        run_refused(
+            &rt,
+            rt.alloc(),
+            "a refused replay",
             words,
-            status: *status,
+            PLAIN.script,
+            *status,
             err,
-            ..REFUSED
-        };
-        run_row(&rt, rt.alloc(), &row)?;
+        )?;
     }
     Ok(())
 }
@@ -307,9 +312,13 @@ fn as_many_steps_as_may_be_are_replayed_on_no_domain(rt: HostRuntime) -> Result<
     assert_eq!(rt; status, 0);
     assert!(rt; matches!(&closed, Closed::No));
     assert_eq!(rt; err.bytes(), b"".as_slice());
-    let text = out.bytes();
+    expect_idle(&rt, out.bytes());
+    Ok(())
+}
+
+// Looks that as many turns as may be are idle.
+fn expect_idle(rt: &impl Abort, text: &[u8]) {
     assert_eq!(rt; text.len(), 65_536 * 7 + 6);
     assert!(rt; text.starts_with(b"0 idle\n0 idle\n"));
     assert!(rt; text.ends_with(b"0 idle\nend 0\n"));
-    Ok(())
 }

@@ -1,5 +1,5 @@
 // One run of the program in memory, and what it must leave.
-ghost use Rattle.std.specs.Prelude.{IfOk};
+ghost use Rattle.std.specs.Prelude.{◌<◌, IfOk};
 ghost use Rattle.mvrlu_run.specs.Outcome.{ReadsSets};
 
 use mvrlu_run::{Closed, Ran, run_program};
@@ -75,6 +75,26 @@ pub fn run_rows<R: Abort + Threads + Wait + Sync>(
     Ok(())
 }
 
+/// Runs the words over this text, and compares its status and its line on standard error. Nothing else comes out.
+pub fn run_refused<R: Abort + Threads + Wait + Sync>(
+    rt: &R,
+    alloc: Global,
+    name: &'static str,
+    words: &'static [&'static str],
+    script: &[u8],
+    status: u8,
+    err: &'static [u8],
+) -> Result<(), Fail> {
+    let row = Row {
+        name,
+        words,
+        status,
+        err,
+        ..REFUSED
+    };
+    run_text(rt, alloc, &row, script, &OpenGate)
+}
+
 /// Runs a row over this text in place of the row's, with this gate.
 pub fn run_text<R: Abort + Threads + Wait + Sync, G: Gate>(
     rt: &R,
@@ -83,18 +103,52 @@ pub fn run_text<R: Abort + Threads + Wait + Sync, G: Gate>(
     script: &[u8],
     gate: &G,
 ) -> Result<(), Fail> {
+    assert!(rt; row.most > 0);
     let words = owned(alloc, row.words)?;
+    let mut files = file(alloc, script, row.most, row.file_fails)?;
+    let mut out = sink(alloc, row.most, row.out_fails)?;
+    let mut err = sink(alloc, row.most, row.err_fails)?;
+    let ran = call(rt, alloc, &words, &mut files, &mut out, &mut err, gate);
+    compare(rt, row, ran.status, out.bytes(), err.bytes());
+    Ok(())
+}
+
+// The file `a` of this text.
+fn file(alloc: Global, script: &[u8], most: usize, fails: &[u64]) -> Result<MemFiles, AllocError>
+    requires { 0 < most }
+{
     let mut texts = Vec::new(alloc);
     texts.push(named(alloc, "a", script)?)?;
-    assert!(rt; row.most > 0);
-    let mut files = MemFiles::new(texts, row.most, row.file_fails.to_vec(alloc)?);
-    let mut out = MemSink::new(alloc, 4096, row.most, row.out_fails.to_vec(alloc)?)?;
-    let mut err = MemSink::new(alloc, 4096, row.most, row.err_fails.to_vec(alloc)?)?;
-    let ran = run_program(rt, alloc, &words, &mut files, &mut out, &mut err, gate);
-    assert_eq!(rt; ran.status, row.status, "status of {}", row.name);
-    assert_eq!(rt; out.bytes(), row.out, "output of {}", row.name);
-    assert_eq!(rt; err.bytes(), row.err, "error of {}", row.name);
-    Ok(())
+    Ok(MemFiles::new(texts, most, fails.to_vec(alloc)?))
+}
+
+// A sink with room for what the rows print.
+fn sink(alloc: Global, most: usize, fails: &[u64]) -> Result<MemSink, AllocError>
+    requires { 0 < most }
+{
+    MemSink::new(alloc, 4096, most, fails.to_vec(alloc)?)
+}
+
+// Compares how a run ended with what its row wants.
+fn compare(rt: &impl Abort, row: &Row<'_>, status: u8, out: &[u8], err: &[u8]) {
+    assert_eq!(rt; status, row.status, "status of {}", row.name);
+    assert_eq!(rt; out, row.out, "output of {}", row.name);
+    assert_eq!(rt; err, row.err, "error of {}", row.name);
+}
+
+// Calls the program, with what the tests use of its contract.
+fn call<R: Threads + Wait + Sync, G: Gate>(
+    rt: &R,
+    alloc: Global,
+    words: &[String],
+    files: &mut MemFiles,
+    out: &mut MemSink,
+    err: &mut MemSink,
+    gate: &G,
+) -> Ran
+    ensures { ReadsSets result.closed }
+{
+    run_program(rt, alloc, words, files, out, err, gate)
 }
 
 /// The words as the program takes them.
@@ -136,15 +190,30 @@ pub fn print<R: Threads + Wait + Sync, G: Gate>(
     let mut files = MemFiles::new(texts, 65_536, Vec::new(alloc));
     let mut out = MemSink::new(alloc, 500_000, 65_536, Vec::new(alloc))?;
     let mut err = MemSink::new(alloc, 4096, 4096, Vec::new(alloc))?;
-    let Ran { status, closed } = run_program(
-        rt, alloc, words, &mut files, &mut out, &mut err, gate,
-    );
+    let Ran { status, closed } = call(rt, alloc, words, &mut files, &mut out, &mut err, gate);
     Ok(Printed {
         status,
         closed,
         out,
         err,
     })
+}
+
+/// Runs the words over these texts, as `print` does, and looks that it ends well. It answers what was printed.
+pub fn print_well<R: Abort + Threads + Wait + Sync>(
+    rt: &R,
+    alloc: Global,
+    words: &[String],
+    texts: Vec<MemText>,
+) -> Result<MemSink, AllocError> {
+    let Printed {
+        status,
+        closed: _,
+        out,
+        err: _,
+    } = print(rt, alloc, words, texts, &OpenGate)?;
+    assert_eq!(rt; status, 0);
+    Ok(out)
 }
 
 /// The name of a file, and its bytes.

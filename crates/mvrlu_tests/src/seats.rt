@@ -1,12 +1,16 @@
 // Scripts of several seats, long scripts, generated ones, and what is left of the domain.
-use crate::row::{PLAIN, Printed, named, owned, print, print_texts};
+use crate::row::{PLAIN, Printed, named, owned, print, print_texts, print_well};
 use crate::texts::{count_ends, sum_after, time_of};
 use mv_history::View;
 use mvrlu_run::Closed;
 use run_outside::{MemText, OpenGate};
 use set_catalog::read_all;
+use set_script::Catalogue;
 use std::alloc::{AllocError, Global};
+use std::process::Abort;
+use std::sync::Wait;
 use std::test::Fail;
+use std::thread::Threads;
 
 const SECOND_TABLE: &[u8] = b"\nlog 1 live 0 freed 0 back 0 commits 0 aborts 0 rests 0\n";
 
@@ -15,11 +19,15 @@ fn an_empty_second_file_has_its_table(rt: HostRuntime) -> Result<(), Fail> {
     let texts = [("a", PLAIN.script), ("b", b"")];
     let printed = print_texts(&rt, rt.alloc(), &["run", "a", "b"], &texts, &OpenGate)?;
     assert_eq!(rt; printed.status, 0);
-    let text = printed.out.bytes();
+    expect_second_table(&rt, printed.out.bytes());
+    Ok(())
+}
+
+// Looks that the table of a second seat follows the text of the first.
+fn expect_second_table(rt: &impl Abort, text: &[u8]) {
     assert!(rt; text.starts_with(PLAIN.out));
     assert!(rt; text.ends_with(SECOND_TABLE));
     assert_eq!(rt; text.len(), PLAIN.out.len().saturating_add(55));
-    Ok(())
 }
 
 // A text of this name, with so many times a piece behind a beginning.
@@ -37,15 +45,8 @@ fn repeated(
     named(alloc, name, &bytes)
 }
 
-#[test]
-fn a_small_log_serves_a_thousand_commits(rt: HostRuntime) -> Result<(), Fail> {
-    let alloc = rt.alloc();
-    let words = owned(alloc, &["run", "--slots", "64", "a"])?;
-    let mut texts = Vec::new(alloc);
-    texts.push(repeated(alloc, "a", b"", b"add l0 7\ndel l0 7\n", 500)?)?;
-    let printed = print(&rt, alloc, &words, texts, &OpenGate)?;
-    assert_eq!(rt; printed.status, 0);
-    let text = printed.out.bytes();
+// Looks that all commands replied yes, and that the log kept few versions.
+fn expect_thousand(rt: &impl Abort, text: &[u8]) {
     let live = sum_after(text, "live");
     assert_eq!(rt; count_ends(text, " yes"), 1000);
     assert_eq!(rt; count_ends(text, ""), 1001);
@@ -53,6 +54,16 @@ fn a_small_log_serves_a_thousand_commits(rt: HostRuntime) -> Result<(), Fail> {
     assert_eq!(rt; sum_after(text, "aborts"), 0);
     assert_eq!(rt; live.saturating_add(sum_after(text, "freed")), 2000);
     assert!(rt; live <= 49);
+}
+
+#[test]
+fn a_small_log_serves_a_thousand_commits(rt: HostRuntime) -> Result<(), Fail> {
+    let alloc = rt.alloc();
+    let words = owned(alloc, &["run", "--slots", "64", "a"])?;
+    let mut texts = Vec::new(alloc);
+    texts.push(repeated(alloc, "a", b"", b"add l0 7\ndel l0 7\n", 500)?)?;
+    let out = print_well(&rt, alloc, &words, texts)?;
+    expect_thousand(&rt, out.bytes());
     Ok(())
 }
 
@@ -65,19 +76,20 @@ fn moves(alloc: Global) -> Result<Vec<MemText>, AllocError> {
     Ok(texts)
 }
 
-#[test]
-fn moves_are_seen_whole(rt: HostRuntime) -> Result<(), Fail> {
-    let alloc = rt.alloc();
-    let words = owned(alloc, &["run", "a", "b", "c"])?;
-    let printed = print(&rt, alloc, &words, moves(alloc)?, &OpenGate)?;
-    assert_eq!(rt; printed.status, 0);
-    let text = printed.out.bytes();
+// Looks that no pair has the key in both sets, and that one has it in none only before it was added.
+fn expect_whole_moves(rt: &impl Abort, text: &[u8]) -> Result<(), Fail> {
     let before = count_ends(text, " no no");
     let one = count_ends(text, " yes no").saturating_add(count_ends(text, " no yes"));
     assert_eq!(rt; before.saturating_add(one), 500);
     let Ok(text) = str::from_utf8(text) else {
         return Err(Fail::new("the text is UTF-8"));
     };
+    expect_none_before(rt, text);
+    Ok(())
+}
+
+// Looks that the key is in none of the sets only before it was added.
+fn expect_none_before(rt: &impl Abort, text: &str) {
     let added = text
         .lines()
         .find(|line| line.starts_with("0.1 "))
@@ -87,7 +99,39 @@ fn moves_are_seen_whole(rt: HostRuntime) -> Result<(), Fail> {
             assert!(rt; time_of(line) < added);
         }
     }
-    Ok(())
+}
+
+#[test]
+fn moves_are_seen_whole(rt: HostRuntime) -> Result<(), Fail> {
+    let alloc = rt.alloc();
+    let words = owned(alloc, &["run", "a", "b", "c"])?;
+    let out = print_well(&rt, alloc, &words, moves(alloc)?)?;
+    expect_whole_moves(&rt, out.bytes())
+}
+
+// The name of a file of this number, and its text, which adds the number to `l0`.
+fn numbered(alloc: Global, file: u32) -> Result<(String, MemText), AllocError> {
+    let name = format!(in alloc; "file{file}")?;
+    let script = format!(in alloc; "add l0 {file}\n")?;
+    let text = named(alloc, &name, script.as_bytes())?;
+    Ok((name, text))
+}
+
+// The line of a set that has so many keys from 0 on.
+fn set_of(alloc: Global, count: u32) -> Result<String, AllocError> {
+    let mut set = String::from_str(alloc, "l0")?;
+    for key in 0..count {
+        set.push_str(&format!(in alloc; " {key}")?)?;
+    }
+    Ok(set)
+}
+
+// Looks that each of the files added its number.
+fn expect_sixty_four(rt: &impl Abort, text: &[u8], set: &str) {
+    assert_eq!(rt; count_ends(text, " yes"), 64);
+    assert_eq!(rt; count_ends(text, set), 1);
+    assert_eq!(rt; count_ends(text, ""), 129);
+    assert_eq!(rt; sum_after(text, "commits"), 64);
 }
 
 #[test]
@@ -95,22 +139,13 @@ fn sixty_four_files_run_at_once(rt: HostRuntime) -> Result<(), Fail> {
     let alloc = rt.alloc();
     let mut words = owned(alloc, &["run"])?;
     let mut texts = Vec::new(alloc);
-    let mut set = String::from_str(alloc, "l0")?;
-    for file in 0..64u32 {
-        let name = format!(in alloc; "file{file}")?;
-        let script = format!(in alloc; "add l0 {file}\n")?;
-        texts.push(named(alloc, &name, script.as_bytes())?)?;
+    for file in 0..64 {
+        let (name, text) = numbered(alloc, file)?;
         words.push(name)?;
-        set.push_str(" ")?;
-        set.push_str(&format!(in alloc; "{file}")?)?;
+        texts.push(text)?;
     }
-    let printed = print(&rt, alloc, &words, texts, &OpenGate)?;
-    assert_eq!(rt; printed.status, 0);
-    let text = printed.out.bytes();
-    assert_eq!(rt; count_ends(text, " yes"), 64);
-    assert_eq!(rt; count_ends(text, &set), 1);
-    assert_eq!(rt; count_ends(text, ""), 129);
-    assert_eq!(rt; sum_after(text, "commits"), 64);
+    let out = print_well(&rt, alloc, &words, texts)?;
+    expect_sixty_four(&rt, out.bytes(), &set_of(alloc, 64)?);
     Ok(())
 }
 
@@ -119,11 +154,15 @@ fn a_generated_script_has_its_lines(rt: HostRuntime) -> Result<(), Fail> {
     let printed = print_texts(&rt, rt.alloc(), &["gen", "1", "0"], &[], &OpenGate)?;
     assert_eq!(rt; printed.status, 0);
     assert!(rt; matches!(printed.closed, Closed::No));
-    let text = printed.out.bytes();
+    expect_generated(&rt, printed.out.bytes());
+    Ok(())
+}
+
+// Looks at the lines and the length of a generated script, and at its beginning.
+fn expect_generated(rt: &impl Abort, text: &[u8]) {
     assert_eq!(rt; count_ends(text, ""), 2000);
     assert_eq!(rt; text.len(), 22_211);
     assert!(rt; text.starts_with(b"add h3 40\nhas t4 64\nadd t6 0\n"));
-    Ok(())
 }
 
 #[test]
@@ -143,13 +182,22 @@ fn the_closing_is_that_of_the_run(rt: HostRuntime) -> Result<(), Fail> {
         return Err(Fail::new("the domain was run"));
     };
     assert_eq!(rt; closing.time(), 1);
-    let end = read_all(alloc, &mut closing)?;
+    expect_five(&rt, &read_all(alloc, &mut closing)?);
+    expect_none_closed(&rt, alloc)
+}
+
+// Looks that 5 is the one key, and in the first set.
+fn expect_five(rt: &impl Abort, end: &Catalogue) {
     assert_eq!(rt; end.keys(0), [5].as_slice());
     assert_eq!(rt; end.values(0), [0].as_slice());
     for name in 1..30 {
         assert!(rt; end.keys(name).is_empty());
     }
-    let none = print(&rt, alloc, &[], Vec::new(alloc), &OpenGate)?;
+}
+
+// Looks that no words leave no domain.
+fn expect_none_closed<R: Abort + Threads + Wait + Sync>(rt: &R, alloc: Global) -> Result<(), Fail> {
+    let none = print(rt, alloc, &[], Vec::new(alloc), &OpenGate)?;
     assert_eq!(rt; none.status, 2);
     assert!(rt; matches!(none.closed, Closed::No));
     Ok(())

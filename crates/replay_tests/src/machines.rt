@@ -3,6 +3,7 @@ ghost use Rattle.std.specs.Prelude.{◌≡◌, ◌<◌, ℕ, []};
 ghost use Rattle.step_replay.specs.FirstSteps.{entered_and_left};
 ghost use Rattle.step_replay.specs.Machines.{IsBehind, config_of};
 
+use crate::expected::expect;
 use mv_layout::{Config, Place, clock_time};
 use std::test::*;
 use step_replay::{Machine, place_cell, place_number};
@@ -34,7 +35,11 @@ fn the_numbers_of_words(rt: HostRuntime) {
         place_number(&SMALL, Place::Super(1, 0)),
         place_number(&SMALL, Place::Data(1, 63, 5)),
     ];
-    assert_eq!(rt; numbers, [0, 1, 2, 3, 4, 5, 10, 11, 22, 643, 654, 1_290]);
+    expect(
+        &rt,
+        &numbers,
+        &[0, 1, 2, 3, 4, 5, 10, 11, 22, 643, 654, 1_290],
+    );
 }
 
 #[test]
@@ -53,16 +58,17 @@ fn the_cells_of_words(rt: HostRuntime) {
         place_cell(&SMALL, Place::Super(1, 0)),
         place_cell(&SMALL, Place::Data(1, 63, 5)),
     ];
-    assert_eq!(rt;
-        cells,
-        [6, 22, 38, 54, 70, 71, 76, 78, 95, 1_088, 1_105, 2_119]
+    expect(
+        &rt,
+        &cells,
+        &[6, 22, 38, 54, 70, 71, 76, 78, 95, 1_088, 1_105, 2_119],
     );
 }
 
 #[test]
 fn a_machine_has_the_numbers_of_its_domain(rt: HostRuntime) -> Result<(), Fail> {
     let machine = Machine::new(rt.alloc(), &SMALL)?;
-    assert_eq!(rt; *machine.config(), SMALL);
+    expect(&rt, machine.config(), &SMALL);
     Ok(())
 }
 
@@ -85,6 +91,6 @@ fn enter_and_leave(machine: &mut Machine, seat: u32) -> [u64; 4]
 fn a_seat_enters_and_leaves(rt: HostRuntime) -> Result<(), Fail> {
     let mut machine = Machine::new(rt.alloc(), &SMALL)?;
     let found = enter_and_leave(&mut machine, 1);
-    assert_eq!(rt; found, [1_581_055, 0, 1_581_055, 4]);
+    expect(&rt, &found, &[1_581_055, 0, 1_581_055, 4]);
     Ok(())
 }

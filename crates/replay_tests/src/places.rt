@@ -1,10 +1,12 @@
 // The packed words and the limits, against values worked out by hand.
+use crate::expected::expect;
 use mv_layout::{
     CLOCK_CELL, Config, ConfigFault, GRACE_CELL, LAST, clock_seat, clock_slot, clock_time,
     clock_word, head_cell, head_place, is_unset, link_position, link_seat, link_word, mark_cell,
     mark_low, mark_place, mark_word, master_cell, master_place, slot_cell, slot_of_position,
     slot_place, total_cells, total_words, unset_position, unset_stamp,
 };
+use std::process::Abort;
 use std::test::Fail;
 
 // A time, a seat and a slot, and their word, in two writings.
@@ -24,14 +26,20 @@ static CLOCKS: [Clock; 5] = [
     ),
 ];
 
+// Packs and unpacks a row.
+fn packs_clock(rt: &impl Abort, row: &Clock) {
+    let (time, seat, slot, hexadecimal, decimal) = *row;
+    assert!(rt; time <= LAST && seat < 64 && slot <= 8191);
+    let word = clock_word(time, seat, slot);
+    expect(rt, &(word, word), &(hexadecimal, decimal));
+    let parts = (clock_time(word), clock_seat(word), clock_slot(word));
+    expect(rt, &parts, &(time, seat, slot));
+}
+
 #[test]
 fn packed_clock_words(rt: HostRuntime) -> Result<(), Fail> {
-    for (time, seat, slot, hexadecimal, decimal) in &CLOCKS {
-        assert!(rt; *time <= LAST && *seat < 64 && *slot <= 8191);
-        let word = clock_word(*time, *seat, *slot);
-        assert_eq!(rt; (word, word), (*hexadecimal, *decimal));
-        let parts = (clock_time(word), clock_seat(word), clock_slot(word));
-        assert_eq!(rt; parts, (*time, *seat, *slot));
+    for row in &CLOCKS {
+        packs_clock(&rt, row);
     }
     Ok(())
 }
@@ -50,14 +58,23 @@ static LINKS: [Link; 3] = [
     ),
 ];
 
+// Packs and unpacks a row.
+fn packs_link(rt: &impl Abort, row: &Link) {
+    let (seat, position, hexadecimal, decimal) = *row;
+    assert!(rt; seat < 64 && position < 1 << 57);
+    let word = link_word(seat, position);
+    expect(rt, &(word, word), &(hexadecimal, decimal));
+    expect(
+        rt,
+        &(link_seat(word), link_position(word)),
+        &(seat, position),
+    );
+}
+
 #[test]
 fn packed_links(rt: HostRuntime) -> Result<(), Fail> {
-    for (seat, position, hexadecimal, decimal) in &LINKS {
-        assert!(rt; *seat < 64 && *position < 1 << 57);
-        let word = link_word(*seat, *position);
-        assert_eq!(rt; (word, word), (*hexadecimal, *decimal));
-        let parts = (link_seat(word), link_position(word));
-        assert_eq!(rt; parts, (*seat, *position));
+    for row in &LINKS {
+        packs_link(&rt, row);
     }
     Ok(())
 }
@@ -65,12 +82,17 @@ fn packed_links(rt: HostRuntime) -> Result<(), Fail> {
 #[test]
 fn packed_stamps_and_marks(rt: HostRuntime) -> Result<(), Fail> {
     let unset = unset_stamp(7);
-    assert_eq!(rt; (unset, unset_position(unset)), (0x8000_0000_0000_0007, 7));
-    assert_eq!(rt;
-        (is_unset(unset), is_unset(35_184_372_088_831)),
-        (true, false)
+    expect(
+        &rt,
+        &(unset, unset_position(unset)),
+        &(0x8000_0000_0000_0007, 7),
     );
-    assert_eq!(rt; (mark_word(0), mark_low(mark_word(5))), (1, 5));
+    expect(
+        &rt,
+        &(is_unset(unset), is_unset(35_184_372_088_831)),
+        &(true, false),
+    );
+    expect(&rt, &(mark_word(0), mark_low(mark_word(5))), &(1, 5));
     Ok(())
 }
 
@@ -198,7 +220,7 @@ const WIDE: Config = Config { seats: 8, ..WIDEST };
 
 #[test]
 fn places_of_a_domain(rt: HostRuntime) -> Result<(), Fail> {
-    assert_eq!(rt; total_words(&FIT), 2 + 2 + 21 + 1_280);
+    expect(&rt, &total_words(&FIT), &(2 + 2 + 21 + 1_280));
     let places = [
         mark_place(&FIT, 1),
         head_place(&FIT, 2),
@@ -206,9 +228,9 @@ fn places_of_a_domain(rt: HostRuntime) -> Result<(), Fail> {
         slot_place(&FIT, 0, 0),
         slot_place(&FIT, 1, 63),
     ];
-    assert_eq!(rt; places, [3, 18, 24, 25, 25 + 1_270]);
+    expect(&rt, &places, &[3, 18, 24, 25, 25 + 1_270]);
     let totals = [total_words(&WIDEST), total_words(&WIDE)];
-    assert_eq!(rt; totals, [3_080_251, 786_435]);
+    expect(&rt, &totals, &[3_080_251, 786_435]);
     Ok(())
 }
 
@@ -225,9 +247,9 @@ fn cells_of_a_domain(rt: HostRuntime) -> Result<(), Fail> {
         slot_cell(&FIT, 0, 0),
         slot_cell(&FIT, 1, 63),
     ];
-    assert_eq!(rt; cells, [6, 22, 38, 54, 70, 86, 92, 94, 94 + 16 * 127]);
+    expect(&rt, &cells, &[6, 22, 38, 54, 70, 86, 92, 94, 94 + 16 * 127]);
     let totals = [total_cells(&FIT), total_cells(&WIDEST)];
-    assert_eq!(rt; totals, [94 + 16 * 128, 4_719_646]);
+    expect(&rt, &totals, &[94 + 16 * 128, 4_719_646]);
     Ok(())
 }
 
@@ -249,6 +271,6 @@ fn slots_of_positions(rt: HostRuntime) -> Result<(), Fail> {
         slot_of_position(&SMALL, 300),
         slot_of_position(&LARGE, 144_115_188_075_855_871),
     ];
-    assert_eq!(rt; slots, [0, 6, 7, 44, 4_095]);
+    expect(&rt, &slots, &[0, 6, 7, 44, 4_095]);
     Ok(())
 }

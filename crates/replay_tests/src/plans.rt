@@ -1,4 +1,5 @@
 // Plans that are read, and texts that are refused, with their line and their fault.
+use crate::expected::expect;
 use mv_layout::{Config, LAST};
 use std::alloc::{AllocError, Global};
 use std::process::Abort;
@@ -95,9 +96,9 @@ static CALLS: [CallOf; 8] = [
 #[test]
 fn every_call_is_read(rt: HostRuntime) -> Result<(), Fail> {
     let plan = planned(&rt, rt.alloc(), EVERY_CALL).ok().ok_or("a plan")?;
-    assert_eq!(rt; plan.config, CONFIG);
-    assert_eq!(rt; plan.calls.as_slice(), CALLS.as_slice());
-    assert_eq!(rt; plan.steps.as_slice(), [0, 1, 1].as_slice());
+    expect(&rt, &plan.config, &CONFIG);
+    expect(&rt, &plan.calls.as_slice(), &CALLS.as_slice());
+    expect(&rt, &plan.steps.as_slice(), &[0, 1, 1].as_slice());
     Ok(())
 }
 

@@ -1,16 +1,9 @@
 // The clients of a domain: a seat's pass and log each, and how far its section has come.
-ghost use Rattle.std.specs.Prelude.{◌≡◌, All, IfOk};
-ghost use Rattle.mv_layout.specs.Limits.{Checked};
-ghost use Rattle.mv_core.specs.Passes.{config_of};
-ghost use Rattle.runtime_tests.specs.Clients.{AreReady};
-
 use log_reclaim::Back;
-use mv_core::{Pass, Shared};
+use mv_core::Pass;
 use mv_history::AnyRules;
-use mv_layout::Config;
 use object_lock::StartedLock;
-use seat_log::{Log, new_log};
-use std::alloc::{AllocError, Global};
+use seat_log::Log;
 use version_chain::{Found, Walk};
 
 /// How far a client has come, as it knows it at run time.
@@ -59,28 +52,4 @@ pub struct Client {
     pub(crate) log: Log,
     pub(crate) stage: Stage,
     pub(crate) under_way: UnderWay,
-}
-
-// A new domain of these numbers whose objects are all zeros, with a client for each seat.
-pub(crate) fn open(
-    alloc: Global,
-    config: &Config,
-) -> Result<(Shared<AnyRules>, Vec<Client>), AllocError>
-    requires checked { Checked config.now }
-    ensures ready { IfOk result (λ r. AreReady r.0 r.1.items) }
-{
-    let start = vec![in alloc; [0; 6]; config.objects as usize]?;
-    let (shared, mut passes) = Shared::<AnyRules>::new(alloc, config, start.as_slice())?;
-    let mut clients = Vec::new(alloc);
-    while let Some(pass) = passes.pop() {
-        let log = new_log(alloc, config, pass.seat())?;
-        let client = Client {
-            pass,
-            log,
-            stage: Stage::Outside,
-            under_way: UnderWay::Nothing,
-        };
-        clients.insert(0, client)?;
-    }
-    Ok((shared, clients))
 }

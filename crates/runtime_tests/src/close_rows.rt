@@ -1,7 +1,8 @@
 // A domain is closed after a schedule: its last words are those that the moves left.
+use crate::comparing::assert_same;
 use crate::moves::Answer::{Done, Entered, Held, Left, Tidied, Written};
 use crate::moves::Move::{Commit, Enter, Leave, Lock, Tidy, Write};
-use crate::{SMALL, Schedule, Turn, closed_after};
+use crate::{LastWords, SMALL, Schedule, Turn, closed_after};
 use mv_layout::Config;
 use std::alloc::Global;
 use std::process::Abort;
@@ -91,25 +92,34 @@ static CLOSINGS: [Closing; 4] = [
     },
 ];
 
+// The last words of the schedule of a closing.
+fn assert_closed(rt: &impl Abort, closing: &Closing<'_>, words: &LastWords) {
+    let name = closing.schedule.name;
+    assert_same(rt, &words.clock, &closing.clock, name);
+    assert_same(rt, &words.marks.as_slice(), &closing.marks.as_slice(), name);
+    assert_same(rt, &words.heads.as_slice(), &closing.heads.as_slice(), name);
+    assert_same(
+        rt,
+        &words.masters.as_slice(),
+        &closing.masters.as_slice(),
+        name,
+    );
+}
+
+// Closes a new domain after a schedule, whose turns are to be answered as wanted.
+fn close_after(rt: &impl Abort, alloc: Global, closing: &Closing<'_>) -> Result<(), Fail> {
+    let closed = closed_after(alloc, &closing.schedule)?;
+    assert_same(rt, &closed.is_some(), &true, closing.schedule.name);
+    if let Some(words) = closed {
+        assert_closed(rt, closing, &words);
+    }
+    Ok(())
+}
+
 // Closes a new domain after each of these schedules.
 fn close_after_each(rt: &impl Abort, alloc: Global, closings: &[Closing<'_>]) -> Result<(), Fail> {
     for closing in closings {
-        let name = closing.schedule.name;
-        let Some(words) = closed_after(alloc, &closing.schedule)? else {
-            panic!(rt; "the turns of {name}");
-        };
-        assert_eq!(rt; words.clock, closing.clock, "CLOCK of {name}");
-        let found = (
-            words.marks.as_slice(),
-            words.heads.as_slice(),
-            words.masters.as_slice(),
-        );
-        let wanted = (
-            closing.marks.as_slice(),
-            closing.heads.as_slice(),
-            closing.masters.as_slice(),
-        );
-        assert_eq!(rt; found, wanted, "MARK, HEAD and MASTER of {name}");
+        close_after(rt, alloc, closing)?;
     }
     Ok(())
 }

@@ -1,13 +1,15 @@
 // The words that a domain ends with.
 ghost use Rattle.std.specs.Prelude.{◌≡◌, ◌<◌, ◌≤◌};
 ghost use Rattle.std.specs.Mem.Slots.{slots_len, IsFull};
+ghost use Rattle.mv_core.specs.Passes.{IsOf};
 ghost use Rattle.mv_layout.specs.Limits.{Checked};
 ghost use Rattle.mv_layout.specs.Cells.{cells};
 
 use crate::clients::Client;
 use crate::playing::{Schedule, play_once};
 use atomic_table::Closed;
-use mv_history::Tag;
+use mv_core::{Pass, Shared};
+use mv_history::{AnyRules, Tag};
 use mv_layout::{CLOCK_CELL, Config, head_cell, mark_cell, master_cell};
 use std::alloc::{AllocError, Global};
 
@@ -51,6 +53,21 @@ fn last_words(
     })
 }
 
+// Closes a domain with one of its passes, and answers the words that are left.
+fn close(
+    alloc: Global,
+    shared: Shared<AnyRules>,
+    pass: Pass<AnyRules>,
+) -> Result<LastWords, AllocError>
+    requires of { IsOf shared pass }
+{
+    let config = *shared.config();
+    let closed = shared.close(pass);
+    let words = last_words(alloc, &config, &closed);
+    closed.free();
+    words
+}
+
 /// Plays a schedule once in a new domain, and closes the domain then with the pass of its last seat. It
 /// answers the words that are left; `None` is that a turn was answered otherwise than was wanted, or that
 /// the numbers are no domain. Where memory is refused before the domain is there, no turn was made.
@@ -61,9 +78,5 @@ pub fn closed_after(alloc: Global, schedule: &Schedule) -> Result<Option<LastWor
     let Some(Client { pass, .. }) = clients.pop() else {
         return Ok(None);
     };
-    let config = *shared.config();
-    let closed = shared.close(pass);
-    let words = last_words(alloc, &config, &closed);
-    closed.free();
-    Ok(Some(words?))
+    Ok(Some(close(alloc, shared, pass)?))
 }

@@ -6,6 +6,7 @@ ghost use Rattle.seat_log.specs.Notes.{next_of, IsBuilt};
 ghost use Rattle.seat_log.specs.Stands.{Stands};
 ghost use Rattle.seat_log.specs.Builds.{IsOpen};
 
+use crate::comparing::assert_same;
 use mv_core::{Pass, Shared, Steps};
 use mv_history::{AnyRules, Protocol, Words};
 use mv_layout::{Config, clock_time};
@@ -154,7 +155,7 @@ fn first_section<L: Ledger>(
 #[test]
 fn a_version_is_built_again(rt: HostRuntime) -> Result<(), Fail> {
     let (built, _) = first_section::<Brand>(rt.alloc(), Blank::new(1), true)?;
-    assert_eq!(rt; built, (0, 63, 64, 0));
+    assert_same(&rt, &built, &(0, 63, 64, 0), "what is built");
     Ok(())
 }
 
@@ -170,7 +171,7 @@ fn a_commit_is_noted(rt: HostRuntime) -> Result<(), Fail> {
         time: 5,
         dead: 8,
     };
-    assert_eq!(rt; noted, (note, 1));
+    assert_same(&rt, &noted, &(note, 1), "the note of a commit");
     Ok(())
 }
 
@@ -186,7 +187,7 @@ fn an_abort_is_noted(rt: HostRuntime) -> Result<(), Fail> {
         time: 0,
         dead: 3,
     };
-    assert_eq!(rt; noted, (note, 1));
+    assert_same(&rt, &noted, &(note, 1), "the note of an abort");
     Ok(())
 }
 
@@ -228,6 +229,6 @@ fn sent(alloc: Global) -> Result<Option<(u32, u32)>, AllocError> {
 
 #[test]
 fn a_pass_and_its_log_go_to_a_thread(rt: HostRuntime) -> Result<(), Fail> {
-    assert_eq!(rt; sent(rt.alloc())?, Some((0, 0)));
+    assert_same(&rt, &sent(rt.alloc())?, &Some((0, 0)), "seat and slots");
     Ok(())
 }

@@ -1,12 +1,14 @@
 // The clock of a new domain, on passes.
 ghost use Rattle.std.specs.Prelude.{◌≡◌, ◌<◌, ◌≤◌};
-ghost use Rattle.mv_core.specs.declared.view.Phase.TheVariants.{Outside};
+ghost use Rattle.mv_core.specs.EnterSteps.{MayLoadLow};
 ghost use Rattle.mv_core.specs.Passes.{view, IsOf};
 
+use crate::comparing::assert_same;
+use crate::first_domains::two_seats;
 use commit_clock::{Named, help_clock, now, rest};
 use mv_core::{Pass, Shared, Steps};
 use mv_history::{AnyRules, Rival};
-use mv_layout::{Config, LAST, NO_SLOT, clock_slot, clock_time};
+use mv_layout::{LAST, NO_SLOT, clock_slot, clock_time};
 use std::alloc::{AllocError, Global};
 use std::marker::Brand;
 use std::sync::ledger::{Blank, Ledger};
@@ -22,20 +24,10 @@ fn first_clock<L: Ledger>(
     requires name { blank.name ≡ L.name }
     requires parts { (blank.parts ≡ L.parts) × (0 < L.parts) }
 {
-    let config = Config {
-        seats: 2,
-        objects: 1,
-        slots: 64,
-        write_max: 1,
-        low: 1,
-        high: 1,
-        base,
-    };
-    let (shared, mut passes) = Shared::<AnyRules>::new(alloc, &config, &[[9, 8, 7, 6, 5, 4]])?;
+    let (shared, _one, mut other) = two_seats(alloc, base, [9, 8, 7, 6, 5, 4])?;
     let mut steps = Steps::<L>::open(blank);
-    let pass = &mut passes[1];
-    let word = now(&shared, pass, &mut steps);
-    let loaded = help_clock(&shared, pass, word, &mut steps);
+    let word = now(&shared, &mut other, &mut steps);
+    let loaded = help_clock(&shared, &mut other, word, &mut steps);
     Ok((word, loaded))
 }
 
@@ -47,8 +39,8 @@ fn two_rests<L: Ledger>(
     other: &mut Pass<AnyRules>,
     steps: &mut Steps<L>,
 ) -> Option<(Named, Named)>
-    requires one { IsOf shared.now one.old × ((view one.old).phase ≡ Outside) }
-    requires other { IsOf shared.now other.old × ((view other.old).phase ≡ Outside) }
+    requires one { IsOf shared.now one.old × MayLoadLow (view one.old) }
+    requires other { IsOf shared.now other.old × MayLoadLow (view other.old) }
 {
     let early = now(shared, one, steps);
     let late = now(shared, other, steps);
@@ -70,19 +62,8 @@ fn first_rests<L: Ledger>(
     requires name { blank.name ≡ L.name }
     requires parts { (blank.parts ≡ L.parts) × (0 < L.parts) }
 {
-    let config = Config {
-        seats: 2,
-        objects: 1,
-        slots: 64,
-        write_max: 1,
-        low: 1,
-        high: 1,
-        base,
-    };
-    let (shared, mut passes) = Shared::<AnyRules>::new(alloc, &config, &[[9, 8, 7, 6, 5, 4]])?;
+    let (shared, mut one, mut other) = two_seats(alloc, base, [9, 8, 7, 6, 5, 4])?;
     let mut steps = Steps::<L>::open(blank);
-    let mut other = passes.swap_remove(1);
-    let mut one = passes.swap_remove(0);
     Ok(two_rests(&shared, &mut one, &mut other, &mut steps))
 }
 
@@ -95,10 +76,10 @@ fn the_second_rest_is_lost_to_the_first(rt: HostRuntime) -> Result<(), Fail> {
             time: base + 1,
         };
         let rests = (Named::Done(base + 1), Named::Lost(rival));
-        assert_eq!(rt; answers, Some(rests), "base {base}");
+        assert_same(&rt, &answers, &Some(rests), "two rests");
     }
     let worn = first_rests::<Brand>(rt.alloc(), LAST, Blank::new(1))?;
-    assert_eq!(rt; worn, None);
+    assert_same(&rt, &worn, &None, "rests at the last time");
     Ok(())
 }
 
@@ -107,7 +88,7 @@ fn a_new_clock_names_no_commit(rt: HostRuntime) -> Result<(), Fail> {
     let rows = [(0, 8191), (1, 532_479), (LAST, 18_446_744_073_709_035_519)];
     for (base, word) in rows {
         let found = first_clock::<Brand>(rt.alloc(), base, Blank::new(1))?;
-        assert_eq!(rt; found, (word, None), "base {base}");
+        assert_same(&rt, &found, &(word, None), "a new clock");
     }
     Ok(())
 }

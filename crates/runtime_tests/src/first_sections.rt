@@ -3,9 +3,11 @@ ghost use Rattle.std.specs.Prelude.{◌≡◌, ◌<◌, ◌≤◌};
 ghost use Rattle.mv_core.specs.EnterSteps.{MayLoadLow};
 ghost use Rattle.mv_core.specs.Passes.{view, IsOf};
 
+use crate::comparing::assert_same;
+use crate::first_domains::two_seats;
 use mv_core::{Pass, Shared, Steps};
 use mv_history::AnyRules;
-use mv_layout::{Config, LAST};
+use mv_layout::LAST;
 use reader_marks::{enter, enter_clock, leave};
 use std::alloc::{AllocError, Global};
 use std::marker::Brand;
@@ -38,26 +40,16 @@ fn enters_twice<L: Ledger>(
     requires name { blank.name ≡ L.name }
     requires parts { (blank.parts ≡ L.parts) × (0 < L.parts) }
 {
-    let config = Config {
-        seats: 2,
-        objects: 1,
-        slots: 64,
-        write_max: 1,
-        low: 1,
-        high: 1,
-        base,
-    };
-    let start = [[9, 8, 7, 6, 5, 4]];
-    let (shared, mut passes) = Shared::<AnyRules>::new(alloc, &config, &start)?;
+    let (shared, _one, mut other) = two_seats(alloc, base, [9, 8, 7, 6, 5, 4])?;
     let mut steps = Steps::<L>::open(blank);
-    Ok(two_sections(&shared, &mut passes[1], &mut steps))
+    Ok(two_sections(&shared, &mut other, &mut steps))
 }
 
 #[test]
 fn a_seat_enters_and_leaves(rt: HostRuntime) -> Result<(), Fail> {
     for base in [0, 3, LAST] {
         let times = enters_twice::<Brand>(rt.alloc(), base, Blank::new(1))?;
-        assert_eq!(rt; times, (base, base, base));
+        assert_same(&rt, &times, &(base, base, base), "times");
     }
     Ok(())
 }

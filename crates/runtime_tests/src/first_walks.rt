@@ -5,9 +5,11 @@ ghost use Rattle.mv_core.specs.Passes.{view, IsOf, IsSame, config_of};
 ghost use Rattle.version_chain.specs.Walks.{MayWalk};
 ghost use Rattle.version_chain.specs.Reads.{words_in};
 
+use crate::comparing::assert_same;
+use crate::first_domains::two_seats;
 use mv_core::{Pass, Shared, Steps};
 use mv_history::{AnyRules, Words};
-use mv_layout::{Config, LAST, NO_SLOT, clock_slot, clock_time};
+use mv_layout::{LAST, NO_SLOT, clock_slot, clock_time};
 use std::alloc::{AllocError, Global};
 use std::marker::Brand;
 use std::sync::ledger::{Blank, Ledger};
@@ -152,19 +154,9 @@ fn first_reads<L: Ledger>(
     requires name { blank.name ≡ L.name }
     requires parts { (blank.parts ≡ L.parts) × (0 < L.parts) }
 {
-    let config = Config {
-        seats: 2,
-        objects: 1,
-        slots: 64,
-        write_max: 1,
-        low: 1,
-        high: 1,
-        base,
-    };
-    let start = [[9, 8, 7, 6, 5, 0]];
-    let (shared, mut passes) = Shared::<AnyRules>::new(alloc, &config, &start)?;
+    let (shared, mut one, _other) = two_seats(alloc, base, [9, 8, 7, 6, 5, 0])?;
     let mut steps = Steps::<L>::open(blank);
-    Ok(read_all_ways(&shared, &mut passes[0], &mut steps))
+    Ok(read_all_ways(&shared, &mut one, &mut steps))
 }
 
 #[test]
@@ -172,7 +164,8 @@ fn first_read_steps(rt: HostRuntime) -> Result<(), Fail> {
     let opening = [9, 8, 7, 6, 5, 0];
     for base in [0, LAST] {
         let words = first_reads::<Brand>(rt.alloc(), base, Blank::new(1))?;
-        assert_eq!(rt; words, Some((opening, opening, (7, 6), [7, 6, 5, 0])));
+        let wanted = Some((opening, opening, (7, 6), [7, 6, 5, 0]));
+        assert_same(&rt, &words, &wanted, "words");
     }
     Ok(())
 }

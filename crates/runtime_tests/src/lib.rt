@@ -53,9 +53,13 @@ mod commit_rows;
 #[cfg(test)]
 mod commits;
 #[cfg(test)]
+mod comparing;
+#[cfg(test)]
 mod enter_stop_rows;
 #[cfg(test)]
 mod filled_logs;
+#[cfg(test)]
+mod first_domains;
 #[cfg(test)]
 mod first_logs;
 #[cfg(test)]
@@ -82,6 +86,8 @@ mod mark_rows;
 mod marking;
 #[cfg(test)]
 mod moves;
+#[cfg(test)]
+mod opening;
 #[cfg(test)]
 mod playing;
 #[cfg(test)]

@@ -1,6 +1,4 @@
 // A lock by its two parts, between which other clients may move.
-ghost use Rattle.std.specs.Prelude.{◌<◌};
-ghost use Rattle.mv_core.specs.Passes.{config_of};
 ghost use Rattle.runtime_tests.specs.Clients.{IsReady};
 
 use crate::clients::{Client, Stage};
@@ -19,13 +17,12 @@ pub(crate) fn starting<L: Ledger>(
     steps: &mut Steps<L>,
 ) -> Answer
     requires ready { IsReady shared.now client.old }
-    requires range { object < (config_of shared.now).objects }
     ensures ready { IsReady shared.now client.new }
 {
     let Stage::Inside(_) = client.stage else {
         return Answer::Skipped;
     };
-    if held(&client.log) > shared.config().write_max {
+    if object >= shared.config().objects || held(&client.log) > shared.config().write_max {
         return Answer::Skipped;
     }
     match lock_start(shared, &mut client.pass, &mut client.log, object, steps) {

@@ -165,6 +165,34 @@ pub(crate) fn clock(word: u64) -> Answer {
     Answer::Clock(clock_time(word), clock_seat(word), slot)
 }
 
+// Makes the first steps of a call that takes part in a lock or an abort, and stops.
+fn stopping_lock<L: Ledger>(
+    shared: &Shared<AnyRules>,
+    client: &mut Client,
+    call: Call,
+    count: u32,
+    steps: &mut Steps<L>,
+) -> Answer
+    requires ready { IsReady shared.now client.old }
+    ensures ready { IsReady shared.now client.new }
+{
+    let pass = &mut client.pass;
+    match (call, client.stage) {
+        (Call::Lock(object), Stage::Inside(None)) if object < shared.config().objects => {
+            first_of_lock(shared, pass, &client.log, object, count, steps)
+        }
+        (Call::LockEnd, Stage::Locking(started)) => {
+            first_of_lock_end(shared, pass, &mut client.log, started, count, steps)
+        }
+        (Call::Abort, Stage::Inside(None)) if held(&client.log) != 0 => {
+            first_of_abort(shared, pass, &client.log, count, steps)
+        }
+        _ => return Answer::Skipped,
+    }
+    client.stage = Stage::Stopped;
+    Answer::Stopped
+}
+
 // Makes the first steps of a call, and stops.
 fn stopping<L: Ledger>(
     shared: &Shared<AnyRules>,
@@ -179,26 +207,67 @@ fn stopping<L: Ledger>(
     let pass = &mut client.pass;
     match (call, client.stage) {
         (Call::Help, Stage::Taken(word)) => first_of_help(shared, pass, word, count, steps),
-        (Call::Lock(object), Stage::Inside(None)) if object < shared.config().objects => {
-            first_of_lock(shared, pass, &client.log, object, count, steps)
-        }
-        (Call::LockEnd, Stage::Locking(started)) => {
-            first_of_lock_end(shared, pass, &mut client.log, started, count, steps)
-        }
         (Call::Now, Stage::Inside(_)) => first_of_now(shared, pass, count, steps),
         (Call::Finish, Stage::Named(time)) => {
             first_of_finish(shared, pass, &client.log, time, count, steps)
         }
-        (Call::Abort, Stage::Inside(None)) if held(&client.log) != 0 => {
-            first_of_abort(shared, pass, &client.log, count, steps)
-        }
-        _ => return Answer::Skipped,
+        _ => return stopping_lock(shared, client, call, count, steps),
     }
     client.stage = Stage::Stopped;
     Answer::Stopped
 }
 
-// Makes a move of a client that goes on with nothing under way, and answers what it was answered.
+// Makes a part of a call, or what is made outside a section.
+fn make_part<L: Ledger>(
+    shared: &Shared<AnyRules>,
+    client: &mut Client,
+    next: Move,
+    steps: &mut Steps<L>,
+) -> Answer
+    requires ready { IsReady shared.now client.old }
+    ensures ready { IsReady shared.now client.new }
+{
+    match next {
+        Move::LockStart(object) => starting(shared, client, object, steps),
+        Move::LockEnd => ending(shared, client, steps),
+        Move::LoadLow | Move::StoreMark(_) | Move::LoadTime => {
+            entering_by_parts(shared, client, next, steps)
+        }
+        Move::Scan => scanning(shared, client, steps),
+        Move::Known => knowing(shared, client, steps),
+        Move::Table => Answer::Counts(table(&client.log)),
+        Move::Round(back) => rounding(shared, client, back, steps),
+        Move::Tidy => tidying(shared, client, steps),
+        _ => Answer::Skipped,
+    }
+}
+
+// Makes a move that loads CLOCK or makes an entry, or one of `make_part`.
+fn make_entry<L: Ledger>(
+    shared: &Shared<AnyRules>,
+    client: &mut Client,
+    next: Move,
+    steps: &mut Steps<L>,
+) -> Answer
+    requires ready { IsReady shared.now client.old }
+    ensures ready { IsReady shared.now client.new }
+{
+    match next {
+        Move::Now => match client.stage {
+            Stage::Outside => taking_clock(shared, client, steps),
+            _ => loading(shared, client, steps),
+        },
+        Move::Help => helping(shared, client, steps),
+        Move::Rest => resting(shared, client, steps),
+        Move::Name => naming(shared, client, steps),
+        Move::Finish => finishing(shared, client, steps),
+        Move::Commit => committing(shared, client, steps),
+        _ => make_part(shared, client, next, steps),
+    }
+}
+
+// Makes a move of a client that goes on with nothing under way, and answers what it was answered. A move
+// that isn't one of those is skipped.
 pub(crate) fn make<L: Ledger>(
     shared: &Shared<AnyRules>,
     client: &mut Client,
@@ -214,38 +283,11 @@ pub(crate) fn make<L: Ledger>(
             Stage::WritingBack => giving_up(shared, client, steps),
             _ => leaving(shared, client, steps),
         },
-        Move::Read(object) if object < shared.config().objects => {
-            reading(shared, client, object, steps)
-        }
-        Move::Lock(object) if object < shared.config().objects => {
-            locking(shared, client, object, steps)
-        }
+        Move::Read(object) => reading(shared, client, object, steps),
+        Move::Lock(object) => locking(shared, client, object, steps),
         Move::Write(object, words) => writing(shared, client, object, words, steps),
         Move::Abort => aborting(shared, client, steps),
-        Move::Now => match client.stage {
-            Stage::Outside => taking_clock(shared, client, steps),
-            _ => loading(shared, client, steps),
-        },
-        Move::Rest => resting(shared, client, steps),
-        Move::Name => naming(shared, client, steps),
-        Move::Finish => finishing(shared, client, steps),
-        Move::Commit => committing(shared, client, steps),
         Move::FirstOf(call, count, _) => stopping(shared, client, call, count, steps),
-        Move::LockStart(object) if object < shared.config().objects => {
-            starting(shared, client, object, steps)
-        }
-        Move::LockEnd => ending(shared, client, steps),
-        Move::LoadLow | Move::StoreMark(_) | Move::LoadTime => {
-            entering_by_parts(shared, client, next, steps)
-        }
-        Move::Help => helping(shared, client, steps),
-        Move::Scan => scanning(shared, client, steps),
-        Move::Known => knowing(shared, client, steps),
-        Move::Table => Answer::Counts(table(&client.log)),
-        Move::Round(back) => rounding(shared, client, back, steps),
-        Move::Tidy => tidying(shared, client, steps),
-        Move::WalkStart(_) | Move::WalkStep | Move::ReadFound => Answer::Skipped,
-        Move::BackStart(_) | Move::BackWord | Move::BackFinish => Answer::Skipped,
-        Move::Read(_) | Move::Lock(_) | Move::LockStart(_) | Move::Join => Answer::Skipped,
+        _ => make_entry(shared, client, next, steps),
     }
 }

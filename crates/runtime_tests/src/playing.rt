@@ -2,9 +2,11 @@
 ghost use Rattle.std.specs.Prelude.{◌≡◌, ◌<◌, All, IfOk};
 ghost use Rattle.runtime_tests.specs.Clients.{IsPlayable, AreReady};
 
-use crate::clients::{Client, UnderWay, open};
+use crate::clients::{Client, UnderWay};
+use crate::comparing::assert_same;
 use crate::joining::joining;
 use crate::moves::{Answer, Call, Move, make};
+use crate::opening::open;
 use crate::reclaiming::{back_finishing, back_starting, back_stopping, back_storing};
 use crate::walks::{reading_found, walk_starting, walk_stepping};
 use mv_core::{Shared, Steps};
@@ -232,7 +234,7 @@ pub fn play_schedules(
     schedules: &[Schedule<'_>],
 ) -> Result<(), Fail> {
     for schedule in schedules {
-        assert_eq!(rt; played(alloc, schedule)?, None, "{}", schedule.name);
+        assert_same(rt, &played(alloc, schedule)?, &None, schedule.name);
     }
     Ok(())
 }

@@ -1,13 +1,15 @@
 // Reading the opening words, in a domain in which nobody has committed.
-ghost use Rattle.std.specs.Prelude.{◌≡◌, ◌+◌, ◌<◌, ◌≤◌, IfOk, OnSome};
+ghost use Rattle.std.specs.Prelude.{◌≡◌, ◌+◌, ◌<◌, ◌≤◌, OnSome};
 ghost use Rattle.mv_core.specs.EnterSteps.{MayLoadLow};
 ghost use Rattle.mv_core.specs.Passes.{view, IsOf, IsSame, config_of};
 ghost use Rattle.version_chain.specs.Walks.{MayWalk};
 ghost use Rattle.runtime_tests.specs.Reads.{Keeps, ReadsMaster, IsFirstRead};
 
+use crate::comparing::assert_same;
+use crate::first_domains::two_seats;
 use mv_core::{Pass, Shared, Steps};
 use mv_history::{AnyRules, Words};
-use mv_layout::{Config, LAST};
+use mv_layout::LAST;
 use reader_marks::{enter, leave};
 use std::alloc::{AllocError, Global};
 use std::marker::Brand;
@@ -133,32 +135,6 @@ fn overlapping<L: Ledger>(
     [(time, words), inner]
 }
 
-// A new domain of two seats and one object with these words.
-fn two_seats(
-    alloc: Global,
-    base: u64,
-    words: Words,
-) -> Result<(Shared<AnyRules>, Pass<AnyRules>, Pass<AnyRules>), AllocError>
-    requires base { base ≤ LAST }
-    ensures one { IfOk result (λ r. IsOf r.0 r.1 × MayLoadLow (view r.1)) }
-    ensures other { IfOk result (λ r. IsOf r.0 r.2 × MayLoadLow (view r.2)) }
-    ensures objects { IfOk result (λ r. (config_of r.0).objects ≡ 1) }
-{
-    let config = Config {
-        seats: 2,
-        objects: 1,
-        slots: 64,
-        write_max: 1,
-        low: 1,
-        high: 1,
-        base,
-    };
-    let (shared, mut passes) = Shared::<AnyRules>::new(alloc, &config, &[words])?;
-    let other = passes.swap_remove(1);
-    let one = passes.swap_remove(0);
-    Ok((shared, one, other))
-}
-
 const OPENING: Words = [9, 8, 7, 6, 5, 0];
 
 // Both, each in a new domain.
@@ -183,8 +159,9 @@ fn reads<L: Ledger>(
 fn sections_read_the_opening_words(rt: HostRuntime) -> Result<(), Fail> {
     for base in [0, 3, LAST] {
         let (turns, overlap) = reads::<Brand>(rt.alloc(), base, Blank::new(1))?;
-        assert_eq!(rt; turns, [(base, Some(OPENING)); 4], "base {base}");
-        assert_eq!(rt; overlap, [(base, Some(OPENING)); 2], "base {base}");
+        let reading = (base, Some(OPENING));
+        assert_same(&rt, &turns, &[reading; 4], "sections in turn");
+        assert_same(&rt, &overlap, &[reading; 2], "sections that overlap");
     }
     Ok(())
 }

@@ -1,6 +1,5 @@
 // The calls of a section, whole.
-ghost use Rattle.std.specs.Prelude.{◌≡◌, ◌<◌};
-ghost use Rattle.mv_core.specs.Passes.{config_of};
+ghost use Rattle.std.specs.Prelude.{◌≡◌};
 ghost use Rattle.runtime_tests.specs.Clients.{IsReady};
 
 use crate::clients::{Client, Stage};
@@ -56,12 +55,14 @@ pub(crate) fn reading<L: Ledger>(
     steps: &mut Steps<L>,
 ) -> Answer
     requires ready { IsReady shared.now client.old }
-    requires range { object < (config_of shared.now).objects }
     ensures ready { IsReady shared.now client.new }
 {
     let Stage::Inside(_) = client.stage else {
         return Answer::Skipped;
     };
+    if object >= shared.config().objects {
+        return Answer::Skipped;
+    }
     let pass = &mut client.pass;
     Answer::Words(match find(shared, pass, object, steps) {
         Found::Master => read_master(shared, pass, object, steps),
@@ -76,13 +77,12 @@ pub(crate) fn locking<L: Ledger>(
     steps: &mut Steps<L>,
 ) -> Answer
     requires ready { IsReady shared.now client.old }
-    requires range { object < (config_of shared.now).objects }
     ensures ready { IsReady shared.now client.new }
 {
     let Stage::Inside(_) = client.stage else {
         return Answer::Skipped;
     };
-    if held(&client.log) > shared.config().write_max {
+    if object >= shared.config().objects || held(&client.log) > shared.config().write_max {
         return Answer::Skipped;
     }
     tried(lock(shared, &mut client.pass, &mut client.log, object, steps))

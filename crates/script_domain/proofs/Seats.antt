@@ -1,6 +1,7 @@
 -- The seats of a domain, before and after their scripts: they are of the domain, and numbered in order.
-use Rattle.std.proofs.Common.{◌≡◌, ◌≢◌, ℕ, suc, ◌+◌, ◌<◌, ◌≤◌, List, [], ◌∷◌, length, map, drop, ap, ◌∙◌, arith}
+use Rattle.std.proofs.Common.{◌≡◌, ◌≢◌, ℕ, suc, ◌+◌, ◌<◌, ◌≤◌, List, [], ◌∷◌, length, map, drop, sym, ap, ◌∙◌, subst, arith}
 use Rattle.std.specs.List.{All, AllPairs}
+use Rattle.std.proofs.lemmas.List.{length-map}
 use Rattle.std.proofs.lemmas.List.Elements.{All-nil, All-cons, All-weaker}
 use Rattle.std.proofs.lemmas.List.Kept.{AllPairs-cons}
 use Rattle.mv_history.specs.Calls.{Continues}
@@ -13,7 +14,9 @@ use Rattle.set_script.specs.declared.commands.Command.{Command}
 use Rattle.run_report.specs.declared.line.Line.{Line}
 use Rattle.run_report.specs.Worked.{AllRan}
 use Rattle.script_workers.specs.Numbers.{AreNumbered}
+use Rattle.script_domain.specs.Lending.{IsLeft}
 use Rattle.script_domain.specs.New.{AreNewFrom}
+use Rattle.script_domain.specs.declared.lending.Left.{Left}
 
 -- new seats are numbered in order
 pub new_numbered : {P : Type 0} (d : Domain P) (number : ℕ) (seats : List history.Seat) → AreNewFrom d number seats → AreNumbered number seats
@@ -125,3 +128,10 @@ module _ {P : Type 0} {rules : _} (d : Domain P) where
       (All-weaker (λ t. suc number ≤ (seat_of t).number) (λ t. (seat_of s).number ≢ (seat_of t).number)
       (λ t le same. omega (arith, le, same, are.0.numbered)) seats (are_from (suc number) seats are.1))
       (are_apart (suc number) seats are.1)
+
+-- what is left of seats that were lent has room for the handles that come back
+pub left_for : {P : Type 0} {rules : _} (left : Left P rules) (lent back : List (Handle P rules))
+    → length (map (λ h. handled h) back) ≡ length (map (λ h. handled h) lent) → IsLeft left (length lent) → IsLeft left (length back)
+left_for left lent back same is =
+    let e : length back ≡ length lent = omega (arith, same, length-map back handled, length-map lent handled) in
+    subst (λ (n : ℕ). IsLeft left n) (sym e) is

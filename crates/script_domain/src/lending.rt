@@ -1,34 +1,66 @@
 //! The loan of a domain to its seats, and back; and the tables of their logs.
-ghost use Rattle.std.specs.Prelude.{◌≡◌, ◌≤◌, [], length, map, All, IfOk, vec_capacity};
+ghost use Rattle.std.specs.Prelude.{◌≡◌, ◌≤◌, [], length, map, All, IfOk, IfErr, vec_capacity};
 ghost use Rattle.mvrlu.specs.Meant.{seat_of, handled, IsSeatOf};
 ghost use Rattle.script_domain.specs.Joined.{AreTablesOf};
+ghost use Rattle.script_domain.specs.Lending.{IsLeft};
 
 use mv_history::{LogTable, Protocol};
 use mvrlu::{Domain, Handle, Seat};
 use script_workers::take_first;
 use std::alloc::{AllocError, Global};
 
-/// A row for the handles of a domain's seats, and one for the tables of their logs.
-pub struct Rows<'d, P: Protocol> {
+/// What is left of seats that were lent: the row that they stood in, and one for the tables of their logs.
+pub struct Left<P: Protocol> {
+    /// Room for the seats.
+    pub seats: Vec<Seat<P>>,
     /// Room for the tables.
     pub tables: Vec<LogTable>,
-    /// Room for the handles.
-    pub handles: Vec<Handle<'d, P>>,
 }
 
-/// Takes the memory for the handles and tables of so many seats. The error is want of memory.
-pub fn make_rows<'d, P: Protocol>(alloc: Global, seats: usize) -> Result<Rows<'d, P>, AllocError>
-    ensures tables { IfOk result (λ rows. (rows.tables.items ≡ []) × (seats ≤ vec_capacity rows.tables)) }
-    ensures handles { IfOk result (λ rows. (rows.handles.items ≡ []) × (seats ≤ vec_capacity rows.handles)) }
+/// Lends the domain to its seats, in their order.
+///
+/// The error is want of memory for the handles or the tables, and hands back the seats.
+pub fn lend_all<'d, P: Protocol>(
+    alloc: Global,
+    domain: &'d Domain<P>,
+    mut seats: Vec<Seat<P>>,
+) -> Result<(Vec<Handle<'d, P>>, Left<P>), (Vec<Seat<P>>, AllocError)>
+    requires own { All (λ seat. IsSeatOf domain.now seat) seats.items }
+    ensures handles { IfOk result (λ lent. map handled lent.0.items ≡ map seat_of seats.items) }
+    ensures left { IfOk result (λ lent. IsLeft lent.1 (length lent.0.items)) }
+    ensures err { IfErr result (λ refused. refused.0 ≡ seats) }
 {
-    let tables = Vec::with_capacity(alloc, seats)?;
+    let Ok(tables) = Vec::with_capacity(alloc, seats.len()) else {
+        return Err((seats, AllocError));
+    };
     // A row of handles can't be let go, so nothing is refused from here on.
-    let handles = Vec::with_capacity(alloc, seats)?;
-    Ok(Rows { tables, handles })
+    let Ok(mut handles) = Vec::with_capacity(alloc, seats.len()) else {
+        return Err((seats, AllocError));
+    };
+    lend(domain, &mut seats, &mut handles);
+    Ok((handles, Left { seats, tables }))
 }
 
-/// Lends the domain to its seats, in their order. There is room for their handles. It takes no memory.
-pub fn lend<'d, P: Protocol>(
+/// Takes back the seats, and the tables of their logs, in the order of the handles. It takes no memory.
+pub fn take_back<P: Protocol>(
+    handles: Vec<Handle<'_, P>>,
+    left: Left<P>,
+) -> (Vec<Seat<P>>, Vec<LogTable>)
+    requires left { IsLeft left (length handles.items) }
+    ensures seats { map seat_of result.0.items ≡ map handled handles.entry.items }
+    ensures tables { AreTablesOf (map seat_of result.0.items) result.1.items }
+{
+    let Left {
+        mut seats,
+        mut tables,
+    } = left;
+    take_tables(&handles, &mut tables);
+    give_back(handles, &mut seats);
+    (seats, tables)
+}
+
+// Lends the domain to its seats, in their order. There is room for their handles. It takes no memory.
+fn lend<'d, P: Protocol>(
     domain: &'d Domain<P>,
     seats: &mut Vec<Seat<P>>,
     handles: &mut Vec<Handle<'d, P>>,
@@ -45,8 +77,8 @@ pub fn lend<'d, P: Protocol>(
     }
 }
 
-/// Gives the domain back, in the order of the handles. There is room for their seats. It takes no memory.
-pub fn give_back<P: Protocol>(mut handles: Vec<Handle<'_, P>>, seats: &mut Vec<Seat<P>>)
+// Gives the domain back, in the order of the handles. There is room for their seats. It takes no memory.
+fn give_back<P: Protocol>(mut handles: Vec<Handle<'_, P>>, seats: &mut Vec<Seat<P>>)
     requires none { seats.old.items ≡ [] }
     requires room { length handles.items ≤ vec_capacity seats.old }
     ensures seats { map seat_of seats.new.items ≡ map handled handles.entry.items }
@@ -57,8 +89,8 @@ pub fn give_back<P: Protocol>(mut handles: Vec<Handle<'_, P>>, seats: &mut Vec<S
     handles.destroy_empty();
 }
 
-/// Takes the table of each seat's log, in the order of the handles. There is room for the tables. It takes no memory.
-pub fn take_tables<P: Protocol>(handles: &[Handle<'_, P>], tables: &mut Vec<LogTable>)
+// Takes the table of each seat's log, in the order of the handles. There is room for the tables. It takes no memory.
+fn take_tables<P: Protocol>(handles: &[Handle<'_, P>], tables: &mut Vec<LogTable>)
     requires none { tables.old.items ≡ [] }
     requires room { length handles.now ≤ vec_capacity tables.old }
     ensures tables { AreTablesOf (map handled handles.now) tables.new.items }

@@ -12,7 +12,7 @@ ghost use Rattle.script_workers.specs.Workers.{items_of};
 ghost use Rattle.script_domain.specs.Joined.{past_of_whole, AreTablesOf};
 ghost use Rattle.script_domain.specs.New.{AreNewFrom};
 
-use crate::lending::{Rows, give_back, lend, make_rows, take_tables};
+use crate::lending::{lend_all, take_back};
 use mv_history::LogTable;
 use mvrlu::{Closing, Domain, Seat};
 use run_outside::Gate;
@@ -69,7 +69,7 @@ fn run_seats<R: Threads + Wait + Sync, G: Gate>(
     rt: &R,
     alloc: Global,
     domain: &Domain<SetRules>,
-    mut seats: Vec<Seat<SetRules>>,
+    seats: Vec<Seat<SetRules>>,
     scripts: &[Vec<Command>],
     gate: &G,
 ) -> Result<(Vec<Seat<SetRules>>, Vec<Line>, Vec<LogTable>), (Vec<Seat<SetRules>>, AllocError)>
@@ -81,23 +81,12 @@ fn run_seats<R: Threads + Wait + Sync, G: Gate>(
     ensures tables { IfOk result (λ done. AreTablesOf (map seat_of done.0.items) done.2.items) }
     ensures err { IfErr result (λ refused. map seat_of refused.0.items ≡ map seat_of seats.items) }
 {
-    let Rows {
-        mut tables,
-        mut handles,
-    } = match make_rows(alloc, seats.len()) {
-        Ok(rows) => rows,
-        Err(error) => return Err((seats, error)),
-    };
-    lend(domain, &mut seats, &mut handles);
+    let (handles, left) = lend_all(alloc, domain, seats)?;
     match run_scripts(rt, alloc, handles, scripts, gate) {
         Ok((handles, lines)) => {
-            take_tables(&handles, &mut tables);
-            give_back(handles, &mut seats);
+            let (seats, tables) = take_back(handles, left);
             Ok((seats, lines, tables))
         }
-        Err((handles, error)) => {
-            give_back(handles, &mut seats);
-            Err((seats, error))
-        }
+        Err((handles, error)) => Err((take_back(handles, left).0, error)),
     }
 }

@@ -10,6 +10,7 @@ use Rattle.std.proofs.Common.{
   Bool,
   true,
   false,
+  true≢false,
   if◌then◌else◌,
   ◌||◌,
   List,
@@ -118,7 +119,7 @@ move_locks s source target key ws m o t = go (touches m.dels o) refl (touches m.
     go : (x : Bool) → touches m.dels o ≡ x → (y : Bool) → touches m.adds o ≡ y → Locks (Move source target key) s o
     go true p y q = inl (m.node, m.inner, m.dels, m.del, p)
     go false p true q = inr (m.node, m.inner, m.dels, m.del, (m.first, m.second, m.adds, m.add, q))
-    go false p false q = absurd (let e = either in cc)
+    go false p false q = absurd (true≢false (sym t ∙ either ∙ ap (λ (b : Bool). b || touches m.adds o) p ∙ q))
 
 plan_locks : (command : Command) (s : State) (ws : Writes) → PlanOf command s ws → (o : ℕ) → touches ws o ≡ true → Locks command s o
 plan_locks (Add name key) s ws (first, second, plan) o t = (first, second, ws, plan, t)

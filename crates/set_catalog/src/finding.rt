@@ -4,7 +4,7 @@ ghost use Rattle.set_script.specs.Catalogue.{map_of, has_key};
 ghost use Rattle.set_script.specs.CatalogueOf.{catalogue_of};
 ghost use Rattle.set_script.specs.Lawful.{IsLawful};
 ghost use Rattle.set_script.specs.declared.commands.Command.{Command};
-ghost use Rattle.set_script.specs.declared.commands.Command.TheVariants.{Add, Put, Del, Move};
+ghost use Rattle.set_script.specs.declared.commands.Command.TheVariants.{Add, Put, Del, Has, Get, Move, Pair, Next};
 ghost use Rattle.set_script.specs.declared.commands.Reply.TheVariants.{Yes, No};
 ghost use Rattle.set_catalog.specs.Hinted.{TakesHints};
 ghost use Rattle.set_catalog.specs.Ends.{EndsAt, HasHead};
@@ -90,29 +90,61 @@ pub(crate) fn find_plan_near<V: View>(
             target,
             key,
         } => find_move(view, hints, fingers, few, source, target, key),
-        Command::Has { name, key } => {
-            Finding::Settled(yes_or_no(search_near(view, fingers, name, key).has(key)))
-        }
-        Command::Get { name, key } => {
-            Finding::Settled(match search_near(view, fingers, name, key).value(key) {
-                Some(value) => Reply::Value { value },
-                None => Reply::NoKey,
-            })
-        }
-        Command::Pair { first, second, key } => Finding::Settled(Reply::Both {
-            first: search_near(view, fingers, first, key).has(key),
-            second: search_near(view, fingers, second, key).has(key),
-        }),
+        Command::Has { name, key } => find_has(view, fingers, name, key),
+        Command::Get { name, key } => find_value(view, fingers, name, key),
+        Command::Pair { first, second, key } => find_pair(view, fingers, first, second, key),
         Command::Size { name } => Finding::Settled(Reply::Count {
             count: size(view, name),
         }),
-        Command::Next { name, key } => {
-            Finding::Settled(match next(view, fingers, name, key) {
-                Some(key) => Reply::Key { key },
-                None => Reply::NoKey,
-            })
-        }
+        Command::Next { name, key } => find_next(view, fingers, name, key),
     }
+}
+
+fn find_has<V: View>(view: &mut V, fingers: &mut Fingers, name: Name, key: u32) -> Finding
+    requires lawful { IsLawful (V.state view.old) }
+    ensures found { IsFound (Has name key) (V.state view.old) result }
+    ensures as_before { V.as_before view.old view.new }
+{
+    Finding::Settled(yes_or_no(search_near(view, fingers, name, key).has(key)))
+}
+
+fn find_value<V: View>(view: &mut V, fingers: &mut Fingers, name: Name, key: u32) -> Finding
+    requires lawful { IsLawful (V.state view.old) }
+    ensures found { IsFound (Get name key) (V.state view.old) result }
+    ensures as_before { V.as_before view.old view.new }
+{
+    Finding::Settled(match search_near(view, fingers, name, key).value(key) {
+        Some(value) => Reply::Value { value },
+        None => Reply::NoKey,
+    })
+}
+
+fn find_pair<V: View>(
+    view: &mut V,
+    fingers: &mut Fingers,
+    first: Name,
+    second: Name,
+    key: u32,
+) -> Finding
+    requires lawful { IsLawful (V.state view.old) }
+    ensures found { IsFound (Pair first second key) (V.state view.old) result }
+    ensures as_before { V.as_before view.old view.new }
+{
+    Finding::Settled(Reply::Both {
+        first: search_near(view, fingers, first, key).has(key),
+        second: search_near(view, fingers, second, key).has(key),
+    })
+}
+
+fn find_next<V: View>(view: &mut V, fingers: &mut Fingers, name: Name, key: u32) -> Finding
+    requires lawful { IsLawful (V.state view.old) }
+    ensures found { IsFound (Next name key) (V.state view.old) result }
+    ensures as_before { V.as_before view.old view.new }
+{
+    Finding::Settled(match next(view, fingers, name, key) {
+        Some(key) => Reply::Key { key },
+        None => Reply::NoKey,
+    })
 }
 
 fn yes_or_no(holds: bool) -> Reply

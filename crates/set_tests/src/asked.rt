@@ -1,6 +1,7 @@
 // What tables ask: commands by the indices of their sets, questions of one set, and the words of objects.
-use mv_history::{View, Words};
-use set_script::{Command, Name};
+use mv_history::{Store, View, Words};
+use set_catalog::{Attempt, Hints, attempt_with};
+use set_script::{Command, Name, Place, Reply, SetRules};
 use std::alloc::{AllocError, Global};
 use std::process::Abort;
 use std::test::*;
@@ -68,6 +69,22 @@ pub(crate) fn command(rt: &impl Abort, ask: Ask) -> Command {
     }
 }
 
+// Attempts one command, which locks five objects at most, with hints.
+pub(crate) fn attempt_hinting<S: Store<Rules = SetRules>>(
+    rt: &impl Abort,
+    store: S,
+    hints: &mut Hints,
+    command: &Command,
+) -> (S, Attempt) {
+    assert!(rt; store.write_max() >= 5);
+    attempt_with(store, hints, command)
+}
+
+// Looks that a command was done at this place, with this reply.
+pub(crate) fn expect_attempt(rt: &impl Abort, answer: Attempt, reply: Reply, place: Place) {
+    assert_eq!(rt; answer, Attempt::Done { reply, place });
+}
+
 // The commands, in their order.
 pub(crate) fn commands_of(
     rt: &impl Abort,
@@ -79,6 +96,18 @@ pub(crate) fn commands_of(
         commands.push(command(rt, *ask))?;
     }
     Ok(commands)
+}
+
+// Looks that the commands that were found are those that are wanted.
+pub(crate) fn expect_commands(
+    rt: &impl Abort,
+    alloc: Global,
+    found: &[Command],
+    asks: &[Ask],
+) -> Result<(), AllocError> {
+    let want = commands_of(rt, alloc, asks)?;
+    assert_eq!(rt; found, want.as_slice());
+    Ok(())
 }
 
 // A question of one list, table or tree, and the answer that is wanted.

@@ -1,6 +1,6 @@
 // Scripts of blocks that are accepted, and those that are refused, with their line and their fault; and which commands are a block.
 use crate::asked::Ask::{Add, Put, Size};
-use crate::asked::{Ask, commands_of};
+use crate::asked::{Ask, commands_of, expect_commands};
 use set_blocks::{Block, BlockFault, BlockKind, parse_blocks};
 use set_script::{FaultKind, MOST_COMMANDS};
 use std::alloc::{AllocError, Global};
@@ -19,6 +19,20 @@ fn parsed(rt: &impl Abort, alloc: Global, text: &[u8]) -> Result<Vec<Block>, Blo
     parse_blocks(alloc, text)
 }
 
+// Looks that these are the blocks.
+fn expect_blocks(
+    rt: &impl Abort,
+    alloc: Global,
+    found: &[Block],
+    blocks: &[&[Ask]],
+) -> Result<(), AllocError> {
+    for (index, asks) in blocks.iter().enumerate() {
+        assert!(rt; index < found.len());
+        expect_commands(rt, alloc, found[index].commands(), asks)?;
+    }
+    Ok(())
+}
+
 // Looks that the text has these blocks.
 fn accepts(
     rt: &impl Abort,
@@ -28,11 +42,7 @@ fn accepts(
 ) -> Result<(), AllocError> {
     let answer = parsed(rt, alloc, text).ok().expect(rt, "a script");
     assert_eq!(rt; answer.len(), blocks.len(), "of {text:?}");
-    for (block, asks) in answer.iter().zip(blocks) {
-        let want = commands_of(rt, alloc, asks)?;
-        assert_eq!(rt; block.commands(), want.as_slice(), "of {text:?}");
-    }
-    Ok(())
+    expect_blocks(rt, alloc, &answer, blocks)
 }
 
 // Looks that the text has its first fault on this line.
@@ -147,6 +157,11 @@ fn a_line_of_a_block_is_refused_for_what_is_wrong_first(rt: HostRuntime) {
     refuses_all(&rt, rt.alloc(), &WRONG_FIRST);
 }
 
+// How many blocks the text has.
+fn count_blocks(rt: &impl Abort, alloc: Global, text: &[u8]) -> usize {
+    parsed(rt, alloc, text).ok().expect(rt, "a script").len()
+}
+
 // 8,192 blocks of eight commands.
 fn most_blocks(alloc: Global) -> Result<Vec<u8>, AllocError> {
     let mut text = Vec::new(alloc);
@@ -187,8 +202,7 @@ fn refuses_behind(
 #[test]
 fn the_commands_of_all_blocks_are_counted(rt: HostRuntime) -> Result<(), Fail> {
     let text = most_blocks(rt.alloc())?;
-    let blocks = parsed(&rt, rt.alloc(), &text).ok().ok_or("a script")?;
-    assert_eq!(rt; blocks.len(), 8_192);
+    assert_eq!(rt; count_blocks(&rt, rt.alloc(), &text), 8_192);
     Ok(refuses_behind(&rt, rt.alloc(), text, &BEHIND_MOST)?)
 }
 
@@ -253,11 +267,10 @@ static MADE: [(&[Ask], bool); 5] = [
 
 // Whether the commands are a block. If so, it has them.
 fn is_block(rt: &impl Abort, alloc: Global, asks: &[Ask]) -> Result<bool, AllocError> {
-    let want = commands_of(rt, alloc, asks)?;
     let Some(block) = Block::new(commands_of(rt, alloc, asks)?) else {
         return Ok(false);
     };
-    assert_eq!(rt; block.commands(), want.as_slice());
+    expect_commands(rt, alloc, block.commands(), asks)?;
     Ok(true)
 }
 

@@ -3,8 +3,8 @@ ghost use Rattle.std.specs.Prelude.{◌≡◌, ◌<◌, ◌≤◌, length, IfOk}
 
 use crate::asked::Ask::{Add, Del, Get, Has, Move, Next, Pair, Put, Size};
 use crate::asked::{Ask, commands_of};
-use mv_history::{PlainStore, WORDS};
-use set_blocks::{Block, BlockAttempt, BlockRules, attempt_block};
+use mv_history::{PlainStore, Store, WORDS};
+use set_blocks::{Block, BlockAttempt, BlockRules, Replies, attempt_block};
 use set_script::Place::{Commit, Read};
 use set_script::{Place, Reply};
 use std::alloc::{AllocError, Global};
@@ -23,6 +23,16 @@ fn open(alloc: Global, count: u32, room: u32) -> Result<PlainStore<BlockRules>, 
     PlainStore::new(alloc, &zeros, 0, room)
 }
 
+// Looks that these are the replies.
+fn expect_replies(rt: &impl Abort, said: &Replies, replies: &[Reply]) {
+    let count = said.len();
+    assert_eq!(rt; count as usize, replies.len());
+    for (index, reply) in replies.iter().enumerate() {
+        assert!(rt; index < count as usize);
+        assert_eq!(rt; said.get(index as u32), *reply);
+    }
+}
+
 // Looks that the block was done at this place, with these replies.
 fn expect_done(rt: &impl Abort, answer: BlockAttempt, replies: &[Reply], place: Place) {
     let BlockAttempt::Done {
@@ -33,29 +43,25 @@ fn expect_done(rt: &impl Abort, answer: BlockAttempt, replies: &[Reply], place: 
         panic!(rt; "given up");
     };
     assert_eq!(rt; at, place);
-    let count = said.len();
-    assert_eq!(rt; count as usize, replies.len());
-    for (index, reply) in replies.iter().enumerate() {
-        assert!(rt; index < count as usize);
-        assert_eq!(rt; said.get(index as u32), *reply);
-    }
+    expect_replies(rt, &said, replies);
 }
 
-// Attempts a block of at most three commands.
-fn attempt_few(
+// Attempts a block of at most three commands, each of which locks five objects at most.
+fn attempt_few<S: Store<Rules = BlockRules>>(
     rt: &impl Abort,
-    store: PlainStore<BlockRules>,
+    store: S,
     block: &Block,
-) -> (PlainStore<BlockRules>, BlockAttempt) {
+) -> (S, BlockAttempt) {
     assert!(rt; block.commands().len() <= 3);
+    assert!(rt; store.write_max() >= 15);
     attempt_block(store, block)
 }
 
 // Attempts the blocks, one after another, and looks at their replies and their places.
-fn play(
+fn play<S: Store<Rules = BlockRules> + Drop>(
     rt: &impl Abort,
     alloc: Global,
-    mut store: PlainStore<BlockRules>,
+    mut store: S,
     rows: &[Row],
 ) -> Result<(), AllocError> {
     for (asks, replies, place) in rows {

@@ -39,15 +39,19 @@ static LEFT: [(u32, &[u32], &[u64]); 3] = [
     (1, &[], &[]),
 ];
 
-#[test]
-fn keys_rise_and_values_follow_them(rt: HostRuntime) -> Result<(), Fail> {
-    let mut catalogue = Catalogue::new(rt.alloc())?;
-    insert_all(&rt, &mut catalogue)?;
-    remove_all(&rt, &mut catalogue);
+fn expect_all(rt: &impl Abort, catalogue: &Catalogue) {
     for (name, keys, values) in &LEFT {
         assert!(rt; *name < 30);
         assert_eq!(rt; catalogue.keys(*name), *keys);
         assert_eq!(rt; catalogue.values(*name), *values);
     }
+}
+
+#[test]
+fn keys_rise_and_values_follow_them(rt: HostRuntime) -> Result<(), Fail> {
+    let mut catalogue = Catalogue::new(rt.alloc())?;
+    insert_all(&rt, &mut catalogue)?;
+    remove_all(&rt, &mut catalogue);
+    expect_all(&rt, &catalogue);
     Ok(())
 }

@@ -2,11 +2,11 @@
 ghost use Rattle.std.specs.Prelude.{◌≡◌, ◌<◌, ◌≤◌, length, IfOk};
 
 use crate::asked::Ask::{Add, Del, Get, Move, Put};
-use crate::asked::{Ask, command};
+use crate::asked::{Ask, attempt_hinting, command, expect_attempt};
 use mv_history::{PlainStore, Section, Store, WORDS};
-use set_catalog::{Attempt, Hints, attempt, attempt_with, read_all};
+use set_catalog::{Attempt, Hints, attempt, read_all};
 use set_script::Place::{Commit, Read};
-use set_script::{Catalogue, Place, Reply, SetRules};
+use set_script::{Catalogue, Command, Place, Reply, SetRules};
 use std::alloc::{AllocError, Global};
 use std::process::Abort;
 use std::test::*;
@@ -23,31 +23,39 @@ fn open(alloc: Global, count: u32, room: u32) -> Result<PlainStore<SetRules>, Al
     PlainStore::new(alloc, &zeros, 0, room)
 }
 
+// Attempts one command, which locks five objects at most.
+fn attempt_one<S: Store<Rules = SetRules>>(
+    rt: &impl Abort,
+    store: S,
+    command: &Command,
+) -> (S, Attempt) {
+    assert!(rt; store.write_max() >= 5);
+    attempt(store, command)
+}
+
 // Attempts the commands, one after another, and looks at their replies and their places.
-fn play(rt: &impl Abort, mut store: PlainStore<SetRules>, rows: &[Row]) -> PlainStore<SetRules> {
+fn play<S: Store<Rules = SetRules>>(rt: &impl Abort, mut store: S, rows: &[Row]) -> S {
     for (ask, reply, place) in rows {
-        let (after, answer) = attempt(store, &command(rt, *ask));
-        let want = Attempt::Done {
-            reply: *reply,
-            place: *place,
-        };
-        assert_eq!(rt; answer, want);
+        let (after, answer) = attempt_one(rt, store, &command(rt, *ask));
+        expect_attempt(rt, answer, *reply, *place);
         store = after;
     }
     store
 }
 
 // The same, with hints.
-fn play_with(rt: &impl Abort, mut store: PlainStore<SetRules>, hints: &mut Hints, rows: &[Row]) {
+fn play_with<S: Store<Rules = SetRules>>(
+    rt: &impl Abort,
+    mut store: S,
+    hints: &mut Hints,
+    rows: &[Row],
+) -> S {
     for (ask, reply, place) in rows {
-        let (after, answer) = attempt_with(store, hints, &command(rt, *ask));
-        let want = Attempt::Done {
-            reply: *reply,
-            place: *place,
-        };
-        assert_eq!(rt; answer, want);
+        let (after, answer) = attempt_hinting(rt, store, hints, &command(rt, *ask));
+        expect_attempt(rt, answer, *reply, *place);
         store = after;
     }
+    store
 }
 
 // The catalogue that a store has come to.
@@ -80,6 +88,18 @@ fn expect_keys(rt: &impl Abort, all: &Catalogue, rows: &[Keys]) {
     }
 }
 
+// Looks for these keys in the catalogue that a store has come to.
+fn expect_end<S: Store<Rules = SetRules> + Drop>(
+    rt: &impl Abort,
+    alloc: Global,
+    store: S,
+    rows: &[Keys],
+) -> Result<(), AllocError> {
+    let (_store, all) = read_end(alloc, store);
+    expect_keys(rt, &all?, rows);
+    Ok(())
+}
+
 static ROOM_FOR_TWO: [Row; 6] = [
     (Add(0, 1), Reply::Yes, Commit(1)),
     (Add(10, 2), Reply::Yes, Commit(2)),
@@ -94,9 +114,7 @@ static ENDS_OF_TWO: [Keys; 2] = [(0, &[3]), (1, &[2])];
 #[test]
 fn a_store_is_full_and_has_room_again_after_a_del(rt: HostRuntime) -> Result<(), Fail> {
     let store = play(&rt, open(rt.alloc(), 182, 8)?, &ROOM_FOR_TWO);
-    let (_store, all) = read_end(rt.alloc(), store);
-    expect_keys(&rt, &all?, &ENDS_OF_TWO);
-    Ok(())
+    Ok(expect_end(&rt, rt.alloc(), store, &ENDS_OF_TWO)?)
 }
 
 static TREE_AND_LIST: [Row; 6] = [
@@ -113,9 +131,7 @@ static END_OF_LIST: [Keys; 1] = [(0, &[1, 3])];
 #[test]
 fn a_tree_takes_two_nodes_for_its_second_key(rt: HostRuntime) -> Result<(), Fail> {
     let store = play(&rt, open(rt.alloc(), 183, 8)?, &TREE_AND_LIST);
-    let (_store, all) = read_end(rt.alloc(), store);
-    expect_keys(&rt, &all?, &END_OF_LIST);
-    Ok(())
+    Ok(expect_end(&rt, rt.alloc(), store, &END_OF_LIST)?)
 }
 
 static LAST_TIME: [Row; 2] = [
@@ -143,7 +159,7 @@ static VALUES: [Row; 8] = [
 #[test]
 fn values_are_put_got_and_moved(rt: HostRuntime) -> Result<(), Fail> {
     let mut hints = Hints::new(rt.alloc(), 4)?;
-    play_with(&rt, open(rt.alloc(), 190, 8)?, &mut hints, &VALUES);
+    let _store = play_with(&rt, open(rt.alloc(), 190, 8)?, &mut hints, &VALUES);
     assert_eq!(rt; hints.len(), 1);
     Ok(())
 }

@@ -3,12 +3,12 @@
 ghost use Rattle.std.specs.Prelude.{◌≡◌, ◌<◌, ◌≤◌, length, IfOk};
 
 use crate::asked::Ask::{Add, Del, Has, Move, Next, Put, Size};
-use crate::asked::{Ask, command};
+use crate::asked::{Ask, attempt_hinting, command, expect_attempt};
 use crate::counted::Counted;
 use mv_history::{PlainStore, Section, Store, WORDS};
-use set_catalog::{Attempt, HintedStore, Hints, attempt_with, read_all};
+use set_catalog::{Attempt, HintedStore, Hints, read_all};
 use set_script::Place::{Commit, Read};
-use set_script::{Catalogue, Place, Reply, SetRules};
+use set_script::{Catalogue, Command, Place, Reply, SetRules};
 use std::alloc::{AllocError, Global};
 use std::process::Abort;
 use std::test::*;
@@ -23,81 +23,87 @@ fn open(alloc: Global, count: u32, room: u32) -> Result<PlainStore<SetRules>, Al
 }
 
 // Adds a key to the set of this index.
-fn add(
+fn add<S: Store<Rules = SetRules>>(
     rt: &impl Abort,
-    store: PlainStore<SetRules>,
+    store: S,
     hints: &mut Hints,
     index: u32,
     key: u32,
-) -> PlainStore<SetRules> {
-    attempt_with(store, hints, &command(rt, Add(index, key))).0
+) -> S {
+    attempt_hinting(rt, store, hints, &command(rt, Add(index, key))).0
 }
 
 // What a command is answered, and how many reads it took.
-fn count_reads(
+fn count_reads<S: Store<Rules = SetRules>>(
     rt: &impl Abort,
-    store: PlainStore<SetRules>,
+    store: S,
     hints: &mut Hints,
     ask: Ask,
-) -> (PlainStore<SetRules>, Attempt, u32) {
+) -> (S, Attempt, u32) {
     let counted = Counted {
         view: store,
         reads: 0,
     };
-    let (Counted { view, reads }, answer) = attempt_with(counted, hints, &command(rt, ask));
+    let (Counted { view, reads }, answer) = attempt_hinting(rt, counted, hints, &command(rt, ask));
     (view, answer, reads)
 }
 
 // Looks that `size` of each set, with as many reads, counts so many keys at this time.
-fn expect_sizes(
+fn expect_sizes<S: Store<Rules = SetRules>>(
     rt: &impl Abort,
-    mut store: PlainStore<SetRules>,
+    mut store: S,
     hints: &mut Hints,
     sizes: &[(u32, u32)],
     count: u64,
     time: u64,
-) {
-    let want = Attempt::Done {
-        reply: Reply::Count { count },
-        place: Read(time),
-    };
+) -> S {
     for (index, most) in sizes {
         let (after, answer, reads) = count_reads(rt, store, hints, Size(*index));
-        assert_eq!(rt; answer, want);
+        expect_attempt(rt, answer, Reply::Count { count }, Read(time));
         assert_eq!(rt; reads, *most);
         store = after;
     }
+    store
 }
 
 // The head and 200 nodes; 16 heads and 200 nodes.
 static LIST_AND_TABLE: [(u32, u32); 2] = [(3, 201), (13, 216)];
 
+// Adds 200 keys to a list and to a table.
+fn fill_two<S: Store<Rules = SetRules>>(rt: &impl Abort, mut store: S, hints: &mut Hints) -> S {
+    for i in 0..200 {
+        store = add(rt, store, hints, 3, 200 - i);
+        store = add(rt, store, hints, 13, i);
+    }
+    store
+}
+
 #[test]
 fn a_list_and_a_table_are_read_once(rt: HostRuntime) -> Result<(), Fail> {
     let mut hints = Hints::new(rt.alloc(), 1)?;
-    let mut store = open(rt.alloc(), 1000, 1000)?;
-    for i in 0..200 {
-        store = add(&rt, store, &mut hints, 3, 200 - i);
-        store = add(&rt, store, &mut hints, 13, i);
-    }
-    expect_sizes(&rt, store, &mut hints, &LIST_AND_TABLE, 200, 400);
+    let store = fill_two(&rt, open(rt.alloc(), 1000, 1000)?, &mut hints);
+    let _store = expect_sizes(&rt, store, &mut hints, &LIST_AND_TABLE, 200, 400);
     Ok(())
 }
 
 // The root and 259 nodes, and one node twice where more than 64 links are pending.
 static TREES: [(u32, u32); 3] = [(20, 260), (21, 261), (22, 260)];
 
+// Adds 130 keys to each of three trees: a chain to the right, a chain to the left, and a tree without long branches.
+fn fill_trees<S: Store<Rules = SetRules>>(rt: &impl Abort, mut store: S, hints: &mut Hints) -> S {
+    for i in 0..130 {
+        store = add(rt, store, hints, 20, i);
+        store = add(rt, store, hints, 21, 130 - i);
+        store = add(rt, store, hints, 22, i * 81 % 131);
+    }
+    store
+}
+
 #[test]
 fn a_tree_is_read_once_whatever_its_form(rt: HostRuntime) -> Result<(), Fail> {
     let mut hints = Hints::new(rt.alloc(), 1)?;
-    let mut store = open(rt.alloc(), 1000, 1000)?;
-    for i in 0..130 {
-        // A chain to the right, a chain to the left, and a tree without long branches.
-        store = add(&rt, store, &mut hints, 20, i);
-        store = add(&rt, store, &mut hints, 21, 130 - i);
-        store = add(&rt, store, &mut hints, 22, i * 81 % 131);
-    }
-    expect_sizes(&rt, store, &mut hints, &TREES, 130, 390);
+    let store = fill_trees(&rt, open(rt.alloc(), 1000, 1000)?, &mut hints);
+    let _store = expect_sizes(&rt, store, &mut hints, &TREES, 130, 390);
     Ok(())
 }
 
@@ -115,22 +121,29 @@ fn counted_catalogue<S: Store<Rules = SetRules>>(
     (view.leave(), all, reads)
 }
 
-#[test]
-fn a_catalogue_is_read_once(rt: HostRuntime) -> Result<(), Fail> {
-    let mut hints = Hints::new(rt.alloc(), 1)?;
-    let mut store = open(rt.alloc(), 1000, 1000)?;
+// Adds 130 keys to the tree 20, and reads the whole catalogue.
+fn look_at_tree<S: Store<Rules = SetRules> + Drop>(
+    rt: &impl Abort,
+    alloc: Global,
+    mut store: S,
+    hints: &mut Hints,
+) -> Result<(), AllocError> {
     for i in 0..130 {
-        store = add(&rt, store, &mut hints, 20, i);
+        store = add(rt, store, hints, 20, i);
     }
-    let (_store, all, reads) = counted_catalogue(rt.alloc(), store);
+    let (_store, all, reads) = counted_catalogue(alloc, store);
     assert_eq!(rt; all?.keys(20).len(), 130);
     // The heads and the 259 nodes of the tree.
     assert_eq!(rt; reads, 180 + 259);
     Ok(())
 }
 
-// A plain store whose reads are counted, with hints.
-type Hinted = HintedStore<Counted<PlainStore<SetRules>>>;
+#[test]
+fn a_catalogue_is_read_once(rt: HostRuntime) -> Result<(), Fail> {
+    let mut hints = Hints::new(rt.alloc(), 1)?;
+    let store = open(rt.alloc(), 1000, 1000)?;
+    Ok(look_at_tree(&rt, rt.alloc(), store, &mut hints)?)
+}
 
 // A command, its reply, its place, and how many reads it takes.
 type Row = (Ask, Reply, Place, u32);
@@ -161,18 +174,45 @@ static FULL: [Row; 16] = [
     (Add(3, 4), Reply::Yes, Commit(18), 15),
 ];
 
-// Attempts the commands, one after another.
-fn play(rt: &impl Abort, mut store: Hinted, rows: &[Row]) -> Hinted {
+// A store with hints, whose reads are counted.
+fn counted<S: Store<Rules = SetRules>>(view: S, hints: Hints) -> HintedStore<Counted<S>> {
+    HintedStore::new(Counted { view, reads: 0 }, hints)
+}
+
+// Attempts one command, which locks five objects at most, on a store with hints.
+fn attempt_hinted<S: Store<Rules = SetRules>>(
+    rt: &impl Abort,
+    store: HintedStore<S>,
+    command: &Command,
+) -> (HintedStore<S>, Attempt) {
+    assert!(rt; store.store().write_max() >= 5);
+    store.attempt(command)
+}
+
+// Attempts the commands, one after another, and gives the store back.
+fn play<S: Store<Rules = SetRules>>(
+    rt: &impl Abort,
+    mut store: HintedStore<Counted<S>>,
+    rows: &[Row],
+) -> S {
     for (ask, reply, place, reads) in rows {
         let before = store.store().reads;
-        let (after, answer) = store.attempt(&command(rt, *ask));
-        let want = Attempt::Done {
-            reply: *reply,
-            place: *place,
-        };
-        assert_eq!(rt; answer, want);
+        let (after, answer) = attempt_hinted(rt, store, &command(rt, *ask));
+        expect_attempt(rt, answer, *reply, *place);
         assert_eq!(rt; after.store().reads.saturating_sub(before), *reads);
         store = after;
+    }
+    let Counted { view, reads: _ } = store.into_store();
+    view
+}
+
+// Adds the keys 1 to 10 to the list 3.
+fn add_ten<S: Store<Rules = SetRules>>(
+    rt: &impl Abort,
+    mut store: HintedStore<S>,
+) -> HintedStore<S> {
+    for key in 1..11 {
+        store = attempt_hinted(rt, store, &command(rt, Add(3, key))).0;
     }
     store
 }
@@ -181,15 +221,8 @@ fn play(rt: &impl Abort, mut store: Hinted, rows: &[Row]) -> Hinted {
 #[test]
 fn a_full_store_is_looked_through_once(rt: HostRuntime) -> Result<(), Fail> {
     let hints = Hints::new(rt.alloc(), 0)?;
-    let view = open(rt.alloc(), 190, 100)?;
-    let mut store = HintedStore::new(Counted { view, reads: 0 }, hints);
-    for key in 1..11 {
-        store = store.attempt(&command(&rt, Add(3, key))).0;
-    }
-    let Counted {
-        view: _plain,
-        reads: _,
-    } = play(&rt, store, &FULL).into_store();
+    let store = add_ten(&rt, counted(open(rt.alloc(), 190, 100)?, hints));
+    let _store = play(&rt, store, &FULL);
     Ok(())
 }
 
@@ -228,11 +261,7 @@ static FINGERS: [Row; 11] = [
 #[test]
 fn a_search_begins_at_a_finger(rt: HostRuntime) -> Result<(), Fail> {
     let hints = Hints::new(rt.alloc(), 1)?;
-    let view = open_long(&rt, rt.alloc())?;
-    let store = HintedStore::new(Counted { view, reads: 0 }, hints);
-    let Counted {
-        view: _plain,
-        reads: _,
-    } = play(&rt, store, &FINGERS).into_store();
+    let store = counted(open_long(&rt, rt.alloc())?, hints);
+    let _store = play(&rt, store, &FINGERS);
     Ok(())
 }

@@ -43,8 +43,13 @@ fn command(ask: Ask) -> Command
     }
 }
 
-// What a command is answered, and how many reads it took.
-fn count_reads(store: PlainStore<GrowRules>, ask: Ask) -> (PlainStore<GrowRules>, GrowStep, u32) {
+// What a command, which locks two objects at most, is answered, and how many reads it took.
+fn count_reads<S: Store<Rules = GrowRules>>(
+    rt: &impl Abort,
+    store: S,
+    ask: Ask,
+) -> (S, GrowStep, u32) {
+    assert!(rt; store.write_max() >= 2);
     let counted = Counted {
         view: store,
         reads: 0,
@@ -76,18 +81,20 @@ static ROWS: [Row; 12] = [
     (Ask::Del(17), Reply::Yes, Place::Commit(8), 6),
 ];
 
+// Looks that a command was done at this place, with this reply.
+fn expect_step(rt: &impl Abort, answer: GrowStep, reply: Reply, place: Place) {
+    assert_eq!(rt; answer, GrowStep::Done { reply, place });
+}
+
 // Attempts the commands, one after another.
-fn play(rt: &impl Abort, mut store: PlainStore<GrowRules>, rows: &[Row]) {
+fn play<S: Store<Rules = GrowRules>>(rt: &impl Abort, mut store: S, rows: &[Row]) -> S {
     for (ask, reply, place, most) in rows {
-        let (after, answer, reads) = count_reads(store, *ask);
-        let want = GrowStep::Done {
-            reply: *reply,
-            place: *place,
-        };
-        assert_eq!(rt; answer, want);
+        let (after, answer, reads) = count_reads(rt, store, *ask);
+        expect_step(rt, answer, *reply, *place);
         assert_eq!(rt; reads, *most);
         store = after;
     }
+    store
 }
 
 // A store of so many objects of zeros.
@@ -101,6 +108,6 @@ fn open(alloc: Global, count: u32) -> Result<PlainStore<GrowRules>, AllocError>
 
 #[test]
 fn one_walk_of_one_bucket(rt: HostRuntime) -> Result<(), Fail> {
-    play(&rt, open(rt.alloc(), 4096)?, &ROWS);
+    let _store = play(&rt, open(rt.alloc(), 4096)?, &ROWS);
     Ok(())
 }

@@ -1,6 +1,6 @@
 // Scripts that are accepted, and scripts that are refused, with their line and their fault.
 use crate::asked::Ask::{Add, Del, Get, Has, Move, Next, Pair, Put, Size};
-use crate::asked::{Ask, command, commands_of, name};
+use crate::asked::{Ask, command, expect_commands, name};
 use set_script::{Command, FaultKind, Format, MOST_COMMANDS, Name, ScriptFault, parse, parse_line};
 use std::alloc::{AllocError, Global};
 use std::process::Abort;
@@ -25,9 +25,7 @@ fn format(rt: &impl Abort, number: u32) -> Format {
 // Looks that the text has these commands.
 fn accepts(rt: &impl Abort, alloc: Global, text: &[u8], asks: &[Ask]) -> Result<(), AllocError> {
     let answer = parsed(rt, alloc, text).ok().expect(rt, "a script");
-    let want = commands_of(rt, alloc, asks)?;
-    assert_eq!(rt; answer.as_slice(), want.as_slice(), "of {text:?}");
-    Ok(())
+    expect_commands(rt, alloc, &answer, asks)
 }
 
 fn accepts_all(rt: &impl Abort, alloc: Global, rows: &[Good]) -> Result<(), AllocError> {
@@ -195,11 +193,16 @@ fn most_commands(alloc: Global) -> Result<Vec<u8>, AllocError> {
     Ok(text)
 }
 
+// How many commands the text has.
+fn count_commands(rt: &impl Abort, alloc: Global, text: &[u8]) -> usize {
+    parsed(rt, alloc, text).ok().expect(rt, "a script").len()
+}
+
 #[test]
 fn one_command_too_many(rt: HostRuntime) -> Result<(), Fail> {
     let mut text = most_commands(rt.alloc())?;
-    let commands = parsed(&rt, rt.alloc(), &text).ok().ok_or("a script")?;
-    assert_eq!(rt; (commands.len(), MOST_COMMANDS), (65_536, 65_536));
+    assert_eq!(rt; count_commands(&rt, rt.alloc(), &text), 65_536);
+    assert_eq!(rt; MOST_COMMANDS, 65_536);
     text.extend_from_slice(b"\nhas l0 1\nADD")?;
     refuses(&rt, rt.alloc(), &text, 65_539, FaultKind::Many);
     Ok(())
@@ -229,11 +232,16 @@ fn wanted(
     }
 }
 
+// Looks that the line is read as this in the format of this number.
+fn expect_line(rt: &impl Abort, text: &[u8], number: u32, line: Result<Option<Ask>, FaultKind>) {
+    let found = parse_line(text, &format(rt, number));
+    assert_eq!(rt; found, wanted(rt, line), "of {text:?}");
+}
+
 #[test]
 fn a_line_is_read_in_its_format(rt: HostRuntime) {
     for (text, number, line) in &LINES {
-        let found = parse_line(text, &format(&rt, *number));
-        assert_eq!(rt; found, wanted(&rt, *line), "of {text:?}");
+        expect_line(&rt, text, *number, *line);
     }
 }
 

@@ -141,14 +141,20 @@ static LEFT: [Object; 5] = [
     (180, [0; 6]),
 ];
 
-#[test]
-fn two_buckets(rt: HostRuntime) -> Result<(), Fail> {
-    let mut section = open_lists(rt.alloc(), 186)?;
+// Changes a table, and looks at what it has.
+fn look_at_changed<S: Section>(rt: &impl Abort, mut section: S) -> S::Back
+    requires filled { IsFilled (S.section section) 0 }
+{
     if !change_some(&mut section, 1) {
         panic!(rt; "another answer");
     }
-    ask_all(&rt, &mut section, &ASKED);
-    expect_words(&rt, &mut section, &LEFT);
-    let _store = section.abort();
+    ask_all(rt, &mut section, &ASKED);
+    expect_words(rt, &mut section, &LEFT);
+    section.abort()
+}
+
+#[test]
+fn two_buckets(rt: HostRuntime) -> Result<(), Fail> {
+    let _store = look_at_changed(&rt, open_lists(rt.alloc(), 186)?);
     Ok(())
 }

@@ -169,15 +169,21 @@ static FILLED: [Object; 5] = [
     (186, [172, 1, 30, 0, 0, 7]),
 ];
 
-#[test]
-fn a_tree_of_four_keys(rt: HostRuntime) -> Result<(), Fail> {
-    let mut section = open_trees(rt.alloc(), 200)?;
+// Fills the tree of the root 171, and looks at what it has.
+fn look_at_filled<S: Section>(rt: &impl Abort, mut section: S) -> S::Back
+    requires filled { IsFilled (S.section section) 171 0 }
+{
     if !fill(&mut section, 171) {
         panic!(rt; "another answer");
     }
-    ask_all(&rt, &mut section, 171, &ASKED);
-    expect_words(&rt, &mut section, &FILLED);
-    let _store = section.abort();
+    ask_all(rt, &mut section, 171, &ASKED);
+    expect_words(rt, &mut section, &FILLED);
+    section.abort()
+}
+
+#[test]
+fn a_tree_of_four_keys(rt: HostRuntime) -> Result<(), Fail> {
+    let _store = look_at_filled(&rt, open_trees(rt.alloc(), 200)?);
     Ok(())
 }
 
@@ -189,28 +195,40 @@ static THIN: [Object; 4] = [
     (186, [0; 6]),
 ];
 
-#[test]
-fn a_sibling_moves_up(rt: HostRuntime) -> Result<(), Fail> {
-    let mut section = open_trees(rt.alloc(), 200)?;
+// Fills the tree and takes two of its keys out, and looks at what is left.
+fn look_at_thin<S: Section>(rt: &impl Abort, mut section: S) -> S::Back
+    requires filled { IsFilled (S.section section) 171 0 }
+{
     if !thin(&mut section, 171) {
         panic!(rt; "another answer");
     }
-    expect_words(&rt, &mut section, &THIN);
-    let _store = section.abort();
+    expect_words(rt, &mut section, &THIN);
+    section.abort()
+}
+
+#[test]
+fn a_sibling_moves_up(rt: HostRuntime) -> Result<(), Fail> {
+    let _store = look_at_thin(&rt, open_trees(rt.alloc(), 200)?);
     Ok(())
 }
 
 // The root, and the leaf of the last key.
 static EMPTIED: [Object; 2] = [(171, [0; 6]), (180, [0; 6])];
 
-#[test]
-fn a_tree_is_emptied(rt: HostRuntime) -> Result<(), Fail> {
-    let mut section = open_trees(rt.alloc(), 200)?;
+// Fills the tree and empties it, and looks at what is left.
+fn look_at_emptied<S: Section>(rt: &impl Abort, mut section: S) -> S::Back
+    requires filled { IsFilled (S.section section) 171 0 }
+{
     if !clear(&mut section, 171) {
         panic!(rt; "another answer");
     }
     assert!(rt; empty_in(&mut section, 171));
-    expect_words(&rt, &mut section, &EMPTIED);
-    let _store = section.abort();
+    expect_words(rt, &mut section, &EMPTIED);
+    section.abort()
+}
+
+#[test]
+fn a_tree_is_emptied(rt: HostRuntime) -> Result<(), Fail> {
+    let _store = look_at_emptied(&rt, open_trees(rt.alloc(), 200)?);
     Ok(())
 }

@@ -1,5 +1,5 @@
 // The lines of a replay.
-ghost use Rattle.std.specs.Prelude.{◌≡◌, ◌++◌, codes, OnOk, string_bytes};
+ghost use Rattle.std.specs.Prelude.{◌≡◌, ◌++◌, codes, decimal, OnOk, string_bytes};
 ghost use Rattle.replay_rules.specs.Lines.{name_of, spaced, idle_line, skip_line, end_line, text_of_access, step_line, text_of_words, text_of_lock};
 ghost use Rattle.replay_rules.specs.Lines.{text_of_commit, text_of_holder};
 ghost use Rattle.replay_rules.specs.Lines.{text_of_held, text_of_answer, answer_line};
@@ -63,21 +63,44 @@ pub fn write_step(
 {
     write!(text, "{made} {seat} ")?;
     match access {
-        Access::Load => writeln!(text, "load {place} {found}"),
-        Access::Store { new } => writeln!(text, "store {place} {new}"),
+        Access::Load => write_access(text, "load ", place, found)?,
+        Access::Store { new } => write_access(text, "store ", place, new)?,
         Access::Swap { old, new } => {
-            let end = if found == old { "won" } else { "lost" };
-            writeln!(text, "swap {place} {found} {new} {end}")
+            write_access(text, "swap ", place, found)?;
+            write_spaced(text, new)?;
+            text.push_str(if found == old { " won" } else { " lost" })?;
         }
-        Access::Raise { by } => writeln!(text, "max {place} {found} {by}"),
+        Access::Raise { by } => {
+            write_access(text, "max ", place, found)?;
+            write_spaced(text, by)?;
+        }
     }
+    text.push_str("\n")
+}
+
+// What is done, the number of the word, and a word's value.
+fn write_access(text: &mut String, what: &str, place: u32, word: u64) -> Result<(), AllocError>
+    ensures { OnOk result (string_bytes text.new ≡ string_bytes text.old ++ what.now ++ decimal place ++ spaced word) }
+{
+    write!(text, "{what}{place} {word}")
+}
+
+// A number behind a blank.
+fn write_spaced(text: &mut String, number: u64) -> Result<(), AllocError>
+    ensures { OnOk result (string_bytes text.new ≡ string_bytes text.old ++ spaced number) }
+{
+    write!(text, " {number}")
 }
 
 fn write_words(text: &mut String, words: Words) -> Result<(), AllocError>
     ensures { OnOk result (string_bytes text.new ≡ string_bytes text.old ++ text_of_words words) }
 {
-    write!(text, " {} {} {}", words[0], words[1], words[2])?;
-    write!(text, " {} {} {}", words[3], words[4], words[5])
+    write_spaced(text, words[0])?;
+    write_spaced(text, words[1])?;
+    write_spaced(text, words[2])?;
+    write_spaced(text, words[3])?;
+    write_spaced(text, words[4])?;
+    write_spaced(text, words[5])
 }
 
 fn write_lock(text: &mut String, answer: LockAnswer) -> Result<(), AllocError>

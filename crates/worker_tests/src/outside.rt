@@ -1,5 +1,8 @@
 // The calls that take memory, and the system's files and streams.
+ghost use Rattle.std.specs.Prelude.{IsTrue};
+
 use run_outside::{Files, MemFiles, MemSink, MemText, RealErr, RealFiles, RealOut, Sink};
+use std::alloc::{AllocError, Global};
 use std::fs;
 use std::process::Abort;
 use std::test::*;
@@ -31,36 +34,66 @@ fn writes_to_memory_until_the_room_is_spent(rt: HostRuntime) -> Result<(), Fail>
     Ok(())
 }
 
+// Opens a text, behind one that isn't there.
+fn opens<F: Files>(rt: &impl Abort, files: &mut F, absent: &str, name: &str)
+    ensures { IsTrue (F.is_open files.new) }
+{
+    assert!(rt; files.open(absent).is_err());
+    assert!(rt; files.open(name).is_ok());
+}
+
+// Reads into the buffer from this place on, and looks how many bytes come. None: the call fails.
+fn reads<F: Files>(
+    rt: &impl Abort,
+    files: &mut F,
+    buffer: &mut [u8],
+    from: usize,
+    count: Option<usize>,
+)
+    requires { IsTrue (F.is_open files.old) }
+    ensures { IsTrue (F.is_open files.new) }
+{
+    assert!(rt; from < buffer.len());
+    assert_eq!(rt; files.read(&mut buffer[from..]).ok(), count);
+}
+
+// A file of three bytes, of which two come in a call, and the third call fails.
+fn abc(alloc: Global) -> Result<MemFiles, AllocError> {
+    let mut texts = Vec::new(alloc);
+    texts.push(MemText {
+        name: String::from_str(alloc, "a")?,
+        bytes: b"abc".to_vec(alloc)?,
+    })?;
+    Ok(MemFiles::new(texts, 2, Vec::from_array(alloc, [3])?))
+}
+
 #[test]
 fn reads_from_memory_to_the_end(rt: HostRuntime) -> Result<(), Fail> {
-    let mut texts = Vec::new(rt.alloc());
-    texts.push(MemText {
-        name: String::from_str(rt.alloc(), "a")?,
-        bytes: b"abc".to_vec(rt.alloc())?,
-    })?;
-    let mut files = MemFiles::new(texts, 2, Vec::from_array(rt.alloc(), [3])?);
+    let mut files = abc(rt.alloc())?;
     let mut buffer = [0u8; 4];
-    assert!(rt; files.open("b").is_err());
-    assert!(rt; files.open("a").is_ok());
-    assert!(rt; files.read(&mut buffer).is_err());
-    assert_eq!(rt; files.read(&mut buffer).ok(), Some(2));
-    assert_eq!(rt; files.read(&mut buffer[2..]).ok(), Some(1));
-    assert_eq!(rt; files.read(&mut buffer[3..]).ok(), Some(0));
+    opens(&rt, &mut files, "b", "a");
+    reads(&rt, &mut files, &mut buffer, 0, None);
+    reads(&rt, &mut files, &mut buffer, 0, Some(2));
+    reads(&rt, &mut files, &mut buffer, 2, Some(1));
+    reads(&rt, &mut files, &mut buffer, 3, Some(0));
     assert_eq!(rt; buffer, *b"abc\0");
     Ok(())
+}
+
+// Reads a file of three bytes.
+fn reads_abc<F: Files>(rt: &impl Abort, files: &mut F, path: &str) {
+    let mut buffer = [0u8; 8];
+    opens(rt, files, "run_outside_test_absent.txt", path);
+    reads(rt, files, &mut buffer, 0, Some(3));
+    reads(rt, files, &mut buffer, 3, Some(0));
+    assert_eq!(rt; &buffer[..3], b"abc".as_slice());
 }
 
 #[test]
 fn reads_a_file_of_the_system(rt: HostRuntime) -> Result<(), Fail> {
     let path = "run_outside_test.txt";
     fs::write(&rt, path, b"abc".as_slice())?;
-    let mut files = RealFiles::new(&rt);
-    let mut buffer = [0u8; 8];
-    assert!(rt; files.open("run_outside_test_absent.txt").is_err());
-    assert!(rt; files.open(path).is_ok());
-    assert_eq!(rt; files.read(&mut buffer).ok(), Some(3));
-    assert_eq!(rt; files.read(&mut buffer[3..]).ok(), Some(0));
-    assert_eq!(rt; &buffer[..3], b"abc".as_slice());
+    reads_abc(&rt, &mut RealFiles::new(&rt), path);
     fs::remove_file(&rt, path)?;
     Ok(())
 }

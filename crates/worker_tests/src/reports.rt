@@ -31,6 +31,16 @@ fn lines_of(alloc: Global, rows: &[Row]) -> Result<Vec<Line>, AllocError> {
     Ok(lines)
 }
 
+/// Looks that these are the lines.
+pub fn expect_lines(rt: &impl Abort, found: &[Line], want: &[Line]) {
+    assert_eq!(rt; found, want);
+}
+
+// Looks that this is the text.
+fn expect_text(rt: &impl Abort, found: &[u8], want: &[u8]) {
+    assert_eq!(rt; found, want);
+}
+
 // A set, a key, and its value.
 type Key = (u32, u32, u64);
 
@@ -55,7 +65,7 @@ fn prints(
     let lines = lines_of(alloc, rows)?;
     let end = end_of(rt, alloc, keys)?;
     let found = render(alloc, &lines, &end, tables)?;
-    assert_eq!(rt; found.as_slice(), text);
+    expect_text(rt, &found, text);
     Ok(())
 }
 
@@ -137,7 +147,7 @@ fn lines_stand_by_time_and_commits_before_reads(rt: HostRuntime) -> Result<(), F
     let mut lines = lines_of(rt.alloc(), &SHUFFLED)?;
     order(&mut lines);
     let ordered = lines_of(rt.alloc(), &ORDERED)?;
-    assert_eq!(rt; lines.as_slice(), ordered.as_slice());
+    expect_lines(&rt, &lines, &ordered);
     Ok(())
 }
 
@@ -277,7 +287,7 @@ fn sums(
     let lines = lines_of(alloc, rows)?;
     let end = end_of(rt, alloc, keys)?;
     let found = summary(alloc, number, &lines, &end)?;
-    assert_eq!(rt; found.as_slice(), text);
+    expect_text(rt, &found, text);
     Ok(())
 }
 

@@ -2,13 +2,13 @@
 ghost use Rattle.std.specs.Prelude.{◌≡◌, ◌<◌, IfOk, length};
 ghost use Rattle.mv_history.specs.PlainMeaning.{seat_of};
 
+use crate::reports::expect_lines;
 use mv_history::{PlainStore, WORDS};
 use run_outside::OpenGate;
 use run_report::Line;
 use script_workers::run_scripts;
 use set_script::{Command, Name, Place, Reply, SetRules};
 use std::alloc::{AllocError, Global};
-use std::process::Abort;
 use std::sync::Wait;
 use std::test::*;
 use std::thread::Threads;
@@ -25,9 +25,10 @@ fn open(alloc: Global, count: u32) -> Result<PlainStore<SetRules>, AllocError>
 }
 
 // Adds a key twice, counts, takes it out, and counts again.
-fn five(alloc: Global, name: Name) -> Result<Vec<Command>, AllocError>
+fn five(alloc: Global) -> Result<Vec<Command>, Fail>
     ensures { IfOk result (λ script. length script.items ≡ 5) }
 {
+    let name = Name::new(12).ok_or("12 is the index of a name")?;
     let key = 7;
     let add = Command::Add { name, key };
     let size = Command::Size { name };
@@ -35,47 +36,60 @@ fn five(alloc: Global, name: Name) -> Result<Vec<Command>, AllocError>
 }
 
 // Where each of them takes place, and its reply.
-static DONE: [(Place, Reply); 5] = [
-    (Place::Commit(41), Reply::Yes),
-    (Place::Read(41), Reply::No),
-    (Place::Read(41), Reply::Count { count: 1 }),
-    (Place::Commit(42), Reply::Yes),
-    (Place::Read(42), Reply::Count { count: 0 }),
+static DONE: [Line; 5] = [
+    Line {
+        seat: 0,
+        number: 1,
+        place: Place::Commit(41),
+        reply: Reply::Yes,
+    },
+    Line {
+        seat: 0,
+        number: 2,
+        place: Place::Read(41),
+        reply: Reply::No,
+    },
+    Line {
+        seat: 0,
+        number: 3,
+        place: Place::Read(41),
+        reply: Reply::Count { count: 1 },
+    },
+    Line {
+        seat: 0,
+        number: 4,
+        place: Place::Commit(42),
+        reply: Reply::Yes,
+    },
+    Line {
+        seat: 0,
+        number: 5,
+        place: Place::Read(42),
+        reply: Reply::Count { count: 0 },
+    },
 ];
-
-// Looks that seat 0 did all in their order.
-fn expect_in_order(rt: &impl Abort, lines: &[Line], rows: &[(Place, Reply)]) {
-    assert_eq!(rt; lines.len(), rows.len());
-    for (index, (line, (place, reply))) in lines.iter().zip(rows).enumerate() {
-        assert_eq!(rt;
-            (line.seat, line.number as usize),
-            (0, index.saturating_add(1))
-        );
-        assert_eq!(rt; (line.place, line.reply), (*place, *reply));
-    }
-}
 
 // Runs a script over a new store. It answers how many stores come back, and the lines.
 fn run<R: Threads + Wait + Sync>(
     rt: &R,
     alloc: Global,
     script: Vec<Command>,
-) -> Result<(usize, Vec<Line>), AllocError>
+) -> Result<(usize, Vec<Line>), Fail>
     requires { length script.items ≡ 5 }
 {
+    let scripts = vec![in alloc; script]?;
     let stores = vec![in alloc; open(alloc, 190)?]?;
-    match run_scripts(rt, alloc, stores, &[script], &OpenGate) {
+    match run_scripts(rt, alloc, stores, &scripts, &OpenGate) {
         Ok((stores, lines)) => Ok((stores.len(), lines)),
-        Err((_stores, error)) => Err(error),
+        Err((_stores, error)) => Err(error.into()),
     }
 }
 
 #[test]
 fn a_line_for_each_command_in_order(rt: HostRuntime) -> Result<(), Fail> {
-    let name = Name::new(12).ok_or("12 is the index of a name")?;
-    let (back, lines) = run(&rt, rt.alloc(), five(rt.alloc(), name)?)?;
+    let (back, lines) = run(&rt, rt.alloc(), five(rt.alloc())?)?;
     assert_eq!(rt; back, 1);
-    expect_in_order(&rt, &lines, &DONE);
+    expect_lines(&rt, &lines, &DONE);
     Ok(())
 }
 

@@ -4,31 +4,31 @@ use Rattle.set_blocks.proofs.Remaining.{lawful_after}
 use Rattle.block_workers.specs.Workers.{blocks_of}
 use Rattle.block_domain.proofs.OneRun.{run_permuted}
 use Rattle.mvrlu_run.proofs.Still.{still_blocks}
-use Rattle.mvrlu_run.proofs.Opened.{new_seats, all_back}
+use Rattle.mvrlu_run.proofs.Opened.{new_seats, back_meets}
 use Rattle.mvrlu_run.proofs.blocking.run_block_sets.Goals as goal
 
 pub run_block_domain-requires-clause-new : goal.run_block_domain-requires-clause-new
 run_block_domain-requires-clause-new g c κs within = new_seats c.in_ok-domain.domain c.in_ok-domain.seats.items _ _ c.in_ok-domain.ensures
 
-pub meet-requires : goal.meet-requires
-meet-requires g c = record {
-  all =
-      all_back c.in_ok-domain.domain c.in-Err.domain c.in_ok-domain.seats.items c.in-Err.seats.items _ _ c.in_ok-domain.ensures c.in-Err.ensures.err.0
-      c.in-Err.ensures.err.1;
+pub ran_or_met-requires : goal.ran_or_met-requires
+ran_or_met-requires g c = record {
+  all = back_meets c.in_ok-domain.domain c.in_ok-domain.seats.items _ _ c.in_ok-domain.ensures c.run_block_domain.result (λ e. e.0) (λ e. e.1.items)
+      c.run_block_domain.ensures.err;
 }
 
 pub read_all-requires : goal.read_all-requires
 read_all-requires g c =
-    let run = c.in-Ok.ensures.ran in
-    record { lawful = lawful_after c.in-Ok.ran.0.last.start c.in-Ok.ran.0.last.history run.opening run.allowed }
+    let run = rw c.in_ok-closing.ensures at c.run_block_domain.ensures.ran in
+    record { lawful = lawful_after c.in_ok-closing.closing.last.start c.in_ok-closing.closing.last.history run.opening run.allowed }
 
 pub returns-clause-ran : goal.returns-clause-ran
 returns-clause-ran g c =
+    let run = rw c.in_ok-closing.ensures at c.run_block_domain.ensures.ran in
     let still = c.read_all.ensures.as_before in
-    let ends = c.in-Ok.ensures.opening in
+    let ends = rw c.in_ok-closing.ensures at c.run_block_domain.ensures.opening in
     record {
       start = still.start ∙ ends.0 ∙ c.in_ok-domain.ensures.opening;
       base = still.base ∙ ends.1 ∙ ap (λ (n : Config). n.base) c.in_ok-domain.ensures.numbers;
-      run = still_blocks c.in-Ok.ran.0.last c.read_all.new.view.last (map blocks_of c.args.scripts.now) c.order.new.lines.items c.in_ok-end.end
-          c.in-Ok.ran.2.items still c.in_ok-end.ensures.catalogue (run_permuted _ _ _ _ _ _ c.order.ensures.permutation c.in-Ok.ensures.ran);
+      run = still_blocks c.in_ok-closing.closing.last c.read_all.new.view.last (map blocks_of c.args.scripts.now) c.order.new.lines.items c.in_ok-end.end
+          c.in_ok-closing.tables.items still c.in_ok-end.ensures.catalogue (run_permuted _ _ _ _ _ _ c.order.ensures.permutation run);
     }

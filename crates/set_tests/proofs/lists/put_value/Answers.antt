@@ -1,11 +1,40 @@
-use Rattle.std.proofs.Common.{refl, arith}
+use Rattle.std.proofs.Common.{◌≡◌, true, refl, arith, sym, subst}
+use Rattle.mv_history.specs.State.{State}
+use Rattle.set_script.specs.Lawful.{IsLawful}
+use Rattle.set_script.specs.Catalogue.{has_key}
+use Rattle.set_script.specs.CatalogueOf.{map_at}
 use Rattle.list_set.proofs.Filling.{filled_same, filled_room_one, filled_put}
+use Rattle.set_tests.proofs.Reading.{still}
 use Rattle.set_tests.proofs.lists.put_value.Goals as goal
+
+pub has_in-requires-clause-lawful : goal.has_in-requires-clause-lawful
+has_in-requires-clause-lawful g c = subst IsLawful (sym (g.met.S.Section.reads _)) c.requires.filled.lawful
+
+pub put_in-requires-clause-lawful : goal.put_in-requires-clause-lawful
+put_in-requires-clause-lawful g c =
+    still IsLawful _ _ (g.met.S.Section.lawful _).at (g.met.S.Section.others_stay _ _ c.has_in.ensures.as_before) c.requires.filled.lawful
+
+pub put_in-requires-clause-present : goal.put_in-requires-clause-present
+put_in-requires-clause-present g c =
+    still (λ (u : State). has_key c.args.key (map_at u c.args.head) ≡ true) _ _ (g.met.S.Section.lawful _).at
+    (g.met.S.Section.others_stay _ _ c.has_in.ensures.as_before)
+    (subst (λ (u : State). has_key c.args.key (map_at u c.args.head) ≡ true) (g.met.S.Section.reads _) (sym c.if-not-has_in.ensures.has))
 
 pub put_in-requires-clause-room : goal.put_in-requires-clause-room
 put_in-requires-clause-room g c node _ =
     filled_room_one _ _ node (filled_same _ _ _ (g.met.S.Section.lawful _).at (g.met.S.Section.others_stay _ _ c.has_in.ensures.as_before) c.requires.filled)
     (omega arith)
+
+pub put_in-requires-2-clause-lawful : goal.put_in-requires-2-clause-lawful
+put_in-requires-2-clause-lawful g c =
+    let same = g.met.S.View.as_long_before _ _ _ c.has_in.ensures.as_before (c.in-No.ensures.unchanged refl) in
+    still IsLawful _ _ (g.met.S.Section.lawful _).at (g.met.S.Section.others_stay _ _ same) c.requires.filled.lawful
+
+pub put_in-requires-2-clause-present : goal.put_in-requires-2-clause-present
+put_in-requires-2-clause-present g c =
+    let same = g.met.S.View.as_long_before _ _ _ c.has_in.ensures.as_before (c.in-No.ensures.unchanged refl) in
+    still (λ (u : State). has_key c.args.key (map_at u c.args.head) ≡ true) _ _ (g.met.S.Section.lawful _).at (g.met.S.Section.others_stay _ _ same)
+    (subst (λ (u : State). has_key c.args.key (map_at u c.args.head) ≡ true) (g.met.S.Section.reads _) (sym c.if-not-has_in.ensures.has))
 
 pub put_in-requires-2-clause-room : goal.put_in-requires-2-clause-room
 put_in-requires-2-clause-room g c node _ =

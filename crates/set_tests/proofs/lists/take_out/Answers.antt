@@ -5,6 +5,10 @@ use Rattle.set_tests.proofs.lists.take_out.Goals as goal
 pub del_in-requires-clause-room : goal.del_in-requires-clause-room
 del_in-requires-clause-room g c previous node place = filled_room _ _ previous node c.requires.filled (omega arith)
 
+pub del_in-requires-2-clause-lawful : goal.del_in-requires-2-clause-lawful
+del_in-requires-2-clause-lawful g c =
+    (filled_same _ _ _ (g.met.S.Section.lawful _).at (g.met.S.Section.others_stay _ _ (c.in-Absent.ensures.unchanged refl)) c.requires.filled).lawful
+
 pub del_in-requires-2-clause-room : goal.del_in-requires-2-clause-room
 del_in-requires-2-clause-room g c previous node place =
     filled_room _ _ previous node

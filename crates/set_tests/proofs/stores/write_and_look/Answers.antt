@@ -3,6 +3,5 @@ use Rattle.set_tests.proofs.stores.write_and_look.Goals as goal
 
 pub returns : goal.returns
 returns g c =
-    GoesOn-GoesOn c.try_lock.ensures.goes_on
-    (GoesOn-GoesOn c.write.ensures.goes_on
-    (GoesOn-GoesOn (g.met.S.Section.goes_on _ _ c.words_of.ensures) (g.met.S.Section.goes_on _ _ c.words_of-2.ensures)))
+    GoesOn-GoesOn c.write_one.ensures
+    (GoesOn-GoesOn (g.met.S.Section.goes_on _ _ c.words_of.ensures) (g.met.S.Section.goes_on _ _ c.words_of-2.ensures))

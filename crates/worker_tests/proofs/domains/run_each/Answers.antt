@@ -8,8 +8,8 @@ pub run_domain-requires-clause-new : goal.run_domain-requires-clause-new
 run_domain-requires-clause-new g c κs within = opened_new c.in_ok-domain.domain _ _ c.in_ok-domain.seats.items c.in_ok-domain.ensures
 
 -- and all of them are handed back
-pub meet-requires : goal.meet-requires
-meet-requires g c =
+pub let_meet-requires : goal.let_meet-requires
+let_meet-requires g c =
     let opened = c.in_ok-domain.ensures in
     let new = opened_new c.in_ok-domain.domain _ _ c.in_ok-domain.seats.items opened in
     record {

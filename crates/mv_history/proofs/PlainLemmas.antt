@@ -12,6 +12,7 @@ use Rattle.std.proofs.Common.{
   true,
   false,
   ◌||◌,
+  Bool,
   List,
   [],
   ◌∷◌,
@@ -36,6 +37,7 @@ use Rattle.std.proofs.lemmas.Bool.Decides.{nat_tests}
 use Rattle.std.proofs.lemmas.List.{length-map, map_push, take_more, drop_all, take_at, take_all}
 use Rattle.std.proofs.lemmas.List.Elements.{All-push}
 use Rattle.mv_history.specs.declared.history.TheConstants.{LAST}
+use Rattle.mv_history.specs.declared.answers.LockAnswer.TheVariants.{Held, Busy, Stale, SetFull, LogFull}
 use Rattle.mv_history.specs.declared.plain_history.TheConstants.{WRITE_MAX}
 use Rattle.mv_history.specs.State.{State, Writes, Commit, Change, written, touches, state_after, rewritten, rests_of}
 use Rattle.mv_history.specs.Legal.{are_distinct, AreWithin, IsNext, IsWords, AreWords, AreWrites}
@@ -264,6 +266,33 @@ module _ (start : State) (commits : List Commit) (base last : ℕ) where
         mine = refl;
         rests = refl;
       }
+
+-- an object is not both held and free
+pub held_or_free : (b : Bool) → b ≡ true → b ≡ false → ⊥
+held_or_free b held free = absurd cc
+
+-- `Held` is no other answer
+pub held_not_busy : (seat : ℕ) → Held ≡ Busy seat → ⊥
+held_not_busy seat e = absurd cc
+
+pub held_not_stale : (time : ℕ) → Held ≡ Stale time → ⊥
+held_not_stale time e = absurd cc
+
+pub held_not_set_full : Held ≡ SetFull → ⊥
+held_not_set_full e = absurd cc
+
+pub held_not_log_full : Held ≡ LogFull → ⊥
+held_not_log_full e = absurd cc
+
+-- nor is `SetFull`
+pub set_full_not_busy : (seat : ℕ) → SetFull ≡ Busy seat → ⊥
+set_full_not_busy seat e = absurd cc
+
+pub set_full_not_stale : (time : ℕ) → SetFull ≡ Stale time → ⊥
+set_full_not_stale time e = absurd cc
+
+pub set_full_not_log_full : SetFull ≡ LogFull → ⊥
+set_full_not_log_full e = absurd cc
 
 -- the seat of a plain store, and of its section, is plain
 pub IsPlain-plain_seat : (start : State) (commits : List Commit) (base last spare : ℕ) → IsPlain (plain_seat start commits base last spare)

@@ -1,4 +1,4 @@
-use Rattle.std.proofs.Common.{◌≡◌, [], length, take, get_or, arith, sym, ap, subst, length-take-le}
+use Rattle.std.proofs.Common.{◌≡◌, [], length, take, get_or, refl, arith, sym, ap, subst, length-take-le}
 use Rattle.std.proofs.lemmas.List.{get_or-take}
 use Rattle.mv_history.specs.State.{written}
 use Rattle.mv_history.specs.Calls.{commit_by}
@@ -50,3 +50,6 @@ invariant_of-result-clause-clock g c =
     let s = c.args.self in
     let more = commit_by (plain_section s.start.value.items (commits_in s) s.base s.last (take c.args.held c.args.own)) c.args.tag in
     rw (c.of.ensures) (clock_pushed s.time s.base (commits_in s) more s.clock)
+
+pub returns-clause-commits : goal.returns-clause-commits
+returns-clause-commits g c = rw (c.of.ensures) refl

@@ -26,6 +26,10 @@ link_seat_back s p a =
 pub link_position_back : (seat position : ℕ) → position < 2 ^ 57 → link_position_of (link_of seat position) ≡ position
 link_position_back s p a = mod-mul-add (s + 1) 144115188075855872 p a
 
+-- what is packed is a packed link
+pub link_packed : (seat position : ℕ) → seat < 64 → position < 2 ^ 57 → IsLink (link_of seat position)
+link_packed s p a b = (omega arith, omega arith)
+
 -- a packed link is that of its seat and its position
 pub link_is : (word : ℕ) → IsLink word → word ≡ link_of (link_seat_of word) (link_position_of word)
 link_is w h =

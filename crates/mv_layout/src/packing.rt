@@ -46,7 +46,6 @@ pub fn clock_slot(word: u64) -> u32
 }
 
 /// The link to a position, below `2^57`, of the log of a seat, below 64. It is never 0.
-#[tactic(auto, using(crate::proofs::Unpacking::link_seat_back, crate::proofs::Unpacking::link_position_back))]
 pub fn link_word(seat: u32, position: u64) -> u64
     requires seat { seat < 64 }
     requires position { position < 2 ^ 57 }

@@ -78,6 +78,7 @@ fn opening_words(alloc: Global, config: &Config, start: &[Words]) -> Result<Vec<
 }
 
 /// Cuts the seat that comes next from the first one, in the domain whose numbers are `D`'s.
+#[tactic(auto, using(crate::proofs::kinds::opening::MakeSeat::seat_splits_in))]
 fn split_as<P: Protocol, D: Domain>(
     shared: &Shared<P>,
     seat: &mut Seat<Tag, View>,

@@ -11,7 +11,8 @@ use Rattle.atomic_table.proofs.Lists.{at_set, set_here, at_last, at_longer}
 use Rattle.mv_history.specs.declared.StepKind.TheVariants.{MakeSeat}
 use Rattle.mv_history.specs.Legal.{AreWords}
 use Rattle.mv_core.specs.declared.shared.Opening.{Opening}
-use Rattle.mv_core.proofs.FactTerms.{IsNoted, IsThere, Seated, Ruled, first_view}
+use Rattle.mv_core.proofs.FactTerms.{IsNoted, IsThere, Known, Seated, Ruled, first_view}
+use Rattle.mv_core.proofs.frames.Turning.{unspent_of}
 use Rattle.mv_core.specs.Start.{opening_memory, maker_view}
 use Rattle.mv_core.specs.SeatSteps.{made_one, newly_made}
 use Rattle.mv_core.specs.Moves as moves
@@ -335,3 +336,17 @@ makes_one_more c start zero some_made = absurd (omega arith)
 pub each_pushed : {A : Type 0} (P : ℕ → A → Type 0) (l : List A) (a : A) → ((k : ℕ) (x : A) → get_elem? l k ≡ some x → P k x) → P (length l) a
     → (k : ℕ) (x : A) → get_elem? (l ++ a ∷ []) k ≡ some x → P k x
 each_pushed P l a all last k x at = ⊎_elim (all k x) (λ t. subst (P k) t.1 (subst (λ (i : ℕ). P i a) (sym t.0) last)) (end_or_before l a x k at)
+
+-- what holds of the first place of a list, and of each later one, holds of each
+pub each_from_first : {A : Type 0} (P : ℕ → A → Type 0) (a : A) (l : List A) → P 0 a → ((k : ℕ) (x : A) → get_elem? l k ≡ some x → P (suc k) x)
+    → (k : ℕ) (x : A) → get_elem? (a ∷ l) k ≡ some x → P k x
+each_from_first P a l first later zero x at = subst (P 0) (some-injective a x at) first
+each_from_first P a l first later (suc k) x at = later k x at
+
+-- the same, where the domain's numbers are named otherwise and the seat's view is one that a pass knows
+pub seat_splits_in : (starts : State → Type 0) (allows : List ℕ → State → Writes → Type 0) (key : Opening) (id : ℕ) (v : View) (c : Config)
+    → c ≡ key.config → ∥ Known starts allows v ∥₁ → (0 < v.made) × (v.made < key.config.seats)
+    → Splits (Ruled starts allows key) id v (made_one c v) (newly_made c v)
+seat_splits_in starts allows key id v c is known range =
+    subst (λ (n : Config). Splits (Ruled starts allows key) id v (made_one n v) (newly_made n v)) (sym is)
+    (seat_splits starts allows key id v (unspent_of _ _ _ known) range.0 range.1)

@@ -17,3 +17,6 @@ invariant_of-pass g c =
       in_domain = r.3 old.domain old.in_domain;
       taken = c.join_as.ensures.taken ∙ old.taken;
     }
+
+pub returns-clause-view : goal.returns-clause-view
+returns-clause-view g c = c.join_as.ensures.joined

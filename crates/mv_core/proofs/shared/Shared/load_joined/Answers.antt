@@ -19,3 +19,9 @@ load_as-requires-clause-moves g c = record {
   view = λ m h seats w k t. t.0.3 ∙ ap (joined_loaded (config_of c.args.self.now) (view c.args.pass.now) (m Clock))
       (whole_is seats (view c.args.pass.now) w t.0.0 k t.0.1 (ap (λ (u : View). u.past.seen) t.0.3));
 }
+
+pub returns-clause-view : goal.returns-clause-view
+returns-clause-view g c = c.load_as.ensures.tells.0
+
+pub returns-clause-word : goal.returns-clause-word
+returns-clause-word g c = c.load_as.ensures.tells.1

@@ -3,3 +3,5 @@ pub mod Views
 pub mod HelpedPhase
 pub mod HelpKinds
 pub mod Hearing
+pub mod Answered
+pub mod Ending

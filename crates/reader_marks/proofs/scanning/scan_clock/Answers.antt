@@ -8,7 +8,7 @@ use Rattle.mv_core.specs.declared.view.View.{View}
 use Rattle.mv_core.specs.Passes.{view, config_of}
 use Rattle.reader_marks.specs.declared.scanning.Lowest.{Lowest}
 use Rattle.reader_marks.specs.Lowering.{Looks}
-use Rattle.reader_marks.proofs.Looking.{looks_first, may_look, looks_own, looks_other, scans, scan_cost}
+use Rattle.reader_marks.proofs.Looking.{looks_first, may_look, looks_own, looks_other, scans, scan_cost, scan_known}
 use Rattle.reader_marks.proofs.scanning.scan_clock.Goals as goal
 
 pub loop-seat-init : goal.loop-seat-init
@@ -87,3 +87,12 @@ returns-clause-makers g c =
 
 pub returns-clause-cost : goal.returns-clause-cost
 returns-clause-cost g c = scan_cost _ _ _ _ _ _ _ (returns-clause-scans g c)
+
+pub returns-clause-known : goal.returns-clause-known
+returns-clause-known g c = scan_known _ _ _ _ _ _ _ (returns-clause-scans g c)
+
+pub returns-clause-same : goal.returns-clause-same
+returns-clause-same g c =
+    let a = c.loop-seat.invariant.0 in
+    let b = c.raise_grace-found.ensures.same in
+    (b.0 ∙ a.0, b.1 ∙ a.1, b.2 ∙ a.2, b.3 ∙ a.3, b.4 ∙ a.4, b.5 ∙ a.5)

@@ -1,4 +1,4 @@
-use Rattle.std.proofs.Common.{◌+◌, length, sym, ap, ◌∙◌}
+use Rattle.std.proofs.Common.{◌+◌, length, sym, ap, ◌∙◌, arith}
 use Rattle.mv_core.specs.declared.view.View.{View}
 use Rattle.mv_core.specs.Passes.{view, config_of}
 use Rattle.reader_marks.proofs.EnterHears.{time_seen, hears_entered}
@@ -27,3 +27,22 @@ returns-clause-hears g c =
     c.enter_mark.ensures.view t.view.2 help.hears c.unwrap_or.ensures c.clock_time-2.ensures
     (time_seen d (view c.args.pass.now) (view c.help_clock-last.new.pass) c.clock_time.result word c.clock_time-2.result (returns-clause-begins g c)
     c.clock_time.ensures (c.clock_time-2.ensures ∙ last))
+
+pub returns-clause-last : goal.returns-clause-last
+returns-clause-last g c =
+    let d = config_of c.args.shared.now in
+    let t = c.enter_time-word.ensures in
+    c.clock_time-2.ensures
+    ∙ last_found d (view c.enter_time-word.new.pass) (view c.help_clock-last.new.pass) c.enter_time-word.result c.help_clock-last.result
+    (t.view.1.1 ∙ ap (λ (u : View). d.base + length u.past.seen) (sym t.view.2)) c.help_clock-last.ensures.clock c.unwrap_or.result c.unwrap_or.ensures
+
+pub help_clock-last-requires-clause-loaded : goal.help_clock-last-requires-clause-loaded
+help_clock-last-requires-clause-loaded g c = c.enter_time-word.ensures.loaded
+
+pub returns-clause-cost : goal.returns-clause-cost
+returns-clause-cost g c =
+    let low = c.enter_low-low.ensures.step in
+    let mark = c.enter_mark.ensures.step in
+    let time = c.enter_time-word.ensures.step in
+    let help = c.help_clock-last.ensures.cost in
+    omega (arith, low, mark, time, help)

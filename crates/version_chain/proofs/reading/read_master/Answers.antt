@@ -30,3 +30,20 @@ returns-clause-words g c =
     let ge = c.loop-word-test.false in
     let end : c.loop-word.word ≡ 6 = omega arith in
     (read_all LoadMaster _ _ _ _ _ _ _ c.loop-word.invariant.1 end).0
+
+pub returns-clause-same : goal.returns-clause-same
+returns-clause-same g c = c.loop-word.invariant.0
+
+pub returns-clause-reads : goal.returns-clause-reads
+returns-clause-reads g c =
+    let le = c.loop-word.auto.word-end in
+    let ge = c.loop-word-test.false in
+    let end : c.loop-word.word ≡ 6 = omega arith in
+    (read_all LoadMaster _ _ _ _ _ _ _ c.loop-word.invariant.1 end).1
+
+pub returns-clause-cost : goal.returns-clause-cost
+returns-clause-cost g c =
+    let le = c.loop-word.auto.word-end in
+    let ge = c.loop-word-test.false in
+    let count = c.loop-word.invariant.1.count in
+    omega (arith, le, ge, count)

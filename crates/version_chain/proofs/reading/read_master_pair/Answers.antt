@@ -1,4 +1,4 @@
-use Rattle.std.proofs.Common.{◌+◌, refl, ◌∙◌, slice_index}
+use Rattle.std.proofs.Common.{◌+◌, refl, ◌∙◌, arith, slice_index}
 use Rattle.mv_history.specs.declared.StepKind.TheVariants.{LoadMaster}
 use Rattle.mv_core.specs.declared.view.View.{View}
 use Rattle.mv_core.specs.Passes.{view, config_of}
@@ -26,3 +26,12 @@ returns-clause-second g c =
     c.load_master.ensures.word
     ∙ read_still (λ (u : View). slice_index (words_in (config_of c.args.shared.now) u c.args.object) (c.args.place + 1)) (view c.args.pass.now)
     (view c.load_master-first.new.pass) _ (λ t. refl) c.load_master-first.ensures.view
+
+pub returns-clause-first : goal.returns-clause-first
+returns-clause-first g c = c.load_master-first.ensures.word
+
+pub returns-clause-cost : goal.returns-clause-cost
+returns-clause-cost g c =
+    let one = c.load_master-first.ensures.step in
+    let two = c.load_master.ensures.step in
+    omega (arith, one, two)

@@ -69,3 +69,12 @@ returns-clause-second g c =
     c.load_data.ensures.word
     ∙ read_still (λ (u : View). slice_index (words_in (config_of c.args.shared.now) u (stand_in u).object) (c.args.place + 1)) (view c.args.pass.now)
     (view c.load_data-first.new.pass) _ (λ t. refl) c.load_data-first.ensures.view
+
+pub returns-clause-first : goal.returns-clause-first
+returns-clause-first g c = c.load_data-first.ensures.word
+
+pub returns-clause-cost : goal.returns-clause-cost
+returns-clause-cost g c =
+    let one = c.load_data-first.ensures.step in
+    let two = c.load_data.ensures.step in
+    omega (arith, one, two)

@@ -1,5 +1,5 @@
 -- An abort goes on from one of its parts to the next.
-use Rattle.std.proofs.Common.{◌≡◌, ℕ, ◌+◌, ◌≤◌, List, length, subst, sym, arith, None}
+use Rattle.std.proofs.Common.{◌≡◌, ◌≢◌, ℕ, zero, suc, ◌+◌, ◌≤◌, List, length, refl, subst, sym, arith, None}
 use Rattle.mv_history.specs.State.{State, Writes}
 use Rattle.mv_layout.specs.declared.Config.{Config}
 use Rattle.mv_core.specs.declared.view.View.{View}
@@ -9,7 +9,7 @@ use Rattle.mv_core.specs.EnterSteps.{MayClearMark, mark_cleared}
 use Rattle.seat_log.specs.declared.version.Note.{Note}
 use Rattle.seat_log.specs.Notes.{Noted, held_from, IsNoteAt, aborted_noted}
 use Rattle.seat_log.specs.Stands.{Stands}
-use Rattle.commit_abort.specs.Aborts.{IsOpen, Unlocks, MayGiveBack, GivesBack, IsAborting, held_number, HasGivenUp, Aborts, abort_cost}
+use Rattle.commit_abort.specs.Aborts.{IsOpen, Unlocks, MayGiveBack, GivesBack, IsAborting, held_number, LoadsDeath, HasGivenUp, Aborts, abort_cost}
 use Rattle.commit_abort.proofs.Unlocking.{unlocks_first, may_give, unlocks_more}
 use Rattle.commit_abort.proofs.Aborted.{may_end, clear_timed, ended_timed, ended_none}
 use mathlib.Core.Logic.{dite}
@@ -73,6 +73,17 @@ module _ (c : Config) (from v : View) (l : Noted) (dead : ℕ) (k : HasGivenUp c
       let t = k.death.some some in
       ended_timed c from l a.inside a.stands a.unbuilt k.before all v w m t.word dead some (t.history, t.whole, t.view) t.dead_is is noted)
 
--- how many steps an abort has made, after one version more
+-- how many steps an abort has made, at its start, after one version more, and at its end
+pub none_cost : (a : ℕ) → a ≤ a + 0
+none_cost a = omega arith
+
 pub given_cost : (a b d which : ℕ) → b ≤ a + which → d ≡ b + 1 → d ≤ a + (which + 1)
 given_cost a b d which before one = omega arith
+
+pub last_cost : (c : Config) (v w : View) (held dead a b d e which : ℕ) → which ≡ held → b ≤ a + which → LoadsDeath c v w held dead b d → e ≡ d + 1
+    → e ≤ a + abort_cost held
+last_cost c v w zero dead a b d e which all before death one = let still = (death.none refl).2 in omega arith
+last_cost c v w (suc n) dead a b d e which all before death one =
+    let ne : suc n ≢ 0 = omega arith in
+    let loaded = (death.some ne).step in
+    omega arith

@@ -1,5 +1,5 @@
 -- A finish goes on from one of its parts to the next.
-use Rattle.std.proofs.Common.{◌≡◌, ℕ, ◌+◌, ◌≤◌, true, length, subst, arith}
+use Rattle.std.proofs.Common.{◌≡◌, ℕ, ◌+◌, ◌≤◌, Some, true, length, sym, ◌∙◌, subst, arith}
 use Rattle.mv_layout.specs.declared.Config.{Config}
 use Rattle.mv_layout.specs.Words.{clock_time_of}
 use Rattle.mv_core.specs.declared.view.View.{View}
@@ -15,6 +15,10 @@ use Rattle.commit_abort.specs.Finishes.{WonNaming, IsJustNamed, StampsIt, first_
 use Rattle.commit_abort.specs.Finishes.{TellsOne, Tells, IsFinishing, above_held, Finishes}
 use Rattle.commit_abort.proofs.Telling.{tells_first, may_tell, tells_more}
 use Rattle.commit_abort.proofs.Finished.{may_tell_below, may_end, ended}
+
+-- there is one note at a place of a log
+pub one_note : (l : Noted) (i : ℕ) (a n : Note) → IsNoteAt l i a → IsNoteAt l i n → a ≡ n
+one_note l i a n here there = let one : Some a ≡ Some n = sym here ∙ there in cc
 
 -- the stamp was exchanged, and SUPER is stored nowhere yet
 pub finish_begins : (c : Config) (from v : View) (l : Noted) (won : WonNaming) (k : IsJustNamed c from l won) (time first : ℕ)

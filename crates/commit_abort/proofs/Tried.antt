@@ -27,7 +27,7 @@ use Rattle.mv_core.specs.Rings.{held_count, own_of}
 use Rattle.mv_core.specs.Views.{time_in}
 use Rattle.mv_core.specs.HistoryFacts.{BeginsWith}
 use Rattle.mv_core.specs.SectionFacts.{IsPastHelp}
-use Rattle.mv_core.specs.EnterSteps.{IsWhole, if_none, checked_helped, check_loaded}
+use Rattle.mv_core.specs.EnterSteps.{MayLoadCheck, IsWhole, if_none, checked_helped, check_loaded}
 use Rattle.mv_core.specs.Known.{Known}
 use Rattle.mv_core.specs.NameSteps.{LogTold, commit_of, MayNameCommit, commit_named}
 use Rattle.mv_core.proofs.history.Fronts.{begins_by, begins_long}
@@ -46,6 +46,14 @@ no_exchange [] all = refl
 no_exchange (s ∷ steps) all =
     ap (λ (b : Bool). if b then s ∷ commit_exchanges steps else commit_exchanges steps) (All-head (λ s. is_commit_exchange s.kind ≡ false) s steps all)
     ∙ no_exchange steps (All-tail (λ s. is_commit_exchange s.kind ≡ false) s steps all)
+
+-- a section may load the clock
+pub may_load : (v : View) (inside : Section) → v.phase ≡ Inside inside → MayLoadCheck v.phase
+may_load v inside phase = subst MayLoadCheck (sym phase) tt
+
+-- one step is within the bound
+pub end_cost : (a b held : ℕ) → b ≡ a + 1 → b ≤ a + held + 8
+end_cost a b held one = omega arith
 
 module _ (c : Config) (v x : View) (word : ℕ) (h0 : List Entry) (whole : IsWhole c v word h0) (is : x ≡ check_loaded c v word h0) (inside : Section)
     (phase : v.phase ≡ Inside inside) (past_help : IsPastHelp v.clocks inside) where

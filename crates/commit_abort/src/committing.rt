@@ -54,7 +54,9 @@ pub fn commit<P: Protocol, L: Ledger>(
     ensures cost { steps.new ≤ steps.old + log.old.held + 8 }
 {
     let word = now(shared, pass, steps);
-    if clock_time(word) == LAST {
+    let time = clock_time(word);
+    let at_end = time == LAST;
+    if at_end {
         return Ended::End;
     }
     help(shared, pass, word, steps);

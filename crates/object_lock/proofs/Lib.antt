@@ -1,4 +1,5 @@
 pub mod Exchanged
+pub mod Bounds
 pub mod Looks
 pub mod LockKinds
 pub mod Stood

@@ -5,6 +5,7 @@ use Rattle.std.proofs.lemmas.List.Elements.{All-nil, All-cons, All-append}
 use Rattle.mv_history.specs.declared.Step.{Step}
 use Rattle.mv_history.specs.declared.StepKind.{StepKind}
 use Rattle.mv_history.specs.declared.StepKind.TheVariants.{LoadHead, LoadFirst, LoadStamp, LoadData}
+use Rattle.mv_history.specs.declared.answers.LockAnswer.TheVariants.{Stale}
 use Rattle.mv_layout.specs.declared.Config.{Config}
 use Rattle.mv_layout.specs.declared.Place.TheVariants.{Head, First, Stamp}
 use Rattle.mv_layout.specs.Places.{place_of}
@@ -20,12 +21,12 @@ use Rattle.mv_core.specs.declared.view.Passed.TheVariants.{Nothing}
 use Rattle.mv_core.specs.declared.view.Walk as core
 use Rattle.mv_core.specs.declared.view.Walk.TheVariants as place
 use Rattle.mv_core.specs.Rings.{slot_at, index_of}
-use Rattle.mv_core.specs.WalkSteps.{IsLinkOf, IsPackedOf, IsOwnTop, IsOwnTime, StampSays, slot_named, head_loaded, first_loaded, stamp_loaded}
+use Rattle.mv_core.specs.WalkSteps.{IsLinkOf, IsPackedOf, IsOwnTop, IsOwnTime, IsWriteOf, StampSays, slot_named, head_loaded, first_loaded, stamp_loaded}
 use Rattle.mv_core.specs.LockSteps.{StandsToLock}
 use Rattle.version_chain.specs.Walks.{MayWalk, section_in, stand_of, stand_in, time_at, with_first, StandsAtVersion}
 use Rattle.version_chain.specs.Reads.{words_in, Reads}
 use Rattle.version_chain.proofs.Standing.{stands_here}
-use Rattle.object_lock.specs.Tops.{IsUnheld, StandsOn, Looked, IsLockStep, is_lock_exchange, lock_exchanges, Tries, FoundHeld}
+use Rattle.object_lock.specs.Tops.{IsUnheld, StandsOn, Looked, IsLockStep, is_lock_exchange, lock_exchanges, Tries, FoundHeld, IsRefused}
 use Rattle.object_lock.proofs.Exchanged.{none_exchanged, exchanged_on}
 
 -- the loads of FIRST and STAMP
@@ -192,6 +193,12 @@ module _ (c : Config) (v w x : View) (object link found : ℕ) (inside : Section
         top.4,
     found_held c v w x LoadHead object link found (ap (λ (u : View). u.trail) head) link_there looked (packed some).1 unset,
   )
+
+  -- a stamp that is a time above the section's is that of a later commit
+  pub later_commit : (time : ℕ) → time ≡ time_at x → time < found → found < 2 ^ 63 → IsRefused c v x object (Stale found)
+  later_commit time time_is above low =
+      let same : time_at x ≡ time_at v = ap time_at looked.view ∙ ap time_at head in
+      ((omega arith), subst (λ (o : ℕ). IsWriteOf c x.past.seen o found) (ap (λ (s : Stand). s.object) stand_is) (looked.says.write low))
 
   -- where the walk stands then
   at_top : x.walk ≡ place.At (record { object = object; link = link; first = Some looked.first; stamp = Some found; passed = Nothing; late = false })

@@ -228,8 +228,13 @@ pub fn lock_end<P: Protocol, L: Ledger>(
             note_held(log, position);
             LockAnswer::Held
         }
-        Swap::Found(0) => hold_again(shared, pass, log, object, position, steps),
-        Swap::Found(link) => lost(shared, pass, log, object, position, link, steps),
+        Swap::Found(link) => {
+            let cut = link == 0;
+            if cut {
+                return hold_again(shared, pass, log, object, position, steps);
+            }
+            lost(shared, pass, log, object, position, link, steps)
+        }
     }
 }
 

@@ -1,5 +1,6 @@
 -- The stores of a build, one after another.
-use Rattle.std.proofs.Common.{◌≡◌, ◌≢◌, ℕ, suc, ◌+◌, ◌-◌, ◌<◌, false, List, refl, sym, ap, ◌∙◌, subst, arith, cond, eq-eqb, ne_eqb, Some, None}
+use Rattle.std.proofs.Common.{Bool, if◌then◌else◌, true, false}
+use Rattle.std.proofs.Common.{◌≡◌, ◌≢◌, ℕ, suc, ◌+◌, ◌-◌, ◌<◌, List, refl, sym, ap, ◌∙◌, subst, arith, cond, eq-eqb, ne_eqb, Some, None}
 use Rattle.std.specs.Prelude.{unwrap_or, slice_index}
 use Rattle.mv_layout.specs.Words.{unset_of}
 use Rattle.std.proofs.lemmas.List.{length-set}
@@ -8,7 +9,7 @@ use Rattle.mv_core.specs.declared.ring.Slot.{Slot}
 use Rattle.mv_core.specs.declared.ring.Slot.TheVariants.{Free, Built, Live, Freeing}
 use Rattle.mv_core.specs.declared.ring.Build.{Build}
 use Rattle.mv_core.specs.declared.view.View.{View}
-use Rattle.mv_core.specs.Rings.{slot_at, index_of, is_held}
+use Rattle.mv_core.specs.Rings.{slot_at, index_of, is_held, held_count}
 use Rattle.mv_core.specs.LockSteps.{nothing_built, build_in, built_too, FitsField, MayStoreBuilt, built_stored}
 use Rattle.mv_core.proofs.logs.Slots.{slot_here}
 use Rattle.mv_core.proofs.logs.Counts.{held_same}
@@ -101,3 +102,17 @@ pub is_slot : (c : Config) (v w u : View) (position first previous : ℕ) (words
     → u ≡ words_stored c w position words 6 → u ≡ slot_built c v position first previous words
 unfolding slot_built
 is_slot c v w u position first previous words e f = f ∙ ap (λ (z : View). words_stored c z position words 6) e
+
+-- the first position of the set that is held, by the notes
+pub first_there : (v : View) (position held : ℕ) → v.ring.next ≡ position → held_count v.ring ≡ held → position - held ≡ first_in v
+first_there v position held next same = λ i. sym next i - sym same i
+
+-- the steps before the data words, by whether the version is the first of its set
+pub link_cost : (first : Bool) (a b d e : ℕ) → b ≡ a + (if first then 2 else 1) → d ≡ b + 1 → e ≡ d + 1 → e ≡ a + (if first then 4 else 3)
+link_cost true a b d e begun link super = omega arith
+link_cost false a b d e begun link super = omega arith
+
+-- the steps of a build, by whether its version is the first of its set
+pub cost_there : (first : Bool) (a b d : ℕ) → b ≡ a + (if first then 4 else 3) → d ≡ b + 6 → d ≡ a + (if first then 10 else 9)
+cost_there true a b d links words = omega arith
+cost_there false a b d links words = omega arith

@@ -4,7 +4,9 @@ use Rattle.mv_layout.specs.Words.{link_of}
 use Rattle.mv_core.specs.Passes.{view, config_of}
 use Rattle.version_chain.specs.Walks.{section_in}
 use Rattle.object_lock.proofs.Looks.{held_elsewhere, version_there, stands_to_lock, words_there, head_tries, looked_tries, tries_read, stands_top}
-use Rattle.object_lock.proofs.Looks.{master_bound, looked_bound, version_bound}
+use Rattle.object_lock.proofs.Looks.{later_commit, master_bound, looked_bound, version_bound}
+use mathlib.Core.Logic.{dite}
+use native.Mathlib.Decide.{dec_lt}
 use Rattle.object_lock.specs.Tops.{Tries, FoundHeld}
 use Rattle.mv_core.specs.declared.view.View.{View}
 use Rattle.mv_core.specs.declared.view.Passed.TheVariants.{Nothing}
@@ -196,3 +198,13 @@ pub returns-clause-bound : goal.returns-clause-bound
 returns-clause-bound g c =
     version_bound _ c.load_head-link.new.steps c.stamp_at-stamp.new.steps _ c.load_head-link.ensures.step c.stamp_at-stamp.ensures.step
     c.read_version.ensures.cost
+
+pub returns-then-stamp-time-clause-answers : goal.returns-then-stamp-time-clause-answers
+returns-then-stamp-time-clause-answers g c =
+    let low : c.stamp_at-stamp.result < 2 ^ 63 =
+    dite (dec_lt c.stamp_at-stamp.result 9223372036854775808) (λ lt. lt)
+    (λ high. let no_way = c.if-is_unset.ensures.1 (let h = high in omega arith) in absurd (cc)) in
+    later_commit (config_of c.args.shared.now) (view c.args.pass.now) (view c.load_head-link.new.pass) (view c.stamp_at-stamp.new.pass) c.args.object
+    c.load_head-link.result c.stamp_at-stamp.result (section_in (view c.args.pass.now)) c.if-link-eq0.false c.load_head-link.ensures.view
+    c.stamp_at-stamp.ensures.looked c.time.result (c.time.ensures (section_in (view c.stamp_at-stamp.new.pass)) c.stamp_at-stamp.ensures.may.phase)
+    c.if-stamp-time.true low

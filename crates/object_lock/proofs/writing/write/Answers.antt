@@ -37,3 +37,18 @@ pub returns-clause-stores : goal.returns-clause-stores
 returns-clause-stores g c =
     subst (λ (w : View). Stores (view c.args.pass.now) w 6) (sym c.put_words.ensures.view)
     (puts_store (config_of c.args.shared.now) (view c.args.pass.now) c.position_of-position.result 6 c.args.words)
+
+pub returns-clause-same : goal.returns-clause-same
+returns-clause-same g c = c.put_words.ensures.same
+
+pub returns-clause-stands : goal.returns-clause-stands
+returns-clause-stands g c = c.put_words.ensures.stands
+
+pub returns-clause-cost : goal.returns-clause-cost
+returns-clause-cost g c = c.put_words.ensures.cost
+
+pub put_words-requires-clause-of : goal.put_words-requires-clause-of
+put_words-requires-clause-of g c = c.requires.of
+
+pub put_words-requires-clause-stands : goal.put_words-requires-clause-stands
+put_words-requires-clause-stands g c = c.requires.stands

@@ -1,11 +1,12 @@
-use Rattle.std.proofs.Common.{◌≡◌, ℕ, ◌+◌, ◌-◌, ◌<◌, ◌^◌, length, sym, ap, ◌∙◌, subst, arith}
+use Rattle.std.proofs.Common.{◌≡◌, ◌==◌, ℕ, ◌+◌, ◌-◌, ◌<◌, ◌^◌, length, sym, ap, ◌∙◌, subst, arith}
 use Rattle.mv_core.specs.declared.view.View.{View}
 use Rattle.mv_core.specs.Passes.{view, config_of}
-use Rattle.seat_log.specs.Notes.{Noted, next_of, first_of, built_noted}
+use Rattle.seat_log.specs.Notes.{Noted, next_of, first_of, built_noted, next_note}
+use Rattle.seat_log.proofs.OwnSlots.{of_still, same_on}
 use Rattle.seat_log.specs.Stands.{Stands}
-use Rattle.seat_log.specs.Builds.{slot_built, ChangesLog}
+use Rattle.seat_log.specs.Builds.{slot_built, build_cost, ChangesLog}
 use Rattle.seat_log.specs.contracts.log.Log.{the_view}
-use Rattle.seat_log.proofs.MayBuild.{is_slot}
+use Rattle.seat_log.proofs.MayBuild.{is_slot, first_there, cost_there}
 use Rattle.seat_log.proofs.Changes.{slot_changes}
 use Rattle.seat_log.proofs.Standing.{may_build, stands_built}
 use Rattle.seat_log.proofs.building.build.Goals as goal
@@ -66,3 +67,56 @@ pub returns-clause-rest : goal.returns-clause-rest
 returns-clause-rest g c =
     subst (λ (w : View). ChangesLog (view c.args.pass.now) w) (sym (view_is g c))
     (slot_changes (config_of c.args.shared.now) (view c.args.pass.now) (next_of c.args.log.now) (first_of c.args.log.now) c.args.previous c.args.words)
+
+pub link_slot-requires-clause-first : goal.link_slot-requires-clause-first
+link_slot-requires-clause-first g c =
+    let stands = c.requires.stands in
+    let next = stands.next in
+    let same = ap next_of c.log.view_is in
+    let long = c.log.inside.live.ok.0 in
+    let e = c.len.ensures in
+    first_there (view c.args.pass.now) (c.log.inside.freed + c.len.result) c.log.inside.held (omega arith)
+    (stands.held ∙ sym (ap (λ (m : Noted). m.held) c.log.view_is))
+
+pub returns-clause-cost : goal.returns-clause-cost
+returns-clause-cost g c =
+    let long = c.log.inside.live.ok.0 in
+    let e = c.len.ensures in
+    let position : ℕ = c.log.inside.freed + c.len.result in
+    let at : c.log.inside.freed + c.len.result ≡ next_of (the_view c.log.inside) = omega arith in
+    cost_there (position - c.log.inside.held == position) c.args.steps.now c.link_slot.new.steps c.store_words.new.steps c.link_slot.ensures.cost
+    c.store_words.ensures.cost
+    ∙ (λ i. c.args.steps.now + build_cost (at i) (at i - c.log.inside.held))
+    ∙ ap (λ (m : Noted). c.args.steps.now + build_cost (next_of m) (first_of m)) c.log.view_is
+
+pub returns-clause-log : goal.returns-clause-log
+returns-clause-log g c =
+    let long = c.log.inside.live.ok.0 in
+    let e = c.len.ensures in
+    let at : c.log.inside.freed + c.len.result ≡ next_of (the_view c.log.inside) = omega arith in
+    (λ i. built_noted (the_view c.log.inside)
+    (record {
+      position = at i;
+      first = at i - c.log.inside.held;
+      object = c.args.object;
+      previous = c.args.previous;
+      words = c.args.words;
+      time = 0;
+      dead = 0;
+    }))
+    ∙ ap (λ (m : Noted). built_noted m (next_note m c.args.object c.args.previous c.args.words)) c.log.view_is
+
+pub link_slot-requires-clause-of : goal.link_slot-requires-clause-of
+link_slot-requires-clause-of g c = c.requires.of
+
+pub store_words-requires-clause-of : goal.store_words-requires-clause-of
+store_words-requires-clause-of g c = of_still c.args.shared.now c.args.pass.now c.link_slot.new.pass c.link_slot.ensures.same c.requires.of
+
+pub store_words-requires-clause-may : goal.store_words-requires-clause-may
+store_words-requires-clause-may g c = c.link_slot.ensures.may
+
+pub returns-clause-same : goal.returns-clause-same
+returns-clause-same g c = same_on c.args.pass.now c.link_slot.new.pass c.store_words.new.pass c.link_slot.ensures.same c.store_words.ensures.same
+
+pub returns-clause-range : goal.returns-clause-range
+returns-clause-range g c = c.link_slot.ensures.range

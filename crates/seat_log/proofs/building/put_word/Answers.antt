@@ -115,3 +115,39 @@ returns-in_default g c =
     let is = there.1 in
     let same = ap (λ (m : Noted). m.built) c.log.view_is in
     absurd (cc)
+
+pub returns-in-Some-clause-built : goal.returns-in-Some-clause-built
+returns-in-Some-clause-built g c = λ there. (
+  (λ i. record (the_view c.log.inside) { built = sym (ap (built_word c.args.word c.args.value) c.in-Some.is) i })
+      ∙ ap (λ (m : Noted). built_word_noted m c.args.word c.args.value) c.log.view_is,
+  c.store_next.ensures.view,
+)
+
+pub returns-in-Some-clause-held : goal.returns-in-Some-clause-held
+returns-in-Some-clause-held g c = λ held.
+    let at = c.if-position-log.true in
+    let long = c.log.inside.live.ok.0 in
+    let e = c.len.ensures in
+    let next : next_of (the_view c.log.inside) ≡ next_of c.args.log.now = ap next_of c.log.view_is in
+    let low = held.1 in
+    absurd (omega arith)
+
+pub returns-in-Some-clause-same : goal.returns-in-Some-clause-same
+returns-in-Some-clause-same g c = c.store_next.ensures.same
+
+pub returns-in-Some-clause-step : goal.returns-in-Some-clause-step
+returns-in-Some-clause-step g c = c.store_next.ensures.step
+
+pub returns-clause-built : goal.returns-clause-built
+returns-clause-built g c = λ b.
+    let long = c.log.inside.live.ok.0 in
+    let e = c.len.ensures in
+    let next : next_of (the_view c.log.inside) ≡ next_of c.args.log.now = ap next_of c.log.view_is in
+    let at : next_of c.args.log.now ≡ c.log.inside.freed + c.len.result = omega arith in
+    absurd (c.if-position-log.false (sym b.2 ∙ (built_next c.args.log.now b.0 b.1 c.requires.stands.log).0 ∙ at))
+
+pub returns-clause-same : goal.returns-clause-same
+returns-clause-same g c = c.store_data.ensures.same
+
+pub returns-clause-step : goal.returns-clause-step
+returns-clause-step g c = c.store_data.ensures.step

@@ -10,6 +10,9 @@ use Rattle.seat_log.specs.contracts.log.Log.{the_view}
 use Rattle.seat_log.proofs.FreedLogs.{stands_freed, each_may_free}
 use Rattle.seat_log.proofs.freeing.free_oldest.Goals as goal
 
+pub returns-clause-frees : goal.returns-clause-frees
+returns-clause-frees g c = c.oldest_dead-count.ensures
+
 pub free_slots-requires-clause-may : goal.free_slots-requires-clause-may
 free_slots-requires-clause-may g c =
     subst (λ (m : Noted). (j : ℕ) → j < c.oldest_dead-count.result

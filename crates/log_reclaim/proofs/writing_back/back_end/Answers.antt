@@ -29,3 +29,9 @@ returns-clause-stands g c =
     let k = c.requires.timed in
     stands_timed (config_of c.args.shared.now) k.0 (view c.args.pass.now) c.args.log.now c.args.back c.args.time k.1 (view c.leave.new.pass)
     c.note_cut.new.log c.leave.ensures.view (c.note_cut.ensures ∙ ap back_noted c.retire.ensures)
+
+pub returns-clause-view : goal.returns-clause-view
+returns-clause-view g c = c.leave.ensures.view
+
+pub returns-clause-log : goal.returns-clause-log
+returns-clause-log g c = c.note_cut.ensures ∙ ap back_noted c.retire.ensures

@@ -28,3 +28,9 @@ pub returns-clause-stores : goal.returns-clause-stores
 returns-clause-stores g c =
     stores_word (config_of c.args.shared.now) (view c.args.pass.now) c.args.back.now c.requires.writing (view c.store_master.new.pass) _ _ refl
     c.requires.left c.store_master.ensures.view refl
+
+pub returns-clause-same : goal.returns-clause-same
+returns-clause-same g c = c.store_master.ensures.same
+
+pub returns-clause-step : goal.returns-clause-step
+returns-clause-step g c = c.store_master.ensures.step

@@ -1,9 +1,12 @@
 -- What a write means.
-use Rattle.std.proofs.Common.{◌≡◌, ℕ, ◌-◌, [], sym, ap, ◌∙◌, append-nil}
+use Rattle.std.proofs.Common.{◌≡◌, ℕ, ◌-◌, List, [], sym, ap, ◌∙◌, append-nil}
 use Rattle.mv_history.specs.declared.StepKind.TheVariants.{StoreData}
 use Rattle.mv_history.specs.Trail.{is_commit_exchange, commit_exchanges}
-use Rattle.mv_history.specs.Calls.{GoesOn}
+use Rattle.mv_history.specs.State.{rewritten}
+use Rattle.mv_history.specs.Calls.{GoesOn, Rewrites}
+use Rattle.mv_layout.specs.declared.Config.{Config}
 use Rattle.mv_core.specs.declared.view.View.{View}
+use Rattle.mv_core.specs.Rings.{own_of, spare_count}
 use Rattle.mv_core.specs.Views.{time_in}
 use Rattle.version_chain.specs.Walks.{inside_of}
 use Rattle.object_lock.specs.Writes.{Stores}
@@ -22,4 +25,14 @@ module _ (p q : Placed) (n : ℕ) (config : q.config ≡ p.config) (table : q.ta
         at = (λ i. time_in (inside_of (phase i)) - (config i).base);
         names_no_commit = ap commit_exchanges (made p.view.trail q.view.trail t.trail.0 t.trail.1)
             ∙ none_named (λ k. k ≡ StoreData) (λ k e. ap is_commit_exchange e) t.trail.0 t.trail.3;
+      }
+
+  -- the object has these words then, and no slot was used
+  pub wrote : (object : ℕ) (words : List ℕ) → own_of p.config q.view.ring ≡ rewritten (own_of p.config p.view.ring) object words
+      → spare_count q.view.ring ≡ spare_count p.view.ring → Rewrites (section_from p) (section_from q) object words
+  wrote object words own spare =
+      let on = wrote_goes_on in record {
+        seat = record { continues = on.continues; mine = on.mine; rests = on.rests; spare = spare };
+        at = on.at;
+        own = ap (λ (d : Config). own_of d q.view.ring) config ∙ own;
       }

@@ -1,4 +1,5 @@
 pub mod Left
 pub mod Tidied
 pub mod Rounded
+pub mod Made
 pub mod Tabled

@@ -3,5 +3,6 @@ pub mod Numbers
 pub mod NoneLeft
 pub mod Kept
 pub mod Joins
+pub mod Loads
 pub mod Met
 pub mod Reads

@@ -4,7 +4,7 @@ use Rattle.std.proofs.Common.{length, take, drop, All, refl, sym, ap, ◌∙◌,
 use Rattle.std.specs.Prelude.{AllPairs, Contains, Some, None}
 use Rattle.std.proofs.Math.Logic.{∥∥₁_elim}
 use Rattle.std.proofs.lemmas.List.{append-nil, take-append-drop, length-take-le, take_all}
-use Rattle.std.proofs.lemmas.List.Elements.{All-contains, All-weaker, Contains-append_left}
+use Rattle.std.proofs.lemmas.List.Elements.{All-contains, All-weaker}
 use Rattle.mv_history.specs.declared.Step.{Step}
 use Rattle.mv_history.specs.declared.StepKind.TheVariants.{LoadJoined}
 use Rattle.mv_history.specs.declared.Entry.{Entry}
@@ -19,16 +19,15 @@ use Rattle.mv_core.specs.HistoryFacts.{BeginsWith}
 use Rattle.mv_core.specs.Known.{Known}
 use Rattle.mv_core.specs.Passes.{seat_meant}
 use Rattle.mv_core.specs.Views.{time_in}
-use Rattle.mv_core.specs.EnterSteps.{IsWhole, if_none}
-use Rattle.mv_core.specs.WalkSteps.{IsWalking}
+use Rattle.mv_core.specs.EnterSteps.{IsWhole}
 use Rattle.mv_core.specs.SeatSteps.{AreJoined, joined_loaded}
 use Rattle.reader_marks.specs.Sections.{Begins}
-use Rattle.version_chain.specs.Walks.{inside_of, time_at, MayWalk}
+use Rattle.version_chain.specs.Walks.{inside_of, time_at}
 use Rattle.mvrlu.specs.declared.domain.Seat.{Seat}
 use Rattle.mvrlu.specs.Joined.{IsKept, AreJoining}
 use Rattle.mvrlu.specs.Meant.{seat_of}
 use Rattle.mvrlu.specs.Meeting.{LawOfTheWhole, IsShort}
-use Rattle.mvrlu.specs.Whole.{Whole, IsSound, whole_from}
+use Rattle.mvrlu.specs.Whole.{Whole, whole_from}
 use Rattle.mvrlu.proofs.whole.Numbers.{HasNumber, have_all}
 use Rattle.mvrlu.proofs.whole.NoneLeft.{same_counts, contains_commit}
 use Rattle.mvrlu.proofs.whole.Kept.{GoesOn, KnowsIn, begins_long, kept_on, knows_in}
@@ -128,16 +127,6 @@ module _ {P : Type 0} {rules : _} (c : Config) (seats : List (Seat P rules)) (v 
       let same_base = enter_on.base ∙ base in
       omega arith
 
-  pub may : MayWalk w
-  may =
-      let walking : IsWalking w begins.inside = record {
-        phase = begins.phase;
-        open_is = begins.open_is;
-        helped = Contains-append_left u.clocks.helped (if_none last) begins.inside.word begins.past_help;
-        no_back = begins.no_back;
-      } in
-      subst (IsWalking w) (sym (ap inside_of begins.phase)) walking
-
   -- what the view means: all of g
   abbrev meant : Whole
   meant = record { start = w.start; base = w.base; history = g; trail = w.trail }
@@ -161,9 +150,6 @@ module _ {P : Type 0} {rules : _} (c : Config) (seats : List (Seat P rules)) (v 
       time = k.in_time;
       last = omega arith;
     })
-
-    pub sound : IsSound (whole_from w)
-    sound = let is = lawful in subst IsSound meant_is (record { words = is.words; legal = is.legal; time = is.time })
 
     pub law : LawOfTheWhole starts allows seats (whole_from w)
     law =
@@ -214,10 +200,7 @@ module _ {P : Type 0} {rules : _} (c : Config) (seats : List (Seat P rules)) (v 
 pub record HasMet {P : Type 0} {rules : _} (starts : State → Type 0) (allows : List ℕ → State → Writes → Type 0) (c : Config) (seats : List
     (Seat P rules)) (w : View) : Type 0 where
   pub law : LawOfTheWhole starts allows seats (whole_from w)
-  pub sound : IsSound (whole_from w)
   pub short : IsShort seats (whole_from w) (c.seats + 7)
-  pub may : MayWalk w
-  pub time : time_at w ≡ w.base + length w.past.seen
 
 -- the pass of joined seats, with a load of CLOCK, an entering and a load of CLOCK
 pub has_met : {P : Type 0} {rules : _} (starts : State → Type 0) (allows : List ℕ → State → Writes → Type 0) → ((s : State) → IsProp (starts s))
@@ -232,9 +215,5 @@ has_met {P} {rules} starts allows one_start one_allowed c seats v x u w first la
     let knows = subst (λ (y : View). ∥ Known starts allows y ∥₁) two.3 known in
     subst (HasMet starts allows c seats) (sym two.3) (record {
       law = law c seats v kept many apart range base first one.0 one.1 one.2 u time begun last two.0 two.1 two.2 starts allows one_start one_allowed knows;
-      sound = sound c seats v kept many apart range base first one.0 one.1 one.2 u time begun last two.0 two.1 two.2 starts allows one_start
-          one_allowed knows;
       short = short c seats v kept many apart range base first one.0 one.1 one.2 u time begun last two.0 two.1 two.2 joining;
-      may = may c seats v kept many apart range base first one.0 one.1 one.2 u time begun last two.0 two.1 two.2;
-      time = time_is c seats v kept many apart range base first one.0 one.1 one.2 u time begun last two.0 two.1 two.2;
     })

@@ -7,7 +7,7 @@ use Rattle.mv_core.specs.Passes.{view, config_of}
 use Rattle.version_chain.specs.Reads.{words_in}
 use Rattle.mvrlu.specs.Placed.{Placed, placed, section_from, seat_from, Fits}
 use Rattle.mvrlu.specs.Standing.{Stays}
-use Rattle.mvrlu.proofs.Names.{config_inside, fits_pass, fits_on}
+use Rattle.mvrlu.proofs.Names.{config_inside, fits_pass, fits_on, range_of}
 use Rattle.mvrlu.proofs.Lawful.{section_lawful}
 use Rattle.mvrlu.proofs.LockMeant.{snapshot_words}
 use Rattle.mvrlu.proofs.ReadMeant.{Looks, walked, looked, look_continues, look_stays, look_busy, look_bound}
@@ -217,3 +217,25 @@ read_version_pair_at-requires-clause-of g c =
 
 pub read_version_pair_at-requires-clause-may : goal.read_version_pair_at-requires-clause-may
 read_version_pair_at-requires-clause-may g c = c.find_at.ensures.may
+
+pub find_at-requires-clause-of : goal.find_at-requires-clause-of
+find_at-requires-clause-of g c =
+    let i = c.deref_mut.result.now in
+    let is = lent_busy i c.busy.inside.place.value c.deref_mut.ensures.value g.P.Protocol.start g.P.Protocol.allowed c.busy.invariant in
+    let view_is = lent_view i c.busy.inside.place.value c.deref_mut.ensures.value _ c.busy.view_is in
+    fits_pass g.P.Protocol.start g.P.Protocol.allowed c.args.shared.now i.pass i.log (subst (Fits c.args.shared.now) (sym view_is) c.requires.fits) is.placed
+
+pub find_at-requires-clause-may : goal.find_at-requires-clause-may
+find_at-requires-clause-may g c =
+    (lent_busy c.deref_mut.result.now c.busy.inside.place.value c.deref_mut.ensures.value g.P.Protocol.start g.P.Protocol.allowed c.busy.invariant).may
+
+pub find_at-requires-clause-range : goal.find_at-requires-clause-range
+find_at-requires-clause-range g c = range_of c.args.shared.now c.args.object c.requires.range
+
+pub returns-in-None-clause-aborts : goal.returns-in-None-clause-aborts
+returns-in-None-clause-aborts g c =
+    ap (λ (x : Placed). x.log.aborts) (lent_view c.deref_mut.result.now c.busy.inside.place.value c.deref_mut.ensures.value _ c.busy.view_is)
+
+pub returns-clause-aborts : goal.returns-clause-aborts
+returns-clause-aborts g c =
+    ap (λ (x : Placed). x.log.aborts) (lent_view c.deref_mut.result.now c.busy.inside.place.value c.deref_mut.ensures.value _ c.busy.view_is)

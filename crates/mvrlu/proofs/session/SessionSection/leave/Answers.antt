@@ -1,0 +1,11 @@
+use Rattle.mvrlu.proofs.session.SessionSection.leave.Goals as goal
+
+-- the handle is of the seat that left its section
+pub returns-clause-leaves : goal.returns-clause-leaves
+returns-clause-leaves g c = c.left-idle.ensures.leaves
+
+pub returns-clause-aborts : goal.returns-clause-aborts
+returns-clause-aborts g c = c.left-idle.ensures.aborts
+
+pub returns-clause-bound : goal.returns-clause-bound
+returns-clause-bound g c = c.left-idle.ensures.bound

@@ -1,9 +1,11 @@
 -- To put a key into a map, or to take one out, leaves a map whose keys and values fit their types.
-use Rattle.std.proofs.Common.{◌≡◌, ℕ, ◌<◌, ◌≤◌, ◌^◌, Bool, [], ◌∷◌, length, get_or, set, Result, Ok, Err, OnOk, OnErr, length-set, sym, ◌∙◌, subst, arith}
+use Rattle.std.proofs.Common.{◌≡◌, ℕ, ◌<◌, ◌≤◌, ◌^◌, Bool, not, [], ◌∷◌, length, get_or, set, Result, Ok, Err, OnOk, IfOk, OnErr}
+use Rattle.std.proofs.Common.{length-set, sym, ap, ◌∙◌, subst, arith}
 use Rattle.std.specs.declared.alloc.AllocError.{AllocError}
 use Rattle.std.proofs.lemmas.Bool.Decides.{nat_tests}
+use Rattle.std.proofs.lemmas.List.{get_or_default, set-get_or}
 use Rattle.std.proofs.lemmas.List.Elements.{All-set}
-use Rattle.set_script.specs.Catalogue.{Map, Maps, IsMap, IsAboveKey, FitsTypes, IsCatalogue, put, take_out}
+use Rattle.set_script.specs.Catalogue.{Map, Maps, IsMap, IsAboveKey, FitsTypes, IsCatalogue, put, take_out, map_of, has_key}
 
 -- what is above a key is above each one that is not above it
 pub above_lower : (i j : ℕ) (m : Map) → i ≤ j → IsAboveKey j m → IsAboveKey i m
@@ -62,3 +64,27 @@ module _ (c : Maps) (name : ℕ) (lawful : IsCatalogue c) (within : name < 30) (
 
   pub removed_is_catalogue : IsCatalogue (set c name (take_out key before))
   removed_is_catalogue = set_is_catalogue c name _ lawful (take_out_is_map key before is_map) (take_out_fits key before fits)
+
+  -- what was read is the map of the name
+  read_is : before ≡ map_of name c
+  read_is = read ∙ get_or_default c name before [] in_range
+
+  -- the key has the value, and else nothing changed
+  pub inserted_put : (value : ℕ) (after : Map) (d : Maps) (result : Result Bool AllocError) → c ≡ d → OnOk result (after ≡ put key value before)
+      → OnOk result (set c name after ≡ set d name (put key value (map_of name d)))
+  inserted_put value after d (Ok added) same ok =
+      subst (λ (u : Maps). set c name after ≡ set u name (put key value (map_of name u))) same (ap (set c name) (ok ∙ ap (put key value) read_is))
+  inserted_put value after d (Err error) same ok = tt
+
+  -- the answer says whether the key was not there
+  pub inserted_added : (d : Maps) (result : Result Bool AllocError) → c ≡ d → IfOk result (λ added. added ≡ not (has_key key before))
+      → IfOk result (λ added. added ≡ not (has_key key (map_of name d)))
+  inserted_added d (Ok added) same is = is ∙ ap (λ (m : Map). not (has_key key m)) (read_is ∙ ap (map_of name) same)
+  inserted_added d (Err error) same is = tt
+
+  -- a map that stayed leaves the catalogue
+  pub inserted_unchanged : (after : Map) (d : Maps) (result : Result Bool AllocError) → c ≡ d → OnErr result (after ≡ before)
+      → OnErr result (set c name after ≡ d)
+  inserted_unchanged after d (Ok added) same err = tt
+  inserted_unchanged after d (Err error) same err =
+      ap (set c name) (err ∙ read) ∙ set-get_or c name before ∙ same

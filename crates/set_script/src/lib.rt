@@ -32,5 +32,5 @@ pub use commands::{Command, FaultKind, Format, Name, Place, Reply, ScriptFault};
 pub use rules::SetRules;
 pub use script::{
     MOST_COMMANDS, commands_read_back, first_word, parse, parse_is_exact, parse_line, read_line,
-    read_value, strip_carriage_return,
+    read_value, same_word, strip_carriage_return,
 };

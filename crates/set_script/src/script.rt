@@ -29,7 +29,7 @@ pub use line::parse_line;
 pub use numbers::read_value;
 pub use opening::read_line;
 use std::alloc::Global;
-pub use words::{first_word, strip_carriage_return};
+pub use words::{first_word, same_word, strip_carriage_return};
 
 /// How many commands a script may have.
 pub const MOST_COMMANDS: usize = 65_536;

@@ -5,7 +5,9 @@ ghost use Rattle.set_script.specs.Grammar.{words_in, verb_of, name_of, set_of, s
 use crate::commands::{Command, FaultKind, Format, Name};
 use crate::script::numbers::{read_key, read_value};
 use crate::script::plain::read_plain;
-use crate::script::words::{first_word, read_one, read_three, read_two, strip_carriage_return};
+use crate::script::words::{
+    first_word, read_one, read_three, read_two, same_word, strip_carriage_return,
+};
 
 /// What a command does.
 #[derive(Clone, Copy, Drop)]
@@ -26,17 +28,27 @@ pub enum Verb {
 pub fn read_verb(word: &[u8], format: &Format) -> Result<Verb, FaultKind>
     ensures { result ≡ verb_of format.now word.now }
 {
-    match word {
-        b"add" => Ok(Verb::Add),
-        b"put" if format.has_values() => Ok(Verb::Put),
-        b"del" => Ok(Verb::Del),
-        b"has" => Ok(Verb::Has),
-        b"get" if format.has_values() => Ok(Verb::Get),
-        b"move" => Ok(Verb::Move),
-        b"pair" => Ok(Verb::Pair),
-        b"size" => Ok(Verb::Size),
-        b"next" => Ok(Verb::Next),
-        _ => Err(FaultKind::Word),
+    let has_values = format.has_values();
+    if same_word(word, b"add") {
+        Ok(Verb::Add)
+    } else if same_word(word, b"put") && has_values {
+        Ok(Verb::Put)
+    } else if same_word(word, b"del") {
+        Ok(Verb::Del)
+    } else if same_word(word, b"has") {
+        Ok(Verb::Has)
+    } else if same_word(word, b"get") && has_values {
+        Ok(Verb::Get)
+    } else if same_word(word, b"move") {
+        Ok(Verb::Move)
+    } else if same_word(word, b"pair") {
+        Ok(Verb::Pair)
+    } else if same_word(word, b"size") {
+        Ok(Verb::Size)
+    } else if same_word(word, b"next") {
+        Ok(Verb::Next)
+    } else {
+        Err(FaultKind::Word)
     }
 }
 

@@ -1,10 +1,10 @@
 //! The first line of a script that has words: it may name the script's format.
 ghost use Rattle.std.specs.Prelude.{◌≡◌, MatchResult, IfOk};
-ghost use Rattle.set_script.specs.Grammar.{words_in, format_of, first_read, first_format, reading_in, format_after, words_of};
+ghost use Rattle.set_script.specs.Grammar.{words_in, is_format_word, format_of, first_read, first_format, reading_in, format_after, words_of};
 
 use crate::commands::{Command, FaultKind, Format};
 use crate::script::line::parse_line;
-use crate::script::words::{first_word, read_one, strip_carriage_return};
+use crate::script::words::{first_word, read_one, same_word, strip_carriage_return};
 
 // The format that the bytes behind `format` name. `Err` is `Count`, then `Format`.
 fn read_format(bytes: &[u8]) -> Result<Format, FaultKind>
@@ -17,6 +17,13 @@ fn read_format(bytes: &[u8]) -> Result<Format, FaultKind>
     }
 }
 
+// Whether the word is the first one of a line on the format.
+fn is_format_word(word: &[u8]) -> bool
+    ensures { result ≡ is_format_word word.now }
+{
+    same_word(word, b"format")
+}
+
 // Reads a line before which no line has words, and answers its command and the format behind it.
 fn read_first(line: &[u8]) -> Result<(Option<Command>, Option<Format>), FaultKind>
     ensures { MatchResult result
@@ -26,7 +33,7 @@ fn read_first(line: &[u8]) -> Result<(Option<Command>, Option<Format>), FaultKin
     let Some((word, rest)) = first_word(strip_carriage_return(line)) else {
         return Ok((None, None));
     };
-    if matches!(word, b"format") {
+    if is_format_word(word) {
         let format = read_format(rest)?;
         return Ok((None, Some(format)));
     }

@@ -1,6 +1,7 @@
 //! The words of a line: what stands between its blanks, up to a comment.
 ghost use Rattle.std.specs.Prelude.{◌≡◌, ◌≤◌, [], ◌∷◌, MatchOption, MatchResult, length, drop};
 ghost use Rattle.std.specs.List.{position_or_len, prefix_len};
+ghost use Rattle.std.specs.Str.{bytes_eq};
 ghost use Rattle.std.specs.Str.Lines.{strip_carriage_return};
 ghost use Rattle.set_script.specs.Grammar.{is_blank, words_in, one_of, two_of, three_of};
 
@@ -44,6 +45,13 @@ pub fn strip_carriage_return(line: &[u8]) -> &[u8]
         [front @ .., b'\r'] => front,
         _ => line,
     }
+}
+
+/// Whether two words are the same.
+pub fn same_word(word: &[u8], other: &[u8]) -> bool
+    ensures { result ≡ bytes_eq word.now other.now }
+{
+    word == other
 }
 
 /// The first word and the bytes behind it. `None` where the bytes end, or a comment begins,

@@ -3,14 +3,14 @@ use Rattle.std.proofs.Common.{◌≡◌, ℕ, ◌+◌, ◌-◌, ◌*◌, ◌/◌
 use Rattle.std.proofs.lemmas.Bool.{cases_lt}
 use Rattle.mv_history.specs.State.{State}
 use Rattle.mv_history.specs.Meaning.{InSection, state_of}
-use Rattle.set_script.specs.Catalogue.{map_of, has_key, value_of, without_key}
+use Rattle.set_script.specs.Catalogue.{map_of, has_key, value_of, with_key, without_key}
 use Rattle.set_script.specs.CatalogueOf.{name_of, map_at, catalogue_of}
 use Rattle.set_script.specs.Lists.{FitsHead}
 use Rattle.set_script.specs.Lawful.{IsLawful}
 use Rattle.set_script.proofs.Heads.{name_of-list, name_of-bucket}
 use Rattle.set_script.proofs.Heads.{head_low as name_low}
 use Rattle.set_script.proofs.NameMaps.{map_of-has, map_of-value}
-use Rattle.list_set.specs.Calls.{Takes}
+use Rattle.list_set.specs.Calls.{Adds, Takes, Puts}
 use Rattle.hash_set.specs.Buckets.{bucket_at, head_of}
 
 pub bucket_low : (set n : ℕ) → set < 10 → n < 16 → bucket_at set n < 170
@@ -70,3 +70,15 @@ pub takes_catalogue : (a c : InSection) (set key head node : ℕ) → set < 10 �
 takes_catalogue a c set key head node ls e t =
     let there : Takes a c (head_of set key) key node = takes_at a c set key head node e t in
     there.catalogue ∙ ap (λ (n : ℕ). without_key n key (catalogue_of (state_of a))) (head_name set key ls)
+
+-- what an add to the bucket leaves
+pub adds_catalogue : (a c : InSection) (set key head value node : ℕ) → set < 10 → head ≡ head_of set key → Adds a c head key value node
+    → catalogue_of (state_of c) ≡ with_key (10 + set) key value (catalogue_of (state_of a))
+adds_catalogue a c set key head value node ls e t =
+    t.catalogue ∙ ap (λ (n : ℕ). with_key n key value (catalogue_of (state_of a))) (ap name_of e ∙ head_name set key ls)
+
+-- what a put in the bucket leaves
+pub puts_catalogue : (a c : InSection) (set key head value : ℕ) → set < 10 → head ≡ head_of set key → Puts a c head key value
+    → catalogue_of (state_of c) ≡ with_key (10 + set) key value (catalogue_of (state_of a))
+puts_catalogue a c set key head value ls e t =
+    t.catalogue ∙ ap (λ (n : ℕ). with_key n key value (catalogue_of (state_of a))) (ap name_of e ∙ head_name set key ls)

@@ -9,6 +9,7 @@ pub mod Counting
 pub mod OwnWrites
 pub mod Holding
 pub mod Spots
+pub mod Answering
 pub mod Clients
 pub mod Filling
 pub mod ListHalves

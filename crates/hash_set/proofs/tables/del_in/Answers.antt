@@ -1,5 +1,5 @@
 use Rattle.std.proofs.Common.{sym, ◌∙◌, arith}
-use Rattle.hash_set.proofs.SetMaps.{at_has, takes_at, takes_catalogue}
+use Rattle.hash_set.proofs.SetMaps.{at_has, head_low, takes_at, takes_catalogue}
 use Rattle.hash_set.proofs.tables.del_in.Goals as goal
 
 pub returns-clause-absent : goal.returns-clause-absent
@@ -14,3 +14,15 @@ returns-clause-took g c node inner r =
 pub returns-clause-catalogue : goal.returns-clause-catalogue
 returns-clause-catalogue g c node inner r =
     takes_catalogue _ _ _ _ _ _ c.requires.set_in c.bucket_of-head.ensures (c.del_in.ensures.took node inner r).1
+
+pub del_in-requires-clause-head_in : goal.del_in-requires-clause-head_in
+del_in-requires-clause-head_in g c = rw c.bucket_of-head.ensures (head_low _ _ c.requires.set_in)
+
+pub del_in-requires-clause-room : goal.del_in-requires-clause-room
+del_in-requires-clause-room g c = rw c.bucket_of-head.ensures c.requires.room
+
+pub returns-clause-unchanged : goal.returns-clause-unchanged
+returns-clause-unchanged g c = c.del_in.ensures.unchanged
+
+pub returns-clause-again : goal.returns-clause-again
+returns-clause-again g c = rw c.bucket_of-head.ensures at c.del_in.ensures.again

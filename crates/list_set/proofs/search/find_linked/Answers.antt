@@ -2,6 +2,9 @@ use Rattle.std.proofs.Common.{sym}
 use Rattle.list_set.proofs.Walking.{behind_head}
 use Rattle.list_set.proofs.search.find_linked.Goals as goal
 
+pub read_pair-link-requires-clause-object : goal.read_pair-link-requires-clause-object
+read_pair-link-requires-clause-object g c = c.requires.linked.here
+
 pub walk_from-requires-clause-linked : goal.walk_from-requires-clause-linked
 walk_from-requires-clause-linked g c = rw (g.met.V.View.same_state _ _ c.read_pair-link.ensures.as_before) c.requires.linked
 
@@ -14,3 +17,6 @@ walk_from-requires-clause-behind g c =
 
 pub returns-clause-spot : goal.returns-clause-spot
 returns-clause-spot g c = rw (g.met.V.View.same_state _ _ c.read_pair-link.ensures.as_before) at c.walk_from.ensures.spot
+
+pub returns-clause-as_before : goal.returns-clause-as_before
+returns-clause-as_before g c = g.met.V.View.as_long_before _ _ _ c.read_pair-link.ensures.as_before c.walk_from.ensures.as_before

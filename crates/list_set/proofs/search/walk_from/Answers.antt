@@ -64,3 +64,10 @@ returns-clause-spot g c =
     let i = c.loop-link.invariant.spot in
     spot_end _ _ _ _ _ _ _ c.requires.linked i c.loop-link-test.false
     (c.read-words-2.ensures.words ∙ ap (λ (s : State). words_at s c.loop-link.previous) i.same)
+
+pub read-words-requires-2 : goal.read-words-requires-2
+read-words-requires-2 g c =
+    rw c.loop-link.invariant.spot.same (previous_in_range _ _ _ _ _ _ c.requires.linked c.loop-link.invariant.spot)
+
+pub returns-clause-as_before : goal.returns-clause-as_before
+returns-clause-as_before g c = g.met.V.View.as_long_before _ _ _ c.loop-link.invariant.before c.read-words-2.ensures.as_before

@@ -1,7 +1,9 @@
 use Rattle.std.proofs.Common.{◌≡◌, arith, refl, ap, ◌∙◌}
 use Rattle.mv_history.specs.Legal.{are_distinct}
+use Rattle.list_set.proofs.Answering.{again_cause, yes_denies, again_denies}
 use Rattle.list_set.proofs.Spots.{rewritten_before, refuses_as, room_as, two_distinct}
 use Rattle.tree_set.specs.Calls.IsAdd.{first_leaf, beside_leaf}
+use Rattle.list_set.proofs.Answering.{no_not_yes, no_not_again, yes_not_no, yes_not_again, again_not_no, again_not_yes}
 use Rattle.tree_set.proofs.Found.{found_none, found_empty, found_some, found_grow, found_has}
 use Rattle.tree_set.proofs.Planning.{key_is, key_not, ends_in, within_as}
 use Rattle.tree_set.proofs.Changing.{planted_in_range, grown_in_range, grown_distinct, has_true, has_false, planted_gains, grown_gains}
@@ -31,7 +33,7 @@ pub returns-in-Ok-clause-no : goal.returns-in-Ok-clause-no
 returns-in-Ok-clause-no g c =
     let none = found_none _ _ c.args.root c.args.key (g.met.S.Section.reads _) c.in_default.ensures.empty c.requires.lawful c.requires.root_from
     c.requires.root_in in
-    (λ e. cc, λ t. cc)
+    yes_denies _ none
 
 pub returns-in-Ok-clause-yes : goal.returns-in-Ok-clause-yes
 returns-in-Ok-clause-yes g c _ =
@@ -49,13 +51,13 @@ pub returns-in-Err-clause-no : goal.returns-in-Err-clause-no
 returns-in-Err-clause-no g c =
     let none = found_none _ _ c.args.root c.args.key (g.met.S.Section.reads _) c.in_default.ensures.empty c.requires.lawful c.requires.root_from
     c.requires.root_in in
-    (λ e. cc, λ t. cc)
+    again_denies _ _ none
 
 pub returns-in-Err-clause-again : goal.returns-in-Err-clause-again
 returns-in-Err-clause-again g c cause w =
     let z = found_empty _ _ _ (g.met.S.Section.reads _) c.in_default.ensures.empty in
     let e = c.plant_writes.ensures.writes _ c.requires.lawful z in
-    let q : c.in-Err.cause ≡ cause = cc in (
+    let q : c.in-Err.cause ≡ cause = again_cause _ _ w in (
       _,
       first_leaf z,
       refuses_as _ _ _ (g.met.S.Section.lawful _).at (g.met.S.Section.others_stay _ _ c.find.ensures.as_before)
@@ -96,7 +98,7 @@ rewrite-requires-2-clause-room g c =
 pub returns-in-Ok-rewrite-clause-no : goal.returns-in-Ok-rewrite-clause-no
 returns-in-Ok-rewrite-clause-no g c =
     let has = found_has _ _ _ _ _ _ _ _ _ (g.met.S.Section.reads _) c.in-Some.ensures.fork c.requires.lawful c.requires.root_from c.requires.root_in in
-    let missed = has_false _ _ _ has (key_not _ _ _ c.has.ensures c.if-has.false) in (λ e. cc, λ t. cc)
+    yes_denies _ (has_false _ _ _ has (key_not _ _ _ c.has.ensures c.if-has.false))
 
 pub returns-in-Ok-rewrite-clause-yes : goal.returns-in-Ok-rewrite-clause-yes
 returns-in-Ok-rewrite-clause-yes g c _ =
@@ -115,16 +117,49 @@ returns-in-Ok-rewrite-clause-yes g c _ =
 pub returns-in-Err-rewrite-clause-no : goal.returns-in-Err-rewrite-clause-no
 returns-in-Err-rewrite-clause-no g c =
     let has = found_has _ _ _ _ _ _ _ _ _ (g.met.S.Section.reads _) c.in-Some.ensures.fork c.requires.lawful c.requires.root_from c.requires.root_in in
-    let missed = has_false _ _ _ has (key_not _ _ _ c.has.ensures c.if-has.false) in (λ e. cc, λ t. cc)
+    again_denies _ _ (has_false _ _ _ has (key_not _ _ _ c.has.ensures c.if-has.false))
 
 pub returns-in-Err-rewrite-clause-again : goal.returns-in-Err-rewrite-clause-again
 returns-in-Err-rewrite-clause-again g c cause w =
     let n = key_not _ _ _ c.has.ensures c.if-has.false in
     let place = found_grow _ _ _ _ _ _ _ _ _ (g.met.S.Section.reads _) c.in-Some.ensures.fork n in
     let e = c.grow_writes.ensures.writes _ (ends_in _ _ _ _ _ (g.met.S.Section.reads _) c.in-Some.ensures.fork c.in-Some.ensures.words) in
-    let q : c.in-Err-rewrite.cause ≡ cause = cc in (
+    let q : c.in-Err-rewrite.cause ≡ cause = again_cause _ _ w in (
       _,
       beside_leaf _ _ place,
       refuses_as _ _ _ (g.met.S.Section.lawful _).at (g.met.S.Section.others_stay _ _ c.find.ensures.as_before)
           (g.met.S.Section.goes_on _ _ c.find.ensures.as_before) _ _ _ _ _ _ e q c.in-Err-rewrite.ensures.refused,
     )
+
+pub returns-then-has-clause-unchanged : goal.returns-then-has-clause-unchanged
+returns-then-has-clause-unchanged g c _ = c.find.ensures.as_before
+
+pub returns-then-has-clause-yes : goal.returns-then-has-clause-yes
+returns-then-has-clause-yes g c e = absurd (no_not_yes e)
+
+pub returns-then-has-clause-again : goal.returns-then-has-clause-again
+returns-then-has-clause-again g c cause e = absurd (no_not_again _ e)
+
+pub returns-in-Ok-clause-unchanged : goal.returns-in-Ok-clause-unchanged
+returns-in-Ok-clause-unchanged g c e = absurd (yes_not_no e)
+
+pub returns-in-Ok-clause-again : goal.returns-in-Ok-clause-again
+returns-in-Ok-clause-again g c cause e = absurd (yes_not_again _ e)
+
+pub returns-in-Err-clause-unchanged : goal.returns-in-Err-clause-unchanged
+returns-in-Err-clause-unchanged g c e = absurd (again_not_no _ e)
+
+pub returns-in-Err-clause-yes : goal.returns-in-Err-clause-yes
+returns-in-Err-clause-yes g c e = absurd (again_not_yes _ e)
+
+pub returns-in-Ok-rewrite-clause-unchanged : goal.returns-in-Ok-rewrite-clause-unchanged
+returns-in-Ok-rewrite-clause-unchanged g c e = absurd (yes_not_no e)
+
+pub returns-in-Ok-rewrite-clause-again : goal.returns-in-Ok-rewrite-clause-again
+returns-in-Ok-rewrite-clause-again g c cause e = absurd (yes_not_again _ e)
+
+pub returns-in-Err-rewrite-clause-unchanged : goal.returns-in-Err-rewrite-clause-unchanged
+returns-in-Err-rewrite-clause-unchanged g c e = absurd (again_not_no _ e)
+
+pub returns-in-Err-rewrite-clause-yes : goal.returns-in-Err-rewrite-clause-yes
+returns-in-Err-rewrite-clause-yes g c e = absurd (again_not_yes _ e)

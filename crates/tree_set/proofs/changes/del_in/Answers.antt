@@ -1,7 +1,9 @@
 use Rattle.std.proofs.Common.{◌≡◌, refl, ap, ◌∙◌}
 use Rattle.mv_history.specs.Legal.{are_distinct}
+use Rattle.list_set.proofs.Answering.{took_node, took_inner, took_found, del_again_cause, del_again_found}
 use Rattle.list_set.proofs.Spots.{rewritten_before, refuses_as, room_as}
 use Rattle.tree_set.specs.Calls.IsDel.{last_leaf, leaf_and_parent}
+use Rattle.list_set.proofs.Answering.{absent_not_took, absent_not_again, took_not_absent, took_not_again, del_again_not_absent, del_again_not_took}
 use Rattle.tree_set.proofs.Found.{found_none, found_bare, found_cut, found_has}
 use Rattle.tree_set.proofs.Planning.{key_is, key_not, ends_in, within_as}
 use Rattle.tree_set.proofs.Changing.{bared_in_range, cut_in_range, bared_distinct, cut_distinct, has_true, has_false, bared_loses, cut_loses, took_as}
@@ -41,15 +43,15 @@ rewrite-requires-clause-room g c =
 pub returns-in-Ok-clause-absent : goal.returns-in-Ok-clause-absent
 returns-in-Ok-clause-absent g c =
     let has = found_has _ _ _ _ _ _ _ _ _ (g.met.S.Section.reads _) c.in-Some.ensures.fork c.requires.lawful c.requires.root_from c.requires.root_in in
-    let there = has_true _ _ _ has (key_is _ _ _ c.has.ensures c.if-not-has.false) in (λ e. cc, λ t. cc)
+    took_found _ _ _ (has_true _ _ _ has (key_is _ _ _ c.has.ensures c.if-not-has.false))
 
 pub returns-in-Ok-clause-took : goal.returns-in-Ok-clause-took
 returns-in-Ok-clause-took g c node inner w =
     let is = key_is _ _ _ c.has.ensures c.if-not-has.false in
     let place = found_bare _ _ _ _ _ _ _ _ _ (g.met.S.Section.reads _) c.in-Some.ensures.fork is c.if-fork-root.true in
     let e = c.bare_writes.ensures.writes _ _ (ends_in _ _ _ _ _ (g.met.S.Section.reads _) c.in-Some.ensures.fork c.in-Some.ensures.words) in
-    let named : c.in-Some.fork.leaf ≡ node = cc in
-    let none : 0 ≡ inner = cc in
+    let named : c.in-Some.fork.leaf ≡ node = took_node _ _ _ _ w in
+    let none : 0 ≡ inner = took_inner _ _ _ _ w in
     took_as _ _ _ _ _ _ _ _ named none (bared_loses _ _ _ _ c.requires.lawful c.requires.root_from c.requires.root_in _ _ place e
     (rewritten_before _ _ _ (g.met.S.Section.lawful _).at (g.met.S.Section.others_stay _ _ c.find.ensures.as_before)
     (g.met.S.Section.goes_on _ _ c.find.ensures.as_before) _ _ c.in-Ok.ensures.written))
@@ -57,14 +59,14 @@ returns-in-Ok-clause-took g c node inner w =
 pub returns-in-Err-clause-absent : goal.returns-in-Err-clause-absent
 returns-in-Err-clause-absent g c =
     let has = found_has _ _ _ _ _ _ _ _ _ (g.met.S.Section.reads _) c.in-Some.ensures.fork c.requires.lawful c.requires.root_from c.requires.root_in in
-    let there = has_true _ _ _ has (key_is _ _ _ c.has.ensures c.if-not-has.false) in (λ e. cc, λ t. cc)
+    del_again_found _ _ (has_true _ _ _ has (key_is _ _ _ c.has.ensures c.if-not-has.false))
 
 pub returns-in-Err-clause-again : goal.returns-in-Err-clause-again
 returns-in-Err-clause-again g c cause w =
     let is = key_is _ _ _ c.has.ensures c.if-not-has.false in
     let place = found_bare _ _ _ _ _ _ _ _ _ (g.met.S.Section.reads _) c.in-Some.ensures.fork is c.if-fork-root.true in
     let e = c.bare_writes.ensures.writes _ _ (ends_in _ _ _ _ _ (g.met.S.Section.reads _) c.in-Some.ensures.fork c.in-Some.ensures.words) in
-    let q : c.in-Err.cause ≡ cause = cc in (
+    let q : c.in-Err.cause ≡ cause = del_again_cause _ _ w in (
       _,
       _,
       _,
@@ -98,15 +100,15 @@ rewrite-requires-2-clause-room g c =
 pub returns-in-Ok-rewrite-clause-absent : goal.returns-in-Ok-rewrite-clause-absent
 returns-in-Ok-rewrite-clause-absent g c =
     let has = found_has _ _ _ _ _ _ _ _ _ (g.met.S.Section.reads _) c.in-Some.ensures.fork c.requires.lawful c.requires.root_from c.requires.root_in in
-    let there = has_true _ _ _ has (key_is _ _ _ c.has.ensures c.if-not-has.false) in (λ e. cc, λ t. cc)
+    took_found _ _ _ (has_true _ _ _ has (key_is _ _ _ c.has.ensures c.if-not-has.false))
 
 pub returns-in-Ok-rewrite-clause-took : goal.returns-in-Ok-rewrite-clause-took
 returns-in-Ok-rewrite-clause-took g c node inner w =
     let is = key_is _ _ _ c.has.ensures c.if-not-has.false in
     let place = found_cut _ _ _ _ _ _ _ _ _ (g.met.S.Section.reads _) c.in-Some.ensures.fork is c.if-fork-root.false in
     let e = c.cut_writes.ensures.writes _ _ _ (ends_in _ _ _ _ _ (g.met.S.Section.reads _) c.in-Some.ensures.fork c.in-Some.ensures.words) in
-    let named : c.in-Some.fork.leaf ≡ node = cc in
-    let above : c.in-Some.fork.parent ≡ inner = cc in
+    let named : c.in-Some.fork.leaf ≡ node = took_node _ _ _ _ w in
+    let above : c.in-Some.fork.parent ≡ inner = took_inner _ _ _ _ w in
     took_as _ _ _ _ _ _ _ _ named above (cut_loses _ _ _ _ c.requires.lawful c.requires.root_from c.requires.root_in _ _ _ _ place e
     (rewritten_before _ _ _ (g.met.S.Section.lawful _).at (g.met.S.Section.others_stay _ _ c.find.ensures.as_before)
     (g.met.S.Section.goes_on _ _ c.find.ensures.as_before) _ _ c.in-Ok-rewrite.ensures.written))
@@ -114,14 +116,14 @@ returns-in-Ok-rewrite-clause-took g c node inner w =
 pub returns-in-Err-rewrite-clause-absent : goal.returns-in-Err-rewrite-clause-absent
 returns-in-Err-rewrite-clause-absent g c =
     let has = found_has _ _ _ _ _ _ _ _ _ (g.met.S.Section.reads _) c.in-Some.ensures.fork c.requires.lawful c.requires.root_from c.requires.root_in in
-    let there = has_true _ _ _ has (key_is _ _ _ c.has.ensures c.if-not-has.false) in (λ e. cc, λ t. cc)
+    del_again_found _ _ (has_true _ _ _ has (key_is _ _ _ c.has.ensures c.if-not-has.false))
 
 pub returns-in-Err-rewrite-clause-again : goal.returns-in-Err-rewrite-clause-again
 returns-in-Err-rewrite-clause-again g c cause w =
     let is = key_is _ _ _ c.has.ensures c.if-not-has.false in
     let place = found_cut _ _ _ _ _ _ _ _ _ (g.met.S.Section.reads _) c.in-Some.ensures.fork is c.if-fork-root.false in
     let e = c.cut_writes.ensures.writes _ _ _ (ends_in _ _ _ _ _ (g.met.S.Section.reads _) c.in-Some.ensures.fork c.in-Some.ensures.words) in
-    let q : c.in-Err-rewrite.cause ≡ cause = cc in (
+    let q : c.in-Err-rewrite.cause ≡ cause = del_again_cause _ _ w in (
       _,
       _,
       _,
@@ -129,3 +131,45 @@ returns-in-Err-rewrite-clause-again g c cause w =
       refuses_as _ _ _ (g.met.S.Section.lawful _).at (g.met.S.Section.others_stay _ _ c.find.ensures.as_before)
           (g.met.S.Section.goes_on _ _ c.find.ensures.as_before) _ _ _ _ _ _ e q c.in-Err-rewrite.ensures.refused,
     )
+
+pub returns-in_default-clause-unchanged : goal.returns-in_default-clause-unchanged
+returns-in_default-clause-unchanged g c _ = c.find.ensures.as_before
+
+pub returns-in_default-clause-took : goal.returns-in_default-clause-took
+returns-in_default-clause-took g c node inner e = absurd (absent_not_took _ _ e)
+
+pub returns-in_default-clause-again : goal.returns-in_default-clause-again
+returns-in_default-clause-again g c cause e = absurd (absent_not_again _ e)
+
+pub returns-then-not-has-clause-unchanged : goal.returns-then-not-has-clause-unchanged
+returns-then-not-has-clause-unchanged g c _ = c.find.ensures.as_before
+
+pub returns-then-not-has-clause-took : goal.returns-then-not-has-clause-took
+returns-then-not-has-clause-took g c node inner e = absurd (absent_not_took _ _ e)
+
+pub returns-then-not-has-clause-again : goal.returns-then-not-has-clause-again
+returns-then-not-has-clause-again g c cause e = absurd (absent_not_again _ e)
+
+pub returns-in-Ok-clause-unchanged : goal.returns-in-Ok-clause-unchanged
+returns-in-Ok-clause-unchanged g c e = absurd (took_not_absent _ _ e)
+
+pub returns-in-Ok-clause-again : goal.returns-in-Ok-clause-again
+returns-in-Ok-clause-again g c cause e = absurd (took_not_again _ _ _ e)
+
+pub returns-in-Err-clause-unchanged : goal.returns-in-Err-clause-unchanged
+returns-in-Err-clause-unchanged g c e = absurd (del_again_not_absent _ e)
+
+pub returns-in-Err-clause-took : goal.returns-in-Err-clause-took
+returns-in-Err-clause-took g c node inner e = absurd (del_again_not_took _ _ _ e)
+
+pub returns-in-Ok-rewrite-clause-unchanged : goal.returns-in-Ok-rewrite-clause-unchanged
+returns-in-Ok-rewrite-clause-unchanged g c e = absurd (took_not_absent _ _ e)
+
+pub returns-in-Ok-rewrite-clause-again : goal.returns-in-Ok-rewrite-clause-again
+returns-in-Ok-rewrite-clause-again g c cause e = absurd (took_not_again _ _ _ e)
+
+pub returns-in-Err-rewrite-clause-unchanged : goal.returns-in-Err-rewrite-clause-unchanged
+returns-in-Err-rewrite-clause-unchanged g c e = absurd (del_again_not_absent _ e)
+
+pub returns-in-Err-rewrite-clause-took : goal.returns-in-Err-rewrite-clause-took
+returns-in-Err-rewrite-clause-took g c node inner e = absurd (del_again_not_took _ _ _ e)

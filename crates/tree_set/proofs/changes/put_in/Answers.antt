@@ -1,6 +1,7 @@
 use Rattle.std.proofs.Common.{◌≡◌, ap, ◌∙◌, refl, Some}
 use Rattle.mv_history.specs.Legal.{are_distinct}
 use Rattle.set_script.proofs.ObjectWords.{word}
+use Rattle.list_set.proofs.Answering.{no_not_yes, no_not_again, yes_not_no, yes_not_again, again_not_no, again_not_yes, again_cause}
 use Rattle.list_set.proofs.Spots.{rewritten_before, refuses_as, room_as}
 use Rattle.tree_set.proofs.Found.{found_none}
 use Rattle.tree_set.proofs.Planning.{ends_in, within_as}
@@ -43,7 +44,7 @@ pub returns-in-Ok-clause-no : goal.returns-in-Ok-clause-no
 returns-in-Ok-clause-no g c =
     let f = put_found _ _ _ _ _ _ _ _ _ (g.met.S.Section.reads _) c.find_leaf-fork.ensures.fork c.requires.lawful c.requires.root_from c.requires.root_in
     c.requires.present in
-    (λ e. cc, λ t. absurd (no_other c.args.key c.args.value _ _ f.value_is c.if-fork-value.false t))
+    (λ e. absurd (yes_not_no e), λ t. absurd (no_other c.args.key c.args.value _ _ f.value_is c.if-fork-value.false t))
 
 pub returns-in-Ok-clause-yes : goal.returns-in-Ok-clause-yes
 returns-in-Ok-clause-yes g c _ =
@@ -58,16 +59,37 @@ pub returns-in-Err-clause-no : goal.returns-in-Err-clause-no
 returns-in-Err-clause-no g c =
     let f = put_found _ _ _ _ _ _ _ _ _ (g.met.S.Section.reads _) c.find_leaf-fork.ensures.fork c.requires.lawful c.requires.root_from c.requires.root_in
     c.requires.present in
-    (λ e. cc, λ t. absurd (no_other c.args.key c.args.value _ _ f.value_is c.if-fork-value.false t))
+    (λ e. absurd (again_not_no _ e), λ t. absurd (no_other c.args.key c.args.value _ _ f.value_is c.if-fork-value.false t))
 
 pub returns-in-Err-clause-again : goal.returns-in-Err-clause-again
 returns-in-Err-clause-again g c cause w =
     let f = put_found _ _ _ _ _ _ _ _ _ (g.met.S.Section.reads _) c.find_leaf-fork.ensures.fork c.requires.lawful c.requires.root_from c.requires.root_in
     c.requires.present in
     let e = c.put_writes.ensures.writes _ _ _ (ends_in _ _ _ _ _ (g.met.S.Section.reads _) c.find_leaf-fork.ensures.fork c.find_leaf-fork.ensures.words) in
-    let q : c.in-Err.cause ≡ cause = cc in (
+    let q : c.in-Err.cause ≡ cause = again_cause _ _ w in (
       c.find_leaf-fork.result.leaf,
       f.is,
       refuses_as _ _ _ (g.met.S.Section.lawful _).at (g.met.S.Section.others_stay _ _ c.find_leaf-fork.ensures.as_before)
           (g.met.S.Section.goes_on _ _ c.find_leaf-fork.ensures.as_before) _ _ _ _ _ _ e q c.in-Err.ensures.refused,
     )
+
+pub returns-then-fork-value-clause-unchanged : goal.returns-then-fork-value-clause-unchanged
+returns-then-fork-value-clause-unchanged g c _ = c.find_leaf-fork.ensures.as_before
+
+pub returns-then-fork-value-clause-yes : goal.returns-then-fork-value-clause-yes
+returns-then-fork-value-clause-yes g c e = absurd (no_not_yes e)
+
+pub returns-then-fork-value-clause-again : goal.returns-then-fork-value-clause-again
+returns-then-fork-value-clause-again g c cause e = absurd (no_not_again _ e)
+
+pub returns-in-Ok-clause-unchanged : goal.returns-in-Ok-clause-unchanged
+returns-in-Ok-clause-unchanged g c e = absurd (yes_not_no e)
+
+pub returns-in-Ok-clause-again : goal.returns-in-Ok-clause-again
+returns-in-Ok-clause-again g c cause e = absurd (yes_not_again _ e)
+
+pub returns-in-Err-clause-unchanged : goal.returns-in-Err-clause-unchanged
+returns-in-Err-clause-unchanged g c e = absurd (again_not_no _ e)
+
+pub returns-in-Err-clause-yes : goal.returns-in-Err-clause-yes
+returns-in-Err-clause-yes g c e = absurd (again_not_yes _ e)

@@ -30,3 +30,9 @@ returns-clause-next g c =
     sym (fork_next_right _ _ _ _ _ _ _ _ c.requires.lawful c.requires.root_from c.requires.root_in c.in_ok-fork.ensures.fork c.if-fork-key.false
     c.if-fork-eq0.false _
     (least_same _ _ _ _ _ (g.met.V.View.same_state _ _ c.find.ensures.as_before) c.least_key.ensures.least))
+
+pub least_key-requires-clause-lawful : goal.least_key-requires-clause-lawful
+least_key-requires-clause-lawful g c = rw (g.met.V.View.same_state _ _ c.find.ensures.as_before) c.requires.lawful
+
+pub returns-clause-as_before : goal.returns-clause-as_before
+returns-clause-as_before g c = g.met.V.View.as_long_before _ _ _ c.find.ensures.as_before c.least_key.ensures.as_before

@@ -25,3 +25,9 @@ loop-count-preserved g c = record {
 pub returns-clause-counted : goal.returns-clause-counted
 returns-clause-counted g c m w =
     under_way_end _ _ _ _ _ _ _ _ _ _ (g.met.V.View.same_state _ _ c.loop-count.invariant.before) (c.loop-count.invariant.walk m w) c.in_default.ensures.next
+
+pub next-requires-clause-lawful : goal.next-requires-clause-lawful
+next-requires-clause-lawful g c = rw (g.met.V.View.same_state _ _ c.loop-count.invariant.before) c.requires.lawful
+
+pub returns-clause-as_before : goal.returns-clause-as_before
+returns-clause-as_before g c = g.met.V.View.as_long_before _ _ _ c.loop-count.invariant.before c.next.ensures.as_before

@@ -10,3 +10,9 @@ returns-clause-counted g c m w =
     let many = c.copy_links.ensures.places in let places = c.count_on.ensures.places in
     counted_all _ c.requires.lawful c.count_on.new.pending _ _ _ _ (omega arith)
     (c.count_on.ensures.counted m (walk_longer _ _ _ _ _ _ _ c.copy_links.ensures.copied w))
+
+pub count_on-requires-clause-lawful : goal.count_on-requires-clause-lawful
+count_on-requires-clause-lawful g c = c.requires.lawful
+
+pub returns-clause-as_before : goal.returns-clause-as_before
+returns-clause-as_before g c = c.count_on.ensures.as_before

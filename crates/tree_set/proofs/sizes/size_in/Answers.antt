@@ -37,3 +37,19 @@ overflow_add-result g c =
     (counted_there _ _ _ _ _ _ _ _ _ _ (g.met.V.View.same_state _ _ c.of-leaves.ensures.as_before) c.count_on-count.ensures.counted
     (c.of-leaves.ensures.walk _))
     c.count_rest.ensures.counted in omega arith
+
+pub count_on-count-requires-clause-lawful : goal.count_on-count-requires-clause-lawful
+count_on-count-requires-clause-lawful g c = rw (g.met.V.View.same_state _ _ c.of-leaves.ensures.as_before) c.requires.lawful
+
+pub count_rest-requires-clause-lawful : goal.count_rest-requires-clause-lawful
+count_rest-requires-clause-lawful g c =
+    rw (g.met.V.View.same_state _ _ (g.met.V.View.as_long_before _ _ _ c.of-leaves.ensures.as_before c.count_on-count.ensures.as_before))
+    c.requires.lawful
+
+pub returns-then-is_over-clause-as_before : goal.returns-then-is_over-clause-as_before
+returns-then-is_over-clause-as_before g c = g.met.V.View.as_long_before _ _ _ c.of-leaves.ensures.as_before c.count_on-count.ensures.as_before
+
+pub returns-clause-as_before : goal.returns-clause-as_before
+returns-clause-as_before g c =
+    g.met.V.View.as_long_before _ _ _ (g.met.V.View.as_long_before _ _ _ c.of-leaves.ensures.as_before c.count_on-count.ensures.as_before)
+    c.count_rest.ensures.as_before

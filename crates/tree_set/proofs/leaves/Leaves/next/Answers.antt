@@ -56,3 +56,15 @@ returns-clause-next g c m w =
       | then-self-eq0-2 v ↦ inl (v.if-self-eq0-2.true, ap (λ (l : Leaves). l.node) v.self-is, ap (λ (l : Leaves). l.held) v.self-is)
       | else-self-eq0-2 v ↦ inr (v.if-self-eq0-2.false, ap (λ (l : Leaves). l.node) v.self-is, ap (λ (l : Leaves). l.held) v.self-is)
     ])
+
+pub returns-then-self-eq0-clause-next : goal.returns-then-self-eq0-clause-next
+returns-then-self-eq0-clause-next g c m w = record { walk = w; why = inl c.if-self-eq0.true }
+
+pub returns-then-self-pending-clause-next : goal.returns-then-self-pending-clause-next
+returns-then-self-pending-clause-next g c m w = record { walk = c.loop-words.invariant.walk m w; why = inr c.if-self-pending.true }
+
+pub returns-then-self-pending-clause-as_before : goal.returns-then-self-pending-clause-as_before
+returns-then-self-pending-clause-as_before g c = c.loop-words.invariant.before
+
+pub returns-clause-as_before : goal.returns-clause-as_before
+returns-clause-as_before g c = c.loop-words.invariant.before

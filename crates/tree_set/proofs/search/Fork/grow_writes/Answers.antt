@@ -6,3 +6,6 @@ pub returns-clause-writes : goal.returns-clause-writes
 returns-clause-writes c s h =
     grow_made s _ _ _ _ _ _ _ _ _ _ _ (found_words s s _ _ _ _ _ _ _ refl h.ends) h.words.parent
     c.redirected-parent_words.ensures c.over-inner_words.ensures
+
+pub returns-clause-objects : goal.returns-clause-objects
+returns-clause-objects c = refl

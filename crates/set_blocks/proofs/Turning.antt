@@ -219,3 +219,11 @@ count_plan ws made n e =
     let a : length (take n ws) ≡ min n (length ws) = length-take n ws in
     let b : length made ≡ length (take n ws) = ap length e in
     omega arith
+
+-- where a call plans nothing, there is room for as many as before
+pub room_after : (j i m n : ℕ) → m ≡ n → n + i ≤ 40 → j ≤ i → m + j ≤ 40
+room_after j i m n e le few = omega arith
+
+-- and what is planned after it is as much more
+pub more_after : (j i m n k : ℕ) → m ≡ n → k ≤ m + j → j ≤ i → k ≤ n + i
+more_after j i m n k e le few = omega arith

@@ -42,7 +42,8 @@ pub fn attempt_block<S: Store<Rules = BlockRules>>(store: S, block: &Block) -> (
     ensures continues { Continues (S.seat_of store) (S.seat_of result.0) }
     ensures at_most_one { TriesOne (S.seat_of store) (S.seat_of result.0) }
 {
-    attempt_commands(store, block.commands())
+    let commands = block.commands();
+    attempt_commands(store, commands)
 }
 
 // Attempts the commands of a block, as `attempt_block` does.

@@ -9,8 +9,8 @@ use Rattle.set_script.specs.Lawful.{IsLawful}
 use Rattle.set_script.specs.Replies.{applies}
 use Rattle.set_script.specs.Rules.{IsInRange}
 use Rattle.set_script.specs.declared.commands.Command.{Command}
-use Rattle.set_script.specs.declared.commands.Command.TheVariants.{Add, Put, Del, Move}
-use Rattle.set_script.specs.declared.commands.Reply.TheVariants.{No, Full}
+use Rattle.set_script.specs.declared.commands.Command.TheVariants.{Add, Put, Del, Move, Pair}
+use Rattle.set_script.specs.declared.commands.Reply.TheVariants.{No, Full, Both}
 use Rattle.set_script.proofs.MapLemmas.{has_key-none, has_key-some}
 use Rattle.list_set.specs.Held.{count_unheld}
 use Rattle.set_catalog.specs.Ends.{EndsAt, objects_added, adds_at, dels_at, puts_at, node_gone, inner_gone}
@@ -30,6 +30,11 @@ use Rattle.set_catalog.specs.Plans.{DelPlan}
 use Rattle.set_catalog.proofs.MoveFacts.{enough_left, move_room}
 use Rattle.set_catalog.proofs.SetCalls.{taken_some}
 use Rattle.set_catalog.proofs.Planned.{planned_alone, planned_add, planned_put, planned_del, planned_move}
+
+-- a pair is answered by whether each of its sets has the key
+pub pair_found : (s : State) (first second k : ℕ) (a b : Bool) → a ≡ has_key k (map_of first (catalogue_of s))
+    → b ≡ has_key k (map_of second (catalogue_of s)) → IsFound (Pair first second k) s (Settled (Both a b))
+pair_found s first second k a b e f = (ap (λ (x : Bool). Both x b) e ∙ ap (Both (has_key k (map_of first (catalogue_of s)))) f, refl)
 
 -- what was found in a state that is the same
 pub found_same : (s t : State) (command : Command) (finding : Finding) → t ≡ s → IsFound command t finding → IsFound command s finding

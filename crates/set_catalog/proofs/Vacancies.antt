@@ -1,7 +1,7 @@
 -- How many nodes are vacant, from which of them are.
 use Rattle.std.proofs.Common.{◌≡◌, ◌≢◌, ℕ, zero, suc, ◌+◌, ◌-◌, ◌<◌, ◌≤◌, ◌==◌, ◌⊎◌, inl, inr, Bool, true}
 use Rattle.std.proofs.Common.{false, if◌then◌else◌, List, [], ◌∷◌, length, drop, slice_index_or, Option, Some, None, MatchOption, refl}
-use Rattle.std.proofs.Common.{sym, ap, ◌∙◌, subst, arith, length-drop}
+use Rattle.std.proofs.Common.{sym, ap, ◌∙◌, subst, arith, length-drop, eqb-true, eq-eqb, ◌↔◌, IsTrue, nat_lt}
 use Rattle.std.proofs.lemmas.Bool.Decides.{nat_tests}
 use Rattle.std.proofs.lemmas.List.{get_or-drop}
 use Rattle.mv_history.specs.State.{State}
@@ -151,3 +151,15 @@ pub two_found : (s t : State) (want first second : ℕ) → (want ≡ 1) ⊎ (wa
 two_found s t want first second w same v u n =
     let two : 2 ≤ vacant_nodes s = two_vacant_nodes s first second (λ e. n (sym e)) v (subst (λ (x : State). IsVacant x second) same u) in
     elim w [ inl a ↦ omega arith | inr b ↦ omega arith ]
+
+-- a node that the store has is vacant exactly where the first word that was read of it is 0
+pub vacant_where_free : (s : State) (o count : ℕ) (ws : List ℕ) → first_node ≤ o → nat_lt o count ≡ true → count ≡ length s → ws ≡ words_at s o
+    → IsTrue (slice_index_or ws 0 0 == 0) ↔ IsVacant s o
+vacant_where_free s o count ws n lt c w = (
+  λ t. record {
+    node = n;
+    in_range = let below : o < count = grind (arith, nat_tests) in omega (arith, c);
+    free = ap (λ (x : List ℕ). slice_index_or x 0 0) (sym w) ∙ eqb-true (slice_index_or ws 0 0) 0 t;
+  },
+  λ v. eq-eqb (slice_index_or ws 0 0) 0 (ap (λ (x : List ℕ). slice_index_or x 0 0) w ∙ v.free),
+)

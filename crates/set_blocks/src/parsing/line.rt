@@ -6,7 +6,7 @@ ghost use Rattle.set_blocks.specs.BlockGrammar.{bracket_of, bracket_in, line_sai
 use set_script::{Command, FaultKind, Format, first_word, read_line, strip_carriage_return};
 
 /// What a line says.
-#[derive(Clone, Copy, Debug, Drop, PartialEq, Eq)]
+#[derive(Clone, Copy, Drop)]
 pub enum Said {
     /// It has no words, or is the one on the script's format.
     Nothing,

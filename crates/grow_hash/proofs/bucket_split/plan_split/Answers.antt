@@ -1,4 +1,5 @@
-use Rattle.std.proofs.Common.{◌+◌, refl, sym, subst, take, ℕ}
+use Rattle.std.proofs.Common.{◌+◌, ◌≤◌, refl, sym, subst, take, length, ℕ}
+use Rattle.mv_history.specs.State.{State}
 use Rattle.grow_hash.specs.SplitSteps.{IsPlannedSplit}
 use Rattle.grow_hash.proofs.split.Reads.{bucket_linked, planned_by}
 use Rattle.grow_hash.proofs.bucket_split.plan_split.Goals as goal
@@ -20,3 +21,14 @@ returns-clause-planned g c =
 pub returns-clause-as_before : goal.returns-clause-as_before
 returns-clause-as_before g c =
     g.met.V.View.as_long_before _ _ _ c.table_of-level.ensures.as_before c.read_bucket-bucket.ensures.as_before
+
+pub returns-then-level-eq-MOST_LEVEL-clause-as_before : goal.returns-then-level-eq-MOST_LEVEL-clause-as_before
+returns-then-level-eq-MOST_LEVEL-clause-as_before g c = c.table_of-level.ensures.as_before
+
+pub returns-then-bucket-gt-MOST_SPLIT-clause-as_before : goal.returns-then-bucket-gt-MOST_SPLIT-clause-as_before
+returns-then-bucket-gt-MOST_SPLIT-clause-as_before g c =
+    g.met.V.View.as_long_before _ _ _ c.table_of-level.ensures.as_before c.read_bucket-bucket.ensures.as_before
+
+pub read_bucket-bucket-requires-clause-few : goal.read_bucket-bucket-requires-clause-few
+read_bucket-bucket-requires-clause-few g c =
+    subst (λ (s : State). length s ≤ 65535) (sym (g.met.V.View.same_state _ _ c.table_of-level.ensures.as_before)) c.requires.lawful.few

@@ -1,5 +1,25 @@
+use Rattle.std.proofs.Common.{◌≡◌, ℕ, length, ap, refl, subst, sym}
+use Rattle.mv_history.specs.State.{State}
+use Rattle.set_script.specs.declared.commands.Command.{Command}
+use Rattle.set_script.specs.declared.commands.Command.TheVariants.{Size}
+use Rattle.set_script.specs.declared.commands.Reply.TheVariants.{Count}
+use Rattle.grow_hash.specs.Grown.{grown_map}
+use Rattle.grow_hash.specs.GrowPlans.{IsOfGrown}
+use Rattle.grow_hash.specs.GrowFindings.{IsGrowFound}
+use Rattle.grow_hash.specs.declared.deciding.Finding.TheVariants.{Settled}
 use Rattle.grow_hash.proofs.attempts.Found.{has_found}
 use Rattle.grow_hash.proofs.deciding.find_change.Goals as goal
+
+-- a size is settled by the number of keys
+size_found : (s : State) (command : Command) (name n : ℕ) → command ≡ Size name → IsOfGrown command → n ≡ length (grown_map s)
+    → IsGrowFound command s (Settled (Count n))
+size_found s command name n e names is =
+    subst (λ (u : Command). IsGrowFound u s (Settled (Count n))) (sym e)
+    (subst (λ m. IsGrowFound (Size m) s (Settled (Count n))) (sym (subst IsOfGrown e names)) (λ last. ap Count is, refl))
+
+pub returns-in-Size-clause-found : goal.returns-in-Size-clause-found
+returns-in-Size-clause-found g c =
+    size_found (g.V.View.state c.args.view.now) c.args.command.now c.in-Size.name c.size.result c.in-Size.is c.requires.command c.size.ensures.size
 
 pub returns-in-Has-clause-found : goal.returns-in-Has-clause-found
 returns-in-Has-clause-found g c =

@@ -16,6 +16,9 @@ use Rattle.set_blocks.proofs.BlockTimes.{lawful_read}
 use Rattle.set_blocks.proofs.WholeTurns.{found_late, unchanging_late, unchanging_any}
 use Rattle.set_blocks.proofs.attempting.attempt_commands.Goals as goal
 
+pub find_in-overlay-requires : goal.find_in-overlay-requires
+find_in-overlay-requires g c = record { own = c.enter-section.ensures.enters.own; block = c.requires.block }
+
 pub returns-then-time-last : goal.returns-then-time-last
 returns-then-time-last g c =
     let p = c.prepare-room.ensures.prepares in

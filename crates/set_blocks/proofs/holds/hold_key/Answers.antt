@@ -9,6 +9,7 @@ use Rattle.set_catalog.specs.Merges.{merged}
 use Rattle.set_catalog.specs.Plans.{head_of}
 use Rattle.set_blocks.specs.BlockPlans.LacksAt.{no_tree}
 use Rattle.set_blocks.proofs.Telling.{list_tells, tree_tells, is_low, is_high}
+use Rattle.set_blocks.proofs.Turning.{count_same, room_after, more_after}
 use Rattle.set_blocks.proofs.holds.hold_key.Goals as goal
 
 pub returns-then-head-lt-FIRST_ROOT-clause-told : goal.returns-then-head-lt-FIRST_ROOT-clause-told
@@ -66,3 +67,66 @@ returns-in-Some-clause-told g c =
       c.write-in-Some.ensures.writes ∙ ap (λ (own : Writes). merged own ((f.leaf, f.words) ∷ [])) c.find.ensures.as_before.1
           ∙ ap (λ (w : List ℕ). merged (take o.count o.writes) ((f.leaf, w) ∷ [])) words,
     )
+
+pub write-requires : goal.write-requires
+write-requires g c =
+    let o = c.args.overlay.now in
+    let mid = c.find-spot.new.view in
+    let same = count_same mid.count o.count mid.writes o.writes mid.whole o.whole mid.few o.few
+    c.find-spot.ensures.as_before.1 in
+    record { room = room_after 1 1 _ _ same c.requires.room (omega arith) }
+
+pub returns-then-head-lt-FIRST_ROOT-clause-view : goal.returns-then-head-lt-FIRST_ROOT-clause-view
+returns-then-head-lt-FIRST_ROOT-clause-view g c =
+    subst (λ v. g.V.View.as_before c.args.overlay.now.view v) (sym c.write.ensures.view)
+    c.find-spot.ensures.as_before.0
+
+pub returns-then-head-lt-FIRST_ROOT-clause-count : goal.returns-then-head-lt-FIRST_ROOT-clause-count
+returns-then-head-lt-FIRST_ROOT-clause-count g c =
+    let o = c.args.overlay.now in
+    let mid = c.find-spot.new.view in
+    let same = count_same mid.count o.count mid.writes o.writes mid.whole o.whole mid.few o.few
+    c.find-spot.ensures.as_before.1 in
+    more_after 1 1 _ _ _ same c.write.ensures.count (omega arith)
+
+pub write-requires-in-None : goal.write-requires-in-None
+write-requires-in-None g c =
+    let o = c.args.overlay.now in
+    let mid = c.read-words.new.self in
+    let same = count_same mid.count o.count mid.writes o.writes mid.whole o.whole mid.few o.few
+    (c.read-words.ensures.as_before.1 ∙ c.find.ensures.as_before.1) in
+    record { room = room_after 1 1 _ _ same c.requires.room (omega arith) }
+
+pub returns-in-None-clause-view : goal.returns-in-None-clause-view
+returns-in-None-clause-view g c =
+    subst (λ v. g.V.View.as_before c.args.overlay.now.view v) (sym c.write-in-None.ensures.view)
+    (g.met.V.View.as_long_before _ _ _ c.find.ensures.as_before.0 c.read-words.ensures.as_before.0)
+
+pub returns-in-None-clause-count : goal.returns-in-None-clause-count
+returns-in-None-clause-count g c =
+    let o = c.args.overlay.now in
+    let mid = c.read-words.new.self in
+    let same = count_same mid.count o.count mid.writes o.writes mid.whole o.whole mid.few o.few
+    (c.read-words.ensures.as_before.1 ∙ c.find.ensures.as_before.1) in
+    more_after 1 1 _ _ _ same c.write-in-None.ensures.count (omega arith)
+
+pub write-requires-in-Some : goal.write-requires-in-Some
+write-requires-in-Some g c =
+    let o = c.args.overlay.now in
+    let mid = c.find.new.view in
+    let same = count_same mid.count o.count mid.writes o.writes mid.whole o.whole mid.few o.few
+    c.find.ensures.as_before.1 in
+    record { room = room_after 1 1 _ _ same c.requires.room (omega arith) }
+
+pub returns-in-Some-clause-view : goal.returns-in-Some-clause-view
+returns-in-Some-clause-view g c =
+    subst (λ v. g.V.View.as_before c.args.overlay.now.view v) (sym c.write-in-Some.ensures.view)
+    c.find.ensures.as_before.0
+
+pub returns-in-Some-clause-count : goal.returns-in-Some-clause-count
+returns-in-Some-clause-count g c =
+    let o = c.args.overlay.now in
+    let mid = c.find.new.view in
+    let same = count_same mid.count o.count mid.writes o.writes mid.whole o.whole mid.few o.few
+    c.find.ensures.as_before.1 in
+    more_after 1 1 _ _ _ same c.write-in-Some.ensures.count (omega arith)

@@ -9,6 +9,7 @@ use Rattle.set_catalog.specs.Merges.{merged}
 use Rattle.set_catalog.specs.Plans.{head_of}
 use Rattle.set_blocks.specs.BlockPlans.LacksAt.{no_tree}
 use Rattle.set_blocks.proofs.Telling.{list_tells, tree_tells, list_value, tree_value, is_low, is_high}
+use Rattle.set_blocks.proofs.Turning.{count_same, room_after, more_after}
 use Rattle.set_blocks.proofs.holds.hold_value.Goals as goal
 
 pub returns-then-not-has-clause-told : goal.returns-then-not-has-clause-told
@@ -104,3 +105,100 @@ returns-clause-told g c =
       c.write-2.ensures.writes ∙ ap (λ (own : Writes). merged own ((f.leaf, f.words) ∷ [])) c.find.ensures.as_before.1
           ∙ ap (λ (w : List ℕ). merged (take o.count o.writes) ((f.leaf, w) ∷ [])) words,
     )
+
+pub write-requires : goal.write-requires
+write-requires g c =
+    let o = c.args.overlay.now in
+    let mid = c.find-spot.new.view in
+    let same = count_same mid.count o.count mid.writes o.writes mid.whole o.whole mid.few o.few
+    c.find-spot.ensures.as_before.1 in
+    record { room = room_after 1 2 _ _ same c.requires.room (omega arith) }
+
+pub returns-then-not-has-clause-view : goal.returns-then-not-has-clause-view
+returns-then-not-has-clause-view g c =
+    subst (λ v. g.V.View.as_before c.args.overlay.now.view v) (sym c.write.ensures.view)
+    c.find-spot.ensures.as_before.0
+
+pub returns-then-not-has-clause-count : goal.returns-then-not-has-clause-count
+returns-then-not-has-clause-count g c =
+    let o = c.args.overlay.now in
+    let mid = c.find-spot.new.view in
+    let same = count_same mid.count o.count mid.writes o.writes mid.whole o.whole mid.few o.few
+    c.find-spot.ensures.as_before.1 in
+    more_after 1 2 _ _ _ same c.write.ensures.count (omega arith)
+
+pub write-requires-then-head-lt-FIRST_ROOT : goal.write-requires-then-head-lt-FIRST_ROOT
+write-requires-then-head-lt-FIRST_ROOT g c =
+    let o = c.args.overlay.now in
+    let mid = c.find-spot.new.view in
+    let same = count_same mid.count o.count mid.writes o.writes mid.whole o.whole mid.few o.few
+    c.find-spot.ensures.as_before.1 in
+    record { room = room_after 2 2 _ _ same c.requires.room (omega arith) }
+
+pub returns-then-head-lt-FIRST_ROOT-clause-view : goal.returns-then-head-lt-FIRST_ROOT-clause-view
+returns-then-head-lt-FIRST_ROOT-clause-view g c =
+    subst (λ v. g.V.View.as_before c.args.overlay.now.view v) (sym c.write-then-head-lt-FIRST_ROOT.ensures.view)
+    c.find-spot.ensures.as_before.0
+
+pub returns-then-head-lt-FIRST_ROOT-clause-count : goal.returns-then-head-lt-FIRST_ROOT-clause-count
+returns-then-head-lt-FIRST_ROOT-clause-count g c =
+    let o = c.args.overlay.now in
+    let mid = c.find-spot.new.view in
+    let same = count_same mid.count o.count mid.writes o.writes mid.whole o.whole mid.few o.few
+    c.find-spot.ensures.as_before.1 in
+    more_after 2 2 _ _ _ same c.write-then-head-lt-FIRST_ROOT.ensures.count (omega arith)
+
+pub write-requires-in_default : goal.write-requires-in_default
+write-requires-in_default g c =
+    let o = c.args.overlay.now in
+    let mid = c.read-words.new.self in
+    let same = count_same mid.count o.count mid.writes o.writes mid.whole o.whole mid.few o.few
+    (c.read-words.ensures.as_before.1 ∙ c.find.ensures.as_before.1) in
+    record { room = room_after 1 2 _ _ same c.requires.room (omega arith) }
+
+pub returns-in_default-clause-view : goal.returns-in_default-clause-view
+returns-in_default-clause-view g c =
+    subst (λ v. g.V.View.as_before c.args.overlay.now.view v) (sym c.write-in_default.ensures.view)
+    (g.met.V.View.as_long_before _ _ _ c.find.ensures.as_before.0 c.read-words.ensures.as_before.0)
+
+pub returns-in_default-clause-count : goal.returns-in_default-clause-count
+returns-in_default-clause-count g c =
+    let o = c.args.overlay.now in
+    let mid = c.read-words.new.self in
+    let same = count_same mid.count o.count mid.writes o.writes mid.whole o.whole mid.few o.few
+    (c.read-words.ensures.as_before.1 ∙ c.find.ensures.as_before.1) in
+    more_after 1 2 _ _ _ same c.write-in_default.ensures.count (omega arith)
+
+pub write-requires-2 : goal.write-requires-2
+write-requires-2 g c =
+    let o = c.args.overlay.now in
+    let mid = c.find.new.view in
+    let same = count_same mid.count o.count mid.writes o.writes mid.whole o.whole mid.few o.few
+    c.find.ensures.as_before.1 in
+    record { room = room_after 1 2 _ _ same c.requires.room (omega arith) }
+
+pub returns-then-has-clause-view : goal.returns-then-has-clause-view
+returns-then-has-clause-view g c =
+    subst (λ v. g.V.View.as_before c.args.overlay.now.view v) (sym c.write-2.ensures.view)
+    c.find.ensures.as_before.0
+
+pub returns-then-has-clause-count : goal.returns-then-has-clause-count
+returns-then-has-clause-count g c =
+    let o = c.args.overlay.now in
+    let mid = c.find.new.view in
+    let same = count_same mid.count o.count mid.writes o.writes mid.whole o.whole mid.few o.few
+    c.find.ensures.as_before.1 in
+    more_after 1 2 _ _ _ same c.write-2.ensures.count (omega arith)
+
+pub returns-clause-view : goal.returns-clause-view
+returns-clause-view g c =
+    subst (λ v. g.V.View.as_before c.args.overlay.now.view v) (sym c.write-2.ensures.view)
+    c.find.ensures.as_before.0
+
+pub returns-clause-count : goal.returns-clause-count
+returns-clause-count g c =
+    let o = c.args.overlay.now in
+    let mid = c.find.new.view in
+    let same = count_same mid.count o.count mid.writes o.writes mid.whole o.whole mid.few o.few
+    c.find.ensures.as_before.1 in
+    more_after 1 2 _ _ _ same c.write-2.ensures.count (omega arith)

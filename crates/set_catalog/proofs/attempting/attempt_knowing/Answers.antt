@@ -114,3 +114,9 @@ returns-in-Short g c =
       at_most_one = left_one looks.continues looks.quiet left;
       known = known_later _ left.continues c.find_in-found.ensures.known;
     }
+
+pub find_in-found-requires-clause-own : goal.find_in-found-requires-clause-own
+find_in-found-requires-clause-own g c = c.enter-section.ensures.enters.own
+
+pub commit_change-requires-clause-known : goal.commit_change-requires-clause-known
+commit_change-requires-clause-known g c = c.find_in-found.ensures.known

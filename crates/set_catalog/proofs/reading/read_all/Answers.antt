@@ -24,3 +24,16 @@ read_tree-requires-clause-lawful g c = rw (g.met.V.View.same_state _ _ c.loop-ro
 
 pub read_tree-requires-clause-before : goal.read_tree-requires-clause-before
 read_tree-requires-clause-before g c = rw (g.met.V.View.same_state _ _ c.loop-root.invariant.before) c.loop-root.invariant.read
+
+pub loop-head-preserved : goal.loop-head-preserved
+loop-head-preserved g c = record {
+  before = g.met.V.View.as_long_before _ _ _ c.loop-head.invariant.before c.read_list.ensures.as_before;
+  read = rw (g.met.V.View.same_state _ _ c.loop-head.invariant.before) at c.in_ok-read_list.ensures.read;
+}
+
+pub loop-root-preserved : goal.loop-root-preserved
+loop-root-preserved g c = record {
+  before = g.met.V.View.as_long_before _ _ _ c.loop-root.invariant.before c.read_tree.ensures.as_before;
+  places = omega (arith, c.read_tree.ensures.places, c.loop-root.invariant.places);
+  read = rw (g.met.V.View.same_state _ _ c.loop-root.invariant.before) at c.in_ok-read_tree.ensures.read;
+}

@@ -215,15 +215,17 @@ impl Files for MemFiles {
         ensures err { OnErr result (self.new ≡ record self.old { calls = next_count self.old.calls; faults = next_count self.old.faults }) }
     {
         self.calls = self.calls.saturating_add(1);
-        if !is_listed(&self.fails, self.calls) {
-            if let Some(place) = find_text(&self.texts, name) {
-                self.opened = Some(place);
-                self.place = 0;
-                return Ok(());
-            }
+        if is_listed(&self.fails, self.calls) {
+            self.faults = self.faults.saturating_add(1);
+            return Err(Failed);
         }
-        self.faults = self.faults.saturating_add(1);
-        Err(Failed)
+        let Some(place) = find_text(&self.texts, name) else {
+            self.faults = self.faults.saturating_add(1);
+            return Err(Failed);
+        };
+        self.opened = Some(place);
+        self.place = 0;
+        Ok(())
     }
 
     /// Fails exactly where the call's number is in `fails`.

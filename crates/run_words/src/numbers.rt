@@ -14,7 +14,12 @@ const MOST_DIGITS: usize = 20;
 fn has_only_digits(word: &[u8]) -> bool
     ensures { result ≡ list_all is_ascii_digit word.now }
 {
-    word.iter().all(u8::is_ascii_digit)
+    for byte in word {
+        if !byte.is_ascii_digit() {
+            return false;
+        }
+    }
+    true
 }
 
 // Whether the word is 1 to 20 decimal digits.

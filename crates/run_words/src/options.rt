@@ -5,7 +5,7 @@ ghost use Rattle.run_words.specs.Words.{add_option, flag_of, none_given, options
 use crate::numbers::read_number;
 
 /// An option of `run`.
-#[derive(Clone, Copy, Debug, Drop, PartialEq, Eq)]
+#[derive(Clone, Copy, Drop)]
 pub enum Flag {
     Objects,
     Slots,
@@ -13,7 +13,7 @@ pub enum Flag {
 }
 
 /// The options that were given so far, with their numbers.
-#[derive(Clone, Copy, Debug, Drop, PartialEq, Eq)]
+#[derive(Clone, Copy, Drop)]
 pub struct Given {
     pub objects: Option<u128>,
     pub slots: Option<u128>,

@@ -182,8 +182,10 @@ fn read_gen<'w>(words: &[String]) -> Result<Request<'w>, Refusal>
     let [number, seat] = words else {
         return Err(Refusal::Form);
     };
-    let (Some(number), Some(seat)) = (read_number(number.as_str()), read_number(seat.as_str()))
-    else {
+    let Some(number) = read_number(number.as_str()) else {
+        return Err(Refusal::Form);
+    };
+    let Some(seat) = read_number(seat.as_str()) else {
         return Err(Refusal::Form);
     };
     let number = within(Limit::Number, 0, u64::MAX, number)?;

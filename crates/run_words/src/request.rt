@@ -1,7 +1,7 @@
 // What the words ask for.
 
 /// The numbers of a run.
-#[derive(Clone, Copy, Debug, Drop, PartialEq, Eq)]
+#[derive(Clone, Copy, Drop)]
 pub struct Options {
     /// How many objects the domain has, 181 to 65535; 180 of them are heads.
     pub objects: u32,
@@ -12,7 +12,7 @@ pub struct Options {
 }
 
 /// What words in form ask for.
-#[derive(Clone, Copy, Debug)]
+#[derive(Clone, Copy)]
 pub enum Request<'w> {
     /// To run the scripts of these files, file number i as seat i, with these numbers.
     Run {
@@ -48,7 +48,7 @@ pub enum Request<'w> {
 }
 
 /// A number that has a range.
-#[derive(Clone, Copy, Debug, Drop, PartialEq, Eq)]
+#[derive(Clone, Copy, Drop)]
 pub enum Limit {
     Objects,
     Slots,
@@ -60,7 +60,7 @@ pub enum Limit {
 }
 
 /// Why words ask for nothing.
-#[derive(Clone, Copy, Debug, Drop, PartialEq, Eq)]
+#[derive(Clone, Copy, Drop)]
 pub enum Refusal {
     /// They are out of form.
     Form,

@@ -1,5 +1,7 @@
-use Rattle.std.proofs.Common.{◌≡◌, ◌+◌, ◌∙◌, Some, drop, length, map, sym, ap}
-use Rattle.run_outside.specs.Memory.{FilesState, named, left_from}
+use Rattle.std.proofs.Common.{◌≡◌, ◌+◌, ◌∙◌, Some, drop, length, map, refl, sym, ap, arith}
+use Rattle.std.proofs.lemmas.Bool.{false≢true}
+use Rattle.run_outside.specs.Memory.{FilesState, named, next_count, left_from}
+use Rattle.run_outside.proofs.Calls.{has_cause, is_in, is_not_in, lists_none}
 use Rattle.run_outside.proofs.Texts.{left_at, consumed, counted}
 use Rattle.run_outside.proofs.memory.MemFilesFiles.read.Goals as goal
 
@@ -28,3 +30,29 @@ returns-clause-count c =
     let old = sym (ap (λ (v : FilesState). v.left) c.self.view_is) ∙ before in
     let most : c.self.inside.most ≡ c.args.self.now.most = ap (λ (v : FilesState). v.most) c.self.view_is in
     rw (← most) (counted _ c.deref-2.result.now p _ c.self.inside.most _ old c.move_bytes-count.ensures.count)
+
+pub returns-clause-fails : goal.returns-clause-fails
+returns-clause-fails c =
+    let list = c.deref.ensures.value ∙ ap (λ (v : FilesState). v.fails) c.self.view_is in
+    let number = c.saturating_add-self-inside.ensures ∙ ap (λ (v : FilesState). next_count v.calls) c.self.view_is in
+    (λ e. absurd (false≢true e), λ x. absurd (is_not_in _ _ c.args.self.now.calls _ _ list number c.is_listed.ensures c.if-is_listed.false x))
+
+pub returns-then-is_listed-clause-fails : goal.returns-then-is_listed-clause-fails
+returns-then-is_listed-clause-fails c =
+    let list = c.deref.ensures.value ∙ ap (λ (v : FilesState). v.fails) c.self.view_is in
+    let number = c.saturating_add-self-inside.ensures ∙ ap (λ (v : FilesState). next_count v.calls) c.self.view_is in
+    (λ _. is_in _ _ c.args.self.now.calls _ _ list number c.is_listed.ensures c.if-is_listed.true, λ _. refl)
+
+pub returns-then-is_listed-clause-succeeds : goal.returns-then-is_listed-clause-succeeds
+returns-then-is_listed-clause-succeeds c =
+    let list = c.deref.ensures.value ∙ ap (λ (v : FilesState). v.fails) c.self.view_is in
+    let number = c.saturating_add-self-inside.ensures ∙ ap (λ (v : FilesState). next_count v.calls) c.self.view_is in
+    λ none. absurd (lists_none _ _ none (is_in _ _ c.args.self.now.calls _ _ list number c.is_listed.ensures c.if-is_listed.true))
+
+pub returns-then-is_listed-clause-cause : goal.returns-then-is_listed-clause-cause
+returns-then-is_listed-clause-cause c =
+    has_cause _ _ c.self.inside.faults _ (ap (λ (v : FilesState). v.faults) c.self.view_is) (omega arith) c.saturating_add-self-inside-then-is_listed.ensures
+
+pub returns-then-is_listed-clause-err : goal.returns-then-is_listed-clause-err
+returns-then-is_listed-clause-err c =
+    rw (← c.self.view_is, c.saturating_add-self-inside.ensures, c.saturating_add-self-inside-then-is_listed.ensures) refl

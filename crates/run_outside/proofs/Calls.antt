@@ -1,0 +1,23 @@
+-- Which calls of files and of a sink in memory fail, and what a fault leaves.
+use Rattle.std.proofs.Common.{◌≡◌, ◌∙◌, ◌↔◌, ◌==◌, ◌<◌, ◌^◌, ℕ, Bool, true, false, List, length, Contains, IsTrue, Err, sym, arith}
+use Rattle.std.proofs.lemmas.Bool.{false≢true}
+use Rattle.std.proofs.lemmas.Bool.Decides.{Decides-eqb}
+use Rattle.run_outside.specs.Outside.{HasCause}
+use Rattle.run_outside.specs.Memory.{next_count}
+
+module _ (fails listed : List ℕ) (calls number : ℕ) (answer : Bool) (l : listed ≡ fails) (n : number ≡ next_count calls) where
+  -- a call that was found listed is
+  pub is_in : (IsTrue answer ↔ Contains listed number) → answer ≡ true → Contains fails (next_count calls)
+  is_in says t = rw (l, n) at (says.0 t)
+
+  -- a call that wasn't found listed isn't
+  pub is_not_in : (IsTrue answer ↔ Contains listed number) → answer ≡ false → Contains fails (next_count calls) → ⊥
+  is_not_in says f h = false≢true (sym f ∙ says.1 (rw (l, n) h))
+
+-- where no call is to fail, none is listed
+pub lists_none : (fails : List ℕ) (number : ℕ) → IsTrue (length fails == 0) → Contains fails number → ⊥
+lists_none fails number e h = omega (arith, (Decides-eqb (length fails) 0).0 e, h.1)
+
+-- a fault is counted
+pub has_cause : {T E : Type 0} (e : E) (old faults new : ℕ) → faults ≡ old → faults < 2 ^ 64 → new ≡ next_count faults → HasCause {T = T} old new (Err e)
+has_cause e old faults new same small counted = record { later = omega (arith, same, small, counted); failed = omega (arith, same, small, counted) }

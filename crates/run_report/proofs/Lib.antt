@@ -1,4 +1,5 @@
 pub mod Texts
+pub mod Counted
 pub mod Pairs
 pub mod Ordering
 pub mod Replaying

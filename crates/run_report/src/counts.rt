@@ -5,10 +5,9 @@ ghost use Rattle.set_script.specs.GrammarLaws.{name_text};
 ghost use Rattle.run_report.specs.Summary.{is_yes, is_no, is_worn, is_made, text_of_count, text_of_size, text_of_sizes, summary};
 
 use crate::line::Line;
-use crate::text::{NAMES, write_name};
+use crate::text::{NAMES, write_last, write_name};
 use set_script::{Catalogue, Place, Reply};
 use std::alloc::{AllocError, Global};
-use std::fmt::Write;
 
 /// The summary of a run of the scripts of a number: how many lines reply `yes`, `no` and `worn`, how many are commits, and how many keys
 /// each set of the catalogue has that isn't empty.
@@ -24,49 +23,83 @@ pub fn summary(
     ensures { IfOk result (λ text. text.items ≡ summary number lines.now end.now) }
 {
     let mut text = String::new(alloc);
-    writeln!(&mut text, "work {number}")?;
-    writeln!(&mut text, "yes {}", count_yes(lines))?;
-    writeln!(&mut text, "no {}", count_no(lines))?;
-    writeln!(&mut text, "worn {}", count_worn(lines))?;
-    writeln!(&mut text, "commits {}", count_commits(lines))?;
+    write_count(&mut text, "work", number)?;
+    write_replies(&mut text, lines)?;
+    write_count(&mut text, "commits", count_commits(lines))?;
     write_sizes(&mut text, end)?;
     Ok(text.into_bytes())
 }
 
-fn count_yes(lines: &[Line]) -> usize
+// Writes how many lines reply `yes`, `no` and `worn`.
+fn write_replies(text: &mut String, lines: &[Line]) -> Result<(), AllocError>
+    ensures { OnOk result (string_bytes text.new ≡ string_bytes text.old ++ text_of_count (codes "yes") (count_by is_yes lines.now)
+        ++ text_of_count (codes "no") (count_by is_no lines.now) ++ text_of_count (codes "worn") (count_by is_worn lines.now)) }
+{
+    write_count(text, "yes", count_yes(lines))?;
+    write_count(text, "no", count_no(lines))?;
+    write_count(text, "worn", count_worn(lines))
+}
+
+// Writes a line of a word and a number.
+fn write_count(text: &mut String, word: &str, count: u64) -> Result<(), AllocError>
+    ensures { OnOk result (string_bytes text.new ≡ string_bytes text.old ++ text_of_count word.now count) }
+{
+    text.push_str(word)?;
+    write_last(text, count)
+}
+
+fn count_yes(lines: &[Line]) -> u64
     ensures { result ≡ count_by is_yes lines.now }
 {
-    lines
-        .iter()
-        .filter(|line| matches!(line.reply, Reply::Yes))
-        .count()
+    let mut count = 0;
+    for line in lines {
+        if matches!(line.reply, Reply::Yes) {
+            count += 1;
+        }
+    }
+    count
 }
 
-fn count_no(lines: &[Line]) -> usize
+fn count_no(lines: &[Line]) -> u64
     ensures { result ≡ count_by is_no lines.now }
 {
-    lines
-        .iter()
-        .filter(|line| matches!(line.reply, Reply::No))
-        .count()
+    let mut count = 0;
+    for line in lines {
+        if matches!(line.reply, Reply::No) {
+            count += 1;
+        }
+    }
+    count
 }
 
-fn count_worn(lines: &[Line]) -> usize
+fn count_worn(lines: &[Line]) -> u64
     ensures { result ≡ count_by is_worn lines.now }
 {
-    lines
-        .iter()
-        .filter(|line| matches!(line.reply, Reply::Worn))
-        .count()
+    let mut count = 0;
+    for line in lines {
+        if matches!(line.reply, Reply::Worn) {
+            count += 1;
+        }
+    }
+    count
 }
 
-fn count_commits(lines: &[Line]) -> usize
+fn count_commits(lines: &[Line]) -> u64
     ensures { result ≡ count_by is_made lines.now }
 {
-    lines
-        .iter()
-        .filter(|line| matches!(line.place, Place::Commit(_)))
-        .count()
+    let mut count = 0;
+    for line in lines {
+        if is_commit(line) {
+            count += 1;
+        }
+    }
+    count
+}
+
+fn is_commit(line: &Line) -> bool
+    ensures { result ≡ is_made line.now }
+{
+    matches!(line.place, Place::Commit(_))
 }
 
 fn write_sizes(text: &mut String, end: &Catalogue) -> Result<(), AllocError>
@@ -89,5 +122,5 @@ fn write_size(text: &mut String, name: u32, end: &Catalogue) -> Result<(), Alloc
         return Ok(());
     }
     write_name(text, name)?;
-    writeln!(text, " {size}")
+    write_last(text, size as u64)
 }

@@ -21,7 +21,6 @@ use itoa::Buffer;
 use mv_history::LogTable;
 use set_script::{Catalogue, Place, Reply};
 use std::alloc::{AllocError, Global};
-use std::fmt::Write;
 
 // How many sets there are.
 pub(crate) const NAMES: u32 = 30;
@@ -62,8 +61,7 @@ fn write_line(text: &mut String, line: &Line) -> Result<(), AllocError>
     ensures { OnOk result (string_bytes text.new ≡ string_bytes text.old ++ text_of_line line.now) }
 {
     write_number(text, line.seat.into())?;
-    text.push_str(".")?;
-    write_number(text, line.number.into())?;
+    write_labelled(text, ".", line.number.into())?;
     write_place(text, &line.place)?;
     write_reply(text, line.reply)
 }
@@ -77,17 +75,24 @@ fn write_number(text: &mut String, number: u64) -> Result<(), AllocError>
     text.push_str(digits.format(number))
 }
 
+// Writes a label and the number behind it.
+#[inline(always)]
+fn write_labelled(text: &mut String, label: &str, number: u64) -> Result<(), AllocError>
+    ensures { OnOk result (string_bytes text.new ≡ string_bytes text.old ++ label.now ++ decimal number) }
+{
+    text.push_str(label)?;
+    write_number(text, number)
+}
+
 // Writes a space and the place.
 #[inline(always)]
 fn write_place(text: &mut String, place: &Place) -> Result<(), AllocError>
     ensures { OnOk result (string_bytes text.new ≡ string_bytes text.old ++ codes " " ++ text_of_place place.now) }
 {
-    let (rank, time) = match place {
-        Place::Commit(time) => (" c", *time),
-        Place::Read(time) => (" r", *time),
-    };
-    text.push_str(rank)?;
-    write_number(text, time)
+    match place {
+        Place::Commit(time) => write_labelled(text, " c", *time),
+        Place::Read(time) => write_labelled(text, " r", *time),
+    }
 }
 
 // Writes a space, the reply and the line's end.
@@ -100,13 +105,7 @@ fn write_reply(text: &mut String, reply: Reply) -> Result<(), AllocError>
         Reply::No => text.push_str(" no\n"),
         Reply::Full => text.push_str(" full\n"),
         Reply::Worn => text.push_str(" worn\n"),
-        Reply::Both { first, second } => {
-            text.push_str(" ")?;
-            write_answer(text, first)?;
-            text.push_str(" ")?;
-            write_answer(text, second)?;
-            text.push_str("\n")
-        }
+        Reply::Both { first, second } => write_both(text, first, second),
         Reply::Count { count } => write_last(text, count),
         Reply::Key { key } => write_last(text, key.into()),
         Reply::NoKey => text.push_str(" none\n"),
@@ -115,19 +114,28 @@ fn write_reply(text: &mut String, reply: Reply) -> Result<(), AllocError>
 }
 
 // Writes a space, a number and the line's end.
-fn write_last(text: &mut String, number: u64) -> Result<(), AllocError>
+pub(crate) fn write_last(text: &mut String, number: u64) -> Result<(), AllocError>
     ensures { OnOk result (string_bytes text.new ≡ string_bytes text.old ++ codes " " ++ decimal number ++ codes "\n") }
 {
-    text.push_str(" ")?;
-    write_number(text, number)?;
+    write_labelled(text, " ", number)?;
     text.push_str("\n")
 }
 
-// Writes whether a set has a key.
-fn write_answer(text: &mut String, has: bool) -> Result<(), AllocError>
-    ensures { OnOk result (string_bytes text.new ≡ string_bytes text.old ++ text_of_answer has) }
+// Writes whether each of two sets has a key, each behind a space, and the line's end.
+fn write_both(text: &mut String, first: bool, second: bool) -> Result<(), AllocError>
+    ensures { OnOk result (string_bytes text.new ≡ string_bytes text.old ++ codes " " ++ text_of_answer first
+        ++ codes " " ++ text_of_answer second ++ codes "\n") }
 {
-    text.push_str(if has { "yes" } else { "no" })
+    write_answer(text, first)?;
+    write_answer(text, second)?;
+    text.push_str("\n")
+}
+
+// Writes a space and whether a set has a key.
+fn write_answer(text: &mut String, has: bool) -> Result<(), AllocError>
+    ensures { OnOk result (string_bytes text.new ≡ string_bytes text.old ++ codes " " ++ text_of_answer has) }
+{
+    text.push_str(if has { " yes" } else { " no" })
 }
 
 fn write_sets(text: &mut String, end: &Catalogue) -> Result<(), AllocError>
@@ -162,7 +170,7 @@ pub(crate) fn write_name(text: &mut String, name: u32) -> Result<(), AllocError>
         10..20 => "h",
         _ => "t",
     };
-    write!(text, "{kind}{}", name % 10)
+    write_labelled(text, kind, (name % 10).into())
 }
 
 fn write_keys(text: &mut String, keys: &[u32], values: &[u64]) -> Result<(), AllocError>
@@ -178,11 +186,11 @@ fn write_keys(text: &mut String, keys: &[u32], values: &[u64]) -> Result<(), All
 fn write_key(text: &mut String, key: u32, value: u64) -> Result<(), AllocError>
     ensures { OnOk result (string_bytes text.new ≡ string_bytes text.old ++ text_of_key (key, value)) }
 {
+    write_labelled(text, " ", key.into())?;
     if value == 0 {
-        write!(text, " {key}")
-    } else {
-        write!(text, " {key}={value}")
+        return Ok(());
     }
+    write_labelled(text, "=", value)
 }
 
 fn write_tables(text: &mut String, tables: &[LogTable]) -> Result<(), AllocError>
@@ -197,11 +205,28 @@ fn write_tables(text: &mut String, tables: &[LogTable]) -> Result<(), AllocError
 fn write_table(text: &mut String, seat: usize, table: &LogTable) -> Result<(), AllocError>
     ensures { OnOk result (string_bytes text.new ≡ string_bytes text.old ++ text_of_table seat table.now) }
 {
-    write!(text, "log {seat}")?;
-    write!(text, " live {}", table.live)?;
-    write!(text, " freed {}", table.freed)?;
-    write!(text, " back {}", table.back)?;
-    write!(text, " commits {}", table.commits)?;
-    write!(text, " aborts {}", table.aborts)?;
-    writeln!(text, " rests {}", table.rests)
+    write_labelled(text, "log ", seat as u64)?;
+    write_slots(text, table)?;
+    write_sections(text, table)?;
+    text.push_str("\n")
+}
+
+// Writes how many slots are live and how many were freed, and how many write-backs were finished.
+fn write_slots(text: &mut String, table: &LogTable) -> Result<(), AllocError>
+    ensures { OnOk result (string_bytes text.new ≡ string_bytes text.old ++ codes " live " ++ decimal table.now.live
+        ++ codes " freed " ++ decimal table.now.freed ++ codes " back " ++ decimal table.now.back) }
+{
+    write_labelled(text, " live ", table.live)?;
+    write_labelled(text, " freed ", table.freed)?;
+    write_labelled(text, " back ", table.back)
+}
+
+// Writes how many commits, aborts and rests there were.
+fn write_sections(text: &mut String, table: &LogTable) -> Result<(), AllocError>
+    ensures { OnOk result (string_bytes text.new ≡ string_bytes text.old ++ codes " commits " ++ decimal table.now.commits
+        ++ codes " aborts " ++ decimal table.now.aborts ++ codes " rests " ++ decimal table.now.rests) }
+{
+    write_labelled(text, " commits ", table.commits)?;
+    write_labelled(text, " aborts ", table.aborts)?;
+    write_labelled(text, " rests ", table.rests)
 }

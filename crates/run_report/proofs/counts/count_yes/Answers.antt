@@ -1,0 +1,9 @@
+use Rattle.std.proofs.Common.{arith}
+use Rattle.run_report.specs.Summary.{is_yes}
+use Rattle.run_report.proofs.Counted.{counted_low}
+use Rattle.run_report.proofs.counts.count_yes.Goals as goal
+
+pub overflow_add-count : goal.overflow_add-count
+overflow_add-count c =
+    let low = counted_low is_yes c.args.lines.now c.loop-line.line-index c.loop-line-test.true in
+    omega (arith, low, c.loop-line.invariant, c.loop-line-test.true)

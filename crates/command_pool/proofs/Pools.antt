@@ -117,3 +117,8 @@ joined_push parts more part is =
 -- what holds of each of a row holds of its first
 pub first_of : {X : Type 0} (P : X → Type 0) (x : X) (xs ys : List X) → ys ≡ x ∷ xs → All P ys → P x
 first_of P x xs ys is all = All-head P x xs (subst (All P) is all)
+
+-- a row of no length is empty
+pub none_of : {A : Type 0} (xs : List A) (n : ℕ) → n ≡ length xs → n ≡ 0 → xs ≡ []
+none_of [] n e none = refl
+none_of (x ∷ xs) n e none = absurd (omega (arith, e, none))

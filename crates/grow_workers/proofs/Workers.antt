@@ -1,6 +1,6 @@
 -- What the workers have, and what all of them ran.
 use Rattle.std.proofs.Common.{◌≡◌, ℕ, suc, ◌≤◌, ◌<◌, List, [], ◌∷◌, ◌++◌, length, map, sum_by}
-use Rattle.std.proofs.Common.{get_or, All, Vec, vec_capacity, refl, sym, ◌∙◌, arith}
+use Rattle.std.proofs.Common.{get_or, All, Vec, vec_capacity, refl, sym, subst, ◌∙◌, arith}
 use Rattle.std.specs.declared.alloc.Global.{Global}
 use Rattle.std.specs.List.{flat_map}
 use Rattle.std.proofs.lemmas.List.Elements.{All-head, All-tail}
@@ -53,6 +53,18 @@ may_run {S} seat_of (s ∷ stores) (script ∷ scripts) as_many short growing mo
       (All-tail (λ (script : Vec Command Global). All IsOfGrown script.items) script scripts growing)
       (All-tail (λ (s : S). most_writes ≤ (seat_of s).write_max) s stores most),
 )
+
+-- where a script is left, a store is left for it
+pub store_there : {S : Type 0} (seat_of : S → Seat) (stores : List S) (scripts left : List (Vec Command Global)) (script : Vec Command Global)
+    → scripts ≡ script ∷ left → MayRun (map seat_of stores) scripts → 0 < length stores
+store_there seat_of [] scripts left script is h = absurd (subst (λ vs. MayRun [] vs) is h)
+store_there seat_of (s ∷ stores) scripts left script is h = omega arith
+
+-- and a room
+pub room_there : (scripts left : List (Vec Command Global)) (script : Vec Command Global) (rooms : List (Vec Line Global)) → scripts ≡ script ∷ left
+    → AreRooms scripts rooms → 0 < length rooms
+room_there scripts left script [] is h = absurd (subst (λ vs. AreRooms vs []) is h)
+room_there scripts left script (r ∷ rooms) is h = omega arith
 
 -- where no script is left, no store is
 pub none_left : {S : Type 0} (seat_of : S → Seat) (stores : List S) (scripts : List (Vec Command Global)) → scripts ≡ []

@@ -1,9 +1,9 @@
 -- What the workers have, and what all of them ran.
 use Rattle.std.proofs.Common.{◌≡◌, ℕ, suc, ◌≤◌, ◌<◌, List, [], ◌∷◌, ◌++◌, length, take, drop, map, sum_by}
-use Rattle.std.proofs.Common.{get_or, All, Vec, vec_capacity, refl, sym, ◌∙◌, arith}
+use Rattle.std.proofs.Common.{get_or, All, Vec, vec_capacity, refl, sym, ap, subst, ◌∙◌, arith}
 use Rattle.std.specs.declared.alloc.Global.{Global}
 use Rattle.std.specs.List.{flat_map}
-use Rattle.std.proofs.lemmas.List.{take_at, drop_at}
+use Rattle.std.proofs.lemmas.List.{take_at, drop_at, length-map}
 use Rattle.std.proofs.lemmas.List.Elements.{All-head, All-tail}
 use Rattle.std.proofs.lemmas.List.Sums.{sum_by-cons}
 use Rattle.mv_history.specs.Meaning.{Seat}
@@ -48,6 +48,18 @@ may_run {S} seat_of (s ∷ stores) (script ∷ scripts) as_many short most = (
   may_run seat_of stores scripts (omega (arith, as_many)) (All-tail (λ (script : Vec Command Global). length script.items ≤ MOST_COMMANDS) script scripts short)
       (All-tail (λ (s : S). most_locks ≤ (seat_of s).write_max) s stores most),
 )
+
+-- where a script is left, a store is left for it
+pub store_there : {S : Type 0} (seat_of : S → Seat) (stores : List S) (scripts left : List (Vec Command Global)) (script : Vec Command Global)
+    → scripts ≡ script ∷ left → MayRun (map seat_of stores) scripts → 0 < length stores
+store_there seat_of [] scripts left script is h = absurd (subst (λ vs. MayRun [] vs) is h)
+store_there seat_of (s ∷ stores) scripts left script is h = omega arith
+
+-- and a room
+pub room_there : (scripts left : List (Vec Command Global)) (script : Vec Command Global) (rooms : List WorkerRoom) → scripts ≡ script ∷ left
+    → AreRooms scripts rooms → 0 < length rooms
+room_there scripts left script [] is h = absurd (subst (λ vs. AreRooms vs []) is h)
+room_there scripts left script (r ∷ rooms) is h = omega arith
 
 -- where no script is left, no store is
 pub none_left : {S : Type 0} (seat_of : S → Seat) (stores : List S) (scripts : List (Vec Command Global)) → scripts ≡ []
@@ -97,3 +109,8 @@ command_counts (script ∷ scripts) =
 -- what a slice of all of a vector leaves of it
 pub written_back : {A : Type 0} (ns ws : List A) (n : ℕ) → n ≡ length ws → length ns ≡ length ws → take n (ns ++ drop (length ns) ws) ≡ ns
 written_back ns ws n e len = take_at ns (drop (length ns) ws) n (len ∙ sym e)
+
+-- and these are as many as what the vector was made of
+pub as_many_back : {W S : Type 0} (of : W → S) (ns ws : List W) (stores : List S) (n : ℕ) → n ≡ length ws → length ns ≡ length ws → map of ws ≡ stores
+    → length (take n (ns ++ drop (length ns) ws)) ≡ length stores
+as_many_back of ns ws stores n e len from = ap length (written_back ns ws n e len) ∙ len ∙ sym (length-map ws of) ∙ ap length from

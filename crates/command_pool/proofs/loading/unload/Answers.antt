@@ -1,13 +1,32 @@
-use Rattle.std.proofs.Common.{◌≡◌, ◌+◌, ◌++◌, length, refl, ap, ◌∙◌, arith}
+use Rattle.std.proofs.Common.{◌≡◌, ◌+◌, ◌++◌, length, map, refl, subst, sym, ap, ◌∙◌, arith, true-eqb, vec_len}
 use Rattle.std.specs.List.{flat_map}
-use Rattle.std.proofs.lemmas.List.{length_push}
+use Rattle.std.proofs.lemmas.List.{append-nil, length_push}
 use Rattle.std.proofs.lemmas.List.Elements.{All-rest}
 use Rattle.crossbeam_queue.specs.Passes.{view}
-use Rattle.command_pool.specs.Workers.{HasEnded, collected_of, items_of, store_of}
-use Rattle.command_pool.proofs.Gathering.{gathered_more}
-use Rattle.command_pool.proofs.Pools.{first_of, moved, moved_out, joined_push}
+use Rattle.command_pool.specs.Workers.{Gathered, HasEnded, collected_of, items_of, store_of}
+use Rattle.command_pool.proofs.Gathering.{gathered_more, gathered_none}
+use Rattle.command_pool.proofs.Pools.{first_of, moved, moved_out, none_of, joined_push}
 use Rattle.command_pool.proofs.Sharing.{merges}
 use Rattle.command_pool.proofs.loading.unload.Goals as goal
+
+-- nothing has moved yet
+pub loop-workers-init : goal.loop-workers-init
+loop-workers-init g c =
+    let none = c.requires.stores.0 in
+    let no_part = c.requires.parts.0 in
+    record {
+      pass = c.requires.pass.0;
+      put = c.requires.pass.1;
+      whole = omega (arith, c.requires.part.0, c.requires.part.1);
+      few = c.requires.part.1;
+      count = omega (arith, ap length none);
+      gathered = rw (none, no_part) (gathered_none c.args.commands (view c.args.pass.now) c.requires.pass.2);
+      ended = c.requires.ended;
+      stores = rw none refl;
+      parts = rw no_part refl;
+      place = omega (arith, ap length none, c.requires.stores.1);
+      room = omega (arith, ap length no_part, c.requires.parts.1);
+    }
 
 -- the first worker has ended
 pub absorb-requires-clause-queue : goal.absorb-requires-clause-queue
@@ -53,3 +72,30 @@ loop-workers-preserved g c =
       place = omega (arith, stores, long, now.place, c.push_reserved.ensures.capacity);
       room = omega (arith, parts, long, now.room, c.push_reserved-in-loop-workers.ensures.capacity);
     }
+
+-- all have moved
+pub returns-clause-pass : goal.returns-clause-pass
+returns-clause-pass g c = c.loop-workers.invariant.pass
+
+pub returns-clause-whole : goal.returns-clause-whole
+returns-clause-whole g c =
+    let none = true-eqb (vec_len c.loop-workers.workers) 0 c.loop-workers-test.ensures in
+    omega (arith, c.loop-workers.invariant.whole, none, c.loop-workers.workers.ok.0)
+
+pub returns-clause-gathered : goal.returns-clause-gathered
+returns-clause-gathered g c =
+    let none = true-eqb (vec_len c.loop-workers.workers) 0 c.loop-workers-test.ensures in
+    subst (λ n. Gathered c.args.commands (view c.loop-workers.pass) n (flat_map items_of c.loop-workers.parts.items))
+    (omega (arith, c.loop-workers.invariant.count, none, c.loop-workers.workers.ok.0)) c.loop-workers.invariant.gathered
+
+pub returns-clause-stores : goal.returns-clause-stores
+returns-clause-stores g c =
+    let stores = c.loop-workers.stores.items in
+    let none = none_of c.loop-workers.workers.items _ c.loop-workers.workers.ok.0 (true-eqb (vec_len c.loop-workers.workers) 0 c.loop-workers-test.ensures) in
+    sym (append-nil stores) ∙ ap (λ ws. stores ++ map store_of ws) (sym none) ∙ c.loop-workers.invariant.stores
+
+pub returns-clause-parts : goal.returns-clause-parts
+returns-clause-parts g c =
+    let parts = map items_of c.loop-workers.parts.items in
+    let none = none_of c.loop-workers.workers.items _ c.loop-workers.workers.ok.0 (true-eqb (vec_len c.loop-workers.workers) 0 c.loop-workers-test.ensures) in
+    sym (append-nil parts) ∙ ap (λ ws. parts ++ map collected_of ws) (sym none) ∙ c.loop-workers.invariant.parts

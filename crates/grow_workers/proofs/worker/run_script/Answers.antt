@@ -1,4 +1,4 @@
-use Rattle.std.proofs.Common.{◌≡◌, ◌+◌, ◌&&◌, false, refl, arith, ◌∙◌, take, sym, length-take}
+use Rattle.std.proofs.Common.{◌≡◌, ◌+◌, ◌&&◌, false, refl, arith, ◌∙◌, take, take_all, sym, length-take}
 use Rattle.std.proofs.lemmas.List.{take_more}
 use Rattle.run_report.specs.declared.line.Line.{Line}
 use Rattle.grow_report.specs.Turns.{is_added, odd_with}
@@ -43,3 +43,9 @@ loop-command-preserved g c =
       odd = rw (c.push_reserved.ensures.items, take_more script i command c.loop-command-test.true) (rw (← c.command-item.is) odd);
       room = rw c.push_reserved.ensures.capacity before.room;
     }
+
+-- all commands were run
+pub returns : goal.returns
+returns g c =
+    let l = c.loop-command in
+    rw (← take_all l.command-index c.args.script.now (omega (arith, c.loop-command-test.false))) l.invariant.ran

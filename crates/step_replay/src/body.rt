@@ -1,14 +1,13 @@
 // The lines behind the first four: calls, and steps.
-ghost use Rattle.std.specs.Prelude.{◌≡◌, ◌≤◌, ◌<◌, All, IfOk, MatchResult, Ok, codes, length};
-ghost use Rattle.std.specs.Str.{bytes_eq};
+ghost use Rattle.std.specs.Prelude.{◌≡◌, ◌≤◌, ◌<◌, All, IfOk, MatchResult, Ok, length};
 ghost use Rattle.set_script.specs.Grammar.{words_in};
 ghost use Rattle.step_replay.specs.PlanTexts.{verb_of, other_verb_of, words_behind, call_with, call_of, seats_after, steps_taken, at_line, Refuses};
 ghost use Rattle.replay_rules.specs.FitPlans.{IsFitConfig, IsFitCall, IsFitCallOf, AreFitSteps};
 
-use crate::numbers::{need_words, next_number, read_number, read_six};
+use crate::numbers::{are_words, next_number, read_number, read_six};
 use mv_layout::Config;
 use replay_rules::{Call, CallOf, MOST_STEPS, PlanFault, PlanKind};
-use set_script::first_word;
+use set_script::{first_word, same_word};
 
 /// What a call does.
 #[derive(Clone, Copy)]
@@ -23,29 +22,26 @@ pub enum Verb {
     Tidy,
 }
 
-// Whether the name is `commit`.
-fn is_commit(name: &[u8]) -> bool
-    ensures { result ≡ bytes_eq name.now (codes "commit") }
-{
-    match name {
-        [b'c', b'o', rest @ ..] => matches!(rest, b"mmit"),
-        _ => false,
-    }
-}
-
 // The call of this name, which isn't `commit`. `Err` is `Word`, for any other word.
 fn read_other_verb(name: &[u8]) -> Result<Verb, PlanKind>
     ensures { result ≡ other_verb_of name.now }
 {
-    match name {
-        b"enter" => Ok(Verb::Enter),
-        b"read" => Ok(Verb::Read),
-        b"lock" => Ok(Verb::Lock),
-        b"write" => Ok(Verb::Write),
-        b"abort" => Ok(Verb::Abort),
-        b"leave" => Ok(Verb::Leave),
-        b"tidy" => Ok(Verb::Tidy),
-        _ => Err(PlanKind::Word),
+    if same_word(name, b"enter") {
+        Ok(Verb::Enter)
+    } else if same_word(name, b"read") {
+        Ok(Verb::Read)
+    } else if same_word(name, b"lock") {
+        Ok(Verb::Lock)
+    } else if same_word(name, b"write") {
+        Ok(Verb::Write)
+    } else if same_word(name, b"abort") {
+        Ok(Verb::Abort)
+    } else if same_word(name, b"leave") {
+        Ok(Verb::Leave)
+    } else if same_word(name, b"tidy") {
+        Ok(Verb::Tidy)
+    } else {
+        Err(PlanKind::Word)
     }
 }
 
@@ -53,7 +49,7 @@ fn read_other_verb(name: &[u8]) -> Result<Verb, PlanKind>
 fn read_verb(name: &[u8]) -> Result<Verb, PlanKind>
     ensures { result ≡ verb_of name.now }
 {
-    if is_commit(name) {
+    if same_word(name, b"commit") {
         return Ok(Verb::Commit);
     }
     read_other_verb(name)
@@ -111,10 +107,16 @@ pub fn read_call(config: &Config, bytes: &[u8]) -> Result<CallOf, PlanKind>
     ensures is { result ≡ call_of config.now (words_in bytes.now) }
     ensures fit { IfOk result (IsFitCallOf config.now) }
 {
-    let (seat, rest) = first_word(bytes).ok_or(PlanKind::Count)?;
-    let (name, rest) = first_word(rest).ok_or(PlanKind::Count)?;
+    let Some((seat, rest)) = first_word(bytes) else {
+        return Err(PlanKind::Count);
+    };
+    let Some((name, rest)) = first_word(rest) else {
+        return Err(PlanKind::Count);
+    };
     let verb = read_verb(name)?;
-    need_words(rest, words_behind(verb))?;
+    if !are_words(rest, words_behind(verb)) {
+        return Err(PlanKind::Count);
+    }
     let seat = read_number(seat, 0, config.seats as u64 - 1)?;
     let call = read_rest(verb, config, rest)?;
     Ok(CallOf {

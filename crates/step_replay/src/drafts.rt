@@ -18,7 +18,7 @@ ghost use Rattle.replay_rules.specs.FitPlans.{IsFitPlan};
 use crate::body::{read_call, take_steps};
 use crate::heads::{Heads, next_heads};
 use replay_rules::{CallOf, Plan, PlanFault, PlanKind};
-use set_script::{first_word, strip_carriage_return};
+use set_script::{first_word, same_word, strip_carriage_return};
 use std::alloc::Global;
 
 /// What the lines so far say.
@@ -44,19 +44,19 @@ impl Draft {
             };
             return Ok(());
         };
-        match word {
-            b"seat" => {
-                let call = match read_call(&config, rest) {
-                    Ok(call) => call,
-                    Err(kind) => return Err(PlanFault::At { line: number, kind }),
-                };
-                self.calls.push(call).map_err(|_| PlanFault::Memory)
-            }
-            b"step" => take_steps(&mut self.steps, config.seats, number, rest),
-            _ => Err(PlanFault::At {
+        if same_word(word, b"seat") {
+            let call = match read_call(&config, rest) {
+                Ok(call) => call,
+                Err(kind) => return Err(PlanFault::At { line: number, kind }),
+            };
+            self.calls.push(call).map_err(|_| PlanFault::Memory)
+        } else if same_word(word, b"step") {
+            take_steps(&mut self.steps, config.seats, number, rest)
+        } else {
+            Err(PlanFault::At {
                 line: number,
                 kind: PlanKind::Word,
-            }),
+            })
         }
     }
 

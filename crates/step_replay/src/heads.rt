@@ -9,6 +9,7 @@ ghost use Rattle.replay_rules.specs.FitPlans.{IsFitConfig};
 use crate::numbers::read_single;
 use mv_layout::{Config, LAST};
 use replay_rules::PlanKind;
+use set_script::same_word;
 
 // How many objects a section may hold.
 const WRITE_MAX: u32 = 16;
@@ -57,15 +58,15 @@ pub fn next_heads(heads: Heads, word: &[u8], rest: &[u8]) -> Result<Heads, PlanK
     ensures fit { IfOk result AreFitHeads }
 {
     match heads {
-        Heads::Seats if matches!(word, b"seats") => {
+        Heads::Seats if same_word(word, b"seats") => {
             let seats = read_single(rest, 1, 64)? as u32;
             Ok(Heads::Objects { seats })
         }
-        Heads::Objects { seats } if matches!(word, b"objects") => {
+        Heads::Objects { seats } if same_word(word, b"objects") => {
             let objects = read_single(rest, 1, 1024)? as u32;
             Ok(Heads::Slots { seats, objects })
         }
-        Heads::Slots { seats, objects } if matches!(word, b"slots") => {
+        Heads::Slots { seats, objects } if same_word(word, b"slots") => {
             let slots = read_single(rest, 64, 256)? as u32;
             Ok(Heads::Base {
                 seats,
@@ -77,7 +78,7 @@ pub fn next_heads(heads: Heads, word: &[u8], rest: &[u8]) -> Result<Heads, PlanK
             seats,
             objects,
             slots,
-        } if matches!(word, b"base") => {
+        } if same_word(word, b"base") => {
             let base = read_single(rest, 0, LAST)?;
             Ok(Heads::Whole(config_of(seats, objects, slots, base)))
         }

@@ -2,7 +2,7 @@
 ghost use Rattle.std.specs.Prelude.{◌≡◌, ◌≤◌, ◌==◌, IfOk, MatchResult, Ok, Err, length};
 ghost use Rattle.set_script.specs.Grammar.{words_in};
 ghost use Rattle.replay_rules.specs.FitPlans.{AreSixWords};
-ghost use Rattle.step_replay.specs.PlanTexts.{number_in, next_number, single, has_count, numbers_of_six};
+ghost use Rattle.step_replay.specs.PlanTexts.{number_in, next_number, single, numbers_of_six};
 
 use mv_history::Words;
 use replay_rules::PlanKind;
@@ -28,13 +28,15 @@ pub fn next_number(bytes: &[u8], least: u64, most: u64) -> Result<(u64, &[u8]), 
     ensures low { IfOk result (λ next. least ≤ next.0) }
     ensures high { IfOk result (λ next. next.0 ≤ most) }
 {
-    let (word, rest) = first_word(bytes).ok_or(PlanKind::Count)?;
+    let Some((word, rest)) = first_word(bytes) else {
+        return Err(PlanKind::Count);
+    };
     let number = read_number(word, least, most)?;
     Ok((number, rest))
 }
 
-// Whether the bytes are so many words.
-fn are_words(bytes: &[u8], count: u32) -> bool
+/// Whether the bytes are so many words.
+pub fn are_words(bytes: &[u8], count: u32) -> bool
     ensures { result ≡ (length (words_in bytes.now) == count) }
 {
     let mut rest = bytes;
@@ -47,24 +49,15 @@ fn are_words(bytes: &[u8], count: u32) -> bool
     first_word(rest).is_none()
 }
 
-/// Whether the bytes are so many words. `Err` is `Count`.
-pub fn need_words(bytes: &[u8], count: u32) -> Result<(), PlanKind>
-    ensures { result ≡ has_count count (words_in bytes.now) }
-{
-    if are_words(bytes, count) {
-        Ok(())
-    } else {
-        Err(PlanKind::Count)
-    }
-}
-
 /// The number of the one word that the bytes are, within these bounds. `Err` is `Count`, then `Number`.
 pub fn read_single(bytes: &[u8], least: u64, most: u64) -> Result<u64, PlanKind>
     ensures is { result ≡ single least most (words_in bytes.now) }
     ensures low { IfOk result (λ number. least ≤ number) }
     ensures high { IfOk result (λ number. number ≤ most) }
 {
-    need_words(bytes, 1)?;
+    if !are_words(bytes, 1) {
+        return Err(PlanKind::Count);
+    }
     let (number, _) = next_number(bytes, least, most)?;
     Ok(number)
 }

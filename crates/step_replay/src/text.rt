@@ -1,5 +1,5 @@
 // The lines of a replay.
-ghost use Rattle.std.specs.Prelude.{◌≡◌, ◌++◌, codes, decimal, OnOk, string_bytes};
+ghost use Rattle.std.specs.Prelude.{◌≡◌, ◌==◌, ◌++◌, codes, decimal, if◌then◌else◌, OnOk, string_bytes};
 ghost use Rattle.replay_rules.specs.Lines.{name_of, spaced, idle_line, skip_line, end_line, text_of_access, step_line, text_of_words, text_of_lock};
 ghost use Rattle.replay_rules.specs.Lines.{text_of_commit, text_of_holder};
 ghost use Rattle.replay_rules.specs.Lines.{text_of_held, text_of_answer, answer_line};
@@ -62,20 +62,34 @@ pub fn write_step(
     ensures { OnOk result (string_bytes text.new ≡ string_bytes text.old ++ step_line made seat access place found) }
 {
     write!(text, "{made} {seat} ")?;
+    write_deed(text, access, place, found)?;
+    text.push_str("\n")
+}
+
+// What a step does, the number of the word, the word found, and the word that it offers.
+fn write_deed(text: &mut String, access: Access, place: u32, found: u64) -> Result<(), AllocError>
+    ensures { OnOk result (string_bytes text.new ≡ string_bytes text.old ++ text_of_access access place found) }
+{
     match access {
-        Access::Load => write_access(text, "load ", place, found)?,
-        Access::Store { new } => write_access(text, "store ", place, new)?,
+        Access::Load => write_access(text, "load ", place, found),
+        Access::Store { new } => write_access(text, "store ", place, new),
         Access::Swap { old, new } => {
             write_access(text, "swap ", place, found)?;
             write_spaced(text, new)?;
-            text.push_str(if found == old { " won" } else { " lost" })?;
+            text.push_str(outcome_of(found, old))
         }
         Access::Raise { by } => {
             write_access(text, "max ", place, found)?;
-            write_spaced(text, by)?;
+            write_spaced(text, by)
         }
     }
-    text.push_str("\n")
+}
+
+// Whether an exchange of the word `old` wins where this one is found.
+fn outcome_of(found: u64, old: u64) -> &'static str
+    ensures { result.now ≡ (if found == old then codes " won" else codes " lost") }
+{
+    if found == old { " won" } else { " lost" }
 }
 
 // What is done, the number of the word, and a word's value.
@@ -90,6 +104,13 @@ fn write_spaced(text: &mut String, number: u64) -> Result<(), AllocError>
     ensures { OnOk result (string_bytes text.new ≡ string_bytes text.old ++ spaced number) }
 {
     write!(text, " {number}")
+}
+
+// A name, and a number behind a blank.
+fn write_named(text: &mut String, name: &str, number: u64) -> Result<(), AllocError>
+    ensures { OnOk result (string_bytes text.new ≡ string_bytes text.old ++ name.now ++ spaced number) }
+{
+    write!(text, "{name} {number}")
 }
 
 fn write_words(text: &mut String, words: Words) -> Result<(), AllocError>
@@ -108,8 +129,8 @@ fn write_lock(text: &mut String, answer: LockAnswer) -> Result<(), AllocError>
 {
     match answer {
         LockAnswer::Held => text.push_str(" held"),
-        LockAnswer::Busy { seat } => write!(text, " busy {seat}"),
-        LockAnswer::Stale { time } => write!(text, " stale {time}"),
+        LockAnswer::Busy { seat } => write_named(text, " busy", seat.into()),
+        LockAnswer::Stale { time } => write_named(text, " stale", time),
         LockAnswer::SetFull => text.push_str(" setfull"),
         LockAnswer::LogFull => text.push_str(" logfull"),
     }
@@ -119,8 +140,11 @@ fn write_commit(text: &mut String, ended: Ended) -> Result<(), AllocError>
     ensures { OnOk result (string_bytes text.new ≡ string_bytes text.old ++ text_of_commit ended) }
 {
     match ended {
-        Ended::Done(time) => write!(text, " done {time}"),
-        Ended::Again(rival) => write!(text, " again {} {}", rival.seat, rival.time),
+        Ended::Done(time) => write_named(text, " done", time),
+        Ended::Again(rival) => {
+            write_named(text, " again", rival.seat.into())?;
+            write_spaced(text, rival.time)
+        }
         Ended::End => text.push_str(" end"),
     }
 }
@@ -129,9 +153,15 @@ fn write_holder(text: &mut String, holder: Holder) -> Result<(), AllocError>
     ensures { OnOk result (string_bytes text.new ≡ string_bytes text.old ++ text_of_holder holder) }
 {
     match holder {
-        Holder::Mark { seat, low } => write!(text, " mark {seat} {low}"),
-        Holder::Above { object, seat } => write!(text, " above {object} {seat}"),
-        Holder::Fresh { time } => write!(text, " fresh {time}"),
+        Holder::Mark { seat, low } => {
+            write_named(text, " mark", seat.into())?;
+            write_spaced(text, low)
+        }
+        Holder::Above { object, seat } => {
+            write_named(text, " above", object.into())?;
+            write_spaced(text, seat.into())
+        }
+        Holder::Fresh { time } => write_named(text, " fresh", time),
         Holder::End => text.push_str(" end"),
     }
 }
@@ -151,7 +181,7 @@ fn write_what(text: &mut String, answer: &Answer) -> Result<(), AllocError>
 {
     match answer {
         Answer::Silent => Ok(()),
-        Answer::AtTime(time) => write!(text, " {time}"),
+        Answer::AtTime(time) => write_spaced(text, *time),
         Answer::SixWords(words) => write_words(text, *words),
         Answer::Locked(answer) => write_lock(text, *answer),
         Answer::Committed(ended) => write_commit(text, *ended),

@@ -77,6 +77,14 @@ fn opening_words(alloc: Global, config: &Config, start: &[Words]) -> Result<Vec<
     Ok(words)
 }
 
+/// The opening state as clauses see it. The copy that this takes is let go at once.
+fn seen(alloc: Global, start: &[Words]) -> Result<Snapshot<Vec<Words>>, AllocError>
+    ensures { IfOk result (λ opening. opening.value.items ≡ start.now) }
+{
+    let state = Vec::from_slice(alloc, start)?;
+    Ok(Snapshot::of(&state))
+}
+
 /// Cuts the seat that comes next from the first one, in the domain whose numbers are `D`'s.
 #[tactic(auto, using(crate::proofs::kinds::opening::MakeSeat::seat_splits_in))]
 fn split_as<P: Protocol, D: Domain>(
@@ -134,11 +142,11 @@ impl<P: Protocol> Shared<P> {
         ensures first { IfOk result (λ r. IsOf r.0 r.1 × (view r.1 ≡ maker_view config.now start.now 1)) }
     {
         have_width(start);
+        let opening = seen(alloc, start)?;
         let words = opening_words(alloc, config, start)?;
-        let state = Vec::from_slice(alloc, start)?;
         let about = Opening {
             config: *config,
-            start: Snapshot::of(&state),
+            start: opening,
         };
         let (table, seat) = Table::of_words(alloc, words.as_slice(), &about)?;
         let shared = Shared {

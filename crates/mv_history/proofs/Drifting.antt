@@ -86,13 +86,20 @@ Avoid-changes_of held (Rest by ∷ es) h = Avoid-changes_of held es (All-tail (�
 Avoid-changes_of held (Change c ∷ es) h =
     (All-head (λ e. AreApart held (writes_of e)) (Change c) es h, Avoid-changes_of held es (All-tail (λ e. AreApart held (writes_of e)) (Change c) es h))
 
--- For stores: a fit commit is allowed after whatever was committed since the snapshot.
-pub allowed_after : (allowed : List ℕ → State → Writes → Type 0) (n : ℕ) (start : State) (front es : List Entry) (tag : List ℕ) (ws : Writes)
-    → IsFit allowed (state_after start front) tag ws → IsLegal n (front ++ es) → IsAllowed allowed start (front ++ es) → NoneWrites ws es
-    → allowed tag (state_after start (front ++ es)) ws
-allowed_after allowed n start front es tag ws fit legal rules apart = fit (state_after start (front ++ es)) (record {
+-- the states of a legal and allowed history drift past entries that write nothing held
+pub drifts_past : (allowed : List ℕ → State → Writes → Type 0) (n : ℕ) (start : State) (front es : List Entry) (ws : Writes)
+    → IsLegal n (front ++ es) → IsAllowed allowed start (front ++ es) → NoneWrites ws es
+    → Drifts allowed ws (state_after start front) (state_after start (front ++ es))
+drifts_past allowed n start front es ws legal rules apart = record {
   commits = changes_of es;
   are_allowed = AreAllowed-changes_of allowed n start front es legal rules;
   avoid = Avoid-changes_of ws es apart;
   leads = drifted-changes_of (state_after start front) es ∙ sym (state_after-append start front es);
-})
+}
+
+-- For stores: a fit commit is allowed after whatever was committed since the snapshot.
+pub allowed_after : (allowed : List ℕ → State → Writes → Type 0) (n : ℕ) (start : State) (front es : List Entry) (tag : List ℕ) (ws : Writes)
+    → IsFit allowed (state_after start front) tag ws → IsLegal n (front ++ es) → IsAllowed allowed start (front ++ es) → NoneWrites ws es
+    → allowed tag (state_after start (front ++ es)) ws
+allowed_after allowed n start front es tag ws fit legal rules apart =
+    fit (state_after start (front ++ es)) (drifts_past allowed n start front es ws legal rules apart)

@@ -1,5 +1,5 @@
 -- What a seat and a section stand for, and what holds of them.
-use Rattle.std.specs.Prelude.{◌≡◌, ℕ, ◌+◌, ◌≤◌, true, false, List, [], length, drop, slice_index_or}
+use Rattle.std.specs.Prelude.{◌≡◌, ℕ, ◌+◌, ◌-◌, ◌≤◌, true, false, List, [], length, drop, slice_index_or}
 use Rattle.mv_history.specs.declared.history.TheConstants.{LAST}
 use Rattle.mv_history.specs.State.{State, Writes, Commit, Entry, written, touches, state_at, commits_of, rests_of}
 use Rattle.mv_history.specs.Legal.{IsLegal, IsAllowed, AreWithin, AreWords, AreWrites, NoneWrites, NoneBy, are_distinct}
@@ -32,6 +32,10 @@ snapshot_of s = state_at s.seat.start s.seat.seen s.at
 -- the state that a section reads: its snapshot with its own words
 abbrev pub state_of : InSection → State
 state_of s = written (snapshot_of s) s.own
+
+-- the state of a printed time, which the seat has seen
+abbrev pub state_of_time : Seat → ℕ → State
+state_of_time s time = state_at s.start s.seen (time - s.base)
 
 -- the words of an object in a state
 abbrev pub words_at : State → ℕ → List ℕ

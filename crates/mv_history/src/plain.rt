@@ -35,7 +35,7 @@ pub struct PlainStore<P: Protocol> {
     pub(crate) last: u64,
     pub(crate) rules: PhantomData<P>,
     ghost current: { words.items ≡ state_after start.value.items (map (λ c. Change c) (commits_of_history history.value)) },
-    ghost few: { vec_len words ≤ 65535 },
+    ghost few: { vec_len words ≤ 16777216 },
     ghost clock: { time ≡ base + length (commits_of_history history.value) },
     ghost lawful: { IsSeat P.start P.allowed
         (plain_seat start.value.items (commits_of_history history.value) base last WRITE_MAX) } by { IsSeat-prop P.start P.allowed P.one_start P.one_allowed
@@ -121,7 +121,7 @@ impl<P: Protocol> PlainStore<P> {
         room: u32,
     ) -> Result<PlainStore<P>, AllocError>
         requires some { 0 < length start.now }
-        requires few { length start.now ≤ 65535 }
+        requires few { length start.now ≤ 16777216 }
         requires lawful { P.start start.now }
         requires time { base + room ≤ LAST }
         ensures opens { IfOk result (λ s. ⟦<PlainStore<P> as Store>⟧.seat_of s ≡ plain_seat start.now [] base (base + room) 16) }

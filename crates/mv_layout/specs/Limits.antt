@@ -8,9 +8,9 @@ use Rattle.mv_layout.specs.declared.config.ConfigFault.TheVariants.{Seats, Objec
 abbrev pub FitSeats : Config → Type 0
 FitSeats c = (1 ≤ c.seats) × (c.seats ≤ 64)
 
--- 1 to 65,535 objects
+-- 1 to 16,777,216 objects
 abbrev pub FitObjects : Config → Type 0
-FitObjects c = (1 ≤ c.objects) × (c.objects ≤ 65535)
+FitObjects c = (1 ≤ c.objects) × (c.objects ≤ 16777216)
 
 -- 64 to 4,096 slots in each log
 abbrev pub FitSlots : Config → Type 0

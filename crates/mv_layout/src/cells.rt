@@ -30,7 +30,7 @@ pub const SUPER_OFFSET: u32 = 3;
 /// The offset of data word 0 in a slot; the others follow.
 pub const DATA_OFFSET: u32 = 4;
 
-/// How many cells the running table of a domain has, at most 4,719,646.
+/// How many cells the running table of a domain has, at most 138,413,094.
 pub fn total_cells(config: &Config) -> u64
     requires { Checked config.now }
     ensures { result ≡ cells config.now }

@@ -12,7 +12,7 @@ pub const LAST: u64 = 35184372088831;
 pub struct Config {
     /// How many seats, 1 to 64.
     pub seats: u32,
-    /// How many objects, 1 to 65,535.
+    /// How many objects, 1 to 16,777,216.
     pub objects: u32,
     /// How many slots each seat's log has, 64 to 4,096.
     pub slots: u32,
@@ -31,7 +31,7 @@ pub struct Config {
 pub enum ConfigFault {
     /// `seats` isn't 1 to 64.
     Seats,
-    /// `objects` isn't 1 to 65,535.
+    /// `objects` isn't 1 to 16,777,216.
     Objects,
     /// `slots` isn't 64 to 4,096.
     Slots,
@@ -52,7 +52,7 @@ impl Config {
         if !(1..=64).contains(&self.seats) {
             return Err(ConfigFault::Seats);
         }
-        if !(1..=65_535).contains(&self.objects) {
+        if !(1..=16_777_216).contains(&self.objects) {
             return Err(ConfigFault::Objects);
         }
         if !(64..=4_096).contains(&self.slots) {

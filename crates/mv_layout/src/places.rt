@@ -32,7 +32,7 @@ pub enum Place {
     Data(u32, u32, u32),
 }
 
-/// How many words the table of a domain has, at most 3,080,251.
+/// How many words the table of a domain has, at most 120,062,018.
 pub fn total_words(config: &Config) -> u64
     requires { Checked config.now }
     ensures { result ≡ total config.now }

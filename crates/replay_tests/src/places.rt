@@ -124,14 +124,14 @@ static CONFIGS: [(Config, Result<(), ConfigFault>); 22] = [
     (Config { objects: 1, ..FIT }, Ok(())),
     (
         Config {
-            objects: 65_535,
+            objects: 16_777_216,
             ..FIT
         },
         Ok(()),
     ),
     (
         Config {
-            objects: 65_536,
+            objects: 16_777_217,
             ..FIT
         },
         Err(ConfigFault::Objects),
@@ -211,7 +211,7 @@ fn set_full_and_config(rt: HostRuntime) -> Result<(), Fail> {
 
 const WIDEST: Config = Config {
     seats: 64,
-    objects: 65_535,
+    objects: 16_777_216,
     slots: 4_096,
     ..FIT
 };
@@ -230,7 +230,7 @@ fn places_of_a_domain(rt: HostRuntime) -> Result<(), Fail> {
     ];
     expect(&rt, &places, &[3, 18, 24, 25, 25 + 1_270]);
     let totals = [total_words(&WIDEST), total_words(&WIDE)];
-    expect(&rt, &totals, &[3_080_251, 786_435]);
+    expect(&rt, &totals, &[120_062_018, 117_768_202]);
     Ok(())
 }
 
@@ -249,7 +249,7 @@ fn cells_of_a_domain(rt: HostRuntime) -> Result<(), Fail> {
     ];
     expect(&rt, &cells, &[6, 22, 38, 54, 70, 86, 92, 94, 94 + 16 * 127]);
     let totals = [total_cells(&FIT), total_cells(&WIDEST)];
-    expect(&rt, &totals, &[94 + 16 * 128, 4_719_646]);
+    expect(&rt, &totals, &[94 + 16 * 128, 138_413_094]);
     Ok(())
 }
 

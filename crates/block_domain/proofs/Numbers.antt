@@ -7,7 +7,7 @@ use Rattle.std.proofs.lemmas.Bool.Decides.{nat_tests}
 use Rattle.std.proofs.lemmas.List.Elements.{All-head, All-tail}
 use Rattle.std.proofs.lemmas.List.Sums.{sum_by-cons}
 use Rattle.set_script.specs.declared.commands.Command.{Command}
-use Rattle.set_script.specs.declared.commands.Place.{Place}
+use Rattle.section_work.specs.declared.place.Place.{Place}
 use Rattle.set_script.specs.declared.commands.Reply.{Reply}
 use Rattle.run_report.specs.Legal.{id_of, ids_from}
 use Rattle.block_workers.specs.BlockLines.{lines_at}

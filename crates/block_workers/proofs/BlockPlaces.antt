@@ -12,11 +12,11 @@ use Rattle.mv_history.proofs.Steps.{Continues-Continues, length-seen}
 use Rattle.set_script.specs.CatalogueOf.{catalogue_of}
 use Rattle.set_script.specs.Rules.{capacity}
 use Rattle.set_script.specs.declared.commands.Command.{Command}
-use Rattle.set_script.specs.declared.commands.Place.{Place}
-use Rattle.set_script.specs.declared.commands.Place.TheVariants.{Commit as AtCommit, Read}
+use Rattle.section_work.specs.declared.place.Place.{Place}
+use Rattle.section_work.specs.declared.place.Place.TheVariants.{Commit as AtCommit, Read}
 use Rattle.set_script.specs.declared.commands.Reply.{Reply}
-use Rattle.list_set.specs.declared.answers.Cause.{Cause}
-use Rattle.set_catalog.specs.Causes.{Causes}
+use Rattle.section_work.specs.declared.causes.Cause.{Cause}
+use Rattle.section_work.specs.Causes.{Causes}
 use Rattle.set_blocks.specs.declared.attempt.BlockAttempt.{BlockAttempt}
 use Rattle.set_blocks.specs.declared.attempt.BlockAttempt.TheVariants.{Done, Again}
 use Rattle.set_blocks.specs.BlockAttempts.{IsBlockDone, IsBlockRead, BlockGivesUp, BlockAttempted}

@@ -1,6 +1,6 @@
 -- The lines of a block: one for each of its commands, all at the block's one place.
 use Rattle.std.specs.Prelude.{ℕ, suc, List, [], ◌∷◌}
-use Rattle.set_script.specs.declared.commands.Place.{Place}
+use Rattle.section_work.specs.declared.place.Place.{Place}
 use Rattle.set_script.specs.declared.commands.Reply.{Reply}
 use Rattle.run_report.specs.declared.line.Line.{Line}
 

@@ -9,8 +9,8 @@ use Rattle.mv_history.specs.Calls.{Continues}
 use Rattle.set_script.specs.CatalogueOf.{catalogue_of}
 use Rattle.set_script.specs.Rules.{capacity}
 use Rattle.set_script.specs.declared.commands.Command.{Command}
-use Rattle.set_script.specs.declared.commands.Place.{Place}
-use Rattle.set_script.specs.declared.commands.Place.TheVariants.{Commit as AtCommit, Read}
+use Rattle.section_work.specs.declared.place.Place.{Place}
+use Rattle.section_work.specs.declared.place.Place.TheVariants.{Commit as AtCommit, Read}
 use Rattle.set_script.specs.declared.commands.Reply.{Reply}
 use Rattle.set_blocks.specs.BlockReplies.{block_replies, block_changes, block_next}
 use Rattle.set_blocks.specs.BlockRules.{block_tag}

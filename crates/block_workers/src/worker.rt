@@ -10,7 +10,7 @@ use mv_history::Store;
 use run_outside::Gate;
 use run_report::Line;
 use set_blocks::{Block, BlockAttempt, BlockRules, Replies, attempt_block};
-use set_script::Place;
+use section_work::Place;
 use std::sync::Wait;
 
 // A store, its seat's number, its script, and the lines that it has made, for all of which there is room.

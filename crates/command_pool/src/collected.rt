@@ -1,5 +1,6 @@
 // What comes of one command.
-use set_script::{Place, Reply};
+use section_work::Place;
+use set_script::Reply;
 
 /// What one command of a pool replied, by which seat, and where it took place.
 #[derive(Clone, Copy, Debug, Drop, PartialEq, Eq)]

@@ -12,7 +12,7 @@ use Rattle.set_script.specs.declared.commands.Command.TheVariants.{Add, Put, Del
 use Rattle.set_script.specs.Objects.{owner, key, link, list_words, no_words, relink}
 use Rattle.set_script.specs.Tags.{tag_of}
 use Rattle.set_script.proofs.ObjectWords.{word}
-use Rattle.set_script.proofs.Written.{touches-in}
+use Rattle.section_work.proofs.Objects.{touches-in}
 use Rattle.list_set.specs.Places.{IsInList, IsAddPlace, add_writes, IsDelPlace, del_writes}
 use Rattle.list_set.specs.Linked.{IsNodeOf}
 use Rattle.grow_hash.specs.Tables.{split_place, bucket}

@@ -3,7 +3,7 @@ use Rattle.std.specs.Prelude.{ℕ, ◌≡◌, ◌≢◌, List, [], ◌∷◌}
 use Rattle.mv_history.specs.State.{State, Writes}
 use Rattle.mv_history.specs.Meaning.{words_at}
 use Rattle.set_script.specs.Objects.{link, list_words}
-use Rattle.set_script.specs.OwnWrites.{objects_of}
+use Rattle.section_work.specs.OwnWrites.{objects_of}
 use Rattle.grow_hash.specs.Tables.{level, split_place}
 use Rattle.grow_hash.specs.Grown.{IsGrown, head_at}
 use Rattle.grow_hash.specs.SplitPlans.{split_writes}

@@ -4,18 +4,19 @@ use Rattle.mv_history.specs.State.{state_at}
 use Rattle.mv_history.specs.declared.history.Commit.{Commit}
 use Rattle.mv_history.specs.declared.history.Entry.TheVariants.{Change}
 use Rattle.mv_history.specs.declared.answers.Holder.{Holder}
-use Rattle.mv_history.specs.Meaning.{Seat, InSection, snapshot_of}
+use Rattle.mv_history.specs.Meaning.{Seat, InSection, snapshot_of, state_of_time}
 use Rattle.mv_history.specs.Trail.{commit_exchanges, IsOneLost}
 use Rattle.mv_history.specs.Calls.{call_trail, Continues, IsAsBefore, GoesOn, Prepares, IsEntryAt, Overtakes}
 use Rattle.set_script.specs.Tags.{tag_of}
 use Rattle.set_script.specs.declared.commands.Command.{Command}
 use Rattle.set_script.specs.declared.commands.Reply.{Reply}
-use Rattle.set_script.specs.declared.commands.Place.TheVariants.{Commit as AtCommit, Read}
-use Rattle.list_set.specs.declared.answers.Cause.{Cause}
-use Rattle.list_set.specs.declared.answers.Cause.TheVariants.{Busy, Stale, SetFull, NoSlot, Rival, LogFull}
-use Rattle.set_catalog.specs.Causes.{Causes}
-use Rattle.set_catalog.specs.Attempts.{state_of_time, IsEntered}
-use Rattle.set_catalog.specs.Steps.{Stops}
+use Rattle.section_work.specs.declared.place.Place.TheVariants.{Commit as AtCommit, Read}
+use Rattle.section_work.specs.declared.causes.Refusal.{Refusal}
+use Rattle.section_work.specs.declared.causes.Cause.{Cause}
+use Rattle.section_work.specs.declared.causes.Cause.TheVariants.{Lock, Rival, LogFull}
+use Rattle.section_work.specs.Causes.{Causes}
+use Rattle.section_work.specs.Sections.{IsEntered}
+use Rattle.section_work.specs.Locking.{Stops}
 use Rattle.grow_hash.specs.GrowRules.{MakesGrown}
 use Rattle.grow_hash.specs.GrowPlans.{GrowPlan, GrowLocks}
 use Rattle.grow_hash.specs.GrowReplies.{reply_grown, changes_grown}
@@ -59,16 +60,13 @@ pub record IsGrowOvertaken (k : Causes) (command : Command) (entered : InSection
   pub continues : Continues after.seat new
 
 -- One lock was refused, of an object that the command locks; what was found then is among what is seen afterwards.
-abbrev pub IsGrowStopped : Causes → Command → InSection → Seat → Cause → Type 0
-IsGrowStopped k command entered new cause =
-    (left : InSection) × Stops k.may_refuse k.found_held (GrowLocks command (snapshot_of entered)) entered left cause × Continues left.seat new
+abbrev pub IsGrowStopped : Causes → Command → InSection → Seat → Refusal → Type 0
+IsGrowStopped k command entered new refusal =
+    (left : InSection) × Stops k.may_refuse k.found_held (GrowLocks command (snapshot_of entered)) entered left refusal × Continues left.seat new
 
 -- why the change that a section was to make was given up
 abbrev pub IsGrowWhy : Causes → (Holder → Type 0) → Command → InSection → Seat → Cause → Type 0
-IsGrowWhy k held_back command entered new (Busy object seat) = IsGrowStopped k command entered new (Busy object seat)
-IsGrowWhy k held_back command entered new (Stale object time) = IsGrowStopped k command entered new (Stale object time)
-IsGrowWhy k held_back command entered new (SetFull object) = ⊥
-IsGrowWhy k held_back command entered new (NoSlot object) = ⊥
+IsGrowWhy k held_back command entered new (Lock refusal) = IsGrowStopped k command entered new refusal
 IsGrowWhy k held_back command entered new (Rival rival) = k.may_refuse × IsGrowOvertaken k command entered new rival.seat rival.time
 IsGrowWhy k held_back command entered new (LogFull holder) = k.may_refuse × held_back holder
 

@@ -4,16 +4,17 @@ use Rattle.mv_history.specs.State.{State, state_at}
 use Rattle.mv_history.specs.declared.answers.Holder.{Holder}
 use Rattle.mv_history.specs.declared.history.Commit.{Commit}
 use Rattle.mv_history.specs.declared.history.Entry.TheVariants.{Change}
-use Rattle.mv_history.specs.Meaning.{Seat, InSection, snapshot_of}
+use Rattle.mv_history.specs.Meaning.{Seat, InSection, snapshot_of, state_of_time}
 use Rattle.mv_history.specs.Trail.{commit_exchanges, IsOneLost}
 use Rattle.mv_history.specs.Calls.{call_trail, Continues, IsAsBefore, GoesOn, Prepares, IsEntryAt, Overtakes}
 use Rattle.set_script.specs.CatalogueOf.{map_at}
 use Rattle.list_set.specs.Places.{IsInList}
-use Rattle.list_set.specs.declared.answers.Cause.{Cause}
-use Rattle.list_set.specs.declared.answers.Cause.TheVariants.{Busy, Stale, SetFull, NoSlot, Rival, LogFull}
-use Rattle.set_catalog.specs.Causes.{Causes}
-use Rattle.set_catalog.specs.Attempts.{state_of_time, IsEntered}
-use Rattle.set_catalog.specs.Steps.{Stops}
+use Rattle.section_work.specs.declared.causes.Refusal.{Refusal}
+use Rattle.section_work.specs.declared.causes.Cause.{Cause}
+use Rattle.section_work.specs.declared.causes.Cause.TheVariants.{Lock, Rival, LogFull}
+use Rattle.section_work.specs.Causes.{Causes}
+use Rattle.section_work.specs.Sections.{IsEntered}
+use Rattle.section_work.specs.Locking.{Stops}
 use Rattle.grow_hash.specs.Tables.{level, split_place, most_level, buckets}
 use Rattle.grow_hash.specs.Grown.{head_at, grown_catalogue}
 use Rattle.grow_hash.specs.GrowRules.{split_tag}
@@ -83,9 +84,9 @@ pub record IsSplitDone (from : ℕ) (old new : Seat) (time : ℕ) : Type 0 where
   pub counted : buckets (state_of_time new time) ≡ 16 + count_splits (take (time - new.base) new.seen)
 
 -- One lock was refused, of an object of the split.
-abbrev pub IsSplitStopped : Causes → InSection → Seat → Cause → Type 0
-IsSplitStopped k entered new cause =
-    (left : InSection) × Stops k.may_refuse k.found_held (IsOfSplit (snapshot_of entered)) entered left cause × Continues left.seat new
+abbrev pub IsSplitStopped : Causes → InSection → Seat → Refusal → Type 0
+IsSplitStopped k entered new refusal =
+    (left : InSection) × Stops k.may_refuse k.found_held (IsOfSplit (snapshot_of entered)) entered left refusal × Continues left.seat new
 
 -- The commit of what the split is to write was tried, and another seat's entry came first, after the call had loaded the clock.
 pub record IsSplitOvertaken (k : Causes) (entered : InSection) (new : Seat) (seat time : ℕ) : Type 0 where
@@ -100,10 +101,7 @@ pub record IsSplitOvertaken (k : Causes) (entered : InSection) (new : Seat) (sea
 
 -- why the split that a section was to make was given up
 abbrev pub IsSplitWhy : Causes → (Holder → Type 0) → InSection → Seat → Cause → Type 0
-IsSplitWhy k held_back entered new (Busy object seat) = IsSplitStopped k entered new (Busy object seat)
-IsSplitWhy k held_back entered new (Stale object time) = IsSplitStopped k entered new (Stale object time)
-IsSplitWhy k held_back entered new (SetFull object) = ⊥
-IsSplitWhy k held_back entered new (NoSlot object) = ⊥
+IsSplitWhy k held_back entered new (Lock refusal) = IsSplitStopped k entered new refusal
 IsSplitWhy k held_back entered new (Rival rival) = k.may_refuse × IsSplitOvertaken k entered new rival.seat rival.time
 IsSplitWhy k held_back entered new (LogFull holder) = k.may_refuse × held_back holder
 

@@ -3,8 +3,8 @@ use Rattle.std.specs.Prelude.{ℕ, ◌≡◌, ◌<◌, ◌≤◌, []}
 use Rattle.mv_history.specs.State.{State, Writes}
 use Rattle.mv_history.specs.Meaning.{Seat, InSection}
 use Rattle.mv_history.specs.Calls.{Continues}
-use Rattle.list_set.specs.declared.answers.Cause.{Cause}
-use Rattle.set_catalog.specs.Causes.{Causes}
+use Rattle.section_work.specs.declared.causes.Cause.{Cause}
+use Rattle.section_work.specs.Causes.{Causes}
 use Rattle.grow_hash.specs.Tables.{level, split_place, most_level}
 use Rattle.grow_hash.specs.SplitPlans.{SplitPlan}
 use Rattle.grow_hash.specs.SplitCalls.{keys_at_place, most_split, IsSplittable, FoundWhole, FoundLong, FoundWorn, IsSplitDone, IsSplitWhy}

@@ -1,5 +1,5 @@
 // What a call that tries to split a bucket answers.
-use list_set::Cause;
+use section_work::Cause;
 
 /// What `try_split` answers.
 #[derive(Clone, Copy, Debug, PartialEq, Eq)]

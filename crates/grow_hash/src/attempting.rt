@@ -3,8 +3,8 @@ ghost use Rattle.std.specs.Prelude.{◌≡◌, ◌≤◌};
 ghost use Rattle.mv_history.specs.Meaning.{state_of, IsWorn};
 ghost use Rattle.mv_history.specs.Calls.{Continues, NamesNoCommit};
 ghost use Rattle.set_script.specs.Tags.{tag_of};
-ghost use Rattle.set_catalog.specs.Attempts.{TriesOne};
-ghost use Rattle.set_catalog.specs.Causes.{causes};
+ghost use Rattle.section_work.specs.Sections.{TriesOne};
+ghost use Rattle.section_work.specs.Causes.{causes};
 ghost use Rattle.grow_hash.specs.GrowPlans.{IsOfGrown, grow_locks};
 ghost use Rattle.grow_hash.specs.GrowAttempts.{GrowAttempted};
 ghost use Rattle.grow_hash.specs.GrowSteps.{HasGrowSpace, GrowAttemptedIn, IsGrowReadBy};
@@ -14,9 +14,9 @@ use crate::attempt::GrowStep;
 use crate::deciding::{Finding, find_change};
 use crate::rules::GrowRules;
 use crate::search::NAME;
-use list_set::{Cause, rewrite};
 use mv_history::{CommitAnswer, Room, Section, Store, Tag, Words};
-use set_script::{Command, Place, Reply};
+use section_work::{Cause, Place, rewrite};
+use set_script::{Command, Reply};
 
 /// Attempts a command of a growing hash set in one section of the store, and gives the store back.
 ///
@@ -82,8 +82,8 @@ fn commit_change<S: Store<Rules = GrowRules>>(
     ensures at_most_one { TriesOne (S.Open.section section).seat (S.seat_of result.0) }
 {
     let mut section = section;
-    if let Err(cause) = rewrite(&mut section, writes) {
-        return (section.abort(), GrowStep::Again(cause));
+    if let Err(refusal) = rewrite(&mut section, writes) {
+        return (section.abort(), GrowStep::Again(Cause::Lock(refusal)));
     }
     match section.try_commit(tag(command)) {
         CommitAnswer::Done(store, time) => {

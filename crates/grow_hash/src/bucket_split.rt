@@ -2,8 +2,8 @@
 ghost use Rattle.std.specs.Prelude.{◌≡◌, ◌≤◌, take, MatchResult};
 ghost use Rattle.mv_history.specs.Meaning.{state_of, IsWorn};
 ghost use Rattle.mv_history.specs.Calls.{Continues, NamesNoCommit};
-ghost use Rattle.set_catalog.specs.Attempts.{TriesOne};
-ghost use Rattle.set_catalog.specs.Causes.{causes};
+ghost use Rattle.section_work.specs.Sections.{TriesOne};
+ghost use Rattle.section_work.specs.Causes.{causes};
 ghost use Rattle.grow_hash.specs.Grown.{IsGrown};
 ghost use Rattle.grow_hash.specs.GrowRules.{split_tag};
 ghost use Rattle.grow_hash.specs.SplitCalls.{most_writes, SplitTried};
@@ -13,8 +13,8 @@ use crate::answer::Split;
 use crate::bucket::{MOST_SPLIT, Parted, part, read_bucket};
 use crate::rules::GrowRules;
 use crate::table::{MOST_LEVEL, table_of};
-use list_set::{Cause, rewrite};
 use mv_history::{CommitAnswer, Room, Section, Store, Tag, View};
+use section_work::{Cause, rewrite};
 
 /// Splits the bucket at the split place in one section of the store, and gives the store back.
 ///
@@ -93,8 +93,8 @@ pub(crate) fn commit_split<S: Store<Rules = GrowRules>>(
     ensures at_most_one { TriesOne (S.Open.section section).seat (S.seat_of result.0) }
 {
     let mut section = section;
-    if let Err(cause) = rewrite(&mut section, &parted.writes[..parted.count]) {
-        return (section.abort(), Split::Again(cause));
+    if let Err(refusal) = rewrite(&mut section, &parted.writes[..parted.count]) {
+        return (section.abort(), Split::Again(Cause::Lock(refusal)));
     }
     match section.try_commit(tag(parted.place)) {
         CommitAnswer::Done(store, time) => (store, Split::Done { time }),

@@ -57,8 +57,8 @@
 //! # Its place
 //!
 //! It stands on `mv_history`, whose traits it is generic over, on `set_script` for commands and
-//! catalogues, on `list_set` for one list, and on `set_catalog` for what a cause shows of a store and for
-//! how many exchanges an attempt makes. It knows no store.
+//! catalogues, on `list_set` for one list, and on `section_work` for what a cause shows of a store and
+//! for how many exchanges an attempt makes. It knows no store.
 #![tactic(auto)]
 
 mod answer;

@@ -11,8 +11,8 @@ use Rattle.mv_history.specs.Legal.{IsAllowed}
 use Rattle.set_script.specs.Catalogue.{Maps}
 use Rattle.set_script.specs.Replies.{reply, changes, next}
 use Rattle.set_script.specs.declared.commands.Command.{Command}
-use Rattle.set_script.specs.declared.commands.Place.{Place}
-use Rattle.set_script.specs.declared.commands.Place.TheVariants.{Commit as AtCommit, Read}
+use Rattle.section_work.specs.declared.place.Place.{Place}
+use Rattle.section_work.specs.declared.place.Place.TheVariants.{Commit as AtCommit, Read}
 use Rattle.run_report.specs.declared.line.Line.{Line}
 use Rattle.run_report.specs.Legal.{Follows, MayStand, Replays, after, is_last, command_of}
 use Rattle.run_report.specs.Worked.{Past, state_of_time}

@@ -35,8 +35,8 @@ use Rattle.set_script.specs.Replies.{reply, changes, next}
 use Rattle.set_script.specs.Tags.{tag_of}
 use Rattle.set_script.specs.declared.commands.Command.{Command}
 use Rattle.set_script.specs.declared.commands.Command.TheVariants.{Add, Put, Del, Has, Get, Move, Pair, Size, Next}
-use Rattle.set_script.specs.declared.commands.Place.{Place}
-use Rattle.set_script.specs.declared.commands.Place.TheVariants.{Commit as AtCommit, Read}
+use Rattle.section_work.specs.declared.place.Place.{Place}
+use Rattle.section_work.specs.declared.place.Place.TheVariants.{Commit as AtCommit, Read}
 use Rattle.set_script.specs.declared.commands.Reply.{Reply}
 use Rattle.run_report.specs.declared.line.Line.{Line}
 use Rattle.run_report.specs.Legal.{Follows}

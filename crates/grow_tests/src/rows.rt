@@ -5,7 +5,7 @@ use crate::steps::Step::{Adds, Does, Finds, Holds, Splits, Tries};
 use crate::steps::{Keys, Step};
 use grow_hash::Split::{Done, Long, Whole, Worn};
 use mv_history::LAST;
-use set_script::Place::{Commit, Read};
+use section_work::Place::{Commit, Read};
 use set_script::Reply;
 use std::alloc::Global;
 use std::process::Abort;

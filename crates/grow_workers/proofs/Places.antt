@@ -11,12 +11,12 @@ use Rattle.mv_history.proofs.Writing.{length-state_after}
 use Rattle.set_script.specs.Replies.{reply, changes, next, applies, overflows}
 use Rattle.set_script.specs.declared.commands.Command.{Command}
 use Rattle.set_script.specs.declared.commands.Command.TheVariants as commands
-use Rattle.set_script.specs.declared.commands.Place.{Place}
-use Rattle.set_script.specs.declared.commands.Place.TheVariants.{Commit as AtCommit, Read}
+use Rattle.section_work.specs.declared.place.Place.{Place}
+use Rattle.section_work.specs.declared.place.Place.TheVariants.{Commit as AtCommit, Read}
 use Rattle.set_script.specs.declared.commands.Reply.{Reply}
 use Rattle.set_script.specs.declared.commands.Reply.TheVariants.{Yes, No, Full, Worn}
-use Rattle.list_set.specs.declared.answers.Cause.{Cause}
-use Rattle.set_catalog.specs.Causes.{Causes}
+use Rattle.section_work.specs.declared.causes.Cause.{Cause}
+use Rattle.section_work.specs.Causes.{Causes}
 use Rattle.run_report.specs.Worked.{past_of, state_of_time}
 use Rattle.script_workers.specs.Commands.{CommitsNone}
 use Rattle.script_workers.proofs.Places.{last_by, follows_earlier, seen_grows}

@@ -11,7 +11,8 @@ use grow_hash::{GrowRules, GrowStep, Split, attempt_grow, try_split};
 use mv_history::Store;
 use run_outside::Gate;
 use run_report::Line;
-use set_script::{Command, Place, Reply};
+use set_script::{Command, Reply};
+use section_work::Place;
 use std::sync::Wait;
 
 // A store, its seat's number, its script, and the lines that it has made, for all of which there is room.

@@ -6,9 +6,10 @@ ghost use Rattle.set_script.specs.CatalogueOf.{catalogue_of};
 ghost use Rattle.set_script.specs.Lawful.{IsLawful};
 ghost use Rattle.set_script.specs.Objects.{owner};
 ghost use Rattle.list_set.specs.Places.{IsAddPlace, IsDelPlace, IsPutPlace};
-ghost use Rattle.list_set.specs.Held.{HasRoom};
-ghost use Rattle.list_set.specs.Calls.{Adds, Takes, Puts, Refuses};
-ghost use Rattle.list_set.specs.declared.answers.Cause.{Cause};
+ghost use Rattle.section_work.specs.Held.{HasRoom};
+ghost use Rattle.list_set.specs.Calls.{Adds, Takes, Puts};
+ghost use Rattle.section_work.specs.Locking.{Refuses};
+ghost use Rattle.section_work.specs.declared.causes.Refusal.{Refusal};
 ghost use Rattle.list_set.specs.declared.answers.SetStep.TheVariants.{Yes, No, Again};
 ghost use Rattle.list_set.specs.declared.answers.Removed.TheVariants.{Took, Absent, Again as DelAgain};
 ghost use Rattle.hash_set.specs.Buckets.{head_of};
@@ -90,7 +91,7 @@ pub fn size_in<V: View>(view: &mut V, set: u32) -> u64
 /// - `Yes`: both objects are held, and the section's state is lawful, with the key and its value
 ///   added. Only the predecessor's link and the words of the node changed.
 /// - `Again` only where the key is not there and the lock of one of the two was refused, with
-///   `Busy` or `Stale`, which the cause carries. The predecessor, if its lock was had, stays held.
+///   `Busy` or `Stale`, which the refusal carries. The predecessor, if its lock was had, stays held.
 ///   The section's state is as before. Over the plain store it never comes.
 pub fn add_in<S: Section>(section: &mut S, set: u32, key: u32, value: u64, node: u32) -> SetStep
     requires set_in { set < 10 }
@@ -105,9 +106,9 @@ pub fn add_in<S: Section>(section: &mut S, set: u32, key: u32, value: u64, node:
     ensures yes { result ≡ Yes → Adds (S.section section.old) (S.section section.new) (head_of set key) key value node }
     ensures catalogue { result ≡ Yes
         → catalogue_of (state_of (S.section section.new)) ≡ with_key (10 + set) key value (catalogue_of (state_of (S.section section.old))) }
-    ensures again { (cause : Cause) → result ≡ Again cause
+    ensures again { (refusal : Refusal) → result ≡ Again refusal
         → (previous : ℕ) × IsAddPlace (state_of (S.section section.old)) (head_of set key) key previous
-        × Refuses S.may_refuse S.found_held (S.section section.old) (S.section section.new) (previous ∷ node ∷ []) cause }
+        × Refuses S.may_refuse S.found_held (S.section section.old) (S.section section.new) (previous ∷ node ∷ []) refusal }
 {
     let head = bucket_of(set, key);
     list_set::add_in(section, head, key, value, node)
@@ -123,7 +124,7 @@ pub fn add_in<S: Section>(section: &mut S, set: u32, key: u32, value: u64, node:
 /// - `Yes`: the node is held, and the section's state is lawful, with the key at this value. Only
 ///   the value in the words of the node changed.
 /// - `Again` only where the key has another value and the lock of the node was refused, with `Busy`
-///   or `Stale`, which the cause carries. The section's state is as before. Over the plain store it
+///   or `Stale`, which the refusal carries. The section's state is as before. Over the plain store it
 ///   never comes.
 pub fn put_in<S: Section>(section: &mut S, set: u32, key: u32, value: u64) -> SetStep
     requires set_in { set < 10 }
@@ -136,8 +137,8 @@ pub fn put_in<S: Section>(section: &mut S, set: u32, key: u32, value: u64) -> Se
     ensures yes { result ≡ Yes → Puts (S.section section.old) (S.section section.new) (head_of set key) key value }
     ensures catalogue { result ≡ Yes
         → catalogue_of (state_of (S.section section.new)) ≡ with_key (10 + set) key value (catalogue_of (state_of (S.section section.old))) }
-    ensures again { (cause : Cause) → result ≡ Again cause → (node : ℕ) × IsPutPlace (state_of (S.section section.old)) (head_of set key) key node
-        × Refuses S.may_refuse S.found_held (S.section section.old) (S.section section.new) (node ∷ []) cause }
+    ensures again { (refusal : Refusal) → result ≡ Again refusal → (node : ℕ) × IsPutPlace (state_of (S.section section.old)) (head_of set key) key node
+        × Refuses S.may_refuse S.found_held (S.section section.old) (S.section section.new) (node ∷ []) refusal }
 {
     let head = bucket_of(set, key);
     list_set::put_in(section, head, key, value)
@@ -154,7 +155,7 @@ pub fn put_in<S: Section>(section: &mut S, set: u32, key: u32, value: u64) -> Se
 /// - `Took`: both objects are held, and the section's state is lawful, without the key. Its node is
 ///   vacant, all zero, and else only the predecessor's link changed. `inner` is 0.
 /// - `Again` only where the key is there and the lock of one of the two was refused, with `Busy` or
-///   `Stale`, which the cause carries. The predecessor, if its lock was had, stays held. The
+///   `Stale`, which the refusal carries. The predecessor, if its lock was had, stays held. The
 ///   section's state is as before. Over the plain store it never comes.
 pub fn del_in<S: Section>(section: &mut S, set: u32, key: u32) -> Removed
     requires set_in { set < 10 }
@@ -167,9 +168,9 @@ pub fn del_in<S: Section>(section: &mut S, set: u32, key: u32) -> Removed
         → (inner ≡ 0) × Takes (S.section section.old) (S.section section.new) (head_of set key) key node }
     ensures catalogue { (node inner : ℕ) → result ≡ Took node inner
         → catalogue_of (state_of (S.section section.new)) ≡ without_key (10 + set) key (catalogue_of (state_of (S.section section.old))) }
-    ensures again { (cause : Cause) → result ≡ DelAgain cause
+    ensures again { (refusal : Refusal) → result ≡ DelAgain refusal
         → (previous node : ℕ) × IsDelPlace (state_of (S.section section.old)) (head_of set key) key previous node
-        × Refuses S.may_refuse S.found_held (S.section section.old) (S.section section.new) (previous ∷ node ∷ []) cause }
+        × Refuses S.may_refuse S.found_held (S.section section.old) (S.section section.new) (previous ∷ node ∷ []) refusal }
 {
     let head = bucket_of(set, key);
     list_set::del_in(section, head, key)

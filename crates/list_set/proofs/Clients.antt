@@ -16,10 +16,11 @@ use Rattle.mv_history.proofs.Steps.{state_at-later}
 use Rattle.set_script.specs.Objects.{owner, link, no_words, relink}
 use Rattle.set_script.specs.Lawful.{IsLawful}
 use Rattle.list_set.specs.Places.{add_writes, del_writes}
-use Rattle.set_script.specs.OwnWrites.{with_locks, with_writes, objects_of}
-use Rattle.list_set.specs.Held.{count_unheld, HasRoom}
-use Rattle.list_set.specs.Calls.{Rewritten, Adds, Takes}
-use Rattle.list_set.proofs.OwnWrites.{length-with_locks}
+use Rattle.section_work.specs.OwnWrites.{with_locks, with_writes, objects_of}
+use Rattle.section_work.specs.Held.{count_unheld, HasRoom}
+use Rattle.section_work.specs.Locking.{Rewritten}
+use Rattle.list_set.specs.Calls.{Adds, Takes}
+use Rattle.section_work.proofs.HeldWrites.{length-with_locks}
 use Rattle.list_set.proofs.Parts.{place_not_vacant}
 use Rattle.list_set.proofs.Removing.{Removal, removal}
 

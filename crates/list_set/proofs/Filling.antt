@@ -8,7 +8,7 @@ use Rattle.mv_history.proofs.Writing.{length-written}
 use Rattle.mv_history.proofs.Holding.{state_of-as_before}
 use Rattle.set_script.specs.Objects.{owner}
 use Rattle.set_script.proofs.ObjectWords.{word}
-use Rattle.list_set.specs.Held.{count_unheld, HasRoom}
+use Rattle.section_work.specs.Held.{count_unheld, HasRoom}
 use Rattle.set_script.specs.Lawful.{IsLawful, IsOpening}
 use Rattle.set_script.proofs.Opening.{opening_owner, opening_lawful}
 use Rattle.list_set.specs.Places.{add_writes, put_writes}

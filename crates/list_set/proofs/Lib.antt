@@ -6,8 +6,6 @@ pub mod Putting
 pub mod Linking
 pub mod Walking
 pub mod Counting
-pub mod OwnWrites
-pub mod Holding
 pub mod Spots
 pub mod Answering
 pub mod Clients

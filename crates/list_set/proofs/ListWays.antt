@@ -6,9 +6,8 @@ use Rattle.set_script.specs.Lawful.{IsLawful}
 use Rattle.set_script.specs.Lists.{FitsHead}
 use Rattle.set_script.specs.Objects.{link, list_words, no_words, relink, revalue, value}
 use Rattle.set_script.proofs.ObjectWords.{word}
-use Rattle.set_script.proofs.TreeShape.{IsIn}
+use Rattle.section_work.proofs.Objects.{IsIn, distinct-pair}
 use Rattle.set_script.proofs.Ways.{AddWay, DelWay, IsAt, PutWay}
-use Rattle.set_script.proofs.Written.{distinct-pair}
 use Rattle.list_set.proofs.ListHalves.{add_half, add_place_stays, del_half, put_half, still_in}
 use Rattle.list_set.proofs.Parts.{place_not_vacant}
 use Rattle.list_set.proofs.Removing.{removal}

@@ -43,11 +43,12 @@ use Rattle.set_script.specs.Lists.{FitsHead}
 use Rattle.set_script.specs.Lawful.{IsLawful}
 use Rattle.set_script.proofs.ObjectWords.{word}
 use Rattle.list_set.specs.Places.{IsAddPlace, add_writes, IsDelPlace, del_writes, IsPutPlace, put_writes}
-use Rattle.set_script.specs.OwnWrites.{with_locks, with_writes, objects_of}
-use Rattle.list_set.specs.Held.{count_unheld, HasRoom, HoldsMore}
-use Rattle.list_set.specs.Calls.{Rewritten, Adds, Takes, Puts, Refuses}
+use Rattle.section_work.specs.OwnWrites.{with_locks, with_writes, objects_of}
+use Rattle.section_work.specs.Held.{count_unheld, HasRoom, HoldsMore}
+use Rattle.section_work.specs.Locking.{Rewritten, Refuses}
+use Rattle.list_set.specs.Calls.{Adds, Takes, Puts}
 use Rattle.list_set.specs.Walks.{IsFound, IsSpot}
-use Rattle.list_set.specs.declared.answers.Cause.{Cause}
+use Rattle.section_work.specs.declared.causes.Refusal.{Refusal}
 use Rattle.list_set.proofs.Parts.{place_in_range, place_not_vacant}
 use Rattle.list_set.proofs.Adding.{add_lawful, add_catalogue}
 use Rattle.list_set.proofs.Removing.{removal, del_catalogue}
@@ -80,9 +81,10 @@ module _ (a b c : InSection) (le : a.at ≤ length a.seat.seen) (same : IsAsBefo
   }
 
 pub refuses_before : (a b c : InSection) → a.at ≤ length a.seat.seen → IsAsBefore a b → GoesOn a b
-    → (may : Type 0) (found : InSection → InSection → ℕ → ℕ → Type 0) (os : List ℕ) (cause answer : Cause) → cause ≡ answer → Refuses may found b c os cause
+    → (may : Type 0) (found : InSection → InSection → ℕ → ℕ → Type 0) (os : List ℕ) (refusal answer : Refusal) → refusal ≡ answer
+    → Refuses may found b c os refusal
     → Refuses may found a c os answer
-refuses_before a b c le same goes may found os cause answer e r = subst (λ (u : Cause). Refuses may found a c os u) e (record {
+refuses_before a b c le same goes may found os refusal answer e r = subst (λ (u : Refusal). Refuses may found a c os u) e (record {
   held = r.held;
   object = r.object;
   rest = r.rest;
@@ -264,7 +266,7 @@ pub room_as : (a b : InSection) (ws vs : Writes) → IsAsBefore a b → ws ≡ v
 room_as a b ws vs same e r = subst (λ (u : Writes). HasRoom b (objects_of u)) (sym e) (room_before a b (objects_of vs) same r)
 
 pub refuses_as : (a b c : InSection) → a.at ≤ length a.seat.seen → IsAsBefore a b → GoesOn a b
-    → (may : Type 0) (found : InSection → InSection → ℕ → ℕ → Type 0) (ws vs : Writes) (cause answer : Cause) → ws ≡ vs → cause ≡ answer
-    → Refuses may found b c (objects_of ws) cause → Refuses may found a c (objects_of vs) answer
-refuses_as a b c le same goes may found ws vs cause answer e q r =
-    subst (λ (u : Writes). Refuses may found a c (objects_of u) answer) e (refuses_before a b c le same goes may found (objects_of ws) cause answer q r)
+    → (may : Type 0) (found : InSection → InSection → ℕ → ℕ → Type 0) (ws vs : Writes) (refusal answer : Refusal) → ws ≡ vs → refusal ≡ answer
+    → Refuses may found b c (objects_of ws) refusal → Refuses may found a c (objects_of vs) answer
+refuses_as a b c le same goes may found ws vs refusal answer e q r =
+    subst (λ (u : Writes). Refuses may found a c (objects_of u) answer) e (refuses_before a b c le same goes may found (objects_of ws) refusal answer q r)

@@ -1,5 +1,4 @@
 pub mod Places
-pub mod Held
 pub mod Calls
 pub mod Walks
 pub mod Spots

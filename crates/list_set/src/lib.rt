@@ -17,15 +17,15 @@
 //! key is there, its value, the least key that is not below one, and how many there are. `add_in`
 //! puts a key with its value into the catalogue, `put_in` gives a key that is there another value,
 //! and `del_in` takes a key out. A changing call also says which objects it locks and how it writes
-//! them, as a function of the state and its arguments (`specs/Places.antt`, `specs/Held.antt`):
+//! them, as a function of the state and its arguments (`specs/Places.antt`):
 //! whoever commits needs that to show the commit fit on every state to which others' commits may
 //! have led. A refusal carries the one lock that was refused, and leaves the state as it was.
 //!
 //! Each call of a key makes one walk: `find` reads the objects up to the key, and answers a `Spot`,
 //! which says whether the key is there and gives the writes of an add, a del or a put with no other
-//! read. A changing call decides by that spot alone, and ends with `rewrite`, which locks some
-//! objects in order and then writes them. The sets over trees end with it too. Who decides before
-//! anything is locked takes the spot and its writes, and then calls `rewrite`.
+//! read. A changing call decides by that spot alone, and ends with `section_work::rewrite`, which
+//! locks some objects in order and then writes them. Who decides before anything is locked takes the
+//! spot and its writes, and then calls `rewrite`.
 //!
 //! `find_near` answers as `find` does, and begins its walk at a finger (`Fingers`): a node where an
 //! earlier search of the same seat ended. Whether the node is still in the list it reads in its own
@@ -50,18 +50,16 @@
 //!
 //! # Its place
 //!
-//! It stands on `mv_history`, whose traits `View` and `Section` it is generic over, and on
-//! `set_script`, which has the definitions. It knows no store.
+//! It stands on `mv_history`, whose traits `View` and `Section` it is generic over, on `section_work`,
+//! whose `rewrite` locks and writes, and on `set_script`, which has the definitions. It knows no store.
 #![tactic(auto)]
 
 mod answers;
-mod change;
 mod fingers;
 mod lists;
 mod search;
 
-pub use answers::{Cause, Removed, SetStep};
-pub use change::rewrite;
+pub use answers::{Removed, SetStep};
 pub use fingers::{Fingers, find_near, next_near};
 pub use lists::{add_in, del_in, get_in, has_in, next_in, put_in, size_in, size_linked};
 pub use search::{Spot, find, find_linked};

@@ -7,17 +7,18 @@ ghost use Rattle.set_script.specs.Lawful.{IsLawful};
 ghost use Rattle.set_script.specs.Lists.{FitsHead};
 ghost use Rattle.set_script.specs.Objects.{owner};
 ghost use Rattle.list_set.specs.Places.{IsAddPlace, IsDelPlace, IsPutPlace};
-ghost use Rattle.list_set.specs.Held.{HasRoom};
+ghost use Rattle.section_work.specs.Held.{HasRoom};
 ghost use Rattle.list_set.specs.Linked.{IsLinked};
-ghost use Rattle.list_set.specs.Calls.{Adds, Takes, Puts, Refuses};
-ghost use Rattle.list_set.specs.declared.answers.Cause.{Cause};
+ghost use Rattle.list_set.specs.Calls.{Adds, Takes, Puts};
+ghost use Rattle.section_work.specs.Locking.{Refuses};
+ghost use Rattle.section_work.specs.declared.causes.Refusal.{Refusal};
 ghost use Rattle.list_set.specs.declared.answers.SetStep.TheVariants.{Yes, No, Again};
 ghost use Rattle.list_set.specs.declared.answers.Removed.TheVariants.{Took, Absent, Again as DelAgain};
 
 use crate::answers::{Removed, SetStep};
-use crate::change::rewrite;
 use crate::search::{KEY, find};
 use mv_history::{Section, View};
+use section_work::rewrite;
 
 /// Whether the list of this head has the key.
 ///
@@ -112,7 +113,7 @@ pub fn size_linked<V: View>(view: &mut V, head: u32) -> u64
 /// - `Yes`: both objects are held, and the section's state is lawful, with the key and its value
 ///   added. Only the predecessor's link and the words of the node changed.
 /// - `Again` only where the key is not there and the lock of one of the two was refused, with
-///   `Busy` or `Stale`, which the cause carries. The predecessor, if its lock was had, stays held.
+///   `Busy` or `Stale`, which the refusal carries. The predecessor, if its lock was had, stays held.
 ///   The section's state is as before. Over the plain store it never comes.
 pub fn add_in<S: Section>(section: &mut S, head: u32, key: u32, value: u64, node: u32) -> SetStep
     requires head_in { head < 170 }
@@ -126,8 +127,8 @@ pub fn add_in<S: Section>(section: &mut S, head: u32, key: u32, value: u64, node
     ensures no { (result ≡ No) ↔ (has_key key (map_at (state_of (S.section section.old)) head) ≡ true) }
     ensures unchanged { result ≡ No → S.as_before section.old section.new }
     ensures yes { result ≡ Yes → Adds (S.section section.old) (S.section section.new) head key value node }
-    ensures again { (cause : Cause) → result ≡ Again cause → (previous : ℕ) × IsAddPlace (state_of (S.section section.old)) head key previous
-        × Refuses S.may_refuse S.found_held (S.section section.old) (S.section section.new) (previous ∷ node ∷ []) cause }
+    ensures again { (refusal : Refusal) → result ≡ Again refusal → (previous : ℕ) × IsAddPlace (state_of (S.section section.old)) head key previous
+        × Refuses S.may_refuse S.found_held (S.section section.old) (S.section section.new) (previous ∷ node ∷ []) refusal }
 {
     let spot = find(section, head, key);
     if spot.has(key) {
@@ -135,7 +136,7 @@ pub fn add_in<S: Section>(section: &mut S, head: u32, key: u32, value: u64, node
     }
     match rewrite(section, &spot.add_writes(head, key, value, node)) {
         Ok(()) => SetStep::Yes,
-        Err(cause) => SetStep::Again(cause),
+        Err(refusal) => SetStep::Again(refusal),
     }
 }
 
@@ -150,7 +151,7 @@ pub fn add_in<S: Section>(section: &mut S, head: u32, key: u32, value: u64, node
 /// - `Yes`: the node is held, and the section's state is lawful, with the key at this value. Only
 ///   the value in the words of the node changed.
 /// - `Again` only where the key has another value and the lock of the node was refused, with `Busy`
-///   or `Stale`, which the cause carries. The section's state is as before. Over the plain store it
+///   or `Stale`, which the refusal carries. The section's state is as before. Over the plain store it
 ///   never comes.
 pub fn put_in<S: Section>(section: &mut S, head: u32, key: u32, value: u64) -> SetStep
     requires head_in { head < 170 }
@@ -160,8 +161,8 @@ pub fn put_in<S: Section>(section: &mut S, head: u32, key: u32, value: u64) -> S
     ensures no { (result ≡ No) ↔ (value_of key (map_at (state_of (S.section section.old)) head) ≡ Some value) }
     ensures unchanged { result ≡ No → S.as_before section.old section.new }
     ensures yes { result ≡ Yes → Puts (S.section section.old) (S.section section.new) head key value }
-    ensures again { (cause : Cause) → result ≡ Again cause → (node : ℕ) × IsPutPlace (state_of (S.section section.old)) head key node
-        × Refuses S.may_refuse S.found_held (S.section section.old) (S.section section.new) (node ∷ []) cause }
+    ensures again { (refusal : Refusal) → result ≡ Again refusal → (node : ℕ) × IsPutPlace (state_of (S.section section.old)) head key node
+        × Refuses S.may_refuse S.found_held (S.section section.old) (S.section section.new) (node ∷ []) refusal }
 {
     let spot = find(section, head, key);
     if spot.node_words[5] == value {
@@ -169,7 +170,7 @@ pub fn put_in<S: Section>(section: &mut S, head: u32, key: u32, value: u64) -> S
     }
     match rewrite(section, &spot.put_writes(value)) {
         Ok(()) => SetStep::Yes,
-        Err(cause) => SetStep::Again(cause),
+        Err(refusal) => SetStep::Again(refusal),
     }
 }
 
@@ -187,7 +188,7 @@ pub fn put_in<S: Section>(section: &mut S, head: u32, key: u32, value: u64) -> S
 /// - `Took`: both objects are held, and the section's state is lawful, without the key. Its node is
 ///   vacant, all zero, and else only the predecessor's link changed. `inner` is 0.
 /// - `Again` only where the key is there and the lock of one of the two was refused, with `Busy` or
-///   `Stale`, which the cause carries. The predecessor, if its lock was had, stays held. The
+///   `Stale`, which the refusal carries. The predecessor, if its lock was had, stays held. The
 ///   section's state is as before. Over the plain store it never comes.
 pub fn del_in<S: Section>(section: &mut S, head: u32, key: u32) -> Removed
     requires head_in { head < 170 }
@@ -197,9 +198,9 @@ pub fn del_in<S: Section>(section: &mut S, head: u32, key: u32) -> Removed
     ensures absent { (result ≡ Absent) ↔ (has_key key (map_at (state_of (S.section section.old)) head) ≡ false) }
     ensures unchanged { result ≡ Absent → S.as_before section.old section.new }
     ensures took { (node inner : ℕ) → result ≡ Took node inner → (inner ≡ 0) × Takes (S.section section.old) (S.section section.new) head key node }
-    ensures again { (cause : Cause) → result ≡ DelAgain cause
+    ensures again { (refusal : Refusal) → result ≡ DelAgain refusal
         → (previous node : ℕ) × IsDelPlace (state_of (S.section section.old)) head key previous node
-        × Refuses S.may_refuse S.found_held (S.section section.old) (S.section section.new) (previous ∷ node ∷ []) cause }
+        × Refuses S.may_refuse S.found_held (S.section section.old) (S.section section.new) (previous ∷ node ∷ []) refusal }
 {
     let spot = find(section, head, key);
     if !spot.has(key) {
@@ -210,6 +211,6 @@ pub fn del_in<S: Section>(section: &mut S, head: u32, key: u32) -> Removed
             node: spot.node,
             inner: 0,
         },
-        Err(cause) => Removed::Again(cause),
+        Err(refusal) => Removed::Again(refusal),
     }
 }

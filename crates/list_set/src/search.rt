@@ -1,7 +1,7 @@
 // The search for a key, and what a change writes where it ended.
 ghost use Rattle.std.specs.Prelude.{◌≡◌, ◌<◌, ◌≤◌, ◌==◌, ◌&&◌, not, [], ◌∷◌, length, slice_index_or};
 ghost use Rattle.set_script.specs.Lawful.{IsLawful};
-ghost use Rattle.set_script.specs.OwnWrites.{objects_of};
+ghost use Rattle.section_work.specs.OwnWrites.{objects_of};
 ghost use Rattle.list_set.specs.Linked.{IsLinked};
 ghost use Rattle.list_set.specs.Walks.{IsBehind};
 ghost use Rattle.list_set.specs.Spots.{EndsHere, AreAddWrites, AreDelWrites, ArePutWrites};

@@ -11,8 +11,8 @@ use Rattle.mv_history.specs.declared.history.Entry.TheVariants.{Change}
 use Rattle.set_script.specs.Catalogue.{Maps}
 use Rattle.set_script.specs.Replies.{reply}
 use Rattle.set_script.specs.declared.commands.Command.{Command}
-use Rattle.set_script.specs.declared.commands.Place.{Place}
-use Rattle.set_script.specs.declared.commands.Place.TheVariants.{Commit as AtCommit, Read}
+use Rattle.section_work.specs.declared.place.Place.{Place}
+use Rattle.section_work.specs.declared.place.Place.TheVariants.{Commit as AtCommit, Read}
 use Rattle.set_script.specs.declared.commands.Reply.{Reply}
 use Rattle.run_report.specs.declared.line.Line.{Line}
 use Rattle.run_report.specs.Order.{time_of}

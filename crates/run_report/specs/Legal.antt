@@ -28,8 +28,8 @@ use Rattle.mv_history.specs.declared.history.TheConstants.{LAST}
 use Rattle.set_script.specs.Catalogue.{Maps, empty}
 use Rattle.set_script.specs.Replies.{reply, changes, next}
 use Rattle.set_script.specs.declared.commands.Command.{Command}
-use Rattle.set_script.specs.declared.commands.Place.{Place}
-use Rattle.set_script.specs.declared.commands.Place.TheVariants.{Commit, Read}
+use Rattle.section_work.specs.declared.place.Place.{Place}
+use Rattle.section_work.specs.declared.place.Place.TheVariants.{Commit, Read}
 use Rattle.run_report.specs.declared.line.Line.{Line}
 use Rattle.run_report.specs.Order.{time_of, IsOrdered}
 

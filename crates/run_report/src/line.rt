@@ -9,7 +9,8 @@ ghost use Rattle.run_report.specs.Order.{order_key, IsOrdered};
 ghost use Rattle.run_report.specs.Whole.{RunOf};
 ghost use Rattle.run_report.specs.Worked.{Past};
 
-use set_script::{Place, Reply};
+use section_work::Place;
+use set_script::Reply;
 
 /// What one command of a run replied, and where it took place.
 #[derive(Clone, Copy, Debug, Drop, PartialEq, Eq)]

@@ -19,7 +19,8 @@ ghost use Rattle.run_report.specs.Text.{
 use crate::line::Line;
 use itoa::Buffer;
 use mv_history::LogTable;
-use set_script::{Catalogue, Place, Reply};
+use set_script::{Catalogue, Reply};
+use section_work::Place;
 use std::alloc::{AllocError, Global};
 
 // How many sets there are.

@@ -50,14 +50,14 @@ use Rattle.set_script.specs.Objects.{first_node}
 use Rattle.set_script.specs.Replies.{reply, changes}
 use Rattle.set_script.specs.Rules.{capacity, IsSetCommit}
 use Rattle.set_script.specs.declared.commands.Command.{Command}
-use Rattle.set_script.specs.declared.commands.Place.{Place}
-use Rattle.set_script.specs.declared.commands.Place.TheVariants.{Commit as AtCommit, Read}
+use Rattle.section_work.specs.declared.place.Place.{Place}
+use Rattle.section_work.specs.declared.place.Place.TheVariants.{Commit as AtCommit, Read}
 use Rattle.set_script.specs.declared.commands.Reply.{Reply}
-use Rattle.list_set.specs.declared.answers.Cause.{Cause}
+use Rattle.section_work.specs.declared.causes.Cause.{Cause}
 use Rattle.set_catalog.specs.declared.answer.Attempt.{Attempt}
 use Rattle.set_catalog.specs.declared.answer.Attempt.TheVariants.{Done, Again}
 use Rattle.set_catalog.specs.Attempts.{IsDoneBy, IsRead, GivesUp, Attempted}
-use Rattle.set_catalog.specs.Causes.{Causes}
+use Rattle.section_work.specs.Causes.{Causes}
 use Rattle.set_catalog.proofs.Outcomes.{read_continues, read_within}
 use Rattle.run_report.specs.Legal.{Follows}
 use Rattle.run_report.specs.Order.{time_of}

@@ -10,7 +10,8 @@ use mv_history::Store;
 use run_outside::Gate;
 use run_report::Line;
 use set_catalog::{Attempt, HintedStore};
-use set_script::{Command, Place, Reply, SetRules};
+use set_script::{Command, Reply, SetRules};
+use section_work::Place;
 use std::sync::Wait;
 
 // A store with its hints, its seat's number, its script, and the lines that it has made, for all of which there is room.

@@ -7,28 +7,26 @@ use Rattle.mv_history.specs.declared.answers.Holder.{Holder}
 use Rattle.mv_history.specs.declared.answers.Rival.{Rival as RivalEntry}
 use Rattle.mv_history.specs.Drift.{IsFit}
 use Rattle.mv_history.specs.Legal.{AreWithin}
-use Rattle.mv_history.specs.Meaning.{Seat, InSection, Holds, IsSeat, snapshot_of, state_of}
+use Rattle.mv_history.specs.Meaning.{Seat, InSection, Holds, IsSeat, snapshot_of, state_of, state_of_time}
 use Rattle.mv_history.specs.Trail.{commit_exchanges, IsOneLost}
 use Rattle.mv_history.specs.Calls.{call_trail, Continues, IsAsBefore, GoesOn, Prepares, Enters, Leaves, Commits, Overtakes, commit_by}
 use Rattle.mv_history.proofs.Snapshots.{snapshot_of-goes_on}
 use Rattle.mv_history.proofs.Steps.{Continues-Continues, GoesOn-GoesOn, length-seen, state_at-later}
 use Rattle.set_script.specs.Lawful.{IsLawful, IsOpening}
-use Rattle.set_script.specs.OwnWrites.{with_lock, with_locks, with_writes, objects_of}
+use Rattle.section_work.specs.OwnWrites.{with_lock, with_locks, with_writes, objects_of}
 use Rattle.set_script.specs.declared.commands.Command.{Command}
-use Rattle.set_script.specs.declared.commands.Place.TheVariants.{Commit as AtCommit, Read}
+use Rattle.section_work.specs.declared.place.Place.TheVariants.{Commit as AtCommit, Read}
 use Rattle.set_script.specs.declared.commands.Reply.{Reply}
-use Rattle.set_script.proofs.OwnWrites.{own_from_none, touches-with_lock}
-use Rattle.set_script.proofs.TreeShape.{IsIn, in_left, in_right}
-use Rattle.set_script.proofs.Written.{touches-in}
-use Rattle.list_set.specs.Calls.{Rewritten, Refuses, IsCause}
-use Rattle.list_set.specs.Held.{count_unheld, HasRoom}
-use Rattle.list_set.specs.declared.answers.Cause.{Cause}
-use Rattle.list_set.specs.declared.answers.Cause.TheVariants.{Busy, Stale, SetFull, NoSlot, Rival, LogFull}
-use Rattle.set_catalog.specs.Attempts.{state_of_time}
-use Rattle.set_catalog.specs.Causes.{Causes}
-use Rattle.set_catalog.specs.Steps.{Stops}
-use Rattle.set_catalog.proofs.LawfulTimes.{reads_snapshot}
-use Rattle.set_catalog.proofs.Rooms.{stops_after}
+use Rattle.section_work.proofs.OwnWrites.{own_from_none, touches-with_lock}
+use Rattle.section_work.proofs.Objects.{IsIn, in_left, in_right, touches-in}
+use Rattle.section_work.specs.Locking.{Rewritten, Refuses, Stops}
+use Rattle.section_work.specs.Held.{count_unheld, HasRoom}
+use Rattle.section_work.specs.declared.causes.Refusal.{Refusal}
+use Rattle.section_work.specs.declared.causes.Cause.{Cause}
+use Rattle.section_work.specs.declared.causes.Cause.TheVariants.{Lock, Rival, LogFull}
+use Rattle.section_work.specs.Causes.{Causes}
+use Rattle.section_work.proofs.Entering.{reads_snapshot}
+use Rattle.section_work.proofs.Stopping.{stops_after}
 use Rattle.set_blocks.specs.Blocks.{IsBlock}
 use Rattle.set_blocks.specs.BlockAttempts.{
   replies_in,
@@ -110,10 +108,10 @@ module _ (found locked : InSection) (commands : List Command) (answers : List Re
             (runs_fit commands (state_of found) ws answers true runs l block.some block.few));
       }
 
-  pub stops_by : (may_refuse : Type 0) (found_held : InSection → InSection → ℕ → ℕ → Type 0) (cause : Cause)
-      → Refuses may_refuse found_held found locked (objects_of ws) cause
-      → Stops may_refuse found_held (λ o. touches ws o ≡ true) found locked cause
-  stops_by may_refuse found_held cause r = record {
+  pub stops_by : (may_refuse : Type 0) (found_held : InSection → InSection → ℕ → ℕ → Type 0) (refusal : Refusal)
+      → Refuses may_refuse found_held found locked (objects_of ws) refusal
+      → Stops may_refuse found_held (λ o. touches ws o ≡ true) found locked refusal
+  stops_by may_refuse found_held refusal r = record {
     object = r.object;
     named =
         touches-in ws r.object (subst (λ os. IsIn r.object os) (sym r.parts) (in_right r.held (r.object ∷ r.rest) r.object (inl refl)));
@@ -123,9 +121,9 @@ module _ (found locked : InSection) (commands : List Command) (answers : List Re
   }
 
   -- what is held then is planned
-  pub held_by : (may_refuse : Type 0) (found_held : InSection → InSection → ℕ → ℕ → Type 0) (cause : Cause)
-      → Refuses may_refuse found_held found locked (objects_of ws) cause → (o : ℕ) → Holds locked o → touches ws o ≡ true
-  held_by may_refuse found_held cause r o h =
+  pub held_by : (may_refuse : Type 0) (found_held : InSection → InSection → ℕ → ℕ → Type 0) (refusal : Refusal)
+      → Refuses may_refuse found_held found locked (objects_of ws) refusal → (o : ℕ) → Holds locked o → touches ws o ≡ true
+  held_by may_refuse found_held refusal r o h =
       let own : locked.own ≡ with_locks (state_of found) [] r.held =
       r.refused.as_before.own ∙ r.holds.own ∙ ap (λ (u : Writes). with_locks (state_of found) u r.held) none in
       let had = locked_in (state_of found) [] r.held o (subst (λ (u : Writes). touches u o ≡ true) own h) in
@@ -187,36 +185,24 @@ read_at k old before entered found new commands answers last time came mine e to
     }
 
 -- A change that was given up in its section.
-pub stopped_in : (k : Causes) (found left : InSection) (new : Seat) (commands : List Command) (answers : List Reply) (ws : Writes) (cause : Cause)
+pub stopped_in : (k : Causes) (found left : InSection) (new : Seat) (commands : List Command) (answers : List Reply) (ws : Writes) (refusal : Refusal)
     → found.own ≡ [] → BlockPlan (state_of found) commands ws answers true
-    → Stops k.may_refuse k.found_held (λ o. touches ws o ≡ true) found left cause → ((o : ℕ) → Holds left o → touches ws o ≡ true)
-    → Leaves left new → BlockGivesUpIn k found new commands cause
-stopped_in k found left new commands answers ws cause none plan x held gone =
+    → Stops k.may_refuse k.found_held (λ o. touches ws o ≡ true) found left refusal → ((o : ℕ) → Holds left o → touches ws o ≡ true)
+    → Leaves left new → BlockGivesUpIn k found new commands (Lock refusal)
+stopped_in k found left new commands answers ws refusal none plan x held gone =
     let goes : GoesOn found left = GoesOn-GoesOn x.goes_on x.refused.goes_on in
     record {
       continues = Continues-Continues goes.continues gone.continues;
       mine = gone.mine ∙ goes.mine;
-      why = why cause x x.refused.why;
+      why = record {
+        writes = ws;
+        planned = (answers, subst (λ (s : State). BlockPlan s commands ws answers true) (reads_snapshot found none) plan);
+        left = left;
+        stops = x;
+        held = held;
+        leaves = gone;
+      };
     }
-  where
-    stop : (c : Cause) → Stops k.may_refuse k.found_held (λ o. touches ws o ≡ true) found left c → IsBlockStopped k commands found new c
-    stop c y = record {
-      writes = ws;
-      planned = (answers, subst (λ (s : State). BlockPlan s commands ws answers true) (reads_snapshot found none) plan);
-      left = left;
-      stops = y;
-      held = held;
-      leaves = gone;
-    }
-
-    why : (c : Cause) (y : Stops k.may_refuse k.found_held (λ o. touches ws o ≡ true) found left c)
-        → IsCause k.may_refuse k.found_held y.before left y.object c → IsBlockWhy k (λ holder. ⊥) commands found new c
-    why (Busy object seat) y q = stop (Busy object seat) y
-    why (Stale object time) y q = stop (Stale object time) y
-    why (SetFull object) y q = absurd q
-    why (NoSlot object) y q = absurd q
-    why (Rival rival) y q = absurd q
-    why (LogFull holder) y q = absurd q
 
 pub overtaken_in : (k : Causes) (found locked left : InSection) (new : Seat) (commands : List Command) (answers : List Reply) (rival : RivalEntry)
     → found.own ≡ [] → k.may_refuse → IsBlockReady commands answers found locked → IsAsBefore locked left
@@ -290,21 +276,18 @@ why_earlier k held_back entered found new commands cause goes le w = go cause w
     same : snapshot_of found ≡ snapshot_of entered
     same = snapshot_of-goes_on entered found goes le
 
-    stop : (c : Cause) → IsBlockStopped k commands found new c → IsBlockStopped k commands entered new c
-    stop c w = record {
+    stop : (r : Refusal) → IsBlockStopped k commands found new r → IsBlockStopped k commands entered new r
+    stop r w = record {
       writes = w.writes;
       planned = (w.planned.0, subst (λ (s : State). BlockPlan s commands w.writes w.planned.0 true) same w.planned.1);
       left = w.left;
-      stops = stops_after k.may_refuse k.found_held _ entered found w.left c goes w.stops;
+      stops = stops_after k.may_refuse k.found_held _ entered found w.left r goes w.stops;
       held = w.held;
       leaves = w.leaves;
     }
 
     go : (c : Cause) → IsBlockWhy k (λ holder. ⊥) commands found new c → IsBlockWhy k held_back commands entered new c
-    go (Busy object seat) w = stop (Busy object seat) w
-    go (Stale object time) w = stop (Stale object time) w
-    go (SetFull object) w = absurd w
-    go (NoSlot object) w = absurd w
+    go (Lock refusal) w = stop refusal w
     go (Rival rival) w = (
       w.0,
       record {

@@ -9,7 +9,7 @@ use Rattle.mv_history.specs.declared.history.Entry.{Entry}
 use Rattle.mv_history.specs.declared.history.Entry.TheVariants.{Change}
 use Rattle.mv_history.specs.State.{written, state_after, state_at}
 use Rattle.mv_history.specs.Legal.{IsNext, IsAllowed}
-use Rattle.mv_history.specs.Meaning.{Seat, InSection, IsSeat, IsSection, state_of}
+use Rattle.mv_history.specs.Meaning.{Seat, InSection, IsSeat, IsSection, state_of, state_of_time}
 use Rattle.mv_history.specs.Calls.{IsEntryAt}
 use Rattle.mv_history.proofs.Writing.{state_after-append}
 use Rattle.mv_history.proofs.Histories.{IsAllowed-front, split_at}
@@ -18,8 +18,7 @@ use Rattle.set_script.specs.declared.commands.Reply.{Reply}
 use Rattle.set_script.specs.CatalogueOf.{catalogue_of}
 use Rattle.set_script.specs.Lawful.{IsLawful, IsOpening}
 use Rattle.set_script.specs.Rules.{capacity}
-use Rattle.set_catalog.specs.Attempts.{state_of_time}
-use Rattle.set_catalog.proofs.LawfulTimes.{reads_snapshot}
+use Rattle.section_work.proofs.Entering.{reads_snapshot}
 use Rattle.set_blocks.specs.BlockAttempts.{replies_in, block_changes_in}
 use Rattle.set_blocks.specs.BlockPlans.{BlockPlan}
 use Rattle.set_blocks.specs.BlockReplies.{block_next, after_turns}

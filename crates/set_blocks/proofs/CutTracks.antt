@@ -7,8 +7,8 @@ use Rattle.set_script.specs.Trees.{IsGrown, seek, EndsAt}
 use Rattle.set_script.specs.Trees.Tree.{leaf}
 use Rattle.set_script.specs.Lawful.{IsLawful}
 use Rattle.set_script.proofs.ObjectWords.{word}
-use Rattle.set_script.proofs.TreeShape.{IsIn, seek_in, Stands-owner}
-use Rattle.set_script.proofs.Written.{in-touches}
+use Rattle.section_work.proofs.Objects.{IsIn, in-touches}
+use Rattle.set_script.proofs.TreeShape.{seek_in, Stands-owner}
 use Rattle.tree_set.specs.Paths.{Turn, Path, plug}
 use Rattle.tree_set.specs.Places.{IsCutPlace, cut_writes, sibling}
 use Rattle.tree_set.proofs.Plugging.{distinct_part, stands_part, seek_plug, seek_beside}

@@ -13,7 +13,7 @@ use Rattle.set_script.specs.Catalogue.{Map, Maps, map_of, has_key, value_of}
 use Rattle.set_script.specs.CatalogueOf.{name_of, catalogue_of}
 use Rattle.set_script.specs.Objects.{key, value}
 use Rattle.set_script.specs.Lawful.{IsLawful}
-use Rattle.set_script.specs.OwnWrites.{objects_of}
+use Rattle.section_work.specs.OwnWrites.{objects_of}
 use Rattle.set_script.specs.Replies.{changed, applies, overflows, value_reply, reply, changes, next}
 use Rattle.set_script.specs.Rules.{capacity, IsInRange}
 use Rattle.set_script.specs.Trees.{EndsAt, seek}
@@ -24,8 +24,8 @@ use Rattle.set_script.proofs.ListMaps.{map_at-holds}
 use Rattle.set_script.proofs.MapLemmas.{has_key-some}
 use Rattle.set_script.proofs.Mapped.{map_of-catalogue_of}
 use Rattle.set_script.proofs.TreeMaps.{map_of-root, seek_leaf}
-use Rattle.set_script.proofs.TreeShape.{IsIn, in_left, in_right, only_in}
-use Rattle.set_script.proofs.Written.{touches-in}
+use Rattle.section_work.proofs.Objects.{IsIn, in_left, in_right, touches-in}
+use Rattle.set_script.proofs.TreeShape.{only_in}
 use Rattle.list_set.proofs.Adding.{add_absent}
 use Rattle.list_set.proofs.ListHalves.{node_has}
 use Rattle.list_set.proofs.Removing.{removal}

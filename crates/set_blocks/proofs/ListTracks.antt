@@ -8,8 +8,7 @@ use Rattle.set_script.specs.Lawful.{IsLawful}
 use Rattle.set_script.proofs.ObjectWords.{word}
 use Rattle.set_script.proofs.Chains.{Links-right}
 use Rattle.set_script.proofs.Heads.{owned_kind}
-use Rattle.set_script.proofs.TreeShape.{IsIn}
-use Rattle.set_script.proofs.Written.{touches-in, in-touches}
+use Rattle.section_work.proofs.Objects.{IsIn, touches-in, in-touches}
 use Rattle.list_set.specs.Places.{IsInList, IsAddPlace, add_writes, IsDelPlace, del_writes, IsPutPlace, put_writes}
 use Rattle.list_set.proofs.Changes.{Added, Taken}
 use Rattle.list_set.proofs.Parts.{part_at, whole_list, place_in_range, place_not_vacant}

@@ -10,11 +10,10 @@ use Rattle.set_script.specs.declared.commands.Command.TheVariants.{Add, Put, Del
 use Rattle.set_script.specs.declared.commands.Reply.{Reply}
 use Rattle.set_script.specs.Lawful.{IsLawful}
 use Rattle.set_script.specs.Objects.{value}
-use Rattle.set_script.specs.OwnWrites.{objects_of}
+use Rattle.section_work.specs.OwnWrites.{objects_of}
 use Rattle.set_script.specs.Rules.{IsInRange}
-use Rattle.set_script.proofs.TreeShape.{IsIn, in_either}
+use Rattle.section_work.proofs.Objects.{IsIn, in_either, in-touches, touches-in}
 use Rattle.set_script.proofs.Ways.{IsAt}
-use Rattle.set_script.proofs.Written.{in-touches, touches-in}
 use Rattle.list_set.specs.Places.{del_writes, put_writes}
 use Rattle.tree_set.proofs.Around.{at_in_range}
 use Rattle.tree_set.proofs.TreeWays.{ends_at_root}

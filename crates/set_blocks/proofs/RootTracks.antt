@@ -9,8 +9,7 @@ use Rattle.set_script.specs.Trees.Tree.{leaf}
 use Rattle.set_script.specs.TreeLaws.{top_is_node}
 use Rattle.set_script.specs.Lawful.{IsLawful}
 use Rattle.set_script.proofs.ObjectWords.{word, kind-revalue, owned_in_range}
-use Rattle.set_script.proofs.TreeShape.{IsIn}
-use Rattle.set_script.proofs.Written.{in-touches}
+use Rattle.section_work.proofs.Objects.{IsIn, in-touches}
 use Rattle.set_script.proofs.Ways.{IsVacant}
 use Rattle.list_set.specs.Places.{put_writes}
 use Rattle.tree_set.specs.Paths.{Path, plug, Follows}

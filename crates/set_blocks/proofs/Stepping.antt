@@ -14,13 +14,14 @@ use Rattle.set_script.specs.CatalogueOf.{catalogue_of}
 use Rattle.set_script.specs.Replies.{reply, changes, next}
 use Rattle.set_script.specs.Rules.{capacity, Keeps}
 use Rattle.set_script.specs.Objects.{first_node, first_root, owner, kind, key, link}
-use Rattle.set_script.specs.OwnWrites.{with_locks, objects_of}
+use Rattle.section_work.specs.OwnWrites.{with_locks, objects_of}
 use Rattle.set_script.specs.Trees.{Tree, objects_in, Stands, IsTree, EndsAt}
 use Rattle.set_script.specs.Trees.Tree.{leaf, inner}
 use Rattle.set_script.specs.Lawful.{IsLawful}
 use Rattle.set_script.proofs.ObjectWords.{word}
-use Rattle.set_script.proofs.OwnWrites.{touches-with_locks, distinct-with_locks, written-with_locks, written-with_writes}
-use Rattle.set_script.proofs.TreeShape.{IsIn, in_either, only_in}
+use Rattle.section_work.proofs.OwnWrites.{touches-with_locks, distinct-with_locks, written-with_locks, written-with_writes}
+use Rattle.section_work.proofs.Objects.{IsIn, in_either}
+use Rattle.set_script.proofs.TreeShape.{only_in}
 use Rattle.list_set.specs.Places.{IsInList}
 use Rattle.set_catalog.specs.Merges.{merged}
 use Rattle.set_catalog.proofs.Merging.{merged-is, merged-distinct, touches-merged}

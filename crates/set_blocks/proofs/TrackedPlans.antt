@@ -6,8 +6,7 @@ use Rattle.set_script.specs.CatalogueOf.{name_of, catalogue_of}
 use Rattle.set_script.specs.Objects.{value}
 use Rattle.set_script.specs.Lawful.{IsLawful}
 use Rattle.set_script.specs.Rules.{Keeps}
-use Rattle.set_script.proofs.TreeShape.{IsIn, in_left, in_right}
-use Rattle.set_script.proofs.Written.{touches-in}
+use Rattle.section_work.proofs.Objects.{IsIn, in_left, in_right, touches-in}
 use Rattle.set_script.proofs.Ways.{AreVacant, Way, Lacks, Has, HasOther}
 use Rattle.list_set.proofs.ListHalves.{node_has}
 use Rattle.list_set.proofs.ListWays.{list_add_way, list_del_way, list_put_way}

@@ -9,9 +9,8 @@ use Rattle.set_script.specs.Objects.{key, link}
 use Rattle.set_script.specs.Trees.{EndsAt}
 use Rattle.set_script.specs.Lawful.{IsLawful}
 use Rattle.set_script.proofs.ObjectWords.{word}
-use Rattle.set_script.proofs.TreeShape.{IsIn, in_either}
-use Rattle.set_script.proofs.Written.{in-touches}
-use Rattle.set_script.proofs.OwnWrites.{words-written_as}
+use Rattle.section_work.proofs.Objects.{IsIn, in_either, in-touches}
+use Rattle.section_work.proofs.OwnWrites.{words-written_as}
 use Rattle.set_script.proofs.Frames.{ends_stay}
 use Rattle.set_script.proofs.Halves.{Half, within_back}
 use Rattle.set_script.proofs.Ways.{AreVacant, Way, vacant_same}

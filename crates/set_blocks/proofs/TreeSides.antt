@@ -5,7 +5,8 @@ use Rattle.mv_history.specs.Meaning.{words_at}
 use Rattle.set_script.specs.Trees.{Tree, top, objects_in, IsDistinct, AllBelow, AllFrom, IsOrdered, Stands, seek}
 use Rattle.set_script.specs.Trees.Tree.{leaf, inner}
 use Rattle.set_script.proofs.ObjectWords.{word}
-use Rattle.set_script.proofs.TreeShape.{IsIn, seek_in, seek_left, seek_right, top_in}
+use Rattle.section_work.proofs.Objects.{IsIn}
+use Rattle.set_script.proofs.TreeShape.{seek_in, seek_left, seek_right, top_in}
 use Rattle.tree_set.specs.Paths.{Turn, Path, plug, node_of, Follows, around}
 use Rattle.tree_set.specs.Paths.Turn.{left, right}
 use Rattle.tree_set.proofs.Plugging.{plug_in, plug_apart, ordered_part, ordered_within, IsWithin, seek_plug}

@@ -10,8 +10,7 @@ use Rattle.set_script.specs.Trees.Tree.{leaf}
 use Rattle.set_script.specs.TreeLaws.{grown_once}
 use Rattle.set_script.specs.Lawful.{IsLawful}
 use Rattle.set_script.proofs.ObjectWords.{word}
-use Rattle.set_script.proofs.TreeShape.{IsIn}
-use Rattle.set_script.proofs.Written.{in-touches}
+use Rattle.section_work.proofs.Objects.{IsIn, in-touches}
 use Rattle.set_script.proofs.Ways.{IsVacant}
 use Rattle.tree_set.specs.Paths.{Path, plug, Follows}
 use Rattle.tree_set.specs.Places.{IsParent, IsGrowPlace, grow_writes}

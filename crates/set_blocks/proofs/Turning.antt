@@ -17,7 +17,7 @@ use Rattle.set_script.specs.Lawful.{IsLawful}
 use Rattle.set_script.specs.Replies.{applies, overflows, value_reply}
 use Rattle.set_script.specs.Rules.{capacity}
 use Rattle.set_script.proofs.Entries.{has_entry-value, has_entry-absent}
-use Rattle.set_script.proofs.Written.{touches-in}
+use Rattle.section_work.proofs.Objects.{touches-in}
 use Rattle.set_catalog.specs.Merges.{merged, merged_one}
 use Rattle.set_catalog.specs.Picks.{count_vacant, vacant_nodes}
 use Rattle.set_catalog.specs.Replies.{reply_in, changes_in}

@@ -4,19 +4,20 @@ use Rattle.mv_history.specs.State.{State, Writes, touches, state_at}
 use Rattle.mv_history.specs.declared.history.Commit.{Commit}
 use Rattle.mv_history.specs.declared.history.Entry.TheVariants.{Change}
 use Rattle.mv_history.specs.declared.answers.Holder.{Holder}
-use Rattle.mv_history.specs.Meaning.{Seat, InSection, Holds, snapshot_of}
+use Rattle.mv_history.specs.Meaning.{Seat, InSection, Holds, snapshot_of, state_of_time}
 use Rattle.mv_history.specs.Trail.{commit_exchanges, IsOneLost}
 use Rattle.mv_history.specs.Calls.{call_trail, Continues, IsAsBefore, GoesOn, Prepares, Leaves, IsEntryAt, Overtakes}
 use Rattle.set_script.specs.declared.commands.Command.{Command}
 use Rattle.set_script.specs.declared.commands.Reply.{Reply}
-use Rattle.set_script.specs.declared.commands.Place.TheVariants.{Commit as AtCommit, Read}
+use Rattle.section_work.specs.declared.place.Place.TheVariants.{Commit as AtCommit, Read}
 use Rattle.set_script.specs.CatalogueOf.{catalogue_of}
 use Rattle.set_script.specs.Rules.{capacity}
-use Rattle.list_set.specs.declared.answers.Cause.{Cause}
-use Rattle.list_set.specs.declared.answers.Cause.TheVariants.{Busy, Stale, SetFull, NoSlot, Rival, LogFull}
-use Rattle.set_catalog.specs.Causes.{Causes}
-use Rattle.set_catalog.specs.Attempts.{state_of_time, IsEntered}
-use Rattle.set_catalog.specs.Steps.{Stops}
+use Rattle.section_work.specs.declared.causes.Refusal.{Refusal}
+use Rattle.section_work.specs.declared.causes.Cause.{Cause}
+use Rattle.section_work.specs.declared.causes.Cause.TheVariants.{Lock, Rival, LogFull}
+use Rattle.section_work.specs.Causes.{Causes}
+use Rattle.section_work.specs.Sections.{IsEntered}
+use Rattle.section_work.specs.Locking.{Stops}
 use Rattle.set_blocks.specs.BlockReplies.{block_replies, block_changes, block_next}
 use Rattle.set_blocks.specs.BlockRules.{block_tag}
 use Rattle.set_blocks.specs.BlockPlans.{BlockPlan}
@@ -71,20 +72,17 @@ pub record IsBlockOvertaken (k : Causes) (commands : List Command) (entered : In
 
 -- One lock was refused. Its object, and all that were locked before it, are of what the block locks or holds in the section's snapshot; the
 -- section was then given up.
-pub record IsBlockStopped (k : Causes) (commands : List Command) (entered : InSection) (new : Seat) (cause : Cause) : Type 0 where
+pub record IsBlockStopped (k : Causes) (commands : List Command) (entered : InSection) (new : Seat) (refusal : Refusal) : Type 0 where
   pub writes : Writes
   pub planned : (said : List Reply) × BlockPlan (snapshot_of entered) commands writes said true
   pub left : InSection
-  pub stops : Stops k.may_refuse k.found_held (λ o. touches writes o ≡ true) entered left cause
+  pub stops : Stops k.may_refuse k.found_held (λ o. touches writes o ≡ true) entered left refusal
   pub held : (o : ℕ) → Holds left o → touches writes o ≡ true
   pub leaves : Leaves left new
 
 -- why the change that a section was to make was given up
 abbrev pub IsBlockWhy : Causes → (Holder → Type 0) → List Command → InSection → Seat → Cause → Type 0
-IsBlockWhy k held_back commands entered new (Busy object seat) = IsBlockStopped k commands entered new (Busy object seat)
-IsBlockWhy k held_back commands entered new (Stale object time) = IsBlockStopped k commands entered new (Stale object time)
-IsBlockWhy k held_back commands entered new (SetFull object) = ⊥
-IsBlockWhy k held_back commands entered new (NoSlot object) = ⊥
+IsBlockWhy k held_back commands entered new (Lock refusal) = IsBlockStopped k commands entered new refusal
 IsBlockWhy k held_back commands entered new (Rival rival) = k.may_refuse × IsBlockOvertaken k commands entered new rival.seat rival.time
 IsBlockWhy k held_back commands entered new (LogFull holder) = k.may_refuse × held_back holder
 

@@ -1,7 +1,6 @@
 // What attempts of blocks answer.
 use crate::replies::Replies;
-use list_set::Cause;
-use set_script::Place;
+use section_work::{Cause, Place};
 
 /// What an attempt of a block answers.
 #[derive(Drop)]

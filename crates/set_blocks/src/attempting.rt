@@ -2,8 +2,8 @@
 ghost use Rattle.std.specs.Prelude.{◌≡◌, ◌*◌, ◌≤◌, true, [], length, take};
 ghost use Rattle.mv_history.specs.Meaning.{state_of, IsWorn};
 ghost use Rattle.mv_history.specs.Calls.{Continues, NamesNoCommit};
-ghost use Rattle.set_catalog.specs.Attempts.{TriesOne};
-ghost use Rattle.set_catalog.specs.Causes.{causes};
+ghost use Rattle.section_work.specs.Sections.{TriesOne};
+ghost use Rattle.section_work.specs.Causes.{causes};
 ghost use Rattle.set_blocks.specs.Blocks.{IsBlock};
 ghost use Rattle.set_blocks.specs.BlockAttempts.{BlockAttempted};
 ghost use Rattle.set_blocks.specs.BlockFindings.{IsBlockFound};
@@ -17,9 +17,9 @@ use crate::finding::{BlockFinding, find_block};
 use crate::overlay::Overlay;
 use crate::replies::Replies;
 use crate::rules::BlockRules;
-use list_set::Cause;
 use mv_history::{CommitAnswer, Room, Section, Store, Tag};
-use set_script::{Command, Place};
+use section_work::{Cause, Place};
+use set_script::Command;
 
 /// Attempts a block in one section of the store, and gives the store back.
 ///
@@ -122,7 +122,9 @@ fn commit_block<S: Store<Rules = BlockRules>>(
 {
     let section = match overlay.write_through() {
         Ok(section) => section,
-        Err((section, cause)) => return (section.abort(), BlockAttempt::Again(cause)),
+        Err((section, refusal)) => {
+            return (section.abort(), BlockAttempt::Again(Cause::Lock(refusal)));
+        }
     };
     match section.try_commit(tag(commands)) {
         CommitAnswer::Done(store, time) => {

@@ -3,13 +3,13 @@ ghost use Rattle.std.specs.Prelude.{◌≡◌, ◌+◌, ◌<◌, ◌≤◌, true
 ghost use Rattle.mv_history.specs.State.{touches};
 ghost use Rattle.mv_history.specs.Legal.{are_distinct, AreWithin, AreWrites, IsWords};
 ghost use Rattle.mv_history.specs.Meaning.{state_of};
-ghost use Rattle.set_script.specs.OwnWrites.{objects_of};
-ghost use Rattle.list_set.specs.Calls.{Rewritten, Refuses};
-ghost use Rattle.list_set.specs.Held.{HasRoom};
+ghost use Rattle.section_work.specs.OwnWrites.{objects_of};
+ghost use Rattle.section_work.specs.Locking.{Rewritten, Refuses};
+ghost use Rattle.section_work.specs.Held.{HasRoom};
 ghost use Rattle.set_catalog.specs.Merges.{merged, merged_one};
 
-use list_set::{Cause, rewrite};
 use mv_history::{Section, View, Words};
+use section_work::{Refusal, rewrite};
 
 /// How many objects a block may lock: five for each of its commands.
 pub const MOST_LOCKS: usize = 40;
@@ -98,7 +98,7 @@ impl<V> Overlay<V> {
 impl<S: Section> Overlay<S> {
     /// Locks what is planned in the section, in its order, and writes it there, where there is room. An `Err` is the section,
     /// in which nothing is written, and the first lock that was refused.
-    pub fn write_through(self) -> Result<S, (S, Cause)>
+    pub fn write_through(self) -> Result<S, (S, Refusal)>
         requires within { AreWithin (take self.count self.writes) (length (state_of (S.section self.view))) }
         requires room { HasRoom (S.section self.view) (objects_of (take self.count self.writes)) }
         ensures { MatchResult result
@@ -112,7 +112,7 @@ impl<S: Section> Overlay<S> {
         } = self;
         match rewrite(&mut view, &writes[..count]) {
             Ok(()) => Ok(view),
-            Err(cause) => Err((view, cause)),
+            Err(refusal) => Err((view, refusal)),
         }
     }
 }

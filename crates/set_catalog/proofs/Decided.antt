@@ -12,7 +12,7 @@ use Rattle.set_script.specs.declared.commands.Command.{Command}
 use Rattle.set_script.specs.declared.commands.Command.TheVariants.{Add, Put, Del, Move, Pair}
 use Rattle.set_script.specs.declared.commands.Reply.TheVariants.{No, Full, Both}
 use Rattle.set_script.proofs.MapLemmas.{has_key-none, has_key-some}
-use Rattle.list_set.specs.Held.{count_unheld}
+use Rattle.section_work.specs.Held.{count_unheld}
 use Rattle.set_catalog.specs.Ends.{EndsAt, objects_added, adds_at, dels_at, puts_at, node_gone, inner_gone}
 use Rattle.set_catalog.specs.Findings.{IsNew, IsPlanned, IsFound}
 use Rattle.set_catalog.specs.Merges.{writes_in, merged}

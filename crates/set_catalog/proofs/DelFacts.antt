@@ -9,11 +9,10 @@ use Rattle.set_script.specs.Catalogue.{map_of}
 use Rattle.set_script.specs.CatalogueOf.{catalogue_of}
 use Rattle.set_script.specs.Objects.{first_node, owner, kind, link, no_words, relink}
 use Rattle.set_script.specs.Lawful.{IsLawful}
-use Rattle.set_script.specs.OwnWrites.{objects_of}
+use Rattle.section_work.specs.OwnWrites.{objects_of}
 use Rattle.set_script.proofs.ObjectWords.{word, owned_in_range}
 use Rattle.set_script.proofs.TreeMaps.{map_of-tree}
-use Rattle.set_script.proofs.TreeShape.{IsIn}
-use Rattle.set_script.proofs.Written.{touches-out, touches-in}
+use Rattle.section_work.proofs.Objects.{IsIn, touches-out, touches-in}
 use Rattle.set_script.proofs.Ways.{IsAt}
 use Rattle.list_set.specs.Places.{IsDelPlace, del_writes}
 use Rattle.list_set.proofs.Removing.{Removal, removal}

@@ -33,7 +33,8 @@ use Rattle.set_script.specs.Trees.{Tree, IsGrown, entries_in, objects_in}
 use Rattle.set_script.specs.Trees.Tree.{leaf, inner}
 use Rattle.set_script.proofs.ObjectWords.{word}
 use Rattle.set_script.proofs.TreeMaps.{map_of-tree}
-use Rattle.set_script.proofs.TreeShape.{IsIn, only_in}
+use Rattle.section_work.proofs.Objects.{IsIn}
+use Rattle.set_script.proofs.TreeShape.{only_in}
 use Rattle.list_set.specs.Places.{IsAddPlace, add_writes, IsDelPlace, del_writes, IsPutPlace, put_writes}
 use Rattle.list_set.specs.Spots.{EndsHere}
 use Rattle.list_set.specs.declared.search.Spot.{Spot}

@@ -6,7 +6,7 @@ use Rattle.std.proofs.lemmas.Option.{slice_get_within}
 use Rattle.mv_history.specs.State.{State, state_at}
 use Rattle.mv_history.specs.declared.history.Commit.{Commit}
 use Rattle.mv_history.specs.declared.history.Entry.TheVariants.{Change}
-use Rattle.mv_history.specs.Meaning.{Seat, InSection, IsSeat, IsSection, state_of}
+use Rattle.mv_history.specs.Meaning.{Seat, InSection, IsSeat, IsSection, state_of, state_of_time}
 use Rattle.mv_history.specs.Calls.{Continues, IsAsBefore, IsEntryAt}
 use Rattle.mv_history.proofs.Snapshots.{length-state_at}
 use Rattle.mv_history.proofs.Steps.{length-seen, state_at-later}
@@ -18,12 +18,12 @@ use Rattle.set_script.specs.declared.commands.Reply.{Reply}
 use Rattle.set_script.proofs.Times.{commit_makes}
 use Rattle.set_catalog.specs.declared.shortage.Shortage.{Shortage}
 use Rattle.set_catalog.specs.declared.shortage.TheConstants.{NO_BOUND}
-use Rattle.set_catalog.specs.Attempts.{state_of_time}
 use Rattle.set_catalog.specs.Picks.{vacant_nodes}
 use Rattle.set_catalog.specs.Replies.{reply_in, changes_in}
 use Rattle.set_catalog.specs.Shortages.{IsKnown, few_at, may_free, followed}
 use Rattle.set_catalog.proofs.Costs.{vacant_no_more, vacant_bound}
-use Rattle.set_catalog.proofs.LawfulTimes.{lawful_at, lawful_read, reads_snapshot}
+use Rattle.set_catalog.proofs.LawfulTimes.{lawful_at, lawful_read}
+use Rattle.section_work.proofs.Entering.{reads_snapshot}
 
 -- Of each store it is known that fewer nodes are vacant than any store has.
 pub known_unknown : (s : Seat) (k : Shortage) → IsSeat IsOpening IsSetCommit s → k.time ≡ 0 → k.few ≡ NO_BOUND → IsKnown s k

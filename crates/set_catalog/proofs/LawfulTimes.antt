@@ -1,13 +1,14 @@
 -- Every state of a store of the sets is lawful.
-use Rattle.std.proofs.Common.{◌≡◌, ℕ, List, [], ◌∷◌, ◌++◌, take, drop, refl, sym, ap, subst, append_assoc, append-nil}
+use Rattle.std.proofs.Common.{◌≡◌, ℕ, List, [], ◌∷◌, ◌++◌, take, drop, refl, sym, subst, append_assoc, append-nil}
 use Rattle.std.proofs.lemmas.List.{take-append-drop}
-use Rattle.mv_history.specs.State.{State, written, state_after, state_at}
+use Rattle.mv_history.specs.State.{State, state_after, state_at}
 use Rattle.mv_history.specs.declared.history.Entry.{Entry}
 use Rattle.mv_history.specs.declared.history.Entry.TheVariants.{Rest, Change}
 use Rattle.mv_history.specs.Legal.{IsAllowed}
 use Rattle.mv_history.specs.Meaning.{Seat, InSection, IsSeat, IsSection, snapshot_of, state_of}
 use Rattle.mv_history.proofs.Histories.{IsAllowed-front}
 use Rattle.mv_history.proofs.Writing.{state_after-append}
+use Rattle.section_work.proofs.Entering.{reads_snapshot}
 use Rattle.set_script.specs.Lawful.{IsLawful, IsOpening}
 use Rattle.set_script.specs.Rules.{IsSetCommit}
 use Rattle.set_script.proofs.Opening.{opening_lawful}
@@ -35,8 +36,5 @@ pub lawful_snapshot : (s : InSection) → IsSection IsOpening IsSetCommit s → 
 lawful_snapshot s h = lawful_at s.seat h.seat s.at
 
 -- and what a section reads that holds nothing
-pub reads_snapshot : (s : InSection) → s.own ≡ [] → state_of s ≡ snapshot_of s
-reads_snapshot s none = ap (written (snapshot_of s)) none
-
 pub lawful_read : (s : InSection) → IsSection IsOpening IsSetCommit s → s.own ≡ [] → IsLawful (state_of s)
 lawful_read s h none = subst IsLawful (sym (reads_snapshot s none)) (lawful_snapshot s h)

@@ -19,5 +19,4 @@ pub mod LawfulTimes
 pub mod Knowing
 pub mod Outcomes
 pub mod NotedGone
-pub mod Exchanges
 pub mod HeadReads

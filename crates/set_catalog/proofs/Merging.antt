@@ -40,10 +40,10 @@ use Rattle.mv_history.specs.State.{State, Writes, touches, rewritten}
 use Rattle.mv_history.specs.Legal.{are_distinct}
 use Rattle.mv_history.specs.Meaning.{words_at}
 use Rattle.mv_history.proofs.Writing.{touches-append, touches_at, touches-rewritten, set-rewritten, are_distinct-rewritten, length-rewritten}
-use Rattle.set_script.specs.OwnWrites.{with_lock, with_locks, with_writes, objects_of}
-use Rattle.set_script.proofs.OwnWrites.{touches-with_lock, distinct-with_locks, own_from_none}
-use Rattle.list_set.proofs.OwnWrites.{touches-with_locks, touches-with_writes}
-use Rattle.list_set.specs.Held.{count_unheld}
+use Rattle.section_work.specs.OwnWrites.{with_lock, with_locks, with_writes, objects_of}
+use Rattle.section_work.proofs.OwnWrites.{touches-with_lock, distinct-with_locks, own_from_none}
+use Rattle.section_work.proofs.HeldWrites.{touches-with_locks, touches-with_writes}
+use Rattle.section_work.specs.Held.{count_unheld}
 use Rattle.set_catalog.specs.Merges.{merged_one, merged}
 
 pub merged-push : (own ws : Writes) (x : ℕ × List ℕ) → merged own (ws ++ x ∷ []) ≡ merged_one (merged own ws) x.0 x.1

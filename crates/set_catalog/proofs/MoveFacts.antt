@@ -9,7 +9,7 @@ use Rattle.set_script.specs.Catalogue.{Map, map_of, has_key, value_of}
 use Rattle.set_script.specs.CatalogueOf.{name_of, catalogue_of}
 use Rattle.set_script.specs.Lawful.{IsLawful}
 use Rattle.set_script.specs.Objects.{value, link}
-use Rattle.set_script.specs.OwnWrites.{with_locks, with_writes, objects_of}
+use Rattle.section_work.specs.OwnWrites.{with_locks, with_writes, objects_of}
 use Rattle.set_script.specs.Rules.{IsSetCommit}
 use Rattle.set_script.specs.Tags.{tag_of}
 use Rattle.set_script.specs.declared.commands.Command.TheVariants.{Move}
@@ -18,7 +18,7 @@ use Rattle.set_script.proofs.Fits.{move_fit}
 use Rattle.set_script.proofs.ObjectWords.{word}
 use Rattle.set_script.proofs.TwoWays.{place_after, writes_after, joined}
 use Rattle.set_script.proofs.Ways.{Way, AreVacant}
-use Rattle.list_set.specs.Held.{count_unheld}
+use Rattle.section_work.specs.Held.{count_unheld}
 use Rattle.list_set.specs.Places.{add_writes}
 use Rattle.list_set.proofs.ListHalves.{node_has}
 use Rattle.list_set.proofs.ListWays.{list_add_way}

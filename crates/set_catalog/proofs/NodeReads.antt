@@ -7,7 +7,8 @@ use Rattle.set_script.specs.Trees.{Tree, Stands, objects_in, IsTree}
 use Rattle.set_script.specs.Trees.Tree.{leaf, inner}
 use Rattle.set_script.specs.Lawful.{IsLawful}
 use Rattle.set_script.proofs.ObjectWords.{word}
-use Rattle.set_script.proofs.TreeShape.{IsIn, in_either, only_in}
+use Rattle.section_work.proofs.Objects.{IsIn, in_either}
+use Rattle.set_script.proofs.TreeShape.{only_in}
 use Rattle.set_script.proofs.Heads.{owned_fits}
 
 Stands-key : (s : State) (root : ℕ) (t : Tree) → Stands s root t → (o : ℕ) → IsIn o (objects_in t) → key s o < 2 ^ 32

@@ -9,12 +9,12 @@ use Rattle.set_script.specs.CatalogueOf.{catalogue_of}
 use Rattle.set_script.specs.Tags.{tag_of}
 use Rattle.set_script.specs.declared.commands.Command.{Command}
 use Rattle.set_script.specs.declared.commands.Command.TheVariants.{Add, Put, Del, Has, Get, Move, Pair, Size, Next}
-use Rattle.set_script.specs.declared.commands.Place.TheVariants.{Commit as AtCommit, Read}
+use Rattle.section_work.specs.declared.place.Place.TheVariants.{Commit as AtCommit, Read}
 use Rattle.set_catalog.specs.Hinted.{Hinted, gone_noted, TakesHints}
 use Rattle.set_catalog.specs.Needs.{wanted}
 use Rattle.set_catalog.specs.Plans.{DelPlan, GoneBy}
 use Rattle.set_catalog.specs.Steps.{IsReady}
-use Rattle.set_catalog.specs.Causes.{Causes}
+use Rattle.section_work.specs.Causes.{Causes}
 use Rattle.set_catalog.specs.Attempts.{IsReadBy, WasVacant, KeepsHints, NotesGone, HintsAfter}
 use Rattle.set_catalog.specs.declared.answer.Attempt.{Attempt}
 use Rattle.set_catalog.specs.declared.answer.Attempt.TheVariants.{Done, Again}

@@ -34,10 +34,10 @@ use Rattle.mv_history.specs.State.{State, written, state_after, state_at}
 use Rattle.mv_history.specs.declared.history.Commit.{Commit}
 use Rattle.mv_history.specs.declared.history.Entry.TheVariants.{Change}
 use Rattle.mv_history.specs.declared.answers.Holder.{Holder}
-use Rattle.mv_history.specs.Meaning.{Seat, InSection, IsSeat, IsWorn, snapshot_of, state_of}
+use Rattle.mv_history.specs.Meaning.{Seat, InSection, IsSeat, snapshot_of, state_of, state_of_time}
 use Rattle.mv_history.specs.Trail.{commit_exchanges, IsOneLost}
 use Rattle.mv_history.specs.Calls.{call_trail, Continues, IsAsBefore, GoesOn, Prepares, Enters, Leaves, Commits, IsEntryAt, Overtakes, commit_by}
-use Rattle.mv_history.proofs.Steps.{Continues-Continues, GoesOn-GoesOn, length-seen, state_at-later, IsWorn-later}
+use Rattle.mv_history.proofs.Steps.{Continues-Continues, GoesOn-GoesOn, length-seen, state_at-later}
 use Rattle.mv_history.proofs.Snapshots.{snapshot_of-goes_on}
 use Rattle.mv_history.proofs.Holding.{state_of-as_before}
 use Rattle.mv_history.proofs.Histories.{split_at}
@@ -51,19 +51,20 @@ use Rattle.set_script.specs.declared.commands.Command.TheVariants.{Add, Put, Del
 use Rattle.set_script.specs.declared.commands.Reply.{Reply}
 use Rattle.set_script.specs.declared.commands.Reply.TheVariants.{Yes}
 use Rattle.mv_history.specs.declared.answers.Rival.{Rival as RivalEntry}
-use Rattle.list_set.specs.declared.answers.Cause.{Cause}
-use Rattle.list_set.specs.declared.answers.Cause.TheVariants.{Busy, Stale, SetFull, NoSlot, Rival, LogFull}
-use Rattle.list_set.specs.Calls.{IsCause}
+use Rattle.section_work.specs.declared.causes.Refusal.{Refusal}
+use Rattle.section_work.specs.declared.causes.Cause.{Cause}
+use Rattle.section_work.specs.declared.causes.Cause.TheVariants.{Lock, Rival, LogFull}
+use Rattle.section_work.specs.Locking.{Stops}
 use Rattle.set_catalog.specs.Replies.{reply_in, changes_in}
 use Rattle.set_catalog.specs.Plans.{PlanOf, Locks}
-use Rattle.set_catalog.specs.Steps.{most_locks, HasSpace, IsReady, Stops}
-use Rattle.set_catalog.specs.Attempts.{state_of_time, IsDoneBy, IsRead, IsStopped, IsWhy, GivesUpIn, GivesUp, Attempted, AttemptedIn, IsReadBy}
-use Rattle.set_catalog.specs.Causes.{Causes}
+use Rattle.set_catalog.specs.Steps.{most_locks, HasSpace, IsReady}
+use Rattle.set_catalog.specs.Attempts.{IsDoneBy, IsRead, IsWhy, GivesUpIn, GivesUp, Attempted, AttemptedIn, IsReadBy}
+use Rattle.section_work.specs.Causes.{Causes}
 use Rattle.set_catalog.specs.declared.answer.Attempt.{Attempt}
 use Rattle.set_catalog.specs.declared.answer.Attempt.TheVariants.{Done, Again}
-use Rattle.set_script.specs.declared.commands.Place.TheVariants.{Commit as AtCommit, Read}
-use Rattle.set_catalog.proofs.LawfulTimes.{reads_snapshot}
-use Rattle.set_catalog.proofs.Rooms.{stops_named, stops_after}
+use Rattle.section_work.specs.declared.place.Place.TheVariants.{Commit as AtCommit, Read}
+use Rattle.section_work.proofs.Entering.{reads_snapshot}
+use Rattle.section_work.proofs.Stopping.{stops_named, stops_after}
 
 -- the tag of a command that changes something stands for it
 pub tag_stands : (command : Command) (s : State) (last : Bool) → changes_in command s last ≡ true → command_of (tag_of command) ≡ Some command
@@ -155,28 +156,18 @@ read_within k old new command answer time r =
     (omega (arith, r.time_is, e.at), omega (arith, r.time_is, r.enters.at))
 
 -- A change that was given up in its section.
-pub stopped_in : (k : Causes) (found left : InSection) (new : Seat) (command : Command) (cause : Cause)
-    → found.own ≡ [] → Stops k.may_refuse k.found_held (Locks command (state_of found)) found left cause → Leaves left new
-    → GivesUpIn k found new command cause
-stopped_in k found left new command cause none x gone =
-    let named : Locks command (snapshot_of found) x.object = subst (λ (s : State). Locks command s x.object) (reads_snapshot found none) x.named in
-    let y : Stops k.may_refuse k.found_held (Locks command (snapshot_of found)) found left cause =
-    record { object = x.object; named = named; before = x.before; goes_on = x.goes_on; refused = x.refused } in
+pub stopped_in : (k : Causes) (found left : InSection) (new : Seat) (command : Command) (refusal : Refusal)
+    → found.own ≡ [] → Stops k.may_refuse k.found_held (Locks command (state_of found)) found left refusal → Leaves left new
+    → GivesUpIn k found new command (Lock refusal)
+stopped_in k found left new command refusal none x gone =
+    let y = stops_named k.may_refuse k.found_held _ (Locks command (snapshot_of found)) found left refusal
+    (λ o n. subst (λ (s : State). Locks command s o) (reads_snapshot found none) n) x in
     let goes : GoesOn found left = GoesOn-GoesOn x.goes_on x.refused.goes_on in
     record {
       continues = Continues-Continues goes.continues gone.continues;
       mine = gone.mine ∙ goes.mine;
-      why = why cause y x.refused.why;
+      why = (left, y, gone.continues);
     }
-  where
-    why : (c : Cause) → Stops k.may_refuse k.found_held (Locks command (snapshot_of found)) found left c
-        → IsCause k.may_refuse k.found_held x.before left x.object c → IsWhy k (λ holder. ⊥) command found new c
-    why (Busy object seat) y q = (left, y, gone.continues)
-    why (Stale object time) y q = (left, y, gone.continues)
-    why (SetFull object) y q = absurd q
-    why (NoSlot object) y q = absurd q
-    why (Rival rival) y q = absurd q
-    why (LogFull holder) y q = absurd q
 
 pub overtaken_in : (k : Causes) (found locked left : InSection) (new : Seat) (command : Command) (rival : RivalEntry)
     → found.own ≡ [] → k.may_refuse → IsReady command found locked → IsAsBefore locked left
@@ -200,20 +191,6 @@ overtaken_in k found locked left new command rival none may ready same over lost
     },
   );
 }
-
--- a section of a worn seat is at the last time
-pub worn_enters : (s : Seat) (entered : InSection) → IsWorn s → Enters s entered → entered.at ≤ length entered.seat.seen
-    → entered.seat.base + length entered.seat.seen ≤ entered.seat.last → true ≡ (entered.seat.base + entered.at == entered.seat.last)
-worn_enters s entered worn enters le most =
-    let base : entered.seat.base ≡ s.base = enters.seat.continues.base in
-    let last : entered.seat.last ≡ s.last = enters.seat.continues.last in
-    let from : length s.seen ≤ entered.at = enters.at in
-    let e : entered.seat.base + entered.at ≡ entered.seat.last = omega arith in
-    grind (arith, nat_tests)
-
-pub worn_left : (locked left : InSection) (new : Seat) → IsAsBefore locked left → IsWorn left.seat → Leaves left new → new.base + length new.seen ≤ new.last
-    → IsWorn new
-worn_left locked left new same worn gone most = IsWorn-later gone.continues worn most
 
 -- What was read after a change that came too late.
 pub read_after : (k : Causes) (a b new : Seat) (command : Command) (answer : Reply) (time : ℕ)
@@ -291,17 +268,11 @@ why_earlier k held_back entered found new command cause goes le w = go cause w
     same : snapshot_of found ≡ snapshot_of entered
     same = snapshot_of-goes_on entered found goes le
 
-    stop : (c : Cause) → IsStopped k command found new c → IsStopped k command entered new c
-    stop c w =
-        let named = stops_named k.may_refuse k.found_held _ (Locks command (snapshot_of entered)) found w.0 c
-        (λ o n. subst (λ (s : State). Locks command s o) same n) w.1 in
-        (w.0, stops_after k.may_refuse k.found_held _ entered found w.0 c goes named, w.2)
-
     go : (c : Cause) → IsWhy k (λ holder. ⊥) command found new c → IsWhy k held_back command entered new c
-    go (Busy object seat) w = stop (Busy object seat) w
-    go (Stale object time) w = stop (Stale object time) w
-    go (SetFull object) w = absurd w
-    go (NoSlot object) w = absurd w
+    go (Lock refusal) w =
+        let named = stops_named k.may_refuse k.found_held _ (Locks command (snapshot_of entered)) found w.0 refusal
+        (λ o n. subst (λ (s : State). Locks command s o) same n) w.1 in
+        (w.0, stops_after k.may_refuse k.found_held _ entered found w.0 refusal goes named, w.2)
     go (Rival rival) w = (
       w.0,
       record {

@@ -14,8 +14,7 @@ use Rattle.set_script.specs.declared.commands.Command.TheVariants.{Add, Put, Del
 use Rattle.set_script.proofs.Ways.{AreVacant, Way, Lacks, Has, HasOther}
 use Rattle.set_script.proofs.Entries.{has_entry-there}
 use Rattle.set_script.proofs.Fits.{add_fit, put_new_fit, put_fit, del_fit}
-use Rattle.set_script.proofs.TreeShape.{IsIn, in_either}
-use Rattle.set_script.proofs.Written.{in-touches}
+use Rattle.section_work.proofs.Objects.{IsIn, in_either, in-touches}
 use Rattle.set_script.proofs.Ways as ways
 use Rattle.list_set.proofs.ListHalves.{node_has}
 use Rattle.list_set.proofs.ListWays.{list_add_way, list_del_way, list_put_way}

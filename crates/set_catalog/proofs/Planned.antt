@@ -9,7 +9,7 @@ use Rattle.set_script.specs.Lawful.{IsLawful}
 use Rattle.set_script.specs.Objects.{value}
 use Rattle.set_script.specs.declared.commands.Command.{Command}
 use Rattle.set_script.specs.declared.commands.Command.TheVariants.{Add, Put, Del, Move}
-use Rattle.list_set.specs.Held.{count_unheld}
+use Rattle.section_work.specs.Held.{count_unheld}
 use Rattle.set_catalog.specs.Ends.{EndsAt, adds_at, objects_added}
 use Rattle.set_catalog.specs.Findings.{IsPlanned}
 use Rattle.set_catalog.specs.Merges.{writes_in, merged}

@@ -29,24 +29,22 @@ use Rattle.std.proofs.lemmas.List.{length-take}
 use Rattle.mv_history.specs.State.{State, Writes, written, touches}
 use Rattle.mv_history.specs.Drift.{IsFit}
 use Rattle.mv_history.specs.Meaning.{InSection, snapshot_of, state_of}
-use Rattle.mv_history.specs.Calls.{IsAsBefore, GoesOn}
-use Rattle.mv_history.proofs.Steps.{GoesOn-GoesOn}
+use Rattle.mv_history.specs.Calls.{IsAsBefore}
 use Rattle.mv_history.proofs.Holding.{state_of-as_before}
-use Rattle.set_script.specs.OwnWrites.{with_locks, with_writes, objects_of}
+use Rattle.section_work.specs.OwnWrites.{with_locks, with_writes, objects_of}
 use Rattle.set_script.specs.Rules.{IsSetCommit}
 use Rattle.set_script.specs.Tags.{tag_of}
 use Rattle.set_script.specs.declared.commands.Command.{Command}
 use Rattle.set_script.specs.declared.commands.Command.TheVariants.{Add, Put, Del, Has, Get, Move, Pair, Size, Next}
-use Rattle.set_script.proofs.OwnWrites.{own_from_none}
-use Rattle.set_script.proofs.TreeShape.{IsIn, in_right}
-use Rattle.set_script.proofs.Written.{touches-in}
-use Rattle.list_set.specs.Calls.{Rewritten, Refuses}
-use Rattle.list_set.specs.Held.{count_unheld, HasRoom}
-use Rattle.list_set.specs.declared.answers.Cause.{Cause}
+use Rattle.section_work.proofs.OwnWrites.{own_from_none}
+use Rattle.section_work.proofs.Objects.{IsIn, in_right, touches-in}
+use Rattle.section_work.specs.Locking.{Rewritten, Refuses, Stops}
+use Rattle.section_work.specs.Held.{count_unheld, HasRoom}
+use Rattle.section_work.specs.declared.causes.Refusal.{Refusal}
 use Rattle.set_catalog.specs.Findings.{IsPlanned}
 use Rattle.set_catalog.specs.Merges.{writes_in}
 use Rattle.set_catalog.specs.Plans.{PlanOf, MovePlan, Locks, GoneBy}
-use Rattle.set_catalog.specs.Steps.{most_locks, HasSpace, IsReady, Stops}
+use Rattle.set_catalog.specs.Steps.{most_locks, HasSpace, IsReady}
 use Rattle.set_catalog.specs.declared.plan.Gone.{Gone}
 use Rattle.set_catalog.specs.declared.plan.Plan.{Plan}
 use Rattle.set_catalog.proofs.Merging.{merged-is, touches-merged}
@@ -135,9 +133,9 @@ plan_locks (Next name key) s ws plan o t = absurd plan
 
 -- A refusal is of an object that the command locks.
 pub stops_by : (may_refuse : Type 0) (found_held : InSection → InSection → ℕ → ℕ → Type 0) (found left : InSection) (command : Command) (ws : Writes)
-    (gone : Gone) (cause : Cause) → IsPlanned command (state_of found) ws gone → Refuses may_refuse found_held found left (objects_of ws) cause
-    → Stops may_refuse found_held (Locks command (state_of found)) found left cause
-stops_by may_refuse found_held found left command ws gone cause p r = record {
+    (gone : Gone) (refusal : Refusal) → IsPlanned command (state_of found) ws gone → Refuses may_refuse found_held found left (objects_of ws) refusal
+    → Stops may_refuse found_held (Locks command (state_of found)) found left refusal
+stops_by may_refuse found_held found left command ws gone refusal p r = record {
   object = r.object;
   named = plan_locks command (state_of found) ws p.plan r.object
       (touches-in ws r.object (subst (λ os. IsIn r.object os) (sym r.parts) (in_right r.held (r.object ∷ r.rest) r.object (inl refl))));
@@ -146,23 +144,11 @@ stops_by may_refuse found_held found left command ws gone cause p r = record {
   refused = r.refused;
 }
 
--- what is named by the one is named by the other
-pub stops_named : (may_refuse : Type 0) (found_held : InSection → InSection → ℕ → ℕ → Type 0) (Named More : ℕ → Type 0) (a b : InSection) (cause : Cause)
-    → ((o : ℕ) → Named o → More o) → Stops may_refuse found_held Named a b cause → Stops may_refuse found_held More a b cause
-stops_named may_refuse found_held Named More a b cause f x =
-    record { object = x.object; named = f x.object x.named; before = x.before; goes_on = x.goes_on; refused = x.refused }
-
--- and what came before goes on to it
-pub stops_after : (may_refuse : Type 0) (found_held : InSection → InSection → ℕ → ℕ → Type 0) (Named : ℕ → Type 0) (a b c : InSection) (cause : Cause)
-    → GoesOn a b → Stops may_refuse found_held Named b c cause → Stops may_refuse found_held Named a c cause
-stops_after may_refuse found_held Named a b c cause goes x =
-    record { object = x.object; named = x.named; before = x.before; goes_on = GoesOn-GoesOn goes x.goes_on; refused = x.refused }
-
 -- what was written, and refused, of a slice with these writes
 pub written_as : (found locked : InSection) (made ws : Writes) → made ≡ ws → Rewritten found locked (objects_of made) made
     → Rewritten found locked (objects_of ws) ws
 written_as found locked made ws e r = subst (λ (w : Writes). Rewritten found locked (objects_of w) w) e r
 
-pub refused_as : (may_refuse : Type 0) (found_held : InSection → InSection → ℕ → ℕ → Type 0) (found left : InSection) (cause : Cause) (made ws : Writes)
-    → made ≡ ws → Refuses may_refuse found_held found left (objects_of made) cause → Refuses may_refuse found_held found left (objects_of ws) cause
-refused_as may_refuse found_held found left cause made ws e r = subst (λ (w : Writes). Refuses may_refuse found_held found left (objects_of w) cause) e r
+pub refused_as : (may_refuse : Type 0) (found_held : InSection → InSection → ℕ → ℕ → Type 0) (found left : InSection) (refusal : Refusal) (made ws : Writes)
+    → made ≡ ws → Refuses may_refuse found_held found left (objects_of made) refusal → Refuses may_refuse found_held found left (objects_of ws) refusal
+refused_as may_refuse found_held found left refusal made ws e r = subst (λ (w : Writes). Refuses may_refuse found_held found left (objects_of w) refusal) e r

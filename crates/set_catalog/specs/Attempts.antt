@@ -1,39 +1,30 @@
 -- What an attempt of a command leaves, by its answer.
 use Rattle.std.specs.Prelude.{ℕ, ◌≡◌, ◌+◌, ◌-◌, ◌<◌, ◌≤◌, ◌⊎◌, ◌==◌, true, false, [], ◌∷◌, ◌++◌, All}
 use Rattle.std.specs.Prelude.{Contains, length}
-use Rattle.mv_history.specs.State.{State, state_at}
+use Rattle.mv_history.specs.State.{state_at}
 use Rattle.mv_history.specs.declared.history.Commit.{Commit}
 use Rattle.mv_history.specs.declared.history.Entry.TheVariants.{Change}
-use Rattle.mv_history.specs.Meaning.{Seat, InSection, snapshot_of}
+use Rattle.mv_history.specs.Meaning.{Seat, InSection, snapshot_of, state_of_time}
 use Rattle.mv_history.specs.Trail.{commit_exchanges, IsOneLost}
-use Rattle.mv_history.specs.Calls.{call_trail, Continues, IsAsBefore, GoesOn, Prepares, Enters, IsEntryAt, Overtakes}
+use Rattle.mv_history.specs.Calls.{call_trail, Continues, IsAsBefore, GoesOn, Prepares, IsEntryAt, Overtakes}
 use Rattle.mv_history.specs.declared.answers.Holder.{Holder}
 use Rattle.set_script.specs.Tags.{tag_of}
 use Rattle.set_script.specs.declared.commands.Command.{Command}
 use Rattle.set_script.specs.declared.commands.Reply.{Reply}
-use Rattle.set_script.specs.declared.commands.Place.TheVariants.{Commit as AtCommit, Read}
+use Rattle.section_work.specs.declared.place.Place.TheVariants.{Commit as AtCommit, Read}
 use Rattle.set_catalog.specs.declared.answer.Attempt.{Attempt}
 use Rattle.set_catalog.specs.declared.answer.Attempt.TheVariants.{Done, Again}
-use Rattle.list_set.specs.declared.answers.Cause.{Cause}
-use Rattle.list_set.specs.declared.answers.Cause.TheVariants.{Busy, Stale, SetFull, NoSlot, Rival, LogFull}
-use Rattle.set_catalog.specs.Causes.{Causes}
+use Rattle.section_work.specs.declared.causes.Cause.{Cause}
+use Rattle.section_work.specs.declared.causes.Cause.TheVariants.{Lock, Rival, LogFull}
+use Rattle.section_work.specs.Causes.{Causes}
 use Rattle.set_catalog.specs.Replies.{reply_in, changes_in}
 use Rattle.set_script.specs.declared.commands.Command.TheVariants.{Del}
 use Rattle.set_catalog.specs.Hinted.{Hinted, gone_noted}
 use Rattle.set_catalog.specs.Picks.{IsVacant}
 use Rattle.set_catalog.specs.Plans.{PlanOf, Locks, DelPlan}
-use Rattle.set_catalog.specs.Steps.{Stops}
-
--- the state of a printed time
-abbrev pub state_of_time : Seat → ℕ → State
-state_of_time s time = state_at s.start s.seen (time - s.base)
-
--- The call entered this section from the seat `before`, at a time that it took; what the section saw is among what is seen afterwards.
-pub record IsEntered (k : Causes) (before : Seat) (entered : InSection) (new : Seat) : Type 0 where
-  pub enters : Enters before entered
-  pub took : k.took before entered
-  pub at : entered.at ≤ length entered.seat.seen
-  pub continues : Continues entered.seat new
+use Rattle.section_work.specs.Sections.{IsEntered}
+use Rattle.section_work.specs.Locking.{Stops}
+use Rattle.section_work.specs.declared.causes.Refusal.{Refusal}
 
 -- The command is the seat's last commit, at this printed time. Its reply is that of the state just before, which is not
 -- at the last time. It wrote what it must lock in its snapshot, and nothing else.
@@ -72,16 +63,13 @@ pub record IsOvertaken (k : Causes) (command : Command) (entered : InSection) (n
   pub continues : Continues after.seat new
 
 -- One lock was refused, of an object that the command locks; what was found then is among what is seen afterwards.
-abbrev pub IsStopped : Causes → Command → InSection → Seat → Cause → Type 0
-IsStopped k command entered new cause =
-    (left : InSection) × Stops k.may_refuse k.found_held (Locks command (snapshot_of entered)) entered left cause × Continues left.seat new
+abbrev pub IsStopped : Causes → Command → InSection → Seat → Refusal → Type 0
+IsStopped k command entered new refusal =
+    (left : InSection) × Stops k.may_refuse k.found_held (Locks command (snapshot_of entered)) entered left refusal × Continues left.seat new
 
 -- why the change that a section was to make was given up
 abbrev pub IsWhy : Causes → (Holder → Type 0) → Command → InSection → Seat → Cause → Type 0
-IsWhy k held_back command entered new (Busy object seat) = IsStopped k command entered new (Busy object seat)
-IsWhy k held_back command entered new (Stale object time) = IsStopped k command entered new (Stale object time)
-IsWhy k held_back command entered new (SetFull object) = ⊥
-IsWhy k held_back command entered new (NoSlot object) = ⊥
+IsWhy k held_back command entered new (Lock refusal) = IsStopped k command entered new refusal
 IsWhy k held_back command entered new (Rival rival) = k.may_refuse × IsOvertaken k command entered new rival.seat rival.time
 IsWhy k held_back command entered new (LogFull holder) = k.may_refuse × held_back holder
 
@@ -144,7 +132,3 @@ abbrev pub HintsAfter : Command → Hinted → Hinted → Seat → Seat → Atte
 HintsAfter command hints after old new (Done answer (AtCommit time)) = NotesGone command hints after old new time
 HintsAfter command hints after old new (Done answer (Read time)) = KeepsHints hints after old new
 HintsAfter command hints after old new (Again cause) = KeepsHints hints after old new
-
--- the steps of a call have one exchange on CLOCK for a commit at most
-abbrev pub TriesOne : Seat → Seat → Type 0
-TriesOne old new = length (commit_exchanges (call_trail old new)) ≤ 1

@@ -7,7 +7,6 @@ pub mod Plans
 pub mod Ends
 pub mod Merges
 pub mod Steps
-pub mod Causes
 pub mod Findings
 pub mod Attempts
 pub mod Shortages

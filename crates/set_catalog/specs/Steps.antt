@@ -1,4 +1,4 @@
--- What the writes of a plan leave of a section, and what a refused lock leaves.
+-- What the writes of a plan leave of a section.
 use Rattle.std.specs.Prelude.{ℕ, ◌≡◌, ◌<◌, ◌≤◌, [], length}
 use Rattle.mv_history.specs.Drift.{IsFit}
 use Rattle.mv_history.specs.Meaning.{InSection, snapshot_of, state_of}
@@ -6,8 +6,6 @@ use Rattle.mv_history.specs.Calls.{GoesOn}
 use Rattle.set_script.specs.Rules.{IsSetCommit}
 use Rattle.set_script.specs.Tags.{tag_of}
 use Rattle.set_script.specs.declared.commands.Command.{Command}
-use Rattle.list_set.specs.Calls.{IsRefused}
-use Rattle.list_set.specs.declared.answers.Cause.{Cause}
 use Rattle.set_catalog.specs.Plans.{PlanOf}
 
 -- The section, which held nothing, holds exactly what the command is to write, and may commit it.
@@ -27,12 +25,3 @@ pub record HasSpace (s : InSection) : Type 0 where
   pub own : s.own ≡ []
   pub spare : most_locks ≤ s.seat.spare
   pub held : most_locks ≤ s.seat.write_max
-
--- One lock was refused, of an object for which this holds; those that were had stay.
-pub record Stops (may_refuse : Type 0) (found_held : InSection → InSection → ℕ → ℕ → Type 0) (Named : ℕ → Type 0) (old new : InSection)
-    (cause : Cause) : Type 0 where
-  pub object : ℕ
-  pub named : Named object
-  pub before : InSection
-  pub goes_on : GoesOn old before
-  pub refused : IsRefused may_refuse found_held before new object cause

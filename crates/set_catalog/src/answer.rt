@@ -1,6 +1,6 @@
 // What attempts answer.
-use list_set::Cause;
-use set_script::{Place, Reply};
+use section_work::{Cause, Place};
+use set_script::Reply;
 
 /// What an attempt of a command answers.
 #[derive(Clone, Copy, Debug, PartialEq, Eq)]

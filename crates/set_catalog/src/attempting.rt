@@ -4,7 +4,7 @@ ghost use Rattle.mv_history.specs.Meaning.{state_of, IsWorn};
 ghost use Rattle.mv_history.specs.Calls.{Continues, NamesNoCommit};
 ghost use Rattle.set_script.specs.CatalogueOf.{catalogue_of};
 ghost use Rattle.set_script.specs.Tags.{tag_of};
-ghost use Rattle.set_catalog.specs.Causes.{causes};
+ghost use Rattle.section_work.specs.Causes.{causes};
 ghost use Rattle.set_catalog.specs.Findings.{IsPlanned, IsFound};
 ghost use Rattle.set_catalog.specs.Needs.{wanted};
 ghost use Rattle.set_catalog.specs.Shortages.{IsKnown};
@@ -12,16 +12,18 @@ ghost use Rattle.set_catalog.specs.Hinted.{TakesHints};
 ghost use Rattle.set_catalog.specs.Merges.{writes_in};
 ghost use Rattle.set_catalog.specs.Replies.{changes_in};
 ghost use Rattle.set_catalog.specs.Steps.{most_locks, HasSpace};
-ghost use Rattle.set_catalog.specs.Attempts.{Attempted, AttemptedIn, IsReadBy, HintsAfter, TriesOne};
+ghost use Rattle.set_catalog.specs.Attempts.{Attempted, AttemptedIn, IsReadBy, HintsAfter};
+ghost use Rattle.section_work.specs.Sections.{TriesOne};
 
 use crate::answer::Attempt;
 use crate::finding::{Finding, find_plan_near};
 use crate::hints::Hints;
 use crate::plan::{Gone, Plan};
 use crate::shortage::Shortage;
-use list_set::{Cause, Fingers, rewrite};
+use list_set::Fingers;
 use mv_history::{CommitAnswer, Room, Section, Store, Tag};
-use set_script::{Command, Place, Reply, SetRules};
+use section_work::{Cause, Place, rewrite};
+use set_script::{Command, Reply, SetRules};
 
 /// Attempts a command, as [`attempt_with`] does with no hints.
 pub fn attempt<S: Store<Rules = SetRules>>(store: S, command: &Command) -> (S, Attempt)
@@ -157,8 +159,8 @@ fn commit_change<S: Store<Rules = SetRules>>(
     ensures known { IsKnown (S.seat_of result.0) known.new }
 {
     let mut section = section;
-    if let Err(cause) = rewrite(&mut section, plan.writes()) {
-        return (section.abort(), Attempt::Again(cause));
+    if let Err(refusal) = rewrite(&mut section, plan.writes()) {
+        return (section.abort(), Attempt::Again(Cause::Lock(refusal)));
     }
     match section.try_commit(tag(command)) {
         CommitAnswer::Done(store, time) => {

@@ -3,7 +3,7 @@ ghost use Rattle.std.specs.Prelude.{◌≡◌, ◌+◌, ◌<◌, ◌≤◌, ℕ,
 ghost use Rattle.set_script.specs.Catalogue.{map_of, has_key, value_of};
 ghost use Rattle.set_script.specs.CatalogueOf.{catalogue_of};
 ghost use Rattle.set_script.specs.Lawful.{IsLawful};
-ghost use Rattle.list_set.specs.Held.{count_unheld};
+ghost use Rattle.section_work.specs.Held.{count_unheld};
 ghost use Rattle.set_catalog.specs.Ends.{EndsAt, HasHead, Wherever, Present, adds_at, objects_added, dels_at, node_gone, inner_gone, puts_at};
 ghost use Rattle.set_catalog.specs.Merges.{writes_in, PlansMore};
 ghost use Rattle.set_catalog.specs.Needs.{taken};

@@ -38,9 +38,10 @@ impl<S: Store<Rules = SetRules>> Model for HintedStore<S> {
 }
 
 impl<S: Store<Rules = SetRules>> HintedStore<S> {
-    ghost use Rattle.set_catalog.specs.Causes.{causes};
+    ghost use Rattle.section_work.specs.Causes.{causes};
     ghost use Rattle.set_catalog.specs.Steps.{most_locks};
-    ghost use Rattle.set_catalog.specs.Attempts.{Attempted, HintsAfter, TriesOne};
+    ghost use Rattle.set_catalog.specs.Attempts.{Attempted, HintsAfter};
+    ghost use Rattle.section_work.specs.Sections.{TriesOne};
 
     /// The store, with these hints. It takes no memory.
     pub fn new(store: S, hints: Hints) -> HintedStore<S>

@@ -7,7 +7,7 @@
 //! seat's log, enters one section, and finds what the command comes to in the section's snapshot: a
 //! reply that changes nothing, or a plan, which has the objects to lock with the words to write.
 //! What changes nothing leaves the section again. A plan is locked and written by one
-//! `list_set::rewrite`, with no further search, and given to one `try_commit`, as one entry of the
+//! `section_work::rewrite`, with no further search, and given to one `try_commit`, as one entry of the
 //! history: a move too, whose add takes the objects first that its del leaves vacant.
 //!
 //! A command searches each of its sets once, a move one set after the other in the same state: its
@@ -27,7 +27,7 @@
 //!   lock or commit that was refused there, of an object that the command locks, or that this call's
 //!   `prepare` made too little room. What the section saw, and the entry that a cause names, stand in
 //!   what the seat has seen afterwards. What only a store can show of a cause it defines itself
-//!   (`specs/Causes.antt`).
+//!   (`section_work/specs/Causes.antt`).
 //! - An attempt has at most one exchange on CLOCK for a commit in its trail. After a del is done, the
 //!   objects that it left vacant are noted in the hints. Each other hint was one before, or its
 //!   object was vacant at a time of the call.
@@ -46,8 +46,8 @@
 //!
 //! # Its place
 //!
-//! It stands on the three crates of sets, whose calls it makes by a command's names, on `set_script`
-//! and on the traits of `mv_history`. It knows no store, and nothing of logs, chains or marks. The
+//! It stands on the three crates of sets, whose calls it makes by a command's names, on `set_script`,
+//! on `section_work` for what locks and causes mean, and on the traits of `mv_history`. It knows no store, and nothing of logs, chains or marks. The
 //! program runs a script by one attempt after another.
 #![tactic(auto)]
 

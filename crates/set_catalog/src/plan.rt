@@ -1,8 +1,8 @@
 // What a change locks and writes.
 ghost use Rattle.std.specs.Prelude.{◌≡◌, ◌+◌, ◌-◌, ◌<◌, ◌≤◌, ◌==◌, if◌then◌else◌, [], ◌∷◌, MatchOption, length, false};
 ghost use Rattle.mv_history.specs.State.{touches};
-ghost use Rattle.set_script.specs.OwnWrites.{objects_of};
-ghost use Rattle.list_set.specs.Held.{count_unheld};
+ghost use Rattle.section_work.specs.OwnWrites.{objects_of};
+ghost use Rattle.section_work.specs.Held.{count_unheld};
 ghost use Rattle.set_catalog.specs.Hinted.{gone_noted};
 ghost use Rattle.set_catalog.specs.Merges.{writes_in, IsPlaceOf, merged_one, merged};
 

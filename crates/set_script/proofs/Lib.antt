@@ -22,7 +22,6 @@ pub mod TreeMaps
 pub mod FrameMaps
 pub mod NextKeys
 pub mod Written
-pub mod OwnWrites
 pub mod Opening
 pub mod Tally
 pub mod Cost

@@ -10,7 +10,8 @@ use Rattle.set_script.specs.Catalogue.{Map, has_key, put}
 use Rattle.set_script.specs.CatalogueOf.{map_among}
 use Rattle.set_script.specs.Trees.{IsDistinct}
 use Rattle.set_script.proofs.ObjectWords.{word}
-use Rattle.set_script.proofs.TreeShape.{IsIn, not_in}
+use Rattle.section_work.proofs.Objects.{IsIn}
+use Rattle.set_script.proofs.TreeShape.{not_in}
 use Rattle.set_script.proofs.Mapped.{map_among-has, drop-set_at, at-drop}
 
 abbrev pub tally : (List ℕ → Bool) → State → ℕ

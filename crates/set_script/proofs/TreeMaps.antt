@@ -15,7 +15,8 @@ use Rattle.set_script.proofs.Mapped.{IsMap-map_among, map_of-catalogue_of}
 use Rattle.set_script.proofs.Heads.{is_key_at-from, is_key_at-to, name_bound}
 use Rattle.set_script.proofs.ListMaps.{HoldsAt, holds-map_at, map_at-value}
 use Rattle.set_script.proofs.NameMaps.{map_in-alone}
-use Rattle.set_script.proofs.TreeShape.{IsIn, in_either, only_in, seek_left, seek_right}
+use Rattle.section_work.proofs.Objects.{IsIn, in_either}
+use Rattle.set_script.proofs.TreeShape.{only_in, seek_left, seek_right}
 
 pub below_entries : (d : ℕ) (t : Tree) → AllBelow d t → IsUnderKey d (entries_in t)
 below_entries d (leaf n k v) a = (a, tt)

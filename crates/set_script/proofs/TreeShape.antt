@@ -5,15 +5,11 @@ use Rattle.std.proofs.lemmas.Bool.{false_from_ne_true, cases_lt}
 use Rattle.std.proofs.lemmas.Bool.Decides.{nat_tests}
 use Rattle.mv_history.specs.State.{State}
 use Rattle.mv_history.specs.Meaning.{words_at}
+use Rattle.section_work.proofs.Objects.{IsIn, in_left, in_right, in_either}
 use Rattle.set_script.specs.Objects.{owner, kind, link, right_link}
 use Rattle.set_script.specs.Trees.{Tree, top, objects_in, is_in, IsDistinct, entries_in, Stands, IsGrown, seek}
 use Rattle.set_script.specs.Trees.Tree.{leaf, inner}
 use Rattle.set_script.proofs.ObjectWords.{word}
-
--- the object is one of these, as a choice of one of them
-abbrev pub IsIn : ℕ → List ℕ → Type 0
-IsIn o [] = ⊥
-IsIn o (n ∷ ns) = (o ≡ n) ⊎ IsIn o ns
 
 pub IsIn-from : (o : ℕ) (ns : List ℕ) → is_in o ns ≡ true → IsIn o ns
 IsIn-from o [] e = cc
@@ -31,20 +27,6 @@ pub is_in-none : (o : ℕ) (ns : List ℕ) → (IsIn o ns → ⊥) → is_in o n
 is_in-none o ns f = false_from_ne_true (is_in o ns) (λ t. f (IsIn-from o ns t))
 
 -- lists of objects one after another
-pub in_left : (xs ys : List ℕ) (o : ℕ) → IsIn o xs → IsIn o (xs ++ ys)
-in_left [] ys o i = absurd i
-in_left (x ∷ xs) ys o (inl e) = inl e
-in_left (x ∷ xs) ys o (inr i) = inr (in_left xs ys o i)
-
-pub in_right : (xs ys : List ℕ) (o : ℕ) → IsIn o ys → IsIn o (xs ++ ys)
-in_right [] ys o i = i
-in_right (x ∷ xs) ys o i = inr (in_right xs ys o i)
-
-pub in_either : (xs ys : List ℕ) (o : ℕ) → IsIn o (xs ++ ys) → IsIn o xs ⊎ IsIn o ys
-in_either [] ys o i = inr i
-in_either (x ∷ xs) ys o (inl e) = inl (inl e)
-in_either (x ∷ xs) ys o (inr i) = elim (in_either xs ys o i) [ inl j ↦ inl (inr j) | inr j ↦ inr j ]
-
 pub distinct_left : (xs ys : List ℕ) → IsDistinct (xs ++ ys) → IsDistinct xs
 distinct_left [] ys d = tt
 distinct_left (x ∷ xs) ys d =

@@ -11,13 +11,12 @@ use Rattle.set_script.specs.Catalogue.{Map, Maps, map_of}
 use Rattle.set_script.specs.CatalogueOf.{name_of, catalogue_of}
 use Rattle.set_script.specs.Replies.{changed, applies}
 use Rattle.set_script.specs.Lawful.{IsLawful}
-use Rattle.set_script.specs.OwnWrites.{with_locks, with_writes, objects_of}
+use Rattle.section_work.specs.OwnWrites.{with_locks, with_writes, objects_of}
 use Rattle.set_script.specs.Tags.{tag_of}
 use Rattle.set_script.specs.Rules.{IsInRange, Keeps, IsSetCommit}
-use Rattle.set_script.proofs.TreeShape.{IsIn, in_left, in_right, in_either}
-use Rattle.set_script.proofs.Written.{touches-in, in-touches, touches-out}
-use Rattle.set_script.proofs.OwnWrites.{written-with_locks, touches-with_locks, distinct-with_locks, same_locks, touches-with_writes}
-use Rattle.set_script.proofs.OwnWrites.{written-with_writes, words-written_as}
+use Rattle.section_work.proofs.Objects.{IsIn, in_left, in_right, in_either, touches-in, in-touches, touches-out}
+use Rattle.section_work.proofs.OwnWrites.{written-with_locks, touches-with_locks, distinct-with_locks, same_locks, touches-with_writes}
+use Rattle.section_work.proofs.OwnWrites.{written-with_writes, words-written_as}
 use Rattle.set_script.proofs.Frames.{IsWithin, same_head, same_owned}
 use Rattle.set_script.proofs.Halves.{keeps_of, keeps_other, within_back, Half, keeps_join}
 use Rattle.set_script.proofs.Ways.{IsAt, IsVacant, AreVacant, AreSame, Way, set_commit, Stays, vacant_same}

@@ -12,13 +12,12 @@ use Rattle.set_script.specs.CatalogueOf.{name_of, catalogue_of}
 use Rattle.set_script.specs.Replies.{changed, applies}
 use Rattle.set_script.specs.Objects.{owner}
 use Rattle.set_script.specs.Lawful.{IsLawful}
-use Rattle.set_script.specs.OwnWrites.{with_locks, with_writes, objects_of}
+use Rattle.section_work.specs.OwnWrites.{with_locks, with_writes, objects_of}
 use Rattle.set_script.specs.Tags.{tag_of}
 use Rattle.set_script.specs.Rules.{capacity, IsInRange, Keeps, MakesSome, IsSetCommit}
 use Rattle.set_script.proofs.ObjectWords.{word}
-use Rattle.set_script.proofs.TreeShape.{IsIn, in_left, in_right}
-use Rattle.set_script.proofs.Written.{touches-in}
-use Rattle.set_script.proofs.OwnWrites.{own_from_none}
+use Rattle.section_work.proofs.Objects.{IsIn, in_left, in_right, touches-in}
+use Rattle.section_work.proofs.OwnWrites.{own_from_none}
 use Rattle.set_script.proofs.Halves.{KeepsOf, keeps_of, Half}
 use Rattle.set_script.proofs.Replying.{overflows-fits, Works, works}
 use Rattle.set_script.proofs.Cost.{cost_fits}

@@ -8,7 +8,6 @@ pub mod Lawful
 pub mod CatalogueOf
 pub mod LawfulLaws
 pub mod Tags
-pub mod OwnWrites
 pub mod Rules
 pub mod RuleLaws
 pub mod Formats

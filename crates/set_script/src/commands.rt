@@ -116,15 +116,6 @@ pub enum Reply {
     Value { value: u64 },
 }
 
-/// Where a command took place in the one history. The times are printed ones.
-#[derive(Clone, Copy, Debug, Drop, PartialEq, Eq)]
-pub enum Place {
-    /// It is the commit of this time.
-    Commit(u64),
-    /// It read the state of this time, and changed nothing.
-    Read(u64),
-}
-
 /// What is wrong with a line of a script.
 #[derive(Clone, Copy, Debug, Drop, PartialEq, Eq)]
 pub enum FaultKind {

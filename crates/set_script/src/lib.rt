@@ -17,7 +17,8 @@
 //! what is wrong with it first; want of memory is the one free answer. `Catalogue` is such a
 //! catalogue in memory, and each call says which maps it leaves.
 //!
-//! **Place.** It stands on `mv_history` alone, whose states it speaks of. `list_set` changes lawful
+//! **Place.** It stands on `mv_history`, whose states it speaks of, and on `section_work` for what
+//! locks and writes leave of a section. `list_set` changes lawful
 //! states, `run_report` replays commands over catalogues, and the program parses its file here.
 //! The lemmas in `proofs/` on lists, maps and states are for the crates above.
 #![tactic(auto)]
@@ -28,7 +29,7 @@ mod rules;
 mod script;
 
 pub use catalogue::Catalogue;
-pub use commands::{Command, FaultKind, Format, Name, Place, Reply, ScriptFault};
+pub use commands::{Command, FaultKind, Format, Name, Reply, ScriptFault};
 pub use rules::SetRules;
 pub use script::{
     MOST_COMMANDS, commands_read_back, first_word, parse, parse_is_exact, parse_line, read_line,

@@ -5,7 +5,8 @@ use Rattle.set_script.specs.Objects.{owner}
 use Rattle.set_script.specs.Trees.{Tree, objects_in, IsGrown}
 use Rattle.set_script.specs.Lawful.{IsLawful}
 use Rattle.set_script.proofs.ObjectWords.{owned_in_range}
-use Rattle.set_script.proofs.TreeShape.{IsIn, Stands-node, Stands-owner}
+use Rattle.section_work.proofs.Objects.{IsIn}
+use Rattle.set_script.proofs.TreeShape.{Stands-node, Stands-owner}
 use Rattle.set_script.proofs.Ways.{IsAt, IsVacant}
 use Rattle.tree_set.specs.Paths.{Path, plug, parent_of, around}
 use Rattle.tree_set.proofs.Plugging.{around_in, part_in, plug_apart, parent_in}

@@ -10,14 +10,13 @@ use Rattle.mv_history.proofs.Holding.{state_of-as_before}
 use Rattle.set_script.specs.Catalogue.{Map, map_of, has_key, value_of, put, take_out}
 use Rattle.set_script.specs.CatalogueOf.{name_of, catalogue_of}
 use Rattle.set_script.specs.Objects.{link, value}
-use Rattle.set_script.specs.OwnWrites.{objects_of}
+use Rattle.section_work.specs.OwnWrites.{objects_of}
 use Rattle.set_script.specs.Lawful.{IsLawful}
 use Rattle.set_script.proofs.ObjectWords.{word, owned_in_range}
-use Rattle.set_script.proofs.TreeShape.{IsIn, in_either}
-use Rattle.set_script.proofs.Written.{in-touches}
+use Rattle.section_work.proofs.Objects.{IsIn, in_either, in-touches}
 use Rattle.set_script.proofs.Ways.{IsVacant, AreVacant, Way}
 use Rattle.list_set.specs.Places.{put_writes}
-use Rattle.list_set.specs.Calls.{Rewritten}
+use Rattle.section_work.specs.Locking.{Rewritten}
 use Rattle.tree_set.specs.Places.{IsLeaf, plant_writes, IsGrowPlace, grow_writes, IsBarePlace, bare_writes, IsCutPlace, cut_writes}
 use Rattle.tree_set.specs.Calls.{IsAdd, IsDel, Gains, Loses}
 use Rattle.tree_set.specs.Calls.IsAdd.{first_leaf, beside_leaf}

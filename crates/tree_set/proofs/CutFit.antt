@@ -10,9 +10,10 @@ use Rattle.set_script.specs.Trees.Tree.{leaf}
 use Rattle.set_script.specs.TreeLaws.{grown_once}
 use Rattle.set_script.specs.Lawful.{IsLawful}
 use Rattle.set_script.proofs.ObjectWords.{word, owned_in_range}
-use Rattle.set_script.proofs.TreeShape.{IsIn, is_in-none, only_in}
+use Rattle.section_work.proofs.Objects.{IsIn, touches-out, out-touches}
+use Rattle.set_script.proofs.TreeShape.{is_in-none, only_in}
 use Rattle.set_script.proofs.TreeMaps.{seek_leaf}
-use Rattle.set_script.proofs.Written.{touches-out, out-touches, distinct-objects_of}
+use Rattle.set_script.proofs.Written.{distinct-objects_of}
 use Rattle.set_script.proofs.Halves.{Half}
 use Rattle.set_script.proofs.Ways.{Has}
 use Rattle.tree_set.specs.Paths.{Turn, Path, plug, node_of, parent_of, Follows}

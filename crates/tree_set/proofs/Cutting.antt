@@ -10,7 +10,8 @@ use Rattle.set_script.specs.Trees.Tree.{leaf}
 use Rattle.set_script.proofs.ObjectWords.{word}
 use Rattle.set_script.proofs.Frames.{IsOf, IsWithin}
 use Rattle.set_script.proofs.MapParts.{take_out-behind}
-use Rattle.set_script.proofs.TreeShape.{IsIn, Stands-same, only_in}
+use Rattle.section_work.proofs.Objects.{IsIn}
+use Rattle.set_script.proofs.TreeShape.{Stands-same, only_in}
 use Rattle.set_script.proofs.TreeMaps.{leaf_value}
 use Rattle.tree_set.specs.Paths.{Turn, Path, plug, node_of, parent_of, Follows, around, before, after}
 use Rattle.tree_set.specs.Paths.Turn.{left, right}

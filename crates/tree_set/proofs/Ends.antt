@@ -14,8 +14,9 @@ use Rattle.set_script.specs.TreeLaws.{top_is_node, grown_once}
 use Rattle.set_script.specs.Lawful.{IsLawful}
 use Rattle.set_script.proofs.ObjectWords.{word, owned_in_range}
 use Rattle.set_script.proofs.Frames.{IsOf, IsWithin}
-use Rattle.set_script.proofs.TreeShape.{IsIn, IsIn-from, is_in-from, is_in-none}
-use Rattle.set_script.proofs.Written.{touches-out, out-touches, distinct-objects_of}
+use Rattle.section_work.proofs.Objects.{IsIn, touches-out, out-touches}
+use Rattle.set_script.proofs.TreeShape.{IsIn-from, is_in-from, is_in-none}
+use Rattle.set_script.proofs.Written.{distinct-objects_of}
 use Rattle.set_script.proofs.Halves.{Half}
 use Rattle.set_script.proofs.Ways.{IsVacant, Lacks, Has}
 use Rattle.tree_set.specs.Places.{plant_writes, IsBarePlace, bare_writes}

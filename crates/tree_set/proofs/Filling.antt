@@ -7,17 +7,17 @@ use Rattle.mv_history.specs.Calls.{Enters, IsAsBefore}
 use Rattle.mv_history.proofs.Writing.{length-written, length-rewritten, touches-append, words-written_other}
 use Rattle.mv_history.proofs.Holding.{state_of-as_before}
 use Rattle.set_script.specs.Objects.{owner, link}
-use Rattle.set_script.specs.OwnWrites.{objects_of, with_locks, with_writes}
+use Rattle.section_work.specs.OwnWrites.{objects_of, with_locks, with_writes}
 use Rattle.set_script.specs.Trees.{objects_in, EndsAt}
 use Rattle.set_script.specs.Lawful.{IsLawful, IsOpening}
 use Rattle.set_script.proofs.ObjectWords.{word}
 use Rattle.set_script.proofs.Opening.{opening_owner, opening_lawful}
-use Rattle.set_script.proofs.TreeShape.{IsIn, seek_in, Stands-node, Stands-owner}
-use Rattle.set_script.proofs.OwnWrites.{touches-with_locks, touches-with_writes}
+use Rattle.section_work.proofs.Objects.{IsIn, touches-out, in-touches}
+use Rattle.set_script.proofs.TreeShape.{seek_in, Stands-node, Stands-owner}
+use Rattle.section_work.proofs.OwnWrites.{touches-with_locks, touches-with_writes}
 use Rattle.set_script.proofs.Ways.{IsAt}
-use Rattle.set_script.proofs.Written.{touches-out, in-touches}
-use Rattle.list_set.specs.Held.{count_unheld, HasRoom}
-use Rattle.list_set.specs.Calls.{Rewritten}
+use Rattle.section_work.specs.Held.{count_unheld, HasRoom}
+use Rattle.section_work.specs.Locking.{Rewritten}
 use Rattle.list_set.specs.Places.{put_writes}
 use Rattle.list_set.proofs.Clients.{state-entered}
 use Rattle.tree_set.specs.Places.{IsLeaf, IsParent}

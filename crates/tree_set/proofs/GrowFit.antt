@@ -15,7 +15,8 @@ use Rattle.set_script.specs.Lawful.{IsLawful}
 use Rattle.set_script.proofs.ObjectWords.{word, owned_in_range}
 use Rattle.set_script.proofs.MapParts.{IsUnderKey, put-behind, put-above, has_key-at}
 use Rattle.set_script.proofs.TreeShape.{is_in-none}
-use Rattle.set_script.proofs.Written.{touches-out, out-touches, distinct-objects_of}
+use Rattle.section_work.proofs.Objects.{touches-out, out-touches}
+use Rattle.set_script.proofs.Written.{distinct-objects_of}
 use Rattle.set_script.proofs.Halves.{Half}
 use Rattle.set_script.proofs.Ways.{IsAt, IsVacant, Lacks}
 use Rattle.tree_set.specs.Paths.{Path, plug, Follows, before, after}

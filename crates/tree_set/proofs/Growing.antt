@@ -9,7 +9,8 @@ use Rattle.set_script.specs.Trees.{Tree, top, objects_in, IsDistinct, IsOrdered,
 use Rattle.set_script.specs.Trees.Tree.{leaf, inner}
 use Rattle.set_script.proofs.ObjectWords.{word}
 use Rattle.set_script.proofs.Frames.{IsOf, IsWithin}
-use Rattle.set_script.proofs.TreeShape.{IsIn, is_in-none, only_in}
+use Rattle.section_work.proofs.Objects.{IsIn}
+use Rattle.set_script.proofs.TreeShape.{is_in-none, only_in}
 use Rattle.set_script.proofs.Ways.{IsVacant}
 use Rattle.tree_set.specs.Paths.{Path, plug, parent_of, Follows, around}
 use Rattle.tree_set.specs.Paths.Turn.{left, right}

@@ -7,7 +7,8 @@ use Rattle.set_script.specs.Catalogue.{Map, IsAboveKey}
 use Rattle.set_script.specs.Trees.{Tree, top, objects_in, IsDistinct, entries_in, AllBelow, AllFrom, IsOrdered, Stands, seek}
 use Rattle.set_script.specs.Trees.Tree.{leaf, inner}
 use Rattle.set_script.proofs.MapParts.{IsUnderKey, under_append, above_append, under_higher, from_above}
-use Rattle.set_script.proofs.TreeShape.{IsIn, not_in, is_in-none, in_left, in_right, in_either, distinct_left, distinct_right, distinct_apart}
+use Rattle.section_work.proofs.Objects.{IsIn, in_left, in_right, in_either}
+use Rattle.set_script.proofs.TreeShape.{not_in, is_in-none, distinct_left, distinct_right, distinct_apart}
 use Rattle.set_script.proofs.TreeShape.{distinct_join, seek_left, seek_right}
 use Rattle.set_script.proofs.TreeMaps.{below_entries, from_entries}
 use Rattle.tree_set.specs.Paths.{Turn, Path, plug, node_of, parent_of, Follows, around, before, after}

@@ -14,8 +14,8 @@ use Rattle.set_script.specs.Lawful.{IsLawful}
 use Rattle.set_script.proofs.ObjectWords.{word, owned_in_range}
 use Rattle.set_script.proofs.Frames.{IsOf, IsWithin}
 use Rattle.set_script.proofs.MapParts.{IsUnderKey, put-behind, has_key-behind}
-use Rattle.set_script.proofs.TreeShape.{IsIn, only_in}
-use Rattle.set_script.proofs.Written.{touches-out}
+use Rattle.section_work.proofs.Objects.{IsIn, touches-out}
+use Rattle.set_script.proofs.TreeShape.{only_in}
 use Rattle.set_script.proofs.Halves.{Half}
 use Rattle.set_script.proofs.Ways.{HasOther}
 use Rattle.tree_set.specs.Paths.{Path, plug, parent_of, Follows, around, before, after}

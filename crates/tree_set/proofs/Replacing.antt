@@ -9,7 +9,8 @@ use Rattle.set_script.specs.Objects.{owner, kind, link, right_link, head_words, 
 use Rattle.set_script.specs.Trees.{Tree, top, objects_in, IsDistinct, IsOrdered, Stands, IsGrown}
 use Rattle.set_script.specs.Trees.Tree.{leaf, inner}
 use Rattle.set_script.proofs.ObjectWords.{word}
-use Rattle.set_script.proofs.TreeShape.{IsIn, not_in, is_in-from, in_left, in_right, in_either, distinct_left, distinct_right, distinct_apart, top_in}
+use Rattle.section_work.proofs.Objects.{IsIn, in_left, in_right, in_either}
+use Rattle.set_script.proofs.TreeShape.{not_in, is_in-from, distinct_left, distinct_right, distinct_apart, top_in}
 use Rattle.set_script.proofs.TreeShape.{child_in, only_in, Stands-same, Stands-node}
 use Rattle.tree_set.specs.Paths.{Turn, Path, plug, parent_of, around}
 use Rattle.tree_set.specs.Paths.Turn.{left, right}

@@ -9,7 +9,8 @@ use Rattle.set_script.specs.Objects.{kind, link, value}
 use Rattle.set_script.specs.Lawful.{IsLawful}
 use Rattle.set_script.specs.Trees.{objects_in, entries_in, EndsAt}
 use Rattle.set_script.proofs.ObjectWords.{word}
-use Rattle.set_script.proofs.TreeShape.{IsIn, seek_in, only_in, Stands-node, Stands-owner}
+use Rattle.section_work.proofs.Objects.{IsIn}
+use Rattle.set_script.proofs.TreeShape.{seek_in, only_in, Stands-node, Stands-owner}
 use Rattle.set_script.proofs.TreeMaps.{leaf_value, map_of-tree}
 use Rattle.set_script.proofs.Ways.{IsAt, AreVacant, DelWay, AddWay, PutWay}
 use Rattle.list_set.specs.Places.{put_writes}

@@ -8,7 +8,8 @@ use Rattle.set_script.specs.Trees.{Tree, top, objects_in, IsDistinct, entries_in
 use Rattle.set_script.specs.Trees.Tree.{leaf, inner}
 use Rattle.set_script.proofs.ObjectWords.{word}
 use Rattle.set_script.proofs.MapParts.{IsUnderKey, under_higher, take_out-behind}
-use Rattle.set_script.proofs.TreeShape.{IsIn, not_in, in_left, in_right, in_either, distinct_left, distinct_right, distinct_apart, top_in, seek_left}
+use Rattle.section_work.proofs.Objects.{IsIn, in_left, in_right, in_either}
+use Rattle.set_script.proofs.TreeShape.{not_in, distinct_left, distinct_right, distinct_apart, top_in, seek_left}
 use Rattle.set_script.proofs.TreeShape.{seek_right}
 use Rattle.set_script.proofs.TreeMaps.{below_entries}
 use Rattle.tree_set.specs.Paths.{Turn, Path, plug, node_of, parent_of, grand_of, Follows}

@@ -5,9 +5,9 @@ use Rattle.mv_history.specs.Meaning.{InSection, state_of}
 use Rattle.set_script.specs.Catalogue.{with_key, without_key}
 use Rattle.set_script.specs.CatalogueOf.{name_of, catalogue_of}
 use Rattle.set_script.specs.Objects.{link}
-use Rattle.set_script.specs.OwnWrites.{objects_of}
+use Rattle.section_work.specs.OwnWrites.{objects_of}
 use Rattle.set_script.specs.Lawful.{IsLawful}
-use Rattle.list_set.specs.Calls.{Rewritten}
+use Rattle.section_work.specs.Locking.{Rewritten}
 use Rattle.tree_set.specs.Places.{plant_writes, IsGrowPlace, grow_writes, IsBarePlace, bare_writes, IsCutPlace, cut_writes}
 
 -- What an add writes, which are all the objects that it locks: in an empty tree the first leaf, else a leaf beside the one

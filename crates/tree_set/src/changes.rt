@@ -6,11 +6,11 @@ ghost use Rattle.set_script.specs.Catalogue.{map_of, has_key, value_of};
 ghost use Rattle.set_script.specs.CatalogueOf.{name_of, catalogue_of};
 ghost use Rattle.set_script.specs.Lawful.{IsLawful};
 ghost use Rattle.set_script.specs.Objects.{owner, link};
-ghost use Rattle.set_script.specs.OwnWrites.{objects_of};
+ghost use Rattle.section_work.specs.OwnWrites.{objects_of};
 ghost use Rattle.list_set.specs.Places.{put_writes};
-ghost use Rattle.list_set.specs.Held.{HasRoom};
-ghost use Rattle.list_set.specs.Calls.{Refuses};
-ghost use Rattle.list_set.specs.declared.answers.Cause.{Cause};
+ghost use Rattle.section_work.specs.Held.{HasRoom};
+ghost use Rattle.section_work.specs.Locking.{Refuses};
+ghost use Rattle.section_work.specs.declared.causes.Refusal.{Refusal};
 ghost use Rattle.list_set.specs.declared.answers.SetStep.TheVariants.{Yes, No, Again};
 ghost use Rattle.list_set.specs.declared.answers.Removed.TheVariants.{Took, Absent, Again as DelAgain};
 ghost use Rattle.tree_set.specs.Places.{IsLeaf};
@@ -18,8 +18,9 @@ ghost use Rattle.tree_set.specs.Calls.{IsAdd, IsDel, Gains, Loses};
 
 use crate::search::{find, find_leaf};
 use crate::writes::plant_writes;
-use list_set::{Removed, SetStep, rewrite};
+use list_set::{Removed, SetStep};
 use mv_history::Section;
+use section_work::rewrite;
 
 /// Adds the key, with this value, to the tree of this root, in a vacant node.
 ///
@@ -39,7 +40,7 @@ use mv_history::Section;
 ///   added. Only the link that led to the old leaf, or the root's, and the words of the new nodes
 ///   changed.
 /// - `Again` only where the key is not there and the lock of one of the objects was refused, with
-///   `Busy` or `Stale`, which the cause carries. Those before it, in the order parent, old leaf, new
+///   `Busy` or `Stale`, which the refusal carries. Those before it, in the order parent, old leaf, new
 ///   leaf, new inner node, stay held. The section's state is as before. Over the plain store it
 ///   never comes.
 pub fn add_in<S: Section>(
@@ -65,14 +66,14 @@ pub fn add_in<S: Section>(
     ensures unchanged { result ≡ No → S.as_before section.old section.new }
     ensures yes { result ≡ Yes → (writes : Writes) × IsAdd (state_of (S.section section.old)) root key value leaf inner writes
         × Gains (S.section section.old) (S.section section.new) root key value writes }
-    ensures again { (cause : Cause) → result ≡ Again cause
+    ensures again { (refusal : Refusal) → result ≡ Again refusal
         → (writes : Writes) × IsAdd (state_of (S.section section.old)) root key value leaf inner writes
-        × Refuses S.may_refuse S.found_held (S.section section.old) (S.section section.new) (objects_of writes) cause }
+        × Refuses S.may_refuse S.found_held (S.section section.old) (S.section section.new) (objects_of writes) refusal }
 {
     let Some(fork) = find(section, root, key) else {
         return match rewrite(section, &plant_writes(root, key, value, leaf)) {
             Ok(()) => SetStep::Yes,
-            Err(cause) => SetStep::Again(cause),
+            Err(refusal) => SetStep::Again(refusal),
         };
     };
     if fork.has(key) {
@@ -80,7 +81,7 @@ pub fn add_in<S: Section>(
     }
     match rewrite(section, &fork.grow_writes(root, key, value, leaf, inner)) {
         Ok(()) => SetStep::Yes,
-        Err(cause) => SetStep::Again(cause),
+        Err(refusal) => SetStep::Again(refusal),
     }
 }
 
@@ -94,7 +95,7 @@ pub fn add_in<S: Section>(
 /// - `Yes`: the leaf is held, and the section's state is lawful, with the key at this value. Only
 ///   the value in the words of the leaf changed.
 /// - `Again` only where the key has another value and the lock of the leaf was refused, with `Busy`
-///   or `Stale`, which the cause carries. The section's state is as before. Over the plain store it
+///   or `Stale`, which the refusal carries. The section's state is as before. Over the plain store it
 ///   never comes.
 pub fn put_in<S: Section>(section: &mut S, root: u32, key: u32, value: u64) -> SetStep
     requires root_from { 170 ≤ root }
@@ -106,8 +107,8 @@ pub fn put_in<S: Section>(section: &mut S, root: u32, key: u32, value: u64) -> S
     ensures unchanged { result ≡ No → S.as_before section.old section.new }
     ensures yes { result ≡ Yes → (leaf : ℕ) × IsLeaf (state_of (S.section section.old)) root key leaf
         × Gains (S.section section.old) (S.section section.new) root key value (put_writes (state_of (S.section section.old)) leaf value) }
-    ensures again { (cause : Cause) → result ≡ Again cause → (leaf : ℕ) × IsLeaf (state_of (S.section section.old)) root key leaf
-        × Refuses S.may_refuse S.found_held (S.section section.old) (S.section section.new) (leaf ∷ []) cause }
+    ensures again { (refusal : Refusal) → result ≡ Again refusal → (leaf : ℕ) × IsLeaf (state_of (S.section section.old)) root key leaf
+        × Refuses S.may_refuse S.found_held (S.section section.old) (S.section section.new) (leaf ∷ []) refusal }
 {
     let fork = find_leaf(section, root, key);
     if fork.words[5] == value {
@@ -115,7 +116,7 @@ pub fn put_in<S: Section>(section: &mut S, root: u32, key: u32, value: u64) -> S
     }
     match rewrite(section, &fork.put_writes(value)) {
         Ok(()) => SetStep::Yes,
-        Err(cause) => SetStep::Again(cause),
+        Err(refusal) => SetStep::Again(refusal),
     }
 }
 
@@ -135,7 +136,7 @@ pub fn put_in<S: Section>(section: &mut S, root: u32, key: u32, value: u64) -> S
 ///   leaf, is vacant, all zero, and so is `inner`, its parent; `inner` is 0 where the key was the
 ///   last one. Else only the link to the parent, or the root's, changed.
 /// - `Again` only where the key is there and the lock of one of the objects was refused, with `Busy`
-///   or `Stale`, which the cause carries. Those above it stay held. The section's state is as before.
+///   or `Stale`, which the refusal carries. Those above it stay held. The section's state is as before.
 ///   Over the plain store it never comes.
 pub fn del_in<S: Section>(section: &mut S, root: u32, key: u32) -> Removed
     requires root_from { 170 ≤ root }
@@ -148,9 +149,9 @@ pub fn del_in<S: Section>(section: &mut S, root: u32, key: u32) -> Removed
     ensures took { (node inner : ℕ) → result ≡ Took node inner
         → (writes : Writes) × IsDel (state_of (S.section section.old)) root key node inner writes
         × Loses (S.section section.old) (S.section section.new) root key writes }
-    ensures again { (cause : Cause) → result ≡ DelAgain cause
+    ensures again { (refusal : Refusal) → result ≡ DelAgain refusal
         → (leaf inner : ℕ) × (writes : Writes) × IsDel (state_of (S.section section.old)) root key leaf inner writes
-        × Refuses S.may_refuse S.found_held (S.section section.old) (S.section section.new) (objects_of writes) cause }
+        × Refuses S.may_refuse S.found_held (S.section section.old) (S.section section.new) (objects_of writes) refusal }
 {
     let Some(fork) = find(section, root, key) else {
         return Removed::Absent;
@@ -164,7 +165,7 @@ pub fn del_in<S: Section>(section: &mut S, root: u32, key: u32) -> Removed
                 node: fork.leaf,
                 inner: 0,
             },
-            Err(cause) => Removed::Again(cause),
+            Err(refusal) => Removed::Again(refusal),
         };
     }
     match rewrite(section, &fork.cut_writes()) {
@@ -172,6 +173,6 @@ pub fn del_in<S: Section>(section: &mut S, root: u32, key: u32) -> Removed
             node: fork.leaf,
             inner: fork.parent,
         },
-        Err(cause) => Removed::Again(cause),
+        Err(refusal) => Removed::Again(refusal),
     }
 }

@@ -24,7 +24,7 @@
 //! words of each, since the other two are known of a tree's node, and answers a `Fork`, which says
 //! whether the key is there and gives the writes of an add, a del or a put with no other read;
 //! `plant_writes` are those of an add to an empty tree. A changing call decides by that fork alone,
-//! and ends with `list_set::rewrite`.
+//! and ends with `section_work::rewrite`.
 //!
 //! The calls never commit and never retry, and take no memory. They don't recurse, so that a tree of
 //! one long branch takes no more stack than any other.
@@ -41,9 +41,9 @@
 //!
 //! # Its place
 //!
-//! It stands on `list_set`, whose answers it gives and whose `rewrite` it ends with, on `set_script`,
-//! which has the definitions, and on `mv_history`, whose traits `View` and `Section` it is generic
-//! over. It knows no store. `proofs/TreeWays.antt` hands each change on to whoever commits it, as a
+//! It stands on `list_set`, whose answers it gives, on `section_work`, whose `rewrite` it ends with, on
+//! `set_script`, which has the definitions, and on `mv_history`, whose traits `View` and `Section` it
+//! is generic over. It knows no store. `proofs/TreeWays.antt` hands each change on to whoever commits it, as a
 //! way to change the map of a name (`set_script/proofs/Ways.antt`). RLU (Matveev, Shavit, Felber and
 //! Marlier, SOSP 2015) and MV-RLU (Kim, Mathew, Kashyap, Ramanathan and Min, ASPLOS 2019) are
 //! measured with search trees too.

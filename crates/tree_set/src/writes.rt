@@ -1,6 +1,6 @@
 // What a change writes where a search ended.
 ghost use Rattle.std.specs.Prelude.{◌≡◌, ◌<◌, ◌≤◌, ◌==◌, if◌then◌else◌, [], ◌∷◌, slice_index_or};
-ghost use Rattle.set_script.specs.OwnWrites.{objects_of};
+ghost use Rattle.section_work.specs.OwnWrites.{objects_of};
 ghost use Rattle.tree_set.specs.Forks.{ArePlantWrites, AreGrowWrites, AreBareWrites, AreCutWrites, ArePutWrites};
 ghost use Rattle.tree_set.specs.Places.{redirect, inner_over};
 

@@ -6,31 +6,28 @@ use Rattle.mv_history.specs.State.{State, Writes, state_at}
 use Rattle.mv_history.specs.declared.answers.Holder.{Holder}
 use Rattle.mv_history.specs.declared.answers.Rival.{Rival as RivalEntry}
 use Rattle.mv_history.specs.Drift.{IsFit}
-use Rattle.mv_history.specs.Meaning.{Seat, InSection, IsSeat, snapshot_of, state_of}
+use Rattle.mv_history.specs.Meaning.{Seat, InSection, IsSeat, snapshot_of, state_of, state_of_time}
 use Rattle.mv_history.specs.Trail.{commit_exchanges, IsOneLost}
 use Rattle.mv_history.specs.Calls.{call_trail, Continues, IsAsBefore, GoesOn, Prepares, Enters, Leaves, Commits, Overtakes, commit_by}
 use Rattle.mv_history.proofs.Holding.{state_of-as_before}
 use Rattle.mv_history.proofs.Snapshots.{snapshot_of-goes_on}
 use Rattle.mv_history.proofs.Steps.{Continues-Continues, GoesOn-GoesOn, length-seen, state_at-later}
-use Rattle.set_script.specs.OwnWrites.{with_locks, with_writes, objects_of}
+use Rattle.section_work.specs.OwnWrites.{with_locks, with_writes, objects_of}
 use Rattle.set_script.specs.Tags.{tag_of}
 use Rattle.set_script.specs.declared.commands.Command.{Command}
-use Rattle.set_script.specs.declared.commands.Place.TheVariants.{Commit as AtCommit, Read}
+use Rattle.section_work.specs.declared.place.Place.TheVariants.{Commit as AtCommit, Read}
 use Rattle.set_script.specs.declared.commands.Reply.{Reply}
 use Rattle.set_script.specs.declared.commands.Reply.TheVariants.{Yes}
-use Rattle.set_script.proofs.OwnWrites.{own_from_none}
-use Rattle.set_script.proofs.TreeShape.{in_right}
-use Rattle.set_script.proofs.TreeShape.{IsIn}
-use Rattle.set_script.proofs.Written.{touches-in}
-use Rattle.list_set.specs.Calls.{Rewritten, Refuses, IsCause}
-use Rattle.list_set.specs.Held.{count_unheld, HasRoom}
-use Rattle.list_set.specs.declared.answers.Cause.{Cause}
-use Rattle.list_set.specs.declared.answers.Cause.TheVariants.{Busy, Stale, SetFull, NoSlot, Rival, LogFull}
-use Rattle.set_catalog.specs.Attempts.{state_of_time}
-use Rattle.set_catalog.specs.Causes.{Causes}
-use Rattle.set_catalog.specs.Steps.{Stops}
-use Rattle.set_catalog.proofs.LawfulTimes.{reads_snapshot}
-use Rattle.set_catalog.proofs.Rooms.{stops_named, stops_after}
+use Rattle.section_work.proofs.OwnWrites.{own_from_none}
+use Rattle.section_work.proofs.Objects.{in_right, IsIn, touches-in}
+use Rattle.section_work.specs.Locking.{Rewritten, Refuses, Stops}
+use Rattle.section_work.specs.Held.{count_unheld, HasRoom}
+use Rattle.section_work.specs.declared.causes.Refusal.{Refusal}
+use Rattle.section_work.specs.declared.causes.Cause.{Cause}
+use Rattle.section_work.specs.declared.causes.Cause.TheVariants.{Lock, Rival, LogFull}
+use Rattle.section_work.specs.Causes.{Causes}
+use Rattle.section_work.proofs.Entering.{reads_snapshot}
+use Rattle.section_work.proofs.Stopping.{stops_named, stops_after}
 use Rattle.grow_hash.specs.Grown.{IsGrownOpening}
 use Rattle.grow_hash.specs.GrowRules.{IsGrowCommit}
 use Rattle.grow_hash.specs.GrowPlans.{GrowPlan, GrowLocks, IsOfGrown}
@@ -90,10 +87,10 @@ module _ (found locked : InSection) (command : Command) (ws : Writes) (none : fo
             (subst (λ (w : Writes). IsFit IsGrowCommit (state_of found) (tag_of command) w) (sym held) plan.fit);
       }
 
-  pub stops_by : (may_refuse : Type 0) (found_held : InSection → InSection → ℕ → ℕ → Type 0) (cause : Cause)
-      → Refuses may_refuse found_held found locked (objects_of ws) cause
-      → Stops may_refuse found_held (GrowLocks command (state_of found)) found locked cause
-  stops_by may_refuse found_held cause r = record {
+  pub stops_by : (may_refuse : Type 0) (found_held : InSection → InSection → ℕ → ℕ → Type 0) (refusal : Refusal)
+      → Refuses may_refuse found_held found locked (objects_of ws) refusal
+      → Stops may_refuse found_held (GrowLocks command (state_of found)) found locked refusal
+  stops_by may_refuse found_held refusal r = record {
     object = r.object;
     named = (
       ws,
@@ -162,27 +159,18 @@ read_at k old before entered found new command answer last time came mine e took
     }
 
 -- A change that was given up in its section.
-pub stopped_in : (k : Causes) (found left : InSection) (new : Seat) (command : Command) (cause : Cause) → found.own ≡ []
-    → Stops k.may_refuse k.found_held (GrowLocks command (state_of found)) found left cause → Leaves left new
-    → GrowGivesUpIn k found new command cause
-stopped_in k found left new command cause none x gone =
-    let y = stops_named k.may_refuse k.found_held _ (GrowLocks command (snapshot_of found)) found left cause
+pub stopped_in : (k : Causes) (found left : InSection) (new : Seat) (command : Command) (refusal : Refusal) → found.own ≡ []
+    → Stops k.may_refuse k.found_held (GrowLocks command (state_of found)) found left refusal → Leaves left new
+    → GrowGivesUpIn k found new command (Lock refusal)
+stopped_in k found left new command refusal none x gone =
+    let y = stops_named k.may_refuse k.found_held _ (GrowLocks command (snapshot_of found)) found left refusal
     (λ o n. subst (λ (s : State). GrowLocks command s o) (reads_snapshot found none) n) x in
     let goes : GoesOn found left = GoesOn-GoesOn x.goes_on x.refused.goes_on in
     record {
       continues = Continues-Continues goes.continues gone.continues;
       mine = gone.mine ∙ goes.mine;
-      why = why cause y x.refused.why;
+      why = (left, y, gone.continues);
     }
-  where
-    why : (c : Cause) → Stops k.may_refuse k.found_held (GrowLocks command (snapshot_of found)) found left c
-        → IsCause k.may_refuse k.found_held x.before left x.object c → IsGrowWhy k (λ holder. ⊥) command found new c
-    why (Busy object seat) y q = (left, y, gone.continues)
-    why (Stale object time) y q = (left, y, gone.continues)
-    why (SetFull object) y q = absurd q
-    why (NoSlot object) y q = absurd q
-    why (Rival rival) y q = absurd q
-    why (LogFull holder) y q = absurd q
 
 pub overtaken_in : (k : Causes) (found locked left : InSection) (new : Seat) (command : Command) (rival : RivalEntry)
     → found.own ≡ [] → k.may_refuse → IsGrowReady command found locked → IsAsBefore locked left
@@ -255,17 +243,14 @@ why_earlier k held_back entered found new command cause goes le w = go cause w
     same : snapshot_of found ≡ snapshot_of entered
     same = snapshot_of-goes_on entered found goes le
 
-    stop : (c : Cause) → IsGrowStopped k command found new c → IsGrowStopped k command entered new c
-    stop c w =
-        let named = stops_named k.may_refuse k.found_held _ (GrowLocks command (snapshot_of entered)) found w.0 c
+    stop : (r : Refusal) → IsGrowStopped k command found new r → IsGrowStopped k command entered new r
+    stop r w =
+        let named = stops_named k.may_refuse k.found_held _ (GrowLocks command (snapshot_of entered)) found w.0 r
         (λ o n. subst (λ (s : State). GrowLocks command s o) same n) w.1 in
-        (w.0, stops_after k.may_refuse k.found_held _ entered found w.0 c goes named, w.2)
+        (w.0, stops_after k.may_refuse k.found_held _ entered found w.0 r goes named, w.2)
 
     go : (c : Cause) → IsGrowWhy k (λ holder. ⊥) command found new c → IsGrowWhy k held_back command entered new c
-    go (Busy object seat) w = stop (Busy object seat) w
-    go (Stale object time) w = stop (Stale object time) w
-    go (SetFull object) w = absurd w
-    go (NoSlot object) w = absurd w
+    go (Lock refusal) w = stop refusal w
     go (Rival rival) w = (
       w.0,
       record {

@@ -7,15 +7,14 @@ use Rattle.mv_history.specs.declared.history.Commit.{Commit}
 use Rattle.mv_history.specs.declared.history.Entry.TheVariants.{Change}
 use Rattle.mv_history.specs.State.{State, Writes, written, state_after, state_at}
 use Rattle.mv_history.specs.Legal.{IsAllowed}
-use Rattle.mv_history.specs.Meaning.{Seat, InSection, IsSeat, IsSection, state_of}
+use Rattle.mv_history.specs.Meaning.{Seat, InSection, IsSeat, IsSection, state_of, state_of_time}
 use Rattle.mv_history.specs.Calls.{IsEntryAt}
 use Rattle.mv_history.proofs.Writing.{state_after-append}
 use Rattle.mv_history.proofs.Histories.{IsAllowed-front, split_at}
 use Rattle.set_script.specs.declared.commands.Command.{Command}
 use Rattle.set_script.specs.declared.commands.Command.TheVariants.{Add, Put, Del, Has, Get, Move, Pair, Size, Next}
 use Rattle.set_script.specs.Tags.{tag_of}
-use Rattle.set_catalog.specs.Attempts.{state_of_time}
-use Rattle.set_catalog.proofs.LawfulTimes.{reads_snapshot}
+use Rattle.section_work.proofs.Entering.{reads_snapshot}
 use Rattle.grow_hash.specs.Grown.{IsGrown, IsGrownOpening}
 use Rattle.grow_hash.specs.GrowRules.{makes, growing_of, MakesGrown, Grows, IsGrowCommit}
 use Rattle.grow_hash.specs.GrowPlans.{GrowPlan, IsOfGrown}

@@ -7,8 +7,7 @@ use Rattle.mv_history.specs.Meaning.{words_at}
 use Rattle.mv_history.proofs.Drifting.{drift_keeps_apart, words-drifts, allowed_at_once}
 use Rattle.set_script.specs.Objects.{key, value, head_words, list_words}
 use Rattle.set_script.proofs.ObjectWords.{word}
-use Rattle.set_script.proofs.TreeShape.{IsIn}
-use Rattle.set_script.proofs.Written.{touches-in}
+use Rattle.section_work.proofs.Objects.{IsIn, touches-in}
 use Rattle.grow_hash.specs.Tables.{level, split_place, buckets_at, next_table}
 use Rattle.grow_hash.specs.Grown.{IsGrown, head_at, grown_catalogue}
 use Rattle.grow_hash.specs.GrowRules.{split_tag, IsGrowCommit}

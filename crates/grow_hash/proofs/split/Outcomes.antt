@@ -10,18 +10,17 @@ use Rattle.mv_history.specs.Trail.{commit_exchanges, IsOneLost}
 use Rattle.mv_history.specs.Calls.{call_trail, Continues, IsAsBefore, GoesOn, Prepares, Enters, Leaves, Commits, Overtakes, commit_by}
 use Rattle.mv_history.proofs.Snapshots.{snapshot_of-goes_on}
 use Rattle.mv_history.proofs.Steps.{Continues-Continues, GoesOn-GoesOn, length-seen, state_at-later}
-use Rattle.set_script.specs.OwnWrites.{with_locks, with_writes, objects_of}
-use Rattle.set_script.proofs.OwnWrites.{own_from_none}
-use Rattle.set_script.proofs.TreeShape.{IsIn, in_right}
-use Rattle.set_script.proofs.Written.{touches-in}
-use Rattle.list_set.specs.Calls.{Rewritten, Refuses, IsCause}
-use Rattle.list_set.specs.Held.{count_unheld, HasRoom}
-use Rattle.list_set.specs.declared.answers.Cause.{Cause}
-use Rattle.list_set.specs.declared.answers.Cause.TheVariants.{Busy, Stale, SetFull, NoSlot, Rival, LogFull}
-use Rattle.set_catalog.specs.Causes.{Causes}
-use Rattle.set_catalog.specs.Steps.{Stops}
-use Rattle.set_catalog.proofs.LawfulTimes.{reads_snapshot}
-use Rattle.set_catalog.proofs.Rooms.{stops_named, stops_after}
+use Rattle.section_work.specs.OwnWrites.{with_locks, with_writes, objects_of}
+use Rattle.section_work.proofs.OwnWrites.{own_from_none}
+use Rattle.section_work.proofs.Objects.{IsIn, in_right, touches-in}
+use Rattle.section_work.specs.Locking.{Rewritten, Refuses, Stops}
+use Rattle.section_work.specs.Held.{count_unheld, HasRoom}
+use Rattle.section_work.specs.declared.causes.Refusal.{Refusal}
+use Rattle.section_work.specs.declared.causes.Cause.{Cause}
+use Rattle.section_work.specs.declared.causes.Cause.TheVariants.{Lock, Rival, LogFull}
+use Rattle.section_work.specs.Causes.{Causes}
+use Rattle.section_work.proofs.Entering.{reads_snapshot}
+use Rattle.section_work.proofs.Stopping.{stops_named, stops_after}
 use Rattle.grow_hash.specs.Tables.{split_place}
 use Rattle.grow_hash.specs.Grown.{IsGrown, IsGrownOpening}
 use Rattle.grow_hash.specs.GrowRules.{split_tag, IsGrowCommit}
@@ -88,10 +87,10 @@ module _ (found locked : InSection) (ws : Writes) (none : found.own ≡ []) (l :
             (split_fit (state_of found) ws plan l));
       }
 
-  pub stops_by : (may_refuse : Type 0) (found_held : InSection → InSection → ℕ → ℕ → Type 0) (cause : Cause)
-      → Refuses may_refuse found_held found locked (objects_of ws) cause
-      → Stops may_refuse found_held (IsOfSplit (state_of found)) found locked cause
-  stops_by may_refuse found_held cause r = record {
+  pub stops_by : (may_refuse : Type 0) (found_held : InSection → InSection → ℕ → ℕ → Type 0) (refusal : Refusal)
+      → Refuses may_refuse found_held found locked (objects_of ws) refusal
+      → Stops may_refuse found_held (IsOfSplit (state_of found)) found locked refusal
+  stops_by may_refuse found_held refusal r = record {
     object = r.object;
     named = plan_named (state_of found) ws l plan r.object
         (touches-in ws r.object (subst (λ os. IsIn r.object os) (sym r.parts) (in_right r.held (r.object ∷ r.rest) r.object (inl refl))));
@@ -189,26 +188,17 @@ found_tried_in k found new Worn h = h
 found_tried_in k found new (Again cause) h = absurd h
 
 -- A split that was given up in its section.
-pub stopped_in : (k : Causes) (found left : InSection) (new : Seat) (cause : Cause) → found.own ≡ []
-    → Stops k.may_refuse k.found_held (IsOfSplit (state_of found)) found left cause → Leaves left new → SplitGivesUpIn k found new cause
-stopped_in k found left new cause none x gone =
-    let y = stops_named k.may_refuse k.found_held _ (IsOfSplit (snapshot_of found)) found left cause
+pub stopped_in : (k : Causes) (found left : InSection) (new : Seat) (refusal : Refusal) → found.own ≡ []
+    → Stops k.may_refuse k.found_held (IsOfSplit (state_of found)) found left refusal → Leaves left new → SplitGivesUpIn k found new (Lock refusal)
+stopped_in k found left new refusal none x gone =
+    let y = stops_named k.may_refuse k.found_held _ (IsOfSplit (snapshot_of found)) found left refusal
     (λ o n. subst (λ (s : State). IsOfSplit s o) (reads_snapshot found none) n) x in
     let goes : GoesOn found left = GoesOn-GoesOn x.goes_on x.refused.goes_on in
     record {
       continues = Continues-Continues goes.continues gone.continues;
       mine = gone.mine ∙ goes.mine;
-      why = why cause y x.refused.why;
+      why = (left, y, gone.continues);
     }
-  where
-    why : (c : Cause) → Stops k.may_refuse k.found_held (IsOfSplit (snapshot_of found)) found left c
-        → IsCause k.may_refuse k.found_held x.before left x.object c → IsSplitWhy k (λ holder. ⊥) found new c
-    why (Busy object seat) y q = (left, y, gone.continues)
-    why (Stale object time) y q = (left, y, gone.continues)
-    why (SetFull object) y q = absurd q
-    why (NoSlot object) y q = absurd q
-    why (Rival rival) y q = absurd q
-    why (LogFull holder) y q = absurd q
 
 pub overtaken_in : (k : Causes) (found locked left : InSection) (new : Seat) (rival : RivalEntry) → found.own ≡ [] → k.may_refuse
     → IsSplitReady found locked → IsAsBefore locked left → Overtakes locked left rival.seat rival.time (k.loaded locked left.seat)
@@ -239,17 +229,14 @@ why_earlier k held_back entered found new cause goes le w = go cause w
     same : snapshot_of found ≡ snapshot_of entered
     same = snapshot_of-goes_on entered found goes le
 
-    stop : (c : Cause) → IsSplitStopped k found new c → IsSplitStopped k entered new c
-    stop c w =
-        let named = stops_named k.may_refuse k.found_held _ (IsOfSplit (snapshot_of entered)) found w.0 c
+    stop : (r : Refusal) → IsSplitStopped k found new r → IsSplitStopped k entered new r
+    stop r w =
+        let named = stops_named k.may_refuse k.found_held _ (IsOfSplit (snapshot_of entered)) found w.0 r
         (λ o n. subst (λ (s : State). IsOfSplit s o) same n) w.1 in
-        (w.0, stops_after k.may_refuse k.found_held _ entered found w.0 c goes named, w.2)
+        (w.0, stops_after k.may_refuse k.found_held _ entered found w.0 r goes named, w.2)
 
     go : (c : Cause) → IsSplitWhy k (λ holder. ⊥) found new c → IsSplitWhy k held_back entered new c
-    go (Busy object seat) w = stop (Busy object seat) w
-    go (Stale object time) w = stop (Stale object time) w
-    go (SetFull object) w = absurd w
-    go (NoSlot object) w = absurd w
+    go (Lock refusal) w = stop refusal w
     go (Rival rival) w = (
       w.0,
       record {

@@ -7,7 +7,7 @@ use Rattle.mv_history.specs.State.{State}
 use Rattle.mv_history.specs.Meaning.{words_at}
 use Rattle.set_script.specs.Objects.{owner, key, link, value, list_words}
 use Rattle.set_script.proofs.ObjectWords.{word}
-use Rattle.set_script.proofs.TreeShape.{IsIn}
+use Rattle.section_work.proofs.Objects.{IsIn}
 use Rattle.list_set.specs.Places.{IsInList}
 use Rattle.list_set.specs.Linked.{IsNodeOf, IsAfter, IsLinked}
 use Rattle.list_set.proofs.Linking.{head_no_node}

@@ -8,9 +8,9 @@ use Rattle.std.proofs.lemmas.List.{drop-set, get_or-take}
 use Rattle.mv_history.specs.State.{State, Writes}
 use Rattle.mv_history.specs.Meaning.{words_at}
 use Rattle.set_script.specs.Objects.{key, link, value, head_words, list_words}
-use Rattle.set_script.specs.OwnWrites.{objects_of}
+use Rattle.section_work.specs.OwnWrites.{objects_of}
 use Rattle.set_script.proofs.ObjectWords.{word}
-use Rattle.set_script.proofs.TreeShape.{IsIn}
+use Rattle.section_work.proofs.Objects.{IsIn}
 use Rattle.list_set.specs.Linked.{IsNodeOf, IsLinked}
 use Rattle.grow_hash.specs.Tables.{level, split_place, buckets_at, bucket, next_table}
 use Rattle.grow_hash.specs.Grown.{IsGrown, head_at}

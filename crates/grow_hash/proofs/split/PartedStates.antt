@@ -5,10 +5,9 @@ use Rattle.mv_history.specs.State.{State, written}
 use Rattle.mv_history.specs.Meaning.{words_at}
 use Rattle.mv_history.proofs.Writing.{words-written_other}
 use Rattle.set_script.specs.Objects.{owner, key, value, list_words}
-use Rattle.set_script.specs.OwnWrites.{objects_of}
+use Rattle.section_work.specs.OwnWrites.{objects_of}
 use Rattle.set_script.proofs.ObjectWords.{word}
-use Rattle.set_script.proofs.TreeShape.{IsIn}
-use Rattle.set_script.proofs.Written.{touches-out}
+use Rattle.section_work.proofs.Objects.{IsIn, touches-out}
 use Rattle.grow_hash.specs.Grown.{head_at, grown_map}
 use Rattle.grow_hash.specs.SplitPlans.{split_bucket, first_to, parted_nodes}
 use Rattle.grow_hash.proofs.GrownMaps.{grown_map-same, used_owned}

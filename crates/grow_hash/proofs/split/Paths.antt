@@ -4,7 +4,7 @@ use Rattle.std.specs.Prelude.{⊤}
 use Rattle.std.proofs.lemmas.Bool.{cases_eq}
 use Rattle.mv_history.specs.State.{State}
 use Rattle.set_script.specs.Objects.{key, link}
-use Rattle.set_script.proofs.TreeShape.{IsIn}
+use Rattle.section_work.proofs.Objects.{IsIn}
 use Rattle.list_set.specs.Places.{IsInList}
 use Rattle.list_set.specs.Linked.{IsNodeOf, IsAfter, IsLinked}
 use Rattle.list_set.proofs.Linking.{head_no_node}

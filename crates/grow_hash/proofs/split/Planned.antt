@@ -3,11 +3,12 @@ use Rattle.std.proofs.Common.{◌≡◌, ℕ, suc, ◌+◌, ◌<◌, ◌≤◌, 
 use Rattle.std.proofs.Common.{length, refl, sym, ap, ◌∙◌, subst, arith}
 use Rattle.mv_history.specs.State.{State, Writes, touches}
 use Rattle.mv_history.specs.Legal.{are_distinct, AreWithin}
-use Rattle.set_script.specs.OwnWrites.{objects_of}
+use Rattle.section_work.specs.OwnWrites.{objects_of}
 use Rattle.set_script.specs.Trees.{IsDistinct}
 use Rattle.set_script.proofs.ObjectWords.{owned_in_range}
-use Rattle.set_script.proofs.TreeShape.{IsIn, is_in-none}
-use Rattle.set_script.proofs.Written.{distinct-objects_of, in-touches}
+use Rattle.section_work.proofs.Objects.{IsIn, in-touches}
+use Rattle.set_script.proofs.TreeShape.{is_in-none}
+use Rattle.set_script.proofs.Written.{distinct-objects_of}
 use Rattle.grow_hash.specs.Tables.{level, split_place, buckets_at}
 use Rattle.grow_hash.specs.Grown.{IsGrown, head_at}
 use Rattle.grow_hash.specs.SplitPlans.{SplitPlan, new_bucket, split_writes}

@@ -4,9 +4,9 @@ use Rattle.std.proofs.Common.{drop, set, length-drop, refl, sym, ap, subst, arit
 use Rattle.std.proofs.lemmas.List.{take_more_set}
 use Rattle.mv_history.specs.State.{State, Writes}
 use Rattle.mv_history.specs.Meaning.{words_at}
-use Rattle.set_script.specs.OwnWrites.{objects_of}
+use Rattle.section_work.specs.OwnWrites.{objects_of}
 use Rattle.set_script.proofs.ObjectWords.{word}
-use Rattle.set_script.proofs.TreeShape.{IsIn}
+use Rattle.section_work.proofs.Objects.{IsIn}
 use Rattle.set_script.proofs.Tally.{tally-bound}
 use Rattle.list_set.proofs.Counting.{IsCount}
 use Rattle.grow_hash.specs.BucketReads.{IsRead}

@@ -2,7 +2,7 @@
 use Rattle.std.proofs.Common.{◌≡◌, ◌≢◌, ℕ, ◌+◌, ◌<◌, ◌≤◌, length, sym, ap, ◌∙◌, subst, arith}
 use Rattle.mv_history.specs.State.{State, Writes}
 use Rattle.set_script.specs.CatalogueOf.{map_at}
-use Rattle.set_script.specs.OwnWrites.{objects_of}
+use Rattle.section_work.specs.OwnWrites.{objects_of}
 use Rattle.list_set.specs.Linked.{IsLinked}
 use Rattle.grow_hash.specs.Tables.{level, split_place, buckets_at}
 use Rattle.grow_hash.specs.Grown.{IsGrown, head_at}

@@ -8,8 +8,7 @@ use Rattle.mv_history.proofs.Writing.{length-written}
 use Rattle.set_script.specs.Catalogue.{empty}
 use Rattle.set_script.specs.Objects.{owner, key, link, value, head_words, list_words}
 use Rattle.set_script.proofs.ObjectWords.{word, owned_in_range}
-use Rattle.set_script.proofs.TreeShape.{IsIn}
-use Rattle.set_script.proofs.Written.{touches-in}
+use Rattle.section_work.proofs.Objects.{IsIn, touches-in}
 use Rattle.list_set.specs.Linked.{IsNodeOf, IsLinked}
 use Rattle.grow_hash.specs.Tables.{level, split_place, buckets_at, bucket, next_table}
 use Rattle.grow_hash.specs.Grown.{IsGrown, head_at, grown_map, grown_name}

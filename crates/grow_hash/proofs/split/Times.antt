@@ -7,11 +7,10 @@ use Rattle.mv_history.specs.declared.history.Commit.{Commit}
 use Rattle.mv_history.specs.declared.history.Entry.TheVariants.{Change}
 use Rattle.mv_history.specs.State.{written, state_after, state_at}
 use Rattle.mv_history.specs.Legal.{IsAllowed}
-use Rattle.mv_history.specs.Meaning.{Seat, IsSeat}
+use Rattle.mv_history.specs.Meaning.{Seat, IsSeat, state_of_time}
 use Rattle.mv_history.specs.Calls.{IsEntryAt}
 use Rattle.mv_history.proofs.Writing.{state_after-append}
 use Rattle.mv_history.proofs.Histories.{IsAllowed-front, split_at}
-use Rattle.set_catalog.specs.Attempts.{state_of_time}
 use Rattle.grow_hash.specs.Tables.{split_place, buckets}
 use Rattle.grow_hash.specs.Grown.{IsGrownOpening, grown_catalogue}
 use Rattle.grow_hash.specs.GrowRules.{SplitsGrown, split_tag, IsGrowCommit}

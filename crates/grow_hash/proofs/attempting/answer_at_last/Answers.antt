@@ -4,8 +4,8 @@ use Rattle.mv_history.specs.Meaning.{Seat, state_of}
 use Rattle.mv_history.specs.Calls.{Leaves}
 use Rattle.mv_history.specs.CallLaws.{Continues-itself}
 use Rattle.mv_history.proofs.Steps.{Continues-Continues, NamesNoCommit-NamesNoCommit}
-use Rattle.set_catalog.proofs.Exchanges.{leave_none}
-use Rattle.set_catalog.proofs.Outcomes.{worn_enters}
+use Rattle.section_work.proofs.Exchanges.{leave_none}
+use Rattle.section_work.proofs.Entering.{worn_enters}
 use Rattle.grow_hash.specs.Grown.{IsGrown}
 use Rattle.grow_hash.specs.GrowReplies.{reply_grown}
 use Rattle.grow_hash.proofs.attempts.Found.{found_late, unchanging_late}

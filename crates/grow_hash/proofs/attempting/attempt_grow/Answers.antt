@@ -3,8 +3,8 @@ use Rattle.mv_history.specs.State.{State}
 use Rattle.mv_history.specs.Meaning.{Seat}
 use Rattle.mv_history.specs.Calls.{Leaves}
 use Rattle.mv_history.proofs.Steps.{Continues-Continues}
-use Rattle.set_catalog.proofs.Exchanges.{one_before, left_one, looks_in}
-use Rattle.set_catalog.proofs.LawfulTimes.{reads_snapshot}
+use Rattle.section_work.proofs.Exchanges.{one_before, left_one, looks_in}
+use Rattle.section_work.proofs.Entering.{reads_snapshot}
 use Rattle.grow_hash.specs.Grown.{IsGrown}
 use Rattle.grow_hash.specs.GrowReplies.{reply_grown, changes_grown}
 use Rattle.grow_hash.proofs.attempts.Found.{found_late, unchanging_late, unchanging_any}

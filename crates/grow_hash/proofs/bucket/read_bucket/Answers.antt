@@ -1,7 +1,7 @@
-use Rattle.std.proofs.Common.{refl, ◌+◌, ◌≤◌, ◌≡◌, length, take, slice_index_or, List, ℕ, sym, ap, ◌∙◌, subst, arith, length-set}
+use Rattle.std.proofs.Common.{refl, ◌+◌, length, take, slice_index_or, List, ℕ, sym, ap, ◌∙◌, subst, arith, length-set}
 use Rattle.mv_history.specs.State.{State, Writes}
 use Rattle.mv_history.specs.Meaning.{words_at}
-use Rattle.list_set.proofs.Counting.{count_first, count_fits, count_room, count_in_range, count_falls, count_step, count_done}
+use Rattle.list_set.proofs.Counting.{count_first, count_in_range, count_falls, count_step, count_done}
 use Rattle.grow_hash.specs.BucketReads.{IsRead}
 use Rattle.grow_hash.proofs.split.ReadBuckets.{read_first, read_next, count_small}
 use Rattle.grow_hash.proofs.bucket.read_bucket.Goals as goal

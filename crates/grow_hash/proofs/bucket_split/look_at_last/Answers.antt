@@ -3,8 +3,8 @@ use Rattle.mv_history.specs.Meaning.{Seat}
 use Rattle.mv_history.specs.Calls.{Leaves}
 use Rattle.mv_history.specs.CallLaws.{Continues-itself}
 use Rattle.mv_history.proofs.Steps.{Continues-Continues, NamesNoCommit-NamesNoCommit}
-use Rattle.set_catalog.proofs.Exchanges.{leave_none}
-use Rattle.set_catalog.proofs.LawfulTimes.{reads_snapshot}
+use Rattle.section_work.proofs.Exchanges.{leave_none}
+use Rattle.section_work.proofs.Entering.{reads_snapshot}
 use Rattle.grow_hash.specs.Grown.{IsGrown}
 use Rattle.grow_hash.proofs.split.Outcomes.{looked, closed_found, worn_found, worn_at}
 use Rattle.grow_hash.proofs.attempts.Times.{grown_read}

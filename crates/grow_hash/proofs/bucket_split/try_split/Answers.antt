@@ -4,8 +4,8 @@ use Rattle.mv_history.specs.Meaning.{Seat}
 use Rattle.mv_history.specs.Calls.{Leaves}
 use Rattle.mv_history.proofs.Holding.{state_of-as_before}
 use Rattle.mv_history.proofs.Steps.{Continues-Continues}
-use Rattle.set_catalog.proofs.Exchanges.{one_before, left_one, looks_in}
-use Rattle.set_catalog.proofs.LawfulTimes.{reads_snapshot}
+use Rattle.section_work.proofs.Exchanges.{one_before, left_one, looks_in}
+use Rattle.section_work.proofs.Entering.{reads_snapshot}
 use Rattle.grow_hash.specs.Grown.{IsGrown}
 use Rattle.grow_hash.specs.SplitSteps.{IsPlannedSplit}
 use Rattle.grow_hash.proofs.split.Outcomes.{looked, closed_found, found_tried, worn_found, opened_by, space_found, short_by, tried_by, last_by}

@@ -1,6 +1,6 @@
 use Rattle.std.proofs.Common.{◌≡◌, refl, sym, ◌∙◌}
 use Rattle.list_set.proofs.Spots.{spot_has, add_found, add_distinct, add_within, add_adds, room_as, rewritten_before, refuses_as}
-use Rattle.list_set.proofs.Answering.{no_not_yes, no_not_again, yes_not_no, yes_not_again, again_not_no, again_not_yes, again_cause, yes_denies, again_denies}
+use Rattle.list_set.proofs.Answering.{no_not_yes, no_not_again, yes_not_no, yes_not_again, again_not_no, again_not_yes, again_refusal, yes_denies, again_denies}
 use Rattle.list_set.proofs.lists.add_in.Goals as goal
 
 pub find-spot-requires-clause-head_in : goal.find-spot-requires-clause-head_in
@@ -13,13 +13,13 @@ pub returns-then-has-clause-yes : goal.returns-then-has-clause-yes
 returns-then-has-clause-yes g c e = absurd (no_not_yes e)
 
 pub returns-then-has-clause-again : goal.returns-then-has-clause-again
-returns-then-has-clause-again g c cause e = absurd (no_not_again _ e)
+returns-then-has-clause-again g c refusal e = absurd (no_not_again _ e)
 
 pub returns-in-Ok-clause-unchanged : goal.returns-in-Ok-clause-unchanged
 returns-in-Ok-clause-unchanged g c e = absurd (yes_not_no e)
 
 pub returns-in-Ok-clause-again : goal.returns-in-Ok-clause-again
-returns-in-Ok-clause-again g c cause e = absurd (yes_not_again _ e)
+returns-in-Ok-clause-again g c refusal e = absurd (yes_not_again _ e)
 
 pub returns-in-Err-clause-unchanged : goal.returns-in-Err-clause-unchanged
 returns-in-Err-clause-unchanged g c e = absurd (again_not_no _ e)
@@ -58,10 +58,10 @@ returns-in-Ok-clause-yes g c _ =
     (g.met.S.Section.goes_on _ _ c.find-spot.ensures.as_before) _ _ c.in-Ok.ensures.written)
 
 pub returns-in-Err-clause-again : goal.returns-in-Err-clause-again
-returns-in-Err-clause-again g c cause e =
+returns-in-Err-clause-again g c refusal e =
     let f = add_found _ _ _ _ _ _ _ _ _ (g.met.S.Section.reads _) c.find-spot.ensures.spot c.has.ensures c.if-has.false _ _ _
     (c.add_writes.ensures.writes _ c.find-spot.ensures.spot) in
-    let q : c.in-Err.cause ≡ cause = again_cause _ _ e in (
+    let q : c.in-Err.refusal ≡ refusal = again_refusal _ _ e in (
       c.find-spot.result.previous,
       f.0,
       refuses_as _ _ _ (g.met.S.Section.lawful _).at (g.met.S.Section.others_stay _ _ c.find-spot.ensures.as_before)

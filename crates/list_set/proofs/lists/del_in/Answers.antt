@@ -1,7 +1,7 @@
 use Rattle.std.proofs.Common.{◌≡◌, refl, sym, ◌∙◌}
 use Rattle.list_set.proofs.Spots.{spot_has, del_found, del_distinct, del_within, del_takes, room_as, rewritten_before, refuses_as}
 use Rattle.list_set.proofs.Answering.{absent_not_took, absent_not_again, took_not_absent, took_not_again, took_node, took_inner, took_found}
-use Rattle.list_set.proofs.Answering.{del_again_not_absent, del_again_not_took, del_again_cause, del_again_found}
+use Rattle.list_set.proofs.Answering.{del_again_not_absent, del_again_not_took, del_again_refusal, del_again_found}
 use Rattle.list_set.proofs.lists.del_in.Goals as goal
 
 pub find-spot-requires-clause-head_in : goal.find-spot-requires-clause-head_in
@@ -18,7 +18,7 @@ pub returns-then-not-has-clause-took : goal.returns-then-not-has-clause-took
 returns-then-not-has-clause-took g c node inner e = absurd (absent_not_took _ _ e)
 
 pub returns-then-not-has-clause-again : goal.returns-then-not-has-clause-again
-returns-then-not-has-clause-again g c cause e = absurd (absent_not_again _ e)
+returns-then-not-has-clause-again g c refusal e = absurd (absent_not_again _ e)
 
 pub returns-in-Ok-clause-absent : goal.returns-in-Ok-clause-absent
 returns-in-Ok-clause-absent g c =
@@ -29,7 +29,7 @@ pub returns-in-Ok-clause-unchanged : goal.returns-in-Ok-clause-unchanged
 returns-in-Ok-clause-unchanged g c e = absurd (took_not_absent _ _ e)
 
 pub returns-in-Ok-clause-again : goal.returns-in-Ok-clause-again
-returns-in-Ok-clause-again g c cause e = absurd (took_not_again _ _ _ e)
+returns-in-Ok-clause-again g c refusal e = absurd (took_not_again _ _ _ e)
 
 pub returns-in-Err-clause-absent : goal.returns-in-Err-clause-absent
 returns-in-Err-clause-absent g c =
@@ -74,10 +74,10 @@ returns-in-Ok-clause-took g c node inner e =
     )
 
 pub returns-in-Err-clause-again : goal.returns-in-Err-clause-again
-returns-in-Err-clause-again g c cause e =
+returns-in-Err-clause-again g c refusal e =
     let f = del_found _ _ _ _ _ _ _ _ _ (g.met.S.Section.reads _) c.find-spot.ensures.spot c.has.ensures c.if-not-has.false _
     (c.del_writes.ensures.writes _ _ _ c.find-spot.ensures.spot) in
-    let q : c.in-Err.cause ≡ cause = del_again_cause _ _ e in (
+    let q : c.in-Err.refusal ≡ refusal = del_again_refusal _ _ e in (
       c.find-spot.result.previous,
       c.find-spot.result.node,
       f.0,

@@ -1,6 +1,6 @@
 use Rattle.std.proofs.Common.{◌≡◌}
 use Rattle.list_set.proofs.Spots.{put_value, put_spot, put_distinct, put_within, put_puts, other_value, room_as, rewritten_before, refuses_as}
-use Rattle.list_set.proofs.Answering.{no_not_yes, no_not_again, yes_not_no, yes_not_again, again_not_no, again_not_yes, again_cause}
+use Rattle.list_set.proofs.Answering.{no_not_yes, no_not_again, yes_not_no, yes_not_again, again_not_no, again_not_yes, again_refusal}
 use Rattle.list_set.proofs.lists.put_in.Goals as goal
 
 pub find-spot-requires-clause-head_in : goal.find-spot-requires-clause-head_in
@@ -13,13 +13,13 @@ pub returns-then-spot-value-clause-yes : goal.returns-then-spot-value-clause-yes
 returns-then-spot-value-clause-yes g c e = absurd (no_not_yes e)
 
 pub returns-then-spot-value-clause-again : goal.returns-then-spot-value-clause-again
-returns-then-spot-value-clause-again g c cause e = absurd (no_not_again _ e)
+returns-then-spot-value-clause-again g c refusal e = absurd (no_not_again _ e)
 
 pub returns-in-Ok-clause-unchanged : goal.returns-in-Ok-clause-unchanged
 returns-in-Ok-clause-unchanged g c e = absurd (yes_not_no e)
 
 pub returns-in-Ok-clause-again : goal.returns-in-Ok-clause-again
-returns-in-Ok-clause-again g c cause e = absurd (yes_not_again _ e)
+returns-in-Ok-clause-again g c refusal e = absurd (yes_not_again _ e)
 
 pub returns-in-Err-clause-unchanged : goal.returns-in-Err-clause-unchanged
 returns-in-Err-clause-unchanged g c e = absurd (again_not_no _ e)
@@ -65,10 +65,10 @@ returns-in-Ok-clause-no g c =
     (λ e. absurd (yes_not_no e), λ t. absurd (other_value _ _ _ there c.if-spot-value.false t))
 
 pub returns-in-Err-clause-again : goal.returns-in-Err-clause-again
-returns-in-Err-clause-again g c cause e =
+returns-in-Err-clause-again g c refusal e =
     let f = put_spot _ _ _ _ _ _ _ _ (g.met.S.Section.reads _) c.find-spot.ensures.spot c.requires.present _ _
     (c.put_writes.ensures.writes _ _ _ c.find-spot.ensures.spot) in
-    let q : c.in-Err.cause ≡ cause = again_cause _ _ e in (
+    let q : c.in-Err.refusal ≡ refusal = again_refusal _ _ e in (
       c.find-spot.result.node,
       f.0,
       refuses_as _ _ _ (g.met.S.Section.lawful _).at (g.met.S.Section.others_stay _ _ c.find-spot.ensures.as_before)

@@ -4,8 +4,8 @@ use Rattle.mv_history.specs.Meaning.{Seat}
 use Rattle.mv_history.specs.Calls.{Leaves}
 use Rattle.mv_history.specs.CallLaws.{Continues-itself}
 use Rattle.mv_history.proofs.Steps.{Continues-Continues, NamesNoCommit-NamesNoCommit}
-use Rattle.set_catalog.proofs.Exchanges.{leave_none}
-use Rattle.set_catalog.proofs.Outcomes.{worn_enters}
+use Rattle.section_work.proofs.Exchanges.{leave_none}
+use Rattle.section_work.proofs.Entering.{worn_enters}
 use Rattle.set_script.specs.Lawful.{IsLawful}
 use Rattle.set_blocks.specs.BlockAttempts.{replies_in}
 use Rattle.set_blocks.proofs.BlockOutcomes.{read_at}

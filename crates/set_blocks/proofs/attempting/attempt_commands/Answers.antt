@@ -5,8 +5,8 @@ use Rattle.mv_history.specs.Calls.{Leaves}
 use Rattle.mv_history.proofs.Holding.{state_of-as_before}
 use Rattle.mv_history.proofs.Steps.{Continues-Continues}
 use Rattle.set_script.specs.Lawful.{IsLawful}
-use Rattle.set_catalog.proofs.Exchanges.{one_before, left_one, looks_in}
-use Rattle.set_catalog.proofs.LawfulTimes.{reads_snapshot}
+use Rattle.section_work.proofs.Exchanges.{one_before, left_one, looks_in}
+use Rattle.section_work.proofs.Entering.{reads_snapshot}
 use Rattle.set_blocks.specs.BlockAttempts.{replies_in, block_changes_in}
 use Rattle.set_blocks.specs.BlockFindings.{IsBlockFound}
 use Rattle.set_blocks.specs.BlockPlans.{BlockPlan}

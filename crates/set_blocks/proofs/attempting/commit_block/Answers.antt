@@ -3,9 +3,9 @@ use Rattle.mv_history.specs.Drift.{IsFit}
 use Rattle.mv_history.specs.Meaning.{Seat, snapshot_of}
 use Rattle.mv_history.specs.Calls.{Leaves, Commits}
 use Rattle.mv_history.proofs.Steps.{Continues-Continues, GoesOn-GoesOn, NamesNoCommit-NamesNoCommit}
-use Rattle.set_catalog.specs.Attempts.{TriesOne}
-use Rattle.set_catalog.proofs.Exchanges.{leaves_none, left_one, one_before, one_after}
-use Rattle.set_catalog.proofs.Outcomes.{worn_left}
+use Rattle.section_work.specs.Sections.{TriesOne}
+use Rattle.section_work.proofs.Exchanges.{leaves_none, left_one, one_before, one_after}
+use Rattle.section_work.proofs.Entering.{worn_left}
 use Rattle.set_blocks.specs.BlockRules.{IsBlockCommit, block_tag}
 use Rattle.set_blocks.proofs.BlockOutcomes.{room_for, planned_within, ready_by, stops_by, held_by, done_by, stopped_in, overtaken_in, answered_after}
 use Rattle.set_blocks.proofs.BlockTimes.{lawful_read}

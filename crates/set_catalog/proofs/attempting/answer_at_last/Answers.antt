@@ -5,10 +5,11 @@ use Rattle.mv_history.specs.Calls.{Leaves}
 use Rattle.set_catalog.specs.Replies.{reply_in}
 use Rattle.mv_history.specs.CallLaws.{Continues-itself}
 use Rattle.mv_history.proofs.Steps.{Continues-Continues, NamesNoCommit-NamesNoCommit}
-use Rattle.set_catalog.proofs.Exchanges.{leave_none}
+use Rattle.section_work.proofs.Exchanges.{leave_none}
 use Rattle.set_catalog.proofs.Deciding.{found_at_last, unchanging_at_last}
 use Rattle.set_catalog.proofs.Knowing.{known_later}
-use Rattle.set_catalog.proofs.Outcomes.{read_at, worn_enters}
+use Rattle.set_catalog.proofs.Outcomes.{read_at}
+use Rattle.section_work.proofs.Entering.{worn_enters}
 use Rattle.set_catalog.proofs.attempting.answer_at_last.Goals as goal
 
 pub find_in-found-requires : goal.find_in-found-requires

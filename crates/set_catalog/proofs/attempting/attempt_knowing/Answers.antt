@@ -6,7 +6,7 @@ use Rattle.mv_history.proofs.Steps.{Continues-Continues}
 use Rattle.set_catalog.specs.Replies.{changes_in}
 use Rattle.set_catalog.proofs.Deciding.{found_at_last, unchanging_at_last}
 use Rattle.set_catalog.proofs.Knowing.{known_later, reply_early, changes_early, reply_late, changes_late}
-use Rattle.set_catalog.proofs.Exchanges.{one_before, left_one, looks_in}
+use Rattle.section_work.proofs.Exchanges.{one_before, left_one, looks_in}
 use Rattle.set_catalog.proofs.NotedGone.{hints_after, kept_taken}
 use Rattle.set_catalog.proofs.Rooms.{planned_here}
 use Rattle.set_catalog.proofs.Outcomes.{attempted_by, short_by, early_found, changing_found, space_found, settled_by}

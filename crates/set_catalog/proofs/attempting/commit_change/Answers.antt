@@ -5,13 +5,14 @@ use Rattle.mv_history.specs.Calls.{Leaves, Commits}
 use Rattle.mv_history.proofs.Steps.{Continues-Continues, GoesOn-GoesOn, NamesNoCommit-NamesNoCommit}
 use Rattle.set_script.specs.Rules.{IsSetCommit}
 use Rattle.set_script.specs.Tags.{tag_of}
-use Rattle.set_catalog.specs.Attempts.{TriesOne}
-use Rattle.set_catalog.proofs.Exchanges.{leaves_none, left_one, one_before, one_after}
+use Rattle.section_work.specs.Sections.{TriesOne}
+use Rattle.section_work.proofs.Exchanges.{leaves_none, left_one, one_before, one_after}
 use Rattle.set_catalog.proofs.NotedGone.{noted_by, kept_same, read_noted}
 use Rattle.set_catalog.specs.Shortages.{IsKnown}
 use Rattle.set_catalog.specs.declared.shortage.Shortage.{Shortage}
 use Rattle.set_catalog.proofs.Knowing.{known_later, known_followed}
-use Rattle.set_catalog.proofs.Outcomes.{tag_stands, done_by, stopped_in, overtaken_in, worn_left, answered_after}
+use Rattle.set_catalog.proofs.Outcomes.{tag_stands, done_by, stopped_in, overtaken_in, answered_after}
+use Rattle.section_work.proofs.Entering.{worn_left}
 use Rattle.set_catalog.proofs.Rooms.{room_of, ready_by, gone_by, stops_by, written_as, refused_as}
 use Rattle.set_catalog.proofs.attempting.commit_change.Goals as goal
 

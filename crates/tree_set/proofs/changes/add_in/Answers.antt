@@ -1,6 +1,6 @@
 use Rattle.std.proofs.Common.{◌≡◌, arith, refl, ap, ◌∙◌}
 use Rattle.mv_history.specs.Legal.{are_distinct}
-use Rattle.list_set.proofs.Answering.{again_cause, yes_denies, again_denies}
+use Rattle.list_set.proofs.Answering.{again_refusal, yes_denies, again_denies}
 use Rattle.list_set.proofs.Spots.{rewritten_before, refuses_as, room_as, two_distinct}
 use Rattle.tree_set.specs.Calls.IsAdd.{first_leaf, beside_leaf}
 use Rattle.list_set.proofs.Answering.{no_not_yes, no_not_again, yes_not_no, yes_not_again, again_not_no, again_not_yes}
@@ -54,10 +54,10 @@ returns-in-Err-clause-no g c =
     again_denies _ _ none
 
 pub returns-in-Err-clause-again : goal.returns-in-Err-clause-again
-returns-in-Err-clause-again g c cause w =
+returns-in-Err-clause-again g c refusal w =
     let z = found_empty _ _ _ (g.met.S.Section.reads _) c.in_default.ensures.empty in
     let e = c.plant_writes.ensures.writes _ c.requires.lawful z in
-    let q : c.in-Err.cause ≡ cause = again_cause _ _ w in (
+    let q : c.in-Err.refusal ≡ refusal = again_refusal _ _ w in (
       _,
       first_leaf z,
       refuses_as _ _ _ (g.met.S.Section.lawful _).at (g.met.S.Section.others_stay _ _ c.find.ensures.as_before)
@@ -120,11 +120,11 @@ returns-in-Err-rewrite-clause-no g c =
     again_denies _ _ (has_false _ _ _ has (key_not _ _ _ c.has.ensures c.if-has.false))
 
 pub returns-in-Err-rewrite-clause-again : goal.returns-in-Err-rewrite-clause-again
-returns-in-Err-rewrite-clause-again g c cause w =
+returns-in-Err-rewrite-clause-again g c refusal w =
     let n = key_not _ _ _ c.has.ensures c.if-has.false in
     let place = found_grow _ _ _ _ _ _ _ _ _ (g.met.S.Section.reads _) c.in-Some.ensures.fork n in
     let e = c.grow_writes.ensures.writes _ (ends_in _ _ _ _ _ (g.met.S.Section.reads _) c.in-Some.ensures.fork c.in-Some.ensures.words) in
-    let q : c.in-Err-rewrite.cause ≡ cause = again_cause _ _ w in (
+    let q : c.in-Err-rewrite.refusal ≡ refusal = again_refusal _ _ w in (
       _,
       beside_leaf _ _ place,
       refuses_as _ _ _ (g.met.S.Section.lawful _).at (g.met.S.Section.others_stay _ _ c.find.ensures.as_before)
@@ -138,13 +138,13 @@ pub returns-then-has-clause-yes : goal.returns-then-has-clause-yes
 returns-then-has-clause-yes g c e = absurd (no_not_yes e)
 
 pub returns-then-has-clause-again : goal.returns-then-has-clause-again
-returns-then-has-clause-again g c cause e = absurd (no_not_again _ e)
+returns-then-has-clause-again g c refusal e = absurd (no_not_again _ e)
 
 pub returns-in-Ok-clause-unchanged : goal.returns-in-Ok-clause-unchanged
 returns-in-Ok-clause-unchanged g c e = absurd (yes_not_no e)
 
 pub returns-in-Ok-clause-again : goal.returns-in-Ok-clause-again
-returns-in-Ok-clause-again g c cause e = absurd (yes_not_again _ e)
+returns-in-Ok-clause-again g c refusal e = absurd (yes_not_again _ e)
 
 pub returns-in-Err-clause-unchanged : goal.returns-in-Err-clause-unchanged
 returns-in-Err-clause-unchanged g c e = absurd (again_not_no _ e)
@@ -156,7 +156,7 @@ pub returns-in-Ok-rewrite-clause-unchanged : goal.returns-in-Ok-rewrite-clause-u
 returns-in-Ok-rewrite-clause-unchanged g c e = absurd (yes_not_no e)
 
 pub returns-in-Ok-rewrite-clause-again : goal.returns-in-Ok-rewrite-clause-again
-returns-in-Ok-rewrite-clause-again g c cause e = absurd (yes_not_again _ e)
+returns-in-Ok-rewrite-clause-again g c refusal e = absurd (yes_not_again _ e)
 
 pub returns-in-Err-rewrite-clause-unchanged : goal.returns-in-Err-rewrite-clause-unchanged
 returns-in-Err-rewrite-clause-unchanged g c e = absurd (again_not_no _ e)

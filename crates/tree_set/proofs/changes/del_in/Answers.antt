@@ -1,6 +1,6 @@
 use Rattle.std.proofs.Common.{◌≡◌, refl, ap, ◌∙◌}
 use Rattle.mv_history.specs.Legal.{are_distinct}
-use Rattle.list_set.proofs.Answering.{took_node, took_inner, took_found, del_again_cause, del_again_found}
+use Rattle.list_set.proofs.Answering.{took_node, took_inner, took_found, del_again_refusal, del_again_found}
 use Rattle.list_set.proofs.Spots.{rewritten_before, refuses_as, room_as}
 use Rattle.tree_set.specs.Calls.IsDel.{last_leaf, leaf_and_parent}
 use Rattle.list_set.proofs.Answering.{absent_not_took, absent_not_again, took_not_absent, took_not_again, del_again_not_absent, del_again_not_took}
@@ -62,11 +62,11 @@ returns-in-Err-clause-absent g c =
     del_again_found _ _ (has_true _ _ _ has (key_is _ _ _ c.has.ensures c.if-not-has.false))
 
 pub returns-in-Err-clause-again : goal.returns-in-Err-clause-again
-returns-in-Err-clause-again g c cause w =
+returns-in-Err-clause-again g c refusal w =
     let is = key_is _ _ _ c.has.ensures c.if-not-has.false in
     let place = found_bare _ _ _ _ _ _ _ _ _ (g.met.S.Section.reads _) c.in-Some.ensures.fork is c.if-fork-root.true in
     let e = c.bare_writes.ensures.writes _ _ (ends_in _ _ _ _ _ (g.met.S.Section.reads _) c.in-Some.ensures.fork c.in-Some.ensures.words) in
-    let q : c.in-Err.cause ≡ cause = del_again_cause _ _ w in (
+    let q : c.in-Err.refusal ≡ refusal = del_again_refusal _ _ w in (
       _,
       _,
       _,
@@ -119,11 +119,11 @@ returns-in-Err-rewrite-clause-absent g c =
     del_again_found _ _ (has_true _ _ _ has (key_is _ _ _ c.has.ensures c.if-not-has.false))
 
 pub returns-in-Err-rewrite-clause-again : goal.returns-in-Err-rewrite-clause-again
-returns-in-Err-rewrite-clause-again g c cause w =
+returns-in-Err-rewrite-clause-again g c refusal w =
     let is = key_is _ _ _ c.has.ensures c.if-not-has.false in
     let place = found_cut _ _ _ _ _ _ _ _ _ (g.met.S.Section.reads _) c.in-Some.ensures.fork is c.if-fork-root.false in
     let e = c.cut_writes.ensures.writes _ _ _ (ends_in _ _ _ _ _ (g.met.S.Section.reads _) c.in-Some.ensures.fork c.in-Some.ensures.words) in
-    let q : c.in-Err-rewrite.cause ≡ cause = del_again_cause _ _ w in (
+    let q : c.in-Err-rewrite.refusal ≡ refusal = del_again_refusal _ _ w in (
       _,
       _,
       _,
@@ -139,7 +139,7 @@ pub returns-in_default-clause-took : goal.returns-in_default-clause-took
 returns-in_default-clause-took g c node inner e = absurd (absent_not_took _ _ e)
 
 pub returns-in_default-clause-again : goal.returns-in_default-clause-again
-returns-in_default-clause-again g c cause e = absurd (absent_not_again _ e)
+returns-in_default-clause-again g c refusal e = absurd (absent_not_again _ e)
 
 pub returns-then-not-has-clause-unchanged : goal.returns-then-not-has-clause-unchanged
 returns-then-not-has-clause-unchanged g c _ = c.find.ensures.as_before
@@ -148,13 +148,13 @@ pub returns-then-not-has-clause-took : goal.returns-then-not-has-clause-took
 returns-then-not-has-clause-took g c node inner e = absurd (absent_not_took _ _ e)
 
 pub returns-then-not-has-clause-again : goal.returns-then-not-has-clause-again
-returns-then-not-has-clause-again g c cause e = absurd (absent_not_again _ e)
+returns-then-not-has-clause-again g c refusal e = absurd (absent_not_again _ e)
 
 pub returns-in-Ok-clause-unchanged : goal.returns-in-Ok-clause-unchanged
 returns-in-Ok-clause-unchanged g c e = absurd (took_not_absent _ _ e)
 
 pub returns-in-Ok-clause-again : goal.returns-in-Ok-clause-again
-returns-in-Ok-clause-again g c cause e = absurd (took_not_again _ _ _ e)
+returns-in-Ok-clause-again g c refusal e = absurd (took_not_again _ _ _ e)
 
 pub returns-in-Err-clause-unchanged : goal.returns-in-Err-clause-unchanged
 returns-in-Err-clause-unchanged g c e = absurd (del_again_not_absent _ e)
@@ -166,7 +166,7 @@ pub returns-in-Ok-rewrite-clause-unchanged : goal.returns-in-Ok-rewrite-clause-u
 returns-in-Ok-rewrite-clause-unchanged g c e = absurd (took_not_absent _ _ e)
 
 pub returns-in-Ok-rewrite-clause-again : goal.returns-in-Ok-rewrite-clause-again
-returns-in-Ok-rewrite-clause-again g c cause e = absurd (took_not_again _ _ _ e)
+returns-in-Ok-rewrite-clause-again g c refusal e = absurd (took_not_again _ _ _ e)
 
 pub returns-in-Err-rewrite-clause-unchanged : goal.returns-in-Err-rewrite-clause-unchanged
 returns-in-Err-rewrite-clause-unchanged g c e = absurd (del_again_not_absent _ e)

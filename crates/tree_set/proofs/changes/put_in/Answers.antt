@@ -1,7 +1,7 @@
 use Rattle.std.proofs.Common.{◌≡◌, ap, ◌∙◌, refl, Some}
 use Rattle.mv_history.specs.Legal.{are_distinct}
 use Rattle.set_script.proofs.ObjectWords.{word}
-use Rattle.list_set.proofs.Answering.{no_not_yes, no_not_again, yes_not_no, yes_not_again, again_not_no, again_not_yes, again_cause}
+use Rattle.list_set.proofs.Answering.{no_not_yes, no_not_again, yes_not_no, yes_not_again, again_not_no, again_not_yes, again_refusal}
 use Rattle.list_set.proofs.Spots.{rewritten_before, refuses_as, room_as}
 use Rattle.tree_set.proofs.Found.{found_none}
 use Rattle.tree_set.proofs.Planning.{ends_in, within_as}
@@ -62,11 +62,11 @@ returns-in-Err-clause-no g c =
     (λ e. absurd (again_not_no _ e), λ t. absurd (no_other c.args.key c.args.value _ _ f.value_is c.if-fork-value.false t))
 
 pub returns-in-Err-clause-again : goal.returns-in-Err-clause-again
-returns-in-Err-clause-again g c cause w =
+returns-in-Err-clause-again g c refusal w =
     let f = put_found _ _ _ _ _ _ _ _ _ (g.met.S.Section.reads _) c.find_leaf-fork.ensures.fork c.requires.lawful c.requires.root_from c.requires.root_in
     c.requires.present in
     let e = c.put_writes.ensures.writes _ _ _ (ends_in _ _ _ _ _ (g.met.S.Section.reads _) c.find_leaf-fork.ensures.fork c.find_leaf-fork.ensures.words) in
-    let q : c.in-Err.cause ≡ cause = again_cause _ _ w in (
+    let q : c.in-Err.refusal ≡ refusal = again_refusal _ _ w in (
       c.find_leaf-fork.result.leaf,
       f.is,
       refuses_as _ _ _ (g.met.S.Section.lawful _).at (g.met.S.Section.others_stay _ _ c.find_leaf-fork.ensures.as_before)
@@ -80,13 +80,13 @@ pub returns-then-fork-value-clause-yes : goal.returns-then-fork-value-clause-yes
 returns-then-fork-value-clause-yes g c e = absurd (no_not_yes e)
 
 pub returns-then-fork-value-clause-again : goal.returns-then-fork-value-clause-again
-returns-then-fork-value-clause-again g c cause e = absurd (no_not_again _ e)
+returns-then-fork-value-clause-again g c refusal e = absurd (no_not_again _ e)
 
 pub returns-in-Ok-clause-unchanged : goal.returns-in-Ok-clause-unchanged
 returns-in-Ok-clause-unchanged g c e = absurd (yes_not_no e)
 
 pub returns-in-Ok-clause-again : goal.returns-in-Ok-clause-again
-returns-in-Ok-clause-again g c cause e = absurd (yes_not_again _ e)
+returns-in-Ok-clause-again g c refusal e = absurd (yes_not_again _ e)
 
 pub returns-in-Err-clause-unchanged : goal.returns-in-Err-clause-unchanged
 returns-in-Err-clause-unchanged g c e = absurd (again_not_no _ e)

@@ -1,6 +1,6 @@
 use Rattle.std.proofs.Common.{◌≡◌, ◌+◌, ◌≤◌, take, drop}
-use Rattle.set_script.specs.OwnWrites.{objects_of}
-use Rattle.list_set.specs.Held.{count_unheld}
+use Rattle.section_work.specs.OwnWrites.{objects_of}
+use Rattle.section_work.specs.Held.{count_unheld}
 use Rattle.set_catalog.specs.Merges.{writes_in, merged}
 use Rattle.set_catalog.proofs.plan.Plan.write.Given as goal
 

@@ -12,13 +12,13 @@ use Rattle.mv_history.proofs.Writing.{written-append, touches_at}
 use Rattle.mv_history.proofs.Steps.{GoesOn-GoesOn}
 use Rattle.mv_history.proofs.Holding.{state_of-as_before, state_of-rewrites}
 use Rattle.mv_history.proofs.Snapshots.{snapshot_of-goes_on}
-use Rattle.set_script.specs.OwnWrites.{with_lock, with_locks, with_writes, objects_of}
-use Rattle.list_set.specs.Held.{count_unheld, HasRoom, HoldsMore}
-use Rattle.list_set.specs.Calls.{Rewritten, IsRefused, Refuses}
-use Rattle.list_set.specs.declared.answers.Cause.{Cause}
-use Rattle.set_script.proofs.OwnWrites.{written-with_locks}
-use Rattle.list_set.proofs.OwnWrites.{touches-with_locks, touches-with_writes, length-with_locks, count-with_locks, objects_of-append}
-use Rattle.list_set.proofs.OwnWrites.{with_locks-push, with_writes-push, count-append, at_place, distinct_front, distinct_apart}
+use Rattle.section_work.specs.OwnWrites.{with_lock, with_locks, with_writes, objects_of}
+use Rattle.section_work.specs.Held.{count_unheld, HasRoom, HoldsMore}
+use Rattle.section_work.specs.Locking.{Rewritten, IsRefused, Refuses}
+use Rattle.section_work.specs.declared.causes.Refusal.{Refusal}
+use Rattle.section_work.proofs.OwnWrites.{written-with_locks}
+use Rattle.section_work.proofs.HeldWrites.{touches-with_locks, touches-with_writes, length-with_locks, count-with_locks, objects_of-append}
+use Rattle.section_work.proofs.HeldWrites.{with_locks-push, with_writes-push, count-append, at_place, distinct_front, distinct_apart}
 
 pub holds_nothing : (a : InSection) → HoldsMore a a [] a.own
 holds_nothing a = record { goes_on = GoesOn-itself a; spare = omega arith; own = refl; snapshot = refl }
@@ -78,9 +78,9 @@ module _ (a b : InSection) (xs : Writes) (x : ℕ × List ℕ) (h : HoldsMore a 
             let m = h.goes_on.continues.write_max in omega arith;
       }
 
-  pub refuses_at : (may : Type 0) (found : InSection → InSection → ℕ → ℕ → Type 0) (cause : Cause) (c : InSection) (ys : Writes) → b.at ≤ length b.seat.seen
-      → IsRefused may found b c x.0 cause → Refuses may found a c (objects_of (xs ++ x ∷ ys)) cause
-  refuses_at may found cause c ys le r = record {
+  pub refuses_at : (may : Type 0) (found : InSection → InSection → ℕ → ℕ → Type 0) (refusal : Refusal) (c : InSection) (ys : Writes) → b.at ≤ length b.seat.seen
+      → IsRefused may found b c x.0 refusal → Refuses may found a c (objects_of (xs ++ x ∷ ys)) refusal
+  refuses_at may found refusal c ys le r = record {
     held = objects_of xs;
     object = x.0;
     rest = objects_of ys;
@@ -153,12 +153,12 @@ module _ (a b : InSection) (changes : Writes) (i : ℕ) (d : ℕ × List ℕ) (l
   place_room h r =
       room_left a b (take i changes) (get_or changes i d) h (drop (suc i) changes) apart front (subst (λ (u : Writes). HasRoom a (objects_of u)) parts r)
 
-  pub place_refused : (may : Type 0) (found : InSection → InSection → ℕ → ℕ → Type 0) (cause : Cause) (c : InSection) → b.at ≤ length b.seat.seen
+  pub place_refused : (may : Type 0) (found : InSection → InSection → ℕ → ℕ → Type 0) (refusal : Refusal) (c : InSection) → b.at ≤ length b.seat.seen
       → HoldsMore a b (objects_of (take i changes)) (with_locks (state_of a) a.own (objects_of (take i changes)))
-      → IsRefused may found b c (get_or changes i d).0 cause → Refuses may found a c (objects_of changes) cause
-  place_refused may found cause c le h r =
-      subst (λ (u : Writes). Refuses may found a c (objects_of u) cause) (sym parts)
-      (refuses_at a b (take i changes) (get_or changes i d) h may found cause c (drop (suc i) changes) le r)
+      → IsRefused may found b c (get_or changes i d).0 refusal → Refuses may found a c (objects_of changes) refusal
+  place_refused may found refusal c le h r =
+      subst (λ (u : Writes). Refuses may found a c (objects_of u) refusal) (sym parts)
+      (refuses_at a b (take i changes) (get_or changes i d) h may found refusal c (drop (suc i) changes) le r)
 
   pub place_held : (c : InSection) → HoldsMore a b (objects_of (take i changes)) (with_locks (state_of a) a.own (objects_of (take i changes)))
       → HoldsMore b c ((get_or changes i d).0 ∷ []) (with_locks (state_of b) b.own ((get_or changes i d).0 ∷ []))

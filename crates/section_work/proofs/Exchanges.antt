@@ -6,7 +6,7 @@ use Rattle.mv_history.specs.declared.trail.StepKind.TheVariants.{NameCommit}
 use Rattle.mv_history.specs.Trail.{is_commit_exchange, is_clock_exchange, commit_exchanges, clock_exchanges}
 use Rattle.mv_history.specs.Meaning.{Seat, InSection}
 use Rattle.mv_history.specs.Calls.{call_trail, Continues, GoesOn, Prepares, Enters, Leaves, NamesNoCommit}
-use Rattle.set_catalog.specs.Attempts.{TriesOne}
+use Rattle.section_work.specs.Sections.{TriesOne}
 use Rattle.mv_history.proofs.Steps.{Continues-Continues, NamesNoCommit-NamesNoCommit, commit_exchanges-call_trail}
 
 commit_is_clock : (k : StepKind) → is_commit_exchange k ≡ true → is_clock_exchange k ≡ true

@@ -1,9 +1,9 @@
 use Rattle.std.proofs.Common.{take}
 use Rattle.mv_history.specs.Meaning.{state_of}
-use Rattle.set_script.specs.OwnWrites.{objects_of, with_locks}
-use Rattle.list_set.specs.Held.{HoldsMore}
-use Rattle.list_set.proofs.Holding.{IsWriting}
-use Rattle.list_set.proofs.change.rewrite.Given as goal
+use Rattle.section_work.specs.OwnWrites.{objects_of, with_locks}
+use Rattle.section_work.specs.Held.{HoldsMore}
+use Rattle.section_work.proofs.Holding.{IsWriting}
+use Rattle.section_work.proofs.locking.rewrite.Given as goal
 
 abbrev pub invariant-loop-lock : goal.invariant-loop-lock
 invariant-loop-lock g l =

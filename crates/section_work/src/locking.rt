@@ -2,43 +2,42 @@
 ghost use Rattle.std.specs.Prelude.{◌≡◌, ◌<◌, true, [], ◌∷◌, length, OnOk, IfErr};
 ghost use Rattle.mv_history.specs.Legal.{are_distinct, AreWithin};
 ghost use Rattle.mv_history.specs.Meaning.{state_of};
-ghost use Rattle.set_script.specs.OwnWrites.{objects_of, with_locks};
-ghost use Rattle.list_set.specs.Held.{HasRoom, HoldsMore};
-ghost use Rattle.list_set.specs.Calls.{IsRefused, Refuses, Rewritten};
+ghost use Rattle.section_work.specs.OwnWrites.{objects_of, with_locks};
+ghost use Rattle.section_work.specs.Held.{HasRoom, HoldsMore};
+ghost use Rattle.section_work.specs.Locking.{IsRefused, Refuses, Rewritten};
 
-use crate::answers::Cause;
+use crate::causes::Refusal;
 use mv_history::{LockAnswer, Section, Words};
 
 // Locks one object. On a refusal the section is as before.
-fn hold<S: Section>(section: &mut S, object: u32) -> Result<(), Cause>
+fn hold<S: Section>(section: &mut S, object: u32) -> Result<(), Refusal>
     requires in_range { object < length (state_of (S.section section.old)) }
     requires room { HasRoom (S.section section.old) (object ∷ []) }
     ensures held { OnOk result
         (HoldsMore (S.section section.old) (S.section section.new) (object ∷ [])
         (with_locks (state_of (S.section section.old)) (S.section section.old).own (object ∷ []))) }
-    ensures refused { IfErr result (λ cause. IsRefused S.may_refuse S.found_held (S.section section.old) (S.section section.new) object cause) }
+    ensures refused { IfErr result (λ refusal. IsRefused S.may_refuse S.found_held (S.section section.old) (S.section section.new) object refusal) }
 {
     match section.try_lock(object) {
         LockAnswer::Held => Ok(()),
-        LockAnswer::Busy { seat } => Err(Cause::Busy { object, seat }),
-        LockAnswer::Stale { time } => Err(Cause::Stale { object, time }),
-        LockAnswer::SetFull => Err(Cause::SetFull { object }),
-        LockAnswer::LogFull => Err(Cause::NoSlot { object }),
+        LockAnswer::Busy { seat } => Err(Refusal::Busy { object, seat }),
+        LockAnswer::Stale { time } => Err(Refusal::Stale { object, time }),
+        LockAnswer::SetFull | LockAnswer::LogFull => unreachable!(),
     }
 }
 
 /// Locks these different objects, in their order, and then gives them these words.
 ///
-/// It is what each call of a set that changes something ends with. It needs room for those of the
-/// objects that are not held yet, and takes no memory. An `Err` carries the first lock that was
-/// refused, `Busy` or `Stale`. The objects before it stay held, nothing is written, and the state is
-/// as before.
-pub fn rewrite<S: Section>(section: &mut S, changes: &[(u32, Words)]) -> Result<(), Cause>
+/// It is what each change of a section ends with. It needs room for those of the objects that are
+/// not held yet, and takes no memory. An `Err` carries the first lock that was refused, `Busy` or
+/// `Stale`. The objects before it stay held, nothing is written, and the state is as before.
+pub fn rewrite<S: Section>(section: &mut S, changes: &[(u32, Words)]) -> Result<(), Refusal>
     requires distinct { are_distinct changes.now ≡ true }
     requires within { AreWithin changes.now (length (state_of (S.section section.old))) }
     requires room { HasRoom (S.section section.old) (objects_of changes.now) }
     ensures written { OnOk result (Rewritten (S.section section.old) (S.section section.new) (objects_of changes.now) changes.now) }
-    ensures refused { IfErr result (λ cause. Refuses S.may_refuse S.found_held (S.section section.old) (S.section section.new) (objects_of changes.now) cause) }
+    ensures refused { IfErr result
+        (λ refusal. Refuses S.may_refuse S.found_held (S.section section.old) (S.section section.new) (objects_of changes.now) refusal) }
 {
     for lock in changes {
         hold(section, lock.0)?;

@@ -10,8 +10,8 @@ use Rattle.mv_history.specs.Legal.{are_distinct}
 use Rattle.mv_history.specs.Meaning.{words_at}
 use Rattle.mv_history.proofs.Writing.{written-append, touches-append, touches-rewritten, are_distinct-push, are_distinct-rewritten}
 use Rattle.mv_history.proofs.Holding.{written-rewritten}
-use Rattle.set_script.specs.OwnWrites.{with_lock, with_locks, with_writes, objects_of}
-use Rattle.set_script.proofs.TreeShape.{IsIn}
+use Rattle.section_work.specs.OwnWrites.{with_lock, with_locks, with_writes, objects_of}
+use Rattle.section_work.proofs.Objects.{IsIn}
 
 -- a lock with the words that the object has changes no state
 pub written-with_lock : (s t : State) (own : Writes) (o : ℕ) → words_at t o ≡ words_at (written s own) o → written s (with_lock t own o) ≡ written s own

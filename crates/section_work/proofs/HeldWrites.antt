@@ -8,9 +8,9 @@ use Rattle.mv_history.specs.State.{State, Writes, touches, rewritten}
 use Rattle.mv_history.specs.Legal.{are_distinct}
 use Rattle.mv_history.specs.Meaning.{words_at}
 use Rattle.mv_history.proofs.Writing.{touches-append, touches-rewritten}
-use Rattle.set_script.specs.OwnWrites.{with_lock, with_locks, with_writes, objects_of}
-use Rattle.set_script.proofs.OwnWrites.{touches-with_lock}
-use Rattle.list_set.specs.Held.{count_unheld}
+use Rattle.section_work.specs.OwnWrites.{with_lock, with_locks, with_writes, objects_of}
+use Rattle.section_work.proofs.OwnWrites.{touches-with_lock}
+use Rattle.section_work.specs.Held.{count_unheld}
 
 or_assoc : (x y z : Bool) → (x || y) || z ≡ x || (y || z)
 or_assoc true y z = refl

@@ -1,0 +1,146 @@
+// One work as one section of a store.
+ghost use Rattle.std.specs.Prelude.{◌≡◌, ◌≤◌, true};
+ghost use Rattle.mv_history.specs.State.{State};
+ghost use Rattle.mv_history.specs.Meaning.{state_of, IsWorn};
+ghost use Rattle.mv_history.specs.Calls.{Continues, NamesNoCommit};
+ghost use Rattle.section_work.specs.Sections.{TriesOne};
+ghost use Rattle.section_work.specs.Causes.{causes};
+ghost use Rattle.section_work.specs.Works.{IsFound, IsPlanned};
+ghost use Rattle.section_work.specs.Attempts.{Attempted, AttemptedIn, HasSpace, IsReadAt, Noted, MayNote};
+
+use crate::causes::Cause;
+use crate::locking::rewrite;
+use crate::place::Place;
+use crate::work::{Decision, Work};
+use mv_history::{CommitAnswer, Room, Section, Store};
+
+/// What an attempt of a work answers.
+pub enum Attempt<R> {
+    /// The work took place there, with this reply.
+    Done { reply: R, place: Place },
+    /// The change that the work makes was given up. In a new attempt it may go through.
+    Again(Cause),
+}
+
+/// Attempts a work in one section of the store, and gives the store back.
+///
+/// It never waits or tries again by itself, and takes no memory but what the work takes. At the last time it answers by a
+/// second look.
+///
+/// - `Done` at a `Place::Commit`: the work changed the state, by one commit of that printed time, in a section that this call
+///   entered.
+/// - `Done` at a `Place::Read`: the work changes nothing at that printed time, which is that of a section that this call
+///   entered, and the reply is that of the state there.
+/// - `Again`: the work would change something at the time of the section that this call entered, which isn't the last one. A
+///   lock of an object that it locks or the commit was refused, for an entry or a seat that was met in this call; or this
+///   call's `prepare` found no room for a write set in the seat's log. No commit was made, nothing is held, and the seat is
+///   outside a section; rests may have been made for room.
+pub fn attempt_work<W: Work, S: Store<Rules = W::Rules>>(
+    store: S,
+    work: &W,
+    memo: &mut W::Memo,
+) -> (S, Attempt<W::Reply>)
+    requires most { (W.means work.now).most ≤ (S.seat_of store).write_max }
+    requires accepts { W.accepts work.now }
+    requires knows { W.knows memo.old (S.seat_of store) }
+    ensures attempted { let shows = causes S.Open.may_refuse S.Open.has_trail S.took S.holds_back S.Open.found_held S.Open.loaded in
+        Attempted shows (W.means work.now) (S.seat_of store) (S.seat_of result.0) result.1 }
+    ensures continues { Continues (S.seat_of store) (S.seat_of result.0) }
+    ensures at_most_one { TriesOne (S.seat_of store) (S.seat_of result.0) }
+    ensures knows { W.knows memo.new (S.seat_of result.0) }
+    ensures noted { Noted (W.notes work.now) (S.seat_of store) (S.seat_of result.0) memo.old memo.new }
+{
+    let mut store = store;
+    let room = store.prepare();
+    let section = store.enter();
+    let time = section.at();
+    let last = section.last();
+    let (section, found) = work.decide(memo, section, time);
+    if time == last {
+        let place = Place::Read(time);
+        let reply = late(work, found);
+        return (section.leave(), Attempt::Done { reply, place });
+    }
+    match found {
+        Decision::Settled(reply) => {
+            let place = Place::Read(time);
+            (section.leave(), Attempt::Done { reply, place })
+        }
+        Decision::Change { plan, reply } => match room {
+            Room::Enough => commit(section, work, memo, plan, reply),
+            Room::Short(holder) => (section.leave(), Attempt::Again(Cause::LogFull(holder))),
+        },
+    }
+}
+
+// The reply at the last time, where a change comes too late.
+fn late<W: Work>(work: &W, found: Decision<W::Reply, W::Plan>) -> W::Reply
+    ensures { (s : State) → IsFound W.Rules.allowed (W.means work.now) (W.tag_of work.now) W.writes_of s found → (W.means work.now).settles s true result }
+{
+    match found {
+        Decision::Settled(reply) => reply,
+        Decision::Change { plan: _, reply } => work.at_last(reply),
+    }
+}
+
+// Locks and writes what is planned in a section that holds nothing, and commits it.
+fn commit<W: Work, S: Store<Rules = W::Rules>>(
+    section: S::Open,
+    work: &W,
+    memo: &mut W::Memo,
+    plan: W::Plan,
+    reply: W::Reply,
+) -> (S, Attempt<W::Reply>)
+    requires planned { IsPlanned W.Rules.allowed (W.means work.now) (state_of (S.Open.section section)) (W.tag_of work.now plan) (W.writes_of plan) reply }
+    requires space { HasSpace (W.means work.now).most (S.Open.section section) }
+    requires accepts { W.accepts work.now }
+    requires knows { W.knows memo.old (S.Open.section section).seat }
+    ensures attempted { let shows = causes S.Open.may_refuse S.Open.has_trail S.took S.holds_back S.Open.found_held S.Open.loaded in
+        AttemptedIn shows (W.means work.now) (S.Open.section section) (S.seat_of result.0) result.1 }
+    ensures continues { Continues (S.Open.section section).seat (S.seat_of result.0) }
+    ensures at_most_one { TriesOne (S.Open.section section).seat (S.seat_of result.0) }
+    ensures knows { W.knows memo.new (S.seat_of result.0) }
+    ensures noted { MayNote (W.notes work.now) (S.Open.section section).seat (S.seat_of result.0) memo.old memo.new }
+{
+    let mut section = section;
+    if let Err(refusal) = rewrite(&mut section, W::writes(&plan)) {
+        return (section.abort(), Attempt::Again(Cause::Lock(refusal)));
+    }
+    match section.try_commit(work.tag(&plan)) {
+        CommitAnswer::Done(store, time) => {
+            let place = Place::Commit(time);
+            (store, Attempt::Done { reply, place })
+        }
+        CommitAnswer::Again(section, rival) => {
+            (section.abort(), Attempt::Again(Cause::Rival(rival)))
+        }
+        CommitAnswer::End(section) => {
+            let (store, reply, time) = look_at_last(section.abort(), work, memo);
+            let place = Place::Read(time);
+            (store, Attempt::Done { reply, place })
+        }
+    }
+}
+
+// Answers after the last time has been reached.
+fn look_at_last<W: Work, S: Store<Rules = W::Rules>>(
+    store: S,
+    work: &W,
+    memo: &mut W::Memo,
+) -> (S, W::Reply, u64)
+    requires worn { IsWorn (S.seat_of store) }
+    requires accepts { W.accepts work.now }
+    requires knows { W.knows memo.old (S.seat_of store) }
+    ensures read { let shows = causes S.Open.may_refuse S.Open.has_trail S.took S.holds_back S.Open.found_held S.Open.loaded in
+        IsReadAt shows (W.means work.now) (S.seat_of store) (S.seat_of result.0) result.1 result.2 }
+    ensures none { NamesNoCommit (S.seat_of store) (S.seat_of result.0) }
+    ensures continues { Continues (S.seat_of store) (S.seat_of result.0) }
+    ensures knows { W.knows memo.new (S.seat_of result.0) }
+    ensures noted { MayNote (W.notes work.now) (S.seat_of store) (S.seat_of result.0) memo.old memo.new }
+{
+    let section = store.enter();
+    let time = section.at();
+    let (section, found) = work.decide(memo, section, time);
+    let reply = late(work, found);
+    (section.leave(), reply, time)
+}

@@ -6,7 +6,7 @@
 set -u
 top=$(cd "$(dirname "$0")/.." && pwd)
 program=$(readlink -f "${1:-$top/crates/mvrlu_main/out/mvrlu_main}")
-[ -x "$program" ] || { echo "refused: there is no $program: ./mvrlu builds it" >&2; exit 1; }
+[ -x "$program" ] || { echo "refused: there is no $program: ./mvrlu build builds it" >&2; exit 1; }
 scratch=$(mktemp -d) || exit 1
 trap 'rm -rf "$scratch"' EXIT
 clang=$(dirname "$(rt doc)")/toolchain/bin/clang
@@ -78,6 +78,22 @@ for words in 'run script' 'run script empty' 'block blocks empty' 'pool 1 script
         sweep write 1000000 6 'write fault' $words
     }
 done
+
+# A read or a write that a signal interrupts (4), or that would wait (11), is made again: the text is whole.
+pass_again() {
+    local kind error at
+    "$program" "$@" >text || { fail "no text: $*"; return; }
+    for kind in read write; do
+        for error in 4 11; do
+            for at in 1 2 3; do
+                REFUSE_ERROR=$error refuse "$kind" "$at" 3 "$program" "$@"
+                must_free "$kind $at of $* again"
+                must 0 "$kind $at of $* with the error $error" '' "$(wc -c <text)"
+            done
+        done
+    done
+}
+pass_again run script
 
 # The program over eight accounts: where its domain, its seats or its workers get no memory, nothing is written. What it takes
 # later on comes after the whole report.

@@ -1,6 +1,6 @@
 // Stands before the C library in a run of the program: the call number REFUSE_AT of the kind REFUSE_KIND, which is alloc,
-// open, read or write, fails; with REFUSE_MOST reads and writes move at most so many bytes. At the end the file REFUSE_LEFT
-// gets the number of blocks that the program itself took and didn't free.
+// open, read or write, fails, with the error REFUSE_ERROR where that is given; with REFUSE_MOST reads and writes move at most so
+// many bytes. At the end the file REFUSE_LEFT gets the number of blocks that the program itself took and didn't free.
 extern void *dlsym(void *handle, const char *name);
 extern int dladdr(const void *address, void *about);
 extern unsigned long getauxval(unsigned long kind);
@@ -22,7 +22,8 @@ static int refuses(const char *kind) {
 }
 
 static long fail(int error) {
-    *__errno_location() = error;
+    const char *other = getenv("REFUSE_ERROR");
+    *__errno_location() = other ? (int)strtol(other, 0, 10) : error;
     return -1;
 }
 

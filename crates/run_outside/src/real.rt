@@ -3,19 +3,27 @@ ghost use Rattle.std.specs.Prelude.{◌≡◌, None, false, is_some};
 ghost use Rattle.std.proofs.Common.{rules};
 
 use crate::{Failed, Files, Sink};
-use std::io::Read;
-use std::{fs, rt};
+use std::io::{self, ErrorKind, Read};
+use std::sync::Wait;
+use std::{fs, rt, thread};
+
+// Whether a call that failed so is made again: a signal interrupted it, or the stream, which doesn't wait by itself, has no byte
+// or no room yet.
+fn is_passing(error: &io::Error) -> bool {
+    matches!(error.kind(), ErrorKind::Interrupted | ErrorKind::WouldBlock)
+}
 
 /// The files of the system, through the runtime. A name is a path. They tell no texts and aren't steady. Each error of
-/// the system is a fault, and stands for no more than that.
+/// the system is a fault, and stands for no more than that, but for a read that a signal interrupted or that would
+/// wait: it is made again, behind a turn of other threads. So where a stream never has a byte, no read returns.
 #[derive(Drop)]
-pub struct RealFiles<'r, R: rt::Files> {
+pub struct RealFiles<'r, R: rt::Files + Wait> {
     rt: &'r R,
     opened: Option<R::File>,
     faults: u64,
 }
 
-impl<'r, R: rt::Files> RealFiles<'r, R> {
+impl<'r, R: rt::Files + Wait> RealFiles<'r, R> {
     /// Files with no text open and no fault.
     pub fn new(rt: &'r R) -> RealFiles<'r, R>
         ensures { ⟦<RealFiles<'r, R> as Files>⟧.faults result ≡ 0 }
@@ -28,7 +36,7 @@ impl<'r, R: rt::Files> RealFiles<'r, R> {
     }
 }
 
-impl<'r, R: rt::Files> Files for RealFiles<'r, R> {
+impl<'r, R: rt::Files + Wait> Files for RealFiles<'r, R> {
     ghost texts = { λ s. None };
 
     ghost left = { λ s. None };
@@ -42,6 +50,8 @@ impl<'r, R: rt::Files> Files for RealFiles<'r, R> {
     ghost tells = { λ s h. Prim.search rules };
 
     fn open(&mut self, name: &str) -> Result<(), Failed> {
+        // So that no two are open at a time.
+        self.opened = None;
         match fs::open(self.rt, name) {
             Ok(file) => {
                 self.opened = Some(file);
@@ -58,25 +68,28 @@ impl<'r, R: rt::Files> Files for RealFiles<'r, R> {
         let Some(file) = &mut self.opened else {
             unreachable!()
         };
-        match file.read(into) {
-            Ok(count) => Ok(count),
-            Err(_) => {
-                self.faults = self.faults.saturating_add(1);
-                Err(Failed)
+        for _ in self.rt.forever() {
+            match file.read(into) {
+                Ok(count) => return Ok(count),
+                Err(error) if is_passing(&error) => thread::yield_now(),
+                Err(_) => break,
             }
         }
+        self.faults = self.faults.saturating_add(1);
+        Err(Failed)
     }
 }
 
 /// Standard output, through the runtime. It tells no bytes. An error of the system is a fault, and so is a write that
-/// takes nothing.
+/// takes nothing; a write that a signal interrupted or that would wait is made again, behind a turn of other threads. So
+/// where a stream never has room, no write returns.
 #[derive(Drop)]
-pub struct RealOut<'r, R: Print> {
+pub struct RealOut<'r, R: Print + Wait> {
     rt: &'r R,
     faults: u64,
 }
 
-impl<'r, R: Print> RealOut<'r, R> {
+impl<'r, R: Print + Wait> RealOut<'r, R> {
     /// Standard output with no fault.
     pub fn new(rt: &'r R) -> RealOut<'r, R>
         ensures { ⟦<RealOut<'r, R> as Sink>⟧.faults result ≡ 0 }
@@ -85,19 +98,21 @@ impl<'r, R: Print> RealOut<'r, R> {
     }
 }
 
-impl<'r, R: Print> Sink for RealOut<'r, R> {
+impl<'r, R: Print + Wait> Sink for RealOut<'r, R> {
     ghost written = { λ s. None };
 
     ghost faults = { λ s. s.faults };
 
     fn write(&mut self, piece: &[u8]) -> Result<usize, Failed> {
-        match self.rt.write_some(piece) {
-            Ok(count) if count > 0 => Ok(count),
-            _ => {
-                self.faults = self.faults.saturating_add(1);
-                Err(Failed)
+        for _ in self.rt.forever() {
+            match self.rt.write_some(piece) {
+                Ok(count) if count > 0 => return Ok(count),
+                Err(error) if is_passing(&error) => thread::yield_now(),
+                _ => break,
             }
         }
+        self.faults = self.faults.saturating_add(1);
+        Err(Failed)
     }
 }
 

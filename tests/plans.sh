@@ -12,7 +12,7 @@
 set -u
 top=$(cd "$(dirname "$0")/.." && pwd)
 program=$(readlink -f "${1:-$top/crates/mvrlu_main/out/mvrlu_main}")
-[ -x "$program" ] || { echo "plans: there is no $program: ./mvrlu builds it" >&2; exit 1; }
+[ -x "$program" ] || { echo "plans: there is no $program: ./mvrlu build builds it" >&2; exit 1; }
 cd "$top/tests/plans" || exit 1
 failed=0
 for plan in */*.plan; do

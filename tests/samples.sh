@@ -5,7 +5,7 @@
 set -u
 top=$(cd "$(dirname "$0")/.." && pwd)
 program=$(readlink -f "${1:-$top/crates/mvrlu_main/out/mvrlu_main}")
-[ -x "$program" ] || { echo "samples: there is no $program: ./mvrlu builds it" >&2; exit 1; }
+[ -x "$program" ] || { echo "samples: there is no $program: ./mvrlu build builds it" >&2; exit 1; }
 scratch=$(mktemp -d) || exit 1
 trap 'rm -rf "$scratch"' EXIT
 cd "$top/samples/replay" || exit 1

@@ -1,0 +1,141 @@
+# The program itself: unproved in a copy that has no out/, which takes about half a minute each time, and proved, as `rt ci` left it.
+
+rows_of_real_runs() {
+    rows_of_the_copy
+    [ "$1" != unproved ] || return
+    program=$top/crates/mvrlu_main/out/mvrlu_main
+    [ -x "$program" ] || { fail "there is no $program: ./mvrlu build builds it"; return; }
+    PATH=${PATH#"$scratch/bin:"}
+    rows_of_the_sample "$top/mvrlu" ''
+    rows_of_real_faults
+    rows_of_real_streams
+    rows_of_real_signals
+    rows_of_time
+}
+
+# The lines of README's sample, and the text that README shows for them.
+write_sample() {
+    python3 - "$top/README.md" "$scratch" <<'PYTHON'
+import pathlib, re, sys
+
+page, scratch = map(pathlib.Path, sys.argv[1:])
+lines, text = re.search(r"For the lines\n\n((?:    .*\n)+)\n`\./mvrlu run` prints\n\n((?:    .*\n)+)", page.read_text()).groups()
+for name, block in (("lines", lines), ("text", text)):
+    (scratch / name).write_text("".join(line[4:] + "\n" for line in block.splitlines()))
+PYTHON
+}
+
+# README's sample from outside the folder, by the front of a tree, which says so much on standard error.
+rows_of_the_sample() {
+    write_sample || fail 'README shows no sample'
+    "$1" run "$scratch/lines" >"$scratch/out" 2>"$scratch/err" || fail "README's sample ends with $?"
+    cmp -s "$scratch/text" "$scratch/out" || fail "README's sample prints $(cat "$scratch/out")"
+    [ "$(cat "$scratch/err")" = "$2" ] || fail "README's sample says $(cat "$scratch/err")"
+}
+
+# A tree without out/: the sample as from a fresh clone, and a fault of standard input.
+rows_of_the_copy() {
+    local path=$PATH
+    PATH=${PATH#"$scratch/bin:"}
+    mkdir "$scratch/copy"
+    (cd "$top" && tar -cf - --exclude=out mvrlu build tools crates crates.txt HANDLES) | tar -xf - -C "$scratch/copy"
+    rows_of_the_sample "$scratch/copy/mvrlu" "$begun"
+    printf 'put l0 5 7\n' | "$scratch/copy/mvrlu" run "$scratch/lines" - >"$scratch/out" 2>"$scratch/err"
+    status=$?
+    [ "$status" = 3 ] || fail "a fault of standard input, unproved, ends with $status"
+    [ "$(cat "$scratch/err")" = "$begun
+script 1 line 1: unknown command
+/dev/stdin:1: can't be read again, so the line isn't shown" ] || fail "a fault of standard input, unproved: $(cat "$scratch/err")"
+    [ -z "$(find "$scratch/copy" -name out -o -name __pycache__)" ] || fail 'an unproved run keeps something'
+    PATH=$path
+}
+
+# A status, words, and what stands in the last line on standard error.
+ends_with() {
+    "$top/mvrlu" "${@:3}" </dev/null >"$scratch/out" 2>"$scratch/err"
+    status=$?
+    [ "$status" = "$1" ] || fail "${*:3}: status $status and not $1"
+    [ "$(tail -n 1 "$scratch/err")" = "$2" ] || fail "${*:3}: $(cat "$scratch/err")"
+    [ ! -s "$scratch/out" ] || fail "${*:3}: something stands on standard output"
+}
+
+# The program's own lines are those behind which the front says more.
+rows_of_real_faults() {
+    local script
+    for script in 'put:put l0 5 7' 'begin:begin' 'name:add L0 5' 'key:add l0 -1' 'count:move l0 5' 'short:seats 2\nobjects 3\n' \
+        'seats:seats 65\n' 'call:seats 2\nobjects 3\nslots 64\nbase 0\nseat 0 comit\n' 'object:seats 2\nobjects 3\nslots 64\nbase 0\nseat 1 read 3\n'; do
+        printf '%b' "${script#*:}" >"${script%%:*}"
+    done
+    ends_with 2 "mvrlu: 'runn' isn't a subcommand: did you mean run?" runn put
+    ends_with 4 'mvrlu: SEATS is 1 to 8' pool 9 put
+    ends_with 3 'mvrlu: put and get are commands of format 2: let `format 2` be the first line with words' run put
+    ends_with 3 'mvrlu: begin is a line of a script of blocks: ./mvrlu block runs one' run begin
+    ends_with 3 'mvrlu: the last block has no line `end`' block begin
+    ends_with 3 'mvrlu: grow has the set h0 alone' grow name
+    ends_with 3 'mvrlu: a KEY is 0 to 4294967295' run key
+    ends_with 3 'mvrlu: the command is move SET SET KEY' run count
+    ends_with 3 'mvrlu: a plan begins with the lines seats N, objects N, slots N and base N: slots N is missing' replay short
+    ends_with 3 'mvrlu: seats takes 1 to 64' replay seats
+    ends_with 3 "mvrlu: 'comit' isn't a call: did you mean commit?" replay call
+    ends_with 3 'mvrlu: the objects are 0 to 2' replay object
+    ends_with 5 'absent: No such file or directory' run absent
+}
+
+# A stream that doesn't wait gets the whole text, one file is open at a time, and a lone - is read.
+rows_of_real_streams() {
+    seq -f 'has l0 %.0f' 20000 >many
+    python3 - "$top/mvrlu" <<'PYTHON' || fail 'a pipe that does not wait doesn'"'"'t get the whole text'
+import os, subprocess, sys, time
+
+out, into = os.pipe()
+os.set_blocking(into, False)
+ran = subprocess.Popen([sys.argv[1], "run", "many"], stdout=into)
+os.close(into)
+time.sleep(1)
+text = b"".join(iter(lambda: os.read(out, 1 << 16), b""))
+assert ran.wait() == 0 and text.count(b"\n") == 20001, (ran.returncode, text[-80:])
+PYTHON
+    (ulimit -n 4 && exec "$program" run many many >/dev/null) || fail 'two files are open at a time'
+    "$top/mvrlu" run many >&- 2>"$scratch/err"
+    [ "$?:$(cat "$scratch/err")" = '6:write fault' ] || fail "a closed output: $(cat "$scratch/err")"
+    printf 'add l0 5\n' | "$top/mvrlu" run many - >"$scratch/out" || fail "a lone - ends with $?"
+    grep -q '^1\.1 c[0-9]* yes$' "$scratch/out" || fail 'a lone - is not read'
+}
+
+# A run that waits for a pipe without a writer.
+rows_of_real_signals() {
+    local caller signal
+    mkfifo pipe
+    for signal in TERM INT HUP; do
+        as_at_a_terminal "$top/mvrlu" run pipe &
+        caller=$!
+        sleep 1
+        kill -s "$signal" "$caller"
+        wait "$caller" 2>/dev/null
+        status=$?
+        [ "$status" = $((128 + $(kill -l "$signal"))) ] || fail "SIG$signal to the program: status $status"
+        ! pgrep -f "$program run pipe" >/dev/null || fail "SIG$signal leaves the program"
+    done
+}
+
+# A call takes at most 25 ms more than one of the binary alone: the least of up to 200 calls each, since others may use the machine.
+rows_of_time() {
+    python3 - "$top/mvrlu" "$program" "$scratch/lines" <<'PYTHON' || fail 'a call takes too long'
+import subprocess, sys, time
+
+
+def milliseconds(program):
+    start = time.perf_counter()
+    subprocess.run([program, "run", sys.argv[3]], check=True, stdout=subprocess.DEVNULL)
+    return (time.perf_counter() - start) * 1000
+
+
+front = alone = 1000
+for turn in range(200):
+    front, alone = min(front, milliseconds(sys.argv[1])), min(alone, milliseconds(sys.argv[2]))
+    if turn > 20 and front - alone <= 25:
+        break
+print(f"mvrlu: a call takes {front:.1f} ms, and the binary alone {alone:.1f} ms")
+assert front - alone <= 25
+PYTHON
+}

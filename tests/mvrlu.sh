@@ -1,6 +1,6 @@
 #!/bin/bash
 # What ./mvrlu, ./mvrlu build and ./check fast do for a person: which program runs, what is said before and behind its line, how
-# interrupts and streams are handled, and how long a call takes. Most rows stand on copies of the front in a tree of small crates,
+# interrupts and streams are handled, and how long a call takes. Most rows stand on copies of the front end in a tree of small crates,
 # with a stand-in for `rt`, so nothing is proved by them. The rows of mvrlu/real.sh run the program itself: unproved, and, as
 # tests/mvrlu.sh unproved leaves out, proved.
 set -u

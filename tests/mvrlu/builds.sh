@@ -3,6 +3,7 @@
 rows_of_builds() {
     have_none
     rows_of_a_first_build
+    rows_of_what_is_written
     rows_of_an_interrupted_build
     rows_of_a_failed_build
     rows_of_estimates
@@ -34,6 +35,22 @@ rows_of_a_first_build() {
     grep -q $'\r.*build: 0 of 3 libraries proved' "$scratch/out" || fail "no line is rewritten on a terminal: $(cat -v "$scratch/out")"
 }
 
+# Nothing is written but in out/, also not for a while: the times of folders outside of it stay, in a build and in each kind of run.
+rows_of_what_is_written() {
+    local tree=$scratch/repository before
+    have_none
+    mkdir "$tree"/crates/{low,high,wide,mvrlu_main}/out
+    before=$(list_outside)
+    run run a
+    run build
+    run run a
+    [ "$(list_outside)" = "$before" ] || fail "something is written outside of out/: $(diff <(echo "$before") <(list_outside))"
+}
+
+list_outside() {
+    find "$scratch/repository" -name out -prune -o -printf '%p %s %T@\n'
+}
+
 # Ended while a library is proved, it gives back what rt kept of that one, leaves no proof behind, and goes on with it later.
 rows_of_an_interrupted_build() {
     local signal building proof
@@ -46,7 +63,8 @@ rows_of_an_interrupted_build() {
         status=$?
         proof=$(cat "$RT_SLOW.begun")
         rm -f "$RT_SLOW" "$RT_SLOW.begun"
-        [ "$status" -gt 128 ] || fail "a build that SIG$signal ends has status $status"
+        [ "$status" = $((128 + $(kill -l "$signal"))) ] || fail "a build that SIG$signal ends has status $status"
+        [ "$(tail -n 1 "$scratch/err")" = 'build: interrupted: each library that is proved is kept' ] || fail "SIG$signal: $(cat "$scratch/err")"
         [ "$(wc -l <"$scratch/repository/crates/low/out/incremental/kept")" = 2 ] || fail "SIG$signal loses what rt kept"
         ! kill -0 "$proof" 2>/dev/null || fail "SIG$signal leaves a proof"
         [ ! -e "$scratch/repository/crates/mvrlu_main/out/proving" ] || fail "SIG$signal leaves folders"

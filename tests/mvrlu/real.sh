@@ -25,7 +25,7 @@ for name, block in (("lines", lines), ("text", text)):
 PYTHON
 }
 
-# README's sample from outside the folder, by the front of a tree, which says so much on standard error.
+# README's sample from outside the folder, by the front end of a tree, which says so much on standard error.
 rows_of_the_sample() {
     write_sample || fail 'README shows no sample'
     "$1" run "$scratch/lines" >"$scratch/out" 2>"$scratch/err" || fail "README's sample ends with $?"
@@ -59,7 +59,7 @@ ends_with() {
     [ ! -s "$scratch/out" ] || fail "${*:3}: something stands on standard output"
 }
 
-# The program's own lines are those behind which the front says more.
+# The program's own lines are those behind which the front end says more.
 rows_of_real_faults() {
     local script
     for script in 'put:put l0 5 7' 'begin:begin' 'name:add L0 5' 'key:add l0 -1' 'count:move l0 5' 'short:seats 2\nobjects 3\n' \
@@ -104,12 +104,15 @@ PYTHON
 
 # A run that waits for a pipe without a writer.
 rows_of_real_signals() {
-    local caller signal
+    local caller signal turn
     mkfifo pipe
     for signal in TERM INT HUP; do
         as_at_a_terminal "$top/mvrlu" run pipe &
         caller=$!
-        sleep 1
+        for ((turn = 0; turn < 300; turn++)); do
+            ! pgrep -f "$program run pipe" >/dev/null || break
+            sleep 0.1
+        done
         kill -s "$signal" "$caller"
         wait "$caller" 2>/dev/null
         status=$?

@@ -1,4 +1,4 @@
-# A tree of small crates with the front of this repository, a stand-in for `rt`, and what the rows call.
+# A tree of small crates with the front end of this repository, a stand-in for `rt`, and what the rows call.
 
 fail() {
     echo "mvrlu: $1" >&2

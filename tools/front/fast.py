@@ -71,7 +71,7 @@ def list_checks(crate):
 def main(crate=None):
     start, all_passed, all_failed = time.monotonic(), 0, 0
     checks = list_checks(crate)
-    with ThreadPoolExecutor(os.cpu_count() or 1) as pool:
+    with ThreadPoolExecutor(len(os.sched_getaffinity(0))) as pool:
         started = {pool.submit(check, of): name for name, check, of in checks}
         for ended in as_completed(started):
             passed, failed, said = ended.result()

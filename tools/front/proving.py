@@ -47,7 +47,15 @@ def move(kept, source, target):
     if (source / kept).is_dir():
         target.mkdir(parents=True, exist_ok=True)
         shutil.rmtree(target / kept, ignore_errors=True)
-        (source / kept).rename(target / kept)
+        shutil.move(source / kept, target / kept)
+
+
+def link(source, target):
+    """Makes a link to a file, or a copy where the two folders are on file systems of their own."""
+    try:
+        os.link(source, target)
+    except OSError:
+        shutil.copy2(source, target)
 
 
 def take_back(place):
@@ -68,7 +76,7 @@ def set_up(place, name, uses):
             if (CRATES / it / folder).is_dir():
                 shutil.copytree(CRATES / it / folder, place / "crates" / it / folder)
         if it != name:
-            shutil.copytree(CRATES / it / "out/rlib", place / "crates" / it / "out/rlib", copy_function=os.link)
+            shutil.copytree(CRATES / it / "out/rlib", place / "crates" / it / "out/rlib", copy_function=link)
     for kept in KEPT:
         move(kept, CRATES / name / "out", place / "crates" / name / "out")
 

@@ -7,13 +7,13 @@ output and its line on standard error, behind which stands the same as behind th
 
 import os
 import re
-import signal
 import subprocess
 import sys
 import tempfile
 from pathlib import Path
 
 from explain import explain
+from signals import end_at_signals, run_to_end
 from words import is_text, name_of, places_of_files
 
 TOP = Path(__file__).resolve().parents[2]
@@ -29,7 +29,6 @@ REASONS = {
 ENDED = re.compile(rb"(?:^interpreter: .*\n)?^checked: ended .*\n^races: .*\n^run=ended status=(\d+) .*proved=no\n\Z", re.M)
 # What it writes ahead of them by itself.
 OF_RT = re.compile(rb"^rt: .*\n", re.M)
-SIGNALS = (signal.SIGTERM, signal.SIGINT, signal.SIGHUP)
 
 
 class Unanswered(Exception):
@@ -85,14 +84,11 @@ def call_rt(words, copies):
     except OSError as error:
         raise Unanswered(f"rt does not start ({error.strerror}): this needs the Rattle kit, with rt on the path") from error
 
-    def end(number, _):
+    def stop():
         tried.terminate()
         tried.wait()
-        raise SystemExit(128 + number)
 
-    for number in SIGNALS:
-        if signal.getsignal(number) is not signal.SIG_IGN:
-            signal.signal(number, end)
+    end_at_signals(stop)
     text, said = tried.communicate()
     return tried.returncode, text, said
 
@@ -147,7 +143,4 @@ def main():
 
 
 if __name__ == "__main__":
-    try:
-        sys.exit(main())
-    except KeyboardInterrupt:
-        sys.exit(130)
+    sys.exit(run_to_end(main))

@@ -4,11 +4,11 @@ use Rattle.std.proofs.Common.{List, [], ◌∷◌, ◌++◌, length, suc, take}
 use Rattle.std.proofs.Common.{refl, sym, ap, ◌∙◌, subst, arith}
 use Rattle.std.proofs.lemmas.Bool.Decides.{nat_tests}
 use Rattle.mv_history.specs.Legal.{AreWithin}
-use Rattle.mv_history.specs.State.{State, Writes, written, state_after, state_at}
+use Rattle.mv_history.specs.State.{State, Writes, written, touches, state_after, state_at}
 use Rattle.mv_history.specs.declared.answers.Holder.{Holder}
 use Rattle.mv_history.specs.declared.answers.Rival.{Rival as RivalEntry}
 use Rattle.mv_history.specs.Drift.{Drifts, IsFit}
-use Rattle.mv_history.specs.Meaning.{Seat, InSection, IsSeat, snapshot_of, state_of, state_of_time}
+use Rattle.mv_history.specs.Meaning.{Seat, InSection, Holds, IsSeat, snapshot_of, state_of, state_of_time}
 use Rattle.mv_history.specs.Trail.{commit_exchanges, IsOneLost}
 use Rattle.mv_history.specs.Calls.{call_trail, Continues, IsAsBefore, GoesOn, Prepares, Enters as EntersAs, Leaves, Commits, Overtakes, commit_by}
 use Rattle.mv_history.proofs.Holding.{state_of-as_before}
@@ -25,11 +25,11 @@ use Rattle.section_work.specs.declared.causes.Cause.{Cause}
 use Rattle.section_work.specs.declared.causes.Cause.TheVariants.{Lock, Rival, LogFull}
 use Rattle.section_work.specs.Causes.{Causes}
 use Rattle.section_work.proofs.Entering.{reads_snapshot}
-use Rattle.section_work.proofs.Stopping.{stops_named, stops_after}
+use Rattle.section_work.proofs.Stopping.{stops_after}
 use Rattle.section_work.specs.Works.{Meaning, IsPlanned, IsFound}
 use Rattle.section_work.specs.declared.work.Decision.{Decision}
 use Rattle.section_work.specs.declared.work.Decision.TheVariants.{Settled, Change}
-use Rattle.section_work.specs.Attempts.{LocksOf, IsDone, IsDoneIn, IsReadAt, IsWhy, GivesUpIn, GivesUp}
+use Rattle.section_work.specs.Attempts.{IsDone, IsDoneIn, IsReadAt, IsWhy, GivesUpIn, GivesUp}
 use Rattle.section_work.specs.Attempts.{Attempted, AttemptedIn, HasSpace, NotedOnce, MayNote}
 use Rattle.section_work.specs.declared.attempting.Attempt.{Attempt}
 use Rattle.section_work.specs.declared.attempting.Attempt.TheVariants.{Done, Again}
@@ -151,19 +151,14 @@ module _ {R : Type 0} (allowed : List ℕ → State → Writes → Type 0) (m : 
   -- After a lock of it was refused.
   pub stops_by : (found left : InSection) (tag : List ℕ) (ws made : Writes) (reply : R) → IsPlanned allowed m (state_of found) tag ws reply → made ≡ ws
       → (may_refuse : Type 0) (found_held : InSection → InSection → ℕ → ℕ → Type 0) (refusal : Refusal)
-      → Refuses may_refuse found_held found left (objects_of made) refusal → Stops may_refuse found_held (LocksOf m (state_of found)) found left refusal
+      → Refuses may_refuse found_held found left (objects_of made) refusal → Stops may_refuse found_held (λ o. touches ws o ≡ true) found left refusal
   stops_by found left tag ws made reply plan is may_refuse found_held refusal r0 =
       let r : Refuses may_refuse found_held found left (objects_of ws) refusal =
       subst (λ (w : Writes). Refuses may_refuse found_held found left (objects_of w) refusal) is r0 in
       record {
         object = r.object;
-        named = (
-          tag,
-          ws,
-          reply,
-          plan.plan,
-          touches-in ws r.object (subst (λ os. IsIn r.object os) (sym r.parts) (in_right r.held (r.object ∷ r.rest) r.object (inl refl))),
-        );
+        named =
+            touches-in ws r.object (subst (λ os. IsIn r.object os) (sym r.parts) (in_right r.held (r.object ∷ r.rest) r.object (inl refl)));
         before = r.before;
         goes_on = r.holds.goes_on;
         refused = r.refused;
@@ -223,16 +218,24 @@ module _ {R : Type 0} (k : Causes) (m : Meaning R) where
         settles = subst (λ (b : Bool). m.settles (state_of_time new time) b reply) when (subst (λ (u : State). m.settles u last reply) state settles);
       }
 
-  pub stopped_in : (found left : InSection) (new : Seat) (refusal : Refusal) → found.own ≡ []
-      → Stops k.may_refuse k.found_held (LocksOf m (state_of found)) found left refusal → Leaves left new → GivesUpIn k m found new (Lock refusal)
-  stopped_in found left new refusal none x gone =
-      let y = stops_named k.may_refuse k.found_held _ (LocksOf m (snapshot_of found)) found left refusal
-      (λ o n. subst (λ (s : State). LocksOf m s o) (reads_snapshot found none) n) x in
+  pub stopped_in : (found left : InSection) (new : Seat) (tag : List ℕ) (ws : Writes) (reply : R) (refusal : Refusal) → found.own ≡ []
+      → m.plans (state_of found) tag ws reply → Stops k.may_refuse k.found_held (λ o. touches ws o ≡ true) found left refusal
+      → ((o : ℕ) → Holds left o → touches ws o ≡ true) → Leaves left new → GivesUpIn k m found new (Lock refusal)
+  stopped_in found left new tag ws reply refusal none plan x held gone =
       let goes : GoesOn found left = GoesOn-GoesOn x.goes_on x.refused.goes_on in
       record {
         continues = Continues-Continues goes.continues gone.continues;
         mine = gone.mine ∙ goes.mine;
-        why = (left, y, gone.continues);
+        why = record {
+          tag = tag;
+          writes = ws;
+          reply = reply;
+          plan = subst (λ (s : State). m.plans s tag ws reply) (reads_snapshot found none) plan;
+          left = left;
+          stops = x;
+          held = held;
+          leaves = gone;
+        };
       }
 
   pub overtaken_in : (allowed : List ℕ → State → Writes → Type 0) (found locked left : InSection) (new : Seat) (tag : List ℕ) (reply : R) (rival : RivalEntry)
@@ -254,7 +257,7 @@ module _ {R : Type 0} (k : Causes) (m : Meaning R) where
         as_before = same;
         overtakes = over;
         lost = lost;
-        continues = gone.continues;
+        leaves = gone;
       },
     );
   }
@@ -294,10 +297,16 @@ module _ {R : Type 0} (k : Causes) (m : Meaning R) where
       same = snapshot_of-goes_on entered found goes le
 
       go : (c : Cause) → IsWhy k m (λ holder. ⊥) found new c → IsWhy k m held_back entered new c
-      go (Lock refusal) w =
-          let named = stops_named k.may_refuse k.found_held _ (LocksOf m (snapshot_of entered)) found w.0 refusal
-          (λ o n. subst (λ (s : State). LocksOf m s o) same n) w.1 in
-          (w.0, stops_after k.may_refuse k.found_held _ entered found w.0 refusal goes named, w.2)
+      go (Lock refusal) w = record {
+        tag = w.tag;
+        writes = w.writes;
+        reply = w.reply;
+        plan = subst (λ (s : State). m.plans s w.tag w.writes w.reply) same w.plan;
+        left = w.left;
+        stops = stops_after k.may_refuse k.found_held _ entered found w.left refusal goes w.stops;
+        held = w.held;
+        leaves = w.leaves;
+      }
       go (Rival rival) w = (
         w.0,
         record {
@@ -310,7 +319,7 @@ module _ {R : Type 0} (k : Causes) (m : Meaning R) where
           as_before = w.1.as_before;
           overtakes = w.1.overtakes;
           lost = w.1.lost;
-          continues = w.1.continues;
+          leaves = w.1.leaves;
         },
       )
       go (LogFull holder) w = absurd w.1

@@ -4,9 +4,9 @@ use Rattle.mv_history.specs.State.{State, Writes, touches, state_at}
 use Rattle.mv_history.specs.declared.history.Commit.{Commit}
 use Rattle.mv_history.specs.declared.history.Entry.TheVariants.{Change}
 use Rattle.mv_history.specs.declared.answers.Holder.{Holder}
-use Rattle.mv_history.specs.Meaning.{Seat, InSection, snapshot_of, state_of_time}
+use Rattle.mv_history.specs.Meaning.{Seat, InSection, Holds, snapshot_of, state_of_time}
 use Rattle.mv_history.specs.Trail.{commit_exchanges, IsOneLost}
-use Rattle.mv_history.specs.Calls.{call_trail, Continues, IsAsBefore, GoesOn, Prepares, IsEntryAt, Overtakes}
+use Rattle.mv_history.specs.Calls.{call_trail, Continues, IsAsBefore, GoesOn, Prepares, Leaves, IsEntryAt, Overtakes}
 use Rattle.section_work.specs.declared.place.Place.TheVariants.{Commit as AtCommit, Read}
 use Rattle.section_work.specs.declared.causes.Refusal.{Refusal}
 use Rattle.section_work.specs.declared.causes.Cause.{Cause}
@@ -24,10 +24,6 @@ pub record Enters (k : Causes) (old : Seat) (entered : InSection) (new : Seat) :
   pub comes : Continues old before
   pub mine : before.mine ≡ old.mine
   pub enters : IsEntered k before entered new
-
--- the object is one of those that the work locks in this state
-abbrev pub LocksOf : {R : Type 0} → Meaning R → State → ℕ → Type 0
-LocksOf {R} m s o = (tag : List ℕ) × (ws : Writes) × (reply : R) × m.plans s tag ws reply × (touches ws o ≡ true)
 
 module _ {R : Type 0} (k : Causes) (m : Meaning R) where
   -- The work is the seat's last commit, at this printed time, of a section that the call entered. Its tag and its writes are what is planned in
@@ -61,7 +57,8 @@ module _ {R : Type 0} (k : Causes) (m : Meaning R) where
     pub time_is : time ≡ entered.seat.base + entered.at
     pub settles : m.settles (state_of_time new time) (time == new.last) reply
 
-  -- The commit of what is planned was tried, and another seat's entry came first, after the call had loaded the clock.
+  -- The commit of what is planned was tried, and another seat's entry came first, after the call had loaded the clock; the section was then
+  -- given up.
   pub record IsOvertaken (entered : InSection) (new : Seat) (seat time : ℕ) : Type 0 where
     pub before : InSection
     pub goes_on : GoesOn entered before
@@ -72,12 +69,19 @@ module _ {R : Type 0} (k : Causes) (m : Meaning R) where
     pub as_before : IsAsBefore before after
     pub overtakes : Overtakes before after seat time (k.loaded before after.seat)
     pub lost : k.has_trail → IsOneLost (commit_exchanges (call_trail before.seat after.seat))
-    pub continues : Continues after.seat new
+    pub leaves : Leaves after new
 
-  -- One lock was refused, of an object that the work locks; what was found then is among what is seen afterwards.
-  abbrev pub IsStopped : InSection → Seat → Refusal → Type 0
-  IsStopped entered new refusal =
-      (left : InSection) × Stops k.may_refuse k.found_held (LocksOf m (snapshot_of entered)) entered left refusal × Continues left.seat new
+  -- One lock was refused. Its object, and all that were locked before it, are of what is planned in the section's snapshot; the section was then
+  -- given up.
+  pub record IsStopped (entered : InSection) (new : Seat) (refusal : Refusal) : Type 0 where
+    pub tag : List ℕ
+    pub writes : Writes
+    pub reply : R
+    pub plan : m.plans (snapshot_of entered) tag writes reply
+    pub left : InSection
+    pub stops : Stops k.may_refuse k.found_held (λ o. touches writes o ≡ true) entered left refusal
+    pub held : (o : ℕ) → Holds left o → touches writes o ≡ true
+    pub leaves : Leaves left new
 
   -- why the change that a section was to make was given up
   abbrev pub IsWhy : (Holder → Type 0) → InSection → Seat → Cause → Type 0

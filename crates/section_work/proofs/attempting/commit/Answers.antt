@@ -6,6 +6,7 @@ use Rattle.mv_history.proofs.Steps.{Continues-Continues, GoesOn-GoesOn, NamesNoC
 use Rattle.section_work.specs.Sections.{TriesOne}
 use Rattle.section_work.proofs.Exchanges.{leaves_none, left_one, one_before, one_after}
 use Rattle.section_work.proofs.Entering.{worn_left}
+use Rattle.section_work.proofs.Stopping.{held_by}
 use Rattle.section_work.proofs.Outcomes.{room_as, room_for, ready_by, stops_by, done_by, stopped_in, overtaken_in, read_after, may_wider}
 use Rattle.section_work.proofs.attempting.commit.Goals as goal
 
@@ -28,11 +29,12 @@ try_commit-requires g c =
 pub returns-in-Err : goal.returns-in-Err
 returns-in-Err g c =
     let x = stops_by _ _ _ _ _ _ _ _ c.requires.planned c.writes.ensures _ _ _ c.in-Err.ensures.refused in
+    let held = held_by _ _ _ _ c.requires.space.own c.writes.ensures _ _ _ c.in-Err.ensures.refused in
     let goes = GoesOn-GoesOn x.goes_on x.refused.goes_on in
     let left = subst (λ (s : Seat). Leaves (g.S.Open.Section.section c.rewrite.new.section) s) (g.met.S.Store.same_seat _) c.abort.ensures in
     let on = Continues-Continues goes.continues left.continues in
     record {
-      attempted = stopped_in _ _ _ _ _ _ c.requires.space.own x left;
+      attempted = stopped_in _ _ _ _ _ _ _ _ _ c.requires.space.own c.requires.planned.plan x held left;
       continues = on;
       at_most_one = left_one goes.continues goes.names_no_commit left;
       knows = g.met.W.Work.knows_on _ _ _ on c.requires.knows;

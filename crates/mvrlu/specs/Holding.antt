@@ -1,14 +1,18 @@
 -- What holds the oldest write set of a seat's log, and what making room leaves of a seat.
-use Rattle.std.specs.Prelude.{◌≡◌, ◌≢◌, ◌⊎◌, ℕ, ◌+◌, ◌-◌, ◌*◌, ◌<◌, ◌≤◌, true, List, [], length, count_by, slice_index, Option, Some, None}
+use Rattle.std.specs.Prelude.{◌≡◌, ◌≢◌, ◌⊎◌, ℕ, ◌+◌, ◌-◌, ◌*◌, ◌<◌, ◌≤◌, true, false, List, [], length, count_by, slice_index, Some}
 use Rattle.mv_history.specs.declared.answers.Holder.{Holder}
 use Rattle.mv_history.specs.declared.answers.Holder.TheVariants.{Fresh, End}
 use Rattle.mv_history.specs.declared.answers.LogTable.{LogTable}
+use Rattle.mv_history.specs.declared.Step.{Step}
 use Rattle.mv_history.specs.State.{State, Writes}
 use Rattle.mv_history.specs.Meaning.{Seat}
 use Rattle.mv_history.specs.Trail.{clock_exchanges}
 use Rattle.mv_history.specs.Calls.{call_trail, Prepares}
 use Rattle.seat_log.specs.Stands.{is_free, is_won_cut, writes_in}
-use Rattle.log_reclaim.specs.Holders.{TidyHolds, RoundHolds}
+use Rattle.log_reclaim.specs.Parts.{Shrinks}
+use Rattle.log_reclaim.specs.Holders.{TidyHolds, RoundHolds, HeldSo}
+use Rattle.log_reclaim.specs.Rounds.{FreesFirst, SweptSo}
+use Rattle.log_reclaim.specs.Tidies.{WritesBackSo, RestsWhereDue}
 use Rattle.log_reclaim.specs.declared.rounds.Tidy.{Tidy}
 use Rattle.mvrlu.specs.Placed.{Placed, seat_from, IsIdle}
 
@@ -40,27 +44,6 @@ IsEmpty s = s.spare ≡ slots_of s
 abbrev pub IsEarly : Seat → Type 0
 IsEarly s = s.base + length s.seen < 35184372088831
 
--- A tidy in the call left that pass and that log, by what the seat that comes back means; this holds the log's oldest write set, with its
--- cause in the steps of the call. A fresh time is of an entry that wasn't seen before the call.
-pub record HoldsBack (starts : State → Type 0) (allows : List ℕ → State → Writes → Type 0) (old new : Seat) (holder : Holder) : Type 0 where
-  pub placed : Placed
-  pub seat : new ≡ seat_from placed
-  pub idle : IsIdle starts allows placed
-  pub cause : TidyHolds placed.config placed.view placed.log (call_trail old new) holder
-  pub fresh : (time : ℕ) → holder ≡ Fresh time → old.base + length old.seen < time
-
--- the same where the call made one round, with write-backs
-pub record HoldsInRound (starts : State → Type 0) (allows : List ℕ → State → Writes → Type 0) (old new : Seat) (holder : Holder) : Type 0 where
-  pub placed : Placed
-  pub seat : new ≡ seat_from placed
-  pub idle : IsIdle starts allows placed
-  pub cause : RoundHolds placed.config placed.view placed.log (call_trail old new) true holder
-
--- no holder exactly where nothing is live
-abbrev pub IsHolderOf : (Holder → Type 0) → ℕ → Option Holder → Type 0
-IsHolderOf Causes live None = live ≡ 0
-IsHolderOf Causes live (Some holder) = (0 < live) × Causes holder
-
 -- the seat made at most one rest
 abbrev pub RestsAtMostOnce : Seat → Seat → Type 0
 RestsAtMostOnce old new = (new.rests ≡ old.rests) ⊎ (new.rests ≡ old.rests + 1)
@@ -72,43 +55,79 @@ round_steps s = 4 + seats_of s + 20 * slots_of s
 abbrev pub tidy_steps : Seat → ℕ
 tidy_steps s = 2 * round_steps s + 8
 
--- What a tidy leaves of a seat, and what it answers: how many slots the call freed, by one step each; how many are live now; and who
--- holds the oldest write set, if one is left. It makes at least one step, and tries at most one exchange on CLOCK.
-pub record Tidies (starts : State → Type 0) (allows : List ℕ → State → Writes → Type 0) (old new : Seat) (t : Tidy) : Type 0 where
-  pub prepares : Prepares old new
-  pub freed : t.freed ≡ count_by is_free (call_trail old new)
-  pub spare : new.spare ≡ old.spare + t.freed
-  pub live : t.live + new.spare ≡ slots_of new
-  pub held : IsHolderOf (HoldsBack starts allows old new) t.live t.held
-  pub rests : RestsAtMostOnce old new
-  pub exchanges : length (clock_exchanges (call_trail old new)) ≤ 1
-  pub some : call_trail old new ≢ []
-  pub steps : length (call_trail old new) ≤ tidy_steps new
+-- the steps of a call that came from the first place of a seat to the second
+abbrev pub steps_between : Placed → Placed → List Step
+steps_between p q = call_trail (seat_from p) (seat_from q)
+
+-- A tidy came from the first pass and log of a seat to the second, and answered this. First it freed what the watermark that stood in GRACE
+-- allows; a scan with write-backs left no version without a time of death but for a cause in it; it tried a rest only where one was due; and
+-- a scan without write-backs freed what is dead by it. So many slots were freed, by one step each; the log that is left is shorter by these,
+-- and has the holder of its oldest write set, with the cause in the steps of the call. It makes at least one step, and tries at most one
+-- exchange on CLOCK. A fresh time is of an entry that wasn't seen before the call.
+pub record Tidies (p q : Placed) (t : Tidy) : Type 0 where
+  pub prepares : Prepares (seat_from p) (seat_from q)
+  pub freed : t.freed ≡ count_by is_free (steps_between p q)
+  pub spare : (seat_from q).spare ≡ (seat_from p).spare + t.freed
+  pub live : t.live ≡ length q.log.live
+  pub room : t.live + (seat_from q).spare ≡ slots_of (seat_from q)
+  pub shrinks : Shrinks p.log q.log t.freed
+  pub frees_first : FreesFirst q.config p.log (steps_between p q) true
+  pub writes_back : WritesBackSo q.config q.view q.log (steps_between p q)
+  pub rests_due : RestsWhereDue q.config q.view p.log (steps_between p q)
+  pub swept : SweptSo q.config q.view q.log (steps_between p q) false
+  pub held : HeldSo (TidyHolds q.config q.view q.log (steps_between p q)) q.log t.held
+  pub fresh : (time : ℕ) → t.held ≡ Some (Fresh time) → (seat_from p).base + length (seat_from p).seen < time
+  pub rests : RestsAtMostOnce (seat_from p) (seat_from q)
+  pub exchanges : length (clock_exchanges (steps_between p q)) ≤ 1
+  pub some : steps_between p q ≢ []
+  pub steps : length (steps_between p q) ≤ tidy_steps (seat_from q)
+
+-- A tidy came from the first pass and log to the second, and answered this holder of the log that it left.
+pub record HoldsBack (p q : Placed) (holder : Holder) : Type 0 where
+  pub tidy : Tidy
+  pub tidies : Tidies p q tidy
+  pub held : tidy.held ≡ Some holder
+
+-- The same of seats alone: it was so for a lawful pass and log that mean each of them.
+pub record HoldsSeat (starts : State → Type 0) (allows : List ℕ → State → Writes → Type 0) (old new : Seat) (holder : Holder) : Type 0 where
+  pub before : Placed
+  pub after : Placed
+  pub was : old ≡ seat_from before
+  pub is : new ≡ seat_from after
+  pub idle_before : IsIdle starts allows before
+  pub idle_after : IsIdle starts allows after
+  pub holds : HoldsBack before after holder
 
 -- In a domain of one seat nothing but the end of time holds a log: where the last time wasn't reached before, the log is empty.
 pub record TidiesAlone (old : Seat) (t : Tidy) : Type 0 where
   pub empty : IsEarly old → t.live ≡ 0
   pub ends : (holder : Holder) → t.held ≡ Some holder → holder ≡ End
 
--- What one round with write-backs leaves of a seat.
-pub record Rounds (starts : State → Type 0) (allows : List ℕ → State → Writes → Type 0) (old new : Seat) : Type 0 where
-  pub prepares : Prepares old new
-  pub spare : old.spare ≤ new.spare
-  pub held : IsEmpty new ⊎ ((holder : Holder) × HoldsInRound starts allows old new holder)
-  pub rests : new.rests ≡ old.rests
-  pub some : call_trail old new ≢ []
-  pub steps : length (call_trail old new) ≤ round_steps new
+-- One round with write-backs came from the first pass and log of a seat to the second, and answered this. First it freed what the watermark
+-- that stood in GRACE allows, and then what is dead by that of its own scan; each version that it left without a time of death has a cause
+-- for that in its steps. It made no exchange on CLOCK and no rest.
+pub record Rounds (p q : Placed) (t : Tidy) : Type 0 where
+  pub prepares : Prepares (seat_from p) (seat_from q)
+  pub freed : t.freed ≡ count_by is_free (steps_between p q)
+  pub spare : (seat_from q).spare ≡ (seat_from p).spare + t.freed
+  pub live : t.live ≡ length q.log.live
+  pub shrinks : Shrinks p.log q.log t.freed
+  pub frees_first : FreesFirst q.config p.log (steps_between p q) false
+  pub swept : SweptSo q.config q.view q.log (steps_between p q) true
+  pub held : HeldSo (RoundHolds q.config q.view q.log (steps_between p q) true) q.log t.held
+  pub exchanges : clock_exchanges (steps_between p q) ≡ []
+  pub rests : (seat_from q).rests ≡ (seat_from p).rests
+  pub some : steps_between p q ≢ []
+  pub steps : length (steps_between p q) ≤ round_steps (seat_from q)
 
--- What making room does, by how many slots were live: nothing below `low`; from `low` on something, which leaves the log empty or a
--- holder with its cause in the call, below `high` that of a round, and from `high` on that of a tidy.
-pub record MakesRoom (starts : State → Type 0) (allows : List ℕ → State → Writes → Type 0) (old new : Seat) : Type 0 where
-  pub below : live_of old < low_of old → new ≡ old
-  pub some : low_of old ≤ live_of old → call_trail old new ≢ []
-  pub by_round : low_of old ≤ live_of old → live_of old < high_of old
-      → IsEmpty new ⊎ ((holder : Holder) × HoldsInRound starts allows old new holder)
-  pub by_tidy : high_of old ≤ live_of old → IsEmpty new ⊎ ((holder : Holder) × HoldsBack starts allows old new holder)
-  pub rests : RestsAtMostOnce old new
-  pub steps : length (call_trail old new) ≤ tidy_steps new
+-- What making room does, by how many slots were live: nothing below `low`; from `low` on one round, with write-backs, and from `high` on a
+-- tidy, of the seat's own pass and log.
+pub record MakesRoom (p q : Placed) : Type 0 where
+  pub below : live_of (seat_from p) < low_of (seat_from p) → q ≡ p
+  pub by_round : low_of (seat_from p) ≤ live_of (seat_from p) → live_of (seat_from p) < high_of (seat_from p) → (t : Tidy) × Rounds p q t
+  pub by_tidy : high_of (seat_from p) ≤ live_of (seat_from p) → (t : Tidy) × Tidies p q t
+  pub rests : RestsAtMostOnce (seat_from p) (seat_from q)
+  pub steps : length (steps_between p q) ≤ tidy_steps (seat_from q)
 
 -- The table of a seat's log: its commits and rests, the chains that it cut and the slots that it freed, each by the seat's history or its
 -- trail; and the live slots. The versions that are live or freed are those of its commits' writes and of what its aborts held.

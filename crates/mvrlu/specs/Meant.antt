@@ -7,7 +7,7 @@ use Rattle.mv_history.specs.Meaning.{InSection}
 use Rattle.mv_history.specs.Meaning as history
 use Rattle.mv_layout.specs.declared.Config.{Config}
 use Rattle.mv_core.specs.Passes.{home_of, config_of, start_of, table_of}
-use Rattle.mvrlu.specs.Placed.{seat_from, section_from}
+use Rattle.mvrlu.specs.Placed.{Placed, seat_from, section_from}
 use Rattle.mvrlu.specs.Whole.{Whole}
 use Rattle.mvrlu.specs.declared.closing.Closing.{Closing}
 use Rattle.mvrlu.specs.declared.domain.Domain.{Domain}
@@ -47,6 +47,10 @@ module _ {P : _} {rules : _} where
   -- how many sections of it were aborted with something held
   abbrev pub aborts_in : Seat P rules → ℕ
   aborts_in s = s.idle.log.aborts
+
+  -- a handle's own pass and log
+  abbrev pub place_of : Handle P rules → Placed
+  place_of h = h.seat.idle
 
   -- what a seat in a handle means
   abbrev pub handled : Handle P rules → history.Seat

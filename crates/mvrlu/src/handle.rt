@@ -24,10 +24,10 @@ impl<'d, P: Protocol> Store for Handle<'d, P> {
     ghost use Rattle.mv_history.specs.declared.answers.Holder.TheVariants.{End};
     ghost use Rattle.mv_history.specs.declared.answers.Room.TheVariants.{Enough, Short};
     ghost use Rattle.mv_history.specs.Calls.{Prepares, Enters};
-    ghost use Rattle.mvrlu.specs.Meant.{handled, aborts_of, aborts_before, section_of};
+    ghost use Rattle.mvrlu.specs.Meant.{handled, place_of, aborts_of, aborts_before, section_of};
     ghost use Rattle.mvrlu.specs.Causes.{Took};
     ghost use Rattle.mvrlu.specs.Bounds.{MakesAtMost};
-    ghost use Rattle.mvrlu.specs.Holding.{seats_of, IsEarly, HoldsBack, MakesRoom};
+    ghost use Rattle.mvrlu.specs.Holding.{seats_of, IsEarly, HoldsBack, HoldsSeat, MakesRoom};
 
     type Rules = P;
 
@@ -37,7 +37,7 @@ impl<'d, P: Protocol> Store for Handle<'d, P> {
 
     ghost took = { λ old new. Took old new };
 
-    ghost holds_back = { λ old new holder. HoldsBack P.start P.allowed old new holder };
+    ghost holds_back = { λ old new holder. HoldsSeat P.start P.allowed old new holder };
 
     ghost same_seat = { λ s. refl };
 
@@ -52,14 +52,16 @@ impl<'d, P: Protocol> Store for Handle<'d, P> {
     }
 
     // Below `low` live slots nothing is done, from `low` on a round with write-backs, and from `high` on a
-    // tidy. In a domain of one seat whose last time wasn't reached before, room is made.
+    // tidy, of the handle's own pass and log. A holder is that of the log that the call left. In a domain
+    // of one seat whose last time wasn't reached before, room is made.
     fn prepare(&mut self) -> Room
         ensures prepares { Prepares (handled self.old) (handled self.new) }
         ensures enough { result ≡ Enough → (handled self.new).write_max ≤ (handled self.new).spare }
         ensures short { (holder : Holder) → result ≡ Short holder →
             ⟦<Session<'d, P> as Section>⟧.may_refuse × ((handled self.new).spare < (handled self.new).write_max)
-            × HoldsBack P.start P.allowed (handled self.old) (handled self.new) holder }
-        ensures room { MakesRoom P.start P.allowed (handled self.old) (handled self.new) }
+            × HoldsSeat P.start P.allowed (handled self.old) (handled self.new) holder }
+        ensures holder { (holder : Holder) → result ≡ Short holder → HoldsBack (place_of self.old) (place_of self.new) holder }
+        ensures room { MakesRoom (place_of self.old) (place_of self.new) }
         ensures alone { seats_of (handled self.old) ≡ 1 → IsEarly (handled self.old) → result ≡ Enough }
         ensures ends { (holder : Holder) → seats_of (handled self.old) ≡ 1 → result ≡ Short holder → holder ≡ End }
         ensures aborts { aborts_of self.new ≡ aborts_of self.old }
@@ -86,7 +88,7 @@ impl<'d, P: Protocol> Store for Handle<'d, P> {
 impl<'d, P: Protocol> Handle<'d, P> {
     ghost use Rattle.std.specs.Prelude.{◌≡◌};
     ghost use Rattle.mvrlu.specs.Holding.{seats_of, Tidies, TidiesAlone, IsSeatTable};
-    ghost use Rattle.mvrlu.specs.Meant.{seat_of, handled, aborts_in, aborts_of};
+    ghost use Rattle.mvrlu.specs.Meant.{seat_of, handled, place_of, aborts_in, aborts_of};
 
     /// Gives the loan of the domain back, and keeps all that the seat means. No step is made.
     pub fn into_seat(self) -> Seat<P>
@@ -122,7 +124,7 @@ impl<'d, P: Protocol> Handle<'d, P> {
     /// exchange on CLOCK; it takes no memory, waits for nothing and tries nothing twice. (MV-RLU, ASPLOS
     /// 2019, section 3.6.)
     pub fn tidy(&mut self) -> Tidy
-        ensures tidies { Tidies P.start P.allowed (handled self.old) (handled self.new) result }
+        ensures tidies { Tidies (place_of self.old) (place_of self.new) result }
         ensures alone { seats_of (handled self.old) ≡ 1 → TidiesAlone (handled self.old) result }
         ensures aborts { aborts_of self.new ≡ aborts_of self.old }
     {

@@ -71,7 +71,7 @@ pub(crate) fn locked<P: Protocol, L: Ledger>(
     ensures makers { All (λ e. maker_of e < seats_of (section_from busy.old).seat) (section_from busy.new).seat.seen }
     ensures held { result ≡ Held → Lacks (section_from busy.old) object → Locks (section_from busy.old) (section_from busy.new) object }
     ensures aborts { busy.new.log.aborts ≡ busy.old.log.aborts }
-    ensures bound { MakesAtMost (section_from busy.old).seat (section_from busy.new).seat 32 }
+    ensures bound { MakesAtMost (section_from busy.old).seat (section_from busy.new).seat 24 }
 {
     let mut steps = Steps::<L>::open(blank);
     let Place { pass, log } = &mut *busy.place;

@@ -23,10 +23,12 @@
 //!   which was lost against an entry made after that load, and `End` comes only where that load found the
 //!   last time.
 //! - `holds_back`: the causes of the holders that `prepare` and `Handle::tidy` name, with the watermark
-//!   that the oldest write set of the log still needs.
+//!   that the oldest write set of the log still needs. The clauses `room` and `holder` of a handle's
+//!   `prepare`, and `tidies` of `Handle::tidy`, say it of the handle's own pass and log, with what was
+//!   freed and written back.
 //!
 //! No call but `open` takes memory, and none waits or tries again. Each call's clause `bound` says how
-//! many steps it makes at most: `enter` 6, `try_lock` 32, `write` 6, `try_commit` 8 and one for each
+//! many steps it makes at most: `enter` 6, `try_lock` 24, `write` 6, `try_commit` 8 and one for each
 //! object held, `abort` 2 and one for each object held, `leave` 1, and a `read` 12 and three for each entry
 //! after the snapshot that was seen. `prepare` and `tidy` make at most `2 * (4 + seats + 20 * slots) + 8`,
 //! and `meet` `seats + 7`.

@@ -5,8 +5,8 @@ ghost use Rattle.mv_history.specs.declared.answers.Holder.TheVariants.{End};
 ghost use Rattle.mv_history.specs.declared.answers.Room.TheVariants.{Enough, Short};
 ghost use Rattle.mv_history.specs.Meaning.{IsSeat};
 ghost use Rattle.mv_history.specs.Calls.{Prepares};
-ghost use Rattle.mvrlu.specs.Placed.{seat_from, Fits};
-ghost use Rattle.mvrlu.specs.Holding.{seats_of, IsEarly, HoldsBack, Tidies, TidiesAlone, Rounds, MakesRoom};
+ghost use Rattle.mvrlu.specs.Placed.{seat_from, IsIdle, Fits};
+ghost use Rattle.mvrlu.specs.Holding.{seats_of, IsEarly, HoldsBack, HoldsSeat, Tidies, TidiesAlone, Rounds, MakesRoom};
 
 use crate::places::{Idle, Place};
 use log_reclaim::{Tidy, round, tidy};
@@ -27,7 +27,8 @@ pub(crate) fn tidied<P: Protocol, L: Ledger>(
     ensures fits { Fits shared.now idle.new }
     ensures lawful { IsSeat P.start P.allowed (seat_from idle.new) }
     ensures aborts { idle.new.log.aborts ≡ idle.old.log.aborts }
-    ensures tidies { Tidies P.start P.allowed (seat_from idle.old) (seat_from idle.new) result }
+    ensures places { IsIdle P.start P.allowed idle.old × IsIdle P.start P.allowed idle.new }
+    ensures tidies { Tidies idle.old idle.new result }
     ensures alone { seats_of (seat_from idle.old) ≡ 1 → TidiesAlone (seat_from idle.old) result }
 {
     let mut steps = Steps::<L>::open(blank);
@@ -36,18 +37,22 @@ pub(crate) fn tidied<P: Protocol, L: Ledger>(
 }
 
 // Makes one round, with write-backs.
-fn rounded<P: Protocol, L: Ledger>(shared: &Shared<P>, idle: &mut Idle<P>, blank: Blank)
+pub(crate) fn rounded<P: Protocol, L: Ledger>(
+    shared: &Shared<P>,
+    idle: &mut Idle<P>,
+    blank: Blank,
+) -> Tidy
     requires name { blank.name ≡ L.name }
     requires parts { (blank.parts ≡ L.parts) × (0 < L.parts) }
     requires fits { Fits shared.now idle.old }
     ensures fits { Fits shared.now idle.new }
     ensures lawful { IsSeat P.start P.allowed (seat_from idle.new) }
     ensures aborts { idle.new.log.aborts ≡ idle.old.log.aborts }
-    ensures rounds { Rounds P.start P.allowed (seat_from idle.old) (seat_from idle.new) }
+    ensures rounds { Rounds idle.old idle.new result }
 {
     let mut steps = Steps::<L>::open(blank);
     let Place { pass, log } = &mut *idle.place;
-    let _ = round(shared, pass, log, true, &mut steps);
+    round(shared, pass, log, true, &mut steps)
 }
 
 // Makes room: nothing below `low` live slots, a round below `high`, and else a tidy.
@@ -63,10 +68,10 @@ pub(crate) fn made_room<P: Protocol, L: Ledger>(
     ensures lawful { IsSeat P.start P.allowed (seat_from idle.new) }
     ensures aborts { idle.new.log.aborts ≡ idle.old.log.aborts }
     ensures prepares { Prepares (seat_from idle.old) (seat_from idle.new) }
-    ensures room { MakesRoom P.start P.allowed (seat_from idle.old) (seat_from idle.new) }
+    ensures room { MakesRoom idle.old idle.new }
     ensures enough { result ≡ Enough → (seat_from idle.new).write_max ≤ (seat_from idle.new).spare }
     ensures short { (holder : Holder) → result ≡ Short holder → ((seat_from idle.new).spare < (seat_from idle.new).write_max)
-        × HoldsBack P.start P.allowed (seat_from idle.old) (seat_from idle.new) holder }
+        × HoldsBack idle.old idle.new holder × HoldsSeat P.start P.allowed (seat_from idle.old) (seat_from idle.new) holder }
     ensures alone { seats_of (seat_from idle.old) ≡ 1 → IsEarly (seat_from idle.old) → result ≡ Enough }
     ensures ends { (holder : Holder) → seats_of (seat_from idle.old) ≡ 1 → result ≡ Short holder → holder ≡ End }
 {
@@ -76,7 +81,7 @@ pub(crate) fn made_room<P: Protocol, L: Ledger>(
         return Room::Enough;
     }
     if used < config.high {
-        rounded::<P, L>(shared, idle, blank);
+        let _ = rounded::<P, L>(shared, idle, blank);
         return Room::Enough;
     }
     let left = tidied::<P, L>(shared, idle, blank);

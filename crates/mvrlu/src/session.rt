@@ -167,7 +167,7 @@ impl<'d, P: Protocol> Section for Session<'d, P> {
         ensures log_full_only { result ≡ LogFull → ⟦<Session<'d, P> as Section>⟧.may_refuse }
         ensures alone { seats_of (section_of self.old).seat ≡ 1 → ((seat : ℕ) → result ≢ IsTaken seat) × ((time : ℕ) → result ≢ Stale time) }
         ensures aborts { aborts_before self.new ≡ aborts_before self.old }
-        ensures bound { MakesAtMost (section_of self.old).seat (section_of self.new).seat 32 }
+        ensures bound { MakesAtMost (section_of self.old).seat (section_of self.new).seat 24 }
     {
         let domain = self.domain;
         let part = &mut self.part;

@@ -24,11 +24,11 @@ pub cleared_lost_bound : (a b d e : ℕ) → b ≡ a + 1 → d ≡ b + 1 → e �
 cleared_lost_bound a b d e one next two = omega arith
 
 -- both parts
-pub both_bound : (a b d : ℕ) → b ≤ a + 19 → d ≤ b + 5 → d ≤ a + 32
+pub both_bound : (a b d : ℕ) → b ≤ a + 19 → d ≤ b + 5 → d ≤ a + 24
 both_bound a b d begun ended = omega arith
 
 -- the first part alone
-pub begun_bound : (a b : ℕ) → b ≤ a + 19 → b ≤ a + 32
+pub begun_bound : (a b : ℕ) → b ≤ a + 19 → b ≤ a + 24
 begun_bound a b begun = omega arith
 
 -- a log that holds fewer than it may holds no more than it may with one more

@@ -16,7 +16,7 @@
 //! steps: `Busy` in the last three of them, which found HEAD naming another log's version and its
 //! stamp unset; `Stale` in a later commit of the object, which was seen. That no commit after the
 //! section's time writes what it holds is known of every pass (`KnownSection` of `mv_core`). It makes
-//! at most 32 steps, waits for nothing and takes no memory; the trail has a record for each step,
+//! at most 24 steps, waits for nothing and takes no memory; the trail has a record for each step,
 //! and none is an exchange on CLOCK. At most two are exchanges of HEAD, the second only after the first
 //! found a chain that was cut. `write` gives a held object other words, in what is held alone,
 //! in six steps; it never refuses.

@@ -253,7 +253,7 @@ pub fn lock_end<P: Protocol, L: Ledger>(
 ///   the log has one free slot less.
 ///
 /// After a refusal the section holds what it held, and the log has as many free slots. The log's count
-/// of aborts stays in any case. It makes at most 32 steps, and tries at most two exchanges on HEAD; the
+/// of aborts stays in any case. It makes at most 24 steps, and tries at most two exchanges on HEAD; the
 /// second comes only where the first found a chain that was cut meanwhile.
 pub fn lock<P: Protocol, L: Ledger>(
     shared: &Shared<P>,
@@ -280,7 +280,7 @@ pub fn lock<P: Protocol, L: Ledger>(
         → LockAnswers (config_of shared.now) (view pass.old) (view pass.new) object result }
     ensures refused { result ≢ Held → KeepsOwn (config_of shared.now) (view pass.old) (view pass.new) }
     ensures aborts { log.new.aborts ≡ log.old.aborts }
-    ensures bound { steps.new ≤ steps.old + 32 }
+    ensures bound { steps.new ≤ steps.old + 24 }
 {
     match lock_start(shared, pass, log, object, steps) {
         Ok(started) => lock_end(shared, pass, log, started, steps),

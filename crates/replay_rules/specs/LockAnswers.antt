@@ -9,7 +9,7 @@ use Rattle.mv_core.specs.Rings.{own_of, spare_count}
 use Rattle.object_lock.specs.Locks.{LockAnswers, TriesFew, KeepsOwn}
 use Rattle.object_lock.specs.Writes.{Stores}
 
--- A lock of an object that is held does nothing. Else it answers with its cause, makes at most 32 steps and tries few exchanges of HEAD; a
+-- A lock of an object that is held does nothing. Else it answers with its cause, makes at most 24 steps and tries few exchanges of HEAD; a
 -- refusal leaves what is held.
 pub record LocksSo (c : Config) (v w : View) (object : ℕ) (answer : LockAnswer) : Type 0 where
   pub again : touches (own_of c v.ring) object ≡ true → (answer ≡ Held) × (w ≡ v)
@@ -17,7 +17,7 @@ pub record LocksSo (c : Config) (v w : View) (object : ℕ) (answer : LockAnswer
   pub refused : answer ≢ Held → KeepsOwn c v w
   pub made : ℕ
   pub tries : TriesFew c v w object 0 made
-  pub few : made ≤ 32
+  pub few : made ≤ 24
 
 -- A write gives the held object these words, in what is held alone, by six stores.
 pub record WritesSo (c : Config) (v w : View) (object : ℕ) (words : List ℕ) : Type 0 where

@@ -1,8 +1,7 @@
 -- What one round leaves of a seat.
-use Rattle.std.proofs.Common.{◌≡◌, ◌⊎◌, ℕ, ◌+◌, ◌*◌, ◌≤◌, true, false, List, [], length, drop, refl, sym, ap, subst, inl, inr, arith, Option, Some, None}
+use Rattle.std.proofs.Common.{◌≡◌, ℕ, ◌+◌, ◌*◌, ◌≤◌, true, false, List, [], length, drop, sym, ap, subst}
 use Rattle.mv_history.specs.State.{State, Writes}
 use Rattle.mv_history.specs.declared.Step.{Step}
-use Rattle.mv_history.specs.declared.answers.Holder.{Holder}
 use Rattle.mv_history.specs.Trail.{clock_exchanges}
 use Rattle.mv_layout.specs.declared.Config.{Config}
 use Rattle.mv_core.specs.declared.view.View.{View}
@@ -13,9 +12,9 @@ use Rattle.log_reclaim.specs.declared.rounds.Tidy.{Tidy}
 use Rattle.log_reclaim.specs.Parts.{Reclaims, Shrinks}
 use Rattle.log_reclaim.specs.Holders.{RoundHolds, HeldSo}
 use Rattle.log_reclaim.specs.Rounds.{FreesFirst, SweptSo}
-use Rattle.mvrlu.specs.Placed.{Placed, seat_from, IsIdle}
-use Rattle.mvrlu.specs.Holding.{HoldsInRound, IsEmpty, Rounds}
-use Rattle.mvrlu.proofs.rooms.Left.{trail_is, idle_after, prepared, spare_is, live_is, some_step, few_steps}
+use Rattle.mvrlu.specs.Placed.{Placed, IsIdle}
+use Rattle.mvrlu.specs.Holding.{Rounds}
+use Rattle.mvrlu.proofs.rooms.Left.{trail_is, idle_after, prepared, freed_is, spare_is, some_step, few_steps}
 
 -- what a round with write-backs has told of the views and logs before and after it
 pub record HasRounded (c : Config) (v w : View) (l m : Noted) (t : Tidy) : Type 0 where
@@ -25,7 +24,9 @@ pub record HasRounded (c : Config) (v w : View) (l m : Noted) (t : Tidy) : Type 
   pub shrinks : Shrinks l m t.freed
   pub rests : w.past.rests ≡ v.past.rests
   pub reclaims : Reclaims v w made
+  pub swept : SweptSo c w m made true
   pub held : HeldSo (RoundHolds c w m made true) m t.held
+  pub exchanges : clock_exchanges made ≡ []
   pub first : FreesFirst c l made false
   pub trail : length w.trail ≤ length v.trail + (4 + c.seats + 20 * c.slots)
 
@@ -43,7 +44,9 @@ has_rounded c d is v w l m t stands live shrinks rests r trail =
       shrinks = shrinks;
       rests = rests;
       reclaims = r.1;
+      swept = r.2;
       held = r.3;
+      exchanges = r.4;
       first = r.5;
       trail = trail;
     })
@@ -60,26 +63,21 @@ module _ (starts : State → Type 0) (allows : List ℕ → State → Writes →
   steps_is : drop (length p.view.trail) q.view.trail ≡ k.made
   steps_is = trail_is starts allows p q k.made config table idle k.reclaims known k.stands
 
-  holds : (held : Option Holder) → HeldSo (RoundHolds q.config q.view q.log k.made true) q.log held
-      → IsEmpty (seat_from q) ⊎ ((holder : Holder) × HoldsInRound starts allows (seat_from p) (seat_from q) holder)
-  holds None h =
-      let all = live_is starts allows p q k.made config table idle k.reclaims known k.stands (length q.log.live) refl in inl (omega arith)
-  holds (Some holder) h =
-      inr (
-        holder,
-        record {
-          placed = q;
-          seat = refl;
-          idle = rounded_idle;
-          cause = subst (λ (s : List Step). RoundHolds q.config q.view q.log s true holder) (sym steps_is) h.1;
-        },
-      )
+  -- what is said of the call's own steps, by those that it made
+  by_steps : (So : List Step → Type 0) → So k.made → So (drop (length p.view.trail) q.view.trail)
+  by_steps So so = subst So (sym steps_is) so
 
-  pub rounds : Rounds starts allows (seat_from p) (seat_from q)
+  pub rounds : Rounds p q t
   rounds = record {
     prepares = prepared starts allows p q k.made config table idle k.reclaims known k.stands;
-    spare = (let is = spare_is starts allows p q k.made config table idle k.reclaims known k.stands t.freed k.shrinks in omega arith);
-    held = holds t.held k.held;
+    freed = freed_is starts allows p q k.made config table idle k.reclaims known k.stands t.freed k.shrinks;
+    spare = spare_is starts allows p q k.made config table idle k.reclaims known k.stands t.freed k.shrinks;
+    live = k.live;
+    shrinks = k.shrinks;
+    frees_first = by_steps (λ s. FreesFirst q.config p.log s false) k.first;
+    swept = by_steps (λ s. SweptSo q.config q.view q.log s true) k.swept;
+    held = by_steps (λ s. HeldSo (RoundHolds q.config q.view q.log s true) q.log t.held) k.held;
+    exchanges = by_steps (λ s. clock_exchanges s ≡ []) k.exchanges;
     rests = k.rests;
     some = some_step starts allows p q k.made config table idle k.reclaims known k.stands false k.first;
     steps = few_steps starts allows p q k.made config table idle k.reclaims known k.stands (4 + q.config.seats + 20 * q.config.slots) k.trail;

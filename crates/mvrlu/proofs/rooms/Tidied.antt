@@ -1,5 +1,5 @@
 -- What a tidy leaves of a seat, and that nothing but the end of time holds a log in a domain of one seat.
-use Rattle.std.proofs.Common.{◌≡◌, ℕ, ◌+◌, ◌*◌, ◌<◌, ◌≤◌, true, false, List, [], length, drop, refl, sym, ap, ◌∙◌, subst, ⊎_elim, arith, Option, Some, None}
+use Rattle.std.proofs.Common.{◌≡◌, ℕ, ◌+◌, ◌*◌, ◌<◌, ◌≤◌, true, false, List, [], length, drop, refl, sym, ap, ◌∙◌, subst, ⊎_elim, arith, Some}
 use Rattle.std.proofs.lemmas.Bool.{cases_lt}
 use Rattle.std.proofs.lemmas.Option.{slice_get_within}
 use Rattle.mv_history.specs.State.{State, Writes}
@@ -19,7 +19,7 @@ use Rattle.log_reclaim.specs.Rounds.{FreesFirst, SweptSo}
 use Rattle.log_reclaim.specs.Tidies.{RestsOnce, RestsWhereDue, WritesBackSo}
 use Rattle.log_reclaim.proofs.EndCause.{time_in_range}
 use Rattle.mvrlu.specs.Placed.{Placed, seat_from, IsIdle}
-use Rattle.mvrlu.specs.Holding.{HoldsBack, IsHolderOf, Tidies, TidiesAlone}
+use Rattle.mvrlu.specs.Holding.{Tidies, TidiesAlone}
 use Rattle.mvrlu.proofs.rooms.Left.{trail_is, idle_after, prepared, freed_is, spare_is, live_is, some_step, few_steps}
 
 -- what a tidy has told of the views and logs before and after it
@@ -30,9 +30,12 @@ pub record HasTidied (c : Config) (v w : View) (l m : Noted) (t : Tidy) : Type 0
   pub shrinks : Shrinks l m t.freed
   pub rests : RestsOnce v w
   pub reclaims : Reclaims v w made
+  pub swept : SweptSo c w m made false
   pub held : HeldSo (TidyHolds c w m made) m t.held
   pub exchanges : length (clock_exchanges made) ≤ 1
+  pub writes_back : WritesBackSo c w m made
   pub first : FreesFirst c l made true
+  pub rests_due : RestsWhereDue c w l made
   pub trail : length w.trail ≤ length v.trail + (2 * (4 + c.seats + 20 * c.slots) + 8)
   pub fresh : (time : ℕ) → t.held ≡ Some (Fresh time) → v.base + length v.past.seen < time
   pub alone : c.seats ≡ 1 → v.base + length v.past.seen < 35184372088831 → m.live ≡ []
@@ -53,9 +56,12 @@ has_tidied c d is v w l m t stands live shrinks rests r trail fresh alone =
       shrinks = shrinks;
       rests = rests;
       reclaims = r.1;
+      swept = r.2;
       held = r.3;
       exchanges = r.4;
+      writes_back = r.5;
       first = r.6;
+      rests_due = r.7;
       trail = trail;
       fresh = fresh;
       alone = alone;
@@ -73,31 +79,26 @@ module _ (starts : State → Type 0) (allows : List ℕ → State → Writes →
   steps_is : drop (length p.view.trail) q.view.trail ≡ k.made
   steps_is = trail_is starts allows p q k.made config table idle k.reclaims known k.stands
 
-  holds : (held : Option Holder) (live : ℕ) → HeldSo (TidyHolds q.config q.view q.log k.made) q.log held → live ≡ length q.log.live
-      → ((time : ℕ) → held ≡ Some (Fresh time) → p.view.base + length p.view.past.seen < time)
-      → IsHolderOf (HoldsBack starts allows (seat_from p) (seat_from q)) live held
-  holds None live h is fresh = omega arith
-  holds (Some holder) live h is fresh =
-      let some = h.0 in (
-        omega arith,
-        record {
-          placed = q;
-          seat = refl;
-          idle = tidied_idle;
-          cause = subst (λ (s : List Step). TidyHolds q.config q.view q.log s holder) (sym steps_is) h.1;
-          fresh = λ time e. fresh time (ap Some e);
-        },
-      )
+  -- what is said of the call's own steps, by those that it made
+  by_steps : (So : List Step → Type 0) → So k.made → So (drop (length p.view.trail) q.view.trail)
+  by_steps So so = subst So (sym steps_is) so
 
-  pub tidies : Tidies starts allows (seat_from p) (seat_from q) t
+  pub tidies : Tidies p q t
   tidies = record {
     prepares = prepared starts allows p q k.made config table idle k.reclaims known k.stands;
     freed = freed_is starts allows p q k.made config table idle k.reclaims known k.stands t.freed k.shrinks;
     spare = spare_is starts allows p q k.made config table idle k.reclaims known k.stands t.freed k.shrinks;
-    live = live_is starts allows p q k.made config table idle k.reclaims known k.stands t.live k.live;
-    held = holds t.held t.live k.held k.live k.fresh;
+    live = k.live;
+    room = live_is starts allows p q k.made config table idle k.reclaims known k.stands t.live k.live;
+    shrinks = k.shrinks;
+    frees_first = by_steps (λ s. FreesFirst q.config p.log s true) k.first;
+    writes_back = by_steps (λ s. WritesBackSo q.config q.view q.log s) k.writes_back;
+    rests_due = by_steps (λ s. RestsWhereDue q.config q.view p.log s) k.rests_due;
+    swept = by_steps (λ s. SweptSo q.config q.view q.log s false) k.swept;
+    held = by_steps (λ s. HeldSo (TidyHolds q.config q.view q.log s) q.log t.held) k.held;
+    fresh = k.fresh;
     rests = k.rests;
-    exchanges = subst (λ (s : List Step). length (clock_exchanges s) ≤ 1) (sym steps_is) k.exchanges;
+    exchanges = by_steps (λ s. length (clock_exchanges s) ≤ 1) k.exchanges;
     some = some_step starts allows p q k.made config table idle k.reclaims known k.stands true k.first;
     steps = few_steps starts allows p q k.made config table idle k.reclaims known k.stands (2 * (4 + q.config.seats + 20 * q.config.slots) + 8) k.trail;
   }

@@ -20,7 +20,7 @@ returns-then-used-config-clause-room g c =
     let is = subst (λ (x : Placed). IsPlaced g.P.Protocol.start g.P.Protocol.allowed x) c.idle.view_is c.idle.invariant.placed in
     let view_is = lent_view c.deref.result.now c.idle.inside.place.value c.deref.ensures _ c.idle.view_is in
     let live = c.live-used.ensures ∙ ap (λ (x : Placed). length x.log.live) view_is in
-    made_nothing g.P.Protocol.start g.P.Protocol.allowed c.args.shared.now c.args.idle.now _ _ is c.requires.fits c.config-config.ensures live
+    made_nothing c.args.shared.now c.args.idle.now _ _ is.stands c.requires.fits c.config-config.ensures live
     c.if-used-config.true
 
 pub returns-then-used-config-clause-enough : goal.returns-then-used-config-clause-enough
@@ -28,7 +28,7 @@ returns-then-used-config-clause-enough g c _ =
     let is = subst (λ (x : Placed). IsPlaced g.P.Protocol.start g.P.Protocol.allowed x) c.idle.view_is c.idle.invariant.placed in
     let view_is = lent_view c.deref.result.now c.idle.inside.place.value c.deref.ensures _ c.idle.view_is in
     let live = c.live-used.ensures ∙ ap (λ (x : Placed). length x.log.live) view_is in
-    room_left g.P.Protocol.start g.P.Protocol.allowed c.args.shared.now c.args.idle.now _ _ is c.requires.fits c.config-config.ensures live
+    room_left c.args.shared.now c.args.idle.now _ _ is.stands c.requires.fits c.config-config.ensures live
     c.if-used-config.true
 
 pub returns-then-used-config-clause-prepares : goal.returns-then-used-config-clause-prepares
@@ -49,16 +49,16 @@ returns-then-used-config-2-clause-room g c =
     let is = subst (λ (x : Placed). IsPlaced g.P.Protocol.start g.P.Protocol.allowed x) c.idle.view_is c.idle.invariant.placed in
     let view_is = lent_view c.deref.result.now c.idle.inside.place.value c.deref.ensures _ c.idle.view_is in
     let live = c.live-used.ensures ∙ ap (λ (x : Placed). length x.log.live) view_is in
-    made_round g.P.Protocol.start g.P.Protocol.allowed c.args.shared.now c.args.idle.now _ _ is c.requires.fits c.config-config.ensures live
-    (seat_from c.rounded.new.idle) c.rounded.ensures.rounds c.if-used-config.false c.if-used-config-2.true
+    made_round c.args.shared.now c.args.idle.now _ _ is.stands c.requires.fits c.config-config.ensures live
+    c.rounded.new.idle c.rounded.result c.rounded.ensures.rounds c.if-used-config.false c.if-used-config-2.true
 
 pub returns-then-used-config-2-clause-enough : goal.returns-then-used-config-2-clause-enough
 returns-then-used-config-2-clause-enough g c _ =
     let is = subst (λ (x : Placed). IsPlaced g.P.Protocol.start g.P.Protocol.allowed x) c.idle.view_is c.idle.invariant.placed in
     let view_is = lent_view c.deref.result.now c.idle.inside.place.value c.deref.ensures _ c.idle.view_is in
     let live = c.live-used.ensures ∙ ap (λ (x : Placed). length x.log.live) view_is in
-    room_after_round g.P.Protocol.start g.P.Protocol.allowed c.args.shared.now c.args.idle.now _ _ is c.requires.fits c.config-config.ensures live
-    (seat_from c.rounded.new.idle) c.rounded.ensures.rounds c.if-used-config-2.true
+    room_after_round c.args.shared.now c.args.idle.now _ _ is.stands c.requires.fits c.config-config.ensures live
+    c.rounded.new.idle c.rounded.result c.rounded.ensures.rounds c.if-used-config-2.true
 
 pub returns-then-used-config-2-clause-short : goal.returns-then-used-config-2-clause-short
 returns-then-used-config-2-clause-short g c holder e = absurd (none_named holder e)
@@ -75,24 +75,25 @@ returns-in-Some-clause-room g c =
     let is = subst (λ (x : Placed). IsPlaced g.P.Protocol.start g.P.Protocol.allowed x) c.idle.view_is c.idle.invariant.placed in
     let view_is = lent_view c.deref.result.now c.idle.inside.place.value c.deref.ensures _ c.idle.view_is in
     let live = c.live-used.ensures ∙ ap (λ (x : Placed). length x.log.live) view_is in
-    made_tidy g.P.Protocol.start g.P.Protocol.allowed c.args.shared.now c.args.idle.now _ _ is c.requires.fits c.config-config.ensures live
-    (seat_from c.tidied-left.new.idle) c.tidied-left.result c.tidied-left.ensures.tidies c.if-used-config.false c.if-used-config-2.false
+    made_tidy c.args.shared.now c.args.idle.now _ _ is.stands c.requires.fits c.config-config.ensures live
+    c.tidied-left.new.idle c.tidied-left.result c.tidied-left.ensures.tidies c.if-used-config.false c.if-used-config-2.false
 
 pub returns-in-Some-clause-short : goal.returns-in-Some-clause-short
 returns-in-Some-clause-short g c other e =
     let is = subst (λ (x : Placed). IsPlaced g.P.Protocol.start g.P.Protocol.allowed x) c.idle.view_is c.idle.invariant.placed in
     let view_is = lent_view c.deref.result.now c.idle.inside.place.value c.deref.ensures _ c.idle.view_is in
     let live = c.live-used.ensures ∙ ap (λ (x : Placed). length x.log.live) view_is in
-    short_by g.P.Protocol.start g.P.Protocol.allowed c.args.shared.now c.args.idle.now _ _ is c.requires.fits c.config-config.ensures live
-    (seat_from c.tidied-left.new.idle) c.tidied-left.result c.tidied-left.ensures.tidies c.in-Some.holder other c.in-Some.is c.if-config-left.true e
+    short_by c.args.shared.now c.args.idle.now _ _ is.stands c.requires.fits c.config-config.ensures live
+    c.tidied-left.new.idle c.tidied-left.result c.tidied-left.ensures.tidies
+    g.P.Protocol.start g.P.Protocol.allowed c.tidied-left.ensures.places c.in-Some.holder other c.in-Some.is c.if-config-left.true e
 
 pub returns-in-Some-clause-alone : goal.returns-in-Some-clause-alone
 returns-in-Some-clause-alone g c one early =
     let is = subst (λ (x : Placed). IsPlaced g.P.Protocol.start g.P.Protocol.allowed x) c.idle.view_is c.idle.invariant.placed in
     let view_is = lent_view c.deref.result.now c.idle.inside.place.value c.deref.ensures _ c.idle.view_is in
     let live = c.live-used.ensures ∙ ap (λ (x : Placed). length x.log.live) view_is in
-    not_alone g.P.Protocol.start g.P.Protocol.allowed c.args.shared.now c.args.idle.now _ _ is c.requires.fits c.config-config.ensures live
-    (seat_from c.tidied-left.new.idle) c.tidied-left.result c.tidied-left.ensures.tidies
+    not_alone c.args.shared.now c.args.idle.now _ _ is.stands c.requires.fits c.config-config.ensures live
+    c.tidied-left.new.idle c.tidied-left.result c.tidied-left.ensures.tidies
     c.if-config-left.true (c.tidied-left.ensures.alone one) early c.in-Some.holder
 
 pub returns-in-Some-clause-ends : goal.returns-in-Some-clause-ends
@@ -104,8 +105,8 @@ overflow_sub-config g c =
     let is = subst (λ (x : Placed). IsPlaced g.P.Protocol.start g.P.Protocol.allowed x) c.idle.view_is c.idle.invariant.placed in
     let view_is = lent_view c.deref.result.now c.idle.inside.place.value c.deref.ensures _ c.idle.view_is in
     let live = c.live-used.ensures ∙ ap (λ (x : Placed). length x.log.live) view_is in
-    live_within g.P.Protocol.start g.P.Protocol.allowed c.args.shared.now c.args.idle.now _ _ is c.requires.fits c.config-config.ensures live
-    (seat_from c.tidied-left.new.idle) c.tidied-left.result c.tidied-left.ensures.tidies
+    live_within c.args.shared.now c.args.idle.now _ _ is.stands c.requires.fits c.config-config.ensures live
+    c.tidied-left.new.idle c.tidied-left.result c.tidied-left.ensures.tidies
 
 pub returns-in-Some-clause-enough : goal.returns-in-Some-clause-enough
 returns-in-Some-clause-enough g c e = absurd (none_named c.in-Some.holder (sym e))
@@ -116,16 +117,16 @@ returns-in_default-clause-room g c =
     let is = subst (λ (x : Placed). IsPlaced g.P.Protocol.start g.P.Protocol.allowed x) c.idle.view_is c.idle.invariant.placed in
     let view_is = lent_view c.deref.result.now c.idle.inside.place.value c.deref.ensures _ c.idle.view_is in
     let live = c.live-used.ensures ∙ ap (λ (x : Placed). length x.log.live) view_is in
-    made_tidy g.P.Protocol.start g.P.Protocol.allowed c.args.shared.now c.args.idle.now _ _ is c.requires.fits c.config-config.ensures live
-    (seat_from c.tidied-left.new.idle) c.tidied-left.result c.tidied-left.ensures.tidies c.if-used-config.false c.if-used-config-2.false
+    made_tidy c.args.shared.now c.args.idle.now _ _ is.stands c.requires.fits c.config-config.ensures live
+    c.tidied-left.new.idle c.tidied-left.result c.tidied-left.ensures.tidies c.if-used-config.false c.if-used-config-2.false
 
 pub returns-in_default-clause-enough : goal.returns-in_default-clause-enough
 returns-in_default-clause-enough g c _ =
     let is = subst (λ (x : Placed). IsPlaced g.P.Protocol.start g.P.Protocol.allowed x) c.idle.view_is c.idle.invariant.placed in
     let view_is = lent_view c.deref.result.now c.idle.inside.place.value c.deref.ensures _ c.idle.view_is in
     let live = c.live-used.ensures ∙ ap (λ (x : Placed). length x.log.live) view_is in
-    room_for g.P.Protocol.start g.P.Protocol.allowed c.args.shared.now c.args.idle.now _ _ is c.requires.fits c.config-config.ensures live
-    (seat_from c.tidied-left.new.idle) c.tidied-left.result c.tidied-left.ensures.tidies c.if-config-left.false
+    room_for c.args.shared.now c.args.idle.now _ _ is.stands c.requires.fits c.config-config.ensures live
+    c.tidied-left.new.idle c.tidied-left.result c.tidied-left.ensures.tidies c.if-config-left.false
 
 pub returns-in_default-clause-short : goal.returns-in_default-clause-short
 returns-in_default-clause-short g c holder e = absurd (none_named holder e)
@@ -142,16 +143,16 @@ returns-in_default-2-clause-room g c =
     let is = subst (λ (x : Placed). IsPlaced g.P.Protocol.start g.P.Protocol.allowed x) c.idle.view_is c.idle.invariant.placed in
     let view_is = lent_view c.deref.result.now c.idle.inside.place.value c.deref.ensures _ c.idle.view_is in
     let live = c.live-used.ensures ∙ ap (λ (x : Placed). length x.log.live) view_is in
-    made_tidy g.P.Protocol.start g.P.Protocol.allowed c.args.shared.now c.args.idle.now _ _ is c.requires.fits c.config-config.ensures live
-    (seat_from c.tidied-left.new.idle) c.tidied-left.result c.tidied-left.ensures.tidies c.if-used-config.false c.if-used-config-2.false
+    made_tidy c.args.shared.now c.args.idle.now _ _ is.stands c.requires.fits c.config-config.ensures live
+    c.tidied-left.new.idle c.tidied-left.result c.tidied-left.ensures.tidies c.if-used-config.false c.if-used-config-2.false
 
 pub returns-in_default-2-clause-enough : goal.returns-in_default-2-clause-enough
 returns-in_default-2-clause-enough g c _ =
     let is = subst (λ (x : Placed). IsPlaced g.P.Protocol.start g.P.Protocol.allowed x) c.idle.view_is c.idle.invariant.placed in
     let view_is = lent_view c.deref.result.now c.idle.inside.place.value c.deref.ensures _ c.idle.view_is in
     let live = c.live-used.ensures ∙ ap (λ (x : Placed). length x.log.live) view_is in
-    room_of_empty g.P.Protocol.start g.P.Protocol.allowed c.args.shared.now c.args.idle.now _ _ is c.requires.fits c.config-config.ensures live
-    (seat_from c.tidied-left.new.idle) c.tidied-left.result c.tidied-left.ensures.tidies c.in_default.is
+    room_of_empty c.args.shared.now c.args.idle.now _ _ is.stands c.requires.fits c.config-config.ensures live
+    c.tidied-left.new.idle c.tidied-left.result c.tidied-left.ensures.tidies c.in_default.is
 
 pub returns-in_default-2-clause-short : goal.returns-in_default-2-clause-short
 returns-in_default-2-clause-short g c holder e = absurd (none_named holder e)

@@ -1,6 +1,6 @@
 use Rattle.std.proofs.Common.{◌≡◌, sym, ap, ◌∙◌, subst}
 use Rattle.mv_core.specs.Passes.{config_of, view}
-use Rattle.mvrlu.specs.Placed.{Placed, placed, seat_from, Fits}
+use Rattle.mvrlu.specs.Placed.{Placed, placed, Fits}
 use Rattle.mvrlu.specs.Holding.{Rounds}
 use Rattle.mvrlu.proofs.Names.{fits_config, fits_pass, fits_on}
 use Rattle.mvrlu.proofs.Lawful.{seat_lawful}
@@ -55,7 +55,7 @@ returns-clause-rounds g c =
     let k = has_rounded (config_of c.args.shared.now) q.config (same ∙ sym e.same.2) p.view q.view p.log q.log c.round.result e.stands e.live
     e.shrinks e.rests e.reclaims
     e.trail in
-    subst (λ (x : Placed). Rounds g.P.Protocol.start g.P.Protocol.allowed (seat_from x) (seat_from q)) view_is
+    subst (λ (x : Placed). Rounds x q c.round.result) view_is
     (rounds g.P.Protocol.start g.P.Protocol.allowed p q c.round.result e.same.2 e.same.0 is c.round.new.pass.known k)
 
 pub returns-clause-fits : goal.returns-clause-fits

@@ -1,7 +1,7 @@
 use Rattle.std.proofs.Common.{◌≡◌, sym, ap, ◌∙◌, subst}
 use Rattle.mv_layout.specs.declared.Config.{Config}
 use Rattle.mv_core.specs.Passes.{config_of, view}
-use Rattle.mvrlu.specs.Placed.{Placed, placed, seat_from, Fits}
+use Rattle.mvrlu.specs.Placed.{Placed, placed, seat_from, IsIdle, Fits}
 use Rattle.mvrlu.specs.Holding.{Tidies, TidiesAlone}
 use Rattle.mvrlu.proofs.Names.{fits_config, fits_pass, fits_on}
 use Rattle.mvrlu.proofs.Lawful.{seat_lawful}
@@ -42,6 +42,23 @@ returns-clause-lawful g c =
     seat_lawful g.P.Protocol.start g.P.Protocol.allowed g.P.Protocol.one_start g.P.Protocol.one_allowed q
     (tidied_idle g.P.Protocol.start g.P.Protocol.allowed p q c.tidy.result e.same.2 e.same.0 is c.tidy.new.pass.known k).placed
 
+pub returns-clause-places : goal.returns-clause-places
+returns-clause-places g c =
+    let i = c.deref_mut.result.now in
+    let is = lent_idle i c.idle.inside.place.value c.deref_mut.ensures.value g.P.Protocol.start g.P.Protocol.allowed c.idle.invariant in
+    let view_is = lent_view i c.idle.inside.place.value c.deref_mut.ensures.value _ c.idle.view_is in
+    let e = c.tidy.ensures in
+    let p = placed i.pass i.log in
+    let q = placed c.tidy.new.pass c.tidy.new.log in
+    let same : config_of c.args.shared.now ≡ i.pass.domain =
+    fits_config c.args.shared.now c.args.idle.now c.requires.fits ∙ ap (λ (x : Placed). x.config) (sym view_is) in
+    let k = has_tidied (config_of c.args.shared.now) q.config (same ∙ sym e.same.2) p.view q.view p.log q.log c.tidy.result e.stands e.live
+    e.shrinks e.rests e.reclaims
+    e.trail e.fresh e.alone in (
+      subst (IsIdle g.P.Protocol.start g.P.Protocol.allowed) view_is is,
+      tidied_idle g.P.Protocol.start g.P.Protocol.allowed p q c.tidy.result e.same.2 e.same.0 is c.tidy.new.pass.known k,
+    )
+
 pub returns-clause-tidies : goal.returns-clause-tidies
 returns-clause-tidies g c =
     let i = c.deref_mut.result.now in
@@ -55,7 +72,7 @@ returns-clause-tidies g c =
     let k = has_tidied (config_of c.args.shared.now) q.config (same ∙ sym e.same.2) p.view q.view p.log q.log c.tidy.result e.stands e.live
     e.shrinks e.rests e.reclaims
     e.trail e.fresh e.alone in
-    subst (λ (x : Placed). Tidies g.P.Protocol.start g.P.Protocol.allowed (seat_from x) (seat_from q) c.tidy.result) view_is
+    subst (λ (x : Placed). Tidies x q c.tidy.result) view_is
     (tidies g.P.Protocol.start g.P.Protocol.allowed p q c.tidy.result e.same.2 e.same.0 is c.tidy.new.pass.known k)
 
 pub returns-clause-alone : goal.returns-clause-alone

@@ -73,7 +73,7 @@ module _ (o : ℕ) (c : Config) (k : Checked c) (n : ℕ) (lt : n < c.seats) (ma
   }
 
   -- won: the section holds the object too
-  won_by : (most : ℕ) (tried : List Step) → HasDone c u v version.object most tried → most < 32 → AreFew c version.object (tried ++ won_step ∷ [])
+  won_by : (most : ℕ) (tried : List Step) → HasDone c u v version.object most tried → most < 24 → AreFew c version.object (tried ++ won_step ∷ [])
       → LocksSo c u won version.object refusals.Held
   won_by most tried done le few =
       let f = facts c k n made each in

@@ -35,7 +35,7 @@ refusal_says c v w o SetFull room cause = absurd cause
 refusal_says c v w o LogFull room cause = absurd cause
 
 -- a lock that is refused
-refused_so : (c : Config) (v w : View) (o most : ℕ) (tried : List Step) (answer : LockAnswer) → HasDone c v w o most tried → most ≤ 32 → AreFew c o tried
+refused_so : (c : Config) (v w : View) (o most : ℕ) (tried : List Step) (answer : LockAnswer) → HasDone c v w o most tried → most ≤ 24 → AreFew c o tried
     → IsRefused c v w o answer → LocksSo c v w o answer
 refused_so c v w o most tried answer done le few cause =
     let lacks = done.2.lacks in
@@ -78,7 +78,7 @@ same_number c v w o most tried done = ap (λ (z : View). z.number) done.2.tries.
 
 -- A lock that is refused by a version of another seat where its stamp is unset, and is of a later time where it is one.
 pub refusal_so : (Far : Task → Type 0) (c : Config) (v w : View) (p o link first stamp most : ℕ) (tried : List Step) (i : Section) → p ≡ o
-    → HasDone c v w p most tried → most ≤ 32 → AreFew c p tried
+    → HasDone c v w p most tried → most ≤ 24 → AreFew c p tried
     → HasFound c v w p link (first_step c link first ∷ stamp_step c link first stamp ∷ []) → w.phase ≡ Inside i
     → (IsUnset stamp → link_seat_of link ≢ v.number) → (stamp < 2 ^ 63 → (time_in i < stamp) × IsWriteOf c w.past.seen p stamp)
     → Comes Far (AnswersSo c (Lock o) v w) (refusal link stamp)

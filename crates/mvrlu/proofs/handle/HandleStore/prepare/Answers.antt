@@ -2,7 +2,11 @@ use Rattle.mvrlu.proofs.handle.HandleStore.prepare.Goals as goal
 
 -- a handle's sections may refuse
 pub returns-clause-short : goal.returns-clause-short
-returns-clause-short g c holder is = let s = c.made_room.ensures.short holder is in (tt, s.0, s.1)
+returns-clause-short g c holder is = let s = c.made_room.ensures.short holder is in (tt, s.0, s.2)
+
+-- the holder is that of the log that is left
+pub returns-clause-holder : goal.returns-clause-holder
+returns-clause-holder g c holder is = let s = c.made_room.ensures.short holder is in s.1
 
 -- and there is room where that is answered
 pub returns-clause-enough : goal.returns-clause-enough

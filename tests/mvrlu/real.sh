@@ -95,7 +95,8 @@ time.sleep(1)
 text = b"".join(iter(lambda: os.read(out, 1 << 16), b""))
 assert ran.wait() == 0 and text.count(b"\n") == 20001, (ran.returncode, text[-80:])
 PYTHON
-    (ulimit -n 4 && exec "$program" run many many >/dev/null) || fail 'two files are open at a time'
+    python3 -c 'import os, resource, sys; resource.setrlimit(resource.RLIMIT_NOFILE, (4, 4)); os.execv(sys.argv[1], sys.argv[1:])' \
+        "$program" run many many >/dev/null || fail 'two files are open at a time'
     "$top/mvrlu" run many >&- 2>"$scratch/err"
     [ "$?:$(cat "$scratch/err")" = '6:write fault' ] || fail "a closed output: $(cat "$scratch/err")"
     printf 'add l0 5\n' | "$top/mvrlu" run many - >"$scratch/out" || fail "a lone - ends with $?"

@@ -78,11 +78,11 @@ rows_of_what_it_cannot() {
     "$scratch/repository/mvrlu" run good >/dev/full 2>"$scratch/err"
     status=$?
     [ "$status" = 1 ] || fail "a full device, unproved: $status"
-    grep -q '^mvrlu: write fault (No space left on device).*: ./mvrlu build ' "$scratch/err" || fail "a full device: $(cat "$scratch/err")"
+    grep -q '^mvrlu: the text could not be written (No space left on device): ./mvrlu build ' "$scratch/err" || fail "a full device: $(cat "$scratch/err")"
     "$scratch/repository/mvrlu" run good >&- 2>"$scratch/err"
     status=$?
     [ "$status" = 1 ] || fail "a closed output, unproved: $status"
-    grep -q '^mvrlu: write fault (Bad file descriptor).*: ./mvrlu build ' "$scratch/err" || fail "a closed output: $(cat "$scratch/err")"
+    grep -q '^mvrlu: the text could not be written (Bad file descriptor): ./mvrlu build ' "$scratch/err" || fail "a closed output: $(cat "$scratch/err")"
     "$scratch/repository/mvrlu" run good <&- >"$scratch/out" 2>&-
     [ "$?:$(cat "$scratch/out")" = '0:unproved with 2: run 1 and 1=add l0 5;' ] || fail 'other closed streams, unproved'
     env PATH=/nowhere "$(python3 -c 'import sys; print(sys.executable)')" -B "$scratch/repository/tools/front/unproved.py" absent run good 2>"$scratch/err"

@@ -114,8 +114,7 @@ def write_text(text):
         while text:
             text = text[os.write(1, text) :]
     except OSError as error:
-        fault = f"write fault ({error.strerror}), behind which an unproved run has nothing to tell"
-        raise Unanswered(f"{fault}: ./mvrlu build proves and builds the program") from error
+        raise Unanswered(f"the text could not be written ({error.strerror}): ./mvrlu build proves and builds the program") from error
 
 
 def run(words):

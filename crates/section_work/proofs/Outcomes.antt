@@ -1,5 +1,5 @@
 -- What an attempt of a work leaves, from what its calls do.
-use Rattle.std.proofs.Common.{◌≡◌, ◌≢◌, ℕ, ◌+◌, ◌-◌, ◌<◌, ◌≤◌, ◌==◌, inl, inr, Bool, true}
+use Rattle.std.proofs.Common.{◌≡◌, ◌≢◌, ℕ, ◌+◌, ◌-◌, ◌<◌, ◌≤◌, ◌==◌, ◌⊎◌, inl, inr, Bool, true}
 use Rattle.std.proofs.Common.{List, [], ◌∷◌, ◌++◌, length, suc, take}
 use Rattle.std.proofs.Common.{refl, sym, ap, ◌∙◌, subst, arith}
 use Rattle.std.proofs.lemmas.Bool.Decides.{nat_tests}
@@ -7,6 +7,8 @@ use Rattle.mv_history.specs.Legal.{AreWithin}
 use Rattle.mv_history.specs.State.{State, Writes, written, touches, state_after, state_at}
 use Rattle.mv_history.specs.declared.answers.Holder.{Holder}
 use Rattle.mv_history.specs.declared.answers.Rival.{Rival as RivalEntry}
+use Rattle.mv_history.specs.declared.answers.Room.{Room}
+use Rattle.mv_history.specs.declared.answers.Room.TheVariants.{Enough, Short}
 use Rattle.mv_history.specs.Drift.{Drifts, IsFit}
 use Rattle.mv_history.specs.Meaning.{Seat, InSection, Holds, IsSeat, snapshot_of, state_of, state_of_time}
 use Rattle.mv_history.specs.Trail.{commit_exchanges, IsOneLost}
@@ -30,6 +32,7 @@ use Rattle.section_work.specs.Works.{Meaning, IsPlanned, IsFound}
 use Rattle.section_work.specs.declared.work.Decision.{Decision}
 use Rattle.section_work.specs.declared.work.Decision.TheVariants.{Settled, Change}
 use Rattle.section_work.specs.Attempts.{IsDone, IsDoneIn, IsReadAt, IsWhy, GivesUpIn, GivesUp}
+use Rattle.section_work.specs.Steps.{IsPrepared}
 use Rattle.section_work.specs.Attempts.{Attempted, AttemptedIn, HasSpace, NotedOnce, MayNote}
 use Rattle.section_work.specs.declared.attempting.Attempt.{Attempt}
 use Rattle.section_work.specs.declared.attempting.Attempt.TheVariants.{Done, Again}
@@ -93,6 +96,16 @@ space_found most prepared entered found e same le enough = record {
   spare = omega (arith, le, enough, same.seat.spare, e.seat.spare);
   held = omega (arith, le, same.seat.continues.write_max, e.seat.continues.write_max);
 }
+
+-- `prepare` made room, or found a holder
+pub prepared_by : (k : Causes) (old new : Seat) (room : Room) → Prepares old new → (room ≡ Enough → new.write_max ≤ new.spare)
+    → ((holder : Holder) → room ≡ Short holder → k.may_refuse × (new.spare < new.write_max) × k.holds_back old new holder) → IsPrepared k old new
+prepared_by k old new room p enough short = record { prepares = p; room = by room refl }
+  where
+    by : (r : Room) → room ≡ r
+        → (new.write_max ≤ new.spare) ⊎ ((holder : Holder) × k.may_refuse × (new.spare < new.write_max) × k.holds_back old new holder)
+    by Enough e = inl (enough e)
+    by (Short holder) e = let held = short holder e in inr (holder, held.0, held.1, held.2)
 
 -- a section that is not at the last time is before it
 pub early_by : (entered : InSection) (time last : ℕ) → entered.at ≤ length entered.seat.seen

@@ -5,3 +5,4 @@ pub mod Causes
 pub mod Sections
 pub mod Works
 pub mod Attempts
+pub mod Steps

@@ -7,6 +7,7 @@ ghost use Rattle.section_work.specs.Sections.{TriesOne};
 ghost use Rattle.section_work.specs.Causes.{causes};
 ghost use Rattle.section_work.specs.Works.{IsFound, IsPlanned};
 ghost use Rattle.section_work.specs.Attempts.{Attempted, AttemptedIn, HasSpace, IsReadAt, Noted, MayNote};
+ghost use Rattle.section_work.specs.Steps.{IsStepped, Follows, LooksOnce};
 
 use crate::causes::Cause;
 use crate::locking::rewrite;
@@ -24,8 +25,8 @@ pub enum Attempt<R> {
 
 /// Attempts a work in one section of the store, and gives the store back.
 ///
-/// It never waits or tries again by itself, and takes no memory but what the work takes. At the last time it answers by a
-/// second look.
+/// It never waits or tries again by itself, and takes no memory but what the work takes. It enters one section, and a second
+/// one only where its commit found no time left; a work that changes nothing locks nothing.
 ///
 /// - `Done` at a `Place::Commit`: the work changed the state, by one commit of that printed time, in a section that this call
 ///   entered.
@@ -49,6 +50,8 @@ pub fn attempt_work<W: Work, S: Store<Rules = W::Rules>>(
     ensures at_most_one { TriesOne (S.seat_of store) (S.seat_of result.0) }
     ensures knows { W.knows memo.new (S.seat_of result.0) }
     ensures noted { Noted (W.notes work.now) (S.seat_of store) (S.seat_of result.0) memo.old memo.new }
+    ensures steps { let shows = causes S.Open.may_refuse S.Open.has_trail S.took S.holds_back S.Open.found_held S.Open.loaded in
+        IsStepped S.Open.section S.Open.as_before shows (S.seat_of store) (S.seat_of result.0) result.1 }
 {
     let mut store = store;
     let room = store.prepare();
@@ -101,6 +104,8 @@ fn commit<W: Work, S: Store<Rules = W::Rules>>(
     ensures at_most_one { TriesOne (S.Open.section section).seat (S.seat_of result.0) }
     ensures knows { W.knows memo.new (S.seat_of result.0) }
     ensures noted { MayNote (W.notes work.now) (S.Open.section section).seat (S.seat_of result.0) memo.old memo.new }
+    ensures follows { let shows = causes S.Open.may_refuse S.Open.has_trail S.took S.holds_back S.Open.found_held S.Open.loaded in
+        Follows S.Open.section S.Open.as_before shows section (S.seat_of result.0) result.1 }
 {
     let mut section = section;
     if let Err(refusal) = rewrite(&mut section, W::writes(&plan)) {
@@ -137,6 +142,9 @@ fn look_at_last<W: Work, S: Store<Rules = W::Rules>>(
     ensures continues { Continues (S.seat_of store) (S.seat_of result.0) }
     ensures knows { W.knows memo.new (S.seat_of result.0) }
     ensures noted { MayNote (W.notes work.now) (S.seat_of store) (S.seat_of result.0) memo.old memo.new }
+    ensures looks { let shows = causes S.Open.may_refuse S.Open.has_trail S.took S.holds_back S.Open.found_held S.Open.loaded in
+        LooksOnce S.Open.section S.Open.as_before shows (S.seat_of store) (S.seat_of result.0) result.2 }
+    ensures last { result.2 ≡ (S.seat_of result.0).last }
 {
     let section = store.enter();
     let time = section.at();

@@ -21,6 +21,9 @@
 //!   last time, and no commit was made. The cause is the one lock or commit that was refused there, of
 //!   what is planned, or that the log had no room (`Cause`). What only a store can show of a cause it
 //!   defines itself (`specs/Causes.antt`).
+//! - The calls of an attempt are said one after another (`specs/Steps.antt`): one `prepare`, one `enter`,
+//!   and reads. Then it leaves; or it locks, writes and tries to commit. A second section is entered only
+//!   where that found no time left. What changes nothing locks nothing and gives nothing up.
 //! - An attempt has at most one exchange on CLOCK for a commit in its trail.
 //! - What is remembered from one section to the next (`Work::Memo`) stays right for the seat, and is
 //!   what one look, or two, did to it.

@@ -4,9 +4,9 @@ use Rattle.mv_history.specs.Meaning.{Seat}
 use Rattle.mv_history.specs.Calls.{Leaves}
 use Rattle.mv_history.proofs.Steps.{Continues-Continues}
 use Rattle.section_work.proofs.Exchanges.{one_before, left_one, looks_in}
-use Rattle.section_work.proofs.Entering.{reads_snapshot}
+use Rattle.section_work.proofs.Entering.{reads_snapshot, time_found}
 use Rattle.section_work.proofs.Outcomes.{attempted_by, short_by, read_at, early_by, space_found, planned_here, noted_by, may_wider, at_last_is}
-use Rattle.section_work.proofs.Outcomes.{found_settled, found_change}
+use Rattle.section_work.proofs.Outcomes.{found_settled, found_change, prepared_by}
 use Rattle.section_work.proofs.attempting.attempt_work.Goals as goal
 
 pub decide-section-requires : goal.decide-section-requires
@@ -45,6 +45,14 @@ returns-then-time-last g c =
       knows = g.met.W.Work.knows_on _ _ _ after
           (c.decide-section.ensures.knows _ (record { lawful = law; own = e.own; time_is = c.at-time.ensures; state_is = here })
           (g.met.W.Work.knows_on _ _ _ (Continues-Continues p.continues e.seat.continues) c.requires.knows));
+      steps = record {
+        prepared = _;
+        prepares = prepared_by _ _ _ _ p c.prepare-room.ensures.enough c.prepare-room.ensures.short;
+        entered = c.enter-section.result;
+        found = c.decide-section.result.0;
+        looks = record { enters = e; took = c.enter-section.ensures.took; only_read = c.decide-section.ensures.as_before };
+        follows = inl (record { leaves = left; time_is = time_found _ _ _ (g.met.S.Open.Section.others_stay _ _ c.decide-section.ensures.as_before) c.at-time.ensures });
+      };
       noted = (_, noted_by _ _ _ _ _ _ _ _ p.continues e law.at after here c.decide-section.ensures.notes, inl refl);
     }
 
@@ -70,6 +78,14 @@ returns-in-Settled g c =
       knows = g.met.W.Work.knows_on _ _ _ after
           (c.decide-section.ensures.knows _ (record { lawful = law; own = e.own; time_is = c.at-time.ensures; state_is = here })
           (g.met.W.Work.knows_on _ _ _ (Continues-Continues p.continues e.seat.continues) c.requires.knows));
+      steps = record {
+        prepared = _;
+        prepares = prepared_by _ _ _ _ p c.prepare-room.ensures.enough c.prepare-room.ensures.short;
+        entered = c.enter-section.result;
+        found = c.decide-section.result.0;
+        looks = record { enters = e; took = c.enter-section.ensures.took; only_read = c.decide-section.ensures.as_before };
+        follows = inl (record { leaves = left; time_is = time_found _ _ _ (g.met.S.Open.Section.others_stay _ _ c.decide-section.ensures.as_before) c.at-time.ensures });
+      };
       noted = (_, noted_by _ _ _ _ _ _ _ _ p.continues e law.at after here c.decide-section.ensures.notes, inl refl);
     }
 
@@ -114,6 +130,14 @@ returns-in-Enough g c =
       continues = Continues-Continues looks.continues c.commit.ensures.continues;
       at_most_one = one_before looks.continues c.commit.ensures.continues looks.quiet c.commit.ensures.at_most_one;
       knows = c.commit.ensures.knows;
+      steps = record {
+        prepared = _;
+        prepares = prepared_by _ _ _ _ p c.prepare-room.ensures.enough c.prepare-room.ensures.short;
+        entered = c.enter-section.result;
+        found = c.decide-section.result.0;
+        looks = record { enters = e; took = c.enter-section.ensures.took; only_read = c.decide-section.ensures.as_before };
+        follows = c.commit.ensures.follows;
+      };
       noted = (
         _,
         noted_by _ _ _ _ _ _ _ _ p.continues e law.at after here c.decide-section.ensures.notes,
@@ -147,5 +171,13 @@ returns-in-Short g c =
       knows = g.met.W.Work.knows_on _ _ _ after
           (c.decide-section.ensures.knows _ (record { lawful = law; own = e.own; time_is = c.at-time.ensures; state_is = here })
           (g.met.W.Work.knows_on _ _ _ (Continues-Continues p.continues e.seat.continues) c.requires.knows));
+      steps = record {
+        prepared = _;
+        prepares = prepared_by _ _ _ _ p c.prepare-room.ensures.enough c.prepare-room.ensures.short;
+        entered = c.enter-section.result;
+        found = c.decide-section.result.0;
+        looks = record { enters = e; took = c.enter-section.ensures.took; only_read = c.decide-section.ensures.as_before };
+        follows = left;
+      };
       noted = (_, noted_by _ _ _ _ _ _ _ _ p.continues e law.at after here c.decide-section.ensures.notes, inl refl);
     }

@@ -1,4 +1,4 @@
-use Rattle.std.proofs.Common.{ℕ, List, inl, refl, sym, subst, ◌∙◌}
+use Rattle.std.proofs.Common.{ℕ, ◌-◌, List, inl, inr, refl, sym, subst, ◌∙◌}
 use Rattle.mv_history.specs.Drift.{IsFit}
 use Rattle.mv_history.specs.Meaning.{Seat, snapshot_of}
 use Rattle.mv_history.specs.Calls.{Leaves, Commits}
@@ -35,6 +35,7 @@ returns-in-Err g c =
     let on = Continues-Continues goes.continues left.continues in
     record {
       attempted = stopped_in _ _ _ _ _ _ _ _ _ c.requires.space.own c.requires.planned.plan x held left;
+      follows = record { objects = _; left = c.rewrite.new.section; refuses = c.in-Err.ensures.refused; leaves = left };
       continues = on;
       at_most_one = left_one goes.continues goes.names_no_commit left;
       knows = g.met.W.Work.knows_on _ _ _ on c.requires.knows;
@@ -53,6 +54,13 @@ returns-in-Done g c =
       attempted = done_by _ _ _ g.W.Rules.Protocol.start _ _ _ _ _ _
           (λ s b t ws r p d a. g.met.W.Work.makes c.args.work.now s b t ws r c.requires.accepts p d a)
           (g.met.S.Open.Section.lawful c.rewrite.new.section).at (g.met.S.Store.lawful c.in-Done.store) ready made;
+      follows = record {
+        locked = c.rewrite.new.section;
+        holds = record { writes = _; rewritten = c.in_default.ensures.written };
+        tag = _;
+        commits = made;
+        loaded = subst (λ (s : Seat). g.S.Open.Section.loaded own s (c.in-Done.time - 1)) (g.met.S.Store.same_seat _) c.in-Done.ensures.done.1;
+      };
       continues = on;
       at_most_one = one_before goes.continues made.continues goes.names_no_commit
           (subst (λ (s : Seat). TriesOne own.seat s) (g.met.S.Store.same_seat _) c.in-Done.ensures.at_most_one);
@@ -69,6 +77,14 @@ returns-in-Again g c =
     let after = Continues-Continues same left.continues in
     let on = Continues-Continues ready.goes_on.continues after in
     record {
+      follows = record {
+        locked = c.rewrite.new.section;
+        holds = record { writes = _; rewritten = c.in_default.ensures.written };
+        left = c.in-Again.section;
+        stays = again.1;
+        overtakes = again.2;
+        leaves = left;
+      };
       attempted = overtaken_in _ _ _ _ _ _ _ _ _ _ c.requires.space.own again.0 ready again.1 again.2 c.in-Again.ensures.one_lost left;
       continues = on;
       at_most_one = one_before ready.goes_on.continues after ready.goes_on.names_no_commit
@@ -100,6 +116,20 @@ returns g c =
     let whole = Continues-Continues same.seat.continues after in
     let came = Continues-Continues ready.goes_on.continues (Continues-Continues same.seat.continues left.continues) in
     record {
+      follows = inr (record {
+        between = _;
+        ends = record {
+          locked = c.rewrite.new.section;
+          holds = record { writes = _; rewritten = c.in_default.ensures.written };
+          left = c.in-End.section;
+          stays = same;
+          worn = c.in-End.ensures.end.1;
+          loaded = c.in-End.ensures.end.2;
+          leaves = left;
+        };
+        looks = last.looks;
+        last = last.last;
+      });
       attempted = read_after _ _ _ _ _ _ _ came (left.mine ∙ same.seat.mine ∙ ready.goes_on.mine) last.read;
       continues = Continues-Continues ready.goes_on.continues whole;
       at_most_one = one_before ready.goes_on.continues whole ready.goes_on.names_no_commit

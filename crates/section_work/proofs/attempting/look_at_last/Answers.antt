@@ -4,7 +4,7 @@ use Rattle.mv_history.specs.Calls.{Leaves}
 use Rattle.mv_history.specs.CallLaws.{Continues-itself}
 use Rattle.mv_history.proofs.Steps.{Continues-Continues, NamesNoCommit-NamesNoCommit}
 use Rattle.section_work.proofs.Exchanges.{leave_none}
-use Rattle.section_work.proofs.Entering.{worn_enters}
+use Rattle.section_work.proofs.Entering.{worn_enters, worn_time, time_found}
 use Rattle.section_work.proofs.Outcomes.{read_at, noted_by}
 use Rattle.section_work.proofs.attempting.look_at_last.Goals as goal
 
@@ -45,4 +45,14 @@ returns g c =
           (c.decide-section.ensures.knows _ (record { lawful = law; own = e.own; time_is = c.at-time.ensures; state_is = here })
           (g.met.W.Work.knows_on _ _ _ e.seat.continues c.requires.knows));
       noted = inr (noted_by _ _ _ _ _ _ _ _ (Continues-itself _) e law.at after here c.decide-section.ensures.notes);
+      looks = record {
+        entered = c.enter-section.result;
+        found = c.decide-section.result.0;
+        looks = record { enters = e; took = c.enter-section.ensures.took; only_read = c.decide-section.ensures.as_before };
+        there = record {
+          leaves = left;
+          time_is = time_found _ _ _ (g.met.S.Open.Section.others_stay _ _ c.decide-section.ensures.as_before) c.at-time.ensures;
+        };
+      };
+      last = worn_time _ _ _ _ c.requires.worn e law.at law.seat.time after c.at-time.ensures;
     }

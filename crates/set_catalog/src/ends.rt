@@ -106,10 +106,8 @@ impl End {
     // Plans an add of the key, which is not there, with this value, in these vacant nodes.
     pub(crate) fn add(&self, plan: &mut Plan, key: u32, value: u64, picked: Picked)
         requires head { HasHead self.now }
-        requires count { plan.old.count ≤ 5 }
         requires room { length (writes_in plan.old) + count_unheld (writes_in plan.old) (objects_added picked.first picked.second self.now) ≤ 5 }
         ensures writes { Wherever self.now key (λ s name. PlansMore plan.old plan.new (adds_at s key value picked.first picked.second self.now)) }
-        ensures count { plan.new.count ≤ 5 }
     {
         let Picked { first, second } = picked;
         match self {
@@ -125,7 +123,6 @@ impl End {
     pub(crate) fn del(&self, plan: &mut Plan) -> Gone
         requires none { plan.old.count ≡ 0 }
         ensures writes { (key : ℕ) → Present self.now key (λ s. PlansMore plan.old plan.new (dels_at s self.now)) }
-        ensures count { plan.new.count ≤ 5 }
         ensures node { result.node ≡ node_gone self.now }
         ensures inner { result.inner ≡ inner_gone self.now }
     {
@@ -158,7 +155,6 @@ impl End {
     pub(crate) fn put(&self, plan: &mut Plan, value: u64)
         requires none { plan.old.count ≡ 0 }
         ensures writes { (key : ℕ) → Present self.now key (λ s. PlansMore plan.old plan.new (puts_at s value self.now)) }
-        ensures count { plan.new.count ≤ 5 }
     {
         match self {
             End::Listed { spot, .. } => plan.write(&spot.put_writes(value)),

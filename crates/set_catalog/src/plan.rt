@@ -4,7 +4,6 @@ ghost use Rattle.mv_history.specs.State.{touches};
 ghost use Rattle.section_work.specs.OwnWrites.{objects_of};
 ghost use Rattle.section_work.specs.Held.{count_unheld};
 ghost use Rattle.set_catalog.specs.Hinted.{gone_noted};
-ghost use Rattle.set_catalog.specs.Merges.{writes_in, IsPlaceOf, merged_one, merged};
 
 use crate::hints::Hints;
 use crate::picks::Picked;
@@ -16,9 +15,12 @@ use mv_history::Words;
 pub struct Plan {
     writes: [(u32, Words); 5],
     count: usize,
+    ghost few: { count ≤ 5 },
 }
 
 impl Plan {
+    ghost use Rattle.set_catalog.specs.Merges.{writes_in, IsPlaceOf, merged_one, merged};
+
     pub(crate) fn nothing() -> Plan
         ensures count { result.count ≡ 0 }
     {
@@ -30,7 +32,6 @@ impl Plan {
 
     /// The writes, in their order.
     pub fn writes(&self) -> &[(u32, Words)]
-        requires count { self.now.count ≤ 5 }
         ensures writes { result.now ≡ writes_in self.now }
     {
         &self.writes[..self.count]
@@ -39,10 +40,8 @@ impl Plan {
     // Plans these writes too. An object that is among the planned ones keeps its place in the order,
     // and gets the new words.
     pub(crate) fn write(&mut self, changes: &[(u32, Words)])
-        requires count { self.old.count ≤ 5 }
         requires room { length (writes_in self.old) + count_unheld (writes_in self.old) (objects_of changes.now) ≤ 5 }
         ensures writes { writes_in self.new ≡ merged (writes_in self.old) changes.now }
-        ensures count { self.new.count ≤ 5 }
     {
         for change in changes {
             self.write_one(change.0, change.1);
@@ -51,7 +50,6 @@ impl Plan {
 
     // Plans this write too.
     fn write_one(&mut self, object: u32, words: Words)
-        requires count { self.old.count ≤ 5 }
         requires room { self.old.count + count_unheld (writes_in self.old) (object ∷ []) ≤ 5 }
         ensures writes { writes_in self.new ≡ merged_one (writes_in self.old) object words }
         ensures count { self.new.count ≡ self.old.count + count_unheld (writes_in self.old) (object ∷ []) }
@@ -67,7 +65,6 @@ impl Plan {
 
     // Where the object is among the planned ones.
     fn place_of(&self, object: u32) -> Option<usize>
-        requires count { self.now.count ≤ 5 }
         ensures { MatchOption result (touches (writes_in self.now) object ≡ false) (IsPlaceOf (writes_in self.now) object) }
     {
         let writes = self.writes();

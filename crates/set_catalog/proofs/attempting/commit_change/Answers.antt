@@ -17,7 +17,7 @@ use Rattle.set_catalog.proofs.Rooms.{room_of, ready_by, gone_by, stops_by, writt
 use Rattle.set_catalog.proofs.attempting.commit_change.Goals as goal
 
 pub rewrite-requires-clause-room : goal.rewrite-requires-clause-room
-rewrite-requires-clause-room g c = room_of _ _ _ c.writes.ensures.writes c.requires.space c.requires.few
+rewrite-requires-clause-room g c = room_of _ c.args.plan.now _ c.writes.ensures.writes c.requires.space c.requires.few
 
 pub try_commit-requires-clause-some : goal.try_commit-requires-clause-some
 try_commit-requires-clause-some g c =

@@ -79,7 +79,7 @@ returns-clause-found g c =
     (g.met.V.View.as_long_before _ _ _ c.search_near-from.ensures.as_before c.search_near-to.ensures.as_before)) c.in-Some-vacant_for.ensures.none)
     (enough_same _ _ _ _ _ (g.met.V.View.same_state _ _
     (g.met.V.View.as_long_before _ _ _ c.search_near-from.ensures.as_before c.search_near-to.ensures.as_before)) c.in-Some-vacant_for.ensures.enough)
-    (c.before-picked.ensures.first ∙ c.del-gone.ensures.node) c.before-picked.ensures.second c.nothing-plan.ensures.count dels c.add.ensures.count
+    (c.before-picked.ensures.first ∙ c.del-gone.ensures.node) c.before-picked.ensures.second c.nothing-plan.ensures.count dels c.add.new.plan.few
     (c.add.ensures.writes _ c.args.target c.requires.lawful c.search_near-to.ensures.name_in (omega (arith, c.ranges.key.fits)) to)
     (c.nothing-gone.ensures.node, c.nothing-gone.ensures.inner)
 

@@ -14,9 +14,9 @@ add-requires-clause-room g c = room_alone c.nothing-plan.result _ _ _ c.nothing-
 pub returns-in-Some-clause-found : goal.returns-in-Some-clause-found
 returns-in-Some-clause-found g c command n =
     new_open _ _ c.args.key c.args.value c.requires.lawful (omega (arith, c.ranges.key.fits))
-    (omega (arith, c.ranges.value.fits)) command n _ _ _ c.nothing-plan.result _ _
+    (omega (arith, c.ranges.value.fits)) command n _ _ _ c.nothing-plan.result c.add.new.plan _
     (c.takes.ensures.takes c.args.key _ n.name c.requires.lawful n.name_in (omega (arith, c.ranges.key.fits)) n.ends)
     c.in-Some.ensures.none c.in-Some.ensures.enough
-    c.nothing-plan.ensures.count c.add.ensures.count
+    c.nothing-plan.ensures.count c.add.new.plan.few
     (c.add.ensures.writes _ n.name c.requires.lawful n.name_in (omega (arith, c.ranges.key.fits)) n.ends)
     (c.nothing-gone.ensures.node, c.nothing-gone.ensures.inner)

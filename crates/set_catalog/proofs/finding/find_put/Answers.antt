@@ -33,7 +33,7 @@ returns-in-Some-2-clause-found g c =
     put_open _ c.args.name c.args.key c.requires.lawful c.search_near-end.ensures.name_in
     (omega (arith, c.ranges.key.fits)) c.args.value c.in-Some.old
     (omega (arith, c.ranges.value.fits)) has c.search_near-end.result c.nothing-plan.result c.put.new.plan c.nothing-gone.result
-    c.search_near-end.ensures.ends c.if-old-value.false c.nothing-plan.ensures.count c.put.ensures.count
+    c.search_near-end.ensures.ends c.if-old-value.false c.nothing-plan.ensures.count c.put.new.plan.few
     (c.put.ensures.writes c.args.key _ c.args.name c.requires.lawful c.search_near-end.ensures.name_in
     (omega (arith, c.ranges.key.fits)) c.search_near-end.ensures.ends there)
     (c.nothing-gone.ensures.node, c.nothing-gone.ensures.inner)

@@ -5,7 +5,7 @@ use Rattle.set_catalog.proofs.plan.Plan.write_one.Goals as goal
 pub returns-in-Some : goal.returns-in-Some
 returns-in-Some c =
     let there = c.in-Some.ensures in
-    let w = written_there c.args.self.now.writes c.args.self.now.count c.in-Some.place c.args.object c.args.words (omega (arith, c.requires.count))
+    let w = written_there c.args.self.now.writes c.args.self.now.count c.in-Some.place c.args.object c.args.words (omega (arith, c.args.self.now.few))
     there.0 there.1 there.2 in
     record { writes = w.0; count = count_there (take c.args.self.now.count c.args.self.now.writes) c.args.self.now.count c.args.object w.1 }
 

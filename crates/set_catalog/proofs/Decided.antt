@@ -36,6 +36,10 @@ pub pair_found : (s : State) (first second k : ℕ) (a b : Bool) → a ≡ has_k
     → b ≡ has_key k (map_of second (catalogue_of s)) → IsFound (Pair first second k) s (Settled (Both a b))
 pair_found s first second k a b e f = (ap (λ (x : Bool). Both x b) e ∙ ap (Both (has_key k (map_of first (catalogue_of s)))) f, refl)
 
+-- what stands for a number unless that is 0 is the number, where it isn't
+kept_unless_0 : (x i f : ℕ) → x ≡ (if i == 0 then f else i) → i ≢ 0 → x ≡ i
+kept_unless_0 x i f is some = is ∙ ap (λ (b : Bool). if b then f else i) (ne_eqb i 0 some)
+
 -- what was found in a state that is the same
 pub found_same : (s t : State) (command : Command) (finding : Finding) → t ≡ s → IsFound command t finding → IsFound command s finding
 found_same s t command finding e f = subst (λ (u : State). IsFound command u finding) e f
@@ -233,5 +237,5 @@ module _ (s : State) (source target k : ℕ) (l : IsLawful s) (ls : source < 30)
             few,
             subst (λ (ws : Writes). IsPlanned (Move source target k) s ws gone) (sym is)
                 (planned_move s l source target k ls lt apart fit to v (node_gone from) (inner_gone from) node second (dels_at s from) gone ends missed
-                (sym has) del enough nothing),
+                (sym has) del enough n (kept_unless_0 second (inner_gone from) first q) nothing),
           )

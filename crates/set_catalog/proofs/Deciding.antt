@@ -10,10 +10,7 @@ use Rattle.set_script.specs.declared.commands.Command.{Command}
 use Rattle.set_script.specs.declared.commands.Command.TheVariants.{Add, Put, Del, Has, Get, Move, Pair, Size, Next}
 use Rattle.set_script.specs.declared.commands.Reply.{Reply}
 use Rattle.set_script.specs.declared.commands.Reply.TheVariants.{Yes, No, Full, Worn}
-use Rattle.set_catalog.specs.Findings.{IsFound, reply_at_last}
 use Rattle.set_catalog.specs.Needs.{wanted, may_change}
-use Rattle.set_catalog.specs.declared.finding.Finding.{Finding}
-use Rattle.set_catalog.specs.declared.finding.Finding.TheVariants.{Settled, Open}
 use Rattle.set_catalog.specs.Picks.{vacant_nodes}
 use Rattle.set_catalog.specs.Replies.{reply_in, changes_in}
 use Rattle.set_catalog.proofs.Costs.{overflows_state}
@@ -102,7 +99,7 @@ settled_at_last (Size name) s e = refl
 settled_at_last (Next name key) s e = refl
 
 -- a change comes too late
-worn_at_last : (command : Command) (s : State) → changes_in command s false ≡ true → reply_in command s true ≡ Worn
+pub worn_at_last : (command : Command) (s : State) → changes_in command s false ≡ true → reply_in command s true ≡ Worn
 worn_at_last (Add name key) s e = late (applies (Add name key) (catalogue_of s)) (overflows (Add name key) (catalogue_of s) (capacity s)) e
 worn_at_last (Put name key value) s e =
     late (applies (Put name key value) (catalogue_of s)) (overflows (Put name key value) (catalogue_of s) (capacity s)) e
@@ -115,7 +112,8 @@ worn_at_last (Pair first second key) s e = absurd (true≢false (sym e))
 worn_at_last (Size name) s e = absurd (true≢false (sym e))
 worn_at_last (Next name key) s e = absurd (true≢false (sym e))
 
--- So what was found gives the reply at the last time.
-pub found_at_last : (command : Command) (s : State) (finding : Finding) → IsFound command s finding → reply_at_last finding ≡ reply_in command s true
-found_at_last command s (Settled answer) f = f.0 ∙ settled_at_last command s f.1
-found_at_last command s (Open plan gone) f = sym (worn_at_last command s f.0)
+-- So what changes nothing while a time is left has its reply at the last time too.
+pub settled_any : (command : Command) (s : State) (answer : Reply) (last : Bool) → answer ≡ reply_in command s false → changes_in command s false ≡ false
+    → (answer ≡ reply_in command s last) × (changes_in command s last ≡ false)
+settled_any command s answer false a c = (a, c)
+settled_any command s answer true a c = (a ∙ settled_at_last command s c, unchanging_at_last command s)

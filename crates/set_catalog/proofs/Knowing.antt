@@ -1,25 +1,23 @@
 -- What is known of how few nodes are vacant, from call to call.
-use Rattle.std.proofs.Common.{◌≡◌, ◌≢◌, ℕ, ◌+◌, ◌-◌, ◌<◌, ◌≤◌, ◌==◌, ◌&&◌, Bool, true, false, not, if◌then◌else◌, [], length, Some}
-use Rattle.std.proofs.Common.{refl, sym, ap, ◌∙◌, subst, arith, eqb-true, eq-eqb, ne_eqb}
+use Rattle.std.proofs.Common.{◌≡◌, ℕ, ◌+◌, ◌-◌, ◌<◌, ◌≤◌, ◌==◌, ◌&&◌, Bool, true, false, not, if◌then◌else◌, [], length, Some}
+use Rattle.std.proofs.Common.{refl, sym, ap, ◌∙◌, subst, arith, eqb-true}
 use Rattle.std.proofs.lemmas.Bool.{and_parts, not-true}
 use Rattle.std.proofs.lemmas.Option.{slice_get_within}
 use Rattle.mv_history.specs.State.{State, state_at}
 use Rattle.mv_history.specs.declared.history.Commit.{Commit}
 use Rattle.mv_history.specs.declared.history.Entry.TheVariants.{Change}
 use Rattle.mv_history.specs.Meaning.{Seat, InSection, IsSeat, IsSection, state_of, state_of_time}
-use Rattle.mv_history.specs.Calls.{Continues, IsAsBefore, IsEntryAt}
+use Rattle.mv_history.specs.Calls.{IsAsBefore, IsEntryAt}
 use Rattle.mv_history.proofs.Snapshots.{length-state_at}
 use Rattle.mv_history.proofs.Steps.{length-seen, state_at-later}
 use Rattle.set_script.specs.Lawful.{IsOpening}
 use Rattle.set_script.specs.Rules.{IsSetCommit}
 use Rattle.set_script.specs.Tags.{command_of}
 use Rattle.set_script.specs.declared.commands.Command.{Command}
-use Rattle.set_script.specs.declared.commands.Reply.{Reply}
 use Rattle.set_script.proofs.Times.{commit_makes}
 use Rattle.set_catalog.specs.declared.shortage.Shortage.{Shortage}
 use Rattle.set_catalog.specs.declared.shortage.TheConstants.{NO_BOUND}
 use Rattle.set_catalog.specs.Picks.{vacant_nodes}
-use Rattle.set_catalog.specs.Replies.{reply_in, changes_in}
 use Rattle.set_catalog.specs.Shortages.{IsKnown, few_at, may_free, followed}
 use Rattle.set_catalog.proofs.Costs.{vacant_no_more, vacant_bound}
 use Rattle.set_catalog.proofs.LawfulTimes.{lawful_at, lawful_read}
@@ -31,16 +29,6 @@ known_unknown s k law t f = record {
   seen = omega (arith, t);
   few = omega (arith, vacant_bound (state_of_time s k.time) (lawful_at s law (k.time - s.base)), f);
 }
-
--- What is known stays known.
-pub known_later : {a b : Seat} (k : Shortage) → Continues a b → IsKnown a k → IsKnown b k
-known_later {a} {b} k p h =
-    let same : state_of_time b k.time ≡ state_of_time a k.time =
-    ap (λ (n : ℕ). state_at b.start b.seen (k.time - n)) p.base ∙ state_at-later p (k.time - a.base) h.seen in
-    record {
-      seen = omega (arith, p.base, length-seen p, h.seen);
-      few = subst (λ (u : State). vacant_nodes u < k.few) (sym same) h.few;
-    }
 
 -- In a section that holds nothing, what is known of its time holds of the state that it reads.
 pub few_found : (s : InSection) (k : Shortage) (time : ℕ) → IsSection IsOpening IsSetCommit s → s.own ≡ [] → time ≡ s.seat.base + s.at → IsKnown s.seat k
@@ -90,20 +78,3 @@ known_followed s k time c command law entry tagged h = go ((k.time == time - 1) 
         let few : vacant_nodes (state_at s.start s.seen (time - (s.base + 1))) < k.few =
         subst (λ (n : ℕ). vacant_nodes (state_at s.start s.seen n) < k.few) at h.few in
         record { seen = omega (arith, within, later); few = omega (arith, more, few) }
-
--- Before the last time and at it the reply is that of the time that the section answers.
-pub reply_early : (command : Command) (s : State) (answer : Reply) (time last : ℕ) → time ≢ last → answer ≡ reply_in command s false
-    → answer ≡ reply_in command s (time == last)
-reply_early command s answer time last n e = e ∙ ap (reply_in command s) (sym (ne_eqb time last n))
-
-pub changes_early : (command : Command) (s : State) (b : Bool) (time last : ℕ) → time ≢ last → changes_in command s false ≡ b
-    → changes_in command s (time == last) ≡ b
-changes_early command s b time last n e = ap (changes_in command s) (ne_eqb time last n) ∙ e
-
-pub reply_late : (command : Command) (s : State) (answer : Reply) (time last : ℕ) → time ≡ last → answer ≡ reply_in command s true
-    → answer ≡ reply_in command s (time == last)
-reply_late command s answer time last t e = e ∙ ap (reply_in command s) (sym (eq-eqb time last t))
-
-pub changes_late : (command : Command) (s : State) (time last : ℕ) → time ≡ last → changes_in command s true ≡ false
-    → changes_in command s (time == last) ≡ false
-changes_late command s time last t e = ap (changes_in command s) (eq-eqb time last t) ∙ e

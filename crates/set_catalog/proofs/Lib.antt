@@ -14,7 +14,7 @@ pub mod Lone
 pub mod Deciding
 pub mod Planned
 pub mod Decided
-pub mod Rooms
+pub mod PlanLocks
 pub mod LawfulTimes
 pub mod Knowing
 pub mod Outcomes

@@ -1,23 +1,22 @@
 -- The hints after an attempt.
-use Rattle.std.proofs.Common.{◌≡◌, ℕ, ◌≤◌, ◌⊎◌, inl, inr, List, Contains, length, refl, sym, ap, ◌∙◌, subst, arith}
+use Rattle.std.proofs.Common.{◌≡◌, ℕ, ◌⊎◌, inl, inr, List, ◌++◌, Contains, refl, sym, ap, ◌∙◌, subst, append_assoc}
 use Rattle.std.proofs.lemmas.List.Elements.{All-contains_itself, All-weaker, Contains-append_left}
-use Rattle.mv_history.specs.State.{State, state_at}
-use Rattle.mv_history.specs.Meaning.{Seat, InSection, state_of}
-use Rattle.mv_history.specs.Calls.{Continues, Commits, commit_by}
-use Rattle.mv_history.proofs.Steps.{length-seen, state_at-later}
-use Rattle.set_script.specs.CatalogueOf.{catalogue_of}
-use Rattle.set_script.specs.Tags.{tag_of}
+use Rattle.mv_history.specs.Meaning.{Seat}
+use Rattle.mv_history.specs.State.{State}
+use Rattle.section_work.specs.Attempts.{Attempted, IsDoneAt, Noted}
+use Rattle.section_work.specs.Causes.{Causes}
+use Rattle.section_work.specs.declared.attempting.Attempt.TheVariants.{Done as WorkDone}
+use Rattle.section_work.specs.declared.place.Place.{Place}
+use Rattle.section_work.specs.declared.place.Place.TheVariants.{Commit as AtCommit, Read}
 use Rattle.set_script.specs.declared.commands.Command.{Command}
 use Rattle.set_script.specs.declared.commands.Command.TheVariants.{Add, Put, Del, Has, Get, Move, Pair, Size, Next}
-use Rattle.section_work.specs.declared.place.Place.TheVariants.{Commit as AtCommit, Read}
+use Rattle.set_catalog.specs.Attempts.{WasVacant, KeepsHints, NotesGone, HintsAfter}
+use Rattle.set_catalog.specs.CommandMeaning.{command_meaning}
 use Rattle.set_catalog.specs.Hinted.{Hinted, gone_noted, TakesHints}
-use Rattle.set_catalog.specs.Needs.{wanted}
-use Rattle.set_catalog.specs.Plans.{DelPlan, GoneBy}
-use Rattle.set_catalog.specs.Steps.{IsReady}
-use Rattle.section_work.specs.Causes.{Causes}
-use Rattle.set_catalog.specs.Attempts.{IsReadBy, WasVacant, KeepsHints, NotesGone, HintsAfter}
-use Rattle.set_catalog.specs.declared.answer.Attempt.{Attempt}
-use Rattle.set_catalog.specs.declared.answer.Attempt.TheVariants.{Done, Again}
+use Rattle.set_catalog.specs.Remembering.{TakesFor, hints_at}
+use Rattle.set_catalog.specs.declared.answer.Attempt.TheVariants.{Done}
+use Rattle.set_catalog.specs.declared.command_work.Answer.{Answer}
+use Rattle.set_catalog.specs.declared.memo.Memo.{Memo}
 
 -- where hints were only taken, each that is left was one before
 pub kept_taken : (hints after : Hinted) (old new : Seat) → TakesHints hints after → KeepsHints hints after old new
@@ -28,76 +27,70 @@ kept_taken hints after old new t = record {
       after.objects (All-contains_itself after.objects);
 }
 
--- the same of hints that stay as they were
-pub kept_same : (hints after : Hinted) (old new : Seat) → after ≡ hints → KeepsHints hints after old new
-kept_same hints after old new e = record {
-  room = ap (λ (h : Hinted). h.room) e;
-  each = All-weaker (Contains after.objects) (λ o. Contains hints.objects o ⊎ WasVacant old new o)
-      (λ o c. inl (subst (λ (xs : List ℕ). Contains xs o) (ap (λ (h : Hinted). h.objects) e) c))
-      after.objects (All-contains_itself after.objects);
+-- what a look does to what is remembered
+abbrev Looks : Command → Memo → Memo → State → Type 0
+Looks command before after s = TakesFor command before.hints after.hints s
+
+takes_twice : (a b c : Hinted) → TakesHints a b → TakesHints b c → TakesHints a c
+takes_twice a b c s t = record {
+  room = t.room ∙ s.room;
+  gone = t.gone ++ s.gone;
+  parts = s.parts ∙ ap (λ (xs : List ℕ). xs ++ s.gone) t.parts ∙ append_assoc c.objects t.gone s.gone;
 }
 
--- hints were taken, and what was kept then is kept of all of them, in the whole call
-kept_later : (hints mid after : Hinted) (a b new : Seat) → Continues a b → TakesHints hints mid → KeepsHints mid after b new → KeepsHints hints after a new
-kept_later hints mid after a b new came t k = record {
-  room = k.room ∙ t.room;
-  each = All-weaker (λ o. Contains mid.objects o ⊎ WasVacant b new o) (λ o. Contains hints.objects o ⊎ WasVacant a new o) go after.objects k.each;
-}
-  where
-    go : (o : ℕ) → Contains mid.objects o ⊎ WasVacant b new o → Contains hints.objects o ⊎ WasVacant a new o
-    go o (inl c) = inl (subst (λ (xs : List ℕ). Contains xs o) (sym t.parts) (Contains-append_left mid.objects t.gone o c))
-    go o (inr v) =
-        let grew : length a.seen ≤ length b.seen = length-seen came in
-        let from : length b.seen ≤ v.0 = v.1 in
-        inr (v.0, omega arith, v.2, v.3)
+-- Looks only take hints.
+pub noted_takes : (command : Command) (old new : Seat) (before after : Memo) → Noted (Looks command) old new before after
+    → TakesHints before.hints after.hints
+noted_takes command old new before after (between, one, inl e) =
+    subst (λ (m : Memo). TakesHints before.hints m.hints) (sym e) one.notes_is.takes
+noted_takes command old new before after (between, one, inr two) =
+    takes_twice before.hints between.hints after.hints one.notes_is.takes two.notes_is.takes
 
--- nothing was noted of no object
+-- A look for a del takes none.
+del_takes_none : (name key : ℕ) (old new : Seat) (before after : Memo) → Noted (Looks (Del name key)) old new before after
+    → after.hints ≡ before.hints
+del_takes_none name key old new before after (between, one, inl e) = ap (λ (m : Memo). m.hints) e ∙ one.notes_is.untouched refl
+del_takes_none name key old new before after (between, one, inr two) = two.notes_is.untouched refl ∙ one.notes_is.untouched refl
+
+-- where nothing became vacant, nothing was noted
 none_noted : (old hints : Hinted) (node inner : ℕ) → (node ≡ 0) × (inner ≡ 0) → hints ≡ gone_noted old node inner → hints ≡ old
 none_noted old hints node inner z e = rw (z.0, z.1) at e
 
--- a commit's objects that became vacant were noted
-pub noted_by : (found locked : InSection) (new : Seat) (command : Command) (time node inner : ℕ) (old hints : Hinted)
-    → locked.at ≤ length locked.seat.seen → IsReady command found locked → Commits locked (tag_of command) new time
-    → GoneBy command (state_of found) locked.own node inner → hints ≡ gone_noted old node inner → NotesGone command old hints found.seat new time
-noted_by found locked new (Del name key) time node inner old hints le r m g e =
-    let snapshot : state_of found ≡ state_at new.start new.seen locked.at =
-    sym r.snapshot ∙ sym (state_at-later m.continues locked.at le) in
-    (commit_by locked (tag_of (Del name key)), node, inner, m.entry, subst (λ (s : State). DelPlan s name key node inner locked.own) snapshot g, e)
-noted_by found locked new (Add name key) time node inner old hints le r m g e = kept_same old hints found.seat new (none_noted old hints node inner g e)
-noted_by found locked new (Put name key value) time node inner old hints le r m g e = kept_same old hints found.seat new (none_noted old hints node inner g e)
-noted_by found locked new (Has name key) time node inner old hints le r m g e = kept_same old hints found.seat new (none_noted old hints node inner g e)
-noted_by found locked new (Get name key) time node inner old hints le r m g e = kept_same old hints found.seat new (none_noted old hints node inner g e)
-noted_by found locked new (Move source target key) time node inner old hints le r m g e =
-    kept_same old hints found.seat new (none_noted old hints node inner g e)
-noted_by found locked new (Pair first second key) time node inner old hints le r m g e =
-    kept_same old hints found.seat new (none_noted old hints node inner g e)
-noted_by found locked new (Size name) time node inner old hints le r m g e = kept_same old hints found.seat new (none_noted old hints node inner g e)
-noted_by found locked new (Next name key) time node inner old hints le r m g e = kept_same old hints found.seat new (none_noted old hints node inner g e)
+-- The objects that a commit left vacant were noted.
+done_noted : (k : Causes) (old new : Seat) (command : Command) (answer : Answer) (time : ℕ) (before between : Memo) (after : Hinted)
+    → IsDoneAt k (command_meaning command) old new answer time → Noted (Looks command) old new before between
+    → after ≡ gone_noted between.hints answer.gone.node answer.gone.inner → NotesGone command before.hints after old new time
+done_noted k old new command answer time before between after d n e = go command d n
+  where
+    kept : (c : Command) → Noted (Looks c) old new before between → (answer.gone.node ≡ 0) × (answer.gone.inner ≡ 0) → KeepsHints before.hints after old new
+    kept c n z =
+        kept_taken before.hints after old new
+        (subst (λ (h : Hinted). TakesHints before.hints h) (sym (none_noted between.hints after answer.gone.node answer.gone.inner z e))
+        (noted_takes c old new before between n))
 
--- a read notes nothing
-pub read_noted : (k : Causes) (a b new : Seat) (command : Command) (attempt : Attempt) (old hints : Hinted)
-    → TakesHints old hints → IsReadBy k b new command attempt → HintsAfter command old hints a new attempt
-read_noted k a b new command (Done answer (AtCommit time)) old hints t r = absurd r
-read_noted k a b new command (Done answer (Read time)) old hints t r = kept_taken old hints a new t
-read_noted k a b new command (Again cause) old hints t r = absurd r
+    go : (c : Command) → IsDoneAt k (command_meaning c) old new answer time → Noted (Looks c) old new before between → NotesGone c before.hints after old new time
+    go (Del name key) d n = (
+      d.done.commit,
+      answer.gone.node,
+      answer.gone.inner,
+      d.done.entry,
+      d.done.plan.goes,
+      e ∙ ap (λ (h : Hinted). gone_noted h answer.gone.node answer.gone.inner) (del_takes_none name key old new before between n),
+    )
+    go (Add name key) d n = kept (Add name key) n d.done.plan.goes
+    go (Put name key value) d n = kept (Put name key value) n d.done.plan.goes
+    go (Has name key) d n = kept (Has name key) n d.done.plan.goes
+    go (Get name key) d n = kept (Get name key) n d.done.plan.goes
+    go (Move source target key) d n = kept (Move source target key) n d.done.plan.goes
+    go (Pair first second key) d n = kept (Pair first second key) n d.done.plan.goes
+    go (Size name) d n = kept (Size name) n d.done.plan.goes
+    go (Next name key) d n = kept (Next name key) n d.done.plan.goes
 
-noted_later : (command : Command) (old mid hints : Hinted) (a b new : Seat) (time : ℕ) (s : State)
-    → Continues a b → TakesHints old mid → (wanted command (catalogue_of s) ≡ 0 → mid ≡ old)
-    → NotesGone command mid hints b new time → NotesGone command old hints a new time
-noted_later (Del name key) old mid hints a b new time s came t e n = subst (λ (h : Hinted). NotesGone (Del name key) h hints b new time) (e refl) n
-noted_later (Add name key) old mid hints a b new time s came t e n = kept_later old mid hints a b new came t n
-noted_later (Put name key value) old mid hints a b new time s came t e n = kept_later old mid hints a b new came t n
-noted_later (Has name key) old mid hints a b new time s came t e n = kept_later old mid hints a b new came t n
-noted_later (Get name key) old mid hints a b new time s came t e n = kept_later old mid hints a b new came t n
-noted_later (Move source target key) old mid hints a b new time s came t e n = kept_later old mid hints a b new came t n
-noted_later (Pair first second key) old mid hints a b new time s came t e n = kept_later old mid hints a b new came t n
-noted_later (Size name) old mid hints a b new time s came t e n = kept_later old mid hints a b new came t n
-noted_later (Next name key) old mid hints a b new time s came t e n = kept_later old mid hints a b new came t n
-
--- a look takes hints, and none for a del
-pub hints_after : (command : Command) (old mid hints : Hinted) (a b new : Seat) (attempt : Attempt) (s : State)
-    → Continues a b → TakesHints old mid → (wanted command (catalogue_of s) ≡ 0 → mid ≡ old)
-    → HintsAfter command mid hints b new attempt → HintsAfter command old hints a new attempt
-hints_after command old mid hints a b new (Done answer (AtCommit time)) s came t e n = noted_later command old mid hints a b new time s came t e n
-hints_after command old mid hints a b new (Done answer (Read time)) s came t e n = kept_later old mid hints a b new came t n
-hints_after command old mid hints a b new (Again cause) s came t e n = kept_later old mid hints a b new came t n
+-- What an attempt leaves of the hints that was done here.
+pub hints_then : (k : Causes) (old new : Seat) (command : Command) (answer : Answer) (place : Place) (before between : Memo) (after : Hinted)
+    → Attempted k (command_meaning command) old new (WorkDone answer place) → Noted (Looks command) old new before between
+    → after ≡ hints_at place between.hints answer.gone → HintsAfter command before.hints after old new (Done answer.reply place)
+hints_then k old new command answer (AtCommit time) before between after d n e = done_noted k old new command answer time before between after d n e
+hints_then k old new command answer (Read time) before between after r n e =
+    kept_taken before.hints after old new
+    (subst (λ (h : Hinted). TakesHints before.hints h) (sym e) (noted_takes command old new before between n))

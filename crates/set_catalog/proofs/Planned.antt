@@ -111,9 +111,9 @@ module _ (s : State) (l : IsLawful s) (name k : ℕ) (lt : name < 30) (fit : k <
 module _ (s : State) (l : IsLawful s) (source target k : ℕ) (ls : source < 30) (lt : target < 30) (apart : source ≢ target) (fit : k < 2 ^ 32) where
   pub planned_move : (end : End) (v node inner first second : ℕ) (dels : Writes) (gone : Gone) → EndsAt s target k end
       → has_key k (map_of target (catalogue_of s)) ≡ false → value_of k (map_of source (catalogue_of s)) ≡ Some v → DelPlan s source k node inner dels
-      → AreEnough (written s dels) (taken target (map_of target (catalogue_of s))) first second
+      → AreEnough (written s dels) (taken target (map_of target (catalogue_of s))) first second → first ≡ node → (inner ≢ 0 → second ≡ inner)
       → (gone.node ≡ 0) × (gone.inner ≡ 0) → IsPlanned (Move source target k) s (merged dels (adds_at s k v first second end)) gone
-  planned_move end v node inner first second dels gone e missed has del enough nothing =
+  planned_move end v node inner first second dels gone e missed has del enough takes_node takes_inner nothing =
       let adds : Writes = adds_at s k v first second end in
       let is : value s node ≡ v = value_gone s source k node inner v dels ls l has del in
       let d = removed_by s source k ls fit node inner dels del in
@@ -137,6 +137,8 @@ module _ (s : State) (l : IsLawful s) (source target k : ℕ) (ls : source < 30)
           second = second;
           adds = adds_at s k v first second end;
           add = add;
+          takes_node = takes_node;
+          takes_inner = takes_inner;
           both = sym (merged-is (written s dels) dels (adds_at s k v first second end));
         };
         distinct = merged-distinct dels (adds_at s k v first second end) (by_distinct s (head_of source k) (head_below source k ls) l dels d);

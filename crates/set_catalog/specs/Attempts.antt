@@ -1,6 +1,7 @@
 -- What an attempt of a command leaves, by its answer.
 use Rattle.std.specs.Prelude.{ℕ, ◌≡◌, ◌+◌, ◌-◌, ◌<◌, ◌≤◌, ◌⊎◌, ◌==◌, true, false, [], ◌∷◌, ◌++◌, All}
 use Rattle.std.specs.Prelude.{Contains, length}
+use Rattle.mv_history.specs.Drift.{IsFit}
 use Rattle.mv_history.specs.State.{state_at}
 use Rattle.mv_history.specs.declared.history.Commit.{Commit}
 use Rattle.mv_history.specs.declared.history.Entry.TheVariants.{Change}
@@ -8,6 +9,7 @@ use Rattle.mv_history.specs.Meaning.{Seat, InSection, snapshot_of, state_of_time
 use Rattle.mv_history.specs.Trail.{commit_exchanges, IsOneLost}
 use Rattle.mv_history.specs.Calls.{call_trail, Continues, IsAsBefore, GoesOn, Prepares, IsEntryAt, Overtakes}
 use Rattle.mv_history.specs.declared.answers.Holder.{Holder}
+use Rattle.set_script.specs.Rules.{IsSetCommit}
 use Rattle.set_script.specs.Tags.{tag_of}
 use Rattle.set_script.specs.declared.commands.Command.{Command}
 use Rattle.set_script.specs.declared.commands.Reply.{Reply}
@@ -22,12 +24,14 @@ use Rattle.set_script.specs.declared.commands.Command.TheVariants.{Del}
 use Rattle.set_catalog.specs.Hinted.{Hinted, gone_noted}
 use Rattle.set_catalog.specs.Picks.{IsVacant}
 use Rattle.set_catalog.specs.Plans.{PlanOf, Locks, DelPlan}
+use Rattle.set_catalog.specs.Steps.{most_locks}
 use Rattle.section_work.specs.Sections.{IsEntered}
 use Rattle.section_work.specs.Locking.{Stops}
 use Rattle.section_work.specs.declared.causes.Refusal.{Refusal}
 
 -- The command is the seat's last commit, at this printed time. Its reply is that of the state just before, which is not
--- at the last time. It wrote what it must lock in its snapshot, and nothing else.
+-- at the last time. It wrote what it must lock in its snapshot, and nothing else: five objects at most. It is allowed on its snapshot, and on each
+-- state to which others could have led meanwhile.
 pub record IsDoneBy (old new : Seat) (command : Command) (answer : Reply) (time : ℕ) : Type 0 where
   pub continues : Continues old new
   pub commit : Commit
@@ -36,6 +40,8 @@ pub record IsDoneBy (old new : Seat) (command : Command) (answer : Reply) (time 
   pub mine : new.mine ≡ old.mine ++ commit ∷ []
   pub tagged : commit.tag ≡ tag_of command
   pub plan : PlanOf command (state_at new.start new.seen commit.snapshot) commit.writes
+  pub few : length commit.writes ≤ most_locks
+  pub fit : IsFit IsSetCommit (state_at new.start new.seen commit.snapshot) commit.tag commit.writes
   pub answers : answer ≡ reply_in command (state_of_time new (time - 1)) false
 
 -- The command changes nothing in the state of this printed time, which is that of a section that the call entered, and
@@ -73,12 +79,6 @@ IsWhy k held_back command entered new (Lock refusal) = IsStopped k command enter
 IsWhy k held_back command entered new (Rival rival) = k.may_refuse × IsOvertaken k command entered new rival.seat rival.time
 IsWhy k held_back command entered new (LogFull holder) = k.may_refuse × held_back holder
 
--- The change was given up in a section that the call had entered, and this is why; no commit was made.
-pub record GivesUpIn (k : Causes) (entered : InSection) (new : Seat) (command : Command) (cause : Cause) : Type 0 where
-  pub continues : Continues entered.seat new
-  pub mine : new.mine ≡ entered.seat.mine
-  pub why : IsWhy k (λ holder. ⊥) command entered new cause
-
 -- The command would change something in the state of the section that the call entered, which is not at the last time;
 -- this is why it did not, and no commit was made.
 pub record GivesUp (k : Causes) (old new : Seat) (command : Command) (cause : Cause) : Type 0 where
@@ -96,18 +96,6 @@ abbrev pub Attempted : Causes → Seat → Seat → Command → Attempt → Type
 Attempted k old new command (Done answer (AtCommit time)) = IsDoneBy old new command answer time
 Attempted k old new command (Done answer (Read time)) = IsRead k old new command answer time
 Attempted k old new command (Again cause) = GivesUp k old new command cause
-
--- the same, of a section that the call had entered
-abbrev pub AttemptedIn : Causes → InSection → Seat → Command → Attempt → Type 0
-AttemptedIn k entered new command (Done answer (AtCommit time)) = IsDoneBy entered.seat new command answer time
-AttemptedIn k entered new command (Done answer (Read time)) = IsRead k entered.seat new command answer time
-AttemptedIn k entered new command (Again cause) = GivesUpIn k entered new command cause
-
--- the answer is a read
-abbrev pub IsReadBy : Causes → Seat → Seat → Command → Attempt → Type 0
-IsReadBy k old new command (Done answer (AtCommit time)) = ⊥
-IsReadBy k old new command (Done answer (Read time)) = IsRead k old new command answer time
-IsReadBy k old new command (Again cause) = ⊥
 
 -- the object is vacant in the state of a time that came in the call
 abbrev pub WasVacant : Seat → Seat → ℕ → Type 0

@@ -11,3 +11,6 @@ pub mod Findings
 pub mod Attempts
 pub mod Shortages
 pub mod Readings
+pub mod CommandMeaning
+pub mod CommandLaws
+pub mod Remembering

@@ -48,6 +48,9 @@ pub record MovePlan (s : State) (source target key : ℕ) (ws : Writes) : Type 0
   pub second : ℕ
   pub adds : Writes
   pub add : AddPlan (written s dels) target key (value s node) first second adds
+  -- the add takes what the del removed before anything else: the node first, then the inner node, where there is one
+  pub takes_node : first ≡ node
+  pub takes_inner : inner ≢ 0 → second ≡ inner
   pub both : ws ≡ with_writes (with_locks (written s dels) dels (objects_of adds)) adds
 
 -- What a command that changes something locks, and how it writes that.

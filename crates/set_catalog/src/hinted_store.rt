@@ -4,8 +4,8 @@ ghost use Rattle.std.specs.Prelude.{◌≡◌, ◌≤◌};
 use crate::answer::Attempt;
 use crate::attempting::attempt_knowing;
 use crate::hints::Hints;
+use crate::memo::Memo;
 use crate::shortage::Shortage;
-use list_set::Fingers;
 use mv_history::Store;
 use set_script::{Command, SetRules};
 use std::marker::Model;
@@ -22,9 +22,7 @@ use std::marker::Model;
 /// speaks of that either.
 pub struct HintedStore<S: Store<Rules = SetRules>> {
     store: S,
-    hints: Hints,
-    fingers: Fingers,
-    known: Shortage,
+    memo: Memo,
 }
 
 impl<S: Store<Rules = SetRules>> Model for HintedStore<S> {
@@ -32,9 +30,9 @@ impl<S: Store<Rules = SetRules>> Model for HintedStore<S> {
 
     ghost Value = { StoreWithHints S };
 
-    ghost view = { λ s. record { store = s.store; hints = s.hints } };
+    ghost view = { λ s. record { store = s.store; hints = s.memo.hints } };
 
-    ghost invariant = { λ s. IsKnown (S.seat_of s.store) s.known };
+    ghost invariant = { λ s. IsKnown (S.seat_of s.store) s.memo.known };
 }
 
 impl<S: Store<Rules = SetRules>> HintedStore<S> {
@@ -50,12 +48,12 @@ impl<S: Store<Rules = SetRules>> HintedStore<S> {
     {
         let mut hints = hints;
         let fingers = hints.take_fingers();
-        HintedStore {
-            store,
+        let memo = Memo {
             hints,
             fingers,
             known: Shortage::unknown(),
-        }
+        };
+        HintedStore { store, memo }
     }
 
     /// Attempts a command in one section of the store, as [`attempt_with`](crate::attempt_with) does
@@ -70,20 +68,9 @@ impl<S: Store<Rules = SetRules>> HintedStore<S> {
         ensures noted { HintsAfter command.now self.hints result.0.hints (S.seat_of self.store) (S.seat_of result.0.store) result.1 }
         ensures at_most_one { TriesOne (S.seat_of self.store) (S.seat_of result.0.store) }
     {
-        let HintedStore {
-            store,
-            mut hints,
-            mut fingers,
-            mut known,
-        } = self;
-        let (store, answer) = attempt_knowing(store, &mut hints, &mut fingers, &mut known, command);
-        let kept = HintedStore {
-            store,
-            hints,
-            fingers,
-            known,
-        };
-        (kept, answer)
+        let HintedStore { store, mut memo } = self;
+        let (store, answer) = attempt_knowing(store, &mut memo, command);
+        (HintedStore { store, memo }, answer)
     }
 
     /// The store, to look at.
@@ -97,12 +84,7 @@ impl<S: Store<Rules = SetRules>> HintedStore<S> {
     pub fn into_store(self) -> S
         ensures { result ≡ self.store }
     {
-        let HintedStore {
-            store,
-            hints: _,
-            fingers: _,
-            known: _,
-        } = self;
+        let HintedStore { store, memo: _ } = self;
         store
     }
 }

@@ -3,12 +3,12 @@
 //! # The model
 //!
 //! A command meets the catalogue of a state, the number of nodes, and whether its place is the last
-//! time; `set_script` says what it replies there and what it changes. An attempt makes room in the
-//! seat's log, enters one section, and finds what the command comes to in the section's snapshot: a
-//! reply that changes nothing, or a plan, which has the objects to lock with the words to write.
-//! What changes nothing leaves the section again. A plan is locked and written by one
-//! `section_work::rewrite`, with no further search, and given to one `try_commit`, as one entry of the
-//! history: a move too, whose add takes the objects first that its del leaves vacant.
+//! time; `set_script` says what it replies there and what it changes. It is a work of `section_work`,
+//! whose attempt makes room in the seat's log, enters one section, and lets it find what it comes to
+//! in the section's snapshot: a reply that changes nothing, or a plan, which has the objects to lock
+//! with the words to write. What changes nothing leaves the section again. A plan is locked and
+//! written by one `rewrite`, with no further search, and given to one `try_commit`, as one entry of
+//! the history: a move too, whose add takes the objects first that its del leaves vacant.
 //!
 //! A command searches each of its sets once, a move one set after the other in the same state: its
 //! del writes nothing that the search in the target read. An object that the del removes and the add
@@ -17,8 +17,9 @@
 //! # The contract
 //!
 //! - `Done` at `Commit(t)`: the entry of time t is the seat's last commit, with the command's tag.
-//!   It writes exactly what the command locks in its snapshot (`specs/Plans.antt`), and the reply is
-//!   that of the catalogue just before t, at a place that is not the last time.
+//!   It writes exactly what the command locks in its snapshot (`specs/Plans.antt`), five objects at
+//!   most, and is fit. The reply is that of the catalogue just before t, at a place that is not the
+//!   last time.
 //! - `Done` at `Read(t)`: no commit was made. Time t is that of a section that this call entered, the
 //!   reply is that of the catalogue there, and the command changes nothing there. `Full`, `Worn` and
 //!   `No` come exactly so.
@@ -38,8 +39,9 @@
 //! history is allowed.
 //!
 //! `pick` finds vacant objects, and tries what a worker remembers of its own deletions first.
-//! A `HintedStore` owns a store with its hints, and knows of its last look for vacant objects that
-//! found too few: while nothing was freed since, it answers `Full` with no further look.
+//! A `HintedStore` owns a store with what it remembers of it: hints, fingers into lists, and of its
+//! last look for vacant objects that found too few, of which time that is known. While nothing was
+//! freed since, it answers `Full` with no further look. What is known is right for its store's seat.
 //! `read_all` reads the whole catalogue, set by set and each node once.
 //!
 //! No call but `Hints::new` and `read_all` takes memory.
@@ -47,16 +49,18 @@
 //! # Its place
 //!
 //! It stands on the three crates of sets, whose calls it makes by a command's names, on `set_script`,
-//! on `section_work` for what locks and causes mean, and on the traits of `mv_history`. It knows no store, and nothing of logs, chains or marks. The
-//! program runs a script by one attempt after another.
+//! on `section_work`, by which each attempt is made, and on the traits of `mv_history`. It knows no
+//! store, and nothing of logs, chains or marks. The program runs a script by one attempt after another.
 #![tactic(auto)]
 
 mod answer;
 mod attempting;
+mod command_work;
 mod ends;
 mod finding;
 mod hinted_store;
 mod hints;
+mod memo;
 mod names;
 mod picks;
 mod plan;

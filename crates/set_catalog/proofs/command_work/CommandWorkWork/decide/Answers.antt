@@ -1,0 +1,33 @@
+use Rattle.std.proofs.Common.{ℕ, ◌<◌, refl, sym, subst, ◌∙◌}
+use Rattle.mv_history.specs.State.{State}
+use Rattle.set_script.specs.Lawful.{IsLawful}
+use Rattle.set_catalog.specs.Picks.{vacant_nodes}
+use Rattle.set_catalog.specs.Shortages.{few_at}
+use Rattle.set_catalog.proofs.Deciding.{settled_any}
+use Rattle.set_catalog.proofs.Knowing.{few_found}
+use Rattle.set_catalog.proofs.LawfulTimes.{lawful_read}
+use Rattle.set_catalog.proofs.Outcomes.{planned_as}
+use Rattle.set_catalog.proofs.command_work.CommandWorkWork.decide.Goals as goal
+
+pub find_plan_near-found-requires-clause-lawful : goal.find_plan_near-found-requires-clause-lawful
+find_plan_near-found-requires-clause-lawful g c =
+    let here = c.requires.here.1 in subst IsLawful (sym here.state_is) (lawful_read c.requires.here.0 here.lawful here.own)
+
+pub find_plan_near-found-requires-clause-few : goal.find_plan_near-found-requires-clause-few
+find_plan_near-found-requires-clause-few g c =
+    let here = c.requires.here.1 in
+    subst (λ (n : ℕ). vacant_nodes (g.V.View.state c.args.view) < n) (sym c.at-few.ensures)
+    (subst (λ (u : State). vacant_nodes u < few_at c.args.memo.now.known c.args.time) (sym here.state_is)
+    (few_found c.requires.here.0 _ _ here.lawful here.own here.time_is c.requires.here.2))
+
+pub returns-in-Settled-clause-found : goal.returns-in-Settled-clause-found
+returns-in-Settled-clause-found g c = λ last.
+    let same = settled_any c.args.self.now.command (g.V.View.state c.args.view) c.in-Settled.reply last c.in-Settled.ensures.found.0
+    c.in-Settled.ensures.found.1 in
+    record { answers = c.of.ensures.reply ∙ same.0; unchanging = same.1 }
+
+pub returns-in-Open-clause-found : goal.returns-in-Open-clause-found
+returns-in-Open-clause-found g c = (
+  c.in-Open.ensures.found.0,
+  planned_as c.args.self.now.command (g.V.View.state c.args.view) c.in-Open.plan _ refl c.in-Open.ensures.found.2,
+)

@@ -1,0 +1,122 @@
+// A command of the sets, as a work.
+ghost use Rattle.std.specs.Prelude.{◌≡◌};
+ghost use Rattle.set_script.specs.Tags.{tag_of as command_tag};
+
+use crate::finding::{Finding, find_plan_near};
+use crate::memo::Memo;
+use crate::plan::{Gone, Plan};
+use crate::shortage::Shortage;
+use mv_history::{Tag, View, Words};
+use section_work::{Decision, Work};
+use set_script::{Command, Reply, SetRules};
+
+// A command that is to be one section.
+#[derive(Drop)]
+pub struct CommandWork {
+    pub command: Command,
+}
+
+// What it answers: the command's reply, and the objects that its commit leaves vacant.
+#[derive(Drop)]
+pub struct Answer {
+    pub reply: Reply,
+    pub gone: Gone,
+}
+
+impl Work for CommandWork {
+    ghost use Rattle.std.specs.Prelude.{⊤};
+    ghost use Rattle.set_script.specs.Tags.{tag_of as command_tag};
+    ghost use Rattle.set_catalog.specs.Merges.{writes_in};
+    ghost use Rattle.set_catalog.specs.Shortages.{IsKnown};
+    ghost use Rattle.set_catalog.specs.CommandMeaning.{command_meaning};
+    ghost use Rattle.set_catalog.specs.Remembering.{TakesFor};
+    ghost use Rattle.set_catalog.specs.CommandLaws.{known_later, makes_command};
+
+    type Rules = SetRules;
+
+    type Reply = Answer;
+
+    type Plan = Plan;
+
+    type Memo = Memo;
+
+    ghost accepts = { λ w. ⊤ };
+
+    ghost means = { λ w. command_meaning w.command };
+
+    ghost tag_of = { λ w plan. command_tag w.command };
+
+    ghost writes_of = { λ plan. writes_in plan };
+
+    ghost knows = { λ memo s. IsKnown s memo.known };
+
+    ghost notes = { λ w before after s. TakesFor w.command before.hints after.hints s };
+
+    fn decide<V: View>(&self, memo: &mut Memo, view: V, time: u64) -> (V, Decision<Answer, Plan>) {
+        let mut view = view;
+        let mut few = memo.known.at(time);
+        let found = find_plan_near(
+            &mut view,
+            &mut memo.hints,
+            &mut memo.fingers,
+            &mut few,
+            &self.command,
+        );
+        memo.known = Shortage { time, few };
+        match found {
+            Finding::Settled(reply) => (view, Decision::Settled(Answer::of(reply))),
+            Finding::Open { plan, gone } => {
+                let reply = Answer {
+                    reply: Reply::Yes,
+                    gone,
+                };
+                (view, Decision::Change { plan, reply })
+            }
+        }
+    }
+
+    fn writes(plan: &Plan) -> &[(u32, Words)] {
+        plan.writes()
+    }
+
+    fn tag(&self, _plan: &Plan) -> Tag {
+        tag(&self.command)
+    }
+
+    fn at_last(&self, _reply: Answer) -> Answer {
+        Answer::of(Reply::Worn)
+    }
+
+    ghost knows_on = { λ memo s t on known. known_later memo.known on known };
+
+    ghost makes = { λ w s before tag ws answer accepts plan drifts allowed. makes_command w.command s before tag ws answer plan allowed };
+}
+
+impl Answer {
+    // This reply, of no commit.
+    fn of(reply: Reply) -> Answer
+        ensures reply { result.reply ≡ reply }
+    {
+        Answer {
+            reply,
+            gone: Gone::nothing(),
+        }
+    }
+}
+
+// The tag of a command that changes something.
+fn tag(command: &Command) -> Tag
+    ensures { result ≡ command_tag command.now }
+{
+    match *command {
+        Command::Add { name, key } => [1, name.index() as u64, 0, key as u64],
+        Command::Del { name, key } => [2, name.index() as u64, 0, key as u64],
+        Command::Move {
+            source,
+            target,
+            key,
+        } => [3, source.index() as u64, target.index() as u64, key as u64],
+        Command::Put { name, key, value } => [4, name.index() as u64, value, key as u64],
+        _ => [0; 4],
+    }
+}

@@ -1,0 +1,36 @@
+// What is remembered from one section of a store to the next.
+ghost use Rattle.std.specs.Prelude.{◌≡◌};
+
+use crate::hints::Hints;
+use crate::plan::Gone;
+use crate::shortage::Shortage;
+use list_set::Fingers;
+use section_work::Place;
+use set_script::Command;
+
+// Hints alone: no answer depends on them.
+#[derive(Drop)]
+pub struct Memo {
+    // Objects that are likely to be vacant.
+    pub hints: Hints,
+    // Where searches in lists begin.
+    pub fingers: Fingers,
+    // How few nodes are vacant at a time of the store.
+    pub known: Shortage,
+}
+
+impl Memo {
+    ghost use Rattle.set_catalog.specs.Remembering.{IsAfterTheFirst, hints_at, known_at};
+
+    // Notes that the command took place here, whose commit left these objects vacant.
+    pub fn note(&mut self, command: &Command, gone: Gone, place: Place)
+        requires later { IsAfterTheFirst place }
+        ensures hints { self.new.hints ≡ hints_at place self.old.hints gone }
+        ensures known { self.new.known ≡ known_at place self.old.known command.now }
+    {
+        if let Place::Commit(time) = place {
+            gone.note(&mut self.hints);
+            self.known = self.known.after(command, time);
+        }
+    }
+}

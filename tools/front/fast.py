@@ -14,7 +14,7 @@ from concurrent.futures import ThreadPoolExecutor, as_completed
 from crates import CRATES, TOP, below, read_crates
 
 # Each with its words. tests/mvrlu.sh then leaves out what needs the proved program.
-SCRIPTS = (("docs.sh",), ("replay.sh",), ("mvrlu.sh", "unproved"))
+SCRIPTS = (("mvrlu.sh", "unproved"), ("view.sh",), ("replay.sh",), ("docs.sh",))
 # How long the tests of a crate may take, with their checks.
 SECONDS = "400"
 
@@ -68,6 +68,12 @@ def list_checks(crate):
     return found + [(f"tests/{it[0]}", run_script, it) for it in SCRIPTS if crate is None]
 
 
+def name_left_out():
+    """The scripts that need a proof, or a program that was proved."""
+    run_here = {it[0] for it in SCRIPTS}
+    return ", ".join(f"tests/{path.name}" for path in sorted((TOP / "tests").glob("*.sh")) if path.name not in run_here)
+
+
 def main(crate=None):
     start, all_passed, all_failed = time.monotonic(), 0, 0
     checks = list_checks(crate)
@@ -79,6 +85,8 @@ def main(crate=None):
             print(f"fast: {started[ended]}: {passed} passed, {failed} failed", flush=True)
             if failed:
                 print(said, flush=True)
+    if crate is None:
+        print(f"fast: left out, since they need what is proved: {name_left_out()}")
     seconds = int(time.monotonic() - start)
     print(f"fast: {all_passed} passed, {all_failed} failed in {seconds} s; nothing was proved: ./check proves")
     return int(all_failed > 0)

@@ -5,11 +5,13 @@ import pathlib
 import re
 import subprocess
 import sys
+from concurrent.futures import ThreadPoolExecutor
 
 from given import finish, samples
 from view.page import page_of
 from view.replay_model import replay_model, scene_at
 from view.runs import run_model
+from view.scene import people
 
 SIZES = ("360,740", "1000,800", "2000,1200")
 top, scratch, browser = pathlib.Path(sys.argv[1]), pathlib.Path(sys.argv[2]), sys.argv[3]
@@ -35,13 +37,13 @@ def expected(model):
                 case "master":
                     texts.append(" ".join(held))
                 case "who":
-                    texts += [says for people in held.values() for _, says, _ in people]
+                    texts += [says for some in people(table, model["seats"], int(key[4:])).values() for _, says, _ in some]
         found.append(sorted(set(texts)))
     return found
 
 
 def run(path, size):
-    words = [browser, "--headless=new", "--no-sandbox", "--disable-gpu", f"--user-data-dir={scratch}/profile", f"--window-size={size}",
+    words = [browser, "--headless=new", "--no-sandbox", "--disable-gpu", f"--user-data-dir={scratch}/profile-{size}", f"--window-size={size}",
              "--virtual-time-budget=20000", "--dump-dom", path.as_uri()]
     said = subprocess.run(words, capture_output=True, text=True, timeout=180, check=False).stdout
     title = re.search(r"<title>(.*?)</title>", said)
@@ -53,7 +55,9 @@ def tried(name, page, wanted):
     acts = f"<script>const WANTED = {json.dumps(wanted)};\n{ACTS}</script>"
     path = scratch / f"{name}.html"
     path.write_text(page.replace("<body>", f"<body>{EARLY}", 1).replace("</body>", f"{acts}</body>", 1))
-    return [f"{name} at {size}: {said}" for size in SIZES if not (said := run(path, size)).startswith("FINE")]
+    with ThreadPoolExecutor(len(SIZES)) as pool:
+        said = pool.map(lambda size: run(path, size), SIZES)
+    return [f"{name} at {size}: {title}" for size, title in zip(SIZES, said) if not title.startswith("FINE")]
 
 
 wrong, pages = [], 0

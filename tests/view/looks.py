@@ -2,6 +2,7 @@
 import pathlib
 import re
 import sys
+import xml.etree.ElementTree as Tree
 
 from given import finish, samples
 from view import colours
@@ -42,6 +43,9 @@ count = 0
 for path in sorted((top / "docs/pictures").glob("*.svg")):
     name, step = re.fullmatch(r"(.*)-(\d+)", path.stem).groups()
     count += 1
+    drawn = Tree.parse(path).getroot()
+    if "prefers-color-scheme:dark" not in path.read_text() or not drawn.findtext("{http://www.w3.org/2000/svg}title").startswith(f"Step {step}: seat"):
+        wrong.append(f"{path.name} isn't dark at night, or doesn't say which step it is of")
     if picture_of(models[name], int(step)) != path.read_text():
         wrong.append(f"{path.name} is another picture than ./mvrlu view --svg {step} replay samples/replay/{name}.plan makes")
 shown = set()

@@ -37,9 +37,9 @@ def is_chain(chain, number):
     return all(version.object == number for version in chain) and times == sorted(times, reverse=True)
 
 
-def reads_hold(machine, number):
-    """Each section's words of an object are those of the history's state of its time."""
-    for seat in machine.seats:
+def reads_hold(machine, number, seats):
+    """What the sections of these seats read of an object are its words in the history's state of their time."""
+    for seat in seats:
         if seat.time is None or not seat.helped or seat.holds(number):
             continue
         seen = seen_by(machine, seat, number)
@@ -76,6 +76,6 @@ def broken(machine, numbers):
             found.append("chains")
         if not stamps_hold(machine, chain):
             found.append("stamps")
-        if not reads_hold(machine, number):
+        if not reads_hold(machine, number, machine.seats):
             found.append("read")
     return found

@@ -1,5 +1,6 @@
 """The picture of one step of a replay: what it does, the lanes of all steps, the seats, and each object's chain."""
 from .replay_model import scene_at
+from .scene import MASTER, people
 from .svg import arrow, drawing, line, path, rect, seat_colour, text, width_of, wrapped
 
 WIDTH, EDGE = 760, 14
@@ -169,7 +170,7 @@ class Picture:
             boxes.append(box)
         self.put_row(boxes)
 
-    def version_box(self, name, people, apart):
+    def version_box(self, name, around, apart):
         key = f"version.{name}"
         seat, position, slot, _, sort, note, stamp, newer, *words = self.table[key]
         box = Box(sort, "5 3" if apart else None)
@@ -179,24 +180,24 @@ class Picture:
         if newer != "none":
             box.say(f"SUPER time {newer}", marked=self.is_of(key, 7))
         box.say(" ".join(words), marked=self.is_of(key, *range(FROM_WORDS, FROM_WORDS + 6)))
-        box.chips = people.get(name, [])
+        box.chips = around.get(name, [])
         return box
 
     def put_object(self, number):
         head, chain, apart, _ = self.table[f"head.{number}"]
-        people = self.table[f"who.{number}"]
+        around = people(self.table, self.model["seats"], number)
         first, last = Box("soft"), Box("soft")
         first.say(f"HEAD of object {number}", weight=600)
         first.say(head, marked=self.is_of(f"head.{number}", 0))
         last.say("master", weight=600)
         last.say(" ".join(self.table[f"master.{number}"]), marked=self.is_of(f"master.{number}", *range(6)))
-        last.chips = people.get("master", [])
-        boxes = [first, *[self.version_box(name, people, False) for name in chain], last]
+        last.chips = around.get(MASTER, [])
+        boxes = [first, *[self.version_box(name, around, False) for name in chain], last]
         self.put_row(boxes, arrows=len(boxes))
         if apart:
             self.parts.append(text(EDGE, self.y + 12, "in no chain:", 12, "soft"))
             self.y += 20
-            self.put_row([self.version_box(name, people, True) for name in apart])
+            self.put_row([self.version_box(name, around, True) for name in apart])
 
     def draw(self):
         self.put_sentence()

@@ -33,6 +33,13 @@ class Plan:
     remarks: list = field(default_factory=list)  # pairs of a turn and what the plan says before it
 
 
+def words_of(line):
+    """The words of a line before a comment, which begins with a word that begins with #."""
+    words = line.removesuffix("\r").split()
+    comment = next((at for at, word in enumerate(words) if word.startswith("#")), len(words))
+    return words[:comment]
+
+
 class Reader:
     """Reads the lines of a plan."""
 
@@ -50,7 +57,7 @@ class Reader:
 
     def take(self, line):
         self.line += 1
-        words = line.removesuffix("\r").split("#")[0].split()
+        words = words_of(line)
         if not words:
             said = line.strip()
             self.remark = self.remark + [said.lstrip("# ")] if said.startswith("#") else []

@@ -5,7 +5,7 @@ from . import facts, words
 from .checks import check_text
 from .kinds import INDEX, KINDS
 from .machine import Machine
-from .scene import MOST_SHOWN, SORTS, Scene
+from .scene import MOST_SHOWN, SEES, SORTS, Scene
 
 # What a step does, by its access; of an exchange by whether it was won.
 SENTENCES = {
@@ -72,12 +72,12 @@ def tag_of(event):
 # Loads by which a seat notes something of a version.
 NOTED = ("load_super", "load_death")
 
-Around = namedtuple("Around", "time stand back built held")
+Around = namedtuple("Around", "time helped stand back built held")
 
 
 def around(seat):
     """Where a seat is, and the versions that its call is of."""
-    return Around(seat.time, seat.stand, seat.back, seat.built, seat.held())
+    return Around(seat.time, seat.helped, seat.stand, seat.back, seat.built, seat.held())
 
 
 class Strings:
@@ -135,16 +135,22 @@ class Recorder:
         if step is None:
             return
         numbers, versions = self.touched(step, before, around(seat))
-        self.changes.append(self.scene.step(seat.number, numbers, versions))
-        if step.made.access != "load" or step.made.kind == "load_time":
-            self.broken += [(step.step, name) for name in facts.broken(self.machine, numbers & set(self.scene.shown))]
+        begins = before.time is None and seat.time is not None
+        self.changes.append(self.scene.step(seat.number, numbers, versions, begins))
+        self.look(step, seat, before, numbers)
+
+    def look(self, step, seat, before, numbers):
+        """Which facts are broken behind a step: by what it wrote, or by a section that is past its help from now on."""
+        shown = set(self.scene.shown)
+        found = facts.broken(self.machine, numbers & shown) if step.made.access != "load" or step.made.kind == "load_time" else []
+        if seat.helped and not before.helped and not all(facts.reads_hold(self.machine, number, [seat]) for number in shown):
+            found.append("read")
+        self.broken += [(step.step, name) for name in dict.fromkeys(found)]
 
     def touched(self, event, before, after):
         """The objects and versions of which something else may be seen behind a step."""
         place, kind = event.made.place, event.made.kind
         numbers = {at[0] for at in (before.stand, after.stand) if at and before.stand != after.stand}
-        if before.time != after.time:
-            numbers |= set(self.scene.shown)
         if before.back != after.back:
             numbers |= {version.object for version in (before.back, after.back) if version}
         if event.made.access == "load" and kind not in NOTED:
@@ -204,7 +210,7 @@ class Recorder:
         history = [[entry.time, entry.seat, entry.step, sorted({it.object for it in entry.versions})] for entry in self.machine.history]
         return {
             "form": "replay", "name": name, "title": plan.title, "seats": plan.seats, "objects": plan.objects, "slots": plan.slots,
-            "base": plan.base, "sentences": SENTENCES, "short": SHORT, "sorts": SORTS, "kinds": [list(kind) for kind in KINDS.values()],
+            "base": plan.base, "sentences": SENTENCES, "short": SHORT, "sorts": SORTS, "sees": SEES, "kinds": [list(kind) for kind in KINDS.values()],
             "facts": facts.FACTS, "history": history, "calls": self.calls, "sections": self.sections, "notes": self.notes,
             "unshown": len(self.scene.beyond), "most": MOST_SHOWN, "faults": told, "opening": self.opening, "texts": self.strings.texts,
             "steps": self.steps, "changes": self.changes,

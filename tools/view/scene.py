@@ -6,12 +6,16 @@
     head.O       [what HEAD says, names of the chain's versions, names of those in no chain, where a freed slot is met]
     master.O     six words
     who.O        for each version's name, or `master`: [[seat, what it does there, whether it stands there], ..]
+    sees.S.O     [name of the version that the section reads, or `master`, whether it is its own]; of a seat outside it says nothing
     version.S.P  [seat, position, slot, object, sort, note, STAMP, SUPER, six words]
 """
 from .chains import chain_of, data_of, master_of, seen_by, stamp_of, version_of
 from .words import CLOCK, GRACE, NO_SLOT, UNSET, clock_of, field, head, mark, say, say_stamp, say_version
 
 MOST_SHOWN = 64  # objects
+MASTER = "master"
+TIME = 6  # in the texts of a seat
+SEES = ("seat {seat} at {time} reads this", "seat {seat}'s own")
 
 # The sorts of versions, as a reader sees them, with what they are called.
 SORTS = {
@@ -85,27 +89,33 @@ def version_text(machine, version):
     return [version.seat, version.position, version.slot, version.object, sort, *says, *words]
 
 
-def watchers(machine, number):
-    """Who reads which version of an object, who stands where, and who writes one back."""
+def walkers(machine, number):
+    """Who stands at which version of an object, and who writes one back: for each, the seat, what it does, and whether it stands there."""
     found = {}
 
-    def put(version, seat, says, stands=False):
-        found.setdefault(version.name if version else "master", []).append([seat.number, says, stands])
+    def put(version, seat, says, stands):
+        found.setdefault(version.name if version else MASTER, []).append([seat.number, says, stands])
 
     for seat in machine.seats:
-        if seat.time is not None:
-            seen = seen_by(machine, seat, number)
-            if seen is not False:
-                own = seen is not None and seen is seat.holds(number)
-                put(seen, seat, f"seat {seat.number}'s own" if own else f"seat {seat.number} at {seat.time} reads this")
         if seat.stand and seat.stand[0] == number:
             at = version_of(machine, seat.stand[1]) if seat.stand[1] else None
             if at or not seat.stand[1]:
                 put(at, seat, f"seat {seat.number} stands here", True)
         if seat.back and seat.back.object == number:
-            put(seat.back, seat, f"written back {seat.back.backed} of 6")
+            put(seat.back, seat, f"written back {seat.back.backed} of 6", False)
             if 0 < seat.back.backed < 6:
-                put(None, seat, f"half written by seat {seat.number}")
+                put(None, seat, f"half written by seat {seat.number}", False)
+    return found
+
+
+def people(table, seats, number):
+    """All who are at an object: who reads which version, whose own it is, who stands there, and who writes it back."""
+    found = {name: list(some) for name, some in table[f"who.{number}"].items()}
+    for seat in range(seats):
+        name, own = table.get(f"sees.{seat}.{number}", (None, 0))
+        time = table[f"seat.{seat}"][TIME]
+        if name and time is not None:
+            found.setdefault(name, []).append([seat, SEES[own].format(seat=seat, time=time), False])
     return found
 
 
@@ -143,15 +153,25 @@ class Scene:
             key = f"version.{version.name}"
             if version in changed or key not in self.table or self.table[key][3] != number:
                 self.put(key, version_text(machine, version))
-        self.put(f"who.{number}", watchers(machine, number))
+        self.put(f"who.{number}", walkers(machine, number))
+        for seat in machine.seats:
+            if seat.time is not None:
+                self.put_sees(seat, number)
         return set(names[0] + names[1])
 
-    def step(self, number, touched, versions):
-        """What is seen behind a step of a seat that touched these objects and versions, and behind the answers that come then:
-        what has changed."""
+    def put_sees(self, seat, number):
+        """What a section sees of an object: a version, or the master."""
+        seen = seen_by(self.machine, seat, number)
+        if seen is not False:
+            own = int(seen is not None and seen is seat.holds(number))
+            self.put(f"sees.{seat.number}.{number}", [seen.name if seen else MASTER, own])
+
+    def step(self, seat, touched, versions, begins):
+        """What is seen behind a step of a seat that touched these objects and versions, or that begins a section, and behind the
+        answers that come then: what has changed."""
         self.changes, gone = {}, set()
         self.put_clock()
-        self.put_seat(self.machine.seats[number])
+        self.put_seat(self.machine.seats[seat])
         for number in sorted(touched):
             if number not in self.shown and len(self.shown) == MOST_SHOWN:
                 self.beyond.add(number)
@@ -159,6 +179,9 @@ class Scene:
             before = self.shown.get(number, set())
             self.shown[number] = self.put_object(number, versions)
             gone |= before - self.shown[number]
+        if begins:
+            for other in self.shown:
+                self.put_sees(self.machine.seats[seat], other)
         for name in gone - set().union(*self.shown.values()) if gone else ():
             self.changes[f"version.{name}"] = None
             del self.table[f"version.{name}"]

@@ -73,24 +73,6 @@ def number_of(plan, place):
     return slot + (len(FIELDS) + place.word if place.name == "data" else FIELDS.index(place.name))
 
 
-def place_of(plan, number):
-    """The place of a number, or None where the domain has none."""
-    if number < 2:
-        return (CLOCK, GRACE)[number]
-    number -= 2
-    if number < plan.seats:
-        return mark(number)
-    number -= plan.seats
-    if number < OBJECT_PLACES * plan.objects:
-        of, word = divmod(number, OBJECT_PLACES)
-        return master(of, word - 1) if word else head(of)
-    slot, word = divmod(number - OBJECT_PLACES * plan.objects, SLOT_PLACES)
-    seat, slot = divmod(slot, plan.slots)
-    if seat >= plan.seats:
-        return None
-    return field(FIELDS[word], seat, slot) if word < len(FIELDS) else data(seat, slot, word - len(FIELDS))
-
-
 def name_of(place):
     """What a place is called, without the number of its word."""
     match place.name:

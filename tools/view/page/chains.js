@@ -1,8 +1,21 @@
 /* Each object: HEAD, its versions from the newest down, and the master; then the versions that are in no chain. */
 const MOST_IN_CHAIN = 6, MOST_OBJECTS = 24;
 const FROM_WORDS = 8, WORDS = 6;  // of a version's texts
+const SECTION_TIME = 6;  // of a seat's texts
 
 const arrow = text => el("span", { class: "arrow", "aria-hidden": true }, text);
+
+/* All who are at an object, by the names of its versions: who stands there, who writes one back, and who reads which one. */
+function peopleAt(page, table, number) {
+    const found = new Map(Object.entries(table.get(`who.${number}`)).map(([name, some]) => [name, [...some]]));
+    for (let seat = 0; seat < page.model.seats; seat++) {
+        const time = table.get(`seat.${seat}`)[SECTION_TIME], sees = table.get(`sees.${seat}.${number}`);
+        if (time === null || !sees) continue;
+        const [name, own] = sees, says = told(page.model.sees[own], { seat, time });
+        found.set(name, [...found.get(name) ?? [], [seat, says, false]]);
+    }
+    return found;
+}
 
 function chips(people) {
     return el("div", {}, (people ?? []).map(([seat, says, stands]) => {
@@ -18,21 +31,21 @@ function versionBox(page, table, name, people, apart) {
         el("div", { class: "top" }, el("span", { class: page.mark(key, 0), style: `color:${seatColour(seat)}` }, `version ${position} of seat ${seat}`),
             el("span", { class: "soft" }, `slot ${slot}`)),
         el("div", {}, el("span", { class: page.mark(key, 6) }, `STAMP ${stamp}`), "; ", el("span", { class: page.mark(key, 7) }, `SUPER ${newer}`)),
-        el("div", { class: "soft" }, note), el("div", { class: "words" }, words), chips(people[name]));
+        el("div", { class: "soft" }, note), el("div", { class: "words" }, words), chips(people.get(name)));
 }
 
 function masterBox(page, table, number, people) {
     const words = table.get(`master.${number}`).flatMap((word, at) => [el("span", { class: page.mark(`master.${number}`, at) }, word), " "]);
     return el("div", { class: "version", style: "border-color:var(--soft)" }, el("div", { class: "top" }, "master"),
-        el("div", { class: "words" }, words), chips(people.master));
+        el("div", { class: "words" }, words), chips(people.get("master")));
 }
 
 function objectBox(page, table, number) {
-    const [head, chain, apart, freed] = table.get(`head.${number}`), people = table.get(`who.${number}`);
+    const [head, chain, apart, freed] = table.get(`head.${number}`), people = peopleAt(page, table, number);
     const kids = [el("div", { class: `version small ${page.mark(`head.${number}`, 0)}` }, el("b", {}, "HEAD"), el("div", {}, head))];
     let hidden = 0;
     chain.forEach((name, at) => {
-        const needed = at < 2 || at === chain.length - 1 || people[name] || page.isAt(`version.${name}`);
+        const needed = at < 2 || at === chain.length - 1 || people.has(name) || page.isAt(`version.${name}`);
         if (chain.length > MOST_IN_CHAIN && !needed) { hidden++; return; }
         if (hidden) kids.push(arrow(`→ ${hidden} more`));
         hidden = 0;

@@ -6,6 +6,7 @@ class Lanes {
         Object.assign(this, { model, steps, go, first: 0, last: steps.count });
         this.place = el("section", { id: "over", "aria-label": "all steps, a lane for each seat" });
         this.height = model.seats > 12 ? 16 : 30;
+        this.entries = new Map(model.history.map(([time, , step], at) => [step, { time, next: model.history[at + 1]?.[2] ?? Infinity }]));
     }
 
     y(seat) { return TOP + this.height * seat + this.height / 2; }
@@ -92,12 +93,13 @@ class Lanes {
     }
 
     entry(step, x, y) {
-        const rest = step.tag === "rest", [time] = this.model.history.find(entry => entry[2] === step.number);
+        const rest = step.tag === "rest", { time, next } = this.entries.get(step.number);
+        const roomy = (next - step.number) * this.width > 19 + 7 * String(time).length;
         const colour = rest ? "var(--soft)" : seatColour(step.seat);
         return [svg("line", { x1: x, x2: x, y1: 13, y2: y - 7, stroke: "var(--entry)", "stroke-width": 1.3, "stroke-dasharray": rest ? "2 2" : null }),
             tipped(svg("path", { d: `M${x} 5l8 8l-8 8l-8 -8z`, fill: rest ? "var(--panel)" : colour, stroke: colour, "stroke-width": 1.5 }),
                 `step ${step.number}: time ${time}, a ${step.tag} of seat ${step.seat}`),
-            svg("text", { x: x + 11, y: 17, "font-size": 11 }, String(time))];
+            svg("text", { x: x + 11, y: 17, "font-size": 11 }, roomy ? String(time) : "")];
     }
 
     listen(wide) {

@@ -6,7 +6,7 @@ class List {
     constructor(model, steps, go) {
         Object.assign(this, { model, steps, go, grouped: true, cursor: 0 });
         this.rows = el("div", { class: "rows", role: "list" });
-        this.place = el("div", { id: "list", tabindex: 0, "aria-label": "the steps" }, this.rows);
+        this.place = el("div", { id: "list", tabindex: 0, class: steps.count < 1000 ? "" : "long", "aria-label": "the steps" }, this.rows);
         this.place.addEventListener("scroll", () => this.draw());
         this.many = new Set(model.kinds.flatMap(([name], kind) => GROUPED.includes(name) ? [kind] : []));
         this.lane = model.seats > 8 ? 7 : 16;

@@ -4,6 +4,16 @@ const KEYS = "Keys: → a step on, ← a step back, with Shift a call; n and p t
 const TEXT_HOLDS = "each line of the text is that of its turn: the step that the call makes next, the word that was stored there last, "
     + "and the answer that follows";
 
+/* What a screen reader is told: the step, and the answers that come with it. */
+function spoken({ model, steps, cursor }) {
+    if (!cursor) return "A domain that is just opened.";
+    const step = steps.at(cursor), ends = (steps.ends.get(cursor) ?? []).map(end => ` ${endText(end)}`);
+    const wrong = steps.wrong.has(cursor) ? " There is a fault." : "";
+    return `Step ${cursor}: seat ${step.seat} ${told(model.sentences[step.access], step)}.${wrong}${ends.join("")}`;
+}
+
+const endText = ({ sort, seat, text }) => sort === "skip" ? `Then seat ${seat} skips ${text}.` : `Seat ${seat} has ended ${text}.`;
+
 function nowCard(page, table) {
     const { model, steps, cursor } = page;
     if (!cursor) {
@@ -14,8 +24,7 @@ function nowCard(page, table) {
     }
     const step = steps.at(cursor), [kind, why] = model.kinds[step.kind];
     const faults = model.faults.filter(fault => fault.step === cursor);
-    const ends = (steps.ends.get(cursor) ?? []).map(({ sort, seat, text }) => el("b", { style: `color:${seatColour(seat)}` },
-        sort === "skip" ? ` Then seat ${seat} skips ${text}.` : ` Seat ${seat} has ended ${text}.`));
+    const ends = (steps.ends.get(cursor) ?? []).map(end => el("b", { style: `color:${seatColour(end.seat)}` }, ` ${endText(end)}`));
     return el("section", { class: "card", id: "now", style: `border-left-color:${seatColour(step.seat)}` },
         el("p", { class: "big" }, `Step ${cursor}: seat ${step.seat} ${told(model.sentences[step.access], step)}. `, steps.tags(step).map(tagOf)),
         faults.map(fault => el("p", { style: "color:var(--fault);font-weight:600" }, `Fault${fault.line ? ` in line ${fault.line}` : ""}: ${fault.said}.`)),

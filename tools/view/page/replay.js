@@ -12,7 +12,7 @@ class ReplayPage {
         this.lanes = new Lanes(model, this.steps, go);
         this.list = new List(model, this.steps, go);
         this.state = el("div", { id: "state", tabindex: 0, "aria-label": "what is seen behind the step" });
-        this.live = el("div", { "aria-live": "polite", "aria-atomic": true });
+        this.live = el("div", { id: "live", "aria-live": "polite", "aria-atomic": true });
         this.rest = el("div");
         this.fixed = el("div", {}, checkedCard(model), kindsCard(model));
         this.state.append(this.live, this.rest, this.fixed);
@@ -77,8 +77,8 @@ class ReplayPage {
         this.count.textContent = `step ${this.cursor} of ${this.steps.count}`;
         this.lanes.show(this.cursor);
         this.list.show(this.cursor);
-        this.live.replaceChildren(nowCard(this, table));
-        this.rest.replaceChildren(seatsCard(this, table), timesCard(this, table), objectsCard(this, table), logsCard(this, table));
+        this.live.textContent = spoken(this);
+        this.rest.replaceChildren(nowCard(this, table), seatsCard(this, table), timesCard(this, table), objectsCard(this, table), logsCard(this, table));
         this.state.scrollTop = scrolled;
         if (this.linked() !== this.cursor) history.replaceState(null, "", `#${this.cursor}`);
     }

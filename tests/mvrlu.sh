@@ -1,8 +1,9 @@
 #!/bin/bash
 # What ./mvrlu, ./mvrlu build and ./check fast do for a person: which program runs, what is said before and behind its line, how
-# interrupts and streams are handled, and how long a call takes. Most rows stand on copies of the front end in a tree of small crates,
-# with a stand-in for `rt`, so nothing is proved by them. The rows of mvrlu/real.sh run the program itself: unproved, and, as
-# tests/mvrlu.sh unproved leaves out, proved.
+# interrupts and streams are handled, and how long a call takes. Most rows stand on copies of the front end in a tree of small
+# crates, with a stand-in for `rt`, so nothing is proved by them. The rows of mvrlu/real.sh run the program itself: unproved, which
+# tests/mvrlu.sh stand-ins leaves out, and proved, as `rt ci` left it, which tests/mvrlu.sh unproved leaves out too.
+# Reads and writes that are interrupted are rows of tests/refused.sh.
 set -u
 top=$(cd "$(dirname "$0")/.." && pwd)
 scratch=$(mktemp -d) || exit 1

@@ -31,7 +31,7 @@ rows_of_a_first_build() {
     run build now
     [ "$status" = 2 ] || fail "words behind build end with $status"
     have_none
-    (cd "$scratch/repository" && script -qec './mvrlu build' /dev/null </dev/null) >"$scratch/out"
+    (cd "$scratch/repository" && python3 -c 'import pty; pty.spawn(["./mvrlu", "build"])' </dev/null) >"$scratch/out"
     grep -q $'\r.*build: 0 of 3 libraries proved' "$scratch/out" || fail "no line is rewritten on a terminal: $(cat -v "$scratch/out")"
 }
 

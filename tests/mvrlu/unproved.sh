@@ -74,7 +74,9 @@ rows_of_what_it_cannot() {
     cannot big 'the text has more than 1 MiB, too much for an unproved run: ./mvrlu build proves and builds the program'
     cannot slow 'it takes more than 60 s, too long for an unproved run: ./mvrlu build proves and builds the program'
     cannot fault "a check at run time failed: ./mvrlu build shows what can't be proved"
-    cannot refused "the sources could not be run unproved, as said above: ./mvrlu build shows what can't be proved"
+    cannot refused 'the sources could not be run unproved, as said above: ./mvrlu build proves and builds the program'
+    cannot unable 'the sources could not be run unproved, as said above: ./mvrlu build proves and builds the program'
+    grep -q 'AddressSanitizer cannot start' "$scratch/err" || fail "it doesn't say why: $(cat "$scratch/err")"
     "$scratch/repository/mvrlu" run good >/dev/full 2>"$scratch/err"
     status=$?
     [ "$status" = 1 ] || fail "a full device, unproved: $status"

@@ -100,12 +100,12 @@ def outcome(returned, said):
         return returned, OF_RT.sub(b"", said[: ended.start()])
     if b"the program wrote more than" in said:
         raise Unanswered("the text has more than 1 MiB, too much for an unproved run: ./mvrlu build proves and builds the program")
-    if b"run=no-answer" in said:
+    if b"did not end within the time limit" in said:
         raise Unanswered("it takes more than 60 s, too long for an unproved run: ./mvrlu build proves and builds the program")
     sys.stderr.buffer.write(said)
     if b"run=fault" in said:
         raise Unanswered("a check at run time failed: ./mvrlu build shows what can't be proved")
-    raise Unanswered("the sources could not be run unproved, as said above: ./mvrlu build shows what can't be proved")
+    raise Unanswered("the sources could not be run unproved, as said above: ./mvrlu build proves and builds the program")
 
 
 def write_text(text):

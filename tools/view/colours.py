@@ -26,11 +26,11 @@ def variables(colours, seats):
 
 
 def style(scope=":root"):
-    """The colours as variables: by day, by night where the reader's system says so, and as the page is told."""
+    """The colours as variables: by day, by night where the reader's system says so, and as the page is told; on paper by day."""
     light, dark = variables(LIGHT, SEATS_LIGHT), variables(DARK, SEATS_DARK)
     return (f"{scope}{{color-scheme:light;{light}}}@media (prefers-color-scheme:dark){{{scope}{{color-scheme:dark;{dark}}}}}"
             f"{scope}[data-theme=light]{{color-scheme:light;{light}}}{scope}[data-theme=dark]{{color-scheme:dark;{dark}}}"
-            f"@media print{{{scope}{{color-scheme:light;{light}}}}}")
+            f"@media print{{{scope},{scope}[data-theme]{{color-scheme:light;{light}}}}}")
 
 
 def luminance(colour):

@@ -46,6 +46,10 @@ change_each_source() {
     touch "$tree/crates/high/src/more.rt"
     is_older 'a source more'
     rm "$tree/crates/high/src/more.rt"
+    mkdir "$tree/crates/low/specs"
+    touch "$tree/crates/low/specs/Lib.antt"
+    is_older 'a folder of sources more'
+    rm -r "$tree/crates/low/specs"
     mv "$tree/crates/high/src/lib.rt" "$scratch/kept"
     is_older 'a source less'
     mv "$scratch/kept" "$tree/crates/high/src/lib.rt"
@@ -59,7 +63,7 @@ is_kept_where_nothing_changed() {
     touch "$tree/crates/other/src/lib.rt" "$tree/crates/low/out/more.rt"
     is_proved 'a crate on which the program does not stand'
     sort -r -o "$tree/crates/mvrlu_main/out/sources" <(tail -n +2 "$tree/crates/mvrlu_main/out/sources") || fail 'no stamp'
-    sed -i "1i $(cd "$tree" && echo crates/{low,wide,high,mvrlu_main}/src)" "$tree/crates/mvrlu_main/out/sources"
+    sed -i "1i $(echo crates/{low,wide,high,mvrlu_main}/{src,specs,proofs})" "$tree/crates/mvrlu_main/out/sources"
     is_proved 'another order of the stamp'
 }
 
@@ -82,6 +86,7 @@ rows_of_other_binaries() {
 rows_of_places_of_the_front() {
     ln -s "$scratch/repository/mvrlu" link
     ENDS=0 SAYS='' ./link run x </dev/null 2>/dev/null | grep -q 'with 2: run x' || fail 'by a link it finds no program'
+    (cd "$scratch" && CDPATH=/usr repository/mvrlu run x </dev/null 2>/dev/null | grep -q 'with 2: run x') || fail 'by a path below'
     (cd "$scratch" && ENDS=0 bash -c 'cd repository && bash mvrlu run x' </dev/null 2>/dev/null | grep -q 'with 2: run x') || fail 'by its name alone'
     rm link
 }

@@ -61,7 +61,7 @@ case ${TRIES-ended} in
         [ -z "$SAYS" ] || echo "$SAYS" >&2
         closing "checked: ended status=$ENDS" "run=ended status=$ENDS runners=1"
         exit "$ENDS" ;;
-    big) closing 'checked: no-answer: the program wrote more than 1048576 bytes to standard output or to standard error, the limit on each' 'run=no-answer'; exit 6 ;;
+    big) closing 'checked: no-answer: the program wrote more than 1048576 bytes to standard output' 'run=no-answer'; exit 6 ;;
     slow) closing 'checked: no-answer: the program did not end within the time limit' 'run=no-answer'; exit 6 ;;
     unable) closing 'checked: no-answer: AddressSanitizer cannot start here' 'run=no-answer'; exit 6 ;;
     fault) closing 'checked: fault: an index at or past the length' 'run=fault'; exit 4 ;;

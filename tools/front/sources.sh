@@ -4,7 +4,7 @@
 # time of each of their sources and of the binary, which are those of the moment before the proof began.
 stamp=${binary%/*}/sources
 
-# Prints the folders of a crate of crates.txt, and of all that it stands on, relative to the top.
+# Prints the folders of a crate of crates.txt, and of all that it stands on, relative to the top: also those that aren't there yet.
 list_folders() {
     local -A uses=() seen=()
     local line name left=("$1") used folder
@@ -19,9 +19,7 @@ list_folders() {
         for used in ${uses[$name]}; do left+=("$used"); done
     done
     for name in "${!seen[@]}"; do
-        for folder in src specs proofs; do
-            [ ! -d "$top/crates/$name/$folder" ] || echo "crates/$name/$folder"
-        done
+        for folder in src specs proofs; do echo "crates/$name/$folder"; done
     done
 }
 
@@ -33,7 +31,7 @@ list_sources() {
 
 # Whether a source in the folders is newer than the binary.
 has_newer() {
-    [ -n "$(cd "$top" && find "$@" crates.txt HANDLES -type f -newer crates/mvrlu_main/out/mvrlu_main -print -quit)" ]
+    [ -n "$(cd "$top" && find "$@" crates.txt HANDLES -type f -newer crates/mvrlu_main/out/mvrlu_main -print -quit 2>/dev/null)" ]
 }
 
 # Writes the stamp, where that can be: these lines.

@@ -16,7 +16,7 @@ for name, plan, text in samples(top):
     model = replay_model(name, plan, read_text(name, text))
     wrong += [f"{name}: line {fault['line']}: {fault['said']}" for fault in model["faults"]]
     answers = [note[3] for note in model["notes"] if note[1] in ("answer", "skip", "idle", "end")]
-    if len(model["steps"]) + len(answers) != text.count("\n") or [step[11] for step in model["steps"]] != [
+    if len(model["steps"]) + len(answers) != text.count("\n") or [step.line for step in model["steps"]] != [
             line for line in text.splitlines() if line.split()[1].isdigit() and not line.startswith("end")]:
         wrong.append(f"{name}: the page has other steps")
 for path, plan, answers in plans(top):

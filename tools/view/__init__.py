@@ -7,6 +7,7 @@
     machine.py                  runs a plan: its turns, its events and the history
     checks.py, facts.py         a text against its plan's run; facts of docs/RULE.md behind each step
     chains.py, scene.py         what a reader sees behind a step, in words
+    sentences.py                what steps and answers say
     replay_model.py, runs.py    all that a page shows, as JSON
     page.py, page/              the page: one file, of this JSON, the styles and the scripts
     svg.py, picture.py          the picture of one step

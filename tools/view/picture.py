@@ -1,14 +1,14 @@
 """The picture of one step of a replay: what it does, the lanes of all steps, the seats, and each object's chain."""
-from .replay_model import scene_at
-from .scene import MASTER, people
+from .replay_model import Row, scene_at
+from .scene import MARK_AT, MASTER, STAMP_AT, SUPER_AT, WORDS_AT, people
 from .svg import arrow, drawing, line, path, rect, seat_colour, text, width_of, wrapped
+from .words import WORDS
 
 WIDTH, EDGE = 760, 14
 INNER = WIDTH - 2 * EDGE
 LANE, LEFT = 26, 66
 ARROW = 22
 LEAST = 54  # how wide a box is inside
-FROM_WORDS = 8  # in a version's texts
 SIGNS = {"helped": ("★", "help"), "stamped": ("☆", "help"), "lost": ("✕", "fault")}
 
 
@@ -50,24 +50,23 @@ class Picture:
     def __init__(self, model, step):
         self.model, self.number, self.table = model, step, scene_at(model, step)
         self.parts, self.y = [], EDGE
-        self.step = self.read_step() if step else None
+        self.steps = [Row(*row) for row in model["steps"]]
+        self.step = self.steps[step - 1] if step else None
 
-    def read_step(self):
-        """The step by name, with its texts."""
-        seat, kind, access, place, word, found, offered, _, tag, key, part, said = self.model["steps"][self.number - 1]
-        texts = self.model["texts"]
-        name = texts[place] if word < 0 else f"{texts[place]}, word {word}"
-        known = {"place": name, "found": texts[found], "offered": texts[offered] if offered >= 0 else ""}
-        sentence = self.model["sentences"][access].format(**known)
-        return {"seat": seat, "kind": self.model["kinds"][kind], "tag": tag, "key": texts[key], "part": part, "line": said, "sentence": sentence}
+    def sentence(self):
+        """What the step does."""
+        texts, step = self.model["texts"], self.step
+        place = texts[step.place] if step.word < 0 else f"{texts[step.place]}, word {step.word}"
+        offered = texts[step.offered] if step.offered >= 0 else ""
+        return self.model["sentences"][step.access].format(place=place, found=texts[step.found], offered=offered)
 
     def is_of(self, key, *parts):
-        return self.step is not None and self.step["key"] == key and self.step["part"] in parts
+        return self.step is not None and self.model["texts"][self.step.key] == key and self.step.part in parts
 
     def title(self):
         if self.step is None:
             return "A domain that is just opened"
-        return f"Step {self.number}: seat {self.step['seat']} {self.step['sentence']}."
+        return f"Step {self.number}: seat {self.step.seat} {self.sentence()}."
 
     def put_lines(self, lines, size, fill="ink", weight=None):
         for said in lines:
@@ -78,17 +77,18 @@ class Picture:
         top = self.y
         self.put_lines(wrapped(self.title(), INNER - 20, 14.5, 600), 14.5, weight=600)
         if self.step:
-            self.put_lines(wrapped(self.step["kind"][0] + ". " + self.step["kind"][1], INNER - 20, 12), 12, "soft")
-            self.parts.append(rect(EDGE, top, 4, self.y - top + 2, rx=2, fill=f"var(--{seat_colour(self.step['seat'])})"))
+            name, why = self.model["kinds"][self.step.kind]
+            self.put_lines(wrapped(f"{name}. {why}", INNER - 20, 12), 12, "soft")
+            self.parts.append(rect(EDGE, top, 4, self.y - top + 2, rx=2, fill=f"var(--{seat_colour(self.step.seat)})"))
         self.y += 12
 
     # the lanes
 
     def x(self, step):
-        return EDGE + LEFT + (step - 0.5) * (INNER - LEFT) / max(1, len(self.model["steps"]))
+        return EDGE + LEFT + (step - 0.5) * (INNER - LEFT) / max(1, len(self.steps))
 
     def put_lanes(self):
-        model, top, width = self.model, self.y, (INNER - LEFT) / max(1, len(self.model["steps"]))
+        model, top, width = self.model, self.y, (INNER - LEFT) / max(1, len(self.steps))
         middle = [top + 24 + LANE * seat + LANE / 2 for seat in range(model["seats"])]
         self.parts.append(text(EDGE, top + 15, "history", 11, "soft"))
         self.parts.append(line(EDGE + LEFT, top + 11, WIDTH - EDGE, top + 11))
@@ -119,12 +119,12 @@ class Picture:
             self.parts += [line(x, top + 11, x, middle[seat] - 7, "entry", 1.3, stroke_dasharray=None if objects else "2 2"),
                            path(f"M{x:.1f} {top + 3}l8 8l-8 8l-8 -8z", fill=f"var(--{colour if objects else 'panel'})", stroke=f"var(--{colour})",
                                 stroke_width=1.5), text(x + 11, top + 15, str(time), 11)]
-        for number, step in enumerate(self.model["steps"], 1):
-            if step[8] in SIGNS:
-                sign, colour = SIGNS[step[8]]
-                self.parts.append(text(self.x(number), middle[step[0]] - 6, sign, 13, colour, 700, "middle"))
-            elif step[8] == "back":
-                self.parts.append(rect(self.x(number) - 3, middle[step[0]] + 7, 6, 4, fill="var(--back)"))
+        for number, step in enumerate(self.steps, 1):
+            if step.tag in SIGNS:
+                sign, colour = SIGNS[step.tag]
+                self.parts.append(text(self.x(number), middle[step.seat] - 6, sign, 13, colour, 700, "middle"))
+            elif step.tag == "back":
+                self.parts.append(rect(self.x(number) - 3, middle[step.seat] + 7, 6, 4, fill="var(--back)"))
         x = self.x(self.number or 0.5)
         self.parts.append(line(x, top, x, top + 24 + LANE * len(middle), "cursor", 1.8))
 
@@ -163,7 +163,7 @@ class Picture:
             phase, mark, call, stands, holds, _, _ = self.table[f"seat.{seat}"]
             box = Box(seat_colour(seat))
             box.say(f"seat {seat}: {phase}", seat_colour(seat), 600)
-            box.say(f"MARK {mark}", marked=self.is_of(f"seat.{seat}", 1))
+            box.say(f"MARK {mark}", marked=self.is_of(f"seat.{seat}", MARK_AT))
             for said in (call, stands, holds):
                 if said:
                     box.say(said, "soft")
@@ -176,10 +176,10 @@ class Picture:
         box = Box(sort, "5 3" if apart else None)
         box.say(f"version {position} of seat {seat}", seat_colour(seat), 600, marked=self.is_of(key, 0))
         box.say(f"slot {slot}; {note}", "soft")
-        box.say(f"STAMP {stamp}", marked=self.is_of(key, 6))
+        box.say(f"STAMP {stamp}", marked=self.is_of(key, STAMP_AT))
         if newer != "none":
-            box.say(f"SUPER time {newer}", marked=self.is_of(key, 7))
-        box.say(" ".join(words), marked=self.is_of(key, *range(FROM_WORDS, FROM_WORDS + 6)))
+            box.say(f"SUPER time {newer}", marked=self.is_of(key, SUPER_AT))
+        box.say(" ".join(words), marked=self.is_of(key, *range(WORDS_AT, WORDS_AT + WORDS)))
         box.chips = around.get(name, [])
         return box
 
@@ -190,7 +190,7 @@ class Picture:
         first.say(f"HEAD of object {number}", weight=600)
         first.say(head, marked=self.is_of(f"head.{number}", 0))
         last.say("master", weight=600)
-        last.say(" ".join(self.table[f"master.{number}"]), marked=self.is_of(f"master.{number}", *range(6)))
+        last.say(" ".join(self.table[f"master.{number}"]), marked=self.is_of(f"master.{number}", *range(WORDS)))
         last.chips = around.get(MASTER, [])
         boxes = [first, *[self.version_box(name, around, False) for name in chain], last]
         self.put_row(boxes, arrows=len(boxes))

@@ -5,69 +5,11 @@ from . import facts, words
 from .checks import check_text
 from .kinds import INDEX, KINDS
 from .machine import Machine
-from .scene import MOST_SHOWN, SEES, SORTS, Scene
+from .scene import MARK_AT, MOST_SHOWN, SEES, SORTS, STAMP_AT, SUPER_AT, WORDS_AT, Scene
+from .sentences import SENTENCES, SHORT, answer_text, is_refusal, tag_of
 
-# What a step does, by its access; of an exchange by whether it was won.
-SENTENCES = {
-    "load": "loads {place} and finds: {found}",
-    "store": "stores into {place}: {offered}",
-    "max": "raises {place} to at least {offered}; it finds {found}",
-    "won": "exchanges {place}, which is as expected ({found}), for: {offered}",
-    "lost": "would exchange {place} for {offered}, but finds {found}: nothing is changed",
-}
-SHORT = {
-    "load": "{place}: {found}", "store": "{place} ← {offered}", "max": "{place} ↑ {offered}",
-    "won": "{place}: {found} → {offered}", "lost": "{place}: {found}, not exchanged",
-}
-REFUSALS = {
-    "busy": "busy, seat {0} holds it", "stale": "stale, it was written at time {0}, after the snapshot", "setfull": "the write set is full",
-    "logfull": "the log is full", "again": "again, seat {0} made time {1} first", "end": "it is the last time",
-}
-HOLDERS = {
-    "mark": "held by the mark of seat {0} with time {1}", "above": "held under a newer version of object {0}, of seat {1}",
-    "fresh": "not dead before time {0}", "end": "it is the last time",
-}
-
-
-def answer_text(call, answer):
-    """What a call answers, in words."""
-    match call.name:
-        case "enter":
-            return f"a section at time {answer[0]}"
-        case "lock" | "commit" if answer[0] in REFUSALS:
-            return REFUSALS[answer[0]].format(*answer[1:])
-        case "commit":
-            return f"done, time {answer[1]}"
-        case "tidy":
-            said = f"freed {answer[0]}, live {answer[1]}"
-            return said + (f", {HOLDERS[answer[2]].format(*answer[3:])}" if len(answer) > 2 else "")
-    return " ".join(answer)
-
-
-def is_refusal(event):
-    return event.sort == "answer" and event.call.name in ("lock", "commit") and event.answer[0] in REFUSALS
-
-
-def tag_of(event):
-    """What a mark in the lanes says of a step, or nothing."""
-    made = event.made
-    if event.won is False:
-        return "stamped" if made.kind == "stamp" else "lost"
-    match made.kind:
-        case "stamp":
-            return "helped" if made.place.of != event.seat else ""
-        case "name_commit":
-            return "commit"
-        case "name_rest":
-            return "rest"
-        case "store_master":
-            return "back"
-        case "cut_head":
-            return "cut"
-        case "store_free":
-            return "freed"
-    return ""
-
+# A step as the page has it: texts by their numbers, -1 where there is none; `key` and `part` say which text of the scene shows its word.
+Row = namedtuple("Row", "seat kind access place word found offered writer tag key part line")
 
 # Loads by which a seat notes something of a version.
 NOTED = ("load_super", "load_death")
@@ -99,11 +41,11 @@ def key_of(machine, place):
         case "clock" | "grace":
             return place.name, 0
         case "mark":
-            return f"seat.{place.of}", 1
+            return f"seat.{place.of}", MARK_AT
         case "head" | "master":
             return f"{place.name}.{place.of}", place.word or 0
     version = machine.in_slot.get((place.of, place.slot))
-    parts = {"stamp": 6, "super": 7, "data": 8 + (place.word or 0)}
+    parts = {"stamp": STAMP_AT, "super": SUPER_AT, "data": WORDS_AT + (place.word or 0)}
     return (f"version.{version.name}" if version else ""), parts.get(place.name, 0)
 
 
@@ -181,8 +123,8 @@ class Recorder:
         offered = -1 if made.offered is None else number(words.say(made.place, made.offered, base))
         access = made.access if event.won is None else "won" if event.won else "lost"
         word = -1 if made.place.word is None else made.place.word
-        self.steps.append([event.seat, INDEX[made.kind], access, number(words.name_of(made.place)), word,
-                           number(words.say(made.place, event.found, base)), offered, event.writer, tag_of(event), number(key), part, event.line])
+        found, place = number(words.say(made.place, event.found, base)), number(words.name_of(made.place))
+        self.steps.append(Row(event.seat, INDEX[made.kind], access, place, word, found, offered, event.writer, tag_of(event), number(key), part, event.line))
         call = self.open_calls.get(event.seat)
         if call is None:
             self.open_calls[event.seat] = call = [event.seat, event.step, event.step, str(event.call), "", 0]

@@ -14,7 +14,8 @@ from .words import CLOCK, GRACE, NO_SLOT, UNSET, clock_of, field, head, mark, sa
 
 MOST_SHOWN = 64  # objects
 MASTER = "master"
-TIME = 6  # in the texts of a seat
+MARK_AT, TIME_AT = 1, 6  # in the texts of a seat
+STAMP_AT, SUPER_AT, WORDS_AT = 6, 7, 8  # in those of a version
 SEES = ("seat {seat} at {time} reads this", "seat {seat}'s own")
 
 # The sorts of versions, as a reader sees them, with what they are called.
@@ -113,7 +114,7 @@ def people(table, seats, number):
     found = {name: list(some) for name, some in table[f"who.{number}"].items()}
     for seat in range(seats):
         name, own = table.get(f"sees.{seat}.{number}", (None, 0))
-        time = table[f"seat.{seat}"][TIME]
+        time = table[f"seat.{seat}"][TIME_AT]
         if name and time is not None:
             found.setdefault(name, []).append([seat, SEES[own].format(seat=seat, time=time), False])
     return found

@@ -1,7 +1,7 @@
 /* Each object: HEAD, its versions from the newest down, and the master; then the versions that are in no chain. */
 const MOST_IN_CHAIN = 6, MOST_OBJECTS = 24;
-const FROM_WORDS = 8, WORDS = 6;  // of a version's texts
-const SECTION_TIME = 6;  // of a seat's texts
+/* Where what stands in the texts of a version, and of a seat. */
+const STAMP_AT = 6, SUPER_AT = 7, WORDS_AT = 8, WORDS = 6, TIME_AT = 6;
 
 const arrow = text => el("span", { class: "arrow", "aria-hidden": true }, text);
 
@@ -9,7 +9,7 @@ const arrow = text => el("span", { class: "arrow", "aria-hidden": true }, text);
 function peopleAt(page, table, number) {
     const found = new Map(Object.entries(table.get(`who.${number}`)).map(([name, some]) => [name, [...some]]));
     for (let seat = 0; seat < page.model.seats; seat++) {
-        const time = table.get(`seat.${seat}`)[SECTION_TIME], sees = table.get(`sees.${seat}.${number}`);
+        const time = table.get(`seat.${seat}`)[TIME_AT], sees = table.get(`sees.${seat}.${number}`);
         if (time === null || !sees) continue;
         const [name, own] = sees, says = told(page.model.sees[own], { seat, time });
         found.set(name, [...found.get(name) ?? [], [seat, says, false]]);
@@ -26,11 +26,12 @@ function chips(people) {
 
 function versionBox(page, table, name, people, apart) {
     const key = `version.${name}`, texts = table.get(key), [seat, position, slot, , sort, note, stamp, newer] = texts;
-    const words = texts.slice(FROM_WORDS, FROM_WORDS + WORDS).flatMap((word, at) => [el("span", { class: page.mark(key, FROM_WORDS + at) }, word), " "]);
+    const words = texts.slice(WORDS_AT, WORDS_AT + WORDS).flatMap((word, at) => [el("span", { class: page.mark(key, WORDS_AT + at) }, word), " "]);
     return el("div", { class: `version${apart ? " apart" : ""}`, style: `border-color:var(--${sort})` },
         el("div", { class: "top" }, el("span", { class: page.mark(key, 0), style: `color:${seatColour(seat)}` }, `version ${position} of seat ${seat}`),
             el("span", { class: "soft" }, `slot ${slot}`)),
-        el("div", {}, el("span", { class: page.mark(key, 6) }, `STAMP ${stamp}`), "; ", el("span", { class: page.mark(key, 7) }, `SUPER ${newer}`)),
+        el("div", {}, el("span", { class: page.mark(key, STAMP_AT) }, `STAMP ${stamp}`), "; ",
+            el("span", { class: page.mark(key, SUPER_AT) }, `SUPER ${newer}`)),
         el("div", { class: "soft" }, note), el("div", { class: "words" }, words), chips(people.get(name)));
 }
 

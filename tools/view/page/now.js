@@ -1,6 +1,7 @@
 /* What the step does, in a sentence; the seats; and what is checked. */
 const KEYS = "Keys: → a step on, ← a step back, with Shift a call; n and p the next and the last event; f a fault; g six words as one line; "
     + "space plays; t light or dark.";
+const MARK_AT = 1;  // in the texts of a seat
 const TEXT_HOLDS = "each line of the text is that of its turn: the step that the call makes next, the word that was stored there last, "
     + "and the answer that follows";
 
@@ -47,7 +48,7 @@ function seatsCard(page, table) {
         const [phase, mark, call, stands, holds] = table.get(`seat.${seat}`), colour = seatColour(seat);
         return el("div", { class: `seat${acting === seat ? " acts" : ""}`, style: `border-left-color:${colour}` },
             el("b", { style: `color:${colour}` }, `seat ${seat} `), phase,
-            el("div", {}, el("span", { class: page.mark(`seat.${seat}`, 1) }, `MARK ${mark}`)),
+            el("div", {}, el("span", { class: page.mark(`seat.${seat}`, MARK_AT) }, `MARK ${mark}`)),
                 el("div", { class: "soft" }, [call, stands, holds].filter(text => text).join("; ")));
     });
     return card("Seats", el("div", { class: "seats" }, boxes));

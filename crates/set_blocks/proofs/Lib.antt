@@ -20,5 +20,5 @@ pub mod Turning
 pub mod WholeTurns
 pub mod PlanTurns
 pub mod PlannedWrites
-pub mod BlockTimes
+pub mod Deciding
 pub mod BlockOutcomes

@@ -18,18 +18,17 @@ use Rattle.set_script.specs.Rules.{capacity}
 use Rattle.set_catalog.specs.Replies.{reply_in, changes_in}
 use Rattle.set_blocks.specs.Blocks.{stands_alone, IsBlock}
 use Rattle.set_blocks.specs.BlockAttempts.{replies_in, block_changes_in}
-use Rattle.set_blocks.specs.BlockFindings.{IsBlockFound, replies_at_last, found_by}
+use Rattle.set_blocks.specs.BlockFindings.{IsBlockFound, found_by}
 use Rattle.set_blocks.specs.BlockPlans.{HoldPlan, StepPlan, BlockPlan}
 use Rattle.set_blocks.specs.BlockPlans.HoldPlan.{has_yes, has_no, del_no, add_no, get_none, get_value, put_no, move_from_none, move_to_one, pair_tells}
 use Rattle.set_blocks.specs.BlockPlans.StepPlan.{changing, keeping}
 use Rattle.set_blocks.specs.BlockPlans.BlockPlan.{nothing_yet, one_more}
 use Rattle.set_blocks.specs.BlockReplies.{turn_replies, after_turns, some_changes, is_full, some_full, would_change}
-use Rattle.set_blocks.specs.declared.finding.BlockFinding.{BlockFinding}
 use Rattle.set_blocks.specs.declared.finding.BlockFinding.TheVariants.{Settled, Open}
 use Rattle.set_blocks.specs.declared.finding.Turns.{Turns}
 use Rattle.set_blocks.proofs.Planning.{plan_runs}
 use Rattle.set_blocks.proofs.Remaining.{remains_itself}
-use Rattle.set_blocks.proofs.SingleBlocks.{one_replies, one_changes, length-block_replies}
+use Rattle.set_blocks.proofs.SingleBlocks.{one_replies, one_changes}
 use Rattle.set_blocks.proofs.Stepping.{Ran}
 
 -- what is planned in a state is so there
@@ -75,11 +74,6 @@ module _ (commands : List Command) (u : State) (said : List Reply) (b : Bool) (t
   chosen true w x y z e q = absurd (true≢false e)
   chosen false true x y z e q = absurd (true≢false q)
 
-  late : (f w : Bool) (x y z : List Reply) → f ≡ false → w ≡ true → y ≡ cond f x (cond w y z)
-  late false true x y z e q = refl
-  late true w x y z e q = absurd (true≢false e)
-  late false false x y z e q = absurd (true≢false (sym q))
-
   -- those of its commands, where it changes nothing or it is not the last time
   pub replies_turned : (last : Bool) → b && last ≡ false → said ≡ replies_in commands u last
   replies_turned last e =
@@ -87,13 +81,6 @@ module _ (commands : List Command) (u : State) (said : List Reply) (b : Bool) (t
       ∙ chosen (some_full commands (catalogue_of u) (capacity u)) (would_change commands (catalogue_of u) (capacity u) && last)
       (replicate (length commands) Full) (replicate (length commands) Worn) (turn_replies commands (catalogue_of u) (capacity u)) unfull
       (ap (λ x. x && last) would ∙ e)
-
-  -- all worn, where it would change something at the last time
-  pub replies_late : b ≡ true → replicate (length commands) Worn ≡ replies_in commands u true
-  replies_late e =
-      late (some_full commands (catalogue_of u) (capacity u)) (would_change commands (catalogue_of u) (capacity u) && true)
-      (replicate (length commands) Full) (replicate (length commands) Worn) (turn_replies commands (catalogue_of u) (capacity u)) unfull
-      (ap (λ x. x && true) (would ∙ e))
 
   pub changes_turned : block_changes_in commands u false ≡ b && true
   changes_turned = ap (λ x. x && true) would
@@ -191,18 +178,8 @@ alone_first [] d b e = absurd (true≢false (sym e))
 alone_first (x ∷ []) d b e = (refl, or_none (stands_alone x) e)
 alone_first (x ∷ (y ∷ xs)) d b e = absurd (true≢false (sym e ∙ b.apart (omega arith)))
 
--- What was found, at the last time.
-pub found_late : (s : State) (commands : List Command) (ws : Writes) (found : BlockFinding) → IsLawful s → IsBlockFound commands s ws found
-    → replies_at_last found ≡ replies_in commands s true
-found_late s commands ws (Settled said) l f = f.0 true
-found_late s commands ws (Open said) l f =
-    let r = ran_here s commands ws said true l f.2 in
-    let long : length said ≡ length commands = ap length f.0 ∙ length-block_replies commands (catalogue_of s) (capacity s) false in
-    ap (λ (n : ℕ). replicate n Worn) long
-    ∙ replies_late commands s said true r.answers_are r.changing_is (none_full s commands ws said true f.2) refl
-
 -- at the last time no block changes anything
-pub unchanging_late : (commands : List Command) (s : State) → block_changes_in commands s true ≡ false
+unchanging_late : (commands : List Command) (s : State) → block_changes_in commands s true ≡ false
 unchanging_late commands s = none (would_change commands (catalogue_of s) (capacity s))
   where
     none : (b : Bool) → b && false ≡ false

@@ -1,9 +1,7 @@
 -- What a block comes to in a state, before anything is locked.
-use Rattle.std.specs.Prelude.{◌≡◌, Bool, true, false, List, length, replicate, if◌then◌else◌}
+use Rattle.std.specs.Prelude.{◌≡◌, Bool, true, false, List, if◌then◌else◌}
 use Rattle.mv_history.specs.State.{State, Writes}
 use Rattle.set_script.specs.declared.commands.Command.{Command}
-use Rattle.set_script.specs.declared.commands.Reply.{Reply}
-use Rattle.set_script.specs.declared.commands.Reply.TheVariants.{Worn}
 use Rattle.set_blocks.specs.BlockAttempts.{replies_in, block_changes_in}
 use Rattle.set_blocks.specs.BlockPlans.{BlockPlan}
 use Rattle.set_blocks.specs.declared.finding.BlockFinding.{BlockFinding}
@@ -16,11 +14,6 @@ abbrev pub IsBlockFound : List Command → State → Writes → BlockFinding →
 IsBlockFound commands s ws (Settled answers) = ((last : Bool) → answers ≡ replies_in commands s last) × (block_changes_in commands s false ≡ false)
 IsBlockFound commands s ws (Open answers) =
     (answers ≡ replies_in commands s false) × (block_changes_in commands s false ≡ true) × BlockPlan s commands ws answers true
-
--- the replies at the last time of what was found: a change comes too late
-abbrev pub replies_at_last : BlockFinding → List Reply
-replies_at_last (Settled answers) = answers
-replies_at_last (Open answers) = replicate (length answers) Worn
 
 -- what is found by the turns of commands of which none is full
 abbrev pub found_by : Turns → BlockFinding

@@ -8,4 +8,4 @@ pub mod Holds
 pub mod Turns
 pub mod BlockAttempts
 pub mod BlockFindings
-pub mod BlockSteps
+pub mod BlockMeaning

@@ -8,7 +8,7 @@ ghost use Rattle.std.specs.List.{list_any};
 ghost use Rattle.set_blocks.specs.Blocks.{stands_alone, IsBlock};
 ghost use Rattle.set_blocks.specs.BlockPlans.{BlockPlan};
 ghost use Rattle.set_blocks.specs.BlockReplies.{some_full};
-ghost use Rattle.set_blocks.specs.BlockFindings.{IsBlockFound, replies_at_last, found_by};
+ghost use Rattle.set_blocks.specs.BlockFindings.{IsBlockFound, found_by};
 
 use crate::block::has_alone;
 use crate::overlay::Overlay;
@@ -25,18 +25,6 @@ pub enum BlockFinding {
     Settled(Replies),
     /// It changes something by what is planned for it, and these are its replies.
     Open(Replies),
-}
-
-impl BlockFinding {
-    /// The replies at the last time, where a change comes too late.
-    pub fn at_last(self) -> Replies
-        ensures { result ≡ replies_at_last self }
-    {
-        match self {
-            BlockFinding::Settled(replies) => replies,
-            BlockFinding::Open(replies) => Replies::all(Reply::Worn, replies.len()),
-        }
-    }
 }
 
 /// What commands reply one after another, and whether one of them changes something.

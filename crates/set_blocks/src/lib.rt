@@ -16,23 +16,28 @@
 //! (`proofs/Tracking.antt`, and `ListTracks`, `TreeTracks`, `RootTracks` and `CutTracks` of each way), and then by induction over the
 //! commands (`proofs/Stepping.antt`, `proofs/Planning.antt`).
 //!
-//! **Attempt.** `attempt_block` enters one section of a store, plans the commands one after another over it (`Overlay`, a view
-//! with planned writes), and then locks and writes what is planned and commits it. What it leaves is said by its answer
-//! (`specs/BlockAttempts.antt`): one entry, with the replies and the change of the block on the state just before it; or a read;
-//! or why the change was given up. That the replies are those of the state just before the entry, and not of the snapshot,
-//! follows of what is held: from the snapshot to that state nothing of it was written (`proofs/BlockTimes.antt`).
+//! **Work.** A `Block` is a `section_work::Work` (`specs/BlockMeaning.antt`): it is decided as a whole over any view, by its
+//! commands one after another over what those before them write (`Overlay`, a view with planned writes). All objects that it
+//! locks or holds, with their last words, are one plan. That a commit of it makes the block's change, with its replies, of the
+//! state just before it, and not only of the snapshot, follows of what is held: from the snapshot to that state nothing of it
+//! was written (`proofs/Deciding.antt`).
+//!
+//! **Attempt.** `attempt_block` does this work in one section of a store, by `section_work::attempt_work`. What it leaves is said
+//! by its answer (`specs/BlockAttempts.antt`): one entry, with the replies and the change of the block on the state just before
+//! it; or a read; or why the change was given up.
 //!
 //! **Contract.** `parse_blocks` answers exactly the blocks of a script, or its first faulty line and what is wrong with it
 //! first; want of memory is the one free answer. Each `Block` is one, whoever made it. The laws say what the definitions
 //! come to over all texts, commands and states.
 //!
 //! **Place.** It stands on `set_script`, whose reading of a line it uses, on the three crates of sets and on `set_catalog`, whose
-//! places and plans its own speak of.
+//! places and plans its own speak of, and on `section_work`, which does a block as one section.
 #![tactic(auto)]
 
 mod attempt;
 mod attempting;
 mod block;
+mod block_work;
 mod faults;
 mod finding;
 mod holds;
@@ -50,6 +55,7 @@ pub use faults::{BlockFault, BlockKind};
 pub use laws::{
     block_plans_are_fit, blocks_of_one, lawful_states_remain, plain_scripts_are_blocks_of_one,
 };
+pub use overlay::Planned;
 pub use parsing::parse_blocks;
 pub use replies::Replies;
 pub use rules::BlockRules;

@@ -1,15 +1,10 @@
 // What a view shows with planned writes over it.
-ghost use Rattle.std.specs.Prelude.{◌≡◌, ◌+◌, ◌<◌, ◌≤◌, true, false, [], length, take, IfSome, IfNone, MatchResult, slice_index_or};
+ghost use Rattle.std.specs.Prelude.{◌≡◌, ◌+◌, ◌<◌, ◌≤◌, true, false, [], length, take, IfSome, IfNone, slice_index_or};
 ghost use Rattle.mv_history.specs.State.{touches};
-ghost use Rattle.mv_history.specs.Legal.{are_distinct, AreWithin, AreWrites, IsWords};
-ghost use Rattle.mv_history.specs.Meaning.{state_of};
-ghost use Rattle.section_work.specs.OwnWrites.{objects_of};
-ghost use Rattle.section_work.specs.Locking.{Rewritten, Refuses};
-ghost use Rattle.section_work.specs.Held.{HasRoom};
+ghost use Rattle.mv_history.specs.Legal.{are_distinct, AreWrites, IsWords};
 ghost use Rattle.set_catalog.specs.Merges.{merged, merged_one};
 
-use mv_history::{Section, View, Words};
-use section_work::{Refusal, rewrite};
+use mv_history::{View, Words};
 
 /// How many objects a block may lock: five for each of its commands.
 pub const MOST_LOCKS: usize = 40;
@@ -24,6 +19,23 @@ pub struct Overlay<V> {
     ghost few: { count ≤ 40 },
     ghost distinct: { are_distinct (take count writes) ≡ true },
     ghost words: { AreWrites (take count writes) },
+}
+
+/// What is planned for a block: the objects that it locks, in their order, each with the words that it is to get.
+#[derive(Drop)]
+pub struct Planned {
+    writes: [(u32, Words); MOST_LOCKS],
+    count: usize,
+    ghost few: { count ≤ length writes },
+}
+
+impl Planned {
+    /// The writes, in their order.
+    pub fn writes(&self) -> &[(u32, Words)]
+        ensures { result.now ≡ take self.now.count self.now.writes }
+    {
+        &self.writes[..self.count]
+    }
 }
 
 // What the type of words says, as a fact.
@@ -44,24 +56,17 @@ impl<V> Overlay<V> {
         }
     }
 
-    /// The view, with nothing planned over it any more.
-    pub fn into_view(self) -> V
-        ensures { result ≡ self.view }
+    /// The view, with nothing planned over it any more, and what was.
+    pub fn into_parts(self) -> (V, Planned)
+        ensures view { result.0 ≡ self.view }
+        ensures planned { take result.1.count result.1.writes ≡ take self.count self.writes }
     {
         let Overlay {
             view,
-            writes: _,
-            count: _,
+            writes,
+            count,
         } = self;
-        view
-    }
-
-    /// The planned writes, in their order.
-    pub fn writes(&self) -> &[(u32, Words)]
-        ensures writes { result.now ≡ take self.now.count self.now.writes }
-        ensures distinct { are_distinct result.now ≡ true }
-    {
-        &self.writes[..self.count]
+        (view, Planned { writes, count })
     }
 
     /// Plans these writes too, for which there is room. An object that is among the planned ones keeps its place in the order, and gets
@@ -91,28 +96,6 @@ impl<V> Overlay<V> {
                 self.writes[self.count] = (object, words);
                 self.count += 1;
             }
-        }
-    }
-}
-
-impl<S: Section> Overlay<S> {
-    /// Locks what is planned in the section, in its order, and writes it there, where there is room. An `Err` is the section,
-    /// in which nothing is written, and the first lock that was refused.
-    pub fn write_through(self) -> Result<S, (S, Refusal)>
-        requires within { AreWithin (take self.count self.writes) (length (state_of (S.section self.view))) }
-        requires room { HasRoom (S.section self.view) (objects_of (take self.count self.writes)) }
-        ensures { MatchResult result
-            (λ section. Rewritten (S.section self.view) (S.section section) (objects_of (take self.count self.writes)) (take self.count self.writes))
-            (λ refused. Refuses S.may_refuse S.found_held (S.section self.view) (S.section refused.0) (objects_of (take self.count self.writes)) refused.1) }
-    {
-        let Overlay {
-            mut view,
-            writes,
-            count,
-        } = self;
-        match rewrite(&mut view, &writes[..count]) {
-            Ok(()) => Ok(view),
-            Err(refusal) => Err((view, refusal)),
         }
     }
 }

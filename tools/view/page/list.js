@@ -1,5 +1,6 @@
 /* The steps as lines: six words as one, with the plan's remarks and the answers between. Lines are made as they come into view. */
 const ROW = 22, REMARK = 42, BEYOND = 12;
+const MOST_WIDE = 112;  // the lanes of all seats, in a line
 const GROUPED = ["load DATA", "load MASTER", "store into a built slot", "store DATA of a held slot", "store MASTER"];
 
 class List {
@@ -9,7 +10,7 @@ class List {
         this.place = el("div", { id: "list", tabindex: 0, class: steps.count < 1000 ? "" : "long", "aria-label": "the steps" }, this.rows);
         this.place.addEventListener("scroll", () => this.draw());
         this.many = new Set(model.kinds.flatMap(([name], kind) => GROUPED.includes(name) ? [kind] : []));
-        this.lane = model.seats > 8 ? 7 : 16;
+        this.lane = model.seats > 8 ? Math.min(7, MOST_WIDE / model.seats) : 16;
         this.gather();
     }
 
@@ -92,7 +93,7 @@ class List {
     /* The sections that are open at a step, and a sign in a seat's lane. */
     lanes(number, sign) {
         const lines = this.openAt(number).map(([seat, from, to]) => svg("line", { x1: this.x(seat), x2: this.x(seat), y1: from === number ? 11 : 0,
-            y2: to === number ? 11 : ROW, stroke: seatColour(seat), "stroke-width": this.lane > 8 ? 5 : 3, opacity: 0.4 }));
+            y2: to === number ? 11 : ROW, stroke: seatColour(seat), "stroke-width": Math.min(5, this.lane * 0.45), opacity: 0.4 }));
         return svg("svg", { width: this.lane * this.model.seats + 4, height: ROW, "aria-hidden": true }, ...lines, sign);
     }
 

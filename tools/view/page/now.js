@@ -13,7 +13,7 @@ function spoken({ model, steps, cursor }) {
     return `Step ${cursor}: seat ${step.seat} ${told(model.sentences[step.access], step)}.${wrong}${ends.join("")}`;
 }
 
-const endText = ({ sort, seat, text }) => sort === "skip" ? `Then seat ${seat} skips ${text}.` : `Seat ${seat} has ended ${text}.`;
+const endText = ({ sort, seat, text }) => sort === "skip" ? `Then seat ${seat} skips ${text}.` : `Seat ${seat}'s call ends: ${text}.`;
 
 function nowCard(page, table) {
     const { model, steps, cursor } = page;

@@ -20,3 +20,4 @@ pub mod Knowing
 pub mod Outcomes
 pub mod NotedGone
 pub mod HeadReads
+pub mod WorkSteps

@@ -16,6 +16,8 @@ use Rattle.set_script.specs.declared.commands.Reply.{Reply}
 use Rattle.section_work.specs.declared.place.Place.TheVariants.{Commit as AtCommit, Read}
 use Rattle.set_catalog.specs.declared.answer.Attempt.{Attempt}
 use Rattle.set_catalog.specs.declared.answer.Attempt.TheVariants.{Done, Again}
+use Rattle.section_work.specs.declared.attempting.Attempt.{Attempt as WorkAttempt}
+use Rattle.section_work.specs.declared.attempting.Attempt.TheVariants.{Done as WorkDone, Again as WorkAgain}
 use Rattle.section_work.specs.declared.causes.Cause.{Cause}
 use Rattle.section_work.specs.declared.causes.Cause.TheVariants.{Lock, Rival, LogFull}
 use Rattle.section_work.specs.Causes.{Causes}
@@ -120,3 +122,8 @@ abbrev pub HintsAfter : Command → Hinted → Hinted → Seat → Seat → Atte
 HintsAfter command hints after old new (Done answer (AtCommit time)) = NotesGone command hints after old new time
 HintsAfter command hints after old new (Done answer (Read time)) = KeepsHints hints after old new
 HintsAfter command hints after old new (Again cause) = KeepsHints hints after old new
+
+-- the answer, as that of a work
+abbrev pub as_work : Attempt → WorkAttempt Reply
+as_work (Done answer place) = WorkDone answer place
+as_work (Again cause) = WorkAgain cause

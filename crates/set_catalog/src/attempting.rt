@@ -2,9 +2,10 @@
 ghost use Rattle.std.specs.Prelude.{◌≡◌, ◌≤◌};
 ghost use Rattle.section_work.specs.Causes.{causes};
 ghost use Rattle.section_work.specs.Sections.{TriesOne};
+ghost use Rattle.section_work.specs.Steps.{IsStepped};
 ghost use Rattle.set_catalog.specs.Shortages.{IsKnown};
 ghost use Rattle.set_catalog.specs.Steps.{most_locks};
-ghost use Rattle.set_catalog.specs.Attempts.{Attempted, HintsAfter};
+ghost use Rattle.set_catalog.specs.Attempts.{Attempted, HintsAfter, as_work};
 
 use crate::answer::Attempt;
 use crate::command_work::CommandWork;
@@ -22,6 +23,8 @@ pub fn attempt<S: Store<Rules = SetRules>>(store: S, command: &Command) -> (S, A
     requires most { most_locks ≤ (S.seat_of store).write_max }
     ensures attempted { let shows = causes S.Open.may_refuse S.Open.has_trail S.took S.holds_back S.Open.found_held S.Open.loaded in
         Attempted shows (S.seat_of store) (S.seat_of result.0) command.now result.1 }
+    ensures steps { let shows = causes S.Open.may_refuse S.Open.has_trail S.took S.holds_back S.Open.found_held S.Open.loaded in
+        IsStepped S.Open.section S.Open.as_before shows (S.seat_of store) (S.seat_of result.0) (as_work result.1) }
     ensures at_most_one { TriesOne (S.seat_of store) (S.seat_of result.0) }
 {
     attempt_with(store, &mut Hints::none(), command)
@@ -33,7 +36,8 @@ pub fn attempt<S: Store<Rules = SetRules>>(store: S, command: &Command) -> (S, A
 /// objects that a del left vacant are noted once it is done, and no hint is added that wasn't
 /// vacant in this call. It never waits or tries again by itself, and takes no memory. It searches
 /// each set of the command once for its key; beside these walks it reads objects to find vacant
-/// ones, and at the last time it answers by a second look.
+/// ones. It enters one section, and a second one only where its commit found no time left; a command
+/// that changes nothing locks nothing.
 ///
 /// - `Done` at a `Place::Commit`: the command changed the catalogue, by one commit of that printed
 ///   time, and the reply is that of the catalogue just before it.
@@ -57,6 +61,8 @@ pub fn attempt_with<S: Store<Rules = SetRules>>(
     requires most { most_locks ≤ (S.seat_of store).write_max }
     ensures attempted { let shows = causes S.Open.may_refuse S.Open.has_trail S.took S.holds_back S.Open.found_held S.Open.loaded in
         Attempted shows (S.seat_of store) (S.seat_of result.0) command.now result.1 }
+    ensures steps { let shows = causes S.Open.may_refuse S.Open.has_trail S.took S.holds_back S.Open.found_held S.Open.loaded in
+        IsStepped S.Open.section S.Open.as_before shows (S.seat_of store) (S.seat_of result.0) (as_work result.1) }
     ensures noted { HintsAfter command.now hints.old hints.new (S.seat_of store) (S.seat_of result.0) result.1 }
     ensures at_most_one { TriesOne (S.seat_of store) (S.seat_of result.0) }
 {
@@ -80,6 +86,8 @@ pub(crate) fn attempt_knowing<S: Store<Rules = SetRules>>(
     requires known { IsKnown (S.seat_of store) memo.old.known }
     ensures attempted { let shows = causes S.Open.may_refuse S.Open.has_trail S.took S.holds_back S.Open.found_held S.Open.loaded in
         Attempted shows (S.seat_of store) (S.seat_of result.0) command.now result.1 }
+    ensures steps { let shows = causes S.Open.may_refuse S.Open.has_trail S.took S.holds_back S.Open.found_held S.Open.loaded in
+        IsStepped S.Open.section S.Open.as_before shows (S.seat_of store) (S.seat_of result.0) (as_work result.1) }
     ensures noted { HintsAfter command.now memo.old.hints memo.new.hints (S.seat_of store) (S.seat_of result.0) result.1 }
     ensures at_most_one { TriesOne (S.seat_of store) (S.seat_of result.0) }
     ensures known { IsKnown (S.seat_of result.0) memo.new.known }

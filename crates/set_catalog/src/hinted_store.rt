@@ -38,8 +38,9 @@ impl<S: Store<Rules = SetRules>> Model for HintedStore<S> {
 impl<S: Store<Rules = SetRules>> HintedStore<S> {
     ghost use Rattle.section_work.specs.Causes.{causes};
     ghost use Rattle.set_catalog.specs.Steps.{most_locks};
-    ghost use Rattle.set_catalog.specs.Attempts.{Attempted, HintsAfter};
+    ghost use Rattle.set_catalog.specs.Attempts.{Attempted, HintsAfter, as_work};
     ghost use Rattle.section_work.specs.Sections.{TriesOne};
+    ghost use Rattle.section_work.specs.Steps.{IsStepped};
 
     /// The store, with these hints. It takes no memory.
     pub fn new(store: S, hints: Hints) -> HintedStore<S>
@@ -65,6 +66,8 @@ impl<S: Store<Rules = SetRules>> HintedStore<S> {
         requires most { most_locks ≤ (S.seat_of self.store).write_max }
         ensures attempted { let shows = causes S.Open.may_refuse S.Open.has_trail S.took S.holds_back S.Open.found_held S.Open.loaded in
             Attempted shows (S.seat_of self.store) (S.seat_of result.0.store) command.now result.1 }
+        ensures steps { let shows = causes S.Open.may_refuse S.Open.has_trail S.took S.holds_back S.Open.found_held S.Open.loaded in
+            IsStepped S.Open.section S.Open.as_before shows (S.seat_of self.store) (S.seat_of result.0.store) (as_work result.1) }
         ensures noted { HintsAfter command.now self.hints result.0.hints (S.seat_of self.store) (S.seat_of result.0.store) result.1 }
         ensures at_most_one { TriesOne (S.seat_of self.store) (S.seat_of result.0.store) }
     {

@@ -29,7 +29,9 @@
 //!   `prepare` made too little room. What the section saw, and the entry that a cause names, stand in
 //!   what the seat has seen afterwards. What only a store can show of a cause it defines itself
 //!   (`section_work/specs/Causes.antt`).
-//! - An attempt has at most one exchange on CLOCK for a commit in its trail. After a del is done, the
+//! - An attempt says which calls of its store it made (`section_work/specs/Steps.antt`): it enters one
+//!   section, and a second one only where no time was left, and a command that changes nothing locks
+//!   nothing. It has at most one exchange on CLOCK for a commit in its trail. After a del is done, the
 //!   objects that it left vacant are noted in the hints. Each other hint was one before, or its
 //!   object was vacant at a time of the call.
 //!

@@ -6,7 +6,7 @@ use Rattle.mv_history.specs.declared.trail.StepKind.TheVariants.{NameCommit}
 use Rattle.mv_history.specs.Trail.{is_commit_exchange, is_clock_exchange, commit_exchanges, clock_exchanges}
 use Rattle.mv_history.specs.Meaning.{Seat, InSection}
 use Rattle.mv_history.specs.Calls.{call_trail, Continues, Leaves, NamesNoCommit}
-use Rattle.mv_history.proofs.Steps.{NamesNoCommit-NamesNoCommit, commit_exchanges-call_trail}
+use Rattle.mv_history.proofs.Steps.{commit_exchanges-call_trail}
 use Rattle.accounts.specs.Attempts.{TriesOne}
 
 commit_is_clock : (k : StepKind) → is_commit_exchange k ≡ true → is_clock_exchange k ≡ true

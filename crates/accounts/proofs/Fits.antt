@@ -1,11 +1,10 @@
 -- A transfer is a fit commit.
-use Rattle.std.proofs.Common.{◌≡◌, ℕ, ◌+◌, ◌-◌, true, List, [], ◌∷◌, refl, sym, ap, subst, ◌∙◌, arith}
-use Rattle.std.proofs.lemmas.Grind.{common_steps}
+use Rattle.std.proofs.Common.{◌≡◌, ℕ, true, List, ap, arith}
 use Rattle.std.proofs.lemmas.Bool.Decides.{nat_tests}
 use Rattle.mv_history.specs.State.{State, Writes, touches}
 use Rattle.mv_history.specs.Drift.{IsFit}
 use Rattle.mv_history.proofs.Drifting.{words-drifts, length-drifts}
-use Rattle.accounts.specs.Rules.{balance, balance_of, account_of, from_of, to_of, amount_of, IsTransfer}
+use Rattle.accounts.specs.Rules.{balance, balance_of, from_of, to_of, IsTransfer}
 
 -- a transfer writes both of its accounts
 touches-from : (tag : List ℕ) (s : State) (ws : Writes) → IsTransfer tag s ws → touches ws (from_of tag) ≡ true
@@ -27,6 +26,7 @@ transfer-fit tag from ws t s drifts =
       from = rw as_many t.from;
       to = rw as_many t.to;
       other = t.other;
+      some = t.some;
       enough = rw paying t.enough;
       moves = rw (paying, gaining) t.moves;
     }

@@ -3,5 +3,5 @@ pub mod Fits
 pub mod Locking
 pub mod Sections
 pub mod Outcomes
-pub mod Threads
+pub mod Sums
 pub mod Exchanges

@@ -1,15 +1,15 @@
 -- What an attempt leaves, from what its calls do.
 use Rattle.std.proofs.Common.{◌≡◌, ℕ, suc, ◌+◌, ◌-◌, ◌<◌, ◌≤◌, List, [], ◌∷◌, ◌++◌, length, take, drop, refl, sym, ap, ◌∙◌, arith}
-use Rattle.mv_history.specs.State.{State, state_at}
+use Rattle.mv_history.specs.State.{State}
 use Rattle.mv_history.specs.declared.history.Entry.TheVariants.{Change}
-use Rattle.mv_history.specs.Meaning.{Seat, InSection, IsSeat, IsWorn, snapshot_of, state_of}
-use Rattle.mv_history.specs.Calls.{Continues, IsAsBefore, GoesOn, Leaves, Commits, commit_by}
+use Rattle.mv_history.specs.Meaning.{Seat, InSection, IsSeat, IsWorn, state_of}
+use Rattle.mv_history.specs.Calls.{Continues, IsAsBefore, Leaves, Commits, commit_by}
 use Rattle.mv_history.proofs.Histories.{split_at}
 use Rattle.mv_history.proofs.Steps.{Continues-Continues, length-seen, state_at-later, IsWorn-later}
 use Rattle.accounts.specs.Rules.{balance, IsOpening, from_of, to_of, amount_of, IsTransfer}
 use Rattle.accounts.specs.declared.attempt.Refusal.{Refusal}
 use Rattle.accounts.specs.declared.attempt.Refusal.TheVariants.{Full, Busy, Stale, Rival}
-use Rattle.accounts.specs.Attempts.{Causes, IsDone, IsShort, IsEither, IsLockRefused, Meets, IsWhy}
+use Rattle.accounts.specs.Attempts.{Causes, IsDone, IsShort, IsEither, IsLockRefused, IsWhy}
 use Rattle.accounts.proofs.Sections.{IsLawful, IsOf, reads_snapshot}
 
 -- a commit is what its seat leaves; the rules, which the new seat's history keeps, say that it is the transfer

@@ -1,5 +1,5 @@
 -- What a section of the accounts reads, and what its call leaves.
-use Rattle.std.proofs.Common.{◌≡◌, ◌≢◌, ℕ, ◌+◌, ◌-◌, ◌^◌, ◌<◌, ◌≤◌, List, [], ◌∷◌, ◌++◌, length, refl, sym, ap, subst, ◌∙◌, arith}
+use Rattle.std.proofs.Common.{◌≡◌, ◌≢◌, ℕ, ◌+◌, ◌-◌, ◌^◌, ◌<◌, ◌≤◌, List, [], ◌∷◌, length, refl, sym, ap, ◌∙◌, arith}
 use Rattle.accounts.specs.declared.rules.TheConstants.{ACCOUNTS}
 use Rattle.mv_history.specs.State.{State, Writes, written}
 use Rattle.mv_history.specs.Meaning.{Seat, InSection, IsSection, snapshot_of, state_of}
@@ -69,15 +69,16 @@ can_hold p room two e same = record {
 
 -- what a section has written that gave one account less and another more is a transfer on its snapshot
 pub is_transfer : (s t : InSection) (u : State) (from to amount had got : ℕ) (left gained : List ℕ) → u ≡ state_of s → s.own ≡ [] → IsLawful s → GoesOn s t
-    → from < ACCOUNTS → to < ACCOUNTS → from ≢ to → had ≡ balance u from → got ≡ balance u to → amount ≤ had
+    → from < ACCOUNTS → to < ACCOUNTS → from ≢ to → 0 < amount → had ≡ balance u from → got ≡ balance u to → amount ≤ had
     → left ≡ account_of (had - amount) → gained ≡ account_of (got + amount) → t.own ≡ (from, left) ∷ (to, gained) ∷ []
     → IsTransfer (from ∷ to ∷ amount ∷ 0 ∷ []) (snapshot_of t) t.own
-is_transfer s t u from to amount had got left gained e none h goes lf lt n had_is got_is enough left_is gained_is own =
+is_transfer s t u from to amount had got left gained e none h goes lf lt n some had_is got_is enough left_is gained_is own =
     let same : snapshot_of t ≡ u = snapshot_of-goes_on s t goes h.at ∙ sym (reads_snapshot s u e none) in
     rw (same, own, left_is, gained_is, had_is, got_is) (record {
       from = within-read s u from e h lf;
       to = within-read s u to e h lt;
       other = n;
+      some = some;
       enough = rw (← had_is) enough;
       moves = refl;
     })

@@ -35,11 +35,12 @@ to_of tag = slice_index tag 1
 abbrev pub amount_of : List ℕ → ℕ
 amount_of tag = slice_index tag 2
 
--- The commit with this tag moves the tag's amount, which the one account has on the state before, to another account.
+-- The commit with this tag moves the tag's amount, which is some and which the one account has on the state before, to another account.
 pub record IsTransfer (tag : List ℕ) (before : State) (writes : Writes) : Type 0 where
   pub from : from_of tag < length before
   pub to : to_of tag < length before
   pub other : from_of tag ≢ to_of tag
+  pub some : 0 < amount_of tag
   pub enough : amount_of tag ≤ balance before (from_of tag)
   pub moves : writes ≡ (from_of tag, account_of (balance before (from_of tag) - amount_of tag))
       ∷ (to_of tag, account_of (balance before (to_of tag) + amount_of tag)) ∷ []

@@ -34,7 +34,7 @@ pub enum Refusal {
     Rival(Rival),
 }
 
-/// Attempts to move an amount between two accounts, in one section, and gives the store back.
+/// Attempts to move an amount, which isn't 0, between two accounts, in one section, and gives the store back.
 ///
 /// It makes one commit or none, and takes no memory. It never waits and never tries again: whether
 /// and when to do so is the caller's to say.
@@ -51,6 +51,7 @@ pub fn transfer<S: Store<Rules = Accounts>>(
     requires from { from < how_many }
     requires to { to < how_many }
     requires other { from ≢ to }
+    requires some { 0 < amount }
     requires two { 2 ≤ (S.seat_of store).write_max }
     ensures { let shows = causes S.Open.may_refuse S.holds_back S.Open.found_held S.Open.loaded in
         Attempted shows (S.seat_of store) (S.seat_of result.0) (from ∷ to ∷ amount ∷ 0 ∷ []) result.1 }

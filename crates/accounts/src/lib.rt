@@ -10,7 +10,8 @@
 //!
 //! Every sum that a section reads is the sum that the store opened with, at every interleaving:
 //! [`sum`], [`read_sums`]. [`keeps_total`] says it of each state of the history, and so it holds of
-//! the last one too. A transfer is one commit or none, and each refusal has its cause.
+//! the last one too. A sum is that of the state of a time that is told, which a section of its own took. A
+//! transfer moves some amount, and is one commit or none, and each refusal has its cause.
 //!
 //! # How it is made
 //!
@@ -25,7 +26,8 @@
 //! 4. *One attempt.* [`transfer`] makes room, enters, reads, locks, writes and commits.
 //! 5. *Trying again.* No call of a store does. [`make_transfers`] attempts each transfer until it is
 //!    done, and takes a `Wait`, since others may always come first.
-//! 6. *Threads.* A [`Worker`] holds a store, and [`run_all`] runs each in a thread of its own.
+//! 6. *Threads.* These calls take any store, so a thread of its own may make them: `accounts_run` runs them
+//!    over a domain.
 //!
 //! # Its place
 //!
@@ -36,10 +38,10 @@
 
 mod attempt;
 mod reading;
+mod repeating;
 mod rules;
-mod workers;
 
 pub use attempt::{Attempt, Refusal, transfer};
-pub use reading::{keeps_total, sum, total};
+pub use reading::{SumAt, keeps_total, sum, total};
+pub use repeating::{Moved, make_transfers, read_sums};
 pub use rules::{ACCOUNTS, Accounts, BALANCE, account, opening};
-pub use workers::{Moved, Sums, Worker, make_transfers, read_sums, run_all};

@@ -3,10 +3,20 @@ ghost use Rattle.std.specs.Prelude.{◌≡◌, ℕ, ◌^◌, ◌<◌, length};
 ghost use Rattle.accounts.specs.declared.rules.TheConstants.{ACCOUNTS as how_many};
 ghost use Rattle.mv_history.specs.State.{state_at};
 ghost use Rattle.mv_history.specs.Calls.{Continues};
+ghost use Rattle.accounts.specs.Repeats.{IsSum};
 ghost use Rattle.accounts.specs.Rules.{total as total_of};
 
 use crate::rules::{ACCOUNTS, Accounts, BALANCE};
 use mv_history::{Section, Store, View};
+
+/// A sum of all accounts.
+#[derive(Clone, Copy, Debug, PartialEq, Eq)]
+pub struct SumAt {
+    /// The printed time of the state whose sum it is.
+    pub time: u64,
+    /// The sum of all balances.
+    pub total: u64,
+}
 
 /// The sum of all accounts of a view: of a section, or of the state at the close.
 ///
@@ -24,17 +34,19 @@ pub fn total<V: View>(view: &mut V) -> u64
     sum
 }
 
-/// Reads all accounts in one section, and gives the store back with their sum. It never refuses.
+/// Reads all accounts in one section, and gives the store back with their sum and its time. It never refuses.
 ///
 /// At every interleaving the sum is the one that the store opened with.
-pub fn sum<S: Store<Rules = Accounts>>(store: S) -> (S, u64)
-    ensures sum { result.1 ≡ total_of (S.seat_of store).start }
+pub fn sum<S: Store<Rules = Accounts>>(store: S) -> (S, SumAt)
+    ensures sum { result.1.total ≡ total_of (S.seat_of store).start }
+    ensures read { IsSum S.took (S.seat_of store) (S.seat_of result.0) result.1 }
     ensures continues { Continues (S.seat_of store) (S.seat_of result.0) }
     ensures mine { (S.seat_of result.0).mine ≡ (S.seat_of store).mine }
 {
     let mut section = store.enter();
+    let time = section.at();
     let sum = total(&mut section);
-    (section.leave(), sum)
+    (section.leave(), SumAt { time, total: sum })
 }
 
 /// The law of the accounts, for who proves something over them: at every time that a store has

@@ -7,44 +7,77 @@
 //! `--refused` it prints besides how many attempts were refused, which differs from run to run.
 #![tactic(auto)]
 
-use accounts_run::{Report, Task, run_in_domain};
+use accounts::total;
+use accounts_run::{Asked, Teller, run_in_domain, tellers};
 use std::process::ExitCode;
 use std::{env, io};
 
-// What each thread is to do. Each account opens with 100.
-const MOVER: Task = Task {
+// What each thread is asked for. Each account opens with 100.
+const MOVER: Asked = Asked {
     transfers: 300,
     sums: 0,
 };
 
-const READER: Task = Task {
+const READER: Asked = Asked {
     transfers: 0,
     sums: 300,
 };
 
 const BALANCE: u32 = 100;
 
-fn print_report<R: Print>(rt: &R, report: &Report) -> io::Result<()> {
-    println!(rt; "transfers {}", report.transfers)?;
-    println!(rt;
-        "sums {} least {} greatest {}",
-        report.sums, report.least, report.greatest
-    )?;
-    println!(rt; "last sum {}", report.last)
+// What the tellers did together.
+#[derive(Clone, Copy)]
+struct Totals {
+    transfers: u64,
+    refused: u64,
+    sums: u64,
+    least: u64,
+    greatest: u64,
+}
+
+fn totals_of(tellers: &[Teller]) -> Totals {
+    let mut totals = Totals {
+        transfers: 0,
+        refused: 0,
+        sums: 0,
+        least: u64::MAX,
+        greatest: 0,
+    };
+    for teller in tellers {
+        totals.transfers = totals
+            .transfers
+            .saturating_add(teller.moved.transfers as u64);
+        totals.refused = totals.refused.saturating_add(teller.moved.refused);
+        for sum in &teller.read {
+            totals.sums = totals.sums.saturating_add(1);
+            totals.least = totals.least.min(sum.total);
+            totals.greatest = totals.greatest.max(sum.total);
+        }
+    }
+    totals
 }
 
 fn main(rt: HostRuntime) -> io::Result<ExitCode> {
-    let tasks = [MOVER, MOVER, READER, READER];
-    let Ok(report) = run_in_domain(&rt, rt.alloc(), BALANCE, &tasks) else {
+    let Ok(tellers) = tellers(rt.alloc(), &[MOVER, MOVER, READER, READER]) else {
         eprintln!(rt; "no memory for the domain")?;
         return Ok(ExitCode::FAILURE);
     };
-    print_report(&rt, &report)?;
+    let Ok((mut closing, tellers)) = run_in_domain(&rt, rt.alloc(), BALANCE, tellers) else {
+        eprintln!(rt; "no memory for the domain")?;
+        return Ok(ExitCode::FAILURE);
+    };
+    let totals = totals_of(&tellers);
+    println!(rt; "transfers {}", totals.transfers)?;
+    println!(rt;
+        "sums {} least {} greatest {}",
+        totals.sums, totals.least, totals.greatest
+    )?;
+    println!(rt; "last sum {}", total(&mut closing))?;
     if env::args(&rt)?
         .skip(1)
         .any(|word| word.as_str() == "--refused")
     {
-        println!(rt; "refused {}", report.refused)?;
+        println!(rt; "refused {}", totals.refused)?;
     }
     Ok(ExitCode::SUCCESS)
 }

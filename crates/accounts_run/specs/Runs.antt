@@ -1,78 +1,68 @@
--- What a run over a domain comes to.
-use Rattle.std.specs.Prelude.{◌≡◌, ℕ, ◌<◌, ◌≤◌, List, sum_by}
+-- What a run over a domain of accounts comes to.
+use Rattle.std.specs.Prelude.{◌≡◌, ℕ, ◌+◌, ◌<◌, ◌≤◌, List, [], length, All, vec_capacity}
 use mathlib.Core.Option.{some}
 use lib.ListN.{get_elem?}
-use Rattle.mv_history.specs.Meaning.{Seat, IsWorn}
+use Rattle.mv_history.specs.State.{state_at, maker_of, commits_of}
+use Rattle.mv_history.specs.Legal.{IsAllowed}
+use Rattle.mv_history.specs.Meaning.{Seat, InSection}
 use Rattle.mv_history.specs.declared.history.TheConstants.{LAST}
-use Rattle.mv_layout.specs.declared.Config.{Config}
-use Rattle.accounts.specs.declared.workers.Worker.{Worker}
-use Rattle.accounts.specs.declared.rules.TheConstants.{ACCOUNTS}
-use Rattle.accounts_run.specs.declared.running.Task.{Task}
-use Rattle.accounts_run.specs.declared.running.Report.{Report}
-use Rattle.mvrlu.specs.declared.domain.Seat as domain
-use Rattle.mvrlu.specs.Meant.{seat_of}
+use Rattle.accounts.specs.declared.reading.SumAt.{SumAt}
+use Rattle.accounts.specs.Rules.{total, IsTransfer}
+use Rattle.accounts.specs.Repeats.{Moves, Reads}
+use Rattle.accounts_run.specs.declared.teller.Asked.{Asked}
+use Rattle.accounts_run.specs.declared.teller.Teller.{Teller}
+use Rattle.mvrlu.specs.Causes.{Took}
+use Rattle.mvrlu.specs.Whole.{Whole}
 
--- the numbers of a domain of so many seats
-abbrev pub numbers_for : ℕ → Config
-numbers_for seats = record { seats = seats; objects = ACCOUNTS; slots = 64; write_max = 2; low = 32; high = 62; base = 0 }
+-- what a teller is asked for
+abbrev pub asked_of : Teller → Asked
+asked_of teller = teller.asked
 
--- how many transfers and sums the tasks ask for
-abbrev pub transfers_in : List Task → ℕ
-transfers_in tasks = sum_by (λ t. t.transfers) tasks
+-- the teller has read nothing, and has room for its sums
+pub record HasRoom (teller : Teller) : Type 0 where
+  pub empty : teller.read.items ≡ []
+  pub room : teller.asked.sums ≤ vec_capacity teller.read
 
-abbrev pub sums_in : List Task → ℕ
-sums_in tasks = sum_by (λ t. t.sums) tasks
+-- it is asked for this
+abbrev pub IsNew : Asked → Teller → Type 0
+IsNew asked teller = (teller.asked ≡ asked) × HasRoom teller
 
--- Of so many transfers and sums that were asked for: every sum that was read is this one, and so is the last; as many were read as were due.
--- As many transfers were made, or as many as came before the last time.
-pub record IsRun (sum asked due : ℕ) (r : Report) : Type 0 where
-  pub sums : r.sums ≡ due
-  pub least : 0 < r.sums → r.least ≡ sum
-  pub greatest : 0 < r.sums → r.greatest ≡ sum
-  pub last : r.last ≡ sum
-  pub most : r.transfers ≤ asked
-  pub all : r.transfers < asked → r.time ≡ LAST
+-- and its seat may hold two accounts
+abbrev pub IsReady : Seat → Teller → Type 0
+IsReady seat teller = (2 ≤ seat.write_max) × HasRoom teller
 
--- every sum that was read so far is this one
-pub record IsRead (sum : ℕ) (r : Report) : Type 0 where
-  pub above : sum ≤ r.least
-  pub below : r.greatest ≤ sum
-  pub least : 0 < r.sums → r.least ≡ sum
-  pub greatest : 0 < r.sums → r.greatest ≡ sum
+-- The teller made its transfers on the seat, and then read its sums, each in a section of its own.
+pub record Served (took : Seat → InSection → Type 0) (before after : Seat) (old new : Teller) : Type 0 where
+  pub asked : new.asked ≡ old.asked
+  pub between : Seat
+  pub moves : Moves before between old.asked.transfers new.moved.transfers
+  pub reads : Reads took between after old.asked.sums new.read.items
 
-module _ {S : Type 0} where
-  -- the seat of a worker's store
-  abbrev pub stored : (S → Seat) → Worker S → Seat
-  stored meant w = meant w.store
+-- the sum is that of the state of the history at its time, and it is the opening sum
+pub record IsSumOf (w : Whole) (opening : ℕ) (sum : SumAt) : Type 0 where
+  pub at : ℕ
+  pub seen : at ≤ length w.history
+  pub time_is : sum.time ≡ w.base + at
+  pub total_is : sum.total ≡ total (state_at w.start w.history at)
+  pub same : sum.total ≡ opening
 
-  -- how many transfers and sums workers are asked for
-  abbrev pub asked_transfers : List (Worker S) → ℕ
-  asked_transfers ws = sum_by (λ w. w.transfers) ws
+-- What a teller did, on a seat that was new, and by the whole history. Its transfers are the commits of its number; it made all that it was
+-- asked for, unless the last time came; and it read as many sums as it was asked for.
+pub record IsServed (opening : ℕ) (w : Whole) (k : ℕ) (old new : Teller) : Type 0 where
+  pub first : Seat
+  pub met : Seat
+  pub fresh : (first.number ≡ k) × (first.seen ≡ []) × (first.mine ≡ [])
+  pub served : Served Took first met old new
+  pub made : new.moved.transfers ≡ length (commits_of k w.history)
+  pub most : new.moved.transfers ≤ old.asked.transfers
+  pub all : new.moved.transfers < old.asked.transfers → w.base + length w.history ≡ LAST
+  pub many : length new.read.items ≡ old.asked.sums
+  pub read : All (IsSumOf w opening) new.read.items
 
-  abbrev pub asked_sums : List (Worker S) → ℕ
-  asked_sums ws = sum_by (λ w. w.sums) ws
-
-  -- the worker has read this sum alone, as often as it was asked to, and made all its transfers or as many as came before the last time
-  pub record IsDone (meant : S → Seat) (sum : ℕ) (w : Worker S) : Type 0 where
-    pub read : w.read.read ≡ w.sums
-    pub least : 0 < w.sums → w.read.least ≡ sum
-    pub greatest : 0 < w.sums → w.read.greatest ≡ sum
-    pub most : w.moved.transfers ≤ w.transfers
-    pub all : w.moved.transfers < w.transfers → IsWorn (meant w.store)
-
-  -- each has
-  abbrev pub AreDone : (S → Seat) → ℕ → List (Worker S) → Type 0
-  AreDone meant sum ws = (k : ℕ) (w : Worker S) → get_elem? ws k ≡ some w → IsDone meant sum w
-
-module _ {P : Type 0} {rules : _} where
-  -- the last time was reached, and one of these seats has seen it
-  abbrev pub HasWorn : List (domain.Seat P rules) → Type 0
-  HasWorn seats = (k : ℕ) × (s : domain.Seat P rules) × (get_elem? seats k ≡ some s) × IsWorn (seat_of s)
-
-  -- what all workers did together, of so many transfers and sums that they were asked for
-  pub record IsWork (sum asked due : ℕ) (seats : List (domain.Seat P rules)) (r : Report) : Type 0 where
-    pub sums : r.sums ≡ due
-    pub least : 0 < r.sums → r.least ≡ sum
-    pub greatest : 0 < r.sums → r.greatest ≡ sum
-    pub most : r.transfers ≤ asked
-    pub all : r.transfers < asked → HasWorn seats
+-- The history is one of transfers by these tellers, and each has done its work.
+pub record IsRunOf (opening : ℕ) (olds news : List Teller) (w : Whole) : Type 0 where
+  pub allowed : IsAllowed IsTransfer w.start w.history
+  pub opens : total w.start ≡ opening
+  pub makers : All (λ e. maker_of e < length olds) w.history
+  pub many : length news ≡ length olds
+  pub each : (k : ℕ) (n : Teller) → get_elem? news k ≡ some n → (o : Teller) × (get_elem? olds k ≡ some o) × IsServed opening w k o n

@@ -1,36 +1,35 @@
-//! The accounts over a domain: threads move amounts while others read sums, and all meet. A caller to copy.
+//! The accounts over a domain: threads move amounts while others read sums, and all meet. A client to copy.
 //!
 //! # The model
 //!
-//! A domain of eight accounts has one seat for each task. Each task runs in a thread of its own; it makes
-//! transfers, and then reads sums. When all have ended the seats meet, and the last sum is read.
+//! A domain of eight accounts has one seat for each [`Teller`]. Each teller runs in a thread of its own: it makes
+//! transfers, and then reads sums. When all have ended the seats meet, and their one history of commits is whole.
 //!
 //! # The contract
 //!
-//! [`run_in_domain`]: at every interleaving, every sum that was read is the opening sum, and so is the sum
-//! of the state after the whole history. All transfers are made that were asked for, unless the last time
-//! of the domain was reached.
+//! [`run_in_domain`] (`IsRunOf`), at every interleaving:
+//!
+//! - each commit of the history is a transfer, and each transfer that a teller counts is one of the commits of its number;
+//!   there are no others. A teller made fewer than it was asked for only where the last time was reached;
+//! - each sum that a teller read is that of the state of the history at the time that is told, and each was read in a
+//!   section of its own, entered behind the one before;
+//! - each of these sums, and that of the last state, is the opening sum.
 //!
 //! # How it is made
 //!
-//! 1. *Open.* `open` takes the numbers of the domain and the opening objects, and gives the domain with its
-//!    seats. The rules are a type parameter, here `Accounts`, whose definition and proofs are in `accounts`.
-//! 2. *Lend.* `Domain::handle` lends the domain to a seat. A handle is a `Store`, and may go to a thread.
-//! 3. *Work.* `accounts::run_all` runs each worker in a thread: transfers, tried again until done, and sums.
-//! 4. *Give back.* `Handle::into_seat` gives the loan back.
-//! 5. *Meet.* `Domain::meet` takes all seats and the domain. From then on nobody makes an entry, and the
-//!    `Closing` reads the state after the whole history, as any `View` does.
-//!
-//! Seats can't be let go, so all memory is taken before the handles are made, and where there is none the
-//! seats meet at once.
+//! 1. *A task.* `Teller` implements `Task<Accounts>`: what it needs of its seat, and what it did (`specs/Runs.antt`), for
+//!    any store of these rules. Its method calls `make_transfers` and `read_sums` of `accounts`.
+//! 2. *A run.* `domain_run::run` opens the domain, runs each task on a seat of its own in a thread, and lets all meet.
+//! 3. *The whole.* Its contract says what each task did on its seat, and how that seat stands in the whole history. One
+//!    file, `proofs/Serving.antt`, draws from it what is said above.
 //!
 //! # Its place
 //!
-//! It stands on `accounts` and on the public calls of `mvrlu`; `accounts_main` is its program.
+//! It stands on `accounts` and `domain_run`; `accounts_main` is its program.
 #![tactic(auto)]
 
-mod ending;
-mod hiring;
 mod running;
+mod teller;
 
-pub use running::{Report, Task, numbers, run_in_domain};
+pub use running::run_in_domain;
+pub use teller::{Asked, Teller, tellers};

@@ -1,85 +1,42 @@
-// A run: a domain is opened, a thread works for each task, and all meet.
-ghost use Rattle.std.specs.Prelude.{◌≡◌, ◌*◌, ◌^◌, ◌<◌, ◌≤◌, length, IfOk, IfErr};
-ghost use Rattle.accounts_run.specs.Runs.{transfers_in, sums_in, IsRun, numbers_for};
+// A run over a domain of accounts.
+ghost use Rattle.std.specs.Prelude.{◌≡◌, ◌*◌, ◌≤◌, length, vec_len, All, IfOk, IfErr};
+ghost use Rattle.accounts.specs.Rules.{total};
+ghost use Rattle.accounts.specs.declared.rules.TheConstants.{ACCOUNTS as how_many};
+ghost use Rattle.accounts_run.specs.Runs.{HasRoom, IsRunOf};
+ghost use Rattle.domain_run.specs.Numbers.{numbers_for};
+ghost use Rattle.mvrlu.specs.Meant.{whole_of};
 ghost use Rattle.mvrlu.specs.Opened.{Refuses};
+ghost use Rattle.mvrlu.specs.Whole.{last_state};
 
-use crate::ending::{gathered, met};
-use crate::hiring::{hired, worked};
+use crate::teller::Teller;
 use accounts::{ACCOUNTS, Accounts, opening};
-use mv_layout::Config;
-use mvrlu::{OpenFault, open};
-use std::alloc::{AllocError, Global};
+use domain_run::{config_of, run};
+use mvrlu::{Closing, OpenFault};
+use std::alloc::Global;
 use std::sync::Wait;
 use std::thread::Threads;
 
-/// What one thread is to do: make so many transfers, and then read so many sums.
-#[derive(Clone, Copy, Debug, PartialEq, Eq)]
-pub struct Task {
-    pub transfers: u32,
-    pub sums: u32,
-}
+// A transfer holds two accounts.
+const WRITE_MAX: u32 = 2;
 
-/// What a run came to.
-#[derive(Clone, Copy, Debug, PartialEq, Eq)]
-pub struct Report {
-    /// How many transfers were made.
-    pub transfers: u64,
-    /// How many attempts were refused on the way, which differs from run to run.
-    pub refused: u64,
-    /// How many sums were read, the least of them and the greatest.
-    pub sums: u64,
-    pub least: u64,
-    pub greatest: u64,
-    /// The sum of all accounts after the whole history.
-    pub last: u64,
-    /// The printed time of the last entry.
-    pub time: u64,
-}
-
-/// The numbers of a domain of so many seats: small logs, which are reclaimed often, and write sets of the
-/// two accounts of a transfer.
-pub fn numbers(seats: u32) -> Config
-    ensures { result ≡ numbers_for seats }
-{
-    Config {
-        seats,
-        objects: ACCOUNTS,
-        slots: 64,
-        write_max: 2,
-        low: 32,
-        high: 62,
-        base: 0,
-    }
-}
-
-/// Runs the tasks, each in a thread of its own, over a domain of accounts that have this balance each.
+/// Runs the tellers, each in a thread of its own, over a domain of accounts that have this balance each. It answers the
+/// closing, which has the whole history, and the tellers with what they did.
 ///
-/// - `Config(Seats)` where there is no task.
-/// - `Memory` where there is no memory for the domain or the workers; no task was begun.
+/// - `Config(Seats)` where there is no teller.
+/// - `Memory` where there is no memory for the domain or the threads. Nothing was begun, and the tellers come back.
 pub fn run_in_domain<R: Threads + Wait + Sync>(
     rt: &R,
     alloc: Global,
     balance: u32,
-    tasks: &[Task],
-) -> Result<Report, OpenFault>
-    requires few { length tasks.now ≤ 64 }
-    requires transfers { transfers_in tasks.now < 2 ^ 64 }
-    requires sums { sums_in tasks.now < 2 ^ 64 }
-    ensures run { IfOk result (λ report. IsRun (8 * balance) (transfers_in tasks.now) (sums_in tasks.now) report) }
-    ensures refused { IfErr result (λ fault. Refuses (numbers_for (length tasks.now)) fault) }
+    tellers: Vec<Teller>,
+) -> Result<(Closing<Accounts>, Vec<Teller>), (Vec<Teller>, OpenFault)>
+    requires few { vec_len tellers ≤ 64 }
+    requires new { All HasRoom tellers.items }
+    ensures run { IfOk result (λ done. IsRunOf (8 * balance) tellers.items done.1.items (whole_of done.0)) }
+    ensures last { IfOk result (λ done. let last = last_state (whole_of done.0) in (length last ≡ how_many) × (total last ≡ 8 * balance)) }
+    ensures refused { IfErr result (λ back. Refuses (numbers_for (vec_len tellers) how_many 2) back.1 × (back.0 ≡ tellers)) }
 {
-    let numbers = numbers(tasks.len() as u32);
+    let config = config_of(tellers.len() as u32, ACCOUNTS, WRITE_MAX);
     let start = opening(balance);
-    let (domain, mut seats) = open::<Accounts>(alloc, numbers, &start)?;
-    let workers = match Vec::with_capacity(alloc, seats.len()) {
-        Ok(workers) => workers,
-        Err(AllocError) => {
-            let _ = domain.meet(seats);
-            return Err(OpenFault::Memory);
-        }
-    };
-    let workers = hired(&domain, &mut seats, workers, tasks);
-    let workers = worked(rt, &domain, workers);
-    let (seats, work) = gathered(&domain, workers, seats);
-    Ok(met(domain, seats, work))
+    run::<R, Accounts, Teller>(rt, alloc, config, &start, tellers)
 }

@@ -3,7 +3,9 @@ ghost use Rattle.std.specs.Prelude.{◌≡◌, ◌≢◌, ◌<◌, IfOk, length}
 ghost use Rattle.mv_history.specs.PlainMeaning.{seat_of};
 
 use crate::comparing::assert_same;
-use accounts::{Accounts, Attempt, Moved, Sums, make_transfers, opening, read_sums, sum, transfer};
+use accounts::{
+    Accounts, Attempt, Moved, SumAt, make_transfers, opening, read_sums, sum, transfer,
+};
 use mv_history::{PlainStore, Words};
 use std::alloc::{AllocError, Global};
 use std::sync::Wait;
@@ -62,8 +64,13 @@ fn some_accounts(store: &PlainStore<Accounts>) -> [Words; 4]
     ]
 }
 
+// The sum of all accounts, at this time.
+fn of_all(time: u64) -> SumAt {
+    SumAt { time, total: 800 }
+}
+
 // What four transfers are answered, some of the accounts after them, and the sum of all.
-fn attempts_alone(alloc: Global) -> Result<([Attempt; 4], [Words; 4], u64), AllocError> {
+fn attempts_alone(alloc: Global) -> Result<([Attempt; 4], [Words; 4], SumAt), AllocError> {
     let (store, attempts) = four_attempts(open(alloc, 2)?);
     let accounts = some_accounts(&store);
     let (_store, sum) = sum(store);
@@ -88,14 +95,19 @@ fn each_answer_of_an_attempt(rt: HostRuntime) -> Result<(), Fail> {
         [230, 0, 0, 0, 0, 0],
     ];
     assert_same(&rt, &accounts, &balances, "accounts");
-    assert_same(&rt, &sum, &800, "sum");
+    assert_same(&rt, &sum, &of_all(42), "sum");
     Ok(())
 }
 
 // What 60 transfers in a store with room for so many come to, and three sums after them.
-fn transfers_alone(rt: &impl Wait, alloc: Global, room: u32) -> Result<(Moved, Sums), AllocError> {
+fn transfers_alone(
+    rt: &impl Wait,
+    alloc: Global,
+    room: u32,
+) -> Result<(Moved, Vec<SumAt>), AllocError> {
+    let mut sums = Vec::with_capacity(alloc, 3)?;
     let (store, moved) = make_transfers(rt, open(alloc, room)?, 60);
-    let (_store, sums) = read_sums(store, 3);
+    let _store = read_sums(store, 3, &mut sums);
     Ok((moved, sums))
 }
 
@@ -104,12 +116,7 @@ fn transfers_and_sums_of_one_seat(rt: HostRuntime) -> Result<(), Fail> {
     let (moved, sums) = transfers_alone(&rt, rt.alloc(), 60)?;
     let (transfers, refused) = (60, 0);
     assert_same(&rt, &moved, &Moved { transfers, refused }, "transfers");
-    let (read, least, greatest) = (3, 800, 800);
-    let wanted = Sums {
-        read,
-        least,
-        greatest,
-    };
+    let wanted = Vec::from_slice(rt.alloc(), &[of_all(100); 3])?;
     assert_same(&rt, &sums, &wanted, "sums");
     Ok(())
 }

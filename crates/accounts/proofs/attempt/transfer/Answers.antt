@@ -60,7 +60,7 @@ try_commit-requires-clause-fit g c =
     transfer-fit _ _ _
     (is_transfer (g.S.Open.Section.section c.enter-section.result) _ _ c.args.from c.args.to c.args.amount _ _ _ _
     (g.met.S.Open.Section.reads c.enter-section.result) c.enter-section.ensures.enters.own (g.met.S.Open.Section.lawful _)
-    (GoesOn-GoesOn looks c.write_two.ensures.goes_on) c.requires.from c.requires.to c.requires.other (ap balance_of c.read.ensures.words)
+    (GoesOn-GoesOn looks c.write_two.ensures.goes_on) c.requires.from c.requires.to c.requires.other c.requires.some (ap balance_of c.read.ensures.words)
     (ap balance_of (c.read-2.ensures.words ∙ ap (λ (u : State). words_at u c.args.to) same))
     c.if-has-amount.false c.account-left.ensures c.account-gained.ensures c.in_default-write_two.ensures.written)
 

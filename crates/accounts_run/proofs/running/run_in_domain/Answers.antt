@@ -1,28 +1,33 @@
-use Rattle.std.proofs.Common.{◌≡◌, ◌<◌, ◌≤◌, ℕ, sym, ap, ◌∙◌, subst, arith}
-use Rattle.accounts.specs.Rules.{total}
-use Rattle.accounts_run.specs.Runs.{transfers_in, sums_in, asked_transfers, IsWork, IsRun}
-use Rattle.mvrlu.specs.Meant.{opening_of}
-use Rattle.mvrlu.proofs.AllSeats.{opened_all}
-use Rattle.mvrlu.proofs.Orders.{opened_rising}
+use Rattle.std.proofs.Common.{ap, ◌∙◌, arith}
+use Rattle.mv_layout.specs.declared.Config.{Config}
+use Rattle.mvrlu.specs.Meant.{whole_of}
+use Rattle.accounts_run.specs.Runs.{HasRoom}
+use Rattle.accounts_run.proofs.Serving.{run_of, last_total, last_accounts}
+use Rattle.domain_run.proofs.Rows.{all_at, if_ok}
 use Rattle.accounts_run.proofs.running.run_in_domain.Goals as goal
 
-pub meet-requires : goal.meet-requires
-meet-requires g c = record {
-  all = opened_all c.in_ok-domain.domain c.in_ok-domain.seats.items c.numbers-numbers.result c.opening-start.result c.in_ok-domain.ensures.opened.1;
-}
-
-pub hired-workers-requires-clause-rising : goal.hired-workers-requires-clause-rising
-hired-workers-requires-clause-rising g c =
-    opened_rising c.in_ok-domain.domain c.in_ok-domain.seats.items c.numbers-numbers.result c.opening-start.result c.in_ok-domain.ensures.opened.1
+pub run-requires-clause-ready : goal.run-requires-clause-ready
+run-requires-clause-ready g c κs within = λ home k t e.
+    let two = ap (λ (n : Config). n.write_max) c.config_of-config.ensures.numbers in
+    (omega (arith, two), all_at HasRoom c.args.tellers.items k t e c.requires.new)
 
 pub returns-clause-run : goal.returns-clause-run
 returns-clause-run g c =
-    let tasks = c.args.tasks.now in
-    let sum = total (opening_of c.in_ok-domain.domain) in
-    let opening = ap total c.in_ok-domain.ensures.opened.1.opening ∙ c.opening-start.ensures.total in
-    let asked = c.worked-workers.ensures.transfers ∙ c.hired-workers.ensures.transfers in
-    let due = c.worked-workers.ensures.sums ∙ c.hired-workers.ensures.sums in
-    let r = c.gathered-seats.result in
-    let work = subst (λ (n : ℕ). IsWork sum n (sums_in tasks) r.0.items r.1) asked
-    (subst (λ (n : ℕ). IsWork sum (asked_transfers c.worked-workers.result.items) n r.0.items r.1) due c.gathered-seats.ensures.work) in
-    subst (λ (n : ℕ). IsRun n (transfers_in tasks) (sums_in tasks) c.met.result) opening (c.met.ensures.run (transfers_in tasks) (sums_in tasks) work)
+    let seats = ap (λ (n : Config). n.seats) c.config_of-config.ensures.numbers in
+    let many = c.len.ensures in
+    let long = c.args.tellers.ok.0 in
+    if_ok c.run.result
+    (λ done ran. run_of ran.0 c.config_of-config.result c.opening-start.result c.args.tellers.items done.1.items ran.1 (whole_of done.0) _
+    c.opening-start.ensures.total ran.2 (omega arith))
+    c.run.ensures.ran
+
+pub returns-clause-last : goal.returns-clause-last
+returns-clause-last g c =
+    if_ok c.run.result
+    (λ done ran. (
+      last_accounts ran.0 c.config_of-config.result c.opening-start.result c.args.tellers.items done.1.items ran.1 (whole_of done.0) _
+          c.opening-start.ensures.total ran.2 ∙ c.opening-start.ensures.lawful.accounts,
+      last_total ran.0 c.config_of-config.result c.opening-start.result c.args.tellers.items done.1.items ran.1 (whole_of done.0) _
+          c.opening-start.ensures.total ran.2,
+    ))
+    c.run.ensures.ran

@@ -1,6 +1,6 @@
 use Rattle.std.proofs.Common.{◌≡◌, ◌+◌, ◌≤◌, length}
 use Rattle.mv_history.specs.Calls.{Continues}
-use Rattle.accounts.proofs.workers.make_transfers.Given as goal
+use Rattle.accounts.proofs.repeating.make_transfers.Given as goal
 
 abbrev pub invariant-loop : goal.invariant-loop
 invariant-loop g l = record {

@@ -20,6 +20,10 @@ module _ {P : Type 0} {rules : _} where
     pub own : All (λ s. IsSeatOf d s) seats
     pub apart : AllPairs (λ s t. (seat_of s).number ≢ (seat_of t).number) seats
 
+  -- What each seat has seen is a beginning of the history; and so is all that it had seen at any time before, which is a beginning of that.
+  abbrev pub EachHasSeenABeginning : List (Seat P rules) → List Entry → Type 0
+  EachHasSeenABeginning seats history = All (λ s. (before : List Entry) → BeginsWith (seat_of s).seen before → BeginsWith history before) seats
+
   -- The law of the whole. Whatever the seats of a domain have done, there is one history of it all. It is legal, and allowed under the
   -- client's rules from the opening state. Whatever a seat had seen at any time is a beginning of it. The commits of a seat are those of
   -- its number in it, in order and each once, and so many rests in it are the seat's. Each entry is of one of the seats.
@@ -29,15 +33,15 @@ module _ {P : Type 0} {rules : _} where
     pub allowed : IsAllowed allows w.start w.history
     pub time : w.base + length w.history ≤ LAST
     pub from : All (λ s. ((seat_of s).start ≡ w.start) × ((seat_of s).base ≡ w.base)) seats
-    pub seen : All (λ s. (before : List Entry) → BeginsWith (seat_of s).seen before → BeginsWith w.history before) seats
+    pub seen : EachHasSeenABeginning seats w.history
     pub mine : All (λ s. (seat_of s).mine ≡ commits_of (seat_of s).number w.history) seats
     pub rests : All (λ s. (seat_of s).rests ≡ rests_of (seat_of s).number w.history) seats
     pub makers : (e : Entry) → Contains w.history e → (s : Seat P rules) × Contains seats s × ((seat_of s).number ≡ maker_of e)
     pub commits : (c : Commit) → Contains w.history (Change c)
         → (s : Seat P rules) × Contains seats s × ((seat_of s).number ≡ c.seat) × Contains (seat_of s).mine c
 
-  -- the steps of a meeting: they follow those of one of the seats, and are at most so many
-  pub record IsShort (seats : List (Seat P rules)) (w : Whole) (most : ℕ) : Type 0 where
+  -- a trail that is at most so many steps behind that of one of the seats
+  pub record IsAtMostBehindOneOf (seats : List (Seat P rules)) (w : Whole) (most : ℕ) : Type 0 where
     pub seat : Seat P rules
     pub there : Contains seats seat
     pub steps : List Step

@@ -133,9 +133,11 @@ impl<'d, P: Protocol> Handle<'d, P> {
         tidied::<P, Brand>(&domain.shared, &mut seat.idle, Blank::new(1))
     }
 
-    /// The counts of the seat's log: `live` slots now and `freed` ones in all, `back` write-backs that cut
-    /// their chain, `commits`, `aborts` of sections that held something, and `rests`. `live + freed` is as
-    /// many as the writes of the seat's commits and the objects that its aborted sections held.
+    /// The counts of the seat's log, each by its definition: `commits` and `rests` by the seat's part of the
+    /// history, `freed` slots and `back` write-backs that cut their chain by the seat's trail, `live` slots
+    /// by those that aren't free, and `aborts` of sections that held something by the calls of `abort`.
+    /// `live + freed`, all slots that were ever taken, is at least as many as the writes of the seat's
+    /// commits, and exactly as many where no section was aborted that held something.
     pub fn table(&self) -> LogTable
         ensures table { IsSeatTable (handled self.now) result }
         ensures aborts { result.aborts ≡ aborts_of self.now }

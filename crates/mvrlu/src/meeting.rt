@@ -4,7 +4,7 @@ ghost use Rattle.mv_core.specs.EnterSteps.{MayLoadLow};
 ghost use Rattle.mv_core.specs.Passes.{view, IsOf};
 ghost use Rattle.mvrlu.specs.Joined.{AreJoining};
 ghost use Rattle.mvrlu.specs.Meant.{numbers_of, opening_of, whole_of};
-ghost use Rattle.mvrlu.specs.Meeting.{AreAll, LawOfTheWhole, IsShort};
+ghost use Rattle.mvrlu.specs.Meeting.{AreAll, LawOfTheWhole, IsAtMostBehindOneOf};
 ghost use Rattle.mvrlu.specs.Placed.{Fits};
 ghost use Rattle.mvrlu.specs.Whole.{IsSound};
 
@@ -66,7 +66,7 @@ fn met<P: Protocol, L: Ledger>(
     ensures law { LawOfTheWhole P.start P.allowed seats.items result }
     ensures sound { IsSound result }
     ensures opening { (result.start ≡ opening_of domain) × (result.base ≡ (numbers_of domain).base) }
-    ensures short { IsShort seats.items result ((numbers_of domain).seats + 7) }
+    ensures short { IsAtMostBehindOneOf seats.items result ((numbers_of domain).seats + 7) }
     ensures cost { steps.new ≤ steps.old + ((numbers_of domain).seats + 7) }
 {
     let Domain { shared } = domain;
@@ -85,7 +85,7 @@ fn begun<P: Protocol, L: Ledger>(domain: Domain<P>, seats: Vec<Seat<P>>, blank: 
     ensures law { LawOfTheWhole P.start P.allowed seats.items result }
     ensures sound { IsSound result }
     ensures opening { (result.start ≡ opening_of domain) × (result.base ≡ (numbers_of domain).base) }
-    ensures short { IsShort seats.items result ((numbers_of domain).seats + 7) }
+    ensures short { IsAtMostBehindOneOf seats.items result ((numbers_of domain).seats + 7) }
 {
     met(domain, seats, &mut Steps::<L>::open(blank))
 }
@@ -106,7 +106,7 @@ impl<P: Protocol> Domain<P> {
         requires all { AreAll self seats.items }
         ensures law { LawOfTheWhole P.start P.allowed seats.items (whole_of result) }
         ensures opening { ((whole_of result).start ≡ opening_of self) × ((whole_of result).base ≡ (numbers_of self).base) }
-        ensures short { IsShort seats.items (whole_of result) ((numbers_of self).seats + 7) }
+        ensures short { IsAtMostBehindOneOf seats.items (whole_of result) ((numbers_of self).seats + 7) }
     {
         let last = begun::<P, Brand>(self, seats, Blank::new(1));
         Closing { last }

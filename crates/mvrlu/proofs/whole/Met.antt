@@ -26,7 +26,7 @@ use Rattle.version_chain.specs.Walks.{inside_of, time_at}
 use Rattle.mvrlu.specs.declared.domain.Seat.{Seat}
 use Rattle.mvrlu.specs.Joined.{IsKept, AreJoining}
 use Rattle.mvrlu.specs.Meant.{seat_of}
-use Rattle.mvrlu.specs.Meeting.{LawOfTheWhole, IsShort}
+use Rattle.mvrlu.specs.Meeting.{LawOfTheWhole, IsAtMostBehindOneOf}
 use Rattle.mvrlu.specs.Whole.{Whole, whole_from}
 use Rattle.mvrlu.proofs.whole.Numbers.{HasNumber, have_all}
 use Rattle.mvrlu.proofs.whole.NoneLeft.{same_counts, contains_commit}
@@ -177,7 +177,7 @@ module _ {P : Type 0} {rules : _} (c : Config) (seats : List (Seat P rules)) (v 
               );
         })
 
-  pub short : AreJoining seats [] v → IsShort seats (whole_from w) (c.seats + 7)
+  pub short : AreJoining seats [] v → IsAtMostBehindOneOf seats (whole_from w) (c.seats + 7)
   short k =
       let one : List Step = record { kind = LoadJoined; word = 0; found = Some first; stored = None } ∷ [] in
       let two : List Step = record { kind = LoadJoined; word = 0; found = Some last; stored = None } ∷ [] in
@@ -200,7 +200,7 @@ module _ {P : Type 0} {rules : _} (c : Config) (seats : List (Seat P rules)) (v 
 pub record HasMet {P : Type 0} {rules : _} (starts : State → Type 0) (allows : List ℕ → State → Writes → Type 0) (c : Config) (seats : List
     (Seat P rules)) (w : View) : Type 0 where
   pub law : LawOfTheWhole starts allows seats (whole_from w)
-  pub short : IsShort seats (whole_from w) (c.seats + 7)
+  pub short : IsAtMostBehindOneOf seats (whole_from w) (c.seats + 7)
 
 -- the pass of joined seats, with a load of CLOCK, an entering and a load of CLOCK
 pub has_met : {P : Type 0} {rules : _} (starts : State → Type 0) (allows : List ℕ → State → Writes → Type 0) → ((s : State) → IsProp (starts s))

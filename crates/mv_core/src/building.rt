@@ -8,9 +8,8 @@ ghost use Rattle.mv_core.specs.SectionFacts.{IsWord};
 ghost use Rattle.mv_core.specs.EnterSteps.{IsWhole};
 ghost use Rattle.mv_core.specs.LockSteps.{MayStoreBuilt, built_stored, MayStoreData, data_stored, MayLoadDeath, death_loaded};
 
-use crate::shared::{Pass, Shared};
+use crate::shared::{Pass, Shared, load_as, store_as};
 use crate::steps::Steps;
-use crate::turns::{load_as, store_as};
 use mv_history::Protocol;
 use mv_layout::{CLOCK_CELL, DATA_OFFSET, slot_cell, slot_of_position};
 use std::marker::Brand;

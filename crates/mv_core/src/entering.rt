@@ -6,9 +6,8 @@ ghost use Rattle.mv_core.specs.Passes.{view, IsOf, IsSame, config_of};
 ghost use Rattle.mv_core.specs.SectionFacts.{IsWord};
 ghost use Rattle.mv_core.specs.EnterSteps.{IsWhole, MayLoadLow, low_loaded, MayStoreMark, mark_stored, MayLoadTime, time_loaded, MayClearMark, mark_cleared};
 
-use crate::shared::{Pass, Shared};
+use crate::shared::{Pass, Shared, load_alone, load_as, store_as};
 use crate::steps::Steps;
-use crate::turns::{load_alone, load_as, store_as};
 use mv_history::Protocol;
 use mv_layout::{CLOCK_CELL, clock_time, mark_cell, mark_word};
 use std::marker::Brand;

@@ -3,9 +3,8 @@ ghost use Rattle.std.specs.Prelude.{◌≡◌, ◌+◌};
 ghost use Rattle.mv_core.specs.Passes.{view, IsOf, IsSame, config_of};
 ghost use Rattle.mv_core.specs.SeatSteps.{grace_loaded, MayRaiseGrace, grace_raised};
 
-use crate::shared::{Pass, Shared};
+use crate::shared::{Pass, Shared, load_as, raise_as};
 use crate::steps::Steps;
-use crate::turns::{load_as, raise_as};
 use mv_history::Protocol;
 use mv_layout::GRACE_CELL;
 use std::marker::Brand;

@@ -11,10 +11,9 @@ ghost use Rattle.mv_core.specs.EnterSteps.{IsOwnNaming, own_word, MayStamp, stam
 ghost use Rattle.mv_core.specs.Laws.{HelpedAreStamped};
 ghost use Rattle.mv_core.specs.Swaps.{found_by, IsSwap};
 
-use crate::shared::{Pass, Shared};
+use crate::shared::{Pass, Shared, load_as, swap_as};
 use crate::steps::Steps;
 use crate::swap::{Swap, swap_of};
-use crate::turns::{load_as, swap_as};
 use mv_history::Protocol;
 use mv_layout::{
     CLOCK_CELL, STAMP_OFFSET, clock_seat, clock_slot, clock_time, slot_cell, slot_of_position,

@@ -1,24 +1,23 @@
 //! The steps of joining seats, of which one seat is left that knows all history.
-ghost use Rattle.std.specs.Prelude.{◌≡◌, ◌+◌, List, []};
+ghost use Rattle.std.specs.Prelude.{◌≡◌, ◌+◌, List};
 ghost use Rattle.mv_history.specs.declared.Entry.{Entry};
-ghost use Rattle.mv_core.specs.Passes.{view, IsOf, IsSame, IsSeatOf, config_of};
+ghost use Rattle.mv_core.specs.Passes.{view, IsOf, IsSame, config_of};
 ghost use Rattle.mv_core.specs.SectionFacts.{IsWord};
 ghost use Rattle.mv_core.specs.EnterSteps.{IsWhole};
 ghost use Rattle.mv_core.specs.SeatSteps.{MayJoin, joined, AreJoined, joined_loaded};
 
 use crate::opening::Domain;
-use crate::shared::{Pass, Shared};
+use crate::shared::{Pass, Shared, join_as, load_as};
 use crate::steps::Steps;
-use crate::turns::load_as;
 use crate::view::View;
-use atomic_table::{Join, Seat};
-use mv_history::{Protocol, Tag};
+use atomic_table::Join;
+use mv_history::Protocol;
 use mv_layout::CLOCK_CELL;
 use std::marker::{Brand, PhantomData};
 use std::sync::ledger::Ledger;
 
 // How two views are made one, in the domain whose numbers are `D`'s.
-struct Joining<D> {
+pub(crate) struct Joining<D> {
     domain: PhantomData<D>,
 }
 
@@ -29,24 +28,6 @@ impl<D: Domain> Join<View> for Joining<D> {
     ghost both = { joined D.config };
 
     ghost spent = { spent_view };
-}
-
-/// Joins a seat into another, in the domain whose numbers are `D`'s.
-fn join_as<P: Protocol, D: Domain>(
-    shared: &Shared<P>,
-    seat: &mut Seat<Tag, View>,
-    other: Seat<Tag, View>,
-)
-    requires config { D.config ≡ config_of shared.now }
-    requires of { IsSeatOf P.start P.allowed shared.now seat.old }
-    requires other { IsSeatOf P.start P.allowed shared.now other }
-    requires taken { other.me.1 ≡ [] }
-    requires may { MayJoin seat.old.me.0 other.me.0 }
-    ensures same { seat.new.table_id ≡ seat.old.table_id }
-    ensures joined { seat.new.me.0 ≡ joined (config_of shared.now) seat.old.me.0 other.me.0 }
-    ensures taken { seat.new.me.1 ≡ seat.old.me.1 }
-{
-    shared.table.shared.join_seat::<Joining<D>>(seat, other)
 }
 
 impl<P: Protocol> Shared<P> {

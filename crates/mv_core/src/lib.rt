@@ -45,8 +45,8 @@
 //!
 //! **How it is proved.** A step writes one word at most and changes its own view alone, so it keeps
 //! each fact that reads neither. `proofs/frames/FrameLaw.antt` says this once; a kind of step is a
-//! file or a folder under `proofs/kinds`, which answers for the facts left. turns.rt has the step over
-//! the table itself, once for all kinds.
+//! file or a folder under `proofs/kinds`, which answers for the facts left. The steps over
+//! the table itself stand in shared/accesses.rt, once for all kinds: no other code sees the table.
 //!
 //! The crate stands on `atomic_table`, which keeps words and views under one rule; on `mv_history`,
 //! which has histories, the client's rules and trails; and on `mv_layout`, which has the places and
@@ -54,7 +54,6 @@
 #![tactic(auto)]
 
 mod building;
-mod closing;
 mod entering;
 mod grace;
 mod helping;

@@ -10,10 +10,9 @@ ghost use Rattle.mv_core.specs.WalkSteps.{IsLinkOf};
 ghost use Rattle.mv_core.specs.LockSteps.{MayLock, LockTold, OneMoreWrite, MayUnlock, head_unlocked};
 ghost use Rattle.mv_core.specs.Swaps.{found_by, IsSwap};
 
-use crate::shared::{Pass, Shared};
+use crate::shared::{Pass, Shared, store_as, swap_alone};
 use crate::steps::Steps;
 use crate::swap::{Swap, swap_of};
-use crate::turns::{store_as, swap_alone};
 use mv_history::Protocol;
 use mv_layout::{head_cell, link_word};
 use std::marker::Brand;

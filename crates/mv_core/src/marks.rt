@@ -7,9 +7,8 @@ ghost use Rattle.mv_core.specs.SectionFacts.{IsWord};
 ghost use Rattle.mv_core.specs.EnterSteps.{IsWhole};
 ghost use Rattle.mv_core.specs.ReclaimSteps.{MayLoadScan, scan_loaded, MayLoadMark, mark_loaded};
 
-use crate::shared::{Pass, Shared};
+use crate::shared::{Pass, Shared, load_as};
 use crate::steps::Steps;
-use crate::turns::load_as;
 use mv_history::Protocol;
 use mv_layout::{CLOCK_CELL, mark_cell};
 use std::marker::Brand;

@@ -10,10 +10,9 @@ ghost use Rattle.mv_core.specs.NameSteps.{LogTold, MayNameCommit, CommitTold, Ma
 ghost use Rattle.mv_core.specs.WalkSteps.{IsPackedOf};
 ghost use Rattle.mv_core.specs.Swaps.{found_by, IsSwap};
 
-use crate::shared::{Pass, Shared};
+use crate::shared::{Pass, Shared, store_as, swap_as};
 use crate::steps::Steps;
 use crate::swap::{Swap, swap_of};
-use crate::turns::{store_as, swap_as};
 use mv_history::{Protocol, Tag};
 use mv_layout::{CLOCK_CELL, NO_SLOT, SUPER_OFFSET, clock_time, clock_word, slot_of_position};
 use std::marker::Brand;

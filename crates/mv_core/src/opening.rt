@@ -9,10 +9,10 @@ ghost use Rattle.mv_core.specs.Known.{IsTimed};
 ghost use Rattle.mv_core.specs.Passes.{view, IsOf, IsSeatOf, config_of, start_of, AreNew, HomesAreApart};
 ghost use Rattle.mv_core.specs.Views.{new_view};
 
-use crate::shared::{Opening, Pass, Shared};
+use crate::shared::{Pass, Shared, split_as};
 use crate::view::View;
-use atomic_table::{Seat, Split, Table};
-use mv_history::{Protocol, Tag, Words};
+use atomic_table::Split;
+use mv_history::{Protocol, Words};
 use mv_layout::{
     CLOCK_CELL, Config, GRACE_CELL, NO_SLOT, WIDTH, clock_word, master_cell, total_cells,
 };
@@ -45,7 +45,7 @@ impl<D: Domain> Split<View> for Making<D> {
 }
 
 /// What the type of a slice of words says, as a fact.
-fn have_width(words: &[Words])
+pub(crate) fn have_width(words: &[Words])
     ensures { AreWords words.now }
 {}
 
@@ -63,7 +63,11 @@ fn lay_object(config: &Config, words: &mut [u64], start: &[Words], object: u32)
 }
 
 /// The words of a domain before any step.
-fn opening_words(alloc: Global, config: &Config, start: &[Words]) -> Result<Vec<u64>, AllocError>
+pub(crate) fn opening_words(
+    alloc: Global,
+    config: &Config,
+    start: &[Words],
+) -> Result<Vec<u64>, AllocError>
     requires checked { Checked config.now }
     requires sized { length start.now ≡ config.now.objects }
     ensures { IfOk result (λ words. Shows config.now words.items (opening_memory config.now start.now)) }
@@ -78,27 +82,11 @@ fn opening_words(alloc: Global, config: &Config, start: &[Words]) -> Result<Vec<
 }
 
 /// The opening state as clauses see it. The copy that this takes is let go at once.
-fn seen(alloc: Global, start: &[Words]) -> Result<Snapshot<Vec<Words>>, AllocError>
+pub(crate) fn seen(alloc: Global, start: &[Words]) -> Result<Snapshot<Vec<Words>>, AllocError>
     ensures { IfOk result (λ opening. opening.value.items ≡ start.now) }
 {
     let state = Vec::from_slice(alloc, start)?;
     Ok(Snapshot::of(&state))
-}
-
-/// Cuts the seat that comes next from the first one, in the domain whose numbers are `D`'s.
-#[tactic(auto, using(crate::proofs::kinds::opening::MakeSeat::seat_splits_in))]
-fn split_as<P: Protocol, D: Domain>(
-    shared: &Shared<P>,
-    seat: &mut Seat<Tag, View>,
-) -> Seat<Tag, View>
-    requires config { D.config ≡ config_of shared.now }
-    requires of { IsSeatOf P.start P.allowed shared.now seat.old }
-    requires maker { (0 < seat.old.me.0.made) × (seat.old.me.0.made < (config_of shared.now).seats) }
-    ensures maker { (seat.new.table_id ≡ seat.old.table_id) × (seat.new.me.0 ≡ made_one (config_of shared.now) seat.old.me.0)
-        × (seat.new.me.1 ≡ seat.old.me.1) }
-    ensures made { (result.table_id ≡ seat.old.table_id) × (result.me.0 ≡ newly_made (config_of shared.now) seat.old.me.0) × (result.me.1 ≡ []) }
-{
-    shared.table.shared.split_seat::<Making<D>>(seat)
 }
 
 impl<P: Protocol> Shared<P> {
@@ -127,41 +115,6 @@ impl<P: Protocol> Shared<P> {
             domain: self.config,
             rules: PhantomData,
         }
-    }
-
-    /// The domain, with its first seat alone.
-    fn open(
-        alloc: Global,
-        config: &Config,
-        start: &[Words],
-    ) -> Result<(Shared<P>, Pass<P>), AllocError>
-        requires checked { Checked config.now }
-        requires sized { length start.now ≡ config.now.objects }
-        requires lawful { P.start start.now }
-        ensures about { IfOk result (λ r. (config_of r.0 ≡ config.now) × (start_of r.0 ≡ start.now)) }
-        ensures first { IfOk result (λ r. IsOf r.0 r.1 × (view r.1 ≡ maker_view config.now start.now 1)) }
-    {
-        have_width(start);
-        let opening = seen(alloc, start)?;
-        let words = opening_words(alloc, config, start)?;
-        let about = Opening {
-            config: *config,
-            start: opening,
-        };
-        let (table, seat) = Table::of_words(alloc, words.as_slice(), &about)?;
-        let shared = Shared {
-            config: *config,
-            table,
-        };
-        let first = Pass {
-            number: 0,
-            time: 0,
-            first: 0,
-            seat,
-            domain: *config,
-            rules: PhantomData,
-        };
-        Ok((shared, first))
     }
 
     /// Makes all seats but the first, and puts that one before them.

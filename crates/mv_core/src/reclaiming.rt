@@ -11,10 +11,9 @@ ghost use Rattle.mv_core.specs.Tops.{NamesNewer};
 ghost use Rattle.mv_core.specs.WalkSteps.{IsLinkOf};
 ghost use Rattle.mv_layout.specs.Words.{link_of};
 
-use crate::shared::{Pass, Shared};
+use crate::shared::{Pass, Shared, load_as, store_as, swap_as};
 use crate::steps::Steps;
 use crate::swap::{Swap, swap_of};
-use crate::turns::{load_as, store_as, swap_as};
 use mv_history::Protocol;
 use mv_layout::{
     STAMP_OFFSET, SUPER_OFFSET, head_cell, link_word, master_cell, slot_cell, slot_of_position,

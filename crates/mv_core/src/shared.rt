@@ -1,4 +1,5 @@
-//! The shared words of a domain, and what a thread steps with.
+//! The shared words of a domain, and what a thread steps with. The table is private to this module: the
+//! functions of `accesses` alone access its words.
 ghost use Rattle.std.specs.Prelude.{◌≡◌, ◌<◌, [], length};
 ghost use Rattle.mv_layout.specs.Limits.{Checked};
 ghost use Rattle.mv_layout.specs.Cells.{cells};
@@ -11,6 +12,12 @@ use mv_layout::Config;
 use std::alloc::Global;
 use std::marker::PhantomData;
 use std::snapshot::Snapshot;
+
+mod accesses;
+
+pub(crate) use accesses::{
+    join_as, load_alone, load_as, raise_as, split_as, store_as, swap_alone, swap_as,
+};
 
 /// What the rule is told once: the numbers of the domain, and the opening state.
 #[derive(Drop)]
@@ -36,7 +43,7 @@ impl<P: Protocol> TableRule<Tag, View, Opening> for Core<P> {
 #[derive(Drop)]
 pub struct Shared<P: Protocol> {
     pub(crate) config: Config,
-    pub(crate) table: Table<Tag, View, Opening, Core<P>, Global>,
+    table: Table<Tag, View, Opening, Core<P>, Global>,
     pub ghost checked: { Checked config },
     pub ghost sized: { (table.shared.table_id.words ≡ cells config) × (table.shared.table_id.slots ≡ 0) },
     pub ghost about: { table.shared.key.config ≡ config },

@@ -12,9 +12,8 @@ ghost use Rattle.mv_layout.specs.Cells.{cell_of};
 ghost use Rattle.mv_layout.specs.Words.{link_seat_of};
 ghost use Rattle.mv_layout.specs.declared.Place.TheVariants.{First};
 
-use crate::shared::{Pass, Shared};
+use crate::shared::{Pass, Shared, load_as};
 use crate::steps::Steps;
-use crate::turns::load_as;
 use mv_history::Protocol;
 use mv_layout::{
     DATA_OFFSET, FIRST_OFFSET, PREV_OFFSET, STAMP_OFFSET, head_cell, link_position, link_seat,

@@ -1,6 +1,6 @@
 use Rattle.std.proofs.Common.{rules}
 use Rattle.mv_core.proofs.frames.Turning.{unspent_of, load_allows}
-use Rattle.mv_core.proofs.turns.load_alone.Goals as goal
+use Rattle.mv_core.proofs.shared.accesses.load_alone.Goals as goal
 
 pub load-requires : goal.load-requires
 load-requires g c =

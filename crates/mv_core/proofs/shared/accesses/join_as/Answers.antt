@@ -5,7 +5,7 @@ use Rattle.mv_core.specs.SeatSteps.{joined}
 use Rattle.mv_core.specs.Rule.{Ruled}
 use Rattle.mv_core.proofs.frames.Turning.{unspent_of}
 use Rattle.mv_core.proofs.kinds.joining.Join.{seats_join}
-use Rattle.mv_core.proofs.joining.join_as.Goals as goal
+use Rattle.mv_core.proofs.shared.accesses.join_as.Goals as goal
 
 pub join_seat-requires : goal.join_seat-requires
 join_seat-requires g c =

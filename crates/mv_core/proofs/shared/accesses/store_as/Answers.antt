@@ -3,7 +3,7 @@ use Rattle.mv_core.proofs.Terms.{Config}
 use Rattle.mv_core.specs.Known.{KnownInDomain, RunsOn}
 use Rattle.mv_core.specs.Passes.{view}
 use Rattle.mv_core.proofs.frames.Turning.{unspent_of, store_allows}
-use Rattle.mv_core.proofs.turns.store_as.Goals as goal
+use Rattle.mv_core.proofs.shared.accesses.store_as.Goals as goal
 
 pub store-requires : goal.store-requires
 store-requires g c =

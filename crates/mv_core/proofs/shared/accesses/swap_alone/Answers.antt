@@ -1,6 +1,6 @@
 use Rattle.std.proofs.Common.{rules}
 use Rattle.mv_core.proofs.frames.Turning.{unspent_of, swap_allows}
-use Rattle.mv_core.proofs.turns.swap_alone.Goals as goal
+use Rattle.mv_core.proofs.shared.accesses.swap_alone.Goals as goal
 
 pub compare_exchange-requires : goal.compare_exchange-requires
 compare_exchange-requires g c =

@@ -3,7 +3,7 @@ use Rattle.mv_core.proofs.Terms.{Config}
 use Rattle.mv_core.specs.Known.{KnownInDomain, RunsOn}
 use Rattle.mv_core.specs.Passes.{view}
 use Rattle.mv_core.proofs.frames.Turning.{unspent_of, load_allows}
-use Rattle.mv_core.proofs.turns.load_as.Goals as goal
+use Rattle.mv_core.proofs.shared.accesses.load_as.Goals as goal
 
 pub load-requires : goal.load-requires
 load-requires g c =

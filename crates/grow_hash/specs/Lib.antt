@@ -6,9 +6,11 @@ pub mod GrowPlans
 pub mod Splits
 pub mod GrowReplies
 pub mod GrowAttempts
-pub mod GrowSteps
+pub mod GrowMeaning
+pub mod GrowMeaningLaws
 pub mod GrowFindings
 pub mod SplitPlans
 pub mod BucketReads
 pub mod SplitCalls
 pub mod SplitSteps
+pub mod SplitMeaning

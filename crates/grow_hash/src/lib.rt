@@ -57,8 +57,8 @@
 //! # Its place
 //!
 //! It stands on `mv_history`, whose traits it is generic over, on `set_script` for commands and
-//! catalogues, on `list_set` for one list, and on `section_work` for what a cause shows of a store and
-//! for how many exchanges an attempt makes. It knows no store.
+//! catalogues, on `list_set` for one list, and on `section_work`, whose attempt makes a section of each
+//! command and of each split: what these decide and write is all that stands here. It knows no store.
 #![tactic(auto)]
 
 mod answer;
@@ -67,10 +67,12 @@ mod attempting;
 mod bucket;
 mod bucket_split;
 mod deciding;
+mod grow_work;
 mod laws;
 mod reading;
 mod rules;
 mod search;
+mod split_work;
 mod table;
 
 pub use answer::Split;

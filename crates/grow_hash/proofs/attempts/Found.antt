@@ -128,7 +128,7 @@ changing_parts true false e = (refl, refl)
 changing_parts true true e = absurd (cc)
 changing_parts false o e = absurd (cc)
 
-change_late : (command : Command) (s : State) (ws : Writes) → changes_grown command s false ≡ true → GrowPlan command s ws
+pub change_late : (command : Command) (s : State) (ws : Writes) → changes_grown command s false ≡ true → GrowPlan command s ws
     → Worn ≡ reply_grown command s true
 change_late (Add name key) s ws e p =
     let h = changing_parts (applies (Add name key) (grown_catalogue s)) (overflows (Add name key) (grown_catalogue s) (grown_capacity s)) e in

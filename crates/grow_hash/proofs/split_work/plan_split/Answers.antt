@@ -2,7 +2,7 @@ use Rattle.std.proofs.Common.{◌+◌, ◌≤◌, refl, sym, subst, take, length
 use Rattle.mv_history.specs.State.{State}
 use Rattle.grow_hash.specs.SplitSteps.{IsPlannedSplit}
 use Rattle.grow_hash.proofs.split.Reads.{bucket_linked, planned_by}
-use Rattle.grow_hash.proofs.bucket_split.plan_split.Goals as goal
+use Rattle.grow_hash.proofs.split_work.plan_split.Goals as goal
 
 pub read_bucket-bucket-requires-clause-linked : goal.read_bucket-bucket-requires-clause-linked
 read_bucket-bucket-requires-clause-linked g c =

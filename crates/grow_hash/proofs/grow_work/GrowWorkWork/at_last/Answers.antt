@@ -1,0 +1,5 @@
+use Rattle.grow_hash.proofs.attempts.Found.{change_late, unchanging_late}
+use Rattle.grow_hash.proofs.grow_work.GrowWorkWork.at_last.Goals as goal
+
+pub returns : goal.returns
+returns c = λ s tag ws changes p. (change_late c.args.self.now.command s ws changes p.plan, unchanging_late c.args.self.now.command s)

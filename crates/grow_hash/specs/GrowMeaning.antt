@@ -1,0 +1,26 @@
+-- What a command on a growing hash set means, as a work.
+use Rattle.std.specs.Prelude.{ℕ, ◌≡◌, true, false, List}
+use Rattle.mv_history.specs.State.{State, Writes}
+use Rattle.set_script.specs.Tags.{tag_of}
+use Rattle.set_script.specs.declared.commands.Command.{Command}
+use Rattle.set_script.specs.declared.commands.Reply.{Reply}
+use Rattle.set_script.specs.declared.commands.Reply.TheVariants.{Yes}
+use Rattle.section_work.specs.Works.{Meaning}
+use Rattle.grow_hash.specs.GrowRules.{MakesGrown}
+use Rattle.grow_hash.specs.GrowPlans.{GrowPlan, grow_locks}
+use Rattle.grow_hash.specs.GrowReplies.{reply_grown, changes_grown}
+
+-- what is planned for it: the change that the command makes, with its tag, and yes once it is made
+pub record PlansGrown (command : Command) (s : State) (tag : List ℕ) (ws : Writes) (answer : Reply) : Type 0 where
+  pub tagged : tag ≡ tag_of command
+  pub plan : GrowPlan command s ws
+  pub said : answer ≡ Yes
+
+abbrev pub grow_meaning : Command → Meaning Reply
+grow_meaning command = record {
+  most = grow_locks;
+  changes = λ s. changes_grown command s false ≡ true;
+  plans = λ s tag ws answer. PlansGrown command s tag ws answer;
+  settles = λ s last answer. (answer ≡ reply_grown command s last) × (changes_grown command s last ≡ false);
+  makes = λ before after answer. (answer ≡ reply_grown command before false) × MakesGrown command before after;
+}

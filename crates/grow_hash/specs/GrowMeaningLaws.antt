@@ -1,0 +1,32 @@
+-- That a commit of a command makes what it should.
+use Rattle.std.specs.Prelude.{ℕ, ◌≡◌, Some, List, refl, false}
+use Rattle.std.proofs.Common.{sym, ap, ◌∙◌, subst}
+use Rattle.mv_history.specs.State.{State, Writes, written}
+use Rattle.set_script.specs.Tags.{tag_of}
+use Rattle.set_script.specs.declared.commands.Command.{Command}
+use Rattle.set_script.specs.declared.commands.Command.TheVariants.{Add, Put, Del, Has, Get, Move, Pair, Size, Next}
+use Rattle.set_script.specs.declared.commands.Reply.{Reply}
+use Rattle.grow_hash.specs.GrowRules.{makes, growing_of, MakesGrown, Grows, IsGrowCommit}
+use Rattle.grow_hash.specs.GrowPlans.{GrowPlan, IsOfGrown}
+use Rattle.grow_hash.specs.GrowReplies.{reply_grown}
+use Rattle.grow_hash.specs.GrowMeaning.{PlansGrown}
+
+-- the tag of a command that changes something stands for it
+tag_stands : (command : Command) (s : State) (ws : Writes) → IsOfGrown command → GrowPlan command s ws
+    → growing_of (tag_of command) ≡ Some (makes command)
+tag_stands (Add name key) s ws e p = subst (λ n. growing_of (tag_of (Add n key)) ≡ Some (makes (Add n key))) (sym e) refl
+tag_stands (Del name key) s ws e p = subst (λ n. growing_of (tag_of (Del n key)) ≡ Some (makes (Del n key))) (sym e) refl
+tag_stands (Put name key value) s ws e p = absurd e
+tag_stands (Has name key) s ws e p = absurd p
+tag_stands (Get name key) s ws e p = absurd e
+tag_stands (Move source target key) s ws e p = absurd e
+tag_stands (Pair first second key) s ws e p = absurd e
+tag_stands (Size name) s ws e p = absurd p
+tag_stands (Next name key) s ws e p = absurd p
+
+pub makes_grown : (command : Command) (s before : State) (tag : List ℕ) (ws : Writes) (answer : Reply) → IsOfGrown command → PlansGrown command s tag ws answer
+    → IsGrowCommit tag before ws → (answer ≡ reply_grown command before false) × MakesGrown command before (written before ws)
+makes_grown command s before tag ws answer names p a =
+    let m : MakesGrown command before (written before ws) =
+    subst (λ u. Grows u before (written before ws) ws) (ap growing_of p.tagged ∙ tag_stands command s ws names p.plan) a.grows in
+    (p.said ∙ sym m.answer, m)

@@ -1,0 +1,45 @@
+-- What the split of a bucket means, as a work.
+use Rattle.std.specs.Prelude.{ℕ, ◌≡◌, true, Bool, List, ⊤}
+use Rattle.mv_history.specs.State.{State, Writes}
+use Rattle.section_work.specs.declared.place.Place.{Place}
+use Rattle.section_work.specs.declared.place.Place.TheVariants.{Commit as AtCommit, Read}
+use Rattle.section_work.specs.Works.{Meaning}
+use Rattle.grow_hash.specs.Tables.{split_place}
+use Rattle.grow_hash.specs.GrowRules.{split_tag}
+use Rattle.grow_hash.specs.SplitPlans.{SplitPlan}
+use Rattle.grow_hash.specs.SplitCalls.{IsSplittable, most_writes}
+use Rattle.grow_hash.specs.SplitSteps.{IsClosed}
+use Rattle.grow_hash.specs.declared.split_work.Looked.{Looked}
+use Rattle.grow_hash.specs.declared.split_work.Looked.TheVariants.{Splits, Whole, Long, Worn}
+use Rattle.grow_hash.specs.declared.answer.Split.{Split}
+use Rattle.grow_hash.specs.declared.answer.Split.TheVariants.{Done, Whole as AllSplit, Long as TooLong, Worn as TooLate}
+
+-- what is planned for it: the split, with its tag
+pub record PlansSplit (s : State) (tag : List ℕ) (ws : Writes) : Type 0 where
+  pub splittable : IsSplittable s
+  pub tagged : tag ≡ split_tag (split_place s)
+  pub plan : SplitPlan s ws
+
+-- why none is made: it can't be, or it could where a time were left
+abbrev pub SettlesSplit : State → Bool → Looked → Type 0
+SettlesSplit s last Splits = ⊥
+SettlesSplit s last Whole = IsClosed s Whole
+SettlesSplit s last (Long keys) = IsClosed s (Long keys)
+SettlesSplit s last Worn = IsSplittable s × (last ≡ true)
+
+abbrev pub split_meaning : Meaning Looked
+split_meaning = record {
+  most = most_writes;
+  changes = λ s. IsSplittable s;
+  plans = λ s tag ws looked. PlansSplit s tag ws;
+  settles = λ s last looked. SettlesSplit s last looked;
+  makes = λ before after looked. ⊤;
+}
+
+-- what is answered of a look at its place
+abbrev pub split_of : Looked → Place → Split
+split_of looked (AtCommit time) = Done time
+split_of Splits (Read time) = TooLate
+split_of Whole (Read time) = AllSplit
+split_of (Long keys) (Read time) = TooLong keys
+split_of Worn (Read time) = TooLate

@@ -1,0 +1,89 @@
+// A command on a growing hash set, as a work.
+ghost use Rattle.std.specs.Prelude.{◌≡◌};
+ghost use Rattle.set_script.specs.Tags.{tag_of as command_tag};
+ghost use Rattle.grow_hash.specs.GrowPlans.{IsOfGrown};
+
+use crate::deciding::{Finding, find_change};
+use crate::rules::GrowRules;
+use crate::search::NAME;
+use mv_history::{Tag, View, Words};
+use section_work::{Decision, Work};
+use set_script::{Command, Reply};
+
+/// A command of a growing hash set.
+#[derive(Drop)]
+pub struct GrowWork {
+    pub command: Command,
+}
+
+impl Work for GrowWork {
+    ghost use Rattle.std.specs.Prelude.{⊤};
+    ghost use Rattle.set_script.specs.Tags.{tag_of as command_tag};
+    ghost use Rattle.grow_hash.specs.GrowPlans.{IsOfGrown};
+    ghost use Rattle.grow_hash.specs.GrowMeaning.{grow_meaning};
+    ghost use Rattle.grow_hash.specs.GrowMeaningLaws.{makes_grown};
+
+    type Rules = GrowRules;
+
+    type Reply = Reply;
+
+    type Plan = [(u32, Words); 2];
+
+    type Memo = ();
+
+    ghost accepts = { λ w. IsOfGrown w.command };
+
+    ghost means = { λ w. grow_meaning w.command };
+
+    ghost tag_of = { λ w plan. command_tag w.command };
+
+    ghost writes_of = { λ plan. plan };
+
+    ghost knows = { λ memo s. ⊤ };
+
+    ghost notes = { λ w before after s. ⊤ };
+
+    fn decide<V: View>(
+        &self,
+        _memo: &mut (),
+        view: V,
+        _time: u64,
+    ) -> (V, Decision<Reply, [(u32, Words); 2]>) {
+        let mut view = view;
+        match find_change(&mut view, &self.command) {
+            Finding::Settled(reply) => (view, Decision::Settled(reply)),
+            Finding::Open(plan) => {
+                let reply = Reply::Yes;
+                (view, Decision::Change { plan, reply })
+            }
+        }
+    }
+
+    fn writes(plan: &[(u32, Words); 2]) -> &[(u32, Words)] {
+        plan
+    }
+
+    fn tag(&self, _plan: &[(u32, Words); 2]) -> Tag {
+        tag(&self.command)
+    }
+
+    fn at_last(&self, _reply: Reply) -> Reply {
+        Reply::Worn
+    }
+
+    ghost knows_on = { λ memo s t on known. tt };
+
+    ghost makes = { λ w s before tag ws reply accepts plan drifts allowed. makes_grown w.command s before tag ws reply accepts plan allowed };
+}
+
+// The tag of a command that changes something.
+fn tag(command: &Command) -> Tag
+    requires command { IsOfGrown command.now }
+    ensures { result ≡ command_tag command.now }
+{
+    match *command {
+        Command::Add { key, .. } => [1, NAME as u64, 0, key as u64],
+        Command::Del { key, .. } => [2, NAME as u64, 0, key as u64],
+        _ => [0; 4],
+    }
+}

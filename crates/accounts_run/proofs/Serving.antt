@@ -41,10 +41,9 @@ module _ (w : Whole) (opening : ℕ) (met : Seat) (begins : BeginsWith w.history
   sum_of : (old between : Seat) (sum : SumAt) → IsSum Took old between sum → Continues between met → sum.total ≡ opening → IsSumOf w opening sum
   sum_of old between sum is goes same =
       let long = length-seen goes in
-      let few = seen_few in
       record {
         at = is.entered.at;
-        seen = omega (arith, is.seen, long, few);
+        seen = omega (arith, is.seen, long, seen_few);
         time_is = omega (arith, is.time_is, goes.base, base);
         total_is = is.total_is ∙ ap total (sym (state_at-later goes is.entered.at is.seen) ∙ state_seen is.entered.at (omega (arith, is.seen, long)));
         same = same;
@@ -64,8 +63,6 @@ module _ (home : List ℕ) (c : Config) (start : State) (olds news : List Teller
       let d = on.did in
       let moves = d.moves in
       let reads = d.reads in
-      let mine = ap length on.mine in
-      let same = ap length reads.mine in
       let begins = on.seen s.seen ([], sym (append-nil s.seen)) in
       let few = ap length begins.1 ∙ length-append s.seen begins.0 in
       let long = length-seen reads.continues in
@@ -74,15 +71,10 @@ module _ (home : List ℕ) (c : Config) (start : State) (olds news : List Teller
         met = s;
         fresh = (refl, refl, refl);
         served = d;
-        made = (let made = moves.mine in omega (arith, made, mine, same));
+        made = omega (arith, moves.mine, ap length on.mine, ap length reads.mine);
         most = moves.most;
         all = λ less.
-            let worn = moves.all less in
-            let base = moves.continues.base in
-            let last = moves.continues.last in
-            let time = ran.time in
-            let from = ran.base in
-            omega (arith, worn, few, long, base, last, time, from);
+            omega (arith, moves.all less, few, long, moves.continues.base, moves.continues.last, ran.time, ran.base);
         many = reads.many;
         read = sums_of w opening s begins (on.continues.start ∙ sym ran.opening) (on.continues.base ∙ sym ran.base) d.between n.read.items reads.each
             (All-weaker (λ sum. sum.total ≡ total d.between.start) (λ sum. sum.total ≡ opening)
@@ -104,8 +96,8 @@ module _ (home : List ℕ) (c : Config) (start : State) (olds news : List Teller
         (o.0, o.1, served k o.0 n s.0 o.2);
   }
 
-  pub last_total : total (last_state w) ≡ opening
-  last_total = total-history w.start w.history ran.allowed ∙ ap total ran.opening ∙ is
-
-  pub last_accounts : length (last_state w) ≡ length start
-  last_accounts = length-state_after w.start w.history ∙ ap length ran.opening
+  pub last_of : (n : ℕ) → length start ≡ n → (length (last_state w) ≡ n) × (total (last_state w) ≡ opening)
+  last_of n many = (
+    length-state_after w.start w.history ∙ ap length ran.opening ∙ many,
+    total-history w.start w.history ran.allowed ∙ ap total ran.opening ∙ is,
+  )

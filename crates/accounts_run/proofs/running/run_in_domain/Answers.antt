@@ -1,8 +1,8 @@
-use Rattle.std.proofs.Common.{ap, ◌∙◌, arith}
+use Rattle.std.proofs.Common.{ap, arith}
 use Rattle.mv_layout.specs.declared.Config.{Config}
 use Rattle.mvrlu.specs.Meant.{whole_of}
 use Rattle.accounts_run.specs.Runs.{HasRoom}
-use Rattle.accounts_run.proofs.Serving.{run_of, last_total, last_accounts}
+use Rattle.accounts_run.proofs.Serving.{run_of, last_of}
 use Rattle.domain_run.proofs.Rows.{all_at, if_ok}
 use Rattle.accounts_run.proofs.running.run_in_domain.Goals as goal
 
@@ -24,10 +24,6 @@ returns-clause-run g c =
 pub returns-clause-last : goal.returns-clause-last
 returns-clause-last g c =
     if_ok c.run.result
-    (λ done ran. (
-      last_accounts ran.0 c.config_of-config.result c.opening-start.result c.args.tellers.items done.1.items ran.1 (whole_of done.0) _
-          c.opening-start.ensures.total ran.2 ∙ c.opening-start.ensures.lawful.accounts,
-      last_total ran.0 c.config_of-config.result c.opening-start.result c.args.tellers.items done.1.items ran.1 (whole_of done.0) _
-          c.opening-start.ensures.total ran.2,
-    ))
+    (λ done ran. last_of ran.0 c.config_of-config.result c.opening-start.result c.args.tellers.items done.1.items ran.1 (whole_of done.0) _
+    c.opening-start.ensures.total ran.2 _ c.opening-start.ensures.lawful.accounts)
     c.run.ensures.ran

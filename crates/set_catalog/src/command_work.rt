@@ -52,6 +52,8 @@ impl Work for CommandWork {
 
     ghost notes = { λ w before after s. TakesFor w.command before.hints after.hints s };
 
+    // Inlined, so that the view isn't copied on its way in and out.
+    #[inline(always)]
     fn decide<V: View>(&self, memo: &mut Memo, view: V, time: u64) -> (V, Decision<Answer, Plan>) {
         let mut view = view;
         let mut few = memo.known.at(time);

@@ -64,6 +64,7 @@ pub fn find_plan<V: View>(
 }
 
 // Finds what the command comes to, as `find_plan` does, by searches that begin in lists at fingers.
+#[inline(never)]
 pub(crate) fn find_plan_near<V: View>(
     view: &mut V,
     hints: &mut Hints,

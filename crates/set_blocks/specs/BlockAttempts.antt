@@ -12,6 +12,8 @@ use Rattle.set_script.specs.declared.commands.Reply.{Reply}
 use Rattle.section_work.specs.declared.place.Place.TheVariants.{Commit as AtCommit, Read}
 use Rattle.set_script.specs.CatalogueOf.{catalogue_of}
 use Rattle.set_script.specs.Rules.{capacity}
+use Rattle.section_work.specs.declared.attempting.Attempt.{Attempt}
+use Rattle.section_work.specs.declared.attempting.Attempt.TheVariants.{Done as WorkDone, Again as WorkAgain}
 use Rattle.section_work.specs.declared.causes.Refusal.{Refusal}
 use Rattle.section_work.specs.declared.causes.Cause.{Cause}
 use Rattle.section_work.specs.declared.causes.Cause.TheVariants.{Lock, Rival, LogFull}
@@ -103,3 +105,8 @@ abbrev pub BlockAttempted : Causes → Seat → Seat → List Command → BlockA
 BlockAttempted k old new commands (Done answers (AtCommit time)) = IsBlockDone old new commands answers time
 BlockAttempted k old new commands (Done answers (Read time)) = IsBlockRead k old new commands answers time
 BlockAttempted k old new commands (Again cause) = BlockGivesUp k old new commands cause
+
+-- the answer, as that of a work
+abbrev pub as_work : BlockAttempt → Attempt (List Reply)
+as_work (Done answers place) = WorkDone answers place
+as_work (Again cause) = WorkAgain cause

@@ -3,7 +3,8 @@ ghost use Rattle.std.specs.Prelude.{◌*◌, ◌≤◌, length};
 ghost use Rattle.mv_history.specs.Calls.{Continues};
 ghost use Rattle.section_work.specs.Sections.{TriesOne};
 ghost use Rattle.section_work.specs.Causes.{causes};
-ghost use Rattle.set_blocks.specs.BlockAttempts.{BlockAttempted};
+ghost use Rattle.section_work.specs.Steps.{IsStepped};
+ghost use Rattle.set_blocks.specs.BlockAttempts.{BlockAttempted, as_work};
 
 use crate::attempt::BlockAttempt;
 use crate::block::Block;
@@ -14,7 +15,8 @@ use section_work::{Attempt, attempt_work};
 /// Attempts a block in one section of the store, and gives the store back.
 ///
 /// It needs a `write_max` of at least 5 for each of the block's commands. It never waits or tries again by itself, and
-/// takes no memory. At the last time it answers by a second look.
+/// takes no memory. It enters one section, and a second one only where its commit found no time left; a block that changes
+/// nothing locks nothing.
 ///
 /// - `Done` at a `Place::Commit`: the block changed the catalogue, by one commit of that printed time, and the replies and
 ///   the change are those of the block on the catalogue just before it, whatever that is.
@@ -29,6 +31,8 @@ pub fn attempt_block<S: Store<Rules = BlockRules>>(store: S, block: &Block) -> (
     requires most { 5 * length block.now ≤ (S.seat_of store).write_max }
     ensures attempted { let shows = causes S.Open.may_refuse S.Open.has_trail S.took S.holds_back S.Open.found_held S.Open.loaded in
         BlockAttempted shows (S.seat_of store) (S.seat_of result.0) block.now result.1 }
+    ensures steps { let shows = causes S.Open.may_refuse S.Open.has_trail S.took S.holds_back S.Open.found_held S.Open.loaded in
+        IsStepped S.Open.section S.Open.as_before shows (S.seat_of store) (S.seat_of result.0) (as_work result.1) }
     ensures continues { Continues (S.seat_of store) (S.seat_of result.0) }
     ensures at_most_one { TriesOne (S.seat_of store) (S.seat_of result.0) }
 {

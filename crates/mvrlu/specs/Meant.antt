@@ -13,6 +13,7 @@ use Rattle.mvrlu.specs.declared.closing.Closing.{Closing}
 use Rattle.mvrlu.specs.declared.domain.Domain.{Domain}
 use Rattle.mvrlu.specs.declared.domain.Seat.{Seat}
 use Rattle.mvrlu.specs.declared.handle.Handle.{Handle}
+use Rattle.mvrlu.specs.declared.parking.Parked.{Parked}
 use Rattle.mvrlu.specs.declared.session.Session.{Session}
 
 -- how many sections of a seat were aborted with something held, after so many and the abort of one more that held these objects
@@ -67,6 +68,18 @@ module _ {P : _} {rules : _} where
   -- how many sections of its seat were aborted before with something held
   abbrev pub aborts_before : Session P rules → ℕ
   aborts_before s = s.part.busy.log.aborts
+
+  -- what a section without its loan means
+  abbrev pub section_in : Parked P rules → InSection
+  section_in p = section_from p.part.busy
+
+  -- how many sections of its seat were aborted before with something held
+  abbrev pub aborts_parked : Parked P rules → ℕ
+  aborts_parked p = p.part.busy.log.aborts
+
+  -- the section is of a seat of this domain: it has its name, and its opening state
+  abbrev pub IsSectionOf : Domain P → Parked P rules → Type 0
+  IsSectionOf d p = ((section_in p).seat.home ≡ name_of d) × ((section_in p).seat.start ≡ opening_of d)
 
   -- the seat is of this domain: it has its name, and its opening state
   abbrev pub IsSeatOf : Domain P → Seat P rules → Type 0

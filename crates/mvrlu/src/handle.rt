@@ -93,6 +93,7 @@ impl<'d, P: Protocol> Handle<'d, P> {
     /// Gives the loan of the domain back, and keeps all that the seat means. No step is made.
     pub fn into_seat(self) -> Seat<P>
         ensures meant { seat_of result ≡ handled self.entry }
+        ensures placed { result.idle ≡ place_of self.entry }
         ensures aborts { aborts_in result ≡ aborts_of self.entry }
     {
         let Handle { domain: _, seat } = self;
@@ -148,13 +149,14 @@ impl<'d, P: Protocol> Handle<'d, P> {
 
 impl<P: Protocol> Domain<P> {
     ghost use Rattle.std.specs.Prelude.{◌≡◌};
-    ghost use Rattle.mvrlu.specs.Meant.{seat_of, handled, aborts_in, aborts_of, IsSeatOf};
+    ghost use Rattle.mvrlu.specs.Meant.{seat_of, handled, place_of, aborts_in, aborts_of, IsSeatOf};
 
     /// Lends the domain to a seat of it. The handle means what the seat meant. A seat of another domain,
     /// which has another name, is refused by the condition. No step is made.
     pub fn handle<'d>(&'d self, seat: Seat<P>) -> Handle<'d, P>
         requires { IsSeatOf self.now seat }
         ensures meant { handled result ≡ seat_of seat }
+        ensures placed { place_of result ≡ seat.idle }
         ensures aborts { aborts_of result ≡ aborts_in seat }
     {
         Handle { domain: self, seat }

@@ -44,7 +44,10 @@
 //! and it is the contract of `meet`.
 //!
 //! A handle lends the domain to its seat, and may go to another thread; the words are touched only through
-//! its calls. Seats, handles and sections must be spent: one that is let go doesn't compile.
+//! its calls. Where a thread can't keep that loan from one call to the next, `Session::park` makes a
+//! section a `Parked`, which borrows nothing, and `Domain::resume` a session again. Seats, handles and
+//! sections, parked ones too, must be spent: one that is let go doesn't compile. `Seat::let_go` spends a
+//! seat alone.
 //!
 //! **How it is proved.** A call of the crates below leaves a pass and a log, and says what it leaves of
 //! them. `Placed` in specs/ is both as one value, and what it means as a seat or a section; each file of
@@ -63,6 +66,7 @@ mod handle;
 mod holding;
 mod meeting;
 mod opening;
+mod parking;
 mod places;
 mod reading;
 mod reclaiming;
@@ -72,4 +76,5 @@ pub use closing::Closing;
 pub use domain::{Domain, Seat};
 pub use handle::Handle;
 pub use opening::{OpenFault, open};
+pub use parking::Parked;
 pub use session::Session;

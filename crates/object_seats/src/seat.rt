@@ -1,0 +1,163 @@
+// A seat of objects, with a share of its domain.
+ghost use Rattle.std.specs.Prelude.{◌≡◌};
+ghost use Rattle.std.specs.Arc.{arc_value};
+ghost use Rattle.object_seats.specs.Positions.{IsOf, aborts_at};
+ghost use Rattle.object_seats.specs.Calls as calls;
+
+use crate::inside::{
+    abort_in, commit_in, leave_in, lock_in, read_in, read_pair_in, time_in, write_in,
+};
+use crate::outside::{count_in, enter_in, prepare_in, tidy_in};
+use crate::position::{CommitResult, Misuse, Position};
+use log_reclaim::Tidy;
+use mv_history::{AnyRules, LockAnswer, LogTable, Room, Section, Tag, Words};
+use mvrlu::Domain;
+use std::alloc::Global;
+use std::sync::Arc;
+
+/// A seat of objects, outside a section or in one, with a share of its domain, which lasts as long as one
+/// of its seats does. It belongs to one thread at a time, and may go from one to another.
+pub struct ObjectSeat {
+    pub(crate) domain: Arc<Domain<AnyRules>, Global>,
+    pub(crate) position: Position,
+    pub ghost of: { IsOf (arc_value domain) position },
+}
+
+/// Gives up what the section holds, if the seat is in one, and ends the seat alone.
+impl Drop for ObjectSeat {
+    fn drop(self) {
+        let ObjectSeat { domain, position } = self;
+        match position {
+            Position::Outside(seat) => seat.let_go(),
+            Position::Inside(section) => domain.resume(section).abort().into_seat().let_go(),
+        }
+    }
+}
+
+impl ObjectSeat {
+    /// Begins a section, whose snapshot is the whole history at one step of this call. It never refuses a
+    /// seat that is outside.
+    #[inline(always)]
+    pub fn enter(self) -> (ObjectSeat, Result<(), Misuse>)
+        ensures enters { calls.Enters self.position result.0.position result.1 }
+        ensures aborts { aborts_at result.0.position ≡ aborts_at self.position }
+    {
+        let ObjectSeat { domain, position } = self;
+        let (position, answer) = enter_in(&domain, position);
+        (ObjectSeat { domain, position }, answer)
+    }
+
+    /// The six words of an object, in the state that the section reads: its snapshot, with its own words.
+    #[inline(always)]
+    pub fn read(self, object: u32) -> (ObjectSeat, Result<Words, Misuse>)
+        ensures reads { calls.Reads self.position object result.0.position result.1 }
+        ensures aborts { aborts_at result.0.position ≡ aborts_at self.position }
+    {
+        let ObjectSeat { domain, position } = self;
+        let (position, answer) = read_in(&domain, position, object);
+        (ObjectSeat { domain, position }, answer)
+    }
+
+    /// Two words of an object, that of a place from 0 to 4 and the one behind it, in the same state.
+    #[inline(always)]
+    pub fn read_pair(self, object: u32, place: u32) -> (ObjectSeat, Result<(u64, u64), Misuse>)
+        ensures reads { calls.ReadsPair self.position object place result.0.position result.1 }
+        ensures aborts { aborts_at result.0.position ≡ aborts_at self.position }
+    {
+        let ObjectSeat { domain, position } = self;
+        let (position, answer) = read_pair_in(&domain, position, object, place);
+        (ObjectSeat { domain, position }, answer)
+    }
+
+    /// Tries to hold an object, so that it takes part in the commit with the words that it has. Each answer
+    /// has its cause, as `Section::try_lock` says.
+    pub fn lock(self, object: u32) -> (ObjectSeat, Result<LockAnswer, Misuse>)
+        ensures locks { calls.Locks self.position object result.0.position result.1 }
+        ensures aborts { aborts_at result.0.position ≡ aborts_at self.position }
+    {
+        let ObjectSeat { domain, position } = self;
+        let (position, answer) = lock_in(&domain, position, object);
+        (ObjectSeat { domain, position }, answer)
+    }
+
+    /// Gives a held object these words. Nobody else sees them before the commit.
+    pub fn write(self, object: u32, words: Words) -> (ObjectSeat, Result<(), Misuse>)
+        ensures writes { calls.Writes self.position object words result.0.position result.1 }
+        ensures aborts { aborts_at result.0.position ≡ aborts_at self.position }
+    {
+        let ObjectSeat { domain, position } = self;
+        let (position, answer) = write_in(&domain, position, object, words);
+        (ObjectSeat { domain, position }, answer)
+    }
+
+    /// Tries to commit all that is held, as one entry of the history, by at most one exchange on CLOCK.
+    pub fn commit(self, tag: Tag) -> (ObjectSeat, Result<CommitResult, Misuse>)
+        ensures commits { calls.Commits self.position tag result.0.position result.1 }
+        ensures aborts { aborts_at result.0.position ≡ aborts_at self.position }
+    {
+        let ObjectSeat { domain, position } = self;
+        let (position, answer) = commit_in(&domain, position, tag);
+        (ObjectSeat { domain, position }, answer)
+    }
+
+    /// Gives up all that is held, and leaves the section. The history has no entry of it.
+    pub fn abort(self) -> (ObjectSeat, Result<(), Misuse>)
+        ensures aborts { calls.Aborts self.position result.0.position result.1 }
+    {
+        let ObjectSeat { domain, position } = self;
+        let (position, answer) = abort_in(&domain, position);
+        (ObjectSeat { domain, position }, answer)
+    }
+
+    /// Leaves a section that holds nothing.
+    #[inline(always)]
+    pub fn leave(self) -> (ObjectSeat, Result<(), Misuse>)
+        ensures leaves { calls.Leaves self.position result.0.position result.1 }
+        ensures aborts { aborts_at result.0.position ≡ aborts_at self.position }
+    {
+        let ObjectSeat { domain, position } = self;
+        let (position, answer) = leave_in(&domain, position);
+        (ObjectSeat { domain, position }, answer)
+    }
+
+    /// The printed time of the section's snapshot: the opening time and one for each entry in it.
+    pub fn time(self) -> (ObjectSeat, Result<u64, Misuse>)
+        ensures tells { calls.TellsTime self.position result.0.position result.1 }
+        ensures aborts { aborts_at result.0.position ≡ aborts_at self.position }
+    {
+        let ObjectSeat { domain, position } = self;
+        let (position, answer) = time_in(&domain, position);
+        (ObjectSeat { domain, position }, answer)
+    }
+
+    /// Makes room in the seat's log for one section that locks as many objects as it may, or names who
+    /// holds the log's oldest write set. It waits for nobody.
+    pub fn prepare(self) -> (ObjectSeat, Result<Room, Misuse>)
+        ensures makes_room { calls.MakesRoom self.position result.0.position result.1 }
+        ensures aborts { aborts_at result.0.position ≡ aborts_at self.position }
+    {
+        let ObjectSeat { domain, position } = self;
+        let (position, answer) = prepare_in(&domain, position);
+        (ObjectSeat { domain, position }, answer)
+    }
+
+    /// Reclaims what it can of the seat's log.
+    pub fn tidy(self) -> (ObjectSeat, Result<Tidy, Misuse>)
+        ensures tidies { calls.Tidies self.position result.0.position result.1 }
+        ensures aborts { aborts_at result.0.position ≡ aborts_at self.position }
+    {
+        let ObjectSeat { domain, position } = self;
+        let (position, answer) = tidy_in(&domain, position);
+        (ObjectSeat { domain, position }, answer)
+    }
+
+    /// The counts of the seat's log.
+    pub fn count(self) -> (ObjectSeat, Result<LogTable, Misuse>)
+        ensures counts { calls.Counts self.position result.0.position result.1 }
+        ensures aborts { aborts_at result.0.position ≡ aborts_at self.position }
+    {
+        let ObjectSeat { domain, position } = self;
+        let (position, answer) = count_in(&domain, position);
+        (ObjectSeat { domain, position }, answer)
+    }
+}

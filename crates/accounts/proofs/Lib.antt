@@ -1,7 +1,6 @@
 pub mod Totals
 pub mod Fits
-pub mod Locking
 pub mod Sections
+pub mod Finding
 pub mod Outcomes
 pub mod Sums
-pub mod Exchanges

@@ -1,54 +1,77 @@
--- What an attempt leaves, from what its calls do.
-use Rattle.std.proofs.Common.{◌≡◌, ℕ, suc, ◌+◌, ◌-◌, ◌<◌, ◌≤◌, List, [], ◌∷◌, ◌++◌, length, take, drop, refl, sym, ap, ◌∙◌, arith}
-use Rattle.mv_history.specs.State.{State}
-use Rattle.mv_history.specs.declared.history.Entry.TheVariants.{Change}
-use Rattle.mv_history.specs.Meaning.{Seat, InSection, IsSeat, IsWorn, state_of}
-use Rattle.mv_history.specs.Calls.{Continues, IsAsBefore, Leaves, Commits, commit_by}
-use Rattle.mv_history.proofs.Histories.{split_at}
-use Rattle.mv_history.proofs.Steps.{Continues-Continues, length-seen, state_at-later, IsWorn-later}
-use Rattle.accounts.specs.Rules.{balance, IsOpening, from_of, to_of, amount_of, IsTransfer}
-use Rattle.accounts.specs.declared.attempt.Refusal.{Refusal}
-use Rattle.accounts.specs.declared.attempt.Refusal.TheVariants.{Full, Busy, Stale, Rival}
-use Rattle.accounts.specs.Attempts.{Causes, IsDone, IsShort, IsEither, IsLockRefused, IsWhy}
-use Rattle.accounts.proofs.Sections.{IsLawful, IsOf, reads_snapshot}
+-- What an attempt of a transfer leaves, from what it leaves as a work.
+use Rattle.std.proofs.Common.{◌≡◌, ℕ, ◌+◌, ◌-◌, ◌==◌, true, List, refl, ap, ◌∙◌, subst, arith}
+use Rattle.std.proofs.lemmas.Bool.Decides.{nat_tests}
+use Rattle.mv_history.specs.State.{state_at}
+use Rattle.mv_history.specs.Meaning.{Seat, IsSeat, IsWorn}
+use Rattle.mv_history.proofs.Steps.{length-seen}
+use Rattle.mv_history.proofs.Committed.{allowed_there}
+use Rattle.section_work.specs.declared.place.Place.{Place}
+use Rattle.section_work.specs.declared.place.Place.TheVariants.{Commit as AtCommit, Read}
+use Rattle.section_work.specs.declared.causes.Cause.{Cause}
+use Rattle.section_work.specs.Causes.{Causes}
+use Rattle.section_work.specs.Attempts.{IsDoneAt, IsReadAt, GivesUp, Attempted}
+use Rattle.section_work.specs.declared.attempting.Attempt.{Attempt}
+use Rattle.section_work.specs.declared.attempting.Attempt.TheVariants.{Done, Again}
+use Rattle.accounts.specs.declared.transfer_work.Found.{Found}
+use Rattle.accounts.specs.declared.transfer_work.Found.TheVariants.{Enough, Short, Late}
+use Rattle.accounts.specs.Rules.{balance, from_of, IsOpening, IsTransfer}
+use Rattle.accounts.specs.Transfers.{transfer_meaning}
+use Rattle.accounts.specs.Attempts.{attempt_of, IsDone, IsShort, Answers}
 
--- a commit is what its seat leaves; the rules, which the new seat's history keeps, say that it is the transfer
-pub done_by : (old new : Seat) (s : InSection) (tag : List ℕ) (time : ℕ) → IsOf old s → IsSeat IsOpening IsTransfer new → Commits s tag new time
-    → IsDone old new tag time
-done_by old new s tag time x lawful made =
-    let i : ℕ = time - (new.base + 1) in
-    record {
-      commit = commit_by s tag;
-      tagged = refl;
-      entry = made.entry;
-      later = omega (arith, made.later, length-seen x.continues, x.continues.base);
-      mine = made.mine ∙ ap (λ cs. cs ++ commit_by s tag ∷ []) x.mine;
-      moves = lawful.allowed (take i new.seen) (drop (suc i) new.seen) (commit_by s tag) (split_at new.seen i (Change (commit_by s tag)) made.entry.there);
-    }
+module _ (k : Causes) (old new : Seat) (law : IsSeat IsOpening IsTransfer new) (tag : List ℕ) where
+  -- the rules, which the new seat's history keeps, say that its commit is the transfer
+  done_is : (found : Found) (time : ℕ) → IsDoneAt k (transfer_meaning tag) old new found time → IsDone k old new tag time
+  done_is found time d =
+      let c = d.done.commit in
+      record {
+        commit = c;
+        tagged = d.done.plan.tagged;
+        entry = d.done.entry;
+        later = d.done.later;
+        mine = d.done.mine;
+        moves = subst (λ (t : List ℕ). IsTransfer t (state_at new.start new.seen (time - (new.base + 1))) c.writes) d.done.plan.tagged
+            (allowed_there IsOpening IsTransfer new law c time d.done.entry);
+        entered = d.entered;
+        enters = d.enters;
+        snapshot = d.snapshot;
+      }
 
--- a balance that was read, and is too little
-pub short_by : (old new : Seat) (s t : InSection) (u : State) (tag : List ℕ) (time had : ℕ) → IsOf old s → IsLawful s → u ≡ state_of s → s.own ≡ []
-    → IsAsBefore s t → Leaves t new → time ≡ t.seat.base + t.at → had ≡ balance u (from_of tag) → had < amount_of tag → IsShort old new tag time had
-short_by old new s t u tag time had x h e none same left at read less =
-    let goes : Continues s.seat new = Continues-Continues same.seat.continues left.continues in
-    record {
-      mine = left.mine ∙ same.seat.mine ∙ x.mine;
-      at = s.at;
-      after = x.at;
-      seen = omega (arith, h.at, length-seen goes);
-      time_is = omega (arith, at, same.at, left.continues.base);
-      had_is = read ∙ ap (λ (v : State). balance v (from_of tag)) (reads_snapshot s u e none ∙ sym (state_at-later goes s.at h.at));
-      less = less;
-    }
+  short_is : (had time : ℕ) → IsReadAt k (transfer_meaning tag) old new (Short had) time → IsShort k old new tag time had
+  short_is had time r =
+      let e = r.enters.enters in
+      let there : time - new.base ≡ r.entered.at = omega (arith, r.time_is, e.continues.base) in
+      record {
+        mine = r.mine;
+        entered = r.entered;
+        enters = r.enters;
+        at = r.entered.at;
+        at_is = refl;
+        after = omega (arith, length-seen r.enters.comes, e.enters.at);
+        seen = omega (arith, length-seen e.continues, e.at);
+        time_is = omega (arith, r.time_is, e.continues.base);
+        had_is = r.settles.0 ∙ ap (λ (n : ℕ). balance (state_at new.start new.seen n) (from_of tag)) there;
+        less = r.settles.1;
+      }
 
--- a lock that was refused
-pub refused_by : (k : Causes) (old new : Seat) (s t : InSection) (tag : List ℕ) (refusal : Refusal) → IsOf old s
-    → IsLockRefused k.may_refuse k.found_held (IsEither (from_of tag) (to_of tag)) s t refusal → Leaves t new → IsWhy k old new tag refusal
-refused_by k old new s t tag (Busy account seat) x l left = (s, t, record { comes = x.continues; at = x.at; goes = left.continues }, l)
-refused_by k old new s t tag (Stale account time) x l left = (s, t, record { comes = x.continues; at = x.at; goes = left.continues }, l)
-refused_by k old new s t tag (Full holder) x l left = absurd l
-refused_by k old new s t tag (Rival rival) x l left = absurd l
+  at_end : (time last : ℕ) → (time == last) ≡ true → time ≡ last
+  at_end time last e = grind (arith, nat_tests)
 
--- no time is left when the seat is outside again
-pub worn_by : (t : InSection) (new : Seat) → IsWorn t.seat → Leaves t new → new.base + length new.seen ≤ new.last → IsWorn new
-worn_by t new worn left time = IsWorn-later left.continues worn time
+  worn_is : (time : ℕ) → IsReadAt k (transfer_meaning tag) old new Late time → (new.mine ≡ old.mine) × IsWorn new
+  worn_is time r =
+      let e = r.enters.enters in
+      (r.mine, omega (arith, at_end time new.last r.settles.1, r.time_is, e.continues.base, e.at, length-seen e.continues, law.time))
+
+  -- What an attempt answers, by what it leaves as a work.
+  pub answered_is : (a : Attempt Found) (found : Found) (place : Place) → a ≡ Done found place → Attempted k (transfer_meaning tag) old new a
+      → Answers k old new tag (attempt_of found place)
+  answered_is a found place e h = go found place (subst (λ (x : Attempt Found). Attempted k (transfer_meaning tag) old new x) e h)
+    where
+      go : (f : Found) (p : Place) → Attempted k (transfer_meaning tag) old new (Done f p) → Answers k old new tag (attempt_of f p)
+      go f (AtCommit time) h = done_is f time h
+      go Enough (Read time) h = absurd h.settles
+      go (Short had) (Read time) h = short_is had time h
+      go Late (Read time) h = worn_is time h
+
+  pub refused_is : (a : Attempt Found) (cause : Cause) → a ≡ Again cause → Attempted k (transfer_meaning tag) old new a
+      → GivesUp k (transfer_meaning tag) old new cause
+  refused_is a cause e h = subst (λ (x : Attempt Found). Attempted k (transfer_meaning tag) old new x) e h

@@ -7,7 +7,8 @@ use Rattle.mv_history.proofs.Steps.{Continues-Continues, length-seen, state_at-l
 use Rattle.accounts.specs.declared.reading.SumAt.{SumAt}
 use Rattle.accounts.specs.Rules.{total}
 use Rattle.accounts.specs.Repeats.{IsSum, ReadsEach}
-use Rattle.accounts.proofs.Sections.{IsLawful, reads_snapshot}
+use Rattle.section_work.proofs.Entering.{reads_snapshot}
+use Rattle.accounts.proofs.Sections.{IsLawful}
 
 -- a sum that a section read which then left
 pub sum_by : (took : Seat → InSection → Type 0) (old new : Seat) (s t : InSection) (u : State) (sum : SumAt) → Enters old s → took old s → u ≡ state_of s
@@ -22,7 +23,7 @@ sum_by took old new s t u sum e taken read h same left time_is total_is =
       mine = left.mine ∙ same.seat.mine ∙ e.seat.mine;
       seen = omega (arith, h.at, length-seen goes);
       time_is = omega (arith, time_is, goes.base);
-      total_is = total_is ∙ ap total (reads_snapshot s u read e.own ∙ sym (state_at-later goes s.at h.at));
+      total_is = total_is ∙ ap total (read ∙ reads_snapshot s e.own ∙ sym (state_at-later goes s.at h.at));
     }
 
 -- one more

@@ -1,12 +1,13 @@
 // One transfer, as one section of a store.
-ghost use Rattle.std.specs.Prelude.{◌≡◌, ◌≢◌, ◌<◌, ◌≤◌, [], ◌∷◌, length, OnOk, IfErr};
+ghost use Rattle.std.specs.Prelude.{◌≡◌, ◌≢◌, ◌<◌, ◌≤◌, [], ◌∷◌};
 ghost use Rattle.accounts.specs.declared.rules.TheConstants.{ACCOUNTS as how_many};
-ghost use Rattle.mv_history.specs.Meaning.{Lacks};
-ghost use Rattle.mv_history.specs.Calls.{GoesOn, Locks};
-ghost use Rattle.accounts.specs.Attempts.{causes, Attempted, CanHoldTwo, IsEither, IsLockRefused};
+ghost use Rattle.section_work.specs.Causes.{causes};
+ghost use Rattle.accounts.specs.Attempts.{Attempted, attempt_of};
 
-use crate::rules::{Accounts, BALANCE, account};
-use mv_history::{CommitAnswer, Holder, LockAnswer, Rival, Room, Section, Store, View, Words};
+use crate::rules::Accounts;
+use crate::transfer_work::{Found, Transfer};
+use mv_history::Store;
+use section_work::{Attempt as Worked, Cause, Place, attempt_work};
 
 /// What an attempt of a transfer comes to.
 #[derive(Clone, Copy, Debug, PartialEq, Eq)]
@@ -16,22 +17,9 @@ pub enum Attempt {
     /// At this printed time the account had only this balance, which is less than the amount.
     Short { time: u64, balance: u64 },
     /// Something was in the way, and nothing was changed. Another attempt may be done.
-    Refused(Refusal),
+    Refused(Cause),
     /// The store's last time has been reached, so no transfer can be made any more.
     End,
-}
-
-/// What was in the way of a transfer.
-#[derive(Clone, Copy, Debug, PartialEq, Eq)]
-pub enum Refusal {
-    /// The seat's log has no room, since this holds its oldest write set.
-    Full(Holder),
-    /// This other seat holds the account.
-    Busy { account: u32, seat: u32 },
-    /// A commit of this printed time, later than the attempt's snapshot, changed the account.
-    Stale { account: u32, time: u64 },
-    /// This entry of another seat came first.
-    Rival(Rival),
 }
 
 /// Attempts to move an amount, which isn't 0, between two accounts, in one section, and gives the store back.
@@ -41,7 +29,7 @@ pub enum Refusal {
 ///
 /// It locks both accounts, and so whatever others commit meanwhile leaves their balances as the
 /// section read them. That is what makes the commit fit: allowed on every state that may come to
-/// stand just before it.
+/// stand just before it. An account that is short is answered so even where the log has no room.
 pub fn transfer<S: Store<Rules = Accounts>>(
     store: S,
     from: u32,
@@ -53,74 +41,30 @@ pub fn transfer<S: Store<Rules = Accounts>>(
     requires other { from ≢ to }
     requires some { 0 < amount }
     requires two { 2 ≤ (S.seat_of store).write_max }
-    ensures { let shows = causes S.Open.may_refuse S.holds_back S.Open.found_held S.Open.loaded in
+    ensures { let shows = causes S.Open.may_refuse S.Open.has_trail S.took S.holds_back S.Open.found_held S.Open.loaded in
         Attempted shows (S.seat_of store) (S.seat_of result.0) (from ∷ to ∷ amount ∷ 0 ∷ []) result.1 }
 {
-    let mut store = store;
-    // Locks take slots of the seat's log, so room for them is made outside the section.
-    if let Room::Short(holder) = store.prepare() {
-        return (store, Attempt::Refused(Refusal::Full(holder)));
-    }
-    let mut section = store.enter();
-    let has = section.read(from)[BALANCE];
-    if has < amount {
-        let time = section.at();
-        return (section.leave(), Attempt::Short { time, balance: has });
-    }
-    let left = account(has - amount);
-    let gained = account(section.read(to)[BALANCE] + amount);
-    if let Err(refusal) = write_two(&mut section, from, left, to, gained) {
-        return (section.abort(), Attempt::Refused(refusal));
-    }
-    // The tag says which transfer it is: the rules compare the writes with it.
-    match section.try_commit([from as u64, to as u64, amount, 0]) {
-        CommitAnswer::Done(store, time) => (store, Attempt::Done { time }),
-        CommitAnswer::Again(section, rival) => {
-            (section.abort(), Attempt::Refused(Refusal::Rival(rival)))
+    let work = Transfer { from, to, amount };
+    let mut nothing = ();
+    let (store, attempt) = attempt_work(store, &work, &mut nothing);
+    match attempt {
+        Worked::Done { reply, place } => {
+            let answered = answer(reply, place);
+            (store, answered)
         }
-        CommitAnswer::End(section) => (section.abort(), Attempt::End),
+        Worked::Again(cause) => (store, Attempt::Refused(cause)),
     }
 }
 
-// Locks two accounts in a section that holds nothing, and then gives them these words.
-fn write_two<T: Section>(
-    section: &mut T,
-    from: u32,
-    left: Words,
-    to: u32,
-    gained: Words,
-) -> Result<(), Refusal>
-    requires can_hold { CanHoldTwo (T.section section.old) }
-    requires from { from < length (T.state section.old) }
-    requires to { to < length (T.state section.old) }
-    requires other { from ≢ to }
-    ensures goes_on { GoesOn (T.section section.old) (T.section section.new) }
-    ensures written { OnOk result ((T.section section.new).own ≡ (from, left) ∷ (to, gained) ∷ []) }
-    ensures refused { IfErr result (λ refusal.
-        IsLockRefused T.may_refuse T.found_held (IsEither from to) (T.section section.old) (T.section section.new) refusal) }
+// What a transfer that was found so at its place comes to.
+fn answer(found: Found, place: Place) -> Attempt
+    ensures { result ≡ attempt_of found place }
 {
-    lock(section, from)?;
-    lock(section, to)?;
-    section.write(from, left);
-    section.write(to, gained);
-    Ok(())
-}
-
-// Locks one account, for which there is room.
-fn lock<T: Section>(section: &mut T, account: u32) -> Result<(), Refusal>
-    requires account { account < length (T.state section.old) }
-    requires lacks { Lacks (T.section section.old) account }
-    requires few { length (T.section section.old).own < (T.section section.old).seat.write_max }
-    requires room { 0 < (T.section section.old).seat.spare }
-    ensures goes_on { GoesOn (T.section section.old) (T.section section.new) }
-    ensures locks { OnOk result (Locks (T.section section.old) (T.section section.new) account) }
-    ensures refused { IfErr result (λ refusal.
-        IsLockRefused T.may_refuse T.found_held (λ o. o ≡ account) (T.section section.old) (T.section section.new) refusal) }
-{
-    match section.try_lock(account) {
-        LockAnswer::Busy { seat } => Err(Refusal::Busy { account, seat }),
-        LockAnswer::Stale { time } => Err(Refusal::Stale { account, time }),
-        // There is room, so what is left is `Held`.
-        _ => Ok(()),
+    match place {
+        Place::Commit(time) => Attempt::Done { time },
+        Place::Read(time) => match found {
+            Found::Short { balance } => Attempt::Short { time, balance },
+            Found::Enough | Found::Late => Attempt::End,
+        },
     }
 }

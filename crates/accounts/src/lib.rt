@@ -23,7 +23,9 @@
 //! 3. *Fit.* `try_commit` asks that the commit stays allowed whatever others commit meanwhile to what
 //!    isn't held. A transfer depends on two balances and locks both, so it does: `words-drifts` of
 //!    `mv_history` is all that `proofs/Fits.antt` needs.
-//! 4. *One attempt.* [`transfer`] makes room, enters, reads, locks, writes and commits.
+//! 4. *One attempt.* A transfer is a `Work` of `section_work`: it decides in a view, and says what it
+//!    writes, with which tag. `attempt_work` makes room, enters, lets it decide, locks, writes and
+//!    commits, and [`transfer`] answers by what that leaves.
 //! 5. *Trying again.* No call of a store does. [`make_transfers`] attempts each transfer until it is
 //!    done, and takes a `Wait`, since others may always come first.
 //! 6. *Threads.* These calls take any store, so a thread of its own may make them: `accounts_run` runs them
@@ -31,17 +33,18 @@
 //!
 //! # Its place
 //!
-//! It stands on the traits of `mv_history` alone. Moving amounts between accounts while others read
-//! all of them is the example with which snapshot isolation is mostly explained (Berenson and others,
-//! "A Critique of ANSI SQL Isolation Levels", SIGMOD 1995).
+//! It stands on the traits of `mv_history`, and on `section_work` for its section. Moving amounts
+//! between accounts while others read all of them is the example with which snapshot isolation is
+//! mostly explained (Berenson and others, "A Critique of ANSI SQL Isolation Levels", SIGMOD 1995).
 #![tactic(auto)]
 
 mod attempt;
 mod reading;
 mod repeating;
 mod rules;
+mod transfer_work;
 
-pub use attempt::{Attempt, Refusal, transfer};
+pub use attempt::{Attempt, transfer};
 pub use reading::{SumAt, keeps_total, sum, total};
 pub use repeating::{Moved, make_transfers, read_sums};
 pub use rules::{ACCOUNTS, Accounts, BALANCE, account, opening};

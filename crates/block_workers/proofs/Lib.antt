@@ -1,3 +1,4 @@
 pub mod BlockPlaces
 pub mod Done
-pub mod Workers
+pub mod BlockChains
+pub mod AllBlocks

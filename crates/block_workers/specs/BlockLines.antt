@@ -1,8 +1,11 @@
 -- The lines of a block: one for each of its commands, all at the block's one place.
-use Rattle.std.specs.Prelude.{ℕ, suc, List, [], ◌∷◌}
+use Rattle.std.specs.Prelude.{ℕ, suc, ◌+◌, ◌<◌, ◌^◌, List, [], ◌∷◌, length, Vec, All}
+use Rattle.std.specs.declared.alloc.Global.{Global}
+use Rattle.std.specs.List.{flat_map}
 use Rattle.section_work.specs.declared.place.Place.{Place}
 use Rattle.set_script.specs.declared.commands.Reply.{Reply}
 use Rattle.run_report.specs.declared.line.Line.{Line}
+use Rattle.item_workers.specs.declared.runner.Answer.{Answer}
 
 -- What became of a block: the seat that did it, the number of its first command in the seat's script, its place, and its replies.
 pub record DoneBlock : Type 0 where
@@ -20,3 +23,24 @@ lines_at seat number place (answer ∷ answers) =
 -- the lines of a block
 abbrev pub lines_of : DoneBlock → List Line
 lines_of d = lines_at d.seat d.number d.place d.answers
+
+-- what became of the block of an answer, and its lines
+abbrev pub done_of : Answer (Place × List Reply) → DoneBlock
+done_of a = record { seat = a.seat; number = a.number; place = a.done.0; answers = a.done.1 }
+
+abbrev pub lines_in : Answer (Place × List Reply) → List Line
+lines_in a = lines_of (done_of a)
+
+-- the lines of answers, and of a row of them
+abbrev pub row_in : List (Answer (Place × List Reply)) → List Line
+row_in answers = flat_map lines_in answers
+
+abbrev pub row_of : Vec (Answer (Place × List Reply)) Global → List Line
+row_of v = row_in v.items
+
+-- no number of its lines is too great
+abbrev pub FitsNumbers : Answer (Place × List Reply) → Type 0
+FitsNumbers a = a.number + length a.done.1 < 2 ^ 32
+
+abbrev pub AllFit : Vec (Answer (Place × List Reply)) Global → Type 0
+AllFit row = All FitsNumbers row.items

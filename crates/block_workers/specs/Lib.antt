@@ -1,3 +1,5 @@
 pub mod BlockLines
+pub mod BlockLinks
+pub mod BlockLinkLaws
 pub mod BlockRuns
 pub mod Workers

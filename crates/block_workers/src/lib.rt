@@ -9,7 +9,12 @@
 //!
 //! # The contract
 //!
-//! [`run_blocks`] leaves, of each seat and its script (`RanBlocks` in specs/BlockRuns.antt):
+//! [`run_blocks`] leaves, of each seat and its script, a chain (`AllLinkedBlocks`): each block begins at the very seat at
+//! which the one before it was done. After attempts that made no commit there was one of this very block that was done, with
+//! this place and these replies; a block that changes nothing is of a section that this attempt entered, whose snapshot holds
+//! all that the seat had seen. Nothing is answered from memory.
+//!
+//! From the chain follows (`RanBlocks` in specs/BlockRuns.antt):
 //!
 //! - what the seat had seen is still seen, and no range of times changed (`Continues`);
 //! - the lines are those of the blocks, one block after another: the lines of a block have its one place, are numbered on
@@ -28,21 +33,21 @@
 //!
 //! # How it is proved
 //!
-//! One attempt's contract (`set_blocks`) speaks of the history that was seen then. From it comes the place of a block
+//! [`Blocks`], a store that does blocks, is a `Runner` of `item_workers`, which has the threads and gives the chain. One
+//! attempt's contract (`set_blocks`) speaks of the history that was seen then. From it comes the place of a block
 //! (`proofs/BlockPlaces.antt`), which stays its place in each longer history. So the blocks before stay as they are while
-//! one more is done (`proofs/Done.antt`), and what the workers leave, one after another, is what the run leaves
-//! (`proofs/Workers.antt`).
+//! one more is done (`proofs/Done.antt`), and a chain is a run (`proofs/BlockChains.antt`).
 //!
 //! # Its place
 //!
-//! It stands on the attempts of `set_blocks`, on the lines of `run_report`, and on `script_workers`, whose workers do the
-//! same for single commands, over any store. That the lines of all stores are a legal run of the blocks follows from this
+//! It stands on the attempts of `set_blocks`, on the workers of `item_workers`, on the lines of `run_report`, and on
+//! `script_workers`, whose workers do the same for single commands, over any store. That the lines of all stores are a legal run of the blocks follows from this
 //! contract and from the stores being seats of one domain.
 #![tactic(auto)]
 
-mod loading;
+mod blocks;
+mod rows;
 mod running;
-mod worker;
 
+pub use blocks::Blocks;
 pub use running::run_blocks;
-pub use worker::run_block;

@@ -11,9 +11,10 @@ use grow_hash::{GrowRules, GrowStep, Split, attempt_grow, try_split};
 use mv_history::Store;
 use run_outside::Gate;
 use run_report::Line;
-use set_script::{Command, Reply};
 use section_work::Place;
+use set_script::{Command, Reply};
 use std::sync::Wait;
+use std::thread;
 
 // A store, its seat's number, its script, and the lines that it has made, for all of which there is room.
 pub(crate) struct Worker<'s, S: Store<Rules = GrowRules>> {
@@ -130,7 +131,7 @@ pub fn run_command<R: Wait, S: Store<Rules = GrowRules>>(
     for _ in rt.forever() {
         match try_command(store, command) {
             GrowStep::Done { reply, place } => return (place, reply),
-            GrowStep::Again(_) => {}
+            GrowStep::Again(_) => thread::yield_now(),
         }
     }
     unreachable!()
@@ -166,7 +167,7 @@ pub fn run_split<R: Wait, S: Store<Rules = GrowRules>>(rt: &R, store: &mut S)
 {
     for _ in rt.forever() {
         match try_once(store) {
-            Split::Again(_) => {}
+            Split::Again(_) => thread::yield_now(),
             _ => return,
         }
     }

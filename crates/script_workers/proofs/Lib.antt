@@ -1,4 +1,7 @@
 pub mod Places
 pub mod Lines
-pub mod Workers
+pub mod Runs
+pub mod Fresh
+pub mod Chains
 pub mod Moving
+pub mod Workers

@@ -9,7 +9,16 @@
 //!
 //! # The contract
 //!
-//! [`run_scripts`] leaves, of each seat and its script (`Ran` in `run_report`):
+//! [`run_scripts`] leaves, of each seat and its script, a chain (`AllLinked`): each command begins at the very seat at which
+//! the one before it was done, and its link (`Linked`) says that
+//!
+//! - after attempts that made no commit there was one of this very command that was done, with this place and this reply. A
+//!   commit is later than all that the seat had seen, and a read is of a section that this attempt entered, whose time it
+//!   took then (`took`);
+//! - so a read's snapshot holds all that the seat had seen when the command began (`linked_fresh` in proofs/Fresh.antt):
+//!   nothing is answered from memory.
+//!
+//! From the chain follows (`Ran` in `run_report`):
 //!
 //! - what the seat had seen is still seen, and no range of times changed (`Continues`);
 //! - its commits grew by exactly those of its lines, one for each line at a commit, in order, and by no others;
@@ -23,26 +32,27 @@
 //!
 //! All memory is taken before the workers start. Want of it is the one error, and leaves the stores untouched.
 //!
-//! [`run_command`] promises the same of one command on one store, for those who share commands out in another way.
-//!
 //! # How it is proved
 //!
-//! One attempt's contract (`set_catalog`) speaks of the history that was seen then. From it comes the place of a command
+//! [`Hinted`], a store with its hints, is a `Runner` of `item_workers`, which has the threads and gives the chain. One
+//! attempt's contract (`set_catalog`) speaks of the history that was seen then. From it comes the place of a command
 //! (`proofs/Places.antt`), which stays its place in each longer history. So the lines of the commands before stay as they
-//! are while one more is made (`proofs/Lines.antt`), and the workers' lines, one after another, are those of the run
-//! (`proofs/Workers.antt`).
+//! are while one more is made (`proofs/Lines.antt`), and a chain is a run (`proofs/Runs.antt`).
 //!
 //! # Its place
 //!
-//! It stands on the attempts of `set_catalog` and on the lines of `run_report`, over any store. The program opens the
-//! stores and prints the lines; that these are a legal run follows from this contract and from the stores being seats of
-//! one domain.
+//! It stands on the attempts of `set_catalog`, on the workers of `item_workers` and on the lines of `run_report`, over any
+//! store. The program opens the stores and prints the lines; that these are a legal run follows from this contract and from
+//! the stores being seats of one domain.
 #![tactic(auto)]
 
-mod loading;
+mod hinted;
+mod rows;
 mod running;
 mod worker;
 
-pub use loading::{put_lines, take_first};
+pub use hinted::Hinted;
+pub use item_workers::take_first;
+pub use rows::put_lines;
 pub use running::run_scripts;
 pub use worker::run_command;

@@ -1,0 +1,7 @@
+use Rattle.std.proofs.Common.{◌≡◌, ◌++◌, take, vec_capacity}
+use Rattle.block_workers.specs.BlockLines.{row_in}
+use Rattle.block_workers.proofs.rows.put_row.Given as goal
+
+abbrev pub invariant-loop-answer : goal.invariant-loop-answer
+invariant-loop-answer l =
+    (l.lines.items ≡ l.initial.lines.items ++ row_in (take l.answer-index l.row)) × (vec_capacity l.lines ≡ vec_capacity l.initial.lines)

@@ -1,0 +1,4 @@
+pub mod Links
+pub mod Serves
+pub mod Moving
+pub mod Workers

@@ -1,0 +1,14 @@
+use Rattle.std.proofs.Common.{◌≡◌, ◌≤◌, ◌+◌, ◌++◌, map, length, vec_len, vec_capacity}
+use Rattle.item_workers.specs.Workers.{runs_at, answers_of}
+use Rattle.item_workers.proofs.loading.unload.Given as goal
+
+abbrev pub invariant-loop-workers : goal.invariant-loop-workers
+invariant-loop-workers g l = record {
+  seats : map g.W.Runner.seat_in l.stores.items ++ map (runs_at g.W.Runner.seat_of) l.workers.items ≡ map (runs_at g.W.Runner.seat_of) l.initial.workers.items;
+  answers : l.answers.items ++ map answers_of l.workers.items ≡ map answers_of l.initial.workers.items;
+  places : length l.stores.items + length l.workers.items ≤ vec_capacity l.stores;
+  room : length l.answers.items + length l.workers.items ≤ vec_capacity l.answers;
+}
+
+abbrev pub decreases-loop-workers : goal.decreases-loop-workers
+decreases-loop-workers g l = vec_len l.workers

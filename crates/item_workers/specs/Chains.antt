@@ -1,0 +1,44 @@
+-- Chains of seats, with a link for each item.
+use Rattle.std.specs.Prelude.{◌≡◌, ℕ, ◌+◌, List, [], ◌∷◌, Vec, ⊤}
+use Rattle.std.specs.declared.alloc.Global.{Global}
+use Rattle.mv_history.specs.Meaning.{Seat}
+use Rattle.item_workers.specs.declared.runner.Answer.{Answer}
+use Rattle.item_workers.specs.declared.runner.Tried.{Tried}
+use Rattle.item_workers.specs.declared.runner.Tried.TheVariants.{Done, Again}
+
+-- what holds by what came of an attempt
+abbrev pub OnTried : {D : Type 0} → (D → Type 0) → Type 0 → Tried D → Type 0
+OnTried done again (Done d) = done d
+OnTried done again Again = again
+
+-- From the one seat to the other the items were done in order, with these answers: each begins at the seat at which the one before it was done.
+abbrev pub Chain : {I D : Type 0} → (Seat → Seat → I → D → Type 0) → Seat → Seat → List I → List D → Type 0
+Chain link s t [] [] = t ≡ s
+Chain link s t [] (d ∷ ds) = ⊥
+Chain link s t (i ∷ is) [] = ⊥
+Chain link s t (i ∷ is) (d ∷ ds) = (u : Seat) × link s u i d × Chain link u t is ds
+
+-- The answers are by the seat of this number, and numbered from this number on, each above all that the items before it have.
+abbrev pub HaveNumbers : {I D : Type 0} → (I → ℕ) → ℕ → ℕ → List I → List (Answer D) → Type 0
+HaveNumbers width seat number [] [] = ⊤
+HaveNumbers width seat number [] (a ∷ answers) = ⊥
+HaveNumbers width seat number (i ∷ is) [] = ⊥
+HaveNumbers width seat number (i ∷ is) (a ∷ answers) =
+    (a.seat ≡ seat) × (a.number ≡ number) × HaveNumbers width seat (number + width i) is answers
+
+-- the link of an item that has this answer
+abbrev pub answered : {I D : Type 0} → (Seat → Seat → I → D → Type 0) → Seat → Seat → I → Answer D → Type 0
+answered link s t item answer = link s t item answer.done
+
+-- From the one seat to the other it did the items of a list, with these answers, by the seat and numbered from 1.
+pub record DidAll {I D : Type 0} (link : Seat → Seat → I → D → Type 0) (width : I → ℕ) (s t : Seat) (items : List I) (answers : List (Answer D)) : Type 0 where
+  pub chain : Chain (answered link) s t items answers
+  pub numbers : HaveNumbers width s.number 1 items answers
+
+-- Each seat did the items of the list of its place.
+abbrev pub EachDid : {I D : Type 0} → (Seat → Seat → I → D → Type 0) → (I → ℕ) → List Seat → List Seat → List (List I)
+    → List (Vec (Answer D) Global) → Type 0
+EachDid link width [] [] [] [] = ⊤
+EachDid link width (o ∷ os) (n ∷ ns) (list ∷ lists) (own ∷ others) =
+    DidAll link width o n list own.items × EachDid link width os ns lists others
+EachDid link width _ _ _ _ = ⊥

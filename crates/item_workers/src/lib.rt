@@ -1,0 +1,49 @@
+//! Workers that do their items in order, each in a thread of its own, and try each item until it is done.
+//!
+//! # The model
+//!
+//! A [`Runner`] has a store, which is a seat of one history of commits (`mv_history`), and does items on it, each by
+//! attempts. What it means that an item is done from one seat to a later one, its *link*, is the runner's to say. Each item
+//! has a number: of a worker's own list it is one above all that the items before it have (an item has as many as its
+//! *width*), and of a shared list it is its place, from 1. What was done is an [`Answer`], with the seat and the number.
+//!
+//! # The contract
+//!
+//! - [`run_item`] leaves the link of the item, from the seat at which it began to the seat that it leaves. So no attempt of
+//!   another item lies between.
+//! - [`run_items`] and [`run_lists`] leave a chain (`DidAll`): one link for each item, in the order of the list. Each begins
+//!   at the seat at which the one before it was done, and each answer has the seat and its item's number.
+//! - [`run_from`] leaves the same for the items whose places a [`Source`] gave, in the order in which it gave them, until it
+//!   had none to give (`IsServed`). [`Own`] gives each place of a list once, in order.
+//!
+//! Nothing is said of what other seats do meanwhile: this holds at every interleaving. Each item is tried until it is done,
+//! so a run ends only where others let it, and takes a `Wait`. A thread gives its processor away behind each attempt that
+//! was given up, so that a seat which holds what others want comes to its end. No clause speaks of the gate's calls.
+//!
+//! All memory is taken before the workers start. Want of it is the one error, and leaves the stores untouched.
+//!
+//! # How it is proved
+//!
+//! A link is of one item, so a chain grows by one link where an item is done (`proofs/Links.antt`, and `proofs/Serves.antt`
+//! for a source). Stores move into workers and out of them one at a time (`proofs/Moving.antt`), and what the workers leave
+//! is a chain for each store (`proofs/Workers.antt`).
+//!
+//! # Its place
+//!
+//! It stands on `mv_history` for what a seat is, and on `run_outside` for the gate. Crates above say what an item is, how
+//! one attempt of it is made and what its link is, and make lines of the answers.
+#![tactic(auto)]
+
+mod loading;
+mod runner;
+mod running;
+mod serving;
+mod source;
+mod threads;
+
+pub use loading::take_first;
+pub use runner::{Answer, Runner, Tried};
+pub use running::{run_item, run_items};
+pub use serving::{Own, run_from};
+pub use source::Source;
+pub use threads::run_lists;

@@ -1,0 +1,30 @@
+-- The lines of answers, and the chain of a run's lines.
+use Rattle.std.specs.Prelude.{◌≡◌, List, [], ◌∷◌, length, map, take, drop, Vec}
+use Rattle.std.specs.declared.alloc.Global.{Global}
+use Rattle.mv_history.specs.Meaning.{Seat}
+use Rattle.set_script.specs.declared.commands.Command.{Command}
+use Rattle.section_work.specs.declared.place.Place.{Place}
+use Rattle.set_script.specs.declared.commands.Reply.{Reply}
+use Rattle.section_work.specs.Causes.{Causes}
+use Rattle.run_report.specs.declared.line.Line.{Line}
+use Rattle.item_workers.specs.declared.runner.Answer.{Answer}
+use Rattle.item_workers.specs.Chains.{Chain}
+use Rattle.script_workers.specs.Links.{Linked}
+
+-- the line of an answer, and those of a row of answers
+abbrev pub line_of : Answer (Place × Reply) → Line
+line_of a = record { seat = a.seat; number = a.number; place = a.done.0; reply = a.done.1 }
+
+abbrev pub row_of : Vec (Answer (Place × Reply)) Global → List Line
+row_of v = map line_of v.items
+
+-- the command of a line was done from the one seat to the other
+abbrev pub LinkedLine : Causes → Seat → Seat → Command → Line → Type 0
+LinkedLine k s t command line = Linked k s t command line.place line.reply
+
+-- Each seat did the commands of its script in order, each from the very seat at which the one before it was done; the lines stand by seat.
+abbrev pub AllLinked : Causes → List Seat → List Seat → List (List Command) → List Line → Type 0
+AllLinked k [] [] [] lines = lines ≡ []
+AllLinked k (o ∷ os) (n ∷ ns) (script ∷ scripts) lines =
+    Chain (LinkedLine k) o n script (take (length script) lines) × AllLinked k os ns scripts (drop (length script) lines)
+AllLinked k _ _ _ lines = ⊥

@@ -1,5 +1,6 @@
 -- What all seats did, and the room and the numbers of its lines.
-use Rattle.std.proofs.Common.{◌≡◌, ℕ, ◌<◌, ◌+◌, ◌^◌, ◌≤◌, List, [], ◌∷◌, ◌++◌, length, map, sum_by, All, Vec, refl, sym, ap, ◌∙◌, arith, take, get_or, length-append}
+use Rattle.std.proofs.Common.{◌≡◌, ℕ, ◌<◌, ◌+◌, ◌^◌, ◌≤◌, List, [], ◌∷◌, ◌++◌, length, map, sum_by, All, Vec}
+use Rattle.std.proofs.Common.{refl, sym, ap, ◌∙◌, arith, take, get_or, length-append}
 use Rattle.std.specs.declared.alloc.Global.{Global}
 use Rattle.std.specs.List.{flat_map}
 use Rattle.std.proofs.lemmas.List.{flat_map_more, take_more}
@@ -101,8 +102,13 @@ module _ (k : Causes) where
   all_linked (o ∷ os) [] scripts rows h = absurd h
   all_linked (o ∷ os) (n ∷ ns) [] rows h = absurd h
   all_linked (o ∷ os) (n ∷ ns) (s ∷ scripts) [] h = absurd h
-  all_linked (o ∷ os) (n ∷ ns) (s ∷ scripts) (r ∷ rows) h =
-      (map done_of r.items, flat_map row_of rows, ap (λ ls. ls ++ flat_map row_of rows) (done_lines r.items), chain_done k o n s r.items h.0.chain, all_linked os ns scripts rows h.1)
+  all_linked (o ∷ os) (n ∷ ns) (s ∷ scripts) (r ∷ rows) h = (
+    map done_of r.items,
+    flat_map row_of rows,
+    ap (λ ls. ls ++ flat_map row_of rows) (done_lines r.items),
+    chain_done k o n s r.items h.0.chain,
+    all_linked os ns scripts rows h.1,
+  )
 
   -- there are as many lines as commands
   pub line_counts : (os ns : List Seat) (scripts : List (Vec (List Command) Global)) (rows : List (Vec (Answer (Place × List Reply)) Global))

@@ -41,8 +41,8 @@
 //! # Its place
 //!
 //! It stands on the attempts of `set_blocks`, on the workers of `item_workers`, on the lines of `run_report`, and on
-//! `script_workers`, whose workers do the same for single commands, over any store. That the lines of all stores are a legal run of the blocks follows from this
-//! contract and from the stores being seats of one domain.
+//! `script_workers`, whose workers do the same for single commands, over any store. That the lines of all stores are
+//! a legal run of the blocks follows from this contract and from the stores being seats of one domain.
 #![tactic(auto)]
 
 mod blocks;

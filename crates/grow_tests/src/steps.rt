@@ -6,8 +6,8 @@ ghost use Rattle.grow_hash.specs.SplitCalls.{most_writes};
 
 use grow_hash::{GrowRules, GrowStep, Split, attempt_grow, read_grown, table_of, try_split};
 use mv_history::{Section, Store};
-use set_script::{Catalogue, Command, Name, Reply};
 use section_work::Place;
+use set_script::{Catalogue, Command, Name, Reply};
 use std::alloc::{AllocError, Global};
 use std::process::Abort;
 use std::test::*;

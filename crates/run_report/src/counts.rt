@@ -6,8 +6,8 @@ ghost use Rattle.run_report.specs.Summary.{is_yes, is_no, is_worn, is_made, text
 
 use crate::line::Line;
 use crate::text::{NAMES, write_last, write_name};
-use set_script::{Catalogue, Reply};
 use section_work::Place;
+use set_script::{Catalogue, Reply};
 use std::alloc::{AllocError, Global};
 
 /// The summary of a run of the scripts of a number: how many lines reply `yes`, `no` and `worn`, how many are commits, and how many keys

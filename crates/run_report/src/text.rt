@@ -19,8 +19,8 @@ ghost use Rattle.run_report.specs.Text.{
 use crate::line::Line;
 use itoa::Buffer;
 use mv_history::LogTable;
-use set_script::{Catalogue, Reply};
 use section_work::Place;
+use set_script::{Catalogue, Reply};
 use std::alloc::{AllocError, Global};
 
 // How many sets there are.

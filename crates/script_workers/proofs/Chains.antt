@@ -90,7 +90,8 @@ module _ (k : Causes) where
       omega (arith, length-append (row_of r) (flat_map row_of rows), len, others, sum_by-cons command_count s scripts)
 
 -- there is room for the lines of one more row
-pub row_fits : (rows : List (Vec (Answer (Place × Reply)) Global)) (i : ℕ) (row : Vec (Answer (Place × Reply)) Global) → i < length rows → row ≡ get_or rows i row
+pub row_fits : (rows : List (Vec (Answer (Place × Reply)) Global)) (i : ℕ) (row : Vec (Answer (Place × Reply)) Global) → i < length rows
+    → row ≡ get_or rows i row
     → length (flat_map row_of (take i rows)) + length row.items ≤ length (flat_map row_of rows)
 row_fits rows i row lt is =
     omega (

@@ -68,7 +68,8 @@ done_noted k old new command answer time before between after d n e = go command
         (subst (λ (h : Hinted). TakesHints before.hints h) (sym (none_noted between.hints after answer.gone.node answer.gone.inner z e))
         (noted_takes c old new before between n))
 
-    go : (c : Command) → IsDoneAt k (command_meaning c) old new answer time → Noted (Looks c) old new before between → NotesGone c before.hints after old new time
+    go : (c : Command) → IsDoneAt k (command_meaning c) old new answer time → Noted (Looks c) old new before between
+        → NotesGone c before.hints after old new time
     go (Del name key) d n = (
       d.done.commit,
       answer.gone.node,

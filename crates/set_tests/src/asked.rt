@@ -1,8 +1,8 @@
 // What tables ask: commands by the indices of their sets, questions of one set, and the words of objects.
 use mv_history::{Store, View, Words};
+use section_work::Place;
 use set_catalog::{Attempt, Hints, attempt_with};
 use set_script::{Command, Name, Reply, SetRules};
-use section_work::Place;
 use std::alloc::{AllocError, Global};
 use std::process::Abort;
 use std::test::*;

@@ -4,9 +4,9 @@ ghost use Rattle.std.specs.Prelude.{◌≡◌, ◌<◌, ◌≤◌, length, IfOk}
 use crate::asked::Ask::{Add, Del, Get, Has, Move, Next, Pair, Put, Size};
 use crate::asked::{Ask, commands_of};
 use mv_history::{PlainStore, Store, WORDS};
-use set_blocks::{Block, BlockAttempt, BlockRules, Replies, attempt_block};
-use section_work::Place::{Commit, Read};
 use section_work::Place;
+use section_work::Place::{Commit, Read};
+use set_blocks::{Block, BlockAttempt, BlockRules, Replies, attempt_block};
 use set_script::Reply;
 use std::alloc::{AllocError, Global};
 use std::process::Abort;

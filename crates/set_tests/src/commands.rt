@@ -4,10 +4,10 @@ ghost use Rattle.std.specs.Prelude.{◌≡◌, ◌<◌, ◌≤◌, length, IfOk}
 use crate::asked::Ask::{Add, Del, Get, Move, Put};
 use crate::asked::{Ask, attempt_hinting, command, expect_attempt};
 use mv_history::{PlainStore, Section, Store, WORDS};
-use set_catalog::{Attempt, Hints, attempt, read_all};
-use section_work::Place::{Commit, Read};
-use set_script::{Catalogue, Command, Reply, SetRules};
 use section_work::Place;
+use section_work::Place::{Commit, Read};
+use set_catalog::{Attempt, Hints, attempt, read_all};
+use set_script::{Catalogue, Command, Reply, SetRules};
 use std::alloc::{AllocError, Global};
 use std::process::Abort;
 use std::test::*;

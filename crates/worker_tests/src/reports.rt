@@ -1,8 +1,8 @@
 // The order and the text of runs.
 use mv_history::LogTable;
 use run_report::{Line, order, render, summary};
-use set_script::{Catalogue, Reply};
 use section_work::Place;
+use set_script::{Catalogue, Reply};
 use std::alloc::{AllocError, Global};
 use std::process::Abort;
 use std::test::*;

@@ -7,7 +7,10 @@ use Rattle.object_seats.proofs.opening.open_checked.Goals as goal
 pub share_all-requires : goal.share_all-requires
 share_all-requires c =
     let seats = c.in_ok-whole.seats.items in
-    record { of = subst (λ d. All (λ s. IsSeatOf d s) seats) (sym c.in-Ok.ensures.ok) (new_are_of c.in_ok-whole.whole (λ k. k) seats c.in_ok-whole.ensures.each) }
+    record {
+      of = subst (λ d. All (λ s. IsSeatOf d s) seats) (sym c.in-Ok.ensures.ok)
+          (new_are_of c.in_ok-whole.whole (λ k. k) seats c.in_ok-whole.ensures.each);
+    }
 
 pub returns-in-Ok : goal.returns-in-Ok
 returns-in-Ok c =

@@ -51,7 +51,10 @@ returns-then-time-last g c =
         entered = c.enter-section.result;
         found = c.decide-section.result.0;
         looks = record { enters = e; took = c.enter-section.ensures.took; only_read = c.decide-section.ensures.as_before };
-        follows = inl (record { leaves = left; time_is = time_found _ _ _ (g.met.S.Open.Section.others_stay _ _ c.decide-section.ensures.as_before) c.at-time.ensures });
+        follows = inl (record {
+          leaves = left;
+          time_is = time_found _ _ _ (g.met.S.Open.Section.others_stay _ _ c.decide-section.ensures.as_before) c.at-time.ensures;
+        });
       };
       noted = (_, noted_by _ _ _ _ _ _ _ _ p.continues e law.at after here c.decide-section.ensures.notes, inl refl);
     }
@@ -84,7 +87,10 @@ returns-in-Settled g c =
         entered = c.enter-section.result;
         found = c.decide-section.result.0;
         looks = record { enters = e; took = c.enter-section.ensures.took; only_read = c.decide-section.ensures.as_before };
-        follows = inl (record { leaves = left; time_is = time_found _ _ _ (g.met.S.Open.Section.others_stay _ _ c.decide-section.ensures.as_before) c.at-time.ensures });
+        follows = inl (record {
+          leaves = left;
+          time_is = time_found _ _ _ (g.met.S.Open.Section.others_stay _ _ c.decide-section.ensures.as_before) c.at-time.ensures;
+        });
       };
       noted = (_, noted_by _ _ _ _ _ _ _ _ p.continues e law.at after here c.decide-section.ensures.notes, inl refl);
     }

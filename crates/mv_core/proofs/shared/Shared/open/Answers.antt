@@ -20,7 +20,7 @@ pub invariant_of-first : goal.invariant_of-first
 invariant_of-first g c =
     let items : c.in_ok-opening.opening.value.items ≡ c.args.start.now = c.in_ok-opening.ensures in
     let back : c.args.start.now ≡ c.in_ok-opening.opening.value.items = sym items in
-    let r = first_begins g.P.Protocol.start g.P.Protocol.allowed c.args.config.now c.in_ok-opening.opening.value.items c.in_ok-table.seat.me.0 c.requires.checked
-    (subst AreWords back c.have_width.ensures) (subst (λ (s : State). g.P.Protocol.start s) back c.requires.lawful)
+    let r = first_begins g.P.Protocol.start g.P.Protocol.allowed c.args.config.now c.in_ok-opening.opening.value.items c.in_ok-table.seat.me.0
+    c.requires.checked (subst AreWords back c.have_width.ensures) (subst (λ (s : State). g.P.Protocol.start s) back c.requires.lawful)
     (ap (λ m. m.0) c.in_ok-table.ensures.4) in
     record { numbered = sym r.0; timed = r.1; begun = r.2; known = r.3; in_domain = r.4 c.args.config.now; taken = ap (λ m. m.1) c.in_ok-table.ensures.4 }

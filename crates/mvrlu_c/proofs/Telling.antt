@@ -1,0 +1,41 @@
+-- What a call tells of a seat, by what it answered.
+use Rattle.std.proofs.Common.{◌≡◌, ℤ, true, false, Option, Some, None, Result, MatchOption, refl, w32, to_z, of_z}
+use Rattle.object_seats.specs.declared.position.Position.{Position}
+use Rattle.object_seats.specs.declared.position.Misuse.{Misuse}
+use Rattle.mvrlu_c.specs.declared.handle.MvrluSeat.{MvrluSeat}
+use Rattle.mvrlu_c.specs.declared.status.Status.{Status}
+use Rattle.mvrlu_c.specs.declared.status.Status.TheVariants as status
+use Rattle.mvrlu_c.specs.Statuses.{code_of, told_by}
+use Rattle.mvrlu_c.specs.Told.{Tells}
+
+-- what was done on the seat, if it is open, is told by the number of its status
+pub tells_by : {A : Type 0} (made : A → Status) (old new : MvrluSeat) (Call : Position → Position → Result A Misuse → Type 0)
+    (answer : Option (Result A Misuse)) (code : ℤ) (Said : Result A Misuse → Type 0)
+    → ((a : Result A Misuse) → Said a → Call old.state.position new.state.position a)
+    → (old.is_open ≡ false → (answer ≡ None) × (new ≡ old)) → (old.is_open ≡ true → (new.is_open ≡ true) × MatchOption answer ⊥ Said)
+    → code ≡ code_of (told_by made answer) → Tells made old new Call code
+tells_by made old new Call None code Said says shut done is = (λ x. (is, (shut x).1), λ x. absurd ((done x).1))
+tells_by made old new Call (Some a) code Said says shut done is =
+    (λ x. let none : Some a ≡ None = (shut x).0 in absurd (cc), λ x. ((done x).0, (a, says a (done x).1, is)))
+
+-- a number is read back from its 32 bits
+pub reads_back : (s : Status) → to_z w32 (of_z w32 (code_of s)) ≡ code_of s
+reads_back status.Done = refl
+reads_back status.Again = refl
+reads_back status.Busy = refl
+reads_back status.Stale = refl
+reads_back status.Short = refl
+reads_back status.LogFull = refl
+reads_back status.Worn = refl
+reads_back status.Closed = refl
+reads_back status.InUse = refl
+reads_back status.BadNumber = refl
+reads_back status.NoMemory = refl
+reads_back status.Outside = refl
+reads_back status.Inside = refl
+reads_back status.BadObject = refl
+reads_back status.BadPlace = refl
+reads_back status.NotLocked = refl
+reads_back status.Empty = refl
+reads_back status.Holding = refl
+reads_back status.SetFull = refl

@@ -1,0 +1,268 @@
+// The calls of C on one seat.
+ghost use Rattle.std.specs.Prelude.{◌≡◌, false, Some};
+ghost use Rattle.object_seats.specs.Calls as calls;
+ghost use Rattle.mvrlu_c.specs.Statuses.{status_of_lock, status_of_room, status_of_commit, done, told_by};
+ghost use Rattle.mvrlu_c.specs.Told.{Tells, told, pair_told, refused_by, time_told, live_told};
+
+use crate::handle::{MvrluSeat, on_open};
+use crate::status::{Status, of_commit, of_lock, of_misuse, of_room};
+use mv_history::{LockAnswer, Room};
+use object_seats::{CommitResult, Misuse, ObjectSeat};
+use std::alloc::Global;
+
+// The status of a call that has nothing to tell but that it was made.
+fn of_unit(answer: Option<Result<(), Misuse>>) -> Status
+    ensures { result ≡ told_by done answer }
+{
+    match answer {
+        None => Status::Closed,
+        Some(Err(why)) => of_misuse(why),
+        Some(Ok(())) => Status::Done,
+    }
+}
+
+// The status of making room.
+fn of_prepared(answer: Option<Result<Room, Misuse>>) -> Status
+    ensures { result ≡ told_by status_of_room answer }
+{
+    match answer {
+        None => Status::Closed,
+        Some(Err(why)) => of_misuse(why),
+        Some(Ok(room)) => of_room(room),
+    }
+}
+
+// The status of a try to lock. What refused it is written into `by`.
+fn of_locked(answer: Option<Result<LockAnswer, Misuse>>, by: &mut u64) -> Status
+    ensures status { result ≡ told_by status_of_lock answer }
+    ensures by { by.new ≡ refused_by by.old answer }
+{
+    match answer {
+        None => Status::Closed,
+        Some(Err(why)) => of_misuse(why),
+        Some(Ok(locked)) => {
+            match locked {
+                LockAnswer::Busy { seat } => *by = seat as u64,
+                LockAnswer::Stale { time } => *by = time,
+                LockAnswer::Held | LockAnswer::SetFull | LockAnswer::LogFull => {}
+            }
+            of_lock(locked)
+        }
+    }
+}
+
+// The status of a commit. Its time, or that of the entry that came first, is written into `time`.
+fn of_committed(answer: Option<Result<CommitResult, Misuse>>, time: &mut u64) -> Status
+    ensures status { result ≡ told_by status_of_commit answer }
+    ensures time { time.new ≡ time_told time.old answer }
+{
+    match answer {
+        None => Status::Closed,
+        Some(Err(why)) => of_misuse(why),
+        Some(Ok(end)) => {
+            match end {
+                CommitResult::Done(at) => *time = at,
+                CommitResult::Again(rival) => *time = rival.time,
+                CommitResult::End => {}
+            }
+            of_commit(end)
+        }
+    }
+}
+
+/// Begins a section, whose snapshot is the whole history at one moment of this call.
+#[unsafe(no_mangle)]
+pub extern "C" fn mvrlu_raw_enter(alloc: Global, seat: &mut MvrluSeat) -> i32
+    ensures tells { Tells done seat.old seat.new calls.Enters result }
+{
+    of_unit(on_open(alloc, seat, (), |seat: ObjectSeat, _none: ()| seat.enter())).code()
+}
+
+/// Reads the six words of an object in the section's state.
+#[unsafe(no_mangle)]
+pub extern "C" fn mvrlu_raw_read(
+    alloc: Global,
+    seat: &mut MvrluSeat,
+    object: u32,
+    words: &mut [u64; 6],
+) -> i32
+    ensures tells { Tells done seat.old seat.new (λ p q a. calls.Reads p object q a × (words.new ≡ told words.old a)) result }
+    ensures closed { seat.old.is_open ≡ false → words.new ≡ words.old }
+{
+    let status = match on_open(
+        alloc,
+        seat,
+        object,
+        |seat: ObjectSeat, object: u32| seat.read(object),
+    ) {
+        None => Status::Closed,
+        Some(Err(why)) => of_misuse(why),
+        Some(Ok(read)) => {
+            *words = read;
+            Status::Done
+        }
+    };
+    status.code()
+}
+
+/// Reads two words of an object: that of a place from 0 to 4, and the one behind it.
+#[unsafe(no_mangle)]
+pub extern "C" fn mvrlu_raw_read_pair(
+    alloc: Global,
+    seat: &mut MvrluSeat,
+    object: u32,
+    place: u32,
+    words: &mut [u64; 2],
+) -> i32
+    ensures tells { Tells done seat.old seat.new (λ p q a. calls.ReadsPair p object place q a × (words.new ≡ pair_told words.old a)) result }
+    ensures closed { seat.old.is_open ≡ false → words.new ≡ words.old }
+{
+    let pair = on_open(
+        alloc,
+        seat,
+        (object, place),
+        |seat: ObjectSeat, at: (u32, u32)| seat.read_pair(at.0, at.1),
+    );
+    let status = match pair {
+        None => Status::Closed,
+        Some(Err(why)) => of_misuse(why),
+        Some(Ok((first, second))) => {
+            *words = [first, second];
+            Status::Done
+        }
+    };
+    status.code()
+}
+
+/// Tries to hold an object, so that it takes part in the commit. Where another seat holds it, `by` is that
+/// seat's number, and where it was written after the section began, the time of that write.
+#[unsafe(no_mangle)]
+pub extern "C" fn mvrlu_raw_lock(
+    alloc: Global,
+    seat: &mut MvrluSeat,
+    object: u32,
+    by: &mut u64,
+) -> i32
+    ensures tells { Tells status_of_lock seat.old seat.new (λ p q a. calls.Locks p object q a × (by.new ≡ refused_by by.old (Some a))) result }
+    ensures closed { seat.old.is_open ≡ false → by.new ≡ by.old }
+{
+    let answer = on_open(
+        alloc,
+        seat,
+        object,
+        |seat: ObjectSeat, object: u32|
+            ensures { calls.Locks seat.position object result.0.position result.1 }
+        { seat.lock(object) },
+    );
+    of_locked(answer, by).code()
+}
+
+/// Gives a held object these words. Nobody else sees them before the commit.
+#[unsafe(no_mangle)]
+pub extern "C" fn mvrlu_raw_write(
+    alloc: Global,
+    seat: &mut MvrluSeat,
+    object: u32,
+    words: &[u64; 6],
+) -> i32
+    ensures tells { Tells done seat.old seat.new (λ p q a. calls.Writes p object words.now q a) result }
+{
+    of_unit(on_open(
+        alloc,
+        seat,
+        (object, *words),
+        |seat: ObjectSeat, new: (u32, [u64; 6])| seat.write(new.0, new.1),
+    ))
+    .code()
+}
+
+/// Tries to commit all that is held, as one entry of the history with this tag. `time` is that of the
+/// entry, or of the one that came first.
+#[unsafe(no_mangle)]
+pub extern "C" fn mvrlu_raw_commit(
+    alloc: Global,
+    seat: &mut MvrluSeat,
+    tag: &[u64; 4],
+    time: &mut u64,
+) -> i32
+    ensures tells { Tells status_of_commit seat.old seat.new (λ p q a. calls.Commits p tag.now q a × (time.new ≡ time_told time.old (Some a))) result }
+    ensures closed { seat.old.is_open ≡ false → time.new ≡ time.old }
+{
+    let answer = on_open(
+        alloc,
+        seat,
+        *tag,
+        |seat: ObjectSeat, tag: [u64; 4]|
+            ensures { calls.Commits seat.position tag result.0.position result.1 }
+        { seat.commit(tag) },
+    );
+    of_committed(answer, time).code()
+}
+
+/// Gives up all that is held, and leaves the section.
+#[unsafe(no_mangle)]
+pub extern "C" fn mvrlu_raw_abort(alloc: Global, seat: &mut MvrluSeat) -> i32
+    ensures tells { Tells done seat.old seat.new calls.Aborts result }
+{
+    of_unit(on_open(alloc, seat, (), |seat: ObjectSeat, _none: ()| seat.abort())).code()
+}
+
+/// Leaves a section that holds nothing.
+#[unsafe(no_mangle)]
+pub extern "C" fn mvrlu_raw_leave(alloc: Global, seat: &mut MvrluSeat) -> i32
+    ensures tells { Tells done seat.old seat.new calls.Leaves result }
+{
+    of_unit(on_open(alloc, seat, (), |seat: ObjectSeat, _none: ()| seat.leave())).code()
+}
+
+/// Tells the printed time of the section's snapshot.
+#[unsafe(no_mangle)]
+pub extern "C" fn mvrlu_raw_time(alloc: Global, seat: &mut MvrluSeat, time: &mut u64) -> i32
+    ensures tells { Tells done seat.old seat.new (λ p q a. calls.TellsTime p q a × (time.new ≡ told time.old a)) result }
+    ensures closed { seat.old.is_open ≡ false → time.new ≡ time.old }
+{
+    let status = match on_open(alloc, seat, (), |seat: ObjectSeat, _none: ()| seat.time()) {
+        None => Status::Closed,
+        Some(Err(why)) => of_misuse(why),
+        Some(Ok(at)) => {
+            *time = at;
+            Status::Done
+        }
+    };
+    status.code()
+}
+
+/// Makes room in the seat's log for one section that locks as many objects as it may.
+#[unsafe(no_mangle)]
+pub extern "C" fn mvrlu_raw_prepare(alloc: Global, seat: &mut MvrluSeat) -> i32
+    ensures tells { Tells status_of_room seat.old seat.new
+        calls.MakesRoom result }
+{
+    let answer = on_open(
+        alloc,
+        seat,
+        (),
+        |seat: ObjectSeat, _none: ()|
+            ensures { calls.MakesRoom seat.position result.0.position result.1 }
+        { seat.prepare() },
+    );
+    of_prepared(answer).code()
+}
+
+/// Reclaims what it can of the seat's log, and tells how many slots are live afterwards.
+#[unsafe(no_mangle)]
+pub extern "C" fn mvrlu_raw_tidy(alloc: Global, seat: &mut MvrluSeat, live: &mut u32) -> i32
+    ensures tells { Tells done seat.old seat.new
+        (λ p q a. calls.Tidies p q a × (live.new ≡ live_told live.old a)) result }
+    ensures closed { seat.old.is_open ≡ false → live.new ≡ live.old }
+{
+    let status = match on_open(alloc, seat, (), |seat: ObjectSeat, _none: ()| seat.tidy()) {
+        None => Status::Closed,
+        Some(Err(why)) => of_misuse(why),
+        Some(Ok(tidy)) => {
+            *live = tidy.live;
+            Status::Done
+        }
+    };
+    status.code()
+}

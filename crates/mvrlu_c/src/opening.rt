@@ -1,0 +1,163 @@
+// Opening and closing.
+ghost use Rattle.std.specs.Prelude.{◌≡◌, ◌≢◌, length, map, true, false, All, IfOk, box_value};
+ghost use Rattle.mvrlu_c.specs.Opening.{IsClosed, IsOpen, Opens, OpensAs, config_of, seat_in};
+ghost use Rattle.mvrlu_c.specs.Statuses.{code_of};
+ghost use Rattle.mvrlu_c.specs.declared.status.Status.TheVariants.{Done, Closed};
+
+use crate::handle::MvrluSeat;
+use crate::loose::Loose;
+use crate::status::Status;
+use core::mem::replace_with;
+use mv_layout::Config;
+use mvrlu::OpenFault;
+use object_seats::{ObjectSeat, open_seats};
+use std::alloc::{AllocError, Global};
+
+/// The numbers of a domain that a caller chooses.
+#[repr(C)]
+#[derive(Clone, Copy)]
+pub struct MvrluOptions {
+    /// How many bytes the caller's options have: 16.
+    pub size: u32,
+    /// How many objects, 1 to 16,777,216.
+    pub objects: u32,
+    /// How many slots the log of each seat has, 64 to 4,096.
+    pub slots: u32,
+    /// How many objects one section may lock, 1 to 64, and less than the slots.
+    pub write_max: u32,
+}
+
+const SIZE: u32 = 16;
+
+const MOST_SEATS: usize = 64;
+
+/// Opens a domain of objects that are all 0, with a seat for each handle, in order of number: all of them
+/// or none. All handles have to be closed.
+#[unsafe(no_mangle)]
+pub extern "C" fn mvrlu_raw_open(
+    alloc: Global,
+    options: &MvrluOptions,
+    handles: &mut [MvrluSeat],
+) -> i32
+    ensures { Opens options.now handles.old handles.new result }
+{
+    open_all(alloc, options, handles).code()
+}
+
+fn open_all(alloc: Global, options: &MvrluOptions, handles: &mut [MvrluSeat]) -> Status
+    ensures { OpensAs options.now handles.old handles.new result }
+{
+    if any_is_open(handles) {
+        return Status::InUse;
+    }
+    if options.size != SIZE || handles.len() > MOST_SEATS {
+        return Status::BadNumber;
+    }
+    let seats = match open_seats(alloc, numbers(options, handles.len() as u32)) {
+        Ok(seats) => seats,
+        Err(OpenFault::Config(_)) => return Status::BadNumber,
+        Err(OpenFault::Memory) => return Status::NoMemory,
+    };
+    match in_blocks(alloc, seats) {
+        Ok(blocks) => {
+            hand_out(handles, blocks);
+            Status::Done
+        }
+        Err(AllocError) => Status::NoMemory,
+    }
+}
+
+// The numbers of the domain.
+fn numbers(options: &MvrluOptions, seats: u32) -> Config
+    ensures { result ≡ config_of options.now seats }
+{
+    let high = options.slots.saturating_sub(options.write_max);
+    Config {
+        seats,
+        objects: options.objects,
+        slots: options.slots,
+        write_max: options.write_max,
+        low: (high / 2).max(1),
+        high,
+        base: 0,
+    }
+}
+
+// Whether the handle is open. It stays as it is.
+fn is_open(handle: &mut MvrluSeat) -> bool
+    ensures { (result ≡ handle.old.is_open) × (handle.new ≡ handle.old) }
+{
+    replace_with(
+        handle,
+        (),
+        |handle: MvrluSeat, _none: ()|
+            ensures { (result.1 ≡ handle.is_open) × (result.0 ≡ handle) }
+        {
+            let (open, handle) = handle.with_open();
+            (handle, open)
+        },
+    )
+}
+
+// Whether one of the handles is open. They stay as they are.
+fn any_is_open(handles: &mut [MvrluSeat]) -> bool
+    ensures none { result ≡ false → All IsClosed handles.old }
+    ensures some { result ≡ true → ¬ All IsClosed handles.old }
+    ensures as_before { handles.new ≡ handles.old }
+{
+    match handles.split_first_mut() {
+        None => false,
+        Some((first, others)) => is_open(first) || any_is_open(others),
+    }
+}
+
+// The seats, each in a block of its own, in their order.
+fn in_blocks(alloc: Global, mut seats: Vec<ObjectSeat>) -> Result<Vec<Box<ObjectSeat>>, AllocError>
+    ensures { IfOk result (λ blocks. map box_value blocks.items ≡ seats.items) }
+{
+    let mut blocks = Vec::with_capacity(alloc, seats.len())?;
+    while !seats.is_empty() {
+        blocks.push_reserved(Box::new(alloc, seats.remove(0))?);
+    }
+    Ok(blocks)
+}
+
+// Gives each handle a block, in their order. There are as many.
+fn hand_out(handles: &mut [MvrluSeat], mut blocks: Vec<Box<ObjectSeat>>)
+    requires many { length handles.old ≡ length blocks.items }
+    ensures open { All IsOpen handles.new }
+    ensures seats { map seat_in handles.new ≡ map box_value blocks.items }
+{
+    if let Some((first, others)) = handles.split_first_mut() {
+        if blocks.is_empty() {
+            return;
+        }
+        *first = MvrluSeat::seal(Loose::of(blocks.remove(0)));
+        hand_out(others, blocks);
+    }
+}
+
+/// Closes a handle. What its section holds is given up first, and its seat ends alone. The domain's memory
+/// is given back with the last of its seats.
+#[unsafe(no_mangle)]
+pub extern "C" fn mvrlu_raw_close(alloc: Global, handle: &mut MvrluSeat) -> i32
+    ensures closed { handle.old.is_open ≡ false → (result ≡ code_of Closed) × (handle.new ≡ handle.old) }
+    ensures open { handle.old.is_open ≡ true → (result ≡ code_of Done) × (handle.new.is_open ≡ false) }
+{
+    let status = replace_with(
+        handle,
+        alloc,
+        |handle: MvrluSeat, alloc: Global|
+            ensures closed { handle.is_open ≡ false → (result.1 ≡ Closed) × (result.0 ≡ handle) }
+            ensures open { handle.is_open ≡ true → (result.1 ≡ Done) × (result.0.is_open ≡ false) }
+        {
+            let (open, handle) = handle.with_open();
+            if !open {
+                return (handle, Status::Closed);
+            }
+            let block = handle.unseal(alloc).into_box();
+            (MvrluSeat::closed(&block), Status::Done)
+        },
+    );
+    status.code()
+}

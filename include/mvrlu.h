@@ -1,0 +1,265 @@
+/* mvrlu.h: objects of six 64-bit words that threads share, read and written in multi-version sections.
+ *
+ * A domain has up to 16,777,216 objects, all words 0 at first, and up to 64 seats. A thread uses a seat: it enters a section,
+ * and all its reads see the one state of that moment, whatever others commit meanwhile. Readers and writers never wait for
+ * each other. To write, a section locks each object, gives it new words, and commits: the commit takes place whole, at one
+ * time of the one commit history, or not at all. No call blocks, sleeps or tries again by itself.
+ *
+ *     mvrlu_seat seats[4] = {{0}};                       // zeroed memory is a closed seat
+ *     mvrlu_options options = MVRLU_OPTIONS_INIT;
+ *     options.objects = 1024;
+ *     if (mvrlu_open(&options, seats, 4) != MVRLU_OK) ...
+ *     ... hand &seats[i] to thread i ...
+ *     for (;;) {                                         // moves 1 from object 3 to object 7
+ *         mvrlu_prepare(seat);
+ *         mvrlu_enter(seat);
+ *         if (mvrlu_lock(seat, 3, NULL) == MVRLU_OK && mvrlu_lock(seat, 7, NULL) == MVRLU_OK) {
+ *             mvrlu_read(seat, 3, a), mvrlu_read(seat, 7, b);
+ *             a[0]--, b[0]++;
+ *             mvrlu_write(seat, 3, a), mvrlu_write(seat, 7, b);
+ *             while ((status = mvrlu_commit(seat, tag, &time)) == MVRLU_AGAIN) { }
+ *             if (status == MVRLU_OK) break;
+ *         }
+ *         mvrlu_abort(seat);                             // another seat came first: begin again
+ *     }
+ *
+ * What is proved of the library: its memory is safe whatever the order of these calls and the numbers given to them, and
+ * what each call promises below holds under every interleaving of the seats' atomic steps (docs/CONTRACTS.md).
+ *
+ * Isolation. It is snapshot isolation: two sections that lock different objects may both commit though each read what the
+ * other wrote (write skew). Lock what a commit depends on; a locked object that is not written keeps its words.
+ *
+ * Threads. A seat is used by one thread at a time, and different seats of a domain by different threads at once. A seat may
+ * go to another thread where that is ordered (a lock, the start or end of a thread, a sequentially consistent atomic). A
+ * second call on a seat that is in a call answers MVRLU_IN_USE and does nothing, unless MVRLU_UNCHECKED is defined before
+ * this header is included.
+ *
+ * Ownership. The caller owns the 32 bytes of a seat and neither copies nor changes them while it is open; a copy answers
+ * MVRLU_MOVED. Every call writes them, so give each seat a line of memory of its own where speed matters (_Alignas(128)).
+ *
+ * What no call can see: memory of an open seat that is freed or overwritten, the child of a fork, signal handlers. Don't.
+ */
+#ifndef MVRLU_H
+#define MVRLU_H
+#include <stddef.h>
+#include <stdint.h>
+#ifdef __cplusplus
+extern "C" {
+#endif
+
+#define MVRLU_VERSION 0x00010000u /* MAJOR * 65536 + MINOR */
+
+/* ---- limits ---- */
+#define MVRLU_WORDS 6
+#define MVRLU_SEATS_MAX 64u
+#define MVRLU_OBJECTS_MAX 16777216u
+#define MVRLU_SLOTS_MIN 64u
+#define MVRLU_SLOTS_MAX 4096u
+#define MVRLU_WRITE_MAX 64u /* and less than the slots */
+
+/* ---- status: 0 or more: the call was made, or the same call may be made again; below 0: nothing was done, and why ---- */
+typedef enum mvrlu_status {
+    MVRLU_OK = 0,
+    MVRLU_AGAIN = 2,        /* commit: another entry came first. The section is as it was: commit again at once */
+    MVRLU_BUSY = 3,         /* lock: another seat holds the object. Abort, and begin again later */
+    MVRLU_STALE = 4,        /* lock: the object was written after the section began. Abort, and enter anew */
+    MVRLU_SHORT = 5,        /* prepare: the log has too little room for a full write set, as some section still reads */
+    MVRLU_LOG_FULL = 6,     /* lock: the log has no free slot. Abort, and prepare */
+    MVRLU_WORN = -2,        /* commit: the last time, 2^45 - 1, was reached. Abort */
+    MVRLU_CLOSED = -5,      /* the seat is closed */
+    MVRLU_IN_USE = -6,      /* the seat is in a call of another thread, or, for open, a seat is open already */
+    MVRLU_BAD_NUMBER = -7,  /* open: an option or the count of seats is out of its range */
+    MVRLU_NO_MEMORY = -8,   /* open: there is too little memory */
+    MVRLU_NULL = -9,        /* a null pointer where one may not be */
+    MVRLU_MOVED = -11,      /* the seat's bytes were copied elsewhere */
+    MVRLU_OUTSIDE = -12,    /* the call is for a section, and the seat is outside */
+    MVRLU_INSIDE = -13,     /* the call is for a seat outside, and it is in a section */
+    MVRLU_BAD_OBJECT = -14, /* the domain has no object of this number */
+    MVRLU_NOT_LOCKED = -15, /* write: the section does not hold the object */
+    MVRLU_EMPTY = -16,      /* commit: the section holds nothing. Leave */
+    MVRLU_HOLDING = -17,    /* leave: the section holds something. Commit or abort */
+    MVRLU_SET_FULL = -18,   /* lock: the section holds write_max objects */
+    MVRLU_BAD_PLACE = -19   /* read_pair: the place is not 0 to 4 */
+} mvrlu_status;
+
+/* What a status means, in one line. Never NULL. */
+static inline const char *mvrlu_strerror(int32_t status);
+
+/* ---- open and close ---- */
+
+typedef struct mvrlu_options {
+    uint32_t size;      /* sizeof(mvrlu_options) */
+    uint32_t objects;   /* 1 to MVRLU_OBJECTS_MAX */
+    uint32_t slots;     /* versions in the log of each seat, MVRLU_SLOTS_MIN to MVRLU_SLOTS_MAX */
+    uint32_t write_max; /* objects that one section may lock, 1 to MVRLU_WRITE_MAX */
+} mvrlu_options;
+#define MVRLU_OPTIONS_INIT { sizeof(mvrlu_options), 1024u, 1024u, 16u }
+
+/* What the library owns of a seat. */
+typedef struct mvrlu_raw { uint8_t is_open; void *at; } mvrlu_raw;
+typedef struct mvrlu_seat { mvrlu_raw raw; struct mvrlu_seat *self; uint32_t in_call; } mvrlu_seat;
+
+/* The calls of the library itself, which test neither null pointers nor a second thread: use the calls below. */
+int32_t mvrlu_raw_open(const mvrlu_options *options, mvrlu_raw seats[], size_t count);
+int32_t mvrlu_raw_close(mvrlu_raw *seat);
+int32_t mvrlu_raw_prepare(mvrlu_raw *seat);
+int32_t mvrlu_raw_tidy(mvrlu_raw *seat, uint32_t *live);
+int32_t mvrlu_raw_enter(mvrlu_raw *seat);
+int32_t mvrlu_raw_read(mvrlu_raw *seat, uint32_t object, uint64_t words[MVRLU_WORDS]);
+int32_t mvrlu_raw_read_pair(mvrlu_raw *seat, uint32_t object, uint32_t place, uint64_t words[2]);
+int32_t mvrlu_raw_lock(mvrlu_raw *seat, uint32_t object, uint64_t *by);
+int32_t mvrlu_raw_write(mvrlu_raw *seat, uint32_t object, const uint64_t words[MVRLU_WORDS]);
+int32_t mvrlu_raw_time(mvrlu_raw *seat, uint64_t *time);
+int32_t mvrlu_raw_commit(mvrlu_raw *seat, const uint64_t tag[4], uint64_t *time);
+int32_t mvrlu_raw_abort(mvrlu_raw *seat);
+int32_t mvrlu_raw_leave(mvrlu_raw *seat);
+
+/* Begins a call on a seat: 0, or why it may not be made. */
+static inline int32_t mvrlu_begin_call(mvrlu_seat *seat) {
+    if (seat == NULL) return MVRLU_NULL;
+#ifndef MVRLU_UNCHECKED
+    if (__atomic_exchange_n(&seat->in_call, 1u, __ATOMIC_ACQUIRE) != 0) return MVRLU_IN_USE;
+    if (seat->raw.is_open && seat->self != seat) {
+        __atomic_store_n(&seat->in_call, 0u, __ATOMIC_RELEASE);
+        return MVRLU_MOVED;
+    }
+#endif
+    return MVRLU_OK;
+}
+
+static inline int32_t mvrlu_end_call(mvrlu_seat *seat, int32_t status) {
+#ifndef MVRLU_UNCHECKED
+    __atomic_store_n(&seat->in_call, 0u, __ATOMIC_RELEASE);
+#else
+    (void)seat;
+#endif
+    return status;
+}
+
+/* Makes a call of the library on a seat. */
+#define MVRLU_ON(seat, call) \
+    do { \
+        int32_t status_ = mvrlu_begin_call(seat); \
+        return status_ != MVRLU_OK ? status_ : mvrlu_end_call(seat, call); \
+    } while (0)
+
+/* Opens a domain of objects that are all 0, with a seat for each of `seats`: all of them or none. Seat i has number i. Every
+ * seat must be closed (zeroed memory). MVRLU_BAD_NUMBER, MVRLU_IN_USE, MVRLU_NO_MEMORY, MVRLU_NULL. */
+static inline int32_t mvrlu_open(const mvrlu_options *options, mvrlu_seat seats[], size_t count) {
+    mvrlu_raw raw[MVRLU_SEATS_MAX];
+    size_t i;
+    int32_t status;
+    if (options == NULL || seats == NULL) return MVRLU_NULL;
+    if (options->size != sizeof(mvrlu_options) || count < 1 || count > MVRLU_SEATS_MAX) return MVRLU_BAD_NUMBER;
+    for (i = 0; i < count; i++) {
+        if (seats[i].raw.is_open) return MVRLU_IN_USE;
+        raw[i].is_open = 0;
+        raw[i].at = NULL;
+    }
+    status = mvrlu_raw_open(options, raw, count);
+    if (status != MVRLU_OK) return status;
+    for (i = 0; i < count; i++) {
+        seats[i].raw = raw[i];
+        seats[i].self = &seats[i];
+        seats[i].in_call = 0;
+    }
+    return MVRLU_OK;
+}
+
+/* Closes a seat. What its section holds is given up first. The domain ends with the last of its seats. */
+static inline int32_t mvrlu_close(mvrlu_seat *seat) { MVRLU_ON(seat, mvrlu_raw_close(&seat->raw)); }
+
+/* ---- outside a section ---- */
+
+/* Makes room in the seat's log for one section that locks write_max objects. MVRLU_SHORT: some section still reads what the log
+ * holds; a section that only reads needs no room. */
+static inline int32_t mvrlu_prepare(mvrlu_seat *seat) { MVRLU_ON(seat, mvrlu_raw_prepare(&seat->raw)); }
+
+/* Reclaims what nobody reads any more of the seat's log. `live`: how many slots are live afterwards. */
+static inline int32_t mvrlu_tidy(mvrlu_seat *seat, uint32_t *live) {
+    if (live == NULL) return MVRLU_NULL;
+    MVRLU_ON(seat, mvrlu_raw_tidy(&seat->raw, live));
+}
+
+/* Begins a section. Its snapshot is the whole history at one moment of this call. */
+static inline int32_t mvrlu_enter(mvrlu_seat *seat) { MVRLU_ON(seat, mvrlu_raw_enter(&seat->raw)); }
+
+/* ---- in a section ---- */
+
+/* Reads the words of an object in the state of the snapshot, or the section's own words where it wrote the object. */
+static inline int32_t mvrlu_read(mvrlu_seat *seat, uint32_t object, uint64_t words[MVRLU_WORDS]) {
+    if (words == NULL) return MVRLU_NULL;
+    MVRLU_ON(seat, mvrlu_raw_read(&seat->raw, object, words));
+}
+
+/* Reads two words of an object, that of `place`, 0 to 4, and the one behind it. */
+static inline int32_t mvrlu_read_pair(mvrlu_seat *seat, uint32_t object, uint32_t place, uint64_t words[2]) {
+    if (words == NULL) return MVRLU_NULL;
+    MVRLU_ON(seat, mvrlu_raw_read_pair(&seat->raw, object, place, words));
+}
+
+/* Locks an object, so that it takes part in the commit with the words that it has. MVRLU_OK also where the section holds it
+ * already. `by`, which may be NULL: at MVRLU_BUSY the number of the seat that holds it, at MVRLU_STALE the time of the write. */
+static inline int32_t mvrlu_lock(mvrlu_seat *seat, uint32_t object, uint64_t *by) {
+    uint64_t unused = 0;
+    MVRLU_ON(seat, mvrlu_raw_lock(&seat->raw, object, by == NULL ? &unused : by));
+}
+
+/* Gives a locked object new words. Nobody else sees them before the commit. */
+static inline int32_t mvrlu_write(mvrlu_seat *seat, uint32_t object, const uint64_t words[MVRLU_WORDS]) {
+    if (words == NULL) return MVRLU_NULL;
+    MVRLU_ON(seat, mvrlu_raw_write(&seat->raw, object, words));
+}
+
+/* Tells the time of the section's snapshot: how many entries of the history it sees. */
+static inline int32_t mvrlu_time(mvrlu_seat *seat, uint64_t *time) {
+    if (time == NULL) return MVRLU_NULL;
+    MVRLU_ON(seat, mvrlu_raw_time(&seat->raw, time));
+}
+
+/* Commits all that is locked, as one entry of the history. MVRLU_OK: the seat is outside again, and `time` is that of the entry.
+ * MVRLU_AGAIN: `time` is that of the entry that came first. `tag` is the caller's own, and may be NULL for zeros. */
+static inline int32_t mvrlu_commit(mvrlu_seat *seat, const uint64_t tag[4], uint64_t *time) {
+    static const uint64_t no_tag[4] = {0, 0, 0, 0};
+    uint64_t unused = 0;
+    MVRLU_ON(seat, mvrlu_raw_commit(&seat->raw, tag == NULL ? no_tag : tag, time == NULL ? &unused : time));
+}
+
+/* Gives up all that is locked, and leaves the section. The history has no entry of it. */
+static inline int32_t mvrlu_abort(mvrlu_seat *seat) { MVRLU_ON(seat, mvrlu_raw_abort(&seat->raw)); }
+
+/* Leaves a section that holds nothing. */
+static inline int32_t mvrlu_leave(mvrlu_seat *seat) { MVRLU_ON(seat, mvrlu_raw_leave(&seat->raw)); }
+
+static inline const char *mvrlu_strerror(int32_t status) {
+    switch (status) {
+        case MVRLU_OK: return "done";
+        case MVRLU_AGAIN: return "another seat committed first: commit again";
+        case MVRLU_BUSY: return "another seat holds the object";
+        case MVRLU_STALE: return "the object was written after the section began";
+        case MVRLU_SHORT: return "too little room in the seat's log";
+        case MVRLU_LOG_FULL: return "the seat's log has no free slot";
+        case MVRLU_WORN: return "the last time was reached";
+        case MVRLU_CLOSED: return "the seat is closed";
+        case MVRLU_IN_USE: return "the seat is in use";
+        case MVRLU_BAD_NUMBER: return "a number is out of its range";
+        case MVRLU_NO_MEMORY: return "too little memory";
+        case MVRLU_NULL: return "a null pointer";
+        case MVRLU_MOVED: return "the seat was copied elsewhere";
+        case MVRLU_OUTSIDE: return "the seat is not in a section";
+        case MVRLU_INSIDE: return "the seat is in a section";
+        case MVRLU_BAD_OBJECT: return "no such object";
+        case MVRLU_NOT_LOCKED: return "the section does not hold the object";
+        case MVRLU_EMPTY: return "the section holds nothing";
+        case MVRLU_HOLDING: return "the section holds something";
+        case MVRLU_SET_FULL: return "the section holds write_max objects";
+        case MVRLU_BAD_PLACE: return "no pair begins at this place";
+        default: return "not a status of mvrlu";
+    }
+}
+
+#undef MVRLU_ON
+#ifdef __cplusplus
+}
+#endif
+#endif

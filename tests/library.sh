@@ -1,0 +1,53 @@
+#!/bin/bash
+# The library for C: builds the archive, and runs each call of include/mvrlu.h, the bank of examples/c and random histories, with
+# each compiler and sanitizer that is there. Ends with 1 at the first that fails.
+cd "$(dirname "$0")/.." || exit 1
+kit=$(dirname "$(rt doc)")
+room=$(mktemp -d) || exit 1
+trap 'rm -rf "$room"' EXIT
+
+fail() {
+    echo "library: $*"
+    exit 1
+}
+
+# Builds a program of these sources with these words of a compiler, and runs it; what it prints has to begin with this.
+expect() {
+    local name=$1 wanted=$2 said
+    shift 2
+    "$@" -pthread "$room/libmvrlu.a" -o "$room/program" >"$room/log" 2>&1 || { cat "$room/log"; fail "$name does not build"; }
+    said=$("${under[@]}" "$room/program" 2>&1) || { echo "$said"; fail "$name failed"; }
+    [[ $said == "$wanted"* ]] || { echo "$said"; fail "$name says something else"; }
+}
+
+(cd crates/mvrlu_c && rt lib) >"$room/log" 2>&1 || { cat "$room/log"; fail "the archive was not built"; }
+# The heap functions of the kit go into the archive, so that a program links one file.
+printf 'create %s\naddlib %s\naddlib %s\nsave\nend\n' "$room/libmvrlu.a" crates/mvrlu_c/out/libmvrlu_c.a "$kit/c/liblibc_c.a" | ar -M || exit
+
+strict=(-std=c11 -Wall -Wextra -Werror -Iinclude)
+calls='calls: '
+bank='transfers 100000, each sum 64000'
+under=()
+run=0
+for compiler in gcc clang; do
+    command -v "$compiler" >/dev/null || { echo "library: $compiler isn't there, not run"; continue; }
+    expect "calls by $compiler" "$calls" "$compiler" "${strict[@]}" -O2 tests/library/calls.c
+    expect "bank by $compiler" "$bank" "$compiler" "${strict[@]}" -O2 examples/c/bank.c
+    run=$((run + 2))
+done
+expect "calls under the address sanitizer" "$calls" gcc "${strict[@]}" -g -fsanitize=address,undefined tests/library/calls.c
+expect "bank under the thread sanitizer" "$bank" gcc "${strict[@]}" -g -O1 -fsanitize=thread examples/c/bank.c
+expect "random histories" "histories 10000: " gcc "${strict[@]}" -O2 -DHISTORIES=10000 tests/library/histories.c
+expect "random histories under the thread sanitizer" "histories 500: " gcc "${strict[@]}" -g -O1 -fsanitize=thread -DHISTORIES=500 tests/library/histories.c
+run=$((run + 4))
+if command -v valgrind >/dev/null; then
+    under=(valgrind -q --error-exitcode=9 --leak-check=full)
+    expect "calls under valgrind" "$calls" gcc "${strict[@]}" -g tests/library/calls.c
+    run=$((run + 1))
+else
+    echo "library: valgrind isn't there, not run"
+fi
+printf '#include <mvrlu.h>\nint main() { mvrlu_seat seat = {}; return mvrlu_enter(&seat) == MVRLU_CLOSED ? 0 : 1; }\n' >"$room/header.cpp"
+under=()
+expect "the header as C++" "" g++ -std=c++17 -Wall -Wextra -Werror -Iinclude "$room/header.cpp"
+echo "library: $((run + 1)) programs ok"

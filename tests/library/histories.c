@@ -1,0 +1,173 @@
+/* Random histories: 2 to 8 threads read and commit a few objects, and each section is checked afterwards against a replay of the
+ * commits in the order of their times. Ends with 1 at a fault. Arguments: how many histories, and a number to draw from. */
+#include <mvrlu.h>
+#include <pthread.h>
+#include <stdio.h>
+#include <stdlib.h>
+#include <string.h>
+
+#ifndef HISTORIES
+#define HISTORIES 100
+#endif
+
+enum { SEATS = 8, OBJECTS = 6, SECTIONS = 40, WRITE_MAX = 3, SLOTS = 64 };
+
+/* What one section read, and what it committed at `time`, if that isn't 0. */
+typedef struct section {
+    uint64_t snapshot, time, reads[OBJECTS], writes[OBJECTS];
+    uint32_t written; /* a bit for each object */
+} section;
+
+typedef struct worker {
+    mvrlu_seat *seat;
+    uint64_t random, next;
+    section sections[SECTIONS];
+    unsigned count;
+} worker;
+
+static void fail(const char *what, long long got) {
+    printf("histories: %s: %lld\n", what, got);
+    exit(1);
+}
+
+static void must(const char *what, int32_t status) {
+    if (status != MVRLU_OK) fail(what, status);
+}
+
+static uint32_t draw(worker *me, uint32_t below) {
+    me->random = me->random * 6364136223846793005u + 1442695040888963407u;
+    return (uint32_t)(me->random >> 33) % below;
+}
+
+/* The first word of an object, whose other words tell whether it is whole. */
+static uint64_t read_whole(mvrlu_seat *seat, uint32_t object) {
+    uint64_t words[MVRLU_WORDS];
+    must("read", mvrlu_read(seat, object, words));
+    for (int i = 1; i < MVRLU_WORDS; i++) {
+        if (words[i] != words[0]) fail("an object in parts", object);
+    }
+    return words[0];
+}
+
+/* Locks and writes some objects. 0 where a lock was refused. */
+static int write_some(worker *me, section *done) {
+    for (uint32_t left = 1 + draw(me, WRITE_MAX); left > 0; left--) {
+        uint32_t object = draw(me, OBJECTS);
+        uint64_t words[MVRLU_WORDS], value = me->next++;
+        if (mvrlu_lock(me->seat, object, NULL) != MVRLU_OK) return 0;
+        for (int i = 0; i < MVRLU_WORDS; i++) words[i] = value;
+        must("write", mvrlu_write(me->seat, object, words));
+        if (read_whole(me->seat, object) != value) fail("an own write that isn't read", object);
+        done->writes[object] = value;
+        done->written |= 1u << object;
+    }
+    return 1;
+}
+
+static void commit_some(worker *me, section *done) {
+    int32_t status = MVRLU_AGAIN;
+    if (write_some(me, done) && draw(me, 8) != 0) {
+        for (int tries = 0; tries < 4 && status == MVRLU_AGAIN; tries++) status = mvrlu_commit(me->seat, NULL, &done->time);
+    }
+    if (status == MVRLU_OK) return;
+    done->time = 0;
+    must("abort", mvrlu_abort(me->seat));
+}
+
+static void *work(void *given) {
+    worker *me = given;
+    while (me->count < SECTIONS) {
+        section *done = &me->sections[me->count++];
+        int room = mvrlu_prepare(me->seat) == MVRLU_OK;
+        must("enter", mvrlu_enter(me->seat));
+        must("time", mvrlu_time(me->seat, &done->snapshot));
+        for (uint32_t object = 0; object < OBJECTS; object++) done->reads[object] = read_whole(me->seat, object);
+        if (room && draw(me, 2) == 0) commit_some(me, done);
+        else must("leave", mvrlu_leave(me->seat));
+    }
+    return NULL;
+}
+
+static int by_snapshot(const void *a, const void *b) {
+    const section *x = *(section *const *)a, *y = *(section *const *)b;
+    return (x->snapshot > y->snapshot) - (x->snapshot < y->snapshot);
+}
+
+static int by_time(const void *a, const void *b) {
+    const section *x = *(section *const *)a, *y = *(section *const *)b;
+    return (x->time > y->time) - (x->time < y->time);
+}
+
+/* Each section of a worker begins with all that it had seen. */
+static void check_order(const worker *me) {
+    uint64_t seen = 0;
+    for (unsigned i = 0; i < me->count; i++) {
+        if (me->sections[i].snapshot < seen) fail("a snapshot before what was seen", (long long)me->sections[i].snapshot);
+        seen = me->sections[i].time > 0 ? me->sections[i].time : me->sections[i].snapshot;
+    }
+}
+
+/* What the commits up to a time came to. */
+typedef struct replay { uint64_t state[OBJECTS], written_at[OBJECTS], last; } replay;
+
+/* The next commit in the order of times. Nothing that it wrote was written since its snapshot. */
+static void apply(replay *so_far, const section *commit) {
+    if (commit->time <= so_far->last) fail("a time that came twice", (long long)commit->time);
+    so_far->last = commit->time;
+    for (uint32_t object = 0; object < OBJECTS; object++) {
+        if (!(commit->written >> object & 1)) continue;
+        if (so_far->written_at[object] > commit->snapshot) fail("a commit over a later one", (long long)commit->time);
+        so_far->written_at[object] = commit->time;
+        so_far->state[object] = commit->writes[object];
+    }
+}
+
+/* Replays the commits in the order of their times, and compares each section's reads with the state of its snapshot. */
+static unsigned check(worker workers[], unsigned count) {
+    static section *read[SEATS * SECTIONS], *made[SEATS * SECTIONS];
+    replay so_far = {{0}, {0}, 0};
+    unsigned reads = 0, commits = 0, next = 0;
+    for (unsigned i = 0; i < count; i++) {
+        check_order(&workers[i]);
+        for (unsigned j = 0; j < workers[i].count; j++) {
+            read[reads++] = &workers[i].sections[j];
+            if (workers[i].sections[j].time > 0) made[commits++] = &workers[i].sections[j];
+        }
+    }
+    qsort(read, reads, sizeof *read, by_snapshot);
+    qsort(made, commits, sizeof *made, by_time);
+    for (unsigned i = 0; i < reads; i++) {
+        while (next < commits && made[next]->time <= read[i]->snapshot) apply(&so_far, made[next++]);
+        if (memcmp(so_far.state, read[i]->reads, sizeof so_far.state) != 0) fail("a read of another state", (long long)read[i]->snapshot);
+    }
+    while (next < commits) apply(&so_far, made[next++]);
+    return commits;
+}
+
+int main(int argc, char *argv[]) {
+    static worker workers[SEATS];
+    static _Alignas(128) mvrlu_seat seats[SEATS];
+    unsigned long histories = argc > 1 ? strtoul(argv[1], NULL, 10) : HISTORIES, commits = 0;
+    uint64_t random = argc > 2 ? strtoull(argv[2], NULL, 10) : 1;
+    mvrlu_options options = MVRLU_OPTIONS_INIT;
+    options.objects = OBJECTS;
+    options.slots = SLOTS;
+    options.write_max = WRITE_MAX;
+    for (unsigned long history = 0; history < histories; history++) {
+        unsigned count = 2 + history % (SEATS - 1);
+        pthread_t threads[SEATS];
+        must("open", mvrlu_open(&options, seats, count));
+        for (unsigned i = 0; i < count; i++) {
+            memset(&workers[i], 0, sizeof workers[i]);
+            workers[i].seat = &seats[i];
+            workers[i].random = random + history * SEATS + i;
+            workers[i].next = ((uint64_t)i + 1) << 32;
+            if (pthread_create(&threads[i], NULL, work, &workers[i]) != 0) fail("no thread", i);
+        }
+        for (unsigned i = 0; i < count; i++) pthread_join(threads[i], NULL);
+        commits += check(workers, count);
+        for (unsigned i = 0; i < count; i++) must("close", mvrlu_close(&seats[i]));
+    }
+    printf("histories %lu: each read is of its section's state (%lu commits)\n", histories, commits);
+    return commits == 0;
+}

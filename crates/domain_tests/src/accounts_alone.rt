@@ -30,6 +30,7 @@ fn attempt(
     requires from { from < 8 }
     requires to { to < 8 }
     requires other { from ≢ to }
+    requires some { 0 < amount }
     requires objects { length (seat_of store).start ≡ 8 }
     requires write_max { (seat_of store).write_max ≡ 16 }
     ensures objects { length (seat_of result.0).start ≡ 8 }

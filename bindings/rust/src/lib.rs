@@ -1,0 +1,66 @@
+//! Objects of six 64-bit words that threads share, read and written in multi-version sections: safe Rust over the static
+//! library `libmvrlu`, whose calls are proved over every interleaving.
+//!
+//! **The model.** [`open`] makes a domain of objects, whose words are all 0 at first, and a [`Seat`] for each thread. A thread
+//! enters a [`Section`] with its seat, and all its reads see the one state of that moment, whatever others commit meanwhile.
+//! Readers and writers never wait for each other. To write, a section locks each object, gives it new words, and commits:
+//! the commit takes place whole, at one time of the one commit history, or not at all. The domain ends with its last seat.
+//!
+//! ```
+//! # fn main() -> Result<(), Box<dyn std::error::Error>> {
+//! let options = mvrlu::Options { objects: 8, ..Default::default() };
+//! let mut seats = mvrlu::open(options, 2)?;
+//! let [writer, reader] = seats.as_mut_slice() else { unreachable!() };
+//! let mut before = reader.enter();
+//! let done = writer.retry(100, |section| {
+//!     section.lock(3)?;
+//!     section.lock(7)?;
+//!     section.write(3, [1; 6])?;
+//!     section.write(7, [2; 6])?;
+//!     Ok(())
+//! })?;
+//! assert_eq!(done.at, mvrlu::At::Commit(1));
+//! assert_eq!(before.read(3)?, [0; 6]); // a section that began before it sees none of it
+//! drop(before);
+//! let mut after = reader.enter(); // and one that begins after it sees all of it
+//! assert_eq!((after.read(3)?, after.read(7)?), ([1; 6], [2; 6]));
+//! # Ok(())
+//! # }
+//! ```
+//!
+//! **Times.** A time counts entries of the history: commits, and rests, which change no object and which a seat makes where only
+//! a later time lets it reclaim. The state of time 0 is that of all words 0, and the last time is 2^45 - 1.
+//!
+//! **Isolation.** It is snapshot isolation: two sections that lock different objects may both commit though each read what
+//! the other wrote (write skew). Lock what a commit depends on; a locked object that is not written keeps its words.
+//!
+//! **Misuse.** The types exclude most of it: a seat is used by one thread at a time, a section ends before its seat does
+//! anything else, and nothing is closed twice. What remains, as a number of an object that the domain doesn't have, is an
+//! error that left all as it was. No call waits, and none but [`Seat::retry`] tries again.
+//!
+//! **Place.** The archive's calls carry the contracts, which are proved; that this package hands on what they answer is
+//! tested. `build.rs` looks for `libmvrlu.a` in the folder that `MVRLU_LIB_DIR` names, or else asks `pkg-config`. All unsafe
+//! code is in the module `raw`.
+#![deny(missing_docs, unsafe_op_in_unsafe_fn, clippy::undocumented_unsafe_blocks)]
+
+mod errors;
+mod options;
+mod raw;
+mod retry;
+mod seat;
+mod section;
+
+pub use errors::{Holding, Misuse, OpenError, Refused, Short, Uncommitted, Unfinished};
+pub use options::{Options, OBJECTS_MAX, SEATS_MAX, SLOTS_MAX, SLOTS_MIN, WRITE_MAX};
+pub use retry::{At, Done};
+pub use seat::{open, Seat};
+pub use section::Section;
+
+/// How many words an object has.
+pub const WORDS: usize = 6;
+
+/// The words of an object.
+pub type Words = [u64; WORDS];
+
+/// Four words of the caller's own that stand in the history with a commit. No call reads them back.
+pub type Tag = [u64; 4];

@@ -1,0 +1,179 @@
+//! The calls of the library. What it asks of its caller is kept by the types here, and all unsafe code of the package is here.
+
+use crate::{Options, Tag, Words};
+use std::ffi::c_void;
+use std::mem::size_of;
+use std::ptr::null_mut;
+
+/// What the library owns of a seat: closed, or the block of an open one. It may be moved between calls, and isn't copied.
+#[repr(C)]
+#[derive(Debug)]
+pub(crate) struct RawSeat {
+    is_open: u8,
+    at: *mut c_void,
+}
+
+/// The options as the library reads them.
+#[repr(C)]
+struct RawOptions {
+    size: u32,
+    objects: u32,
+    slots: u32,
+    write_max: u32,
+}
+
+const _: () = assert!(size_of::<RawSeat>() == 16 && size_of::<RawOptions>() == 16);
+
+extern "C" {
+    fn mvrlu_raw_open(options: &RawOptions, seats: *mut RawSeat, count: usize) -> i32;
+    fn mvrlu_raw_close(seat: &mut RawSeat) -> i32;
+    fn mvrlu_raw_prepare(seat: &mut RawSeat) -> i32;
+    fn mvrlu_raw_tidy(seat: &mut RawSeat, live: &mut u32) -> i32;
+    fn mvrlu_raw_enter(seat: &mut RawSeat) -> i32;
+    fn mvrlu_raw_read(seat: &mut RawSeat, object: u32, words: &mut Words) -> i32;
+    fn mvrlu_raw_read_pair(seat: &mut RawSeat, object: u32, place: u32, words: &mut [u64; 2]) -> i32;
+    fn mvrlu_raw_lock(seat: &mut RawSeat, object: u32, by: &mut u64) -> i32;
+    fn mvrlu_raw_write(seat: &mut RawSeat, object: u32, words: &Words) -> i32;
+    fn mvrlu_raw_time(seat: &mut RawSeat, time: &mut u64) -> i32;
+    fn mvrlu_raw_commit(seat: &mut RawSeat, tag: &Tag, time: &mut u64) -> i32;
+    fn mvrlu_raw_abort(seat: &mut RawSeat) -> i32;
+    fn mvrlu_raw_leave(seat: &mut RawSeat) -> i32;
+}
+
+/// What a call answers on a seat that is open, and, of the calls for a section, inside one.
+#[derive(Clone, Copy, Debug, PartialEq, Eq)]
+pub(crate) enum Status {
+    Done,
+    Again,
+    Busy,
+    Stale,
+    Short,
+    LogFull,
+    Worn,
+    BadNumber,
+    NoMemory,
+    Inside,
+    BadObject,
+    NotLocked,
+    Empty,
+    Holding,
+    SetFull,
+    BadPlace,
+}
+
+impl Status {
+    fn of(code: i32) -> Status {
+        match code {
+            0 => Status::Done,
+            2 => Status::Again,
+            3 => Status::Busy,
+            4 => Status::Stale,
+            5 => Status::Short,
+            6 => Status::LogFull,
+            -2 => Status::Worn,
+            -7 => Status::BadNumber,
+            -8 => Status::NoMemory,
+            -13 => Status::Inside,
+            -14 => Status::BadObject,
+            -15 => Status::NotLocked,
+            -16 => Status::Empty,
+            -17 => Status::Holding,
+            -18 => Status::SetFull,
+            -19 => Status::BadPlace,
+            // Closed, in use, null, moved and outside: the types of this package let no such call be made.
+            other => unreachable!("libmvrlu answered {other}"),
+        }
+    }
+
+    /// Of a call that has only one answer here.
+    pub(crate) fn must_be_done(self) {
+        if self != Status::Done {
+            self.is_unexpected()
+        }
+    }
+
+    /// Of a call that never gives this answer.
+    pub(crate) fn is_unexpected(self) -> ! {
+        unreachable!("libmvrlu answered {self:?}")
+    }
+}
+
+// SAFETY: `Send` is proved of the library's own type of a seat. What hands a seat to another thread orders the two, and the
+// calls of a seat take it by `&mut`, so one thread uses it at a time.
+unsafe impl Send for RawSeat {}
+
+/// Each call is safe: a seat is closed, or it is as the library left it, since its fields are seen by the library alone and no
+/// copy of it is ever made. It and what is read or written are references, which are valid and, where written, unshared for
+/// the length of the call, and the library keeps none of them.
+impl RawSeat {
+    /// A closed seat.
+    pub(crate) const CLOSED: RawSeat = RawSeat { is_open: 0, at: null_mut() };
+
+    /// Opens a domain with these seats, all of them or none.
+    pub(crate) fn open_all(options: Options, seats: &mut [RawSeat]) -> Status {
+        let Options { objects, slots, write_max } = options;
+        let options = RawOptions { size: size_of::<RawOptions>() as u32, objects, slots, write_max };
+        // SAFETY: as said above; the pointer and the count are those of one slice that is borrowed mutably.
+        Status::of(unsafe { mvrlu_raw_open(&options, seats.as_mut_ptr(), seats.len()) })
+    }
+
+    pub(crate) fn close(&mut self) -> Status {
+        // SAFETY: as said above.
+        Status::of(unsafe { mvrlu_raw_close(self) })
+    }
+
+    pub(crate) fn prepare(&mut self) -> Status {
+        // SAFETY: as said above.
+        Status::of(unsafe { mvrlu_raw_prepare(self) })
+    }
+
+    pub(crate) fn tidy(&mut self, live: &mut u32) -> Status {
+        // SAFETY: as said above.
+        Status::of(unsafe { mvrlu_raw_tidy(self, live) })
+    }
+
+    pub(crate) fn enter(&mut self) -> Status {
+        // SAFETY: as said above.
+        Status::of(unsafe { mvrlu_raw_enter(self) })
+    }
+
+    pub(crate) fn read(&mut self, object: u32, words: &mut Words) -> Status {
+        // SAFETY: as said above.
+        Status::of(unsafe { mvrlu_raw_read(self, object, words) })
+    }
+
+    pub(crate) fn read_pair(&mut self, object: u32, place: u32, words: &mut [u64; 2]) -> Status {
+        // SAFETY: as said above.
+        Status::of(unsafe { mvrlu_raw_read_pair(self, object, place, words) })
+    }
+
+    pub(crate) fn lock(&mut self, object: u32, by: &mut u64) -> Status {
+        // SAFETY: as said above.
+        Status::of(unsafe { mvrlu_raw_lock(self, object, by) })
+    }
+
+    pub(crate) fn write(&mut self, object: u32, words: &Words) -> Status {
+        // SAFETY: as said above.
+        Status::of(unsafe { mvrlu_raw_write(self, object, words) })
+    }
+
+    pub(crate) fn time(&mut self, time: &mut u64) -> Status {
+        // SAFETY: as said above.
+        Status::of(unsafe { mvrlu_raw_time(self, time) })
+    }
+
+    pub(crate) fn commit(&mut self, tag: &Tag, time: &mut u64) -> Status {
+        // SAFETY: as said above.
+        Status::of(unsafe { mvrlu_raw_commit(self, tag, time) })
+    }
+
+    pub(crate) fn abort(&mut self) -> Status {
+        // SAFETY: as said above.
+        Status::of(unsafe { mvrlu_raw_abort(self) })
+    }
+
+    pub(crate) fn leave(&mut self) -> Status {
+        // SAFETY: as said above.
+        Status::of(unsafe { mvrlu_raw_leave(self) })
+    }
+}

@@ -1,0 +1,104 @@
+//! Seats: opening, closing, and what is done outside a section.
+
+use crate::errors::{OpenError, Short};
+use crate::options::{Options, SEATS_MAX};
+use crate::raw::{RawSeat, Status};
+use crate::section::Section;
+
+/// A seat of a domain: what a thread enters sections with, in lines of memory of its own.
+///
+/// It may go to another thread, and no two threads use it at once. Dropped, it is closed; the domain ends with its last seat.
+///
+/// ```
+/// # fn main() -> Result<(), mvrlu::OpenError> {
+/// let mut seats = mvrlu::open(mvrlu::Options::default(), 2)?;
+/// let mut second = seats.remove(1);
+/// let reader = std::thread::spawn(move || second.enter().time());
+/// assert_eq!(seats[0].enter().time(), 0);
+/// assert_eq!(reader.join().unwrap(), 0);
+/// # Ok(())
+/// # }
+/// ```
+///
+/// It isn't shared between threads, and begins no section while one of it is there:
+///
+/// ```compile_fail,E0277
+/// fn shares<T: Sync>() {}
+/// shares::<mvrlu::Seat>();
+/// ```
+///
+/// ```compile_fail,E0499
+/// fn two_at_once(seat: &mut mvrlu::Seat) {
+///     let mut first = seat.enter();
+///     let second = seat.enter();
+///     first.time();
+/// }
+/// ```
+#[derive(Debug)]
+#[repr(align(128))]
+pub struct Seat {
+    raw: RawSeat,
+}
+
+/// Opens a domain of objects whose words are all 0, with so many seats, 1 to [`SEATS_MAX`]. The seat at each place of the vector
+/// has the place as its number.
+///
+/// # Errors
+///
+/// [`OpenError::BadNumber`] where a number is out of its range, and [`OpenError::NoMemory`]. Nothing is left behind.
+pub fn open(options: Options, seats: usize) -> Result<Vec<Seat>, OpenError> {
+    let mut raw = [RawSeat::CLOSED; SEATS_MAX];
+    let wanted = raw.get_mut(..seats).ok_or(OpenError::BadNumber)?;
+    match RawSeat::open_all(options, wanted) {
+        Status::Done => Ok(raw.into_iter().take(seats).map(|raw| Seat { raw }).collect()),
+        Status::BadNumber => Err(OpenError::BadNumber),
+        Status::NoMemory => Err(OpenError::NoMemory),
+        other => other.is_unexpected(),
+    }
+}
+
+impl Seat {
+    /// Makes room in the seat's log for one section that locks as many objects as it may. A section that only reads needs no
+    /// room.
+    ///
+    /// # Errors
+    ///
+    /// [`Short`] where some section still reads what the log holds.
+    pub fn prepare(&mut self) -> Result<(), Short> {
+        match self.outside(RawSeat::prepare) {
+            Status::Done => Ok(()),
+            Status::Short => Err(Short),
+            other => other.is_unexpected(),
+        }
+    }
+
+    /// Reclaims what nobody reads any more of the seat's log, and tells how many slots are live afterwards.
+    pub fn tidy(&mut self) -> u32 {
+        let mut live = 0;
+        self.outside(|raw| raw.tidy(&mut live)).must_be_done();
+        live
+    }
+
+    /// Begins a section. Its snapshot is the whole history at one moment of this call.
+    pub fn enter(&mut self) -> Section<'_> {
+        self.outside(RawSeat::enter).must_be_done();
+        Section::of(&mut self.raw)
+    }
+
+    /// Makes a call that is for a seat outside a section. A section that was leaked (`std::mem::forget`) is given up first.
+    fn outside(&mut self, mut call: impl FnMut(&mut RawSeat) -> Status) -> Status {
+        match call(&mut self.raw) {
+            Status::Inside => {
+                self.raw.abort().must_be_done();
+                call(&mut self.raw)
+            }
+            other => other,
+        }
+    }
+}
+
+impl Drop for Seat {
+    fn drop(&mut self) {
+        self.raw.close().must_be_done();
+    }
+}

@@ -1,0 +1,95 @@
+//! Opening a domain, and the end of it.
+
+use mvrlu::{open, OpenError, Options, Seat, OBJECTS_MAX, SEATS_MAX, SLOTS_MAX, SLOTS_MIN, WRITE_MAX};
+use std::env::{current_exe, var_os};
+use std::mem::{align_of, size_of};
+use std::process::Command;
+
+const SMALL: Options = Options { objects: 16, slots: 64, write_max: 4 };
+
+fn options(objects: u32, slots: u32, write_max: u32) -> Options {
+    Options { objects, slots, write_max }
+}
+
+fn answer(options: Options, seats: usize) -> Result<usize, OpenError> {
+    open(options, seats).map(|opened| opened.len())
+}
+
+#[test]
+fn numbers_and_their_ranges() {
+    let bad = Err(OpenError::BadNumber);
+    let asked = [
+        (SMALL, 1, Ok(1)),
+        (SMALL, SEATS_MAX, Ok(64)),
+        (SMALL, 0, bad),
+        (SMALL, SEATS_MAX + 1, bad),
+        (SMALL, usize::MAX, bad),
+        (Options::default(), 2, Ok(2)),
+        (options(0, 64, 4), 1, bad),
+        (options(1, 64, 4), 1, Ok(1)),
+        (options(OBJECTS_MAX + 1, 64, 4), 1, bad),
+        (options(16, SLOTS_MIN - 1, 4), 1, bad),
+        (options(16, SLOTS_MIN, WRITE_MAX - 1), 1, Ok(1)),
+        (options(16, SLOTS_MAX, WRITE_MAX), 1, Ok(1)),
+        (options(16, SLOTS_MAX + 1, 4), 1, bad),
+        (options(16, 64, 0), 1, bad),
+        (options(16, WRITE_MAX, WRITE_MAX), 1, bad),
+        (options(16, 128, WRITE_MAX + 1), 1, bad),
+        (options(u32::MAX, u32::MAX, u32::MAX), 1, bad),
+    ];
+    for (options, seats, wanted) in asked {
+        assert_eq!(answer(options, seats), wanted, "{options:?} for {seats} seats");
+    }
+}
+
+const CHILD: &str = "MVRLU_TEST_IN_LITTLE_MEMORY";
+
+/// It runs itself anew in a process of 700 MB of address space, where 16,777,216 objects, which take 1 GB, have no room.
+#[test]
+fn too_little_memory() {
+    if var_os(CHILD).is_some() {
+        let large = Options { objects: OBJECTS_MAX, ..SMALL };
+        assert_eq!(answer(large, 1), Err(OpenError::NoMemory));
+        assert_eq!(answer(SMALL, 1), Ok(1));
+        return;
+    }
+    let script = "ulimit -v 700000 && exec \"$0\" --exact too_little_memory";
+    let child = Command::new("sh").args(["-c", script]).arg(current_exe().unwrap()).env(CHILD, "1").output().unwrap();
+    let said = String::from_utf8_lossy(&child.stdout);
+    assert!(child.status.success() && said.contains("1 passed"), "{said}{}", String::from_utf8_lossy(&child.stderr));
+}
+
+#[test]
+fn seats_have_the_numbers_of_their_places() {
+    let mut seats = open(SMALL, SEATS_MAX).unwrap();
+    let mut last = seats.pop().unwrap();
+    for (number, seat) in seats.iter_mut().enumerate() {
+        let mut holder = seat.enter();
+        holder.lock(3).unwrap();
+        assert_eq!(last.enter().lock(3), Err(mvrlu::Refused::Busy { seat: number }));
+    }
+}
+
+#[test]
+fn a_domain_lives_as_long_as_one_of_its_seats() {
+    let mut seats = open(SMALL, 3).unwrap();
+    let mut last = seats.remove(1);
+    seats[0].retry(0, |section| Ok((section.lock(7)?, section.write(7, [5; 6])?))).unwrap();
+    drop(seats);
+    assert_eq!(last.enter().read(7), Ok([5; 6]));
+    let at = last.retry(0, |section| section.lock(7)).unwrap().at;
+    assert_eq!(at, mvrlu::At::Commit(2));
+}
+
+#[test]
+fn a_seat_has_lines_of_memory_of_its_own() {
+    assert_eq!((align_of::<Seat>(), size_of::<Seat>()), (128, 128));
+}
+
+#[test]
+fn errors_of_opening_have_texts() {
+    let ranges = "a number is out of its range: seats 1 to 64, objects 1 to 16777216, slots 64 to 4096, \
+                  write_max 1 to 64 and less than the slots";
+    assert_eq!(OpenError::BadNumber.to_string(), ranges);
+    assert_eq!(OpenError::NoMemory.to_string(), "too little memory");
+}

@@ -24,7 +24,7 @@
  *     }
  *
  * What is proved of the library: its memory is safe whatever the order of these calls and the numbers given to them, and
- * what each call promises below holds under every interleaving of the seats' atomic steps (docs/CONTRACTS.md).
+ * what each call of a section promises below holds under every interleaving of the seats' atomic steps (docs/CONTRACTS.md).
  *
  * Isolation. It is snapshot isolation: two sections that lock different objects may both commit though each read what the
  * other wrote (write skew). Lock what a commit depends on; a locked object that is not written keeps its words.
@@ -63,7 +63,7 @@ typedef enum mvrlu_status {
     MVRLU_AGAIN = 2,        /* commit: another entry came first. The section is as it was: commit again at once */
     MVRLU_BUSY = 3,         /* lock: another seat holds the object. Abort, and begin again later */
     MVRLU_STALE = 4,        /* lock: the object was written after the section began. Abort, and enter anew */
-    MVRLU_SHORT = 5,        /* prepare: the log has too little room for a full write set, as some section still reads */
+    MVRLU_SHORT = 5,        /* prepare: the log has too little room for a full write set, as its oldest one is still needed */
     MVRLU_LOG_FULL = 6,     /* lock: the log has no free slot. Abort, and prepare */
     MVRLU_WORN = -2,        /* commit: the last time, 2^45 - 1, was reached. Abort */
     MVRLU_CLOSED = -5,      /* the seat is closed */
@@ -171,8 +171,8 @@ static inline int32_t mvrlu_close(mvrlu_seat *seat) { MVRLU_ON(seat, mvrlu_raw_c
 
 /* ---- outside a section ---- */
 
-/* Makes room in the seat's log for one section that locks write_max objects. MVRLU_SHORT: some section still reads what the log
- * holds; a section that only reads needs no room. */
+/* Makes room in the seat's log for one section that locks write_max objects. MVRLU_SHORT: the oldest write set of
+ * the log is still needed, as by a section that reads it; a section that only reads needs no room. */
 static inline int32_t mvrlu_prepare(mvrlu_seat *seat) { MVRLU_ON(seat, mvrlu_raw_prepare(&seat->raw)); }
 
 /* Reclaims what nobody reads any more of the seat's log. `live`: how many slots are live afterwards. */

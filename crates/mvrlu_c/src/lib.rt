@@ -4,7 +4,7 @@
 //! owns the block with its `ObjectSeat`, which shares the domain with the other seats.
 //!
 //! **The contract.** Each call tells by its status which answer the call of `object_seats` gave, and all
-//! that its clauses say of that answer holds of the seat: `On` in specs/ ties the two. A closed seat answers
+//! that its clauses say of that answer holds of the seat: `Tells` in specs/ ties the two. A closed seat answers
 //! `CLOSED` and stays as it was. A number is one meaning (`status`). Memory is safe whatever the order of
 //! the calls and the numbers given; what no call can see is C's to keep, and `mvrlu.h` says it.
 //!

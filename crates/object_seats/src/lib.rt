@@ -10,8 +10,8 @@
 //!
 //! **The contract.** What a call of `mv_history` requires of its caller is tested here, and a call that may
 //! not be made now is a `Misuse`: it says which condition fails, and the seat is as it was, but that a
-//! section may have seen more. Every other answer is that of the call of `mvrlu`, with all that its clauses
-//! say of it. Letting a seat go gives up what its section holds, and ends the seat alone.
+//! section may have seen more. Every other answer is that of the call of `mvrlu`, and `Calls` says what it
+//! leaves and with which cause. Letting a seat go aborts its section, and ends the seat alone.
 //!
 //! It stands on `mvrlu`.
 #![tactic(auto)]

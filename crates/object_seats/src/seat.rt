@@ -90,7 +90,7 @@ impl ObjectSeat {
         (ObjectSeat { domain, position }, answer)
     }
 
-    /// Tries to commit all that is held, as one entry of the history, by at most one exchange on CLOCK.
+    /// Tries to commit all that is held, as one entry of the history.
     pub fn commit(self, tag: Tag) -> (ObjectSeat, Result<CommitResult, Misuse>)
         ensures commits { calls.Commits self.position tag result.0.position result.1 }
         ensures aborts { aborts_at result.0.position ≡ aborts_at self.position }

@@ -20,6 +20,14 @@ expect() {
     [[ $said == "$wanted"* ]] || { echo "$said"; fail "$name says something else"; }
 }
 
+# Whether a program of nothing runs with these words of gcc: not every kernel carries each sanitizer.
+carries() {
+    printf 'int main(void) { return 0; }\n' >"$room/nothing.c"
+    gcc "$@" "$room/nothing.c" -o "$room/nothing" >/dev/null 2>&1 && "$room/nothing" >/dev/null 2>&1 && return
+    echo "library: $* doesn't run here, not run"
+    return 1
+}
+
 (cd crates/mvrlu_c && rt lib) >"$room/log" 2>&1 || { cat "$room/log"; fail "the archive was not built"; }
 # The heap functions of the kit go into the archive, so that a program links one file.
 printf 'create %s\naddlib %s\naddlib %s\nsave\nend\n' "$room/libmvrlu.a" crates/mvrlu_c/out/libmvrlu_c.a "$kit/c/liblibc_c.a" | ar -M || exit
@@ -35,11 +43,18 @@ for compiler in gcc clang; do
     expect "bank by $compiler" "$bank" "$compiler" "${strict[@]}" -O2 examples/c/bank.c
     run=$((run + 2))
 done
-expect "calls under the address sanitizer" "$calls" gcc "${strict[@]}" -g -fsanitize=address,undefined tests/library/calls.c
-expect "bank under the thread sanitizer" "$bank" gcc "${strict[@]}" -g -O1 -fsanitize=thread examples/c/bank.c
 expect "random histories" "histories 10000: " gcc "${strict[@]}" -O2 -DHISTORIES=10000 tests/library/histories.c
-expect "random histories under the thread sanitizer" "histories 500: " gcc "${strict[@]}" -g -O1 -fsanitize=thread -DHISTORIES=500 tests/library/histories.c
-run=$((run + 4))
+run=$((run + 1))
+if carries -fsanitize=address,undefined; then
+    expect "calls under the address sanitizer" "$calls" gcc "${strict[@]}" -g -fsanitize=address,undefined tests/library/calls.c
+    run=$((run + 1))
+fi
+if carries -fsanitize=thread; then
+    sanitized=("${strict[@]}" -g -O1 -fsanitize=thread)
+    expect "bank under the thread sanitizer" "$bank" gcc "${sanitized[@]}" examples/c/bank.c
+    expect "random histories under the thread sanitizer" "histories 500: " gcc "${sanitized[@]}" -DHISTORIES=500 tests/library/histories.c
+    run=$((run + 2))
+fi
 if command -v valgrind >/dev/null; then
     under=(valgrind -q --error-exitcode=9 --leak-check=full)
     expect "calls under valgrind" "$calls" gcc "${strict[@]}" -g tests/library/calls.c

@@ -133,8 +133,8 @@ pub struct Holding<'seat> {
     pub section: Section<'seat>,
 }
 
-/// The seat's log has too little room for a section that locks as many objects as it may, as some section still reads what
-/// it holds. Let slow sections end, and prepare again.
+/// The seat's log has too little room for a section that locks as many objects as it may, as its oldest write set is still
+/// needed, as by a section that reads it. Let other seats end their sections, and prepare again.
 ///
 /// ```
 /// # let mut seats = mvrlu::open(mvrlu::Options::default(), 1).unwrap();

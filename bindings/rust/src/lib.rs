@@ -1,5 +1,5 @@
 //! Objects of six 64-bit words that threads share, read and written in multi-version sections: safe Rust over the static
-//! library `libmvrlu`, whose calls are proved over every interleaving.
+//! library `libmvrlu`, of which is proved, over every interleaving, what each call in a section promises.
 //!
 //! **The model.** [`open`] makes a domain of objects, whose words are all 0 at first, and a [`Seat`] for each thread. A thread
 //! enters a [`Section`] with its seat, and all its reads see the one state of that moment, whatever others commit meanwhile.
@@ -38,8 +38,8 @@
 //! anything else, and nothing is closed twice. What remains, as a number of an object that the domain doesn't have, is an
 //! error that left all as it was. No call waits, and none but [`Seat::retry`] tries again.
 //!
-//! **Place.** The archive's calls carry the contracts, which are proved; that this package hands on what they answer is
-//! tested. `build.rs` looks for `libmvrlu.a` in the folder that `MVRLU_LIB_DIR` names, or else asks `pkg-config`. All unsafe
+//! **Place.** The archive's calls carry the contracts, which are proved; that this package hands on what they answer, and that
+//! a seat which is dropped gives up what it holds, is tested. `build.rs` looks for `libmvrlu.a` in the folder that `MVRLU_LIB_DIR` names, or else asks `pkg-config`. All unsafe
 //! code is in the module `raw`.
 #![deny(missing_docs, unsafe_op_in_unsafe_fn, clippy::undocumented_unsafe_blocks)]
 

@@ -63,7 +63,7 @@ impl Seat {
     ///
     /// # Errors
     ///
-    /// [`Short`] where some section still reads what the log holds.
+    /// [`Short`] where the oldest write set of the log is still needed, as by a section that reads it.
     pub fn prepare(&mut self) -> Result<(), Short> {
         match self.outside(RawSeat::prepare) {
             Status::Done => Ok(()),

@@ -2,7 +2,6 @@
 # The library for C: builds the archive, and runs each call of include/mvrlu.h, the bank of examples/c and random histories, with
 # each compiler and sanitizer that is there. Ends with 1 at the first that fails.
 cd "$(dirname "$0")/.." || exit 1
-kit=$(dirname "$(rt doc)")
 room=$(mktemp -d) || exit 1
 trap 'rm -rf "$room"' EXIT
 
@@ -28,9 +27,7 @@ carries() {
     return 1
 }
 
-(cd crates/mvrlu_c && rt lib) >"$room/log" 2>&1 || { cat "$room/log"; fail "the archive was not built"; }
-# The heap functions of the kit go into the archive, so that a program links one file.
-printf 'create %s\naddlib %s\naddlib %s\nsave\nend\n' "$room/libmvrlu.a" crates/mvrlu_c/out/libmvrlu_c.a "$kit/c/liblibc_c.a" | ar -M || exit
+bash tests/library/archive.sh "$room/libmvrlu.a" || fail "the archive was not built"
 
 strict=(-std=c11 -Wall -Wextra -Werror -Iinclude)
 calls='calls: '

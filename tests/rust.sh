@@ -3,7 +3,6 @@
 # rustfmt, with each tool that is there. What cargo writes is outside the repository. Ends with 1 at the first that fails.
 cd "$(dirname "$0")/.." || exit 1
 cargo --version >/dev/null 2>&1 || { echo "rust: cargo isn't there, not run"; exit 0; }
-kit=$(dirname "$(rt doc)")
 room=$(mktemp -d) || exit 1
 trap 'rm -rf "$room"' EXIT
 export CARGO_TARGET_DIR=$room/target
@@ -24,10 +23,8 @@ pass() {
     cargo_on "$@" || { cat "$room/log"; fail "cargo $* failed"; }
 }
 
-(cd crates/mvrlu_c && rt lib) >"$room/log" 2>&1 || { cat "$room/log"; fail "the archive was not built"; }
 mkdir "$room/lib"
-# The heap functions of the kit go into the archive, so that a program links one file.
-printf 'create %s\naddlib %s\naddlib %s\nsave\nend\n' "$room/lib/libmvrlu.a" crates/mvrlu_c/out/libmvrlu_c.a "$kit/c/liblibc_c.a" | ar -M || exit 1
+bash tests/library/archive.sh "$room/lib/libmvrlu.a" || fail "the archive was not built"
 
 # Where there is no archive, the build says what to do.
 PKG_CONFIG_LIBDIR=$room cargo_on build --offline --locked && fail "it builds without an archive"

@@ -41,7 +41,7 @@ class Progress:
         seconds, count = now - self.start, len(self.lines)
         done = f"{count - len(self.left)} of {count} libraries proved"
         if not self.left:
-            return f"{done}; proving and linking the program; {int(seconds) // 60} minutes so far"
+            return f"{done}; proving and linking what stands on them; {int(seconds) // 60} minutes so far"
         running = ", ".join(sorted(self.began))
         return f"{done}; proving {running}; {int(seconds) // 60} minutes so far, {self.estimate(seconds)}"
 

@@ -1,7 +1,10 @@
-# Whether the proved binary is that of the sources as they are. To be read by bash, with $top and $binary set.
+# Whether what was built of a crate, the proved program or the library for C, is that of the sources as they are. To be read by
+# bash, with $top set, and $crate and $made, the crate and the name of the file in its folder out.
 #
 # Beside the binary stands its stamp: in the first line the folders of the crates that the program stands on, and then size and
 # time of each of their sources and of the binary, which are those of the moment before the proof began.
+made=crates/$crate/out/$made
+binary=$top/$made
 stamp=${binary%/*}/sources
 
 # Prints the folders of a crate of crates.txt, and of all that it stands on, relative to the top: also those that aren't there yet.
@@ -26,12 +29,12 @@ list_folders() {
 # Prints the folders, and then a line for each source in them, with its size and time, and for the binary. It ends the shell.
 list_sources() {
     echo "$*"
-    cd "$top" && exec find "$@" crates.txt HANDLES crates/mvrlu_main/out/mvrlu_main -type f -printf '%s %T@ %p\n' 2>/dev/null
+    cd "$top" && exec find "$@" crates.txt HANDLES "$made" -type f -printf '%s %T@ %p\n' 2>/dev/null
 }
 
 # Whether a source in the folders is newer than the binary.
 has_newer() {
-    [ -n "$(cd "$top" && find "$@" crates.txt HANDLES -type f -newer crates/mvrlu_main/out/mvrlu_main -print -quit 2>/dev/null)" ]
+    [ -n "$(cd "$top" && find "$@" crates.txt HANDLES -type f -newer "$made" -print -quit 2>/dev/null)" ]
 }
 
 # Writes the stamp, where that can be: these lines.
@@ -39,21 +42,21 @@ write_stamp() {
     echo "$1" 2>/dev/null >"$stamp.$$" && mv -f "$stamp.$$" "$stamp"
 }
 
-# Prints the sources of the program, without the binary.
+# Prints the sources of the crate, without the binary.
 list_program() {
     # shellcheck disable=SC2046
-    list_sources $(list_folders mvrlu_main) | grep -v '/out/mvrlu_main$'
+    list_sources $(list_folders "$crate") | grep -vF "/${made#crates/}"
 }
 
 # Writes the stamp of the sources and the binary as they are.
 stamp_program() {
     # shellcheck disable=SC2046
-    write_stamp "$(list_sources $(list_folders mvrlu_main))"
+    write_stamp "$(list_sources $(list_folders "$crate"))"
 }
 
 # Whether the stamp is that of the binary as it is.
 is_of_binary() {
-    grep -qxF "$(cd "$top" && find crates/mvrlu_main/out/mvrlu_main -printf '%s %T@ %p')" "$stamp"
+    grep -qxF "$(cd "$top" && find "$made" -printf '%s %T@ %p')" "$stamp"
 }
 
 # Whether the binary is there and its stamp is that of the sources. A binary without a stamp of its own was left by `rt` itself,
@@ -61,7 +64,7 @@ is_of_binary() {
 is_current() {
     local folders='' listed
     state=absent
-    [ -x "$binary" ] || return
+    [ -x "$binary" ] || [[ $binary == *.a && -f $binary ]] || return
     state=older
     if read -r folders 2>/dev/null <"$stamp"; then
         # shellcheck disable=SC2086
@@ -71,7 +74,7 @@ is_current() {
         [ "$(sort <<<"$listed")" != "$(sort "$stamp")" ] || return 0
         ! is_of_binary || return
     fi
-    folders=$(list_folders mvrlu_main)
+    folders=$(list_folders "$crate")
     # shellcheck disable=SC2086
     ! has_newer $folders || return
     stamp_program

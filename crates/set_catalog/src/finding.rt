@@ -63,9 +63,9 @@ pub fn find_plan<V: View>(
     find_plan_near(view, hints, &mut Fingers::none(), few, command)
 }
 
-// Finds what the command comes to, as `find_plan` does, by searches that begin in lists at fingers.
+/// Finds what the command comes to, as `find_plan` does, by searches that begin in lists at fingers.
 #[inline(never)]
-pub(crate) fn find_plan_near<V: View>(
+pub fn find_plan_near<V: View>(
     view: &mut V,
     hints: &mut Hints,
     fingers: &mut Fingers,

@@ -5,7 +5,6 @@ use crate::answer::Attempt;
 use crate::attempting::attempt_knowing;
 use crate::hints::Hints;
 use crate::memo::Memo;
-use crate::shortage::Shortage;
 use mv_history::Store;
 use set_script::{Command, SetRules};
 use std::marker::Model;
@@ -47,14 +46,10 @@ impl<S: Store<Rules = SetRules>> HintedStore<S> {
         ensures store { result.store ≡ store }
         ensures hints { result.hints ≡ hints }
     {
-        let mut hints = hints;
-        let fingers = hints.take_fingers();
-        let memo = Memo {
-            hints,
-            fingers,
-            known: Shortage::unknown(),
-        };
-        HintedStore { store, memo }
+        HintedStore {
+            store,
+            memo: Memo::of(hints),
+        }
     }
 
     /// Attempts a command in one section of the store, as [`attempt_with`](crate::attempt_with) does

@@ -8,21 +8,37 @@ use list_set::Fingers;
 use section_work::Place;
 use set_script::Command;
 
-// Hints alone: no answer depends on them.
+/// What is remembered of a store from one of its sections to the next. No answer depends on it.
 #[derive(Drop)]
 pub struct Memo {
-    // Objects that are likely to be vacant.
+    /// Objects that are likely to be vacant.
     pub hints: Hints,
-    // Where searches in lists begin.
+    /// Where searches in lists begin.
     pub fingers: Fingers,
-    // How few nodes are vacant at a time of the store.
+    /// How few nodes are vacant at a time of the store.
     pub known: Shortage,
 }
 
 impl Memo {
     ghost use Rattle.set_catalog.specs.Remembering.{IsAfterTheFirst, hints_at, known_at};
+    ghost use Rattle.set_catalog.specs.declared.shortage.TheConstants.{NO_BOUND};
 
-    // Notes that the command took place here, whose commit left these objects vacant.
+    /// Nothing but these hints, with their fingers.
+    pub fn of(hints: Hints) -> Memo
+        ensures hints { result.hints ≡ hints }
+        ensures time { result.known.time ≡ 0 }
+        ensures few { result.known.few ≡ NO_BOUND }
+    {
+        let mut hints = hints;
+        let fingers = hints.take_fingers();
+        Memo {
+            hints,
+            fingers,
+            known: Shortage::unknown(),
+        }
+    }
+
+    /// Notes that the command took place here, whose commit left these objects vacant.
     pub fn note(&mut self, command: &Command, gone: Gone, place: Place)
         requires later { IsAfterTheFirst place }
         ensures hints { self.new.hints ≡ hints_at place self.old.hints gone }

@@ -11,7 +11,7 @@ const NO_BOUND: u32 = 65_536;
 // The number of the first name that is a tree's.
 const FIRST_TREE: u32 = 20;
 
-// A time that a store has seen: in its state fewer than `few` nodes are vacant.
+/// A time that a store has seen: in its state fewer than `few` nodes are vacant.
 #[derive(Clone, Copy, Drop)]
 pub struct Shortage {
     pub time: u64,
@@ -30,7 +30,7 @@ impl Shortage {
         }
     }
 
-    // A number of which fewer nodes are vacant at this printed time.
+    /// A number of which fewer nodes are vacant at this printed time.
     pub fn at(self, time: u64) -> u32
         ensures { result ≡ few_at self time }
     {

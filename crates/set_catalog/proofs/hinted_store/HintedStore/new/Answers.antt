@@ -2,4 +2,4 @@ use Rattle.set_catalog.proofs.Knowing.{known_unknown}
 use Rattle.set_catalog.proofs.hinted_store.HintedStore.new.Goals as goal
 
 pub invariant_of-result : goal.invariant_of-result
-invariant_of-result g c = known_unknown _ _ (g.met.S.Store.lawful _) c.unknown.ensures.time c.unknown.ensures.few
+invariant_of-result g c = known_unknown _ _ (g.met.S.Store.lawful _) c.of.ensures.time c.of.ensures.few

@@ -16,6 +16,7 @@ use Rattle.set_script.specs.declared.script.TheConstants.{MOST_COMMANDS}
 use Rattle.item_workers.specs.declared.runner.Answer.{Answer}
 use Rattle.item_workers.specs.Chains.{Chain, EachDid, HaveNumbers, answered}
 use Rattle.item_workers.specs.Workers.{MayDo}
+use Rattle.item_workers.proofs.Links.{did_to}
 use Rattle.block_workers.specs.BlockLines.{done_of, lines_in, row_in, row_of, AllFit, FitsNumbers}
 use Rattle.block_workers.specs.BlockLinks.{AllLinkedBlocks, LinkedDone}
 use Rattle.block_workers.specs.BlockRuns.{AllRanBlocks}
@@ -81,7 +82,7 @@ module _ (k : Causes) where
 
   -- what all seats ran
   pub all_ran : (os ns : List Seat) (scripts : List (List (List Command))) (rows : List (Vec (Answer (Place × List Reply)) Global))
-      → EachDid (LinkedDone k) length os ns scripts rows → AllRanBlocks os ns scripts (flat_map row_of rows)
+      → EachDid (λ (t : Seat). t) (LinkedDone k) length os ns scripts rows → AllRanBlocks os ns scripts (flat_map row_of rows)
   all_ran [] [] [] [] h = refl
   all_ran [] [] [] (r ∷ rows) h = absurd h
   all_ran [] [] (s ∷ scripts) rows h = absurd h
@@ -90,11 +91,11 @@ module _ (k : Causes) where
   all_ran (o ∷ os) (n ∷ ns) [] rows h = absurd h
   all_ran (o ∷ os) (n ∷ ns) (s ∷ scripts) [] h = absurd h
   all_ran (o ∷ os) (n ∷ ns) (s ∷ scripts) (r ∷ rows) h =
-      (row_of r, flat_map row_of rows, refl, chain_ran k o n s r.items h.0, all_ran os ns scripts rows h.1)
+      (row_of r, flat_map row_of rows, refl, chain_ran k o n s r.items (did_to (LinkedDone k) length o n s r.items h.0), all_ran os ns scripts rows h.1)
 
   -- and that each went on from where it was
   pub all_linked : (os ns : List Seat) (scripts : List (List (List Command))) (rows : List (Vec (Answer (Place × List Reply)) Global))
-      → EachDid (LinkedDone k) length os ns scripts rows → AllLinkedBlocks k os ns scripts (flat_map row_of rows)
+      → EachDid (λ (t : Seat). t) (LinkedDone k) length os ns scripts rows → AllLinkedBlocks k os ns scripts (flat_map row_of rows)
   all_linked [] [] [] [] h = refl
   all_linked [] [] [] (r ∷ rows) h = absurd h
   all_linked [] [] (s ∷ scripts) rows h = absurd h
@@ -106,13 +107,13 @@ module _ (k : Causes) where
     map done_of r.items,
     flat_map row_of rows,
     ap (λ ls. ls ++ flat_map row_of rows) (done_lines r.items),
-    chain_done k o n s r.items h.0.chain,
+    chain_done k o n s r.items (did_to (LinkedDone k) length o n s r.items h.0).chain,
     all_linked os ns scripts rows h.1,
   )
 
   -- there are as many lines as commands
   pub line_counts : (os ns : List Seat) (scripts : List (Vec (List Command) Global)) (rows : List (Vec (Answer (Place × List Reply)) Global))
-      → EachDid (LinkedDone k) length os ns (map blocks_of scripts) rows → length (flat_map row_of rows) ≡ sum_by count_of scripts
+      → EachDid (λ (t : Seat). t) (LinkedDone k) length os ns (map blocks_of scripts) rows → length (flat_map row_of rows) ≡ sum_by count_of scripts
   line_counts [] [] [] [] h = refl
   line_counts [] [] [] (r ∷ rows) h = absurd h
   line_counts [] [] (s ∷ scripts) rows h = absurd h
@@ -121,14 +122,15 @@ module _ (k : Causes) where
   line_counts (o ∷ os) (n ∷ ns) [] rows h = absurd h
   line_counts (o ∷ os) (n ∷ ns) (s ∷ scripts) [] h = absurd h
   line_counts (o ∷ os) (n ∷ ns) (s ∷ scripts) (r ∷ rows) h =
-      let len : length (row_of r) ≡ count_of s = ran_count o n s.items (row_of r) (chain_ran k o n s.items r.items h.0) in
+      let did = did_to (LinkedDone k) length o n s.items r.items h.0 in
+      let len : length (row_of r) ≡ count_of s = ran_count o n s.items (row_of r) (chain_ran k o n s.items r.items did) in
       let others = line_counts os ns scripts rows h.1 in
       omega (arith, length-append (row_of r) (flat_map row_of rows), len, others, sum_by-cons count_of s scripts)
 
   -- and no number is too great
   pub all_fit : (os ns : List Seat) (scripts : List (Vec (List Command) Global)) (rows : List (Vec (Answer (Place × List Reply)) Global))
-      → All (λ (script : Vec (List Command) Global). count_of script ≤ MOST_COMMANDS) scripts → EachDid (LinkedDone k) length os ns (map blocks_of scripts) rows
-      → All AllFit rows
+      → All (λ (script : Vec (List Command) Global). count_of script ≤ MOST_COMMANDS) scripts
+      → EachDid (λ (t : Seat). t) (LinkedDone k) length os ns (map blocks_of scripts) rows → All AllFit rows
   all_fit [] [] [] [] short h = All-nil AllFit
   all_fit [] [] [] (r ∷ rows) short h = absurd h
   all_fit [] [] (s ∷ scripts) rows short h = absurd h
@@ -138,6 +140,7 @@ module _ (k : Causes) where
   all_fit (o ∷ os) (n ∷ ns) (s ∷ scripts) [] short h = absurd h
   all_fit (o ∷ os) (n ∷ ns) (s ∷ scripts) (r ∷ rows) short h =
       let few : count_of s ≤ MOST_COMMANDS = All-head (λ (v : Vec (List Command) Global). count_of v ≤ MOST_COMMANDS) s scripts short in
+      let did = did_to (LinkedDone k) length o n s.items r.items h.0 in
       All-cons AllFit r rows
-      (fit o n o.number 1 s.items r.items (omega (arith, few)) h.0.chain h.0.numbers)
+      (fit o n o.number 1 s.items r.items (omega (arith, few)) did.chain did.numbers)
       (all_fit os ns scripts rows (All-tail (λ (v : Vec (List Command) Global). count_of v ≤ MOST_COMMANDS) s scripts short) h.1)

@@ -50,7 +50,7 @@ ran_on k s t u blocks lines (i ∷ more) (d ∷ ds) ran c n =
 
 -- So a chain is a run.
 pub chain_ran : (k : Causes) (s u : Seat) (blocks : List (List Command)) (ds : List (Answer (Place × List Reply)))
-    → DidAll (LinkedDone k) length s u blocks ds → RanBlocks s u blocks (row_in ds)
+    → DidAll (λ (t : Seat). t) (LinkedDone k) length s u blocks ds → RanBlocks s u blocks (row_in ds)
 chain_ran k s u blocks ds did = ran_on k s s u [] [] blocks ds (ran_no_block s) did.chain did.numbers
 
 -- The chain of the answers is that of what became of the blocks.

@@ -12,6 +12,7 @@ pub struct Blocks<S: Store<Rules = BlockRules>> {
 
 impl<S: Store<Rules = BlockRules>> Runner for Blocks<S> {
     ghost use Rattle.std.specs.Prelude.{⊤, ◌≤◌, length};
+    ghost use Rattle.mv_history.specs.Meaning.{Seat};
     ghost use Rattle.section_work.specs.Causes.{causes};
     ghost use Rattle.block_workers.specs.BlockLinks.{LinkedDone, IsUnder};
     ghost use Rattle.block_workers.specs.BlockLinkLaws.{none_begun};
@@ -25,7 +26,13 @@ impl<S: Store<Rules = BlockRules>> Runner for Blocks<S> {
 
     type Room = ();
 
-    ghost seat_of = { λ w. S.seat_of w.store };
+    ghost Kept = { Seat };
+
+    ghost kept_of = { λ w. S.seat_of w.store };
+
+    ghost seat_of = { λ s. s };
+
+    ghost first = { S.seat_of };
 
     ghost seat_in = { S.seat_of };
 

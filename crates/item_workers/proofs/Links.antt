@@ -4,21 +4,21 @@ use Rattle.std.specs.List.{AllZip}
 use Rattle.std.proofs.lemmas.List.Sums.{sum_by-cons}
 use Rattle.mv_history.specs.Meaning.{Seat}
 use Rattle.item_workers.specs.declared.runner.Answer.{Answer}
-use Rattle.item_workers.specs.Chains.{Chain, HaveNumbers}
+use Rattle.item_workers.specs.Chains.{Chain, DidAll, DidTo, HaveNumbers}
 
-module _ {I D : Type 0} (link : Seat → Seat → I → D → Type 0) where
-  pub chain_none : (s : Seat) → Chain link s s [] []
+module _ {X I D : Type 0} (link : X → X → I → D → Type 0) where
+  pub chain_none : (s : X) → Chain link s s [] []
   chain_none s = refl
 
-  pub chain_more : (s t u : Seat) (items : List I) (ds : List D) (item : I) (d : D) → Chain link s t items ds → link t u item d
+  pub chain_more : (s t u : X) (items : List I) (ds : List D) (item : I) (d : D) → Chain link s t items ds → link t u item d
       → Chain link s u (items ++ item ∷ []) (ds ++ d ∷ [])
-  chain_more s t u [] [] item d c l = (u, subst (λ (x : Seat). link x u item d) c l, refl)
+  chain_more s t u [] [] item d c l = (u, subst (λ (x : X). link x u item d) c l, refl)
   chain_more s t u [] (e ∷ ds) item d c l = absurd c
   chain_more s t u (i ∷ items) [] item d c l = absurd c
   chain_more s t u (i ∷ items) (e ∷ ds) item d c l = (c.0, c.1, chain_more c.0 t u items ds item d c.2 l)
 
   -- there is an answer for each item
-  pub chain_length : (s t : Seat) (items : List I) (ds : List D) → Chain link s t items ds → length ds ≡ length items
+  pub chain_length : (s t : X) (items : List I) (ds : List D) → Chain link s t items ds → length ds ≡ length items
   chain_length s t [] [] c = refl
   chain_length s t [] (d ∷ ds) c = absurd c
   chain_length s t (i ∷ items) [] c = absurd c
@@ -36,6 +36,11 @@ numbers_more width seat number (i ∷ items) (b ∷ ds) item a h by numbered = (
   h.1,
   numbers_more width seat (number + width i) items ds item a h.2 by (omega (arith, numbered, sum_by-cons width i items)),
 )
+
+-- where nothing is kept but the seat, the items were done up to the seat that was left
+pub did_to : {I D : Type 0} (link : Seat → Seat → I → D → Type 0) (width : I → ℕ) (s n : Seat) (items : List I) (ds : List (Answer D))
+    → DidTo (λ (t : Seat). t) link width s n items ds → DidAll (λ (t : Seat). t) link width s n items ds
+did_to link width s n items ds h = subst (λ (t : Seat). DidAll (λ (u : Seat). u) link width s t items ds) h.seat_is h.did
 
 -- two lists stand so to each other whose places do
 pub each_zip : {X : Type 0} (P : X → X → Type 0) (os ns : List X) → length ns ≡ length os

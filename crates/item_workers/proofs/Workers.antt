@@ -7,7 +7,7 @@ use Rattle.mv_history.specs.Meaning.{Seat}
 use Rattle.item_workers.specs.Chains.{EachDid}
 use Rattle.item_workers.specs.declared.loading.WorkerRoom.{WorkerRoom}
 use Rattle.item_workers.specs.declared.threads.Worker.{Worker}
-use Rattle.item_workers.specs.Workers.{AreRooms, MayDo, MayRun, RanBy, runs_at, list_of, answers_of}
+use Rattle.item_workers.specs.Workers.{AreRooms, MayDo, MayRun, RanBy, keeps, stands_at, list_of, answers_of}
 
 -- room for one more list
 pub rooms_more : {I D M : Type 0} (lists : List (Vec I Global)) (rooms : List (WorkerRoom M D)) (list : Vec I Global) (room : WorkerRoom M D)
@@ -49,10 +49,11 @@ room_there {I} {D} {M} lists left list [] is h = absurd (subst (λ (vs : List (V
 room_there lists left list (r ∷ rooms) is h = omega arith
 
 -- what all workers did
-pub each_did : {W I D T M : Type 0} (seat_of : W → Seat) (link : Seat → Seat → I → D → Type 0) (width : I → ℕ) (os ns : List (Worker W I D T M))
-    → AllZip (RanBy seat_of link width) os ns
-    → EachDid link width (map (runs_at seat_of) os) (map (runs_at seat_of) ns) (map list_of os) (map answers_of ns)
-each_did seat_of link width [] [] h = tt
-each_did seat_of link width [] (n ∷ ns) h = absurd h
-each_did seat_of link width (o ∷ os) [] h = absurd h
-each_did seat_of link width (o ∷ os) (n ∷ ns) h = (h.0.did, each_did seat_of link width os ns h.1)
+pub each_did : {W X I D T M : Type 0} (kept_of : W → X) (seat_of : X → Seat) (link : X → X → I → D → Type 0) (width : I → ℕ)
+    (os ns : List (Worker W I D T M)) → AllZip (RanBy kept_of seat_of link width) os ns
+    → EachDid seat_of link width (map (keeps kept_of) os) (map (stands_at kept_of seat_of) ns) (map list_of os) (map answers_of ns)
+each_did kept_of seat_of link width [] [] h = tt
+each_did kept_of seat_of link width [] (n ∷ ns) h = absurd h
+each_did kept_of seat_of link width (o ∷ os) [] h = absurd h
+each_did kept_of seat_of link width (o ∷ os) (n ∷ ns) h =
+    (record { end = kept_of n.runner; seat_is = refl; did = h.0.did }, each_did kept_of seat_of link width os ns h.1)

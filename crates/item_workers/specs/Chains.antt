@@ -1,4 +1,4 @@
--- Chains of seats, with a link for each item.
+-- Chains of what a runner keeps, with a link for each item.
 use Rattle.std.specs.Prelude.{◌≡◌, ℕ, ◌+◌, List, [], ◌∷◌, Vec, ⊤}
 use Rattle.std.specs.declared.alloc.Global.{Global}
 use Rattle.mv_history.specs.Meaning.{Seat}
@@ -11,12 +11,12 @@ abbrev pub OnTried : {D : Type 0} → (D → Type 0) → Type 0 → Tried D → 
 OnTried done again (Done d) = done d
 OnTried done again Again = again
 
--- From the one seat to the other the items were done in order, with these answers: each begins at the seat at which the one before it was done.
-abbrev pub Chain : {I D : Type 0} → (Seat → Seat → I → D → Type 0) → Seat → Seat → List I → List D → Type 0
+-- From the one state to the other the items were done in order, with these answers: each begins at that at which the one before it was done.
+abbrev pub Chain : {X I D : Type 0} → (X → X → I → D → Type 0) → X → X → List I → List D → Type 0
 Chain link s t [] [] = t ≡ s
 Chain link s t [] (d ∷ ds) = ⊥
 Chain link s t (i ∷ is) [] = ⊥
-Chain link s t (i ∷ is) (d ∷ ds) = (u : Seat) × link s u i d × Chain link u t is ds
+Chain {X} link s t (i ∷ is) (d ∷ ds) = (u : X) × link s u i d × Chain link u t is ds
 
 -- The answers are by the seat of this number, and numbered from this number on, each above all that the items before it have.
 abbrev pub HaveNumbers : {I D : Type 0} → (I → ℕ) → ℕ → ℕ → List I → List (Answer D) → Type 0
@@ -27,18 +27,26 @@ HaveNumbers width seat number (i ∷ is) (a ∷ answers) =
     (a.seat ≡ seat) × (a.number ≡ number) × HaveNumbers width seat (number + width i) is answers
 
 -- the link of an item that has this answer
-abbrev pub answered : {I D : Type 0} → (Seat → Seat → I → D → Type 0) → Seat → Seat → I → Answer D → Type 0
+abbrev pub answered : {X I D : Type 0} → (X → X → I → D → Type 0) → X → X → I → Answer D → Type 0
 answered link s t item answer = link s t item answer.done
 
--- From the one seat to the other it did the items of a list, with these answers, by the seat and numbered from 1.
-pub record DidAll {I D : Type 0} (link : Seat → Seat → I → D → Type 0) (width : I → ℕ) (s t : Seat) (items : List I) (answers : List (Answer D)) : Type 0 where
+-- From the one state to the other the items of a list were done, with these answers, by its seat and numbered from 1.
+pub record DidAll {X I D : Type 0} (seat_of : X → Seat) (link : X → X → I → D → Type 0) (width : I → ℕ) (s t : X) (items : List I)
+    (answers : List (Answer D)) : Type 0 where
   pub chain : Chain (answered link) s t items answers
-  pub numbers : HaveNumbers width s.number 1 items answers
+  pub numbers : HaveNumbers width (seat_of s).number 1 items answers
 
--- Each seat did the items of the list of its place.
-abbrev pub EachDid : {I D : Type 0} → (Seat → Seat → I → D → Type 0) → (I → ℕ) → List Seat → List Seat → List (List I)
+-- The items of a list were done from this state on, and this seat was left.
+pub record DidTo {X I D : Type 0} (seat_of : X → Seat) (link : X → X → I → D → Type 0) (width : I → ℕ) (s : X) (n : Seat) (items : List I)
+    (answers : List (Answer D)) : Type 0 where
+  pub end : X
+  pub seat_is : seat_of end ≡ n
+  pub did : DidAll seat_of link width s end items answers
+
+-- From each state the items of the list of its place were done, and the seat of that place was left.
+abbrev pub EachDid : {X I D : Type 0} → (X → Seat) → (X → X → I → D → Type 0) → (I → ℕ) → List X → List Seat → List (List I)
     → List (Vec (Answer D) Global) → Type 0
-EachDid link width [] [] [] [] = ⊤
-EachDid link width (o ∷ os) (n ∷ ns) (list ∷ lists) (own ∷ others) =
-    DidAll link width o n list own.items × EachDid link width os ns lists others
-EachDid link width _ _ _ _ = ⊥
+EachDid seat_of link width [] [] [] [] = ⊤
+EachDid seat_of link width (o ∷ os) (n ∷ ns) (list ∷ lists) (own ∷ others) =
+    DidTo seat_of link width o n list own.items × EachDid seat_of link width os ns lists others
+EachDid seat_of link width _ _ _ _ = ⊥

@@ -16,9 +16,12 @@ pub record MayDo {I : Type 0} (does : I → Type 0) (width : I → ℕ) (items :
   pub each : All does items
   pub few : 1 + sum_by width items < 2 ^ 32
 
--- the seat of a worker, its items and its answers
-abbrev pub runs_at : {W I D T M : Type 0} → (W → Seat) → Worker W I D T M → Seat
-runs_at seat_of w = seat_of w.runner
+-- what a worker keeps, the seat in it, its items and its answers
+abbrev pub keeps : {W X I D T M : Type 0} → (W → X) → Worker W I D T M → X
+keeps kept_of w = kept_of w.runner
+
+abbrev pub stands_at : {W X I D T M : Type 0} → (W → X) → (X → Seat) → Worker W I D T M → Seat
+stands_at kept_of seat_of w = seat_of (kept_of w.runner)
 
 abbrev pub list_of : {W I D T M : Type 0} → Worker W I D T M → List I
 list_of w = w.items.now
@@ -34,9 +37,10 @@ pub record IsReady {W I D T M : Type 0} (ready : W → Type 0) (does : I → Typ
   pub room : length worker.items.now ≤ vec_capacity worker.answers
 
 -- it did its items
-pub record RanBy {W I D T M : Type 0} (seat_of : W → Seat) (link : Seat → Seat → I → D → Type 0) (width : I → ℕ) (old new : Worker W I D T M) : Type 0 where
+pub record RanBy {W X I D T M : Type 0} (kept_of : W → X) (seat_of : X → Seat) (link : X → X → I → D → Type 0) (width : I → ℕ)
+    (old new : Worker W I D T M) : Type 0 where
   pub items : new.items.now ≡ old.items.now
-  pub did : DidAll link width (seat_of old.runner) (seat_of new.runner) old.items.now new.answers.items
+  pub did : DidAll seat_of link width (kept_of old.runner) (kept_of new.runner) old.items.now new.answers.items
 
 -- no answers for each list, and room for its answers
 abbrev pub AreRooms : {I D M : Type 0} → List (Vec I Global) → List (WorkerRoom M D) → Type 0

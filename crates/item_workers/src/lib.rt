@@ -3,16 +3,18 @@
 //! # The model
 //!
 //! A [`Runner`] has a store, which is a seat of one history of commits (`mv_history`), and does items on it, each by
-//! attempts. What it means that an item is done from one seat to a later one, its *link*, is the runner's to say. Each item
-//! has a number: of a worker's own list it is one above all that the items before it have (an item has as many as its
-//! *width*), and of a shared list it is its place, from 1. What was done is an [`Answer`], with the seat and the number.
+//! attempts. What it keeps from one item to the next is the runner's to say: the seat, and what else the next item depends on
+//! (`Kept`). So is what it means that an item is done between two such states, its *link*. Each item has a number: of a
+//! worker's own list it is one above all that the items before it have (an item has as many as its *width*), and of a shared
+//! list it is its place, from 1. What was done is an [`Answer`], with the seat and the number.
 //!
 //! # The contract
 //!
-//! - [`run_item`] leaves the link of the item, from the seat at which it began to the seat that it leaves. So no attempt of
-//!   another item lies between.
+//! - [`run_item`] leaves the link of the item, from what was kept when it began to what is kept then. So no attempt of another
+//!   item lies between.
 //! - [`run_items`] and [`run_lists`] leave a chain (`DidAll`): one link for each item, in the order of the list. Each begins
-//!   at the seat at which the one before it was done, and each answer has the seat and its item's number.
+//!   at what was kept, and so at the very seat, when the one before it was done; the first at what a runner of the store begins
+//!   with (`first`). Each answer has the seat and its item's number.
 //! - [`run_from`] leaves the same for the items whose places a [`Source`] gave, in the order in which it gave them, until it
 //!   had none to give (`IsServed`). [`Own`] gives each place of a list once, in order.
 //!

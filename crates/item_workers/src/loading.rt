@@ -1,6 +1,6 @@
 // The memory of a run, and the way of the stores into the workers and back.
 ghost use Rattle.std.specs.Prelude.{◌≡◌, ◌≤◌, ◌<◌, ◌∷◌, [], length, map, All, IfOk, vec_capacity};
-ghost use Rattle.item_workers.specs.Workers.{IsReady, MayRun, AreRooms, runs_at, list_of, answers_of, items_of};
+ghost use Rattle.item_workers.specs.Workers.{IsReady, MayRun, AreRooms, keeps, stands_at, list_of, answers_of, items_of};
 
 use crate::runner::{Answer, Runner};
 use crate::threads::Worker;
@@ -67,7 +67,7 @@ pub(crate) fn load<'s, W: Runner>(
     requires rooms { AreRooms lists.now rooms.items }
     requires none { workers.old.items ≡ [] }
     requires places { length lists.now ≤ vec_capacity workers.old }
-    ensures seats { map (runs_at W.seat_of) workers.new.items ≡ map W.seat_in stores.old.items }
+    ensures kept { map (keeps W.kept_of) workers.new.items ≡ map W.first stores.old.items }
     ensures lists { map list_of workers.new.items ≡ map items_of lists.now }
     ensures ready { All (IsReady W.ready W.does W.width_of) workers.new.items }
     ensures taken { stores.new.items ≡ [] }
@@ -92,7 +92,7 @@ pub(crate) fn unload<W: Runner>(
 )
     requires stores { (stores.old.items ≡ []) × (length workers.items ≤ vec_capacity stores.old) }
     requires answers { (answers.old.items ≡ []) × (length workers.items ≤ vec_capacity answers.old) }
-    ensures seats { map W.seat_in stores.new.items ≡ map (runs_at W.seat_of) workers.entry.items }
+    ensures seats { map W.seat_in stores.new.items ≡ map (stands_at W.kept_of W.seat_of) workers.entry.items }
     ensures answers { answers.new.items ≡ map answers_of workers.entry.items }
 {
     while !workers.is_empty() {

@@ -22,10 +22,11 @@ pub struct Answer<D> {
 
 /// A store with what is kept beside it, which does items one after another, each by attempts.
 ///
-/// What it means for an item to be done from one seat to a later one, its *link*, is its own to say. Whatever tries items in
-/// order then leaves a chain of seats with a link for each item (`Chain`): the next item begins at the very seat at which the
-/// last one was done. So a link that tells of a section which the item's own attempt entered tells that the snapshot holds all
-/// that came before.
+/// What it keeps from one item to the next is its own to say: its seat, and what else the next item depends on. So is what it
+/// means that an item is done between two such states, its *link*. Whatever tries items in order then leaves a chain of them
+/// with a link for each item (`Chain`): the next item begins at the very state, and so at the very seat, at which the last one
+/// was done. So a link that tells of a section which the item's own attempt entered tells that the snapshot holds all that came
+/// before.
 pub trait Runner: Sized {
     ghost use Rattle.std.specs.Prelude.{ℕ, ◌≡◌};
     ghost use Rattle.mv_history.specs.Meaning.{Seat};
@@ -43,8 +44,17 @@ pub trait Runner: Sized {
     /// The memory that it keeps beside the store.
     type Room: Drop;
 
-    // The seat that it has.
-    ghost seat_of: { Self → Seat };
+    // What is kept from one item to the next: a seat, and what else the next item depends on.
+    ghost Kept: { Type 0 };
+
+    // What it keeps.
+    ghost kept_of: { Self → Self.Kept };
+
+    // The seat in it.
+    ghost seat_of: { Self.Kept → Seat };
+
+    // What is kept by one that is made of the store, ahead of its first item.
+    ghost first: { Self.Store → Self.Kept };
 
     // The seat of a store.
     ghost seat_in: { Self.Store → Seat };
@@ -61,11 +71,11 @@ pub trait Runner: Sized {
     // How many numbers the item has.
     ghost width_of: { Self.Item → ℕ };
 
-    // It began the item at this seat, and has not done it yet.
-    ghost under: { Seat → Self.Item → Self → Type 0 };
+    // It kept this when it began the item, and has not done it yet.
+    ghost under: { Self.Kept → Self.Item → Self → Type 0 };
 
-    // From the one seat to the other the item was done, with this answer.
-    ghost link: { Seat → Seat → Self.Item → Self.Done → Type 0 };
+    // From the one to the other the item was done, with this answer.
+    ghost link: { Self.Kept → Self.Kept → Self.Item → Self.Done → Type 0 };
 
     /// Takes the memory that one runner keeps.
     fn room(alloc: Global) -> Result<Self::Room, AllocError>;
@@ -73,16 +83,16 @@ pub trait Runner: Sized {
     /// Puts a store and its memory together.
     fn new(store: Self::Store, room: Self::Room) -> Self
         requires { fits store }
-        ensures seat { seat_of result ≡ seat_in store }
+        ensures kept { kept_of result ≡ first store }
         ensures ready { ready result };
 
     /// Gives the store back.
     fn into_store(self) -> Self::Store
-        ensures { seat_in result ≡ seat_of self };
+        ensures { seat_in result ≡ seat_of (kept_of self) };
 
     /// The seat's number.
     fn seat(&self) -> u32
-        ensures { result ≡ (seat_of self.now).number };
+        ensures { result ≡ (seat_of (kept_of self.now)).number };
 
     /// How many numbers the item has.
     fn width(item: &Self::Item) -> u32
@@ -91,9 +101,9 @@ pub trait Runner: Sized {
     /// One attempt of an item, or of what is still due behind it.
     fn attempt(self, item: &Self::Item) -> (Self, Tried<Self::Done>)
         requires does { does item.now }
-        requires under { (s : Seat) × under s item.now self }
-        ensures tried { (s : Seat) → under s item.now self → OnTried (λ d. link s (seat_of result.0) item.now d × ready result.0)
+        requires under { (s : Self.Kept) × under s item.now self }
+        ensures tried { (s : Self.Kept) → under s item.now self → OnTried (λ d. link s (kept_of result.0) item.now d × ready result.0)
             (under s item.now result.0) result.1 };
 
-    ghost begins: { (w : Self) (item : Self.Item) → ready w → does item → under (seat_of w) item w };
+    ghost begins: { (w : Self) (item : Self.Item) → ready w → does item → under (kept_of w) item w };
 }

@@ -1,6 +1,5 @@
 // One item after another, by one runner.
 ghost use Rattle.std.specs.Prelude.{◌≡◌, ◌≤◌, ◌<◌, ◌+◌, ◌^◌, [], length, sum_by, vec_capacity, All};
-ghost use Rattle.mv_history.specs.Meaning.{Seat};
 ghost use Rattle.item_workers.specs.Chains.{OnTried, DidAll};
 
 use crate::runner::{Answer, Runner, Tried};
@@ -15,7 +14,7 @@ use std::thread;
 pub fn run_item<R: Wait, W: Runner>(rt: &R, runner: &mut W, item: &W::Item) -> W::Done
     requires ready { W.ready runner.old }
     requires does { W.does item.now }
-    ensures link { W.link (W.seat_of runner.old) (W.seat_of runner.new) item.now result }
+    ensures link { W.link (W.kept_of runner.old) (W.kept_of runner.new) item.now result }
     ensures ready { W.ready runner.new }
 {
     for _ in rt.forever() {
@@ -30,8 +29,8 @@ pub fn run_item<R: Wait, W: Runner>(rt: &R, runner: &mut W, item: &W::Item) -> W
 // One attempt. What runs can't be copied or left out, so it is taken out of its place and put back.
 fn try_item<W: Runner>(runner: &mut W, item: &W::Item) -> Tried<W::Done>
     requires does { W.does item.now }
-    requires under { (s : Seat) × W.under s item.now runner.old }
-    ensures { (s : Seat) → W.under s item.now runner.old → OnTried (λ d. W.link s (W.seat_of runner.new) item.now d × W.ready runner.new)
+    requires under { (s : W.Kept) × W.under s item.now runner.old }
+    ensures { (s : W.Kept) → W.under s item.now runner.old → OnTried (λ d. W.link s (W.kept_of runner.new) item.now d × W.ready runner.new)
         (W.under s item.now runner.new) result }
 {
     replace_with(
@@ -39,8 +38,8 @@ fn try_item<W: Runner>(runner: &mut W, item: &W::Item) -> Tried<W::Done>
         item,
         |runner, item|
             requires does { W.does item.now }
-            requires under { (s : Seat) × W.under s item.now runner }
-            ensures { (s : Seat) → W.under s item.now runner → OnTried (λ d. W.link s (W.seat_of result.0) item.now d × W.ready result.0)
+            requires under { (s : W.Kept) × W.under s item.now runner }
+            ensures { (s : W.Kept) → W.under s item.now runner → OnTried (λ d. W.link s (W.kept_of result.0) item.now d × W.ready result.0)
                 (W.under s item.now result.0) result.1 }
         { runner.attempt(item) },
     )
@@ -57,7 +56,7 @@ pub(crate) fn do_item<R: Wait, W: Runner, G: Gate>(
 ) -> Answer<W::Done>
     requires ready { W.ready runner.old }
     requires does { W.does item.now }
-    ensures link { W.link (W.seat_of runner.old) (W.seat_of runner.new) item.now result.done }
+    ensures link { W.link (W.kept_of runner.old) (W.kept_of runner.new) item.now result.done }
     ensures ready { W.ready runner.new }
     ensures by { (result.seat ≡ seat) × (result.number ≡ number) }
 {
@@ -82,7 +81,7 @@ pub fn run_items<R: Wait, W: Runner, G: Gate>(
     requires few { 1 + sum_by W.width_of items.now < 2 ^ 32 }
     requires empty { answers.old.items ≡ [] }
     requires room { length items.now ≤ vec_capacity answers.old }
-    ensures did { DidAll W.link W.width_of (W.seat_of runner.old) (W.seat_of runner.new) items.now answers.new.items }
+    ensures did { DidAll W.seat_of W.link W.width_of (W.kept_of runner.old) (W.kept_of runner.new) items.now answers.new.items }
     ensures ready { W.ready runner.new }
 {
     let seat = runner.seat();

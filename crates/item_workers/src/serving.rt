@@ -26,8 +26,8 @@ pub fn run_from<R: Wait, W: Runner, P: Source, G: Gate>(
     requires below { P.below (length items.now) source.old }
     requires empty { answers.old.items ≡ [] }
     requires room { P.left (length items.now) source.old ≤ vec_capacity answers.old }
-    ensures served { IsServed W.link P.gives (P.ended (length items.now)) items.now (W.seat_of runner.old).number (W.seat_of runner.old) source.old
-        (W.seat_of runner.new) source.new answers.new.items }
+    ensures served { IsServed W.link P.gives (P.ended (length items.now)) items.now (W.seat_of (W.kept_of runner.old)).number (W.kept_of runner.old)
+        source.old (W.kept_of runner.new) source.new answers.new.items }
     ensures ready { W.ready runner.new }
     ensures below { P.below (length items.now) source.new }
 {

@@ -25,7 +25,7 @@ impl<'s, W: Runner> Worker<'s, W> {
 
     fn run<R: Wait, G: Gate>(&mut self, rt: &R, gate: &G)
         requires { IsReady W.ready W.does W.width_of self.old }
-        ensures { RanBy W.seat_of W.link W.width_of self.old self.new }
+        ensures { RanBy W.kept_of W.seat_of W.link W.width_of self.old self.new }
     {
         run_items(rt, &mut self.runner, self.items, gate, &mut self.answers);
     }
@@ -56,7 +56,7 @@ where
     requires as_many { length lists.now ≡ length stores.items }
     requires fit { All W.fits stores.items }
     requires may { All (λ list. MayDo W.does W.width_of list.items) lists.now }
-    ensures did { IfOk result (λ done. EachDid W.link W.width_of (map W.seat_in stores.items) (map W.seat_in done.0.items)
+    ensures did { IfOk result (λ done. EachDid W.seat_of W.link W.width_of (map W.first stores.items) (map W.seat_in done.0.items)
         (map items_of lists.now) done.1.items) }
     ensures err { IfErr result (λ refused. refused.0.items ≡ stores.items) }
 {
@@ -86,7 +86,7 @@ where
     W::Store: Send,
     W::Room: Send,
     requires { All (IsReady W.ready W.does W.width_of) workers.old }
-    ensures { AllZip (RanBy W.seat_of W.link W.width_of) workers.old workers.new }
+    ensures { AllZip (RanBy W.kept_of W.seat_of W.link W.width_of) workers.old workers.new }
 {
     let threads = workers.len().max(1);
     thread::for_each_mut(
@@ -95,7 +95,7 @@ where
         threads,
         &|_, worker: &mut Worker<'_, W>|
             requires { IsReady W.ready W.does W.width_of worker.old }
-            ensures { RanBy W.seat_of W.link W.width_of worker.old worker.new }
+            ensures { RanBy W.kept_of W.seat_of W.link W.width_of worker.old worker.new }
         { worker.run(rt, gate) },
     );
 }

@@ -16,7 +16,7 @@ use Rattle.run_report.specs.Worked.{AllRan}
 use Rattle.item_workers.specs.declared.runner.Answer.{Answer}
 use Rattle.item_workers.specs.Chains.{EachDid, answered}
 use Rattle.item_workers.specs.Workers.{MayDo}
-use Rattle.item_workers.proofs.Links.{chain_length}
+use Rattle.item_workers.proofs.Links.{chain_length, did_to}
 use Rattle.script_workers.specs.Lines.{line_of, row_of, AllLinked}
 use Rattle.script_workers.specs.Links.{LinkedDone}
 use Rattle.script_workers.specs.Workers.{items_of, command_count}
@@ -44,7 +44,7 @@ may_do (script ∷ scripts) short =
 module _ (k : Causes) where
   -- what all seats ran
   pub all_ran : (os ns : List Seat) (scripts : List (List Command)) (rows : List (Vec (Answer (Place × Reply)) Global))
-      → EachDid (LinkedDone k) (λ (c : Command). 1) os ns scripts rows → AllRan os ns scripts (flat_map row_of rows)
+      → EachDid (λ (t : Seat). t) (LinkedDone k) (λ (c : Command). 1) os ns scripts rows → AllRan os ns scripts (flat_map row_of rows)
   all_ran [] [] [] [] h = refl
   all_ran [] [] [] (r ∷ rows) h = absurd h
   all_ran [] [] (s ∷ scripts) rows h = absurd h
@@ -53,14 +53,16 @@ module _ (k : Causes) where
   all_ran (o ∷ os) (n ∷ ns) [] rows h = absurd h
   all_ran (o ∷ os) (n ∷ ns) (s ∷ scripts) [] h = absurd h
   all_ran (o ∷ os) (n ∷ ns) (s ∷ scripts) (r ∷ rows) h =
-      let len : length (row_of r) ≡ length s = length-map r.items line_of ∙ chain_length (answered (LinkedDone k)) o n s r.items h.0.chain in (
-        rw (take_at (row_of r) (flat_map row_of rows) (length s) len) (chain_ran k o n s r.items h.0),
+      let did = did_to (LinkedDone k) (λ (c : Command). 1) o n s r.items h.0 in
+      let len : length (row_of r) ≡ length s =
+      length-map r.items line_of ∙ chain_length (answered (LinkedDone k)) o n s r.items did.chain in (
+        rw (take_at (row_of r) (flat_map row_of rows) (length s) len) (chain_ran k o n s r.items did),
         rw (drop_at (row_of r) (flat_map row_of rows) (length s) len) (all_ran os ns scripts rows h.1),
       )
 
   -- and that each went on from where it was
   pub all_linked : (os ns : List Seat) (scripts : List (List Command)) (rows : List (Vec (Answer (Place × Reply)) Global))
-      → EachDid (LinkedDone k) (λ (c : Command). 1) os ns scripts rows → AllLinked k os ns scripts (flat_map row_of rows)
+      → EachDid (λ (t : Seat). t) (LinkedDone k) (λ (c : Command). 1) os ns scripts rows → AllLinked k os ns scripts (flat_map row_of rows)
   all_linked [] [] [] [] h = refl
   all_linked [] [] [] (r ∷ rows) h = absurd h
   all_linked [] [] (s ∷ scripts) rows h = absurd h
@@ -69,14 +71,16 @@ module _ (k : Causes) where
   all_linked (o ∷ os) (n ∷ ns) [] rows h = absurd h
   all_linked (o ∷ os) (n ∷ ns) (s ∷ scripts) [] h = absurd h
   all_linked (o ∷ os) (n ∷ ns) (s ∷ scripts) (r ∷ rows) h =
-      let len : length (row_of r) ≡ length s = length-map r.items line_of ∙ chain_length (answered (LinkedDone k)) o n s r.items h.0.chain in (
-        rw (take_at (row_of r) (flat_map row_of rows) (length s) len) (chain_lines k o n s r.items h.0.chain),
+      let did = did_to (LinkedDone k) (λ (c : Command). 1) o n s r.items h.0 in
+      let len : length (row_of r) ≡ length s =
+      length-map r.items line_of ∙ chain_length (answered (LinkedDone k)) o n s r.items did.chain in (
+        rw (take_at (row_of r) (flat_map row_of rows) (length s) len) (chain_lines k o n s r.items did.chain),
         rw (drop_at (row_of r) (flat_map row_of rows) (length s) len) (all_linked os ns scripts rows h.1),
       )
 
   -- there are as many lines as commands
   pub line_counts : (os ns : List Seat) (scripts : List (Vec Command Global)) (rows : List (Vec (Answer (Place × Reply)) Global))
-      → EachDid (LinkedDone k) (λ (c : Command). 1) os ns (map items_of scripts) rows → length (flat_map row_of rows) ≡ sum_by command_count scripts
+      → EachDid (λ (t : Seat). t) (LinkedDone k) (λ (c : Command). 1) os ns (map items_of scripts) rows → length (flat_map row_of rows) ≡ sum_by command_count scripts
   line_counts [] [] [] [] h = refl
   line_counts [] [] [] (r ∷ rows) h = absurd h
   line_counts [] [] (s ∷ scripts) rows h = absurd h
@@ -85,7 +89,9 @@ module _ (k : Causes) where
   line_counts (o ∷ os) (n ∷ ns) [] rows h = absurd h
   line_counts (o ∷ os) (n ∷ ns) (s ∷ scripts) [] h = absurd h
   line_counts (o ∷ os) (n ∷ ns) (s ∷ scripts) (r ∷ rows) h =
-      let len : length (row_of r) ≡ length s.items = length-map r.items line_of ∙ chain_length (answered (LinkedDone k)) o n s.items r.items h.0.chain in
+      let did = did_to (LinkedDone k) (λ (c : Command). 1) o n s.items r.items h.0 in
+      let len : length (row_of r) ≡ length s.items =
+      length-map r.items line_of ∙ chain_length (answered (LinkedDone k)) o n s.items r.items did.chain in
       let others = line_counts os ns scripts rows h.1 in
       omega (arith, length-append (row_of r) (flat_map row_of rows), len, others, sum_by-cons command_count s scripts)
 

@@ -49,7 +49,7 @@ ran_on k s t u commands lines (i ∷ more) (d ∷ ds) ran c n =
 
 -- So a chain is a run.
 pub chain_ran : (k : Causes) (s u : Seat) (commands : List Command) (ds : List (Answer (Place × Reply)))
-    → DidAll (LinkedDone k) (λ (c : Command). 1) s u commands ds → Ran s u commands (map line_of ds)
+    → DidAll (λ (t : Seat). t) (LinkedDone k) (λ (c : Command). 1) s u commands ds → Ran s u commands (map line_of ds)
 chain_ran k s u commands ds did = ran_on k s s u [] [] commands ds (ran_none s) did.chain did.numbers
 
 -- The chain of the answers is that of the lines.

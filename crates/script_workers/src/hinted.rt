@@ -16,6 +16,7 @@ pub struct Hinted<S: Store<Rules = SetRules>> {
 
 impl<S: Store<Rules = SetRules>> Runner for Hinted<S> {
     ghost use Rattle.std.specs.Prelude.{⊤, ◌≤◌};
+    ghost use Rattle.mv_history.specs.Meaning.{Seat};
     ghost use Rattle.set_catalog.specs.Steps.{most_locks};
     ghost use Rattle.section_work.specs.Causes.{causes};
     ghost use Rattle.script_workers.specs.Links.{LinkedDone, IsUnder};
@@ -29,7 +30,13 @@ impl<S: Store<Rules = SetRules>> Runner for Hinted<S> {
 
     type Room = Hints;
 
-    ghost seat_of = { λ w. S.seat_of w.hinted.store };
+    ghost Kept = { Seat };
+
+    ghost kept_of = { λ w. S.seat_of w.hinted.store };
+
+    ghost seat_of = { λ s. s };
+
+    ghost first = { S.seat_of };
 
     ghost seat_in = { S.seat_of };
 

@@ -1,7 +1,7 @@
 use Rattle.std.proofs.Common.{◌++◌, refl, sym, ap, ◌∙◌, arith, drop, map, length, take_all}
 use Rattle.std.proofs.lemmas.List.{append-nil, drop_all}
 use Rattle.std.proofs.lemmas.List.Elements.{All-nil, All-push}
-use Rattle.item_workers.specs.Workers.{IsReady, runs_at, list_of, items_of}
+use Rattle.item_workers.specs.Workers.{IsReady, keeps, list_of, items_of}
 use Rattle.item_workers.proofs.Moving.{lists_left, store_loaded, list_loaded}
 use Rattle.item_workers.proofs.Workers.{none_left, room_there, store_there}
 use Rattle.item_workers.proofs.loading.load.Goals as goal
@@ -11,7 +11,7 @@ pub loop-list-init : goal.loop-list-init
 loop-list-init g c =
     let none = c.requires.none in
     record {
-      seats = ap (λ ws. map (runs_at g.W.Runner.seat_of) ws ++ map g.W.Runner.seat_in c.args.stores.now.items) none;
+      kept = ap (λ ws. map (keeps g.W.Runner.kept_of) ws ++ map g.W.Runner.first c.args.stores.now.items) none;
       lists = ap (λ ws. map list_of ws) none;
       ready = rw none (All-nil (IsReady g.W.Runner.ready g.W.Runner.does g.W.Runner.width_of));
       may_run = c.requires.may_run;
@@ -55,8 +55,8 @@ loop-list-preserved g c =
     let may = rw (c.take_first-store.ensures.items, left) at l.invariant.may_run in
     let rooms = rw (c.take_first-room.ensures.items, left) at l.invariant.rooms in
     record {
-      seats = store_loaded (runs_at g.W.Runner.seat_of) g.W.Runner.seat_in l.workers.items _ _ l.stores.items c.take_first-store.new.from.items _ _ pushed
-          c.new.ensures.seat c.take_first-store.ensures.items l.invariant.seats;
+      kept = store_loaded (keeps g.W.Runner.kept_of) g.W.Runner.first l.workers.items _ _ l.stores.items c.take_first-store.new.from.items _ _ pushed
+          c.new.ensures.kept c.take_first-store.ensures.items l.invariant.kept;
       lists = list_loaded list_of items_of l.workers.items _ _ lists list l.list-index c.loop-list-test.true c.list-item.is pushed
           c.as_slice.ensures.value l.invariant.lists;
       ready = rw pushed (All-push (IsReady g.W.Runner.ready g.W.Runner.does g.W.Runner.width_of) l.workers.items _ l.invariant.ready (record {
@@ -72,14 +72,14 @@ loop-list-preserved g c =
       capacity = c.take_first-store.ensures.capacity ∙ l.invariant.capacity;
     }
 
-pub returns-clause-seats : goal.returns-clause-seats
-returns-clause-seats g c =
+pub returns-clause-kept : goal.returns-clause-kept
+returns-clause-kept g c =
     let l = c.loop-list in
     let no_list = drop_all l.list-index c.args.lists.now (omega (arith, c.loop-list-test.false)) in
     let none = none_left g.W.Runner.fits g.W.Runner.does g.W.Runner.width_of l.stores.items (drop l.list-index c.args.lists.now) no_list l.invariant.may_run in
-    sym (append-nil (map (runs_at g.W.Runner.seat_of) l.workers.items))
-    ∙ ap (λ stores. map (runs_at g.W.Runner.seat_of) l.workers.items ++ map g.W.Runner.seat_in stores) (sym none)
-    ∙ l.invariant.seats
+    sym (append-nil (map (keeps g.W.Runner.kept_of) l.workers.items))
+    ∙ ap (λ stores. map (keeps g.W.Runner.kept_of) l.workers.items ++ map g.W.Runner.first stores) (sym none)
+    ∙ l.invariant.kept
 
 pub returns-clause-taken : goal.returns-clause-taken
 returns-clause-taken g c =

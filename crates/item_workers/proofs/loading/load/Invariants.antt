@@ -1,10 +1,10 @@
 use Rattle.std.proofs.Common.{◌≡◌, ◌≤◌, ◌++◌, take, drop, map, length, All, vec_capacity}
-use Rattle.item_workers.specs.Workers.{AreRooms, MayRun, IsReady, runs_at, list_of, items_of}
+use Rattle.item_workers.specs.Workers.{AreRooms, MayRun, IsReady, keeps, list_of, items_of}
 use Rattle.item_workers.proofs.loading.load.Given as goal
 
 abbrev pub invariant-loop-list : goal.invariant-loop-list
 invariant-loop-list g l = record {
-  seats : map (runs_at g.W.Runner.seat_of) l.workers.items ++ map g.W.Runner.seat_in l.stores.items ≡ map g.W.Runner.seat_in l.initial.stores.items;
+  kept : map (keeps g.W.Runner.kept_of) l.workers.items ++ map g.W.Runner.first l.stores.items ≡ map g.W.Runner.first l.initial.stores.items;
   lists : map list_of l.workers.items ≡ map items_of (take l.list-index l.lists);
   ready : All (IsReady g.W.Runner.ready g.W.Runner.does g.W.Runner.width_of) l.workers.items;
   may_run : MayRun g.W.Runner.fits g.W.Runner.does g.W.Runner.width_of l.stores.items (drop l.list-index l.lists);

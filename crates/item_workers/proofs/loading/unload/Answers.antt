@@ -1,6 +1,6 @@
 use Rattle.std.proofs.Common.{◌++◌, arith, ap, length, map, refl, sym, true-eqb, vec_len, ◌∙◌}
 use Rattle.std.proofs.lemmas.List.{append-nil, nil_from_length}
-use Rattle.item_workers.specs.Workers.{runs_at, answers_of}
+use Rattle.item_workers.specs.Workers.{stands_at, answers_of}
 use Rattle.item_workers.proofs.Moving.{store_unloaded, answers_unloaded}
 use Rattle.item_workers.proofs.loading.unload.Goals as goal
 
@@ -30,7 +30,8 @@ loop-workers-preserved g c =
     let l = c.loop-workers in
     let taken = c.take_first-runner in
     record {
-      seats = store_unloaded (runs_at g.W.Runner.seat_of) g.W.Runner.seat_in l.workers.items taken.new.from.items taken.result _ _ _ _ taken.ensures.items
+      seats = store_unloaded (stands_at g.W.Runner.kept_of g.W.Runner.seat_of) g.W.Runner.seat_in l.workers.items taken.new.from.items taken.result
+          _ _ _ _ taken.ensures.items
           c.push_reserved.ensures.items c.into_store.ensures l.invariant.seats;
       answers = answers_unloaded answers_of l.workers.items taken.new.from.items taken.result _ _ _ taken.ensures.items
           c.push_reserved-in-loop-workers.ensures.items l.invariant.answers;
@@ -46,7 +47,7 @@ returns-clause-seats g c =
     let stores = map g.W.Runner.seat_in c.loop-workers.stores.items in
     let no_length = sym c.loop-workers.workers.ok.0 ∙ true-eqb (vec_len c.loop-workers.workers) 0 c.loop-workers-test.ensures in
     let none = nil_from_length c.loop-workers.workers.items no_length in
-    sym (append-nil stores) ∙ ap (λ ws. stores ++ map (runs_at g.W.Runner.seat_of) ws) (sym none) ∙ c.loop-workers.invariant.seats
+    sym (append-nil stores) ∙ ap (λ ws. stores ++ map (stands_at g.W.Runner.kept_of g.W.Runner.seat_of) ws) (sym none) ∙ c.loop-workers.invariant.seats
 
 pub returns-clause-answers : goal.returns-clause-answers
 returns-clause-answers g c =

@@ -1,10 +1,11 @@
 use Rattle.std.proofs.Common.{◌≡◌, ◌≤◌, ◌+◌, ◌++◌, map, length, vec_len, vec_capacity}
-use Rattle.item_workers.specs.Workers.{runs_at, answers_of}
+use Rattle.item_workers.specs.Workers.{stands_at, answers_of}
 use Rattle.item_workers.proofs.loading.unload.Given as goal
 
 abbrev pub invariant-loop-workers : goal.invariant-loop-workers
 invariant-loop-workers g l = record {
-  seats : map g.W.Runner.seat_in l.stores.items ++ map (runs_at g.W.Runner.seat_of) l.workers.items ≡ map (runs_at g.W.Runner.seat_of) l.initial.workers.items;
+  seats : map g.W.Runner.seat_in l.stores.items ++ map (stands_at g.W.Runner.kept_of g.W.Runner.seat_of) l.workers.items
+      ≡ map (stands_at g.W.Runner.kept_of g.W.Runner.seat_of) l.initial.workers.items;
   answers : l.answers.items ++ map answers_of l.workers.items ≡ map answers_of l.initial.workers.items;
   places : length l.stores.items + length l.workers.items ≤ vec_capacity l.stores;
   room : length l.answers.items + length l.workers.items ≤ vec_capacity l.answers;

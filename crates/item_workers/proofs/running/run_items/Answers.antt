@@ -7,7 +7,7 @@ use Rattle.item_workers.proofs.running.run_items.Goals as goal
 
 pub loop-item-init : goal.loop-item-init
 loop-item-init g c = record {
-  chain = rw c.requires.empty (chain_none (answered g.W.Runner.link) (g.W.Runner.seat_of c.args.runner.now));
+  chain = rw c.requires.empty (chain_none (answered g.W.Runner.link) (g.W.Runner.kept_of c.args.runner.now));
   numbers = rw c.requires.empty tt;
   ready = c.requires.ready;
   number = refl;
@@ -28,7 +28,7 @@ loop-item-preserved g c =
     record {
       chain = rw (c.push_reserved.ensures.items, take_more items i item c.loop-item-test.true)
           (rw (← c.item-item.is)
-          (chain_more (answered g.W.Runner.link) _ (g.W.Runner.seat_of c.loop-item.runner) _ (take i items) c.loop-item.answers.items item
+          (chain_more (answered g.W.Runner.link) _ (g.W.Runner.kept_of c.loop-item.runner) _ (take i items) c.loop-item.answers.items item
           c.do_item-answer.result before.chain done.link));
       numbers = rw (c.push_reserved.ensures.items, take_more items i item c.loop-item-test.true)
           (rw (← c.item-item.is)

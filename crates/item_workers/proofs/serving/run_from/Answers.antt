@@ -12,7 +12,7 @@ loop-preserved g c =
     let done = c.do_item-answer.ensures in
     record {
       serves = rw c.push_reserved.ensures.items
-          (serves_more g.W.Runner.link g.P.Source.gives items _ _ _ (g.W.Runner.seat_of c.loop.runner) c.loop.source _ _ c.loop.answers.items
+          (serves_more g.W.Runner.link g.P.Source.gives items _ _ _ (g.W.Runner.kept_of c.loop.runner) c.loop.source _ _ c.loop.answers.items
           c.do_item-answer.result before.serves (record {
             place = place;
             item = item;

@@ -4,8 +4,8 @@ use Rattle.item_workers.proofs.serving.run_from.Given as goal
 
 abbrev pub invariant-loop : goal.invariant-loop
 invariant-loop g l = record {
-  serves : Serves g.W.Runner.link g.P.Source.gives l.items (g.W.Runner.seat_of l.fn.runner).number (g.W.Runner.seat_of l.fn.runner) l.fn.source
-      (g.W.Runner.seat_of l.runner) l.source l.answers.items;
+  serves : Serves g.W.Runner.link g.P.Source.gives l.items (g.W.Runner.seat_of (g.W.Runner.kept_of l.fn.runner)).number (g.W.Runner.kept_of l.fn.runner)
+      l.fn.source (g.W.Runner.kept_of l.runner) l.source l.answers.items;
   ready : g.W.Runner.ready l.runner;
   below : g.P.Source.below (length l.items) l.source;
   room : length l.answers.items + g.P.Source.left (length l.items) l.source ≤ vec_capacity l.answers;

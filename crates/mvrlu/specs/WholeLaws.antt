@@ -53,10 +53,11 @@ pub words_at_last : (w : Whole) → IsSound w → AreWords (last_state w)
 words_at_last w is = AreWords-state_after (length w.start) [] w.history w.start is.legal is.words
 
 pub still_itself : (v : Whole) → IsStill v v
-still_itself v = record { start = refl; base = refl; history = refl; trail = ([], sym (append-nil v.trail)) }
+still_itself v = record { config = refl; start = refl; base = refl; history = refl; trail = ([], sym (append-nil v.trail)) }
 
 pub still_long : (u v w : Whole) → IsStill u v → IsStill v w → IsStill u w
 still_long u v w p q = record {
+  config = q.config ∙ p.config;
   start = q.start ∙ p.start;
   base = q.base ∙ p.base;
   history = q.history ∙ p.history;

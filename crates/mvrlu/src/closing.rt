@@ -19,12 +19,12 @@ pub(crate) struct Last<P: Protocol> {
 }
 
 impl<P: Protocol> Model for Last<P> {
-    ghost use Rattle.mv_core.specs.Passes.{view as knows};
+    ghost use Rattle.mv_core.specs.Passes.{view as knows, config_of};
     ghost use Rattle.mvrlu.specs.Whole.{Whole, whole_from, IsReading};
 
     ghost Value = { Whole };
 
-    ghost view = { λ l. whole_from (knows l.pass) };
+    ghost view = { λ l. whole_from (config_of l.shared) (knows l.pass) };
 
     ghost invariant = { λ l. IsReading l.shared l.pass };
 }

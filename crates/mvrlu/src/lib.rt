@@ -11,7 +11,8 @@
 //! state. A `Seat` means what every store's seat means: what it has seen of the one history of commits
 //! and rests, its own commits in it, the free slots of its log, and the trail of its atomic steps. A
 //! `Handle` means its seat, and a `Session` the section of its seat: the snapshot's length, and what it
-//! holds. A `Closing` means the whole history, and reads the state after it. `Meant` in specs/ has these.
+//! holds. A `Closing` means the whole history, with the numbers of its domain, and reads the state after
+//! it. `Meant` in specs/ has these.
 //!
 //! **The contract.** `Handle` is a `Store` and `Session` a `Section`, so all clauses of these traits hold
 //! over every interleaving of the steps. What a refusal claims was found in the steps of that very call:

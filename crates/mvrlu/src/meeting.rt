@@ -66,6 +66,7 @@ fn met<P: Protocol, L: Ledger>(
     ensures law { LawOfTheWhole P.start P.allowed seats.items result }
     ensures sound { IsSound result }
     ensures opening { (result.start ≡ opening_of domain) × (result.base ≡ (numbers_of domain).base) }
+    ensures numbers { result.config ≡ numbers_of domain }
     ensures short { IsAtMostBehindOneOf seats.items result ((numbers_of domain).seats + 7) }
     ensures cost { steps.new ≤ steps.old + ((numbers_of domain).seats + 7) }
 {
@@ -85,6 +86,7 @@ fn begun<P: Protocol, L: Ledger>(domain: Domain<P>, seats: Vec<Seat<P>>, blank: 
     ensures law { LawOfTheWhole P.start P.allowed seats.items result }
     ensures sound { IsSound result }
     ensures opening { (result.start ≡ opening_of domain) × (result.base ≡ (numbers_of domain).base) }
+    ensures numbers { result.config ≡ numbers_of domain }
     ensures short { IsAtMostBehindOneOf seats.items result ((numbers_of domain).seats + 7) }
 {
     met(domain, seats, &mut Steps::<L>::open(blank))
@@ -97,7 +99,7 @@ impl<P: Protocol> Domain<P> {
     /// history of it. It is legal and allowed by the client's rules from the opening state. Whatever a
     /// seat had seen at any time is a beginning of it. Each seat's commits stand in it, in order and
     /// each once, and so many of its rests; each entry is of one of the seats. The closing reads the
-    /// state after that history.
+    /// state after that history, and has the numbers with which the domain was opened.
     ///
     /// It never refuses and takes no memory. It joins the seats, loads CLOCK, enters a section, which
     /// helps the last commit, and loads CLOCK again, in at most `seats + 7` steps: no seat is left
@@ -106,6 +108,7 @@ impl<P: Protocol> Domain<P> {
         requires all { AreAll self seats.items }
         ensures law { LawOfTheWhole P.start P.allowed seats.items (whole_of result) }
         ensures opening { ((whole_of result).start ≡ opening_of self) × ((whole_of result).base ≡ (numbers_of self).base) }
+        ensures numbers { (whole_of result).config ≡ numbers_of self }
         ensures short { IsAtMostBehindOneOf seats.items (whole_of result) ((numbers_of self).seats + 7) }
     {
         let last = begun::<P, Brand>(self, seats, Blank::new(1));

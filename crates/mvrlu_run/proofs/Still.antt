@@ -1,5 +1,5 @@
 -- What is read of a domain that is left doesn't change its history.
-use Rattle.std.proofs.Common.{◌≡◌, ℕ, List, ◌++◌, refl, ap, ◌∙◌, append_assoc}
+use Rattle.std.proofs.Common.{◌≡◌, ℕ, List}
 use Rattle.mv_history.specs.declared.answers.LogTable.{LogTable}
 use Rattle.mvrlu.specs.Whole.{Whole, IsStill, last_state}
 use Rattle.block_domain.specs.Whole.{BlocksRunOf}
@@ -37,16 +37,3 @@ pub still_grown : (v w : Whole) (scripts : List (List Command)) (lines : List Li
     → GrowRunOf (past_of_whole v) scripts lines (grown_catalogue (last_state v)) splits tables
     → GrowRunOf (past_of_whole w) scripts lines end counted tables
 still_grown v w scripts lines end splits counted tables still is same run = rw (is, same, still.start, still.base, still.history) run
-
--- the state is as before
-pub still_state : (v w : Whole) → IsStill v w → last_state w ≡ last_state v
-still_state v w still = rw (still.start, still.history) refl
-
--- the history is as before after two reads
-pub still_twice : (u v w : Whole) → IsStill u v → IsStill v w → IsStill u w
-still_twice u v w a b = record {
-  start = b.start ∙ a.start;
-  base = b.base ∙ a.base;
-  history = b.history ∙ a.history;
-  trail = (a.trail.0 ++ b.trail.0, b.trail.1 ∙ ap (λ t. t ++ b.trail.0) a.trail.1 ∙ append_assoc u.trail a.trail.0 b.trail.0);
-}

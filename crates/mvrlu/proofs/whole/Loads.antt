@@ -21,9 +21,9 @@ use Rattle.reader_marks.specs.Sections.{Begins}
 use Rattle.version_chain.specs.Walks.{inside_of, time_at, MayWalk}
 use Rattle.mvrlu.specs.Whole.{IsSound, whole_from}
 
--- what the view means then
-pub record HasRead (w : View) : Type 0 where
-  pub sound : IsSound (whole_from w)
+-- what the view means then, in a domain of these numbers
+pub record HasRead (c : Config) (w : View) : Type 0 where
+  pub sound : IsSound (whole_from c w)
   pub may : MayWalk w
   pub after : w.base ≤ time_at w
   pub seen : time_at w ≤ w.base + length w.past.seen
@@ -74,7 +74,7 @@ module _ (c : Config) (v u : View) (base : v.base ≡ c.base) (first : ℕ) (h :
       last = omega arith;
     })
 
-    sound : IsSound (whole_from w)
+    sound : IsSound (whole_from c w)
     sound =
         let is = lawful in
         let n : ℕ = time_at w - w.base in
@@ -87,15 +87,15 @@ module _ (c : Config) (v u : View) (base : v.base ≡ c.base) (first : ℕ) (h :
           time = omega arith;
         }
 
-    pub read : HasRead w
+    pub read : HasRead c w
     read = record { sound = sound; may = may; after = after; seen = seen }
 
 -- a pass with a load of CLOCK, an entering and a load of CLOCK
 pub has_read : (starts : State → Type 0) (allows : List ℕ → State → Writes → Type 0) → ((s : State) → IsProp (starts s))
     → ((t : List ℕ) (s : State) (x : Writes) → IsProp (allows t s x)) → (c : Config) (v x u w : View) (first last time : ℕ) → v.base ≡ c.base
     → ((h : List Entry) × IsWhole c v first h × AreJoined c v h × (x ≡ joined_loaded c v first h)) → Begins c x u time
-    → ((g : List Entry) × IsWhole c u last g × AreJoined c u g × (w ≡ joined_loaded c u last g)) → ∥ Known starts allows w ∥₁ → HasRead w
+    → ((g : List Entry) × IsWhole c u last g × AreJoined c u g × (w ≡ joined_loaded c u last g)) → ∥ Known starts allows w ∥₁ → HasRead c w
 has_read starts allows one_start one_allowed c v x u w first last time base one begins two known =
     let begun = subst (λ (y : View). Begins c y u time) one.3 begins in
     let knows = subst (λ (y : View). ∥ Known starts allows y ∥₁) two.3 known in
-    subst HasRead (sym two.3) (read c v u base first one.0 time begun last two.0 two.1 starts allows one_start one_allowed knows)
+    subst (HasRead c) (sym two.3) (read c v u base first one.0 time begun last two.0 two.1 starts allows one_start one_allowed knows)

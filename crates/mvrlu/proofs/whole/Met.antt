@@ -129,13 +129,13 @@ module _ {P : Type 0} {rules : _} (c : Config) (seats : List (Seat P rules)) (v 
 
   -- what the view means: all of g
   abbrev meant : Whole
-  meant = record { start = w.start; base = w.base; history = g; trail = w.trail }
+  meant = record { config = c; start = w.start; base = w.base; history = g; trail = w.trail }
 
-  meant_is : meant ≡ whole_from w
+  meant_is : meant ≡ whole_from c w
   meant_is =
       let t = time_is in
       let all_of : g ≡ take (time_at w - w.base) g = sym (take_all (time_at w - w.base) g (omega arith)) in
-      λ i. record { start = w.start; base = w.base; history = all_of i; trail = w.trail }
+      λ i. record { config = c; start = w.start; base = w.base; history = all_of i; trail = w.trail }
 
   module _ (starts : State → Type 0) (allows : List ℕ → State → Writes → Type 0) (one_start : (s : State) → IsProp (starts s))
       (one_allowed : (t : List ℕ) (s : State) (x : Writes) → IsProp (allows t s x)) (known : ∥ Known starts allows w ∥₁) where
@@ -151,7 +151,7 @@ module _ {P : Type 0} {rules : _} (c : Config) (seats : List (Seat P rules)) (v 
       last = omega arith;
     })
 
-    pub law : LawOfTheWhole starts allows seats (whole_from w)
+    pub law : LawOfTheWhole starts allows seats (whole_from c w)
     law =
         let is = lawful in
         let each : (A : Seat P rules → Type 0) → ((s : Seat P rules) → IsKept v (seat_of s) → A s) → All A seats =
@@ -177,7 +177,7 @@ module _ {P : Type 0} {rules : _} (c : Config) (seats : List (Seat P rules)) (v 
               );
         })
 
-  pub short : AreJoining seats [] v → IsAtMostBehindOneOf seats (whole_from w) (c.seats + 7)
+  pub short : AreJoining seats [] v → IsAtMostBehindOneOf seats (whole_from c w) (c.seats + 7)
   short k =
       let one : List Step = record { kind = LoadJoined; word = 0; found = Some first; stored = None } ∷ [] in
       let two : List Step = record { kind = LoadJoined; word = 0; found = Some last; stored = None } ∷ [] in
@@ -199,8 +199,8 @@ module _ {P : Type 0} {rules : _} (c : Config) (seats : List (Seat P rules)) (v 
 -- what a view means after all this
 pub record HasMet {P : Type 0} {rules : _} (starts : State → Type 0) (allows : List ℕ → State → Writes → Type 0) (c : Config) (seats : List
     (Seat P rules)) (w : View) : Type 0 where
-  pub law : LawOfTheWhole starts allows seats (whole_from w)
-  pub short : IsAtMostBehindOneOf seats (whole_from w) (c.seats + 7)
+  pub law : LawOfTheWhole starts allows seats (whole_from c w)
+  pub short : IsAtMostBehindOneOf seats (whole_from c w) (c.seats + 7)
 
 -- the pass of joined seats, with a load of CLOCK, an entering and a load of CLOCK
 pub has_met : {P : Type 0} {rules : _} (starts : State → Type 0) (allows : List ℕ → State → Writes → Type 0) → ((s : State) → IsProp (starts s))

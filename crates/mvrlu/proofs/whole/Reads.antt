@@ -1,5 +1,5 @@
 -- A read of a domain whose seats have met: what it answers, and what it leaves.
-use Rattle.std.proofs.Common.{◌≡◌, ℕ, ◌+◌, ◌-◌, ◌<◌, ◌≤◌, List, ◌++◌, length, take, sym, ap, ◌∙◌, subst}
+use Rattle.std.proofs.Common.{◌≡◌, ℕ, ◌+◌, ◌-◌, ◌<◌, ◌≤◌, List, ◌++◌, length, take, refl, sym, ap, ◌∙◌, subst}
 use Rattle.std.proofs.Common.{append_assoc, length-append, arith}
 use Rattle.std.proofs.lemmas.List.{take-append-le}
 use Rattle.mv_history.specs.declared.Step.{Step}
@@ -55,12 +55,12 @@ module _ (v w : View) (k : Looks v w) (seen : time_at v ≤ v.base + length v.pa
       ap (λ n. take n w.past.seen) time_stays ∙ ap (take (time_at v - v.base)) k.seen.1
       ∙ take-append-le (time_at v - v.base) v.past.seen k.seen.0 (omega arith)
 
-  pub looks_still : IsStill (whole_from v) (whole_from w)
-  looks_still = record { start = k.start; base = k.base; history = history_stays; trail = k.trail }
+  pub looks_still : (c : Config) → IsStill (whole_from c v) (whole_from c w)
+  looks_still c = record { config = refl; start = k.start; base = k.base; history = history_stays; trail = k.trail }
 
 -- the words that the section reads are those of the last state
-pub reads_last : (c : Config) (v w : View) (object : ℕ) → v.base ≡ c.base → IsStill (whole_from v) (whole_from w)
-    → words_in c w object ≡ words_at (last_state (whole_from v)) object
+pub reads_last : (c : Config) (v w : View) (object : ℕ) → v.base ≡ c.base → IsStill (whole_from c v) (whole_from c w)
+    → words_in c w object ≡ words_at (last_state (whole_from c v)) object
 reads_last c v w object base k =
     ap (λ (b : ℕ). words_at (state_at w.start w.past.seen (time_at w - b)) object) (sym (k.base ∙ base))
     ∙ (λ i. words_at (state_after (k.start i) (k.history i)) object)

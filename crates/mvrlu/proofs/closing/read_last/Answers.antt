@@ -10,17 +10,19 @@ use Rattle.mvrlu.proofs.closing.read_last.Goals as goal
 
 pub returns-in-Master-clause-still : goal.returns-in-Master-clause-still
 returns-in-Master-clause-still g c =
+    let d = config_of c.last.inside.shared in
     let v = view c.last.inside.pass in
     let w = view c.read_master.new.pass in
     let k : Looks v w = looked LoadMaster v (view c.find.new.pass) w (walked v (view c.find.new.pass) _ _ c.find.ensures.walks) c.read_master.ensures.reads in
-    subst (λ (x : Whole). IsStill x (whole_from w)) c.last.view_is (looks_still v w k c.last.invariant.seen)
+    subst (λ (x : Whole). IsStill x (whole_from d w)) c.last.view_is (looks_still v w k c.last.invariant.seen d)
 
 pub returns-clause-still : goal.returns-clause-still
 returns-clause-still g c =
+    let d = config_of c.last.inside.shared in
     let v = view c.last.inside.pass in
     let w = view c.read_version.new.pass in
     let k : Looks v w = looked LoadData v (view c.find.new.pass) w (walked v (view c.find.new.pass) _ _ c.find.ensures.walks) c.read_version.ensures.reads in
-    subst (λ (x : Whole). IsStill x (whole_from w)) c.last.view_is (looks_still v w k c.last.invariant.seen)
+    subst (λ (x : Whole). IsStill x (whole_from d w)) c.last.view_is (looks_still v w k c.last.invariant.seen d)
 
 pub find-requires-clause-of : goal.find-requires-clause-of
 find-requires-clause-of g c = c.last.invariant.of
@@ -58,11 +60,12 @@ invariant_of-last g c =
 
 pub returns-in-Master-clause-words : goal.returns-in-Master-clause-words
 returns-in-Master-clause-words g c =
+    let d = config_of c.last.inside.shared in
     let v = view c.last.inside.pass in
     let w = view c.find.new.pass in
     let k : Looks v w = walked v w _ _ c.find.ensures.walks in
     c.read_master.ensures.words
-    ∙ reads_last (config_of c.last.inside.shared) v w c.args.object c.last.invariant.of.2 (looks_still v w k c.last.invariant.seen)
+    ∙ reads_last d v w c.args.object c.last.invariant.of.2 (looks_still v w k c.last.invariant.seen d)
     ∙ ap (λ (x : Whole). words_at (last_state x) c.args.object) c.last.view_is
 
 pub read_version-requires-clause-of : goal.read_version-requires-clause-of
@@ -85,9 +88,10 @@ invariant_of-last-in-Version g c =
 
 pub returns-clause-words : goal.returns-clause-words
 returns-clause-words g c =
+    let d = config_of c.last.inside.shared in
     let v = view c.last.inside.pass in
     let w = view c.find.new.pass in
     let k : Looks v w = walked v w _ _ c.find.ensures.walks in
     c.read_version.ensures.words ∙ ap (words_in (config_of c.last.inside.shared) (view c.find.new.pass)) c.in-Version.ensures.found.1
-    ∙ reads_last (config_of c.last.inside.shared) v w c.args.object c.last.invariant.of.2 (looks_still v w k c.last.invariant.seen)
+    ∙ reads_last d v w c.args.object c.last.invariant.of.2 (looks_still v w k c.last.invariant.seen d)
     ∙ ap (λ (x : Whole). words_at (last_state x) c.args.object) c.last.view_is

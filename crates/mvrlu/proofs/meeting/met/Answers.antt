@@ -14,7 +14,7 @@ invariant_of-result g c =
     let one = c.load_joined.ensures.same in
     let two = c.enter.ensures.same in
     let three = c.load_joined-2.ensures.same in
-    let reads : HasRead (view q) =
+    let reads : HasRead d (view q) =
     has_read g.P.Protocol.start g.P.Protocol.allowed g.P.Protocol.one_start g.P.Protocol.one_allowed d (view p)
     (view c.load_joined.new.pass) (view c.enter.new.pass) (view q) c.load_joined.result c.load_joined-2.result c.enter.result of.2
     c.load_joined.ensures.view c.enter.ensures.begins c.load_joined-2.ensures.view q.known in

@@ -4,7 +4,8 @@ use Rattle.mv_layout.specs.declared.config.Config.{Config}
 use Rattle.script_workers.specs.Workers.{items_of}
 use Rattle.mvrlu.specs.Whole.{last_state}
 use Rattle.mvrlu_run.proofs.GrownBuckets.{few_splits}
-use Rattle.mvrlu_run.proofs.Still.{still_grown, still_state, still_twice}
+use Rattle.mvrlu.specs.WholeLaws.{still_long, still_state}
+use Rattle.mvrlu_run.proofs.Still.{still_grown}
 use Rattle.mvrlu_run.proofs.Opened.{new_seats, back_meets}
 use Rattle.mvrlu_run.proofs.growing.run_grown_set.Goals as goal
 
@@ -37,7 +38,7 @@ pub returns-clause-ran : goal.returns-clause-ran
 returns-clause-ran g c =
     let run = rw c.in_ok-closing.ensures at c.run_grow_domain.ensures.ran in
     let counted = c.count_splits-splits.ensures in
-    let still = still_twice c.in_ok-closing.closing.last
+    let still = still_long c.in_ok-closing.closing.last
     c.count_splits-splits.new.view.last c.read_grown.new.view.last counted.as_before c.read_grown.ensures.as_before in
     let same = still_state c.in_ok-closing.closing.last c.count_splits-splits.new.view.last counted.as_before in
     let ends = rw c.in_ok-closing.ensures at c.run_grow_domain.ensures.opening in

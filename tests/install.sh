@@ -3,6 +3,7 @@
 # examples of C and C++ build by what was installed. The program is installed too, where its proved binary is current. That what isn't
 # built is built first stands on copies of the front end in a tree of small crates, with a stand-in for rt.
 set -u
+export LC_ALL=C
 cd "$(dirname "$0")/.." || exit 1
 top=$PWD
 room=$(mktemp -d) || exit 1
@@ -49,6 +50,7 @@ rows_of_bad_prefixes
 rows_of_failures
 rows_of_pages
 rows_of_programs
+rows_of_cmake
 rows_of_the_program
 rows_of_first_builds
 [ "$failed" = 0 ] && echo 'install: ok'

@@ -1,6 +1,6 @@
 /* A bank: threads move money between accounts while others add all accounts up. Each sum is that of one state, so each is the
- * whole. docs/C.md says how the archive is made; then, at the top of the repository:
- *     cc -O2 -pthread -Iinclude examples/c/bank.c crates/mvrlu_c/out/libmvrlu_c.a "$(dirname "$(rt doc)")/c/liblibc_c.a" -o bank */
+ * whole. docs/C.md says how the library is installed; then, at the top of the repository:
+ *     cc -O2 examples/c/bank.c $(pkg-config --cflags --libs mvrlu) -o bank */
 #include <mvrlu.h>
 #include <pthread.h>
 #include <stdatomic.h>

@@ -1,6 +1,8 @@
 # What stands below a prefix after an install, after a second one, and after an uninstall.
 
-library_files='include/mvrlu.h include/mvrlu.hpp lib/libmvrlu.a lib/pkgconfig/mvrlu.pc share/man/man3/mvrlu.3 share/mvrlu/files'
+library_files='include/mvrlu.h include/mvrlu.hpp'
+library_files+=' lib/cmake/mvrlu/mvrlu-config-version.cmake lib/cmake/mvrlu/mvrlu-config.cmake lib/libmvrlu.a lib/pkgconfig/mvrlu.pc'
+library_files+=' share/man/man3/mvrlu.3 share/mvrlu/files'
 
 rows_of_what_is_installed() {
     says 0 'the library for C and C++ is installed in' install --library "$prefix"
@@ -10,6 +12,7 @@ rows_of_what_is_installed() {
     cmp -s include/mvrlu.h "$prefix/include/mvrlu.h" && cmp -s include/mvrlu.hpp "$prefix/include/mvrlu.hpp" || fail 'other headers'
     [ "$(ar t "$prefix/lib/libmvrlu.a")" = "$(ar t "$room/libmvrlu.a")" ] || fail 'another archive'
     cmp -s "$prefix/lib/libmvrlu.a" "$room/libmvrlu.a" || fail 'other bytes in the archive'
+    ! grep -rq '@[a-z]*@' "$prefix/lib/pkgconfig" "$prefix/lib/cmake" || fail 'a file of the package has a word that was to be filled in'
     nm "$prefix/lib/libmvrlu.a" 2>/dev/null | grep -q ' T rattle_alloc$' || fail 'the archive has no heap functions'
     (cd "$room" && "$top/mvrlu" install --library 'a relative one' 2>"$room/err") || fail "a relative prefix: $(cat "$room/err")"
     [ "$(cd "$room/a relative one" && find . | sort)" = "$(cd "$prefix" && find . | sort)" ] || fail 'a relative prefix has other files'

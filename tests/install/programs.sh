@@ -49,13 +49,36 @@ carries() {
     return 1
 }
 
+# What each example says, by the name that CMake gives its program.
+declare -A says_of_example=(
+    [c_bank]='transfers 100000, each sum 64000'
+    [c_list]='changes 40000, each walk 64 keys'
+    [cpp_bank]='transfers 100000, each sum 64000'
+)
+
+# Each example by the line that its head says, at a place that has nothing but the examples.
+rows_of_examples() {
+    local example said line name
+    command -v pkg-config >/dev/null || { echo "install: pkg-config isn't there, so the lines in the heads of the examples aren't run"; return; }
+    mkdir -p "$room/heads"
+    ln -sfn "$top/examples" "$room/heads/examples"
+    for example in "${!says_of_example[@]}"; do
+        name=${example#*_}
+        line=$(sed -n 's/^ \*     \(c[c+]* .* -o '"$name"'\).*/\1/p' examples/"${example%_*}/$name".c*)
+        [ -n "$line" ] || { fail "the head of $example has no line that builds it"; continue; }
+        (cd "$room/heads" && PKG_CONFIG_PATH=$prefix/lib/pkgconfig bash -c "$line") >"$room/log" 2>&1 ||
+            { fail "$line: it does not build: $(cat "$room/log")"; continue; }
+        said=$("$room/heads/$name" 2>&1) && [ "$said" = "${says_of_example[$example]}" ] || fail "$example says something else: $said"
+    done
+}
+
 rows_of_programs() {
-    local compiler bank='transfers 100000, each sum 64000'
+    local compiler bank=${says_of_example[c_bank]}
     local strict=(-std=c++17 -Wall -Wextra -Werror) sanitized=(-g -fsanitize='address,undefined')
     command -v pkg-config >/dev/null || echo "install: pkg-config isn't there, not run: its file is read by hand"
     [[ $(words_of_prefix) == *-pthread*-lmvrlu*-pthread* ]] || fail "other words of pkg-config: $(words_of_prefix)"
-    expect "$bank" cc "$top/examples/c/bank.c"
-    expect "$bank" c++ -std=c++17 -O2 "$top/examples/cpp/bank.cpp"
+    rows_of_examples
+    expect "${says_of_example[c_list]}" cc -std=c11 -Wall -Wextra -Werror -O2 "$top/examples/c/list.c"
     for compiler in g++ clang++; do
         expect 'calls: ' "$compiler" "${strict[@]}" "$top/tests/install/calls.cpp"
         carries "$compiler" "${sanitized[@]}" || continue
@@ -65,6 +88,35 @@ rows_of_programs() {
     mv "$prefix" "$room/moved"
     prefix=$room/moved
     expect "$bank" cc "$top/examples/c/bank.c"
+}
+
+# The same examples by CMake, of a copy of the prefix elsewhere, and the versions that it finds there.
+rows_of_cmake() {
+    local built=$room/built-by-cmake by said version major cmake=(cmake "-DCMAKE_PREFIX_PATH=$room/a copy")
+    command -v cmake >/dev/null || { echo "install: cmake isn't there, not run"; return; }
+    cp -a "$prefix" "$room/a copy"
+    "${cmake[@]}" -S examples -B "$built" >"$room/log" 2>&1 && cmake --build "$built" >>"$room/log" 2>&1 ||
+        { fail "the examples aren't built by cmake: $(cat "$room/log")"; return; }
+    for by in "${!says_of_example[@]}"; do
+        said=$("$built/$by" 2>&1) && [ "$said" = "${says_of_example[$by]}" ] || fail "$by by cmake says something else: $said"
+    done
+    version=$(sed -n 's/^Version: //p' "$prefix/lib/pkgconfig/mvrlu.pc")
+    major=${version%.*}
+    for by in '' "$major" "$version" "$version EXACT"; do
+        finds_by_cmake "$by" || fail "cmake doesn't find version $by: $(cat "$room/log")"
+    done
+    for by in "$((major - 1)).9" "$major.$((${version#*.} + 1))" "$((major + 1))" "$major.99 EXACT"; do
+        ! finds_by_cmake "$by" || fail "cmake finds a version $by"
+        grep -q "mvrlu-config.cmake, version: $version" "$room/log" || fail "cmake doesn't say which version is there: $(cat "$room/log")"
+    done
+}
+
+# Whether cmake finds the library there, of so much of a version.
+finds_by_cmake() {
+    mkdir -p "$room/finds"
+    printf 'cmake_minimum_required(VERSION 3.13)\nproject(finds C)\nfind_package(mvrlu %s REQUIRED)\n' "$1" >"$room/finds/CMakeLists.txt"
+    rm -rf "$room/finds/built"
+    "${cmake[@]}" -S "$room/finds" -B "$room/finds/built" >"$room/log" 2>&1
 }
 
 # The program beside the library, where its proved binary is current; and the library alone behind it.

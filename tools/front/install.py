@@ -18,16 +18,12 @@ from stamps import is_current, product
 
 PROGRAM, LIBRARY = "mvrlu_main", "mvrlu_c"
 HEADERS = ("mvrlu.h", "mvrlu.hpp")
-PC = """prefix=${{pcfiledir}}/../..
-includedir=${{prefix}}/include
-libdir=${{prefix}}/lib
-
-Name: mvrlu
-Description: objects that threads share, read and written in multi-version sections
-Version: {version}
-Cflags: -I"${{includedir}}" -pthread
-Libs: -L"${{libdir}}" -lmvrlu -pthread
-"""
+# Where each file of tools/front/installed goes; in it @version@ and @major@ stand for those of the header.
+INSTALLED = {
+    "mvrlu.pc": "lib/pkgconfig",
+    "mvrlu-config.cmake": "lib/cmake/mvrlu",
+    "mvrlu-config-version.cmake": "lib/cmake/mvrlu",
+}
 
 
 def say(text):
@@ -82,6 +78,12 @@ def version():
     return f"{number >> 16}.{number & 0xFFFF}"
 
 
+def with_version(file):
+    """The text of a file of tools/front/installed."""
+    number = version()
+    return file.read_text().replace("@version@", number).replace("@major@", number.partition(".")[0])
+
+
 def put(source, target, mode):
     """Copies a file, or makes it of a text."""
     target.parent.mkdir(parents=True, exist_ok=True)
@@ -102,7 +104,8 @@ def fill(stage, with_program):
         put(TOP / "include" / name, new / "include" / name, 0o644)
     make_archive(stage, stage / "libmvrlu.a")
     put(stage / "libmvrlu.a", new / "lib/libmvrlu.a", 0o644)
-    put(PC.format(version=version()), new / "lib/pkgconfig/mvrlu.pc", 0o644)
+    for name, folder in INSTALLED.items():
+        put(with_version(TOP / "tools/front/installed" / name), new / folder / name, 0o644)
     put(TOP / "docs/man/mvrlu.3", new / "share/man/man3/mvrlu.3", 0o644)
     return sorted(str(it.relative_to(new)) for it in new.rglob("*") if it.is_file())
 

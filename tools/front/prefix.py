@@ -108,10 +108,9 @@ def write_list(top, files, folders):
 
 def check_inside(top, files):
     """Refuses a prefix of which a link leads these files elsewhere."""
-    for file in sorted(files):
-        folder = (top / file).parent
-        if not folder.resolve().is_relative_to(top.resolve()):
-            raise Refused(f"{folder}: a link leads out of the prefix")
+    for folder in sorted({folder for file in files for folder in Path(file).parents}):
+        if not (top / folder).resolve().is_relative_to(top.resolve()):
+            raise Refused(f"{top / folder}: a link leads out of the prefix")
 
 
 def check_free(top, files, owned):

@@ -29,7 +29,7 @@ use Rattle.set_blocks.proofs.Stepping.{runs_fit}
 use Rattle.set_blocks.proofs.WholeTurns.{none_full, replies_turned, changes_turned, unchanging_any}
 
 -- the state of each time that a seat has seen is lawful
-lawful_at : (s : Seat) → IsSeat IsOpening IsBlockCommit s → (t : ℕ) → IsLawful (state_at s.start s.seen t)
+pub lawful_at : (s : Seat) → IsSeat IsOpening IsBlockCommit s → (t : ℕ) → IsLawful (state_at s.start s.seen t)
 lawful_at s h t =
     lawful_after s.start (take t s.seen) h.start
     (IsAllowed-front IsBlockCommit s.start (take t s.seen) (drop t s.seen)

@@ -6,11 +6,11 @@ use Rattle.std.proofs.lemmas.Option.{slice_get_within}
 use Rattle.mv_history.specs.State.{State, state_at}
 use Rattle.mv_history.specs.declared.history.Commit.{Commit}
 use Rattle.mv_history.specs.declared.history.Entry.TheVariants.{Change}
-use Rattle.mv_history.specs.Meaning.{Seat, InSection, IsSeat, IsSection, state_of, state_of_time}
+use Rattle.mv_history.specs.Meaning.{Seat, InSection, IsSeat, state_of, state_of_time}
 use Rattle.mv_history.specs.Calls.{IsAsBefore, IsEntryAt}
 use Rattle.mv_history.proofs.Snapshots.{length-state_at}
 use Rattle.mv_history.proofs.Steps.{length-seen, state_at-later}
-use Rattle.set_script.specs.Lawful.{IsOpening}
+use Rattle.set_script.specs.Lawful.{IsLawful, IsOpening}
 use Rattle.set_script.specs.Rules.{IsSetCommit}
 use Rattle.set_script.specs.Tags.{command_of}
 use Rattle.set_script.specs.declared.commands.Command.{Command}
@@ -20,18 +20,18 @@ use Rattle.set_catalog.specs.declared.shortage.TheConstants.{NO_BOUND}
 use Rattle.set_catalog.specs.Picks.{vacant_nodes}
 use Rattle.set_catalog.specs.Shortages.{IsKnown, few_at, may_free, followed}
 use Rattle.set_catalog.proofs.Costs.{vacant_no_more, vacant_bound}
-use Rattle.set_catalog.proofs.LawfulTimes.{lawful_at, lawful_read}
+use Rattle.set_catalog.proofs.LawfulTimes.{lawful_at}
 use Rattle.section_work.proofs.Entering.{reads_snapshot}
 
 -- Of each store it is known that fewer nodes are vacant than any store has.
-pub known_unknown : (s : Seat) (k : Shortage) → IsSeat IsOpening IsSetCommit s → k.time ≡ 0 → k.few ≡ NO_BOUND → IsKnown s k
+pub known_unknown : (s : Seat) (k : Shortage) → IsLawful (state_of_time s k.time) → k.time ≡ 0 → k.few ≡ NO_BOUND → IsKnown s k
 known_unknown s k law t f = record {
   seen = omega (arith, t);
-  few = omega (arith, vacant_bound (state_of_time s k.time) (lawful_at s law (k.time - s.base)), f);
+  few = omega (arith, vacant_bound (state_of_time s k.time) law, f);
 }
 
 -- In a section that holds nothing, what is known of its time holds of the state that it reads.
-pub few_found : (s : InSection) (k : Shortage) (time : ℕ) → IsSection IsOpening IsSetCommit s → s.own ≡ [] → time ≡ s.seat.base + s.at → IsKnown s.seat k
+pub few_found : (s : InSection) (k : Shortage) (time : ℕ) → IsLawful (state_of s) → s.own ≡ [] → time ≡ s.seat.base + s.at → IsKnown s.seat k
     → vacant_nodes (state_of s) < few_at k time
 few_found s k time law none w h = go (k.time == time) refl
   where
@@ -42,7 +42,7 @@ few_found s k time law none w h = go (k.time == time) refl
         let here : state_of s ≡ state_of_time s.seat k.time =
         reads_snapshot s none ∙ ap (λ (n : ℕ). state_at s.seat.start s.seat.seen n) (sym at) in
         subst (λ (u : State). vacant_nodes u < k.few) (sym here) h.few
-    go false e = vacant_bound (state_of s) (lawful_read s law none)
+    go false e = vacant_bound (state_of s) law
 
 -- What was found of the state that a section reads which holds nothing is known of its time.
 pub known_found : (entered found : InSection) (k : Shortage) → entered.own ≡ [] → entered.at ≤ length entered.seat.seen → IsAsBefore entered found

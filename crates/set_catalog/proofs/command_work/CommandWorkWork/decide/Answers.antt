@@ -18,7 +18,7 @@ find_plan_near-found-requires-clause-few g c =
     let here = c.requires.here.1 in
     subst (λ (n : ℕ). vacant_nodes (g.V.View.state c.args.view) < n) (sym c.at-few.ensures)
     (subst (λ (u : State). vacant_nodes u < few_at c.args.memo.now.known c.args.time) (sym here.state_is)
-    (few_found c.requires.here.0 _ _ here.lawful here.own here.time_is c.requires.here.2))
+    (few_found c.requires.here.0 _ _ (lawful_read c.requires.here.0 here.lawful here.own) here.own here.time_is c.requires.here.2))
 
 pub returns-in-Settled-clause-found : goal.returns-in-Settled-clause-found
 returns-in-Settled-clause-found g c = λ last.

@@ -1,0 +1,4 @@
+pub mod NewSeats
+pub mod SingleBlock
+pub mod Outcomes
+pub mod Staying

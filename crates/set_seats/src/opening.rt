@@ -1,0 +1,190 @@
+// Opening a domain of the sets, with its seats.
+ghost use Rattle.std.specs.Prelude.{◌≡◌, ◌<◌, ◌≤◌, map, All, IfOk, IfErr, replicate};
+ghost use Rattle.std.specs.Arc.{arc_value};
+ghost use Rattle.mvrlu.specs.Opened.{IsOpened};
+ghost use Rattle.set_script.specs.Objects.{no_words};
+ghost use Rattle.set_seats.specs.Opening.{AreOpened, HasObjects, MayShare, Refuses, Shares, config_of, seat_in};
+
+use crate::seat::SetSeat;
+use crate::single::Remembered;
+use mv_history::{WORDS, Words};
+use mv_layout::{Config, ConfigFault};
+use mvrlu::{Domain, Seat, open};
+use set_blocks::BlockRules;
+use set_catalog::Hints;
+use std::alloc::{AllocError, Global};
+use std::sync::Arc;
+
+/// The numbers of a domain of the sets that a caller chooses.
+#[derive(Clone, Copy)]
+pub struct OpenSets {
+    /// How many seats, 1 to 64.
+    pub seats: u32,
+    /// How many objects, 181 to 65,535: 180 heads of the sets, and the nodes for their keys.
+    pub objects: u32,
+    /// How many slots the log of each seat has, 64 to 4,096.
+    pub slots: u32,
+}
+
+/// Why a domain of the sets can't be opened. Nothing is left of it.
+#[derive(Clone, Copy)]
+pub enum SetsFault {
+    /// There are fewer than 181 objects, or more than 65,535.
+    Objects,
+    /// Another number is out of its range: the first fault that `Config::check` finds.
+    Config(ConfigFault),
+    /// There is no memory for it.
+    Memory,
+}
+
+const FEWEST_OBJECTS: u32 = 181;
+
+const MOST_OBJECTS: u32 = 65_535;
+
+// As many objects as a block of 8 commands locks or holds at most.
+const WRITE_MAX: u32 = 40;
+
+// How many vacant objects a seat remembers.
+const HINTS: u32 = 64;
+
+/// Opens a domain of the thirty sets, all empty, with its seats, in order of number.
+///
+/// It answers the first number that is out of its range, or want of memory; then nothing is left behind.
+pub fn open_set_seats(alloc: Global, sets: OpenSets) -> Result<Vec<SetSeat>, SetsFault>
+    ensures opened { IfOk result (λ seats. AreOpened sets seats.items) }
+    ensures refused { IfErr result (λ fault. Refuses sets fault) }
+{
+    if sets.objects < FEWEST_OBJECTS || sets.objects > MOST_OBJECTS {
+        return Err(SetsFault::Objects);
+    }
+    let config = numbers(sets);
+    if let Err(fault) = config.check() {
+        return Err(SetsFault::Config(fault));
+    }
+    match open_checked(alloc, sets, config) {
+        Ok(seats) => Ok(seats),
+        Err(AllocError) => Err(SetsFault::Memory),
+    }
+}
+
+// The numbers of the domain.
+fn numbers(sets: OpenSets) -> Config
+    ensures { result ≡ config_of sets }
+{
+    let high = sets.slots.saturating_sub(WRITE_MAX);
+    Config {
+        seats: sets.seats,
+        objects: sets.objects,
+        slots: sets.slots,
+        write_max: WRITE_MAX,
+        low: (high / 2).max(1),
+        high,
+        base: 0,
+    }
+}
+
+fn open_checked(alloc: Global, sets: OpenSets, config: Config) -> Result<Vec<SetSeat>, AllocError>
+    requires objects { HasObjects sets }
+    requires numbers { config ≡ config_of sets }
+    ensures { IfOk result (λ seats. AreOpened sets seats.items) }
+{
+    let (whole, seats) = open_sets(alloc, config)?;
+    match Arc::new(alloc, whole) {
+        Ok(domain) => share_all(alloc, &domain, seats),
+        Err(_) => {
+            let_all_go(seats);
+            Err(AllocError)
+        }
+    }
+}
+
+// Opens a domain of these numbers, all words 0.
+fn open_sets(
+    alloc: Global,
+    config: Config,
+) -> Result<(Domain<BlockRules>, Vec<Seat<BlockRules>>), AllocError>
+    requires objects { (180 < config.objects) × (config.objects ≤ 65535) }
+    ensures { IfOk result (λ r. IsOpened config (replicate config.objects no_words) r.0 r.1.items) }
+{
+    let start = zeros(alloc, config.objects as usize)?;
+    match open(alloc, config, &start) {
+        Ok(opened) => Ok(opened),
+        Err(_) => Err(AllocError),
+    }
+}
+
+// Gives each of these seats of the domain a share of it, in their order.
+fn share_all(
+    alloc: Global,
+    domain: &Arc<Domain<BlockRules>, Global>,
+    mut seats: Vec<Seat<BlockRules>>,
+) -> Result<Vec<SetSeat>, AllocError>
+    requires may { All (λ seat. MayShare (arc_value domain.now) seat) seats.items }
+    ensures seats { IfOk result (λ shared. map seat_in shared.items ≡ seats.items) }
+    ensures shared { IfOk result (λ shared. All (Shares (arc_value domain.now)) shared.items) }
+{
+    let Ok(mut shared) = Vec::with_capacity(alloc, seats.len()) else {
+        let_all_go(seats);
+        return Err(AllocError);
+    };
+    while !seats.is_empty() {
+        match share(alloc, domain, seats.remove(0)) {
+            Ok(seat) => shared.push_reserved(seat),
+            Err(AllocError) => {
+                let_all_go(seats);
+                return Err(AllocError);
+            }
+        }
+    }
+    seats.destroy_empty();
+    Ok(shared)
+}
+
+// Gives a seat of the domain a share of it.
+fn share(
+    alloc: Global,
+    domain: &Arc<Domain<BlockRules>, Global>,
+    seat: Seat<BlockRules>,
+) -> Result<SetSeat, AllocError>
+    requires may { MayShare (arc_value domain.now) seat }
+    ensures { IfOk result (λ shared. (shared.seat ≡ seat) × Shares (arc_value domain.now) shared) }
+{
+    match share_and_hints(alloc, domain) {
+        Ok((domain, hints)) => Ok(SetSeat {
+            domain,
+            seat,
+            remembered: Remembered::of(hints),
+        }),
+        Err(AllocError) => {
+            seat.let_go();
+            Err(AllocError)
+        }
+    }
+}
+
+// One more share of the domain, and room for a seat's hints.
+fn share_and_hints(
+    alloc: Global,
+    domain: &Arc<Domain<BlockRules>, Global>,
+) -> Result<(Arc<Domain<BlockRules>, Global>, Hints), AllocError>
+    ensures { IfOk result (λ r. arc_value r.0 ≡ arc_value domain.now) }
+{
+    let hints = Hints::new(alloc, HINTS)?;
+    let domain = Arc::try_clone(domain)?;
+    Ok((domain, hints))
+}
+
+// Ends these seats alone.
+fn let_all_go(mut seats: Vec<Seat<BlockRules>>) {
+    while let Some(seat) = seats.pop() {
+        seat.let_go();
+    }
+    seats.destroy_empty();
+}
+
+// So many objects of zeros. The number is a variable here, since a proof would compute a list of a literal length.
+fn zeros(alloc: Global, count: usize) -> Result<Vec<Words>, AllocError>
+    ensures { IfOk result (λ objects. objects.items ≡ replicate count no_words) }
+{
+    vec![in alloc; [0; WORDS]; count]
+}

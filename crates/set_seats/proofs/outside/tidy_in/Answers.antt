@@ -9,12 +9,12 @@ use Rattle.set_seats.proofs.outside.tidy_in.Goals as goal
 pub returns : goal.returns
 returns c =
     let tidies = c.tidy-tidy.ensures.tidies in
-    let on = goes_on _ _ _ _ c.handle.ensures.meant c.into_seat.ensures.meant tidies.prepares.continues in
+    let on = goes_on _ _ _ _ c.handle-handle.ensures.meant c.into_seat.ensures.meant tidies.prepares.continues in
     record {
       of = still_of c.args.domain.now c.args.seat c.into_seat.result on c.requires.of;
       room = still_room c.args.domain.now c.args.seat c.into_seat.result on 40 c.requires.room;
       known = known_later c.args.remembered.now.memo.known on c.requires.known;
-      tidies = subst (λ (p : Placed). holding.Tidies p c.into_seat.result.idle c.tidy-tidy.result) c.handle.ensures.placed
-          (subst (λ (q : Placed). holding.Tidies (place_of c.handle.result) q c.tidy-tidy.result) (sym c.into_seat.ensures.placed) tidies);
+      tidies = subst (λ (p : Placed). holding.Tidies p c.into_seat.result.idle c.tidy-tidy.result) c.handle-handle.ensures.placed
+          (subst (λ (q : Placed). holding.Tidies (place_of c.handle-handle.result) q c.tidy-tidy.result) (sym c.into_seat.ensures.placed) tidies);
       continues = on;
     }

@@ -1,31 +1,26 @@
--- Stores that move into the workers and out of them, one worker at a time.
-use Rattle.std.proofs.Common.{◌≡◌, ℕ, ◌+◌, ◌<◌, List, [], ◌∷◌, ◌++◌, length, take, drop, map, get_or, refl, sym, ap, ◌∙◌, append_assoc}
-use Rattle.std.proofs.lemmas.List.{take_at, take_more, drop_more, length-map, map-append}
-
--- the lists that are left, with the first of them ahead
-pub lists_left : {V : Type 0} (vs : List V) (i : ℕ) (v : V) → i < length vs → v ≡ get_or vs i v → drop i vs ≡ v ∷ drop (i + 1) vs
-lists_left vs i v lt at = drop_more vs i v lt ∙ ap (λ x. x ∷ drop (i + 1) vs) (sym at)
+-- Stores and sources that move into the workers and out of them, one worker at a time.
+use Rattle.std.proofs.Common.{◌≡◌, ℕ, List, [], ◌∷◌, ◌++◌, length, take, drop, map, sym, ap, ◌∙◌, append_assoc}
+use Rattle.std.proofs.lemmas.List.{take_at, length-map, map-append}
 
 -- one more worker has the first of the stores that were left
 pub store_loaded : {W S T : Type 0} (of : W → T) (by : S → T) (ws ns : List W) (w : W) (before after : List S) (all : List T) (s : S) → ns ≡ ws ++ w ∷ []
     → of w ≡ by s → before ≡ s ∷ after → map of ws ++ map by before ≡ all → map of ns ++ map by after ≡ all
 store_loaded of by ws ns w before after all s n e b h = rw (n, map-append of ws (w ∷ []), e, append_assoc) (rw b at h)
 
--- one more worker has the list of its place
-pub list_loaded : {W V C : Type 0} (of : W → C) (items_of : V → C) (ws ns : List W) (w : W) (vs : List V) (v : V) (i : ℕ) → i < length vs
-    → v ≡ get_or vs i v → ns ≡ ws ++ w ∷ [] → of w ≡ items_of v → map of ws ≡ map items_of (take i vs) → map of ns ≡ map items_of (take (i + 1) vs)
-list_loaded of items_of ws ns w vs v i lt at n e h =
-    rw (n, map-append of ws (w ∷ []), take_more vs i v lt, map-append items_of (take i vs) (get_or vs i v ∷ []), ← at, e, h) refl
+-- one more worker has the first of the sources that were left
+pub source_loaded : {W T : Type 0} (of : W → T) (ws ns : List W) (w : W) (before after all : List T) (s : T) → ns ≡ ws ++ w ∷ [] → of w ≡ s
+    → before ≡ s ∷ after → map of ws ++ before ≡ all → map of ns ++ after ≡ all
+source_loaded of ws ns w before after all s n e b h = rw (n, map-append of ws (w ∷ []), e, append_assoc) (rw b at h)
 
 -- one more store is back
 pub store_unloaded : {W S T : Type 0} (of : W → T) (by : S → T) (ws rest : List W) (w : W) (before after : List S) (all : List T) (s : S) → ws ≡ w ∷ rest
     → after ≡ before ++ s ∷ [] → by s ≡ of w → map by before ++ map of ws ≡ all → map by after ++ map of rest ≡ all
 store_unloaded of by ws rest w before after all s p n e h = rw (n, map-append by before (s ∷ []), e, append_assoc) (rw p at h)
 
--- one more row of answers is there
-pub answers_unloaded : {W L : Type 0} (of : W → L) (ws rest : List W) (w : W) (before after all : List L) → ws ≡ w ∷ rest
+-- one more source, or one more row of answers, is back
+pub row_unloaded : {W L : Type 0} (of : W → L) (ws rest : List W) (w : W) (before after all : List L) → ws ≡ w ∷ rest
     → after ≡ before ++ of w ∷ [] → before ++ map of ws ≡ all → after ++ map of rest ≡ all
-answers_unloaded of ws rest w before after all p n h = rw (n, append_assoc) (rw p at h)
+row_unloaded of ws rest w before after all p n h = rw (n, append_assoc) (rw p at h)
 
 -- what a slice of all of a vector leaves of it
 pub written_back : {A : Type 0} (ns ws : List A) (n : ℕ) → n ≡ length ws → length ns ≡ length ws → take n (ns ++ drop (length ns) ws) ≡ ns

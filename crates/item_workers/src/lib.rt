@@ -4,19 +4,21 @@
 //!
 //! A [`Runner`] has a store, which is a seat of one history of commits (`mv_history`), and does items on it, each by
 //! attempts. What it keeps from one item to the next is the runner's to say: the seat, and what else the next item depends on
-//! (`Kept`). So is what it means that an item is done between two such states, its *link*. Each item has a number: of a
-//! worker's own list it is one above all that the items before it have (an item has as many as its *width*), and of a shared
-//! list it is its place, from 1. What was done is an [`Answer`], with the seat and the number.
+//! (`Kept`). So is what it means that an item is done between two such states, its *link*. A worker has its items from a
+//! [`Source`], which gives each with a number: a list of the worker's own ([`Own`]), or one that workers share. In a list of
+//! its own a number is one above all that the items before it have (an item has as many as its *width*). What was done is an
+//! [`Answer`], with the seat and the number.
 //!
 //! # The contract
 //!
 //! - [`run_item`] leaves the link of the item, from what was kept when it began to what is kept then. So no attempt of another
 //!   item lies between.
-//! - [`run_items`] and [`run_lists`] leave a chain (`DidAll`): one link for each item, in the order of the list. Each begins
-//!   at what was kept, and so at the very seat, when the one before it was done; the first at what a runner of the store begins
-//!   with (`first`). Each answer has the seat and its item's number.
-//! - [`run_from`] leaves the same for the items whose places a [`Source`] gave, in the order in which it gave them, until it
-//!   had none to give (`IsServed`). [`Own`] gives each place of a list once, in order.
+//! - [`run_from`] and [`run_sources`] leave a chain (`IsServed`): one link for each item that the source gave, in the order in
+//!   which it gave them, until it had none to give. Each begins at what was kept, and so at the very seat, when the one before
+//!   it was done; the first at what a runner of the store begins with (`first`). Each answer has the seat and the number that
+//!   the source gave.
+//! - [`run_lists`] is that with each list as a source: so it leaves one link for each item, in the order of the list
+//!   (`DidAll`), since [`Own`] gives each item once, in order.
 //!
 //! Nothing is said of what other seats do meanwhile: this holds at every interleaving. Each item is tried until it is done,
 //! so a run ends only where others let it, and takes a `Wait`. A thread gives its processor away behind each attempt that
@@ -26,9 +28,9 @@
 //!
 //! # How it is proved
 //!
-//! A link is of one item, so a chain grows by one link where an item is done (`proofs/Links.antt`, and `proofs/Serves.antt`
-//! for a source). Stores move into workers and out of them one at a time (`proofs/Moving.antt`), and what the workers leave
-//! is a chain for each store (`proofs/Workers.antt`).
+//! A link is of one item, so a chain grows by one link where an item is done (`proofs/Serves.antt`). Stores and sources move
+//! into workers and out of them one at a time (`proofs/Moving.antt`), and what the workers leave is a chain for each store
+//! (`proofs/Workers.antt`). A chain over all that a list's source gave is one over the list (`proofs/Lists.antt`).
 //!
 //! # Its place
 //!
@@ -39,13 +41,11 @@
 mod loading;
 mod runner;
 mod running;
-mod serving;
 mod source;
 mod threads;
 
 pub use loading::take_first;
 pub use runner::{Answer, Runner, Tried};
-pub use running::{run_item, run_items};
-pub use serving::{Own, run_from};
-pub use source::Source;
-pub use threads::run_lists;
+pub use running::{run_from, run_item};
+pub use source::{Given, Own, Source};
+pub use threads::{run_lists, run_sources};

@@ -1,8 +1,10 @@
 // One item after another, by one runner.
-ghost use Rattle.std.specs.Prelude.{◌≡◌, ◌≤◌, ◌<◌, ◌+◌, ◌^◌, [], length, sum_by, vec_capacity, All};
-ghost use Rattle.item_workers.specs.Chains.{OnTried, DidAll};
+ghost use Rattle.std.specs.Prelude.{◌≡◌, ◌≤◌, [], vec_capacity};
+ghost use Rattle.item_workers.specs.Chains.{OnTried};
+ghost use Rattle.item_workers.specs.Serving.{IsServed};
 
 use crate::runner::{Answer, Runner, Tried};
+use crate::source::{Given, Source};
 use core::mem::replace_with;
 use run_outside::Gate;
 use std::sync::Wait;
@@ -46,7 +48,7 @@ fn try_item<W: Runner>(runner: &mut W, item: &W::Item) -> Tried<W::Done>
 }
 
 // Tries an item until it is done, and calls the gate around it.
-pub(crate) fn do_item<R: Wait, W: Runner, G: Gate>(
+fn do_item<R: Wait, W: Runner, G: Gate>(
     rt: &R,
     runner: &mut W,
     item: &W::Item,
@@ -66,29 +68,33 @@ pub(crate) fn do_item<R: Wait, W: Runner, G: Gate>(
     Answer { seat, number, done }
 }
 
-/// Does the items one after another, with an answer for each, numbered from 1. There is room for the answers.
+/// Does the items that the source gives, until it has none to give, with an answer for each. There is room for the answers.
 ///
 /// The gate is called ahead of an item's first attempt and once it is done.
-pub fn run_items<R: Wait, W: Runner, G: Gate>(
+pub fn run_from<R: Wait, W: Runner, P: Source<W>, G: Gate>(
     rt: &R,
     runner: &mut W,
-    items: &[W::Item],
+    source: &mut P,
     gate: &G,
     answers: &mut Vec<Answer<W::Done>>,
 )
     requires ready { W.ready runner.old }
-    requires does { All W.does items.now }
-    requires few { 1 + sum_by W.width_of items.now < 2 ^ 32 }
+    requires may { P.may source.old }
     requires empty { answers.old.items ≡ [] }
-    requires room { length items.now ≤ vec_capacity answers.old }
-    ensures did { DidAll W.seat_of W.link W.width_of (W.kept_of runner.old) (W.kept_of runner.new) items.now answers.new.items }
+    requires room { P.left source.old ≤ vec_capacity answers.old }
+    ensures served { IsServed W.seat_of W.link P.gives P.ended (W.kept_of runner.old) source.old (W.kept_of runner.new) source.new answers.new.items }
     ensures ready { W.ready runner.new }
 {
     let seat = runner.seat();
-    let mut number = 1;
-    for item in items {
-        let answer = do_item(rt, runner, item, gate, seat, number);
-        answers.push_reserved(answer);
-        number += W::width(item);
+    for _ in rt.forever() {
+        match source.take(rt) {
+            Some(Given { place, number }) => {
+                let item = &source.items()[place];
+                let answer = do_item(rt, runner, item, gate, seat, number);
+                answers.push_reserved(answer);
+            }
+            None => return,
+        }
     }
+    unreachable!()
 }

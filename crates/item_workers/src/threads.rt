@@ -1,34 +1,26 @@
-// Runners in threads, each with a list of its own.
+// Runners in threads, each with a source of its own.
 ghost use Rattle.std.specs.Prelude.{◌≡◌, length, map, All, IfOk, IfErr};
 ghost use Rattle.std.specs.List.{AllZip};
 ghost use Rattle.item_workers.specs.Chains.{EachDid};
+ghost use Rattle.item_workers.specs.OwnLists.{IsAt, AreOwn};
+ghost use Rattle.item_workers.specs.Serving.{EachServed};
 ghost use Rattle.item_workers.specs.Workers.{IsReady, RanBy, MayDo, items_of};
 
 use crate::loading::{RunRoom, load, make_room, unload};
 use crate::runner::{Answer, Runner};
-use crate::running::run_items;
+use crate::running::run_from;
+use crate::source::{Own, Source};
 use run_outside::Gate;
 use std::alloc::{AllocError, Global};
 use std::sync::Wait;
 use std::thread;
 use std::thread::Threads;
 
-// What does items, its seat's items, and what they answered, for all of which there is room.
-pub(crate) struct Worker<'s, W: Runner> {
+// What does items, where it has them from, and what they answered, for all of which there is room.
+pub(crate) struct Worker<W, P, D> {
     pub(crate) runner: W,
-    pub(crate) items: &'s [W::Item],
-    pub(crate) answers: Vec<Answer<W::Done>>,
-}
-
-impl<'s, W: Runner> Worker<'s, W> {
-    ghost use Rattle.item_workers.specs.Workers.{IsReady, RanBy};
-
-    fn run<R: Wait, G: Gate>(&mut self, rt: &R, gate: &G)
-        requires { IsReady W.ready W.does W.width_of self.old }
-        ensures { RanBy W.kept_of W.seat_of W.link W.width_of self.old self.new }
-    {
-        run_items(rt, &mut self.runner, self.items, gate, &mut self.answers);
-    }
+    pub(crate) source: P,
+    pub(crate) answers: Vec<Answer<D>>,
 }
 
 /// Does each list by a runner of the store of its place, each in a thread of its own, and gives the stores back in their
@@ -44,7 +36,7 @@ impl<'s, W: Runner> Worker<'s, W> {
 pub fn run_lists<R: Threads + Wait + Sync, W: Runner + Send, G: Gate>(
     rt: &R,
     alloc: Global,
-    mut stores: Vec<W::Store>,
+    stores: Vec<W::Store>,
     lists: &[Vec<W::Item>],
     gate: &G,
 ) -> Result<(Vec<W::Store>, Vec<Vec<Answer<W::Done>>>), (Vec<W::Store>, AllocError)>
@@ -60,24 +52,80 @@ where
         (map items_of lists.now) done.1.items) }
     ensures err { IfErr result (λ refused. refused.0.items ≡ stores.items) }
 {
+    let sources = match own_sources::<W>(alloc, lists) {
+        Ok(sources) => sources,
+        Err(error) => return Err((stores, error)),
+    };
+    match run_sources::<R, W, Own<'_, W::Item>, G>(rt, alloc, stores, sources, gate) {
+        Ok((stores, _, answers)) => Ok((stores, answers)),
+        Err((stores, _, error)) => Err((stores, error)),
+    }
+}
+
+// Each list as the source of a worker's own.
+fn own_sources<'s, W: Runner>(
+    alloc: Global,
+    lists: &'s [Vec<W::Item>],
+) -> Result<Vec<Own<'s, W::Item>>, AllocError>
+    requires { All (λ list. MayDo W.does W.width_of list.items) lists.now }
+    ensures own { IfOk result (λ sources. AreOwn (map items_of lists.now) sources.items) }
+    ensures may { IfOk result (λ sources. All (IsAt W.does W.width_of) sources.items) }
+{
+    let mut sources = Vec::new(alloc);
+    for list in lists {
+        sources.push(Own::new(list))?;
+    }
+    Ok(sources)
+}
+
+/// Does what each source gives by a runner of the store of its place, each in a thread of its own, until it has none to give,
+/// and gives the stores and the sources back in their order, with the answers of each. Where a thread can't be started, this
+/// thread does its work.
+///
+/// Each item is tried until it is done, which may go on for ever where others always come first. The gate is called ahead of
+/// an item's first attempt and once it is done, with the number of the seat and that of the item.
+///
+/// There are as many sources as stores, which may be asked for items, and a runner may be made of each store.
+///
+/// The error is want of memory. It comes before the first item is taken, and hands the stores and the sources back as they
+/// were.
+pub fn run_sources<R: Threads + Wait + Sync, W: Runner + Send, P: Source<W> + Send, G: Gate>(
+    rt: &R,
+    alloc: Global,
+    mut stores: Vec<W::Store>,
+    mut sources: Vec<P>,
+    gate: &G,
+) -> Result<(Vec<W::Store>, Vec<P>, Vec<Vec<Answer<W::Done>>>), (Vec<W::Store>, Vec<P>, AllocError)>
+where
+    W::Item: Sync,
+    W::Done: Send,
+    W::Store: Send,
+    W::Room: Send,
+    requires as_many { length sources.items ≡ length stores.items }
+    requires fit { All W.fits stores.items }
+    requires may { All P.may sources.items }
+    ensures served { IfOk result (λ done. EachServed W.seat_of W.link P.gives P.ended (map W.first stores.items) sources.items
+        (map W.seat_in done.0.items) done.1.items done.2.items) }
+    ensures err { IfErr result (λ refused. (refused.0.items ≡ stores.items) × (refused.1.items ≡ sources.items)) }
+{
     let RunRoom {
         rooms,
         mut answers,
         mut workers,
-    } = match make_room::<W>(alloc, lists) {
+    } = match make_room::<W, P>(alloc, &sources) {
         Ok(room) => room,
-        Err(error) => return Err((stores, error)),
+        Err(error) => return Err((stores, sources, error)),
     };
-    load(&mut stores, lists, rooms, &mut workers);
+    load(&mut stores, &mut sources, rooms, &mut workers);
     run_all(rt, &mut workers, gate);
-    unload(workers, &mut stores, &mut answers);
-    Ok((stores, answers))
+    unload(workers, &mut stores, &mut sources, &mut answers);
+    Ok((stores, sources, answers))
 }
 
-// Each worker does its items in a thread of its own, and all have ended when this returns.
-fn run_all<R: Threads + Wait + Sync, W: Runner + Send, G: Gate>(
+// Each worker does what its source gives in a thread of its own, and all have ended when this returns.
+fn run_all<R: Threads + Wait + Sync, W: Runner + Send, P: Source<W> + Send, G: Gate>(
     rt: &R,
-    workers: &mut [Worker<'_, W>],
+    workers: &mut [Worker<W, P, W::Done>],
     gate: &G,
 )
 where
@@ -85,17 +133,25 @@ where
     W::Done: Send,
     W::Store: Send,
     W::Room: Send,
-    requires { All (IsReady W.ready W.does W.width_of) workers.old }
-    ensures { AllZip (RanBy W.kept_of W.seat_of W.link W.width_of) workers.old workers.new }
+    requires { All (IsReady W.ready P.may P.left) workers.old }
+    ensures { AllZip (RanBy W.kept_of W.seat_of W.link P.gives P.ended) workers.old workers.new }
 {
     let threads = workers.len().max(1);
     thread::for_each_mut(
         rt,
         workers,
         threads,
-        &|_, worker: &mut Worker<'_, W>|
-            requires { IsReady W.ready W.does W.width_of worker.old }
-            ensures { RanBy W.kept_of W.seat_of W.link W.width_of worker.old worker.new }
-        { worker.run(rt, gate) },
+        &|_, worker: &mut Worker<W, P, W::Done>|
+            requires { IsReady W.ready P.may P.left worker.old }
+            ensures { RanBy W.kept_of W.seat_of W.link P.gives P.ended worker.old worker.new }
+        {
+            run_from(
+                rt,
+                &mut worker.runner,
+                &mut worker.source,
+                gate,
+                &mut worker.answers,
+            )
+        },
     );
 }

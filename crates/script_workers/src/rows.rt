@@ -28,8 +28,8 @@ fn count_commands(scripts: &[Vec<Command>]) -> Result<usize, AllocError>
     Ok(count)
 }
 
-// Makes a line of each answer, for which there is room.
-pub(crate) fn make_lines(rows: &[Vec<Answer<(Place, Reply)>>], lines: &mut Vec<Line>)
+/// Makes a line of each answer, in their order, for which there is room.
+pub fn make_lines(rows: &[Vec<Answer<(Place, Reply)>>], lines: &mut Vec<Line>)
     requires empty { lines.old.items ≡ [] }
     requires room { length (flat_map row_of rows.now) ≤ vec_capacity lines.old }
     ensures { lines.new.items ≡ flat_map row_of rows.now }

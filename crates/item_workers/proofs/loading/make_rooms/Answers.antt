@@ -3,12 +3,13 @@ use Rattle.std.proofs.lemmas.List.{take_more}
 use Rattle.item_workers.proofs.Workers.{rooms_more}
 use Rattle.item_workers.proofs.loading.make_rooms.Goals as goal
 
-pub loop-list-preserved : goal.loop-list-preserved
-loop-list-preserved g c =
-    let i = c.loop-list.list-index in
-    let lists = c.args.lists.now in
-    let list = c.list-item.result in
+pub loop-source-preserved : goal.loop-source-preserved
+loop-source-preserved g c =
+    let i = c.loop-source.source-index in
+    let sources = c.args.sources.now in
+    let source = c.source-item.result in
     let answers = c.in_ok-answers.ensures in
-    rw (take_more lists i list c.loop-list-test.true, c.in_ok-push.ensures.items)
-    (rw (← c.list-item.is)
-    (rooms_more (take i lists) c.loop-list.rooms.items list _ c.loop-list.invariant answers.items (omega (arith, answers.capacity, c.len.ensures, list.ok.0))))
+    rw (take_more sources i source c.loop-source-test.true, c.in_ok-push.ensures.items)
+    (rw (← c.source-item.is)
+    (rooms_more g.P.Source.left (take i sources) c.loop-source.rooms.items source _ c.loop-source.invariant answers.items
+    (omega (arith, answers.capacity, c.most.ensures))))

@@ -2,5 +2,5 @@ use Rattle.std.proofs.Common.{take}
 use Rattle.item_workers.specs.Workers.{AreRooms}
 use Rattle.item_workers.proofs.loading.make_rooms.Given as goal
 
-abbrev pub invariant-loop-list : goal.invariant-loop-list
-invariant-loop-list g l = AreRooms (take l.list-index l.lists) l.rooms.items
+abbrev pub invariant-loop-source : goal.invariant-loop-source
+invariant-loop-source g l = AreRooms g.P.Source.left (take l.source-index l.sources) l.rooms.items

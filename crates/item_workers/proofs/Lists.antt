@@ -1,0 +1,96 @@
+-- What was done of lists of the workers' own.
+use Rattle.std.proofs.Common.{◌≡◌, ℕ, suc, ◌+◌, ◌≤◌, List, [], ◌∷◌, ◌++◌, length, take, drop, sum_by, Some, slice_get, Vec, refl, sym, ap}
+use Rattle.std.proofs.Common.{◌∙◌, subst, arith}
+use Rattle.std.specs.declared.alloc.Global.{Global}
+use Rattle.std.proofs.lemmas.List.{drop_more, drop_all}
+use Rattle.std.proofs.lemmas.Option.{slice_get_within, get_or_from_slice_get}
+use Rattle.mv_history.specs.Meaning.{Seat}
+use Rattle.item_workers.specs.declared.runner.Answer.{Answer}
+use Rattle.item_workers.specs.declared.source.Own.{Own}
+use Rattle.item_workers.specs.Chains.{Chain, HaveNumbers, EachDid, answered}
+use Rattle.item_workers.specs.OwnLists.{IsAt, GaveOwn, AreOwn}
+use Rattle.item_workers.specs.Serving.{Serves, EachServed}
+use Rattle.item_workers.specs.Workers.{MayDo}
+
+-- one more list as a source
+pub own_more : {I : Type 0} (lists : List (List I)) (sources : List (Own I)) (list : List I) (own : Own I) → AreOwn lists sources → own.items.now ≡ list
+    → own.next ≡ 0 → own.number ≡ 1 → AreOwn (lists ++ list ∷ []) (sources ++ own ∷ [])
+own_more [] [] list own h items next number = (items, next, number, tt)
+own_more [] (s ∷ sources) list own h items next number = absurd h
+own_more (l ∷ lists) [] list own h items next number = absurd h
+own_more (l ∷ lists) (s ∷ sources) list own h items next number = (h.0, h.1, h.2, own_more lists sources list own h.3 items next number)
+
+-- at first no item was given
+pub at_first : {I : Type 0} (does : I → Type 0) (width : I → ℕ) (own : Own I) → MayDo does width own.items.now → own.next ≡ 0 → own.number ≡ 1
+    → IsAt does width own
+at_first does width own may next number = record {
+  may = may;
+  within = omega (arith, next);
+  number_is = number ∙ ap (λ n. 1 + sum_by width (take n own.items.now)) (sym next);
+}
+
+-- there is a source for each list
+pub own_count : {I : Type 0} (lists : List (List I)) (sources : List (Own I)) → AreOwn lists sources → length sources ≡ length lists
+own_count [] [] h = refl
+own_count [] (s ∷ sources) h = absurd h
+own_count (l ∷ lists) [] h = absurd h
+own_count (l ∷ lists) (s ∷ sources) h = ap suc (own_count lists sources h.3)
+
+-- the items that are left, with the first of them ahead
+left_there : {I : Type 0} (items : List I) (i : ℕ) (item : I) → slice_get items i ≡ Some item → drop i items ≡ item ∷ drop (suc i) items
+left_there items i item there =
+    let next : i + 1 ≡ suc i = omega arith in
+    drop_more items i item (slice_get_within items i item there)
+    ∙ ap (λ x. x ∷ drop (i + 1) items) (get_or_from_slice_get items i item item there)
+    ∙ ap (λ n. item ∷ drop n items) next
+
+module _ {X I D : Type 0} (link : X → X → I → D → Type 0) (width : I → ℕ) (seat : ℕ) where
+  -- what was left of a list is done, where no item is left then
+  list_done : (s t : X) (a b : Own I) (todo : List I) (ds : List (Answer D)) → drop a.next a.items.now ≡ todo
+      → Serves link (GaveOwn width) seat s a t b ds → length b.items.now ≤ b.next
+      → Chain (answered link) s t todo ds × HaveNumbers width seat a.number todo ds
+  list_done s t a b [] [] left h ended = (h.0, tt)
+  list_done s t a b (i ∷ todo) [] left h ended =
+      let over : length a.items.now ≤ a.next = subst (λ (o : Own I). length o.items.now ≤ o.next) h.1 ended in
+      let none = drop_all a.next a.items.now over in absurd (cc)
+  list_done s t a b [] (d ∷ ds) left h ended =
+      let there = left_there a.items.now a.next h.2.item h.2.given.there in absurd (cc)
+  list_done s t a b (i ∷ todo) (d ∷ ds) left h ended =
+      let gave = h.2.given in
+      let there = left_there a.items.now a.next h.2.item gave.there in
+      let same : h.2.item ≡ i = cc in
+      let rest : drop (suc a.next) a.items.now ≡ todo = cc in
+      let others = list_done h.0 t h.1 b todo ds (rw (gave.items, gave.next) rest) h.3 ended in (
+        (h.0, subst (λ x. link s h.0 x d.done) same h.2.linked, others.0),
+        (h.2.by, gave.numbered, subst (λ n. HaveNumbers width seat n todo ds) (gave.after ∙ ap (λ x. a.number + width x) same) others.1),
+      )
+
+-- so each list was done
+pub own_did : {X I D : Type 0} (seat_of : X → Seat) (link : X → X → I → D → Type 0) (width : I → ℕ) (os : List X) (lists : List (List I))
+    (sources : List (Own I)) (ns : List Seat) (after : List (Own I)) (rows : List (Vec (Answer D) Global)) → AreOwn lists sources
+    → EachServed seat_of link (GaveOwn width) (λ (old : Own I) new. length old.items.now ≤ old.next) os sources ns after rows
+    → EachDid seat_of link width os ns lists rows
+own_did seat_of link width [] [] [] [] [] [] own h = tt
+own_did seat_of link width [] [] [] [] [] (r ∷ rows) own h = absurd h
+own_did seat_of link width [] [] [] [] (b ∷ after) rows own h = absurd h
+own_did seat_of link width [] [] [] (n ∷ ns) after rows own h = absurd h
+own_did seat_of link width [] [] (a ∷ sources) ns after rows own h = absurd own
+own_did seat_of link width [] (l ∷ lists) [] ns after rows own h = absurd own
+own_did seat_of link width [] (l ∷ lists) (a ∷ sources) ns after rows own h = absurd h
+own_did seat_of link width (o ∷ os) [] [] ns after rows own h = absurd h
+own_did seat_of link width (o ∷ os) [] (a ∷ sources) ns after rows own h = absurd own
+own_did seat_of link width (o ∷ os) (l ∷ lists) [] ns after rows own h = absurd own
+own_did seat_of link width (o ∷ os) (l ∷ lists) (a ∷ sources) [] after rows own h = absurd h
+own_did seat_of link width (o ∷ os) (l ∷ lists) (a ∷ sources) (n ∷ ns) [] rows own h = absurd h
+own_did seat_of link width (o ∷ os) (l ∷ lists) (a ∷ sources) (n ∷ ns) (b ∷ after) [] own h = absurd h
+own_did seat_of link width (o ∷ os) (l ∷ lists) (a ∷ sources) (n ∷ ns) (b ∷ after) (r ∷ rows) own h =
+    let served = h.0.served in
+    let done = list_done link width (seat_of o).number o h.0.end a served.last l r.items
+    (ap (λ k. drop k a.items.now) own.1 ∙ own.0) served.serves served.ended_is in (
+      record {
+        end = h.0.end;
+        seat_is = h.0.seat_is;
+        did = record { chain = done.0; numbers = subst (λ k. HaveNumbers width (seat_of o).number k l r.items) own.2 done.1 };
+      },
+      own_did seat_of link width os lists sources ns after rows own.3 h.1,
+    )

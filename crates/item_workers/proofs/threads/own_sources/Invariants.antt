@@ -1,0 +1,10 @@
+use Rattle.std.proofs.Common.{All, map, take}
+use Rattle.item_workers.specs.OwnLists.{IsAt, AreOwn}
+use Rattle.item_workers.specs.Workers.{items_of}
+use Rattle.item_workers.proofs.threads.own_sources.Given as goal
+
+abbrev pub invariant-loop-list : goal.invariant-loop-list
+invariant-loop-list g l = record {
+  own : AreOwn (map items_of (take l.list-index l.lists)) l.sources.items;
+  may : All (IsAt g.W.Runner.does g.W.Runner.width_of) l.sources.items;
+}

@@ -3,14 +3,12 @@ use Rattle.std.proofs.Common.{◌≡◌, ◌≢◌, ℕ, zero, suc, ◌+◌, ◌
 use Rattle.std.proofs.Common.{◌∙◌, arith, eq-eqb, ne_eqb}
 use Rattle.std.proofs.lemmas.Bool.{cases_lt}
 use Rattle.std.proofs.lemmas.Bool.Decides.{nat_tests}
-use Rattle.std.proofs.lemmas.List.{map-append, length_push, length-map}
-use Rattle.std.proofs.lemmas.List.Elements.{All-nil, All-head, All-tail, All-weaker, All-append, All-push, All-map}
+use Rattle.std.proofs.lemmas.List.{map-append, length-map}
+use Rattle.std.proofs.lemmas.List.Elements.{All-nil, All-cons, All-head, All-tail, All-weaker, All-append, All-map}
 use Rattle.std.proofs.lemmas.List.Sums.{sum_by-cons}
-use Rattle.command_pool.specs.declared.collected.Collected.{Collected}
-use Rattle.command_pool.specs.declared.queue.Hand.{Hand}
+use Rattle.run_report.specs.declared.line.Line.{Line}
 use Rattle.command_pool.specs.Pool.{times_of}
 use Rattle.command_pool.specs.Queue.{total, total_to}
-use Rattle.command_pool.specs.Workers.{number_of, Gathered}
 use Rattle.command_pool.proofs.Totals.{total-append}
 
 -- 1 at this number, and 0 at others
@@ -68,40 +66,51 @@ total_ones f [] all = refl
 total_ones f (x ∷ xs) all =
     omega (arith, All-head (λ x. f x ≡ 1) x xs all, total_ones f xs (All-tail (λ x. f x ≡ 1) x xs all))
 
-times_is : (n : ℕ) (collected : List Collected) → times_of n collected ≡ total (is_at n) (map number_of collected)
+-- the number of a line's command
+abbrev pub number_of : Line → ℕ
+number_of line = line.number
+
+times_is : (n : ℕ) (lines : List Line) → times_of n lines ≡ total (is_at n) (map number_of lines)
 times_is n [] = refl
-times_is n (c ∷ collected) =
-    sum_by-cons (λ (c : Collected). cond (c.number == n) 1 0) c collected ∙ ap (λ k. is_at n c.number + k) (times_is n collected)
+times_is n (line ∷ lines) =
+    sum_by-cons (λ (l : Line). cond (l.number == n) 1 0) line lines ∙ ap (λ k. is_at n line.number + k) (times_is n lines)
+
+-- These numbers are those of the lines, and so many others, which no command has.
+pub record Gathered (commands : ℕ) (taken : List ℕ) (seats : ℕ) (lines : List Line) : Type 0 where
+  pub within : All (λ (line : Line). line.number ≤ commands) lines
+  pub ends : List ℕ
+  pub many : length ends ≡ seats
+  pub beyond : All (λ (e : ℕ). commands < e) ends
+  pub taken_are : (f : ℕ → ℕ) → total f taken ≡ total f (map number_of lines) + total f ends
 
 -- nothing was gathered yet
-pub gathered_none : (commands : ℕ) (v : Hand) → v.taken ≡ [] → Gathered commands v 0 []
-gathered_none commands v none = record {
-  within = All-nil (λ (c : Collected). c.number ≤ commands);
+pub gathered_none : (commands : ℕ) → Gathered commands [] 0 []
+gathered_none commands = record {
+  within = All-nil (λ (line : Line). line.number ≤ commands);
   ends = [];
   many = refl;
   beyond = All-nil (λ e. commands < e);
-  taken = λ f. ap (λ xs. total f xs) none;
+  taken_are = λ f. refl;
 }
 
 -- what one more worker took was gathered
-pub gathered_more : (commands : ℕ) (v u : Hand) (seats : ℕ) (collected more : List Collected) (last : ℕ) → Gathered commands v seats collected
-    → All (λ (c : Collected). c.number ≤ commands) more → commands < last → u.taken ≡ v.taken ++ (map number_of more ++ last ∷ [])
-    → Gathered commands u (seats + 1) (collected ++ more)
-gathered_more commands v u seats collected more last h within beyond taken = record {
-  within = All-append (λ (c : Collected). c.number ≤ commands) collected more h.within within;
-  ends = h.ends ++ last ∷ [];
-  many = omega (arith, length_push h.ends last, h.many);
-  beyond = All-push (λ e. commands < e) h.ends last h.beyond beyond;
-  taken = λ f.
+pub gathered_more : (commands : ℕ) (mine taken : List ℕ) (seats : ℕ) (own lines : List Line) (mark : ℕ) → mine ≡ map number_of own ++ mark ∷ []
+    → All (λ (line : Line). line.number ≤ commands) own → commands < mark → Gathered commands taken seats lines
+    → Gathered commands (mine ++ taken) (suc seats) (own ++ lines)
+gathered_more commands mine taken seats own lines mark is within beyond h = record {
+  within = All-append (λ (line : Line). line.number ≤ commands) own lines within h.within;
+  ends = mark ∷ h.ends;
+  many = ap suc h.many;
+  beyond = All-cons (λ e. commands < e) mark h.ends beyond h.beyond;
+  taken_are = λ f.
       omega (
         arith,
-        ap (λ xs. total f xs) taken,
-        total-append f v.taken (map number_of more ++ last ∷ []),
-        total-append f (map number_of more) (last ∷ []),
-        h.taken f,
-        ap (λ xs. total f xs) (map-append number_of collected more),
-        total-append f (map number_of collected) (map number_of more),
-        total-append f h.ends (last ∷ []),
+        total-append f mine taken,
+        ap (λ xs. total f xs) is,
+        total-append f (map number_of own) (mark ∷ []),
+        h.taken_are f,
+        ap (λ xs. total f xs) (map-append number_of own lines),
+        total-append f (map number_of own) (map number_of lines),
       );
 }
 
@@ -111,46 +120,46 @@ an_end : (commands : ℕ) (ends : List ℕ) → 1 ≤ length ends → All (λ e.
 an_end commands [] some beyond = absurd (omega (arith, some))
 an_end commands (e ∷ ends) some beyond = (e, All-head (λ e. commands < e) e ends beyond, omega (arith, at_same e e refl))
 
-module _ (commands : ℕ) (v : Hand) (seats : ℕ) (collected : List Collected) (h : Gathered commands v seats collected) (some : 1 ≤ seats)
-    (done : ℕ) (once : (f : ℕ → ℕ) → total f v.taken ≡ total_to f done) where
+module _ (commands : ℕ) (taken : List ℕ) (seats : ℕ) (lines : List Line) (h : Gathered commands taken seats lines) (some : 1 ≤ seats)
+    (done : ℕ) (once : (f : ℕ → ℕ) → total f taken ≡ total_to f done) where
   -- an end was taken, so all commands before it were
   all_done : commands < done
   all_done =
       let e = an_end commands h.ends (omega (arith, some, h.many)) h.beyond in elim (cases_lt done e.0) [
-        | inl lt ↦ absurd (omega (arith, to_none e.0 done lt, once (is_at e.0), h.taken (is_at e.0), e.2))
+        | inl lt ↦ absurd (omega (arith, to_none e.0 done lt, once (is_at e.0), h.taken_are (is_at e.0), e.2))
         | inr ge ↦ omega (arith, ge, e.1)
       ]
 
   -- each command was taken once
-  pub each_once : (number : ℕ) → 1 ≤ number → number ≤ commands → times_of number collected ≡ 1
+  pub each_once : (number : ℕ) → 1 ≤ number → number ≤ commands → times_of number lines ≡ 1
   each_once number positive le =
       let none = total_zeros (is_at number) h.ends
       (All-weaker (λ e. commands < e) (λ e. is_at number e ≡ 0) (λ e lt. at_other number e (λ same. omega (arith, same, lt, le)))
       h.ends h.beyond) in
       omega (
         arith,
-        times_is number collected,
+        times_is number lines,
         once (is_at number),
-        h.taken (is_at number),
+        h.taken_are (is_at number),
         none,
         to_one number done positive (omega (arith, le, all_done)),
       )
 
-  -- as many were collected as there are commands
-  pub all_collected : length collected ≡ commands
-  all_collected =
+  -- there are as many lines as commands
+  pub all_told : length lines ≡ commands
+  all_told =
       let none = total_zeros (is_low commands) h.ends
       (All-weaker (λ e. commands < e) (λ e. is_low commands e ≡ 0) (λ e lt. at_high commands e lt) h.ends h.beyond) in
-      let ones = total_ones (is_low commands) (map number_of collected)
-      (All-map (λ k. is_low commands k ≡ 1) number_of collected
-      (All-weaker (λ (c : Collected). c.number ≤ commands) (λ c. is_low commands c.number ≡ 1) (λ c le. at_low commands c.number le)
-      collected h.within)) in
+      let ones = total_ones (is_low commands) (map number_of lines)
+      (All-map (λ k. is_low commands k ≡ 1) number_of lines
+      (All-weaker (λ (line : Line). line.number ≤ commands) (λ line. is_low commands line.number ≡ 1) (λ line le. at_low commands line.number le)
+      lines h.within)) in
       omega (
         arith,
         ones,
-        length-map collected number_of,
+        length-map lines number_of,
         once (is_low commands),
-        h.taken (is_low commands),
+        h.taken_are (is_low commands),
         none,
         to_most commands done (omega (arith, all_done)),
       )

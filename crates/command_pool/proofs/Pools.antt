@@ -1,124 +1,110 @@
--- What the workers took, and what their pool did.
-use Rattle.std.proofs.Common.{
-  ◌≡◌,
-  ℕ,
-  suc,
-  ◌+◌,
-  ◌≤◌,
-  ◌<◌,
-  List,
-  [],
-  ◌∷◌,
-  ◌++◌,
-  length,
-  map,
-  take,
-  get_or,
-  All,
-  Vec,
-  refl,
-  sym,
-  ap,
-  ◌∙◌,
-  subst,
-  arith,
-  append_assoc,
-}
+-- What all workers of a pool did.
+use Rattle.std.proofs.Common.{◌≡◌, ℕ, suc, ◌<◌, ◌≤◌, List, [], ◌∷◌, ◌++◌, length, map, All, Vec, refl, ap, ◌∙◌, subst}
 use Rattle.std.specs.declared.alloc.Global.{Global}
 use Rattle.std.specs.List.{flat_map}
-use Rattle.std.proofs.lemmas.List.{append-nil, map-append}
-use Rattle.std.proofs.lemmas.List.Concat.{flat_map-append, length-flat_map}
-use Rattle.std.proofs.lemmas.List.Elements.{All-nil, All-cons, All-head}
-use Rattle.std.proofs.lemmas.List.Sums.{sum_by_more_le}
+use Rattle.std.proofs.lemmas.List.Elements.{All-nil, All-cons, All-head, All-tail}
 use Rattle.mv_history.specs.Meaning.{Seat}
 use Rattle.set_script.specs.declared.commands.Command.{Command}
-use Rattle.command_pool.specs.declared.collected.Collected.{Collected}
-use Rattle.command_pool.specs.declared.worker.Worker.{Worker}
-use Rattle.command_pool.specs.Pool.{EachTook}
-use Rattle.command_pool.specs.Workers.{QueueOf, HasEnded, TookAll, EachTookAll, store_of, collected_of, items_of}
+use Rattle.section_work.specs.declared.place.Place.{Place}
+use Rattle.set_script.specs.declared.commands.Reply.{Reply}
+use Rattle.section_work.specs.Causes.{Causes}
+use Rattle.run_report.specs.declared.line.Line.{Line}
+use Rattle.crossbeam_queue.specs.Passes.{view}
+use Rattle.item_workers.specs.declared.runner.Answer.{Answer}
+use Rattle.item_workers.specs.Serving.{IsServedTo, EachServed}
+use Rattle.script_workers.specs.Lines.{line_of, row_of}
+use Rattle.script_workers.specs.Links.{LinkedDone}
+use Rattle.command_pool.specs.declared.queue.Hand.{Hand}
+use Rattle.command_pool.specs.declared.turns.Turns.{Turns}
+use Rattle.command_pool.specs.Pool.{AreTaken, EachSeat, Took, TookLinked, PoolRan}
+use Rattle.command_pool.specs.Queue.{total, total_to, last_of}
+use Rattle.command_pool.specs.Lending.{QueueOf, IsBegun, IsLent, taken_of}
+use Rattle.command_pool.specs.Turns.{GaveTurn, HasEnded}
+use Rattle.command_pool.proofs.Gathering.{Gathered, gathered_none, gathered_more, each_once, all_told, number_of}
+use Rattle.command_pool.proofs.Runs.{took_of, linked_of, taken_within}
+use Rattle.command_pool.proofs.Taking.{hand_is, turns_done}
 
-module _ {S : Type 0} {Open : _} {Q A : Type 0} (seat_of : S → Seat) (queue : QueueOf Q A) (commands : List Command) where
-  -- what each worker took, from what is known of each place
-  pub each_from : (os ns : List (Worker S Open)) → length ns ≡ length os
-      → ((i : ℕ) (d : Worker S Open) → i < length os → TookAll seat_of queue commands (get_or os i d) (get_or ns i d))
-      → EachTookAll seat_of queue commands os ns
-  each_from [] [] len h = tt
-  each_from [] (n ∷ ns) len h = absurd (omega (arith, len))
-  each_from (o ∷ os) [] len h = absurd (omega (arith, len))
-  each_from (o ∷ os) (n ∷ ns) len h = (h 0 o (omega arith), each_from os ns (omega (arith, len)) (λ i d lt. h (suc i) d (omega (arith, lt))))
+module _ (k : Causes) {Q A : Type 0} (queue : QueueOf Q A) (commands : List Command) where
+  -- What one worker did in its turns, and what its pass took: the numbers of its lines, and an end mark.
+  record SeatDone (s t : Seat) (b : Turns) (taken : List Line) : Type 0 where
+    pub lent : IsLent queue b
+    pub mark : ℕ
+    pub beyond : length commands < mark
+    pub numbers : taken_of b ≡ map number_of taken ++ mark ∷ []
+    pub within : All (λ (line : Line). line.number ≤ length commands) taken
+    pub took : Took commands s t taken
+    pub linked : TookLinked k commands s t taken
 
-  -- what was collected stands by seat
-  pub each_took : (os ns : List (Worker S Open)) → EachTookAll seat_of queue commands os ns
-      → EachTook (map seat_of (map store_of os)) (map seat_of (map store_of ns)) commands (flat_map collected_of ns)
-  each_took [] [] h = refl
-  each_took [] (n ∷ ns) h = absurd h
-  each_took (o ∷ os) [] h = absurd h
-  each_took (o ∷ os) (n ∷ ns) h = (n.collected.items, flat_map collected_of ns, refl, h.0.took, each_took os ns h.1)
+  seat_done : (s t : Seat) (a b : Turns) (ds : List (Answer (Place × Reply))) → IsBegun queue commands a
+      → IsServedTo (λ (u : Seat). u) (LinkedDone k) GaveTurn HasEnded s a t b ds → SeatDone s t b (map line_of ds)
+  seat_done s t a b ds begun to =
+      let served = to.served in
+      let done = turns_done k s.number s a to.end served.last ds begun.may.view_is served.serves in
+      let ended = served.ended_is in
+      let numbers : taken_of served.last ≡ map number_of (map line_of ds) =
+      ap (λ (v : Hand). v.taken) done.view_is ∙ ap (λ xs. xs ++ map number_of (map line_of ds)) begun.none_taken in
+      let same = done.commands ∙ begun.commands_are in
+      let rising : AreTaken commands 0 (map line_of ds) done.script =
+      subst (λ n. AreTaken commands n (map line_of ds) done.script) (ap last_of begun.none_taken)
+      (subst (λ cs. AreTaken cs (last_of (view a.pass).taken) (map line_of ds) done.script) begun.commands_are done.rising) in
+      let pass = ended.took.pass in
+      let took = took_of k commands s to.end done.script ds rising done.by done.chain in
+      let linked = linked_of k commands s to.end done.script ds rising done.by done.chain in
+      record {
+        lent = record {
+          pass = (pass.0 ∙ done.pass.0 ∙ begun.pass.0, pass.2 ∙ done.pass.2 ∙ begun.pass.1);
+          view_is = hand_is (view b.pass) ((view served.last.pass).taken ++ ended.mark ∷ []) ended.took.view_is;
+        };
+        mark = ended.mark;
+        beyond = subst (λ cs. length cs < ended.mark) same ended.beyond;
+        numbers = ap (λ (v : Hand). v.taken) ended.took.view_is ∙ ap (λ xs. xs ++ ended.mark ∷ []) numbers;
+        within = taken_within commands 0 (map line_of ds) done.script rising;
+        took = subst (λ (u : Seat). Took commands s u (map line_of ds)) to.seat_is took;
+        linked = subst (λ (u : Seat). TookLinked k commands s u (map line_of ds)) to.seat_is linked;
+      }
 
-  -- all have ended
-  pub all_ended : (os ns : List (Worker S Open)) → EachTookAll seat_of queue commands os ns → All (HasEnded queue (length commands)) ns
-  all_ended [] [] h = All-nil (HasEnded queue (length commands))
-  all_ended [] (n ∷ ns) h = absurd h
-  all_ended (o ∷ os) [] h = absurd h
-  all_ended (o ∷ os) (n ∷ ns) h = All-cons (HasEnded queue (length commands)) n ns h.0.ended (all_ended os ns h.1)
+  -- What all workers did, and what their passes took.
+  pub record PoolDone (olds news : List Seat) (after : List Turns) (lines : List Line) : Type 0 where
+    pub lent : All (IsLent queue) after
+    pub many : length after ≡ length olds
+    pub gathered : Gathered (length commands) (flat_map taken_of after) (length olds) lines
+    pub took : EachSeat (Took commands) olds news lines
+    pub linked : EachSeat (TookLinked k commands) olds news lines
 
--- rows of the same parts have the same put together
-joined_map : {X Y : Type 0} (f : X → List Y) (xs : List X) → flat_map f xs ≡ flat_map (λ ys. ys) (map f xs)
-joined_map f [] = refl
-joined_map f (x ∷ xs) = ap (λ ys. f x ++ ys) (joined_map f xs)
+  one_more : (s t : Seat) (b : Turns) (taken : List Line) (os ns : List Seat) (after : List Turns) (lines : List Line) → SeatDone s t b taken
+      → PoolDone os ns after lines → PoolDone (s ∷ os) (t ∷ ns) (b ∷ after) (taken ++ lines)
+  one_more s t b taken os ns after lines one others = record {
+    lent = All-cons (IsLent queue) b after one.lent others.lent;
+    many = ap suc others.many;
+    gathered = gathered_more (length commands) (taken_of b) (flat_map taken_of after) (length os) taken lines one.mark one.numbers one.within
+        one.beyond others.gathered;
+    took = (taken, lines, refl, one.took, others.took);
+    linked = (taken, lines, refl, one.linked, others.linked);
+  }
 
-pub joined : {S : Type 0} {Open : _} (parts : List (Vec Collected Global)) (ws : List (Worker S Open)) → map items_of parts ≡ map collected_of ws
-    → flat_map items_of parts ≡ flat_map collected_of ws
-joined parts ws same = joined_map items_of parts ∙ ap (λ yss. flat_map (λ ys. ys) yss) same ∙ sym (joined_map collected_of ws)
+  pub pool_done : (os : List Seat) (begun : List Turns) (ns : List Seat) (after : List Turns) (rows : List (Vec (Answer (Place × Reply)) Global))
+      → All (IsBegun queue commands) begun → EachServed (λ (u : Seat). u) (LinkedDone k) GaveTurn HasEnded os begun ns after rows
+      → PoolDone os ns after (flat_map row_of rows)
+  pool_done [] [] [] [] [] all h =
+      record { lent = All-nil (IsLent queue); many = refl; gathered = gathered_none (length commands); took = refl; linked = refl }
+  pool_done [] [] [] [] (r ∷ rows) all h = absurd h
+  pool_done [] [] [] (b ∷ after) rows all h = absurd h
+  pool_done [] [] (n ∷ ns) after rows all h = absurd h
+  pool_done [] (a ∷ begun) ns after rows all h = absurd h
+  pool_done (o ∷ os) [] ns after rows all h = absurd h
+  pool_done (o ∷ os) (a ∷ begun) [] after rows all h = absurd h
+  pool_done (o ∷ os) (a ∷ begun) (n ∷ ns) [] rows all h = absurd h
+  pool_done (o ∷ os) (a ∷ begun) (n ∷ ns) (b ∷ after) [] all h = absurd h
+  pool_done (o ∷ os) (a ∷ begun) (n ∷ ns) (b ∷ after) (r ∷ rows) all h =
+      one_more o n b (map line_of r.items) os ns after (flat_map row_of rows)
+      (seat_done o n a b r.items (All-head (IsBegun queue commands) a begun all) h.0)
+      (pool_done os begun ns after rows (All-tail (IsBegun queue commands) a begun all) h.1)
 
--- what is put together of the parts so far, with one more part, is no longer than that of all
-pub joined_more : (parts : List (Vec Collected Global)) (i : ℕ) (part : Vec Collected Global) → i < length parts → part ≡ get_or parts i part
-    → length (flat_map items_of (take i parts)) + length part.items ≤ length (flat_map items_of parts)
-joined_more parts i part lt is =
-    omega (
-      arith,
-      length-flat_map items_of (take i parts),
-      length-flat_map items_of parts,
-      sum_by_more_le (λ (v : Vec Collected Global). length v.items) parts i part lt,
-      ap (λ (v : Vec Collected Global). length v.items) is,
-    )
-
--- one element is moved to the end of a row, as one that means the same
-pub moved : {A B C : Type 0} (f : A → C) (g : B → C) (done : List A) (left rest : List B) (x : B) (y : A) → left ≡ x ∷ rest → f y ≡ g x
-    → map f (done ++ y ∷ []) ++ map g rest ≡ map f done ++ map g left
-moved f g done left rest x y is same =
-    ap (λ zs. zs ++ map g rest) (map-append f done (y ∷ []))
-    ∙ append_assoc (map f done) (f y ∷ []) (map g rest)
-    ∙ ap (λ z. map f done ++ z ∷ map g rest) same
-    ∙ ap (λ zs. map f done ++ map g zs) (sym is)
-
--- the same, into a row of others and out of one
-pub moved_in : {A C : Type 0} (f : A → C) (done : List A) (left rest : List C) (x : C) (y : A) → left ≡ x ∷ rest → f y ≡ x
-    → map f (done ++ y ∷ []) ++ rest ≡ map f done ++ left
-moved_in f done left rest x y is same =
-    ap (λ zs. zs ++ rest) (map-append f done (y ∷ []))
-    ∙ append_assoc (map f done) (f y ∷ []) rest
-    ∙ ap (λ z. map f done ++ z ∷ rest) same
-    ∙ ap (λ zs. map f done ++ zs) (sym is)
-
-pub moved_out : {B C : Type 0} (g : B → C) (done : List C) (left rest : List B) (x : B) (y : C) → left ≡ x ∷ rest → y ≡ g x
-    → (done ++ y ∷ []) ++ map g rest ≡ done ++ map g left
-moved_out g done left rest x y is same =
-    append_assoc done (y ∷ []) (map g rest) ∙ ap (λ z. done ++ z ∷ map g rest) same ∙ ap (λ zs. done ++ map g zs) (sym is)
-
--- one more part is put together with those before it
-pub joined_push : (parts more : List (Vec Collected Global)) (part : Vec Collected Global) → more ≡ parts ++ part ∷ []
-    → flat_map items_of more ≡ flat_map items_of parts ++ part.items
-joined_push parts more part is =
-    ap (λ ps. flat_map items_of ps) is
-    ∙ flat_map-append items_of parts (part ∷ [])
-    ∙ ap (λ cs. flat_map items_of parts ++ cs) (append-nil part.items)
-
--- what holds of each of a row holds of its first
-pub first_of : {X : Type 0} (P : X → Type 0) (x : X) (xs ys : List X) → ys ≡ x ∷ xs → All P ys → P x
-first_of P x xs ys is all = All-head P x xs (subst (All P) is all)
-
--- a row of no length is empty
-pub none_of : {A : Type 0} (xs : List A) (n : ℕ) → n ≡ length xs → n ≡ 0 → xs ≡ []
-none_of [] n e none = refl
-none_of (x ∷ xs) n e none = absurd (omega (arith, e, none))
+  -- So the pool did each command once, where its passes took each number up to one.
+  pub pool_ran : (os ns : List Seat) (after : List Turns) (lines : List Line) → 1 ≤ length os → PoolDone os ns after lines
+      → (done : ℕ) → ((f : ℕ → ℕ) → total f (flat_map taken_of after) ≡ total_to f done) → PoolRan os ns commands lines
+  pool_ran os ns after lines some h done once = record {
+    once = each_once (length commands) (flat_map taken_of after) (length os) lines h.gathered some done once;
+    count = all_told (length commands) (flat_map taken_of after) (length os) lines h.gathered some done once;
+    each = h.took;
+  }

@@ -1,88 +1,32 @@
--- What a seat has taken, as it takes one more.
-use Rattle.std.proofs.Common.{◌≡◌, ℕ, zero, suc, ◌+◌, ◌-◌, ◌<◌, ◌≤◌, List, [], ◌∷◌, ◌++◌, length, map, All, Some, slice_get, refl, sym, ap, ◌∙◌, subst, arith}
-use Rattle.std.proofs.lemmas.List.{map-append, length_push, length-map}
+-- What a worker took, turn by turn.
+use Rattle.std.proofs.Common.{◌≡◌, ℕ, zero, suc, ◌-◌, ◌<◌, List, [], ◌∷◌, ◌++◌, length, map, All, Some, slice_get, refl, sym, ap, ◌∙◌, subst, arith}
+use Rattle.std.proofs.Common.{append_assoc}
+use Rattle.std.proofs.lemmas.List.{append-nil}
 use Rattle.std.proofs.lemmas.List.Elements.{All-nil, All-cons}
-use Rattle.std.proofs.lemmas.Option.{slice_get_within}
 use Rattle.mv_history.specs.Meaning.{Seat}
 use Rattle.set_script.specs.declared.commands.Command.{Command}
+use Rattle.section_work.specs.declared.place.Place.{Place}
+use Rattle.set_script.specs.declared.commands.Reply.{Reply}
+use Rattle.section_work.specs.Causes.{Causes}
 use Rattle.run_report.specs.declared.line.Line.{Line}
 use Rattle.run_report.specs.Legal.{command_at}
-use Rattle.script_workers.specs.Commands.{RanAt}
-use Rattle.script_workers.proofs.Lines.{ran_none, ran_more}
-use Rattle.command_pool.specs.declared.collected.Collected.{Collected}
+use Rattle.crossbeam_queue.specs.Passes.{view, IsSamePass}
+use Rattle.item_workers.specs.declared.runner.Answer.{Answer}
+use Rattle.item_workers.specs.Chains.{Chain, answered}
+use Rattle.item_workers.specs.Serving.{Serves}
+use Rattle.script_workers.specs.Lines.{line_of}
+use Rattle.script_workers.specs.Links.{LinkedDone}
 use Rattle.command_pool.specs.declared.queue.Hand.{Hand}
-use Rattle.command_pool.specs.Pool.{AreTaken, lines_from, Took}
-use Rattle.command_pool.specs.Queue.{hand, IsRising}
-use Rattle.command_pool.specs.Workers.{number_of}
-use Rattle.command_pool.proofs.Totals.{rising_length}
+use Rattle.command_pool.specs.declared.turns.Turns.{Turns}
+use Rattle.command_pool.specs.Pool.{AreTaken}
+use Rattle.command_pool.specs.Queue.{hand, last_of}
+use Rattle.command_pool.specs.Turns.{GaveTurn}
+use Rattle.command_pool.proofs.Totals.{last_push}
+use Rattle.command_pool.proofs.Gathering.{number_of}
 
--- one that was collected, as a line of this number
-abbrev line_of : ℕ → Collected → Line
-line_of number c = record { seat = c.seat; number = number; place = c.place; reply = c.reply }
-
-lines_more : (number : ℕ) (taken : List Collected) (c : Collected)
-    → lines_from number (taken ++ c ∷ []) ≡ lines_from number taken ++ line_of (number + length taken) c ∷ []
-lines_more number [] c = let e : number ≡ number + 0 = omega arith in ap (λ n. line_of n c ∷ []) e
-lines_more number (d ∷ taken) c =
-    let e : suc number + length taken ≡ number + suc (length taken) = omega arith in
-    ap (λ ls. line_of number d ∷ ls) (lines_more (suc number) taken c ∙ ap (λ n. lines_from (suc number) taken ++ line_of n c ∷ []) e)
-
-taken_length : (commands : List Command) (before : ℕ) (taken : List Collected) (script : List Command) → AreTaken commands before taken script
-    → length script ≡ length taken
-taken_length commands before [] [] are = refl
-taken_length commands before [] (command ∷ script) are = absurd are
-taken_length commands before (c ∷ taken) [] are = absurd are
-taken_length commands before (c ∷ taken) (command ∷ script) are = ap suc (taken_length commands c.number taken script are.2)
-
-taken_more : (commands : List Command) (before high : ℕ) (taken : List Collected) (script : List Command) (c : Collected) (command : Command)
-    → AreTaken commands before taken script → IsRising before (map number_of taken ++ c.number ∷ []) high
-    → command_at commands c.number ≡ Some command → AreTaken commands before (taken ++ c ∷ []) (script ++ command ∷ [])
-taken_more commands before high [] [] c command are rising at = (rising.0, at, tt)
-taken_more commands before high [] (d ∷ script) c command are rising at = absurd are
-taken_more commands before high (d ∷ taken) [] c command are rising at = absurd are
-taken_more commands before high (d ∷ taken) (e ∷ script) c command are rising at =
-    (are.0, are.1, taken_more commands d.number high taken script c command are.2 rising.1 at)
-
--- a seat that has taken nothing
-pub took_none : (s : Seat) (commands : List Command) → Took s s commands []
-took_none s commands = record { script = []; rising = tt; ran = ran_none s }
-
--- a seat that has taken one more
-pub took_more : (s t u : Seat) (commands : List Command) (taken : List Collected) (c : Collected) (command : Command) (high : ℕ) → Took s t commands taken
-    → RanAt t u command c.place c.reply → c.seat ≡ s.number → IsRising 0 (map number_of taken ++ c.number ∷ []) high
-    → command_at commands c.number ≡ Some command → Took s u commands (taken ++ c ∷ [])
-took_more s t u commands taken c command high took ran by rising at =
-    let count = taken_length commands 0 taken took.script took.rising in
-    record {
-      script = took.script ++ command ∷ [];
-      rising = taken_more commands 0 high taken took.script c command took.rising rising at;
-      ran = rw (lines_more 1 taken c)
-          (ran_more s t u took.script (lines_from 1 taken) command (line_of (1 + length taken) c) took.ran ran by (omega (arith, count)));
-    }
-
--- a number that has a command is not above their count
-command_within : (commands : List Command) (number : ℕ) (command : Command) → command_at commands number ≡ Some command → number ≤ length commands
-command_within commands zero command at = absurd (cc)
-command_within commands (suc before) command at = omega (arith, slice_get_within commands before command at)
-
-taken_within : (commands : List Command) (before : ℕ) (taken : List Collected) (script : List Command) → AreTaken commands before taken script
-    → All (λ (c : Collected). c.number ≤ length commands) taken
-taken_within commands before [] [] are = All-nil (λ (c : Collected). c.number ≤ length commands)
-taken_within commands before [] (command ∷ script) are = absurd are
-taken_within commands before (c ∷ taken) [] are = absurd are
-taken_within commands before (c ∷ taken) (command ∷ script) are =
-    All-cons (λ (c : Collected). c.number ≤ length commands) c taken (command_within commands c.number command are.1)
-    (taken_within commands c.number taken script are.2)
-
--- what a seat took are numbers of commands
-pub took_within : (s t : Seat) (commands : List Command) (taken : List Collected) → Took s t commands taken
-    → All (λ (c : Collected). c.number ≤ length commands) taken
-took_within s t commands taken took = taken_within commands 0 taken took.script took.rising
-
--- the last of rising numbers is above the bound below them
-pub rising_last : (low : ℕ) (xs : List ℕ) (x high : ℕ) → IsRising low (xs ++ x ∷ []) high → low < x
-rising_last low [] x high rising = rising.0
-rising_last low (y ∷ xs) x high rising = omega (arith, rising.0, rising_last y xs x high rising.1)
+-- a hand of one part is known by what it took
+pub hand_is : (v : Hand) (taken : List ℕ) → v ≡ hand 1 0 taken → v ≡ hand 1 0 v.taken
+hand_is v taken e = e ∙ ap (λ (w : Hand). hand 1 0 w.taken) (sym e)
 
 -- the command of a number, found at the place before it
 pub command_found : (commands : List Command) (number : ℕ) (command : Command) → 0 < number → slice_get commands (number - 1) ≡ Some command
@@ -91,30 +35,59 @@ command_found commands zero command some at = absurd (omega (arith, some))
 command_found commands (suc before) command some at =
     let e : suc before - 1 ≡ before = omega arith in subst (λ k. slice_get commands k ≡ Some command) e at
 
--- a number that was taken behind these is above them, and the pass has them all
-pub taken_behind : (v : Hand) (taken : List Collected) (number : ℕ) → v ≡ hand 1 0 (map number_of taken) → IsRising 0 (v.taken ++ number ∷ []) number
-    → IsRising 0 (map number_of taken ++ number ∷ []) number
-taken_behind v taken number is rising = subst (λ (w : Hand). IsRising 0 (w.taken ++ number ∷ []) number) is rising
+-- the command of a place
+pub command_there : (commands : List Command) (place : ℕ) → place < length commands → (command : Command) × (slice_get commands place ≡ Some command)
+command_there [] place lt = absurd (omega (arith, lt))
+command_there (c ∷ commands) zero lt = (c, refl)
+command_there (c ∷ commands) (suc place) lt = command_there commands place (omega (arith, lt))
 
--- there is room for one more, where there is for all numbers up to this one
-pub room_more : (taken : List Collected) (number commands room : ℕ) → IsRising 0 (map number_of taken ++ number ∷ []) number → number ≤ commands
-    → commands ≤ room → length taken < room
-room_more taken number commands room rising le fits =
-    omega (
-      arith,
-      rising_length 0 (map number_of taken ++ number ∷ []) number rising,
-      length_push (map number_of taken) number,
-      length-map taken number_of,
-      le,
-      fits,
-    )
+-- Between two states of its turns a worker did these commands, each in a turn of its own.
+pub record TurnsDone (k : Causes) (seat : ℕ) (s : Seat) (a : Turns) (t : Seat) (b : Turns) (ds : List (Answer (Place × Reply))) : Type 0 where
+  pub pass : IsSamePass a.pass b.pass
+  pub view_is : view b.pass ≡ hand 1 0 ((view a.pass).taken ++ map number_of (map line_of ds))
+  pub commands : b.commands.now ≡ a.commands.now
+  pub script : List Command
+  pub rising : AreTaken a.commands.now (last_of (view a.pass).taken) (map line_of ds) script
+  pub by : All (λ (line : Line). line.seat ≡ seat) (map line_of ds)
+  pub chain : Chain (answered (LinkedDone k)) s t script ds
 
--- the pass after one more was taken
-pub pass_more : (v w : Hand) (taken more : List Collected) (c : Collected) (number : ℕ) → v ≡ hand 1 0 (map number_of taken)
-    → w ≡ hand 1 0 (v.taken ++ number ∷ []) → more ≡ taken ++ c ∷ [] → c.number ≡ number → w ≡ hand 1 0 (map number_of more)
-pass_more v w taken more c number is then collected numbered =
-    then
-    ∙ ap (λ (u : Hand). hand 1 0 (u.taken ++ number ∷ [])) is
-    ∙ ap (λ n. hand 1 0 (map number_of taken ++ n ∷ [])) (sym numbered)
-    ∙ ap (λ ns. hand 1 0 ns) (sym (map-append number_of taken (c ∷ [])))
-    ∙ ap (λ cs. hand 1 0 (map number_of cs)) (sym collected)
+module _ (k : Causes) (seat : ℕ) where
+  none_done : (s : Seat) (a : Turns) (t : Seat) → view a.pass ≡ hand 1 0 (view a.pass).taken → t ≡ s → TurnsDone k seat s a t a []
+  none_done s a t own same = record {
+    pass = (refl, refl, refl);
+    view_is = own ∙ ap (λ xs. hand 1 0 xs) (sym (append-nil (view a.pass).taken));
+    commands = refl;
+    script = [];
+    rising = tt;
+    by = All-nil (λ (line : Line). line.seat ≡ seat);
+    chain = same;
+  }
+
+  pub turns_done : (s : Seat) (a : Turns) (t : Seat) (b : Turns) (ds : List (Answer (Place × Reply))) → view a.pass ≡ hand 1 0 (view a.pass).taken
+      → Serves (LinkedDone k) GaveTurn seat s a t b ds → TurnsDone k seat s a t b ds
+  turns_done s a t b [] own h = subst (λ (c : Turns). TurnsDone k seat s a t c []) (sym h.1) (none_done s a t own h.0)
+  turns_done s a t b (d ∷ ds) own h =
+      let u : Seat = h.0 in
+      let c : Turns = h.1 in
+      let gave = h.2.given in
+      let took = gave.took in
+      let number : ℕ = d.number in
+      let now : (view c.pass).taken ≡ (view a.pass).taken ++ number ∷ [] = ap (λ (v : Hand). v.taken) took.view_is in
+      let others = turns_done u c t b ds (hand_is (view c.pass) ((view a.pass).taken ++ number ∷ []) took.view_is) h.3 in
+      let last : last_of (view c.pass).taken ≡ number = ap last_of now ∙ last_push (view a.pass).taken number in
+      record {
+        pass = (others.pass.0 ∙ took.pass.0, others.pass.1 ∙ took.pass.1, others.pass.2 ∙ took.pass.2);
+        view_is = others.view_is
+            ∙ ap (λ xs. hand 1 0 (xs ++ map number_of (map line_of ds))) now
+            ∙ ap (λ xs. hand 1 0 xs) (append_assoc (view a.pass).taken (number ∷ []) (map number_of (map line_of ds)));
+        commands = others.commands ∙ took.commands;
+        script = h.2.item ∷ others.script;
+        rising = (
+          gave.later,
+          gave.there,
+          subst (λ n. AreTaken a.commands.now n (map line_of ds) others.script) last
+              (subst (λ cs. AreTaken cs (last_of (view c.pass).taken) (map line_of ds) others.script) took.commands others.rising),
+        );
+        by = All-cons (λ (line : Line). line.seat ≡ seat) (line_of d) (map line_of ds) h.2.by others.by;
+        chain = (u, h.2.linked, others.chain);
+      }

@@ -4,7 +4,7 @@ use mathlib.Core.Option.{some, some-injective, some-ne-none}
 use lib.ListN.{get_elem?}
 use Rattle.crossbeam_queue.proofs.Lists.{at_set, at_snoc}
 use Rattle.command_pool.specs.declared.queue.Hand.{Hand}
-use Rattle.command_pool.specs.Queue.{total, numbers_from, IsRising, EachView}
+use Rattle.command_pool.specs.Queue.{total, numbers_from, last_of, IsRising, EachView}
 
 pub total-append : {A : Type 0} (f : A → ℕ) (xs ys : List A) → total f (xs ++ ys) ≡ total f xs + total f ys
 total-append f [] ys = omega arith
@@ -87,3 +87,14 @@ rising_more low (y ∷ xs) high x lt rising = (rising.0, rising_more y xs high x
 pub rising_length : (low : ℕ) (xs : List ℕ) (high : ℕ) → IsRising low xs high → low + length xs ≤ high
 rising_length low [] high rising = omega (arith, rising)
 rising_length low (x ∷ xs) high rising = omega (arith, rising.0, rising_length x xs high rising.1)
+
+-- the last of rising numbers is above those before it
+pub rising_last : (low : ℕ) (xs : List ℕ) (x high : ℕ) → IsRising low (xs ++ x ∷ []) high → last_of xs < x
+rising_last low [] x high rising = omega (arith, rising.0)
+rising_last low (y ∷ []) x high rising = rising.1.0
+rising_last low (y ∷ z ∷ xs) x high rising = rising_last y (z ∷ xs) x high rising.1
+
+pub last_push : (xs : List ℕ) (x : ℕ) → last_of (xs ++ x ∷ []) ≡ x
+last_push [] x = refl
+last_push (y ∷ []) x = refl
+last_push (y ∷ z ∷ xs) x = last_push (z ∷ xs) x

@@ -1,3 +1,4 @@
 pub mod Pool
 pub mod Queue
-pub mod Workers
+pub mod Turns
+pub mod Lending

@@ -32,6 +32,12 @@ abbrev pub IsRising : ℕ → List ℕ → ℕ → Type 0
 IsRising low [] high = low ≤ high
 IsRising low (x ∷ xs) high = (low < x) × IsRising x xs high
 
+-- the last of the numbers, or 0
+abbrev pub last_of : List ℕ → ℕ
+last_of [] = 0
+last_of (x ∷ []) = x
+last_of (x ∷ y ∷ xs) = last_of (y ∷ xs)
+
 -- it holds of each view
 abbrev pub EachView : (Hand → Type 0) → List Hand → Type 0
 EachView F views = (port : ℕ) (v : Hand) → get_elem? views port ≡ some v → F v

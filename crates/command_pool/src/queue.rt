@@ -1,12 +1,13 @@
 // The queue that the workers share: its rule, how it is filled, and how a pass takes a number out of it.
-ghost use Rattle.std.specs.Prelude.{◌≡◌, ◌≤◌, ◌+◌, ◌∷◌, ◌++◌, ℕ, suc, [], length, IfSome, IfNone};
-ghost use Rattle.crossbeam_queue.specs.Passes.{view, IsPassOf, ruled_capacity};
+ghost use Rattle.std.specs.Prelude.{◌≡◌, ◌≤◌, ◌+◌, ◌∷◌, ◌++◌, ℕ, suc, [], length};
+ghost use Rattle.crossbeam_queue.specs.Passes.{view, IsPassOf, IsSamePass, ruled_capacity};
 ghost use Rattle.command_pool.specs.Queue.{hand, all_parts, total, total_to, IsRising};
 
 use crossbeam_queue::protocol::{Join, Lesson, Outcome, Protocol, Split};
 use crossbeam_queue::{Pass, RuledArrayQueue};
 use std::collections::LinkedList;
 use std::sync::Wait;
+use std::thread;
 
 // What a pass has of the queue: its parts of the right to know the whole, how many numbers it has put in, and which
 // numbers it has taken. No value of it is made.
@@ -102,14 +103,19 @@ fn put<R: Wait>(rt: &R, queue: &Queue, pass: &mut Pass<u32, Hand>, number: u32)
     let _ = queue.push_as::<Puts, R>(rt, pass, number);
 }
 
-// Takes the next number out. None where the queue is empty, or another takes one at the same moment.
-pub(crate) fn take(queue: &Queue, pass: &mut Pass<u32, Hand>) -> Option<u32>
+// Takes the next number out. It waits while the queue is empty, or another takes one at the same moment.
+pub(crate) fn take<R: Wait>(rt: &R, queue: &Queue, pass: &mut Pass<u32, Hand>) -> u32
     requires pass { IsPassOf queue.now pass.old }
     requires part { ((view pass.old).parts ≡ 1) × ((view pass.old).put ≡ 0) }
-    ensures pass { IsPassOf queue.now pass.new }
-    ensures taken { IfSome result (λ number. (view pass.new ≡ hand 1 0 ((view pass.old).taken ++ number ∷ []))
-        × IsRising 0 ((view pass.old).taken ++ number ∷ []) number) }
-    ensures none { IfNone result (view pass.new ≡ view pass.old) }
+    ensures pass { IsSamePass pass.old pass.new }
+    ensures taken { view pass.new ≡ hand 1 0 ((view pass.old).taken ++ result ∷ []) }
+    ensures rising { IsRising 0 ((view pass.old).taken ++ result ∷ []) result }
 {
-    queue.try_pop_as::<Takes>(pass)
+    for _ in rt.forever() {
+        match queue.try_pop_as::<Takes>(pass) {
+            Some(number) => return number,
+            None => thread::yield_now(),
+        }
+    }
+    unreachable!()
 }

@@ -1,29 +1,39 @@
 // The run of a pool.
-ghost use Rattle.std.specs.Prelude.{◌≡◌, ◌≤◌, length, map, All as Each, IfOk, IfErr};
+ghost use Rattle.std.specs.Prelude.{◌≡◌, ◌≤◌, ◌+◌, [], length, map, All as Each, IfOk, IfErr, vec_capacity};
+ghost use Rattle.std.specs.List.{flat_map};
+ghost use Rattle.crossbeam_queue.specs.Passes.{view, IsPassOf, ruled_capacity};
 ghost use Rattle.set_script.specs.declared.script.TheConstants.{MOST_COMMANDS};
+ghost use Rattle.section_work.specs.Causes.{causes};
 ghost use Rattle.set_catalog.specs.Steps.{most_locks};
-ghost use Rattle.command_pool.specs.Pool.{PoolRan};
-ghost use Rattle.command_pool.specs.Workers.{IsReady, TookAll, EachTookAll};
+ghost use Rattle.script_workers.specs.Lines.{row_of};
+ghost use Rattle.command_pool.specs.Pool.{PoolRan, PoolLinked};
+ghost use Rattle.command_pool.specs.Queue.{hand, all_parts};
 
-use crate::collected::Collected;
-use crate::loading::{PoolRoom, join, load, make_room, unload};
-use crate::queue::{All, Queue, fill};
-use crate::worker::Worker;
+use crate::lending::{share_out, take_back};
+use crate::queue::{All, Hand, Queue, fill};
+use crate::turns::Turns;
+use crossbeam_queue::Pass;
+use item_workers::{Answer, run_sources};
 use mv_history::Store;
 use run_outside::Gate;
-use set_script::{Command, SetRules};
+use run_report::Line;
+use script_workers::{Hinted, make_lines};
+use section_work::Place;
+use set_script::{Command, Reply, SetRules};
 use std::alloc::{AllocError, Global};
 use std::sync::Wait;
-use std::thread;
 use std::thread::Threads;
 
 /// Does each command once, on any of the stores, each store in a thread of its own that takes the next command from a
-/// queue, and gives the stores back in their order, with what came of each command. What was collected stands by store,
-/// in the order of the stores, and of each store by rising number. Where a thread can't be started, this thread does its
-/// work.
+/// queue, and gives the stores back in their order, with a line for each command. The lines stand by store, in the order
+/// of the stores, and of each store by rising number. Where a thread can't be started, this thread does its work.
 ///
 /// Each command is tried until it is done, which may go on for ever where others always come first. The gate is called
 /// with the seat and the command's number, ahead of the command's first attempt and once it is done.
+///
+/// Of each seat there is a chain (`PoolLinked`): each command that it took begins at the very seat at which the one before it
+/// was done, and its place is that of its own attempt. So a read is of a section that was entered for it, whose snapshot holds
+/// all that its seat had seen.
 ///
 /// There are 1 to 8 stores, which may each hold the five objects that a move locks, and at most `MOST_COMMANDS` commands.
 /// Where the stores have different numbers, a number of a seat names the store that did a command.
@@ -32,10 +42,10 @@ use std::thread::Threads;
 pub fn run_pool<R: Threads + Wait + Sync, S: Store<Rules = SetRules> + Send, G: Gate>(
     rt: &R,
     alloc: Global,
-    mut stores: Vec<S>,
+    stores: Vec<S>,
     commands: &[Command],
     gate: &G,
-) -> Result<(Vec<S>, Vec<Collected>), (Vec<S>, AllocError)>
+) -> Result<(Vec<S>, Vec<Line>), (Vec<S>, AllocError)>
 where
     S::Open: Send,
     requires some { 1 ≤ length stores.items }
@@ -43,51 +53,73 @@ where
     requires short { length commands.now ≤ MOST_COMMANDS }
     requires most { Each (λ store. most_locks ≤ (S.seat_of store).write_max) stores.items }
     ensures pool { IfOk result (λ done. PoolRan (map S.seat_of stores.items) (map S.seat_of done.0.items) commands.now done.1.items) }
+    ensures linked { let shows = causes S.Open.may_refuse S.Open.has_trail S.took S.holds_back S.Open.found_held S.Open.loaded in
+        IfOk result (λ done. PoolLinked shows (map S.seat_of stores.items) (map S.seat_of done.0.items) commands.now done.1.items) }
     ensures err { IfErr result (λ refused. refused.0.items ≡ stores.items) }
 {
-    let seats = stores.len();
-    let count = commands.len();
-    let PoolRoom {
-        queue,
-        mut pass,
-        rooms,
-        mut parts,
-        mut all,
-        mut workers,
-    } = match make_room(alloc, seats, count) {
+    let (queue, pass, mut lines) = match make_room(alloc, stores.len(), commands.len()) {
         Ok(room) => room,
         Err(error) => return Err((stores, error)),
     };
-    fill(rt, &queue, &mut pass, (count + seats) as u32);
-    load(&queue, &mut pass, count, &mut stores, rooms, &mut workers);
-    run_all(rt, &queue, &mut workers, commands, gate);
-    unload(&queue, &mut pass, count, workers, &mut stores, &mut parts);
-    queue.learn_as::<All>(&mut pass);
-    join(&parts, &mut all);
-    Ok((stores, all))
+    let (stores, rows) = run_turns(rt, alloc, &queue, pass, stores, commands, gate)?;
+    make_lines(&rows, &mut lines);
+    Ok((stores, lines))
 }
 
-// Each worker takes commands in a thread of its own, and all have ended when this returns.
-fn run_all<R: Threads + Wait + Sync, S: Store<Rules = SetRules> + Send, G: Gate>(
+// A queue for the numbers of the commands and an end mark for each worker, with its pass, and room for the lines.
+fn make_room(
+    alloc: Global,
+    seats: usize,
+    commands: usize,
+) -> Result<(Queue, Pass<u32, Hand>, Vec<Line>), AllocError>
+    requires some { 1 ≤ seats }
+    requires few { (seats ≤ 8) × (commands ≤ 65536) }
+    ensures queue { IfOk result (λ made. (commands + seats ≤ ruled_capacity made.0) × IsPassOf made.0 made.1) }
+    ensures pass { IfOk result (λ made. view made.1 ≡ hand all_parts 0 []) }
+    ensures lines { IfOk result (λ made. (made.2.items ≡ []) × (commands ≤ vec_capacity made.2)) }
+{
+    let (queue, pass) = Queue::ruled(alloc, commands + seats)?;
+    let lines = Vec::with_capacity(alloc, commands)?;
+    Ok((queue, pass, lines))
+}
+
+// Each worker does the commands whose numbers it takes out of the queue, and all have ended when this returns. It answers
+// what each did. The queue is empty, and there is room in it for the numbers and the end marks.
+fn run_turns<R: Threads + Wait + Sync, S: Store<Rules = SetRules> + Send, G: Gate>(
     rt: &R,
+    alloc: Global,
     queue: &Queue,
-    workers: &mut [Worker<S>],
+    mut pass: Pass<u32, Hand>,
+    stores: Vec<S>,
     commands: &[Command],
     gate: &G,
-)
+) -> Result<(Vec<S>, Vec<Vec<Answer<(Place, Reply)>>>), (Vec<S>, AllocError)>
 where
     S::Open: Send,
-    requires { Each (IsReady S.seat_of queue.now (length commands.now)) workers.old }
-    ensures { EachTookAll S.seat_of queue.now commands.now workers.old workers.new }
+    requires some { 1 ≤ length stores.items }
+    requires few { length stores.items ≤ 8 }
+    requires short { length commands.now ≤ MOST_COMMANDS }
+    requires most { Each (λ store. most_locks ≤ (S.seat_of store).write_max) stores.items }
+    requires queue { IsPassOf queue.now pass × (length commands.now + length stores.items ≤ ruled_capacity queue.now) }
+    requires empty { view pass ≡ hand all_parts 0 [] }
+    ensures pool { IfOk result (λ done. PoolRan (map S.seat_of stores.items) (map S.seat_of done.0.items) commands.now (flat_map row_of done.1.items)) }
+    ensures linked { let shows = causes S.Open.may_refuse S.Open.has_trail S.took S.holds_back S.Open.found_held S.Open.loaded in
+        IfOk result (λ done. PoolLinked shows (map S.seat_of stores.items) (map S.seat_of done.0.items) commands.now (flat_map row_of done.1.items)) }
+    ensures err { IfErr result (λ refused. refused.0.items ≡ stores.items) }
 {
-    let threads = workers.len().max(1);
-    thread::for_each_mut(
-        rt,
-        workers,
-        threads,
-        &|_, worker: &mut Worker<S>|
-            requires { IsReady S.seat_of queue.now (length commands.now) worker.old }
-            ensures { TookAll S.seat_of queue.entry.now commands.entry.now worker.old worker.new }
-        { worker.run(rt, queue, commands, gate) },
-    );
+    let seats = stores.len();
+    let mut turns = match Vec::with_capacity(alloc, seats) {
+        Ok(turns) => turns,
+        Err(error) => return Err((stores, error)),
+    };
+    fill(rt, queue, &mut pass, (commands.len() + seats) as u32);
+    share_out(queue, &mut pass, commands, seats, &mut turns);
+    match run_sources::<R, Hinted<S>, Turns<'_>, G>(rt, alloc, stores, turns, gate) {
+        Ok((stores, turns, rows)) => {
+            take_back(queue, &mut pass, turns);
+            queue.learn_as::<All>(&mut pass);
+            Ok((stores, rows))
+        }
+        Err((stores, _, error)) => Err((stores, error)),
+    }
 }

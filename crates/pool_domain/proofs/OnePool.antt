@@ -1,11 +1,9 @@
 -- The seats of a domain that did the commands of a pool have met: their lines and tables are those of one pool in the whole history.
-use Rattle.std.proofs.Common.{◌≡◌, ℕ, suc, ◌+◌, ◌<◌, ◌==◌, cond, List, [], ◌∷◌, length, map, refl, sym, ap, ◌∙◌, subst, arith}
+use Rattle.std.proofs.Common.{◌≡◌, ℕ, suc, ◌+◌, ◌<◌, ◌==◌, cond, List, length, map, refl, ◌∙◌, subst, arith}
 use Rattle.std.specs.List.{All}
 use Rattle.std.specs.List.Sorted.{IsPermutation}
-use Rattle.std.proofs.lemmas.List.{length-map}
 use Rattle.std.proofs.lemmas.List.Elements.{All-weaker}
 use Rattle.std.proofs.lemmas.List.Sorted.{All-permutation, IsPermutation-sym, IsPermutation-trans, length_permutation, sum_by-IsPermutation}
-use Rattle.std.proofs.lemmas.List.Sums.{sum_by-cons}
 use Rattle.mv_history.specs.declared.answers.LogTable.{LogTable}
 use Rattle.mv_history.specs.declared.history.TheConstants.{LAST}
 use Rattle.mv_history.specs.Meaning as history
@@ -31,26 +29,16 @@ use Rattle.run_report.proofs.Pairs.{pairs_permuted}
 use Rattle.run_report.proofs.history.Grown.{all_worked}
 use Rattle.run_report.proofs.history.Inserted.{some_order}
 use Rattle.run_report.proofs.history.Replay.{IsLeft, replay}
-use Rattle.command_pool.specs.declared.collected.Collected.{Collected}
-use Rattle.command_pool.specs.Pool.{PoolRan, times_of}
+use Rattle.command_pool.specs.Pool.{PoolRan}
 use Rattle.script_domain.specs.Joined.{past_of_whole, AreTablesOf}
 use Rattle.script_domain.specs.New.{AreNewFrom}
 use Rattle.script_domain.proofs.OneRun as one_run
 use Rattle.script_domain.proofs.Seats.{all_continue, ran_of}
-use Rattle.pool_domain.specs.Legal.{ReplaysPool, lines_of}
-use Rattle.pool_domain.specs.Lines.{line_of}
+use Rattle.pool_domain.specs.Legal.{ReplaysPool}
 use Rattle.pool_domain.specs.Whole.{PoolOf, StandsInPool}
 use Rattle.pool_domain.proofs.Orders.{as_scripts, stands_as, replays_pool, all_alone}
 use Rattle.pool_domain.proofs.Scripts.{scripts_of, script_lines, all_ran, scripts_length, same_commits}
 use Rattle.pool_domain.proofs.Shares.{IsOneOf, are_shares, all_follow, all_stand, all_seats, all_in_time}
-
--- as many lines have a number as were collected with it
-lines_count : (number : ℕ) (collected : List Collected) → lines_of number (map line_of collected) ≡ times_of number collected
-lines_count number [] = refl
-lines_count number (c ∷ collected) =
-    sum_by-cons (λ (l : Line). cond (l.number == number) 1 0) (line_of c) (map line_of collected)
-    ∙ ap (λ k. cond (c.number == number) 1 0 + k) (lines_count number collected)
-    ∙ sym (sum_by-cons (λ (d : Collected). cond (d.number == number) 1 0) c collected)
 
 lines_permuted : (time : ℕ) (lines others : List Line) → IsPermutation lines others → commit_lines time others ≡ commit_lines time lines
 lines_permuted time lines others same = sum_by-IsPermutation (λ (l : Line). cond (is_commit_of time l.place) 1 0) lines others same
@@ -87,43 +75,42 @@ replays p seats commands lines ordered h same rising =
 
 module _ {P : Type 0} {rules : _} (d : Domain P) where
   -- The seats that did the commands are all the seats of the domain.
-  pub all_met : (olds : List history.Seat) (seats : List (Seat P rules)) (commands : List Command) (collected : List Collected)
-      → AreNewFrom d 0 olds → length olds ≡ (numbers_of d).seats → PoolRan olds (map (λ s. seat_of s) seats) commands collected → AreAll d seats
-  all_met olds seats commands collected new many ran =
+  pub all_met : (olds : List history.Seat) (seats : List (Seat P rules)) (commands : List Command) (lines : List Line)
+      → AreNewFrom d 0 olds → length olds ≡ (numbers_of d).seats → PoolRan olds (map (λ s. seat_of s) seats) commands lines → AreAll d seats
+  all_met olds seats commands lines new many ran =
       let news = map (λ s. seat_of s) seats in
       one_run.all_met d olds seats new many
-      (all_continue olds news (scripts_of olds news commands collected ran.each) (script_lines olds news commands collected ran.each)
-      (all_ran olds news commands collected ran.each))
+      (all_continue olds news (scripts_of olds news commands lines ran.each) (script_lines olds news commands lines ran.each)
+      (all_ran olds news commands lines ran.each))
 
   -- The lines and tables are those of one pool in the whole history.
-  pub pool_met : (olds : List history.Seat) (seats : List (Seat P rules)) (commands : List Command) (collected : List Collected)
-      (tables : List LogTable) (w : Whole) → AreNewFrom d 0 olds → PoolRan olds (map (λ s. seat_of s) seats) commands collected
+  pub pool_met : (olds : List history.Seat) (seats : List (Seat P rules)) (commands : List Command) (lines : List Line)
+      (tables : List LogTable) (w : Whole) → AreNewFrom d 0 olds → PoolRan olds (map (λ s. seat_of s) seats) commands lines
       → AreTablesOf (map (λ s. seat_of s) seats) tables → LawOfTheWhole IsOpening IsSetCommit seats w
       → w.start ≡ opening_of d → w.base ≡ (numbers_of d).base
-      → PoolOf (past_of_whole w) (length olds) commands (map line_of collected) (catalogue_of (last_state w)) tables
-  pool_met olds seats commands collected tables w new ran tabled law start base =
+      → PoolOf (past_of_whole w) (length olds) commands lines (catalogue_of (last_state w)) tables
+  pool_met olds seats commands lines tables w new ran tabled law start base =
       let p = past_of_whole w in
       let news = map (λ s. seat_of s) seats in
-      let scripts = scripts_of olds news commands collected ran.each in
-      let told = script_lines olds news commands collected ran.each in
-      let each = all_ran olds news commands collected ran.each in
+      let scripts = scripts_of olds news commands lines ran.each in
+      let told = script_lines olds news commands lines ran.each in
+      let each = all_ran olds news commands lines ran.each in
       let are = ran_of d 0 olds news scripts told new each in
-      let many = scripts_length olds news commands collected ran.each in
+      let many = scripts_length olds news commands lines ran.each in
       let run = one_run.run_met d olds seats scripts told tables w new many each tabled law start base in
       let worked = all_worked p 0 olds news scripts told (one_run.known d w start base 0 olds seats new are law.seen law.mine) each in
-      let shares = are_shares p 0 olds news commands collected ran.each worked in
-      let lines = map line_of collected in
-      let in_time = all_in_time p commands 0 (length olds) collected shares in
-      let stand = all_stand p commands 0 (length olds) collected shares in
+      let shares = are_shares p 0 olds news commands lines ran.each worked in
+      let in_time = all_in_time p commands 0 (length olds) lines shares in
+      let stand = all_stand p commands 0 (length olds) lines shares in
       let pooled : IsPooled p (length olds) commands lines = record {
         opening = run.opening;
         allowed = run.allowed;
         last = refl;
         seats_are = All-weaker (IsOneOf 0 (length olds)) (λ line. line.seat < length olds) (λ line one. omega (arith, one.1))
-            lines (all_seats p commands 0 (length olds) collected shares);
+            lines (all_seats p commands 0 (length olds) lines shares);
         stand = stand;
-        follow = all_follow p commands 0 (length olds) collected shares;
-        one_line = λ i c there. same_commits (p.base + suc i) olds news commands collected ran.each ∙ run.one_line i c there;
+        follow = all_follow p commands 0 (length olds) lines shares;
+        one_line = λ i c there. same_commits (p.base + suc i) olds news commands lines ran.each ∙ run.one_line i c there;
       } in
       let ordered = some_order lines in
       record {
@@ -136,8 +123,8 @@ module _ {P : Type 0} {rules : _} (d : Domain P) where
         table_each = run.table_each ∙ many;
         table_of = run.table_of;
         run = record {
-          once = λ number positive le. lines_count number collected ∙ ran.once number positive le;
-          count = length-map collected line_of ∙ ran.count;
+          once = λ number positive le. ran.once number positive le;
+          count = ran.count;
           seats_are = pooled.seats_are;
           from_base = pooled.follow;
           in_time = in_time;

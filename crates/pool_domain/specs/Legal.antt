@@ -1,5 +1,5 @@
 -- When the lines of a pool are legal: each command has one line, whoever took it, and the replay from empty maps gives every reply.
-use Rattle.std.specs.Prelude.{◌≡◌, ℕ, ◌<◌, ◌≤◌, ◌==◌, List, [], ◌∷◌, length, All, count_by}
+use Rattle.std.specs.Prelude.{◌≡◌, ℕ, ◌<◌, ◌≤◌, List, [], ◌∷◌, length, All}
 use Rattle.std.specs.Option.{IsSomeAnd}
 use Rattle.std.specs.List.Sorted.{IsPermutation}
 use Rattle.set_script.specs.Catalogue.{Maps, empty}
@@ -7,11 +7,8 @@ use Rattle.set_script.specs.Replies.{reply}
 use Rattle.set_script.specs.declared.commands.Command.{Command}
 use Rattle.run_report.specs.declared.line.Line.{Line}
 use Rattle.run_report.specs.Order.{IsOrdered}
+use Rattle.command_pool.specs.Pool.{times_of}
 use Rattle.run_report.specs.Legal.{EachPair, Follows, IsAlone, IsInTime, MayStand, after, command_at, is_last}
-
--- how many lines have this number
-abbrev pub lines_of : ℕ → List Line → ℕ
-lines_of number lines = count_by (λ (line : Line). line.number == number) lines
 
 -- the replay of lines, one after another from a catalogue, gives each line's reply and ends in another; a line's command is
 -- that of its number
@@ -26,7 +23,7 @@ ReplaysPool commands capacity c (line ∷ lines) end =
 -- that leaves these maps. They stand in any order.
 pub record LegalPool (seats : ℕ) (commands : List Command) (lines : List Line) (base capacity : ℕ) (end : Maps) : Type 0 where
   -- each command has exactly one line, with its number and one of the seats, and there are no others
-  pub once : (number : ℕ) → 1 ≤ number → number ≤ length commands → lines_of number lines ≡ 1
+  pub once : (number : ℕ) → 1 ≤ number → number ≤ length commands → times_of number lines ≡ 1
   pub count : length lines ≡ length commands
   pub seats_are : All (λ line. line.seat < seats) lines
   -- a commit is later than the printed time of the opening state, and a read is no earlier

@@ -23,7 +23,6 @@
 //! `script_domain`, and what a run in one history is comes from `run_report`.
 #![tactic(auto)]
 
-mod lines;
 mod running;
 
 pub use running::run_pool_domain;

@@ -8,11 +8,9 @@ ghost use Rattle.mvrlu.specs.Whole.{last_state};
 ghost use Rattle.command_pool.specs.Pool.{PoolRan};
 ghost use Rattle.script_domain.specs.Joined.{past_of_whole, AreTablesOf};
 ghost use Rattle.script_domain.specs.New.{AreNewFrom};
-ghost use Rattle.pool_domain.specs.Lines.{line_of};
 ghost use Rattle.pool_domain.specs.Whole.{PoolOf};
 
-use crate::lines::put_lines;
-use command_pool::{Collected, run_pool};
+use command_pool::run_pool;
 use mv_history::LogTable;
 use mvrlu::{Closing, Domain, Seat};
 use run_outside::Gate;
@@ -60,15 +58,8 @@ pub fn run_pool_domain<R: Threads + Wait + Sync, G: Gate>(
         ((whole_of done.0).start ≡ opening_of domain) × ((whole_of done.0).base ≡ (numbers_of domain).base)) }
     ensures err { IfErr result (λ refused. (refused.0 ≡ domain) × (map seat_of refused.1.items ≡ map seat_of seats.items)) }
 {
-    let mut lines = match Vec::with_capacity(alloc, commands.len()) {
-        Ok(lines) => lines,
-        Err(error) => return Err((domain, seats, error)),
-    };
     match run_seats(rt, alloc, &domain, seats, commands, gate) {
-        Ok((seats, collected, tables)) => {
-            put_lines(&mut lines, &collected);
-            Ok((domain.meet(seats), lines, tables))
-        }
+        Ok((seats, lines, tables)) => Ok((domain.meet(seats), lines, tables)),
         Err((seats, error)) => Err((domain, seats, error)),
     }
 }
@@ -81,7 +72,7 @@ fn run_seats<R: Threads + Wait + Sync, G: Gate>(
     seats: Vec<Seat<SetRules>>,
     commands: &[Command],
     gate: &G,
-) -> Result<(Vec<Seat<SetRules>>, Vec<Collected>, Vec<LogTable>), (Vec<Seat<SetRules>>, AllocError)>
+) -> Result<(Vec<Seat<SetRules>>, Vec<Line>, Vec<LogTable>), (Vec<Seat<SetRules>>, AllocError)>
     requires new { AreNewFrom domain.now 0 (map seat_of seats.items) }
     requires some { 1 ≤ length seats.items }
     requires few { length seats.items ≤ 8 }
@@ -93,9 +84,9 @@ fn run_seats<R: Threads + Wait + Sync, G: Gate>(
 {
     let (handles, left) = lend_all(alloc, domain, seats)?;
     match run_pool(rt, alloc, handles, commands, gate) {
-        Ok((handles, collected)) => {
+        Ok((handles, lines)) => {
             let (seats, tables) = take_back(handles, left);
-            Ok((seats, collected, tables))
+            Ok((seats, lines, tables))
         }
         Err((handles, error)) => Err((take_back(handles, left).0, error)),
     }

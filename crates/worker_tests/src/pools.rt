@@ -2,9 +2,10 @@
 ghost use Rattle.std.specs.Prelude.{◌≡◌, ◌<◌, ◌≤◌, All, IfOk, length};
 ghost use Rattle.mv_history.specs.PlainMeaning.{seat_of};
 
-use command_pool::{Collected, run_pool};
+use command_pool::run_pool;
 use mv_history::{PlainStore, WORDS};
 use run_outside::{Gate, OpenGate};
+use run_report::Line;
 use section_work::Place;
 use set_script::{Command, Name, Reply, SetRules};
 use std::alloc::{AllocError, Global};
@@ -50,21 +51,21 @@ fn open_three(alloc: Global) -> Result<Vec<PlainStore<SetRules>>, Fail>
     Ok(vec![in alloc; first, second, third]?)
 }
 
-// Does the commands in a pool of these stores. It answers how many stores come back, and what is collected.
+// Does the commands in a pool of these stores. It answers how many stores come back, and the lines.
 fn run<R: Threads + Wait + Sync, G: Gate>(
     rt: &R,
     alloc: Global,
     stores: Vec<PlainStore<SetRules>>,
     commands: &[Command],
     gate: &G,
-) -> Result<(usize, Vec<Collected>), Fail>
+) -> Result<(usize, Vec<Line>), Fail>
     requires some { 1 ≤ length stores.items }
     requires few { length stores.items ≤ 3 }
     requires short { length commands.now ≤ 300 }
     requires write_max { All (λ store. (seat_of store).write_max ≡ 16) stores.items }
 {
     match run_pool(rt, alloc, stores, commands, gate) {
-        Ok((stores, collected)) => Ok((stores.len(), collected)),
+        Ok((stores, lines)) => Ok((stores.len(), lines)),
         Err((_stores, error)) => Err(error.into()),
     }
 }
@@ -81,26 +82,26 @@ fn four() -> Result<[Command; 4], Fail> {
 }
 
 // Where each of them takes place, and its reply.
-static DONE: [Collected; 4] = [
-    Collected {
+static DONE: [Line; 4] = [
+    Line {
         seat: 0,
         number: 1,
         place: Place::Commit(1),
         reply: Reply::Yes,
     },
-    Collected {
+    Line {
         seat: 0,
         number: 2,
         place: Place::Commit(2),
         reply: Reply::Yes,
     },
-    Collected {
+    Line {
         seat: 0,
         number: 3,
         place: Place::Read(2),
         reply: Reply::No,
     },
-    Collected {
+    Line {
         seat: 0,
         number: 4,
         place: Place::Commit(3),
@@ -108,8 +109,8 @@ static DONE: [Collected; 4] = [
     },
 ];
 
-// Looks that this is what was collected.
-fn expect_collected(rt: &impl Abort, found: &[Collected], want: &[Collected]) {
+// Looks that these are the lines.
+fn expect_lines(rt: &impl Abort, found: &[Line], want: &[Line]) {
     assert_eq!(rt; found, want);
 }
 
@@ -117,17 +118,17 @@ fn expect_collected(rt: &impl Abort, found: &[Collected], want: &[Collected]) {
 fn one_store_does_all_in_order(rt: HostRuntime) -> Result<(), Fail> {
     let commands = four()?;
     let stores = open_one(rt.alloc())?;
-    let (back, collected) = run(&rt, rt.alloc(), stores, &commands, &OpenGate)?;
+    let (back, lines) = run(&rt, rt.alloc(), stores, &commands, &OpenGate)?;
     assert_eq!(rt; back, 1);
-    expect_collected(&rt, &collected, &DONE);
+    expect_lines(&rt, &lines, &DONE);
     Ok(())
 }
 
 #[test]
-fn nothing_is_collected_of_no_commands(rt: HostRuntime) -> Result<(), Fail> {
+fn no_commands_have_no_lines(rt: HostRuntime) -> Result<(), Fail> {
     let stores = open_two(rt.alloc())?;
-    let (back, collected) = run(&rt, rt.alloc(), stores, &[], &OpenGate)?;
-    assert_eq!(rt; (back, collected.len()), (2, 0));
+    let (back, lines) = run(&rt, rt.alloc(), stores, &[], &OpenGate)?;
+    assert_eq!(rt; (back, lines.len()), (2, 0));
     Ok(())
 }
 
@@ -147,8 +148,8 @@ fn adds(alloc: Global, count: u32) -> Result<Vec<Command>, Fail>
 }
 
 // How often a yes to this command is among them.
-fn count_yes(collected: &[Collected], number: u32) -> usize {
-    collected
+fn count_yes(lines: &[Line], number: u32) -> usize {
+    lines
         .iter()
         .filter(|one| one.number == number && one.reply == Reply::Yes)
         .count()
@@ -158,10 +159,10 @@ fn count_yes(collected: &[Collected], number: u32) -> usize {
 fn three_stores_do_each_of_300_commands_once(rt: HostRuntime) -> Result<(), Fail> {
     let commands = adds(rt.alloc(), 300)?;
     let stores = open_three(rt.alloc())?;
-    let (back, collected) = run(&rt, rt.alloc(), stores, &commands, &OpenGate)?;
-    assert_eq!(rt; (back, collected.len()), (3, 300));
+    let (back, lines) = run(&rt, rt.alloc(), stores, &commands, &OpenGate)?;
+    assert_eq!(rt; (back, lines.len()), (3, 300));
     for number in 1..301 {
-        assert_eq!(rt; count_yes(&collected, number), 1);
+        assert_eq!(rt; count_yes(&lines, number), 1);
     }
     Ok(())
 }
@@ -215,8 +216,8 @@ fn hold<R: Threads + Wait + Abort + Sync>(rt: &R, alloc: Global, held: u32) -> R
             ran_out: false,
         }),
     };
-    let (_back, collected) = run(rt, alloc, open_two(alloc)?, &commands, &gate)?;
-    assert_eq!(rt; collected.len(), 5);
+    let (_back, lines) = run(rt, alloc, open_two(alloc)?, &commands, &gate)?;
+    assert_eq!(rt; lines.len(), 5);
     let HoldGate {
         rt: _,
         held: _,

@@ -1,6 +1,10 @@
-use Rattle.std.proofs.Common.{arith}
+use Rattle.std.proofs.Common.{arith, ap, ◌∙◌}
+use Rattle.crossbeam_queue.specs.Passes.{view}
+use Rattle.command_pool.specs.declared.queue.Hand.{Hand}
 use Rattle.command_pool.proofs.Sharing.{takes}
 use Rattle.command_pool.proofs.queue.take.Goals as goal
 
 pub try_pop_as-requires-clause-rule : goal.try_pop_as-requires-clause-rule
-try_pop_as-requires-clause-rule c = takes _ _ (omega (arith, c.requires.part.0)) c.requires.part.1
+try_pop_as-requires-clause-rule g c =
+    let same = c.loop.invariant.view_is in
+    takes _ (view c.loop.pass) (omega (arith, ap (λ (v : Hand). v.parts) same, c.requires.part.0)) (ap (λ (v : Hand). v.put) same ∙ c.requires.part.1)

@@ -1,10 +1,9 @@
-use Rattle.std.proofs.Common.{length, map, ◌∙◌, ap, sym, subst}
+use Rattle.std.proofs.Common.{map, ◌∙◌, subst}
 use Rattle.std.proofs.lemmas.List.{length-map}
 use Rattle.mvrlu.specs.Meant.{seat_of, whole_of}
 use Rattle.mvrlu.specs.Whole.{last_state}
 use Rattle.set_script.specs.CatalogueOf.{catalogue_of}
 use Rattle.script_domain.specs.Joined.{past_of_whole}
-use Rattle.pool_domain.specs.Lines.{line_of}
 use Rattle.pool_domain.specs.Whole.{PoolOf}
 use Rattle.pool_domain.proofs.OnePool.{all_met, pool_met}
 use Rattle.pool_domain.proofs.running.run_pool_domain.Goals as goal
@@ -12,18 +11,16 @@ use Rattle.pool_domain.proofs.running.run_pool_domain.Goals as goal
 -- all seats of the domain came back
 pub meet-requires : goal.meet-requires
 meet-requires g c = record {
-  all = all_met c.args.domain (map (λ s. seat_of s) c.args.seats.items) c.in-Ok-run_seats.seats.items c.args.commands.now c.in-Ok-run_seats.collected.items
-      c.requires.new (length-map c.args.seats.items (λ s. seat_of s) ∙ c.requires.all) c.in-Ok-run_seats.ensures.ran;
+  all = all_met c.args.domain (map (λ s. seat_of s) c.args.seats.items) c.in-Ok.seats.items c.args.commands.now c.in-Ok.lines.items
+      c.requires.new (length-map c.args.seats.items (λ s. seat_of s) ∙ c.requires.all) c.in-Ok.ensures.ran;
 }
 
 -- and their meeting knows the whole history
-pub returns-in-Ok-run_seats-clause-ran : goal.returns-in-Ok-run_seats-clause-ran
-returns-in-Ok-run_seats-clause-ran g c =
+pub returns-in-Ok-clause-ran : goal.returns-in-Ok-clause-ran
+returns-in-Ok-clause-ran g c =
     let olds = map (λ s. seat_of s) c.args.seats.items in
     let w = whole_of c.meet.result in
-    let pool = pool_met c.args.domain olds c.in-Ok-run_seats.seats.items c.args.commands.now c.in-Ok-run_seats.collected.items c.in-Ok-run_seats.tables.items w
-    c.requires.new c.in-Ok-run_seats.ensures.ran c.in-Ok-run_seats.ensures.tables c.meet.ensures.law c.meet.ensures.opening.0 c.meet.ensures.opening.1 in
-    let many = subst (λ n. PoolOf (past_of_whole w) n c.args.commands.now (map line_of c.in-Ok-run_seats.collected.items) (catalogue_of (last_state w))
-    c.in-Ok-run_seats.tables.items) (length-map c.args.seats.items (λ s. seat_of s)) pool in
-    subst (λ ls. PoolOf (past_of_whole w) (length c.args.seats.items) c.args.commands.now ls (catalogue_of (last_state w)) c.in-Ok-run_seats.tables.items)
-    (sym (c.put_lines.ensures ∙ ap (map line_of) c.deref.ensures.value)) many
+    let pool = pool_met c.args.domain olds c.in-Ok.seats.items c.args.commands.now c.in-Ok.lines.items c.in-Ok.tables.items w
+    c.requires.new c.in-Ok.ensures.ran c.in-Ok.ensures.tables c.meet.ensures.law c.meet.ensures.opening.0 c.meet.ensures.opening.1 in
+    subst (λ n. PoolOf (past_of_whole w) n c.args.commands.now c.in-Ok.lines.items (catalogue_of (last_state w)) c.in-Ok.tables.items)
+    (length-map c.args.seats.items (λ s. seat_of s)) pool

@@ -1,0 +1,14 @@
+use Rattle.std.proofs.Common.{◌≡◌, ◌≤◌, ◌-◌, [], length, All, vec_capacity}
+use Rattle.crossbeam_queue.specs.Passes.{view, IsPassOf}
+use Rattle.command_pool.specs.Queue.{hand, all_parts}
+use Rattle.command_pool.specs.Lending.{IsBegun}
+use Rattle.command_pool.proofs.lending.share_out.Given as goal
+
+abbrev pub invariant-loop : goal.invariant-loop
+invariant-loop l = record {
+  pass : IsPassOf l.queue l.pass;
+  left : view l.pass ≡ hand (all_parts - l.counter) (view l.initial.pass).put [];
+  begun : All (IsBegun l.queue l.commands) l.turns.items;
+  count : length l.turns.items ≡ l.counter;
+  room : l.seats ≤ vec_capacity l.turns;
+}

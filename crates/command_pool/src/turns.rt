@@ -1,0 +1,51 @@
+// The turns of a worker: the commands whose numbers it takes out of the queue.
+use crate::queue::{Hand, Queue, take};
+use crossbeam_queue::Pass;
+use item_workers::{Given, Source};
+use mv_history::Store;
+use script_workers::Hinted;
+use set_script::{Command, SetRules};
+use std::sync::Wait;
+
+// The queue, the worker's own pass of it, and the commands, which are the same for all workers.
+#[derive(Drop)]
+pub(crate) struct Turns<'s> {
+    pub(crate) queue: &'s Queue,
+    pub(crate) pass: Pass<u32, Hand>,
+    pub(crate) commands: &'s [Command],
+}
+
+impl<'s, S: Store<Rules = SetRules>> Source<Hinted<S>> for Turns<'s> {
+    ghost use Rattle.std.specs.Prelude.{length, ◌-◌};
+    ghost use Rattle.crossbeam_queue.specs.Passes.{view};
+    ghost use Rattle.command_pool.specs.Turns.{MayTake, GaveTurn, HasEnded};
+
+    ghost may = { MayTake };
+
+    ghost listed = { λ turns. turns.commands.now };
+
+    ghost left = { λ turns. length turns.commands.now - length (view turns.pass).taken };
+
+    ghost gives = { GaveTurn };
+
+    ghost ended = { HasEnded };
+
+    fn items(&self) -> &[Command] {
+        self.commands
+    }
+
+    fn most(&self) -> usize {
+        self.commands.len()
+    }
+
+    // An end mark is a number that no command has.
+    fn take<R: Wait>(&mut self, rt: &R) -> Option<Given> {
+        let number = take(rt, self.queue, &mut self.pass);
+        let place = number as usize - 1;
+        if place < self.commands.len() {
+            Some(Given { place, number })
+        } else {
+            None
+        }
+    }
+}

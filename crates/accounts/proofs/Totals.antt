@@ -1,15 +1,12 @@
 -- Transfers keep the total.
-use Rattle.std.proofs.Common.{◌≡◌, ◌≢◌, ℕ, ◌+◌, ◌-◌, ◌<◌, ◌≤◌, List, [], ◌∷◌, ◌++◌, length, set, take, drop, refl, sym, ap, subst, ◌∙◌, arith}
-use Rattle.std.proofs.Common.{append_assoc, length-set, get_or-set_other}
-use Rattle.std.proofs.lemmas.List.{take-append-drop}
+use Rattle.std.proofs.Common.{◌≡◌, ◌≢◌, ℕ, ◌+◌, ◌-◌, ◌<◌, ◌≤◌, List, [], length, set, refl, sym, ap, ◌∙◌, arith}
+use Rattle.std.proofs.Common.{length-set, get_or-set_other}
 use Rattle.std.proofs.lemmas.List.Sums.{sum_by-set, get_or-le-sum_by}
 use Rattle.mv_history.specs.declared.history.Entry.{Entry}
-use Rattle.mv_history.specs.declared.history.Entry.TheVariants.{Rest, Change}
 use Rattle.mv_history.specs.State.{State, Writes, written, state_after, state_at}
 use Rattle.mv_history.specs.Legal.{IsAllowed}
 use Rattle.mv_history.specs.Meaning.{Seat, IsSeat}
-use Rattle.mv_history.proofs.Histories.{IsAllowed-front}
-use Rattle.mv_history.proofs.Writing.{state_after-append}
+use Rattle.mv_client.proofs.Invariants.{keeps_after, keeps_at}
 use Rattle.accounts.specs.Rules.{balance_of, account_of, balance, total, IsOpening, from_of, to_of, amount_of, IsTransfer}
 
 -- an account that gets another balance changes the total by the difference
@@ -28,28 +25,15 @@ total-transfer tag s ws t =
     ap balance_of (get_or-set_other s from to (account_of (balance s from - amount_of tag)) [] (λ e. t.other (sym e))) in
     rw t.moves (omega (arith, first, second, same, t.enough))
 
--- after more of an allowed history the total is the same
-total-after : (start : State) (front es : List Entry) (s : State) → state_after start front ≡ s → IsAllowed IsTransfer start (front ++ es)
-    → total (state_after s es) ≡ total s
-total-after start front [] s e h = refl
-total-after start front (Rest by ∷ es) s e h =
-    total-after start (front ++ Rest by ∷ []) es s (state_after-append start front (Rest by ∷ []) ∙ e) (rw append_assoc h)
-total-after start front (Change c ∷ es) s e h =
-    let here : IsTransfer c.tag s c.writes = subst (λ (u : State). IsTransfer c.tag u c.writes) e (h front es c refl) in
-    total-after start (front ++ Change c ∷ []) es (written s c.writes)
-    (state_after-append start front (Change c ∷ []) ∙ ap (λ (u : State). written u c.writes) e) (rw append_assoc h)
-    ∙ total-transfer c.tag s c.writes here
-
 -- after an allowed history the total is the opening one
 pub total-history : (start : State) (history : List Entry) → IsAllowed IsTransfer start history → total (state_after start history) ≡ total start
-total-history start history h = total-after start [] history start refl h
+total-history start history h =
+    keeps_after IsTransfer (λ s. total s ≡ total start) (λ tag s ws t e. total-transfer tag s ws t ∙ e) start history h refl
 
 -- at every time that a seat has seen, the total is the opening one
 pub total-state_at : (s : Seat) → IsSeat IsOpening IsTransfer s → (t : ℕ) → total (state_at s.start s.seen t) ≡ total s.start
 total-state_at s lawful t =
-    let front : IsAllowed IsTransfer s.start (take t s.seen) =
-    IsAllowed-front IsTransfer s.start (take t s.seen) (drop t s.seen) (rw (take-append-drop t s.seen) lawful.allowed) in
-    total-history s.start (take t s.seen) front
+    keeps_at IsTransfer (λ u. total u ≡ total s.start) (λ tag u ws m e. total-transfer tag u ws m ∙ e) IsOpening s lawful refl t
 
 -- the two balances of different accounts are part of the total
 pub balances-le : (s : State) (a b : ℕ) → a < length s → b < length s → a ≢ b → balance s a + balance s b ≤ total s

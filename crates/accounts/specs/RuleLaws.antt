@@ -1,9 +1,9 @@
 -- That the rules are propositions, as a `Protocol` asks.
 use Rattle.std.specs.Prelude.{◌≡◌, ◌≢◌, ℕ, ◌^◌, ◌<◌, ◌≤◌, List, length}
-use Rattle.std.specs.Coded.{Coded-set, coded×, coded_ℕ, coded_list}
 use Rattle.std.proofs.Props.{props}
 use Rattle.accounts.specs.declared.rules.TheConstants.{ACCOUNTS}
 use Rattle.mv_history.specs.State.{State, Writes}
+use Rattle.mv_client.specs.Rules.{Writes-set}
 use Rattle.accounts.specs.Rules.{balance, total, IsOpening, from_of, to_of, amount_of, IsTransfer}
 
 pub IsOpening-prop : (s : State) → IsProp (IsOpening s)
@@ -11,10 +11,6 @@ IsOpening-prop s x y =
     let accounts_prop : IsProp (length s ≡ ACCOUNTS) = hlevel props in
     let fits_prop : IsProp (total s < 2 ^ 64) = hlevel props in
     λ i. record { accounts = accounts_prop x.accounts y.accounts i; fits = fits_prop x.fits y.fits i }
-
--- two lists of writes are equal in one way
-Writes-set : (x y : Writes) → IsProp (x ≡ y)
-Writes-set = Coded-set (coded_list (coded× coded_ℕ (coded_list coded_ℕ)))
 
 pub IsTransfer-prop : (tag : List ℕ) (before : State) (writes : Writes) → IsProp (IsTransfer tag before writes)
 IsTransfer-prop tag before writes x y =

@@ -1,0 +1,5 @@
+mod Puts
+pub mod Filled
+pub mod Invariants
+pub mod Commits
+pub mod Fits

@@ -1,0 +1,4 @@
+pub mod Closures
+pub mod Updates
+pub mod Invariants
+pub mod Rules

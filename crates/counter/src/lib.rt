@@ -78,20 +78,31 @@ impl Task<Counting> for Counter {
         ensures continues { Continues (S.seat_of store) (S.seat_of result.1) }
         ensures did { Repeated (S.seat_of store) (S.seat_of result.1) self.asked result.0.done }
     {
-        let (store, done) = update_times(rt, store, self.asked, |section: &mut S::Open|
-            requires object { 0 < length (S.Open.state section.old) }
-            requires space { HasSpace 1 (S.Open.section section.old) }
-            ensures filled { Filled CountsOne (S.Open.section section.old) (S.Open.section section.new) result }
-            ensures commits { IsForCommit result }
-        {
-            let count = section.read(0)[0];
-            put(section, 0, [count + 1, 0, 0, 0, 0, 0])?;
-            Ok(Decision::Change {
-                plan: [0; 4],
-                reply: (),
-            })
-        });
-        (Counter { asked: self.asked, done }, store)
+        let (store, done) = update_times(
+            rt,
+            store,
+            self.asked,
+            |section: &mut S::Open|
+                requires object { 0 < length (S.Open.state section.old) }
+                requires space { HasSpace 1 (S.Open.section section.old) }
+                ensures filled { Filled CountsOne (S.Open.section section.old) (S.Open.section section.new) result }
+                ensures commits { IsForCommit result }
+            {
+                let count = section.read(0)[0];
+                put(section, 0, [count + 1, 0, 0, 0, 0, 0])?;
+                Ok(Decision::Change {
+                    plan: [0; 4],
+                    reply: (),
+                })
+            },
+        );
+        (
+            Counter {
+                asked: self.asked,
+                done,
+            },
+            store,
+        )
     }
 }
 

@@ -9,7 +9,16 @@ use std::io;
 use std::process::ExitCode;
 
 fn main(rt: HostRuntime) -> io::Result<ExitCode> {
-    let counters = vec![in rt.alloc(); Counter { asked: 1000, done: 0 }, Counter { asked: 1000, done: 0 }];
+    let counters = vec![in rt.alloc();
+        Counter {
+            asked: 1000,
+            done: 0
+        },
+        Counter {
+            asked: 1000,
+            done: 0
+        },
+    ];
     let Ok(counters) = counters else {
         eprintln!(rt; "no memory for the counters")?;
         return Ok(ExitCode::FAILURE);

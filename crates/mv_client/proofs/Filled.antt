@@ -119,7 +119,8 @@ shown_as g f shown left r s met e =
 -- what was filled for a commit is some, and fit
 pub filled_fit : {T : Type 0} (allowed : List ℕ → State → Writes → Type 0) (old new : InSection) (r : Answer T) (tag : List ℕ) (reply : T)
     → r ≡ Ok (Change tag reply) → Filled allowed old new r → (0 < length new.own) × IsFit allowed (snapshot_of new) tag new.own
-filled_fit allowed old new r tag reply e f = subst (λ z. OnChange z (λ t. (0 < length new.own) × IsFit allowed (snapshot_of new) t new.own)) e f.fit
+filled_fit allowed old new r tag reply e f =
+    subst (λ z. OnChange z (λ t. (0 < length new.own) × IsFit allowed (snapshot_of new) t new.own)) e f.fit
 
 -- a lock that was refused gives the section up
 pub filled_refused : {T : Type 0} (allowed : List ℕ → State → Writes → Type 0) (old new : InSection) (r : Answer T) (refusal : Refusal) → GoesOn old new
@@ -145,8 +146,8 @@ filled_one starts allowed old mid new tag reply object words lawful none same go
     }
 
 -- A closure that has something to commit each time is done by a commit.
-pub done_commits : {Open T : Type 0} (k : Causes) (section : Open → InSection) (gives : Open → Answer T → Open → Type 0) (old new : Seat) (r : Option (T × Place))
-    (done : T × Place) → ((s t : Open) (a : Answer T) → gives s a t → IsForCommit a) → r ≡ Some done
+pub done_commits : {Open T : Type 0} (k : Causes) (section : Open → InSection) (gives : Open → Answer T → Open → Type 0) (old new : Seat)
+    (r : Option (T × Place)) (done : T × Place) → ((s t : Open) (a : Answer T) → gives s a t → IsForCommit a) → r ≡ Some done
     → UpdatedLast k section gives old new (outcome_of r) → length new.mine ≡ length old.mine + commits_in (outcome_of r)
     → length new.mine ≡ length old.mine + 1
 done_commits {Open} {T} k section gives old new r done commits e last made =

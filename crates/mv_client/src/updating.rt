@@ -89,11 +89,7 @@ fn attempt<S: Store, T: Drop, F: Fn(&mut S::Open) -> Result<Decision<T, Tag>, Re
 }
 
 /// Updates so often at most, 1 or more, until the answer isn't `Again`, and gives the store back with the last answer.
-pub fn update_at_most<
-    S: Store,
-    T: Drop,
-    F: Fn(&mut S::Open) -> Result<Decision<T, Tag>, Refusal>,
->(
+pub fn update_at_most<S: Store, T: Drop, F: Fn(&mut S::Open) -> Result<Decision<T, Tag>, Refusal>>(
     store: S,
     tries: u32,
     fill: F,
@@ -129,11 +125,7 @@ pub fn update_until<
     S: Store,
     T: Drop,
     F: Fn(&mut S::Open) -> Result<Decision<T, Tag>, Refusal>,
->(
-    rt: &R,
-    store: S,
-    fill: F,
-) -> (S, Option<(T, Place)>)
+>(rt: &R, store: S, fill: F) -> (S, Option<(T, Place)>)
     requires callable { (s : S.Open) → Opened (S.seat_of store) (S.Open.state s) (S.Open.section s) → MayShow F.Fn fill s }
     requires fills { (s t : S.Open) (r : Answer T) → Opened (S.seat_of store) (S.Open.state s) (S.Open.section s) → Shows F.Fn fill s r t
         → Filled S.Rules.allowed (S.Open.section s) (S.Open.section t) r }
@@ -153,12 +145,7 @@ pub fn update_times<
     S: Store,
     T: Drop,
     F: Fn(&mut S::Open) -> Result<Decision<T, Tag>, Refusal>,
->(
-    rt: &R,
-    store: S,
-    times: u32,
-    fill: F,
-) -> (S, u32)
+>(rt: &R, store: S, times: u32, fill: F) -> (S, u32)
     requires callable { (s : S.Open) → Opened (S.seat_of store) (S.Open.state s) (S.Open.section s) → MayShow F.Fn fill s }
     requires fills { (s t : S.Open) (r : Answer T) → Opened (S.seat_of store) (S.Open.state s) (S.Open.section s) → Shows F.Fn fill s r t
         → Filled S.Rules.allowed (S.Open.section s) (S.Open.section t) r }
@@ -179,12 +166,7 @@ pub fn update_times<
 }
 
 // The updates of one commit.
-fn until<
-    R: Wait,
-    S: Store,
-    T: Drop,
-    F: Fn(&mut S::Open) -> Result<Decision<T, Tag>, Refusal>,
->(
+fn until<R: Wait, S: Store, T: Drop, F: Fn(&mut S::Open) -> Result<Decision<T, Tag>, Refusal>>(
     rt: &R,
     store: S,
     fill: &F,

@@ -44,7 +44,8 @@ returns-in-Done g c =
       };
       commits = subst (λ (s : Seat). Commits (g.S.Open.Section.section c.fill.new.arg2) c.in-Ok-Change.tag s c.in-Done.time) (g.met.S.Store.same_seat _)
           c.in-Done.ensures.done.0;
-      loaded = subst (λ (s : Seat). g.S.Open.Section.loaded (g.S.Open.Section.section c.fill.new.arg2) s (c.in-Done.time - 1)) (g.met.S.Store.same_seat _) c.in-Done.ensures.done.1;
+      loaded = subst (λ (s : Seat). g.S.Open.Section.loaded (g.S.Open.Section.section c.fill.new.arg2) s (c.in-Done.time - 1))
+          (g.met.S.Store.same_seat _) c.in-Done.ensures.done.1;
     }
 
 pub returns-in-Again : goal.returns-in-Again
@@ -60,14 +61,14 @@ returns-in-Again g c =
         reply = c.in-Ok-Change.reply;
         left = c.fill.new.arg2;
         filled = record {
-        prepared = g.S.Store.seat_of c.prepare.new.self;
-        prepares = c.prepare.ensures.prepares;
-        entered = c.begin-section.result;
-        enters = c.begin-section.ensures.enters;
-        took = c.begin-section.ensures.took;
-        gives_is = shown_as g.F.Fn c.args.fill.now _ _ _ _ c.fill.ensures e;
-        goes_on = f.goes_on;
-      };
+          prepared = g.S.Store.seat_of c.prepare.new.self;
+          prepares = c.prepare.ensures.prepares;
+          entered = c.begin-section.result;
+          enters = c.begin-section.ensures.enters;
+          took = c.begin-section.ensures.took;
+          gives_is = shown_as g.F.Fn c.args.fill.now _ _ _ _ c.fill.ensures e;
+          goes_on = f.goes_on;
+        };
         after = c.in-Again.section;
         as_before = a.1;
         overtakes = a.2;
@@ -139,4 +140,3 @@ returns-in-Err g c =
       };
       leaves = subst (λ (s : Seat). Leaves (g.S.Open.Section.section c.fill.new.arg2) s) (g.met.S.Store.same_seat _) c.abort-in-Err.ensures;
     }
-

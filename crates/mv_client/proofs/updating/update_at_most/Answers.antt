@@ -25,7 +25,7 @@ loop-nth-preserved g c =
     let i = c.loop-nth.invariant in
     elim c.match-answer.branch [
       | in-Again w ↦ rw (w.store-is, w.answer-is)
-        (last_by _ _ _ _ _ _ _ (last_continues _ _ _ _ _ _ i) (last_mine _ _ _ _ _ _ i _ w.in-Again.is) w.attempt-next.ensures)
+          (last_by _ _ _ _ _ _ _ (last_continues _ _ _ _ _ _ i) (last_mine _ _ _ _ _ _ i _ w.in-Again.is) w.attempt-next.ensures)
       | in_default w ↦ rw (w.store-is, w.answer-is) i
     ]
 

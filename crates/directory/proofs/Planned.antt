@@ -1,0 +1,92 @@
+-- What a move plans in a section that holds nothing.
+use Rattle.std.proofs.Common.{◌≡◌, ◌≢◌, ℕ, ◌-◌, ◌<◌, ◌≤◌, true, List, [], ◌∷◌, length, refl, sym, ap, ◌∙◌, inl, inr, ◌⊎◌, subst, arith}
+use Rattle.std.proofs.lemmas.Bool.{cases_eq}
+use Rattle.std.proofs.lemmas.Bool.Decides.{nat_tests}
+use Rattle.mv_history.specs.State.{State, Writes, touches}
+use Rattle.mv_history.specs.Legal.{are_distinct, AreWithin}
+use Rattle.mv_history.specs.Drift.{IsFit}
+use Rattle.mv_history.specs.Meaning.{InSection, IsSection, state_of, words_at}
+use Rattle.section_work.specs.Works.{IsPlanned}
+use Rattle.section_work.proofs.Entering.{reads_snapshot}
+use Rattle.mv_client.proofs.Invariants.{keeps_in}
+use Rattle.mv_client.proofs.Fits.{fit_by_held}
+use Rattle.directory.specs.declared.rules.TheConstants.{OBJECTS, SHELVES}
+use Rattle.directory.specs.declared.moving.Found.TheVariants.{Away}
+use Rattle.directory.specs.Ring.{link_of, linked, next_of, IsUser, IsRing, IsOn, IsDirectory}
+use Rattle.directory.specs.Searches.{IsBefore}
+use Rattle.directory.specs.Moves.{IsOpening, before_in, user_in, shelf_in, IsMove, IsMoving, move_meaning, tag_of_plan}
+use Rattle.directory.proofs.Keeps.{move_keeps}
+use Rattle.directory.proofs.Opens.{opened}
+use Rattle.directory.proofs.Places.{placed}
+
+-- what a section reads that holds nothing is a directory
+pub directory_read : (s : InSection) (u : State) → u ≡ state_of s → s.own ≡ [] → IsSection IsOpening IsMove s → IsDirectory u
+directory_read s u reads none lawful =
+    subst IsDirectory (sym (reads ∙ reads_snapshot s none)) (keeps_in IsMove IsDirectory move_keeps IsOpening s lawful (opened s.seat.start lawful.seat.start))
+
+-- the other of the two shelves
+pub other_below : (shelf : ℕ) → shelf < SHELVES → 1 - shelf < SHELVES
+other_below shelf l = omega (arith, l)
+
+-- a user that isn't on the one shelf is on the other
+pub there : (s : State) (shelf user : ℕ) → IsDirectory s → IsMoving user shelf → (IsOn s (1 - shelf) user → ⊥) → IsOn s shelf user
+there s shelf user d m none = go (cases_eq shelf 0) (placed s d.0 user d.1 m.user_is m.below).on
+  where
+    go : (shelf ≡ 0) ⊎ (shelf ≢ 0) → IsOn s 0 user ⊎ IsOn s 1 user → IsOn s shelf user
+    go (inl e) (inl on) = subst (λ (k : ℕ). IsOn s k user) (sym e) on
+    go (inl e) (inr on) = absurd (none (subst (λ (k : ℕ). IsOn s k user) (let o : 1 ≡ 1 - shelf = omega (arith, e) in o) on))
+    go (inr n) (inl on) =
+        absurd (none (subst (λ (k : ℕ). IsOn s k user) (let o : 0 ≡ 1 - shelf = omega (arith, n, m.shelf_is) in o) on))
+    go (inr n) (inr on) = subst (λ (k : ℕ). IsOn s k user) (let o : 1 ≡ shelf = omega (arith, n, m.shelf_is) in o) on
+
+-- a move depends on the three objects that it writes
+move_fit : (tag : List ℕ) (from : State) (ws : Writes) → IsMove tag from ws → IsFit IsMove from tag ws
+move_fit tag from ws m = fit_by_held IsMove from tag ws (λ s long held.
+    let one = held (before_in tag) (rw m.moves (grind (arith, nat_tests))) in
+    let two = held (user_in tag) (rw m.moves (grind (arith, nat_tests))) in
+    let three = held (shelf_in tag) (rw m.moves (grind (arith, nat_tests))) in
+    record {
+      many = long ∙ m.many;
+      from = m.from;
+      user = m.user;
+      below = m.below;
+      shelf = m.shelf;
+      apart = m.apart;
+      other = m.other;
+      here = ap link_of one ∙ m.here;
+      moves = rw (one, two, three) m.moves;
+    })
+
+three_distinct : (a b c : ℕ) (x y z : List ℕ) → a ≢ b → a ≢ c → b ≢ c → are_distinct ((a, x) ∷ (b, y) ∷ (c, z) ∷ []) ≡ true
+three_distinct a b c x y z ab ac bc = grind (arith, nat_tests)
+
+three_within : (a b c n : ℕ) (x y z : List ℕ) → a < n → b < n → c < n → AreWithin ((a, x) ∷ (b, y) ∷ (c, z) ∷ []) n
+three_within a b c n x y z la lb lc o t = grind (arith, nat_tests)
+
+pub planned : (s : State) (before user shelf : ℕ) (w1 w2 w3 first second third : List ℕ) → IsDirectory s → IsMoving user shelf
+    → IsBefore s (1 - shelf) before user → w1 ≡ words_at s before → w2 ≡ words_at s user → w3 ≡ words_at s shelf → first ≡ linked w1 (link_of w2)
+    → second ≡ linked w2 (link_of w3) → third ≡ linked w3 user
+    → IsPlanned IsMove (move_meaning user shelf) s (tag_of_plan user shelf ((before, first) ∷ (user, second) ∷ (shelf, third) ∷ []))
+    ((before, first) ∷ (user, second) ∷ (shelf, third) ∷ []) Away
+planned s before user shelf w1 w2 w3 first second third d m b e1 e2 e3 f1 f2 f3 =
+    let apart : before ≢ shelf = b.not_shelf shelf m.shelf_is (λ e. omega (arith, e, m.shelf_is)) in
+    let us : user ≢ shelf = λ e. omega (arith, e, m.user_is, m.shelf_is) in
+    let moves : IsMove (before ∷ user ∷ shelf ∷ 0 ∷ []) s ((before, first) ∷ (user, second) ∷ (shelf, third) ∷ []) = record {
+      many = d.1.many;
+      from = b.below;
+      user = m.user_is;
+      below = m.below;
+      shelf = m.shelf_is;
+      apart = apart;
+      other = b.not_user;
+      here = b.next;
+      moves = rw (f1, f2, f3, e1, e2, e3) refl;
+    } in record {
+      plan = record { user_is = refl; shelf_is = refl; moves = moves };
+      some = omega arith;
+      few = omega arith;
+      distinct = three_distinct before user shelf first second third b.not_user apart us;
+      within = three_within before user shelf (length s) first second third (omega (arith, b.below, d.1.many)) (omega (arith, m.below, d.1.many))
+          (omega (arith, m.shelf_is, d.1.many));
+      fit = move_fit _ s _ moves;
+    }

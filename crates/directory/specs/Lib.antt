@@ -1,0 +1,5 @@
+pub mod Ring
+pub mod Searches
+pub mod Moves
+pub mod MoveLaws
+pub mod Reads

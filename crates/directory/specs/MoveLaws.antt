@@ -1,0 +1,54 @@
+-- That the rules are propositions, as a `Protocol` asks, and that a commit of a move makes it.
+use Rattle.std.proofs.Common.{◌≡◌, ◌≢◌, ℕ, ◌<◌, ◌≤◌, List, [], length, map, set, sym, ap, ◌∙◌, arith, length-set, get_or-set_same}
+use Rattle.std.specs.Coded.{Coded-set, coded_ℕ, coded_list}
+use Rattle.std.proofs.Props.{props}
+use Rattle.directory.specs.declared.rules.TheConstants.{OBJECTS, SHELVES}
+use Rattle.mv_history.specs.State.{State, Writes, written}
+use Rattle.mv_history.specs.Meaning.{words_at}
+use Rattle.mv_client.specs.Rules.{Writes-set}
+use Rattle.directory.specs.Ring.{link_of, linked, next_of}
+use Rattle.directory.specs.Moves.{IsOpening, before_in, user_in, shelf_in, IsMove, PlansMove}
+
+pub IsOpening-prop : (s : State) → IsProp (IsOpening s)
+IsOpening-prop s = Coded-set (coded_list coded_ℕ) (map link_of s) _
+
+pub IsMove-prop : (tag : List ℕ) (before : State) (writes : Writes) → IsProp (IsMove tag before writes)
+IsMove-prop tag before writes x y =
+    let many_prop : IsProp (length before ≡ OBJECTS) = hlevel props in
+    let from_prop : IsProp (before_in tag < OBJECTS) = hlevel props in
+    let user_prop : IsProp (SHELVES ≤ user_in tag) = hlevel props in
+    let below_prop : IsProp (user_in tag < OBJECTS) = hlevel props in
+    let shelf_prop : IsProp (shelf_in tag < SHELVES) = hlevel props in
+    let apart_prop : IsProp (before_in tag ≢ shelf_in tag) = hlevel props in
+    let other_prop : IsProp (before_in tag ≢ user_in tag) = hlevel props in
+    let here_prop : IsProp (next_of before (before_in tag) ≡ user_in tag) = hlevel props in
+    λ i. record {
+      many = many_prop x.many y.many i;
+      from = from_prop x.from y.from i;
+      user = user_prop x.user y.user i;
+      below = below_prop x.below y.below i;
+      shelf = shelf_prop x.shelf y.shelf i;
+      apart = apart_prop x.apart y.apart i;
+      other = other_prop x.other y.other i;
+      here = here_prop x.here y.here i;
+      moves = Writes-set writes _ x.moves y.moves i;
+    }
+
+-- the shelf's link is the last that is set
+pub makes_move : (user shelf : ℕ) (s before : State) (tag : List ℕ) (ws : Writes) → PlansMove user shelf s tag ws → IsMove tag before ws
+    → next_of (written before ws) shelf ≡ user
+makes_move user shelf s before tag ws p m =
+    let first : State = set before (before_in tag) (linked (words_at before (before_in tag)) (next_of before (user_in tag))) in
+    let second : State = set first (user_in tag) (linked (words_at before (user_in tag)) (next_of before (shelf_in tag))) in
+    let within : shelf_in tag < length second =
+    omega (
+      arith,
+      m.many,
+      m.shelf,
+      length-set first (user_in tag) (linked (words_at before (user_in tag)) (next_of before (shelf_in tag))),
+      length-set before (before_in tag) (linked (words_at before (before_in tag)) (next_of before (user_in tag))),
+    ) in
+    ap (next_of (written before ws)) (sym p.shelf_is)
+    ∙ ap (λ (v : Writes). next_of (written before v) (shelf_in tag)) m.moves
+    ∙ ap link_of (get_or-set_same second (shelf_in tag) (linked (words_at before (shelf_in tag)) (user_in tag)) [] within)
+    ∙ p.user_is

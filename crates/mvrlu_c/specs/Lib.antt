@@ -1,4 +1,7 @@
 pub mod Held
 pub mod Opening
+pub mod SetReplies
+pub mod SetsOpening
+pub mod SetsTold
 pub mod Statuses
 pub mod Told

@@ -14,12 +14,16 @@ use Rattle.mvrlu_c.specs.declared.status.Status.TheVariants as status
 -- The number of a status: one a meaning. `negsuc n` is -1 - n.
 abbrev pub code_of : Status → ℤ
 code_of status.Done = pos 0
+code_of status.No = pos 1
 code_of status.Again = pos 2
 code_of status.Busy = pos 3
 code_of status.Stale = pos 4
 code_of status.Short = pos 5
 code_of status.LogFull = pos 6
+code_of status.Full = negsuc 0
 code_of status.Worn = negsuc 1
+code_of status.BadSet = negsuc 2
+code_of status.SameSet = negsuc 3
 code_of status.Closed = negsuc 4
 code_of status.InUse = negsuc 5
 code_of status.BadNumber = negsuc 6
@@ -32,6 +36,8 @@ code_of status.Empty = negsuc 15
 code_of status.Holding = negsuc 16
 code_of status.SetFull = negsuc 17
 code_of status.BadPlace = negsuc 18
+code_of status.BadCommand = negsuc 19
+code_of status.BadBlock = negsuc 20
 
 abbrev pub status_of_misuse : Misuse → Status
 status_of_misuse misuse.Outside = status.Outside

@@ -15,6 +15,10 @@ mod calls;
 mod handle;
 mod loose;
 mod opening;
+mod sets_calls;
+mod sets_handle;
+mod sets_opening;
+mod sets_reply;
 mod status;
 
 pub use handle::MvrluSeat;

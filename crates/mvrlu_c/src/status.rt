@@ -10,6 +10,8 @@ use object_seats::{CommitResult, Misuse};
 pub enum Status {
     /// It was made.
     Done,
+    /// The set had nothing to change, or nothing of what was asked for.
+    No,
     /// Another seat's entry came first: nothing was committed, and the same call may be made again.
     Again,
     /// Another seat holds the object.
@@ -20,8 +22,14 @@ pub enum Status {
     Short,
     /// The log has no free slot.
     LogFull,
+    /// There is no room for what a command adds.
+    Full,
     /// The last time was reached.
     Worn,
+    /// There is no set of this number.
+    BadSet,
+    /// The two sets of a move are the same one.
+    SameSet,
     /// The seat is closed.
     Closed,
     /// A seat that is to be opened is open already.
@@ -46,6 +54,10 @@ pub enum Status {
     Holding,
     /// The section holds as many objects as it may.
     SetFull,
+    /// There is no command of this number.
+    BadCommand,
+    /// The commands are no block: none or more than 8, or a size or a next is among several.
+    BadBlock,
 }
 
 impl Status {
@@ -56,12 +68,16 @@ impl Status {
     {
         match self {
             Status::Done => 0,
+            Status::No => 1,
             Status::Again => 2,
             Status::Busy => 3,
             Status::Stale => 4,
             Status::Short => 5,
             Status::LogFull => 6,
+            Status::Full => -1,
             Status::Worn => -2,
+            Status::BadSet => -3,
+            Status::SameSet => -4,
             Status::Closed => -5,
             Status::InUse => -6,
             Status::BadNumber => -7,
@@ -74,6 +90,8 @@ impl Status {
             Status::Holding => -17,
             Status::SetFull => -18,
             Status::BadPlace => -19,
+            Status::BadCommand => -20,
+            Status::BadBlock => -21,
         }
     }
 }

@@ -1,0 +1,42 @@
+-- What opening a domain of the sets leaves of the handles of C.
+use Rattle.std.specs.Prelude.{◌≡◌, ◌≢◌, ◌⊎◌, ◌<◌, ℕ, ℤ, ◌-◌, ◌/◌, max, true, false, List, map, length, All}
+use Rattle.mv_layout.specs.declared.config.ConfigFault.{ConfigFault}
+use Rattle.mv_layout.specs.Limits.{Checked, FirstUnfit}
+use Rattle.set_seats.specs.Opening.{AreOpened, HasObjects, config_of}
+use Rattle.set_seats.specs.declared.opening.OpenSets.{OpenSets}
+use Rattle.set_seats.specs.declared.seat.SetSeat.{SetSeat}
+use Rattle.mvrlu_c.specs.declared.sets_handle.MvrluSets.{MvrluSets}
+use Rattle.mvrlu_c.specs.declared.sets_opening.MvrluSetsOptions.{MvrluSetsOptions}
+use Rattle.mvrlu_c.specs.declared.status.Status.{Status}
+use Rattle.mvrlu_c.specs.declared.status.Status.TheVariants.{Done, InUse, BadNumber, NoMemory}
+use Rattle.mvrlu_c.specs.Statuses.{code_of}
+
+abbrev pub IsClosed : MvrluSets → Type 0
+IsClosed h = h.is_open ≡ false
+
+abbrev pub IsOpen : MvrluSets → Type 0
+IsOpen h = h.is_open ≡ true
+
+-- the seat behind a handle that is open
+abbrev pub seat_in : MvrluSets → SetSeat
+seat_in h = h.state
+
+-- the numbers of the domain of so many seats
+abbrev pub sets_of : MvrluSetsOptions → ℕ → OpenSets
+sets_of o seats = record { seats = seats; objects = o.objects; slots = o.slots }
+
+-- a number is out of its range: the size of the options, the count of seats, that of objects, or another of the domain's
+abbrev pub IsBadNumber : MvrluSetsOptions → ℕ → Type 0
+IsBadNumber o seats =
+    (o.size ≢ 12) ⊎ (64 < seats) ⊎ (¬ HasObjects (sets_of o seats)) ⊎ ((fault : ConfigFault) × FirstUnfit (config_of (sets_of o seats)) fault)
+
+-- Opening: all of them or none, and why none.
+abbrev pub OpensAs : MvrluSetsOptions → List MvrluSets → List MvrluSets → Status → Type 0
+OpensAs o old new Done = All IsClosed old × All IsOpen new × AreOpened (sets_of o (length old)) (map seat_in new)
+OpensAs o old new InUse = ¬ All IsClosed old × (new ≡ old)
+OpensAs o old new BadNumber = All IsClosed old × (new ≡ old) × IsBadNumber o (length old)
+OpensAs o old new NoMemory = All IsClosed old × (new ≡ old) × Checked (config_of (sets_of o (length old)))
+OpensAs o old new other = ⊥
+
+abbrev pub Opens : MvrluSetsOptions → List MvrluSets → List MvrluSets → ℤ → Type 0
+Opens o old new code = (status : Status) × (code ≡ code_of status) × OpensAs o old new status

@@ -1,0 +1,288 @@
+// The calls of C on one seat of the sets.
+ghost use Rattle.std.specs.Prelude.{◌≡◌, ◌≢◌, ◌<◌, ◌≤◌, ◌⊎◌, false};
+ghost use Rattle.mvrlu.specs.Meant.{seat_of};
+ghost use Rattle.set_script.specs.declared.commands.Command.TheVariants as command;
+ghost use Rattle.set_seats.specs.Calls.{Tidies, Counts};
+ghost use Rattle.mvrlu_c.specs.SetsTold.{Answers, IsRefused, TellsCommand, TellsSeat, live_told, counts_told};
+ghost use Rattle.mvrlu_c.specs.Statuses.{done};
+ghost use Rattle.mvrlu_c.specs.declared.status.Status.TheVariants.{BadSet, SameSet};
+
+use crate::sets_handle::{MvrluSets, on_sets};
+use crate::sets_reply::{MvrluReply, told};
+use crate::status::Status;
+use set_script::{Command, Name};
+use set_seats::SetSeat;
+use std::alloc::Global;
+
+// Attempts a command on a seat in the hands of C, and tells what it came to.
+fn attempt(alloc: Global, sets: &mut MvrluSets, command: &Command, reply: &mut MvrluReply) -> i32
+    ensures tells { TellsCommand command.now sets.old sets.new reply.old reply.new result }
+{
+    let answer = on_sets(
+        alloc,
+        sets,
+        command,
+        |seat: SetSeat, command: &Command|
+            ensures { Answers command.now seat result.0 result.1 }
+        { seat.attempt(command) },
+    );
+    match answer {
+        None => Status::Closed.code(),
+        Some(answer) => {
+            *reply = told(answer);
+            reply.status
+        }
+    }
+}
+
+/// Puts the key into the set, with value 0. `NO`: the set has it already, with whatever value.
+#[unsafe(no_mangle)]
+pub extern "C" fn mvrlu_raw_sets_add(
+    alloc: Global,
+    sets: &mut MvrluSets,
+    set: u32,
+    key: u32,
+    reply: &mut MvrluReply,
+) -> i32
+    ensures bad { 30 ≤ set → IsRefused BadSet sets.old sets.new reply.old reply.new result }
+    ensures tells { set < 30 → TellsCommand (command.Add set key) sets.old sets.new reply.old reply.new result }
+{
+    match Name::new(set) {
+        None => Status::BadSet.code(),
+        Some(name) => attempt(alloc, sets, &Command::Add { name, key }, reply),
+    }
+}
+
+/// Gives the key this value in the set, whether or not it is there. `NO`: it has this value already.
+#[unsafe(no_mangle)]
+pub extern "C" fn mvrlu_raw_sets_put(
+    alloc: Global,
+    sets: &mut MvrluSets,
+    set: u32,
+    key: u32,
+    value: u64,
+    reply: &mut MvrluReply,
+) -> i32
+    ensures bad { 30 ≤ set → IsRefused BadSet sets.old sets.new reply.old reply.new result }
+    ensures tells { set < 30 → TellsCommand (command.Put set key value) sets.old sets.new reply.old reply.new result }
+{
+    match Name::new(set) {
+        None => Status::BadSet.code(),
+        Some(name) => attempt(alloc, sets, &Command::Put { name, key, value }, reply),
+    }
+}
+
+/// Takes the key out of the set. `NO`: it isn't there.
+#[unsafe(no_mangle)]
+pub extern "C" fn mvrlu_raw_sets_del(
+    alloc: Global,
+    sets: &mut MvrluSets,
+    set: u32,
+    key: u32,
+    reply: &mut MvrluReply,
+) -> i32
+    ensures bad { 30 ≤ set → IsRefused BadSet sets.old sets.new reply.old reply.new result }
+    ensures tells { set < 30 → TellsCommand (command.Del set key) sets.old sets.new reply.old reply.new result }
+{
+    match Name::new(set) {
+        None => Status::BadSet.code(),
+        Some(name) => attempt(alloc, sets, &Command::Del { name, key }, reply),
+    }
+}
+
+/// Asks whether the set has the key: `OK`, or `NO`.
+#[unsafe(no_mangle)]
+pub extern "C" fn mvrlu_raw_sets_has(
+    alloc: Global,
+    sets: &mut MvrluSets,
+    set: u32,
+    key: u32,
+    reply: &mut MvrluReply,
+) -> i32
+    ensures bad { 30 ≤ set → IsRefused BadSet sets.old sets.new reply.old reply.new result }
+    ensures tells { set < 30 → TellsCommand (command.Has set key) sets.old sets.new reply.old reply.new result }
+{
+    match Name::new(set) {
+        None => Status::BadSet.code(),
+        Some(name) => attempt(alloc, sets, &Command::Has { name, key }, reply),
+    }
+}
+
+/// Asks for the value of the key in the set. `NO`: it isn't there.
+#[unsafe(no_mangle)]
+pub extern "C" fn mvrlu_raw_sets_get(
+    alloc: Global,
+    sets: &mut MvrluSets,
+    set: u32,
+    key: u32,
+    reply: &mut MvrluReply,
+) -> i32
+    ensures bad { 30 ≤ set → IsRefused BadSet sets.old sets.new reply.old reply.new result }
+    ensures tells { set < 30 → TellsCommand (command.Get set key) sets.old sets.new reply.old reply.new result }
+{
+    match Name::new(set) {
+        None => Status::BadSet.code(),
+        Some(name) => attempt(alloc, sets, &Command::Get { name, key }, reply),
+    }
+}
+
+/// Asks for the least key of the set that is not below this one. `NO`: there is none.
+#[unsafe(no_mangle)]
+pub extern "C" fn mvrlu_raw_sets_next(
+    alloc: Global,
+    sets: &mut MvrluSets,
+    set: u32,
+    key: u32,
+    reply: &mut MvrluReply,
+) -> i32
+    ensures bad { 30 ≤ set → IsRefused BadSet sets.old sets.new reply.old reply.new result }
+    ensures tells { set < 30 → TellsCommand (command.Next set key) sets.old sets.new reply.old reply.new result }
+{
+    match Name::new(set) {
+        None => Status::BadSet.code(),
+        Some(name) => attempt(alloc, sets, &Command::Next { name, key }, reply),
+    }
+}
+
+/// Asks how many keys the set has.
+#[unsafe(no_mangle)]
+pub extern "C" fn mvrlu_raw_sets_size(
+    alloc: Global,
+    sets: &mut MvrluSets,
+    set: u32,
+    reply: &mut MvrluReply,
+) -> i32
+    ensures bad { 30 ≤ set → IsRefused BadSet sets.old sets.new reply.old reply.new result }
+    ensures tells { set < 30 → TellsCommand (command.Size set) sets.old sets.new reply.old reply.new result }
+{
+    match Name::new(set) {
+        None => Status::BadSet.code(),
+        Some(name) => attempt(alloc, sets, &Command::Size { name }, reply),
+    }
+}
+
+/// Takes the key out of one set and puts it into another, with its value. `NO`: the one lacks it, or the other has it.
+#[unsafe(no_mangle)]
+pub extern "C" fn mvrlu_raw_sets_move(
+    alloc: Global,
+    sets: &mut MvrluSets,
+    source: u32,
+    target: u32,
+    key: u32,
+    reply: &mut MvrluReply,
+) -> i32
+    ensures bad { (30 ≤ source) ⊎ (30 ≤ target) → IsRefused BadSet sets.old sets.new reply.old reply.new result }
+    ensures same { source < 30 → source ≡ target → IsRefused SameSet sets.old sets.new reply.old reply.new result }
+    ensures tells { source < 30 → target < 30 → source ≢ target
+        → TellsCommand (command.Move source target key) sets.old sets.new reply.old reply.new result }
+{
+    match (Name::new(source), Name::new(target)) {
+        (Some(source), Some(target)) => {
+            if source.index() == target.index() {
+                return Status::SameSet.code();
+            }
+            let command = Command::Move {
+                source,
+                target,
+                key,
+            };
+            attempt(alloc, sets, &command, reply)
+        }
+        _ => Status::BadSet.code(),
+    }
+}
+
+/// Asks of each of two sets whether it has the key.
+#[unsafe(no_mangle)]
+pub extern "C" fn mvrlu_raw_sets_pair(
+    alloc: Global,
+    sets: &mut MvrluSets,
+    first: u32,
+    second: u32,
+    key: u32,
+    reply: &mut MvrluReply,
+) -> i32
+    ensures bad { (30 ≤ first) ⊎ (30 ≤ second) → IsRefused BadSet sets.old sets.new reply.old reply.new result }
+    ensures tells { first < 30 → second < 30 → TellsCommand (command.Pair first second key) sets.old sets.new reply.old reply.new result }
+{
+    match (Name::new(first), Name::new(second)) {
+        (Some(first), Some(second)) => {
+            attempt(alloc, sets, &Command::Pair { first, second, key }, reply)
+        }
+        _ => Status::BadSet.code(),
+    }
+}
+
+/// Reclaims what it can of the seat's log, and tells how many slots are live afterwards.
+#[unsafe(no_mangle)]
+pub extern "C" fn mvrlu_raw_sets_tidy(alloc: Global, sets: &mut MvrluSets, live: &mut u32) -> i32
+    ensures tells { TellsSeat (λ s t a. Tidies s.seat t.seat a) done live_told sets.old sets.new live.old live.new result }
+{
+    let answer = on_sets(
+        alloc,
+        sets,
+        (),
+        |seat: SetSeat, _none: ()|
+            ensures { Tidies seat.seat result.0.seat result.1 }
+        { seat.tidy() },
+    );
+    match answer {
+        None => Status::Closed.code(),
+        Some(tidy) => {
+            *live = tidy.live;
+            Status::Done.code()
+        }
+    }
+}
+
+/// The counts of a seat's log.
+#[repr(C)]
+#[derive(Clone, Copy)]
+pub struct MvrluCounts {
+    /// Commits of the seat.
+    pub commits: u64,
+    /// Sections that were aborted with something held.
+    pub aborts: u64,
+    /// Versions that were written back into their objects.
+    pub back: u64,
+    /// Slots that were freed.
+    pub freed: u64,
+    /// Entries of the seat that change nothing.
+    pub rests: u64,
+    /// Slots that are live.
+    pub live: u64,
+}
+
+/// Tells the counts of the seat's log.
+#[unsafe(no_mangle)]
+pub extern "C" fn mvrlu_raw_sets_counts(
+    alloc: Global,
+    sets: &mut MvrluSets,
+    counts: &mut MvrluCounts,
+) -> i32
+    ensures tells { TellsSeat (λ s t a. Counts s.seat a × (seat_of t.seat ≡ seat_of s.seat)) done counts_told sets.old sets.new
+        counts.old counts.new result }
+{
+    let answer = on_sets(
+        alloc,
+        sets,
+        (),
+        |seat: SetSeat, _none: ()|
+            ensures { Counts seat.seat result.1 × (seat_of result.0.seat ≡ seat_of seat.seat) }
+        { seat.count() },
+    );
+    match answer {
+        None => Status::Closed.code(),
+        Some(table) => {
+            *counts = MvrluCounts {
+                commits: table.commits,
+                aborts: table.aborts,
+                back: table.back,
+                freed: table.freed,
+                rests: table.rests,
+                live: table.live,
+            };
+            Status::Done.code()
+        }
+    }
+}

@@ -1,0 +1,106 @@
+// What C holds of a seat of the sets.
+ghost use Rattle.std.specs.Prelude.{◌≡◌, true, false, None, MatchOption};
+ghost use Rattle.set_seats.specs.declared.seat.SetSeat.{SetSeat};
+ghost use Rattle.set_seats.specs.contracts.seat.SetSeat.{the_row};
+
+use crate::loose::Loose;
+use core::mem::replace_with;
+use set_seats::SetSeat;
+use std::alloc::Global;
+use std::marker::Model;
+use std::ptr::null_mut;
+
+/// A seat of the sets in memory that C owns. Zeroed memory is a closed one.
+#[repr(C)]
+#[derive(Drop)]
+pub struct MvrluSets {
+    pub(crate) is_open: bool,
+    pub(crate) at: *mut (),
+    pub(crate) ghost state: { SetSeat } by { the_row.coded },
+}
+
+impl Model for MvrluSets {
+    ghost use Rattle.mvrlu_c.specs.Held.{sets_held_if};
+
+    ghost also_owns = { λ h. sets_held_if h.is_open h.at h.state };
+}
+
+impl MvrluSets {
+    // Whether it is open, and the handle again.
+    pub(crate) fn with_open(self) -> (bool, MvrluSets)
+        ensures { (result.0 ≡ self.is_open) × (result.1 ≡ self) }
+    {
+        let MvrluSets { is_open, at } = self;
+        (is_open, MvrluSets { is_open, at })
+    }
+
+    // A closed one. The seat gives the proof a value to name.
+    pub(crate) fn closed(_last: &SetSeat) -> MvrluSets
+        ensures { result.is_open ≡ false }
+    {
+        MvrluSets {
+            is_open: false,
+            at: null_mut(),
+        }
+    }
+
+    // The box behind one that is open.
+    pub(crate) fn unseal(self, alloc: Global) -> Loose<SetSeat, Global>
+        requires { self.is_open ≡ true }
+        ensures { result.value ≡ self.state }
+    {
+        let MvrluSets { is_open: _, at } = self;
+        Loose {
+            at: at as *mut SetSeat,
+            alloc,
+        }
+    }
+
+    // An open one with this box.
+    pub(crate) fn seal(loose: Loose<SetSeat, Global>) -> MvrluSets
+        ensures { (result.is_open ≡ true) × (result.state ≡ loose.value) }
+    {
+        let Loose { at, alloc: _ } = loose;
+        MvrluSets {
+            is_open: true,
+            at: at as *mut (),
+        }
+    }
+}
+
+unsafe impl Send for MvrluSets {}
+
+/// Makes a call on the seat of an open handle, in its place. None where the handle is closed; then nothing
+/// is done.
+#[inline(always)]
+pub(crate) fn on_sets<X: Drop, R, F: FnOnce(SetSeat, X) -> (SetSeat, R) + Drop>(
+    alloc: Global,
+    handle: &mut MvrluSets,
+    argument: X,
+    call: F,
+) -> Option<R>
+    requires callable { F.IsAlwaysCallable call }
+    ensures closed { handle.old.is_open ≡ false → (result ≡ None) × (handle.new ≡ handle.old) }
+    ensures open { handle.old.is_open ≡ true → (handle.new.is_open ≡ true)
+        × MatchOption result ⊥ (λ r. F.post call handle.old.state argument (handle.new.state, r)) }
+{
+    replace_with(
+        handle,
+        (argument, call),
+        |handle: MvrluSets, given: (X, F)|
+            requires callable { F.IsAlwaysCallable given.1 }
+            ensures closed { handle.is_open ≡ false → (result.1 ≡ None) × (result.0 ≡ handle) }
+            ensures open { handle.is_open ≡ true → (result.0.is_open ≡ true)
+                × MatchOption result.1 ⊥ (λ r. F.post given.1 handle.state given.0 (result.0.state, r)) }
+        {
+            let (open, handle) = handle.with_open();
+            if !open {
+                return (handle, None);
+            }
+            let (argument, call) = given;
+            let mut block = handle.unseal(alloc).into_box();
+            let answer = replace_with(&mut *block, argument, call);
+            (MvrluSets::seal(Loose::of(block)), Some(answer))
+        },
+    )
+}

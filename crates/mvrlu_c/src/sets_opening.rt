@@ -1,0 +1,153 @@
+// Opening a domain of the sets, and closing its seats.
+ghost use Rattle.std.specs.Prelude.{◌≡◌, ◌≢◌, length, map, true, false, All, IfOk, box_value};
+ghost use Rattle.mvrlu_c.specs.SetsOpening.{IsClosed, IsOpen, Opens, OpensAs, sets_of, seat_in};
+ghost use Rattle.mvrlu_c.specs.Statuses.{code_of};
+ghost use Rattle.mvrlu_c.specs.declared.status.Status.TheVariants.{Done, Closed};
+
+use crate::loose::Loose;
+use crate::sets_handle::MvrluSets;
+use crate::status::Status;
+use core::mem::replace_with;
+use set_seats::{OpenSets, SetSeat, SetsFault, open_set_seats};
+use std::alloc::{AllocError, Global};
+
+/// The numbers of a domain of the sets that a caller chooses.
+#[repr(C)]
+#[derive(Clone, Copy)]
+pub struct MvrluSetsOptions {
+    /// How many bytes the caller's options have: 12.
+    pub size: u32,
+    /// How many objects, 181 to 65,535.
+    pub objects: u32,
+    /// How many slots the log of each seat has, 64 to 4,096.
+    pub slots: u32,
+}
+
+const SIZE: u32 = 12;
+
+const MOST_SEATS: usize = 64;
+
+/// Opens a domain of the thirty sets, all empty, with a seat for each handle, in order of number: all of them
+/// or none. All handles have to be closed.
+#[unsafe(no_mangle)]
+pub extern "C" fn mvrlu_raw_sets_open(
+    alloc: Global,
+    options: &MvrluSetsOptions,
+    handles: &mut [MvrluSets],
+) -> i32
+    ensures { Opens options.now handles.old handles.new result }
+{
+    open_all(alloc, options, handles).code()
+}
+
+fn open_all(alloc: Global, options: &MvrluSetsOptions, handles: &mut [MvrluSets]) -> Status
+    ensures { OpensAs options.now handles.old handles.new result }
+{
+    if any_is_open(handles) {
+        return Status::InUse;
+    }
+    if options.size != SIZE || handles.len() > MOST_SEATS {
+        return Status::BadNumber;
+    }
+    let seats = match open_set_seats(alloc, numbers(options, handles.len() as u32)) {
+        Ok(seats) => seats,
+        Err(SetsFault::Objects | SetsFault::Config(_)) => return Status::BadNumber,
+        Err(SetsFault::Memory) => return Status::NoMemory,
+    };
+    match in_blocks(alloc, seats) {
+        Ok(blocks) => {
+            hand_out(handles, blocks);
+            Status::Done
+        }
+        Err(AllocError) => Status::NoMemory,
+    }
+}
+
+// The numbers of the domain.
+fn numbers(options: &MvrluSetsOptions, seats: u32) -> OpenSets
+    ensures { result ≡ sets_of options.now seats }
+{
+    OpenSets {
+        seats,
+        objects: options.objects,
+        slots: options.slots,
+    }
+}
+
+// Whether the handle is open. It stays as it is.
+fn is_open(handle: &mut MvrluSets) -> bool
+    ensures { (result ≡ handle.old.is_open) × (handle.new ≡ handle.old) }
+{
+    replace_with(
+        handle,
+        (),
+        |handle: MvrluSets, _none: ()|
+            ensures { (result.1 ≡ handle.is_open) × (result.0 ≡ handle) }
+        {
+            let (open, handle) = handle.with_open();
+            (handle, open)
+        },
+    )
+}
+
+// Whether one of the handles is open. They stay as they are.
+fn any_is_open(handles: &mut [MvrluSets]) -> bool
+    ensures none { result ≡ false → All IsClosed handles.old }
+    ensures some { result ≡ true → ¬ All IsClosed handles.old }
+    ensures as_before { handles.new ≡ handles.old }
+{
+    match handles.split_first_mut() {
+        None => false,
+        Some((first, others)) => is_open(first) || any_is_open(others),
+    }
+}
+
+// The seats, each in a block of its own, in their order.
+fn in_blocks(alloc: Global, mut seats: Vec<SetSeat>) -> Result<Vec<Box<SetSeat>>, AllocError>
+    ensures { IfOk result (λ blocks. map box_value blocks.items ≡ seats.items) }
+{
+    let mut blocks = Vec::with_capacity(alloc, seats.len())?;
+    while !seats.is_empty() {
+        blocks.push_reserved(Box::new(alloc, seats.remove(0))?);
+    }
+    Ok(blocks)
+}
+
+// Gives each handle a block, in their order. There are as many.
+fn hand_out(handles: &mut [MvrluSets], mut blocks: Vec<Box<SetSeat>>)
+    requires many { length handles.old ≡ length blocks.items }
+    ensures open { All IsOpen handles.new }
+    ensures seats { map seat_in handles.new ≡ map box_value blocks.items }
+{
+    if let Some((first, others)) = handles.split_first_mut() {
+        if blocks.is_empty() {
+            return;
+        }
+        *first = MvrluSets::seal(Loose::of(blocks.remove(0)));
+        hand_out(others, blocks);
+    }
+}
+
+/// Closes a handle. Its seat ends alone. The domain's memory is given back with the last of its seats.
+#[unsafe(no_mangle)]
+pub extern "C" fn mvrlu_raw_sets_close(alloc: Global, handle: &mut MvrluSets) -> i32
+    ensures closed { handle.old.is_open ≡ false → (result ≡ code_of Closed) × (handle.new ≡ handle.old) }
+    ensures open { handle.old.is_open ≡ true → (result ≡ code_of Done) × (handle.new.is_open ≡ false) }
+{
+    let status = replace_with(
+        handle,
+        alloc,
+        |handle: MvrluSets, alloc: Global|
+            ensures closed { handle.is_open ≡ false → (result.1 ≡ Closed) × (result.0 ≡ handle) }
+            ensures open { handle.is_open ≡ true → (result.1 ≡ Done) × (result.0.is_open ≡ false) }
+        {
+            let (open, handle) = handle.with_open();
+            if !open {
+                return (handle, Status::Closed);
+            }
+            let block = handle.unseal(alloc).into_box();
+            (MvrluSets::closed(&block), Status::Done)
+        },
+    );
+    status.code()
+}

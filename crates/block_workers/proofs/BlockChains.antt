@@ -1,79 +1,104 @@
 -- A chain of blocks is a run.
-use Rattle.std.proofs.Common.{◌≡◌, ℕ, ◌+◌, ◌≤◌, List, [], ◌∷◌, ◌++◌, length, map, sum_by, refl, sym, ap, subst, arith, append_assoc}
+use Rattle.std.proofs.Common.{◌≡◌, ℕ, ◌+◌, ◌≤◌, List, [], ◌∷◌, ◌++◌, length, map, refl, sym, ap, ◌∙◌, subst, arith, append_assoc}
 use Rattle.std.specs.List.{flat_map}
 use Rattle.std.proofs.lemmas.List.{append-nil}
-use Rattle.std.proofs.lemmas.List.Sums.{sum_by-append, sum_by-cons}
-use Rattle.mv_history.specs.State.{commits_of}
-use Rattle.mv_history.specs.Meaning.{Seat}
+use Rattle.mv_history.specs.declared.history.Commit.{Commit}
+use Rattle.mv_history.specs.Meaning.{Seat, IsSeat}
+use Rattle.mv_history.specs.Calls.{Continues}
+use Rattle.mv_history.specs.CallLaws.{Continues-itself}
+use Rattle.mv_history.proofs.Steps.{Continues-Continues}
 use Rattle.section_work.specs.Causes.{Causes}
 use Rattle.section_work.specs.declared.causes.Cause.{Cause}
 use Rattle.section_work.specs.declared.place.Place.{Place}
+use Rattle.set_script.specs.Lawful.{IsOpening}
 use Rattle.set_script.specs.declared.commands.Command.{Command}
 use Rattle.set_script.specs.declared.commands.Reply.{Reply}
 use Rattle.set_blocks.specs.declared.attempt.BlockAttempt.{BlockAttempt}
 use Rattle.set_blocks.specs.declared.attempt.BlockAttempt.TheVariants.{Done, Again}
 use Rattle.set_blocks.specs.BlockAttempts.{BlockAttempted}
-use Rattle.run_report.specs.declared.line.Line.{Line}
+use Rattle.set_blocks.specs.BlockRules.{IsBlockCommit}
+use Rattle.run_report.specs.Order.{time_of}
+use Rattle.run_report.specs.Worked.{past_of}
 use Rattle.item_workers.specs.declared.runner.Answer.{Answer}
 use Rattle.item_workers.specs.Chains.{Chain, DidAll, HaveNumbers, answered}
-use Rattle.script_workers.specs.Commands.{CommitsNone}
-use Rattle.script_workers.proofs.Places.{none_still}
-use Rattle.block_workers.specs.BlockLines.{done_of, lines_of, row_in}
-use Rattle.block_workers.specs.BlockLinks.{IsUnder, LinkedBlock, LinkedBlockOf, LinkedDone}
-use Rattle.block_workers.specs.BlockRuns.{RanBlock, RanBlocks}
-use Rattle.block_workers.proofs.BlockPlaces.{block_tried, ran_block_after}
-use Rattle.block_workers.proofs.Done.{ran_no_block, ran_one_more}
+use Rattle.script_workers.specs.Tries.{IsUnder}
+use Rattle.script_workers.proofs.Tries.{done_behind, gave_up, under_still, follows_earlier}
+use Rattle.block_workers.specs.BlockLines.{DoneBlock, done_of, lines_of, row_in}
+use Rattle.block_workers.specs.BlockLinks.{LinkedBlock, LinkedDone}
+use Rattle.block_workers.specs.BlockRuns.{BlockPlaceOf, BlocksOf, RanBlocks}
+use Rattle.block_workers.specs.Workers.{most_in_blocks}
+use Rattle.block_workers.proofs.BlockPlaces.{linked_ran, block_later, block_seen}
 
--- The block of a link has its place.
-pub linked_ran : (k : Causes) (s t : Seat) (block : List Command) (place : Place) (answers : List Reply) → LinkedBlock k s t block place answers
-    → RanBlock s t block place answers
-linked_ran k s t block place answers l =
-    ran_block_after s l.from t block place answers l.none (block_tried k l.from t block (Done answers place) l.mine l.attempted)
+-- What an attempt leaves under a block that was begun: its link,
+pub under_done : (k : Causes) (s t u : Seat) (block : List Command) (a : BlockAttempt) (place : Place) (answers : List Reply) → a ≡ Done answers place
+    → 1 ≤ length block → IsUnder most_in_blocks s t → IsSeat IsOpening IsBlockCommit u → BlockAttempted k t u block a
+    → LinkedBlock k s u block place answers × (most_in_blocks ≤ u.write_max)
+under_done k s t u block a place answers is some h lawful left =
+    let l : LinkedBlock k s u block place answers = (
+      some,
+      done_behind (λ old new. BlockAttempted k old new block) (IsSeat IsOpening IsBlockCommit) s t u a (Done answers place) is h.none lawful left,
+    ) in (l, omega (arith, h.may, h.none.continues.write_max, (linked_ran k s u block place answers l).continues.write_max))
 
--- A chain behind a run makes it longer.
-ran_on : (k : Causes) (s t u : Seat) (blocks : List (List Command)) (lines : List Line) (more : List (List Command)) (ds : List (Answer (Place × List Reply)))
-    → RanBlocks s t blocks lines → Chain (answered (LinkedDone k)) t u more ds → HaveNumbers length s.number (1 + sum_by length blocks) more ds
-    → RanBlocks s u (blocks ++ more) (lines ++ row_in ds)
-ran_on k s t u blocks lines [] [] ran c n =
-    subst (λ (x : Seat). RanBlocks s x (blocks ++ []) (lines ++ [])) (sym c) (rw (append-nil blocks, append-nil lines) ran)
-ran_on k s t u blocks lines [] (d ∷ ds) ran c n = absurd c
-ran_on k s t u blocks lines (i ∷ more) [] ran c n = absurd c
-ran_on k s t u blocks lines (i ∷ more) (d ∷ ds) ran c n =
-    let own : List Line = lines_of (done_of d) in
-    let one : RanBlocks s c.0 (blocks ++ i ∷ []) (lines ++ own) =
-    ran_one_more s t c.0 blocks lines i d.seat d.number d.done.0 d.done.1 c.1.some ran (linked_ran k t c.0 i d.done.0 d.done.1 c.1) n.0 n.1 in
-    let count : 1 + sum_by length blocks + length i ≡ 1 + sum_by length (blocks ++ i ∷ []) =
-    omega (arith, sum_by-append length blocks (i ∷ []), sum_by-cons length i []) in
-    let rest = ran_on k s c.0 u (blocks ++ i ∷ []) (lines ++ own) more ds one c.2 (subst (λ (m : ℕ). HaveNumbers length s.number m more ds) count n.2) in
-    subst (λ (ls : List Line). RanBlocks s u (blocks ++ i ∷ more) ls) (append_assoc lines own (row_in ds))
-    (subst (λ (cs : List (List Command)). RanBlocks s u cs ((lines ++ own) ++ row_in ds)) (append_assoc blocks (i ∷ []) more) rest)
+-- or that it is still under it
+pub under_again : (k : Causes) (s t u : Seat) (block : List Command) (a : BlockAttempt) (cause : Cause) → a ≡ Again cause → IsUnder most_in_blocks s t
+    → BlockAttempted k t u block a → IsUnder most_in_blocks s u
+under_again k s t u block a cause is h left =
+    let g = subst (λ (b : BlockAttempt). BlockAttempted k t u block b) is left in
+    under_still most_in_blocks s t u h (gave_up k t u g.prepared g.entered g.mine g.prepares g.enters)
 
--- So a chain is a run.
-pub chain_ran : (k : Causes) (s u : Seat) (blocks : List (List Command)) (ds : List (Answer (Place × List Reply)))
-    → DidAll (λ (t : Seat). t) (LinkedDone k) length s u blocks ds → RanBlocks s u blocks (row_in ds)
-chain_ran k s u blocks ds did = ran_on k s s u [] [] blocks ds (ran_no_block s) did.chain did.numbers
+-- From a seat on these blocks were done, the first of this number and following this time.
+record RanFrom (s t : Seat) (number before : ℕ) (blocks : List (List Command)) (done : List DoneBlock) : Type 0 where
+  pub continues : Continues s t
+  pub commits : List Commit
+  pub mine : t.mine ≡ s.mine ++ commits
+  pub each : BlocksOf (past_of t) t.number number before blocks done commits
 
--- The chain of the answers is that of what became of the blocks.
-pub chain_done : (k : Causes) (s u : Seat) (blocks : List (List Command)) (ds : List (Answer (Place × List Reply)))
-    → Chain (answered (LinkedDone k)) s u blocks ds → Chain (LinkedBlockOf k) s u blocks (map done_of ds)
-chain_done k s u [] [] c = c
-chain_done k s u [] (d ∷ ds) c = absurd c
-chain_done k s u (i ∷ blocks) [] c = absurd c
-chain_done k s u (i ∷ blocks) (d ∷ ds) c = (c.0, c.1, chain_done k c.0 u blocks ds c.2)
+ran_from : (k : Causes) (s u : Seat) (number before : ℕ) (blocks : List (List Command)) (ds : List (Answer (Place × List Reply)))
+    → before ≤ s.base + length s.seen → Chain (answered (LinkedDone k)) s u blocks ds → HaveNumbers length s.number number blocks ds
+    → RanFrom s u number before blocks (map done_of ds)
+ran_from k s u number before [] [] le c n = record {
+  continues = subst (Continues s) (sym c) (Continues-itself s);
+  commits = [];
+  mine = ap (λ (t : Seat). t.mine) c ∙ sym (append-nil s.mine);
+  each = refl;
+}
+ran_from k s u number before [] (d ∷ ds) le c n = absurd c
+ran_from k s u number before (i ∷ blocks) [] le c n = absurd c
+ran_from k s u number before (i ∷ blocks) (d ∷ ds) le c n =
+    let t : Seat = c.0 in
+    let place : Place = d.done.0 in
+    let ran = linked_ran k s t i place d.done.1 c.1 in
+    let same : t.number ≡ s.number = ran.continues.number in
+    let rest = ran_from k t u (number + length i) (time_of place) blocks ds (block_seen t t.number i place d.done.1 ran.commits ran.placed) c.2
+    (subst (λ (m : ℕ). HaveNumbers length m (number + length i) blocks ds) (sym same) n.2) in
+    record {
+      continues = Continues-Continues ran.continues rest.continues;
+      commits = ran.commits ++ rest.commits;
+      mine = rest.mine ∙ ap (λ cs. cs ++ rest.commits) ran.mine ∙ append_assoc s.mine ran.commits rest.commits;
+      each = (
+        ran.commits,
+        rest.commits,
+        refl,
+        record {
+          some = c.1.0;
+          by = n.0 ∙ sym (rest.continues.number ∙ same);
+          numbered = n.1;
+          follows = follows_earlier before (s.base + length s.seen) place le ran.follows;
+          place = subst (λ (m : ℕ). BlockPlaceOf (past_of u) m i place d.done.1 ran.commits) (sym rest.continues.number)
+              (block_later t u t.number i place d.done.1 ran.commits rest.continues ran.placed);
+        },
+        rest.each,
+      );
+    }
 
 -- The lines of the answers are those of what became of the blocks.
 pub done_lines : (ds : List (Answer (Place × List Reply))) → row_in ds ≡ flat_map lines_of (map done_of ds)
 done_lines [] = refl
 done_lines (d ∷ ds) = ap (λ ls. lines_of (done_of d) ++ ls) (done_lines ds)
 
--- What an attempt leaves, under a block that was begun.
-pub under_done : (k : Causes) (s t u : Seat) (block : List Command) (a : BlockAttempt) (answers : List Reply) (place : Place) → a ≡ Done answers place
-    → 1 ≤ length block → IsUnder s t → u.mine ≡ commits_of u.number u.seen → BlockAttempted k t u block a → LinkedBlock k s u block place answers
-under_done k s t u block a answers place e some h mine r =
-    record { some = some; from = t; none = h.none; attempted = subst (λ (x : BlockAttempt). BlockAttempted k t u block x) e r; mine = mine }
-
-pub under_again : (k : Causes) (s t u : Seat) (block : List Command) (a : BlockAttempt) (cause : Cause) → a ≡ Again cause → IsUnder s t
-    → u.mine ≡ commits_of u.number u.seen → BlockAttempted k t u block a → IsUnder s u
-under_again k s t u block a cause e h mine r =
-    let none : CommitsNone t u = block_tried k t u block (Again cause) mine (subst (λ (x : BlockAttempt). BlockAttempted k t u block x) e r) in
-    record { none = none_still s t u h.none none; most = omega (arith, h.most, none.continues.write_max) }
+-- So a chain is a run.
+pub chain_ran : (k : Causes) (s u : Seat) (blocks : List (List Command)) (ds : List (Answer (Place × List Reply)))
+    → DidAll (λ (t : Seat). t) (LinkedDone k) length s u blocks ds → RanBlocks s u blocks (row_in ds)
+chain_ran k s u blocks ds did =
+    let ran = ran_from k s u 1 (s.base + length s.seen) blocks ds (omega arith) did.chain did.numbers in
+    record { continues = ran.continues; commits = ran.commits; mine = ran.mine; done = map done_of ds; lines_are = done_lines ds; each = ran.each }

@@ -1,4 +1,4 @@
 pub mod BlockPlaces
-pub mod Done
 pub mod BlockChains
+pub mod BlockRows
 pub mod AllBlocks

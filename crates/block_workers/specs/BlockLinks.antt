@@ -1,33 +1,25 @@
 -- How a block was done from one seat to another.
 use Rattle.std.specs.Prelude.{◌≡◌, ◌≤◌, List, [], ◌∷◌, ◌++◌, length}
 use Rattle.std.specs.List.{flat_map}
-use Rattle.mv_history.specs.State.{commits_of}
-use Rattle.mv_history.specs.Meaning.{Seat}
+use Rattle.mv_history.specs.Meaning.{Seat, IsSeat}
 use Rattle.section_work.specs.Causes.{Causes}
 use Rattle.section_work.specs.declared.place.Place.{Place}
 use Rattle.set_script.specs.declared.commands.Command.{Command}
 use Rattle.set_script.specs.declared.commands.Reply.{Reply}
 use Rattle.set_blocks.specs.declared.attempt.BlockAttempt.TheVariants.{Done}
+use Rattle.set_script.specs.Lawful.{IsOpening}
 use Rattle.set_blocks.specs.BlockAttempts.{BlockAttempted}
+use Rattle.set_blocks.specs.BlockRules.{IsBlockCommit}
 use Rattle.run_report.specs.declared.line.Line.{Line}
 use Rattle.item_workers.specs.Chains.{Chain}
-use Rattle.script_workers.specs.Commands.{CommitsNone}
+use Rattle.script_workers.specs.Tries.{DoneBehind}
 use Rattle.block_workers.specs.BlockLines.{DoneBlock, lines_of}
-use Rattle.block_workers.specs.Workers.{most_in_blocks}
 
--- no commit was made since the seat at which the block was begun
-pub record IsUnder (s t : Seat) : Type 0 where
-  pub none : CommitsNone s t
-  pub most : most_in_blocks ≤ t.write_max
-
--- After attempts that made no commit there was one, all of which is from `from` to the new seat, and it was done: by a commit later than all
--- that was seen, or at the time of a section that this very attempt entered, whose snapshot holds all that the seat had seen.
-pub record LinkedBlock (k : Causes) (s t : Seat) (block : List Command) (place : Place) (answers : List Reply) : Type 0 where
-  pub some : 1 ≤ length block
-  pub from : Seat
-  pub none : CommitsNone s from
-  pub attempted : BlockAttempted k from t block (Done answers place)
-  pub mine : t.mine ≡ commits_of t.number t.seen
+-- Behind attempts that made no commit there was one of this block that was done: by a commit later than all that was seen, or at the time of
+-- a section that this very attempt entered, whose snapshot holds all that the seat had seen.
+abbrev pub LinkedBlock : Causes → Seat → Seat → List Command → Place → List Reply → Type 0
+LinkedBlock k s t block place answers =
+    (1 ≤ length block) × DoneBehind (λ old new. BlockAttempted k old new block (Done answers place)) (IsSeat IsOpening IsBlockCommit) s t
 
 -- the same, of the place and the replies together
 abbrev pub LinkedDone : Causes → Seat → Seat → List Command → Place × List Reply → Type 0

@@ -14,13 +14,11 @@ use Rattle.section_work.specs.declared.place.Place.TheVariants.{Commit as AtComm
 use Rattle.set_script.specs.declared.commands.Reply.{Reply}
 use Rattle.set_blocks.specs.BlockReplies.{block_replies, block_changes, block_next}
 use Rattle.set_blocks.specs.BlockRules.{block_tag}
-use Rattle.set_blocks.specs.declared.attempt.BlockAttempt.{BlockAttempt}
-use Rattle.set_blocks.specs.declared.attempt.BlockAttempt.TheVariants.{Done, Again}
 use Rattle.run_report.specs.declared.line.Line.{Line}
 use Rattle.run_report.specs.Order.{time_of}
 use Rattle.run_report.specs.Legal.{Follows}
 use Rattle.run_report.specs.Worked.{Past, past_of, state_of_time}
-use Rattle.script_workers.specs.Commands.{CommitsNone}
+use Rattle.script_workers.specs.Commands.{RanTo}
 use Rattle.block_workers.specs.BlockLines.{DoneBlock, lines_of}
 
 -- The commit is the entry of this printed time, by this seat and with the tag of a block of so many commands. In the state just
@@ -63,19 +61,9 @@ BlocksOf p seat number before (block ∷ blocks) (d ∷ done) commits =
     (first : List Commit) × (others : List Commit) × (commits ≡ first ++ others) × DoneBlockOf p seat number before block d first
     × BlocksOf p seat (number + length block) (time_of d.place) blocks done others
 
--- The block has this place and these replies in the history that the seat has seen; the place follows all that it had seen before, and
--- the seat's commits grew by exactly those of the block.
-pub record RanBlock (old new : Seat) (block : List Command) (place : Place) (answers : List Reply) : Type 0 where
-  pub continues : Continues old new
-  pub commits : List Commit
-  pub mine : new.mine ≡ old.mine ++ commits
-  pub follows : Follows (old.base + length old.seen) place
-  pub placed : BlockPlaceOf (past_of new) new.number block place answers commits
-
--- what an attempt leaves: the block is done, or no commit was made
-abbrev pub BlockTried : Seat → Seat → List Command → BlockAttempt → Type 0
-BlockTried old new block (Done answers place) = RanBlock old new block place answers
-BlockTried old new block (Again cause) = CommitsNone old new
+-- the block took place there, with these replies
+abbrev pub RanBlock : Seat → Seat → List Command → Place → List Reply → Type 0
+RanBlock old new block place answers = RanTo (λ p seat commits. BlockPlaceOf p seat block place answers commits) old new place
 
 -- A seat ran a script of blocks: its lines are those of the blocks, and its commits grew by exactly those of the blocks, in order.
 pub record RanBlocks (old new : Seat) (script : List (List Command)) (lines : List Line) : Type 0 where

@@ -14,8 +14,8 @@ impl<S: Store<Rules = BlockRules>> Runner for Blocks<S> {
     ghost use Rattle.std.specs.Prelude.{⊤, ◌≤◌, length};
     ghost use Rattle.mv_history.specs.Meaning.{Seat};
     ghost use Rattle.section_work.specs.Causes.{causes};
-    ghost use Rattle.block_workers.specs.BlockLinks.{LinkedDone, IsUnder};
-    ghost use Rattle.block_workers.specs.BlockLinkLaws.{none_begun};
+    ghost use Rattle.script_workers.specs.Tries.{IsUnder, none_begun};
+    ghost use Rattle.block_workers.specs.BlockLinks.{LinkedDone};
     ghost use Rattle.block_workers.specs.Workers.{most_in_blocks};
 
     type Item = Block;
@@ -44,7 +44,7 @@ impl<S: Store<Rules = BlockRules>> Runner for Blocks<S> {
 
     ghost width_of = { λ block. length block };
 
-    ghost under = { λ s block w. IsUnder s (S.seat_of w.store) };
+    ghost under = { λ s block w. IsUnder most_in_blocks s (S.seat_of w.store) };
 
     ghost link = { LinkedDone (causes S.Open.may_refuse S.Open.has_trail S.took S.holds_back S.Open.found_held S.Open.loaded) };
 
@@ -83,5 +83,5 @@ impl<S: Store<Rules = BlockRules>> Runner for Blocks<S> {
         }
     }
 
-    ghost begins = { λ w block ready does. none_begun (S.seat_of w.store) ready };
+    ghost begins = { λ w block ready does. none_begun most_in_blocks (S.seat_of w.store) ready };
 }

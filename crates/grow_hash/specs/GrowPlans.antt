@@ -1,6 +1,6 @@
 -- What a command on a growing hash set locks and writes in a state.
-use Rattle.std.specs.Prelude.{ℕ, ◌≡◌, ◌^◌, ◌<◌, ◌≤◌, true, length}
-use Rattle.mv_history.specs.State.{State, Writes, touches}
+use Rattle.std.specs.Prelude.{ℕ, ◌≡◌, ◌^◌, ◌<◌, ◌≤◌, length}
+use Rattle.mv_history.specs.State.{State, Writes}
 use Rattle.set_script.specs.declared.commands.Command.{Command}
 use Rattle.set_script.specs.declared.commands.Command.TheVariants.{Add, Put, Del, Has, Get, Move, Pair, Size, Next}
 use Rattle.set_script.specs.Objects.{owner}
@@ -40,10 +40,6 @@ GrowPlan command s ws = ⊥
 -- how many objects an add or a del locks
 abbrev pub grow_locks : ℕ
 grow_locks = 2
-
--- The object is one of those that the command locks.
-abbrev pub GrowLocks : Command → State → ℕ → Type 0
-GrowLocks command s o = (ws : Writes) × GrowPlan command s ws × (touches ws o ≡ true)
 
 -- the command is one of a growing hash set, and its key fits its type
 abbrev pub IsGrowing : Command → Type 0

@@ -14,3 +14,4 @@ pub mod BucketReads
 pub mod SplitCalls
 pub mod SplitSteps
 pub mod SplitMeaning
+pub mod SplitAttempts

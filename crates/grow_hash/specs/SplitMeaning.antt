@@ -1,9 +1,10 @@
 -- What the split of a bucket means, as a work.
 use Rattle.std.specs.Prelude.{ℕ, ◌≡◌, true, Bool, List, ⊤}
 use Rattle.mv_history.specs.State.{State, Writes}
-use Rattle.section_work.specs.declared.place.Place.{Place}
 use Rattle.section_work.specs.declared.place.Place.TheVariants.{Commit as AtCommit, Read}
 use Rattle.section_work.specs.Works.{Meaning}
+use Rattle.section_work.specs.declared.attempting.Attempt.{Attempt}
+use Rattle.section_work.specs.declared.attempting.Attempt.TheVariants.{Done as WorkDone, Again as WorkAgain}
 use Rattle.grow_hash.specs.Tables.{split_place}
 use Rattle.grow_hash.specs.GrowRules.{split_tag}
 use Rattle.grow_hash.specs.SplitPlans.{SplitPlan}
@@ -12,7 +13,7 @@ use Rattle.grow_hash.specs.SplitSteps.{IsClosed}
 use Rattle.grow_hash.specs.declared.split_work.Looked.{Looked}
 use Rattle.grow_hash.specs.declared.split_work.Looked.TheVariants.{Splits, Whole, Long, Worn}
 use Rattle.grow_hash.specs.declared.answer.Split.{Split}
-use Rattle.grow_hash.specs.declared.answer.Split.TheVariants.{Done, Whole as AllSplit, Long as TooLong, Worn as TooLate}
+use Rattle.grow_hash.specs.declared.answer.Split.TheVariants.{Done, Whole as AllSplit, Long as TooLong, Worn as TooLate, Again}
 
 -- what is planned for it: the split, with its tag
 pub record PlansSplit (s : State) (tag : List ℕ) (ws : Writes) : Type 0 where
@@ -36,10 +37,11 @@ split_meaning = record {
   makes = λ before after looked. ⊤;
 }
 
--- what is answered of a look at its place
-abbrev pub split_of : Looked → Place → Split
-split_of looked (AtCommit time) = Done time
-split_of Splits (Read time) = TooLate
-split_of Whole (Read time) = AllSplit
-split_of (Long keys) (Read time) = TooLong keys
-split_of Worn (Read time) = TooLate
+-- what is answered of an attempt of it
+abbrev pub split_of : Attempt Looked → Split
+split_of (WorkDone looked (AtCommit time)) = Done time
+split_of (WorkDone Splits (Read time)) = TooLate
+split_of (WorkDone Whole (Read time)) = AllSplit
+split_of (WorkDone (Long keys) (Read time)) = TooLong keys
+split_of (WorkDone Worn (Read time)) = TooLate
+split_of (WorkAgain cause) = Again cause

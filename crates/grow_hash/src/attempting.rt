@@ -3,21 +3,23 @@ ghost use Rattle.std.specs.Prelude.{◌≡◌, ◌≤◌};
 ghost use Rattle.mv_history.specs.Calls.{Continues};
 ghost use Rattle.section_work.specs.Sections.{TriesOne};
 ghost use Rattle.section_work.specs.Causes.{causes};
+ghost use Rattle.section_work.specs.Steps.{IsStepped};
 ghost use Rattle.grow_hash.specs.GrowPlans.{IsOfGrown, grow_locks};
-ghost use Rattle.grow_hash.specs.GrowAttempts.{GrowAttempted};
+ghost use Rattle.grow_hash.specs.GrowAttempts.{GrowAttempted, as_work};
 
 use crate::attempt::GrowStep;
 use crate::grow_work::GrowWork;
 use crate::rules::GrowRules;
 use mv_history::Store;
 use section_work::{Attempt, attempt_work};
-use set_script::Command;
+use set_script::{Command, Reply};
 
 /// Attempts a command of a growing hash set in one section of the store, and gives the store back.
 ///
 /// It needs an add, a del, a has, a size or a next of `h0`, and a `write_max` of at least 2. It never waits or tries again
 /// by itself, and takes no memory. It walks along the bucket of the key once; a `next` searches each bucket, a `size` reads
-/// each object at most once, and an add looks for a vacant node. At the last time it answers by a second look.
+/// each object at most once, and an add looks for a vacant node. It enters one section, and a second one only where its
+/// commit found no time left; a command that changes nothing locks nothing.
 ///
 /// - `Done` at a `Place::Commit`: the command changed the set, by one commit of that printed time, and the reply is that of
 ///   the set just before it.
@@ -36,14 +38,24 @@ pub fn attempt_grow<S: Store<Rules = GrowRules>>(store: S, command: &Command) ->
     requires most { grow_locks ≤ (S.seat_of store).write_max }
     ensures attempted { let shows = causes S.Open.may_refuse S.Open.has_trail S.took S.holds_back S.Open.found_held S.Open.loaded in
         GrowAttempted shows (S.seat_of store) (S.seat_of result.0) command.now result.1 }
+    ensures steps { let shows = causes S.Open.may_refuse S.Open.has_trail S.took S.holds_back S.Open.found_held S.Open.loaded in
+        IsStepped S.Open.section S.Open.as_before shows (S.seat_of store) (S.seat_of result.0) (as_work result.1) }
     ensures continues { Continues (S.seat_of store) (S.seat_of result.0) }
     ensures at_most_one { TriesOne (S.seat_of store) (S.seat_of result.0) }
 {
     let work = GrowWork { command: *command };
     let mut nothing = ();
     let (store, attempt) = attempt_work(store, &work, &mut nothing);
+    let step = step_of(attempt);
+    (store, step)
+}
+
+// The answer of the command's work.
+fn step_of(attempt: Attempt<Reply>) -> GrowStep
+    ensures { as_work result ≡ attempt }
+{
     match attempt {
-        Attempt::Done { reply, place } => (store, GrowStep::Done { reply, place }),
-        Attempt::Again(cause) => (store, GrowStep::Again(cause)),
+        Attempt::Done { reply, place } => GrowStep::Done { reply, place },
+        Attempt::Again(cause) => GrowStep::Again(cause),
     }
 }

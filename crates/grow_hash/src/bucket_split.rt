@@ -3,8 +3,9 @@ ghost use Rattle.std.specs.Prelude.{◌≡◌, ◌≤◌};
 ghost use Rattle.mv_history.specs.Calls.{Continues};
 ghost use Rattle.section_work.specs.Sections.{TriesOne};
 ghost use Rattle.section_work.specs.Causes.{causes};
-ghost use Rattle.grow_hash.specs.SplitCalls.{most_writes, SplitTried};
+ghost use Rattle.grow_hash.specs.SplitCalls.{most_writes};
 ghost use Rattle.grow_hash.specs.SplitMeaning.{split_of};
+ghost use Rattle.grow_hash.specs.SplitAttempts.{SplitTried, SplitStepped};
 
 use crate::answer::Split;
 use crate::rules::GrowRules;
@@ -16,6 +17,7 @@ use section_work::{Attempt, Place, attempt_work};
 ///
 /// It needs a `write_max` of at least 64: a split locks and writes the table, the heads of both halves and each node of the
 /// bucket. It reads the bucket once, into an array on the stack, and takes no memory. It never waits or tries again by itself.
+/// It enters one section, and a second one only where its commit found no time left.
 ///
 /// Its tests are on the state of a section that this call entered, which began with all that the seat had seen, in this order.
 ///
@@ -35,30 +37,30 @@ pub fn try_split<S: Store<Rules = GrowRules>>(store: S) -> (S, Split)
     requires most { most_writes ≤ (S.seat_of store).write_max }
     ensures tried { let shows = causes S.Open.may_refuse S.Open.has_trail S.took S.holds_back S.Open.found_held S.Open.loaded in
         SplitTried shows (S.seat_of store) (S.seat_of result.0) result.1 }
+    ensures steps { let shows = causes S.Open.may_refuse S.Open.has_trail S.took S.holds_back S.Open.found_held S.Open.loaded in
+        SplitStepped S.Open.section S.Open.as_before shows (S.seat_of store) (S.seat_of result.0) result.1 }
     ensures continues { Continues (S.seat_of store) (S.seat_of result.0) }
     ensures at_most_one { TriesOne (S.seat_of store) (S.seat_of result.0) }
 {
     let mut nothing = ();
     let (store, attempt) = attempt_work(store, &SplitWork, &mut nothing);
-    match attempt {
-        Attempt::Done { reply, place } => {
-            let split = answer(reply, place);
-            (store, split)
-        }
-        Attempt::Again(cause) => (store, Split::Again(cause)),
-    }
+    let split = answer(attempt);
+    (store, split)
 }
 
-// What a look answers at its place.
-fn answer(reply: Looked, place: Place) -> Split
-    ensures { result ≡ split_of reply place }
+// The answer of the split's work.
+fn answer(attempt: Attempt<Looked>) -> Split
+    ensures { result ≡ split_of attempt }
 {
-    match place {
-        Place::Commit(time) => Split::Done { time },
-        Place::Read(_) => match reply {
-            Looked::Whole => Split::Whole,
-            Looked::Long { keys } => Split::Long { keys },
-            Looked::Splits | Looked::Worn => Split::Worn,
+    match attempt {
+        Attempt::Done { reply, place } => match place {
+            Place::Commit(time) => Split::Done { time },
+            Place::Read(_) => match reply {
+                Looked::Whole => Split::Whole,
+                Looked::Long { keys } => Split::Long { keys },
+                Looked::Splits | Looked::Worn => Split::Worn,
+            },
         },
+        Attempt::Again(cause) => Split::Again(cause),
     }
 }

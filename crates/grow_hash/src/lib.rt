@@ -21,7 +21,8 @@
 //!
 //! # The contract
 //!
-//! `attempt_grow` is one command as one section of any store (`specs/GrowAttempts.antt`), by its answer:
+//! `attempt_grow` is one command as one section of any store: what it leaves as a work of `section_work`
+//! (`specs/GrowAttempts.antt`), whose meaning is that of `specs/GrowMeaning.antt`. By its answer:
 //!
 //! - `Done` at `Commit(t)`: the entry of time t is the seat's last commit, with the command's tag. It
 //!   writes exactly what the command locks in its snapshot, and the reply and the change are those of the
@@ -38,7 +39,7 @@
 //! whole history is allowed.
 //!
 //! `try_split` is the split of the bucket at the split place as one section of any store
-//! (`specs/SplitCalls.antt`). It reads the bucket once, along its list, into an array on the stack, and
+//! (`specs/SplitAttempts.antt`). It reads the bucket once, along its list, into an array on the stack, and
 //! plans from that what each object gets: the table its next words, and both heads and each node the
 //! first or next node of its own half (`specs/SplitPlans.antt`). Each node of the bucket is written, also
 //! where its link stays, so the split meets each add and del there. By its answer:
@@ -49,6 +50,9 @@
 //!   or else this one has too many keys, or else it is the last time.
 //! - `Again`: none of these three holds there. The cause is as that of `attempt_grow`, of the table, one of
 //!   the heads or a node of the bucket.
+//!
+//! Both say which calls of the store they make, one after another (`steps`): they enter one section, and a second
+//! one only where the commit found no time left; what changes nothing locks nothing.
 //!
 //! `table_of` answers the level and the split place, and `read_grown` the whole catalogue. The searches of
 //! the set stand on those of `list_set` over any head, one bucket at a time. No call but `read_grown`

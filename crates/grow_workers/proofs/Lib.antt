@@ -1,3 +1,5 @@
 pub mod Places
+pub mod Fresh
+pub mod Attempts
 pub mod Turns
-pub mod Workers
+pub mod Chains

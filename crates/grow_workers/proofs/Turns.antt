@@ -1,11 +1,9 @@
--- The turns of a script, as one more command is done.
-use Rattle.std.proofs.Common.{◌≡◌, ℕ, suc, ◌+◌, ◌-◌, ◌≤◌, ◌&&◌, Bool, true, false, List, [], ◌∷◌, ◌++◌, Option}
-use Rattle.std.proofs.Common.{Some, None, length, map, drop}
-use Rattle.std.proofs.Common.{refl, sym, ap, ◌∙◌, subst, arith, append_assoc}
-use Rattle.std.proofs.lemmas.List.{append-nil, map-append, take-append-drop, length-map}
+-- A chain of commands with their splits is a run.
+use Rattle.std.proofs.Common.{◌≡◌, ℕ, suc, ◌+◌, ◌-◌, ◌≤◌, ◌&&◌, Bool, true, false, List, [], ◌∷◌, ◌++◌, Option, Some, None}
+use Rattle.std.proofs.Common.{length, map, drop, refl, sym, ap, ◌∙◌, subst, arith, append_assoc}
+use Rattle.std.proofs.lemmas.List.{append-nil}
 use Rattle.std.proofs.lemmas.Option.{slice_get_within}
 use Rattle.mv_history.specs.declared.history.Commit.{Commit}
-use Rattle.mv_history.specs.declared.history.Entry.{Entry}
 use Rattle.mv_history.specs.declared.history.Entry.TheVariants.{Change}
 use Rattle.mv_history.specs.Meaning.{Seat}
 use Rattle.mv_history.specs.Calls.{Continues}
@@ -14,63 +12,21 @@ use Rattle.mv_history.proofs.Steps.{Continues-Continues}
 use Rattle.set_script.specs.declared.commands.Command.{Command}
 use Rattle.section_work.specs.declared.place.Place.{Place}
 use Rattle.section_work.specs.declared.place.Place.TheVariants.{Commit as AtCommit, Read}
+use Rattle.section_work.specs.Causes.{Causes}
 use Rattle.set_script.specs.declared.commands.Reply.{Reply}
 use Rattle.run_report.specs.declared.line.Line.{Line}
-use Rattle.run_report.specs.Legal.{Follows}
 use Rattle.run_report.specs.Order.{time_of}
 use Rattle.run_report.specs.Worked.{Past, past_of}
-use Rattle.run_report.proofs.history.Grown.{longer}
-use Rattle.script_workers.proofs.Places.{follows_earlier, seen_grows}
-use Rattle.grow_report.specs.Turns.{
-  GrowPlaceOf,
-  GrowLineOf,
-  SplitIf,
-  Turn,
-  TurnsOf,
-  RanGrow,
-  line_of,
-  first_place,
-  is_added,
-  odd_with,
-}
+use Rattle.item_workers.specs.declared.runner.Answer.{Answer}
+use Rattle.item_workers.specs.Chains.{Chain, HaveNumbers, answered}
+use Rattle.script_workers.specs.Lines.{line_of}
+use Rattle.script_workers.proofs.Places.{past_later}
+use Rattle.script_workers.proofs.Tries.{follows_earlier, seen_grows}
+use Rattle.grow_report.specs.Turns.{GrowPlaceOf, SplitIf, Turn, TurnsOf, RanGrow, IsAhead, first_place, is_added, odd_with}
+use Rattle.grow_report.specs.Turns as reported
 use Rattle.grow_report.proofs.Known.{place_longer, due_longer}
-use Rattle.grow_workers.specs.Commands.{RanAt, SplitIfDue}
-
--- the time of the last turn's line, or else this one
-abbrev pub last_time : ℕ → List Turn → ℕ
-last_time before [] = before
-last_time before (turn ∷ turns) = last_time (time_of turn.line.place) turns
-
--- whether the adds that replied yes are an odd number after these lines
-abbrev pub odd_after : Bool → List Command → List Line → Bool
-odd_after odd [] lines = odd
-odd_after odd (command ∷ commands) [] = odd
-odd_after odd (command ∷ commands) (line ∷ lines) = odd_after (odd_with odd (is_added command line.reply)) commands lines
-
--- with one line more
-pub odd_more : (odd : Bool) (commands : List Command) (lines : List Line) (command : Command) (line : Line) → length lines ≡ length commands
-    → odd_after odd (commands ++ command ∷ []) (lines ++ line ∷ []) ≡ odd_with (odd_after odd commands lines) (is_added command line.reply)
-odd_more odd [] [] command line same = refl
-odd_more odd [] (l ∷ lines) command line same = absurd (omega (arith, same))
-odd_more odd (c ∷ commands) [] command line same = absurd (omega (arith, same))
-odd_more odd (c ∷ commands) (l ∷ lines) command line same =
-    odd_more (odd_with odd (is_added c l.reply)) commands lines command line (omega (arith, same))
-
--- there is a turn for each command
-turns_length : (p : Past) (seat number before : ℕ) (odd : Bool) (commands : List Command) (turns : List Turn) (commits : List Commit)
-    → TurnsOf p seat number before odd commands turns commits → length turns ≡ length commands
-turns_length p seat number before odd [] [] commits h = refl
-turns_length p seat number before odd [] (turn ∷ turns) commits h = absurd h
-turns_length p seat number before odd (command ∷ commands) [] commits h = absurd h
-turns_length p seat number before odd (command ∷ commands) (turn ∷ turns) commits h =
-    let others = turns_length p seat (suc number) (time_of turn.line.place) (odd_with odd (is_added command turn.line.reply)) commands turns h.2 h.6 in
-    omega (arith, others)
-
--- as many lines as commands
-pub ran_count : (s t : Seat) (commands : List Command) (lines : List Line) → RanGrow s t commands lines → length lines ≡ length commands
-ran_count s t commands lines ran =
-    ap length ran.lines_are ∙ length-map ran.turns line_of
-    ∙ turns_length (past_of t) t.number 1 (s.base + length s.seen) false commands ran.turns ran.commits ran.each
+use Rattle.grow_workers.specs.Links.{GrowKept, kept, LinkedDone}
+use Rattle.grow_workers.proofs.Places.{command_ran, behind}
 
 module _ (p : Past) where
   -- the time of a place is one of the history
@@ -80,157 +36,98 @@ module _ (p : Past) where
       let within = slice_get_within p.entries (time - (p.base + 1)) (Change h.0) h.2.there in omega (arith, within, h.2.later)
   place_seen seat command (Read time) answer commits h = h.1.seen
 
-  last_seen : (seat number before : ℕ) (odd : Bool) (commands : List Command) (turns : List Turn) (commits : List Commit)
-      → before ≤ p.base + length p.entries → TurnsOf p seat number before odd commands turns commits
-      → last_time before turns ≤ p.base + length p.entries
-  last_seen seat number before odd [] [] commits le h = le
-  last_seen seat number before odd [] (turn ∷ turns) commits le h = absurd h
-  last_seen seat number before odd (command ∷ commands) [] commits le h = absurd h
-  last_seen seat number before odd (command ∷ commands) (turn ∷ turns) commits le h =
-      last_seen seat (suc number) (time_of turn.line.place) (odd_with odd (is_added command turn.line.reply)) commands turns h.2
-      (place_seen seat command turn.line.place turn.line.reply h.0 h.4.place) h.6
-
-  -- a split that is due behind the last line is ahead of one that follows all of the history
-  due_ahead : (due : Bool) (seat from : ℕ) (place : Place) (split : Option ℕ) (commits : List Commit) → Follows (p.base + length p.entries) place
-      → SplitIf due p seat from None split commits → SplitIf due p seat from (Some place) split commits
-  due_ahead false seat from place split commits follows h = h
-  due_ahead true seat from place (Some time) commits follows h =
+  -- a split that is due is ahead of what follows all of the history
+  due_ahead : (due : Bool) (seat from : ℕ) (next : Option Place) (split : Option ℕ) (commits : List Commit)
+      → ((time : ℕ) → time ≤ p.base + length p.entries → IsAhead next time) → SplitIf due p seat from None split commits
+      → SplitIf due p seat from next split commits
+  due_ahead false seat from next split commits follows h = h
+  due_ahead true seat from next (Some time) commits follows h =
       let within = slice_get_within p.entries (time - (p.base + 1)) (Change h.0) h.4.there in
-      (h.0, h.1, h.2, follows_earlier time (p.base + length p.entries) place (omega (arith, within, h.4.later)) follows, h.4)
-  due_ahead true seat from place None commits follows h =
-      (h.0, h.1, h.2, h.3, follows_earlier h.1 (p.base + length p.entries) place h.3 follows, h.5)
+      (h.0, h.1, h.2, follows time (omega (arith, within, h.4.later)), h.4)
+  due_ahead true seat from next None commits follows h = (h.0, h.1, h.2, h.3, follows h.1 h.3, h.5)
 
-  -- so is each, with one more turn behind
-  due_next : (due : Bool) (seat from : ℕ) (turns : List Turn) (turn : Turn) (split : Option ℕ) (commits : List Commit)
-      → Follows (p.base + length p.entries) turn.line.place → SplitIf due p seat from (first_place turns) split commits
-      → SplitIf due p seat from (first_place (turns ++ turn ∷ [])) split commits
-  due_next due seat from [] turn split commits follows h = due_ahead due seat from turn.line.place split commits follows h
-  due_next due seat from (t ∷ turns) turn split commits follows h = h
-
-  -- one more turn, in a longer history
-  turns_more : (more : List Entry) (seat number before : ℕ) (odd : Bool) (commands : List Command) (turns : List Turn) (commits : List Commit)
-      (command : Command) (turn : Turn) (own split : List Commit) → TurnsOf p seat number before odd commands turns commits
-      → GrowLineOf (longer p more) seat (number + length commands) (last_time before turns) command turn.line own
-      → SplitIf (odd_after odd commands (map line_of turns) && is_added command turn.line.reply) (longer p more) seat
-      (time_of turn.line.place) None turn.split split
-      → Follows (p.base + length p.entries) turn.line.place
-      → TurnsOf (longer p more) seat number before odd (commands ++ command ∷ []) (turns ++ turn ∷ []) (commits ++ (own ++ split))
-  turns_more more seat number before odd [] [] commits command turn own split h line due follows = (
-    own,
-    split,
-    [],
-    ap (λ cs. cs ++ (own ++ split)) h ∙ ap (λ cs. own ++ cs) (sym (append-nil split)),
-    record { by = line.by; numbered = omega (arith, line.numbered); follows = line.follows; place = line.place },
-    due,
-    refl,
-  )
-  turns_more more seat number before odd [] (t ∷ turns) commits command turn own split h line due follows = absurd h
-  turns_more more seat number before odd (c ∷ commands) [] commits command turn own split h line due follows = absurd h
-  turns_more more seat number before odd (c ∷ commands) (t ∷ turns) commits command turn own split h line due follows =
-      let here = h.4 in
-      let added : Bool = is_added c t.line.reply in (
-        h.0,
-        h.1,
-        h.2 ++ (own ++ split),
-        ap (λ cs. cs ++ (own ++ split)) h.3 ∙ append_assoc h.0 (h.1 ++ h.2) (own ++ split) ∙ ap (λ cs. h.0 ++ cs) (append_assoc h.1 h.2 (own ++ split)),
-        record {
-          by = here.by;
-          numbered = here.numbered;
-          follows = here.follows;
-          place = place_longer p more seat c t.line.place t.line.reply h.0 here.place;
-        },
-        due_longer p more (odd && added) seat (time_of t.line.place) (first_place (turns ++ turn ∷ [])) t.split h.1
-            (due_next (odd && added) seat (time_of t.line.place) turns turn t.split h.1 follows h.5),
-        turns_more more seat (suc number) (time_of t.line.place) (odd_with odd added) commands turns h.2 command turn own split h.6
-            (record { by = line.by; numbered = omega (arith, line.numbered); follows = line.follows; place = line.place }) due follows,
-      )
-
--- what a seat sees later is a longer history
-past_later : (s t : Seat) → Continues s t → past_of t ≡ longer (past_of s) (drop (length s.seen) t.seen)
-past_later s t c =
-    let entries : t.seen ≡ s.seen ++ drop (length s.seen) t.seen =
-    sym (take-append-drop (length s.seen) t.seen) ∙ ap (λ es. es ++ drop (length s.seen) t.seen) c.seen in
-    λ i. record { start = c.start i; base = c.base i; last = c.last i; entries = entries i }
-
--- What comes behind a command that is done: the seat goes on, and its commits grow by those of the split that is due.
-record Behind (due : Bool) (s t : Seat) (from : ℕ) (split : Option ℕ) : Type 0 where
-  pub continues : Continues s t
+-- From what was kept on these turns were made, with the lines of these answers, the first of this number and following this time.
+record RanFrom (s u : GrowKept) (number before : ℕ) (commands : List Command) (lines : List Line) : Type 0 where
+  pub continues : Continues s.seat u.seat
   pub commits : List Commit
-  pub mine : t.mine ≡ s.mine ++ commits
-  pub split_if : SplitIf due (past_of t) t.number from None split commits
+  pub mine : u.seat.mine ≡ s.seat.mine ++ commits
+  pub turns : List Turn
+  pub lines_are : lines ≡ map reported.line_of turns
+  pub ahead : (time : ℕ) → time ≤ s.seat.base + length s.seat.seen → IsAhead (first_place turns) time
+  pub each : TurnsOf (past_of u.seat) u.seat.number number before s.odd commands turns commits
 
-behind : (due : Bool) (s t : Seat) (from : ℕ) (split : Option ℕ) → from ≤ s.base + length s.seen → SplitIfDue due s t split
-    → Behind due s t from split
-behind false s t from split le h = record {
-  continues = subst (Continues s) (sym h.1) (Continues-itself s);
+ran_from : (k : Causes) (s u : GrowKept) (number before : ℕ) (commands : List Command) (ds : List (Answer (Place × Reply)))
+    → before ≤ s.seat.base + length s.seat.seen → Chain (answered (LinkedDone k)) s u commands ds
+    → HaveNumbers (λ (c : Command). 1) s.seat.number number commands ds → RanFrom s u number before commands (map line_of ds)
+ran_from k s u number before [] [] le c n = record {
+  continues = subst (λ (t : GrowKept). Continues s.seat t.seat) (sym c) (Continues-itself s.seat);
   commits = [];
-  mine = ap (λ (u : Seat). u.mine) h.1 ∙ sym (append-nil s.mine);
-  split_if = (h.0, refl);
+  mine = ap (λ (t : GrowKept). t.seat.mine) c ∙ sym (append-nil s.seat.mine);
+  turns = [];
+  lines_are = refl;
+  ahead = λ time le. tt;
+  each = refl;
 }
-behind true s t from (Some time) le h = record {
-  continues = h.continues;
-  commits = h.commit ∷ [];
-  mine = h.mine;
-  split_if = (h.commit, refl, omega (arith, le, h.later), tt, h.split);
-}
-behind true s t from None le h = record {
-  continues = h.1.continues;
-  commits = [];
-  mine = h.1.mine ∙ sym (append-nil s.mine);
-  split_if = (refl, h.0, omega (arith, le, h.1.since), h.1.seen, tt, h.1.cannot);
-}
-
--- No command was done yet.
-pub ran_none : (s : Seat) → RanGrow s s [] []
-ran_none s = record { continues = Continues-itself s; commits = []; mine = sym (append-nil s.mine); turns = []; lines_are = refl; each = refl }
-
--- One more command was done, and behind it what is due.
-pub ran_more : (s t u v : Seat) (commands : List Command) (lines : List Line) (command : Command) (line : Line) (due : Bool)
-    → RanGrow s t commands lines → RanAt t u command line.place line.reply
-    → ((split : Option ℕ) × SplitIfDue due u v split) → due ≡ (odd_after false commands lines && is_added command line.reply)
-    → line.seat ≡ s.number → line.number ≡ 1 + length commands → RanGrow s v (commands ++ command ∷ []) (lines ++ line ∷ [])
-ran_more s t u v commands lines command line due before ran after due_is seat_is number_is =
-    let start : ℕ = s.base + length s.seen in
-    let turn : Turn = record { line = line; split = after.0 } in
-    let b = before.continues in
-    let from : time_of line.place ≤ u.base + length u.seen = place_seen (past_of u) u.number command line.place line.reply ran.commits ran.placed in
-    let next = behind due u v (time_of line.place) after.0 from after.1 in
-    let c = Continues-Continues ran.continues next.continues in
-    let more : List Entry = drop (length t.seen) v.seen in
-    let whole : past_of v ≡ longer (past_of t) more = past_later t v c in
-    let number : v.number ≡ t.number = c.number in
-    let last = last_seen (past_of t) t.number 1 start false commands before.turns before.commits (seen_grows s t b) before.each in
-    let place : GrowPlaceOf (longer (past_of t) more) t.number command line.place line.reply ran.commits =
-    subst (λ q. GrowPlaceOf q t.number command line.place line.reply ran.commits)
-    (sym (past_later u v next.continues) ∙ whole)
-    (subst (λ n. GrowPlaceOf (longer (past_of u) (drop (length u.seen) v.seen)) n command line.place line.reply ran.commits) ran.continues.number
-    (place_longer (past_of u) (drop (length u.seen) v.seen) u.number command line.place line.reply ran.commits ran.placed)) in
-    let due_same : due ≡ (odd_after false commands (map line_of before.turns) && is_added command line.reply) =
-    due_is ∙ ap (λ ls. odd_after false commands ls && is_added command line.reply) before.lines_are in
-    let split : SplitIf (odd_after false commands (map line_of before.turns) && is_added command line.reply) (longer (past_of t) more) t.number
-    (time_of line.place) None after.0 next.commits =
-    subst (λ d. SplitIf d (longer (past_of t) more) t.number (time_of line.place) None after.0 next.commits) due_same
-    (subst (λ q. SplitIf due q t.number (time_of line.place) None after.0 next.commits) whole
-    (subst (λ n. SplitIf due (past_of v) n (time_of line.place) None after.0 next.commits) number next.split_if)) in
-    let commits : List Commit = before.commits ++ (ran.commits ++ next.commits) in
-    let each = turns_more (past_of t) more t.number 1 start false commands before.turns before.commits command turn ran.commits next.commits before.each
-    (record {
-      by = seat_is ∙ sym b.number;
-      numbered = number_is;
-      follows = follows_earlier (last_time start before.turns) (t.base + length t.seen) line.place last ran.follows;
-      place = place;
-    })
-    split ran.follows in
+ran_from k s u number before [] (d ∷ ds) le c n = absurd c
+ran_from k s u number before (i ∷ commands) [] le c n = absurd c
+ran_from k s u number before (i ∷ commands) (d ∷ ds) le c n =
+    let t : GrowKept = c.0 in
+    let link = c.1 in
+    let b : Seat = link.between in
+    let place : Place = d.done.0 in
+    let answer : Reply = d.done.1 in
+    let due : Bool = s.odd && is_added i answer in
+    let ran = command_ran k s.seat b i place answer link.command_done in
+    let next = behind due k b t.seat link.split_done in
+    let seen : time_of place ≤ b.base + length b.seen = place_seen (past_of b) b.number i place answer ran.commits ran.placed in
+    let same : t.seat.number ≡ s.seat.number = next.continues.number ∙ ran.continues.number in
+    let rest = ran_from k t u (number + 1) (time_of place) commands ds (omega (arith, seen, seen_grows b t.seat next.continues)) c.2
+    (subst (λ (m : ℕ). HaveNumbers (λ (c : Command). 1) m (number + 1) commands ds) (sym same) n.2) in
+    let on = Continues-Continues next.continues rest.continues in
+    let placed : GrowPlaceOf (past_of u.seat) u.seat.number i place answer ran.commits =
+    subst (λ (m : ℕ). GrowPlaceOf (past_of u.seat) m i place answer ran.commits) (sym on.number)
+    (subst (λ (p : Past). GrowPlaceOf p b.number i place answer ran.commits) (sym (past_later b u.seat on))
+    (place_longer (past_of b) (drop (length b.seen) u.seat.seen) b.number i place answer ran.commits ran.placed)) in
+    let split : SplitIf due (past_of u.seat) u.seat.number (time_of place) (first_place rest.turns) next.split next.commits =
+    subst (λ (m : ℕ). SplitIf due (past_of u.seat) m (time_of place) (first_place rest.turns) next.split next.commits) (sym rest.continues.number)
+    (subst (λ (p : Past). SplitIf due p t.seat.number (time_of place) (first_place rest.turns) next.split next.commits)
+    (sym (past_later t.seat u.seat rest.continues))
+    (due_longer (past_of t.seat) (drop (length t.seat.seen) u.seat.seen) due t.seat.number (time_of place) (first_place rest.turns) next.split
+    next.commits
+    (due_ahead (past_of t.seat) due t.seat.number (time_of place) (first_place rest.turns) next.split next.commits rest.ahead
+    (next.split_if (time_of place) seen)))) in
+    let after : number + 1 ≡ suc number = omega arith in
     record {
-      continues = Continues-Continues b c;
-      commits = commits;
-      mine = next.mine ∙ ap (λ cs. cs ++ next.commits) ran.mine ∙ ap (λ cs. cs ++ ran.commits ++ next.commits) before.mine
-          ∙ append_assoc (s.mine ++ before.commits) ran.commits next.commits
-          ∙ append_assoc s.mine before.commits (ran.commits ++ next.commits);
-      turns = before.turns ++ turn ∷ [];
-      lines_are = ap (λ ls. ls ++ line ∷ []) before.lines_are ∙ sym (map-append line_of before.turns (turn ∷ []));
-      each = subst (λ n. TurnsOf (past_of v) n 1 start false (commands ++ command ∷ []) (before.turns ++ turn ∷ []) commits)
-          (sym number)
-          (subst (λ q. TurnsOf q t.number 1 start false (commands ++ command ∷ []) (before.turns ++ turn ∷ []) commits)
-          (sym whole) each);
+      continues = Continues-Continues ran.continues on;
+      commits = ran.commits ++ (next.commits ++ rest.commits);
+      mine = rest.mine ∙ ap (λ cs. cs ++ rest.commits) next.mine ∙ ap (λ cs. (cs ++ next.commits) ++ rest.commits) ran.mine
+          ∙ append_assoc (s.seat.mine ++ ran.commits) next.commits rest.commits
+          ∙ append_assoc s.seat.mine ran.commits (next.commits ++ rest.commits);
+      turns = record { line = line_of d; split = next.split } ∷ rest.turns;
+      lines_are = ap (λ ls. line_of d ∷ ls) rest.lines_are;
+      ahead = λ time h. follows_earlier time (s.seat.base + length s.seat.seen) place h ran.follows;
+      each = (
+        ran.commits,
+        next.commits,
+        rest.commits,
+        refl,
+        record {
+          by = n.0 ∙ sym (rest.continues.number ∙ same);
+          numbered = n.1;
+          follows = follows_earlier before (s.seat.base + length s.seat.seen) place le ran.follows;
+          place = placed;
+        },
+        split,
+        subst (λ (m : ℕ). TurnsOf (past_of u.seat) u.seat.number m (time_of place) (odd_with s.odd (is_added i answer)) commands rest.turns rest.commits)
+            after
+            (subst (λ (o : Bool). TurnsOf (past_of u.seat) u.seat.number (number + 1) (time_of place) o commands rest.turns rest.commits) link.odd rest.each),
+      );
     }
+
+-- So a chain is a run.
+pub chain_ran : (k : Causes) (s : Seat) (u : GrowKept) (commands : List Command) (ds : List (Answer (Place × Reply)))
+    → Chain (answered (LinkedDone k)) (kept s false) u commands ds → HaveNumbers (λ (c : Command). 1) s.number 1 commands ds
+    → RanGrow s u.seat commands (map line_of ds)
+chain_ran k s u commands ds c n =
+    let ran = ran_from k (kept s false) u 1 (s.base + length s.seen) commands ds (omega arith) c n in
+    record { continues = ran.continues; commits = ran.commits; mine = ran.mine; turns = ran.turns; lines_are = ran.lines_are; each = ran.each }

@@ -9,7 +9,17 @@
 //!
 //! # The contract
 //!
-//! [`run_grow`] leaves, of each seat and its script (`RanGrow` in `grow_report`):
+//! [`run_grow`] leaves, of each seat and its script, a chain (`AllLinkedTurns`): each command begins at the very seat at which
+//! the one before it was done, with its split. Its link (`LinkedTurn`) says that
+//!
+//! - after attempts that made no commit there was one of this very command that was done, with this place and this reply. A
+//!   commit is later than all that the seat had seen, and a read is of a section that this attempt entered, whose snapshot
+//!   holds all that the seat had seen when the command began (`linked_fresh` in proofs/Fresh.antt): nothing is answered from
+//!   memory;
+//! - where a split is due behind it, after tries that made no commit there was one that answered: a bucket was split, or the
+//!   section that it looked into can't be.
+//!
+//! From the chain follows (`RanGrow` in `grow_report`):
 //!
 //! - what the seat had seen is still seen, and no range of times changed (`Continues`);
 //! - its commits grew by exactly those of its lines, one for each line at a commit, and of one split at most behind each
@@ -25,21 +35,20 @@
 //!
 //! # How it is proved
 //!
-//! One attempt's contract and one split's (`grow_hash`) speak of the history that was seen then. From it come the place of a
-//! command and of a split (`proofs/Places.antt`), which stay theirs in each longer history. So the turns before stay as they
-//! are while one more is made (`proofs/Turns.antt`), and what the workers leave, one after another, is what the run leaves
-//! (`proofs/Workers.antt`).
+//! [`Growing`], a store with the parity of its adds, is a `Runner` of `item_workers`, which has the threads and gives the
+//! chain: an attempt is one of the command, or of the split that is due behind it. One attempt's contract and one split's
+//! (`grow_hash`) speak of the history that was seen then. From them come the place of a command and of a split
+//! (`proofs/Places.antt`), which stay theirs in each longer history, and so a chain is a run (`proofs/Turns.antt`).
 //!
 //! # Its place
 //!
-//! It stands on the calls of `grow_hash`, on the turns of `grow_report`, and on `script_workers`, whose workers do the like
-//! for the fixed sets, over any store. That the lines of all stores are those of one run follows from this contract and from
-//! the stores being seats of one domain.
+//! It stands on the calls of `grow_hash`, on the turns of `grow_report`, on the workers of `item_workers`, and on
+//! `script_workers`, which does the like for the fixed sets, over any store. That the lines of all stores are those of one
+//! run follows from this contract and from the stores being seats of one domain.
 #![tactic(auto)]
 
-mod loading;
+mod growing;
 mod running;
-mod worker;
 
+pub use growing::Growing;
 pub use running::run_grow;
-pub use worker::{run_command, run_split};

@@ -1,4 +1,5 @@
 pub mod Links
+pub mod Each
 pub mod Serves
 pub mod Lists
 pub mod Moving

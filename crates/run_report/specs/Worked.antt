@@ -77,9 +77,13 @@ pub record Ran (old new : Seat) (script : List Command) (lines : List Line) : Ty
   pub mine : new.mine ≡ old.mine ++ commits
   pub each : LinesOf (past_of new) new.number 1 (old.base + length old.seen) script lines commits
 
--- Each seat ran the script of its place; the lines stand by seat and then by number.
+-- Each seat did this with the script of its place, and has a line for each command; the lines stand by seat and then by number.
+abbrev pub BySeat : (Seat → Seat → List Command → List Line → Type 0) → List Seat → List Seat → List (List Command) → List Line → Type 0
+BySeat did [] [] [] lines = lines ≡ []
+BySeat did (o ∷ os) (n ∷ ns) (script ∷ scripts) lines =
+    did o n script (take (length script) lines) × BySeat did os ns scripts (drop (length script) lines)
+BySeat did _ _ _ lines = ⊥
+
+-- Each seat ran the script of its place.
 abbrev pub AllRan : List Seat → List Seat → List (List Command) → List Line → Type 0
-AllRan [] [] [] lines = lines ≡ []
-AllRan (o ∷ os) (n ∷ ns) (script ∷ scripts) lines =
-    Ran o n script (take (length script) lines) × AllRan os ns scripts (drop (length script) lines)
-AllRan _ _ _ lines = ⊥
+AllRan os ns scripts lines = BySeat Ran os ns scripts lines

@@ -1,3 +1,4 @@
+pub mod Tries
 pub mod Places
 pub mod Lines
 pub mod Runs

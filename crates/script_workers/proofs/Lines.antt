@@ -11,7 +11,8 @@ use Rattle.run_report.specs.declared.line.Line.{Line}
 use Rattle.run_report.specs.Order.{time_of}
 use Rattle.run_report.specs.Worked.{Past, past_of, LineOf, LinesOf, Ran}
 use Rattle.script_workers.specs.Commands.{RanAt}
-use Rattle.script_workers.proofs.Places.{follows_earlier, seen_grows, place_later, time_seen}
+use Rattle.script_workers.proofs.Places.{place_later, time_seen}
+use Rattle.script_workers.proofs.Tries.{follows_earlier, seen_grows}
 
 -- the time of the last line, or else this one
 abbrev pub last_time : ℕ → List Line → ℕ

@@ -1,76 +1,104 @@
 -- A chain of links is a run.
-use Rattle.std.proofs.Common.{◌≡◌, ℕ, ◌+◌, List, [], ◌∷◌, ◌++◌, length, map, sym, subst, arith, append_assoc, length-append}
+use Rattle.std.proofs.Common.{◌≡◌, ℕ, suc, ◌+◌, ◌≤◌, List, [], ◌∷◌, ◌++◌, length, map, refl, sym, ap, ◌∙◌, subst, arith, append_assoc}
 use Rattle.std.proofs.lemmas.List.{append-nil}
+use Rattle.mv_history.specs.declared.history.Commit.{Commit}
 use Rattle.mv_history.specs.Meaning.{Seat, IsSeat}
 use Rattle.mv_history.specs.Calls.{Continues}
-use Rattle.set_script.specs.Lawful.{IsOpening}
-use Rattle.set_script.specs.Rules.{IsSetCommit}
+use Rattle.mv_history.specs.CallLaws.{Continues-itself}
+use Rattle.mv_history.proofs.Steps.{Continues-Continues}
 use Rattle.set_script.specs.declared.commands.Command.{Command}
 use Rattle.section_work.specs.declared.place.Place.{Place}
 use Rattle.set_script.specs.declared.commands.Reply.{Reply}
 use Rattle.section_work.specs.Causes.{Causes}
+use Rattle.section_work.specs.declared.causes.Cause.{Cause}
+use Rattle.set_script.specs.Lawful.{IsOpening}
+use Rattle.set_script.specs.Rules.{IsSetCommit}
+use Rattle.set_catalog.specs.Steps.{most_locks}
 use Rattle.set_catalog.specs.Attempts.{Attempted}
 use Rattle.set_catalog.specs.declared.answer.Attempt.{Attempt}
 use Rattle.set_catalog.specs.declared.answer.Attempt.TheVariants.{Done, Again}
-use Rattle.section_work.specs.declared.causes.Cause.{Cause}
 use Rattle.run_report.specs.declared.line.Line.{Line}
-use Rattle.run_report.specs.Worked.{Ran}
+use Rattle.run_report.specs.Order.{time_of}
+use Rattle.run_report.specs.Worked.{past_of, PlaceOf, LinesOf, Ran}
 use Rattle.item_workers.specs.declared.runner.Answer.{Answer}
 use Rattle.item_workers.specs.Chains.{Chain, DidAll, HaveNumbers, answered}
-use Rattle.script_workers.specs.Commands.{RanAt, CommitsNone}
-use Rattle.script_workers.specs.Lines.{line_of, LinkedLine}
-use Rattle.script_workers.specs.Links.{Linked, LinkedDone, IsUnder}
-use Rattle.script_workers.proofs.Places.{tried, none_still, ran_after}
-use Rattle.script_workers.proofs.Lines.{ran_none, ran_more}
+use Rattle.script_workers.specs.Commands.{RanAt}
+use Rattle.script_workers.specs.Lines.{line_of}
+use Rattle.script_workers.specs.Links.{Linked, LinkedDone}
+use Rattle.script_workers.proofs.Places.{tried, place_later, time_seen}
+use Rattle.script_workers.specs.Tries.{IsUnder}
+use Rattle.script_workers.proofs.Tries.{done_behind, under_still, ran_after, follows_earlier}
 
 -- The command of a link has its place.
 pub linked_ran : (k : Causes) (s t : Seat) (command : Command) (place : Place) (answer : Reply) → Linked k s t command place answer
     → RanAt s t command place answer
 linked_ran k s t command place answer l =
-    ran_after s l.from t command place answer l.none (tried k l.from t command (Done answer place) l.lawful l.attempted)
+    ran_after _ s l.from t place l.none (tried k l.from t command (Done answer place) l.lawful l.attempted)
 
--- A chain behind a run makes it longer.
-ran_on : (k : Causes) (s t u : Seat) (commands : List Command) (lines : List Line) (more : List Command) (ds : List (Answer (Place × Reply)))
-    → Ran s t commands lines → Chain (answered (LinkedDone k)) t u more ds → HaveNumbers (λ (c : Command). 1) s.number (1 + length commands) more ds
-    → Ran s u (commands ++ more) (lines ++ map line_of ds)
-ran_on k s t u commands lines [] [] ran c n =
-    subst (λ (x : Seat). Ran s x (commands ++ []) (lines ++ [])) (sym c) (rw (append-nil commands, append-nil lines) ran)
-ran_on k s t u commands lines [] (d ∷ ds) ran c n = absurd c
-ran_on k s t u commands lines (i ∷ more) [] ran c n = absurd c
-ran_on k s t u commands lines (i ∷ more) (d ∷ ds) ran c n =
-    let line : Line = line_of d in
-    let one : Ran s c.0 (commands ++ i ∷ []) (lines ++ line ∷ []) =
-    ran_more s t c.0 commands lines i line ran (linked_ran k t c.0 i d.done.0 d.done.1 c.1) n.0 n.1 in
-    let count : 1 + length commands + 1 ≡ 1 + length (commands ++ i ∷ []) = omega (arith, length-append commands (i ∷ [])) in
-    let rest = ran_on k s c.0 u (commands ++ i ∷ []) (lines ++ line ∷ []) more ds one c.2
-    (subst (λ (m : ℕ). HaveNumbers (λ (c : Command). 1) s.number m more ds) count n.2) in
-    subst (λ (ls : List Line). Ran s u (commands ++ i ∷ more) ls) (append_assoc lines (line ∷ []) (map line_of ds))
-    (subst (λ (cs : List Command). Ran s u cs ((lines ++ line ∷ []) ++ map line_of ds)) (append_assoc commands (i ∷ []) more) rest)
+-- What an attempt leaves under a command that was begun: its link,
+pub under_done : (k : Causes) (s t u : Seat) (command : Command) (a : Attempt) (place : Place) (answer : Reply) → a ≡ Done answer place
+    → IsUnder most_locks s t → IsSeat IsOpening IsSetCommit u → Attempted k t u command a
+    → Linked k s u command place answer × (most_locks ≤ u.write_max)
+under_done k s t u command a place answer is h lawful left =
+    let l : Linked k s u command place answer =
+    done_behind (λ old new. Attempted k old new command) (IsSeat IsOpening IsSetCommit) s t u a (Done answer place) is h.none lawful left in
+    (l, omega (arith, h.may, h.none.continues.write_max, (linked_ran k s u command place answer l).continues.write_max))
+
+-- or that it is still under it
+pub under_again : (k : Causes) (s t u : Seat) (command : Command) (a : Attempt) (cause : Cause) → a ≡ Again cause → IsUnder most_locks s t
+    → IsSeat IsOpening IsSetCommit u → Attempted k t u command a → IsUnder most_locks s u
+under_again k s t u command a cause is h lawful left =
+    under_still most_locks s t u h (tried k t u command (Again cause) lawful (subst (λ (b : Attempt). Attempted k t u command b) is left))
+
+-- From a seat on these lines were made, the first of this number and following this time.
+record RanFrom (s t : Seat) (number before : ℕ) (commands : List Command) (lines : List Line) : Type 0 where
+  pub continues : Continues s t
+  pub commits : List Commit
+  pub mine : t.mine ≡ s.mine ++ commits
+  pub each : LinesOf (past_of t) t.number number before commands lines commits
+
+ran_from : (k : Causes) (s u : Seat) (number before : ℕ) (commands : List Command) (ds : List (Answer (Place × Reply))) → before ≤ s.base + length s.seen
+    → Chain (answered (LinkedDone k)) s u commands ds → HaveNumbers (λ (c : Command). 1) s.number number commands ds
+    → RanFrom s u number before commands (map line_of ds)
+ran_from k s u number before [] [] le c n = record {
+  continues = subst (Continues s) (sym c) (Continues-itself s);
+  commits = [];
+  mine = ap (λ (t : Seat). t.mine) c ∙ sym (append-nil s.mine);
+  each = refl;
+}
+ran_from k s u number before [] (d ∷ ds) le c n = absurd c
+ran_from k s u number before (i ∷ commands) [] le c n = absurd c
+ran_from k s u number before (i ∷ commands) (d ∷ ds) le c n =
+    let t : Seat = c.0 in
+    let place : Place = d.done.0 in
+    let ran = linked_ran k s t i place d.done.1 c.1 in
+    let seen = time_seen t t.number i place d.done.1 ran.commits ran.placed in
+    let same : t.number ≡ s.number = ran.continues.number in
+    let rest = ran_from k t u (number + 1) (time_of place) commands ds seen c.2
+    (subst (λ (m : ℕ). HaveNumbers (λ (c : Command). 1) m (number + 1) commands ds) (sym same) n.2) in
+    let next : number + 1 ≡ suc number = omega arith in
+    record {
+      continues = Continues-Continues ran.continues rest.continues;
+      commits = ran.commits ++ rest.commits;
+      mine = rest.mine ∙ ap (λ cs. cs ++ rest.commits) ran.mine ∙ append_assoc s.mine ran.commits rest.commits;
+      each = (
+        ran.commits,
+        rest.commits,
+        refl,
+        record {
+          by = n.0 ∙ sym (rest.continues.number ∙ same);
+          numbered = n.1;
+          follows = follows_earlier before (s.base + length s.seen) place le ran.follows;
+          place = subst (λ (m : ℕ). PlaceOf (past_of u) m i place d.done.1 ran.commits) (sym rest.continues.number)
+              (place_later t u t.number i place d.done.1 ran.commits rest.continues ran.placed);
+        },
+        subst (λ (m : ℕ). LinesOf (past_of u) u.number m (time_of place) commands (map line_of ds) rest.commits) next rest.each,
+      );
+    }
 
 -- So a chain is a run.
 pub chain_ran : (k : Causes) (s u : Seat) (commands : List Command) (ds : List (Answer (Place × Reply)))
     → DidAll (λ (t : Seat). t) (LinkedDone k) (λ (c : Command). 1) s u commands ds → Ran s u commands (map line_of ds)
-chain_ran k s u commands ds did = ran_on k s s u [] [] commands ds (ran_none s) did.chain did.numbers
-
--- The chain of the answers is that of the lines.
-pub chain_lines : (k : Causes) (s u : Seat) (commands : List Command) (ds : List (Answer (Place × Reply)))
-    → Chain (answered (LinkedDone k)) s u commands ds → Chain (LinkedLine k) s u commands (map line_of ds)
-chain_lines k s u [] [] c = c
-chain_lines k s u [] (d ∷ ds) c = absurd c
-chain_lines k s u (i ∷ commands) [] c = absurd c
-chain_lines k s u (i ∷ commands) (d ∷ ds) c = (c.0, c.1, chain_lines k c.0 u commands ds c.2)
-
--- What an attempt leaves, under a command that was begun.
-pub under_done : (k : Causes) (s t u : Seat) (command : Command) (a : Attempt) (answer : Reply) (place : Place) → a ≡ Done answer place → IsUnder s t
-    → IsSeat IsOpening IsSetCommit u → Attempted k t u command a → Linked k s u command place answer
-under_done k s t u command a answer place e h lawful r =
-    record { from = t; none = h.none; attempted = subst (λ (x : Attempt). Attempted k t u command x) e r; lawful = lawful }
-
-pub done_continues : (k : Causes) (s u : Seat) (command : Command) (place : Place) (answer : Reply) → Linked k s u command place answer → Continues s u
-done_continues k s u command place answer l = (linked_ran k s u command place answer l).continues
-
-pub under_again : (k : Causes) (s t u : Seat) (command : Command) (a : Attempt) (cause : Cause) → a ≡ Again cause → IsUnder s t
-    → IsSeat IsOpening IsSetCommit u → Attempted k t u command a → IsUnder s u
-under_again k s t u command a cause e h lawful r =
-    let none : CommitsNone t u = tried k t u command (Again cause) lawful (subst (λ (x : Attempt). Attempted k t u command x) e r) in
-    record { none = none_still s t u h.none none; most = omega (arith, h.most, none.continues.write_max) }
+chain_ran k s u commands ds did =
+    let ran = ran_from k s u 1 (s.base + length s.seen) commands ds (omega arith) did.chain did.numbers in
+    record { continues = ran.continues; commits = ran.commits; mine = ran.mine; each = ran.each }

@@ -1,5 +1,5 @@
--- What an attempt of a command leaves, and what a command leaves once it is done.
-use Rattle.std.specs.Prelude.{◌≡◌, ◌+◌, List, ◌++◌, length}
+-- Where something took place, and where a command did.
+use Rattle.std.specs.Prelude.{ℕ, ◌≡◌, ◌+◌, List, ◌++◌, length}
 use Rattle.mv_history.specs.declared.history.Commit.{Commit}
 use Rattle.mv_history.specs.Meaning.{Seat}
 use Rattle.mv_history.specs.Calls.{Continues}
@@ -9,21 +9,21 @@ use Rattle.set_script.specs.declared.commands.Reply.{Reply}
 use Rattle.set_catalog.specs.declared.answer.Attempt.{Attempt}
 use Rattle.set_catalog.specs.declared.answer.Attempt.TheVariants.{Done, Again}
 use Rattle.run_report.specs.Legal.{Follows}
-use Rattle.run_report.specs.Worked.{past_of, PlaceOf}
+use Rattle.run_report.specs.Worked.{Past, past_of, PlaceOf}
+use Rattle.script_workers.specs.Tries.{CommitsNone}
 
--- The command has this place and this reply in the history that the seat has seen; the place follows all that it had seen
--- before, and the seat's commits grew by exactly those of the command.
-pub record RanAt (old new : Seat) (command : Command) (place : Place) (answer : Reply) : Type 0 where
+-- Something took place there in the history that the seat has seen, behind all that it had seen before, and the seat's commits grew by
+-- exactly those of it.
+pub record RanTo (placed_in : Past → ℕ → List Commit → Type 0) (old new : Seat) (place : Place) : Type 0 where
   pub continues : Continues old new
   pub commits : List Commit
   pub mine : new.mine ≡ old.mine ++ commits
   pub follows : Follows (old.base + length old.seen) place
-  pub placed : PlaceOf (past_of new) new.number command place answer commits
+  pub placed : placed_in (past_of new) new.number commits
 
--- The seat made no commit.
-pub record CommitsNone (old new : Seat) : Type 0 where
-  pub continues : Continues old new
-  pub mine : new.mine ≡ old.mine
+-- the command took place there, with this reply
+abbrev pub RanAt : Seat → Seat → Command → Place → Reply → Type 0
+RanAt old new command place answer = RanTo (λ p seat commits. PlaceOf p seat command place answer commits) old new place
 
 -- what an attempt leaves: the command is done, or no commit was made
 abbrev pub Tried : Seat → Seat → Command → Attempt → Type 0

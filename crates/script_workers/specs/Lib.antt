@@ -1,6 +1,6 @@
+pub mod Tries
 pub mod Commands
 pub mod Links
-pub mod LinkLaws
 pub mod Lines
 pub mod Numbers
 pub mod Workers

@@ -1,5 +1,5 @@
 -- The lines of answers, and the chain of a run's lines.
-use Rattle.std.specs.Prelude.{◌≡◌, List, [], ◌∷◌, length, map, take, drop, Vec}
+use Rattle.std.specs.Prelude.{List, map, Vec}
 use Rattle.std.specs.declared.alloc.Global.{Global}
 use Rattle.mv_history.specs.Meaning.{Seat}
 use Rattle.set_script.specs.declared.commands.Command.{Command}
@@ -7,6 +7,7 @@ use Rattle.section_work.specs.declared.place.Place.{Place}
 use Rattle.set_script.specs.declared.commands.Reply.{Reply}
 use Rattle.section_work.specs.Causes.{Causes}
 use Rattle.run_report.specs.declared.line.Line.{Line}
+use Rattle.run_report.specs.Worked.{BySeat}
 use Rattle.item_workers.specs.declared.runner.Answer.{Answer}
 use Rattle.item_workers.specs.Chains.{Chain}
 use Rattle.script_workers.specs.Links.{Linked}
@@ -24,7 +25,4 @@ LinkedLine k s t command line = Linked k s t command line.place line.reply
 
 -- Each seat did the commands of its script in order, each from the very seat at which the one before it was done; the lines stand by seat.
 abbrev pub AllLinked : Causes → List Seat → List Seat → List (List Command) → List Line → Type 0
-AllLinked k [] [] [] lines = lines ≡ []
-AllLinked k (o ∷ os) (n ∷ ns) (script ∷ scripts) lines =
-    Chain (LinkedLine k) o n script (take (length script) lines) × AllLinked k os ns scripts (drop (length script) lines)
-AllLinked k _ _ _ lines = ⊥
+AllLinked k os ns scripts lines = BySeat (Chain (LinkedLine k)) os ns scripts lines

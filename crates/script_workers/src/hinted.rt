@@ -19,8 +19,8 @@ impl<S: Store<Rules = SetRules>> Runner for Hinted<S> {
     ghost use Rattle.mv_history.specs.Meaning.{Seat};
     ghost use Rattle.set_catalog.specs.Steps.{most_locks};
     ghost use Rattle.section_work.specs.Causes.{causes};
-    ghost use Rattle.script_workers.specs.Links.{LinkedDone, IsUnder};
-    ghost use Rattle.script_workers.specs.LinkLaws.{none_begun};
+    ghost use Rattle.script_workers.specs.Tries.{IsUnder, none_begun};
+    ghost use Rattle.script_workers.specs.Links.{LinkedDone};
 
     type Item = Command;
 
@@ -48,7 +48,7 @@ impl<S: Store<Rules = SetRules>> Runner for Hinted<S> {
 
     ghost width_of = { λ command. 1 };
 
-    ghost under = { λ s command w. IsUnder s (S.seat_of w.hinted.store) };
+    ghost under = { λ s command w. IsUnder most_locks s (S.seat_of w.hinted.store) };
 
     ghost link = { LinkedDone (causes S.Open.may_refuse S.Open.has_trail S.took S.holds_back S.Open.found_held S.Open.loaded) };
 
@@ -84,5 +84,5 @@ impl<S: Store<Rules = SetRules>> Runner for Hinted<S> {
         }
     }
 
-    ghost begins = { λ w command ready does. none_begun (S.seat_of w.hinted.store) ready };
+    ghost begins = { λ w command ready does. none_begun most_locks (S.seat_of w.hinted.store) ready };
 }

@@ -53,6 +53,6 @@ mod worker;
 
 pub use hinted::Hinted;
 pub use item_workers::take_first;
-pub use rows::{make_lines, put_lines};
+pub use rows::{lines_room, make_lines, put_lines};
 pub use running::run_scripts;
 pub use worker::run_command;

@@ -10,8 +10,8 @@ use section_work::Place;
 use set_script::{Command, Reply};
 use std::alloc::{AllocError, Global};
 
-// Takes the memory for a line of each command.
-pub(crate) fn lines_room(alloc: Global, scripts: &[Vec<Command>]) -> Result<Vec<Line>, AllocError>
+/// Takes the memory for a line of each command.
+pub fn lines_room(alloc: Global, scripts: &[Vec<Command>]) -> Result<Vec<Line>, AllocError>
     ensures { IfOk result (λ lines. (lines.items ≡ []) × (sum_by command_count scripts.now ≤ vec_capacity lines)) }
 {
     Vec::with_capacity(alloc, count_commands(scripts)?)

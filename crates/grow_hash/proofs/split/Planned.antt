@@ -12,7 +12,6 @@ use Rattle.set_script.proofs.Written.{distinct-objects_of}
 use Rattle.grow_hash.specs.Tables.{level, split_place, buckets_at}
 use Rattle.grow_hash.specs.Grown.{IsGrown, head_at}
 use Rattle.grow_hash.specs.SplitPlans.{SplitPlan, new_bucket, split_writes}
-use Rattle.grow_hash.specs.SplitCalls.{IsOfSplit}
 use Rattle.grow_hash.proofs.Buckets.{some_buckets, more_buckets, twice_buckets}
 use Rattle.grow_hash.proofs.GrownStates.{node_high}
 use Rattle.grow_hash.proofs.split.Paths.{AreRising, rising_node, head_path_rises}
@@ -45,7 +44,7 @@ module _ (s : State) (ws : Writes) (l : IsGrown s) (p : SplitPlan s ws) where
   object_in : (o : ℕ) → touches ws o ≡ true → (o ≡ 0) ⊎ ((o ≡ head_at old) ⊎ ((o ≡ head_at (new_bucket s)) ⊎ IsIn o p.nodes))
   object_in o t = subst (IsIn o) objects (in-touches ws o t)
 
-  -- each once,
+  -- each once and
   pub plan_distinct : are_distinct ws ≡ true
   plan_distinct =
       let lo = new_low in
@@ -67,7 +66,7 @@ module _ (s : State) (ws : Writes) (l : IsGrown s) (p : SplitPlan s ws) where
         ),
       ))
 
-  -- in range,
+  -- in range.
   pub plan_within : AreWithin ws (length s)
   plan_within o t =
       let some = l.some in
@@ -82,16 +81,6 @@ module _ (s : State) (ws : Writes) (l : IsGrown s) (p : SplitPlan s ws) where
           ]
         ]
       ]
-
-  -- and of the split.
-  pub plan_named : (o : ℕ) → touches ws o ≡ true → IsOfSplit s o
-  plan_named o t = elim (object_in o t) [
-    | inl e ↦ inl e
-    | inr j ↦ elim j [
-      | inl e ↦ inr (inr (inl e))
-      | inr k ↦ elim k [ inl e ↦ inr (inl e) | inr i ↦ inr (inr (inr (rising_node s (head_at old) p.nodes rising o i))) ]
-    ]
-  ]
 
   pub plan_some : 0 < length ws
   plan_some = let e : length ws ≡ length (split_writes s p.nodes) = ap length p.writes_are in omega arith

@@ -34,7 +34,7 @@ pub state_longer : (p : Past) (more : List Entry) (time : ℕ) → time ≤ p.ba
     → state_of_time (longer p more) time ≡ state_of_time p time
 state_longer p more time le = ap (state_after p.start) (take-append-le (time - p.base) p.entries more (omega (arith, le)))
 
-place_longer : (p : Past) (more : List Entry) (seat : ℕ) (command : Command) (place : Place) (answer : Reply) (commits : List Commit)
+pub place_longer : (p : Past) (more : List Entry) (seat : ℕ) (command : Command) (place : Place) (answer : Reply) (commits : List Commit)
     → PlaceOf p seat command place answer commits → PlaceOf (longer p more) seat command place answer commits
 place_longer p more seat command (AtCommit time) answer commits placed =
     let made = placed.2 in

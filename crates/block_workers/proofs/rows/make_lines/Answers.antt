@@ -1,7 +1,7 @@
 use Rattle.std.proofs.Common.{ap, length, arith, subst, sym}
 use Rattle.std.proofs.lemmas.List.Elements.{All-get_or}
 use Rattle.block_workers.specs.BlockLines.{AllFit, row_in}
-use Rattle.block_workers.proofs.AllBlocks.{row_fits}
+use Rattle.block_workers.proofs.BlockRows.{row_fits}
 use Rattle.block_workers.proofs.rows.make_lines.Goals as goal
 
 pub put_row-requires-clause-few : goal.put_row-requires-clause-few

@@ -1,7 +1,7 @@
 use Rattle.std.proofs.Common.{◌∙◌, ◌++◌, ap, sym, subst, length, length-append, arith, append_assoc, take}
 use Rattle.std.proofs.lemmas.List.Elements.{All-get_or}
 use Rattle.block_workers.specs.BlockLines.{FitsNumbers, lines_in, row_in}
-use Rattle.block_workers.proofs.AllBlocks.{answer_fits, row_more}
+use Rattle.block_workers.proofs.BlockRows.{answer_fits, row_more}
 use Rattle.block_workers.proofs.rows.put_row.Goals as goal
 
 pub put_block-requires-clause-room : goal.put_block-requires-clause-room

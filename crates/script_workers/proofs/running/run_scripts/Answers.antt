@@ -1,10 +1,12 @@
 use Rattle.std.proofs.Common.{arith, map}
-use Rattle.script_workers.proofs.Chains.{may_do, all_ran, all_linked, line_counts}
+use Rattle.item_workers.proofs.Each.{all_free, all_may}
+use Rattle.script_workers.specs.Links.{LinkedDone}
+use Rattle.script_workers.proofs.Chains.{few_numbers, all_ran, all_linked, line_counts}
 use Rattle.script_workers.proofs.running.run_scripts.Goals as goal
 
 -- each command may be done on each store
 pub run_lists-requires-clause-may : goal.run_lists-requires-clause-may
-run_lists-requires-clause-may g c κs within = may_do c.args.scripts.now c.requires.short
+run_lists-requires-clause-may g c κs within = all_may _ _ c.args.scripts.now (few_numbers c.args.scripts.now c.requires.short) (all_free c.args.scripts.now)
 
 -- there is room for the lines
 pub make_lines-requires-clause-room : goal.make_lines-requires-clause-room
@@ -12,13 +14,16 @@ make_lines-requires-clause-room g c =
     rw c.deref.ensures.value
     (omega (
       arith,
-      line_counts _ (map g.S.Store.seat_of c.args.stores.items) (map g.S.Store.seat_of c.in_ok-stores.stores.items) c.args.scripts.now
-          c.in_ok-stores.rows.items c.in_ok-stores.ensures.did,
+      line_counts g.S.Store.seat_of _ (LinkedDone _) c.args.stores.items _ c.args.scripts.now c.in_ok-stores.rows.items c.in_ok-stores.ensures.did,
       c.in-Ok.ensures.1,
     ))
 
 pub returns-clause-ran : goal.returns-clause-ran
-returns-clause-ran g c = rw (c.make_lines.ensures, c.deref.ensures.value) (all_ran _ _ _ _ c.in_ok-stores.rows.items c.in_ok-stores.ensures.did)
+returns-clause-ran g c =
+    rw (c.make_lines.ensures, c.deref.ensures.value)
+    (all_ran _ g.S.Store.seat_of c.args.stores.items _ _ c.in_ok-stores.rows.items c.in_ok-stores.ensures.did)
 
 pub returns-clause-linked : goal.returns-clause-linked
-returns-clause-linked g c = rw (c.make_lines.ensures, c.deref.ensures.value) (all_linked _ _ _ _ c.in_ok-stores.rows.items c.in_ok-stores.ensures.did)
+returns-clause-linked g c =
+    rw (c.make_lines.ensures, c.deref.ensures.value)
+    (all_linked _ g.S.Store.seat_of c.args.stores.items _ _ c.in_ok-stores.rows.items c.in_ok-stores.ensures.did)

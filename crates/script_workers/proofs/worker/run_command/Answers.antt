@@ -1,4 +1,4 @@
-use Rattle.script_workers.proofs.Places.{none_yet, none_still, ran_after}
+use Rattle.script_workers.proofs.Tries.{none_yet, none_still, ran_after}
 use Rattle.script_workers.proofs.worker.run_command.Goals as goal
 
 pub loop-init : goal.loop-init
@@ -12,5 +12,5 @@ loop-preserved g c =
 pub returns-in-Done : goal.returns-in-Done
 returns-in-Done g c =
     let seat_of = g.S.Store.seat_of in
-    ran_after (seat_of c.args.hinted.now.store) (seat_of c.loop.hinted.store) (seat_of c.try_command.new.hinted.store) c.args.command.now _ _
+    ran_after _ (seat_of c.args.hinted.now.store) (seat_of c.loop.hinted.store) (seat_of c.try_command.new.hinted.store) _
     c.loop.invariant c.in-Done.ensures

@@ -1,4 +1,4 @@
-use Rattle.script_workers.specs.Commands.{CommitsNone}
+use Rattle.script_workers.specs.Tries.{CommitsNone}
 use Rattle.script_workers.proofs.worker.run_command.Given as goal
 
 abbrev pub invariant-loop : goal.invariant-loop

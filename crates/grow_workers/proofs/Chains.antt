@@ -1,0 +1,48 @@
+-- What all seats did.
+use Rattle.std.proofs.Common.{false, List, map, Vec, refl, subst}
+use Rattle.std.specs.declared.alloc.Global.{Global}
+use Rattle.std.specs.List.{flat_map}
+use Rattle.mv_history.specs.Meaning.{Seat}
+use Rattle.set_script.specs.declared.commands.Command.{Command}
+use Rattle.section_work.specs.declared.place.Place.{Place}
+use Rattle.section_work.specs.Causes.{Causes}
+use Rattle.set_script.specs.declared.commands.Reply.{Reply}
+use Rattle.item_workers.specs.declared.runner.Answer.{Answer}
+use Rattle.item_workers.specs.Chains.{Chain, EachDid, answered}
+use Rattle.item_workers.proofs.Each.{each_seat, chain_told}
+use Rattle.script_workers.specs.Lines.{line_of, row_of}
+use Rattle.script_workers.proofs.Chains.{by_seat}
+use Rattle.grow_report.specs.Turns.{RanGrow, AllRanGrow}
+use Rattle.grow_workers.specs.Links.{GrowKept, kept, LinkedDone, LinkedLine, LinkedTurns, AllLinkedTurns}
+use Rattle.grow_workers.proofs.Turns.{chain_ran}
+
+module _ (k : Causes) {T : Type 0} (seat_in : T → Seat) where
+  abbrev first : T → GrowKept
+  first t = kept (seat_in t) false
+
+  -- what all seats ran
+  pub all_ran : (ts : List T) (ns : List Seat) (scripts : List (List Command)) (rows : List (Vec (Answer (Place × Reply)) Global))
+      → EachDid (λ (g : GrowKept). g.seat) (LinkedDone k) (λ (c : Command). 1) (map first ts) ns scripts rows
+      → AllRanGrow (map seat_in ts) ns scripts (flat_map row_of rows)
+  all_ran =
+      each_seat first (λ (g : GrowKept). g.seat) (LinkedDone k) (λ (c : Command). 1)
+      (λ ts ns scripts rows. AllRanGrow (map seat_in ts) ns scripts (flat_map row_of rows)) refl
+      (λ t n s r ts ns scripts rows h rest. (
+        row_of r,
+        flat_map row_of rows,
+        refl,
+        subst (λ (m : Seat). RanGrow (seat_in t) m s (row_of r)) h.seat_is (chain_ran k (seat_in t) h.end s r.items h.did.chain h.did.numbers),
+        rest,
+      ))
+
+  -- and that each went on from where it was
+  pub all_linked : (ts : List T) (ns : List Seat) (scripts : List (List Command)) (rows : List (Vec (Answer (Place × Reply)) Global))
+      → EachDid (λ (g : GrowKept). g.seat) (LinkedDone k) (λ (c : Command). 1) (map first ts) ns scripts rows
+      → AllLinkedTurns k (map seat_in ts) ns scripts (flat_map row_of rows)
+  all_linked =
+      by_seat first (λ (g : GrowKept). g.seat) (LinkedDone k) seat_in (LinkedTurns k)
+      (λ t n s r h. (
+        h.end.odd,
+        subst (λ (m : Seat). Chain (LinkedLine k) (first t) (kept m h.end.odd) s (row_of r)) h.seat_is
+            (chain_told (answered (LinkedDone k)) (LinkedLine k) line_of (λ a b c d l. l) (first t) h.end s r.items h.did.chain),
+      ))

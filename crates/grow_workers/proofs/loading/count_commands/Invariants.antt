@@ -1,6 +1,0 @@
-use Rattle.std.proofs.Common.{◌≡◌, take, sum_by}
-use Rattle.script_workers.specs.Workers.{command_count}
-use Rattle.grow_workers.proofs.loading.count_commands.Given as goal
-
-abbrev pub invariant-loop-script : goal.invariant-loop-script
-invariant-loop-script l = l.count ≡ sum_by command_count (take l.script-index l.scripts)

@@ -1,0 +1,87 @@
+-- How a command of a growing set was done, with the split that was due behind it.
+use Rattle.std.specs.Prelude.{◌≡◌, ◌≤◌, ◌&&◌, Bool, true, false, List, Option, Some, None, refl}
+use Rattle.std.proofs.Common.{sym, subst}
+use Rattle.mv_history.specs.Meaning.{Seat, IsSeat}
+use Rattle.set_script.specs.declared.commands.Command.{Command}
+use Rattle.set_script.specs.declared.commands.Reply.{Reply}
+use Rattle.section_work.specs.declared.place.Place.{Place}
+use Rattle.section_work.specs.declared.causes.Cause.{Cause}
+use Rattle.section_work.specs.Causes.{Causes}
+use Rattle.run_report.specs.declared.line.Line.{Line}
+use Rattle.run_report.specs.Worked.{BySeat}
+use Rattle.item_workers.specs.Chains.{Chain}
+use Rattle.script_workers.specs.Tries.{IsUnder, none_begun, DoneBehind}
+use Rattle.grow_hash.specs.Grown.{IsGrownOpening}
+use Rattle.grow_hash.specs.GrowRules.{IsGrowCommit}
+use Rattle.grow_hash.specs.GrowAttempts.{GrowAttempted}
+use Rattle.grow_hash.specs.SplitCalls.{most_writes}
+use Rattle.grow_hash.specs.SplitAttempts.{SplitTried}
+use Rattle.grow_hash.specs.declared.attempt.GrowStep.TheVariants.{Done}
+use Rattle.grow_hash.specs.declared.answer.Split.{Split}
+use Rattle.grow_hash.specs.declared.answer.Split.TheVariants.{Again}
+use Rattle.grow_report.specs.Turns.{is_added, odd_with}
+
+-- What is kept from one command to the next: the seat, and whether the adds that replied yes are an odd number.
+pub record GrowKept : Type 0 where
+  pub seat : Seat
+  pub odd : Bool
+
+abbrev pub kept : Seat → Bool → GrowKept
+kept seat odd = record { seat = seat; odd = odd }
+
+-- Behind attempts that made no commit there was one of this command that was done.
+abbrev pub LinkedCommand : Causes → Seat → Seat → Command → Place → Reply → Type 0
+LinkedCommand k s t command place answer =
+    DoneBehind (λ old new. GrowAttempted k old new command (Done answer place)) (IsSeat IsGrownOpening IsGrowCommit) s t
+
+-- one try of a split led from the one seat to the other, and answered
+pub record IsAnsweredBy (k : Causes) (old new : Seat) : Type 0 where
+  pub split : Split
+  pub tried : SplitTried k old new split
+  pub answered : (cause : Cause) → split ≡ Again cause → ⊥
+
+-- Behind tries that made no commit one answered.
+abbrev pub LinkedSplit : Causes → Seat → Seat → Type 0
+LinkedSplit k s t = DoneBehind (IsAnsweredBy k) (IsSeat IsGrownOpening IsGrowCommit) s t
+
+-- where a split is due there was one, and else nothing was done
+abbrev pub LinkedIf : Bool → Causes → Seat → Seat → Type 0
+LinkedIf true k s t = LinkedSplit k s t
+LinkedIf false k s t = t ≡ s
+
+-- The command was done, and then the split that was due behind it.
+pub record LinkedTurn (k : Causes) (s t : GrowKept) (command : Command) (place : Place) (answer : Reply) : Type 0 where
+  pub between : Seat
+  pub command_done : LinkedCommand k s.seat between command place answer
+  pub split_done : LinkedIf (s.odd && is_added command answer) k between t.seat
+  pub odd : t.odd ≡ odd_with s.odd (is_added command answer)
+
+-- the same, of the place and the reply together, and of a line
+abbrev pub LinkedDone : Causes → GrowKept → GrowKept → Command → Place × Reply → Type 0
+LinkedDone k s t command done = LinkedTurn k s t command done.0 done.1
+
+abbrev pub LinkedLine : Causes → GrowKept → GrowKept → Command → Line → Type 0
+LinkedLine k s t command line = LinkedTurn k s t command line.place line.reply
+
+-- A seat did the commands of a script in order, each from the very seat at which the one before it was done, with its split; ahead of the
+-- first no add has replied yes.
+abbrev pub LinkedTurns : Causes → Seat → Seat → List Command → List Line → Type 0
+LinkedTurns k o n script lines = (odd : Bool) × Chain (LinkedLine k) (kept o false) (kept n odd) script lines
+
+-- Each seat did so with the script of its place; the lines stand by seat.
+abbrev pub AllLinkedTurns : Causes → List Seat → List Seat → List (List Command) → List Line → Type 0
+AllLinkedTurns k os ns scripts lines = BySeat (LinkedTurns k) os ns scripts lines
+
+-- The command that was begun there is not done yet, and no commit was made; or it is done, and no commit was made since, of the split that
+-- is due behind it.
+abbrev pub IsUnderTurn : Causes → GrowKept → Command → GrowKept → Option (Place × Reply) → Type 0
+IsUnderTurn k s command t None = IsUnder most_writes s.seat t.seat × (t.odd ≡ s.odd)
+IsUnderTurn k s command t (Some done) =
+    (between : Seat) × LinkedCommand k s.seat between command done.0 done.1 × IsUnder most_writes between t.seat
+    × ((s.odd && is_added command done.1) ≡ true)
+
+-- so it is where it was just begun
+pub turn_begun : (k : Causes) (command : Command) (s : GrowKept) (done : Option (Place × Reply)) → done ≡ None → most_writes ≤ s.seat.write_max
+    → IsUnderTurn k s command s done
+turn_begun k command s found none may =
+    subst (λ (d : Option (Place × Reply)). IsUnderTurn k s command s d) (sym none) (none_begun most_writes s.seat may, refl)

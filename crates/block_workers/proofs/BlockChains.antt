@@ -21,8 +21,9 @@ use Rattle.run_report.specs.Order.{time_of}
 use Rattle.run_report.specs.Worked.{past_of}
 use Rattle.item_workers.specs.declared.runner.Answer.{Answer}
 use Rattle.item_workers.specs.Chains.{Chain, DidAll, HaveNumbers, answered}
-use Rattle.script_workers.specs.Tries.{IsUnder}
-use Rattle.script_workers.proofs.Tries.{done_behind, gave_up, under_still, follows_earlier}
+use Rattle.work_runner.specs.Tries.{IsUnder}
+use Rattle.work_runner.proofs.Tries.{done_behind, gave_up, under_still}
+use Rattle.script_workers.proofs.Places.{follows_earlier}
 use Rattle.block_workers.specs.BlockLines.{DoneBlock, done_of, lines_of, row_in}
 use Rattle.block_workers.specs.BlockLinks.{LinkedBlock, LinkedDone}
 use Rattle.block_workers.specs.BlockRuns.{BlockPlaceOf, BlocksOf, RanBlocks}

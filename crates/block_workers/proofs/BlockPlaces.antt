@@ -1,5 +1,5 @@
 -- The place of a block: what its attempt says of it, and that it stays as more of the history is seen.
-use Rattle.std.proofs.Common.{◌≡◌, ℕ, ◌+◌, ◌-◌, ◌≤◌, ◌==◌, false, List, [], ◌∷◌, ◌++◌, length, drop, refl, sym, ap, ◌∙◌, subst, arith, length-append}
+use Rattle.std.proofs.Common.{◌≡◌, ℕ, ◌+◌, ◌-◌, ◌≤◌, ◌==◌, false, List, length, drop, refl, sym, ap, ◌∙◌, subst, arith, length-append}
 use Rattle.std.proofs.lemmas.Option.{slice_get_within}
 use Rattle.mv_history.specs.declared.history.Commit.{Commit}
 use Rattle.mv_history.specs.declared.history.Entry.{Entry}
@@ -23,8 +23,7 @@ use Rattle.set_blocks.proofs.SingleBlocks.{length-block_replies}
 use Rattle.run_report.specs.Order.{time_of}
 use Rattle.run_report.specs.Worked.{Past, past_of, state_of_time}
 use Rattle.run_report.proofs.history.Grown.{longer, there_longer, state_longer}
-use Rattle.script_workers.proofs.Places.{same_room, ran_commit, ran_read, past_later}
-use Rattle.script_workers.proofs.Tries.{ran_after}
+use Rattle.script_workers.proofs.Places.{same_room, ran_commit, ran_read, past_later, ran_after}
 use Rattle.block_workers.specs.BlockLinks.{LinkedBlock}
 use Rattle.block_workers.specs.BlockRuns.{BlockPlaceOf, RanBlock}
 

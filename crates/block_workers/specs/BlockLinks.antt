@@ -12,7 +12,7 @@ use Rattle.set_blocks.specs.BlockAttempts.{BlockAttempted}
 use Rattle.set_blocks.specs.BlockRules.{IsBlockCommit}
 use Rattle.run_report.specs.declared.line.Line.{Line}
 use Rattle.item_workers.specs.Chains.{Chain}
-use Rattle.script_workers.specs.Tries.{DoneBehind}
+use Rattle.work_runner.specs.Tries.{DoneBehind}
 use Rattle.block_workers.specs.BlockLines.{DoneBlock, lines_of}
 
 -- Behind attempts that made no commit there was one of this block that was done: by a commit later than all that was seen, or at the time of

@@ -35,8 +35,8 @@
 //!
 //! [`Blocks`], a store that does blocks, is a `Runner` of `item_workers`, which has the threads and gives the chain. One
 //! attempt's contract (`set_blocks`) speaks of the history that was seen then. From it comes the place of a block
-//! (`proofs/BlockPlaces.antt`), which stays its place in each longer history. So the blocks before stay as they are while
-//! one more is done (`proofs/Done.antt`), and a chain is a run (`proofs/BlockChains.antt`).
+//! (`proofs/BlockPlaces.antt`), which stays its place in each longer history; and so a chain is a run, by its first block
+//! and the chain behind it (`proofs/BlockChains.antt`).
 //!
 //! # Its place
 //!

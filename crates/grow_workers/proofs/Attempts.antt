@@ -8,8 +8,8 @@ use Rattle.set_script.specs.declared.commands.Reply.{Reply}
 use Rattle.item_workers.specs.Chains.{OnTried}
 use Rattle.item_workers.specs.declared.runner.Tried.{Tried}
 use Rattle.item_workers.specs.declared.runner.Tried.TheVariants as tries
-use Rattle.script_workers.specs.Tries.{CommitsNone, IsUnder, none_begun}
-use Rattle.script_workers.proofs.Tries.{under_still, done_behind}
+use Rattle.work_runner.specs.Tries.{CommitsNone, IsUnder, none_begun}
+use Rattle.work_runner.proofs.Tries.{under_still, done_behind}
 use Rattle.grow_hash.specs.Grown.{IsGrownOpening}
 use Rattle.grow_hash.specs.GrowRules.{IsGrowCommit}
 use Rattle.grow_hash.specs.GrowAttempts.{GrowAttempted}

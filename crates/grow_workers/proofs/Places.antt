@@ -22,8 +22,8 @@ use Rattle.set_script.specs.declared.commands.Reply.TheVariants.{Yes, No, Full, 
 use Rattle.section_work.specs.Causes.{Causes}
 use Rattle.run_report.specs.Worked.{past_of, state_of_time}
 use Rattle.script_workers.specs.Commands.{RanTo}
-use Rattle.script_workers.proofs.Places.{last_by, ran_commit, ran_read}
-use Rattle.script_workers.proofs.Tries.{ran_after, seen_grows, entered_continues, entered_within}
+use Rattle.script_workers.proofs.Places.{last_by, ran_commit, ran_read, ran_after}
+use Rattle.work_runner.proofs.Tries.{seen_grows, entered_continues, entered_within}
 use Rattle.grow_hash.specs.Grown.{IsGrownOpening, grown_catalogue, grown_capacity, first_grown}
 use Rattle.grow_hash.specs.GrowRules.{IsGrowCommit}
 use Rattle.grow_hash.specs.GrowPlans.{GrowPlan}

@@ -20,8 +20,8 @@ use Rattle.run_report.specs.Worked.{Past, past_of}
 use Rattle.item_workers.specs.declared.runner.Answer.{Answer}
 use Rattle.item_workers.specs.Chains.{Chain, HaveNumbers, answered}
 use Rattle.script_workers.specs.Lines.{line_of}
-use Rattle.script_workers.proofs.Places.{past_later}
-use Rattle.script_workers.proofs.Tries.{follows_earlier, seen_grows}
+use Rattle.script_workers.proofs.Places.{past_later, follows_earlier}
+use Rattle.work_runner.proofs.Tries.{seen_grows}
 use Rattle.grow_report.specs.Turns.{GrowPlaceOf, SplitIf, Turn, TurnsOf, RanGrow, IsAhead, first_place, is_added, odd_with}
 use Rattle.grow_report.specs.Turns as reported
 use Rattle.grow_report.proofs.Known.{place_longer, due_longer}

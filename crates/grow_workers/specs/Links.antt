@@ -10,7 +10,7 @@ use Rattle.section_work.specs.Causes.{Causes}
 use Rattle.run_report.specs.declared.line.Line.{Line}
 use Rattle.run_report.specs.Worked.{BySeat}
 use Rattle.item_workers.specs.Chains.{Chain}
-use Rattle.script_workers.specs.Tries.{IsUnder, none_begun, DoneBehind}
+use Rattle.work_runner.specs.Tries.{IsUnder, none_begun, DoneBehind}
 use Rattle.grow_hash.specs.Grown.{IsGrownOpening}
 use Rattle.grow_hash.specs.GrowRules.{IsGrowCommit}
 use Rattle.grow_hash.specs.GrowAttempts.{GrowAttempted}

@@ -17,12 +17,12 @@ use Rattle.run_report.specs.declared.line.Line.{Line}
 use Rattle.run_report.specs.Worked.{Ran, BySeat, AllRan}
 use Rattle.item_workers.specs.declared.runner.Answer.{Answer}
 use Rattle.item_workers.specs.Chains.{Chain, DidTo, EachDid, answered}
-use Rattle.item_workers.proofs.Each.{each_seat, chain_told}
+use Rattle.item_workers.proofs.Each.{each_seat}
 use Rattle.item_workers.proofs.Links.{chain_length, did_to}
 use Rattle.script_workers.specs.Lines.{line_of, row_of, LinkedLine, AllLinked}
 use Rattle.script_workers.specs.Links.{LinkedDone}
 use Rattle.script_workers.specs.Workers.{items_of, command_count}
-use Rattle.script_workers.proofs.Runs.{chain_ran}
+use Rattle.script_workers.proofs.Runs.{chain_ran, chain_lines}
 
 -- each command has one number
 ones : (commands : List Command) → sum_by (λ (c : Command). 1) commands ≡ length commands
@@ -91,8 +91,7 @@ module _ (k : Causes) {T : Type 0} (seat_in : T → Seat) where
   all_linked =
       by_seat seat_in (λ (t : Seat). t) (LinkedDone k) seat_in (Chain (LinkedLine k))
       (λ t n s r h.
-      chain_told (answered (LinkedDone k)) (LinkedLine k) line_of (λ a b c d l. l) (seat_in t) n s r.items
-      (did_to (LinkedDone k) (λ (c : Command). 1) (seat_in t) n s r.items h).chain)
+      chain_lines k (seat_in t) n s r.items (did_to (LinkedDone k) (λ (c : Command). 1) (seat_in t) n s r.items h).chain)
 
 -- there is room for the lines of one more row
 pub row_fits : (rows : List (Vec (Answer (Place × Reply)) Global)) (i : ℕ) (row : Vec (Answer (Place × Reply)) Global) → i < length rows

@@ -5,9 +5,9 @@ use Rattle.set_script.specs.declared.commands.Command.{Command}
 use Rattle.section_work.specs.declared.place.Place.TheVariants.{Read}
 use Rattle.set_script.specs.declared.commands.Reply.{Reply}
 use Rattle.section_work.specs.Causes.{Causes}
-use Rattle.script_workers.specs.Tries.{IsEnteredBetween}
+use Rattle.work_runner.specs.Tries.{IsEnteredBetween}
 use Rattle.script_workers.specs.Links.{Linked}
-use Rattle.script_workers.proofs.Tries.{entered_fresh}
+use Rattle.work_runner.proofs.Tries.{entered_fresh}
 
 -- No read is older than what its seat had seen when the command began.
 pub linked_fresh : (k : Causes) (s t : Seat) (command : Command) (time : ℕ) (answer : Reply) → Linked k s t command (Read time) answer

@@ -22,15 +22,17 @@ use Rattle.section_work.specs.Sections.{IsEntered}
 use Rattle.section_work.specs.declared.place.Place.{Place}
 use Rattle.section_work.specs.declared.place.Place.TheVariants.{Commit as AtCommit, Read}
 use Rattle.set_script.specs.declared.commands.Reply.{Reply}
-use Rattle.set_catalog.specs.declared.answer.Attempt.{Attempt}
-use Rattle.set_catalog.specs.declared.answer.Attempt.TheVariants.{Done, Again}
+use Rattle.set_catalog.specs.declared.answer.Attempt.TheVariants.{Done}
 use Rattle.set_catalog.specs.Attempts.{Attempted}
 use Rattle.section_work.specs.Causes.{Causes}
 use Rattle.run_report.specs.Order.{time_of}
 use Rattle.run_report.specs.Worked.{Past, past_of, state_of_time, PlaceOf}
 use Rattle.run_report.proofs.history.Grown.{longer, place_longer}
-use Rattle.script_workers.specs.Commands.{RanTo, RanAt, Tried}
-use Rattle.script_workers.proofs.Tries.{gave_up, entered_continues, entered_within}
+use Rattle.work_runner.specs.Tries.{CommitsNone}
+use Rattle.work_runner.proofs.Tries.{seen_grows, entered_continues, entered_within}
+use Rattle.run_report.specs.Legal.{Follows}
+use Rattle.mv_history.proofs.Steps.{Continues-Continues}
+use Rattle.script_workers.specs.Commands.{RanTo, RanAt}
 
 -- one more commit, if it is this seat's
 all_by_one : (seat : ℕ) (c : Commit) (cs : List Commit) (is : Bool) → eqb c.seat seat ≡ is → All (λ (d : Commit). d.seat ≡ seat) cs
@@ -57,6 +59,22 @@ last_by s cs c mine is =
 pub same_room : (s : Seat) (time : ℕ) → capacity (state_of_time (past_of s) time) ≡ capacity s.start
 same_room s time = ap (λ objects. objects - first_node) (length-state_after s.start (take (time - s.base) s.seen))
 
+-- what follows a time follows an earlier one
+pub follows_earlier : (a b : ℕ) (place : Place) → a ≤ b → Follows b place → Follows a place
+follows_earlier a b (AtCommit time) le f = omega (arith, le, f)
+follows_earlier a b (Read time) le f = omega (arith, le, f)
+
+-- attempts that were given up, and then one that is done
+pub ran_after : (placed_in : Past → ℕ → List Commit → Type 0) (s t u : Seat) (place : Place) → CommitsNone s t → RanTo placed_in t u place
+    → RanTo placed_in s u place
+ran_after placed_in s t u place none ran = record {
+  continues = Continues-Continues none.continues ran.continues;
+  commits = ran.commits;
+  mine = ran.mine ∙ ap (λ cs. cs ++ ran.commits) none.mine;
+  follows = follows_earlier (s.base + length s.seen) (t.base + length t.seen) place (seen_grows s t none.continues) ran.follows;
+  placed = ran.placed;
+}
+
 -- one that is the seat's last commit, at this time
 pub ran_commit : (placed_in : Past → ℕ → List Commit → Type 0) (s t : Seat) (c : Commit) (time : ℕ) → t.mine ≡ commits_of t.number t.seen → Continues s t
     → s.base + length s.seen < time → t.mine ≡ s.mine ++ c ∷ [] → (c.seat ≡ t.number → placed_in (past_of t) t.number (c ∷ []))
@@ -79,10 +97,10 @@ ran_read placed_in k s t before entered time comes enters is mine placed =
       placed = placed (omega (arith, within.0, c.base)) within.1;
     }
 
--- What an attempt leaves.
-pub tried : (k : Causes) (s t : Seat) (command : Command) (attempt : Attempt) → IsSeat IsOpening IsSetCommit t → Attempted k s t command attempt
-    → Tried s t command attempt
-tried k s t command (Done answer (AtCommit time)) lawful done =
+-- an attempt that is done
+pub done_at : (k : Causes) (s t : Seat) (command : Command) (place : Place) (answer : Reply) → IsSeat IsOpening IsSetCommit t
+    → Attempted k s t command (Done answer place) → RanAt s t command place answer
+done_at k s t command (AtCommit time) answer lawful done =
     ran_commit _ s t done.commit time lawful.mine done.continues done.later done.mine
     (λ by. (
       done.commit,
@@ -95,7 +113,7 @@ tried k s t command (Done answer (AtCommit time)) lawful done =
         answers = done.answers ∙ ap (λ room. reply command (catalogue_of (state_of_time (past_of t) (time - 1))) room false) (same_room t (time - 1));
       },
     ))
-tried k s t command (Done answer (Read time)) lawful read =
+done_at k s t command (Read time) answer lawful read =
     ran_read _ k s t read.before read.entered time read.comes read.enters read.time_is read.mine
     (λ after seen. (
       refl,
@@ -107,7 +125,6 @@ tried k s t command (Done answer (Read time)) lawful read =
             ∙ read.unchanging;
       },
     ))
-tried k s t command (Again cause) lawful given = gave_up k s t given.prepared given.entered given.mine given.prepares given.enters
 
 -- what a seat sees later is a longer history
 pub past_later : (s t : Seat) → Continues s t → past_of t ≡ longer (past_of s) (drop (length s.seen) t.seen)

@@ -23,17 +23,18 @@ use Rattle.run_report.specs.Worked.{past_of, PlaceOf, LinesOf, Ran}
 use Rattle.item_workers.specs.declared.runner.Answer.{Answer}
 use Rattle.item_workers.specs.Chains.{Chain, DidAll, HaveNumbers, answered}
 use Rattle.script_workers.specs.Commands.{RanAt}
-use Rattle.script_workers.specs.Lines.{line_of}
+use Rattle.item_workers.proofs.Each.{chain_told}
+use Rattle.script_workers.specs.Lines.{line_of, LinkedLine}
 use Rattle.script_workers.specs.Links.{Linked, LinkedDone}
-use Rattle.script_workers.proofs.Places.{tried, place_later, time_seen}
-use Rattle.script_workers.specs.Tries.{IsUnder}
-use Rattle.script_workers.proofs.Tries.{done_behind, under_still, ran_after, follows_earlier}
+use Rattle.script_workers.proofs.Places.{done_at, place_later, time_seen, ran_after, follows_earlier}
+use Rattle.work_runner.specs.Tries.{IsUnder}
+use Rattle.work_runner.proofs.Tries.{done_behind, gave_up, under_still}
 
 -- The command of a link has its place.
 pub linked_ran : (k : Causes) (s t : Seat) (command : Command) (place : Place) (answer : Reply) → Linked k s t command place answer
     → RanAt s t command place answer
 linked_ran k s t command place answer l =
-    ran_after _ s l.from t place l.none (tried k l.from t command (Done answer place) l.lawful l.attempted)
+    ran_after _ s l.from t place l.none (done_at k l.from t command place answer l.lawful l.attempted)
 
 -- What an attempt leaves under a command that was begun: its link,
 pub under_done : (k : Causes) (s t u : Seat) (command : Command) (a : Attempt) (place : Place) (answer : Reply) → a ≡ Done answer place
@@ -46,9 +47,10 @@ under_done k s t u command a place answer is h lawful left =
 
 -- or that it is still under it
 pub under_again : (k : Causes) (s t u : Seat) (command : Command) (a : Attempt) (cause : Cause) → a ≡ Again cause → IsUnder most_locks s t
-    → IsSeat IsOpening IsSetCommit u → Attempted k t u command a → IsUnder most_locks s u
-under_again k s t u command a cause is h lawful left =
-    under_still most_locks s t u h (tried k t u command (Again cause) lawful (subst (λ (b : Attempt). Attempted k t u command b) is left))
+    → Attempted k t u command a → IsUnder most_locks s u
+under_again k s t u command a cause is h left =
+    let g = subst (λ (b : Attempt). Attempted k t u command b) is left in
+    under_still most_locks s t u h (gave_up k t u g.prepared g.entered g.mine g.prepares g.enters)
 
 -- From a seat on these lines were made, the first of this number and following this time.
 record RanFrom (s t : Seat) (number before : ℕ) (commands : List Command) (lines : List Line) : Type 0 where
@@ -102,3 +104,8 @@ pub chain_ran : (k : Causes) (s u : Seat) (commands : List Command) (ds : List (
 chain_ran k s u commands ds did =
     let ran = ran_from k s u 1 (s.base + length s.seen) commands ds (omega arith) did.chain did.numbers in
     record { continues = ran.continues; commits = ran.commits; mine = ran.mine; each = ran.each }
+
+-- The chain of the answers is that of the lines.
+pub chain_lines : (k : Causes) (s u : Seat) (commands : List Command) (ds : List (Answer (Place × Reply)))
+    → Chain (answered (LinkedDone k)) s u commands ds → Chain (LinkedLine k) s u commands (map line_of ds)
+chain_lines k = chain_told (answered (LinkedDone k)) (LinkedLine k) line_of (λ s t i d l. l)

@@ -6,11 +6,8 @@ use Rattle.mv_history.specs.Calls.{Continues}
 use Rattle.set_script.specs.declared.commands.Command.{Command}
 use Rattle.section_work.specs.declared.place.Place.{Place}
 use Rattle.set_script.specs.declared.commands.Reply.{Reply}
-use Rattle.set_catalog.specs.declared.answer.Attempt.{Attempt}
-use Rattle.set_catalog.specs.declared.answer.Attempt.TheVariants.{Done, Again}
 use Rattle.run_report.specs.Legal.{Follows}
 use Rattle.run_report.specs.Worked.{Past, past_of, PlaceOf}
-use Rattle.script_workers.specs.Tries.{CommitsNone}
 
 -- Something took place there in the history that the seat has seen, behind all that it had seen before, and the seat's commits grew by
 -- exactly those of it.
@@ -24,8 +21,3 @@ pub record RanTo (placed_in : Past → ℕ → List Commit → Type 0) (old new 
 -- the command took place there, with this reply
 abbrev pub RanAt : Seat → Seat → Command → Place → Reply → Type 0
 RanAt old new command place answer = RanTo (λ p seat commits. PlaceOf p seat command place answer commits) old new place
-
--- what an attempt leaves: the command is done, or no commit was made
-abbrev pub Tried : Seat → Seat → Command → Attempt → Type 0
-Tried old new command (Done answer place) = RanAt old new command place answer
-Tried old new command (Again cause) = CommitsNone old new

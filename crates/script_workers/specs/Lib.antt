@@ -1,4 +1,3 @@
-pub mod Tries
 pub mod Commands
 pub mod Links
 pub mod Lines

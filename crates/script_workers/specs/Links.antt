@@ -8,7 +8,7 @@ use Rattle.set_script.specs.declared.commands.Reply.{Reply}
 use Rattle.section_work.specs.Causes.{Causes}
 use Rattle.set_catalog.specs.Attempts.{Attempted}
 use Rattle.set_catalog.specs.declared.answer.Attempt.TheVariants.{Done}
-use Rattle.script_workers.specs.Tries.{DoneBehind}
+use Rattle.work_runner.specs.Tries.{DoneBehind}
 
 -- Behind attempts that made no commit there was one of this command that was done: by a commit later than all that was seen, or at the time of
 -- a section that this very attempt entered, whose snapshot holds all that the seat had seen.

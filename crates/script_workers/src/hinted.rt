@@ -19,7 +19,7 @@ impl<S: Store<Rules = SetRules>> Runner for Hinted<S> {
     ghost use Rattle.mv_history.specs.Meaning.{Seat};
     ghost use Rattle.set_catalog.specs.Steps.{most_locks};
     ghost use Rattle.section_work.specs.Causes.{causes};
-    ghost use Rattle.script_workers.specs.Tries.{IsUnder, none_begun};
+    ghost use Rattle.work_runner.specs.Tries.{IsUnder, none_begun};
     ghost use Rattle.script_workers.specs.Links.{LinkedDone};
 
     type Item = Command;

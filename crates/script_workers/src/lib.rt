@@ -36,23 +36,22 @@
 //!
 //! [`Hinted`], a store with its hints, is a `Runner` of `item_workers`, which has the threads and gives the chain. One
 //! attempt's contract (`set_catalog`) speaks of the history that was seen then. From it comes the place of a command
-//! (`proofs/Places.antt`), which stays its place in each longer history. So the lines of the commands before stay as they
-//! are while one more is made (`proofs/Lines.antt`), and a chain is a run (`proofs/Runs.antt`).
+//! (`proofs/Places.antt`), which stays its place in each longer history; and so a chain is a run, by its first command and
+//! the chain behind it (`proofs/Runs.antt`).
 //!
 //! # Its place
 //!
-//! It stands on the attempts of `set_catalog`, on the workers of `item_workers` and on the lines of `run_report`, over any
-//! store. The program opens the stores and prints the lines; that these are a legal run follows from this contract and from
-//! the stores being seats of one domain.
+//! It stands on the attempts of `set_catalog`, on the workers of `item_workers`, on `work_runner` for what it means to be
+//! done behind attempts that made no commit, and on the lines of `run_report`, over any store. The program opens the
+//! stores and prints the lines; that these are a legal run follows from this contract and from the stores being seats of
+//! one domain.
 #![tactic(auto)]
 
 mod hinted;
 mod rows;
 mod running;
-mod worker;
 
 pub use hinted::Hinted;
 pub use item_workers::take_first;
-pub use rows::{lines_room, make_lines, put_lines};
+pub use rows::{lines_room, make_lines};
 pub use running::run_scripts;
-pub use worker::run_command;

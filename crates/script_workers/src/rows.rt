@@ -55,14 +55,3 @@ fn put_row(lines: &mut Vec<Line>, row: &[Answer<(Place, Reply)>])
         });
     }
 }
-
-/// Appends lines for which there is room.
-pub fn put_lines(into: &mut Vec<Line>, lines: &[Line])
-    requires { length into.old.items + length lines.now ≤ vec_capacity into.old }
-    ensures items { into.new.items ≡ into.old.items ++ lines.now }
-    ensures capacity { vec_capacity into.new ≡ vec_capacity into.old }
-{
-    for line in lines {
-        into.push_reserved(*line);
-    }
-}

@@ -1,4 +1,4 @@
-use Rattle.std.proofs.Common.{arith, map}
+use Rattle.std.proofs.Common.{arith}
 use Rattle.item_workers.proofs.Each.{all_free, all_may}
 use Rattle.block_workers.proofs.AllBlocks.{few_numbers, all_ran, all_linked, all_counted}
 use Rattle.block_workers.proofs.running.run_blocks.Goals as goal

@@ -1,4 +1,4 @@
-use Rattle.std.proofs.Common.{arith, map}
+use Rattle.std.proofs.Common.{arith}
 use Rattle.item_workers.proofs.Each.{all_free, all_may}
 use Rattle.script_workers.specs.Links.{LinkedDone}
 use Rattle.script_workers.proofs.Chains.{few_numbers, all_ran, all_linked, line_counts}

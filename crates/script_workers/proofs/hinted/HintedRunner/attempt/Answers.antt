@@ -8,5 +8,4 @@ returns-in-Done g c =
 
 pub returns-in-Again : goal.returns-in-Again
 returns-in-Again g c =
-    let new = c.attempt-hinted.result.0.store in
-    record { tried = λ s u. under_again _ s _ _ _ _ _ c.in-Again.is u (g.met.S.Store.lawful new) c.attempt-hinted.ensures.attempted }
+    record { tried = λ s u. under_again _ s _ _ _ _ _ c.in-Again.is u c.attempt-hinted.ensures.attempted }

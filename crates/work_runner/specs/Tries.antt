@@ -17,8 +17,11 @@ pub record IsUnder (most : ℕ) (s t : Seat) : Type 0 where
   pub may : most ≤ t.write_max
 
 -- so it is where it was just begun
+pub nothing_begun : (s : Seat) → CommitsNone s s
+nothing_begun s = record { continues = Continues-itself s; mine = refl }
+
 pub none_begun : (most : ℕ) (s : Seat) → most ≤ s.write_max → IsUnder most s s
-none_begun most s may = record { none = record { continues = Continues-itself s; mine = refl }; may = may }
+none_begun most s may = record { none = nothing_begun s; may = may }
 
 -- After attempts that made no commit there was one, all of which is from `from` to the new seat, which left this.
 pub record DoneBehind (leaves : Seat → Seat → Type 0) (law : Seat → Type 0) (s t : Seat) : Type 0 where

@@ -1,22 +1,11 @@
 -- Attempts that made no commit, one behind another, and what comes behind them.
-use Rattle.std.proofs.Common.{◌≡◌, ℕ, ◌+◌, ◌≤◌, List, ◌++◌, length, refl, ap, ◌∙◌, subst, arith}
-use Rattle.mv_history.specs.declared.history.Commit.{Commit}
+use Rattle.std.proofs.Common.{◌≡◌, ℕ, ◌+◌, ◌≤◌, length, ◌∙◌, subst, arith}
 use Rattle.mv_history.specs.Meaning.{Seat, InSection}
 use Rattle.mv_history.specs.Calls.{Continues, Prepares}
-use Rattle.mv_history.specs.CallLaws.{Continues-itself}
 use Rattle.mv_history.proofs.Steps.{Continues-Continues, length-seen}
 use Rattle.section_work.specs.Causes.{Causes}
 use Rattle.section_work.specs.Sections.{IsEntered}
-use Rattle.section_work.specs.declared.place.Place.{Place}
-use Rattle.section_work.specs.declared.place.Place.TheVariants.{Commit as AtCommit, Read}
-use Rattle.run_report.specs.Legal.{Follows}
-use Rattle.run_report.specs.Worked.{Past}
-use Rattle.script_workers.specs.Tries.{CommitsNone, IsUnder, DoneBehind, IsEnteredBetween}
-use Rattle.script_workers.specs.Commands.{RanTo}
-
--- no attempt yet
-pub none_yet : (s : Seat) → CommitsNone s s
-none_yet s = record { continues = Continues-itself s; mine = refl }
+use Rattle.work_runner.specs.Tries.{CommitsNone, IsUnder, DoneBehind, IsEnteredBetween}
 
 -- one more attempt that was given up
 pub none_still : (s t u : Seat) → CommitsNone s t → CommitsNone t u → CommitsNone s u
@@ -37,25 +26,9 @@ pub done_behind : {A : Type 0} (leaves : Seat → Seat → A → Type 0) (law : 
 done_behind {A} leaves law s t u answer named is none lawful left =
     record { from = t; none = none; attempted = subst (λ (a : A). leaves t u a) is left; lawful = lawful }
 
--- what follows a time follows an earlier one
-pub follows_earlier : (a b : ℕ) (place : Place) → a ≤ b → Follows b place → Follows a place
-follows_earlier a b (AtCommit time) le f = omega (arith, le, f)
-follows_earlier a b (Read time) le f = omega (arith, le, f)
-
 -- the printed time of all that was seen doesn't fall
 pub seen_grows : (s t : Seat) → Continues s t → s.base + length s.seen ≤ t.base + length t.seen
 seen_grows s t c = omega (arith, c.base, length-seen c)
-
--- attempts that were given up, and then one that is done
-pub ran_after : (placed_in : Past → ℕ → List Commit → Type 0) (s t u : Seat) (place : Place) → CommitsNone s t → RanTo placed_in t u place
-    → RanTo placed_in s u place
-ran_after placed_in s t u place none ran = record {
-  continues = Continues-Continues none.continues ran.continues;
-  commits = ran.commits;
-  mine = ran.mine ∙ ap (λ cs. cs ++ ran.commits) none.mine;
-  follows = follows_earlier (s.base + length s.seen) (t.base + length t.seen) place (seen_grows s t none.continues) ran.follows;
-  placed = ran.placed;
-}
 
 -- The time of a section that was entered behind a seat.
 module _ (k : Causes) (s t before : Seat) (entered : InSection) (time : ℕ) (comes : Continues s before) (enters : IsEntered k before entered t)

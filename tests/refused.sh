@@ -48,18 +48,34 @@ must() {
     head -c "$4" text | cmp -s - out || fail "$2: '$(cat out)' on standard output"
 }
 
+# How many calls of a kind the first file of the words takes: its opening; its reads of so many bytes, and the one that finds its end.
+calls_of_first() {
+    local kind=$1 most=$2 word
+    shift 2
+    for word in "$@"; do
+        [ -f "$word" ] || continue
+        case $kind in
+            open) echo 1 ;;
+            *) echo $((($(wc -c <"$word") + most - 1) / most + 1)) ;;
+        esac
+        return
+    done
+}
+
 # Refuses call after call of a kind in runs of the words, until one passes or a fault is found; each must end with the status
-# and the line. Where a write is refused, the bytes are there that the writes before it moved.
+# and the line, in which N stands for the number of the file whose call it was. Where a write is refused, the bytes are there
+# that the writes before it moved.
 sweep() {
-    local kind=$1 most=$2 wanted=$3 line=$4 at before=0
+    local kind=$1 most=$2 wanted=$3 line=$4 at before=0 first
     shift 4
+    first=$(calls_of_first "$kind" "$most" "$@")
     "$program" "$@" >text 2>/dev/null || { fail "no text: $*"; return; }
     for ((at = 1; at <= 1000 && failed == 0; at++)); do
         refuse "$kind" "$at" "$most" "$program" "$@"
         must_free "$kind $at of $*"
         [ "$status" = 0 ] && break
         [ "$kind" = write ] && before=$((most * (at - 1)))
-        must "$wanted" "$kind $at of $*" "$line" "$before"
+        must "$wanted" "$kind $at of $*" "${line/N/$((at > first))}" "$before"
     done
     [ "$failed" = 0 ] || return
     [ "$at" -gt 1 ] || fail "no $kind of $* was refused"
@@ -72,8 +88,8 @@ for words in 'run script' 'run script empty' 'block blocks empty' 'pool 1 script
     # shellcheck disable=SC2086
     {
         sweep alloc 1000000 7 'out of memory' $words
-        sweep open 1000000 5 'read fault: script [01]' $words
-        sweep read 3 5 'read fault: script [01]' $words
+        sweep open 1000000 5 'read fault: script N' $words
+        sweep read 3 5 'read fault: script N' $words
         sweep write 3 6 'write fault' $words
         sweep write 1000000 6 'write fault' $words
     }
@@ -127,8 +143,15 @@ status=$?
 must 6 'a full device' 'write fault' 0
 run "$program" run .
 must 5 'a folder' 'read fault: script 0' 0
+run "$program" run script .
+must 5 'a folder behind a file' 'read fault: script 1' 0
 run "$program" run script absent
 must 5 'no file' 'read fault: script 1' 0
+# A name that stands twice is told by its first place.
+run "$program" run script script absent absent
+must 5 'no file twice' 'read fault: script 2' 0
+refuse open 3 1000000 "$program" run empty script script
+must 5 'the second opening of a file' 'read fault: script 1' 0
 refuse write 1 1000000 "$program"
 must 2 'no standard error' '' 0
 

@@ -1,18 +1,21 @@
 -- The texts of files, and what parsing them side by side gives.
 use Rattle.std.proofs.Common.{◌≡◌, ◌≤◌, ◌<◌, ℕ, zero, suc, List, [], ◌∷◌, ◌++◌, length, take, map, get_or, slice_get, Vec, Option, None, Some}
-use Rattle.std.proofs.Common.{Result, Ok, Err, All, IfOk, refl, sym, subst, arith}
+use Rattle.std.proofs.Common.{Result, Ok, Err, All, IfOk, refl, sym, ap, ◌∙◌, subst, arith, inl, inr}
+use Rattle.std.proofs.lemmas.Bool.{cases_lt}
 use Rattle.std.specs.declared.alloc.Global.{Global}
 use Rattle.std.specs.List.{AllZip}
 use Rattle.std.proofs.lemmas.List.{take_all}
 use Rattle.std.proofs.lemmas.List.Elements.{All-nil, All-cons, All-head, All-tail}
 use Rattle.std.proofs.lemmas.Option.{get_or_from_slice_get, slice_get_within}
-use Rattle.run_outside.specs.Outside.{Texts}
+use Rattle.run_outside.specs.Outside.{Faults, Texts}
 use Rattle.mvrlu_run.specs.declared.finish.Finish.{Finish}
 use Rattle.mvrlu_run.specs.declared.finish.Finish.TheVariants.{Done, Usage, Limit, Script, BlockScript, Plan, Bytes, Read, Write, Memory}
 use Rattle.mvrlu_run.specs.Reading.{AreFirstTexts, IsTextOf, Says, text_of}
-use Rattle.mvrlu_run.specs.Scripts.{AllScripts, Answers, AnyStop, HasNoText, IsFirstRefused, IsRefused, IsScript, NoScripts, NoText, Parses}
+use Rattle.mvrlu_run.specs.Scripts.{AllScripts, Answers, AnyStop, FirstStands, IsFirstRefused, IsRefused, IsScript, NoScripts, NoText, NoneFailed, Parses}
 use Rattle.mvrlu_run.specs.Scripts.{Reaches, Reading, ScriptOf, StopsAt, blocks, commands, grammar_of, parsed_by, plans}
 use Rattle.set_blocks.specs.BlockGrammar.{parsed_blocks}
+use Rattle.step_replay.specs.PlanTexts.{planned}
+use Rattle.mvrlu_run.proofs.Failing.{failed_from}
 
 -- one more text
 pub texts_push : (t : Option Texts) (names texts : List (List ℕ)) (name text : List ℕ) → slice_get names (length texts) ≡ Some name
@@ -43,6 +46,14 @@ zip_length R [] [] h = refl
 zip_length R [] (y ∷ ys) h = absurd h
 zip_length R (x ∷ xs) [] h = absurd h
 zip_length R (x ∷ xs) (y ∷ ys) h = let more = zip_length R xs ys h.1 in omega (arith, more)
+
+-- the fronts of lists that agree at each place agree
+pub zip_take : {X Y : Type 0} (R : X → Y → Type 0) (n : ℕ) (xs : List X) (ys : List Y) → AllZip R xs ys → AllZip R (take n xs) (take n ys)
+zip_take R zero xs ys h = tt
+zip_take R (suc n) [] [] h = tt
+zip_take R (suc n) [] (y ∷ ys) h = absurd h
+zip_take R (suc n) (x ∷ xs) [] h = absurd h
+zip_take R (suc n) (x ∷ xs) (y ∷ ys) h = (h.0, zip_take R n xs ys h.1)
 
 -- what holds of each value that was taken
 pub all_ok : {S E : Type 0} (P : S → Type 0) (values : List S) → All {X = Result S E} (λ result. IfOk result P) (map Ok values) → All P values
@@ -81,15 +92,14 @@ module _ {A K : Type 0} (grammar : List ℕ → Result A (ℕ × K)) where
         says = says_text t at.0 p.text (IsRefused grammar line kind) at.2 (record { short = at.2.short; fault = p.fault });
       }
 
-  -- the files behind the texts are reached
-  abbrev reaches_end : (t : Option Texts) (names texts : List (List ℕ)) (scripts : List A) (place : ℕ) (name : List ℕ) → length texts ≡ place
+  -- a file is reached where the texts before it are scripts
+  abbrev reaches_place : (t : Option Texts) (names texts : List (List ℕ)) (scripts : List A) (place : ℕ) (name : List ℕ) → place ≤ length texts
       → slice_get names place ≡ Some name → AreFirstTexts t names texts → AllZip (Parses grammar) texts scripts → Reaches grammar t names place
-  reaches_end t names texts scripts place name len at h p = record {
+  reaches_place t names texts scripts place name le at h p = record {
     name = name;
     named = at;
-    before = scripts;
-    scripts = scripts_before t names texts scripts place (omega (arith, len)) h
-        (subst (λ ts. AllZip (Parses grammar) ts scripts) (sym (take_all place texts (omega (arith, len)))) p);
+    before = take place scripts;
+    scripts = scripts_before t names texts (take place scripts) place le h (zip_take (Parses grammar) place texts scripts p);
   }
 
   -- where each file has a text, and each text is a script, each file has a script
@@ -145,7 +155,7 @@ module _ {A K : Type 0} (grammar : List ℕ → Result A (ℕ × K)) where
     first_refused texts results before fault rest h same = stops_at texts before fault rest (subst (AreAnswers texts) same h)
 
 -- why the first of these texts that is refused stops the reading of files
-pub no_scripts : (f : Finish) (reading : Reading) (t : Option Texts) (names texts : List (List ℕ)) (faults now : ℕ)
+pub no_scripts : (f : Finish) (reading : Reading) (t : Option Texts) (names texts : List (List ℕ)) (faults now : Faults)
     → AreFirstTexts t names texts → NoScripts f reading texts → AnyStop f reading t names faults now
 no_scripts (Script script line kind) (commands grammar) t names texts faults now h p = stops_at_fault (parsed_by grammar) t names texts script line kind h p
 no_scripts (Script script line kind) blocks t names texts faults now h p = absurd p
@@ -153,7 +163,9 @@ no_scripts (Script script line kind) plans t names texts faults now h p = absurd
 no_scripts (BlockScript script line kind) (commands grammar) t names texts faults now h p = absurd p
 no_scripts (BlockScript script line kind) blocks t names texts faults now h p = stops_at_fault parsed_blocks t names texts script line kind h p
 no_scripts (BlockScript script line kind) plans t names texts faults now h p = absurd p
-no_scripts (Plan script line kind) reading t names texts faults now h p = absurd p
+no_scripts (Plan script line kind) (commands grammar) t names texts faults now h p = absurd p
+no_scripts (Plan script line kind) blocks t names texts faults now h p = absurd p
+no_scripts (Plan script line kind) plans t names texts faults now h p = stops_at_fault planned t names texts script line kind h p
 no_scripts (Bytes script) reading t names texts faults now h p = absurd p
 no_scripts (Read script) reading t names texts faults now h p = absurd p
 no_scripts Memory reading t names texts faults now h p = tt
@@ -162,33 +174,44 @@ no_scripts Usage reading t names texts faults now h p = absurd p
 no_scripts (Limit limit) reading t names texts faults now h p = absurd p
 no_scripts Write reading t names texts faults now h p = absurd p
 
--- a file that has no text stops the reading of files, where the texts before it are scripts
-pub no_text : (f : Finish) (reading : Reading) (t : Option Texts) (names texts : List (List ℕ)) (scripts : List (ScriptOf reading)) (place faults now : ℕ)
-    → length texts ≡ place → AreFirstTexts t names texts → AllZip (Parses (grammar_of reading)) texts scripts
-    → HasNoText f place t names faults now → AnyStop f reading t names faults now
-no_text (Bytes script) reading t names texts scripts place faults now len h p o =
-    rw o.2.0 (record { reaches = reaches_end (grammar_of reading) t names texts scripts place o.0 len o.1 h p; says = o.2.1 })
-no_text (Read script) reading t names texts scripts place faults now len h p o =
-    (rw o.2.0 (reaches_end (grammar_of reading) t names texts scripts place o.0 len o.1 h p), o.2.1)
-no_text Memory reading t names texts scripts place faults now len h p o = tt
-no_text (Script script line kind) reading t names texts scripts place faults now len h p o = absurd o.2
-no_text (BlockScript script line kind) reading t names texts scripts place faults now len h p o = absurd o.2
-no_text (Plan script line kind) reading t names texts scripts place faults now len h p o = absurd o.2
-no_text (Done c) reading t names texts scripts place faults now len h p o = absurd o.2
-no_text Usage reading t names texts scripts place faults now len h p o = absurd o.2
-no_text (Limit limit) reading t names texts scripts place faults now len h p o = absurd o.2
-no_text Write reading t names texts scripts place faults now len h p o = absurd o.2
+-- a name that first stands at one place stands at none before it
+pub first_before : (names : List (List ℕ)) (first place : ℕ) (name : List ℕ) → FirstStands names first name → slice_get names place ≡ Some name
+    → first ≤ place
+first_before names first place name stands at =
+    elim (cases_lt place first) as (λ _. first ≤ place) [
+      | inl lt ↦ absurd (stands.first place lt at)
+      | inr le ↦ le
+    ]
 
--- where a file has no text, none is of its place
-pub has_no_text : (f : Finish) (t : Option Texts) (names : List (List ℕ)) (place : ℕ) (name : List ℕ) (faults mid now : ℕ)
-    → slice_get names place ≡ Some name → faults ≤ mid → NoText f place t name mid now → HasNoText f place t names faults now
-has_no_text (Bytes script) t names place name faults mid now at le o = (name, at, o)
-has_no_text (Read script) t names place name faults mid now at le o = (name, at, (o.0, omega (arith, le, o.1)))
-has_no_text Memory t names place name faults mid now at le o = tt
-has_no_text (Script script line kind) t names place name faults mid now at le o = absurd o
-has_no_text (BlockScript script line kind) t names place name faults mid now at le o = absurd o
-has_no_text (Plan script line kind) t names place name faults mid now at le o = absurd o
-has_no_text (Done c) t names place name faults mid now at le o = absurd o
-has_no_text Usage t names place name faults mid now at le o = absurd o
-has_no_text (Limit limit) t names place name faults mid now at le o = absurd o
-has_no_text Write t names place name faults mid now at le o = absurd o
+-- a file that has no text stops the reading of files, where the texts before it are scripts
+pub no_text : (f : Finish) (reading : Reading) (t : Option Texts) (names texts : List (List ℕ)) (scripts : List (ScriptOf reading)) (place : ℕ)
+    (faults now : Faults) → length texts ≡ place → AreFirstTexts t names texts → AllZip (Parses (grammar_of reading)) texts scripts
+    → NoText f place t names faults now → AnyStop f reading t names faults now
+no_text (Bytes script) reading t names texts scripts place faults now len h p o =
+    let le : script ≤ length texts = omega (arith, len, o.0) in
+    record { reaches = reaches_place (grammar_of reading) t names texts scripts script o.1.0 le (ap (slice_get names) o.0 ∙ o.1.1) h p; says = o.1.2 }
+no_text (Read script) reading t names texts scripts place faults now len h p o =
+    let le : script ≤ length texts = omega (arith, len, o.0) in
+    (reaches_place (grammar_of reading) t names texts scripts script o.1.0 le o.1.1.here h p, o.1)
+no_text Memory reading t names texts scripts place faults now len h p o = tt
+no_text (Script script line kind) reading t names texts scripts place faults now len h p o = absurd o
+no_text (BlockScript script line kind) reading t names texts scripts place faults now len h p o = absurd o
+no_text (Plan script line kind) reading t names texts scripts place faults now len h p o = absurd o
+no_text (Done c) reading t names texts scripts place faults now len h p o = absurd o
+no_text Usage reading t names texts scripts place faults now len h p o = absurd o
+no_text (Limit limit) reading t names texts scripts place faults now len h p o = absurd o
+no_text Write reading t names texts scripts place faults now len h p o = absurd o
+
+-- why a file has no text, also from before calls of which none failed
+pub no_text_from : (f : Finish) (place : ℕ) (t : Option Texts) (names : List (List ℕ)) (faults mid now : Faults) → NoneFailed faults mid
+    → NoText f place t names mid now → NoText f place t names faults now
+no_text_from (Bytes script) place t names faults mid now none o = o
+no_text_from (Read script) place t names faults mid now none o = (o.0, (o.1.0, o.1.1, failed_from o.1.0 faults mid now none o.1.2))
+no_text_from Memory place t names faults mid now none o = tt
+no_text_from (Script script line kind) place t names faults mid now none o = absurd o
+no_text_from (BlockScript script line kind) place t names faults mid now none o = absurd o
+no_text_from (Plan script line kind) place t names faults mid now none o = absurd o
+no_text_from (Done c) place t names faults mid now none o = absurd o
+no_text_from Usage place t names faults mid now none o = absurd o
+no_text_from (Limit limit) place t names faults mid now none o = absurd o
+no_text_from Write place t names faults mid now none o = absurd o

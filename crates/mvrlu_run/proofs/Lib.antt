@@ -1,15 +1,13 @@
 pub mod Parts
 pub mod Many
+pub mod Failing
 pub mod FileTexts
+pub mod OneFile
 pub mod Opened
 pub mod Still
 pub mod WorkTexts
 pub mod Refused
 pub mod Complete
 pub mod Four
-pub mod PoolComplete
-pub mod BlockComplete
-pub mod ReplayComplete
-pub mod GrowComplete
 pub mod GrownBuckets
 pub mod FewBlocks

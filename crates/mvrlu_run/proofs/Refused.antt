@@ -21,7 +21,7 @@ some_of : {A : Type 0} → A → Option A → A
 some_of d None = d
 some_of d (Some a) = a
 
-some_inj : {A : Type 0} (a b : A) → Some a ≡ Some b → a ≡ b
+pub some_inj : {A : Type 0} (a b : A) → Some a ≡ Some b → a ≡ b
 unfolding some_of
 some_inj a b p = ap (some_of a) p
 

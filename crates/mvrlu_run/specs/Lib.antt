@@ -2,12 +2,6 @@ pub mod Reading
 pub mod Sent
 pub mod Status
 pub mod Scripts
+pub mod Kinds
 pub mod Told
 pub mod Outcome
-pub mod Pooled
-pub mod PoolOutcome
-pub mod Blocked
-pub mod GrownRuns
-pub mod BlockOutcome
-pub mod GrowOutcome
-pub mod ReplayOutcome

@@ -1,5 +1,5 @@
 -- What was read of a text.
-use Rattle.std.specs.Prelude.{◌≡◌, ◌<◌, ◌≤◌, ℕ, List, [], ◌∷◌, length, take, Option, None, Some, Vec, ⊤}
+use Rattle.std.specs.Prelude.{◌≡◌, ◌<◌, ◌≤◌, ℕ, List, [], ◌∷◌, length, take, slice_get, Option, None, Some, Vec, ⊤}
 use Rattle.std.specs.declared.alloc.Global.{Global}
 use Rattle.run_outside.specs.Outside.{Texts}
 use Rattle.mvrlu_run.specs.declared.finish.TheConstants.{MOST_BYTES}
@@ -27,6 +27,10 @@ text_of v = v.items
 pub record IsTextOf (texts : Option Texts) (name bytes : List ℕ) : Type 0 where
   pub short : length bytes ≤ MOST_BYTES
   pub says : Says texts name (λ text. text ≡ bytes)
+
+-- and so of the file of this place among these names
+abbrev pub IsTextAt : Option Texts → List (List ℕ) → ℕ → List ℕ → Type 0
+IsTextAt texts names place bytes = (name : List ℕ) × (slice_get names place ≡ Some name) × IsTextOf texts name bytes
 
 -- the first of these names have these texts
 abbrev pub AreFirstTexts : Option Texts → List (List ℕ) → List (List ℕ) → Type 0

@@ -1,10 +1,10 @@
 -- The scripts of several files, and where reading them stops.
-use Rattle.std.specs.Prelude.{◌≡◌, ◌≤◌, ◌<◌, ℕ, List, [], ◌∷◌, length, take, slice_get, Option, Some, Result, Ok, Err, Bool}
+use Rattle.std.specs.Prelude.{◌≡◌, ◌≤◌, ◌<◌, ℕ, List, [], ◌∷◌, ◌++◌, length, take, slice_get, Option, Some, Result, Ok, Err, Bool}
 use Rattle.std.specs.Prelude.{IsTrue, All, ⊤}
 use Rattle.std.specs.List.{AllZip}
 use Rattle.grow_hash.specs.GrowPlans.{IsOfGrown}
 use Rattle.grow_script.specs.GrowGrammar.{parsed_grow}
-use Rattle.run_outside.specs.Outside.{Texts, Rose, HasText}
+use Rattle.run_outside.specs.Outside.{Faults, Texts, Rose, HasText}
 use Rattle.set_blocks.specs.BlockGrammar.{parsed_blocks}
 use Rattle.set_blocks.specs.declared.faults.BlockKind.{BlockKind}
 use Rattle.set_script.specs.Grammar.{parsed}
@@ -107,48 +107,54 @@ grammar_of (commands grammar) = parsed_by grammar
 grammar_of blocks = parsed_blocks
 grammar_of plans = planned
 
--- why the file of this place has no text within the limit, where its name is given and it is read from some count of faults on
-abbrev pub NoText : Finish → ℕ → Option Texts → List ℕ → ℕ → ℕ → Type 0
-NoText (Bytes script) place texts name faults now = (script ≡ place) × Says texts name IsLong
-NoText (Read script) place texts name faults now = (script ≡ place) × Rose faults now
-NoText Memory place texts name faults now = ⊤
-NoText _ place texts name faults now = ⊥
+-- the name stands at this place, and at none before it
+pub record FirstStands (names : List (List ℕ)) (place : ℕ) (name : List ℕ) : Type 0 where
+  pub here : slice_get names place ≡ Some name
+  pub first : (earlier : ℕ) → earlier < place → ¬ (slice_get names earlier ≡ Some name)
 
--- why there is no text of the file of this place among these names
-abbrev pub HasNoText : Finish → ℕ → Option Texts → List (List ℕ) → ℕ → ℕ → Type 0
-HasNoText Memory place texts names faults now = ⊤
-HasNoText finish place texts names faults now = (name : List ℕ) × (slice_get names place ≡ Some name) × NoText finish place texts name faults now
+-- one call failed, on the text of this name
+pub record HasFailed (name : List ℕ) (faults now : Faults) : Type 0 where
+  pub told : now.names ≡ faults.names ++ name ∷ []
+  pub rose : Rose faults.count now.count
 
--- why the file of this place is refused, where its name is given and its text is read from some count of faults on
-abbrev pub OneStop : Finish → Reading → ℕ → Option Texts → List ℕ → ℕ → ℕ → Type 0
-OneStop (Script script line kind) (commands grammar) place texts name faults now =
-    (script ≡ place) × Says texts name (IsRefused (parsed_by grammar) line kind)
-OneStop (BlockScript script line kind) blocks place texts name faults now = (script ≡ place) × Says texts name (IsRefused parsed_blocks line kind)
-OneStop (Plan script line kind) plans place texts name faults now = (script ≡ place) × Says texts name (IsRefused planned line kind)
-OneStop finish reading place texts name faults now = NoText finish place texts name faults now
+-- opening or reading the file of this place failed, and no call before it: its name stands at no place before it
+abbrev pub IsFirstFailed : List (List ℕ) → ℕ → Faults → Faults → Type 0
+IsFirstFailed names place faults now = (name : List ℕ) × FirstStands names place name × HasFailed name faults now
+
+-- no call failed
+pub record NoneFailed (faults now : Faults) : Type 0 where
+  pub told : now.names ≡ faults.names
+  pub later : faults.count ≤ now.count
+
+-- the file of this place has such a text, where the texts are told
+abbrev pub SaysAt : Option Texts → List (List ℕ) → ℕ → (List ℕ → Type 0) → Type 0
+SaysAt texts names place P = (name : List ℕ) × (slice_get names place ≡ Some name) × Says texts name P
+
+-- why the file of this place has no text within the limit, where it is read from some faults on
+abbrev pub NoText : Finish → ℕ → Option Texts → List (List ℕ) → Faults → Faults → Type 0
+NoText (Bytes script) place texts names faults now = (script ≡ place) × SaysAt texts names place IsLong
+NoText (Read script) place texts names faults now = (script ≤ place) × IsFirstFailed names script faults now
+NoText Memory place texts names faults now = ⊤
+NoText _ place texts names faults now = ⊥
 
 -- why these texts are refused, which are read so: the first that is no script
 abbrev pub NoScripts : Finish → Reading → List (List ℕ) → Type 0
 NoScripts (Script script line kind) (commands grammar) texts = IsFirstRefused (parsed_by grammar) texts script line kind
 NoScripts (BlockScript script line kind) blocks texts = IsFirstRefused parsed_blocks texts script line kind
+NoScripts (Plan script line kind) plans texts = IsFirstRefused planned texts script line kind
 NoScripts Memory reading texts = ⊤
 NoScripts _ _ texts = ⊥
 
--- Why reading the files of these names stops, from some count of faults on: at the first that has no script within the limits.
-abbrev pub AnyStop : Finish → Reading → Option Texts → List (List ℕ) → ℕ → ℕ → Type 0
+-- Why reading the files of these names stops, from some faults on: at the first that has no script within the limits.
+abbrev pub AnyStop : Finish → Reading → Option Texts → List (List ℕ) → Faults → Faults → Type 0
 AnyStop (Script script line kind) (commands grammar) texts names faults now =
     StopsAt (parsed_by grammar) texts names script (IsRefused (parsed_by grammar) line kind)
 AnyStop (BlockScript script line kind) blocks texts names faults now = StopsAt parsed_blocks texts names script (IsRefused parsed_blocks line kind)
 AnyStop (Plan script line kind) plans texts names faults now = StopsAt planned texts names script (IsRefused planned line kind)
 AnyStop (Bytes script) reading texts names faults now = StopsAt (grammar_of reading) texts names script IsLong
-AnyStop (Read script) reading texts names faults now = Reaches (grammar_of reading) texts names script × Rose faults now
+AnyStop (Read script) reading texts names faults now = Reaches (grammar_of reading) texts names script × IsFirstFailed names script faults now
 AnyStop Memory reading texts names faults now = ⊤
 AnyStop _ _ texts names faults now = ⊥
-
--- where the files are steady and have the text of this name, it is no read fault
-abbrev pub NotRead : Finish → Bool → Option Texts → List ℕ → Type 0
-NotRead (Read script) steady texts name = IsTrue steady → HasText texts name → ⊥
-NotRead _ steady texts name = ⊤
 
 -- where the files are steady, a read fault comes only at a name without a text
 abbrev pub NoneFails : Finish → Bool → Option Texts → List (List ℕ) → Type 0

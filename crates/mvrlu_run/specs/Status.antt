@@ -10,6 +10,7 @@ use Rattle.mvrlu_run.specs.declared.finish.Closed.{Closed}
 use Rattle.mvrlu_run.specs.declared.finish.Closed.TheVariants.{No}
 use Rattle.mvrlu_run.specs.declared.finish.Finish.{Finish}
 use Rattle.mvrlu_run.specs.declared.finish.Finish.TheVariants.{Done, Usage, Limit, Script, BlockScript, Plan, Bytes, Read, Write, Memory}
+use Rattle.mvrlu_run.specs.Scripts.{Reading, KindOf, commands, blocks, plans}
 use Rattle.replay_rules.specs.declared.plan.PlanKind.{PlanKind}
 use Rattle.replay_rules.specs.declared.plan.PlanKind.TheVariants.{Word as PlanWord, Count as PlanCount, Number as PlanNumber, Many as PlanMany}
 
@@ -27,6 +28,12 @@ block_fault_status _ = 3
 abbrev pub plan_fault_status : PlanKind → ℕ
 plan_fault_status PlanMany = 4
 plan_fault_status _ = 3
+
+-- the status of what is wrong with a line of a file that is read so
+abbrev pub kind_status : (reading : Reading) → KindOf reading → ℕ
+kind_status (commands grammar) = fault_status
+kind_status blocks = block_fault_status
+kind_status plans = plan_fault_status
 
 -- the status
 abbrev pub status_of : Finish → ℕ

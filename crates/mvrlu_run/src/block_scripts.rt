@@ -29,7 +29,6 @@ pub fn read_block_scripts<R: Threads + Sync, F: Files>(
     ensures steady { IfErr result (λ finish. NoneFails finish (F.steady files.old) (F.texts files.old) (map string_bytes names.now)) }
     ensures len { IfOk result (λ scripts. length scripts.items ≡ length names.now) }
     ensures short { IfOk result (λ scripts. All (λ script. count_of script ≤ 65536) scripts.items) }
-    ensures later { F.faults files.old ≤ F.faults files.new }
 {
     let mut texts = Vec::new(alloc);
     let read = read_texts(alloc, files, names, &mut texts);

@@ -5,13 +5,13 @@ ghost use Rattle.block_workers.specs.Workers.{blocks_of, count_of};
 ghost use Rattle.mvrlu.specs.Opened.{IsOpened};
 ghost use Rattle.run_report.specs.Order.{IsOrdered};
 ghost use Rattle.run_words.specs.Words.{FitOptions, block};
-ghost use Rattle.mvrlu_run.specs.Blocked.{IsBlocksRunOf, IsBlocksText};
+ghost use Rattle.mvrlu_run.specs.Kinds.{IsLeft, IsTextOf, block_runs, config_of, usual_options};
 ghost use Rattle.mvrlu_run.specs.Scripts.{AnyStop, NoneFails, blocks as by_block};
-ghost use Rattle.mvrlu_run.specs.Told.{IsTextFor, config_of};
+ghost use Rattle.mvrlu_run.specs.Told.{IsTextFor};
 
 use crate::block_scripts::read_block_scripts;
 use crate::finish::{Closed, Finish};
-use crate::running::{config, ran_or_met, zeros};
+use crate::running::{USUAL, config, ran_or_met, zeros};
 use crate::texts::Made;
 use block_domain::run_block_domain;
 use mv_history::LogTable;
@@ -25,13 +25,6 @@ use set_script::Catalogue;
 use std::alloc::{AllocError, Global};
 use std::sync::Wait;
 use std::thread::Threads;
-
-// The numbers of the domain of a run of blocks.
-const BLOCKS: Options = Options {
-    objects: 4096,
-    slots: 1024,
-    base: 0,
-};
 
 // How many objects a block may hold.
 const WRITE_MAX: u32 = 64;
@@ -83,14 +76,14 @@ fn blocks_text<R: Threads + Wait + Sync, G: Gate>(
     requires some { 1 ≤ length scripts.now }
     requires few { length scripts.now ≤ 64 }
     requires short { All (λ script. count_of script ≤ 65536) scripts.now }
-    ensures { IfOk result (λ r. IsBlocksText (map blocks_of scripts.now) r.1 r.0.items) }
+    ensures { IfOk result (λ r. IsTextOf (block_runs usual_options (map blocks_of scripts.now)) r.1 r.0.items) }
 {
     let ToldBlocks {
         closing,
         lines,
         end,
         tables,
-    } = run_block_sets(rt, alloc, BLOCKS, scripts, gate)?;
+    } = run_block_sets(rt, alloc, USUAL, scripts, gate)?;
     let text = render(alloc, &lines, &end, &tables)?;
     Ok((text, closing))
 }
@@ -109,7 +102,8 @@ fn run_block_sets<R: Threads + Wait + Sync, G: Gate>(
     requires some { 1 ≤ length scripts.now }
     requires few { length scripts.now ≤ 64 }
     requires short { All (λ script. count_of script ≤ 65536) scripts.now }
-    ensures ran { IfOk result (λ told. IsBlocksRunOf options (map blocks_of scripts.now) told.closing told.lines.items told.end told.tables.items) }
+    ensures ran { IfOk result (λ told.
+        IsLeft (block_runs options (map blocks_of scripts.now)) told.lines.items told.end told.tables.items told.closing) }
     ensures ordered { IfOk result (λ told. IsOrdered told.lines.items) }
 {
     let (domain, seats) = open_blocks(alloc, options, scripts.len() as u32)?;

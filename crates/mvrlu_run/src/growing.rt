@@ -8,13 +8,13 @@ ghost use Rattle.script_workers.specs.Workers.{items_of};
 ghost use Rattle.mvrlu.specs.Opened.{IsOpened};
 ghost use Rattle.run_report.specs.Order.{IsOrdered};
 ghost use Rattle.run_words.specs.Words.{FitOptions, grow};
-ghost use Rattle.mvrlu_run.specs.GrownRuns.{IsGrownRunOf, IsGrownText};
+ghost use Rattle.mvrlu_run.specs.Kinds.{IsLeft, IsTextOf, config_of, grow_runs, usual_options};
 ghost use Rattle.mvrlu_run.specs.declared.scripts.Grammar.TheVariants as grammars;
 ghost use Rattle.mvrlu_run.specs.Scripts.{AnyStop, NoneFails, commands as by_command};
-ghost use Rattle.mvrlu_run.specs.Told.{IsTextFor, config_of};
+ghost use Rattle.mvrlu_run.specs.Told.{IsTextFor};
 
 use crate::finish::{Closed, Finish};
-use crate::running::{config, ran_or_met, zeros};
+use crate::running::{USUAL, config, ran_or_met, zeros};
 use crate::scripts::{Grammar, read_scripts};
 use crate::texts::Made;
 use grow_domain::run_grow_domain;
@@ -29,13 +29,6 @@ use set_script::{Catalogue, Command};
 use std::alloc::{AllocError, Global};
 use std::sync::Wait;
 use std::thread::Threads;
-
-// The numbers of the domain of a run on a growing set.
-const GROW: Options = Options {
-    objects: 4096,
-    slots: 1024,
-    base: 0,
-};
 
 // How many objects a split may hold.
 const WRITE_MAX: u32 = 64;
@@ -92,7 +85,7 @@ fn grown_text<R: Threads + Wait + Sync, G: Gate>(
     requires few { length scripts.now ≤ 64 }
     requires short { All (λ script. length script.items ≤ 65536) scripts.now }
     requires growing { All (λ script. All IsOfGrown script.items) scripts.now }
-    ensures { IfOk result (λ r. IsGrownText (map items_of scripts.now) r.1 r.0.items) }
+    ensures { IfOk result (λ r. IsTextOf (grow_runs usual_options (map items_of scripts.now)) r.1 r.0.items) }
 {
     let ToldGrown {
         closing,
@@ -100,7 +93,7 @@ fn grown_text<R: Threads + Wait + Sync, G: Gate>(
         end,
         splits,
         tables,
-    } = run_grown_set(rt, alloc, GROW, scripts, gate)?;
+    } = run_grown_set(rt, alloc, USUAL, scripts, gate)?;
     let text = render_grown(alloc, &lines, &end, splits, &tables)?;
     Ok((text, closing))
 }
@@ -122,7 +115,8 @@ fn run_grown_set<R: Threads + Wait + Sync, G: Gate>(
     requires short { All (λ script. length script.items ≤ 65536) scripts.now }
     requires growing { All (λ script. All IsOfGrown script.items) scripts.now }
     ensures ran { IfOk result (λ told.
-        IsGrownRunOf options (map items_of scripts.now) told.closing told.lines.items told.end told.splits told.tables.items) }
+        IsLeft (grow_runs options (map items_of scripts.now)) told.lines.items (record { set = told.end; splits = told.splits }) told.tables.items
+        told.closing) }
     ensures ordered { IfOk result (λ told. IsOrdered told.lines.items) }
     ensures few { IfOk result (λ told. told.splits ≤ 1008) }
 {

@@ -5,28 +5,34 @@
 //!
 //! # Model
 //!
-//! A call meets the words of the command line and an outside: texts by name and a count of faults, the bytes written
-//! and a count of faults, and the same of standard error. It ends in one of nine ways (`Finish`), each with its
-//! status, its cause and its line on standard error; the definitions are in `specs/Outcome.antt` and
-//! `specs/Status.antt`.
+//! A call meets the words of the command line and an outside: texts by name, with how often and of which names a call
+//! failed; the bytes written and a count of faults; and the same of standard error. It ends in one of ten ways
+//! (`Finish`), each with its status, its cause and its line on standard error; the definitions are in
+//! `specs/Outcome.antt` and `specs/Status.antt`.
 //!
 //! A run has one history: that of its domain, which is known whole once all seats have met. The [`Closing`] that is left
 //! has it, and `run_program` answers that closing, so its contract speaks of the run's own history and of no other.
-//! Its lines are one for each command, with its place, a commit or a read at a printed time, and its reply there.
+//! Its lines are one for each command, with its place, a commit or a read at a printed time, and its reply there. Each
+//! kind of run is one record of one shape (`Kind` in `specs/Kinds.antt`): the numbers of its domain, what makes lines, an
+//! end and tables one run of a history, and the text of them.
 //!
 //! # Contract
 //!
-//! Status 0 of `run`, and of a pool, blocks or a growing set likewise: the texts of the files, where they are told, are
-//! scripts. There are lines, final maps and tables of which the output grew by exactly their text. Each line stands in
-//! the history of the closing: a commit is the entry of its time by its seat with its command's tag, and a read has its
-//! reply in the state of its time. Each command has one line, each commit of the history has one, and the lines in their
-//! order, replayed one after another, give every reply and end in the printed sets (`IsRunText` in `specs/Told.antt`).
-//! Each other status has its cause, and where the texts are told and no call failed the scripts alone decide, but for
-//! want of memory. A gate is called around each command; no clause speaks of it, since it tells nothing.
+//! Status 0: the output grew by exactly the text that the words ask for (`IsTextFor` in `specs/Told.antt`). Of `run`, and
+//! of a pool, blocks or a growing set likewise: the texts of the files, where they are told, are scripts. There are lines,
+//! final maps and tables of which that text is. Each line stands in the history of the closing: a commit is the entry of
+//! its time by its seat with its command's tag, and a read has its reply in the state of its time. Each command has one
+//! line, each commit of the history has one, and the lines in their order, replayed one after another, give every reply
+//! and end in the printed sets. Each other status has its cause, and where the texts are told and no call failed the
+//! scripts alone decide, but for want of memory. A gate is called around each command; no clause speaks of it, since it
+//! tells nothing.
 //!
 //! On a growing set the commits of the history are those of lines and of splits: a seat has one split at most behind
 //! each second add of its script that replied yes, ahead of its next line. The text has a line on the buckets and the
-//! splits ahead of the tables (`IsGrownText` in `specs/GrownRuns.antt`, and `GrowRunOf` of `grow_report`).
+//! splits ahead of the tables (`grow_runs` in `specs/Kinds.antt`, and `GrowRunOf` of `grow_report`).
+//!
+//! Status 5 names the first file of the words of which opening or reading failed in this call; of a name that stands
+//! twice, its first place.
 //!
 //! The bytes of the files are read one after another, and then each file's are parsed in a thread of its own where one can
 //! be made. The answer is decided by the results in the order of the files, so it is that of the first faulty file.

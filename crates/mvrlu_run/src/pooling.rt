@@ -2,13 +2,13 @@
 ghost use Rattle.std.specs.Prelude.{◌≡◌, ◌≤◌, IfErr, IfOk, MatchResult, length, map, string_bytes};
 ghost use Rattle.run_report.specs.Order.{IsOrdered};
 ghost use Rattle.run_words.specs.Words.{FitOptions, pool};
-ghost use Rattle.mvrlu_run.specs.Pooled.{IsPoolOf, IsPoolText};
+ghost use Rattle.mvrlu_run.specs.Kinds.{IsLeft, IsTextOf, pool_runs, usual_options};
 ghost use Rattle.mvrlu_run.specs.declared.scripts.Grammar.TheVariants.{Sets};
 ghost use Rattle.mvrlu_run.specs.Scripts.{AnyStop, NoneFails, commands as by_command};
 ghost use Rattle.mvrlu_run.specs.Told.{IsTextFor};
 
 use crate::finish::{Closed, Finish};
-use crate::running::{Told, open_sets, ran_or_met};
+use crate::running::{Told, USUAL, open_sets, ran_or_met};
 use crate::scripts::{Grammar, read_scripts};
 use crate::texts::Made;
 use mvrlu::Closing;
@@ -21,13 +21,6 @@ use set_script::{Command, SetRules};
 use std::alloc::{AllocError, Global};
 use std::sync::Wait;
 use std::thread::Threads;
-
-/// The numbers of a pool's domain.
-const POOL: Options = Options {
-    objects: 4096,
-    slots: 1024,
-    base: 0,
-};
 
 /// Reads the commands of this one file, does each on one of so many seats, and makes the text. An error is why there is
 /// none: the file has no script, or there is no memory.
@@ -70,14 +63,14 @@ fn pool_text<R: Threads + Wait + Sync, G: Gate>(
     requires some { 1 ≤ seats }
     requires few { seats ≤ 8 }
     requires short { length commands.now ≤ 65536 }
-    ensures { IfOk result (λ r. IsPoolText seats commands.now r.1 r.0.items) }
+    ensures { IfOk result (λ r. IsTextOf (pool_runs usual_options seats commands.now) r.1 r.0.items) }
 {
     let Told {
         closing,
         lines,
         end,
         tables,
-    } = pool_sets(rt, alloc, POOL, seats, commands, gate)?;
+    } = pool_sets(rt, alloc, USUAL, seats, commands, gate)?;
     let text = render(alloc, &lines, &end, &tables)?;
     Ok((text, closing))
 }
@@ -96,7 +89,8 @@ fn pool_sets<R: Threads + Wait + Sync, G: Gate>(
     requires some { 1 ≤ seats }
     requires few { seats ≤ 8 }
     requires short { length commands.now ≤ 65536 }
-    ensures ran { IfOk result (λ told. IsPoolOf options seats commands.now told.closing told.lines.items told.end told.tables.items) }
+    ensures ran { IfOk result (λ told.
+        IsLeft (pool_runs options seats commands.now) told.lines.items told.end told.tables.items told.closing) }
     ensures ordered { IfOk result (λ told. IsOrdered told.lines.items) }
 {
     let (domain, seats) = open_sets(alloc, options, seats)?;

@@ -1,15 +1,10 @@
 // The top call.
-ghost use Rattle.std.specs.Prelude.{◌≡◌, ◌≢◌, ◌↔◌, List, ℕ, map, string_bytes, Err, Ok};
+ghost use Rattle.std.specs.Prelude.{◌≡◌, ◌≢◌, ◌↔◌, map, string_bytes, Err, Ok};
 ghost use Rattle.run_outside.specs.Outside.{Rose};
-ghost use Rattle.run_words.specs.declared.request.Options.{Options as OptionsOf};
 ghost use Rattle.run_words.specs.declared.request.Refusal.TheVariants.{Form};
-ghost use Rattle.run_words.specs.Words.{asked, block, grow, pool, replay, run};
+ghost use Rattle.run_words.specs.Words.{Asks, asked};
 ghost use Rattle.mvrlu_run.specs.Status.{closed_of, status_of};
-ghost use Rattle.mvrlu_run.specs.BlockOutcome.{IsBlocksComplete, IsBlocksPrinted};
-ghost use Rattle.mvrlu_run.specs.GrowOutcome.{IsGrowComplete, IsGrownPrinted};
-ghost use Rattle.mvrlu_run.specs.PoolOutcome.{IsPoolComplete, IsPoolPrinted};
-ghost use Rattle.mvrlu_run.specs.ReplayOutcome.{IsReplayComplete, IsReplayPrinted};
-ghost use Rattle.mvrlu_run.specs.Outcome.{outside, Cause, IsComplete, IsPrinted, NeverRead, Outcome, ReadsSets};
+ghost use Rattle.mvrlu_run.specs.Outcome.{outside, Cause, IsComplete, IsPrinted, IsReadFault, NeverRead, Outcome, ReadsSets};
 
 use crate::finish::{Closed, Finish, Ran};
 use crate::line::report;
@@ -32,7 +27,8 @@ use step_replay::PlanKind;
 /// - 4 exactly where a number is beyond its limit: one of the words, the files, of which there are at most 64, the bytes
 ///   of a script, of which there are at most 1,048,576, or its commands, of which there are at most 65,536, as are the
 ///   steps of a plan.
-/// - 5 only where a call of `files` failed in this call, and the scripts before the named one are within the limits.
+/// - 5 only where opening or reading a file failed in this call, and no other call of `files`. The file is the one that is
+///   named, by the first place of its name among the words, and the scripts before it are within the limits.
 /// - 6 only where a call of `out` failed in this call; the bytes written are a prefix of the text.
 /// - 7: want of memory, which may come at each point before the first write.
 ///
@@ -62,39 +58,17 @@ pub fn run_program<R: Threads + Wait + Sync, F: Files, O: Sink, E: Sink, G: Gate
         let new = outside F.texts F.steady F.faults files.new O.written O.faults out.new in
         Outcome (map string_bytes words.now) old new (E.written err.old) (E.written err.new) (E.faults err.old) (E.faults err.new) result }
 
-    // What a run prints is the text of its domain's one history, which `closed` has.
+    // Status 0: the text that is asked for is printed. That of a run over a domain is of the one history of it, which `closed` has.
     ensures printed { let old = outside F.texts F.steady F.faults files.old O.written O.faults out.old in
         let new = outside F.texts F.steady F.faults files.new O.written O.faults out.new in
-        (options : OptionsOf) → (names : List (List ℕ)) → asked (map string_bytes words.now) ≡ Ok (run options names)
-        → result.status ≡ 0 → IsPrinted options names old new result.closed }
-
-    // What a pool prints is the text of its domain's one history, which `closed` has.
-    ensures pooled { let old = outside F.texts F.steady F.faults files.old O.written O.faults out.old in
-        let new = outside F.texts F.steady F.faults files.new O.written O.faults out.new in
-        (seats : ℕ) → (names : List (List ℕ)) → asked (map string_bytes words.now) ≡ Ok (pool seats names)
-        → result.status ≡ 0 → IsPoolPrinted seats names old new result.closed }
-
-    // What blocks print is the text of their domain's one history, which `closed` has.
-    ensures blocked { let old = outside F.texts F.steady F.faults files.old O.written O.faults out.old in
-        let new = outside F.texts F.steady F.faults files.new O.written O.faults out.new in
-        (names : List (List ℕ)) → asked (map string_bytes words.now) ≡ Ok (block names)
-        → result.status ≡ 0 → IsBlocksPrinted names old new result.closed }
-
-    // What a growing set prints is the text of its domain's one history, which `closed` has.
-    ensures grown { let old = outside F.texts F.steady F.faults files.old O.written O.faults out.old in
-        let new = outside F.texts F.steady F.faults files.new O.written O.faults out.new in
-        (names : List (List ℕ)) → asked (map string_bytes words.now) ≡ Ok (grow names)
-        → result.status ≡ 0 → IsGrownPrinted names old new result.closed }
-
-    // What a replay prints is the text of its file's plan, and nothing is left of a domain.
-    ensures replayed { let old = outside F.texts F.steady F.faults files.old O.written O.faults out.old in
-        let new = outside F.texts F.steady F.faults files.new O.written O.faults out.new in
-        (names : List (List ℕ)) → asked (map string_bytes words.now) ≡ Ok (replay names)
-        → result.status ≡ 0 → IsReplayPrinted names old new result.closed }
+        (asks : Asks) → asked (map string_bytes words.now) ≡ Ok asks → result.status ≡ 0 → IsPrinted asks old new result.closed }
 
     // Refusals come for these causes alone, and leave the output as it was.
     ensures usage { (result.status ≡ 2) ↔ (asked (map string_bytes words.now) ≡ Err Form) }
-    ensures read { result.status ≡ 5 → Rose (F.faults files.old) (F.faults files.new) }
+    ensures read { let old = outside F.texts F.steady F.faults files.old O.written O.faults out.old in
+        let new = outside F.texts F.steady F.faults files.new O.written O.faults out.new in
+        result.status ≡ 5
+        → IsReadFault (map string_bytes words.now) old new (E.written err.old) (E.written err.new) (E.faults err.old) (E.faults err.new) }
     ensures write { result.status ≡ 6 → Rose (O.faults out.old) (O.faults out.new) }
     ensures untouched { result.status ≢ 0 → result.status ≢ 6 → O.written out.new ≡ O.written out.old }
     ensures lawful { ReadsSets result.closed }
@@ -104,18 +78,6 @@ pub fn run_program<R: Threads + Wait + Sync, F: Files, O: Sink, E: Sink, G: Gate
     ensures complete { let old = outside F.texts F.steady F.faults files.old O.written O.faults out.old in
         let new = outside F.texts F.steady F.faults files.new O.written O.faults out.new in
         IsComplete (map string_bytes words.now) old new result.status }
-    ensures pool_complete { let old = outside F.texts F.steady F.faults files.old O.written O.faults out.old in
-        let new = outside F.texts F.steady F.faults files.new O.written O.faults out.new in
-        IsPoolComplete (map string_bytes words.now) old new result.status }
-    ensures block_complete { let old = outside F.texts F.steady F.faults files.old O.written O.faults out.old in
-        let new = outside F.texts F.steady F.faults files.new O.written O.faults out.new in
-        IsBlocksComplete (map string_bytes words.now) old new result.status }
-    ensures grow_complete { let old = outside F.texts F.steady F.faults files.old O.written O.faults out.old in
-        let new = outside F.texts F.steady F.faults files.new O.written O.faults out.new in
-        IsGrowComplete (map string_bytes words.now) old new result.status }
-    ensures replay_complete { let old = outside F.texts F.steady F.faults files.old O.written O.faults out.old in
-        let new = outside F.texts F.steady F.faults files.new O.written O.faults out.new in
-        IsReplayComplete (map string_bytes words.now) old new result.status }
 {
     let finish = carry_out(rt, alloc, words, files, out, gate);
     report(err, &finish);

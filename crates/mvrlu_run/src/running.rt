@@ -9,7 +9,7 @@ ghost use Rattle.mvrlu.specs.Meant.{numbers_of, opening_of};
 ghost use Rattle.run_report.specs.Order.{IsOrdered};
 ghost use Rattle.run_words.specs.Words.{FitOptions};
 ghost use Rattle.script_workers.specs.Workers.{items_of};
-ghost use Rattle.mvrlu_run.specs.Told.{IsRunOf, config_of};
+ghost use Rattle.mvrlu_run.specs.Kinds.{IsLeft, config_of, runs};
 
 use mv_history::{LogTable, Protocol, WORDS, Words};
 use mv_layout::Config;
@@ -23,6 +23,13 @@ use set_script::{Catalogue, Command, SetRules};
 use std::alloc::{AllocError, Global};
 use std::sync::Wait;
 use std::thread::Threads;
+
+/// The numbers of the domain of a run that has no options.
+pub const USUAL: Options = Options {
+    objects: 4096,
+    slots: 1024,
+    base: 0,
+};
 
 // How many objects a command may hold.
 const WRITE_MAX: u32 = 16;
@@ -50,7 +57,7 @@ pub fn run_sets<R: Threads + Wait + Sync, G: Gate>(
     requires some { 1 ≤ length scripts.now }
     requires few { length scripts.now ≤ 64 }
     requires short { All (λ script. length script.items ≤ 65536) scripts.now }
-    ensures ran { IfOk result (λ told. IsRunOf options (map items_of scripts.now) told.closing told.lines.items told.end told.tables.items) }
+    ensures ran { IfOk result (λ told. IsLeft (runs options (map items_of scripts.now)) told.lines.items told.end told.tables.items told.closing) }
     ensures ordered { IfOk result (λ told. IsOrdered told.lines.items) }
 {
     let (domain, seats) = open_sets(alloc, options, scripts.len() as u32)?;

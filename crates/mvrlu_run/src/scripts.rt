@@ -42,7 +42,6 @@ pub fn read_scripts<R: Threads + Sync, F: Files>(
     ensures len { IfOk result (λ scripts. length scripts.items ≡ length names.now) }
     ensures short { IfOk result (λ scripts. All (λ script. length script.items ≤ 65536) scripts.items) }
     ensures fit { IfOk result (λ scripts. All (λ script. AreOf grammar script.items) scripts.items) }
-    ensures later { F.faults files.old ≤ F.faults files.new }
 {
     let mut texts = Vec::new(alloc);
     let read = read_texts(alloc, files, names, &mut texts);

@@ -5,7 +5,8 @@ ghost use Rattle.script_gen.specs.Script.{text_of_script};
 ghost use Rattle.script_workers.specs.Workers.{items_of};
 ghost use Rattle.mvrlu_run.specs.declared.scripts.Grammar.TheVariants.{Sets};
 ghost use Rattle.mvrlu_run.specs.Scripts.{AnyStop, NoneFails, commands as by_command};
-ghost use Rattle.mvrlu_run.specs.Told.{IsRunText, IsTextFor, IsWorkText, files_of, reading_of};
+ghost use Rattle.mvrlu_run.specs.Kinds.{IsTextOf, runs};
+ghost use Rattle.mvrlu_run.specs.Told.{IsTextFor, IsTextOfWork, files_of, reading_of};
 
 use crate::blocking::make_blocks;
 use crate::finish::{Closed, Finish};
@@ -119,7 +120,7 @@ fn run_text<R: Threads + Wait + Sync, G: Gate>(
     requires some { 1 ≤ length scripts.now }
     requires few { length scripts.now ≤ 64 }
     requires short { All (λ script. length script.items ≤ 65536) scripts.now }
-    ensures { IfOk result (λ r. IsRunText options (map items_of scripts.now) r.1 r.0.items) }
+    ensures { IfOk result (λ r. IsTextOf (runs options (map items_of scripts.now)) r.1 r.0.items) }
 {
     let Told {
         closing,
@@ -138,7 +139,7 @@ fn work_text<R: Threads + Wait + Sync, G: Gate>(
     number: u64,
     gate: &G,
 ) -> Result<FromRun, AllocError>
-    ensures { IfOk result (λ r. IsWorkText number r.1 r.0.items) }
+    ensures { IfOk result (λ r. IsTextOfWork number r.1 r.0.items) }
 {
     let scripts = four_scripts(alloc, number)?;
     let Told {

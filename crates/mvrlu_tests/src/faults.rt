@@ -17,12 +17,24 @@ const NO_TEXT: Row<'static> = Row {
 };
 
 // Calls of the outside that fail.
-static FAILING: [Row<'static>; 4] = [
+static FAILING: [Row<'static>; 6] = [
     NO_TEXT,
     Row {
         name: "no text of the second name",
         words: &["run", "a", "b"],
         err: b"read fault: script 1\n",
+        ..NO_TEXT
+    },
+    Row {
+        name: "a name with no text stands twice",
+        words: &["run", "a", "b", "b"],
+        err: b"read fault: script 1\n",
+        ..NO_TEXT
+    },
+    Row {
+        name: "the second opening of a text fails",
+        words: &["run", "a", "a"],
+        file_fails: &[4],
         ..NO_TEXT
     },
     Row {

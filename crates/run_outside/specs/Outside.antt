@@ -1,5 +1,5 @@
 -- What files and sinks are to the program.
-use Rattle.std.specs.Prelude.{◌≡◌, ◌≤◌, ◌<◌, ◌+◌, ◌-◌, ◌^◌, ℕ, min, List, length, take, ⊤, Option, None, Some, Result}
+use Rattle.std.specs.Prelude.{◌≡◌, ◌≤◌, ◌<◌, ◌+◌, ◌-◌, ◌^◌, ℕ, min, List, [], ◌∷◌, ◌++◌, length, take, ⊤, Option, None, Some, Result}
 use Rattle.std.specs.Prelude.{Ok, Err, OnErr, IsSome}
 use Rattle.std.specs.Io.KnownBytes.{Appends}
 
@@ -11,6 +11,21 @@ Rose before now = min (before + 1) (2 ^ 64 - 1) ≤ now
 pub record HasCause {T E : Type 0} (before now : ℕ) (result : Result T E) : Type 0 where
   pub later : before ≤ now
   pub failed : OnErr result (Rose before now)
+
+-- how often a call of files failed, and the names of the texts of which one did, in the order of the calls
+pub record Faults : Type 0 where
+  pub count : ℕ
+  pub names : List (List ℕ)
+
+-- the names of the texts of which a call failed, after one more call on the text of this name
+abbrev pub names_with : {T E : Type 0} → List (List ℕ) → List ℕ → Result T E → List (List ℕ)
+names_with before name (Ok t) = before
+names_with before name (Err e) = before ++ name ∷ []
+
+-- a call on the text of this name fails only where the count of faults rose, and exactly where the name is told
+pub record IsTold {T E : Type 0} (before now : Faults) (name : List ℕ) (result : Result T E) : Type 0 where
+  pub cause : HasCause before.count now.count result
+  pub names : now.names ≡ names_with before.names name result
 
 -- texts by name
 abbrev pub Texts : Type 0

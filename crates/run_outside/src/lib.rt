@@ -3,10 +3,12 @@
 //!
 //! # Model
 //!
-//! [`Files`] stands for texts by name, for what is left of the text that is open, and for a count of faults.
+//! [`Files`] stands for texts by name, for the name of the text that is open and what is left of it, and for its faults:
+//! how often a call failed, and of which names, in the order of the calls.
 //! [`Sink`] stands for the bytes written to it and a count of faults. Texts and bytes are optional in the model:
 //! memory tells them, and a system's files and streams don't. A count of faults never falls, and a call fails only
-//! where it rose. It ends at `2^64 - 1`, and where it stands there it counts as risen. Files are steady where no
+//! where it rose. It ends at `2^64 - 1`, and where it stands there it counts as risen. The names of the faults are told by
+//! all files, and have no end; they stand in clauses alone, and take no memory. Files are steady where no
 //! call fails that asks for a text that is there; what is steady tells its texts, and no call changes either.
 //!
 //! # Contract
@@ -27,6 +29,7 @@ mod gate;
 mod memory;
 mod outside;
 mod real;
+mod told;
 
 pub use gate::{Gate, OpenGate};
 pub use memory::{MemFiles, MemSink, MemText};

@@ -4,9 +4,10 @@ ghost use Rattle.std.specs.Prelude.{◌∷◌, Contains, List, ℕ, length, take
 ghost use Rattle.std.specs.Prelude.{OnErr, IfOk, IfSome, IsOk, IsErr, IsSome, IsNone, IsTrue, string_bytes, vec_capacity};
 ghost use Rattle.std.specs.Io.{ReadsAtMost};
 ghost use Rattle.std.specs.Io.KnownBytes.{ReadConsumes};
-ghost use Rattle.run_outside.specs.Outside.{HasCause, HasText, Starts, Takes};
-ghost use Rattle.run_outside.specs.Memory.{next_count, text_of, named, left_from, FilesState, SinkState};
+ghost use Rattle.run_outside.specs.Outside.{HasCause, HasText, IsTold, Starts, Takes};
+ghost use Rattle.run_outside.specs.Memory.{faults_in, next_count, text_of, named, left_from, FilesState, SinkState};
 
+use crate::told::Told;
 use crate::{Failed, Files, Sink};
 use std::alloc::{AllocError, Global};
 use std::marker::Model;
@@ -30,13 +31,16 @@ pub struct MemFiles {
     calls: u64,
     faults: u64,
     opened: Option<usize>,
+    told: Told,
     place: usize,
 }
 
 impl Model for MemFiles {
     ghost use Rattle.std.specs.Prelude.{◌<◌, ◌≤◌, ◌≡◌, map, length};
     ghost use Rattle.std.specs.Option.{ForSome};
+    ghost use Rattle.std.specs.Option.{option_map};
     ghost use Rattle.run_outside.specs.Memory.{FilesState, named, left_from};
+    ghost use Rattle.run_outside.specs.Told.{name_in, failures_in};
 
     ghost Value = { FilesState };
 
@@ -46,6 +50,8 @@ impl Model for MemFiles {
       fails = s.fails.items;
       calls = s.calls;
       faults = s.faults;
+      failures = failures_in s.told;
+      opened = option_map (λ i. name_in s.told) s.opened;
       left = left_from (map named s.texts.items) s.opened s.place;
     } };
 
@@ -59,7 +65,16 @@ impl MemFiles {
     /// from 1; each call whose number is in `fails` fails.
     pub fn new(texts: Vec<MemText>, most: usize, fails: Vec<u64>) -> MemFiles
         requires { 0 < most }
-        ensures { result ≡ record { texts = map named texts.items; most = most; fails = fails.items; calls = 0; faults = 0; left = None } }
+        ensures { result ≡ record {
+          texts = map named texts.items;
+          most = most;
+          fails = fails.items;
+          calls = 0;
+          faults = 0;
+          failures = [];
+          opened = None;
+          left = None;
+        } }
     {
         MemFiles {
             texts,
@@ -68,6 +83,7 @@ impl MemFiles {
             calls: 0,
             faults: 0,
             opened: None,
+            told: Told::new(),
             place: 0,
         }
     }
@@ -187,15 +203,15 @@ fn find_text(texts: &[MemText], name: &str) -> Option<usize>
 
 impl Files for MemFiles {
     ghost use Rattle.std.specs.Prelude.{◌==◌, length, Some, true, is_some, None, refl};
-    ghost use Rattle.run_outside.specs.Memory.{text_of};
+    ghost use Rattle.run_outside.specs.Memory.{faults_in, text_of};
 
     ghost texts = { λ s. Some (text_of s.texts) };
 
     ghost left = { λ s. s.left };
 
-    ghost is_open = { λ s. is_some s.left };
+    ghost opened = { λ s. s.opened };
 
-    ghost faults = { λ s. s.faults };
+    ghost faults = { λ s. faults_in s };
 
     ghost steady = { λ s. length s.fails == 0 };
 
@@ -204,48 +220,55 @@ impl Files for MemFiles {
     /// Fails exactly where the call's number is in `fails` or no text has the name. After a failure the text that was
     /// open stays open.
     fn open(&mut self, name: &str) -> Result<(), Failed>
-        ensures opened { OnOk result (IsTrue (is_some self.new.left)) }
+        ensures opened { OnOk result (self.new.opened ≡ Some name.now) }
         ensures starts { OnOk result (Starts (Some (text_of self.old.texts)) name.now self.new.left) }
         ensures texts { Some (text_of self.new.texts) ≡ Some (text_of self.old.texts) }
         ensures steady { (length self.new.fails == 0) ≡ (length self.old.fails == 0) }
-        ensures cause { HasCause self.old.faults self.new.faults result }
+        ensures told { IsTold (faults_in self.old) (faults_in self.new) name.now result }
         ensures succeeds { IsTrue (length self.old.fails == 0) → HasText (Some (text_of self.old.texts)) name.now → IsOk result }
         ensures fails { IsErr result ↔ (Contains self.old.fails (next_count self.old.calls) ⊎ (text_of self.old.texts name.now ≡ None)) }
-        ensures ok { OnOk result (self.new ≡ record self.old { calls = next_count self.old.calls; left = text_of self.old.texts name.now }) }
-        ensures err { OnErr result (self.new ≡ record self.old { calls = next_count self.old.calls; faults = next_count self.old.faults }) }
+        ensures ok { OnOk result (self.new
+            ≡ record self.old { calls = next_count self.old.calls; left = text_of self.old.texts name.now; opened = Some name.now }) }
+        ensures err { OnErr result (self.new
+            ≡ record self.old { calls = next_count self.old.calls; faults = next_count self.old.faults; failures = self.new.failures }) }
     {
         self.calls = self.calls.saturating_add(1);
         if is_listed(&self.fails, self.calls) {
+            self.told.open_fails(name);
             self.faults = self.faults.saturating_add(1);
             return Err(Failed);
         }
         let Some(place) = find_text(&self.texts, name) else {
+            self.told.open_fails(name);
             self.faults = self.faults.saturating_add(1);
             return Err(Failed);
         };
         self.opened = Some(place);
+        self.told.opens(name);
         self.place = 0;
         Ok(())
     }
 
     /// Fails exactly where the call's number is in `fails`.
     fn read(&mut self, into: &mut [u8]) -> Result<usize, Failed>
-        requires opened { IsTrue (is_some self.old.left) }
+        requires opened { IsSome self.old.opened }
         requires room { 0 < length into.old }
         ensures bound { ReadsAtMost result into.new }
         ensures bytes { ReadConsumes self.old.left self.new.left result into.new }
-        ensures opened { IsTrue (is_some self.new.left) }
+        ensures opened { self.new.opened ≡ self.old.opened }
         ensures texts { Some (text_of self.new.texts) ≡ Some (text_of self.old.texts) }
         ensures steady { (length self.new.fails == 0) ≡ (length self.old.fails == 0) }
-        ensures cause { HasCause self.old.faults self.new.faults result }
+        ensures told { IfSome self.old.opened (λ name. IsTold (faults_in self.old) (faults_in self.new) name result) }
         ensures succeeds { IsTrue (length self.old.fails == 0) → IsOk result }
         ensures fails { IsErr result ↔ Contains self.old.fails (next_count self.old.calls) }
         ensures count { IfOk result (λ n. IfSome self.old.left (λ left. n ≡ min (length left) (min self.old.most (length into.old)))) }
         ensures ok { OnOk result (self.new ≡ record self.old { calls = next_count self.old.calls; left = self.new.left }) }
-        ensures err { OnErr result (self.new ≡ record self.old { calls = next_count self.old.calls; faults = next_count self.old.faults }) }
+        ensures err { OnErr result (self.new
+            ≡ record self.old { calls = next_count self.old.calls; faults = next_count self.old.faults; failures = self.new.failures }) }
     {
         self.calls = self.calls.saturating_add(1);
         if is_listed(&self.fails, self.calls) {
+            self.told.read_fails();
             self.faults = self.faults.saturating_add(1);
             return Err(Failed);
         }

@@ -1,7 +1,10 @@
 // The files of the system, standard output and standard error. They tell no content.
-ghost use Rattle.std.specs.Prelude.{◌≡◌, None, false, is_some};
+ghost use Rattle.std.specs.Prelude.{◌≡◌, [], None, false};
+ghost use Rattle.std.specs.Option.{option_map};
 ghost use Rattle.std.proofs.Common.{rules};
+ghost use Rattle.run_outside.specs.Told.{name_in, failures_in};
 
+use crate::told::Told;
 use crate::{Failed, Files, Sink};
 use std::io::{self, ErrorKind, Read};
 use std::sync::Wait;
@@ -13,24 +16,27 @@ fn is_passing(error: &io::Error) -> bool {
     matches!(error.kind(), ErrorKind::Interrupted | ErrorKind::WouldBlock)
 }
 
-/// The files of the system, through the runtime. A name is a path. They tell no texts and aren't steady. Each error of
+/// The files of the system, through the runtime. A name is a path. They tell no texts and aren't steady, but
+/// the names of those that failed. Each error of
 /// the system is a fault, and stands for no more than that, but for a read that a signal interrupted or that would
 /// wait: it is made again, behind a turn of other threads. So where a stream never has a byte, no read returns.
 #[derive(Drop)]
 pub struct RealFiles<'r, R: rt::Files + Wait> {
     rt: &'r R,
     opened: Option<R::File>,
+    told: Told,
     faults: u64,
 }
 
 impl<'r, R: rt::Files + Wait> RealFiles<'r, R> {
     /// Files with no text open and no fault.
     pub fn new(rt: &'r R) -> RealFiles<'r, R>
-        ensures { ⟦<RealFiles<'r, R> as Files>⟧.faults result ≡ 0 }
+        ensures { ⟦<RealFiles<'r, R> as Files>⟧.faults result ≡ record { count = 0; names = [] } }
     {
         RealFiles {
             rt,
             opened: None,
+            told: Told::new(),
             faults: 0,
         }
     }
@@ -41,9 +47,9 @@ impl<'r, R: rt::Files + Wait> Files for RealFiles<'r, R> {
 
     ghost left = { λ s. None };
 
-    ghost is_open = { λ s. is_some s.opened };
+    ghost opened = { λ s. option_map (λ f. name_in s.told) s.opened };
 
-    ghost faults = { λ s. s.faults };
+    ghost faults = { λ s. record { count = s.faults; names = failures_in s.told } };
 
     ghost steady = { λ s. false };
 
@@ -55,9 +61,11 @@ impl<'r, R: rt::Files + Wait> Files for RealFiles<'r, R> {
         match fs::open(self.rt, name) {
             Ok(file) => {
                 self.opened = Some(file);
+                self.told.opens(name);
                 Ok(())
             }
             Err(_) => {
+                self.told.open_fails(name);
                 self.faults = self.faults.saturating_add(1);
                 Err(Failed)
             }
@@ -75,6 +83,7 @@ impl<'r, R: rt::Files + Wait> Files for RealFiles<'r, R> {
                 Err(_) => break,
             }
         }
+        self.told.read_fails();
         self.faults = self.faults.saturating_add(1);
         Err(Failed)
     }

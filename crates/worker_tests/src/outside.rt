@@ -1,5 +1,5 @@
 // The calls that take memory, and the system's files and streams.
-ghost use Rattle.std.specs.Prelude.{IsTrue};
+ghost use Rattle.std.specs.Prelude.{IsSome};
 
 use run_outside::{Files, MemFiles, MemSink, MemText, RealErr, RealFiles, RealOut, Sink};
 use std::alloc::{AllocError, Global};
@@ -36,7 +36,7 @@ fn writes_to_memory_until_the_room_is_spent(rt: HostRuntime) -> Result<(), Fail>
 
 // Opens a text, behind one that isn't there.
 fn opens<F: Files>(rt: &impl Abort, files: &mut F, absent: &str, name: &str)
-    ensures { IsTrue (F.is_open files.new) }
+    ensures { IsSome (F.opened files.new) }
 {
     assert!(rt; files.open(absent).is_err());
     assert!(rt; files.open(name).is_ok());
@@ -50,8 +50,8 @@ fn reads<F: Files>(
     from: usize,
     count: Option<usize>,
 )
-    requires { IsTrue (F.is_open files.old) }
-    ensures { IsTrue (F.is_open files.new) }
+    requires { IsSome (F.opened files.old) }
+    ensures { IsSome (F.opened files.new) }
 {
     assert!(rt; from < buffer.len());
     assert_eq!(rt; files.read(&mut buffer[from..]).ok(), count);

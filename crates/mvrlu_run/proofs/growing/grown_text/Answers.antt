@@ -9,10 +9,9 @@ returns g c =
     let tables = c.deref-2.ensures.value in
     record {
       lines = told.lines.items;
-      end = told.end;
-      splits = told.splits;
+      end = record { set = told.end; splits = told.splits };
       tables = told.tables.items;
-      ran = c.in_ok-closing.ensures.ran;
+      left = c.in_ok-closing.ensures.ran;
       ordered = c.in_ok-closing.ensures.ordered;
       is = c.in_ok-text.ensures ∙ (λ i. text_of_grown (lines i) told.end told.splits (tables i));
     }

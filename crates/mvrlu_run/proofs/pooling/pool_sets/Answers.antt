@@ -29,7 +29,7 @@ returns-clause-ran g c =
     record {
       start = still.start ∙ ends.0 ∙ c.in_ok-domain.ensures.opening;
       base = still.base ∙ ends.1 ∙ ap (λ (n : Config). n.base) c.in_ok-domain.ensures.numbers;
-      pool = rw (← seats)
+      run = rw (← seats)
           (still_pool c.in_ok-closing.closing.last c.read_all.new.view.last (length c.in_ok-domain.seats.items) c.args.commands.now c.order.new.lines.items
           c.in_ok-end.end c.in_ok-closing.tables.items still c.in_ok-end.ensures.catalogue
           (pool_permuted _ _ _ _ _ _ _ c.order.ensures.permutation pool));

@@ -1,5 +1,6 @@
-use Rattle.std.proofs.Common.{◌∙◌, take, arith}
+use Rattle.std.proofs.Common.{◌∙◌, take}
 use Rattle.std.proofs.lemmas.List.{length-take-le}
+use Rattle.mvrlu_run.proofs.Failing.{none_by, none_from}
 use Rattle.mvrlu_run.proofs.Parts.{left_more, front_more, front_within}
 use Rattle.mvrlu_run.proofs.reading.read_text.Goals as goal
 
@@ -13,8 +14,8 @@ loop-count-preserved g c =
       within = front_within (take c.loop-count.count c.loop-count.buffer) c.read.new.into _ c.loop-count.count c.in_ok-got.got len b.0;
       left = rw (front_more (take c.loop-count.count c.loop-count.buffer) c.read.new.into _ c.loop-count.count c.in_ok-got.got len b.0)
           (left_more _ _ _ _ _ _ i.left t.0);
-      is_open = c.in_ok-got.ensures.opened;
+      opened = c.in_ok-got.ensures.opened ∙ i.opened;
       texts = c.in_ok-got.ensures.texts ∙ i.texts;
       steady = c.in_ok-got.ensures.steady ∙ i.steady;
-      later = omega (arith, i.later, c.in_ok-got.ensures.cause.later);
+      none = none_from _ _ _ i.none (none_by c.in_ok-got.got c.args.name.now _ _ (rw i.opened at c.in_ok-got.ensures.told));
     }

@@ -1,4 +1,5 @@
-use Rattle.std.proofs.Common.{◌≡◌, ◌≤◌, ◌-◌, length, take, IsTrue}
+use Rattle.std.proofs.Common.{◌≡◌, ◌≤◌, ◌-◌, length, take, Some}
+use Rattle.mvrlu_run.specs.Scripts.{NoneFailed}
 use Rattle.mvrlu_run.proofs.Parts.{LeftOf}
 use Rattle.mvrlu_run.proofs.reading.read_text.Given as goal
 
@@ -6,10 +7,10 @@ abbrev pub invariant-loop-count : goal.invariant-loop-count
 invariant-loop-count g l = record {
   within : l.count ≤ length l.buffer;
   left : LeftOf (g.F.Files.texts l.fn.files) l.name (take l.count l.buffer) (g.F.Files.left l.files);
-  is_open : IsTrue (g.F.Files.is_open l.files);
+  opened : g.F.Files.opened l.files ≡ Some l.name;
   texts : g.F.Files.texts l.files ≡ g.F.Files.texts l.fn.files;
   steady : g.F.Files.steady l.files ≡ g.F.Files.steady l.fn.files;
-  later : g.F.Files.faults l.fn.files ≤ g.F.Files.faults l.files;
+  none : NoneFailed (g.F.Files.faults l.fn.files) (g.F.Files.faults l.files);
 }
 
 abbrev pub decreases-loop-count : goal.decreases-loop-count

@@ -1,28 +1,42 @@
-use Rattle.std.proofs.Common.{[], ◌∷◌, arith, refl, string_bytes, subst, sym}
+use Rattle.std.proofs.Common.{◌∙◌, [], ◌∷◌, ap, length, map, refl, string_bytes, subst, sym}
+use Rattle.std.proofs.lemmas.List.{length-map}
 use Rattle.replay_rules.specs.Plans.{plan_of}
 use Rattle.step_replay.specs.PlanTexts.{planned}
-use Rattle.mvrlu_run.specs.Scripts.{AllScripts, plans}
-use Rattle.mvrlu_run.proofs.Many.{any_from_one, named_at, none_fails, only_one, plan_read_at}
+use Rattle.mvrlu_run.specs.Reading.{AreFirstTexts, text_of}
+use Rattle.mvrlu_run.specs.Scripts.{NoScripts, plans}
+use Rattle.mvrlu_run.proofs.FileTexts.{no_scripts}
+use Rattle.mvrlu_run.proofs.Many.{only_one}
+use Rattle.mvrlu_run.proofs.OneFile.{only_plan, only_stops}
 use Rattle.mvrlu_run.proofs.replaying.make_replay.Goals as goal
 
 pub returns-in-Err-clause-made : goal.returns-in-Err-clause-made
 returns-in-Err-clause-made g c =
-    let faults = g.F.Files.faults c.args.files.now in
-    let stop = rw c.as_str.ensures.value at c.in-Err.ensures.stop in
-    let named = named_at c.args.names.now 0 c.index-names-0.result (omega (arith, c.requires.one)) c.index-names-0.is in
-    any_from_one c.in-Err.finish plans _ _ 0 _ [] faults faults _ named tt (omega arith) stop
+    only_stops (g.F.Files.texts c.args.files.now) (map string_bytes c.args.names.now) (length-map c.args.names.now string_bytes ∙ c.requires.one)
+    c.in-Err.finish _ _ _ c.in-Err.ensures.stop
 
-pub returns-in-Err-clause-steady : goal.returns-in-Err-clause-steady
-returns-in-Err-clause-steady g c =
-    let stop = rw c.as_str.ensures.value at c.in-Err.ensures.stop in
-    let steady = rw c.as_str.ensures.value at c.in-Err.ensures.steady in
-    none_fails c.in-Err.finish _ _ _ 0 _ (named_at c.args.names.now 0 c.index-names-0.result (omega (arith, c.requires.one)) c.index-names-0.is)
-    (plan_read_at c.in-Err.finish 0 _ _ _ _ stop) steady
+pub returns-in-Err-parse_only-clause-made : goal.returns-in-Err-parse_only-clause-made
+returns-in-Err-parse_only-clause-made g c =
+    let t = g.F.Files.texts c.args.files.now in
+    let names = map string_bytes c.args.names.now in
+    let text = c.index.result.now in
+    let only = only_one text_of c.read_texts.new.texts.items text (c.in-Ok.ensures.all ∙ c.requires.one) c.index.ensures in
+    let is = subst (AreFirstTexts t names) only c.in-Ok.ensures.texts in
+    no_scripts c.in-Err-parse_only.finish plans t names (text.items ∷ []) _ _ is
+    (subst (λ bytes. NoScripts c.in-Err-parse_only.finish plans (bytes ∷ [])) c.deref.ensures.value c.in-Err-parse_only.ensures.parsed)
 
 pub returns-clause-made : goal.returns-clause-made
 returns-clause-made g c =
-    let says = rw c.as_str.ensures.value at c.in-Ok.ensures.stop in
-    let plan = plan_of c.in-Ok.plan in
-    let only = only_one string_bytes c.args.names.now c.index-names-0.result c.requires.one c.index-names-0.is in
-    let all = subst (λ names. AllScripts planned (g.F.Files.texts c.args.files.now) names (plan ∷ [])) (sym only) (says, tt) in
-    (refl, plan, all, c.in-Ok-replay.ensures.exact, c.in-Ok-replay.ensures.ruled)
+    let t = g.F.Files.texts c.args.files.now in
+    let names = map string_bytes c.args.names.now in
+    let one = length-map c.args.names.now string_bytes ∙ c.requires.one in
+    let text = c.index.result.now in
+    let only = only_one text_of c.read_texts.new.texts.items text (c.in-Ok.ensures.all ∙ c.requires.one) c.index.ensures in
+    let is = subst (AreFirstTexts t names) only c.in-Ok.ensures.texts in
+    let plan = plan_of c.in-Ok-parse_only.plan in
+    record {
+      plan = plan;
+      files = only_plan t names one text.items is plan (ap planned (sym c.deref.ensures.value) ∙ c.in-Ok-parse_only.ensures.parsed);
+      closed_is = refl;
+      printed = c.in-Ok-replay.ensures.exact;
+      ruled = c.in-Ok-replay.ensures.ruled;
+    }

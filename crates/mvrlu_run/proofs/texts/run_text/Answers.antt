@@ -7,7 +7,7 @@ returns g c =
       lines = told.lines.items;
       end = told.end;
       tables = told.tables.items;
-      ran = c.in_ok-closing.ensures.ran;
+      left = c.in_ok-closing.ensures.ran;
       ordered = c.in_ok-closing.ensures.ordered;
       is = rw (c.deref.ensures.value, c.deref-2.ensures.value) at c.in_ok-text.ensures;
     }

@@ -1,7 +1,8 @@
 use Rattle.std.proofs.Common.{◌≡◌, ◌+◌, ◌∙◌, Some, drop, length, map, refl, sym, ap, arith}
 use Rattle.std.proofs.lemmas.Bool.{false≢true}
 use Rattle.run_outside.specs.Memory.{FilesState, named, next_count, left_from}
-use Rattle.run_outside.proofs.Calls.{has_cause, is_in, is_not_in, lists_none}
+use Rattle.run_outside.specs.Told.{name_in}
+use Rattle.run_outside.proofs.Calls.{if_named, is_told, is_in, is_not_in, lists_none}
 use Rattle.run_outside.proofs.Texts.{left_at, consumed, counted}
 use Rattle.run_outside.proofs.memory.MemFilesFiles.read.Goals as goal
 
@@ -49,10 +50,12 @@ returns-then-is_listed-clause-succeeds c =
     let number = c.saturating_add-self-inside.ensures ∙ ap (λ (v : FilesState). next_count v.calls) c.self.view_is in
     λ none. absurd (lists_none _ _ none (is_in _ _ c.args.self.now.calls _ _ list number c.is_listed.ensures c.if-is_listed.true))
 
-pub returns-then-is_listed-clause-cause : goal.returns-then-is_listed-clause-cause
-returns-then-is_listed-clause-cause c =
-    has_cause _ _ c.self.inside.faults _ (ap (λ (v : FilesState). v.faults) c.self.view_is) (omega arith) c.saturating_add-self-inside-then-is_listed.ensures
+pub returns-then-is_listed-clause-told : goal.returns-then-is_listed-clause-told
+returns-then-is_listed-clause-told c =
+    if_named c.self.inside.opened (name_in c.self.inside.told) _ _ (sym (ap (λ (v : FilesState). v.opened) c.self.view_is))
+    (is_told _ c.args.self.now c.self.inside.faults _ _ _ _ (ap (λ (v : FilesState). v.faults) c.self.view_is) (omega arith)
+    c.saturating_add-self-inside-then-is_listed.ensures (ap (λ (v : FilesState). v.failures) c.self.view_is) c.read_fails.ensures.failures)
 
 pub returns-then-is_listed-clause-err : goal.returns-then-is_listed-clause-err
 returns-then-is_listed-clause-err c =
-    rw (← c.self.view_is, c.saturating_add-self-inside.ensures, c.saturating_add-self-inside-then-is_listed.ensures) refl
+    rw (← c.self.view_is, c.saturating_add-self-inside.ensures, c.saturating_add-self-inside-then-is_listed.ensures, c.read_fails.ensures.name) refl

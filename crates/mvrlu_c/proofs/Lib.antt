@@ -2,3 +2,4 @@ pub mod Values
 pub mod HandleValues
 pub mod Telling
 pub mod SetsTelling
+pub mod Blocks

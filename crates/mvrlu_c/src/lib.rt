@@ -15,6 +15,7 @@ mod calls;
 mod handle;
 mod loose;
 mod opening;
+mod sets_block;
 mod sets_calls;
 mod sets_handle;
 mod sets_opening;

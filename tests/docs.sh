@@ -1,6 +1,7 @@
 #!/bin/bash
 # Checks that what the documents name is there: each link's file, and in docs/CONTRACTS.md and docs/RULE.md each file,
-# each call that stands in it, and each must-fail edit.
+# each call that stands in it, and each must-fail edit; that docs/QUICKSTART.md has the text of its crates; and that the files in
+# which docs/PROVING.md finds a lemma have it.
 cd "$(dirname "$0")/.." || exit 1
 python3 - <<'PYTHON'
 import pathlib, re, sys
@@ -57,6 +58,32 @@ rule = pathlib.Path("docs/RULE.md")
 for row in cells(rule):
     if len(row) == 2 and "`:" in row[1]:
         check_edits(rule, row[1], [])
+
+# The code of the quickstart is that of its crates.
+quick = pathlib.Path("docs/QUICKSTART.md")
+least = [*pathlib.Path("crates/counter").glob("s*/*.[ra]*"), pathlib.Path("crates/counter_main/src/main.rt")]
+sources = [path.read_text() for path in least]
+for kind, block in re.findall(r"^```(\w+)\n(.*?)^```$", quick.read_text(), flags=re.DOTALL | re.MULTILINE):
+    if not any(block in source for source in sources):
+        missing.append(f"{quick}: the {kind} that begins {block.splitlines()[0].strip()} stands in no source of the counter")
+told = pathlib.Path("crates/counter_main/stdout").read_text()
+listed = [line for line in pathlib.Path("crates.txt").read_text().splitlines() if re.match(r"counter(_main)?:", line)]
+for lines in (told.splitlines(), listed, pathlib.Path("HANDLES").read_text().splitlines()):
+    if "".join(f"    {line}\n" for line in lines) not in quick.read_text():
+        missing.append(f"{quick}: not as it is: {lines[0]} ..")
+
+# The lemmas of the page on proofs stand where it says.
+proving = pathlib.Path("docs/PROVING.md")
+for row in cells(proving):
+    here = None
+    for lemmas, crate, file in re.findall(r"((?:(?!\(`\w+`: ).)*)\(`(\w+)`: `([\w/]+)`", row[-1]):
+        path = pathlib.Path(f"crates/{crate}/{file}.antt")
+        if not path.exists():
+            missing.append(f"{proving}: no file {path}")
+            continue
+        names = [name for span in re.findall(r"`([^`]+)`", lemmas) for name in re.findall(r"[\w-]+", span)]
+        if names and not any(re.search(rf"^ *(pub )?{re.escape(name)} :", path.read_text(), flags=re.MULTILINE) for name in names):
+            missing.append(f"{proving}: none of {names} in {path}")
 
 print("\n".join(missing) or "docs: what they name is there")
 sys.exit(bool(missing))

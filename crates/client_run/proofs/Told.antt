@@ -1,10 +1,10 @@
 -- What tasks tell of their commits, in the whole history.
-use Rattle.std.proofs.Common.{◌≡◌, ℕ, ◌+◌, ◌<◌, ◌≤◌, List, [], length, All, length-append, sym, ap, subst, ◌∙◌, arith}
-use Rattle.std.proofs.lemmas.List.{append-nil}
+use Rattle.std.proofs.Common.{◌≡◌, ℕ, ◌+◌, ◌<◌, ◌≤◌, List, [], length, take, All, length-append, sym, ap, subst, ◌∙◌, arith}
+use Rattle.std.proofs.lemmas.List.{append-nil, take-append-le}
 use Rattle.std.specs.Prelude.{sum_by}
 use mathlib.Core.Option.{some}
 use lib.ListN.{get_elem?}
-use Rattle.mv_history.specs.State.{State, Writes, maker_of, commits_of}
+use Rattle.mv_history.specs.State.{State, Writes, state_at, state_after, maker_of, commits_of}
 use Rattle.mv_history.specs.Meaning.{Seat, IsWorn}
 use Rattle.mv_layout.specs.declared.Config.{Config}
 use Rattle.mvrlu.specs.Opened.{new_seat}
@@ -27,6 +27,17 @@ module _ {T : Type 0} (does : Seat → Seat → T → T → Type 0) (allows : Li
       let s = at_below met k (omega arith) in
       let o = ran.each k n s.0 e s.1 in
       (s.0, o.0, o.1, o.2)
+
+  -- what a seat that met has seen of a time is so in the whole history
+  pub seen_in_whole : (k : ℕ) (o n : T) (s : Seat) → RanOn does (new_seat home c start k) s w o n → (at : ℕ) → at ≤ length s.seen
+      → (at ≤ length w.history) × (state_at s.start s.seen at ≡ state_at w.start w.history at)
+  seen_in_whole k o n s on at le =
+      let begins = on.seen s.seen ([], sym (append-nil s.seen)) in
+      let long = ap length begins.1 ∙ length-append s.seen begins.0 in (
+        omega (arith, long, le),
+        ap (λ u. state_after u (take at s.seen)) (on.continues.start ∙ sym ran.opening)
+            ∙ ap (state_after w.start) (sym (ap (take at) begins.1 ∙ take-append-le at s.seen begins.0 le)),
+      )
 
   -- where a seat that met has no time left, the domain has none
   pub worn_over : (k : ℕ) (o n : T) (s : Seat) → RanOn does (new_seat home c start k) s w o n → IsWorn s → IsOver w

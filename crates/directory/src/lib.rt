@@ -36,10 +36,12 @@
 
 mod moving;
 mod reading;
+mod repeating;
 mod rules;
 mod searching;
 
 pub use moving::{Found, move_user};
 pub use reading::{Seen, keeps_directory, look_up, shelf_of};
+pub use repeating::make_moves;
 pub use rules::{Directory, ENTRIES, HASH, ID, NEXT, OBJECTS, SHELVES, opening};
 pub use searching::find_before;

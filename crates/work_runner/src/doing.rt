@@ -6,7 +6,7 @@ use std::alloc::{AllocError, Global};
 
 /// A store that does works, each by attempts. What it answers is the place and the reply.
 pub struct Doing<W: Work, S: Store<Rules = W::Rules>> {
-    store: S,
+    pub store: S,
     // What is remembered from one section to the next, of which there is nothing.
     memo: W::Memo,
 }

@@ -22,6 +22,7 @@ rows_of_stamps
 rows_of_builds
 rows_of_signals
 rows_of_fast
+rows_of_new
 [ "${1-}" = stand-ins ] || rows_of_real_runs "${1-}"
 [ -z "$(ls "$TMPDIR")" ] || fail "temporary files are left: $(ls "$TMPDIR")"
 [ "$failed" = 0 ] && echo 'mvrlu: ok'

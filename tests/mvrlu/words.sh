@@ -70,7 +70,7 @@ rows_of_the_page() {
         run $words
         [ "$status" = 0 ] || fail "the page ends with $status: $words"
         [ ! -s "$scratch/err" ] || fail "the page is on standard error: $words"
-        for word in run gen work block pool grow replay view build install uninstall help; do
+        for word in run gen work block pool grow replay view build new install uninstall help; do
             grep -q "^\./mvrlu $word " "$scratch/out" || fail "the page has no $word: $words"
         done
         grep -q 'put SET KEY VALUE' "$scratch/out" || fail "the page has no put: $words"

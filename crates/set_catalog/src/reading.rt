@@ -13,7 +13,8 @@ use tree_set::{Leaves, MOST_PENDING};
 /// Reads the catalogue of a lawful state: the keys of all sets, with their values.
 ///
 /// It reads the 180 heads, and each node that is not vacant once: for a list or a table of n keys n
-/// nodes, for a tree of n keys `2n - 1`. The error is want of memory.
+/// nodes, for a tree of n keys `2n - 1`. The error is want of memory: beside the catalogue it takes 64 KB
+/// for the links of a walk over a tree, which it gives back.
 pub fn read_all<V: View>(alloc: Global, view: &mut V) -> Result<Catalogue, AllocError>
     requires lawful { IsLawful (V.state view.old) }
     ensures catalogue { IfOk result (λ all. all ≡ catalogue_of (V.state view.old)) }
@@ -23,10 +24,8 @@ pub fn read_all<V: View>(alloc: Global, view: &mut V) -> Result<Catalogue, Alloc
     for head in 0..FIRST_ROOT {
         read_list(view, head, &mut all)?;
     }
-    let mut pending = [0; MOST_PENDING];
-    for root in FIRST_ROOT..FIRST_NODE {
-        read_tree(view, root, &mut pending, &mut all)?;
-    }
+    let mut pending = vec![in alloc; 0; MOST_PENDING]?;
+    read_trees(view, &mut pending, &mut all)?;
     Ok(all)
 }
 
@@ -44,6 +43,24 @@ fn read_list<V: View>(view: &mut V, head: u32, all: &mut Catalogue) -> Result<()
         let [_, _, key, next, _, value] = view.read(node as u32);
         all.insert(name, key as u32, value)?;
         node = next;
+    }
+    Ok(())
+}
+
+// Reads all trees, with a table for the walks' links.
+fn read_trees<V: View>(
+    view: &mut V,
+    pending: &mut [u16],
+    all: &mut Catalogue,
+) -> Result<(), AllocError>
+    requires lawful { IsLawful (V.state view.old) }
+    requires places { 32768 ≤ length pending.old }
+    requires before { HasHeads (V.state view.old) 170 all.old }
+    ensures read { OnOk result (HasHeads (V.state view.old) 180 all.new) }
+    ensures as_before { V.as_before view.old view.new }
+{
+    for root in FIRST_ROOT..FIRST_NODE {
+        read_tree(view, root, pending, all)?;
     }
     Ok(())
 }

@@ -8,22 +8,11 @@ loop-head-init g c = record {
   read = heads_none _ _ c.in_ok-all.ensures;
 }
 
-pub returns-clause-catalogue : goal.returns-clause-catalogue
-returns-clause-catalogue g c =
-    let end = c.loop-root.auto.root-end (omega arith) in let out = c.loop-root-test.false in
-    heads_all _ _ c.requires.lawful (heads_are _ _ _ _ (omega arith) c.loop-root.invariant.read)
-
 pub read_list-requires-clause-lawful : goal.read_list-requires-clause-lawful
 read_list-requires-clause-lawful g c = rw (g.met.V.View.same_state _ _ c.loop-head.invariant.before) c.requires.lawful
 
 pub read_list-requires-clause-before : goal.read_list-requires-clause-before
 read_list-requires-clause-before g c = rw (g.met.V.View.same_state _ _ c.loop-head.invariant.before) c.loop-head.invariant.read
-
-pub read_tree-requires-clause-lawful : goal.read_tree-requires-clause-lawful
-read_tree-requires-clause-lawful g c = rw (g.met.V.View.same_state _ _ c.loop-root.invariant.before) c.requires.lawful
-
-pub read_tree-requires-clause-before : goal.read_tree-requires-clause-before
-read_tree-requires-clause-before g c = rw (g.met.V.View.same_state _ _ c.loop-root.invariant.before) c.loop-root.invariant.read
 
 pub loop-head-preserved : goal.loop-head-preserved
 loop-head-preserved g c = record {
@@ -31,9 +20,20 @@ loop-head-preserved g c = record {
   read = rw (g.met.V.View.same_state _ _ c.loop-head.invariant.before) at c.in_ok-read_list.ensures.read;
 }
 
-pub loop-root-preserved : goal.loop-root-preserved
-loop-root-preserved g c = record {
-  before = g.met.V.View.as_long_before _ _ _ c.loop-root.invariant.before c.read_tree.ensures.as_before;
-  places = omega (arith, c.read_tree.ensures.places, c.loop-root.invariant.places);
-  read = rw (g.met.V.View.same_state _ _ c.loop-root.invariant.before) at c.in_ok-read_tree.ensures.read;
-}
+pub read_trees-requires-clause-lawful : goal.read_trees-requires-clause-lawful
+read_trees-requires-clause-lawful g c = rw (g.met.V.View.same_state _ _ c.loop-head.invariant.before) c.requires.lawful
+
+pub read_trees-requires-clause-before : goal.read_trees-requires-clause-before
+read_trees-requires-clause-before g c =
+    let end = c.loop-head.auto.head-end in let out = c.loop-head-test.false in
+    rw (g.met.V.View.same_state _ _ c.loop-head.invariant.before) (heads_are _ _ _ _ (omega arith) c.loop-head.invariant.read)
+
+pub returns-clause-catalogue : goal.returns-clause-catalogue
+returns-clause-catalogue g c =
+    heads_all _ _ c.requires.lawful (rw (g.met.V.View.same_state _ _ c.loop-head.invariant.before) at c.in_ok-read_trees.ensures.read)
+
+pub returns-clause-as_before : goal.returns-clause-as_before
+returns-clause-as_before g c = g.met.V.View.as_long_before _ _ _ c.loop-head.invariant.before c.read_trees.ensures.as_before
+
+pub returns-in_err-read_trees-clause-as_before : goal.returns-in_err-read_trees-clause-as_before
+returns-in_err-read_trees-clause-as_before g c = g.met.V.View.as_long_before _ _ _ c.loop-head.invariant.before c.read_trees.ensures.as_before

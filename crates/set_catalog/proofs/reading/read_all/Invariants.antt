@@ -1,4 +1,3 @@
-use Rattle.std.proofs.Common.{◌≤◌, length}
 use Rattle.set_catalog.specs.Readings.{HasHeads}
 use Rattle.set_catalog.proofs.reading.read_all.Given as goal
 
@@ -7,11 +6,4 @@ abbrev pub invariant-loop-head : goal.invariant-loop-head
 invariant-loop-head g l = record {
   before : g.V.View.as_before l.fn.view l.view;
   read : HasHeads (g.V.View.state l.fn.view) l.head l.all;
-}
-
-abbrev pub invariant-loop-root : goal.invariant-loop-root
-invariant-loop-root g l = record {
-  before : g.V.View.as_before l.fn.view l.view;
-  places : 32768 ≤ length l.pending;
-  read : HasHeads (g.V.View.state l.fn.view) l.root l.all;
 }

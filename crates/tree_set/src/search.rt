@@ -28,6 +28,7 @@ pub struct Fork {
 ///
 /// It needs a lawful state and a root, 170 to 179. It reads the objects from the root down to one
 /// leaf, each once, four words of a node and two of the root. It never refuses, and takes no memory.
+#[inline(always)]
 pub fn find<V: View>(view: &mut V, root: u32, key: u32) -> Option<Fork>
     requires root_from { 170 ≤ root }
     requires root_in { root < 180 }
@@ -61,6 +62,7 @@ pub fn find_leaf<V: View>(view: &mut V, root: u32, key: u32) -> Fork
 }
 
 // The leaf where the search for the key ends, down from the root, which leads to this node.
+#[inline(always)]
 fn descend<V: View>(view: &mut V, root: u32, first: u64, key: u32) -> Fork
     requires root_from { 170 ≤ root }
     requires root_in { root < 180 }

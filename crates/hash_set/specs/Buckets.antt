@@ -1,5 +1,5 @@
 -- The buckets of hash tables, and what is gathered over them.
-use Rattle.std.specs.Prelude.{ℕ, zero, suc, ◌+◌, ◌*◌, ◌%◌, nat_lt, if◌then◌else◌, length, Option, Some, None}
+use Rattle.std.specs.Prelude.{ℕ, zero, suc, ◌+◌, ◌*◌, ◌%◌, nat_lt, if◌then◌else◌, length, Bool, false, not, Option, Some, None}
 use Rattle.mv_history.specs.State.{State}
 use Rattle.set_script.specs.Catalogue.{next_key}
 use Rattle.set_script.specs.CatalogueOf.{map_at}
@@ -18,10 +18,19 @@ lesser_of None right = right
 lesser_of (Some left) None = Some left
 lesser_of (Some left) (Some right) = Some (if nat_lt right left then right else left)
 
--- the least key not below this one in the first n buckets of a set
+-- whether there is a key, and it is at most this number
+abbrev pub is_within : Option ℕ → ℕ → Bool
+is_within None most = false
+is_within (Some key) most = not (nat_lt most key)
+
+-- the bucket that is asked so many buckets after the one in which the key stands
+abbrev pub asked : ℕ → ℕ → ℕ → ℕ
+asked set key n = bucket_at set ((key + n) % 16)
+
+-- the least key not below this one in the first n buckets that are asked
 abbrev pub least_in : State → ℕ → ℕ → ℕ → Option ℕ
 least_in s set key zero = None
-least_in s set key (suc n) = lesser_of (least_in s set key n) (next_key key (map_at s (bucket_at set n)))
+least_in s set key (suc n) = lesser_of (least_in s set key n) (next_key key (map_at s (asked set key n)))
 
 -- how many keys the first n buckets of a set have
 abbrev pub count_in : State → ℕ → ℕ → ℕ

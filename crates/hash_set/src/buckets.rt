@@ -1,6 +1,6 @@
 // Where the keys of a set stand.
 ghost use Rattle.std.specs.Prelude.{◌≡◌, ◌<◌};
-ghost use Rattle.hash_set.specs.Buckets.{bucket_at, head_of, lesser_of};
+ghost use Rattle.hash_set.specs.Buckets.{bucket_at, head_of, lesser_of, is_within};
 
 // The head of this bucket of a set.
 pub fn bucket(set: u32, bucket: u32) -> u32
@@ -28,5 +28,15 @@ pub fn lesser(left: Option<u32>, right: Option<u32>) -> Option<u32>
         (Some(left), Some(right)) => Some(if right < left { right } else { left }),
         (left, None) => left,
         (None, right) => right,
+    }
+}
+
+// Whether there is a key, and it is at most this number.
+pub fn is_within(key: Option<u32>, most: u64) -> bool
+    ensures { result ≡ is_within key most }
+{
+    match key {
+        Some(key) => key as u64 <= most,
+        None => false,
     }
 }

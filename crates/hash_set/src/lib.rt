@@ -17,8 +17,13 @@
 //! A call of a key makes one walk, along the key's bucket. `bucket_of` tells its head, for who
 //! searches there first and changes later.
 //!
-//! `next_in` asks each bucket, since the next key may stand in any of them: a hash table has no
-//! order of its own.
+//! `next_in` asks one bucket after another, since the next key may stand in any of them: a hash table
+//! has no order of its own. A bucket's keys have one remainder, so the key itself could stand in its own
+//! bucket, the one after it in the next bucket, and so on. It asks in that order, and ends once no bucket
+//! that is left can have a lesser key than was found.
+//!
+//! `has_near`, `get_near` and `next_near` answer as `has_in`, `get_in` and `next_in` do, by walks that begin
+//! at fingers (`list_set::Fingers`).
 //!
 //! # Its place
 //!
@@ -31,4 +36,6 @@ mod buckets;
 mod tables;
 
 pub use buckets::bucket_of;
-pub use tables::{add_in, del_in, get_in, has_in, next_in, put_in, size_in};
+pub use tables::{
+    add_in, del_in, get_in, get_near, has_in, has_near, next_in, next_near, put_in, size_in,
+};

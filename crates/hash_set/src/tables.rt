@@ -14,8 +14,8 @@ ghost use Rattle.list_set.specs.declared.answers.SetStep.TheVariants.{Yes, No, A
 ghost use Rattle.list_set.specs.declared.answers.Removed.TheVariants.{Took, Absent, Again as DelAgain};
 ghost use Rattle.hash_set.specs.Buckets.{head_of};
 
-use crate::buckets::{bucket, bucket_of, lesser};
-use list_set::{Removed, SetStep};
+use crate::buckets::{bucket, bucket_of, is_within, lesser};
+use list_set::{Fingers, Removed, SetStep};
 use mv_history::{Section, View};
 
 /// Whether the set has the key.
@@ -28,8 +28,18 @@ pub fn has_in<V: View>(view: &mut V, set: u32, key: u32) -> bool
     ensures has { result ≡ has_key key (map_of (10 + set) (catalogue_of (V.state view.old))) }
     ensures as_before { V.as_before view.old view.new }
 {
+    has_near(view, &mut Fingers::none(), set, key)
+}
+
+/// Whether the set has the key, as `has_in` answers it, by a walk that begins at a finger of the bucket.
+pub fn has_near<V: View>(view: &mut V, fingers: &mut Fingers, set: u32, key: u32) -> bool
+    requires set_in { set < 10 }
+    requires lawful { IsLawful (V.state view.old) }
+    ensures has { result ≡ has_key key (map_of (10 + set) (catalogue_of (V.state view.old))) }
+    ensures as_before { V.as_before view.old view.new }
+{
     let head = bucket_of(set, key);
-    list_set::has_in(view, head, key)
+    list_set::has_near(view, fingers, head, key)
 }
 
 /// The value of the key in the set, or `None` exactly where the key is not there.
@@ -41,15 +51,38 @@ pub fn get_in<V: View>(view: &mut V, set: u32, key: u32) -> Option<u64>
     ensures value { result ≡ value_of key (map_of (10 + set) (catalogue_of (V.state view.old))) }
     ensures as_before { V.as_before view.old view.new }
 {
+    get_near(view, &mut Fingers::none(), set, key)
+}
+
+/// The value of the key in the set, as `get_in` answers it, by a walk that begins at a finger of the bucket.
+pub fn get_near<V: View>(view: &mut V, fingers: &mut Fingers, set: u32, key: u32) -> Option<u64>
+    requires set_in { set < 10 }
+    requires lawful { IsLawful (V.state view.old) }
+    ensures value { result ≡ value_of key (map_of (10 + set) (catalogue_of (V.state view.old))) }
+    ensures as_before { V.as_before view.old view.new }
+{
     let head = bucket_of(set, key);
-    list_set::get_in(view, head, key)
+    list_set::get_near(view, fingers, head, key)
 }
 
 /// The least key of the set that is not below `key`, or `None` where each is.
 ///
-/// It needs a lawful state and a set, 0 to 9. It reads the objects of each of the sixteen buckets up
-/// to the first key that is not below `key`, never refuses, and takes no memory.
+/// It needs a lawful state and a set, 0 to 9. It asks the buckets in the order of the least key that each
+/// may have, from `key` on: that of `key`, that of the key after it, and so on. It ends before a bucket
+/// that can't have a lesser key than was found, and after the sixteenth. Of a bucket it reads the objects
+/// up to the first key that is not below `key`. It never refuses, and takes no memory.
 pub fn next_in<V: View>(view: &mut V, set: u32, key: u32) -> Option<u32>
+    requires set_in { set < 10 }
+    requires lawful { IsLawful (V.state view.old) }
+    ensures next { result ≡ next_key key (map_of (10 + set) (catalogue_of (V.state view.old))) }
+    ensures as_before { V.as_before view.old view.new }
+{
+    next_near(view, &mut Fingers::none(), set, key)
+}
+
+/// The least key of the set that is not below `key`, as `next_in` answers it, by walks that begin at
+/// fingers of the buckets.
+pub fn next_near<V: View>(view: &mut V, fingers: &mut Fingers, set: u32, key: u32) -> Option<u32>
     requires set_in { set < 10 }
     requires lawful { IsLawful (V.state view.old) }
     ensures next { result ≡ next_key key (map_of (10 + set) (catalogue_of (V.state view.old))) }
@@ -57,7 +90,11 @@ pub fn next_in<V: View>(view: &mut V, set: u32, key: u32) -> Option<u32>
 {
     let mut least = None;
     for i in 0..16 {
-        let next = list_set::next_in(view, bucket(set, i), key);
+        if is_within(least, key as u64 + i as u64) {
+            return least;
+        }
+        let head = bucket(set, (key % 16 + i) % 16);
+        let next = list_set::next_near(view, fingers, head, key);
         least = lesser(least, next);
     }
     least

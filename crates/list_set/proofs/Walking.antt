@@ -15,7 +15,7 @@ use Rattle.set_script.proofs.NextKeys.{next_is, next_none}
 use Rattle.set_script.proofs.ListMaps.{holds-map_at, map_at-holds, map_at-value}
 use Rattle.list_set.specs.Places.{IsInList}
 use Rattle.list_set.specs.Linked.{IsNodeOf, IsLinked}
-use Rattle.list_set.specs.Walks.{walk_left, IsBehind, IsSpot}
+use Rattle.list_set.specs.Walks.{walk_left, IsBehind, IsSpot, IsWindow}
 use Rattle.list_set.proofs.Linking.{head_no_node}
 
 pub left_at : (s : State) (node : ℕ) → node ≢ 0 → walk_left s node ≡ 2 ^ 32 - key s node
@@ -167,50 +167,96 @@ module _ (s t : State) (head k previous node : ℕ) (l : IsLinked s head) (i : I
         let ky : found ≡ key s node = is ∙ ap (λ (v : State). key v node) i.same in
         record { same = f ∙ i.same; within = inr ahead_is; leads = next_link; below = inr (omega arith) }
 
-  module _ (words node_words : List ℕ) (found : ℕ) (is : found ≡ key t node) (le : k ≤ found) (words_are : words ≡ words_at s previous)
-      (read : node_words ≡ words_at s node) where
-    pub spot_found : IsSpot s head k previous words node node_words
-    spot_found =
-        let ky : word 2 node_words ≡ key s node = ap (word 2) read in
+  module _ (found : ℕ) (is : found ≡ key t node) (le : k ≤ found) where
+    pub window_found : IsWindow s head k previous node found
+    window_found =
         let own : found ≡ key s node = is ∙ ap (λ (v : State). key v node) i.same in
         let fit : key s node < 2 ^ 32 = l.fits node ahead_is in
-        let above : k ≤ key s node = omega arith in
         let some : link s previous ≢ 0 = λ z. n (i.leads ∙ z) in
-        let up : k ≤ key s (link s previous) = subst (λ u. k ≤ key s u) i.leads above in
-        let back : key s (link s previous) ≡ key s node = ap (key s) (sym i.leads) in
-        let test : (not (eqb node 0) && eqb (word 2 node_words) k) ≡ eqb (key s (link s previous)) k =
-        ap (λ (u : Bool). not u && eqb (word 2 node_words) k) (ne_eqb node 0 n) ∙ ap (λ (u : ℕ). eqb u k) (ky ∙ sym back) in
-        let own_value : word 5 node_words ≡ value s (link s previous) = ap (word 5) read ∙ ap (value s) i.leads in
+        let up : k ≤ key s (link s previous) = subst (λ u. k ≤ key s u) i.leads (omega arith) in
+        let back : found ≡ key s (link s previous) = own ∙ ap (key s) i.leads in
+        let test : (not (eqb node 0) && eqb found k) ≡ eqb (key s (link s previous)) k =
+        ap (λ (u : Bool). not u && eqb found k) (ne_eqb node 0 n) ∙ ap (λ (u : ℕ). eqb u k) back in
         record {
           within = i.within;
-          words_are = words_are;
           below = i.below;
           next = i.leads;
-          found = inr (record { is_node = ahead_is.0; own = ahead_is.1; words_are = read; above = above });
+          found = inr (record { is_node = ahead_is.0; own = ahead_is.1; key_is = own; above = le });
           fits = omega arith;
           has = test ∙ sym (node_has s head k previous l i.within i.below some up);
-          value =
-              ap (λ (u : Bool). cond u (Some (word 5 node_words)) None) test
-              ∙ ap (λ (v : ℕ). cond (eqb (key s (link s previous)) k) (Some v) None) own_value
+          value_is =
+              ap (λ (u : Bool). cond u (Some (value s node)) None) test
+              ∙ ap (λ (v : ℕ). cond (eqb (key s (link s previous)) k) (Some (value s v)) None) i.leads
               ∙ sym (node_value s head k previous l i.within i.below some up);
           least =
-              ap (λ (u : Bool). cond u None (Some (word 2 node_words))) (ne_eqb node 0 n) ∙ ap Some (ky ∙ sym back)
+              ap (λ (u : Bool). cond u None (Some found)) (ne_eqb node 0 n) ∙ ap Some back
               ∙ sym (node_least s head k previous l i.within i.below some up);
         }
 
-pub spot_end : (s t : State) (head k previous next : ℕ) (words : List ℕ) → IsLinked s head → IsSpotLoop s t head k previous next → next ≡ 0
-    → words ≡ words_at s previous → IsSpot s head k previous words 0 (0 ∷ 0 ∷ 0 ∷ 0 ∷ 0 ∷ 0 ∷ [])
-spot_end s t head k previous next words l i e words_are =
+pub window_end : (s t : State) (head k previous next : ℕ) → IsLinked s head → IsSpotLoop s t head k previous next → next ≡ 0
+    → IsWindow s head k previous 0 0
+window_end s t head k previous next l i e =
     let z : link s previous ≡ 0 = sym i.leads ∙ e in
     let none : has_key k (map_at s head) ≡ false = end_has s head k previous l i.within i.below z in
     record {
       within = i.within;
-      words_are = words_are;
       below = i.below;
       next = sym z;
       found = inl refl;
       fits = omega arith;
       has = sym none;
-      value = sym (value_none s head k previous l i.within i.below none);
+      value_is = sym (value_none s head k previous l i.within i.below none);
       least = sym (end_least s head k previous l i.within i.below z);
     }
+
+-- both objects of a window are in range
+module _ (s : State) (head k previous node found : ℕ) (l : IsLinked s head) (w : IsWindow s head k previous node found) where
+  pub window_previous : previous < length s
+  window_previous = previous_in_range s s head k previous node l (record { same = refl; within = w.within; leads = w.next; below = w.below })
+
+  pub window_node : node ≢ 0 → node < length s
+  window_node n = next_in_range s s head k previous node l (record { same = refl; within = w.within; leads = w.next; below = w.below }) n
+
+-- where a walk ended at no node there is none to read
+pub spot_none : (s : State) (head k previous node found : ℕ) (words : List ℕ) → IsWindow s head k previous node found → node ≡ 0
+    → words ≡ words_at s previous → IsSpot s head k previous words node (0 ∷ 0 ∷ 0 ∷ 0 ∷ 0 ∷ 0 ∷ [])
+spot_none s head k previous node found words w z words_are =
+    let off : (x : ℕ) → (not (eqb node 0) && eqb x k) ≡ false = λ x. ap (λ (u : ℕ). not (eqb u 0) && eqb x k) z in
+    record {
+      within = w.within;
+      words_are = words_are;
+      below = w.below;
+      next = w.next;
+      found = inl z;
+      fits = omega arith;
+      has = off 0 ∙ sym (off found) ∙ w.has;
+      value = ap (λ (u : Bool). cond u (Some 0) None) (off 0) ∙ sym (ap (λ (u : Bool). cond u (Some (value s node)) None) (off found)) ∙ w.value_is;
+      least = ap (λ (u : ℕ). cond (eqb u 0) None (Some 0)) z ∙ sym (ap (λ (u : ℕ). cond (eqb u 0) None (Some found)) z) ∙ w.least;
+    }
+
+-- where it ended at a node, both objects' words make it a spot
+pub spot_read : (s : State) (head k previous node found : ℕ) (words node_words : List ℕ) → IsWindow s head k previous node found → node ≢ 0
+    → words ≡ words_at s previous → node_words ≡ words_at s node → IsSpot s head k previous words node node_words
+spot_read s head k previous node found words node_words w n words_are read = elim w.found [
+  | inl z ↦ absurd (n z)
+  | inr r ↦
+      let same : word 2 node_words ≡ found = ap (word 2) read ∙ sym r.key_is in
+      let test : (not (eqb node 0) && eqb (word 2 node_words) k) ≡ (not (eqb node 0) && eqb found k) =
+      ap (λ (u : ℕ). not (eqb node 0) && eqb u k) same in
+      let fit : found < 2 ^ 32 = w.fits in
+      let up : k ≤ found = r.above in
+      let own : found ≡ key s node = r.key_is in
+      record {
+        within = w.within;
+        words_are = words_are;
+        below = w.below;
+        next = w.next;
+        found = inr (record { is_node = r.is_node; own = r.own; words_are = read; above = omega arith });
+        fits = omega arith;
+        has = test ∙ w.has;
+        value =
+            ap (λ (u : Bool). cond u (Some (word 5 node_words)) None) test
+            ∙ ap (λ (v : ℕ). cond (not (eqb node 0) && eqb found k) (Some v) None) (ap (word 5) read) ∙ w.value_is;
+        least = ap (λ (u : ℕ). cond (eqb node 0) None (Some u)) same ∙ w.least;
+      }
+]

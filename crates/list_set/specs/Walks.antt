@@ -5,7 +5,7 @@ use Rattle.mv_history.specs.State.{State}
 use Rattle.mv_history.specs.Meaning.{words_at}
 use Rattle.set_script.specs.Catalogue.{has_key, value_of, next_key}
 use Rattle.set_script.specs.CatalogueOf.{map_at}
-use Rattle.set_script.specs.Objects.{first_node, owner, key, link}
+use Rattle.set_script.specs.Objects.{first_node, owner, key, link, value}
 use Rattle.list_set.specs.Places.{IsInList}
 
 -- how far a walk can go on: keys rise, and are below 2^32
@@ -36,3 +36,21 @@ pub record IsSpot (s : State) (head k previous : ℕ) (words : List ℕ) (node :
   pub has : (not (node == 0) && (slice_index_or node_words 2 0 == k)) ≡ has_key k (map_at s head)
   pub value : (if not (node == 0) && (slice_index_or node_words 2 0 == k) then Some (slice_index_or node_words 5 0) else None) ≡ value_of k (map_at s head)
   pub least : (if node == 0 then None else Some (slice_index_or node_words 2 0)) ≡ next_key k (map_at s head)
+
+-- a node of the list with this key, which is not below k
+pub record IsReached (s : State) (head k node node_key : ℕ) : Type 0 where
+  pub is_node : first_node ≤ node
+  pub own : owner s node ≡ suc head
+  pub key_is : node_key ≡ key s node
+  pub above : k ≤ node_key
+
+-- What a walk for key k found by keys alone: the first node whose key is not below k, 0 at the end, with its key, and its predecessor.
+pub record IsWindow (s : State) (head k previous node node_key : ℕ) : Type 0 where
+  pub within : IsInList s head previous
+  pub below : (previous ≡ head) ⊎ (key s previous < k)
+  pub next : node ≡ link s previous
+  pub found : (node ≡ 0) ⊎ IsReached s head k node node_key
+  pub fits : node_key < 2 ^ 32
+  pub has : (not (node == 0) && (node_key == k)) ≡ has_key k (map_at s head)
+  pub value_is : (if not (node == 0) && (node_key == k) then Some (value s node) else None) ≡ value_of k (map_at s head)
+  pub least : (if node == 0 then None else Some node_key) ≡ next_key k (map_at s head)

@@ -21,16 +21,19 @@
 //! whoever commits needs that to show the commit fit on every state to which others' commits may
 //! have led. A refusal carries the one lock that was refused, and leaves the state as it was.
 //!
-//! Each call of a key makes one walk: `find` reads the objects up to the key, and answers a `Spot`,
-//! which says whether the key is there and gives the writes of an add, a del or a put with no other
-//! read. A changing call decides by that spot alone, and ends with `section_work::rewrite`, which
-//! locks some objects in order and then writes them. Who decides before anything is locked takes the
-//! spot and its writes, and then calls `rewrite`.
+//! Each call of a key makes one walk, which reads the key and the link of each object up to the key. A
+//! call that only asks is answered by that, and by the value of one node. `find` reads all words of the
+//! two objects between which the walk ended too, and answers a `Spot`, which says whether the key is
+//! there and gives the writes of an add, a del or a put with no other read. A changing call decides by
+//! that spot alone, and ends with `section_work::rewrite`, which locks some objects in order and then
+//! writes them. Who decides before anything is locked takes the spot and its writes, and then calls
+//! `rewrite`.
 //!
-//! `find_near` answers as `find` does, and begins its walk at a finger (`Fingers`): a node where an
-//! earlier search of the same seat ended. Whether the node is still in the list it reads in its own
-//! view, where each node with the head's number as its owner is in the head's list, whatever else has
-//! changed. So a finger is never trusted, and takes part in no commit.
+//! `find_near`, `has_near`, `get_near` and `next_near` answer as `find`, `has_in`, `get_in` and `next_in`
+//! do, and begin their walks at a finger (`Fingers`): a node where an earlier search of the same seat
+//! ended. Whether the node is still in the list they read in their own view, where each node with the
+//! head's number as its owner is in the head's list, whatever else has changed. So a finger is never
+//! trusted, and takes part in no commit.
 //!
 //! `find_linked` and `size_linked` ask only that the head leads with rising keys through all nodes that
 //! name it (`specs/Linked.antt`), so they serve other states than the sets' too.
@@ -58,8 +61,9 @@ mod answers;
 mod fingers;
 mod lists;
 mod search;
+mod window;
 
 pub use answers::{Removed, SetStep};
-pub use fingers::{Fingers, find_near, next_near};
+pub use fingers::{Fingers, find_near, get_near, has_near, next_near};
 pub use lists::{add_in, del_in, get_in, has_in, next_in, put_in, size_in, size_linked};
 pub use search::{Spot, find, find_linked};

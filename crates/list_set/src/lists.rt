@@ -16,7 +16,9 @@ ghost use Rattle.list_set.specs.declared.answers.SetStep.TheVariants.{Yes, No, A
 ghost use Rattle.list_set.specs.declared.answers.Removed.TheVariants.{Took, Absent, Again as DelAgain};
 
 use crate::answers::{Removed, SetStep};
-use crate::search::{KEY, find};
+use crate::fingers::{Fingers, get_near, has_near, next_near};
+use crate::search::find;
+use crate::window::KEY;
 use mv_history::{Section, View};
 use section_work::rewrite;
 
@@ -30,7 +32,7 @@ pub fn has_in<V: View>(view: &mut V, head: u32, key: u32) -> bool
     ensures has { result ≡ has_key key (map_at (V.state view.old) head) }
     ensures as_before { V.as_before view.old view.new }
 {
-    find(view, head, key).has(key)
+    has_near(view, &mut Fingers::none(), head, key)
 }
 
 /// The value of the key in the list of this head, or `None` exactly where the key is not there.
@@ -42,12 +44,7 @@ pub fn get_in<V: View>(view: &mut V, head: u32, key: u32) -> Option<u64>
     ensures value { result ≡ value_of key (map_at (V.state view.old) head) }
     ensures as_before { V.as_before view.old view.new }
 {
-    let spot = find(view, head, key);
-    if spot.has(key) {
-        Some(spot.node_words[5])
-    } else {
-        None
-    }
+    get_near(view, &mut Fingers::none(), head, key)
 }
 
 /// The least key of the list of this head that is not below `key`, or `None` where each is.
@@ -59,12 +56,7 @@ pub fn next_in<V: View>(view: &mut V, head: u32, key: u32) -> Option<u32>
     ensures next { result ≡ next_key key (map_at (V.state view.old) head) }
     ensures as_before { V.as_before view.old view.new }
 {
-    let spot = find(view, head, key);
-    if spot.node == 0 {
-        None
-    } else {
-        Some(spot.node_words[2] as u32)
-    }
+    next_near(view, &mut Fingers::none(), head, key)
 }
 
 /// How many keys the list of this head has.

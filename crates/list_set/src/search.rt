@@ -3,9 +3,9 @@ ghost use Rattle.std.specs.Prelude.{◌≡◌, ◌<◌, ◌≤◌, ◌==◌, ◌
 ghost use Rattle.set_script.specs.Lawful.{IsLawful};
 ghost use Rattle.section_work.specs.OwnWrites.{objects_of};
 ghost use Rattle.list_set.specs.Linked.{IsLinked};
-ghost use Rattle.list_set.specs.Walks.{IsBehind};
-ghost use Rattle.list_set.specs.Spots.{EndsHere, AreAddWrites, AreDelWrites, ArePutWrites};
+ghost use Rattle.list_set.specs.Spots.{EndsHere, StopsHere, AreAddWrites, AreDelWrites, ArePutWrites};
 
+use crate::window::{KEY, Window, walk_from};
 use mv_history::{View, Words};
 
 /// Where a search for a key ended: at the first node whose key is not below the one looked for, or
@@ -60,15 +60,6 @@ impl Spot {
     }
 }
 
-/// The place of the owner among an object's words.
-pub(crate) const OWNER: u32 = 0;
-
-/// The place of a node's key among its words; its link comes next.
-pub(crate) const KEY: u32 = 2;
-
-/// The first object that is a node; those below are heads.
-pub(crate) const FIRST_NODE: u32 = 180;
-
 /// Where the key is, or belongs, in the list of the head.
 ///
 /// It needs a lawful state and the head of a list or a bucket, 0 to 169. It reads the key and the link
@@ -94,52 +85,25 @@ pub fn find_linked<V: View>(view: &mut V, head: u32, key: u32) -> Spot
     ensures as_before { V.as_before view.old view.new }
 {
     let (_, link) = view.read_pair(head, KEY);
-    walk_from(view, head, key, head, link).0
+    let (window, _) = walk_from(view, head, key, head, 0, link);
+    spot_at(view, head, key, window)
 }
 
-// Where the key is, or belongs, by a walk from this object on, the head or a node with a key below `key`,
-// which leads to `first`; and how many nodes the walk passed.
-#[inline(always)]
-pub(crate) fn walk_from<V: View>(
-    view: &mut V,
-    head: u32,
-    key: u32,
-    from: u32,
-    first: u64,
-) -> (Spot, u32)
+// The spot of a walk that ended here: it reads all words of both objects.
+pub(crate) fn spot_at<V: View>(view: &mut V, head: u32, key: u32, window: Window) -> Spot
     requires linked { IsLinked (V.state view.old) head }
     requires few { length (V.state view.old) ≤ 65535 }
-    requires behind { IsBehind (V.state view.old) head key from first }
-    ensures spot { EndsHere (V.state view.old) head key result.0 }
+    requires stops { StopsHere (V.state view.old) head key window }
+    ensures spot { EndsHere (V.state view.old) head key result }
     ensures as_before { V.as_before view.old view.new }
 {
-    let mut previous = from;
-    let mut link = first;
-    let mut passed: u32 = 0;
-    while link != 0 {
-        let node = link as u32;
-        let (node_key, next) = view.read_pair(node, KEY);
-        if node_key >= key as u64 {
-            let words = view.read(previous);
-            let node_words = view.read(node);
-            let spot = Spot {
-                previous,
-                words,
-                node,
-                node_words,
-            };
-            return (spot, passed);
-        }
-        previous = node;
-        link = next;
-        passed = passed.wrapping_add(1);
-    }
+    let Window { previous, node, .. } = window;
     let words = view.read(previous);
-    let spot = Spot {
+    let node_words = if node == 0 { [0; 6] } else { view.read(node) };
+    Spot {
         previous,
         words,
-        node: 0,
-        node_words: [0; 6],
-    };
-    (spot, passed)
+        node,
+        node_words,
+    }
 }

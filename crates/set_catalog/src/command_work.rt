@@ -2,7 +2,7 @@
 ghost use Rattle.std.specs.Prelude.{◌≡◌};
 ghost use Rattle.set_script.specs.Tags.{tag_of as command_tag};
 
-use crate::finding::{Finding, find_plan_near};
+use crate::finding::{Finding, answer, find_change};
 use crate::memo::Memo;
 use crate::plan::{Gone, Plan};
 use crate::shortage::Shortage;
@@ -56,8 +56,11 @@ impl Work for CommandWork {
     #[inline(always)]
     fn decide<V: View>(&self, memo: &mut Memo, view: V, time: u64) -> (V, Decision<Answer, Plan>) {
         let mut view = view;
+        if let Some(reply) = answer(&mut view, &mut memo.fingers, &self.command) {
+            return (view, Decision::Settled(Answer::of(reply)));
+        }
         let mut few = memo.known.at(time);
-        let found = find_plan_near(
+        let found = find_change(
             &mut view,
             &mut memo.hints,
             &mut memo.fingers,

@@ -38,7 +38,7 @@ pub fn search<V: View>(view: &mut V, name: Name, key: u32) -> End
     search_near(view, &mut Fingers::none(), name, key)
 }
 
-// Searches the set of the name for the key, and begins in a list at a finger. It makes one walk.
+// Searches the set of the name for the key, and begins in a list or a bucket at a finger. It makes one walk.
 pub(crate) fn search_near<V: View>(view: &mut V, fingers: &mut Fingers, name: Name, key: u32) -> End
     requires lawful { IsLawful (V.state view.old) }
     ensures name_in { name < 30 }
@@ -55,7 +55,7 @@ pub(crate) fn search_near<V: View>(view: &mut V, fingers: &mut Fingers, name: Na
             let head = hash_set::bucket_of(set, key);
             End::Listed {
                 head,
-                spot: list_set::find(view, head, key),
+                spot: list_set::find_near(view, fingers, head, key),
             }
         }
         Set::Tree(root) => match tree_set::find(view, root, key) {

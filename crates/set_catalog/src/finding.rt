@@ -1,22 +1,23 @@
 // What a command comes to in a state, before anything is locked.
-ghost use Rattle.std.specs.Prelude.{◌≡◌, ◌<◌, ◌≤◌, ℕ, if◌then◌else◌, IfSome, MatchOption};
+ghost use Rattle.std.specs.Prelude.{◌≡◌, ◌<◌, ◌≤◌, ℕ, true, if◌then◌else◌, IfSome, MatchOption};
 ghost use Rattle.set_script.specs.Catalogue.{map_of, has_key};
 ghost use Rattle.set_script.specs.CatalogueOf.{catalogue_of};
 ghost use Rattle.set_script.specs.Lawful.{IsLawful};
 ghost use Rattle.set_script.specs.declared.commands.Command.{Command};
-ghost use Rattle.set_script.specs.declared.commands.Command.TheVariants.{Add, Put, Del, Has, Get, Move, Pair, Next};
+ghost use Rattle.set_script.specs.declared.commands.Command.TheVariants.{Add, Put, Del, Has, Get, Move, Pair, Size, Next};
 ghost use Rattle.set_script.specs.declared.commands.Reply.TheVariants.{Yes, No};
 ghost use Rattle.set_catalog.specs.Hinted.{TakesHints};
 ghost use Rattle.set_catalog.specs.Ends.{EndsAt, HasHead};
 ghost use Rattle.set_catalog.specs.Picks.{vacant_nodes};
-ghost use Rattle.set_catalog.specs.Needs.{AreEnough, wanted};
+ghost use Rattle.set_catalog.specs.Needs.{AreEnough, may_change, wanted};
 ghost use Rattle.set_catalog.specs.Findings.{IsFound, IsNew, reply_at_last};
+ghost use Rattle.set_catalog.specs.declared.finding.Finding.TheVariants.{Settled};
 
 use crate::ends::{End, search_near};
 use crate::hints::Hints;
 use crate::picks::{Picked, pick};
 use crate::plan::{Gone, Plan};
-use crate::sets::{next, size};
+use crate::sets::{has, next, size, value};
 use list_set::Fingers;
 use mv_history::View;
 use set_script::{Command, Name, Reply};
@@ -63,8 +64,7 @@ pub fn find_plan<V: View>(
     find_plan_near(view, hints, &mut Fingers::none(), few, command)
 }
 
-/// Finds what the command comes to, as `find_plan` does, by searches that begin in lists at fingers.
-#[inline(never)]
+/// Finds what the command comes to, as `find_plan` does, by searches that begin at fingers.
 pub fn find_plan_near<V: View>(
     view: &mut V,
     hints: &mut Hints,
@@ -72,6 +72,55 @@ pub fn find_plan_near<V: View>(
     few: &mut u32,
     command: &Command,
 ) -> Finding
+    requires lawful { IsLawful (V.state view.old) }
+    requires few { vacant_nodes (V.state view.old) < few.old }
+    ensures found { IsFound command.now (V.state view.old) result }
+    ensures few { vacant_nodes (V.state view.old) < few.new }
+    ensures hints { TakesHints hints.old hints.new }
+    ensures untouched { wanted command.now (catalogue_of (V.state view.old)) ≡ 0 → hints.new ≡ hints.old }
+    ensures as_before { V.as_before view.old view.new }
+{
+    match answer(view, fingers, command) {
+        Some(reply) => Finding::Settled(reply),
+        None => find_change(view, hints, fingers, few, command),
+    }
+}
+
+// The reply of a command that only asks, or none where it is one that may change something. Searches begin
+// at fingers. Inlined, so that what only asks makes no plan.
+#[inline(always)]
+pub(crate) fn answer<V: View>(
+    view: &mut V,
+    fingers: &mut Fingers,
+    command: &Command,
+) -> Option<Reply>
+    requires lawful { IsLawful (V.state view.old) }
+    ensures found { MatchOption result (may_change command.now ≡ true) (λ reply. IsFound command.now (V.state view.old) (Settled reply)) }
+    ensures as_before { V.as_before view.old view.new }
+{
+    match *command {
+        Command::Has { name, key } => Some(answer_has(view, fingers, name, key)),
+        Command::Get { name, key } => Some(answer_get(view, fingers, name, key)),
+        Command::Pair { first, second, key } => {
+            Some(answer_pair(view, fingers, first, second, key))
+        }
+        Command::Size { name } => Some(answer_size(view, name)),
+        Command::Next { name, key } => Some(answer_next(view, fingers, name, key)),
+        _ => None,
+    }
+}
+
+// Finds what a command comes to that may change something, as `find_plan` does, by searches that begin at
+// fingers.
+#[inline(never)]
+pub(crate) fn find_change<V: View>(
+    view: &mut V,
+    hints: &mut Hints,
+    fingers: &mut Fingers,
+    few: &mut u32,
+    command: &Command,
+) -> Finding
+    requires changes { may_change command.now ≡ true }
     requires lawful { IsLawful (V.state view.old) }
     requires few { vacant_nodes (V.state view.old) < few.old }
     ensures found { IsFound command.now (V.state view.old) result }
@@ -91,61 +140,65 @@ pub fn find_plan_near<V: View>(
             target,
             key,
         } => find_move(view, hints, fingers, few, source, target, key),
-        Command::Has { name, key } => find_has(view, fingers, name, key),
-        Command::Get { name, key } => find_value(view, fingers, name, key),
-        Command::Pair { first, second, key } => find_pair(view, fingers, first, second, key),
-        Command::Size { name } => Finding::Settled(Reply::Count {
-            count: size(view, name),
-        }),
-        Command::Next { name, key } => find_next(view, fingers, name, key),
+        _ => unreachable!(),
     }
 }
 
-fn find_has<V: View>(view: &mut V, fingers: &mut Fingers, name: Name, key: u32) -> Finding
+fn answer_has<V: View>(view: &mut V, fingers: &mut Fingers, name: Name, key: u32) -> Reply
     requires lawful { IsLawful (V.state view.old) }
-    ensures found { IsFound (Has name key) (V.state view.old) result }
+    ensures found { IsFound (Has name key) (V.state view.old) (Settled result) }
     ensures as_before { V.as_before view.old view.new }
 {
-    Finding::Settled(yes_or_no(search_near(view, fingers, name, key).has(key)))
+    yes_or_no(has(view, fingers, name, key))
 }
 
-fn find_value<V: View>(view: &mut V, fingers: &mut Fingers, name: Name, key: u32) -> Finding
+fn answer_get<V: View>(view: &mut V, fingers: &mut Fingers, name: Name, key: u32) -> Reply
     requires lawful { IsLawful (V.state view.old) }
-    ensures found { IsFound (Get name key) (V.state view.old) result }
+    ensures found { IsFound (Get name key) (V.state view.old) (Settled result) }
     ensures as_before { V.as_before view.old view.new }
 {
-    Finding::Settled(match search_near(view, fingers, name, key).value(key) {
+    match value(view, fingers, name, key) {
         Some(value) => Reply::Value { value },
         None => Reply::NoKey,
-    })
+    }
 }
 
-fn find_pair<V: View>(
+fn answer_pair<V: View>(
     view: &mut V,
     fingers: &mut Fingers,
     first: Name,
     second: Name,
     key: u32,
-) -> Finding
+) -> Reply
     requires lawful { IsLawful (V.state view.old) }
-    ensures found { IsFound (Pair first second key) (V.state view.old) result }
+    ensures found { IsFound (Pair first second key) (V.state view.old) (Settled result) }
     ensures as_before { V.as_before view.old view.new }
 {
-    Finding::Settled(Reply::Both {
-        first: search_near(view, fingers, first, key).has(key),
-        second: search_near(view, fingers, second, key).has(key),
-    })
+    Reply::Both {
+        first: has(view, fingers, first, key),
+        second: has(view, fingers, second, key),
+    }
 }
 
-fn find_next<V: View>(view: &mut V, fingers: &mut Fingers, name: Name, key: u32) -> Finding
+fn answer_size<V: View>(view: &mut V, name: Name) -> Reply
     requires lawful { IsLawful (V.state view.old) }
-    ensures found { IsFound (Next name key) (V.state view.old) result }
+    ensures found { IsFound (Size name) (V.state view.old) (Settled result) }
     ensures as_before { V.as_before view.old view.new }
 {
-    Finding::Settled(match next(view, fingers, name, key) {
+    Reply::Count {
+        count: size(view, name),
+    }
+}
+
+fn answer_next<V: View>(view: &mut V, fingers: &mut Fingers, name: Name, key: u32) -> Reply
+    requires lawful { IsLawful (V.state view.old) }
+    ensures found { IsFound (Next name key) (V.state view.old) (Settled result) }
+    ensures as_before { V.as_before view.old view.new }
+{
+    match next(view, fingers, name, key) {
         Some(key) => Reply::Key { key },
         None => Reply::NoKey,
-    })
+    }
 }
 
 fn yes_or_no(holds: bool) -> Reply

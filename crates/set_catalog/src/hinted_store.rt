@@ -17,8 +17,8 @@ use std::marker::Model;
 /// seat it looks again. Nothing else can reach the store meanwhile, so what is known is of this very
 /// store's history.
 ///
-/// It also keeps fingers into the lists (`list_set::Fingers`), at which its searches begin; no clause
-/// speaks of that either.
+/// It also keeps fingers into lists and buckets (`list_set::Fingers`), at which its searches begin; no
+/// clause speaks of that either.
 pub struct HintedStore<S: Store<Rules = SetRules>> {
     store: S,
     memo: Memo,

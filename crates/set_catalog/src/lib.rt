@@ -40,11 +40,15 @@
 //! of their places; a command's reply at its commit then follows from the store's law that its whole
 //! history is allowed.
 //!
+//! A command that only asks is answered with no plan, by searches that read no object of a list twice.
+//!
 //! `pick` finds vacant objects, and tries what a worker remembers of its own deletions first.
-//! A `HintedStore` owns a store with what it remembers of it: hints, fingers into lists, and of its
-//! last look for vacant objects that found too few, of which time that is known. While nothing was
-//! freed since, it answers `Full` with no further look. What is known is right for its store's seat.
-//! `read_all` reads the whole catalogue, set by set and each node once.
+//! A `HintedStore` owns a store with what it remembers of it: hints, fingers into lists and buckets,
+//! and of its last look for vacant objects that found too few, of which time that is known. While
+//! nothing was freed since, it answers `Full` with no further look. What is known is right for its
+//! store's seat.
+//! `read_all` reads the whole catalogue, set by set and each node once. The table for its walks over
+//! trees is of memory that can be refused, and none of it lies on the stack.
 //!
 //! No call but `Hints::new` and `read_all` takes memory.
 //!

@@ -13,7 +13,7 @@ use set_script::Command;
 pub struct Memo {
     /// Objects that are likely to be vacant.
     pub hints: Hints,
-    /// Where searches in lists begin.
+    /// Where searches in lists and buckets begin.
     pub fingers: Fingers,
     /// How few nodes are vacant at a time of the store.
     pub known: Shortage,

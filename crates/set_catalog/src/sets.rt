@@ -1,6 +1,6 @@
 // The sets by their names: lists, hash tables and trees.
 ghost use Rattle.std.specs.Prelude.{◌≡◌, length};
-ghost use Rattle.set_script.specs.Catalogue.{map_of, next_key};
+ghost use Rattle.set_script.specs.Catalogue.{map_of, has_key, value_of, next_key};
 ghost use Rattle.set_script.specs.CatalogueOf.{catalogue_of};
 ghost use Rattle.set_script.specs.Lawful.{IsLawful};
 
@@ -9,7 +9,33 @@ use list_set::Fingers;
 use mv_history::View;
 use set_script::Name;
 
-// The least key of the set that is not below this one, or none. In a list it begins at a finger.
+// Whether the set has the key. In a list or a bucket it begins at a finger.
+pub fn has<V: View>(view: &mut V, fingers: &mut Fingers, name: Name, key: u32) -> bool
+    requires lawful { IsLawful (V.state view.old) }
+    ensures has { result ≡ has_key key (map_of name (catalogue_of (V.state view.old))) }
+    ensures as_before { V.as_before view.old view.new }
+{
+    match set_of(name) {
+        Set::List(head) => list_set::has_near(view, fingers, head, key),
+        Set::Table(set) => hash_set::has_near(view, fingers, set, key),
+        Set::Tree(root) => tree_set::has_in(view, root, key),
+    }
+}
+
+// The value of the key in the set, or none. In a list or a bucket it begins at a finger.
+pub fn value<V: View>(view: &mut V, fingers: &mut Fingers, name: Name, key: u32) -> Option<u64>
+    requires lawful { IsLawful (V.state view.old) }
+    ensures value { result ≡ value_of key (map_of name (catalogue_of (V.state view.old))) }
+    ensures as_before { V.as_before view.old view.new }
+{
+    match set_of(name) {
+        Set::List(head) => list_set::get_near(view, fingers, head, key),
+        Set::Table(set) => hash_set::get_near(view, fingers, set, key),
+        Set::Tree(root) => tree_set::get_in(view, root, key),
+    }
+}
+
+// The least key of the set that is not below this one, or none. In a list or a bucket it begins at a finger.
 pub fn next<V: View>(view: &mut V, fingers: &mut Fingers, name: Name, key: u32) -> Option<u32>
     requires lawful { IsLawful (V.state view.old) }
     ensures next { result ≡ next_key key (map_of name (catalogue_of (V.state view.old))) }
@@ -17,7 +43,7 @@ pub fn next<V: View>(view: &mut V, fingers: &mut Fingers, name: Name, key: u32) 
 {
     match set_of(name) {
         Set::List(head) => list_set::next_near(view, fingers, head, key),
-        Set::Table(set) => hash_set::next_in(view, set, key),
+        Set::Table(set) => hash_set::next_near(view, fingers, set, key),
         Set::Tree(root) => tree_set::next_in(view, root, key),
     }
 }

@@ -151,7 +151,7 @@ type Row = (Ask, Reply, Place, u32);
 
 // What a store of ten nodes is asked that has the keys 1 to 10 in `l3`.
 static FULL: [Row; 16] = [
-    // A list's search reads the key and the link of each object up to where it ends, and then all words of
+    // A list's search reads the key and the link of each object up to where it ends, and for a change all words of
     // the two between which the key is: the head, the first node, both again, and a look through ten nodes;
     // then no look.
     (Add(3, 0), Reply::Full, Read(10), 14),
@@ -240,29 +240,64 @@ fn open_long(rt: &impl Abort, alloc: Global) -> Result<PlainStore<SetRules>, All
 // What a store is asked that has the keys 1 to 100 in `l3`, and no finger yet.
 static FINGERS: [Row; 11] = [
     // From the head, past 89 nodes; a finger stays at 89.
-    (Has(3, 90), Reply::Yes, Read(100), 93),
-    (Has(3, 90), Reply::Yes, Read(100), 5),
-    (Next(3, 95), Reply::Key { key: 95 }, Read(100), 10),
+    (Has(3, 90), Reply::Yes, Read(100), 91),
+    (Has(3, 90), Reply::Yes, Read(100), 3),
+    (Next(3, 95), Reply::Key { key: 95 }, Read(100), 8),
     // No finger is before 80; the walk leaves one at 79.
-    (Has(3, 80), Reply::Yes, Read(100), 83),
+    (Has(3, 80), Reply::Yes, Read(100), 81),
     (Del(3, 89), Reply::Yes, Commit(101), 14),
     // The node of key 89 is vacant, so the search begins at the head, and its finger goes to 88.
-    (Has(3, 90), Reply::Yes, Read(101), 94),
-    (Has(3, 90), Reply::Yes, Read(101), 5),
+    (Has(3, 90), Reply::Yes, Read(101), 92),
+    (Has(3, 90), Reply::Yes, Read(101), 3),
     // The node of key 88 comes into another list.
     (Del(3, 88), Reply::Yes, Commit(102), 13),
     (Add(4, 88), Reply::Yes, Commit(103), 3),
-    (Has(3, 90), Reply::Yes, Read(103), 93),
+    (Has(3, 90), Reply::Yes, Read(103), 91),
     // From 87 on to the end.
-    (Has(3, 101), Reply::No, Read(103), 14),
+    (Has(3, 101), Reply::No, Read(103), 13),
 ];
 
 // A search reads a finger's owner and its key, and where these are right then the key and the link of each node behind it
-// up to where it ends, else of the head and each node from there; and all words of the two between which the key is.
+// up to where it ends, else of the head and each node from there; a change then reads all words of the two between which
+// the key is.
 #[test]
 fn a_search_begins_at_a_finger(rt: HostRuntime) -> Result<(), Fail> {
     let hints = Hints::new(rt.alloc(), 1)?;
     let store = counted(open_long(&rt, rt.alloc())?, hints);
     let _store = play(&rt, store, &FINGERS);
+    Ok(())
+}
+
+// A store whose table 10 has the keys 1 to 32, so two in each bucket.
+fn open_table(rt: &impl Abort, alloc: Global) -> Result<PlainStore<SetRules>, AllocError> {
+    let mut hints = Hints::none();
+    let mut store = open(alloc, 1000, 1000)?;
+    for i in 0..32 {
+        store = add(rt, store, &mut hints, 10, i + 1);
+    }
+    Ok(store)
+}
+
+// What a store is asked that has the keys 1 to 32 in `h0`.
+static TABLE: [Row; 7] = [
+    // The bucket of 5 alone: no other one has a key from 5 on that is below 5.
+    (Next(10, 5), Reply::Key { key: 5 }, Read(32), 2),
+    (Del(10, 6), Reply::Yes, Commit(33), 4),
+    // The bucket of 6 has 22, and that of 7 has 7.
+    (Next(10, 6), Reply::Key { key: 7 }, Read(33), 4),
+    // The key 32 is the second one of its bucket.
+    (Next(10, 32), Reply::Key { key: 32 }, Read(33), 3),
+    // All sixteen heads and 31 nodes.
+    (Next(10, 33), Reply::NoKey, Read(33), 47),
+    (Has(10, 22), Reply::Yes, Read(33), 2),
+    (Has(10, 38), Reply::No, Read(33), 2),
+];
+
+// A table is asked bucket by bucket from the key's own on, until no bucket can have a lesser key than was found.
+#[test]
+fn a_table_is_asked_from_the_bucket_of_the_key_on(rt: HostRuntime) -> Result<(), Fail> {
+    let hints = Hints::new(rt.alloc(), 1)?;
+    let store = counted(open_table(&rt, rt.alloc())?, hints);
+    let _store = play(&rt, store, &TABLE);
     Ok(())
 }

@@ -1,33 +1,18 @@
 use Rattle.list_set.proofs.Linking.{lawful_linked}
 use Rattle.list_set.proofs.fingers.find_near.Goals as goal
 
-pub walk_from-passed-requires-clause-linked : goal.walk_from-passed-requires-clause-linked
-walk_from-passed-requires-clause-linked g c =
-    rw (g.met.V.View.same_state _ _ c.begin-from.ensures.as_before) (lawful_linked _ _ c.requires.lawful c.requires.head_in)
+pub spot_at-requires-clause-linked : goal.spot_at-requires-clause-linked
+spot_at-requires-clause-linked g c =
+    rw (g.met.V.View.same_state _ _ c.walk_near-window.ensures.as_before) (lawful_linked _ _ c.requires.lawful c.requires.head_in)
 
-pub walk_from-passed-requires-clause-few : goal.walk_from-passed-requires-clause-few
-walk_from-passed-requires-clause-few g c = rw (g.met.V.View.same_state _ _ c.begin-from.ensures.as_before) c.requires.lawful.few
+pub spot_at-requires-clause-few : goal.spot_at-requires-clause-few
+spot_at-requires-clause-few g c = rw (g.met.V.View.same_state _ _ c.walk_near-window.ensures.as_before) c.requires.lawful.few
 
-pub walk_from-passed-requires-clause-behind : goal.walk_from-passed-requires-clause-behind
-walk_from-passed-requires-clause-behind g c = rw (g.met.V.View.same_state _ _ c.begin-from.ensures.as_before) c.begin-from.ensures.behind
+pub spot_at-requires-clause-stops : goal.spot_at-requires-clause-stops
+spot_at-requires-clause-stops g c = rw (g.met.V.View.same_state _ _ c.walk_near-window.ensures.as_before) c.walk_near-window.ensures.stops
 
-pub returns-then-from-head-clause-spot : goal.returns-then-from-head-clause-spot
-returns-then-from-head-clause-spot g c = rw (g.met.V.View.same_state _ _ c.begin-from.ensures.as_before) at c.walk_from-passed.ensures.spot
+pub returns-clause-spot : goal.returns-clause-spot
+returns-clause-spot g c = rw (g.met.V.View.same_state _ _ c.walk_near-window.ensures.as_before) at c.spot_at.ensures.spot
 
-pub returns-then-from-head-clause-as_before : goal.returns-then-from-head-clause-as_before
-returns-then-from-head-clause-as_before g c =
-    g.met.V.View.as_long_before _ _ _ c.begin-from.ensures.as_before c.walk_from-passed.ensures.as_before
-
-pub returns-then-passed-gt-LONG-clause-spot : goal.returns-then-passed-gt-LONG-clause-spot
-returns-then-passed-gt-LONG-clause-spot g c = rw (g.met.V.View.same_state _ _ c.begin-from.ensures.as_before) at c.walk_from-passed.ensures.spot
-
-pub returns-then-passed-gt-LONG-clause-as_before : goal.returns-then-passed-gt-LONG-clause-as_before
-returns-then-passed-gt-LONG-clause-as_before g c =
-    g.met.V.View.as_long_before _ _ _ c.begin-from.ensures.as_before c.walk_from-passed.ensures.as_before
-
-pub returns-else-passed-gt-LONG-clause-spot : goal.returns-else-passed-gt-LONG-clause-spot
-returns-else-passed-gt-LONG-clause-spot g c = rw (g.met.V.View.same_state _ _ c.begin-from.ensures.as_before) at c.walk_from-passed.ensures.spot
-
-pub returns-else-passed-gt-LONG-clause-as_before : goal.returns-else-passed-gt-LONG-clause-as_before
-returns-else-passed-gt-LONG-clause-as_before g c =
-    g.met.V.View.as_long_before _ _ _ c.begin-from.ensures.as_before c.walk_from-passed.ensures.as_before
+pub returns-clause-as_before : goal.returns-clause-as_before
+returns-clause-as_before g c = g.met.V.View.as_long_before _ _ _ c.walk_near-window.ensures.as_before c.spot_at.ensures.as_before

@@ -1,6 +1,6 @@
 use Rattle.list_set.specs.Walks.{walk_left}
 use Rattle.list_set.proofs.Walking.{IsSpotLoop}
-use Rattle.list_set.proofs.search.walk_from.Given as goal
+use Rattle.list_set.proofs.window.walk_from.Given as goal
 
 abbrev pub invariant-loop-link : goal.invariant-loop-link
 invariant-loop-link g l = record {

@@ -1,6 +1,6 @@
 use Rattle.std.proofs.Common.{◌≡◌, ◌≤◌}
 use Rattle.hash_set.specs.Buckets.{least_in}
-use Rattle.hash_set.proofs.tables.next_in.Given as goal
+use Rattle.hash_set.proofs.tables.next_near.Given as goal
 
 abbrev pub invariant-loop-i : goal.invariant-loop-i
 invariant-loop-i g l = record {

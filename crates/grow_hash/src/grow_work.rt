@@ -43,6 +43,8 @@ impl Work for GrowWork {
 
     ghost notes = { λ w before after s. ⊤ };
 
+    // Inlined, so that the view isn't copied on its way in and out.
+    #[inline(always)]
     fn decide<V: View>(
         &self,
         _memo: &mut (),

@@ -33,6 +33,8 @@ impl Work for Block {
 
     ghost notes = { λ block before after s. ⊤ };
 
+    // Inlined, so that the view isn't copied on its way in and out.
+    #[inline(always)]
     fn decide<V: View>(
         &self,
         _memo: &mut (),

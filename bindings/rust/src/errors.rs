@@ -165,6 +165,55 @@ pub enum Unfinished {
     Worn,
 }
 
+/// Why a call on sets was not done. It changed nothing.
+///
+/// ```
+/// # let mut seats = mvrlu::open_sets(mvrlu::SetsOptions { objects: 181, slots: 64 }, 1).unwrap();
+/// # let list = mvrlu::Set::List(0);
+/// seats[0].add(list, 1).unwrap();
+/// assert_eq!(seats[0].add(list, 2), Err(mvrlu::Failed::Full { time: 1 }));
+/// ```
+#[derive(Clone, Copy, Debug, PartialEq, Eq)]
+pub enum Failed {
+    /// Another seat holds an object that the call wanted to change. Make it again.
+    Busy {
+        /// The other seat's number, 0 to 63.
+        seat: usize,
+    },
+    /// Such an object was written after the call began. Make it again.
+    Stale {
+        /// The time of that write, 1 to 2^45 - 1.
+        time: u64,
+    },
+    /// Another seat's entry came first. Make it again.
+    Again {
+        /// The time of that entry, 1 to 2^45 - 1.
+        time: u64,
+    },
+    /// The seat's log has too little room, as what it holds is still read. Make it again.
+    Short,
+    /// There are too few vacant objects for what the call adds.
+    Full {
+        /// The time of the state in which that is so.
+        time: u64,
+    },
+    /// The last time, 2^45 - 1, was reached: the domain only reads from then on.
+    Worn,
+    /// There is too little memory for a block, which takes some until it is done.
+    NoMemory,
+    /// A set isn't one of the thirty.
+    NoSet,
+    /// A move between a set and itself.
+    SameSet,
+}
+
+impl Failed {
+    /// Whether the same call may do better.
+    pub fn may_pass(self) -> bool {
+        matches!(self, Failed::Busy { .. } | Failed::Stale { .. } | Failed::Again { .. } | Failed::Short)
+    }
+}
+
 impl Display for OpenError {
     fn fmt(&self, to: &mut Formatter<'_>) -> Result {
         match self {
@@ -228,6 +277,22 @@ impl Display for Short {
     }
 }
 
+impl Display for Failed {
+    fn fmt(&self, to: &mut Formatter<'_>) -> Result {
+        match self {
+            Failed::Busy { seat } => write!(to, "seat {seat} holds an object of the change"),
+            Failed::Stale { time } => write!(to, "an object of the change was written at time {time}, after it began"),
+            Failed::Again { time } => write_rival(to, *time),
+            Failed::Short => Short.fmt(to),
+            Failed::Full { time } => write!(to, "too few objects are vacant at time {time}"),
+            Failed::Worn => write!(to, "{WORN}"),
+            Failed::NoMemory => OpenError::NoMemory.fmt(to),
+            Failed::NoSet => write!(to, "there is no such set"),
+            Failed::SameSet => write!(to, "a move between a set and itself"),
+        }
+    }
+}
+
 impl Display for Unfinished {
     fn fmt(&self, to: &mut Formatter<'_>) -> Result {
         match self {
@@ -245,3 +310,4 @@ impl Error for Uncommitted<'_> {}
 impl Error for Holding<'_> {}
 impl Error for Short {}
 impl Error for Unfinished {}
+impl Error for Failed {}

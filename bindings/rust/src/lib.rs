@@ -1,10 +1,11 @@
-//! Objects of six 64-bit words that threads share, read and written in multi-version sections: safe Rust over the static
-//! library `libmvrlu`, of which is proved, over every interleaving, what each call in a section promises.
+//! Objects of six 64-bit words, and sets of keys, that threads share, read and written in multi-version sections: safe Rust over
+//! the static library `libmvrlu`, of which is proved, over every interleaving, what each call promises.
 //!
-//! **The model.** [`open`] makes a domain of objects, whose words are all 0 at first, and a [`Seat`] for each thread. A thread
-//! enters a [`Section`] with its seat, and all its reads see the one state of that moment, whatever others commit meanwhile.
-//! Readers and writers never wait for each other. To write, a section locks each object, gives it new words, and commits:
-//! the commit takes place whole, at one time of the one commit history, or not at all. The domain ends with its last seat.
+//! **The model of objects.** [`open`] makes a domain of objects, whose words are all 0 at first, and a [`Seat`] for each thread. A
+//! thread enters a [`Section`] with its seat, and all its reads see the one state of that moment, whatever others commit
+//! meanwhile. Readers and writers never wait for each other. To write, a section locks each object, gives it new words, and
+//! commits: the commit takes place whole, at one time of the one commit history, or not at all. The domain ends with its last
+//! seat.
 //!
 //! ```
 //! # fn main() -> Result<(), Box<dyn std::error::Error>> {
@@ -28,6 +29,10 @@
 //! # }
 //! ```
 //!
+//! **The model of sets.** [`open_sets`] makes a domain of thirty maps from keys to values, ten lists, ten hash tables and ten
+//! trees, and a [`Sets`] for each thread. Each call is one section: a commit where it changes something, else a read of one
+//! state. So is a [block](Sets::block) of up to 8 commands.
+//!
 //! **Times.** A time counts entries of the history: commits, and rests, which change no object and which a seat makes where only
 //! a later time lets it reclaim. The state of time 0 is that of all words 0, and the last time is 2^45 - 1.
 //!
@@ -36,25 +41,29 @@
 //!
 //! **Misuse.** The types exclude most of it: a seat is used by one thread at a time, a section ends before its seat does
 //! anything else, and nothing is closed twice. What remains, as a number of an object that the domain doesn't have, is an
-//! error that left all as it was. No call waits, and none but [`Seat::retry`] tries again.
+//! error that left all as it was. No call waits, and none but [`Seat::retry`] and [`Sets::retry`] tries again.
 //!
 //! **Place.** The archive's calls carry the contracts, which are proved; that this package hands on what they answer, and that
-//! a seat which is dropped gives up what it holds, is tested. `build.rs` looks for `libmvrlu.a` in the folder that `MVRLU_LIB_DIR` names, or else asks `pkg-config`. All unsafe
-//! code is in the module `raw`.
+//! a seat which is dropped gives up what it holds, is tested. `build.rs` looks for `libmvrlu.a` in the folder that
+//! `MVRLU_LIB_DIR` names, or else asks `pkg-config`. All unsafe code is in the module `raw`.
 #![deny(missing_docs, unsafe_op_in_unsafe_fn, clippy::undocumented_unsafe_blocks)]
 
+mod block;
 mod errors;
 mod options;
 mod raw;
 mod retry;
 mod seat;
 mod section;
+mod sets;
 
-pub use errors::{Holding, Misuse, OpenError, Refused, Short, Uncommitted, Unfinished};
+pub use block::{Answer, Command, BLOCK_MAX};
+pub use errors::{Failed, Holding, Misuse, OpenError, Refused, Short, Uncommitted, Unfinished};
 pub use options::{Options, OBJECTS_MAX, SEATS_MAX, SLOTS_MAX, SLOTS_MIN, WRITE_MAX};
 pub use retry::{At, Done};
 pub use seat::{open, Seat};
 pub use section::Section;
+pub use sets::{open_sets, Set, Sets, SetsOptions, SETS_OBJECTS_MAX, SETS_OBJECTS_MIN};
 
 /// How many words an object has.
 pub const WORDS: usize = 6;

@@ -1,4 +1,7 @@
-//! The calls of the library. What it asks of its caller is kept by the types here, and all unsafe code of the package is here.
+//! The calls of the library. What it asks of its caller is kept by the types here, and all unsafe code of the package is here: the
+//! calls on seats of objects, and in `sets` those on seats of sets.
+
+pub(crate) mod sets;
 
 use crate::{Options, Tag, Words};
 use std::ffi::c_void;
@@ -40,16 +43,20 @@ extern "C" {
     fn mvrlu_raw_leave(seat: &mut RawSeat) -> i32;
 }
 
-/// What a call answers on a seat that is open, and, of the calls for a section, inside one.
+/// What a call answers on a seat that is open, and, of the calls for a section, inside one. In a block it is what a command came to.
 #[derive(Clone, Copy, Debug, PartialEq, Eq)]
 pub(crate) enum Status {
     Done,
+    No,
     Again,
     Busy,
     Stale,
     Short,
     LogFull,
+    Full,
     Worn,
+    NoSet,
+    SameSet,
     BadNumber,
     NoMemory,
     Inside,
@@ -65,12 +72,16 @@ impl Status {
     fn of(code: i32) -> Status {
         match code {
             0 => Status::Done,
+            1 => Status::No,
             2 => Status::Again,
             3 => Status::Busy,
             4 => Status::Stale,
             5 => Status::Short,
             6 => Status::LogFull,
+            -1 => Status::Full,
             -2 => Status::Worn,
+            -3 => Status::NoSet,
+            -4 => Status::SameSet,
             -7 => Status::BadNumber,
             -8 => Status::NoMemory,
             -13 => Status::Inside,
@@ -80,7 +91,7 @@ impl Status {
             -17 => Status::Holding,
             -18 => Status::SetFull,
             -19 => Status::BadPlace,
-            // Closed, in use, null, moved and outside: the types of this package let no such call be made.
+            // Closed, in use, null, moved, outside, bad command and bad block: the types of this package let no such call be made.
             other => unreachable!("libmvrlu answered {other}"),
         }
     }

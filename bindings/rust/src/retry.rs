@@ -42,6 +42,12 @@ pub struct Done<T> {
     pub at: At,
 }
 
+impl<T> Done<T> {
+    pub(crate) fn map<U>(self, change: impl FnOnce(T) -> U) -> Done<U> {
+        Done { value: change(self.value), at: self.at }
+    }
+}
+
 /// How many times something may still be tried again.
 struct Tries {
     left: u32,

@@ -1,0 +1,181 @@
+//! The calls of the library on seats of sets.
+
+use super::Status;
+use crate::block::Command;
+use crate::sets::{Set, SetsOptions};
+use std::ffi::c_void;
+use std::mem::size_of;
+use std::ptr::null_mut;
+
+/// What the library owns of a seat of sets: closed, or the block of an open one. It may be moved between calls, and isn't copied.
+#[repr(C)]
+#[derive(Debug)]
+pub(crate) struct RawSets {
+    is_open: u8,
+    at: *mut c_void,
+}
+
+/// The options as the library reads them.
+#[repr(C)]
+struct RawOptions {
+    size: u32,
+    objects: u32,
+    slots: u32,
+}
+
+/// What the library tells of a command.
+#[repr(C)]
+#[derive(Clone, Copy, Debug, Default)]
+pub(crate) struct RawReply {
+    pub(crate) value: u64,
+    pub(crate) time: u64,
+    committed: u32,
+    second: u32,
+    status: i32,
+}
+
+/// A command of a block as the library reads it.
+#[repr(C)]
+#[derive(Clone, Copy, Debug)]
+pub(crate) struct RawCommand {
+    op: u32,
+    set: u32,
+    other: u32,
+    key: u32,
+    value: u64,
+}
+
+const _: () = assert!(size_of::<RawSets>() == 16 && size_of::<RawOptions>() == 12);
+const _: () = assert!(size_of::<RawReply>() == 32 && size_of::<RawCommand>() == 24);
+
+extern "C" {
+    fn mvrlu_raw_sets_open(options: &RawOptions, seats: *mut RawSets, count: usize) -> i32;
+    fn mvrlu_raw_sets_close(seat: &mut RawSets) -> i32;
+    fn mvrlu_raw_sets_tidy(seat: &mut RawSets, live: &mut u32) -> i32;
+    fn mvrlu_raw_sets_add(seat: &mut RawSets, set: u32, key: u32, told: &mut RawReply) -> i32;
+    fn mvrlu_raw_sets_put(seat: &mut RawSets, set: u32, key: u32, value: u64, told: &mut RawReply) -> i32;
+    fn mvrlu_raw_sets_del(seat: &mut RawSets, set: u32, key: u32, told: &mut RawReply) -> i32;
+    fn mvrlu_raw_sets_has(seat: &mut RawSets, set: u32, key: u32, told: &mut RawReply) -> i32;
+    fn mvrlu_raw_sets_get(seat: &mut RawSets, set: u32, key: u32, told: &mut RawReply) -> i32;
+    fn mvrlu_raw_sets_next(seat: &mut RawSets, set: u32, key: u32, told: &mut RawReply) -> i32;
+    fn mvrlu_raw_sets_size(seat: &mut RawSets, set: u32, told: &mut RawReply) -> i32;
+    fn mvrlu_raw_sets_move(seat: &mut RawSets, from: u32, to: u32, key: u32, told: &mut RawReply) -> i32;
+    fn mvrlu_raw_sets_pair(seat: &mut RawSets, first: u32, second: u32, key: u32, told: &mut RawReply) -> i32;
+    fn mvrlu_raw_sets_block(
+        seat: &mut RawSets,
+        commands: *const RawCommand,
+        count: usize,
+        told: *mut RawReply,
+        room: usize,
+    ) -> i32;
+}
+
+impl RawReply {
+    pub(crate) fn status(&self) -> Status {
+        Status::of(self.status)
+    }
+
+    pub(crate) fn committed(&self) -> bool {
+        self.committed != 0
+    }
+
+    /// Of a pair.
+    pub(crate) fn both(&self) -> (bool, bool) {
+        (self.value != 0, self.second != 0)
+    }
+}
+
+impl RawCommand {
+    pub(crate) fn of(command: Command) -> RawCommand {
+        let (op, set, other, key, value) = match command {
+            Command::Add { set, key } => (1, set, set, key, 0),
+            Command::Del { set, key } => (2, set, set, key, 0),
+            Command::Move { from, to, key } => (3, from, to, key, 0),
+            Command::Put { set, key, value } => (4, set, set, key, value),
+            Command::Has { set, key } => (5, set, set, key, 0),
+            Command::Get { set, key } => (6, set, set, key, 0),
+            Command::Pair { first, second, key } => (7, first, second, key, 0),
+        };
+        RawCommand { op, set: set.number(), other: other.number(), key, value }
+    }
+}
+
+// SAFETY: `Send` is proved of the library's own type of a seat of sets. What hands a seat to another thread orders the two, and
+// the calls of a seat take it by `&mut`, so one thread uses it at a time.
+unsafe impl Send for RawSets {}
+
+/// Each call is safe: a seat is closed, or it is as the library left it, since its fields are seen by the library alone and no
+/// copy of it is ever made. It and what is read or written are references, which are valid and, where written, unshared for
+/// the length of the call, and the library keeps none of them.
+impl RawSets {
+    /// A closed seat.
+    pub(crate) const CLOSED: RawSets = RawSets { is_open: 0, at: null_mut() };
+
+    /// Opens a domain with these seats, all of them or none.
+    pub(crate) fn open_all(options: SetsOptions, seats: &mut [RawSets]) -> Status {
+        let SetsOptions { objects, slots } = options;
+        let options = RawOptions { size: size_of::<RawOptions>() as u32, objects, slots };
+        // SAFETY: as said above; the pointer and the count are those of one slice that is borrowed mutably.
+        Status::of(unsafe { mvrlu_raw_sets_open(&options, seats.as_mut_ptr(), seats.len()) })
+    }
+
+    pub(crate) fn close(&mut self) -> Status {
+        // SAFETY: as said above.
+        Status::of(unsafe { mvrlu_raw_sets_close(self) })
+    }
+
+    pub(crate) fn tidy(&mut self, live: &mut u32) -> Status {
+        // SAFETY: as said above.
+        Status::of(unsafe { mvrlu_raw_sets_tidy(self, live) })
+    }
+
+    pub(crate) fn add(&mut self, set: Set, key: u32, told: &mut RawReply) -> Status {
+        // SAFETY: as said above.
+        Status::of(unsafe { mvrlu_raw_sets_add(self, set.number(), key, told) })
+    }
+
+    pub(crate) fn put(&mut self, set: Set, key: u32, value: u64, told: &mut RawReply) -> Status {
+        // SAFETY: as said above.
+        Status::of(unsafe { mvrlu_raw_sets_put(self, set.number(), key, value, told) })
+    }
+
+    pub(crate) fn del(&mut self, set: Set, key: u32, told: &mut RawReply) -> Status {
+        // SAFETY: as said above.
+        Status::of(unsafe { mvrlu_raw_sets_del(self, set.number(), key, told) })
+    }
+
+    pub(crate) fn has(&mut self, set: Set, key: u32, told: &mut RawReply) -> Status {
+        // SAFETY: as said above.
+        Status::of(unsafe { mvrlu_raw_sets_has(self, set.number(), key, told) })
+    }
+
+    pub(crate) fn get(&mut self, set: Set, key: u32, told: &mut RawReply) -> Status {
+        // SAFETY: as said above.
+        Status::of(unsafe { mvrlu_raw_sets_get(self, set.number(), key, told) })
+    }
+
+    pub(crate) fn next(&mut self, set: Set, key: u32, told: &mut RawReply) -> Status {
+        // SAFETY: as said above.
+        Status::of(unsafe { mvrlu_raw_sets_next(self, set.number(), key, told) })
+    }
+
+    pub(crate) fn size(&mut self, set: Set, told: &mut RawReply) -> Status {
+        // SAFETY: as said above.
+        Status::of(unsafe { mvrlu_raw_sets_size(self, set.number(), told) })
+    }
+
+    pub(crate) fn move_key(&mut self, from: Set, to: Set, key: u32, told: &mut RawReply) -> Status {
+        // SAFETY: as said above.
+        Status::of(unsafe { mvrlu_raw_sets_move(self, from.number(), to.number(), key, told) })
+    }
+
+    pub(crate) fn pair(&mut self, first: Set, second: Set, key: u32, told: &mut RawReply) -> Status {
+        // SAFETY: as said above.
+        Status::of(unsafe { mvrlu_raw_sets_pair(self, first.number(), second.number(), key, told) })
+    }
+
+    pub(crate) fn block<const N: usize>(&mut self, commands: &[RawCommand; N], told: &mut [RawReply; N]) -> Status {
+        // SAFETY: as said above; the pointers and the counts are those of two arrays that are borrowed for the call.
+        Status::of(unsafe { mvrlu_raw_sets_block(self, commands.as_ptr(), N, told.as_mut_ptr(), N) })
+    }
+}

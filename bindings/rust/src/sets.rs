@@ -1,0 +1,226 @@
+//! Sets: opening a domain of thirty of them, and commands on them, each of which is one commit or one read.
+
+use crate::errors::{Failed, OpenError};
+use crate::options::SEATS_MAX;
+use crate::raw::sets::{RawCommand, RawReply, RawSets};
+use crate::raw::Status;
+use crate::retry::{At, Done};
+use std::thread::yield_now;
+
+/// The fewest objects that a domain of sets may have.
+pub const SETS_OBJECTS_MIN: u32 = 181;
+/// The most objects that a domain of sets may have.
+pub const SETS_OBJECTS_MAX: u32 = 65_535;
+
+/// The numbers of a domain of sets that its opener chooses.
+///
+/// ```
+/// let options = mvrlu::SetsOptions { objects: 8192, ..Default::default() };
+/// assert_eq!(options.slots, 1024);
+/// ```
+#[derive(Clone, Copy, Debug, PartialEq, Eq)]
+pub struct SetsOptions {
+    /// How many objects there are, [`SETS_OBJECTS_MIN`] to [`SETS_OBJECTS_MAX`]. 180 are the heads of the sets; each key of a
+    /// list or a table takes one of the others, and a tree of n keys 2n - 1.
+    pub objects: u32,
+    /// How many versions the log of each seat holds, [`SLOTS_MIN`](crate::SLOTS_MIN) to [`SLOTS_MAX`](crate::SLOTS_MAX).
+    pub slots: u32,
+}
+
+impl Default for SetsOptions {
+    /// 4,096 objects and 1,024 slots.
+    fn default() -> SetsOptions {
+        SetsOptions { objects: 4096, slots: 1024 }
+    }
+}
+
+/// One of the thirty sets of a domain, each a map from keys to values: ten of each kind, with the numbers 0 to 9.
+///
+/// ```
+/// # let mut seats = mvrlu::open_sets(mvrlu::SetsOptions::default(), 1).unwrap();
+/// let tenth = mvrlu::Set::List(10);
+/// assert_eq!(seats[0].has(tenth, 5), Err(mvrlu::Failed::NoSet));
+/// ```
+#[derive(Clone, Copy, Debug, PartialEq, Eq, Hash)]
+pub enum Set {
+    /// A sorted list.
+    List(u8),
+    /// A hash table.
+    Table(u8),
+    /// A tree.
+    Tree(u8),
+}
+
+impl Set {
+    /// Its number in the library; one too great for a set that isn't there.
+    pub(crate) fn number(self) -> u32 {
+        let (base, number) = match self {
+            Set::List(number) => (0, number),
+            Set::Table(number) => (10, number),
+            Set::Tree(number) => (20, number),
+        };
+        if number < 10 {
+            base + u32::from(number)
+        } else {
+            u32::MAX
+        }
+    }
+}
+
+/// A seat of a domain of sets, in lines of memory of its own. It may go to another thread, and no two threads use it at once.
+/// Dropped, it is closed; the domain ends with its last seat.
+///
+/// A call makes one section: where it changes something it is one commit, and else it reads one state. None waits, and none but
+/// [`retry`](Sets::retry) tries again.
+///
+/// ```
+/// # fn main() -> Result<(), Box<dyn std::error::Error>> {
+/// use mvrlu::{Command, Set};
+/// let mut seats = mvrlu::open_sets(mvrlu::SetsOptions::default(), 2)?;
+/// let [first, second] = seats.as_mut_slice() else { unreachable!() };
+/// let (waiting, running) = (Set::Tree(0), Set::Table(0));
+/// assert!(first.retry(100, |sets| sets.put(waiting, 17, 500))?.value);
+/// assert!(first.retry(100, |sets| sets.move_key(waiting, running, 17))?.value);
+/// assert_eq!(second.get(running, 17)?.value, Some(500));
+/// # Ok(())
+/// # }
+/// ```
+///
+/// ```compile_fail,E0277
+/// fn shares<T: Sync>() {}
+/// shares::<mvrlu::Sets>();
+/// ```
+#[derive(Debug)]
+#[repr(align(128))]
+pub struct Sets {
+    raw: RawSets,
+}
+
+/// Opens a domain of thirty empty sets, with so many seats, 1 to [`SEATS_MAX`].
+///
+/// # Errors
+///
+/// [`OpenError::BadNumber`] where a number is out of its range, and [`OpenError::NoMemory`]. Nothing is left behind.
+pub fn open_sets(options: SetsOptions, seats: usize) -> Result<Vec<Sets>, OpenError> {
+    let mut raw = [RawSets::CLOSED; SEATS_MAX];
+    let wanted = raw.get_mut(..seats).ok_or(OpenError::BadNumber)?;
+    match RawSets::open_all(options, wanted) {
+        Status::Done => Ok(raw.into_iter().take(seats).map(|raw| Sets { raw }).collect()),
+        Status::BadNumber => Err(OpenError::BadNumber),
+        Status::NoMemory => Err(OpenError::NoMemory),
+        other => other.is_unexpected(),
+    }
+}
+
+/// What a command came to: whether it was `yes`, and what else the library told, with its place; or why it was not done.
+pub(crate) fn done(status: Status, told: RawReply) -> Result<Done<(bool, RawReply)>, Failed> {
+    let yes = match status {
+        Status::Done => true,
+        Status::No => false,
+        Status::Busy => return Err(Failed::Busy { seat: told.value as usize }),
+        Status::Stale => return Err(Failed::Stale { time: told.value }),
+        Status::Again => return Err(Failed::Again { time: told.value }),
+        Status::Short => return Err(Failed::Short),
+        Status::Full => return Err(Failed::Full { time: told.time }),
+        Status::Worn => return Err(Failed::Worn),
+        Status::NoMemory => return Err(Failed::NoMemory),
+        Status::NoSet => return Err(Failed::NoSet),
+        Status::SameSet => return Err(Failed::SameSet),
+        other => other.is_unexpected(),
+    };
+    let at = if told.committed() { At::Commit(told.time) } else { At::Read(told.time) };
+    Ok(Done { value: (yes, told), at })
+}
+
+/// Each call fails by [`Failed::NoSet`] where a set isn't one of the thirty, and `add`, `put`, `del` and `move_key` by each that
+/// [`may_pass`](Failed::may_pass), by [`Failed::Full`] and by [`Failed::Worn`]. A call that fails changes nothing.
+impl Sets {
+    fn ask(
+        &mut self,
+        call: impl FnOnce(&mut RawSets, &mut RawReply) -> Status,
+    ) -> Result<Done<(bool, RawReply)>, Failed> {
+        let mut told = RawReply::default();
+        let status = call(&mut self.raw, &mut told);
+        done(status, told)
+    }
+
+    /// Adds a key, with the value 0. Tells whether it wasn't there.
+    pub fn add(&mut self, set: Set, key: u32) -> Result<Done<bool>, Failed> {
+        Ok(self.ask(|raw, told| raw.add(set, key, told))?.map(|(yes, _)| yes))
+    }
+
+    /// Gives a key a value, and adds it where it isn't there. Tells whether it hadn't this value.
+    pub fn put(&mut self, set: Set, key: u32, value: u64) -> Result<Done<bool>, Failed> {
+        Ok(self.ask(|raw, told| raw.put(set, key, value, told))?.map(|(yes, _)| yes))
+    }
+
+    /// Takes a key out. Tells whether it was there.
+    pub fn del(&mut self, set: Set, key: u32) -> Result<Done<bool>, Failed> {
+        Ok(self.ask(|raw, told| raw.del(set, key, told))?.map(|(yes, _)| yes))
+    }
+
+    /// Moves a key with its value to another set. Tells whether it was in the first and not in the second. Fails by
+    /// [`Failed::SameSet`] too.
+    pub fn move_key(&mut self, from: Set, to: Set, key: u32) -> Result<Done<bool>, Failed> {
+        Ok(self.ask(|raw, told| raw.move_key(from, to, key, told))?.map(|(yes, _)| yes))
+    }
+
+    /// Whether a key is there.
+    pub fn has(&mut self, set: Set, key: u32) -> Result<Done<bool>, Failed> {
+        Ok(self.ask(|raw, told| raw.has(set, key, told))?.map(|(yes, _)| yes))
+    }
+
+    /// The value of a key that is there.
+    pub fn get(&mut self, set: Set, key: u32) -> Result<Done<Option<u64>>, Failed> {
+        Ok(self.ask(|raw, told| raw.get(set, key, told))?.map(|(yes, told)| yes.then_some(told.value)))
+    }
+
+    /// The least key that isn't below this one.
+    pub fn next(&mut self, set: Set, key: u32) -> Result<Done<Option<u32>>, Failed> {
+        Ok(self.ask(|raw, told| raw.next(set, key, told))?.map(|(yes, told)| yes.then_some(told.value as u32)))
+    }
+
+    /// How many keys there are.
+    pub fn size(&mut self, set: Set) -> Result<Done<u64>, Failed> {
+        Ok(self.ask(|raw, told| raw.size(set, told))?.map(|(_, told)| told.value))
+    }
+
+    /// Whether a key is in the first set, and whether it is in the second, in one state.
+    pub fn pair(&mut self, first: Set, second: Set, key: u32) -> Result<Done<(bool, bool)>, Failed> {
+        Ok(self.ask(|raw, told| raw.pair(first, second, key, told))?.map(|(_, told)| told.both()))
+    }
+
+    /// Makes a block.
+    pub(crate) fn ask_block<const N: usize>(&mut self, commands: &[RawCommand; N], told: &mut [RawReply; N]) -> Status {
+        self.raw.block(commands, told)
+    }
+
+    /// Reclaims what nobody reads any more of the seat's log, and tells how many slots are live afterwards.
+    pub fn tidy(&mut self) -> u32 {
+        let mut live = 0;
+        self.raw.tidy(&mut live).must_be_done();
+        live
+    }
+
+    /// Makes a call, and makes it again where another seat came first, at most `limit` times, 0 or more. The thread yields before
+    /// each of these.
+    ///
+    /// # Errors
+    ///
+    /// What the last call failed by.
+    pub fn retry<T>(&mut self, limit: u32, mut call: impl FnMut(&mut Sets) -> Result<T, Failed>) -> Result<T, Failed> {
+        for _ in 0..limit {
+            match call(self) {
+                Err(why) if why.may_pass() => yield_now(),
+                other => return other,
+            }
+        }
+        call(self)
+    }
+}
+
+impl Drop for Sets {
+    fn drop(&mut self) {
+        self.raw.close().must_be_done();
+    }
+}

@@ -1,6 +1,9 @@
-/* mvrlu.h: objects of six 64-bit words that threads share, read and written in multi-version sections.
+/* mvrlu.h: data in memory that threads share, read and written in multi-version sections. It has two halves:
  *
- * A domain has up to 16,777,216 objects, all words 0 at first, and up to 64 seats. A thread uses a seat: it enters a section,
+ * - objects of six 64-bit words, of which a program builds structures of its own (mvrlu_seat);
+ * - thirty sets of 32-bit keys with 64-bit values: ten lists, ten hash tables, ten trees (mvrlu_sets), further below.
+ *
+ * Objects. A domain has up to 16,777,216 objects, all words 0 at first, and up to 64 seats. A thread uses a seat: it enters a section,
  * and all its reads see the one state of that moment, whatever others commit meanwhile. Readers and writers never wait for
  * each other. To write, a section locks each object, gives it new words, and commits: the commit takes place whole, at one
  * time of the one commit history, or not at all. No call blocks, sleeps or tries again by itself.
@@ -29,7 +32,7 @@
  * Isolation. It is snapshot isolation: two sections that lock different objects may both commit though each read what the
  * other wrote (write skew). Lock what a commit depends on; a locked object that is not written keeps its words.
  *
- * Threads. A seat is used by one thread at a time, and different seats of a domain by different threads at once. A seat may
+ * Threads. A seat, of objects or of the sets, is used by one thread at a time, and different seats of a domain by different threads at once. A seat may
  * go to another thread where that is ordered (a lock, the start or end of a thread, a sequentially consistent atomic). A
  * second call on a seat that is in a call answers MVRLU_IN_USE and does nothing, unless MVRLU_UNCHECKED is defined before
  * this header is included.
@@ -60,12 +63,16 @@ extern "C" {
 /* ---- status: 0 or more: the call was made, or the same call may be made again; below 0: nothing was done, and why ---- */
 typedef enum mvrlu_status {
     MVRLU_OK = 0,
-    MVRLU_AGAIN = 2,        /* commit: another entry came first. The section is as it was: commit again at once */
-    MVRLU_BUSY = 3,         /* lock: another seat holds the object. Abort, and begin again later */
-    MVRLU_STALE = 4,        /* lock: the object was written after the section began. Abort, and enter anew */
-    MVRLU_SHORT = 5,        /* prepare: the log has too little room for a full write set, as its oldest one is still needed */
+    MVRLU_NO = 1,           /* sets: there is nothing to change, or nothing of what was asked for */
+    MVRLU_AGAIN = 2,        /* another entry came first. Commit again at once; of the sets nothing was done: make the call again */
+    MVRLU_BUSY = 3,         /* another seat holds an object. Abort, and begin again later; of the sets nothing was done */
+    MVRLU_STALE = 4,        /* an object was written after the section began. Abort, and enter anew; of the sets nothing was done */
+    MVRLU_SHORT = 5,        /* the log has too little room for a full write set, as its oldest one is still needed */
     MVRLU_LOG_FULL = 6,     /* lock: the log has no free slot. Abort, and prepare */
-    MVRLU_WORN = -2,        /* commit: the last time, 2^45 - 1, was reached. Abort */
+    MVRLU_FULL = -1,        /* sets: there is no room for what is to be added */
+    MVRLU_WORN = -2,        /* the last time, 2^45 - 1, was reached: no commit is possible any more. Abort */
+    MVRLU_BAD_SET = -3,     /* sets: there is no set of this number: it isn't 0 to 29 */
+    MVRLU_SAME_SET = -4,    /* sets: a move from a set into itself */
     MVRLU_CLOSED = -5,      /* the seat is closed */
     MVRLU_IN_USE = -6,      /* the seat is in a call of another thread, or, for open, a seat is open already */
     MVRLU_BAD_NUMBER = -7,  /* open: an option or the count of seats is out of its range */
@@ -79,7 +86,9 @@ typedef enum mvrlu_status {
     MVRLU_EMPTY = -16,      /* commit: the section holds nothing. Leave */
     MVRLU_HOLDING = -17,    /* leave: the section holds something. Commit or abort */
     MVRLU_SET_FULL = -18,   /* lock: the section holds write_max objects */
-    MVRLU_BAD_PLACE = -19   /* read_pair: the place is not 0 to 4 */
+    MVRLU_BAD_PLACE = -19,  /* read_pair: the place is not 0 to 4 */
+    MVRLU_BAD_COMMAND = -20, /* sets_block: there is no command of this number */
+    MVRLU_BAD_BLOCK = -21   /* sets_block: no command or more than 8, or a size or a next among several */
 } mvrlu_status;
 
 /* What a status means, in one line. Never NULL. */
@@ -97,7 +106,7 @@ typedef struct mvrlu_options {
 
 /* What the library owns of a seat. */
 typedef struct mvrlu_raw { uint8_t is_open; void *at; } mvrlu_raw;
-typedef struct mvrlu_seat { mvrlu_raw raw; struct mvrlu_seat *self; uint32_t in_call; } mvrlu_seat;
+typedef struct mvrlu_seat { mvrlu_raw raw; const void *self; uint32_t in_call; } mvrlu_seat;
 
 /* The calls of the library itself, which test neither null pointers nor a second thread: use the calls below. */
 int32_t mvrlu_raw_open(const mvrlu_options *options, mvrlu_raw seats[], size_t count);
@@ -114,24 +123,25 @@ int32_t mvrlu_raw_commit(mvrlu_raw *seat, const uint64_t tag[4], uint64_t *time)
 int32_t mvrlu_raw_abort(mvrlu_raw *seat);
 int32_t mvrlu_raw_leave(mvrlu_raw *seat);
 
-/* Begins a call on a seat: 0, or why it may not be made. */
-static inline int32_t mvrlu_begin_call(mvrlu_seat *seat) {
-    if (seat == NULL) return MVRLU_NULL;
+/* Begins a call on a seat, of objects or of the sets: 0, or why it may not be made. */
+static inline int32_t mvrlu_begin_call(const void *seat, uint32_t *in_call, const uint8_t *is_open, const void *const *self) {
 #ifndef MVRLU_UNCHECKED
-    if (__atomic_exchange_n(&seat->in_call, 1u, __ATOMIC_ACQUIRE) != 0) return MVRLU_IN_USE;
-    if (seat->raw.is_open && seat->self != seat) {
-        __atomic_store_n(&seat->in_call, 0u, __ATOMIC_RELEASE);
+    if (__atomic_exchange_n(in_call, 1u, __ATOMIC_ACQUIRE) != 0) return MVRLU_IN_USE;
+    if (*is_open && *self != seat) {
+        __atomic_store_n(in_call, 0u, __ATOMIC_RELEASE);
         return MVRLU_MOVED;
     }
+#else
+    (void)seat, (void)in_call, (void)is_open, (void)self;
 #endif
     return MVRLU_OK;
 }
 
-static inline int32_t mvrlu_end_call(mvrlu_seat *seat, int32_t status) {
+static inline int32_t mvrlu_end_call(uint32_t *in_call, int32_t status) {
 #ifndef MVRLU_UNCHECKED
-    __atomic_store_n(&seat->in_call, 0u, __ATOMIC_RELEASE);
+    __atomic_store_n(in_call, 0u, __ATOMIC_RELEASE);
 #else
-    (void)seat;
+    (void)in_call;
 #endif
     return status;
 }
@@ -139,8 +149,10 @@ static inline int32_t mvrlu_end_call(mvrlu_seat *seat, int32_t status) {
 /* Makes a call of the library on a seat. */
 #define MVRLU_ON(seat, call) \
     do { \
-        int32_t status_ = mvrlu_begin_call(seat); \
-        return status_ != MVRLU_OK ? status_ : mvrlu_end_call(seat, call); \
+        int32_t status_; \
+        if ((seat) == NULL) return MVRLU_NULL; \
+        status_ = mvrlu_begin_call(seat, &(seat)->in_call, &(seat)->raw.is_open, &(seat)->self); \
+        return status_ != MVRLU_OK ? status_ : mvrlu_end_call(&(seat)->in_call, call); \
     } while (0)
 
 /* Opens a domain of objects that are all 0, with a seat for each of `seats`: all of them or none. Seat i has number i. Every
@@ -231,14 +243,213 @@ static inline int32_t mvrlu_abort(mvrlu_seat *seat) { MVRLU_ON(seat, mvrlu_raw_a
 /* Leaves a section that holds nothing. */
 static inline int32_t mvrlu_leave(mvrlu_seat *seat) { MVRLU_ON(seat, mvrlu_raw_leave(&seat->raw)); }
 
+/* ================================================================ sets ================================================================
+ *
+ * A domain of the sets has thirty of them, each with 32-bit keys, each key with a 64-bit value. Sets 0 to 9 are linked lists, 10 to
+ * 19 hash tables of sixteen lists, 20 to 29 search trees. Each call is one section: it reads one state, and changes what it changes
+ * by one commit, at the time that it tells. A block of 1 to 8 commands is one section too.
+ *
+ *     mvrlu_sets sets[4] = {{{0, NULL}, NULL, 0}};
+ *     mvrlu_sets_options options = MVRLU_SETS_OPTIONS_INIT;
+ *     if (mvrlu_sets_open(&options, sets, 4) != MVRLU_OK) ...
+ *     ... hand &sets[i] to thread i ...
+ *     do status = mvrlu_sets_move(own, MVRLU_LIST(0), MVRLU_TREE(3), key, &reply);      // at no time in both sets, nor in none
+ *     while (mvrlu_may_retry(status));
+ *
+ * No call tries again by itself: at MVRLU_AGAIN, MVRLU_BUSY, MVRLU_STALE and MVRLU_SHORT nothing was done, and the same call may be
+ * made again (mvrlu_may_retry).
+ *
+ * What is proved of each call (docs/CONTRACTS.md): its status and its reply are those of a sequential catalogue of thirty maps in the
+ * state just before the commit of the time that is told, which is one entry of the one history, or in the state of the time that it
+ * read, where it changes nothing; a status that says that nothing was done made no entry.
+ */
+
+#define MVRLU_SETS_COUNT 30u
+#define MVRLU_LIST(i) (0u + (i))  /* list 0 to 9 */
+#define MVRLU_HASH(i) (10u + (i)) /* hash table 0 to 9 */
+#define MVRLU_TREE(i) (20u + (i)) /* tree 0 to 9 */
+#define MVRLU_SETS_OBJECTS_MIN 181u
+#define MVRLU_SETS_OBJECTS_MAX 65535u
+#define MVRLU_BLOCK_MAX 8u
+
+/* Of the objects 180 are the heads of the sets, and the others nodes: a key takes one, and in a tree one more for each key but the first. */
+typedef struct mvrlu_sets_options {
+    uint32_t size;    /* sizeof(mvrlu_sets_options) */
+    uint32_t objects; /* MVRLU_SETS_OBJECTS_MIN to MVRLU_SETS_OBJECTS_MAX */
+    uint32_t slots;   /* versions in the log of each seat, MVRLU_SLOTS_MIN to MVRLU_SLOTS_MAX */
+} mvrlu_sets_options;
+#define MVRLU_SETS_OPTIONS_INIT { sizeof(mvrlu_sets_options), 4096u, 1024u }
+
+/* What a command came to, beside its status. A call that is refused below MVRLU_WORN, or at a closed seat, leaves it as it was. */
+typedef struct mvrlu_reply {
+    uint64_t value;     /* get: the value; next: the key; size: how many; pair: 1 where the first set has the key. At MVRLU_BUSY the
+                           number of the seat that holds an object, at MVRLU_STALE and MVRLU_AGAIN the time of the entry that came
+                           first. Else 0 */
+    uint64_t time;      /* that of the commit, or of the state that was read; 0 where nothing was done */
+    uint32_t committed; /* 1: the command is the commit of this time; 0: it read */
+    uint32_t second;    /* pair: 1 where the second set has the key. Else 0 */
+    int32_t status;     /* the command's status */
+} mvrlu_reply;
+
+/* A command of a block. */
+typedef enum mvrlu_op {
+    MVRLU_ADD = 1, MVRLU_DEL = 2, MVRLU_MOVE = 3, MVRLU_PUT = 4, MVRLU_HAS = 5, MVRLU_GET = 6, MVRLU_PAIR = 7, MVRLU_SIZE = 8, MVRLU_NEXT = 9
+} mvrlu_op;
+typedef struct mvrlu_command {
+    uint32_t op;    /* one of mvrlu_op */
+    uint32_t set;   /* of a move the set that the key is taken out of */
+    uint32_t other; /* of a move the set that it is put into, of a pair the second set; else it isn't read */
+    uint32_t key;
+    uint64_t value; /* of a put; else it isn't read */
+} mvrlu_command;
+
+/* The counts of a seat's log. */
+typedef struct mvrlu_counts {
+    uint64_t commits; /* commits of the seat */
+    uint64_t aborts;  /* sections that were given up while they held something */
+    uint64_t back;    /* versions that were written back into their objects */
+    uint64_t freed;   /* slots that were freed, in all */
+    uint64_t rests;   /* entries of the seat that change nothing, made for room */
+    uint64_t live;    /* slots that are live now */
+} mvrlu_counts;
+
+/* What the library owns of a seat of the sets. */
+typedef struct mvrlu_sets_raw { uint8_t is_open; void *at; } mvrlu_sets_raw;
+typedef struct mvrlu_sets { mvrlu_sets_raw raw; const void *self; uint32_t in_call; } mvrlu_sets;
+
+/* The calls of the library itself, which test neither null pointers nor a second thread: use the calls below. */
+int32_t mvrlu_raw_sets_open(const mvrlu_sets_options *options, mvrlu_sets_raw sets[], size_t count);
+int32_t mvrlu_raw_sets_close(mvrlu_sets_raw *sets);
+int32_t mvrlu_raw_sets_tidy(mvrlu_sets_raw *sets, uint32_t *live);
+int32_t mvrlu_raw_sets_counts(mvrlu_sets_raw *sets, mvrlu_counts *counts);
+int32_t mvrlu_raw_sets_add(mvrlu_sets_raw *sets, uint32_t set, uint32_t key, mvrlu_reply *reply);
+int32_t mvrlu_raw_sets_put(mvrlu_sets_raw *sets, uint32_t set, uint32_t key, uint64_t value, mvrlu_reply *reply);
+int32_t mvrlu_raw_sets_del(mvrlu_sets_raw *sets, uint32_t set, uint32_t key, mvrlu_reply *reply);
+int32_t mvrlu_raw_sets_has(mvrlu_sets_raw *sets, uint32_t set, uint32_t key, mvrlu_reply *reply);
+int32_t mvrlu_raw_sets_get(mvrlu_sets_raw *sets, uint32_t set, uint32_t key, mvrlu_reply *reply);
+int32_t mvrlu_raw_sets_next(mvrlu_sets_raw *sets, uint32_t set, uint32_t key, mvrlu_reply *reply);
+int32_t mvrlu_raw_sets_size(mvrlu_sets_raw *sets, uint32_t set, mvrlu_reply *reply);
+int32_t mvrlu_raw_sets_move(mvrlu_sets_raw *sets, uint32_t source, uint32_t target, uint32_t key, mvrlu_reply *reply);
+int32_t mvrlu_raw_sets_pair(mvrlu_sets_raw *sets, uint32_t first, uint32_t second, uint32_t key, mvrlu_reply *reply);
+int32_t mvrlu_raw_sets_block(mvrlu_sets_raw *sets, const mvrlu_command commands[], size_t count, mvrlu_reply replies[], size_t room);
+
+/* Whether nothing was done, and the same call may go through when it is made again. */
+static inline int mvrlu_may_retry(int32_t status) {
+    return status == MVRLU_AGAIN || status == MVRLU_BUSY || status == MVRLU_STALE || status == MVRLU_SHORT;
+}
+
+/* Opens a domain of the thirty sets, all empty, with a seat for each of `sets`: all of them or none. Seat i has number i. Every seat
+ * must be closed (zeroed memory). MVRLU_BAD_NUMBER, MVRLU_IN_USE, MVRLU_NO_MEMORY, MVRLU_NULL. */
+static inline int32_t mvrlu_sets_open(const mvrlu_sets_options *options, mvrlu_sets sets[], size_t count) {
+    mvrlu_sets_raw raw[MVRLU_SEATS_MAX];
+    size_t i;
+    int32_t status;
+    if (options == NULL || sets == NULL) return MVRLU_NULL;
+    if (options->size != sizeof(mvrlu_sets_options) || count < 1 || count > MVRLU_SEATS_MAX) return MVRLU_BAD_NUMBER;
+    for (i = 0; i < count; i++) {
+        if (sets[i].raw.is_open) return MVRLU_IN_USE;
+        raw[i].is_open = 0;
+        raw[i].at = NULL;
+    }
+    status = mvrlu_raw_sets_open(options, raw, count);
+    if (status != MVRLU_OK) return status;
+    for (i = 0; i < count; i++) {
+        sets[i].raw = raw[i];
+        sets[i].self = &sets[i];
+        sets[i].in_call = 0;
+    }
+    return MVRLU_OK;
+}
+
+/* Closes a seat. The domain ends with the last of its seats. */
+static inline int32_t mvrlu_sets_close(mvrlu_sets *sets) { MVRLU_ON(sets, mvrlu_raw_sets_close(&sets->raw)); }
+
+/* Reclaims what nobody reads any more of the seat's log. `live`: how many slots are live afterwards. */
+static inline int32_t mvrlu_sets_tidy(mvrlu_sets *sets, uint32_t *live) {
+    if (live == NULL) return MVRLU_NULL;
+    MVRLU_ON(sets, mvrlu_raw_sets_tidy(&sets->raw, live));
+}
+
+/* Tells the counts of the seat's log. */
+static inline int32_t mvrlu_sets_counts(mvrlu_sets *sets, mvrlu_counts *counts) {
+    if (counts == NULL) return MVRLU_NULL;
+    MVRLU_ON(sets, mvrlu_raw_sets_counts(&sets->raw, counts));
+}
+
+/* Makes a call that tells a reply, which may be NULL. */
+#define MVRLU_REPLIES(sets, reply, call) \
+    do { \
+        mvrlu_reply unused_ = {0, 0, 0, 0, 0}; \
+        mvrlu_reply *told_ = (reply) == NULL ? &unused_ : (reply); \
+        MVRLU_ON(sets, call); \
+    } while (0)
+
+/* Puts the key into the set, with value 0. MVRLU_NO: the set has it already, with whatever value. MVRLU_FULL. */
+static inline int32_t mvrlu_sets_add(mvrlu_sets *sets, uint32_t set, uint32_t key, mvrlu_reply *reply) {
+    MVRLU_REPLIES(sets, reply, mvrlu_raw_sets_add(&sets->raw, set, key, told_));
+}
+
+/* Gives the key this value in the set, whether or not it is there. MVRLU_NO: it has this value already. MVRLU_FULL. */
+static inline int32_t mvrlu_sets_put(mvrlu_sets *sets, uint32_t set, uint32_t key, uint64_t value, mvrlu_reply *reply) {
+    MVRLU_REPLIES(sets, reply, mvrlu_raw_sets_put(&sets->raw, set, key, value, told_));
+}
+
+/* Takes the key out of the set. MVRLU_NO: it isn't there. */
+static inline int32_t mvrlu_sets_del(mvrlu_sets *sets, uint32_t set, uint32_t key, mvrlu_reply *reply) {
+    MVRLU_REPLIES(sets, reply, mvrlu_raw_sets_del(&sets->raw, set, key, told_));
+}
+
+/* Asks whether the set has the key: MVRLU_OK, or MVRLU_NO. */
+static inline int32_t mvrlu_sets_has(mvrlu_sets *sets, uint32_t set, uint32_t key, mvrlu_reply *reply) {
+    MVRLU_REPLIES(sets, reply, mvrlu_raw_sets_has(&sets->raw, set, key, told_));
+}
+
+/* Asks for the value of the key in the set. MVRLU_NO: it isn't there. */
+static inline int32_t mvrlu_sets_get(mvrlu_sets *sets, uint32_t set, uint32_t key, mvrlu_reply *reply) {
+    MVRLU_REPLIES(sets, reply, mvrlu_raw_sets_get(&sets->raw, set, key, told_));
+}
+
+/* Asks for the least key of the set that is not below `key`. MVRLU_NO: there is none. */
+static inline int32_t mvrlu_sets_next(mvrlu_sets *sets, uint32_t set, uint32_t key, mvrlu_reply *reply) {
+    MVRLU_REPLIES(sets, reply, mvrlu_raw_sets_next(&sets->raw, set, key, told_));
+}
+
+/* Asks how many keys the set has. */
+static inline int32_t mvrlu_sets_size(mvrlu_sets *sets, uint32_t set, mvrlu_reply *reply) {
+    MVRLU_REPLIES(sets, reply, mvrlu_raw_sets_size(&sets->raw, set, told_));
+}
+
+/* Takes the key out of `source` and puts it into `target`, with its value, by one commit. MVRLU_NO: the one lacks it, or the other has
+ * it. MVRLU_FULL, MVRLU_SAME_SET. */
+static inline int32_t mvrlu_sets_move(mvrlu_sets *sets, uint32_t source, uint32_t target, uint32_t key, mvrlu_reply *reply) {
+    MVRLU_REPLIES(sets, reply, mvrlu_raw_sets_move(&sets->raw, source, target, key, told_));
+}
+
+/* Asks of each of two sets whether it has the key, in one state: `value` and `second` of the reply. */
+static inline int32_t mvrlu_sets_pair(mvrlu_sets *sets, uint32_t first, uint32_t second, uint32_t key, mvrlu_reply *reply) {
+    MVRLU_REPLIES(sets, reply, mvrlu_raw_sets_pair(&sets->raw, first, second, key, told_));
+}
+
+/* Does 1 to MVRLU_BLOCK_MAX commands as one, in their order: one commit, or one read where none of them changes anything. A size and
+ * a next are alone. Each command has its reply, in `replies`, all with one time. MVRLU_FULL: one of them has no room, and nothing was
+ * done; MVRLU_WORN likewise. It takes memory for the commands until it returns (MVRLU_NO_MEMORY). MVRLU_BAD_COMMAND, MVRLU_BAD_BLOCK. */
+static inline int32_t mvrlu_sets_block(mvrlu_sets *sets, const mvrlu_command commands[], size_t count, mvrlu_reply replies[]) {
+    if (commands == NULL || replies == NULL) return MVRLU_NULL;
+    MVRLU_ON(sets, mvrlu_raw_sets_block(&sets->raw, commands, count, replies, count));
+}
+
 static inline const char *mvrlu_strerror(int32_t status) {
     switch (status) {
         case MVRLU_OK: return "done";
-        case MVRLU_AGAIN: return "another seat committed first: commit again";
-        case MVRLU_BUSY: return "another seat holds the object";
-        case MVRLU_STALE: return "the object was written after the section began";
+        case MVRLU_NO: return "nothing to change, or nothing of what was asked for";
+        case MVRLU_AGAIN: return "another seat committed first: make the call again";
+        case MVRLU_BUSY: return "another seat holds an object";
+        case MVRLU_STALE: return "an object was written after the section began";
         case MVRLU_SHORT: return "too little room in the seat's log";
         case MVRLU_LOG_FULL: return "the seat's log has no free slot";
+        case MVRLU_FULL: return "no room for what is to be added";
+        case MVRLU_BAD_SET: return "no such set";
+        case MVRLU_SAME_SET: return "a move from a set into itself";
         case MVRLU_WORN: return "the last time was reached";
         case MVRLU_CLOSED: return "the seat is closed";
         case MVRLU_IN_USE: return "the seat is in use";
@@ -254,11 +465,14 @@ static inline const char *mvrlu_strerror(int32_t status) {
         case MVRLU_HOLDING: return "the section holds something";
         case MVRLU_SET_FULL: return "the section holds write_max objects";
         case MVRLU_BAD_PLACE: return "no pair begins at this place";
+        case MVRLU_BAD_COMMAND: return "no such command";
+        case MVRLU_BAD_BLOCK: return "not 1 to 8 commands, or a size or a next among several";
         default: return "not a status of mvrlu";
     }
 }
 
 #undef MVRLU_ON
+#undef MVRLU_REPLIES
 #ifdef __cplusplus
 }
 #endif

@@ -31,6 +31,8 @@ bash tests/library/archive.sh "$room/libmvrlu.a" || fail "the archive was not bu
 
 strict=(-std=c11 -Wall -Wextra -Werror -Iinclude)
 calls='calls: '
+sets='sets: '
+moves='moves 100000 beside pairs 100000, none wrong'
 bank='transfers 100000, each sum 64000'
 under=()
 run=0
@@ -38,28 +40,42 @@ for compiler in gcc clang; do
     command -v "$compiler" >/dev/null || { echo "library: $compiler isn't there, not run"; continue; }
     expect "calls by $compiler" "$calls" "$compiler" "${strict[@]}" -O2 tests/library/calls.c
     expect "bank by $compiler" "$bank" "$compiler" "${strict[@]}" -O2 examples/c/bank.c
-    run=$((run + 2))
+    expect "calls on sets by $compiler" "$sets" "$compiler" "${strict[@]}" -O2 tests/library/sets_calls.c
+    expect "moves by $compiler" "$moves" "$compiler" "${strict[@]}" -O2 tests/library/sets_moves.c
+    run=$((run + 4))
 done
 expect "random histories" "histories 10000: " gcc "${strict[@]}" -O2 -DHISTORIES=10000 tests/library/histories.c
-run=$((run + 1))
+expect "random histories of sets" "histories of sets 10000: " gcc "${strict[@]}" -O2 -DHISTORIES=10000 tests/library/sets_histories.c
+run=$((run + 2))
 if carries -fsanitize=address,undefined; then
     expect "calls under the address sanitizer" "$calls" gcc "${strict[@]}" -g -fsanitize=address,undefined tests/library/calls.c
-    run=$((run + 1))
+    expect "calls on sets under the address sanitizer" "$sets" gcc "${strict[@]}" -g -fsanitize=address,undefined tests/library/sets_calls.c
+    run=$((run + 2))
 fi
 if carries -fsanitize=thread; then
     sanitized=("${strict[@]}" -g -O1 -fsanitize=thread)
     expect "bank under the thread sanitizer" "$bank" gcc "${sanitized[@]}" examples/c/bank.c
     expect "random histories under the thread sanitizer" "histories 500: " gcc "${sanitized[@]}" -DHISTORIES=500 tests/library/histories.c
-    run=$((run + 2))
+    expect "moves under the thread sanitizer" "moves 10000 beside" gcc "${sanitized[@]}" -DROUNDS=5000 tests/library/sets_moves.c
+    expect "random histories of sets under the thread sanitizer" "histories of sets 300: " gcc "${sanitized[@]}" -DHISTORIES=300 \
+        tests/library/sets_histories.c
+    run=$((run + 4))
 fi
 if command -v valgrind >/dev/null; then
     under=(valgrind -q --error-exitcode=9 --leak-check=full)
     expect "calls under valgrind" "$calls" gcc "${strict[@]}" -g tests/library/calls.c
-    run=$((run + 1))
+    expect "calls on sets under valgrind" "$sets" gcc "${strict[@]}" -g tests/library/sets_calls.c
+    run=$((run + 2))
 else
     echo "library: valgrind isn't there, not run"
 fi
-printf '#include <mvrlu.h>\nint main() { mvrlu_seat seat = {}; return mvrlu_enter(&seat) == MVRLU_CLOSED ? 0 : 1; }\n' >"$room/header.cpp"
+printf '#include <mvrlu.h>\nint main() { mvrlu_seat seat = {}; mvrlu_sets sets = {}; return mvrlu_enter(&seat) + mvrlu_sets_has(&sets, 0, 0, NULL) == 2 * MVRLU_CLOSED ? 0 : 1; }\n' >"$room/header.cpp"
 under=()
 expect "the header as C++" "" g++ -std=c++17 -Wall -Wextra -Werror -Iinclude "$room/header.cpp"
-echo "library: $((run + 1)) programs ok"
+run=$((run + 1))
+# A call of the one half on a handle of the other does not compile.
+for mixed in 'mvrlu_sets sets = {{0, NULL}, NULL, 0}; return mvrlu_enter(&sets);' 'mvrlu_seat seat = {{0, NULL}, NULL, 0}; return mvrlu_sets_add(&seat, 0, 0, NULL);'; do
+    printf '#include <mvrlu.h>\nint main(void) { %s }\n' "$mixed" >"$room/mixed.c"
+    gcc "${strict[@]}" -c "$room/mixed.c" -o "$room/mixed.o" 2>/dev/null && fail "compiles: $mixed"
+done
+echo "library: $run programs ok"

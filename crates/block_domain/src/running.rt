@@ -7,16 +7,20 @@ ghost use Rattle.mvrlu.specs.Meant.{numbers_of, opening_of, seat_of, whole_of};
 ghost use Rattle.mvrlu.specs.Whole.{last_state};
 ghost use Rattle.block_workers.specs.BlockRuns.{AllRanBlocks};
 ghost use Rattle.block_workers.specs.Workers.{blocks_of, count_of};
+ghost use Rattle.block_workers.specs.BlockLinks.{AllLinkedBlocks};
+ghost use Rattle.set_blocks.specs.BlockRules.{IsBlockCommit};
+ghost use Rattle.domain_run.specs.Met.{MetAlong};
+ghost use Rattle.domain_run.specs.Shown.{handle_causes};
 ghost use Rattle.script_domain.specs.Joined.{past_of_whole, AreTablesOf};
 ghost use Rattle.script_domain.specs.New.{AreNewFrom};
 ghost use Rattle.block_domain.specs.Whole.{BlocksRunOf};
 
 use block_workers::run_blocks;
+use domain_run::lending::{lend_all, take_back};
 use mv_history::LogTable;
 use mvrlu::{Closing, Domain, Seat};
 use run_outside::Gate;
 use run_report::Line;
-use script_domain::lending::{lend_all, take_back};
 use set_blocks::{Block, BlockRules};
 use std::alloc::{AllocError, Global};
 use std::sync::Wait;
@@ -32,6 +36,8 @@ use std::thread::Threads;
 /// It answers the closing of the domain, the lines, whose order is left open (`order` of `run_report` orders them), and
 /// the tables of the logs by seat. They are those of one run in the closing's history: the replies of a block are those
 /// that the sequential catalogue gives at the block's printed place, and each commit of the history has exactly one block.
+///
+/// Each seat went along the chain of its lines, from the one that `open` gave to one that met (`MetAlong`).
 ///
 /// The error is want of memory. It comes only before the first block, and hands back the domain and the seats, which
 /// mean what they meant, so the call can be tried again. After the workers have ended nothing is refused.
@@ -55,6 +61,9 @@ pub fn run_block_domain<R: Threads + Wait + Sync, G: Gate>(
     ensures ran { IfOk result (λ done.
         BlocksRunOf (past_of_whole (whole_of done.0)) (map blocks_of scripts.now) done.1.items (catalogue_of (last_state (whole_of done.0)))
         done.2.items) }
+    ensures linked { IfOk result (λ done. MetAlong
+        (λ firsts met. AllLinkedBlocks (handle_causes IsOpening IsBlockCommit) firsts met (map blocks_of scripts.now) done.1.items)
+        IsBlockCommit (numbers_of domain) (opening_of domain) (map seat_of seats.items) (whole_of done.0)) }
     ensures opening { IfOk result (λ done.
         ((whole_of done.0).start ≡ opening_of domain) × ((whole_of done.0).base ≡ (numbers_of domain).base)) }
     ensures err { IfErr result (λ refused. (refused.0 ≡ domain) × (map seat_of refused.1.items ≡ map seat_of seats.items)) }
@@ -85,6 +94,8 @@ fn run_seats<R: Threads + Wait + Sync, G: Gate>(
     requires short { All (λ script. count_of script ≤ MOST_COMMANDS) scripts.now }
     requires most { 40 ≤ (numbers_of domain.now).write_max }
     ensures ran { IfOk result (λ done. AllRanBlocks (map seat_of seats.items) (map seat_of done.0.items) (map blocks_of scripts.now) done.1.items) }
+    ensures linked { IfOk result (λ done. AllLinkedBlocks (handle_causes IsOpening IsBlockCommit) (map seat_of seats.items) (map seat_of done.0.items)
+        (map blocks_of scripts.now) done.1.items) }
     ensures tables { IfOk result (λ done. AreTablesOf (map seat_of done.0.items) done.2.items) }
     ensures err { IfErr result (λ refused. map seat_of refused.0.items ≡ map seat_of seats.items) }
 {

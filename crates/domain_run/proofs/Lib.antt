@@ -1,4 +1,7 @@
 pub mod Rows
-pub mod Tables
+pub mod Moves
+pub mod Seats
 pub mod Whole
 pub mod Opened
+pub mod Working
+pub mod Told

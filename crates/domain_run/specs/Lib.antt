@@ -1,3 +1,6 @@
 pub mod Numbers
-pub mod Rows
+pub mod New
+pub mod Met
+pub mod Lending
+pub mod Shown
 pub mod Runs

@@ -3,49 +3,29 @@ use Rattle.std.specs.Prelude.{◌≡◌, ℕ, ◌+◌, ◌<◌, ◌≤◌, List,
 use mathlib.Core.Option.{some}
 use lib.ListN.{get_elem?}
 use Rattle.mv_history.specs.declared.Entry.{Entry}
-use Rattle.mv_history.specs.declared.answers.LogTable.{LogTable}
-use Rattle.mv_history.specs.State.{State, Writes, maker_of, commits_of, rests_of}
+use Rattle.mv_history.specs.declared.history.TheConstants.{LAST}
 use Rattle.mv_history.specs.Legal.{IsLegal, IsAllowed}
+use Rattle.mv_history.specs.State.{State, Writes, maker_of, commits_of, rests_of}
 use Rattle.mv_history.specs.Meaning.{Seat}
 use Rattle.mv_history.specs.Calls.{Continues}
-use Rattle.mv_history.specs.declared.history.TheConstants.{LAST}
 use Rattle.mv_layout.specs.declared.Config.{Config}
 use Rattle.mv_core.specs.HistoryFacts.{BeginsWith}
-use Rattle.mvrlu.specs.declared.domain.Domain.{Domain}
-use Rattle.mvrlu.specs.Holding.{IsSeatTable}
-use Rattle.mvrlu.specs.Meant.{numbers_of, name_of, opening_of}
 use Rattle.mvrlu.specs.Opened.{new_seat}
 use Rattle.mvrlu.specs.Whole.{Whole}
-
-module _ {P : Type 0} (d : Domain P) where
-  -- the seat of this number as `open` gives it
-  abbrev pub fresh : ℕ → Seat
-  fresh k = new_seat (name_of d) (numbers_of d) (opening_of d) k
-
-  abbrev pub IsFresh : ℕ → Seat → Type 0
-  IsFresh k s = s ≡ fresh k
-
-  -- the seat as it was opened, with the task of its number
-  abbrev pub IsWorker : {T : Type 0} → List T → ℕ → Seat → T → Type 0
-  IsWorker olds k s t = IsFresh k s × (get_elem? olds k ≡ some t)
-
--- the task of this number has run
-pub record HasRun {P T : Type 0} (does : Seat → Seat → T → T → Type 0) (d : Domain P) (olds : List T) (k : ℕ) (s : Seat) (t : T) : Type 0 where
-  pub old : T
-  pub there : get_elem? olds k ≡ some old
-  pub continues : Continues (fresh d k) s
-  pub did : does (fresh d k) s old t
 
 -- each task has what it needs of the seat of its number
 abbrev pub AreReady : {T : Type 0} → (Seat → T → Type 0) → (ℕ → Seat) → List T → Type 0
 AreReady {T} ready first tasks = (k : ℕ) (t : T) → get_elem? tasks k ≡ some t → ready (first k) t
 
--- the tables are those of these seats, one for each, in their order
-abbrev pub AreTablesOf : List Seat → List LogTable → Type 0
-AreTablesOf [] [] = ⊤
-AreTablesOf [] (t ∷ tables) = ⊥
-AreTablesOf (s ∷ seats) [] = ⊥
-AreTablesOf (s ∷ seats) (t ∷ tables) = IsSeatTable s t × AreTablesOf seats tables
+-- a task ran, from the seat and the task as they were to the seat and the task as they are
+abbrev pub HasRun : {T : Type 0} → (Seat → Seat → T → T → Type 0) → Seat → Seat → T → T → Type 0
+HasRun does f s o n = Continues f s × does f s o n
+
+-- each task did what it says, once, from the first seat of its place to the last
+abbrev pub AllDid : {T : Type 0} → (Seat → Seat → T → T → Type 0) → List Seat → List Seat → List T → List T → Type 0
+AllDid does [] [] [] [] = ⊤
+AllDid does (f ∷ firsts) (s ∷ lasts) (o ∷ olds) (n ∷ news) = does f s o n × AllDid does firsts lasts olds news
+AllDid does _ _ _ _ = ⊥
 
 -- What a task did, from the new seat of its number to the seat that met, and how that seat stands in the whole history.
 pub record RanOn {T : Type 0} (does : Seat → Seat → T → T → Type 0) (first met : Seat) (w : Whole) (old new : T) : Type 0 where

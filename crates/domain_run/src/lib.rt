@@ -29,7 +29,7 @@
 //! It stands on `mvrlu`. A client writes one `impl Task` and its relation; `accounts_run` is one to copy.
 #![tactic(auto)]
 
-mod ending;
+pub mod lending;
 mod running;
 mod sizes;
 mod task;

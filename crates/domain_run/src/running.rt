@@ -1,15 +1,16 @@
 // A run over a domain.
-ghost use Rattle.std.specs.Prelude.{◌≡◌, ℕ, List, length, map, vec_len, IfOk, IfErr};
-ghost use Rattle.domain_run.specs.Rows.{Rising};
-ghost use Rattle.domain_run.specs.Runs.{fresh, IsFresh, AreReady, AreTablesOf, IsRun};
+ghost use Rattle.std.specs.Prelude.{◌≡◌, ℕ, List, length, map, IfOk, IfErr};
+ghost use Rattle.domain_run.specs.Met.{AllContinue, AreTablesOf};
+ghost use Rattle.domain_run.specs.New.{fresh, AreNewFrom};
+ghost use Rattle.domain_run.specs.Runs.{AllDid, AreReady, IsRun};
 ghost use Rattle.mv_history.specs.Meaning as history;
 ghost use Rattle.mvrlu.specs.Causes.{Took};
 ghost use Rattle.mvrlu.specs.Meant.{numbers_of, name_of, opening_of, seat_of, whole_of};
 ghost use Rattle.mvrlu.specs.Opened.{Refuses, new_seat};
 
-use crate::ending::{Parts, taken_apart};
+use crate::lending::{lend_all, meet_all, take_back};
 use crate::task::Task;
-use crate::workers::{ended, workers_of};
+use crate::workers::run_each;
 use mv_history::{LogTable, Protocol, Words};
 use mv_layout::Config;
 use mvrlu::{Closing, Domain, OpenFault, Seat, open};
@@ -35,7 +36,7 @@ pub fn run<R: Threads + Wait + Sync, P: Protocol + Send + Sync, T: Task<P> + Sen
 ) -> Result<(Closing<P>, Vec<T>), (Vec<T>, OpenFault)>
     requires sized { length start.now ≡ config.objects }
     requires lawful { P.start start.now }
-    requires many { vec_len tasks ≡ config.seats }
+    requires many { length tasks.items ≡ config.seats }
     requires ready { (home : List ℕ) → AreReady T.ready (new_seat home config start.now) tasks.items }
     ensures ran { IfOk result (λ done. (home : List ℕ) × (met : List history.Seat)
         × IsRun (T.did Took) P.allowed home config start.now tasks.items done.1.items met (whole_of done.0)) }
@@ -66,35 +67,51 @@ pub fn run_on<R: Threads + Wait + Sync, P: Protocol + Send + Sync, T: Task<P> + 
     rt: &R,
     alloc: Global,
     domain: Domain<P>,
-    mut seats: Vec<Seat<P>>,
-    mut tasks: Vec<T>,
+    seats: Vec<Seat<P>>,
+    tasks: Vec<T>,
 ) -> Result<(Closing<P>, Vec<T>, Vec<LogTable>), (Domain<P>, Vec<Seat<P>>, Vec<T>)>
-    requires many { vec_len seats ≡ (numbers_of domain).seats }
-    requires as_many { vec_len tasks ≡ vec_len seats }
-    requires fresh { Rising (λ k s. IsFresh domain k (seat_of s)) seats.items }
+    requires new { AreNewFrom domain 0 (map seat_of seats.items) }
+    requires all { length seats.items ≡ (numbers_of domain).seats }
+    requires as_many { length tasks.items ≡ length seats.items }
     requires ready { AreReady T.ready (fresh domain) tasks.items }
     ensures ran { IfOk result (λ done. (met : List history.Seat) × AreTablesOf met done.2.items
         × IsRun (T.did Took) P.allowed (name_of domain) (numbers_of domain) (opening_of domain) tasks.items done.1.items met (whole_of done.0)) }
     ensures refused { IfErr result (λ back. (back.0 ≡ domain) × (back.1 ≡ seats) × (back.2 ≡ tasks)) }
 {
-    let Ok(tables) = Vec::with_capacity(alloc, seats.len()) else {
-        return Err((domain, seats, tasks));
-    };
-    // Handles can't be let go, so nothing is refused from here on.
+    match run_lent(rt, alloc, &domain, seats, tasks) {
+        Ok((seats, tasks, tables)) => Ok((meet_all(domain, seats), tasks, tables)),
+        Err((seats, tasks)) => Err((domain, seats, tasks)),
+    }
+}
+
+// The same, up to the meeting.
+fn run_lent<R: Threads + Wait + Sync, P: Protocol + Send + Sync, T: Task<P> + Send>(
+    rt: &R,
+    alloc: Global,
+    domain: &Domain<P>,
+    seats: Vec<Seat<P>>,
+    tasks: Vec<T>,
+) -> Result<(Vec<Seat<P>>, Vec<T>, Vec<LogTable>), (Vec<Seat<P>>, Vec<T>)>
+    requires new { AreNewFrom domain.now 0 (map seat_of seats.items) }
+    requires as_many { length tasks.items ≡ length seats.items }
+    requires ready { AreReady T.ready (fresh domain.now) tasks.items }
+    ensures gone_on { IfOk result (λ done. AllContinue (map seat_of seats.items) (map seat_of done.0.items)) }
+    ensures did { IfOk result (λ done.
+        AllDid (T.did Took) (map seat_of seats.items) (map seat_of done.0.items) tasks.items done.1.items) }
+    ensures tables { IfOk result (λ done. AreTablesOf (map seat_of done.0.items) done.2.items) }
+    ensures refused { IfErr result (λ back. (back.0 ≡ seats) × (back.1 ≡ tasks)) }
+{
     let Ok(workers) = Vec::with_capacity(alloc, seats.len()) else {
-        return Err((domain, seats, tasks));
+        return Err((seats, tasks));
     };
-    let workers = workers_of(&domain, &mut seats, &mut tasks, workers);
-    let workers = ended(rt, workers);
-    let rows = Parts {
-        seats,
-        tasks,
-        tables,
+    let (handles, left) = match lend_all(alloc, domain, seats) {
+        Ok(lent) => lent,
+        Err((seats, _)) => {
+            workers.destroy_empty();
+            return Err((seats, tasks));
+        }
     };
-    let Parts {
-        seats,
-        tasks,
-        tables,
-    } = taken_apart(&domain, workers, rows);
-    Ok((domain.meet(seats), tasks, tables))
+    let (handles, tasks) = run_each(rt, handles, tasks, workers);
+    let (seats, tables) = take_back(handles, left);
+    Ok((seats, tasks, tables))
 }

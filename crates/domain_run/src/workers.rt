@@ -1,119 +1,128 @@
-// Each task with the handle of its seat, and the threads in which they run.
-ghost use Rattle.std.specs.Prelude.{◌≡◌, ◌≤◌, [], length, All, vec_len, vec_capacity};
-ghost use Rattle.domain_run.specs.Rows.{Rising, Falling, Each};
-ghost use Rattle.domain_run.specs.Runs.{IsFresh, IsWorker};
-ghost use Rattle.mvrlu.specs.Causes.{Took};
-ghost use Rattle.mvrlu.specs.Meant.{numbers_of, seat_of, handled};
-ghost use Rattle.mv_history.specs.Calls.{Continues};
+// A task for each store, and the threads in which they run.
+ghost use Rattle.std.specs.Prelude.{◌≡◌, ◌≤◌, [], length, map, All, vec_capacity};
+ghost use Rattle.std.specs.List.{AllZip};
+ghost use Rattle.domain_run.specs.Met.{AllContinue};
+ghost use Rattle.domain_run.specs.Runs.{AllDid, HasRun};
 
 use crate::task::Task;
 use core::mem::replace_with;
-use mv_history::Protocol;
-use mvrlu::{Domain, Handle, Seat};
+use mv_history::{Protocol, Store};
 use std::sync::Wait;
 use std::thread;
 use std::thread::Threads;
 
-// A task with the handle of its seat.
-pub(crate) struct Worker<'d, P: Protocol, T> {
-    pub(crate) handle: Handle<'d, P>,
+// A task with its store.
+pub(crate) struct Worker<S, T> {
+    pub(crate) store: S,
     pub(crate) task: T,
 }
 
-impl<'d, P: Protocol, T: Task<P>> Worker<'d, P, T> {
-    // Runs the task.
-    fn run<R: Wait>(self, rt: &R) -> Worker<'d, P, T>
-        requires { T.ready (handled self.handle) self.task }
-        ensures continues { Continues (handled self.entry.handle) (handled result.handle) }
-        ensures did { T.did Took (handled self.entry.handle) (handled result.handle) self.entry.task result.task }
-    {
-        let Worker { handle, task } = self;
-        let (task, handle) = task.run(rt, handle);
-        Worker { handle, task }
+// Runs each task with the store of its place, in a thread of its own. There is room for the workers.
+pub(crate) fn run_each<
+    R: Threads + Wait + Sync,
+    P: Protocol + Send + Sync,
+    S: Store<Rules = P> + Send,
+    T: Task<P> + Send,
+>(rt: &R, mut stores: Vec<S>, mut tasks: Vec<T>, mut workers: Vec<Worker<S, T>>) -> (Vec<S>, Vec<T>)
+where
+    S::Open: Send,
+    requires empty { workers.items ≡ [] }
+    requires room { length stores.items ≤ vec_capacity workers }
+    requires ready { AllZip T.ready (map S.seat_of stores.items) tasks.items }
+    ensures gone_on { AllContinue (map S.seat_of stores.items) (map S.seat_of result.0.items) }
+    ensures did { AllDid (T.did S.took) (map S.seat_of stores.items) (map S.seat_of result.0.items) tasks.items result.1.items }
+{
+    pair_up(&mut stores, &mut tasks, &mut workers);
+    run_all(rt, workers.as_mut_slice());
+    part(workers, &mut stores, &mut tasks);
+    (stores, tasks)
+}
+
+// Each task with the store of its place. There is room for the workers.
+fn pair_up<S, T>(stores: &mut Vec<S>, tasks: &mut Vec<T>, workers: &mut Vec<Worker<S, T>>)
+    requires as_many { length tasks.old.items ≡ length stores.old.items }
+    requires empty { workers.old.items ≡ [] }
+    requires room { length stores.old.items ≤ vec_capacity workers.old }
+    ensures stores { map (λ w. w.store) workers.new.items ≡ stores.old.items }
+    ensures tasks { map (λ w. w.task) workers.new.items ≡ tasks.old.items }
+    ensures taken { (stores.new.items ≡ []) × (tasks.new.items ≡ []) }
+    ensures capacities { (vec_capacity stores.new ≡ vec_capacity stores.old) × (vec_capacity tasks.new ≡ vec_capacity tasks.old) }
+{
+    while !stores.is_empty() {
+        workers.push_reserved(Worker {
+            store: stores.remove(0),
+            task: tasks.remove(0),
+        });
     }
 }
 
-// Each seat in a handle, with the task of its number, the last first, in a row that has room for them.
-pub(crate) fn workers_of<'d, P: Protocol, T>(
-    domain: &'d Domain<P>,
-    seats: &mut Vec<Seat<P>>,
-    tasks: &mut Vec<T>,
-    mut workers: Vec<Worker<'d, P, T>>,
-) -> Vec<Worker<'d, P, T>>
-    requires many { vec_len seats.old ≡ (numbers_of domain.now).seats }
-    requires tasks { vec_len tasks.old ≡ vec_len seats.old }
-    requires fresh { Rising (λ k s. IsFresh domain.now k (seat_of s)) seats.old.items }
-    requires empty { workers.items ≡ [] }
-    requires room { vec_len seats.old ≤ vec_capacity workers }
-    ensures many { vec_len result ≡ (numbers_of domain.now).seats }
-    ensures workers { Falling (λ k w. IsWorker domain.now tasks.old.items k (handled w.handle) w.task) (numbers_of domain.now).seats result.items }
-    ensures no_seat { seats.new.items ≡ [] }
-    ensures no_task { tasks.new.items ≡ [] }
-    ensures seats { vec_capacity seats.new ≡ vec_capacity seats.old }
-    ensures tasks { vec_capacity tasks.new ≡ vec_capacity tasks.old }
+// The stores and the tasks of the workers, in order. There is room for them.
+fn part<S, T>(mut workers: Vec<Worker<S, T>>, stores: &mut Vec<S>, tasks: &mut Vec<T>)
+    requires empty { (stores.old.items ≡ []) × (tasks.old.items ≡ []) }
+    requires stores { length workers.items ≤ vec_capacity stores.old }
+    requires tasks { length workers.items ≤ vec_capacity tasks.old }
+    ensures stores { stores.new.items ≡ map (λ w. w.store) workers.items }
+    ensures tasks { tasks.new.items ≡ map (λ w. w.task) workers.items }
 {
-    while let Some(seat) = seats.pop() {
-        let Some(task) = tasks.pop() else {
-            unreachable!()
-        };
-        workers.push_reserved(Worker {
-            handle: domain.handle(seat),
-            task,
-        });
+    while !workers.is_empty() {
+        let Worker { store, task } = workers.remove(0);
+        stores.push_reserved(store);
+        tasks.push_reserved(task);
     }
-    workers
+    workers.destroy_empty();
 }
 
 // Each runs in a thread of its own.
-fn run_all<R: Threads + Wait + Sync, P: Protocol + Send + Sync, T: Task<P> + Send>(
-    rt: &R,
-    workers: &mut [Worker<'_, P, T>],
-)
-    requires ready { All (λ w. T.ready (handled w.handle) w.task) workers.old }
-    ensures many { length workers.new ≡ length workers.old }
-    ensures each { Each (λ o n. Continues (handled o.handle) (handled n.handle) × T.did Took (handled o.handle) (handled n.handle) o.task n.task)
-        workers.old workers.new }
+fn run_all<
+    R: Threads + Wait + Sync,
+    P: Protocol + Send + Sync,
+    S: Store<Rules = P> + Send,
+    T: Task<P> + Send,
+>(rt: &R, workers: &mut [Worker<S, T>])
+where
+    S::Open: Send,
+    requires { All (λ w. T.ready (S.seat_of w.store) w.task) workers.old }
+    ensures { AllZip (λ o n. HasRun (T.did S.took) (S.seat_of o.store) (S.seat_of n.store) o.task n.task) workers.old workers.new }
 {
     let threads = workers.len().max(1);
     thread::for_each_mut(
         rt,
         workers,
         threads,
-        &|_, worker: &mut Worker<'_, P, T>|
-            requires { T.ready (handled worker.old.handle) worker.old.task }
-            ensures { Continues (handled worker.old.handle) (handled worker.new.handle)
-                × T.did Took (handled worker.old.handle) (handled worker.new.handle) worker.old.task worker.new.task }
+        &|_, worker: &mut Worker<S, T>|
+            requires { T.ready (S.seat_of worker.old.store) worker.old.task }
+            ensures { HasRun (T.did S.took) (S.seat_of worker.old.store) (S.seat_of worker.new.store) worker.old.task worker.new.task }
         { run_in_place(rt, worker) },
     );
 }
 
-// A handle can't be copied or left out, so the worker is taken out of its place and put back.
-fn run_in_place<R: Wait, P: Protocol, T: Task<P>>(rt: &R, worker: &mut Worker<'_, P, T>)
-    requires { T.ready (handled worker.old.handle) worker.old.task }
-    ensures continues { Continues (handled worker.old.handle) (handled worker.new.handle) }
-    ensures did { T.did Took (handled worker.old.handle) (handled worker.new.handle) worker.old.task worker.new.task }
+// A store can't be copied or left out, so the worker is taken out of its place and put back.
+fn run_in_place<R: Wait, P: Protocol, S: Store<Rules = P>, T: Task<P>>(
+    rt: &R,
+    worker: &mut Worker<S, T>,
+)
+    requires { T.ready (S.seat_of worker.old.store) worker.old.task }
+    ensures { HasRun (T.did S.took) (S.seat_of worker.old.store) (S.seat_of worker.new.store) worker.old.task worker.new.task }
 {
     replace_with(
         worker,
         (),
         |worker, _unit|
-            requires { T.ready (handled worker.handle) worker.task }
-            ensures { Continues (handled worker.entry.handle) (handled result.0.handle)
-                × T.did Took (handled worker.entry.handle) (handled result.0.handle) worker.entry.task result.0.task }
-        { (worker.run(rt), ()) },
+            requires { T.ready (S.seat_of worker.store) worker.task }
+            ensures { HasRun (T.did S.took) (S.seat_of worker.store) (S.seat_of result.0.store) worker.task result.0.task }
+        { (ran(rt, worker), ()) },
     )
 }
 
-// The workers, once each has run in a thread of its own.
-pub(crate) fn ended<'d, R: Threads + Wait + Sync, P: Protocol + Send + Sync, T: Task<P> + Send>(
+// Runs the task with its store.
+fn ran<R: Wait, P: Protocol, S: Store<Rules = P>, T: Task<P>>(
     rt: &R,
-    mut workers: Vec<Worker<'d, P, T>>,
-) -> Vec<Worker<'d, P, T>>
-    requires ready { All (λ w. T.ready (handled w.handle) w.task) workers.items }
-    ensures many { vec_len result ≡ vec_len workers.entry }
-    ensures each { Each (λ o n. Continues (handled o.handle) (handled n.handle) × T.did Took (handled o.handle) (handled n.handle) o.task n.task)
-        workers.entry.items result.items }
+    worker: Worker<S, T>,
+) -> Worker<S, T>
+    requires { T.ready (S.seat_of worker.store) worker.task }
+    ensures { HasRun (T.did S.took) (S.seat_of worker.store) (S.seat_of result.store) worker.task result.task }
 {
-    run_all(rt, workers.as_mut_slice());
-    workers
+    let Worker { store, task } = worker;
+    let (task, store) = task.run(rt, store);
+    Worker { store, task }
 }

@@ -1,4 +1,4 @@
-pub mod Moves
 pub mod Seats
 pub mod OneRun
 pub mod Opened
+pub mod Fresh

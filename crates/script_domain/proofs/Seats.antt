@@ -1,6 +1,6 @@
 -- The seats of a domain, before and after their scripts: they are of the domain, and numbered in order.
 use Rattle.std.proofs.Common.{◌≡◌, ◌≢◌, ℕ, suc, ◌+◌, ◌<◌, ◌≤◌, List, [], ◌∷◌, length, map, drop, sym, ap, ◌∙◌, subst, arith}
-use Rattle.std.specs.List.{All, AllPairs}
+use Rattle.std.specs.List.{All, AllPairs, AllZip}
 use Rattle.std.proofs.lemmas.List.{length-map}
 use Rattle.std.proofs.lemmas.List.Elements.{All-nil, All-cons, All-weaker}
 use Rattle.std.proofs.lemmas.List.Kept.{AllPairs-cons}
@@ -14,9 +14,9 @@ use Rattle.set_script.specs.declared.commands.Command.{Command}
 use Rattle.run_report.specs.declared.line.Line.{Line}
 use Rattle.run_report.specs.Worked.{AllRan}
 use Rattle.script_workers.specs.Numbers.{AreNumbered}
-use Rattle.script_domain.specs.Lending.{IsLeft}
+use Rattle.domain_run.specs.Lending.{IsLeft}
 use Rattle.script_domain.specs.New.{AreNewFrom}
-use Rattle.script_domain.specs.declared.lending.Left.{Left}
+use Rattle.domain_run.specs.declared.lending.Left.{Left}
 
 -- new seats are numbered in order
 pub new_numbered : {P : Type 0} (d : Domain P) (number : ℕ) (seats : List history.Seat) → AreNewFrom d number seats → AreNumbered number seats
@@ -135,3 +135,10 @@ pub left_for : {P : Type 0} {rules : _} (left : Left P rules) (lent back : List 
 left_for left lent back same is =
     let e : length back ≡ length lent = omega (arith, same, length-map back handled, length-map lent handled) in
     subst (λ (n : ℕ). IsLeft left n) (sym e) is
+
+-- seats that go on, each as the one of its place
+pub zipped : (olds news : List history.Seat) → AllContinue olds news → AllZip Continues olds news
+zipped [] [] on = tt
+zipped [] (n ∷ news) on = absurd on
+zipped (o ∷ olds) [] on = absurd on
+zipped (o ∷ olds) (n ∷ news) on = (on.0, zipped olds news on.1)

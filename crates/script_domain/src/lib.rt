@@ -14,18 +14,21 @@
 //! - the table of each seat counts the seat's commits and rests in the history, and the versions that its commits wrote;
 //! - the lines are a legal run of the scripts: each command of each script has one line, along a script times rise, and
 //!   the replay of the ordered lines, one after another from empty maps, gives every reply. So every reply is that of
-//!   the sequential catalogue at its printed place.
+//!   the sequential catalogue at its printed place;
+//! - each seat went along the chain of its lines (`AllLinked` of script_workers) from the new seat of its number to the one
+//!   that met. So a read's place isn't below any commit that its seat had seen when the command began (`fresh_read` in
+//!   proofs/Fresh.antt): nothing is answered from memory.
 //!
 //! A run may go on forever where a command never gets what it needs; what is promised holds when it returns. Want of
 //! memory comes only before the first command, and hands back the domain and its seats.
 //!
 //! **Its place.** The crate stands on `script_workers`, which runs scripts over any stores in threads, and on `mvrlu`,
 //! whose handles are such stores and whose meeting knows the whole history. `run_report` says what a run is. The crate
-//! adds the loan of the domain to its seats, the tables, and the step from what each seat had seen to the whole history.
-//! The loan is there for other runs too, in [`lending`].
+//! adds the step from what each seat had seen to the whole history. The loan of the domain to its seats, with the tables of
+//! their logs, is that of `domain_run`.
 #![tactic(auto)]
 
-pub mod lending;
 mod running;
 
+pub use domain_run::lending;
 pub use running::run_domain;

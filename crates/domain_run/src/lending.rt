@@ -1,12 +1,13 @@
-//! The loan of a domain to its seats, and back; and the tables of their logs.
-ghost use Rattle.std.specs.Prelude.{◌≡◌, ◌≤◌, [], length, map, All, IfOk, IfErr, vec_capacity};
-ghost use Rattle.mvrlu.specs.Meant.{seat_of, handled, IsSeatOf};
-ghost use Rattle.script_domain.specs.Joined.{AreTablesOf};
-ghost use Rattle.script_domain.specs.Lending.{IsLeft};
+//! The loan of a domain to its seats, and back; the tables of their logs; and the meeting.
+ghost use Rattle.std.specs.Prelude.{◌≡◌, ◌≤◌, [], List, length, map, All, IfOk, IfErr, vec_capacity};
+ghost use Rattle.domain_run.specs.Lending.{IsLeft};
+ghost use Rattle.domain_run.specs.Met.{AllContinue, AreTablesOf, HaveMet};
+ghost use Rattle.domain_run.specs.New.{AreNewFrom};
+ghost use Rattle.mv_history.specs.Meaning as history;
+ghost use Rattle.mvrlu.specs.Meant.{numbers_of, opening_of, seat_of, handled, whole_of, IsSeatOf};
 
 use mv_history::{LogTable, Protocol};
-use mvrlu::{Domain, Handle, Seat};
-use script_workers::take_first;
+use mvrlu::{Closing, Domain, Handle, Seat};
 use std::alloc::{AllocError, Global};
 
 /// What is left of seats that were lent: the row that they stood in, and one for the tables of their logs.
@@ -17,7 +18,7 @@ pub struct Left<P: Protocol> {
     pub tables: Vec<LogTable>,
 }
 
-/// Lends the domain to its seats, in their order.
+/// Lends a domain to its seats, in their order.
 ///
 /// The error is want of memory for the handles or the tables, and hands back the seats.
 pub fn lend_all<'d, P: Protocol>(
@@ -59,6 +60,17 @@ pub fn take_back<P: Protocol>(
     (seats, tables)
 }
 
+/// Lets all seats of a domain meet, in order of number, each gone on from the one that `open` gave. There is one history of
+/// it all, and each seat stands in it (`HaveMet`). It never refuses and takes no memory.
+pub fn meet_all<P: Protocol>(domain: Domain<P>, seats: Vec<Seat<P>>) -> Closing<P>
+    requires gone_on { (firsts : List history.Seat) × AreNewFrom domain 0 firsts × AllContinue firsts (map seat_of seats.items) }
+    requires all { length seats.items ≡ (numbers_of domain).seats }
+    ensures met { (firsts : List history.Seat) → AreNewFrom domain 0 firsts → AllContinue firsts (map seat_of seats.items)
+        → HaveMet P.allowed (numbers_of domain) (opening_of domain) firsts (map seat_of seats.items) (whole_of result) }
+{
+    domain.meet(seats)
+}
+
 // Lends the domain to its seats, in their order. There is room for their handles. It takes no memory.
 fn lend<'d, P: Protocol>(
     domain: &'d Domain<P>,
@@ -73,7 +85,7 @@ fn lend<'d, P: Protocol>(
     ensures capacity { vec_capacity seats.new ≡ vec_capacity seats.old }
 {
     while !seats.is_empty() {
-        handles.push_reserved(domain.handle(take_first(seats)));
+        handles.push_reserved(domain.handle(seats.remove(0)));
     }
 }
 
@@ -84,7 +96,7 @@ fn give_back<P: Protocol>(mut handles: Vec<Handle<'_, P>>, seats: &mut Vec<Seat<
     ensures seats { map seat_of seats.new.items ≡ map handled handles.entry.items }
 {
     while !handles.is_empty() {
-        seats.push_reserved(take_first(&mut handles).into_seat());
+        seats.push_reserved(handles.remove(0).into_seat());
     }
     handles.destroy_empty();
 }

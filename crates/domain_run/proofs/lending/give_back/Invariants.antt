@@ -1,6 +1,6 @@
 use Rattle.std.proofs.Common.{◌≡◌, ◌≤◌, ◌+◌, ◌++◌, length, map, vec_len, vec_capacity}
 use Rattle.mvrlu.specs.Meant.{seat_of, handled}
-use Rattle.script_domain.proofs.lending.give_back.Given as goal
+use Rattle.domain_run.proofs.lending.give_back.Given as goal
 
 abbrev pub invariant-loop-seats : goal.invariant-loop-seats
 invariant-loop-seats g l = record {

@@ -1,7 +1,7 @@
 use Rattle.std.proofs.Common.{◌∷◌, [], ap, length, arith, length-append}
 use Rattle.mvrlu.specs.Meant.{handled}
-use Rattle.script_domain.proofs.Moves.{tables_more}
-use Rattle.script_domain.proofs.lending.take_tables.Goals as goal
+use Rattle.domain_run.proofs.Moves.{tables_more}
+use Rattle.domain_run.proofs.lending.take_tables.Goals as goal
 
 -- one more table is taken
 pub loop-handle-preserved : goal.loop-handle-preserved

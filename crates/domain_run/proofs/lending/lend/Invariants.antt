@@ -1,6 +1,6 @@
 use Rattle.std.proofs.Common.{◌≡◌, ◌≤◌, ◌+◌, ◌++◌, length, map, All, vec_len, vec_capacity}
 use Rattle.mvrlu.specs.Meant.{seat_of, handled, IsSeatOf}
-use Rattle.script_domain.proofs.lending.lend.Given as goal
+use Rattle.domain_run.proofs.lending.lend.Given as goal
 
 abbrev pub invariant-loop-handles : goal.invariant-loop-handles
 invariant-loop-handles g l = record {

@@ -1,6 +1,6 @@
 -- What is left of seats that were lent.
 use Rattle.std.specs.Prelude.{◌≡◌, ℕ, ◌≤◌, [], vec_capacity}
-use Rattle.script_domain.specs.declared.lending.Left.{Left}
+use Rattle.domain_run.specs.declared.lending.Left.{Left}
 
 -- the rows are empty, and have room for so many seats and tables
 pub record IsLeft {P : Type 0} {rules : _} (left : Left P rules) (count : ℕ) : Type 0 where

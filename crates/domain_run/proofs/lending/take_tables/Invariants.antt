@@ -1,7 +1,7 @@
 use Rattle.std.proofs.Common.{◌≡◌, ◌≤◌, length, map, take, vec_capacity}
 use Rattle.mvrlu.specs.Meant.{handled}
-use Rattle.script_domain.specs.Joined.{AreTablesOf}
-use Rattle.script_domain.proofs.lending.take_tables.Given as goal
+use Rattle.domain_run.specs.Met.{AreTablesOf}
+use Rattle.domain_run.proofs.lending.take_tables.Given as goal
 
 abbrev pub invariant-loop-handle : goal.invariant-loop-handle
 invariant-loop-handle g l = record {

@@ -1,0 +1,28 @@
+use Rattle.std.proofs.Common.{map, ◌∙◌, sym, subst}
+use Rattle.std.specs.List.{AllZip}
+use Rattle.std.proofs.lemmas.List.{length-map}
+use Rattle.mvrlu.specs.Meant.{seat_of}
+use Rattle.domain_run.specs.New.{fresh}
+use Rattle.domain_run.proofs.Seats.{all_itself, all_own, left_for}
+use Rattle.domain_run.proofs.Working.{seats_ready}
+use Rattle.domain_run.proofs.running.run_lent.Goals as goal
+
+-- each task is ready for the handle of its seat
+pub run_each-handles-requires-clause-ready : goal.run_each-handles-requires-clause-ready
+run_each-handles-requires-clause-ready g c κs within =
+    let seats = map (λ s. seat_of s) c.args.seats.items in
+    subst (λ ss. AllZip g.T.Task.ready ss c.args.tasks.items) (sym c.in-Ok-lend_all.ensures.handles)
+    (seats_ready g.T.Task.ready (fresh c.args.domain.now) seats c.args.tasks.items c.requires.new
+    (c.requires.as_many ∙ sym (length-map c.args.seats.items (λ s. seat_of s))) c.requires.ready)
+
+-- the seats are of the domain
+pub lend_all-requires : goal.lend_all-requires
+lend_all-requires g c =
+    let seats = c.args.seats.items in
+    record { own = all_own c.args.domain.now (map (λ s. seat_of s) seats) seats c.requires.new (all_itself (map (λ s. seat_of s) seats)) }
+
+-- as many handles come back as seats were lent
+pub take_back-seats-requires : goal.take_back-seats-requires
+take_back-seats-requires g c = record {
+  left = left_for c.in-Ok-lend_all.lent.1 c.in-Ok-lend_all.lent.0.items _ c.run_each-handles.ensures.gone_on c.in-Ok-lend_all.ensures.left;
+}

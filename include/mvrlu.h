@@ -292,9 +292,7 @@ typedef struct mvrlu_reply {
 } mvrlu_reply;
 
 /* A command of a block. */
-typedef enum mvrlu_op {
-    MVRLU_ADD = 1, MVRLU_DEL = 2, MVRLU_MOVE = 3, MVRLU_PUT = 4, MVRLU_HAS = 5, MVRLU_GET = 6, MVRLU_PAIR = 7, MVRLU_SIZE = 8, MVRLU_NEXT = 9
-} mvrlu_op;
+typedef enum mvrlu_op { MVRLU_ADD = 1, MVRLU_DEL, MVRLU_MOVE, MVRLU_PUT, MVRLU_HAS, MVRLU_GET, MVRLU_PAIR, MVRLU_SIZE, MVRLU_NEXT } mvrlu_op;
 typedef struct mvrlu_command {
     uint32_t op;    /* one of mvrlu_op */
     uint32_t set;   /* of a move the set that the key is taken out of */

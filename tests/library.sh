@@ -46,7 +46,8 @@ for compiler in gcc clang; do
 done
 expect "random histories" "histories 10000: " gcc "${strict[@]}" -O2 -DHISTORIES=10000 tests/library/histories.c
 expect "random histories of sets" "histories of sets 10000: " gcc "${strict[@]}" -O2 -DHISTORIES=10000 tests/library/sets_histories.c
-run=$((run + 2))
+expect "refused memory" "refused requests: " gcc "${strict[@]}" -O2 tests/library/refused.c -Wl,--wrap=malloc,--wrap=realloc,--wrap=free
+run=$((run + 3))
 if carries -fsanitize=address,undefined; then
     expect "calls under the address sanitizer" "$calls" gcc "${strict[@]}" -g -fsanitize=address,undefined tests/library/calls.c
     expect "calls on sets under the address sanitizer" "$sets" gcc "${strict[@]}" -g -fsanitize=address,undefined tests/library/sets_calls.c
@@ -69,12 +70,20 @@ if command -v valgrind >/dev/null; then
 else
     echo "library: valgrind isn't there, not run"
 fi
-printf '#include <mvrlu.h>\nint main() { mvrlu_seat seat = {}; mvrlu_sets sets = {}; return mvrlu_enter(&seat) + mvrlu_sets_has(&sets, 0, 0, NULL) == 2 * MVRLU_CLOSED ? 0 : 1; }\n' >"$room/header.cpp"
+cat >"$room/header.cpp" <<'EOF'
+#include <mvrlu.h>
+int main() {
+    mvrlu_seat seat = {};
+    mvrlu_sets sets = {};
+    return mvrlu_enter(&seat) == MVRLU_CLOSED && mvrlu_sets_has(&sets, 0, 0, NULL) == MVRLU_CLOSED ? 0 : 1;
+}
+EOF
 under=()
 expect "the header as C++" "" g++ -std=c++17 -Wall -Wextra -Werror -Iinclude "$room/header.cpp"
 run=$((run + 1))
 # A call of the one half on a handle of the other does not compile.
-for mixed in 'mvrlu_sets sets = {{0, NULL}, NULL, 0}; return mvrlu_enter(&sets);' 'mvrlu_seat seat = {{0, NULL}, NULL, 0}; return mvrlu_sets_add(&seat, 0, 0, NULL);'; do
+for mixed in 'mvrlu_sets it = {{0, NULL}, NULL, 0}; return mvrlu_enter(&it);' \
+    'mvrlu_seat it = {{0, NULL}, NULL, 0}; return mvrlu_sets_add(&it, 0, 0, NULL);'; do
     printf '#include <mvrlu.h>\nint main(void) { %s }\n' "$mixed" >"$room/mixed.c"
     gcc "${strict[@]}" -c "$room/mixed.c" -o "$room/mixed.o" 2>/dev/null && fail "compiles: $mixed"
 done

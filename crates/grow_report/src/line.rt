@@ -10,7 +10,7 @@ ghost use Rattle.grow_report.specs.Whole.{GrowRunOf};
 
 use run_report::{Line, order};
 
-/// Puts lines in their order, as [`order`] does. Those of a run on a growing hash set stay so. It takes no memory.
+/// Puts lines in their order, as [`order`] does. Those of a run on a growing hash set stay so. It never refuses.
 pub fn order_grown(lines: &mut Vec<Line>)
     ensures permutation { IsPermutation lines.old.items lines.new.items }
     ensures ordered { IsOrdered lines.new.items }

@@ -18,6 +18,11 @@ static void want(int line, const char *call, long long got, long long wanted) {
 /* A reply that no call tells. */
 static const mvrlu_reply UNTOLD = {7, 7, 7, 7, 7};
 
+/* Whether a reply is as it was. */
+static int is_untold(const mvrlu_reply *r) {
+    return r->value == 7 && r->time == 7 && r->committed == 7 && r->second == 7 && r->status == 7;
+}
+
 #define WANT_REPLY(call, status_, value_, time_, committed_) \
     do { \
         reply = UNTOLD; \
@@ -87,8 +92,8 @@ static void calls_on_a_closed_seat(void) {
     WANT(mvrlu_sets_tidy(&sets, &live), MVRLU_CLOSED);
     WANT(mvrlu_sets_counts(&sets, &counts), MVRLU_CLOSED);
     WANT(mvrlu_sets_close(&sets), MVRLU_CLOSED);
-    WANT(memcmp(&reply, &UNTOLD, sizeof reply), 0);
-    WANT(memcmp(&replies[0], &UNTOLD, sizeof reply), 0);
+    WANT(is_untold(&reply), 1);
+    WANT(is_untold(&replies[0]), 1);
     WANT(live == 7 && counts.commits == 7 && counts.live == 7, 1);
 }
 
@@ -140,7 +145,7 @@ static void sets_that_are_none(void) {
     WANT(mvrlu_sets_move(sets, 1, 1, 1, &reply), MVRLU_SAME_SET);
     WANT(mvrlu_sets_pair(sets, 30, 1, 1, &reply), MVRLU_BAD_SET);
     WANT(mvrlu_sets_pair(sets, 1, 30, 1, &reply), MVRLU_BAD_SET);
-    WANT(memcmp(&reply, &UNTOLD, sizeof reply), 0);
+    WANT(is_untold(&reply), 1);
     WANT(mvrlu_sets_pair(sets, 1, 1, 1, &reply), MVRLU_OK);
     WANT(mvrlu_sets_add(sets, MVRLU_TREE(9), 1, NULL), MVRLU_OK);
     close_sets(sets, 1);
@@ -202,7 +207,7 @@ static void blocks_of_commands(void) {
     WANT(mvrlu_sets_block(sets, commands + 2, 1, replies), MVRLU_SAME_SET);
     WANT(mvrlu_sets_block(sets, NULL, 1, replies), MVRLU_NULL);
     WANT(mvrlu_sets_block(sets, commands, 1, NULL), MVRLU_NULL);
-    WANT(memcmp(&replies[0], &UNTOLD, sizeof *replies), 0);
+    WANT(is_untold(&replies[0]), 1);
     close_sets(sets, 1);
 }
 
@@ -238,7 +243,7 @@ static void misuse_of_a_handle(void) {
     WANT(mvrlu_sets_close(NULL), MVRLU_NULL);
     WANT(mvrlu_sets_tidy(&sets[0], NULL), MVRLU_NULL);
     WANT(mvrlu_sets_counts(&sets[0], NULL), MVRLU_NULL);
-    WANT(memcmp(&reply, &UNTOLD, sizeof reply), 0);
+    WANT(is_untold(&reply), 1);
     close_sets(sets, 2);
 }
 

@@ -44,12 +44,16 @@ using tag = std::array<std::uint64_t, 4>;
 
 /* The statuses of mvrlu.h, other than MVRLU_OK, as values that a std::error_code is compared with. */
 enum class errc : int {
+    no = MVRLU_NO,
     again = MVRLU_AGAIN,
     busy = MVRLU_BUSY,
     stale = MVRLU_STALE,
     short_of_room = MVRLU_SHORT,
     log_full = MVRLU_LOG_FULL,
+    full = MVRLU_FULL,
     worn = MVRLU_WORN,
+    bad_set = MVRLU_BAD_SET,
+    same_set = MVRLU_SAME_SET,
     closed = MVRLU_CLOSED,
     in_use = MVRLU_IN_USE,
     bad_number = MVRLU_BAD_NUMBER,
@@ -63,7 +67,9 @@ enum class errc : int {
     empty = MVRLU_EMPTY,
     holding = MVRLU_HOLDING,
     set_full = MVRLU_SET_FULL,
-    bad_place = MVRLU_BAD_PLACE
+    bad_place = MVRLU_BAD_PLACE,
+    bad_command = MVRLU_BAD_COMMAND,
+    bad_block = MVRLU_BAD_BLOCK
 };
 
 /* The category of the statuses, whose messages are those of mvrlu_strerror. */

@@ -1,6 +1,6 @@
 # What stands below a prefix after an install, after a second one, and after an uninstall.
 
-library_files='include/mvrlu.h include/mvrlu.hpp'
+library_files='include/mvrlu.h include/mvrlu.hpp include/mvrlu_sets.hpp'
 library_files+=' lib/cmake/mvrlu/mvrlu-config-version.cmake lib/cmake/mvrlu/mvrlu-config.cmake lib/libmvrlu.a lib/pkgconfig/mvrlu.pc'
 library_files+=' share/man/man3/mvrlu.3 share/mvrlu/files'
 

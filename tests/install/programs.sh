@@ -7,7 +7,7 @@ rows_of_pages() {
         case $word in mvrlu_begin_call | mvrlu_end_call) continue ;; esac
         grep -q "^\.BR $word ()" docs/man/mvrlu.3 || fail "the page has no $word"
     done
-    for word in $(sed -n 's/^ *\(MVRLU_[A-Z_]*\) = .*/\1/p' include/mvrlu.h); do
+    for word in $(sed -n '/enum mvrlu_status/,/^}/s/^ *\(MVRLU_[A-Z_]*\) = .*/\1/p' include/mvrlu.h); do
         grep -q "^\.B $word$" docs/man/mvrlu.3 || fail "the page has no $word"
         [ "$word" = MVRLU_OK ] || grep -q " = $word\b" include/mvrlu.hpp || fail "mvrlu.hpp has no $word"
     done
@@ -53,6 +53,7 @@ carries() {
 declare -A says_of_example=(
     [c_bank]='transfers 100000, each sum 64000'
     [c_list]='changes 40000, each walk 64 keys'
+    [c_sessions]='renewals 40000, sessions 64 in the index'
     [cpp_bank]='transfers 100000, each sum 64000'
 )
 
@@ -73,17 +74,19 @@ rows_of_examples() {
 }
 
 rows_of_programs() {
-    local compiler bank=${says_of_example[c_bank]}
+    local compiler tests example bank=${says_of_example[c_bank]}
     local strict=(-std=c++17 -Wall -Wextra -Werror) sanitized=(-g -fsanitize='address,undefined')
     command -v pkg-config >/dev/null || echo "install: pkg-config isn't there, not run: its file is read by hand"
     [[ $(words_of_prefix) == *-pthread*-lmvrlu*-pthread* ]] || fail "other words of pkg-config: $(words_of_prefix)"
     rows_of_examples
-    expect "${says_of_example[c_list]}" cc -std=c11 -Wall -Wextra -Werror -O2 "$top/examples/c/list.c"
+    for example in list sessions; do
+        expect "${says_of_example[c_$example]}" cc -std=c11 -Wall -Wextra -Werror -O2 "$top/examples/c/$example.c"
+    done
     for compiler in g++ clang++; do
-        expect 'calls: ' "$compiler" "${strict[@]}" "$top/tests/install/calls.cpp"
+        for tests in calls sets; do expect "$tests: " "$compiler" "${strict[@]}" "$top/tests/install/$tests.cpp"; done
         carries "$compiler" "${sanitized[@]}" || continue
         expect "$bank" "$compiler" "${strict[@]}" "${sanitized[@]}" "$top/examples/cpp/bank.cpp"
-        expect 'calls: ' "$compiler" "${strict[@]}" "${sanitized[@]}" "$top/tests/install/calls.cpp"
+        for tests in calls sets; do expect "$tests: " "$compiler" "${strict[@]}" "${sanitized[@]}" "$top/tests/install/$tests.cpp"; done
     done
     mv "$prefix" "$room/moved"
     prefix=$room/moved

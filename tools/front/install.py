@@ -17,7 +17,7 @@ from signals import end_at_signals, run_to_end
 from stamps import is_current, product
 
 PROGRAM, LIBRARY = "mvrlu_main", "mvrlu_c"
-HEADERS = ("mvrlu.h", "mvrlu.hpp")
+HEADERS = ("mvrlu.h", "mvrlu.hpp", "mvrlu_sets.hpp")
 # Where each file of tools/front/installed goes; in it @version@ and @major@ stand for those of the header.
 INSTALLED = {
     "mvrlu.pc": "lib/pkgconfig",
@@ -118,7 +118,10 @@ def install(top, with_program):
             build(PROGRAM, "the program")
         replace_all(top, stage, fill(stage, with_program))
     what = "the program and the library for C and C++ are" if with_program else "the library for C and C++ is"
-    say(f"{what} installed in {top}; ./mvrlu uninstall {top} takes all of it away")
+    say(
+        f"{what} installed in {top}: with PKG_CONFIG_PATH={top}/lib/pkgconfig a program is built by pkg-config, "
+        f"with CMAKE_PREFIX_PATH={top} by cmake; ./mvrlu uninstall {top} takes all of it away"
+    )
 
 
 def answer(what, words):

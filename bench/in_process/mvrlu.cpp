@@ -1,0 +1,139 @@
+/* The library: built once as the header is, and once with MVRLU_UNCHECKED. */
+#include "measure.hpp"
+
+#include <cstdio>
+#include <cstdlib>
+#include <mvrlu.h>
+
+namespace {
+
+void must(std::int32_t status, const char *call) {
+    if (status == MVRLU_OK) return;
+    std::fprintf(stderr, "bench/library: %s: %s\n", call, mvrlu_strerror(status));
+    std::exit(1);
+}
+
+/* Seats of a domain, each on lines of its own. */
+template <class Seat>
+struct seats {
+    explicit seats(unsigned threads) : all(threads) {}
+
+    /* Takes seats over that were just opened. */
+    void take(const Seat opened[]) {
+        for (std::size_t i = 0; i < all.size(); i++) {
+            all[i].seat.raw = opened[i].raw;
+            all[i].seat.self = &all[i].seat;
+        }
+    }
+    Seat *operator[](unsigned thread) { return &all[thread].seat; }
+
+    struct alignas(128) own_lines {
+        Seat seat{};
+    };
+    std::vector<own_lines> all;
+};
+
+struct objects {
+    explicit objects(unsigned threads) : seats(threads) {
+        mvrlu_seat opened[MVRLU_SEATS_MAX] = {};
+        mvrlu_options options = MVRLU_OPTIONS_INIT;
+        options.objects = bench::object_count;
+        must(mvrlu_open(&options, opened, threads), "mvrlu_open");
+        seats.take(opened);
+    }
+    ~objects() {
+        for (auto &one : seats.all) must(mvrlu_close(&one.seat), "mvrlu_close");
+    }
+
+    struct user {
+        user(objects &store, unsigned thread) : seat(store.seats[thread]) {}
+        std::uint64_t sum(const std::uint32_t which[], unsigned count) {
+            std::uint64_t all = 0, words[MVRLU_WORDS];
+            must(mvrlu_enter(seat), "mvrlu_enter");
+            for (unsigned i = 0; i < count; i++) {
+                must(mvrlu_read(seat, which[i], words), "mvrlu_read");
+                for (std::uint64_t word : words) all += word;
+            }
+            must(mvrlu_leave(seat), "mvrlu_leave");
+            return all;
+        }
+        void transfer(std::uint32_t from, std::uint32_t to) {
+            while (!tried(from, to)) std::this_thread::yield();
+        }
+        bool tried(std::uint32_t from, std::uint32_t to) {
+            std::uint64_t giver[MVRLU_WORDS], taker[MVRLU_WORDS];
+            if (mvrlu_prepare(seat) != MVRLU_OK) return false;
+            must(mvrlu_enter(seat), "mvrlu_enter");
+            if (mvrlu_lock(seat, from, nullptr) == MVRLU_OK && mvrlu_lock(seat, to, nullptr) == MVRLU_OK) {
+                must(mvrlu_read(seat, from, giver), "mvrlu_read");
+                must(mvrlu_read(seat, to, taker), "mvrlu_read");
+                giver[0]--, taker[0]++;
+                must(mvrlu_write(seat, from, giver), "mvrlu_write");
+                must(mvrlu_write(seat, to, taker), "mvrlu_write");
+                std::int32_t status;
+                while ((status = mvrlu_commit(seat, nullptr, nullptr)) == MVRLU_AGAIN) { }
+                if (status == MVRLU_OK) return true;
+            }
+            must(mvrlu_abort(seat), "mvrlu_abort");
+            return false;
+        }
+        mvrlu_seat *seat;
+    };
+
+    ::seats<mvrlu_seat> seats;
+};
+
+struct sets {
+    sets(const bench::row &row, unsigned threads) : seats(threads) {
+        mvrlu_sets opened[MVRLU_SEATS_MAX] = {};
+        mvrlu_sets_options options = MVRLU_SETS_OPTIONS_INIT;
+        options.objects = 8192;
+        must(mvrlu_sets_open(&options, opened, threads), "mvrlu_sets_open");
+        seats.take(opened);
+        for (unsigned i = 0; i < 2; i++) {
+            if (row.kind == bench::kind::list) both[i] = MVRLU_LIST(i);
+            else both[i] = row.kind == bench::kind::tree ? MVRLU_TREE(i) : MVRLU_HASH(i);
+        }
+    }
+    ~sets() {
+        for (auto &one : seats.all) must(mvrlu_sets_close(&one.seat), "mvrlu_sets_close");
+    }
+
+    struct user {
+        user(sets &store, unsigned thread) : seat(store.seats[thread]), both(store.both) {}
+        bool has(std::uint32_t key) { return answer(mvrlu_sets_has(seat, both[0], key, &reply), "mvrlu_sets_has"); }
+        bool add(std::uint32_t key) {
+            return retry([&] { return mvrlu_sets_add(seat, both[0], key, &reply); }, "mvrlu_sets_add");
+        }
+        bool del(std::uint32_t key) {
+            return retry([&] { return mvrlu_sets_del(seat, both[0], key, &reply); }, "mvrlu_sets_del");
+        }
+        bool move(std::uint32_t key, bool first) {
+            return retry([&] { return mvrlu_sets_move(seat, both[first ? 0 : 1], both[first ? 1 : 0], key, &reply); }, "mvrlu_sets_move");
+        }
+        template <class Call>
+        bool retry(const Call &call, const char *name) {
+            std::int32_t status;
+            while (mvrlu_may_retry(status = call())) std::this_thread::yield();
+            return answer(status, name);
+        }
+        bool answer(std::int32_t status, const char *call) {
+            if (status != MVRLU_NO) must(status, call);
+            return status == MVRLU_OK;
+        }
+        mvrlu_sets *seat;
+        const std::uint32_t *both;
+        mvrlu_reply reply;
+    };
+
+    ::seats<mvrlu_sets> seats;
+    std::uint32_t both[2];
+};
+
+} // namespace
+
+#ifdef MVRLU_UNCHECKED
+const bench::store bench::mvrlu_unchecked_store = {"mvrlu, unchecked", [](const row &) { return true; }, run<objects, sets>};
+#else
+const bench::store bench::mvrlu_store = {"mvrlu", [](const row &) { return true; }, run<objects, sets>};
+#endif

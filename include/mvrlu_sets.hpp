@@ -1,0 +1,292 @@
+/* mvrlu_sets.hpp: the sets of mvrlu.h for C++17, with seats that close themselves and tries that are bounded.
+ *
+ *     std::vector<mvrlu::sets> seats = mvrlu::open_sets({4096, 1024}, 4);         // one for each thread
+ *     if (seats[0].put(mvrlu::tree(3), 17, 500) == mvrlu::reply::yes) ...         // one commit
+ *     std::optional<std::uint64_t> value = seats[1].get(mvrlu::tree(3), 17);      // of the state of seats[1].last().at
+ *     mvrlu::block amend;                                                         // one commit, seen whole or not at all
+ *     amend.del(mvrlu::tree(3), 17).put(mvrlu::list(0), 18, 500);
+ *     std::optional<mvrlu::answers> done = seats[0].transact(1000, amend);
+ *     if (done && (*done)[0].reply == mvrlu::reply::yes) ...
+ *
+ * What a call may come to is a value: a reply, a std::optional or a pair. A call that may not be made so, or can't be, did nothing, and
+ * its status is thrown as mvrlu::error. What mvrlu.h says of threads holds here too.
+ */
+#ifndef MVRLU_SETS_HPP
+#define MVRLU_SETS_HPP
+#include <mvrlu.hpp>
+
+namespace mvrlu {
+
+/* One of the thirty sets. A number above 9 gives one that isn't there, which each call refuses by errc::bad_set. */
+enum class set : std::uint32_t {};
+constexpr set list(unsigned number) noexcept { return static_cast<set>(number < 10 ? MVRLU_LIST(number) : MVRLU_SETS_COUNT); }
+constexpr set table(unsigned number) noexcept { return static_cast<set>(number < 10 ? MVRLU_HASH(number) : MVRLU_SETS_COUNT); }
+constexpr set tree(unsigned number) noexcept { return static_cast<set>(number < 10 ? MVRLU_TREE(number) : MVRLU_SETS_COUNT); }
+
+/* What a change came to. */
+enum class reply {
+    yes,   /* it was made */
+    no,    /* there was nothing to change */
+    full,  /* there are too few vacant objects for it */
+    worn,  /* the last time, 2^45 - 1, was reached, so nothing can be changed any more */
+    again  /* other seats came first at each of its tries, and nothing was done */
+};
+
+/* Where a call took place in the one history: it is the commit of a time, or it read the state of a time. */
+struct place {
+    time at = 0;
+    bool committed = false;
+};
+
+/* How many times a change is tried where nothing else is said. */
+constexpr unsigned tries = 1000;
+
+namespace detail {
+
+inline reply reply_of(std::int32_t status, const char *call) {
+    switch (status) {
+        case MVRLU_OK: return reply::yes;
+        case MVRLU_NO: return reply::no;
+        case MVRLU_FULL: return reply::full;
+        case MVRLU_WORN: return reply::worn;
+        default: throw error(status, call);
+    }
+}
+
+} // namespace detail
+
+/* What one command of a block came to. `value` is that of a `get` whose key was there; `first` and `second` are the answers of a `pair`. */
+struct answer {
+    mvrlu::reply reply = reply::no;
+    std::optional<std::uint64_t> value;
+    bool first = false, second = false;
+};
+
+/* 1 to MVRLU_BLOCK_MAX commands that are one commit, or one read. Each call adds one; a further one throws errc::bad_block. */
+class block {
+public:
+    block &add(set in, std::uint32_t key) { return push(MVRLU_ADD, in, in, key); }
+    block &put(set in, std::uint32_t key, std::uint64_t value) { return push(MVRLU_PUT, in, in, key, value); }
+    block &del(set in, std::uint32_t key) { return push(MVRLU_DEL, in, in, key); }
+    block &has(set in, std::uint32_t key) { return push(MVRLU_HAS, in, in, key); }
+    block &get(set in, std::uint32_t key) { return push(MVRLU_GET, in, in, key); }
+    block &move(set from, set to, std::uint32_t key) { return push(MVRLU_MOVE, from, to, key); }
+    block &pair(set first, set second, std::uint32_t key) { return push(MVRLU_PAIR, first, second, key); }
+
+    std::size_t size() const noexcept { return size_; }
+
+private:
+    friend class sets;
+
+    block &push(mvrlu_op op, set in, set other, std::uint32_t key, std::uint64_t value = 0) {
+        if (size_ == MVRLU_BLOCK_MAX) throw error(MVRLU_BAD_BLOCK, "mvrlu::block");
+        commands_[size_++] = {static_cast<std::uint32_t>(op), static_cast<std::uint32_t>(in), static_cast<std::uint32_t>(other), key, value};
+        return *this;
+    }
+
+    std::array<mvrlu_command, MVRLU_BLOCK_MAX> commands_{};
+    std::size_t size_ = 0;
+};
+
+/* The answers of a block, in the order of its commands. */
+class answers {
+public:
+    std::size_t size() const noexcept { return size_; }
+    const answer &operator[](std::size_t at) const { return all_[at]; }
+    const answer *begin() const noexcept { return all_.data(); }
+    const answer *end() const noexcept { return all_.data() + size_; }
+
+private:
+    friend class sets;
+    std::array<answer, MVRLU_BLOCK_MAX> all_{};
+    std::size_t size_ = 0;
+};
+
+/* A seat of a domain of sets, for one thread at a time. It closes itself, moves, and is not copied. One that was made by no `open_sets`,
+ * and one that was moved from, is closed; each call on a closed seat but `close` throws errc::closed. Each call throws errc::bad_set
+ * where a set isn't one of the thirty. */
+class sets {
+public:
+    sets() noexcept = default;
+    sets(sets &&) noexcept = default;
+    sets &operator=(sets &&other) noexcept {
+        if (this != &other) {
+            close();
+            lines_ = std::move(other.lines_);
+            told_ = other.told_;
+        }
+        return *this;
+    }
+    ~sets() { close(); }
+
+    bool is_open() const noexcept { return lines_ != nullptr; }
+
+    /* Closes it. The domain ends with the last of its seats. */
+    void close() noexcept {
+        if (lines_ == nullptr) return;
+        mvrlu_sets_close(&lines_->seat);
+        lines_.reset();
+    }
+
+    /* Whether a key is there. */
+    [[nodiscard]] bool has(set in, std::uint32_t key) {
+        return read("mvrlu_sets_has", [=](mvrlu_sets *seat, mvrlu_reply *to) { return mvrlu_sets_has(seat, number(in), key, to); });
+    }
+
+    /* The value of a key that is there. */
+    [[nodiscard]] std::optional<std::uint64_t> get(set in, std::uint32_t key) {
+        if (!read("mvrlu_sets_get", [=](mvrlu_sets *seat, mvrlu_reply *to) { return mvrlu_sets_get(seat, number(in), key, to); })) return {};
+        return told_.value;
+    }
+
+    /* The least key that isn't below this one. */
+    [[nodiscard]] std::optional<std::uint32_t> next(set in, std::uint32_t key) {
+        if (!read("mvrlu_sets_next", [=](mvrlu_sets *seat, mvrlu_reply *to) { return mvrlu_sets_next(seat, number(in), key, to); })) return {};
+        return static_cast<std::uint32_t>(told_.value);
+    }
+
+    /* How many keys there are. */
+    [[nodiscard]] std::uint64_t size(set in) {
+        read("mvrlu_sets_size", [=](mvrlu_sets *seat, mvrlu_reply *to) { return mvrlu_sets_size(seat, number(in), to); });
+        return told_.value;
+    }
+
+    /* Whether a key is in the first set, and whether it is in the second, in one state. */
+    [[nodiscard]] std::pair<bool, bool> pair(set first, set second, std::uint32_t key) {
+        read("mvrlu_sets_pair",
+             [=](mvrlu_sets *seat, mvrlu_reply *to) { return mvrlu_sets_pair(seat, number(first), number(second), key, to); });
+        return {told_.value != 0, told_.second != 0};
+    }
+
+    /* Adds a key, with the value 0. Like the other three changes it is tried at most `limit` times, and the thread yields between two;
+     * reply::no: the key is there. */
+    [[nodiscard]] mvrlu::reply add(set in, std::uint32_t key, unsigned limit = tries) {
+        return change(limit, "mvrlu_sets_add", [=](mvrlu_sets *seat, mvrlu_reply *to) { return mvrlu_sets_add(seat, number(in), key, to); });
+    }
+
+    /* Gives a key a value, and adds it where it isn't there. reply::no: it has this value. */
+    [[nodiscard]] mvrlu::reply put(set in, std::uint32_t key, std::uint64_t value, unsigned limit = tries) {
+        return change(limit, "mvrlu_sets_put",
+                      [=](mvrlu_sets *seat, mvrlu_reply *to) { return mvrlu_sets_put(seat, number(in), key, value, to); });
+    }
+
+    /* Takes a key out. reply::no: it isn't there. */
+    [[nodiscard]] mvrlu::reply del(set in, std::uint32_t key, unsigned limit = tries) {
+        return change(limit, "mvrlu_sets_del", [=](mvrlu_sets *seat, mvrlu_reply *to) { return mvrlu_sets_del(seat, number(in), key, to); });
+    }
+
+    /* Moves a key with its value to another set. reply::no: it isn't in the first set, or is in the second. Throws errc::same_set. */
+    [[nodiscard]] mvrlu::reply move(set from, set to_set, std::uint32_t key, unsigned limit = tries) {
+        return change(limit, "mvrlu_sets_move",
+                      [=](mvrlu_sets *seat, mvrlu_reply *to) { return mvrlu_sets_move(seat, number(from), number(to_set), key, to); });
+    }
+
+    /* Makes a block as one commit, or one read where none of its commands changes anything. It is tried at most `limit` times, and the
+     * thread yields between two; std::nullopt: other seats came first at each, and nothing was done. Where one command is reply::full
+     * all are, and so with reply::worn: then nothing was changed. Throws errc::bad_block for a block of no command, errc::same_set and
+     * errc::no_memory. */
+    [[nodiscard]] std::optional<answers> transact(unsigned limit, const block &commands) {
+        mvrlu_reply told[MVRLU_BLOCK_MAX] = {};
+        mvrlu::reply done = change(limit, "mvrlu_sets_block", [&](mvrlu_sets *seat, mvrlu_reply *to) {
+            std::int32_t status = mvrlu_sets_block(seat, commands.commands_.data(), commands.size_, told);
+            *to = told[0];
+            return status;
+        });
+        if (done == mvrlu::reply::again) return std::nullopt;
+        answers all;
+        all.size_ = commands.size_;
+        for (std::size_t i = 0; i < all.size_; i++) all.all_[i] = answer_of(commands.commands_[i].op, told[i]);
+        return all;
+    }
+
+    /* Reclaims what nobody reads any more of the log, and tells how many slots are live. */
+    std::uint32_t tidy() {
+        std::uint32_t live = 0;
+        detail::must(mvrlu_sets_tidy(held("mvrlu_sets_tidy"), &live), "mvrlu_sets_tidy");
+        return live;
+    }
+
+    /* Where the last call took place that was done. */
+    place last() const noexcept { return {told_.time, told_.committed != 0}; }
+
+    /* The seat as mvrlu.h has it, for other calls than `mvrlu_sets_close`; null where it is closed. */
+    mvrlu_sets *handle() noexcept { return lines_ == nullptr ? nullptr : &lines_->seat; }
+
+private:
+    friend std::vector<sets> open_sets(const struct sets_options &options, std::size_t count);
+
+    static std::uint32_t number(set it) noexcept { return static_cast<std::uint32_t>(it); }
+
+    static answer answer_of(std::uint32_t op, const mvrlu_reply &told) {
+        answer made;
+        made.reply = detail::reply_of(told.status, "mvrlu_sets_block");
+        if (op == MVRLU_GET && made.reply == mvrlu::reply::yes) made.value = told.value;
+        if (op == MVRLU_PAIR) made.first = told.value != 0, made.second = told.second != 0;
+        return made;
+    }
+
+    mvrlu_sets *held(const char *call) const {
+        if (lines_ == nullptr) throw error(MVRLU_CLOSED, call);
+        return &lines_->seat;
+    }
+
+    /* A call that only reads, which has an answer at once. */
+    template <class Call>
+    bool read(const char *name, const Call &call) {
+        mvrlu_reply told{};
+        mvrlu::reply came = detail::reply_of(call(held(name), &told), name);
+        told_ = told;
+        return came == mvrlu::reply::yes;
+    }
+
+    /* A call that may be given up, and is then made again. */
+    template <class Call>
+    mvrlu::reply change(unsigned limit, const char *name, const Call &call) {
+        mvrlu_sets *seat = held(name);
+        for (; limit > 0; limit--) {
+            mvrlu_reply told{};
+            std::int32_t status = call(seat, &told);
+            if (!mvrlu_may_retry(status)) {
+                mvrlu::reply came = detail::reply_of(status, name);
+                told_ = told;
+                return came;
+            }
+            std::this_thread::yield();
+        }
+        return mvrlu::reply::again;
+    }
+
+    /* A seat on a cache line of its own, where it stays when its owner moves. */
+    struct alignas(128) lines {
+        mvrlu_sets seat{};
+    };
+
+    std::unique_ptr<lines> lines_;
+    mvrlu_reply told_{};
+};
+
+/* What a domain of sets is opened with. */
+struct sets_options {
+    std::uint32_t objects = 4096; /* MVRLU_SETS_OBJECTS_MIN to MVRLU_SETS_OBJECTS_MAX: 180 heads, and the nodes of keys */
+    std::uint32_t slots = 1024;   /* versions in the log of each seat, MVRLU_SLOTS_MIN to MVRLU_SLOTS_MAX */
+};
+
+/* Opens a domain of thirty empty sets, with 1 to MVRLU_SEATS_MAX seats. Throws errc::bad_number, errc::no_memory and std::bad_alloc, and
+ * then nothing is open. */
+[[nodiscard]] inline std::vector<sets> open_sets(const sets_options &options, std::size_t count) {
+    mvrlu_sets_options given = {sizeof(mvrlu_sets_options), options.objects, options.slots};
+    mvrlu_sets opened[MVRLU_SEATS_MAX] = {};
+    if (count < 1 || count > MVRLU_SEATS_MAX) throw error(MVRLU_BAD_NUMBER, "mvrlu_sets_open");
+    std::vector<sets> made(count);
+    for (sets &one : made) one.lines_ = std::make_unique<sets::lines>();
+    detail::must(mvrlu_sets_open(&given, opened, count), "mvrlu_sets_open");
+    for (std::size_t i = 0; i < count; i++) {
+        mvrlu_sets *own = made[i].handle();
+        own->raw = opened[i].raw;
+        own->self = own;
+    }
+    return made;
+}
+
+} // namespace mvrlu
+#endif

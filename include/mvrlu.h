@@ -8,7 +8,7 @@
  * each other. To write, a section locks each object, gives it new words, and commits: the commit takes place whole, at one
  * time of the one commit history, or not at all. No call blocks, sleeps or tries again by itself.
  *
- *     mvrlu_seat seats[4] = {{0}};                       // zeroed memory is a closed seat
+ *     static mvrlu_seat seats[4];                        // zeroed memory is a closed seat
  *     mvrlu_options options = MVRLU_OPTIONS_INIT;
  *     options.objects = 1024;
  *     if (mvrlu_open(&options, seats, 4) != MVRLU_OK) ...
@@ -37,8 +37,8 @@
  * second call on a seat that is in a call answers MVRLU_IN_USE and does nothing, unless MVRLU_UNCHECKED is defined before
  * this header is included.
  *
- * Ownership. The caller owns the 32 bytes of a seat and neither copies nor changes them while it is open; a copy answers
- * MVRLU_MOVED. Every call writes them, so give each seat a line of memory of its own where speed matters (_Alignas(128)).
+ * Ownership. The caller owns the 128 bytes of a seat and neither copies nor changes them while it is open; a copy answers
+ * MVRLU_MOVED. Every call writes the first of them, so they are so many that no two seats of an array share a line of memory.
  *
  * What no call can see: memory of an open seat that is freed or overwritten, the child of a fork, signal handlers. Don't.
  */
@@ -106,7 +106,7 @@ typedef struct mvrlu_options {
 
 /* What the library owns of a seat. */
 typedef struct mvrlu_raw { uint8_t is_open; void *at; } mvrlu_raw;
-typedef struct mvrlu_seat { mvrlu_raw raw; const void *self; uint32_t in_call; } mvrlu_seat;
+typedef struct mvrlu_seat { mvrlu_raw raw; const void *self; uint32_t in_call; uint8_t apart[100]; } mvrlu_seat;
 
 /* The calls of the library itself, which test neither null pointers nor a second thread: use the calls below. */
 int32_t mvrlu_raw_open(const mvrlu_options *options, mvrlu_raw seats[], size_t count);
@@ -249,7 +249,7 @@ static inline int32_t mvrlu_leave(mvrlu_seat *seat) { MVRLU_ON(seat, mvrlu_raw_l
  * 19 hash tables of sixteen lists, 20 to 29 search trees. Each call is one section: it reads one state, and changes what it changes
  * by one commit, at the time that it tells. A block of 1 to 8 commands is one section too.
  *
- *     mvrlu_sets sets[4] = {{{0, NULL}, NULL, 0}};
+ *     static mvrlu_sets sets[4];                                                         // zeroed memory is a closed seat
  *     mvrlu_sets_options options = MVRLU_SETS_OPTIONS_INIT;
  *     if (mvrlu_sets_open(&options, sets, 4) != MVRLU_OK) ...
  *     ... hand &sets[i] to thread i ...
@@ -313,7 +313,7 @@ typedef struct mvrlu_counts {
 
 /* What the library owns of a seat of the sets. */
 typedef struct mvrlu_sets_raw { uint8_t is_open; void *at; } mvrlu_sets_raw;
-typedef struct mvrlu_sets { mvrlu_sets_raw raw; const void *self; uint32_t in_call; } mvrlu_sets;
+typedef struct mvrlu_sets { mvrlu_sets_raw raw; const void *self; uint32_t in_call; uint8_t apart[100]; } mvrlu_sets;
 
 /* The calls of the library itself, which test neither null pointers nor a second thread: use the calls below. */
 int32_t mvrlu_raw_sets_open(const mvrlu_sets_options *options, mvrlu_sets_raw sets[], size_t count);

@@ -82,8 +82,8 @@ under=()
 expect "the header as C++" "" g++ -std=c++17 -Wall -Wextra -Werror -Iinclude "$room/header.cpp"
 run=$((run + 1))
 # A call of the one half on a handle of the other does not compile.
-for mixed in 'mvrlu_sets it = {{0, NULL}, NULL, 0}; return mvrlu_enter(&it);' \
-    'mvrlu_seat it = {{0, NULL}, NULL, 0}; return mvrlu_sets_add(&it, 0, 0, NULL);'; do
+for mixed in 'static mvrlu_sets it; return mvrlu_enter(&it);' \
+    'static mvrlu_seat it; return mvrlu_sets_add(&it, 0, 0, NULL);'; do
     printf '#include <mvrlu.h>\nint main(void) { %s }\n' "$mixed" >"$room/mixed.c"
     gcc "${strict[@]}" -c "$room/mixed.c" -o "$room/mixed.o" 2>/dev/null && fail "compiles: $mixed"
 done

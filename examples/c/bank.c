@@ -97,7 +97,7 @@ static void deposit(mvrlu_seat *seat, uint32_t account, uint64_t amount) {
 }
 
 int main(void) {
-    static _Alignas(128) mvrlu_seat seats[SEATS];
+    static mvrlu_seat seats[SEATS];
     mvrlu_options options = MVRLU_OPTIONS_INIT;
     teller tellers[TELLERS] = {{0}};
     auditor auditors[AUDITORS] = {{0}};

@@ -133,7 +133,7 @@ static void *walk(void *given) {
 }
 
 int main(void) {
-    static _Alignas(128) mvrlu_seat seats[SEATS];
+    static mvrlu_seat seats[SEATS];
     mvrlu_options options = MVRLU_OPTIONS_INIT;
     user users[SEATS];
     pthread_t threads[SEATS];

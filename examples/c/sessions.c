@@ -73,7 +73,7 @@ static void *watch(void *given) {
 }
 
 int main(void) {
-    static _Alignas(128) mvrlu_sets seats[SEATS];
+    static mvrlu_sets seats[SEATS];
     mvrlu_sets_options options = MVRLU_SETS_OPTIONS_INIT;
     user users[SEATS];
     pthread_t threads[SEATS];

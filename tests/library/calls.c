@@ -65,7 +65,7 @@ static void all_seats_of_a_domain(void) {
 }
 
 static void calls_on_a_closed_seat(void) {
-    mvrlu_seat seat = {{0, NULL}, NULL, 0};
+    mvrlu_seat seat = {{0, NULL}, NULL, 0, {0}};
     uint64_t words[MVRLU_WORDS] = {7}, pair[2] = {7, 8}, time = 7, by = 7;
     uint32_t live = 7;
     WANT(mvrlu_prepare(&seat), MVRLU_CLOSED);

@@ -146,7 +146,7 @@ static unsigned check(worker workers[], unsigned count) {
 
 int main(int argc, char *argv[]) {
     static worker workers[SEATS];
-    static _Alignas(128) mvrlu_seat seats[SEATS];
+    static mvrlu_seat seats[SEATS];
     unsigned long histories = argc > 1 ? strtoul(argv[1], NULL, 10) : HISTORIES, commits = 0;
     uint64_t random = argc > 2 ? strtoull(argv[2], NULL, 10) : 1;
     mvrlu_options options = MVRLU_OPTIONS_INIT;

@@ -74,7 +74,7 @@ static void all_seats_of_a_domain(void) {
 }
 
 static void calls_on_a_closed_seat(void) {
-    mvrlu_sets sets = {{0, NULL}, NULL, 0};
+    mvrlu_sets sets = {{0, NULL}, NULL, 0, {0}};
     mvrlu_reply reply = UNTOLD, replies[1] = {UNTOLD};
     mvrlu_command command = {MVRLU_ADD, 0, 0, 0, 0};
     mvrlu_counts counts = {7, 7, 7, 7, 7, 7};

@@ -49,7 +49,7 @@ static void *ask(void *given) {
 }
 
 int main(void) {
-    static _Alignas(128) mvrlu_sets sets[THREADS];
+    static mvrlu_sets sets[THREADS];
     mvrlu_sets_options options = MVRLU_SETS_OPTIONS_INIT;
     worker workers[THREADS];
     pthread_t threads[THREADS];

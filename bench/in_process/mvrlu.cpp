@@ -13,40 +13,18 @@ void must(std::int32_t status, const char *call) {
     std::exit(1);
 }
 
-/* Seats of a domain, each on lines of its own. */
-template <class Seat>
-struct seats {
-    explicit seats(unsigned threads) : all(threads) {}
-
-    /* Takes seats over that were just opened. */
-    void take(const Seat opened[]) {
-        for (std::size_t i = 0; i < all.size(); i++) {
-            all[i].seat.raw = opened[i].raw;
-            all[i].seat.self = &all[i].seat;
-        }
-    }
-    Seat *operator[](unsigned thread) { return &all[thread].seat; }
-
-    struct alignas(128) own_lines {
-        Seat seat{};
-    };
-    std::vector<own_lines> all;
-};
-
 struct objects {
     explicit objects(unsigned threads) : seats(threads) {
-        mvrlu_seat opened[MVRLU_SEATS_MAX] = {};
         mvrlu_options options = MVRLU_OPTIONS_INIT;
         options.objects = bench::object_count;
-        must(mvrlu_open(&options, opened, threads), "mvrlu_open");
-        seats.take(opened);
+        must(mvrlu_open(&options, seats.data(), threads), "mvrlu_open");
     }
     ~objects() {
-        for (auto &one : seats.all) must(mvrlu_close(&one.seat), "mvrlu_close");
+        for (mvrlu_seat &one : seats) must(mvrlu_close(&one), "mvrlu_close");
     }
 
     struct user {
-        user(objects &store, unsigned thread) : seat(store.seats[thread]) {}
+        user(objects &store, unsigned thread) : seat(&store.seats[thread]) {}
         std::uint64_t sum(const std::uint32_t which[], unsigned count) {
             std::uint64_t all = 0, words[MVRLU_WORDS];
             must(mvrlu_enter(seat), "mvrlu_enter");
@@ -80,27 +58,25 @@ struct objects {
         mvrlu_seat *seat;
     };
 
-    ::seats<mvrlu_seat> seats;
+    std::vector<mvrlu_seat> seats;
 };
 
 struct sets {
     sets(const bench::row &row, unsigned threads) : seats(threads) {
-        mvrlu_sets opened[MVRLU_SEATS_MAX] = {};
         mvrlu_sets_options options = MVRLU_SETS_OPTIONS_INIT;
         options.objects = 8192;
-        must(mvrlu_sets_open(&options, opened, threads), "mvrlu_sets_open");
-        seats.take(opened);
+        must(mvrlu_sets_open(&options, seats.data(), threads), "mvrlu_sets_open");
         for (unsigned i = 0; i < 2; i++) {
             if (row.kind == bench::kind::list) both[i] = MVRLU_LIST(i);
             else both[i] = row.kind == bench::kind::tree ? MVRLU_TREE(i) : MVRLU_HASH(i);
         }
     }
     ~sets() {
-        for (auto &one : seats.all) must(mvrlu_sets_close(&one.seat), "mvrlu_sets_close");
+        for (mvrlu_sets &one : seats) must(mvrlu_sets_close(&one), "mvrlu_sets_close");
     }
 
     struct user {
-        user(sets &store, unsigned thread) : seat(store.seats[thread]), both(store.both) {}
+        user(sets &store, unsigned thread) : seat(&store.seats[thread]), both(store.both) {}
         bool has(std::uint32_t key) { return answer(mvrlu_sets_has(seat, both[0], key, &reply), "mvrlu_sets_has"); }
         bool add(std::uint32_t key) {
             return retry([&] { return mvrlu_sets_add(seat, both[0], key, &reply); }, "mvrlu_sets_add");
@@ -126,7 +102,7 @@ struct sets {
         mvrlu_reply reply;
     };
 
-    ::seats<mvrlu_sets> seats;
+    std::vector<mvrlu_sets> seats;
     std::uint32_t both[2];
 };
 

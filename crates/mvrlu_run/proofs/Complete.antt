@@ -1,5 +1,5 @@
 -- Where the texts are told and nothing failed, the words and the scripts alone decide how a call ends.
-use Rattle.std.proofs.Common.{inl, inr, ◌≡◌, ◌≤◌, ◌⊎◌, ℕ, List, [], ◌∷◌, Option, Result, Ok, Err, refl, sym, ap, ◌∙◌, arith, subst}
+use Rattle.std.proofs.Common.{inl, inr, ◌≡◌, ◌≤◌, ℕ, List, [], ◌∷◌, Option, Result, Ok, Err, refl, sym, ap, ◌∙◌, arith, subst}
 use Rattle.std.proofs.lemmas.Option.{slice_get_within}
 use Rattle.run_outside.specs.Outside.{Faults, Texts, Rose}
 use Rattle.run_words.specs.declared.request.Limit.{Limit as LimitOf}
@@ -104,10 +104,10 @@ none_left Write reading t faults now s = absurd s
 -- the domain that is left of a run reads a lawful state
 text_reads : (asks : Asks) (texts : Option Texts) (closed : Closed) (text : List ℕ) → IsTextFor asks texts closed text → ReadsSets closed
 text_reads (run options names) texts closed text h =
-    let run = h.printed.left.run in
+    let run = h.printed.left.run.run in
     subst ReadsSets (sym h.closed_is) (lawful_after h.closing.last.start h.closing.last.history run.opening run.allowed)
 text_reads (block names) texts closed text h =
-    let run = h.printed.left.run in
+    let run = h.printed.left.run.run in
     subst ReadsSets (sym h.closed_is) (lawful_blocks h.closing.last.start h.closing.last.history run.opening run.allowed)
 text_reads (pool seats names) texts closed text h =
     let run = h.printed.left.run in
@@ -116,7 +116,7 @@ text_reads (grow names) texts closed text h = subst ReadsSets (sym h.closed_is) 
 text_reads (replay names) texts closed text h = subst ReadsSets (sym h.closed_is) tt
 text_reads (gen number seat) texts closed text h = subst ReadsSets (sym h.0) tt
 text_reads (work number) texts closed text h =
-    let run = h.2.printed.left.run in
+    let run = h.2.printed.left.run.run in
     subst ReadsSets (sym h.1) (lawful_after h.0.last.start h.0.last.history run.opening run.allowed)
 
 -- where there is the text, each file has a script

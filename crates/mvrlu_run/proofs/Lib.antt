@@ -5,6 +5,7 @@ pub mod FileTexts
 pub mod OneFile
 pub mod Opened
 pub mod Still
+pub mod Along
 pub mod WorkTexts
 pub mod Refused
 pub mod Complete

@@ -29,6 +29,6 @@ text_of_work number scripts closing text lines end tables four run ordered is =
       replayed = λ none.
           is
           ∙ summary_as (scripts_of number) lines (whole_of closing).base (capacity (whole_of closing).start) end (scripts_generated number)
-          (omega (arith, room)) left.run.run none number
+          (omega (arith, room)) left.run.run.run none number
           ∙ ap (λ (n : ℕ). text_of_tally number (one_after_another n (scripts_of number))) room;
     }

@@ -1,13 +1,22 @@
 -- The kinds of runs over a domain: each is a record of one shape.
 use Rattle.std.specs.Prelude.{◌≡◌, ℕ, ◌/◌, ◌-◌, List, length, replicate}
+use Rattle.std.specs.List.Sorted.{IsPermutation}
 use Rattle.block_domain.specs.Whole.{BlocksRunOf}
+use Rattle.block_workers.specs.BlockLinks.{AllLinkedBlocks}
+use Rattle.domain_run.specs.Met.{MetAlong}
+use Rattle.domain_run.specs.New.{AreFrom}
+use Rattle.domain_run.specs.Shown.{handle_causes}
 use Rattle.generated_runs.specs.OneAfterAnother.{scripts_of}
 use Rattle.grow_report.specs.Text.{text_of_grown}
 use Rattle.grow_report.specs.Whole.{GrowRunOf}
 use Rattle.mv_history.specs.declared.answers.LogTable.{LogTable}
+use Rattle.mv_history.specs.Meaning.{Seat}
+use Rattle.mv_history.specs.State.{State, Writes}
 use Rattle.mv_layout.specs.declared.config.Config.{Config}
 use Rattle.mvrlu.specs.declared.closing.Closing.{Closing}
 use Rattle.mvrlu.specs.Meant.{whole_of}
+use Rattle.mvrlu.specs.Opened.{new_seat}
+use Rattle.mvrlu.specs.Whole.{Whole}
 use Rattle.pool_domain.specs.Whole.{PoolOf}
 use Rattle.run_report.specs.declared.line.Line.{Line}
 use Rattle.run_report.specs.Order.{IsOrdered}
@@ -17,8 +26,12 @@ use Rattle.run_report.specs.Whole.{RunOf}
 use Rattle.run_report.specs.Worked.{Past}
 use Rattle.run_words.specs.declared.request.Options.{Options}
 use Rattle.script_domain.specs.Joined.{past_of_whole}
+use Rattle.script_workers.specs.Lines.{AllLinked}
+use Rattle.set_blocks.specs.BlockRules.{IsBlockCommit}
 use Rattle.set_script.specs.Catalogue.{Maps}
+use Rattle.set_script.specs.Lawful.{IsOpening}
 use Rattle.set_script.specs.Objects.{no_words}
+use Rattle.set_script.specs.Rules.{IsSetCommit}
 use Rattle.set_script.specs.declared.commands.Command.{Command}
 
 -- the numbers of a domain with so many seats, each of which may hold so many objects
@@ -34,11 +47,31 @@ config_of options write_max seats = record {
 }
 
 -- A kind of run over a domain, which ends in values of this type: the numbers of its domain; what makes lines, an end and tables those of
--- one run in a history; and the text of them.
+-- one run in its whole history; and the text of them.
 pub record Kind (End : Type 0) : Type 1 where
   pub numbers : Config
-  pub is_run : List Line → End → List LogTable → Past → Type 0
+  pub is_run : List Line → End → List LogTable → Whole → Type 0
   pub text_of : List Line → End → List LogTable → List ℕ
+
+-- The history of a domain is that of a run, and each seat went along the chain of its lines: from the one with which a domain of these numbers,
+-- all of them, was opened, to the one that met. The lines that are printed are those of the chains, in another order.
+pub record IsRunAlong (allows : List ℕ → State → Writes → Type 0) (chain : List Seat → List Seat → List Line → Type 0) (numbers : Config)
+    (is_run : Past → Type 0) (lines : List Line) (w : Whole) : Type 0 where
+  pub run : is_run (past_of_whole w)
+  pub home : List ℕ
+  pub firsts : List Seat
+  pub new : AreFrom (new_seat home numbers (replicate numbers.objects no_words)) 0 firsts
+  pub own : List Line
+  pub same : IsPermutation own lines
+  pub linked : MetAlong (λ olds news. chain olds news own) allows numbers (replicate numbers.objects no_words) firsts w
+
+-- the chains of commands that each seat did in turn, by the lines of one seat after those of another
+abbrev pub chain_of : List (List Command) → List Seat → List Seat → List Line → Type 0
+chain_of scripts olds news own = AllLinked (handle_causes IsOpening IsSetCommit) olds news scripts own
+
+-- and of blocks
+abbrev pub block_chain_of : List (List (List Command)) → List Seat → List Seat → List Line → Type 0
+block_chain_of scripts olds news own = AllLinkedBlocks (handle_causes IsOpening IsBlockCommit) olds news scripts own
 
 -- the numbers of a run that has no options
 abbrev pub usual_options : Options
@@ -52,7 +85,8 @@ work_options = record { objects = 16384; slots = 1024; base = 0 }
 abbrev pub runs : Options → List (List Command) → Kind Maps
 runs options scripts = record {
   numbers = config_of options 16 (length scripts);
-  is_run = λ lines end tables past. RunOf past scripts lines end tables;
+  is_run = λ lines end tables w.
+      IsRunAlong IsSetCommit (chain_of scripts) (config_of options 16 (length scripts)) (λ past. RunOf past scripts lines end tables) lines w;
   text_of = text_of_run;
 }
 
@@ -60,7 +94,9 @@ runs options scripts = record {
 abbrev pub works : ℕ → Kind Maps
 works number = record {
   numbers = config_of work_options 16 (length (scripts_of number));
-  is_run = λ lines end tables past. RunOf past (scripts_of number) lines end tables;
+  is_run = λ lines end tables w.
+      IsRunAlong IsSetCommit (chain_of (scripts_of number)) (config_of work_options 16 (length (scripts_of number)))
+      (λ past. RunOf past (scripts_of number) lines end tables) lines w;
   text_of = λ lines end tables. summary number lines end;
 }
 
@@ -68,7 +104,9 @@ works number = record {
 abbrev pub block_runs : Options → List (List (List Command)) → Kind Maps
 block_runs options scripts = record {
   numbers = config_of options 64 (length scripts);
-  is_run = λ lines end tables past. BlocksRunOf past scripts lines end tables;
+  is_run = λ lines end tables w.
+      IsRunAlong IsBlockCommit (block_chain_of scripts) (config_of options 64 (length scripts)) (λ past. BlocksRunOf past scripts lines end tables)
+      lines w;
   text_of = text_of_run;
 }
 
@@ -76,7 +114,7 @@ block_runs options scripts = record {
 abbrev pub pool_runs : Options → ℕ → List Command → Kind Maps
 pool_runs options seats script = record {
   numbers = config_of options 16 seats;
-  is_run = λ lines end tables past. PoolOf past seats script lines end tables;
+  is_run = λ lines end tables w. PoolOf (past_of_whole w) seats script lines end tables;
   text_of = text_of_run;
 }
 
@@ -89,16 +127,16 @@ pub record GrownEnd : Type 0 where
 abbrev pub grow_runs : Options → List (List Command) → Kind GrownEnd
 grow_runs options scripts = record {
   numbers = config_of options 64 (length scripts);
-  is_run = λ lines end tables past. GrowRunOf past scripts lines end.set end.splits tables;
+  is_run = λ lines end tables w. GrowRunOf (past_of_whole w) scripts lines end.set end.splits tables;
   text_of = λ lines end tables. text_of_grown lines end.set end.splits tables;
 }
 
 module _ {Rules : Type 0} where
   -- The domain that is left was opened with these numbers, and with objects that are all zero; and its one history is that of a run.
-  pub record IsLeftOf (numbers : Config) (is_run : Past → Type 0) (closing : Closing Rules) : Type 0 where
+  pub record IsLeftOf (numbers : Config) (is_run : Whole → Type 0) (closing : Closing Rules) : Type 0 where
     pub start : (whole_of closing).start ≡ replicate numbers.objects no_words
     pub base : (whole_of closing).base ≡ numbers.base
-    pub run : is_run (past_of_whole (whole_of closing))
+    pub run : is_run (whole_of closing)
 
   -- the domain is left of a run of this kind, of these lines, this end and these tables
   abbrev pub IsLeft : {End : Type 0} → Kind End → List Line → End → List LogTable → Closing Rules → Type 0

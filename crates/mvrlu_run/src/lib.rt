@@ -23,7 +23,10 @@
 //! final maps and tables of which that text is. Each line stands in the history of the closing: a commit is the entry of
 //! its time by its seat with its command's tag, and a read has its reply in the state of its time. Each command has one
 //! line, each commit of the history has one, and the lines in their order, replayed one after another, give every reply
-//! and end in the printed sets. Each other status has its cause, and where the texts are told and no call failed the
+//! and end in the printed sets. Of scripts, of blocks and of generated scripts the domain has all the numbers that it was
+//! to have, and each seat went along a chain from its opening to the seat that met, whose links are the attempts of its
+//! lines (`IsRunAlong`): so a read's place isn't below any commit that its seat had seen when the command began
+//! (`fresh_read` in script_domain's proofs). Each other status has its cause, and where the texts are told and no call failed the
 //! scripts alone decide, but for want of memory. A gate is called around each command; no clause speaks of it, since it
 //! tells nothing.
 //!

@@ -1,8 +1,13 @@
-use Rattle.std.proofs.Common.{◌∙◌, ap, map}
+use Rattle.std.proofs.Common.{◌∙◌, ap, length, map, sym}
+use Rattle.std.proofs.lemmas.List.{length-map}
 use Rattle.mv_layout.specs.declared.config.Config.{Config}
 use Rattle.set_blocks.proofs.Remaining.{lawful_after}
 use Rattle.block_workers.specs.Workers.{blocks_of}
 use Rattle.block_domain.proofs.OneRun.{run_permuted}
+use Rattle.block_domain.specs.Whole.{BlocksRunOf}
+use Rattle.set_blocks.specs.BlockRules.{IsBlockCommit}
+use Rattle.mvrlu_run.specs.Kinds.{block_chain_of, config_of}
+use Rattle.mvrlu_run.proofs.Along.{run_along}
 use Rattle.mvrlu_run.proofs.Still.{still_blocks}
 use Rattle.mvrlu_run.proofs.Opened.{new_seats, back_meets}
 use Rattle.mvrlu_run.proofs.blocking.run_block_sets.Goals as goal
@@ -26,9 +31,16 @@ returns-clause-ran g c =
     let run = rw c.in_ok-closing.ensures at c.run_block_domain.ensures.ran in
     let still = c.read_all.ensures.as_before in
     let ends = rw c.in_ok-closing.ensures at c.run_block_domain.ensures.opening in
+    let linked = rw c.in_ok-closing.ensures at c.run_block_domain.ensures.linked in
+    let many = sym (length-map c.args.scripts.now blocks_of) in
+    let scripts = map blocks_of c.args.scripts.now in
+    let lines = c.order.new.lines.items in
     record {
       start = still.start ∙ ends.0 ∙ c.in_ok-domain.ensures.opening;
       base = still.base ∙ ends.1 ∙ ap (λ (n : Config). n.base) c.in_ok-domain.ensures.numbers;
-      run = still_blocks c.in_ok-closing.closing.last c.read_all.new.view.last (map blocks_of c.args.scripts.now) c.order.new.lines.items c.in_ok-end.end
-          c.in_ok-closing.tables.items still c.in_ok-end.ensures.catalogue (run_permuted _ _ _ _ _ _ c.order.ensures.permutation run);
+      run = run_along c.in_ok-domain.domain c.in_ok-domain.seats.items _ (config_of c.args.options 64 (length scripts)) c.in_ok-domain.ensures
+          (ap (config_of c.args.options 64) many) IsBlockCommit (block_chain_of scripts) (λ past. BlocksRunOf past scripts lines c.in_ok-end.end c.in_ok-closing.tables.items)
+          c.in_ok-closing.lines.items lines c.in_ok-closing.closing.last c.read_all.new.view.last c.order.ensures.permutation still linked
+          (still_blocks c.in_ok-closing.closing.last c.read_all.new.view.last scripts lines c.in_ok-end.end c.in_ok-closing.tables.items still
+          c.in_ok-end.ensures.catalogue (run_permuted _ _ _ _ _ _ c.order.ensures.permutation run));
     }

@@ -1,4 +1,4 @@
-use Rattle.std.proofs.Common.{◌∙◌, [], ◌∷◌, ap, length, map, refl, string_bytes, subst, sym}
+use Rattle.std.proofs.Common.{◌∙◌, [], ◌∷◌, ap, map, refl, string_bytes, subst, sym}
 use Rattle.std.proofs.lemmas.List.{length-map}
 use Rattle.replay_rules.specs.Plans.{plan_of}
 use Rattle.step_replay.specs.PlanTexts.{planned}

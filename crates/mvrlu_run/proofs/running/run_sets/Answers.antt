@@ -1,7 +1,12 @@
-use Rattle.std.proofs.Common.{◌∙◌, ap, map}
+use Rattle.std.proofs.Common.{◌∙◌, ap, length, map, sym}
+use Rattle.std.proofs.lemmas.List.{length-map}
 use Rattle.mv_layout.specs.declared.config.Config.{Config}
 use Rattle.set_script.proofs.Times.{lawful_after}
 use Rattle.script_workers.specs.Workers.{items_of}
+use Rattle.run_report.specs.Whole.{RunOf}
+use Rattle.set_script.specs.Rules.{IsSetCommit}
+use Rattle.mvrlu_run.specs.Kinds.{chain_of, config_of}
+use Rattle.mvrlu_run.proofs.Along.{run_along}
 use Rattle.mvrlu_run.proofs.Still.{still_run}
 use Rattle.mvrlu_run.proofs.Opened.{new_seats, back_meets}
 use Rattle.mvrlu_run.proofs.running.run_sets.Goals as goal
@@ -25,9 +30,16 @@ returns-clause-ran g c =
     let run = rw c.in_ok-closing.ensures at c.run_domain.ensures.ran in
     let still = c.read_all.ensures.as_before in
     let ends = rw c.in_ok-closing.ensures at c.run_domain.ensures.opening in
+    let linked = rw c.in_ok-closing.ensures at c.run_domain.ensures.linked in
+    let many = sym (length-map c.args.scripts.now items_of) in
+    let scripts = map items_of c.args.scripts.now in
+    let lines = c.order.new.lines.items in
     record {
       start = still.start ∙ ends.0 ∙ c.in_ok-domain.ensures.opening;
       base = still.base ∙ ends.1 ∙ ap (λ (n : Config). n.base) c.in_ok-domain.ensures.numbers;
-      run = still_run c.in_ok-closing.closing.last c.read_all.new.view.last (map items_of c.args.scripts.now) c.order.new.lines.items c.in_ok-end.end
-          c.in_ok-closing.tables.items still c.in_ok-end.ensures.catalogue (c.order.ensures.whole _ _ _ _ run);
+      run = run_along c.in_ok-domain.domain c.in_ok-domain.seats.items _ (config_of c.args.options 16 (length scripts)) c.in_ok-domain.ensures
+          (ap (config_of c.args.options 16) many) IsSetCommit (chain_of scripts) (λ past. RunOf past scripts lines c.in_ok-end.end c.in_ok-closing.tables.items)
+          c.in_ok-closing.lines.items lines c.in_ok-closing.closing.last c.read_all.new.view.last c.order.ensures.permutation still linked
+          (still_run c.in_ok-closing.closing.last c.read_all.new.view.last scripts lines c.in_ok-end.end c.in_ok-closing.tables.items still
+          c.in_ok-end.ensures.catalogue (c.order.ensures.whole _ _ _ _ run));
     }

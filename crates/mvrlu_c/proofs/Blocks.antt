@@ -1,5 +1,6 @@
 -- A block of C and its replies: how many there are, and what one more command says.
-use Rattle.std.proofs.Common.{◌≡◌, ℕ, ℤ, Bool, true, false, refl, w32, to_z, of_z, suc, ◌+◌, List, [], ◌∷◌, ◌++◌, length, map, drop, slice_get, Result, Ok, Err, IfErr, Some, sym, ap, ◌∙◌, subst, arith}
+use Rattle.std.proofs.Common.{◌≡◌, ℕ, ℤ, Bool, true, false, refl, w32, to_z, of_z, suc, ◌+◌, List, [], ◌∷◌, ◌++◌, length, map, drop, slice_get}
+use Rattle.std.proofs.Common.{Result, Ok, Err, IfErr, Some, sym, ap, ◌∙◌, subst, arith}
 use Rattle.std.specs.List.{Contains}
 use Rattle.std.proofs.Math.Numerals.{suc-eq-add-one}
 use Rattle.std.proofs.Math.Seq.{drop-cons}

@@ -1,5 +1,6 @@
 -- What a block of commands of C says, and what a call of it leaves.
-use Rattle.std.specs.Prelude.{◌≡◌, ◌≢◌, ◌⊎◌, ◌<◌, ◌==◌, nat_lt, ℕ, ℤ, true, false, List, [], ◌∷◌, map, replicate, length, Contains, Result, Ok, Err, if◌then◌else◌, ⊤}
+use Rattle.std.specs.Prelude.{◌≡◌, ◌≢◌, ◌⊎◌, ◌<◌, ◌==◌, nat_lt, ℕ, ℤ, true, false, List, [], ◌∷◌, map, replicate, length, Contains}
+use Rattle.std.specs.Prelude.{Result, Ok, Err, if◌then◌else◌, ⊤}
 use Rattle.mvrlu.specs.Meant.{seat_of}
 use Rattle.set_script.specs.declared.commands.Command.{Command}
 use Rattle.set_script.specs.declared.commands.Command.TheVariants.{Add, Del, Move, Put, Has, Get, Pair, Size, Next}

@@ -1,7 +1,8 @@
 // A block of commands on one seat of the sets.
 ghost use Rattle.std.specs.Prelude.{◌≡◌, ◌+◌, ◌≤◌, ◌++◌, length, map, drop, replicate, Contains, IfOk, IfErr, Ok, Err, vec_len, vec_capacity};
 ghost use Rattle.mvrlu_c.specs.SetReplies.{told_at};
-ghost use Rattle.mvrlu_c.specs.SetsBlock.{AnswersBlock, AsMany, IsBlockOf, IsNoBlock, TellsBlock, block_told, command_said, in_set, move_said, pair_said, status_of_all, status_of_block};
+ghost use Rattle.mvrlu_c.specs.SetsBlock.{AnswersBlock, AsMany, IsBlockOf, IsNoBlock, TellsBlock};
+ghost use Rattle.mvrlu_c.specs.SetsBlock.{block_told, command_said, in_set, move_said, pair_said, status_of_all, status_of_block};
 
 use crate::sets_handle::{MvrluSets, on_sets};
 use crate::sets_reply::{MvrluReply, done_at, given_up, of_cause};

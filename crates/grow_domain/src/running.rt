@@ -9,16 +9,20 @@ ghost use Rattle.mvrlu.specs.Whole.{last_state};
 ghost use Rattle.grow_report.specs.Turns.{AllRanGrow};
 ghost use Rattle.grow_report.specs.Whole.{GrowRunOf};
 ghost use Rattle.script_workers.specs.Workers.{items_of};
+ghost use Rattle.grow_workers.specs.Links.{AllLinkedTurns};
+ghost use Rattle.grow_hash.specs.GrowRules.{IsGrowCommit};
+ghost use Rattle.domain_run.specs.Met.{MetAlong};
+ghost use Rattle.domain_run.specs.Shown.{handle_causes};
 ghost use Rattle.script_domain.specs.Joined.{past_of_whole, AreTablesOf};
 ghost use Rattle.script_domain.specs.New.{AreNewFrom};
 
+use domain_run::lending::{lend_all, take_back};
 use grow_hash::GrowRules;
 use grow_workers::run_grow;
 use mv_history::LogTable;
 use mvrlu::{Closing, Domain, Seat};
 use run_outside::Gate;
 use run_report::Line;
-use script_domain::lending::{lend_all, take_back};
 use set_script::Command;
 use std::alloc::{AllocError, Global};
 use std::sync::Wait;
@@ -35,6 +39,8 @@ use std::thread::Threads;
 /// and the tables of the logs by seat. They are those of one run in the closing's history: every reply is the one that
 /// the sequential catalogue gives at the line's printed place, and each commit of the history has exactly one line or is
 /// a split that was due.
+///
+/// Each seat went along the chain of its lines, from the one that `open` gave to one that met (`MetAlong`).
 ///
 /// The error is want of memory. It comes only before the first command, and hands back the domain and the seats, which
 /// mean what they meant, so the call can be tried again. After the workers have ended nothing is refused.
@@ -59,6 +65,9 @@ pub fn run_grow_domain<R: Threads + Wait + Sync, G: Gate>(
     ensures ran { IfOk result (λ done.
         GrowRunOf (past_of_whole (whole_of done.0)) (map items_of scripts.now) done.1.items (grown_catalogue (last_state (whole_of done.0)))
         (count_splits (whole_of done.0).history) done.2.items) }
+    ensures linked { IfOk result (λ done. MetAlong
+        (λ firsts met. AllLinkedTurns (handle_causes IsGrownOpening IsGrowCommit) firsts met (map items_of scripts.now) done.1.items)
+        IsGrowCommit (numbers_of domain) (opening_of domain) (map seat_of seats.items) (whole_of done.0)) }
     ensures opening { IfOk result (λ done.
         ((whole_of done.0).start ≡ opening_of domain) × ((whole_of done.0).base ≡ (numbers_of domain).base)) }
     ensures err { IfErr result (λ refused. (refused.0 ≡ domain) × (map seat_of refused.1.items ≡ map seat_of seats.items)) }
@@ -90,6 +99,8 @@ fn run_seats<R: Threads + Wait + Sync, G: Gate>(
     requires growing { All (λ script. All IsOfGrown script.items) scripts.now }
     requires most { 64 ≤ (numbers_of domain.now).write_max }
     ensures ran { IfOk result (λ done. AllRanGrow (map seat_of seats.items) (map seat_of done.0.items) (map items_of scripts.now) done.1.items) }
+    ensures linked { IfOk result (λ done. AllLinkedTurns (handle_causes IsGrownOpening IsGrowCommit) (map seat_of seats.items) (map seat_of done.0.items)
+        (map items_of scripts.now) done.1.items) }
     ensures tables { IfOk result (λ done. AreTablesOf (map seat_of done.0.items) done.2.items) }
     ensures err { IfErr result (λ refused. map seat_of refused.0.items ≡ map seat_of seats.items) }
 {

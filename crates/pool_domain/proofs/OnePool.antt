@@ -33,7 +33,7 @@ use Rattle.command_pool.specs.Pool.{PoolRan}
 use Rattle.script_domain.specs.Joined.{past_of_whole, AreTablesOf}
 use Rattle.script_domain.specs.New.{AreNewFrom}
 use Rattle.script_domain.proofs.OneRun as one_run
-use Rattle.script_domain.proofs.Seats.{all_continue, ran_of}
+use Rattle.script_domain.proofs.Seats.{AllContinue, all_continue, ran_of}
 use Rattle.pool_domain.specs.Legal.{ReplaysPool}
 use Rattle.pool_domain.specs.Whole.{PoolOf, StandsInPool}
 use Rattle.pool_domain.proofs.Orders.{as_scripts, stands_as, replays_pool, all_alone}
@@ -73,15 +73,18 @@ replays p seats commands lines ordered h same rising =
     (opening_empty p.start h.opening)
     (replay p (as_scripts seats commands) h.allowed h.last 0 ordered left))
 
+-- the seats that did the commands went on
+pub all_went_on : (olds news : List history.Seat) (commands : List Command) (lines : List Line) → PoolRan olds news commands lines → AllContinue olds news
+all_went_on olds news commands lines ran =
+    all_continue olds news (scripts_of olds news commands lines ran.each) (script_lines olds news commands lines ran.each)
+    (all_ran olds news commands lines ran.each)
+
 module _ {P : Type 0} {rules : _} (d : Domain P) where
   -- The seats that did the commands are all the seats of the domain.
   pub all_met : (olds : List history.Seat) (seats : List (Seat P rules)) (commands : List Command) (lines : List Line)
       → AreNewFrom d 0 olds → length olds ≡ (numbers_of d).seats → PoolRan olds (map (λ s. seat_of s) seats) commands lines → AreAll d seats
   all_met olds seats commands lines new many ran =
-      let news = map (λ s. seat_of s) seats in
-      one_run.all_met d olds seats new many
-      (all_continue olds news (scripts_of olds news commands lines ran.each) (script_lines olds news commands lines ran.each)
-      (all_ran olds news commands lines ran.each))
+      one_run.all_met d olds seats new many (all_went_on olds (map (λ s. seat_of s) seats) commands lines ran)
 
   -- The lines and tables are those of one pool in the whole history.
   pub pool_met : (olds : List history.Seat) (seats : List (Seat P rules)) (commands : List Command) (lines : List Line)

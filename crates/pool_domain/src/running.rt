@@ -5,17 +5,20 @@ ghost use Rattle.set_script.specs.Lawful.{IsOpening};
 ghost use Rattle.set_script.specs.declared.script.TheConstants.{MOST_COMMANDS};
 ghost use Rattle.mvrlu.specs.Meant.{numbers_of, opening_of, seat_of, whole_of};
 ghost use Rattle.mvrlu.specs.Whole.{last_state};
-ghost use Rattle.command_pool.specs.Pool.{PoolRan};
+ghost use Rattle.command_pool.specs.Pool.{PoolRan, PoolLinked};
+ghost use Rattle.set_script.specs.Rules.{IsSetCommit};
+ghost use Rattle.domain_run.specs.Met.{MetAlong};
+ghost use Rattle.domain_run.specs.Shown.{handle_causes};
 ghost use Rattle.script_domain.specs.Joined.{past_of_whole, AreTablesOf};
 ghost use Rattle.script_domain.specs.New.{AreNewFrom};
 ghost use Rattle.pool_domain.specs.Whole.{PoolOf};
 
 use command_pool::run_pool;
+use domain_run::lending::{lend_all, take_back};
 use mv_history::LogTable;
 use mvrlu::{Closing, Domain, Seat};
 use run_outside::Gate;
 use run_report::Line;
-use script_domain::lending::{lend_all, take_back};
 use set_script::{Command, SetRules};
 use std::alloc::{AllocError, Global};
 use std::sync::Wait;
@@ -31,6 +34,8 @@ use std::thread::Threads;
 /// It answers the closing of the domain, the lines, whose order is left open (`order` of `run_report` orders them), and
 /// the tables of the logs by seat. They are those of one pool in the closing's history: every reply is the one that the
 /// sequential catalogue gives at the line's printed place, and each commit of the history has exactly one line.
+///
+/// Each seat went along the chain of its lines, from the one that `open` gave to one that met (`MetAlong`).
 ///
 /// The error is want of memory. It comes only before the first command, and hands back the domain and the seats, which
 /// mean what they meant, so the call can be tried again. After the workers have ended nothing is refused.
@@ -54,6 +59,9 @@ pub fn run_pool_domain<R: Threads + Wait + Sync, G: Gate>(
     requires most { 5 ≤ (numbers_of domain).write_max }
     ensures ran { IfOk result (λ done.
         PoolOf (past_of_whole (whole_of done.0)) (length seats.items) commands.now done.1.items (catalogue_of (last_state (whole_of done.0))) done.2.items) }
+    ensures linked { IfOk result (λ done. MetAlong
+        (λ firsts met. PoolLinked (handle_causes IsOpening IsSetCommit) firsts met commands.now done.1.items)
+        IsSetCommit (numbers_of domain) (opening_of domain) (map seat_of seats.items) (whole_of done.0)) }
     ensures opening { IfOk result (λ done.
         ((whole_of done.0).start ≡ opening_of domain) × ((whole_of done.0).base ≡ (numbers_of domain).base)) }
     ensures err { IfErr result (λ refused. (refused.0 ≡ domain) × (map seat_of refused.1.items ≡ map seat_of seats.items)) }
@@ -79,6 +87,8 @@ fn run_seats<R: Threads + Wait + Sync, G: Gate>(
     requires short { length commands.now ≤ MOST_COMMANDS }
     requires most { 5 ≤ (numbers_of domain.now).write_max }
     ensures ran { IfOk result (λ done. PoolRan (map seat_of seats.items) (map seat_of done.0.items) commands.now done.1.items) }
+    ensures linked { IfOk result (λ done. PoolLinked (handle_causes IsOpening IsSetCommit) (map seat_of seats.items) (map seat_of done.0.items)
+        commands.now done.1.items) }
     ensures tables { IfOk result (λ done. AreTablesOf (map seat_of done.0.items) done.2.items) }
     ensures err { IfErr result (λ refused. map seat_of refused.0.items ≡ map seat_of seats.items) }
 {

@@ -2,7 +2,12 @@ use Rattle.std.proofs.Common.{map, ◌∙◌, sym}
 use Rattle.std.proofs.lemmas.List.{length-map}
 use Rattle.mvrlu.specs.Meant.{seat_of, whole_of}
 use Rattle.script_workers.specs.Workers.{items_of}
+use Rattle.grow_hash.specs.Grown.{IsGrownOpening}
+use Rattle.grow_hash.specs.GrowRules.{IsGrowCommit}
+use Rattle.domain_run.proofs.Seats.{as_many}
+use Rattle.domain_run.proofs.Whole.{have_met}
 use Rattle.script_domain.proofs.OneRun.{all_met}
+use Rattle.script_domain.proofs.Seats.{zipped}
 use Rattle.grow_domain.proofs.OneRun.{all_continue, grown_met}
 use Rattle.grow_domain.proofs.running.run_grow_domain.Goals as goal
 
@@ -22,3 +27,17 @@ returns-in-Ok-clause-ran g c =
     c.in-Ok.tables.items (whole_of c.meet.result) c.requires.new
     (length-map c.args.scripts.now items_of ∙ c.requires.as_many ∙ sym (length-map c.args.seats.items (λ s. seat_of s)))
     c.in-Ok.ensures.ran c.in-Ok.ensures.tables c.meet.ensures.law c.meet.ensures.opening.0 c.meet.ensures.opening.1
+
+-- each seat went along its chain
+pub returns-in-Ok-clause-linked : goal.returns-in-Ok-clause-linked
+returns-in-Ok-clause-linked g c =
+    let firsts = map (λ s. seat_of s) c.args.seats.items in
+    let met = map (λ s. seat_of s) c.in-Ok.seats.items in
+    let on = zipped firsts met (all_continue firsts met (map items_of c.args.scripts.now) c.in-Ok.lines.items c.in-Ok.ensures.ran) in
+    record {
+      met = met;
+      whole = have_met c.args.domain IsGrownOpening IsGrowCommit firsts c.in-Ok.seats.items (whole_of c.meet.result) c.requires.new on
+          (as_many c.args.seats.items c.in-Ok.seats.items _ on c.requires.all) c.meet.ensures.law c.meet.ensures.numbers c.meet.ensures.opening.0
+          c.meet.ensures.opening.1;
+      along = c.in-Ok.ensures.linked;
+    }

@@ -20,9 +20,10 @@
 //!
 //! # How it is made
 //!
-//! All memory is taken before a handle is made, since a handle can't be let go. Each seat goes into a handle with its task
-//! (`workers.rt`), each of these runs in a thread, and they are taken apart in the order of the seats (`ending.rt`). A
-//! method that takes any `S: Store` is what a `Task` needs: one that takes a handle can't be written outside this crate.
+//! All memory is taken before a handle is made, since a handle can't be let go. The domain is lent to its seats in their order
+//! (`lending.rt`), each handle goes into a worker with its task (`workers.rt`), each of these runs in a thread, and the seats
+//! are taken back with the tables of their logs. A method that takes any `S: Store` is what a `Task` needs: one that takes a
+//! handle can't be written outside this crate. The loan is there for other runs too, in [`lending`], and [`lending::meet_all`] with it.
 //!
 //! # Its place
 //!

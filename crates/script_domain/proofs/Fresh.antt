@@ -29,8 +29,8 @@ fresh_read k w first met s t command time answer has base from to linked at e en
     let fresh = linked_fresh k s t command time answer linked in
     let below = there_below s.seen (at - (s.base + 1)) e entry.there in
     let same : s.base ≡ w.base = from.base ∙ base in
-    let whole = sym (take-append-drop (length s.seen) met.seen) ∙ ap (λ es. es ++ drop (length s.seen) met.seen) to.seen in
-    let begins = has.seen s.seen (drop (length s.seen) met.seen, whole) in (
+    let rest = drop (length s.seen) met.seen in
+    let begins = has.seen s.seen (rest, sym (take-append-drop (length s.seen) met.seen) ∙ ap (λ es. es ++ rest) to.seen) in (
       omega (arith, below, entry.later, fresh.time_is, fresh.holds, fresh.comes.base, fresh.enters.enters.seat.continues.base),
       ap (λ es. slice_get es (at - (w.base + 1))) begins.1
           ∙ there_longer s.seen begins.0 (at - (w.base + 1)) e (subst (λ (n : ℕ). slice_get s.seen (at - (n + 1)) ≡ Some e) same entry.there),

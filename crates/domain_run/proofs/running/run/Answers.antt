@@ -1,6 +1,6 @@
 use Rattle.std.proofs.Common.{ap, map}
 use Rattle.mvrlu.specs.Meant.{seat_of}
-use Rattle.domain_run.proofs.Opened.{opened_new, opened_ready, refused_all, run_opened}
+use Rattle.domain_run.proofs.Opened.{opened_new, opened_ready, refused_all}
 use Rattle.domain_run.proofs.running.run.Goals as goal
 
 pub run_on-requires-clause-new : goal.run_on-requires-clause-new

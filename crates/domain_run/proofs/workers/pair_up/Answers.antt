@@ -1,4 +1,4 @@
-use Rattle.std.proofs.Common.{◌∷◌, [], ◌∙◌, ap, length, length-append, arith}
+use Rattle.std.proofs.Common.{◌∙◌, ap, length, arith}
 use Rattle.domain_run.proofs.Moves.{first_of, moved}
 use Rattle.domain_run.proofs.workers.pair_up.Goals as goal
 

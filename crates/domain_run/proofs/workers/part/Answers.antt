@@ -1,4 +1,4 @@
-use Rattle.std.proofs.Common.{◌∷◌, [], ◌∙◌, ap, length, length-append, map, arith}
+use Rattle.std.proofs.Common.{◌∙◌, ap, length, map, arith}
 use Rattle.domain_run.proofs.Moves.{first_of, put}
 use Rattle.domain_run.proofs.workers.part.Goals as goal
 

@@ -110,9 +110,9 @@ text_reads (block names) texts closed text h =
     let run = h.printed.left.run.run in
     subst ReadsSets (sym h.closed_is) (lawful_blocks h.closing.last.start h.closing.last.history run.opening run.allowed)
 text_reads (pool seats names) texts closed text h =
-    let run = h.printed.left.run in
+    let run = h.printed.left.run.run in
     subst ReadsSets (sym h.closed_is) (lawful_after h.closing.last.start h.closing.last.history run.opening run.allowed)
-text_reads (grow names) texts closed text h = subst ReadsSets (sym h.closed_is) h.printed.left.run.lawful
+text_reads (grow names) texts closed text h = subst ReadsSets (sym h.closed_is) h.printed.left.run.run.lawful
 text_reads (replay names) texts closed text h = subst ReadsSets (sym h.closed_is) tt
 text_reads (gen number seat) texts closed text h = subst ReadsSets (sym h.0) tt
 text_reads (work number) texts closed text h =

@@ -3,12 +3,16 @@ use Rattle.std.specs.Prelude.{◌≡◌, ℕ, ◌/◌, ◌-◌, List, length, re
 use Rattle.std.specs.List.Sorted.{IsPermutation}
 use Rattle.block_domain.specs.Whole.{BlocksRunOf}
 use Rattle.block_workers.specs.BlockLinks.{AllLinkedBlocks}
+use Rattle.command_pool.specs.Pool.{PoolLinked}
 use Rattle.domain_run.specs.Met.{MetAlong}
 use Rattle.domain_run.specs.New.{AreFrom}
 use Rattle.domain_run.specs.Shown.{handle_causes}
 use Rattle.generated_runs.specs.OneAfterAnother.{scripts_of}
+use Rattle.grow_hash.specs.Grown.{IsGrownOpening}
+use Rattle.grow_hash.specs.GrowRules.{IsGrowCommit}
 use Rattle.grow_report.specs.Text.{text_of_grown}
 use Rattle.grow_report.specs.Whole.{GrowRunOf}
+use Rattle.grow_workers.specs.Links.{AllLinkedTurns}
 use Rattle.mv_history.specs.declared.answers.LogTable.{LogTable}
 use Rattle.mv_history.specs.Meaning.{Seat}
 use Rattle.mv_history.specs.State.{State, Writes}
@@ -73,6 +77,14 @@ chain_of scripts olds news own = AllLinked (handle_causes IsOpening IsSetCommit)
 abbrev pub block_chain_of : List (List (List Command)) → List Seat → List Seat → List Line → Type 0
 block_chain_of scripts olds news own = AllLinkedBlocks (handle_causes IsOpening IsBlockCommit) olds news scripts own
 
+-- and of the commands that each seat of a pool took
+abbrev pub pool_chain_of : List Command → List Seat → List Seat → List Line → Type 0
+pool_chain_of script olds news own = PoolLinked (handle_causes IsOpening IsSetCommit) olds news script own
+
+-- and of the commands on a growing set, each with the split that was due behind it
+abbrev pub grow_chain_of : List (List Command) → List Seat → List Seat → List Line → Type 0
+grow_chain_of scripts olds news own = AllLinkedTurns (handle_causes IsGrownOpening IsGrowCommit) olds news scripts own
+
 -- the numbers of a run that has no options
 abbrev pub usual_options : Options
 usual_options = record { objects = 4096; slots = 1024; base = 0 }
@@ -114,7 +126,8 @@ block_runs options scripts = record {
 abbrev pub pool_runs : Options → ℕ → List Command → Kind Maps
 pool_runs options seats script = record {
   numbers = config_of options 16 seats;
-  is_run = λ lines end tables w. PoolOf (past_of_whole w) seats script lines end tables;
+  is_run = λ lines end tables w.
+      IsRunAlong IsSetCommit (pool_chain_of script) (config_of options 16 seats) (λ past. PoolOf past seats script lines end tables) lines w;
   text_of = text_of_run;
 }
 
@@ -127,7 +140,9 @@ pub record GrownEnd : Type 0 where
 abbrev pub grow_runs : Options → List (List Command) → Kind GrownEnd
 grow_runs options scripts = record {
   numbers = config_of options 64 (length scripts);
-  is_run = λ lines end tables w. GrowRunOf (past_of_whole w) scripts lines end.set end.splits tables;
+  is_run = λ lines end tables w.
+      IsRunAlong IsGrowCommit (grow_chain_of scripts) (config_of options 64 (length scripts))
+      (λ past. GrowRunOf past scripts lines end.set end.splits tables) lines w;
   text_of = λ lines end tables. text_of_grown lines end.set end.splits tables;
 }
 

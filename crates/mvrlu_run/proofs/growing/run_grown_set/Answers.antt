@@ -1,10 +1,15 @@
-use Rattle.std.proofs.Common.{◌∙◌, ap, map, subst, sym, arith}
+use Rattle.std.proofs.Common.{◌∙◌, ap, length, map, subst, sym, arith}
+use Rattle.std.proofs.lemmas.List.{length-map}
 use Rattle.grow_hash.specs.Grown.{IsGrown, grown_catalogue}
 use Rattle.mv_layout.specs.declared.config.Config.{Config}
 use Rattle.script_workers.specs.Workers.{items_of}
 use Rattle.mvrlu.specs.Whole.{last_state}
 use Rattle.mvrlu_run.proofs.GrownBuckets.{few_splits}
 use Rattle.mvrlu.specs.WholeLaws.{still_long, still_state}
+use Rattle.grow_hash.specs.GrowRules.{IsGrowCommit}
+use Rattle.grow_report.specs.Whole.{GrowRunOf}
+use Rattle.mvrlu_run.specs.Kinds.{config_of, grow_chain_of}
+use Rattle.mvrlu_run.proofs.Along.{run_along}
 use Rattle.mvrlu_run.proofs.Still.{still_grown}
 use Rattle.mvrlu_run.proofs.Opened.{new_seats, back_meets}
 use Rattle.mvrlu_run.proofs.growing.run_grown_set.Goals as goal
@@ -42,10 +47,19 @@ returns-clause-ran g c =
     c.count_splits-splits.new.view.last c.read_grown.new.view.last counted.as_before c.read_grown.ensures.as_before in
     let same = still_state c.in_ok-closing.closing.last c.count_splits-splits.new.view.last counted.as_before in
     let ends = rw c.in_ok-closing.ensures at c.run_grow_domain.ensures.opening in
+    let linked = rw c.in_ok-closing.ensures at c.run_grow_domain.ensures.linked in
+    let many = sym (length-map c.args.scripts.now items_of) in
+    let scripts = map items_of c.args.scripts.now in
+    let lines = c.order_grown.new.lines.items in
+    let splits = c.count_splits-splits.result in
     record {
       start = still.start ∙ ends.0 ∙ c.in_ok-domain.ensures.opening;
       base = still.base ∙ ends.1 ∙ ap (λ (n : Config). n.base) c.in_ok-domain.ensures.numbers;
-      run = still_grown c.in_ok-closing.closing.last c.read_grown.new.view.last (map items_of c.args.scripts.now) c.order_grown.new.lines.items
-          c.in_ok-end.end _ c.count_splits-splits.result c.in_ok-closing.tables.items still (c.in_ok-end.ensures.catalogue ∙ ap grown_catalogue same)
-          (omega (arith, counted.splits, run.buckets_are)) (c.order_grown.ensures.whole _ _ _ _ _ run);
+      run = run_along c.in_ok-domain.domain c.in_ok-domain.seats.items _ (config_of c.args.options 64 (length scripts)) c.in_ok-domain.ensures
+          (ap (config_of c.args.options 64) many) IsGrowCommit (grow_chain_of scripts)
+          (λ past. GrowRunOf past scripts lines c.in_ok-end.end splits c.in_ok-closing.tables.items)
+          c.in_ok-closing.lines.items lines c.in_ok-closing.closing.last c.read_grown.new.view.last c.order_grown.ensures.permutation still linked
+          (still_grown c.in_ok-closing.closing.last c.read_grown.new.view.last scripts lines c.in_ok-end.end _ splits
+          c.in_ok-closing.tables.items still (c.in_ok-end.ensures.catalogue ∙ ap grown_catalogue same)
+          (omega (arith, counted.splits, run.buckets_are)) (c.order_grown.ensures.whole _ _ _ _ _ run));
     }

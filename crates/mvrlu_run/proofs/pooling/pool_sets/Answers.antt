@@ -1,7 +1,11 @@
-use Rattle.std.proofs.Common.{◌∙◌, ap, length}
+use Rattle.std.proofs.Common.{◌∙◌, ap, length, refl}
 use Rattle.mv_layout.specs.declared.config.Config.{Config}
 use Rattle.set_script.proofs.Times.{lawful_after}
 use Rattle.pool_domain.proofs.OnePool.{pool_permuted}
+use Rattle.pool_domain.specs.Whole.{PoolOf}
+use Rattle.set_script.specs.Rules.{IsSetCommit}
+use Rattle.mvrlu_run.specs.Kinds.{config_of, pool_chain_of}
+use Rattle.mvrlu_run.proofs.Along.{run_along}
 use Rattle.mvrlu_run.proofs.Still.{still_pool}
 use Rattle.mvrlu_run.proofs.Opened.{new_seats, back_meets}
 use Rattle.mvrlu_run.proofs.pooling.pool_sets.Goals as goal
@@ -25,12 +29,19 @@ returns-clause-ran g c =
     let pool = rw c.in_ok-closing.ensures at c.run_pool_domain.ensures.ran in
     let still = c.read_all.ensures.as_before in
     let ends = rw c.in_ok-closing.ensures at c.run_pool_domain.ensures.opening in
+    let linked = rw c.in_ok-closing.ensures at c.run_pool_domain.ensures.linked in
     let seats = c.in_ok-domain.ensures.many in
+    let commands = c.args.commands.now in
+    let lines = c.order.new.lines.items in
     record {
       start = still.start ∙ ends.0 ∙ c.in_ok-domain.ensures.opening;
       base = still.base ∙ ends.1 ∙ ap (λ (n : Config). n.base) c.in_ok-domain.ensures.numbers;
-      run = rw (← seats)
-          (still_pool c.in_ok-closing.closing.last c.read_all.new.view.last (length c.in_ok-domain.seats.items) c.args.commands.now c.order.new.lines.items
+      run = run_along c.in_ok-domain.domain c.in_ok-domain.seats.items _ (config_of c.args.options 16 c.args.seats) c.in_ok-domain.ensures
+          refl IsSetCommit (pool_chain_of commands)
+          (λ past. PoolOf past c.args.seats commands lines c.in_ok-end.end c.in_ok-closing.tables.items)
+          c.in_ok-closing.lines.items lines c.in_ok-closing.closing.last c.read_all.new.view.last c.order.ensures.permutation still linked
+          (rw (← seats)
+          (still_pool c.in_ok-closing.closing.last c.read_all.new.view.last (length c.in_ok-domain.seats.items) commands lines
           c.in_ok-end.end c.in_ok-closing.tables.items still c.in_ok-end.ensures.catalogue
-          (pool_permuted _ _ _ _ _ _ _ c.order.ensures.permutation pool));
+          (pool_permuted _ _ _ _ _ _ _ c.order.ensures.permutation pool)));
     }

@@ -1,5 +1,7 @@
 // One more, as a work; and one thread that counts.
-ghost use Rattle.std.specs.Prelude.{◌≤◌, vec_len};
+ghost use Rattle.std.specs.Prelude.{◌≡◌, ◌≤◌, length, vec_len, IfOk};
+ghost use Rattle.mvrlu.specs.Meant.{whole_of};
+ghost use Rattle.mvrlu.specs.Whole.{last_state};
 
 use domain_run::{Task, config_of, run};
 use item_workers::{Runner, run_item};
@@ -120,13 +122,14 @@ impl Task<Counting> for Counter {
     }
 }
 
-/// Runs the counters, each in a thread of its own, from 0 on.
+/// Runs the counters, each in a thread of its own, from 0 on. The closing has the one object.
 pub fn count_together<R: Threads + Wait + Sync>(
     rt: &R,
     alloc: Global,
     counters: Vec<Counter>,
 ) -> Result<(Closing<Counting>, Vec<Counter>), (Vec<Counter>, OpenFault)>
     requires { vec_len counters ≤ 64 }
+    ensures { IfOk result (λ done. length (last_state (whole_of done.0)) ≡ 1) }
 {
     let config = config_of(counters.len() as u32, 1, 1);
     run::<R, Counting, Counter>(rt, alloc, config, &[[0; 6]], counters)

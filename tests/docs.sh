@@ -7,7 +7,7 @@ python3 - <<'PYTHON'
 import pathlib, re, sys
 
 missing = []
-pages = [pathlib.Path("README.md"), *sorted(pathlib.Path("docs").glob("*.md"))]
+pages = [pathlib.Path("README.md"), pathlib.Path("CONTRIBUTING.md"), *sorted(pathlib.Path("docs").glob("*.md"))]
 
 # Links lead to files.
 for page in pages:

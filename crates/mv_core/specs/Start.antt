@@ -1,6 +1,7 @@
 -- What a new domain starts with.
-use Rattle.std.specs.Prelude.{◌≡◌, ◌⊎◌, ℕ, zero, suc, ◌-◌, ◌<◌, List, length, replicate, slice_index, None}
+use Rattle.std.specs.Prelude.{◌≡◌, ◌⊎◌, ℕ, zero, suc, ◌-◌, ◌<◌, List, [], ◌∷◌, length, replicate, slice_index, None}
 use Rattle.mv_history.specs.State.{State}
+use Rattle.mv_history.specs.Legal.{AreWords}
 use Rattle.mv_history.specs.Meaning.{words_at}
 use Rattle.mv_history.specs.declared.StepKind.TheVariants.{MakeSeat}
 use Rattle.mv_layout.specs.declared.Config.{Config}
@@ -8,9 +9,17 @@ use Rattle.mv_layout.specs.declared.Place.{Place}
 use Rattle.mv_layout.specs.declared.Place.TheVariants.{Clock, Grace, Master}
 use Rattle.mv_layout.specs.Words.{clock_of}
 use Rattle.mv_layout.specs.Places.{Memory, IsPlace}
-use Rattle.mv_layout.specs.Cells.{cells, cell_of}
+use Rattle.mv_layout.specs.Cells.{Shows, cells, cell_of}
 use Rattle.mv_core.specs.declared.view.View.{View}
 use Rattle.mv_core.specs.Views.{new_view}
+
+-- six words of 0
+abbrev pub no_words : List ℕ
+no_words = 0 ∷ 0 ∷ 0 ∷ 0 ∷ 0 ∷ 0 ∷ []
+
+-- the state of so many objects whose words are all 0
+abbrev pub zero_state : ℕ → State
+zero_state count = replicate count no_words
 
 -- the words before any step: CLOCK names no entry, GRACE is the opening time, MASTER has the opening state, and all others are 0
 abbrev pub opening_memory : Config → State → Memory
@@ -18,6 +27,10 @@ opening_memory c start Clock = clock_of c.base 0 8191
 opening_memory c start Grace = c.base
 opening_memory c start (Master o w) = slice_index (words_at start o) w
 opening_memory c start _ = 0
+
+-- words of a domain before any step, which show this opening state, in which each object has its words
+abbrev pub ShowsOpening : Config → State → List ℕ → Type 0
+ShowsOpening c start words = AreWords start × Shows c words (opening_memory c start)
 
 -- the view of the first seat, once there are this many: the making of each other one is in its trail
 abbrev pub maker_view : Config → State → ℕ → View

@@ -4,7 +4,7 @@ ghost use Rattle.mv_history.specs.Legal.{AreWords};
 ghost use Rattle.mv_layout.specs.Limits.{Checked};
 ghost use Rattle.mv_layout.specs.Cells.{Shows};
 ghost use Rattle.mv_core.specs.SeatSteps.{made_one, newly_made};
-ghost use Rattle.mv_core.specs.Start.{opening_memory, Laid, maker_view};
+ghost use Rattle.mv_core.specs.Start.{opening_memory, zero_state, Laid, ShowsOpening, maker_view};
 ghost use Rattle.mv_core.specs.Known.{IsTimed};
 ghost use Rattle.mv_core.specs.Passes.{view, IsOf, IsSeatOf, config_of, start_of, AreNew, HomesAreApart};
 ghost use Rattle.mv_core.specs.Views.{new_view};
@@ -12,7 +12,7 @@ ghost use Rattle.mv_core.specs.Views.{new_view};
 use crate::shared::{Pass, Shared, split_as};
 use crate::view::View;
 use atomic_table::Split;
-use mv_history::{Protocol, Words};
+use mv_history::{Protocol, WORDS, Words};
 use mv_layout::{
     CLOCK_CELL, Config, GRACE_CELL, NO_SLOT, WIDTH, clock_word, master_cell, total_cells,
 };
@@ -45,7 +45,7 @@ impl<D: Domain> Split<View> for Making<D> {
 }
 
 /// What the type of a slice of words says, as a fact.
-pub(crate) fn have_width(words: &[Words])
+fn have_width(words: &[Words])
     ensures { AreWords words.now }
 {}
 
@@ -62,31 +62,44 @@ fn lay_object(config: &Config, words: &mut [u64], start: &[Words], object: u32)
     }
 }
 
-/// The words of a domain before any step.
-pub(crate) fn opening_words(
-    alloc: Global,
-    config: &Config,
-    start: &[Words],
-) -> Result<Vec<u64>, AllocError>
+/// The words of a domain before any step, where all words of its objects are 0.
+fn zero_words(alloc: Global, config: &Config) -> Result<Vec<u64>, AllocError>
     requires checked { Checked config.now }
-    requires sized { length start.now ≡ config.now.objects }
-    ensures { IfOk result (λ words. Shows config.now words.items (opening_memory config.now start.now)) }
+    ensures { IfOk result (λ words. Shows config.now words.items (opening_memory config.now (zero_state config.now.objects))) }
 {
     let mut words = Vec::from_elem(alloc, 0u64, total_cells(config) as usize)?;
     words[CLOCK_CELL as usize] = clock_word(config.base, 0, NO_SLOT);
     words[GRACE_CELL as usize] = config.base;
+    Ok(words)
+}
+
+/// The words of a domain before any step.
+fn opening_words(alloc: Global, config: &Config, start: &[Words]) -> Result<Vec<u64>, AllocError>
+    requires checked { Checked config.now }
+    requires sized { length start.now ≡ config.now.objects }
+    ensures { IfOk result (λ words. Shows config.now words.items (opening_memory config.now start.now)) }
+{
+    let mut words = zero_words(alloc, config)?;
     for object in 0..config.objects {
         lay_object(config, words.as_mut_slice(), start, object);
     }
     Ok(words)
 }
 
-/// The opening state as clauses see it. The copy that this takes is let go at once.
-pub(crate) fn seen(alloc: Global, start: &[Words]) -> Result<Snapshot<Vec<Words>>, AllocError>
-    ensures { IfOk result (λ opening. opening.value.items ≡ start.now) }
+/// An opening state as clauses see it. Its memory is let go at once.
+fn seen(state: Vec<Words>) -> Snapshot<Vec<Words>>
+    ensures items { result.value.items ≡ state.items }
+    ensures wide { AreWords result.value.items }
 {
-    let state = Vec::from_slice(alloc, start)?;
-    Ok(Snapshot::of(&state))
+    have_width(state.as_slice());
+    Snapshot::of(&state)
+}
+
+/// So many objects of zeros. The number is a variable here, since a proof would compute a list of a literal length.
+fn zeros(alloc: Global, count: usize) -> Result<Vec<Words>, AllocError>
+    ensures { IfOk result (λ state. state.items ≡ zero_state count) }
+{
+    vec![in alloc; [0; WORDS]; count]
 }
 
 impl<P: Protocol> Shared<P> {
@@ -132,6 +145,26 @@ impl<P: Protocol> Shared<P> {
         Ok(others)
     }
 
+    /// A domain whose words show this opening state, and one pass for each seat.
+    fn made(
+        alloc: Global,
+        config: &Config,
+        words: Vec<u64>,
+        start: Snapshot<Vec<Words>>,
+    ) -> Result<(Shared<P>, Vec<Pass<P>>), AllocError>
+        requires checked { Checked config.now }
+        requires sized { length start.value.items ≡ config.now.objects }
+        requires lawful { P.start start.value.items }
+        requires shows { ShowsOpening config.now start.value.items words.items }
+        ensures about { IfOk result (λ r. (config_of r.0 ≡ config.now) × (start_of r.0 ≡ start.value.items)) }
+        ensures count { IfOk result (λ r. vec_len r.1 ≡ config.now.seats) }
+        ensures each { IfOk result (λ r. AreNew r.0 r.1.items) }
+    {
+        let (shared, first) = Shared::open(alloc, config, words, start)?;
+        let passes = shared.make_all(alloc, first)?;
+        Ok((shared, passes))
+    }
+
     /// Opens a domain of these numbers with this opening state, of which each object has its words,
     /// and gives one pass for each seat, in order of number. No seat has made or seen an entry, and
     /// all are outside a section. It refuses only for want of memory, and then keeps nothing.
@@ -147,9 +180,25 @@ impl<P: Protocol> Shared<P> {
         ensures count { IfOk result (λ r. vec_len r.1 ≡ config.now.seats) }
         ensures each { IfOk result (λ r. AreNew r.0 r.1.items) }
     {
-        let (shared, first) = Shared::open(alloc, config, start)?;
-        let passes = shared.make_all(alloc, first)?;
-        Ok((shared, passes))
+        let state = seen(Vec::from_slice(alloc, start)?);
+        let words = opening_words(alloc, config, start)?;
+        Shared::made(alloc, config, words, state)
+    }
+
+    /// The same, where all words of all objects are 0. It takes no list of them.
+    pub fn new_zeros(
+        alloc: Global,
+        config: &Config,
+    ) -> Result<(Shared<P>, Vec<Pass<P>>), AllocError>
+        requires checked { Checked config.now }
+        requires lawful { P.start (zero_state config.now.objects) }
+        ensures about { IfOk result (λ r. (config_of r.0 ≡ config.now) × (start_of r.0 ≡ zero_state config.now.objects)) }
+        ensures count { IfOk result (λ r. vec_len r.1 ≡ config.now.seats) }
+        ensures each { IfOk result (λ r. AreNew r.0 r.1.items) }
+    {
+        let state = seen(zeros(alloc, config.objects as usize)?);
+        let words = zero_words(alloc, config)?;
+        Shared::made(alloc, config, words, state)
     }
 }
 

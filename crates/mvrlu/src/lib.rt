@@ -28,7 +28,7 @@
 //!   `prepare`, and `tidies` of `Handle::tidy`, say it of the handle's own pass and log, with what was
 //!   freed and written back.
 //!
-//! No call but `open` takes memory, and none waits or tries again. Each call's clause `bound` says how
+//! No call but `open` and `open_zeros` takes memory, and none waits or tries again. Each call's clause `bound` says how
 //! many steps it makes at most: `enter` 6, `try_lock` 24, `write` 6, `try_commit` 8 and one for each
 //! object held, `abort` 2 and one for each object held, `leave` 1, and a `read` 12 and three for each entry
 //! after the snapshot that was seen. `prepare` and `tidy` make at most `2 * (4 + seats + 20 * slots) + 8`,
@@ -37,7 +37,7 @@
 //! Each call's clause `aborts` says what becomes of the seat's count of aborts, which `Handle::table`
 //! gives: `abort` raises it by one exactly where something is held, and every other call leaves it.
 //!
-//! **The law of the whole.** `open` gives a domain with all its seats, and `Domain::meet` ends it with all
+//! **The law of the whole.** `open` gives a domain with all its seats, as `open_zeros` does, and `Domain::meet` ends it with all
 //! of them. Whatever the seats have done meanwhile, there is then one list of commits and rests: legal,
 //! allowed by the client's rules from the opening state, and begun by whatever any seat had seen at any
 //! time. Each seat's commits stand in it, in order and each once, and so many of its rests; each entry is
@@ -76,6 +76,6 @@ mod session;
 pub use closing::Closing;
 pub use domain::{Domain, Seat};
 pub use handle::Handle;
-pub use opening::{OpenFault, open};
+pub use opening::{OpenFault, open, open_zeros};
 pub use parking::Parked;
 pub use session::Session;

@@ -2,6 +2,7 @@
 ghost use Rattle.std.specs.Prelude.{◌≡◌, ◌+◌, ◌≤◌, [], length, IfOk, IfErr, vec_len, vec_capacity};
 ghost use Rattle.mv_layout.specs.Limits.{Checked};
 ghost use Rattle.mv_core.specs.Passes.{IsOf, AreNew, config_of, start_of};
+ghost use Rattle.mv_core.specs.Start.{zero_state};
 ghost use Rattle.mvrlu.specs.Opened.{IsNewSeatOf, IsOpened, Refuses};
 ghost use Rattle.mvrlu.specs.Readiness.{IsReady, AreReady, AreSeats};
 
@@ -78,6 +79,23 @@ fn all_seated<P: Protocol>(
     seats
 }
 
+// The domain of these shared words, with its seats.
+fn with_seats<P: Protocol>(
+    alloc: Global,
+    made: (Shared<P>, Vec<Pass<P>>),
+) -> Result<(Domain<P>, Vec<Seat<P>>), AllocError>
+    requires count { vec_len made.1 ≡ (config_of made.0).seats }
+    requires new { AreNew made.0 made.1.items }
+    ensures opened { IfOk result (λ r. IsOpened (config_of made.0) (start_of made.0) r.0 r.1.items) }
+{
+    let (shared, passes) = made;
+    let ready = with_logs(&shared, alloc, passes)?;
+    // A row of seats can't be let go, so nothing is refused from here on.
+    let seats = Vec::with_capacity(alloc, ready.len())?;
+    let seats = all_seated(&shared, ready, seats);
+    Ok((Domain { shared }, seats))
+}
+
 // Opens a domain of numbers that are in range.
 fn opened<P: Protocol>(
     alloc: Global,
@@ -89,12 +107,19 @@ fn opened<P: Protocol>(
     requires lawful { P.start start.now }
     ensures opened { IfOk result (λ r. IsOpened config.now start.now r.0 r.1.items) }
 {
-    let (shared, passes) = Shared::new(alloc, config, start)?;
-    let ready = with_logs(&shared, alloc, passes)?;
-    // A row of seats can't be let go, so nothing is refused from here on.
-    let seats = Vec::with_capacity(alloc, config.seats as usize)?;
-    let seats = all_seated(&shared, ready, seats);
-    Ok((Domain { shared }, seats))
+    with_seats(alloc, Shared::new(alloc, config, start)?)
+}
+
+// The same, where all words of all objects are 0.
+fn opened_zeros<P: Protocol>(
+    alloc: Global,
+    config: &Config,
+) -> Result<(Domain<P>, Vec<Seat<P>>), AllocError>
+    requires checked { Checked config.now }
+    requires lawful { P.start (zero_state config.now.objects) }
+    ensures opened { IfOk result (λ r. IsOpened config.now (zero_state config.now.objects) r.0 r.1.items) }
+{
+    with_seats(alloc, Shared::new_zeros(alloc, config)?)
 }
 
 /// Opens a domain of these numbers with this opening state, of which each object has its words, and
@@ -118,6 +143,28 @@ pub fn open<P: Protocol>(
     }
     match opened(alloc, &config, start) {
         Ok(domain_and_seats) => Ok(domain_and_seats),
+        Err(AllocError) => Err(OpenFault::Memory),
+    }
+}
+
+/// Opens a domain of these numbers whose opening state is zero: each of its objects has six words of 0.
+/// It is `open` for that state, and takes no list of it.
+///
+/// - `Config` exactly where a number is out of its range; it is the fault that `Config::check` answers.
+/// - `Memory` is want of memory, and comes only where all numbers are in range.
+pub fn open_zeros<P: Protocol>(
+    alloc: Global,
+    config: Config,
+) -> Result<(Domain<P>, Vec<Seat<P>>), OpenFault>
+    requires lawful { P.start (zero_state config.objects) }
+    ensures opened { IfOk result (λ r. Checked config × IsOpened config (zero_state config.objects) r.0 r.1.items) }
+    ensures refused { IfErr result (λ fault. Refuses config fault) }
+{
+    if let Err(fault) = config.check() {
+        return Err(OpenFault::Config(fault));
+    }
+    match opened_zeros(alloc, &config) {
+        Ok(opened) => Ok(opened),
         Err(AllocError) => Err(OpenFault::Memory),
     }
 }

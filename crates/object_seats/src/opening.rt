@@ -9,9 +9,9 @@ ghost use Rattle.object_seats.specs.Opening.{AreOpened, Shares, no_words, positi
 
 use crate::position::Position;
 use crate::seat::ObjectSeat;
-use mv_history::{AnyRules, WORDS, Words};
+use mv_history::AnyRules;
 use mv_layout::Config;
-use mvrlu::{Domain, OpenFault, Seat, open};
+use mvrlu::{Domain, OpenFault, Seat, open_zeros};
 use std::alloc::{AllocError, Global};
 use std::sync::Arc;
 
@@ -51,8 +51,7 @@ fn open_objects(
 ) -> Result<(Domain<AnyRules>, Vec<Seat<AnyRules>>), AllocError>
     ensures { IfOk result (λ r. IsOpened config (replicate config.objects no_words) r.0 r.1.items) }
 {
-    let start = zeros(alloc, config.objects as usize)?;
-    match open(alloc, config, &start) {
+    match open_zeros(alloc, config) {
         Ok(opened) => Ok(opened),
         Err(_) => Err(AllocError),
     }
@@ -111,11 +110,4 @@ fn let_all_go(mut seats: Vec<Seat<AnyRules>>) {
         seat.let_go();
     }
     seats.destroy_empty();
-}
-
-// So many objects of zeros. The number is a variable here, since a proof would compute a list of a literal length.
-fn zeros(alloc: Global, count: usize) -> Result<Vec<Words>, AllocError>
-    ensures { IfOk result (λ objects. objects.items ≡ replicate count no_words) }
-{
-    vec![in alloc; [0; WORDS]; count]
 }

@@ -17,10 +17,10 @@ ghost use Rattle.mv_core.specs.Known.{Known, KnownInDomain, RunsOn};
 ghost use Rattle.mv_core.specs.Passes.{view, IsOf, IsSame, IsSeatOf, config_of, start_of};
 ghost use Rattle.mv_core.specs.Rule.{Loads, Stores, Swaps, Raises, LoadsAs, StoresAs, SwapsAs, RaisesAs, IsKept};
 ghost use Rattle.mv_core.specs.SeatSteps.{made_one, newly_made, MayJoin, joined};
-ghost use Rattle.mv_core.specs.Start.{maker_view};
+ghost use Rattle.mv_core.specs.Start.{maker_view, ShowsOpening};
 
 use crate::joining::Joining;
-use crate::opening::{Domain, Making, have_width, opening_words, seen};
+use crate::opening::{Domain, Making};
 use crate::shared::{Opening, Pass, Shared};
 use crate::steps::Steps;
 use crate::turns::{Told, ToldAlone, Turn};
@@ -30,6 +30,7 @@ use mv_history::{Protocol, Tag, Words};
 use mv_layout::Config;
 use std::alloc::{AllocError, Global};
 use std::marker::PhantomData;
+use std::snapshot::Snapshot;
 use std::sync::ledger::Ledger;
 
 /// A load, in a pass.
@@ -232,24 +233,23 @@ pub(crate) fn join_as<P: Protocol, D: Domain>(
 }
 
 impl<P: Protocol> Shared<P> {
-    /// The domain, with its first seat alone.
+    /// The domain whose words show this opening state, with its first seat alone.
     pub(crate) fn open(
         alloc: Global,
         config: &Config,
-        start: &[Words],
+        words: Vec<u64>,
+        start: Snapshot<Vec<Words>>,
     ) -> Result<(Shared<P>, Pass<P>), AllocError>
         requires checked { Checked config.now }
-        requires sized { length start.now ≡ config.now.objects }
-        requires lawful { P.start start.now }
-        ensures about { IfOk result (λ r. (config_of r.0 ≡ config.now) × (start_of r.0 ≡ start.now)) }
-        ensures first { IfOk result (λ r. IsOf r.0 r.1 × (view r.1 ≡ maker_view config.now start.now 1)) }
+        requires sized { length start.value.items ≡ config.now.objects }
+        requires lawful { P.start start.value.items }
+        requires shows { ShowsOpening config.now start.value.items words.items }
+        ensures about { IfOk result (λ r. (config_of r.0 ≡ config.now) × (start_of r.0 ≡ start.value.items)) }
+        ensures first { IfOk result (λ r. IsOf r.0 r.1 × (view r.1 ≡ maker_view config.now start.value.items 1)) }
     {
-        have_width(start);
-        let opening = seen(alloc, start)?;
-        let words = opening_words(alloc, config, start)?;
         let about = Opening {
             config: *config,
-            start: opening,
+            start,
         };
         let (table, seat) = Table::of_words(alloc, words.as_slice(), &about)?;
         let shared = Shared {

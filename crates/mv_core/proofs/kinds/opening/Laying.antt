@@ -1,12 +1,12 @@
 -- The words of a new domain while its opening state is laid.
-use Rattle.std.proofs.Common.{◌≡◌, ℕ, zero, suc, ◌+◌, ◌<◌, ◌==◌, ◌&&◌, false, cond, List, length, set, get_or, slice_index}
+use Rattle.std.proofs.Common.{◌≡◌, ℕ, zero, suc, ◌+◌, ◌<◌, ◌==◌, ◌&&◌, false, cond, List, [], length, set, get_or, slice_index}
 use Rattle.std.proofs.Common.{replicate, refl, sym, ap, ◌∙◌, inl, inr, ⊎_elim, arith, eq-eqb, ne_eqb}
 use Rattle.mv_core.proofs.Terms.{dite, ℕ_discrete, State, Config, Place, Clock, Grace, Mark, Head, Master, First, Stamp, Prev, Super, Data, Checked}
 use Rattle.mv_core.proofs.Terms.{clock_of, Memory, put, same, Shows, IsPlace, cell_of, cells}
-use Rattle.std.proofs.lemmas.List.{length-replicate}
+use Rattle.std.proofs.lemmas.List.{length-replicate, get_or-replicate}
 use Rattle.mv_history.specs.Meaning.{words_at}
 use Rattle.mv_layout.proofs.InCells.{shows_put}
-use Rattle.mv_core.specs.Start.{opening_memory, IsBlank, Laid}
+use Rattle.mv_core.specs.Start.{opening_memory, no_words, zero_state, IsBlank, Laid}
 
 -- what lies in each cell
 abbrev read : Config → List ℕ → Memory
@@ -20,6 +20,41 @@ zero_words : (n i : ℕ) → get_or (replicate {A = ℕ} n 0) i 0 ≡ 0
 zero_words zero i = refl
 zero_words (suc n) zero = refl
 zero_words (suc n) (suc i) = zero_words n i
+
+-- a table of zeros but for its clock and its grace shows the opening at which all words of objects are 0
+pub zero_shown : (c : Config) → Checked c
+    → Shows c (set (set (replicate (cells c) 0) (cell_of c Clock) (clock_of c.base 0 8191)) (cell_of c Grace) c.base) (opening_memory c (zero_state c.objects))
+zero_shown c k = record { wide = two.wide; each = each }
+  where
+    zeros : List ℕ
+    zeros = replicate (cells c) 0
+
+    n : ℕ
+    n = clock_of c.base 0 8191
+
+    one : Shows c (set zeros (cell_of c Clock) n) (put (read c zeros) Clock n)
+    one = after_write c k zeros (length-replicate (cells c) 0) Clock n tt
+
+    two : Shows c (set (set zeros (cell_of c Clock) n) (cell_of c Grace) c.base) (put (read c (set zeros (cell_of c Clock) n)) Grace c.base)
+    two = after_write c k (set zeros (cell_of c Clock) n) one.wide Grace c.base tt
+
+    zero_at : (p : Place) → read c zeros p ≡ 0
+    zero_at p = zero_words (cells c) (cell_of c p)
+
+    each : (p : Place) → IsPlace c p
+        → slice_index (set (set zeros (cell_of c Clock) n) (cell_of c Grace) c.base) (cell_of c p) ≡ opening_memory c (zero_state c.objects) p
+    each Clock at = two.each Clock at ∙ one.each Clock at
+    each Grace at = two.each Grace at
+    each (Master o w) at =
+        two.each (Master o w) at ∙ one.each (Master o w) at ∙ zero_at (Master o w)
+        ∙ sym (ap (λ (ws : List ℕ). slice_index ws w) (get_or-replicate c.objects o no_words [] at.0) ∙ zero_words 6 w)
+    each (Mark s) at = two.each (Mark s) at ∙ one.each (Mark s) at ∙ zero_at (Mark s)
+    each (Head o) at = two.each (Head o) at ∙ one.each (Head o) at ∙ zero_at (Head o)
+    each (First s j) at = two.each (First s j) at ∙ one.each (First s j) at ∙ zero_at (First s j)
+    each (Stamp s j) at = two.each (Stamp s j) at ∙ one.each (Stamp s j) at ∙ zero_at (Stamp s j)
+    each (Prev s j) at = two.each (Prev s j) at ∙ one.each (Prev s j) at ∙ zero_at (Prev s j)
+    each (Super s j) at = two.each (Super s j) at ∙ one.each (Super s j) at ∙ zero_at (Super s j)
+    each (Data s j w) at = two.each (Data s j w) at ∙ one.each (Data s j w) at ∙ zero_at (Data s j w)
 
 module _ (c : Config) (start : State) (k : Checked c) where
   blank_after : (words : List ℕ) (p : Place) (n : ℕ) → (is : Shows c (set words (cell_of c p) n) (put (read c words) p n)) → (q : Place) → IsPlace c q
@@ -72,32 +107,27 @@ module _ (c : Config) (start : State) (k : Checked c) where
     blank = l.blank;
   }
 
-  not_first : (q : Place) → IsBlank q → (same Clock q ≡ false) × (same Grace q ≡ false)
-  not_first Clock b = absurd b
-  not_first Grace b = absurd b
-  not_first (Master p x) b = absurd b
-  not_first (Mark s) b = (refl, refl)
-  not_first (Head p) b = (refl, refl)
-  not_first (First s j) b = (refl, refl)
-  not_first (Stamp s j) b = (refl, refl)
-  not_first (Prev s j) b = (refl, refl)
-  not_first (Super s j) b = (refl, refl)
-  not_first (Data s j x) b = (refl, refl)
+  blank_is_zero : (q : Place) → IsBlank q → opening_memory c (zero_state c.objects) q ≡ 0
+  blank_is_zero Clock b = absurd b
+  blank_is_zero Grace b = absurd b
+  blank_is_zero (Master p x) b = absurd b
+  blank_is_zero (Mark s) b = refl
+  blank_is_zero (Head p) b = refl
+  blank_is_zero (First s j) b = refl
+  blank_is_zero (Stamp s j) b = refl
+  blank_is_zero (Prev s j) b = refl
+  blank_is_zero (Super s j) b = refl
+  blank_is_zero (Data s j x) b = refl
 
-  -- nothing is laid yet
-  pub laid_first : Laid c start (set (set (replicate (cells c) 0) (cell_of c Clock) (clock_of c.base 0 8191)) (cell_of c Grace) c.base) 0 0
-  laid_first =
-      let zeros : List ℕ = replicate (cells c) 0 in
-      let n = clock_of c.base 0 8191 in
-      let one = after_write c k zeros (length-replicate (cells c) 0) Clock n tt in
-      let two = after_write c k (set zeros (cell_of c Clock) n) one.wide Grace c.base tt in record {
-        wide = two.wide;
-        clock = two.each Clock tt ∙ one.each Clock tt;
-        grace = two.each Grace tt;
-        master = λ p y at in_object done. absurd (⊎_elim (λ lt. omega arith) (λ t. let z = t.1 in omega arith) done);
-        blank = λ q at b. blank_after (set zeros (cell_of c Clock) n) Grace c.base two q at (not_first q b).1
-            (blank_after zeros Clock n one q at (not_first q b).0 (zero_words (cells c) (cell_of c q)));
-      }
+  -- where all objects' words are 0, nothing is laid yet
+  pub laid_first : (words : List ℕ) → Shows c words (opening_memory c (zero_state c.objects)) → Laid c start words 0 0
+  laid_first words shown = record {
+    wide = shown.wide;
+    clock = shown.each Clock tt;
+    grace = shown.each Grace tt;
+    master = λ p y at in_object done. absurd (⊎_elim (λ lt. omega arith) (λ t. let z = t.1 in omega arith) done);
+    blank = λ q at b. shown.each q at ∙ blank_is_zero q b;
+  }
 
   -- all is laid
   pub laid_last : (words : List ℕ) → Laid c start words c.objects 0 → Shows c words (opening_memory c start)
